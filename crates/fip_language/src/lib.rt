@@ -1,0 +1,41 @@
+// The plain types of the language that take no memory. The language itself is defined in specs/.
+#![tactic(auto)]
+
+/// A place in a source: line and column, both from 1, the column in bytes; and the offset in bytes from 0.
+#[derive(Clone, Copy, Debug, PartialEq, Eq)]
+pub struct Place {
+    pub line: usize,
+    pub col: usize,
+    pub at: usize,
+}
+
+/// What a function promises: to work in the cells that it is given, to make none and free some, or nothing.
+#[derive(Clone, Copy, Debug, PartialEq, Eq)]
+pub enum FunKind {
+    Fip,
+    Fbip,
+    Fun,
+}
+
+/// Why an operator has no value.
+#[derive(Clone, Copy, Debug, PartialEq, Eq)]
+pub enum TrapKind {
+    Overflow,
+    DivideByZero,
+}
+
+/// An operator between two ints. The first five give an int, the others a bool.
+#[derive(Clone, Copy, Debug, PartialEq, Eq)]
+pub enum Operator {
+    Add,
+    Subtract,
+    Multiply,
+    Divide,
+    Remainder,
+    Equal,
+    NotEqual,
+    Less,
+    LessOrEqual,
+    Greater,
+    GreaterOrEqual,
+}

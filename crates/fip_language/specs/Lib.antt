@@ -1,5 +1,11 @@
 pub mod Values
 pub mod Table
 pub mod Core
+pub mod Surface
 pub mod Prefix
 pub mod Store
+pub mod Character
+pub mod SoundTable
+pub mod ValueText
+pub mod PrintedText
+pub mod Layout

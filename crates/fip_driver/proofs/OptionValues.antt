@@ -1,0 +1,54 @@
+-- What is read of an option.
+use Rattle.std.proofs.Common.{◌≡◌, ◌≢◌, ◌∙◌, ◌<◌, ◌^◌, ℕ, List, sym, ap, subst, refl, arith}
+use Rattle.std.specs.Prelude.{Result, Option, Some, None, Ok, Err, IfSome, IsNone, Bool, true, false, codes}
+use Rattle.std.specs.Str.Parse.{ParsesUnsigned, ExplainsUnsignedError, HasUnsignedDigitsIfOk, ParsesBool, IsNumeral, digits_value, without_leading_plus}
+use Rattle.std.specs.declared.num.ParseIntError.{ParseIntError}
+use Rattle.std.specs.declared.str.ParseBoolError.{ParseBoolError}
+use Rattle.clap.specs.Words.{Text, Row, one_of, ReadsOne}
+use Rattle.fip_driver.specs.Words.{IsNumberIn, flag_text}
+
+abbrev pub Gives : List ℕ → Result ℕ ParseIntError → Type 0
+Gives bs r = ParsesUnsigned 64 10 bs r × ExplainsUnsignedError 10 bs r × HasUnsignedDigitsIfOk bs r
+
+some_same : {A : Type 0} → (a b : A) → Some a ≡ Some b → a ≡ b
+some_same a b e = cc
+
+none_some : {A B : Type 0} → (a : A) → None ≡ Some a → B
+none_some a e = cc
+
+pub number_read : (id : Text) (rows : List Row) (one : Option Text) (r : Option ℕ) → one ≡ one_of id rows → (one ≡ None → r ≡ None) → ((t : List ℕ) → one ≡ Some t → ReadsOne Gives t r) → IfSome r (IsNumberIn id rows)
+number_read id rows None r is none value = subst (λ r. IfSome r (IsNumberIn id rows)) (sym (none refl)) tt
+number_read id rows (Some t) None is none value = tt
+number_read id rows (Some t) (Some n) is none value =
+    let given = (value t refl).0 in
+    record { text = t; given = sym is; numeral = given.0.0; value = given.1; fits = subst (λ k. k < 2 ^ 64) (sym given.1) given.0.1 }
+
+pub number_unread : (id : Text) (rows : List Row) (one : Option Text) (r : Option ℕ) → one ≡ one_of id rows → (one ≡ None → r ≡ None) → ((t : List ℕ) → one ≡ Some t → ReadsOne Gives t r) → IsNone r → (n : ℕ) → IsNumberIn id rows n → ⊥
+number_unread id rows None r is none value empty n h = none_some h.text (is ∙ h.given)
+number_unread id rows (Some t) (Some m) is none value empty n h = let e : true ≡ false = empty in cc
+number_unread id rows (Some t) None is none value empty n h =
+    let same : t ≡ h.text = some_same t h.text (is ∙ h.given) in
+    (value t refl).1.0 (
+      subst (λ t. IsNumeral 10 (without_leading_plus t)) (sym same) h.numeral,
+      subst (λ t. digits_value 10 (without_leading_plus t) < 2 ^ 64) (sym same) (subst (λ k. k < 2 ^ 64) h.value h.fits),
+    )
+
+abbrev pub GivesBool : List ℕ → Result Bool ParseBoolError → Type 0
+GivesBool bs r = ParsesBool bs r
+
+pub flag_read : (id : Text) (rows : List Row) (one : Option Text) (r : Option Bool) → one ≡ one_of id rows → (one ≡ None → r ≡ None) → ((t : List ℕ) → one ≡ Some t → ReadsOne GivesBool t r) → IfSome r (λ b. one_of id rows ≡ Some (flag_text b))
+flag_read id rows None r is none value = subst (λ r. IfSome r (λ b. one_of id rows ≡ Some (flag_text b))) (sym (none refl)) tt
+flag_read id rows (Some t) None is none value = tt
+flag_read id rows (Some t) (Some true) is none value = sym is ∙ ap Some (value t refl)
+flag_read id rows (Some t) (Some false) is none value = sym is ∙ ap Some (value t refl)
+
+flag_other : (t : Text) (b : Bool) → t ≢ codes "true" → t ≢ codes "false" → t ≡ flag_text b → ⊥
+flag_other t true not_yes not_no e = not_yes e
+flag_other t false not_yes not_no e = not_no e
+
+pub flag_unread : (id : Text) (rows : List Row) (one : Option Text) (r : Option Bool) → one ≡ one_of id rows → (one ≡ None → r ≡ None) → ((t : List ℕ) → one ≡ Some t → ReadsOne GivesBool t r) → IsNone r → (b : Bool) → one_of id rows ≡ Some (flag_text b) → ⊥
+flag_unread id rows None r is none value empty b h = none_some (flag_text b) (is ∙ h)
+flag_unread id rows (Some t) (Some c) is none value empty b h = let e : true ≡ false = empty in cc
+flag_unread id rows (Some t) None is none value empty b h =
+    let given = (value t refl).1 in
+    flag_other t b given.0 given.1 (some_same t (flag_text b) (is ∙ h))

@@ -1,6 +1,6 @@
 -- What is read of an option.
-use Rattle.std.proofs.Common.{◌≡◌, ◌≢◌, ◌∙◌, ◌<◌, ◌^◌, ℕ, List, sym, ap, subst, refl, arith}
-use Rattle.std.specs.Prelude.{Result, Option, Some, None, Ok, Err, IfSome, IsNone, Bool, true, false, codes}
+use Rattle.std.proofs.Common.{◌≡◌, ◌≢◌, ◌∙◌, ◌<◌, ◌^◌, ℕ, List, sym, ap, subst, refl}
+use Rattle.std.specs.Prelude.{Result, Option, Some, None, IfSome, IsNone, Bool, true, false, codes}
 use Rattle.std.specs.Str.Parse.{ParsesUnsigned, ExplainsUnsignedError, HasUnsignedDigitsIfOk, ParsesBool, IsNumeral, digits_value, without_leading_plus}
 use Rattle.std.specs.declared.num.ParseIntError.{ParseIntError}
 use Rattle.std.specs.declared.str.ParseBoolError.{ParseBoolError}

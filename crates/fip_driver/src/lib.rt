@@ -1,4 +1,5 @@
 // The program: reads its words, checks a source, runs it in its own cells and prints what it gives.
 #![tactic(auto)]
 
+pub mod texts;
 pub mod words;

@@ -1,0 +1,32 @@
+-- The texts of the statuses, each ended by LF.
+use Rattle.std.specs.Prelude.{ℕ, List, [], ◌∷◌, ◌++◌, codes}
+use Rattle.std.specs.Fmt.{decimal}
+
+-- LF
+abbrev pub line_end : List ℕ
+line_end = 10 ∷ []
+
+abbrev pub not_understood_text : List ℕ
+not_understood_text = codes "fp2: words not understood\n"
+
+abbrev pub out_of_calls_text : ℕ → List ℕ
+out_of_calls_text calls = codes "out of calls: " ++ (decimal calls ++ line_end)
+
+abbrev pub bad_input_text : ℕ → List ℕ
+bad_input_text at = codes "bad input at " ++ (decimal at ++ line_end)
+
+abbrev pub too_small_text : ℕ → ℕ → List ℕ
+too_small_text needed given = codes "store too small: " ++ (decimal needed ++ (codes " needed, " ++ (decimal given ++ codes " given\n")))
+
+abbrev pub no_memory_text : List ℕ
+no_memory_text = codes "out of memory\n"
+
+-- a line of the gauge: the lowest and highest number of cells of a size
+abbrev pub cells_text : ℕ → ℕ → ℕ → List ℕ
+cells_text size low high = codes "cells of " ++ (decimal size ++ (codes ": " ++ (decimal low ++ (codes " to " ++ (decimal high ++ line_end)))))
+
+abbrev pub stack_text : ℕ → ℕ → List ℕ
+stack_text frames words = codes "stack: " ++ (decimal frames ++ (codes " frames, " ++ (decimal words ++ codes " words\n")))
+
+abbrev pub bound_text : ℕ → ℕ → List ℕ
+bound_text frames words = codes "bound: " ++ (decimal frames ++ (codes " frames, " ++ (decimal words ++ codes " words\n")))

@@ -1,0 +1,3 @@
+pub mod CoreView
+pub mod Refusal
+pub mod TableView

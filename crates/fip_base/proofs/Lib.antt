@@ -1,1 +1,4 @@
+pub mod Named
+pub mod Stored
 pub mod TableReads
+pub mod Turns

@@ -1,1 +1,2 @@
 mod OptionValues
+mod Prefixes

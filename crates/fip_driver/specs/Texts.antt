@@ -30,3 +30,15 @@ stack_text frames words = codes "stack: " ++ (decimal frames ++ (codes " frames,
 
 abbrev pub bound_text : ℕ → ℕ → List ℕ
 bound_text frames words = codes "bound: " ++ (decimal frames ++ (codes " frames, " ++ (decimal words ++ codes " words\n")))
+
+abbrev pub folder_fault_text : List ℕ
+folder_fault_text = codes "fault: folder\n"
+
+abbrev pub input_fault_text : List ℕ
+input_fault_text = codes "fault: input\n"
+
+abbrev pub out_fault_text : List ℕ
+out_fault_text = codes "fault: out\n"
+
+abbrev pub err_fault_text : List ℕ
+err_fault_text = codes "fault: err\n"

@@ -1,5 +1,6 @@
 // The program: reads its words, checks a source, runs it in its own cells and prints what it gives.
 #![tactic(auto)]
 
+pub mod delivery;
 pub mod texts;
 pub mod words;

@@ -9,3 +9,16 @@ pub mod SoundTable
 pub mod ValueText
 pub mod PrintedText
 pub mod Layout
+pub mod Declarations
+pub mod Matching
+pub mod Registers
+pub mod Arithmetic
+pub mod Statics
+pub mod Meaning
+pub mod Every
+pub mod LoopForm
+pub mod Mentions
+pub mod Right
+pub mod Stack
+pub mod Gauge
+pub mod Answer

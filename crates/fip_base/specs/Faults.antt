@@ -1,0 +1,11 @@
+-- A source, a sink or a folder counts how often it failed. The count never falls, and stands still at the greatest
+-- number of 64 bits, which is `2 ^ 64 - 1`.
+use Rattle.std.specs.Prelude.{ℕ, ◌+◌, ◌-◌, ◌^◌, ◌≤◌, min}
+
+-- The count one higher, or as it was where it can't rise.
+abbrev pub one_more : ℕ → ℕ
+one_more count = min (count + 1) (2 ^ 64 - 1)
+
+-- The count rose from the first number to the second, or stands at its greatest.
+abbrev pub Rose : ℕ → ℕ → Type 0
+Rose before now = one_more before ≤ now

@@ -1,0 +1,181 @@
+// The real thing: std's readers, writers and files, with a count of faults.
+ghost use Rattle.std.specs.Prelude.{◌≡◌, None};
+
+use crate::all::{ReadError, read_all, write_all};
+use crate::outside::{Failed, FetchError, Folder, Sink, Source, StoreError};
+use std::alloc::Global;
+use std::fs;
+use std::io::{Read, Write};
+use std::rt::Files;
+
+/// A reader of std as a source. It tells the bytes that the reader tells.
+#[derive(Drop)]
+pub struct StdSource<R: Read> {
+    inner: R,
+    faults: u64,
+}
+
+impl<R: Read> StdSource<R> {
+    /// The bytes that the reader gives from here on.
+    pub fn new(inner: R) -> Self
+        ensures inner { result.inner ≡ inner }
+        ensures faults { result.faults ≡ 0 }
+    {
+        StdSource { inner, faults: 0 }
+    }
+}
+
+impl<R: Read> Source for StdSource<R> {
+    ghost left = { λ s. R.remaining s.inner };
+
+    ghost faults = { λ s. s.faults };
+
+    fn read(&mut self, buf: &mut [u8]) -> Result<usize, Failed> {
+        match self.inner.read(buf) {
+            Ok(count) => Ok(count),
+            Err(_) => {
+                self.faults = self.faults.saturating_add(1);
+                Err(Failed)
+            }
+        }
+    }
+}
+
+/// A writer of std as a sink. It tells the bytes that the writer tells. A write that takes none of a
+/// piece that isn't empty is a fault.
+#[derive(Drop)]
+pub struct StdSink<W: Write> {
+    inner: W,
+    faults: u64,
+}
+
+impl<W: Write> StdSink<W> {
+    /// A sink that writes behind what the writer has.
+    pub fn new(inner: W) -> Self
+        ensures inner { result.inner ≡ inner }
+        ensures faults { result.faults ≡ 0 }
+    {
+        StdSink { inner, faults: 0 }
+    }
+}
+
+impl<W: Write> Sink for StdSink<W> {
+    ghost written = { λ s. W.contents s.inner };
+
+    ghost faults = { λ s. s.faults };
+
+    fn write(&mut self, piece: &[u8]) -> Result<usize, Failed> {
+        match self.inner.write(piece) {
+            Ok(count) if count > 0 || piece.is_empty() => Ok(count),
+            _ => {
+                self.faults = self.faults.saturating_add(1);
+                Err(Failed)
+            }
+        }
+    }
+}
+
+/// The real files, which it tells nothing of. A name is a path.
+#[derive(Drop)]
+pub struct FileFolder<'a, F: Files> {
+    alloc: Global,
+    files: &'a F,
+    faults: u64,
+}
+
+impl<'a, F: Files> FileFolder<'a, F> {
+    /// The files that `files` reaches. What is fetched is held in memory of `alloc`.
+    pub fn new(alloc: Global, files: &'a F) -> Self
+        ensures { result.faults ≡ 0 }
+    {
+        FileFolder {
+            alloc,
+            files,
+            faults: 0,
+        }
+    }
+}
+
+impl<F: Files> Folder for FileFolder<'_, F> {
+    ghost files = { λ _. None };
+
+    ghost faults = { λ s. s.faults };
+
+    fn fetch(&mut self, name: &str, limit: usize) -> Result<Vec<u8>, FetchError> {
+        let Ok(file) = fs::open(self.files, name) else {
+            self.faults = self.faults.saturating_add(1);
+            return Err(FetchError::Failed);
+        };
+        match read_all(self.alloc, &mut StdSource::new(file), limit) {
+            Ok(bytes) => Ok(bytes),
+            Err(ReadError::TooLong) => Err(FetchError::TooLong),
+            Err(ReadError::NoMemory) => Err(FetchError::NoMemory),
+            Err(ReadError::Fault) => {
+                self.faults = self.faults.saturating_add(1);
+                Err(FetchError::Failed)
+            }
+        }
+    }
+
+    fn store(&mut self, name: &str, bytes: &[u8]) -> Result<(), StoreError> {
+        let written = match fs::create(self.files, name) {
+            Ok(file) => write_all(&mut StdSink::new(file), bytes).is_ok(),
+            Err(_) => false,
+        };
+        if written {
+            return Ok(());
+        }
+        self.faults = self.faults.saturating_add(1);
+        Err(StoreError::Failed)
+    }
+}
+
+#[cfg(test)]
+mod tests {
+    use super::*;
+    use std::test::Fail;
+
+    #[test]
+    fn a_reader_and_a_writer_pass_bytes_on(rt: HostRuntime) -> Result<(), Fail> {
+        let mut source = StdSource::new(b"hello".as_slice());
+        let read = read_all(rt.alloc(), &mut source, 5)?;
+        assert_eq!(rt; read.as_slice(), b"hello".as_slice());
+        let mut sink = StdSink::new(Vec::new(rt.alloc()));
+        write_all(&mut sink, &read)?;
+        assert_eq!(rt; sink.inner.as_slice(), b"hello".as_slice());
+        Ok(())
+    }
+
+    #[test]
+    fn a_full_writer_is_a_fault(rt: HostRuntime) -> Result<(), Fail> {
+        let mut room = [0; 3];
+        let mut sink = StdSink::new(room.as_mut_slice());
+        assert_eq!(rt; write_all(&mut sink, b"hello").is_err(), true);
+        assert_eq!(rt; sink.faults, 1);
+        Ok(())
+    }
+
+    #[test]
+    fn real_files_are_read_and_written(rt: HostRuntime) -> Result<(), Fail> {
+        let mut folder = FileFolder::new(rt.alloc(), &rt);
+        assert_eq!(rt; folder.fetch("/dev/null", 0)?.len(), 0);
+        assert_eq!(rt;
+            folder.fetch("/dev/zero", 9).err(),
+            Some(FetchError::TooLong)
+        );
+        folder.store("/dev/null", b"hello")?;
+        assert_eq!(rt; folder.faults, 0);
+        Ok(())
+    }
+
+    #[test]
+    fn an_empty_name_and_a_directory_are_faults(rt: HostRuntime) -> Result<(), Fail> {
+        let mut folder = FileFolder::new(rt.alloc(), &rt);
+        for name in ["", "/"] {
+            assert_eq!(rt; folder.fetch(name, 9).err(), Some(FetchError::Failed));
+            assert_eq!(rt; folder.store(name, b"").err(), Some(StoreError::Failed));
+        }
+        assert_eq!(rt; folder.faults, 4);
+        Ok(())
+    }
+}

@@ -1,0 +1,93 @@
+-- What a program mentions, each name with its place: the types that are written, the constructors that its expressions
+-- and patterns name, and the functions that are called.
+use Rattle.std.specs.Prelude.{List, [], ◌∷◌, ◌++◌, Option, Some, None}
+use Rattle.fip_language.specs.declared.Place.{Place}
+use Rattle.fip_language.specs.Core.{Name, Written, Writtens, WrittenInt, WrittenName, NoWritten, MoreWritten, Result, OneResult, TupleResult, Argument, Variable, Literal, Constructor, Arguments, NoArguments, MoreArguments, Pattern, BinderPattern, LiteralPattern, ConstructorPattern, Patterns, NoPatterns, MorePatterns, Expression, Give, Tuple, Operation, Call, Match, Nested, Block, Last, Let, Clauses, NoClauses, MoreClauses, Parameter, Function, DataConstructor, Data, Core}
+
+pub record Mention : Type 0 where
+  pub name : Name
+  pub place : Place
+
+abbrev pub mention : Name → Place → Mention
+mention n p = record { name = n; place = p }
+
+-- the names of a list of items, one after another
+abbrev pub all_of : {A B : Type 0} → (A → List B) → List A → List B
+all_of f [] = []
+all_of f (x ∷ xs) = f x ++ all_of f xs
+
+abbrev mutual
+  pub types_in_written : Written → List Mention
+  types_in_written (WrittenInt p) = []
+  types_in_written (WrittenName n p ws) = mention n p ∷ types_in_writtens ws
+
+  pub types_in_writtens : Writtens → List Mention
+  types_in_writtens NoWritten = []
+  types_in_writtens (MoreWritten w ws) = types_in_written w ++ types_in_writtens ws
+
+abbrev pub types_in_result : Result → List Mention
+types_in_result (OneResult t) = types_in_written t
+types_in_result (TupleResult p ts) = all_of types_in_written ts
+
+abbrev pub types_in_parameters : List Parameter → List Mention
+types_in_parameters ps = all_of (λ (p : Parameter). types_in_written p.type) ps
+
+abbrev pub types_in_header : Function → List Mention
+types_in_header f = types_in_parameters f.parameters ++ types_in_result f.result
+
+abbrev pub types_in_data : Data → List Mention
+types_in_data d = all_of (λ (k : DataConstructor). all_of types_in_written k.fields) d.constructors
+
+abbrev mutual
+  pub constructors_in_argument : Argument → List Mention
+  constructors_in_argument (Variable x n p) = []
+  constructors_in_argument (Literal i p) = []
+  constructors_in_argument (Constructor n p as') = mention n p ∷ constructors_in_arguments as'
+
+  pub constructors_in_arguments : Arguments → List Mention
+  constructors_in_arguments NoArguments = []
+  constructors_in_arguments (MoreArguments a as') = constructors_in_argument a ++ constructors_in_arguments as'
+
+abbrev mutual
+  pub constructors_in_pattern : Pattern → List Mention
+  constructors_in_pattern (BinderPattern b) = []
+  constructors_in_pattern (LiteralPattern i p) = []
+  constructors_in_pattern (ConstructorPattern n p ps) = mention n p ∷ constructors_in_patterns ps
+
+  pub constructors_in_patterns : Patterns → List Mention
+  constructors_in_patterns NoPatterns = []
+  constructors_in_patterns (MorePatterns p ps) = constructors_in_pattern p ++ constructors_in_patterns ps
+
+abbrev mutual
+  pub constructors_in_expression : Expression → List Mention
+  constructors_in_expression (Give a) = constructors_in_argument a
+  constructors_in_expression (Tuple p as') = constructors_in_arguments as'
+  constructors_in_expression (Operation o p a b) = constructors_in_argument a ++ constructors_in_argument b
+  constructors_in_expression (Call n p statics as') = constructors_in_arguments as'
+  constructors_in_expression (Match destructive p x clauses) = constructors_in_argument x ++ constructors_in_clauses clauses
+  constructors_in_expression (Nested block) = constructors_in_block block
+
+  pub constructors_in_block : Block → List Mention
+  constructors_in_block (Last e) = constructors_in_expression e
+  constructors_in_block (Let binders e rest) = constructors_in_expression e ++ constructors_in_block rest
+
+  pub constructors_in_clauses : Clauses → List Mention
+  constructors_in_clauses NoClauses = []
+  constructors_in_clauses (MoreClauses pattern body rest) = constructors_in_pattern pattern ++ (constructors_in_block body ++ constructors_in_clauses rest)
+
+abbrev mutual
+  pub calls_in_expression : Expression → List Mention
+  calls_in_expression (Give a) = []
+  calls_in_expression (Tuple p as') = []
+  calls_in_expression (Operation o p a b) = []
+  calls_in_expression (Call n p statics as') = mention n p ∷ []
+  calls_in_expression (Match destructive p x clauses) = calls_in_clauses clauses
+  calls_in_expression (Nested block) = calls_in_block block
+
+  pub calls_in_block : Block → List Mention
+  calls_in_block (Last e) = calls_in_expression e
+  calls_in_block (Let binders e rest) = calls_in_expression e ++ calls_in_block rest
+
+  pub calls_in_clauses : Clauses → List Mention
+  calls_in_clauses NoClauses = []
+  calls_in_clauses (MoreClauses pattern body rest) = calls_in_block body ++ calls_in_clauses rest

@@ -1,0 +1,84 @@
+-- What a function needs of the stack, and the groups of functions that call each other.
+-- A call is in tail position where nothing is left to do after it: the body of a function is in tail position, and where
+-- an expression is, so are its clauses' bodies and the last expression of its block. A bound expression never is.
+use Rattle.std.specs.Prelude.{◌≡◌, ℕ, suc, ◌+◌, ◌≤◌, Bool, true, false, List, [], ◌∷◌, ◌++◌, Option, Some, None, Contains}
+use Rattle.fip_language.specs.declared.Place.{Place}
+use Rattle.fip_language.specs.Core.{Name, Writtens, Expression, Give, Tuple, Operation, Call, Match, Nested, Block, Last, Let, Clauses, NoClauses, MoreClauses, Function, Core}
+use Rattle.fip_language.specs.Declarations.{function_of}
+use Rattle.fip_language.specs.Statics.{Closed, ClosedInt, ClosedName, Closeds, Instance, callee}
+use Rattle.fip_language.specs.Registers.{frame_words}
+
+-- a call as it is written, and whether it is in tail position
+pub record CallSite : Type 0 where
+  pub tail : Bool
+  pub name : Name
+  pub place : Place
+  pub statics : Writtens
+
+-- the calls of an expression that is in tail position, or isn't
+abbrev mutual
+  pub sites_in_expression : Bool → Expression → List CallSite
+  sites_in_expression tail (Give a) = []
+  sites_in_expression tail (Tuple p as') = []
+  sites_in_expression tail (Operation o p a b) = []
+  sites_in_expression tail (Call name p statics as') = record { tail = tail; name = name; place = p; statics = statics } ∷ []
+  sites_in_expression tail (Match destructive p x clauses) = sites_in_clauses tail clauses
+  sites_in_expression tail (Nested block) = sites_in_block tail block
+
+  pub sites_in_block : Bool → Block → List CallSite
+  sites_in_block tail (Last e) = sites_in_expression tail e
+  sites_in_block tail (Let binders e rest) = sites_in_expression false e ++ sites_in_block tail rest
+
+  pub sites_in_clauses : Bool → Clauses → List CallSite
+  sites_in_clauses tail NoClauses = []
+  sites_in_clauses tail (MoreClauses pattern body rest) = sites_in_block tail body ++ sites_in_clauses tail rest
+
+abbrev pub instance_with : Closeds → Option Function → Option Instance
+instance_with given None = None
+instance_with given (Some f) = Some (record { function = f; given = given })
+
+-- the function that a closed tree names, with what is given for its static parameters
+abbrev pub instance_of : Core → Closed → Option Instance
+instance_of core ClosedInt = None
+instance_of core (ClosedName name given) = instance_with given (function_of core name)
+
+-- f, which is this instance, calls g there
+pub record CallsAt (core : Core) (f : Closed) (here : Instance) (site : CallSite) (g : Closed) : Type 0 where
+  pub caller : instance_of core f ≡ Some here
+  pub stands : Contains (sites_in_block true here.function.body) site
+  pub callee : callee core here site.name site.statics ≡ g
+
+-- f calls g, then that the next, and so on, and the last is h
+abbrev pub Along : Core → Closed → List Closed → Closed → Type 0
+Along core f [] h = f ≡ h
+Along core f (g ∷ gs) h = (here : Instance) × (site : CallSite) × CallsAt core f here site g × Along core g gs h
+
+abbrev pub Reaches : Core → Closed → Closed → Type 0
+Reaches core f h = (gs : List Closed) × Along core f gs h
+
+-- they are of one group
+abbrev pub OneGroup : Core → Closed → Closed → Type 0
+OneGroup core f g = Reaches core f g × Reaches core g f
+
+-- frames a caller holds, in tail position none
+abbrev pub held_by : Bool → ℕ → ℕ
+held_by true n = 0
+held_by false n = n
+
+-- These numbers are enough for the frames that f and all that it reaches hold.
+pub record HoldFrames (core : Core) (f : Closed) (frames : Closed → ℕ) : Type 0 where
+  pub calls : (g h : Closed) (here : Instance) (site : CallSite) → Reaches core f g → CallsAt core g here site h → held_by site.tail 1 + frames h ≤ frames g
+
+-- These numbers are enough for the words of their stack.
+pub record HoldWords (core : Core) (f : Closed) (words : Closed → ℕ) : Type 0 where
+  pub frame : (g : Closed) (here : Instance) → Reaches core f g → instance_of core g ≡ Some here → frame_words here.function ≤ words g
+  pub calls : (g h : Closed) (here : Instance) (site : CallSite) → Reaches core f g → CallsAt core g here site h → held_by site.tail (frame_words here.function) + words h ≤ words g
+
+-- The frames of f, and the words of its stack: the least numbers that are enough.
+pub record AreFrames (core : Core) (f : Closed) (n : ℕ) : Type 0 where
+  pub enough : (frames : Closed → ℕ) × HoldFrames core f frames × (frames f ≡ n)
+  pub least : (frames : Closed → ℕ) → HoldFrames core f frames → n ≤ frames f
+
+pub record AreWords (core : Core) (f : Closed) (n : ℕ) : Type 0 where
+  pub enough : (words : Closed → ℕ) × HoldWords core f words × (words f ≡ n)
+  pub least : (words : Closed → ℕ) → HoldWords core f words → n ≤ words f

@@ -1,4 +1,4 @@
-// All that a source has, and all of a text to a sink.
+// Reading all that a source has, and writing all of some bytes to a sink.
 ghost use Rattle.std.specs.Prelude.{◌≡◌, ◌+◌, ◌≤◌, length, Err, IfOk, OnOk, OnErr};
 ghost use Rattle.std.specs.Io.KnownBytes.{Appends, Consumes, IsAtEnd};
 ghost use Rattle.fip_base.specs.Faults.{Rose};

@@ -163,19 +163,26 @@ mod tests {
             folder.fetch("/dev/zero", 9).err(),
             Some(FetchError::TooLong)
         );
-        folder.store("/dev/null", b"hello")?;
+        // A file that keeps what was stored and that no test has to remove: this process's own name.
+        folder.store("/proc/self/comm", b"hello")?;
+        let stored = folder.fetch("/proc/self/comm", 16)?;
+        assert_eq!(rt; stored.as_slice(), b"hello\n".as_slice());
         assert_eq!(rt; folder.faults, 0);
         Ok(())
     }
 
     #[test]
-    fn an_empty_name_and_a_directory_are_faults(rt: HostRuntime) -> Result<(), Fail> {
+    fn a_full_device_an_empty_name_and_a_directory_are_faults(rt: HostRuntime) -> Result<(), Fail> {
         let mut folder = FileFolder::new(rt.alloc(), &rt);
         for name in ["", "/"] {
             assert_eq!(rt; folder.fetch(name, 9).err(), Some(FetchError::Failed));
             assert_eq!(rt; folder.store(name, b"").err(), Some(StoreError::Failed));
         }
-        assert_eq!(rt; folder.faults, 4);
+        assert_eq!(rt;
+            folder.store("/dev/full", b"hello").err(),
+            Some(StoreError::Failed)
+        );
+        assert_eq!(rt; folder.faults, 5);
         Ok(())
     }
 }

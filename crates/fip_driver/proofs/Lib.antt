@@ -1,2 +1,3 @@
 mod OptionValues
 mod Prefixes
+mod WholeAnswer

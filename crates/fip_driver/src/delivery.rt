@@ -4,12 +4,18 @@ ghost use Rattle.std.specs.Io.KnownBytes.{Appends};
 ghost use Rattle.fip_base.specs.Faults.{Rose};
 ghost use Rattle.fip_base.specs.Takes.{WritesPrefix};
 ghost use Rattle.fip_driver.specs.Delivery.{WritesPrefixes};
+ghost use Rattle.fip_driver.specs.Delivered.{Tried, Told, ToldFailure, Delivered};
+ghost use Rattle.fip_driver.specs.Texts.{err_fault_text, no_memory_text};
 
-use fip_base::all::{WriteFault, write_all};
+use crate::failure::{Failure, Object};
+use fip_base::all::write_all;
 use fip_base::outside::Sink;
+use fip_base::plain::Status;
+use std::alloc::Global;
 
-/// Tries once to say that an object failed; what becomes of it changes nothing.
-pub fn try_to_tell<E: Sink>(err: &mut E, text: &[u8])
+// Tries once to say that an object failed; what becomes of it changes nothing.
+fn try_to_tell<E: Sink>(err: &mut E, text: &[u8])
+    ensures tried { Tried (record { written = E.written err.old; faults = E.faults err.old }) (record { written = E.written err.new; faults = E.faults err.new }) text.now }
     ensures prefix { WritesPrefix (E.written err.old) (E.written err.new) text.now }
     ensures later { E.faults err.old ≤ E.faults err.new }
 {
@@ -19,18 +25,57 @@ pub fn try_to_tell<E: Sink>(err: &mut E, text: &[u8])
     }
 }
 
-/// Writes the text of a status; where that fails, tries once to say so.
-pub fn tell<E: Sink>(err: &mut E, text: &[u8], fault_text: &[u8]) -> Result<(), WriteFault>
-    ensures all { OnOk result (Appends (E.written err.old) (E.written err.new) text.now) }
-    ensures prefixes { OnErr result (WritesPrefixes (E.written err.old) (E.written err.new) text.now fault_text.now) }
-    ensures fault { OnErr result (Rose (E.faults err.old) (E.faults err.new)) }
+// Writes the text of a status; where that fails, tries once to say so.
+fn tell<E: Sink>(err: &mut E, status: Status, text: &[u8]) -> Status
+    ensures told { Told (record { written = E.written err.old; faults = E.faults err.old }) (record { written = E.written err.new; faults = E.faults err.new }) status.0 text.now result.0 }
     ensures later { E.faults err.old ≤ E.faults err.new }
 {
     match write_all(err, text) {
-        Ok(()) => Ok(()),
-        Err(fault) => {
-            try_to_tell(err, fault_text);
-            Err(fault)
+        Ok(()) => status,
+        Err(_) => {
+            try_to_tell(err, Object::Err.fault_text().as_bytes());
+            Status(9)
         }
+    }
+}
+
+// Says what kept a command from its result. After a fault its text is tried once.
+fn tell_failure<E: Sink>(alloc: Global, err: &mut E, failure: &Failure) -> Status
+    ensures told { ToldFailure (record { written = E.written err.old; faults = E.faults err.old }) (record { written = E.written err.new; faults = E.faults err.new }) failure.now result.0 }
+    ensures later { E.faults err.old ≤ E.faults err.new }
+{
+    match failure {
+        Failure::Fault(object) => {
+            try_to_tell(err, object.fault_text().as_bytes());
+            Status(9)
+        }
+        Failure::NoMemory => tell(err, Status(10), b"out of memory\n"),
+        _ => match failure.text(alloc) {
+            Ok(text) => tell(err, failure.status(), text.as_slice()),
+            Err(_) => tell(err, Status(10), b"out of memory\n"),
+        },
+    }
+}
+
+/// Hands a command's result, or what kept it from one, to the sinks of a host.
+pub fn deliver<O: Sink, E: Sink>(
+    alloc: Global,
+    outcome: Result<Vec<u8>, Failure>,
+    out: &mut O,
+    err: &mut E,
+) -> Status
+    ensures delivered { Delivered (record { written = O.written out.old; faults = O.faults out.old }) (record { written = O.written out.new; faults = O.faults out.new }) (record { written = E.written err.old; faults = E.faults err.old }) (record { written = E.written err.new; faults = E.faults err.new }) outcome result.0 }
+    ensures later_out { O.faults out.old ≤ O.faults out.new }
+    ensures later_err { E.faults err.old ≤ E.faults err.new }
+{
+    match outcome {
+        Ok(text) => match write_all(out, text.as_slice()) {
+            Ok(()) => Status(0),
+            Err(_) => {
+                try_to_tell(err, Object::Out.fault_text().as_bytes());
+                Status(9)
+            }
+        },
+        Err(failure) => tell_failure(alloc, err, &failure),
     }
 }

@@ -2,5 +2,7 @@
 #![tactic(auto)]
 
 pub mod delivery;
+pub mod failure;
+pub mod fetched;
 pub mod texts;
 pub mod words;

@@ -1,14 +1,14 @@
 -- The bound on calls that stand above one another doesn't matter, as long as it isn't below the calls left.
 -- Two ways to call that agree below so many calls give an expression the same evaluation with that many: a call costs
 -- one, and nothing leaves more calls than it was given.
-use Rattle.std.proofs.Common.{◌≡◌, ℕ, zero, suc, ◌<◌, ◌≤◌, List, [], ◌∷◌, Bool, true, false, Option, Some, None, arith, refl, ap, ◌∙◌}
+use Rattle.std.proofs.Common.{◌≡◌, ℕ, zero, suc, ◌<◌, ◌≤◌, List, Bool, true, false, Option, Some, None, arith, refl, ap, ◌∙◌}
 use Rattle.fip_language.specs.Values.{Value, Values}
-use Rattle.fip_language.specs.Core.{Name, Expression, Give, Tuple, Operation, Call, Match, Nested, Block, Last, Let, Clauses, NoClauses, MoreClauses, Function, Core}
+use Rattle.fip_language.specs.Core.{Expression, Give, Tuple, Operation, Call, Match, Nested, Block, Last, Let, Clauses, NoClauses, MoreClauses, Function, Core}
 use Rattle.fip_language.specs.Declarations.{function_of}
 use Rattle.fip_language.specs.Matching.{Binding, matching}
 use Rattle.fip_language.specs.Registers.{frame_words}
 use Rattle.fip_language.specs.Statics.{Closed, Closeds, ClosedInt, ClosedName, Instance, callee}
-use Rattle.fip_language.specs.Meaning.{Answer, Gives, Trap, Out, Deep, Stuck, Peak, Run, after, above, entered, go_on, then_with, counted, in_frame, Environment, nothing_bound, bind_matched, bind_binders, bind_parameters, argument_value, argument_values, with_value, with_values, if_matches, Calls, eval, eval_block, eval_clauses, body_run, function_run, calls_of, evaluate, evaluate_block, evaluate_clauses, meaning}
+use Rattle.fip_language.specs.Meaning.{Answer, Gives, Trap, Out, Deep, Stuck, Run, after, above, entered, go_on, then_with, counted, in_frame, Environment, nothing_bound, bind_matched, bind_binders, bind_parameters, argument_value, argument_values, with_value, with_values, if_matches, Calls, eval, eval_block, eval_clauses, body_run, function_run, calls_of, evaluate, evaluate_block}
 use Rattle.fip_language.proofs.Left.{AtMost, Honest, eval_left, calls_left}
 
 -- two ways to call agree below so many calls

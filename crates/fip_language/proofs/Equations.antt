@@ -1,11 +1,11 @@
 -- The meaning, one equation for each form.
-use Rattle.std.proofs.Common.{◌≡◌, ℕ, zero, suc, ◌≤◌, List, Bool, true, false, Option, Some, None, refl, ap, ◌∙◌, arith}
+use Rattle.std.proofs.Common.{◌≡◌, ℕ, zero, suc, List, Bool, true, false, Option, Some, None, refl}
 use Rattle.fip_language.specs.declared.Place.{Place}
 use Rattle.fip_language.specs.declared.Operator.{Operator}
 use Rattle.fip_language.specs.Values.{Value, Values, End, More}
 use Rattle.fip_language.specs.Core.{Name, Writtens, Binder, Argument, Arguments, Pattern, Expression, Give, Tuple, Operation, Call, Match, Nested, Block, Last, Let, Clauses, NoClauses, MoreClauses, Function, Core}
 use Rattle.fip_language.specs.Declarations.{function_of}
-use Rattle.fip_language.specs.Matching.{Binding, matching}
+use Rattle.fip_language.specs.Matching.{matching}
 use Rattle.fip_language.specs.Registers.{frame_words}
 use Rattle.fip_language.specs.Statics.{Closed, Closeds, ClosedInt, ClosedName, Instance, callee}
 use Rattle.fip_language.specs.Meaning.{Gives, Stuck, Run, ends, entered, then_with, counted, in_frame, Environment, nothing_bound, bind_matched, bind_binders, bind_parameters, argument_value, argument_values, with_value, with_values, operation, if_matches, calls_of, body_run, evaluate, evaluate_block, evaluate_clauses, meaning}

@@ -1,5 +1,5 @@
 -- The definitions evaluated on small programs, each by computation alone.
-use Rattle.std.proofs.Common.{◌≡◌, ℕ, zero, suc, List, [], ◌∷◌, Bool, true, false, Option, Some, None, refl, ℤ}
+use Rattle.std.proofs.Common.{◌≡◌, ℕ, [], ◌∷◌, true, false, Some, None, refl, ℤ}
 use Rattle.std.specs.Prelude.{pos, negsuc, codes}
 use Rattle.fip_language.specs.declared.Place.{Place}
 use Rattle.fip_language.specs.declared.FunKind.TheVariants.{Fip, Fbip}
@@ -7,9 +7,9 @@ use Rattle.fip_language.specs.declared.Operator.{Operator}
 use Rattle.fip_language.specs.declared.Operator.TheVariants as O
 use Rattle.fip_language.specs.declared.TrapKind.TheVariants.{Overflow, DivideByZero}
 use Rattle.fip_language.specs.Values.{Value, Int, Node, Values, End, More}
-use Rattle.fip_language.specs.Core.{Name, Written, Writtens, WrittenInt, WrittenName, NoWritten, MoreWritten, OneResult, TupleResult, Binder, Argument, Variable, Literal, Constructor, Arguments, NoArguments, MoreArguments, BinderPattern, LiteralPattern, ConstructorPattern, NoPatterns, MorePatterns, Expression, Give, Tuple, Operation, Call, Match, Nested, Block, Last, Let, NoClauses, MoreClauses, TypeParameter, FunctionParameter, Parameter, Function, Data, Core}
+use Rattle.fip_language.specs.Core.{Name, Written, Writtens, WrittenInt, WrittenName, NoWritten, MoreWritten, OneResult, TupleResult, Binder, Argument, Variable, Literal, Constructor, Arguments, NoArguments, MoreArguments, BinderPattern, LiteralPattern, ConstructorPattern, NoPatterns, MorePatterns, Expression, Give, Tuple, Operation, Call, Match, Last, Let, NoClauses, MoreClauses, TypeParameter, FunctionParameter, Parameter, Function, Data, Core}
 use Rattle.fip_language.specs.Statics.{NoClosed}
-use Rattle.fip_language.specs.Registers.{registers, frame_words}
+use Rattle.fip_language.specs.Registers.{registers}
 use Rattle.fip_language.specs.Gauge.{lowest_by_trees}
 use Rattle.fip_language.specs.Meaning.{Answer, Gives, Trap, Out, Deep, Run, meaning}
 

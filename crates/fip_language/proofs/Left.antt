@@ -1,15 +1,15 @@
 -- No call is made up: an evaluation never leaves more calls than it was given.
-use Rattle.std.proofs.Common.{◌≡◌, ℕ, zero, suc, ◌≤◌, List, [], ◌∷◌, Bool, true, false, Option, Some, None, arith}
+use Rattle.std.proofs.Common.{ℕ, zero, suc, ◌≤◌, List, Bool, true, false, Option, Some, None, arith}
 use Rattle.fip_language.specs.declared.Place.{Place}
 use Rattle.fip_language.specs.declared.Operator.{Operator}
-use Rattle.fip_language.specs.Values.{Value, Int, Node, Values, End, More}
+use Rattle.fip_language.specs.Values.{Value, Int, Node, Values}
 use Rattle.fip_language.specs.Core.{Name, Expression, Give, Tuple, Operation, Call, Match, Nested, Block, Last, Let, Clauses, NoClauses, MoreClauses, Function, Core}
 use Rattle.fip_language.specs.Declarations.{function_of}
 use Rattle.fip_language.specs.Matching.{Binding, matching}
 use Rattle.fip_language.specs.Arithmetic.{Operated, Is, Fails, operate}
 use Rattle.fip_language.specs.Registers.{frame_words}
 use Rattle.fip_language.specs.Statics.{Closed, Closeds, ClosedInt, ClosedName, Instance, callee}
-use Rattle.fip_language.specs.Meaning.{Answer, Gives, Trap, Out, Deep, Stuck, Run, go_on, counted, in_frame, Environment, nothing_bound, bind_matched, bind_binders, bind_parameters, argument_value, argument_values, with_value, with_values, operated, operation, if_matches, Calls, eval, eval_block, eval_clauses, body_run, function_run, calls_of, evaluate, evaluate_block, evaluate_clauses, meaning}
+use Rattle.fip_language.specs.Meaning.{Answer, Gives, Trap, Out, Deep, Stuck, Run, go_on, counted, in_frame, Environment, nothing_bound, bind_matched, bind_binders, bind_parameters, argument_value, argument_values, with_value, with_values, operated, operation, if_matches, Calls, eval, eval_block, eval_clauses, body_run, function_run, calls_of, evaluate, meaning}
 
 -- an answer leaves at most so many calls
 abbrev pub AtMost : ℕ → Answer → Type 0

@@ -5,3 +5,11 @@ pub mod Bound
 pub mod Equations
 pub mod More
 pub mod Peak
+pub mod LoopStack
+pub mod Words
+pub mod Constructors
+pub mod NoViolation
+pub mod LoopBody
+pub mod Search
+pub mod Typing
+pub mod NotRight

@@ -1,8 +1,8 @@
 -- More calls never change a value: the values and the peak stay the same, and as many more calls are left.
-use Rattle.std.proofs.Common.{◌≡◌, ℕ, zero, suc, ◌+◌, List, [], ◌∷◌, Bool, true, false, Option, Some, None, arith, refl, ap, sym, ◌∙◌, subst}
+use Rattle.std.proofs.Common.{◌≡◌, ℕ, zero, suc, ◌+◌, List, Bool, true, false, Option, Some, None, arith, refl, ap, sym, ◌∙◌, subst}
 use Rattle.fip_language.specs.declared.Place.{Place}
 use Rattle.fip_language.specs.declared.Operator.{Operator}
-use Rattle.fip_language.specs.Values.{Value, Int, Node, Values, End, More}
+use Rattle.fip_language.specs.Values.{Value, Int, Node, Values}
 use Rattle.fip_language.specs.Core.{Name, Expression, Give, Tuple, Operation, Call, Match, Nested, Block, Last, Let, Clauses, NoClauses, MoreClauses, Function, Core}
 use Rattle.fip_language.specs.Declarations.{function_of}
 use Rattle.fip_language.specs.Matching.{Binding, matching}

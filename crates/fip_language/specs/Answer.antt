@@ -3,14 +3,14 @@
 -- program, the entry isn't there, the input has too many bytes or is no text of the parameters' types, it doesn't fit the
 -- store, and then how the evaluation ends.
 -- While the language grows, every program outside the loop form, and every violation in it, has the one reply NotRight.
-use Rattle.std.specs.Prelude.{ℕ, ◌<◌, ◌≤◌, ◌⊎◌, ◌≡◌, Bool, List, map, length, Option, Some, None}
+use Rattle.std.specs.Prelude.{ℕ, ◌<◌, ◌≤◌, ◌⊎◌, ◌≡◌, List, length, Option, Some, None}
 use Rattle.fip_language.specs.declared.Place.{Place}
 use Rattle.fip_language.specs.declared.TrapKind.{TrapKind}
 use Rattle.fip_language.specs.Values.{Values, words_needed_by_all}
-use Rattle.fip_language.specs.Core.{Name, Result, OneResult, TupleResult, Function, Core}
-use Rattle.fip_language.specs.Declarations.{function_of, type_number, table_of}
-use Rattle.fip_language.specs.Statics.{Closed, ClosedName, NoClosed}
-use Rattle.fip_language.specs.Meaning.{Answer, Gives, Trap, Out, Deep, Stuck, Peak, Run, meaning}
+use Rattle.fip_language.specs.Core.{Name, Function, Core}
+use Rattle.fip_language.specs.Declarations.{function_of, table_of}
+use Rattle.fip_language.specs.Statics.{ClosedName, NoClosed}
+use Rattle.fip_language.specs.Meaning.{Answer, Gives, Trap, Out, Deep, Stuck, Peak, meaning}
 use Rattle.fip_language.specs.Stack.{AreFrames, AreWords}
 use Rattle.fip_language.specs.Right.{parameter_types, IsRight}
 use Rattle.fip_language.specs.ValueText.{SpellsValues}

@@ -2,9 +2,9 @@
 -- is declared before all others. Where a name is declared twice, the first declaration is the one that it means.
 -- In `data ints { Nil; Cons(int, ints) }` the type ints has the number 2, Nil is its constructor 0 and Cons its
 -- constructor 1, with the fields int and ints.
-use Rattle.std.specs.Prelude.{ℕ, zero, suc, Bool, List, [], ◌∷◌, map, Option, Some, None, bytes_eq, codes, if◌then◌else◌}
+use Rattle.std.specs.Prelude.{ℕ, suc, Bool, List, [], ◌∷◌, map, Option, Some, None, bytes_eq, codes, if◌then◌else◌}
 use Rattle.fip_language.specs.declared.Place.{Place}
-use Rattle.fip_language.specs.Core.{Name, Written, Writtens, WrittenInt, WrittenName, NoWritten, MoreWritten, Function, DataConstructor, Data, Core}
+use Rattle.fip_language.specs.Core.{Name, Written, WrittenInt, WrittenName, Function, DataConstructor, Data, Core}
 use Rattle.fip_language.specs.Table.{Shape, Table}
 
 abbrev pub same_name : Name → Name → Bool

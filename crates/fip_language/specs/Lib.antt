@@ -19,6 +19,8 @@ pub mod Every
 pub mod LoopForm
 pub mod Mentions
 pub mod Right
+pub mod Violations
+pub mod Scoped
 pub mod Stack
 pub mod Gauge
 pub mod Answer

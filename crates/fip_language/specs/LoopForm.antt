@@ -3,7 +3,7 @@
 -- clauses have a constructor with binders for its fields, and end in an argument or in a call:
 -- fip fun rev(xs: ints, acc: ints): ints { match! xs { Nil -> acc; Cons(x, t) -> rev(t, Cons(x, acc)) } }
 -- No type is written with arguments.
-use Rattle.std.specs.Prelude.{◌≡◌, ℕ, Bool, true, false, List, [], ◌∷◌, Option}
+use Rattle.std.specs.Prelude.{◌≡◌, ℕ, true, false, List, [], ◌∷◌, Option}
 use Rattle.fip_language.specs.declared.Place.{Place}
 use Rattle.fip_language.specs.declared.FunKind.TheVariants.{Fip}
 use Rattle.fip_language.specs.Core.{Name, Written, WrittenInt, WrittenName, NoWritten, MoreWritten, Result, OneResult, TupleResult, Binder, Argument, Variable, Arguments, Patterns, BinderPattern, ConstructorPattern, NoPatterns, MorePatterns, Expression, Give, Call, Match, Block, Last, Clauses, NoClauses, MoreClauses, Parameter, Function, DataConstructor, Data, Core}

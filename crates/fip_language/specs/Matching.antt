@@ -2,9 +2,9 @@
 -- A binder matches every value, a literal the int that it is, a constructor the nodes of that constructor whose children
 -- match its patterns. Cons(x, Cons(_, t)) matches Cons(1, Cons(2, Nil)), with x bound to 1, the binder of _ to 2 and t
 -- to Nil; it doesn't match Cons(1, Nil).
-use Rattle.std.specs.Prelude.{ℕ, zero, suc, ℤ, pos, negsuc, Bool, true, false, List, [], ◌∷◌, ◌++◌, Option, Some, None, ◌==◌, if◌then◌else◌}
+use Rattle.std.specs.Prelude.{ℕ, ℤ, pos, negsuc, Bool, false, List, [], ◌∷◌, ◌++◌, Option, Some, None, ◌==◌, if◌then◌else◌}
 use Rattle.fip_language.specs.Values.{Value, Int, Node, Values, End, More}
-use Rattle.fip_language.specs.Core.{Name, Binder, Pattern, BinderPattern, LiteralPattern, ConstructorPattern, Patterns, NoPatterns, MorePatterns, Core}
+use Rattle.fip_language.specs.Core.{Binder, Pattern, BinderPattern, LiteralPattern, ConstructorPattern, Patterns, NoPatterns, MorePatterns, Core}
 use Rattle.fip_language.specs.Declarations.{Declared, constructor_of}
 
 -- a binder's number and the value that it stands for

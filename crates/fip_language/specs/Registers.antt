@@ -2,7 +2,7 @@
 -- body, in patterns and in expressions. A frame has two words more.
 -- rev(xs, acc) { match! xs { Nil -> acc; Cons(x, t) -> rev(t, Cons(x, acc)) } } has 2 parameters, 2 binders and 3
 -- constructors, so 7 registers, and its frame has 9 words.
-use Rattle.std.specs.Prelude.{ℕ, zero, suc, ◌+◌, List, [], ◌∷◌, length}
+use Rattle.std.specs.Prelude.{ℕ, suc, ◌+◌, length}
 use Rattle.fip_language.specs.Core.{Argument, Variable, Literal, Constructor, Arguments, NoArguments, MoreArguments, Pattern, BinderPattern, LiteralPattern, ConstructorPattern, Patterns, NoPatterns, MorePatterns, Expression, Give, Tuple, Operation, Call, Match, Nested, Block, Last, Let, Clauses, NoClauses, MoreClauses, Function}
 
 abbrev mutual

@@ -1,12 +1,12 @@
 -- Which programs of the loop form are right: none of the rules E10 to E60 is violated. Each fact has the rules that it
 -- keeps beside it. The rules that aren't named can't be violated in the loop form: it has no static parameters, no lent
 -- parameter, no let, no tuple and no call outside tail position.
-use Rattle.std.specs.Prelude.{◌≡◌, ℕ, zero, suc, ◌+◌, ◌<◌, ◌≤◌, ◌⊎◌, Bool, true, false, List, [], ◌∷◌, map, length, Option, Some, None, is_some, ◌==◌, if◌then◌else◌, codes}
+use Rattle.std.specs.Prelude.{◌≡◌, ℕ, suc, ◌+◌, ◌<◌, ◌≤◌, ◌⊎◌, Bool, true, false, List, [], ◌∷◌, map, length, Option, Some, None, is_some, ◌==◌, if◌then◌else◌, codes}
 use Rattle.fip_language.specs.Values.{Value, one_of_size}
 use Rattle.fip_language.specs.Table.{Shape, Table, constructors, is_scalar, HasType}
-use Rattle.fip_language.specs.Core.{Name, Written, Writtens, WrittenInt, WrittenName, Result, OneResult, TupleResult, Binder, Argument, Variable, Literal, Constructor, Arguments, NoArguments, MoreArguments, Parameter, Function, DataConstructor, Data, Core}
+use Rattle.fip_language.specs.Core.{Name, Result, OneResult, TupleResult, Binder, Argument, Variable, Literal, Constructor, Arguments, NoArguments, MoreArguments, Parameter, Function, DataConstructor, Data, Core}
 use Rattle.fip_language.specs.Declarations.{same_name, data_types, Declared, constructor_of, type_of_name, function_of, type_number, table_of}
-use Rattle.fip_language.specs.Every.{Every, times, Once}
+use Rattle.fip_language.specs.Every.{Every, Once}
 use Rattle.fip_language.specs.LoopForm.{Ending, Returns, Calls, LoopClause, Loop, IsLoop, IsPlainData}
 use Rattle.fip_language.specs.Mentions.{Mention, all_of, types_in_header, types_in_data, constructors_in_block}
 use Rattle.fip_language.specs.Registers.{registers}

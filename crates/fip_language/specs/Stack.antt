@@ -1,10 +1,11 @@
 -- What a function needs of the stack, and the groups of functions that call each other.
 -- A call is in tail position where nothing is left to do after it: the body of a function is in tail position, and where
 -- an expression is, so are its clauses' bodies and the last expression of its block. A bound expression never is.
-use Rattle.std.specs.Prelude.{◌≡◌, ℕ, suc, ◌+◌, ◌≤◌, Bool, true, false, List, [], ◌∷◌, ◌++◌, Option, Some, None, Contains}
+use Rattle.std.specs.Prelude.{◌≡◌, ℕ, ◌+◌, ◌≤◌, Bool, true, false, List, [], ◌∷◌, ◌++◌, Option, Some, None}
 use Rattle.fip_language.specs.declared.Place.{Place}
 use Rattle.fip_language.specs.Core.{Name, Writtens, Expression, Give, Tuple, Operation, Call, Match, Nested, Block, Last, Let, Clauses, NoClauses, MoreClauses, Function, Core}
 use Rattle.fip_language.specs.Declarations.{function_of}
+use Rattle.fip_language.specs.Every.{Among}
 use Rattle.fip_language.specs.Statics.{Closed, ClosedInt, ClosedName, Closeds, Instance, callee}
 use Rattle.fip_language.specs.Registers.{frame_words}
 
@@ -45,7 +46,7 @@ instance_of core (ClosedName name given) = instance_with given (function_of core
 -- f, which is this instance, calls g there
 pub record CallsAt (core : Core) (f : Closed) (here : Instance) (site : CallSite) (g : Closed) : Type 0 where
   pub caller : instance_of core f ≡ Some here
-  pub stands : Contains (sites_in_block true here.function.body) site
+  pub stands : Among site (sites_in_block true here.function.body)
   pub callee : callee core here site.name site.statics ≡ g
 
 -- f calls g, then that the next, and so on, and the last is h

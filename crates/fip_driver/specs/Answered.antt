@@ -1,0 +1,70 @@
+-- What the program answers, where the folder tells its files and the input its bytes.
+use Rattle.std.specs.Prelude.{◌≡◌, ℕ, List, [], ◌⊎◌, Option, Bool, Result, Ok, Err}
+use Rattle.std.specs.Io.KnownBytes.{Appends}
+use Rattle.std.specs.declared.vec.Vec.{Vec}
+use Rattle.std.specs.declared.alloc.Global.{Global}
+use Rattle.fip_language.specs.declared.Place.{Place}
+use Rattle.fip_language.specs.Core.{Core}
+use Rattle.fip_language.specs.Answer as A
+use Rattle.fip_language.specs.Answer.{Reply, NoFile, Execs, status}
+use Rattle.fip_base.specs.Files.{File, file_of}
+use Rattle.fip_driver.specs.Words.{Request, IsRequest}
+use Rattle.fip_driver.specs.Reply.{out_text, err_text}
+use Rattle.fip_driver.specs.Texts.{not_understood_text}
+use Rattle.fip_driver.specs.Failures.{failure_text, failure_status}
+use Rattle.fip_driver.specs.declared.failure.Failure.{Failure}
+use Rattle.fip_driver.specs.declared.failure.Failure.TheVariants as F
+use Rattle.fip_driver.specs.declared.failure.Object.{Object}
+use Rattle.fip_driver.specs.declared.failure.Object.TheVariants as O
+
+-- how a source is spelt: with a core form, or with a rule of its spelling broken at a place
+pub record Spelling : Type 1 where
+  pub spells : List ℕ → Core → Type 0
+  pub misspells : List ℕ → ℕ → Place → Type 0
+
+-- what is asked for, without the gauge
+abbrev pub plain_request : Request → A.Request
+plain_request r = record { file = r.file; entry = r.entry; calls = r.calls; words = r.words }
+
+-- The words ask for this, and this is the reply.
+pub record Replies (spelling : Spelling) (words : List (List ℕ)) (files : List File) (input : List ℕ) (r : Request) (reply : Reply) : Type 0 where
+  pub asked : IsRequest words r
+  pub execs : Execs spelling.spells spelling.misspells (plain_request r) (λ name. file_of name files) input reply
+
+abbrev pub IsNoCommand : List (List ℕ) → Type 0
+IsNoCommand words = (r : Request) → IsRequest words r → ⊥
+
+-- The whole answer: the status, and what out and err hold more. Status 10 is want of memory.
+abbrev pub Answered : Spelling → List (List ℕ) → List File → List ℕ → Option (List ℕ) → Option (List ℕ) → Option (List ℕ) → Option (List ℕ) → ℕ → Type 0
+Answered spelling words files input out out' err err' s =
+    (s ≡ 10)
+    ⊎ (IsNoCommand words × (s ≡ 2) × (out' ≡ out) × Appends err err' not_understood_text)
+    ⊎ ((r : Request) × (reply : Reply) × Replies spelling words files input r reply × (s ≡ status reply) × Appends out out' (out_text r.gauge reply) × Appends err err' (err_text reply))
+
+-- A failure has the status and the text of a reply that prints nothing on out.
+pub record FailsAs (failure : Failure) (gauge : Bool) (reply : Reply) : Type 0 where
+  pub same_status : failure_status failure ≡ status reply
+  pub same_text : failure_text failure ≡ err_text reply
+  pub silent : out_text gauge reply ≡ []
+
+abbrev pub HasFailed : Spelling → List (List ℕ) → List File → List ℕ → Failure → Type 0
+HasFailed spelling words files input failure = (r : Request) × (reply : Reply) × Replies spelling words files input r reply × FailsAs failure r.gauge reply
+
+abbrev pub FaultExplained : Spelling → List (List ℕ) → List File → List ℕ → Type 0 → Type 0 → Object → Type 0
+FaultExplained spelling words files input folder_rose input_rose O.Folder = folder_rose ⊎ HasFailed spelling words files input (F.Fault O.Folder)
+FaultExplained spelling words files input folder_rose input_rose O.Input = input_rose
+FaultExplained spelling words files input folder_rose input_rose O.Out = ⊥
+FaultExplained spelling words files input folder_rose input_rose O.Err = ⊥
+
+-- A result is that of a reply, and what kept a command from one is a reply too, or want of memory, or a fault that was
+-- counted.
+abbrev pub Explained : Spelling → List (List ℕ) → List File → List ℕ → Type 0 → Type 0 → Result (Vec ℕ Global) Failure → Type 0
+Explained spelling words files input folder_rose input_rose (Ok text) =
+    (r : Request) × (reply : Reply) × Replies spelling words files input r reply × (status reply ≡ 0) × (text.items ≡ out_text r.gauge reply) × (err_text reply ≡ [])
+Explained spelling words files input folder_rose input_rose (Err F.NotUnderstood) = IsNoCommand words
+Explained spelling words files input folder_rose input_rose (Err (F.Refused r)) = HasFailed spelling words files input (F.Refused r)
+Explained spelling words files input folder_rose input_rose (Err (F.BadInput at)) = HasFailed spelling words files input (F.BadInput at)
+Explained spelling words files input folder_rose input_rose (Err (F.TooSmall needed given)) = HasFailed spelling words files input (F.TooSmall needed given)
+Explained spelling words files input folder_rose input_rose (Err (F.OutOfCalls given)) = HasFailed spelling words files input (F.OutOfCalls given)
+Explained spelling words files input folder_rose input_rose (Err (F.Fault object)) = FaultExplained spelling words files input folder_rose input_rose object
+Explained spelling words files input folder_rose input_rose (Err F.NoMemory) = Unit {0}

@@ -1,0 +1,45 @@
+-- What a host finds after a command's result, or what kept it from one, was handed to its sinks: the status, and what
+-- out and err hold more. A sink that isn't written to stays as it is.
+use Rattle.std.specs.Prelude.{◌≡◌, ℕ, List, ◌⊎◌, Option, Result, Ok, Err}
+use Rattle.std.specs.Io.KnownBytes.{Appends}
+use Rattle.std.specs.declared.vec.Vec.{Vec}
+use Rattle.std.specs.declared.alloc.Global.{Global}
+use Rattle.fip_base.specs.Faults.{Rose}
+use Rattle.fip_base.specs.Takes.{WritesPrefix}
+use Rattle.fip_driver.specs.Delivery.{WritesPrefixes}
+use Rattle.fip_driver.specs.Failures.{failure_text, failure_status, fault_text}
+use Rattle.fip_driver.specs.Texts.{no_memory_text, out_fault_text, err_fault_text}
+use Rattle.fip_driver.specs.declared.failure.Failure.{Failure}
+use Rattle.fip_driver.specs.declared.failure.Failure.TheVariants as F
+
+-- a sink: the bytes that were written, where they are told, and the count of faults
+pub record Seen : Type 0 where
+  pub written : Option (List ℕ)
+  pub faults : ℕ
+
+-- A text was tried once: it stands on the sink, or the sink failed behind a front part of it.
+abbrev pub Tried : Seen → Seen → List ℕ → Type 0
+Tried old new text = Appends old.written new.written text ⊎ (Rose old.faults new.faults × WritesPrefix old.written new.written text)
+
+-- The text stands on a sink, and the status is this one; or the sink failed, and the status is 9.
+abbrev pub Told : Seen → Seen → ℕ → List ℕ → ℕ → Type 0
+Told old new status text s =
+    ((s ≡ status) × Appends old.written new.written text)
+    ⊎ ((s ≡ 9) × Rose old.faults new.faults × WritesPrefixes old.written new.written text err_fault_text)
+
+-- a failure's own text; or that of want of memory, where there was none for the text
+abbrev pub ToldFailure : Seen → Seen → Failure → ℕ → Type 0
+ToldFailure old new (F.Fault object) s = (s ≡ 9) × Tried old new (fault_text object)
+ToldFailure old new F.NoMemory s = Told old new 10 no_memory_text s
+ToldFailure old new F.NotUnderstood s = Told old new 2 (failure_text F.NotUnderstood) s ⊎ Told old new 10 no_memory_text s
+ToldFailure old new (F.Refused r) s = Told old new 1 (failure_text (F.Refused r)) s ⊎ Told old new 10 no_memory_text s
+ToldFailure old new (F.BadInput at) s = Told old new 5 (failure_text (F.BadInput at)) s ⊎ Told old new 10 no_memory_text s
+ToldFailure old new (F.TooSmall needed given) s = Told old new 6 (failure_text (F.TooSmall needed given)) s ⊎ Told old new 10 no_memory_text s
+ToldFailure old new (F.OutOfCalls given) s = Told old new 4 (failure_text (F.OutOfCalls given)) s ⊎ Told old new 10 no_memory_text s
+
+-- A result stands on out; or out failed behind a front part of it, which was tried to be told on err.
+abbrev pub Delivered : Seen → Seen → Seen → Seen → Result (Vec ℕ Global) Failure → ℕ → Type 0
+Delivered out out' err err' (Ok text) s =
+    ((s ≡ 0) × Appends out.written out'.written text.items × (err' ≡ err))
+    ⊎ ((s ≡ 9) × Rose out.faults out'.faults × WritesPrefix out.written out'.written text.items × Tried err err' out_fault_text)
+Delivered out out' err err' (Err failure) s = (out' ≡ out) × ToldFailure err err' failure s

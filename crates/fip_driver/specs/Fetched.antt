@@ -1,0 +1,34 @@
+-- What can come of fetching a source and of reading an input.
+use Rattle.std.specs.Prelude.{◌≡◌, ℕ, ◌+◌, List, [], ◌⊎◌, None, Option}
+use Rattle.fip_base.specs.declared.refusal.Refusal.{Refusal}
+use Rattle.fip_base.specs.declared.refusal.Rule.TheVariants.{E05}
+use Rattle.fip_base.specs.Faults.{Rose}
+use Rattle.fip_base.specs.Files.{File, HoldsLonger, IsMissing}
+use Rattle.fip_base.specs.Takes.{Takes}
+use Rattle.fip_driver.specs.declared.failure.Object.TheVariants as O
+use Rattle.fip_driver.specs.declared.failure.Failure.{Failure}
+use Rattle.fip_driver.specs.declared.failure.Failure.TheVariants as F
+
+-- the refusal of a source that is too long
+abbrev pub too_long : Refusal
+too_long = record { rule = E05; place = None; size = 0; detail = [] }
+
+-- why a source wasn't fetched, by the folder's files and its count of faults before and after
+abbrev pub FetchFails : Option (List File) → List ℕ → ℕ → ℕ → Failure → Type 0
+FetchFails files name before now F.NotUnderstood = ⊥
+FetchFails files name before now (F.Refused r) = (r ≡ too_long) × HoldsLonger files name 1048576
+FetchFails files name before now (F.BadInput at) = ⊥
+FetchFails files name before now (F.TooSmall needed given) = ⊥
+FetchFails files name before now (F.OutOfCalls given) = ⊥
+FetchFails files name before now (F.Fault object) = (object ≡ O.Folder) × (Rose before now ⊎ IsMissing files name)
+FetchFails files name before now F.NoMemory = Unit {0}
+
+-- why an input wasn't read, by what was left of it before and after, and the count of faults before and after
+abbrev pub ReadFails : Option (List ℕ) → Option (List ℕ) → ℕ → ℕ → Failure → Type 0
+ReadFails left left' before now F.NotUnderstood = ⊥
+ReadFails left left' before now (F.Refused r) = ⊥
+ReadFails left left' before now (F.BadInput at) = (at ≡ 16777216) × Takes left left' 16777217
+ReadFails left left' before now (F.TooSmall needed given) = ⊥
+ReadFails left left' before now (F.OutOfCalls given) = ⊥
+ReadFails left left' before now (F.Fault object) = (object ≡ O.Input) × Rose before now
+ReadFails left left' before now F.NoMemory = Unit {0}

@@ -1,0 +1,61 @@
+// What comes from a host: the source's bytes and the input's.
+ghost use Rattle.std.specs.Prelude.{◌≡◌, ◌≤◌, length, IfOk, OnOk, IfErr};
+ghost use Rattle.std.specs.Io.KnownBytes.{Consumes, IsAtEnd};
+ghost use Rattle.fip_base.specs.Files.{HoldsFile};
+ghost use Rattle.fip_driver.specs.Fetched.{FetchFails, ReadFails};
+
+use crate::failure::{Failure, Object};
+use fip_base::all::{ReadError, read_all};
+use fip_base::outside::{FetchError, Folder, Source};
+use fip_base::plain::Detail;
+use fip_base::refusal::{Refusal, Rule};
+use std::alloc::Global;
+
+// The most bytes of a source.
+const MOST_SOURCE: usize = 1_048_576;
+
+// The most bytes of an input.
+const MOST_INPUT: usize = 16_777_216;
+
+/// The bytes of the source's file, at most 1,048,576. E05 where there are more; a fault of the folder where it failed or
+/// has no file of that name.
+pub fn fetch_source<F: Folder>(
+    alloc: Global,
+    folder: &mut F,
+    name: &str,
+) -> Result<Vec<u8>, Failure>
+    ensures found { IfOk result (λ v. HoldsFile (F.files folder.old) name.now v.items) }
+    ensures within { IfOk result (λ v. length v.items ≤ 1048576) }
+    ensures fails { IfErr result (λ e. FetchFails (F.files folder.old) name.now (F.faults folder.old) (F.faults folder.new) e) }
+    ensures same { F.files folder.new ≡ F.files folder.old }
+    ensures later { F.faults folder.old ≤ F.faults folder.new }
+{
+    match folder.fetch(name, MOST_SOURCE) {
+        Ok(bytes) => Ok(bytes),
+        Err(FetchError::TooLong) => Err(Failure::Refused(Refusal {
+            rule: Rule::E05,
+            place: None,
+            size: 0,
+            detail: Detail::new(Vec::new(alloc)),
+        })),
+        Err(FetchError::Failed) => Err(Failure::Fault(Object::Folder)),
+        Err(FetchError::NoMemory) => Err(Failure::NoMemory),
+    }
+}
+
+/// The bytes of the input up to its end, at most 16,777,216. A bad input at that offset where there are more; a fault of
+/// the input where it failed.
+pub fn read_input<S: Source>(alloc: Global, input: &mut S) -> Result<Vec<u8>, Failure>
+    ensures all { IfOk result (λ v. Consumes (S.left input.old) (S.left input.new) v.items) }
+    ensures end { OnOk result (IsAtEnd (S.left input.new)) }
+    ensures within { IfOk result (λ v. length v.items ≤ 16777216) }
+    ensures fails { IfErr result (λ e. ReadFails (S.left input.old) (S.left input.new) (S.faults input.old) (S.faults input.new) e) }
+    ensures later { S.faults input.old ≤ S.faults input.new }
+{
+    match read_all(alloc, input, MOST_INPUT) {
+        Ok(bytes) => Ok(bytes),
+        Err(ReadError::TooLong) => Err(Failure::BadInput { at: MOST_INPUT }),
+        Err(ReadError::Fault) => Err(Failure::Fault(Object::Input)),
+        Err(ReadError::NoMemory) => Err(Failure::NoMemory),
+    }
+}

@@ -1,0 +1,62 @@
+-- Laws of the words on lists.
+use Rattle.std.proofs.Common.{◌≡◌, inl, inr, ℕ, zero, suc, ◌+◌, ◌<◌, ◌≤◌, List, [], ◌∷◌, ◌++◌, map, length, true, Some, refl, sym, ap, ◌∙◌, subst, arith}
+use Rattle.std.specs.Prelude.{slice_get}
+use Rattle.std.proofs.lemmas.Slice.Eq.{bytes_eq-Decides}
+use Rattle.fip_language.specs.Core.{Name}
+use Rattle.fip_language.specs.Declarations.{same_name}
+use Rattle.fip_language.specs.Every.{Every, Among, one_if_named, times, Once}
+use Rattle.fip_language.specs.Mentions.{Mention, all_of}
+use Rattle.fip_language.specs.Violations.{mention_name, IsRepeated}
+
+pub every_among : {A : Type 0} (P : A → Type 0) (x : A) (xs : List A) → Every P xs → Among x xs → P x
+every_among P x [] h a = absurd a
+every_among P x (y ∷ ys) h (inl e) = subst P (sym e) h.0
+every_among P x (y ∷ ys) h (inr a) = every_among P x ys h.1 a
+
+pub map-append : {A B : Type 0} (f : A → B) (xs ys : List A) → map f (xs ++ ys) ≡ map f xs ++ map f ys
+map-append f [] ys = refl
+map-append f (x ∷ xs) ys = ap (λ l. f x ∷ l) (map-append f xs ys)
+
+pub map-map : {A B C : Type 0} (f : B → C) (g : A → B) (xs : List A) → map f (map g xs) ≡ map (λ x. f (g x)) xs
+map-map f g [] = refl
+map-map f g (x ∷ xs) = ap (λ l. f (g x) ∷ l) (map-map f g xs)
+
+pub map-all_of : {A B C : Type 0} (f : B → C) (g : A → List B) (xs : List A) → map f (all_of g xs) ≡ all_of (λ x. map f (g x)) xs
+map-all_of f g [] = refl
+map-all_of f g (x ∷ xs) = map-append f (g x) (all_of g xs) ∙ ap (λ l. map f (g x) ++ l) (map-all_of f g xs)
+
+pub times-append : (name : Name) (xs ys : List Name) → times name (xs ++ ys) ≡ times name xs + times name ys
+times-append name [] ys = omega arith
+times-append name (x ∷ xs) ys = let e = times-append name xs ys in omega (arith, e)
+
+pub one_if_named-same : (name : Name) → one_if_named name name ≡ 1
+one_if_named-same name = let e : same_name name name ≡ true = (bytes_eq-Decides name name).1 refl in cc
+
+-- a name that is repeated stands twice
+pub repeated_twice : (ms : List Mention) (m : Mention) → IsRepeated ms m → 2 ≤ times m.name (map mention_name ms)
+repeated_twice ms m r =
+    let names : map mention_name ms ≡ map mention_name r.0 ++ m.name ∷ map mention_name r.1 = ap (map mention_name) r.2 ∙ map-append mention_name r.0 (m ∷ r.1) in
+    let sum : times m.name (map mention_name ms) ≡ times m.name (map mention_name r.0) + times m.name (m.name ∷ map mention_name r.1) = ap (times m.name) names ∙ times-append m.name (map mention_name r.0) (m.name ∷ map mention_name r.1) in
+    let one = one_if_named-same m.name in
+    let before = r.3 in
+    omega arith
+
+pub repeated_not_once : (ms : List Mention) (m : Mention) → IsRepeated ms m → Once (map mention_name ms) → ⊥
+repeated_not_once ms m r once =
+    let many = repeated_twice ms m r in
+    let few = once m.name in
+    omega arith
+
+pub slice_get_within : {A : Type 0} (xs : List A) (n : ℕ) (x : A) → slice_get xs n ≡ Some x → n < length xs
+slice_get_within [] n x e = cc
+slice_get_within (y ∷ ys) zero x e = omega arith
+slice_get_within (y ∷ ys) (suc n) x e = let h = slice_get_within ys n x e in omega arith
+
+pub slice_get-map : {A B : Type 0} (f : A → B) (xs : List A) (n : ℕ) (x : A) → slice_get xs n ≡ Some x → slice_get (map f xs) n ≡ Some (f x)
+slice_get-map f [] n x e = cc
+slice_get-map f (y ∷ ys) zero x e = let same : y ≡ x = cc in ap (λ z. Some (f z)) same
+slice_get-map f (y ∷ ys) (suc n) x e = slice_get-map f ys n x e
+
+pub length-mapped : {A B : Type 0} (f : A → B) (xs : List A) → length (map f xs) ≡ length xs
+length-mapped f [] = refl
+length-mapped f (x ∷ xs) = ap suc (length-mapped f xs)

@@ -1,5 +1,5 @@
 -- What is read of an option.
-use Rattle.std.proofs.Common.{◌≡◌, ◌≢◌, ◌∙◌, ◌<◌, ◌^◌, ℕ, List, sym, ap, subst, refl}
+use Rattle.std.proofs.Common.{arith, ◌≡◌, ◌≤◌, ◌≢◌, ◌∙◌, ◌<◌, ◌^◌, ℕ, List, sym, ap, subst, refl}
 use Rattle.std.specs.Prelude.{Result, Option, Some, None, IfSome, IsNone, Bool, true, false, codes}
 use Rattle.std.specs.Str.Parse.{ParsesUnsigned, ExplainsUnsignedError, HasUnsignedDigitsIfOk, ParsesBool, IsNumeral, digits_value, without_leading_plus}
 use Rattle.std.specs.declared.num.ParseIntError.{ParseIntError}
@@ -16,22 +16,31 @@ some_same a b e = cc
 none_some : {A B : Type 0} → (a : A) → None ≡ Some a → B
 none_some a e = cc
 
-pub number_read : (id : Text) (rows : List Row) (one : Option Text) (r : Option ℕ) → one ≡ one_of id rows → (one ≡ None → r ≡ None) → ((t : List ℕ) → one ≡ Some t → ReadsOne Gives t r) → IfSome r (IsNumberIn id rows)
-number_read id rows None r is none value = subst (λ r. IfSome r (IsNumberIn id rows)) (sym (none refl)) tt
-number_read id rows (Some t) None is none value = tt
-number_read id rows (Some t) (Some n) is none value =
+-- the number that was read, where it isn't too great
+pub number_read : (id : Text) (rows : List Row) (one : Option Text) (most n : ℕ) → one ≡ one_of id rows → (one ≡ None → Some n ≡ None) → ((t : List ℕ) → one ≡ Some t → ReadsOne Gives t (Some n)) → n ≤ most → IsNumberIn id most rows n
+number_read id rows None most n is none value le = none_some n (sym (none refl))
+number_read id rows (Some t) most n is none value le =
     let given = (value t refl).0 in
-    record { text = t; given = sym is; numeral = given.0.0; value = given.1; fits = subst (λ k. k < 2 ^ 64) (sym given.1) given.0.1 }
+    record { text = t; given = sym is; numeral = given.0.0; value = given.1; fits = subst (λ k. k < 2 ^ 64) (sym given.1) given.0.1; within = le }
 
-pub number_unread : (id : Text) (rows : List Row) (one : Option Text) (r : Option ℕ) → one ≡ one_of id rows → (one ≡ None → r ≡ None) → ((t : List ℕ) → one ≡ Some t → ReadsOne Gives t r) → IsNone r → (n : ℕ) → IsNumberIn id rows n → ⊥
-number_unread id rows None r is none value empty n h = none_some h.text (is ∙ h.given)
-number_unread id rows (Some t) (Some m) is none value empty n h = let e : true ≡ false = empty in cc
-number_unread id rows (Some t) None is none value empty n h =
+-- no number was read
+pub number_unread : (id : Text) (rows : List Row) (one : Option Text) (most : ℕ) → one ≡ one_of id rows → ((t : List ℕ) → one ≡ Some t → ReadsOne Gives t None) → (n : ℕ) → IsNumberIn id most rows n → ⊥
+number_unread id rows None most is value n h = none_some h.text (is ∙ h.given)
+number_unread id rows (Some t) most is value n h =
     let same : t ≡ h.text = some_same t h.text (is ∙ h.given) in
     (value t refl).1.0 (
       subst (λ t. IsNumeral 10 (without_leading_plus t)) (sym same) h.numeral,
       subst (λ t. digits_value 10 (without_leading_plus t) < 2 ^ 64) (sym same) (subst (λ k. k < 2 ^ 64) h.value h.fits),
     )
+
+-- a number was read that is too great
+pub number_too_great : (id : Text) (rows : List Row) (one : Option Text) (most m : ℕ) → one ≡ one_of id rows → ((t : List ℕ) → one ≡ Some t → ReadsOne Gives t (Some m)) → most < m → (n : ℕ) → IsNumberIn id most rows n → ⊥
+number_too_great id rows None most m is value great n h = none_some h.text (is ∙ h.given)
+number_too_great id rows (Some t) most m is value great n h =
+    let same : t ≡ h.text = some_same t h.text (is ∙ h.given) in
+    let number : m ≡ n = (value t refl).0.1 ∙ (ap (λ t. digits_value 10 (without_leading_plus t)) same ∙ sym h.value) in
+    let within = subst (λ k. k ≤ most) (sym number) h.within in
+    absurd (omega arith)
 
 abbrev pub GivesBool : List ℕ → Result Bool ParseBoolError → Type 0
 GivesBool bs r = ParsesBool bs r

@@ -41,14 +41,14 @@ module _ (spelling : Spelling) (words : List (List ℕ)) (files : List File) (in
         subst (Appends err.written err'.written) as'.same_text told,
       ))
 
-  no_memory : (s : ℕ) → Told err err' 10 no_memory_text s → Whole s
-  no_memory s (inl t) = inl t.0
-  no_memory s (inr t) = absurd (no_err t.1)
+  no_memory : (s : ℕ) → out' ≡ out → Told err err' 10 no_memory_text s → Whole s
+  no_memory s same (inl t) = inl (t.0, ap (λ o. o.written) same, t.1)
+  no_memory s same (inr t) = absurd (no_err t.1)
 
   told : (f : Failure) (s : ℕ) → out' ≡ out → HasFailed spelling words files input f → Told err err' (failure_status f) (failure_text f) s ⊎ Told err err' 10 no_memory_text s → Whole s
   told f s same h (inl (inl t)) = failed f s same h t.0 t.1
   told f s same h (inl (inr t)) = absurd (no_err t.1)
-  told f s same h (inr t) = no_memory s t
+  told f s same h (inr t) = no_memory s same t
 
   told_fault : (s : ℕ) → out' ≡ out → HasFailed spelling words files input (F.Fault O.Folder) → s ≡ 9 → Tried err err' folder_fault_text → Whole s
   told_fault s same h e (inl t) = failed (F.Fault O.Folder) s same h e t
@@ -57,7 +57,7 @@ module _ (spelling : Spelling) (words : List (List ℕ)) (files : List File) (in
   delivered_failure : (folder_rose input_rose : Type 0) → (folder_rose → ⊥) → (input_rose → ⊥) → (f : Failure) (s : ℕ) → out' ≡ out → Explained spelling words files input folder_rose input_rose (Err f) → ToldFailure err err' f s → Whole s
   delivered_failure fr ir no_f no_i F.NotUnderstood s same none (inl (inl t)) = inr (inl (none, t.0, ap (λ o. o.written) same, t.1))
   delivered_failure fr ir no_f no_i F.NotUnderstood s same none (inl (inr t)) = absurd (no_err t.1)
-  delivered_failure fr ir no_f no_i F.NotUnderstood s same none (inr t) = no_memory s t
+  delivered_failure fr ir no_f no_i F.NotUnderstood s same none (inr t) = no_memory s same t
   delivered_failure fr ir no_f no_i (F.Refused r) s same h t = told (F.Refused r) s same h t
   delivered_failure fr ir no_f no_i (F.BadInput at) s same h t = told (F.BadInput at) s same h t
   delivered_failure fr ir no_f no_i (F.TooSmall needed given) s same h t = told (F.TooSmall needed given) s same h t
@@ -67,7 +67,7 @@ module _ (spelling : Spelling) (words : List (List ℕ)) (files : List File) (in
   delivered_failure fr ir no_f no_i (F.Fault O.Input) s same rose t = absurd (no_i rose)
   delivered_failure fr ir no_f no_i (F.Fault O.Out) s same never t = absurd never
   delivered_failure fr ir no_f no_i (F.Fault O.Err) s same never t = absurd never
-  delivered_failure fr ir no_f no_i F.NoMemory s same h t = no_memory s t
+  delivered_failure fr ir no_f no_i F.NoMemory s same h t = no_memory s same t
 
   -- where no count of faults rose
   pub whole_answer : (folder_rose input_rose : Type 0) → (folder_rose → ⊥) → (input_rose → ⊥) → (outcome : Result (Vec ℕ Global) Failure) (s : ℕ) → Explained spelling words files input folder_rose input_rose outcome → Delivered out out' err err' outcome s → Whole s

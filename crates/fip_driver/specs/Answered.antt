@@ -10,7 +10,7 @@ use Rattle.fip_language.specs.Answer.{Reply, NoFile, Execs, status}
 use Rattle.fip_base.specs.Files.{File, file_of}
 use Rattle.fip_driver.specs.Words.{Request, IsRequest}
 use Rattle.fip_driver.specs.Reply.{out_text, err_text}
-use Rattle.fip_driver.specs.Texts.{not_understood_text}
+use Rattle.fip_driver.specs.Texts.{not_understood_text, no_memory_text}
 use Rattle.fip_driver.specs.Failures.{failure_text, failure_status}
 use Rattle.fip_driver.specs.declared.failure.Failure.{Failure}
 use Rattle.fip_driver.specs.declared.failure.Failure.TheVariants as F
@@ -37,7 +37,7 @@ IsNoCommand words = (r : Request) → IsRequest words r → ⊥
 -- The whole answer: the status, and what out and err hold more. Status 10 is want of memory.
 abbrev pub Answered : Spelling → List (List ℕ) → List File → List ℕ → Option (List ℕ) → Option (List ℕ) → Option (List ℕ) → Option (List ℕ) → ℕ → Type 0
 Answered spelling words files input out out' err err' s =
-    (s ≡ 10)
+    ((s ≡ 10) × (out' ≡ out) × Appends err err' no_memory_text)
     ⊎ (IsNoCommand words × (s ≡ 2) × (out' ≡ out) × Appends err err' not_understood_text)
     ⊎ ((r : Request) × (reply : Reply) × Replies spelling words files input r reply × (s ≡ status reply) × Appends out out' (out_text r.gauge reply) × Appends err err' (err_text reply))
 

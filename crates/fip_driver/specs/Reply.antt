@@ -5,26 +5,28 @@ use Rattle.fip_language.specs.declared.Place.{Place}
 use Rattle.fip_language.specs.PrintedText.{printed_lines}
 use Rattle.fip_language.specs.Declarations.{table_of}
 use Rattle.fip_language.specs.Right.{result_type}
+use Rattle.fip_language.specs.Meaning.{Peak}
 use Rattle.fip_language.specs.Gauge.{highest_by_trees, lowest_by_trees}
 use Rattle.fip_language.specs.Answer.{Reply, Done, NoFile, SourceTooLong, Misspelt, NotRight, NoEntry, BadInput, TooSmall, Trapped, OutOfCalls, OutOfFrames, Finished}
 use Rattle.fip_base.specs.Refusal.{place_text, detail_text}
-use Rattle.fip_driver.specs.Texts.{line_end, out_of_calls_text, bad_input_text, too_small_text, cells_text, stack_text, bound_text, folder_fault_text}
+use Rattle.fip_driver.specs.Texts.{line_end, out_of_calls_text, bad_input_text, too_small_text, cells_text, stack_text, bound_text, folder_fault_text, trap_text, out_of_frames_text}
 
 -- a line for a size of which there were cells
 abbrev pub size_line : ℕ → ℕ → ℕ → List ℕ
 size_line k low zero = []
 size_line k low (suc high) = cells_text k low (suc high)
 
-abbrev pub size_line_of : Done → ℕ → List ℕ
-size_line_of done k = size_line k (lowest_by_trees k done.function.parameters done.arguments done.results) (highest_by_trees k done.arguments)
+-- the lines of n sizes, the last of them 16, by the lowest and the highest number of cells of each size
+abbrev pub size_lines : (ℕ → ℕ) → (ℕ → ℕ) → ℕ → List ℕ
+size_lines low high zero = []
+size_lines low high (suc n) = size_line (16 - n) (low (16 - n)) (high (16 - n)) ++ size_lines low high n
 
--- the lines of n sizes, the last of them 16
-abbrev pub size_lines : Done → ℕ → List ℕ
-size_lines done zero = []
-size_lines done (suc n) = size_line_of done (16 - n) ++ size_lines done n
+-- the gauge's lines: the sizes from 1 to 16, the stack and its bound
+abbrev pub gauge_lines : (ℕ → ℕ) → (ℕ → ℕ) → Peak → Peak → List ℕ
+gauge_lines low high stack bound = size_lines low high 16 ++ (stack_text stack.frames stack.words ++ bound_text bound.frames bound.words)
 
 abbrev pub gauge_text : Done → List ℕ
-gauge_text done = size_lines done 16 ++ (stack_text done.stack.frames done.stack.words ++ bound_text done.bound.frames done.bound.words)
+gauge_text done = gauge_lines (λ k. lowest_by_trees k done.function.parameters done.arguments done.results) (λ k. highest_by_trees k done.arguments) done.stack done.bound
 
 abbrev pub value_text : Done → List ℕ
 value_text done = printed_lines (table_of done.core) (result_type done.core done.function.result ∷ []) done.results
@@ -43,7 +45,7 @@ out_text gauge (OutOfCalls given) = []
 out_text gauge (OutOfFrames given) = []
 out_text gauge (Finished done) = value_text done ++ (if gauge then gauge_text done else [])
 
--- a refusal's rule has two digits
+-- the rules are E01 to E04: one digit behind the 0
 abbrev pub misspelt_text : ℕ → Place → List ℕ
 misspelt_text rule place = codes "E0" ++ (decimal rule ++ (place_text (Some place) ++ line_end))
 
@@ -56,7 +58,7 @@ err_text NotRight = codes "E09 at 1:1\n"
 err_text (NoEntry name) = codes "E70" ++ (detail_text name ++ line_end)
 err_text (BadInput at) = bad_input_text at
 err_text (TooSmall needed given) = too_small_text needed given
-err_text (Trapped kind line col) = []
+err_text (Trapped kind line col) = trap_text kind line col
 err_text (OutOfCalls given) = out_of_calls_text given
-err_text (OutOfFrames given) = []
+err_text (OutOfFrames given) = out_of_frames_text given
 err_text (Finished done) = []

@@ -1,6 +1,8 @@
 -- The texts of the statuses, each ended by LF.
 use Rattle.std.specs.Prelude.{ℕ, List, [], ◌∷◌, ◌++◌, codes}
 use Rattle.std.specs.Fmt.{decimal}
+use Rattle.fip_language.specs.declared.TrapKind.{TrapKind}
+use Rattle.fip_language.specs.declared.TrapKind.TheVariants.{Overflow, DivideByZero}
 
 -- LF
 abbrev pub line_end : List ℕ
@@ -17,6 +19,16 @@ bad_input_text at = codes "bad input at " ++ (decimal at ++ line_end)
 
 abbrev pub too_small_text : ℕ → ℕ → List ℕ
 too_small_text needed given = codes "store too small: " ++ (decimal needed ++ (codes " needed, " ++ (decimal given ++ codes " given\n")))
+
+abbrev pub trap_name : TrapKind → List ℕ
+trap_name Overflow = codes "Overflow"
+trap_name DivideByZero = codes "DivideByZero"
+
+abbrev pub trap_text : TrapKind → ℕ → ℕ → List ℕ
+trap_text kind line col = codes "trap " ++ (trap_name kind ++ (codes " at " ++ (decimal line ++ (codes ":" ++ (decimal col ++ line_end)))))
+
+abbrev pub out_of_frames_text : ℕ → List ℕ
+out_of_frames_text frames = codes "out of frames: " ++ (decimal frames ++ line_end)
 
 abbrev pub no_memory_text : List ℕ
 no_memory_text = codes "out of memory\n"

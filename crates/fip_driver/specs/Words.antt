@@ -1,6 +1,6 @@
 -- The written command line, and what words ask for.
 -- fp2 exec FILE ENTRY [--calls N] [--words N] [--gauge]
-use Rattle.std.specs.Prelude.{◌≡◌, ℕ, ◌^◌, ◌<◌, List, [], ◌∷◌, Some, Bool, true, false, codes}
+use Rattle.std.specs.Prelude.{◌≡◌, ℕ, ◌^◌, ◌<◌, ◌≤◌, List, [], ◌∷◌, Some, Bool, true, false, codes}
 use Rattle.std.specs.Str.Parse.{IsNumeral, digits_value, without_leading_plus}
 use Rattle.clap.specs.Words.{App, Row, Rule, Text, fault_of, first_of, one_of, subcommand_of, new_rule, with_rule, with_subcommand}
 use Rattle.clap.specs.Simple.{new_shape}
@@ -29,8 +29,14 @@ bare name = record { top = record (new_shape name) { disable_help_flag = true };
 abbrev pub exec_words_app : App
 exec_words_app = with_rule (with_rule (bare (codes "exec")) (required_rule (codes "FILE"))) (required_rule (codes "ENTRY"))
 
+abbrev pub most_calls : ℕ
+most_calls = 1000000000000
+
+abbrev pub most_words : ℕ
+most_words = 16777216
+
 abbrev pub exec_app : App
-exec_app = with_rule (with_rule (with_rule exec_words_app (number_rule (codes "calls") 1000000000000 (codes "1000000000"))) (number_rule (codes "words") 16777216 (codes "1048576"))) (flag_rule (codes "gauge"))
+exec_app = with_rule (with_rule (with_rule exec_words_app (number_rule (codes "calls") most_calls (codes "1000000000"))) (number_rule (codes "words") most_words (codes "1048576"))) (flag_rule (codes "gauge"))
 
 abbrev pub top_app : App
 top_app = record {
@@ -42,13 +48,14 @@ top_app = record {
 abbrev pub command_app : App
 command_app = with_subcommand top_app exec_app.top
 
--- the number of an option, in decimal digits
-pub record IsNumberIn (id : Text) (rows : List Row) (n : ℕ) : Type 0 where
+-- the number of an option, in decimal digits before which a + may stand; it is at most so much
+pub record IsNumberIn (id : Text) (most : ℕ) (rows : List Row) (n : ℕ) : Type 0 where
   pub text : Text
   pub given : one_of id rows ≡ Some text
   pub numeral : IsNumeral 10 (without_leading_plus text)
   pub value : n ≡ digits_value 10 (without_leading_plus text)
   pub fits : n < 2 ^ 64
+  pub within : n ≤ most
 
 abbrev pub flag_text : Bool → Text
 flag_text true = codes "true"
@@ -67,8 +74,8 @@ pub record Request : Type 0 where
 pub record AsksFor (rows : List Row) (r : Request) : Type 0 where
   pub file : first_of (codes "FILE") rows ≡ Some r.file
   pub entry : first_of (codes "ENTRY") rows ≡ Some r.entry
-  pub calls : IsNumberIn (codes "calls") rows r.calls
-  pub words : IsNumberIn (codes "words") rows r.words
+  pub calls : IsNumberIn (codes "calls") most_calls rows r.calls
+  pub words : IsNumberIn (codes "words") most_words rows r.words
   pub gauge : one_of (codes "gauge") rows ≡ Some (flag_text r.gauge)
 
 -- The words are a command, and ask for this.

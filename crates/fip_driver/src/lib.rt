@@ -1,8 +1,8 @@
 // The program: reads its words, checks a source, runs it in its own cells and prints what it gives.
 #![tactic(auto)]
 
-pub mod delivery;
+mod delivery;
 pub mod failure;
-pub mod fetched;
-pub mod texts;
+mod fetched;
+mod texts;
 pub mod words;

@@ -59,8 +59,8 @@ fn exec_command<'a>(alloc: Global) -> Result<Command<'a>, AllocError>
     ensures local { IfOk result (λ c. (out-Command c).has_globals ≡ false) }
 {
     let words = exec_words(alloc)?;
-    let calls = words.arg(number(alloc, "calls", 1_000_000_000_000, "1000000000"))?;
-    let store = calls.arg(number(alloc, "words", 16_777_216, "1048576"))?;
+    let calls = words.arg(number(alloc, "calls", MOST_CALLS, "1000000000"))?;
+    let store = calls.arg(number(alloc, "words", MOST_WORDS, "1048576"))?;
     store.arg(flag(alloc, "gauge"))
 }
 
@@ -80,13 +80,21 @@ fn command<'a>(alloc: Global) -> Result<Command<'a>, AllocError>
     top_command(alloc).subcommand(exec_command(alloc)?)
 }
 
-// The number of an option.
-fn number_of(matches: &ArgMatches<'_>, id: &str) -> Option<u64>
-    ensures some { IfSome result (λ n. IsNumberIn id.now (rows_of (found_of matches.now)) n) }
-    ensures none { IsNone result → (n : ℕ) → IsNumberIn id.now (rows_of (found_of matches.now)) n → ⊥ }
+// The number of an option, which is at most so much.
+fn number_of(matches: &ArgMatches<'_>, id: &str, most: u64) -> Option<u64>
+    ensures some { IfSome result (λ n. IsNumberIn id.now most (rows_of (found_of matches.now)) n) }
+    ensures none { IsNone result → (n : ℕ) → IsNumberIn id.now most (rows_of (found_of matches.now)) n → ⊥ }
 {
-    matches.get_one::<u64>(id)
+    match matches.get_one::<u64>(id) {
+        Some(n) if n <= most => Some(n),
+        _ => None,
+    }
 }
+
+// The most calls and the most words of a store.
+const MOST_CALLS: u64 = 1_000_000_000_000;
+
+const MOST_WORDS: u64 = 16_777_216;
 
 // Whether a flag stands there.
 fn flag_of(matches: &ArgMatches<'_>, id: &str) -> Option<bool>
@@ -134,8 +142,8 @@ fn exec_request<'a>(matches: &ArgMatches<'a>) -> Option<ExecRequest<'a>>
 {
     let file = text_of(matches, "FILE")?;
     let entry = text_of(matches, "ENTRY")?;
-    let calls = number_of(matches, "calls")?;
-    let words = number_of(matches, "words")?;
+    let calls = number_of(matches, "calls", MOST_CALLS)?;
+    let words = number_of(matches, "words", MOST_WORDS)?;
     let gauge = flag_of(matches, "gauge")?;
     Some(ExecRequest {
         file,

@@ -25,7 +25,7 @@ go_on-same k Stuck go go' h same = refl
 pub then_with-same : (k : ℕ) (r s : Run) (go go' : Values → ℕ → Run) → r ≡ s → AtMost k r.answer → ((vs : Values) (left : ℕ) → left ≤ k → go vs left ≡ go' vs left) → then_with r go ≡ then_with s go'
 then_with-same k r s go go' e h same = ap (after r.peak) (go_on-same k r.answer go go' h same) ∙ ap (λ x. then_with x go') e
 
-with_value-same : (o : Option Value) (go go' : Value → Run) → ((v : Value) → go v ≡ go' v) → with_value o go ≡ with_value o go'
+pub with_value-same : (o : Option Value) (go go' : Value → Run) → ((v : Value) → go v ≡ go' v) → with_value o go ≡ with_value o go'
 with_value-same None go go' h = refl
 with_value-same (Some v) go go' h = h v
 
@@ -42,7 +42,7 @@ counted-same : (k : ℕ) (go go' : ℕ → Run) → ((left : ℕ) → left < k �
 counted-same zero go go' h = refl
 counted-same (suc k) go go' h = h k (omega arith)
 
-if_matches-same : (o : Option (List Binding)) (go go' : List Binding → Run) (r s : Run) → ((bs : List Binding) → go bs ≡ go' bs) → r ≡ s → if_matches o go r ≡ if_matches o go' s
+pub if_matches-same : (o : Option (List Binding)) (go go' : List Binding → Run) (r s : Run) → ((bs : List Binding) → go bs ≡ go' bs) → r ≡ s → if_matches o go r ≡ if_matches o go' s
 if_matches-same None go go' r s h e = e
 if_matches-same (Some bs) go go' r s h e = h bs
 

@@ -16,22 +16,22 @@ use Rattle.fip_language.specs.Meaning.{Answer, Gives, Trap, Out, Deep, Run, mean
 abbrev at : ℕ → ℕ → Place
 at line col = record { line = line; col = col; at = 0 }
 
-abbrev here : Place
+abbrev pub here : Place
 here = at 1 1
 
-abbrev bound : ℕ → Name → Binder
+abbrev pub bound : ℕ → Name → Binder
 bound n name = record { number = n; name = name; place = here; annotation = None }
 
-abbrev var : ℕ → Name → Argument
+abbrev pub var : ℕ → Name → Argument
 var n name = Variable (Some n) name here
 
-abbrev two : Argument → Argument → Arguments
+abbrev pub two : Argument → Argument → Arguments
 two a b = MoreArguments a (MoreArguments b NoArguments)
 
-abbrev ints : Written
+abbrev pub ints : Written
 ints = WrittenName (codes "ints") here NoWritten
 
-abbrev int_list : Data
+abbrev pub int_list : Data
 int_list = record {
   name = codes "ints";
   place = here;
@@ -39,17 +39,17 @@ int_list = record {
   constructors = record { name = codes "Nil"; place = here; fields = [] } ∷ record { name = codes "Cons"; place = here; fields = WrittenInt here ∷ ints ∷ [] } ∷ [];
 }
 
-abbrev nil : Argument
+abbrev pub nil : Argument
 nil = Constructor (codes "Nil") here NoArguments
 
-abbrev cons : Argument → Argument → Argument
+abbrev pub cons : Argument → Argument → Argument
 cons a b = Constructor (codes "Cons") here (two a b)
 
-abbrev owned : ℕ → Name → Written → Parameter
+abbrev pub owned : ℕ → Name → Written → Parameter
 owned n name t = record { lent = false; binder = bound n name; type = t }
 
 -- fip fun rev(xs: ints, acc: ints): ints { match! xs { Nil -> acc; Cons(x, t) -> rev(t, Cons(x, acc)) } }
-abbrev rev : Function
+abbrev pub rev : Function
 rev = record {
   kind = Fip;
   name = codes "rev";
@@ -64,28 +64,28 @@ rev = record {
       NoClauses)));
 }
 
-abbrev reversing : Core
+abbrev pub reversing : Core
 reversing = record { types = int_list ∷ []; functions = rev ∷ [] }
 
-abbrev empty : Value
+abbrev pub empty : Value
 empty = Node 0 End
 
-abbrev item : ℤ → Value → Value
+abbrev pub item : ℤ → Value → Value
 item i v = Node 1 (More (Int i) (More v End))
 
-abbrev pair : Value → Value → Values
+abbrev pub pair : Value → Value → Values
 pair v w = More v (More w End)
 
-abbrev three : Value
+abbrev pub three : Value
 three = item (pos 1) (item (pos 2) (item (pos 3) empty))
 
-abbrev three_reversed : Value
+abbrev pub three_reversed : Value
 three_reversed = item (pos 3) (item (pos 2) (item (pos 1) empty))
 
 rev_has_7_registers : registers rev ≡ 7
 rev_has_7_registers = refl
 
-rev_of_three : meaning reversing (codes "rev") NoClosed (pair three empty) 10 0 ≡ record { answer = Gives (More three_reversed End) 6; peak = record { frames = 0; words = 9 } }
+pub rev_of_three : meaning reversing (codes "rev") NoClosed (pair three empty) 10 0 ≡ record { answer = Gives (More three_reversed End) 6; peak = record { frames = 0; words = 9 } }
 unfolding meaning
 rev_of_three = refl
 

@@ -13,3 +13,13 @@ pub mod LoopBody
 pub mod Search
 pub mod Typing
 pub mod NotRight
+pub mod RightExample
+pub mod LoopMeaning
+pub mod Evaluates
+pub mod LoopSound
+pub mod LoopCells
+pub mod Numbers
+pub mod Scoping
+pub mod Frames
+pub mod OnePlace
+pub mod OneReply

@@ -20,7 +20,7 @@ found_is_only : (b : Bool) (f g : Function) → cond b (Some f) None ≡ Some g 
 found_is_only true f g e = cc
 found_is_only false f g e = cc
 
-function_in-only : (name : Name) (fs : List Function) (f g : Function) → fs ≡ f ∷ [] → function_in name fs ≡ Some g → f ≡ g
+pub function_in-only : (name : Name) (fs : List Function) (f g : Function) → fs ≡ f ∷ [] → function_in name fs ≡ Some g → f ≡ g
 function_in-only name fs f g e h = found_is_only (same_name name f.name) f g (sym (ap (function_in name) e) ∙ h)
 
 instance_is : (given : Closeds) (o : Option Function) (here : Instance) → instance_with given o ≡ Some here → o ≡ Some here.function

@@ -153,19 +153,19 @@ calls_are_known core f l t (c ∷ cs) m r a e =
 
 -- ---- ownership
 
-count-append : (x : ℕ) (xs ys : List ℕ) → count x (xs ++ ys) ≡ count x xs + count x ys
+pub count-append : (x : ℕ) (xs ys : List ℕ) → count x (xs ++ ys) ≡ count x xs + count x ys
 count-append x [] ys = omega arith
 count-append x (y ∷ xs) ys = let e = count-append x xs ys in omega (arith, e)
 
 pub one_at-same : (x : ℕ) → one_at x x ≡ 1
 one_at-same x = let e : nat_eq x x ≡ true = eq-eqb x x refl in cc
 
-among_counts : (x : ℕ) (xs : List ℕ) → Among x xs → 1 ≤ count x xs
+pub among_counts : (x : ℕ) (xs : List ℕ) → Among x xs → 1 ≤ count x xs
 among_counts x [] a = absurd a
 among_counts x (y ∷ ys) (inl e) = let one : one_at x y ≡ 1 = subst (λ z. one_at x z ≡ 1) e (one_at-same x) in omega arith
 among_counts x (y ∷ ys) (inr a) = let h = among_counts x ys a in omega arith
 
-one_at-no : (b : Bool) (x y : ℕ) → nat_eq x y ≡ b → (x ≡ y → ⊥) → one_at x y ≡ 0
+pub one_at-no : (b : Bool) (x y : ℕ) → nat_eq x y ≡ b → (x ≡ y → ⊥) → one_at x y ≡ 0
 one_at-no true x y e h = absurd (h (eqb-true x y e))
 one_at-no false x y e h = cc
 

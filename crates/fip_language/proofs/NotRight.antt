@@ -1,27 +1,27 @@
 -- A program of the loop form that has no violation can't fail to be right. So a program that isn't right has a violation:
 -- that there is none is refuted. Each fact of IsRight is decided but two: that a type has a value, and that the types are
 -- few.
-use Rattle.std.proofs.Common.{◌≡◌, ◌≢◌, ◌⊎◌, inl, inr, ℕ, zero, suc, ◌+◌, ◌-◌, ◌<◌, ◌≤◌, max, List, [], ◌∷◌, ◌++◌, map, length, Bool, true, false, cond, Option, Some, None, refl, sym, ap, ◌∙◌, subst, arith}
+use Rattle.std.proofs.Common.{◌≡◌, ◌⊎◌, inl, inr, ℕ, zero, suc, ◌<◌, ◌≤◌, List, [], ◌∷◌, ◌++◌, map, length, Bool, true, false, cond, Option, Some, None, refl, sym, ap, ◌∙◌, subst, arith}
 use Rattle.std.specs.Prelude.{slice_get, ◌==◌}
 use Rattle.std.proofs.lemmas.Bool.{eqb-true}
 use Rattle.std.proofs.lemmas.Slice.Eq.{bytes_eq-Decides}
 use Rattle.fip_language.specs.Values.{Node, End, one_of_size}
 use Rattle.fip_language.specs.Store.{one_at, count}
 use Rattle.fip_language.specs.Table.{Shape, constructors, is_scalar}
-use Rattle.fip_language.specs.Core.{Name, Binder, Block, Parameter, Function, DataConstructor, Data, Core}
-use Rattle.fip_language.specs.Declarations.{same_name, data_types, Declared, constructor_of, type_of_name, function_of, type_number, row_of, table_of}
+use Rattle.fip_language.specs.Core.{Block, Function, Data, Core}
+use Rattle.fip_language.specs.Declarations.{data_types, Declared, constructor_of, type_of_name, type_number, row_of, table_of}
 use Rattle.fip_language.specs.Every.{Every, Among, one_if_named, times, Once}
-use Rattle.fip_language.specs.Mentions.{Mention, mention, all_of, types_in_header, types_in_data, constructors_in_patterns, constructors_in_expression, constructors_in_block, constructors_in_clauses, calls_in_expression, calls_in_block, calls_in_clauses}
+use Rattle.fip_language.specs.Mentions.{Mention, mention, all_of, constructors_in_patterns, constructors_in_expression, constructors_in_block, constructors_in_clauses, calls_in_expression, calls_in_block, calls_in_clauses}
 use Rattle.fip_language.specs.Registers.{registers}
-use Rattle.fip_language.specs.LoopForm.{ending_expression, binder_patterns, LoopClause, Loop, loop_clauses, loop_body, IsLoop, AtMostOneLoop, IsLoopForm}
-use Rattle.fip_language.specs.Right.{data_name, constructor_name, parameter_name, KnownType, KnownConstructor, FewFields, HasValue, AreRightTypes, Scope, nothing_in_scope, field_types, result_type, binder_type, occurrences_in_ending, taken_apart, needed_by_ending, names_of_binders, Narrow, UsedOnce, IsRightClause, one_if_number, clauses_of_number, pattern_nodes, HasTypesOf, IsRightLoop, AtMostOneRightLoop, IsRight}
-use Rattle.fip_language.specs.Violations.{Violation, mention_name, IsRepeated, type_mention, constructor_mention, constructor_mentions, parameter_mention, TypesBreak, SecondType, SecondConstructor, UnknownTypeIn, NoValue, ManyFields, IsMissing, clause_mention, binder_mentions, Use, uses_of_clause, use_binder, IsUsedAgain, IsOwned, excess, most_excess, parameter_scope, clause_scope, IsWide, IsClause, LoopBreaks, SecondParameter, UnknownType, UnknownConstructor, UnknownFunction, ManyTypes, PatternMisfit, EndMisfit, UnknownScrutinee, UnknownVariable, PatternMiscount, EndMiscount, Uncovered, Unreached, SecondBinder, ManyClauses, ManyNodes, UsedTwice, UnusedParameter, UnusedBinder, NeedsCredit, LeavesCredit, ManyRegisters, WideParameter, WideBinder, Violates}
+use Rattle.fip_language.specs.LoopForm.{ending_expression, binder_patterns, LoopClause, Loop, loop_clauses, IsLoop, AtMostOneLoop, IsLoopForm}
+use Rattle.fip_language.specs.Right.{KnownType, KnownConstructor, FewFields, HasValue, AreRightTypes, Scope, nothing_in_scope, field_types, result_type, binder_type, needed_by_ending, Narrow, IsRightClause, one_if_number, clauses_of_number, pattern_nodes, HasTypesOf, IsRightLoop, AtMostOneRightLoop, IsRight}
+use Rattle.fip_language.specs.Violations.{Violation, mention_name, type_mention, constructor_mentions, parameter_mention, TypesBreak, SecondType, SecondConstructor, UnknownTypeIn, NoValue, ManyFields, clause_mention, binder_mentions, Use, uses_of_clause, use_binder, IsUsedAgain, IsOwned, excess, most_excess, parameter_scope, clause_scope, IsWide, IsClause, LoopBreaks, SecondParameter, UnknownType, UnknownConstructor, UnknownFunction, ManyTypes, PatternMisfit, EndMisfit, UnknownScrutinee, UnknownVariable, PatternMiscount, EndMiscount, Uncovered, Unreached, SecondBinder, ManyClauses, ManyNodes, UsedTwice, UnusedParameter, UnusedBinder, NeedsCredit, LeavesCredit, ManyRegisters, WideParameter, WideBinder, Violates}
 use Rattle.fip_language.specs.Scoped.{binder_number, parameter_number, InScope, IsScopedEnding, parameter_numbers, clause_numbers, IsScopedLoop, IsScopedCore}
 use Rattle.fip_language.proofs.Words.{every_among, length-mapped}
 use Rattle.fip_language.proofs.Constructors.{constructor_of-shape, constructor_of-type}
-use Rattle.fip_language.proofs.NoViolation.{type_names, constructor_names_of, parameter_names, RightClauses, among_append, one_at-same, used, used_in_clause, binder_names, among_map}
-use Rattle.fip_language.proofs.Search.{le_unless, le_or_less, same_unless, some_unless, is_some_unless, every_from, twice_repeated, once_unless, least_zero, slice_get_there, below_not_not}
-use Rattle.fip_language.proofs.Typing.{among_left, among_right, Typed, parameters-add, parameters-from, binders-from, clause-typed, KnownIn, end_unless}
+use Rattle.fip_language.proofs.NoViolation.{type_names, constructor_names_of, parameter_names, RightClauses, one_at-same, used, used_in_clause, binder_names, among_map}
+use Rattle.fip_language.proofs.Search.{le_unless, same_unless, some_unless, is_some_unless, every_from, twice_repeated, once_unless, least_zero, slice_get_there, below_not_not}
+use Rattle.fip_language.proofs.Typing.{among_left, among_right, Typed, parameters-add, parameters-from, binders-from, clause-typed, end_unless}
 
 -- ---- declarations
 

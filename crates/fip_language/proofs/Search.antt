@@ -8,7 +8,6 @@ use Rattle.fip_language.specs.Declarations.{same_name}
 use Rattle.fip_language.specs.Every.{Every, Among, one_if_named, times, Once}
 use Rattle.fip_language.specs.Mentions.{Mention}
 use Rattle.fip_language.specs.Violations.{mention_name, IsRepeated}
-use Rattle.fip_language.proofs.Words.{times-append}
 
 pub le_or_less : (m n : ℕ) → (m ≤ n) ⊎ (n < m)
 le_or_less zero n = inl (omega arith)

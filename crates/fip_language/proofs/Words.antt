@@ -1,6 +1,7 @@
 -- Laws of the words on lists.
-use Rattle.std.proofs.Common.{◌≡◌, inl, inr, ℕ, zero, suc, ◌+◌, ◌<◌, ◌≤◌, List, [], ◌∷◌, ◌++◌, map, length, true, Some, refl, sym, ap, ◌∙◌, subst, arith}
-use Rattle.std.specs.Prelude.{slice_get}
+use Rattle.std.proofs.Common.{◌≡◌, inl, inr, ℕ, zero, suc, ◌+◌, ◌<◌, ◌≤◌, List, [], ◌∷◌, ◌++◌, map, length, Bool, true, false, cond, Some, refl, sym, ap, ◌∙◌, subst, arith}
+use Rattle.std.specs.Prelude.{slice_get, nat_eq, ◌&&◌}
+use Rattle.std.proofs.lemmas.Bool.{eqb-true}
 use Rattle.std.proofs.lemmas.Slice.Eq.{bytes_eq-Decides}
 use Rattle.fip_language.specs.Core.{Name}
 use Rattle.fip_language.specs.Declarations.{same_name}
@@ -60,3 +61,29 @@ slice_get-map f (y ∷ ys) (suc n) x e = slice_get-map f ys n x e
 pub length-mapped : {A B : Type 0} (f : A → B) (xs : List A) → length (map f xs) ≡ length xs
 length-mapped f [] = refl
 length-mapped f (x ∷ xs) = ap suc (length-mapped f xs)
+
+-- whether no name stands twice
+abbrev pub distinct : List Name → Bool
+distinct [] = true
+distinct (n ∷ ns) = nat_eq (times n ns) 0 && distinct ns
+
+first_of_and : (b c : Bool) → (b && c) ≡ true → b ≡ true
+first_of_and true c e = refl
+first_of_and false c e = e
+
+second_of_and : (b c : Bool) → (b && c) ≡ true → c ≡ true
+second_of_and true c e = e
+second_of_and false c e = cc
+
+once_more : (b : Bool) (name n : Name) (ns : List Name) → same_name name n ≡ b → times n ns ≡ 0 → times name ns ≤ 1 → one_if_named name n + times name ns ≤ 1
+once_more true name n ns e none few =
+    let same : name ≡ n = (bytes_eq-Decides name n).0 e in
+    let none : times name ns ≡ 0 = ap (λ m. times m ns) same ∙ none in
+    let one : one_if_named name n ≡ 1 = ap (λ b. cond b 1 0) e in
+    omega arith
+once_more false name n ns e none few = let zero : one_if_named name n ≡ 0 = ap (λ b. cond b 1 0) e in omega arith
+
+pub distinct_once : (names : List Name) → distinct names ≡ true → Once names
+distinct_once [] e name = omega arith
+distinct_once (n ∷ ns) e name =
+    once_more (same_name name n) name n ns refl (eqb-true (times n ns) 0 (first_of_and (nat_eq (times n ns) 0) (distinct ns) e)) (distinct_once ns (second_of_and (nat_eq (times n ns) 0) (distinct ns) e) name)

@@ -113,7 +113,8 @@ Runs request core input reply =
     ⊎ (IsRight core × Enters request core input (function_of core request.entry) reply)
 
 -- Spells source core: the bytes are those of a program with this core form, and none of E01 to E04 is violated.
--- Misspells source rule place: they aren't, and this is the least violation of E01 to E04.
+-- Misspells source rule place: they aren't. A byte that begins no token is named before all else (E01), then the least of
+-- E02 to E04 by place and rule.
 abbrev pub Answers : (List ℕ → Core → Type 0) → (List ℕ → ℕ → Place → Type 0) → Request → List ℕ → List ℕ → Reply → Type 0
 Answers Spells Misspells request source input reply =
     ((most_source < length source) × (reply ≡ SourceTooLong))

@@ -65,7 +65,8 @@ function_in name (f ∷ fs) = if same_name name f.name then Some f else function
 abbrev pub function_of : Core → Name → Option Function
 function_of core name = function_in name core.functions
 
--- The table of a program whose types have no parameters. A name that is unknown is taken as int there.
+-- The table of a program whose types have no parameters: all declared types, also those that no function uses. A name that
+-- is unknown is taken as int there.
 abbrev pub number_or_int : Option ℕ → ℕ
 number_or_int None = 0
 number_or_int (Some t) = t

@@ -1,8 +1,9 @@
 -- The gauge of a run: over all states from the first to the last the lowest and the highest number of held cells of each
 -- size (those of live trees and of credits), the most frames and the most words of stack. All are 0 where no state was
 -- seen.
--- The same is said by trees: the highest number is that of all arguments' cells, the lowest that of the results' cells
--- and the lent arguments'. rev of Cons(1, Cons(2, Nil)) and Nil holds 2 cells of size 2 all the time.
+-- Of a run that gives values the same is said by trees: the highest number is that of all arguments' cells, the lowest
+-- that of the results' cells and the lent arguments'. rev of Cons(1, Cons(2, Nil)) and Nil holds 2 cells of size 2 all
+-- the time.
 use Rattle.std.specs.Prelude.{ℕ, ◌+◌, min, max, List, [], ◌∷◌, if◌then◌else◌}
 use Rattle.fip_language.specs.Values.{Values, End, More, cells_of_all}
 use Rattle.fip_language.specs.Core.{Parameter}

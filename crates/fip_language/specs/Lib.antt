@@ -2,6 +2,7 @@ pub mod Values
 pub mod Table
 pub mod Core
 pub mod Surface
+pub mod CoreForm
 pub mod Prefix
 pub mod Store
 pub mod Character

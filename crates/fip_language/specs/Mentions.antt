@@ -1,5 +1,5 @@
--- What a program mentions, each name with its place: the types that are written, the constructors that its expressions
--- and patterns name, and the functions that are called.
+-- What a program mentions, each name with its place: the types that are written in data types and in the parameters and
+-- results of functions, the constructors that expressions and patterns name, and the functions that are called.
 use Rattle.std.specs.Prelude.{List, [], ◌∷◌, ◌++◌}
 use Rattle.fip_language.specs.declared.Place.{Place}
 use Rattle.fip_language.specs.Core.{Name, Written, Writtens, WrittenInt, WrittenName, NoWritten, MoreWritten, Result, OneResult, TupleResult, Argument, Variable, Literal, Constructor, Arguments, NoArguments, MoreArguments, Pattern, BinderPattern, LiteralPattern, ConstructorPattern, Patterns, NoPatterns, MorePatterns, Expression, Give, Tuple, Operation, Call, Match, Nested, Block, Last, Let, Clauses, NoClauses, MoreClauses, Parameter, Function, DataConstructor, Data}

@@ -1,8 +1,12 @@
--- What the core form of every source has: a match has a clause, and a variable that has a binder's number is in the scope
--- of that binder. In a loop these are the parameters and, in a clause, its binders.
-use Rattle.std.specs.Prelude.{ℕ, ◌<◌, List, [], ◌∷◌, ◌++◌, map, length, Option, Some, None}
+-- What the core form of every source has. A match has a clause; a variable that has a binder's number is in the scope of
+-- that binder (in a loop these are the parameters and, in a clause, its binders); literals have 64 bits; and binders are
+-- numbered from 0: the parameters first, then the binders of the clauses in order.
+use Rattle.std.specs.Prelude.{◌≡◌, ℕ, zero, suc, ◌<◌, ◌≤◌, List, [], ◌∷◌, ◌++◌, map, length, Option, Some, None, FitsSigned}
+use Rattle.std.specs.Int.{w64}
 use Rattle.fip_language.specs.Core.{Binder, Argument, Variable, Literal, Constructor, Arguments, NoArguments, MoreArguments, Parameter, Function, Core}
+use Rattle.fip_language.specs.Store.{count}
 use Rattle.fip_language.specs.Every.{Every, Among}
+use Rattle.fip_language.specs.Mentions.{all_of}
 use Rattle.fip_language.specs.LoopForm.{Ending, Returns, Calls, LoopClause, Loop, IsLoop}
 
 abbrev pub binder_number : Binder → ℕ
@@ -43,3 +47,40 @@ pub record IsScopedLoop (f : Function) (l : Loop) : Type 0 where
 
 pub record IsScopedCore (core : Core) : Type 0 where
   pub loops : (f : Function) (l : Loop) → Among f core.functions → IsLoop f l → IsScopedLoop f l
+
+-- Every literal of a source has 64 bits.
+abbrev mutual
+  pub LiteralsFit : Argument → Type 0
+  LiteralsFit (Variable x n p) = Unit {0}
+  LiteralsFit (Literal i p) = FitsSigned w64 i
+  LiteralsFit (Constructor n p as') = AllLiteralsFit as'
+
+  pub AllLiteralsFit : Arguments → Type 0
+  AllLiteralsFit NoArguments = Unit {0}
+  AllLiteralsFit (MoreArguments a as') = LiteralsFit a × AllLiteralsFit as'
+
+abbrev pub EndingLiteralsFit : Ending → Type 0
+EndingLiteralsFit (Returns a) = LiteralsFit a
+EndingLiteralsFit (Calls n p as') = AllLiteralsFit as'
+
+abbrev pub LoopLiteralsFit : Loop → Type 0
+LoopLiteralsFit l = Every (λ (c : LoopClause). EndingLiteralsFit c.ending) l.clauses
+
+-- the numbers from n on, so many
+abbrev pub numbers_from : ℕ → ℕ → List ℕ
+numbers_from n zero = []
+numbers_from n (suc k) = n ∷ numbers_from (suc n) k
+
+abbrev pub clause_binders : LoopClause → List ℕ
+clause_binders c = map binder_number c.binders
+
+abbrev pub binder_numbers : Function → Loop → List ℕ
+binder_numbers f l = parameter_numbers f ++ all_of clause_binders l.clauses
+
+-- The binders are numbered in order.
+abbrev pub IsNumbered : Function → Loop → Type 0
+IsNumbered f l = binder_numbers f l ≡ numbers_from 0 (length (binder_numbers f l))
+
+-- The binders that are in scope together have different numbers.
+abbrev pub NumbersDiffer : Function → Loop → Type 0
+NumbersDiffer f l = Every (λ (c : LoopClause). (x : ℕ) → count x (clause_numbers f c) ≤ 1) l.clauses

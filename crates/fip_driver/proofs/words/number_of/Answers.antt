@@ -1,10 +1,13 @@
 use Rattle.clap.proofs.WalkLemmas.{one_text-rows}
 use Rattle.clap.specs.Words.{found_of, rows_of, one_text}
-use Rattle.fip_driver.proofs.OptionValues.{number_read, number_unread}
+use Rattle.fip_driver.proofs.OptionValues.{number_read, number_unread, number_too_great}
 use Rattle.fip_driver.proofs.words.number_of.Goals as goal
 
-pub returns-clause-some : goal.returns-clause-some
-returns-clause-some c = number_read c.args.id.now (rows_of (found_of c.args.matches.now)) (one_text (found_of c.args.matches.now) c.args.id.now) c.get_one.result (one_text-rows (found_of c.args.matches.now) c.args.id.now) c.get_one.ensures.none c.get_one.ensures.value
+pub returns-in-Some-clause-some : goal.returns-in-Some-clause-some
+returns-in-Some-clause-some c = number_read c.args.id.now (rows_of (found_of c.args.matches.now)) (one_text (found_of c.args.matches.now) c.args.id.now) c.args.most c.in-Some.n (one_text-rows (found_of c.args.matches.now) c.args.id.now) c.in-Some.ensures.none c.in-Some.ensures.value c.if-n-most.true
 
-pub returns-clause-none : goal.returns-clause-none
-returns-clause-none c = number_unread c.args.id.now (rows_of (found_of c.args.matches.now)) (one_text (found_of c.args.matches.now) c.args.id.now) c.get_one.result (one_text-rows (found_of c.args.matches.now) c.args.id.now) c.get_one.ensures.none c.get_one.ensures.value
+pub returns-in_default-clause-none : goal.returns-in_default-clause-none
+returns-in_default-clause-none c = λ none. number_too_great c.args.id.now (rows_of (found_of c.args.matches.now)) (one_text (found_of c.args.matches.now) c.args.id.now) c.args.most c.in-Some.n (one_text-rows (found_of c.args.matches.now) c.args.id.now) c.in-Some.ensures.value c.if-n-most.false
+
+pub returns-in_default-2-clause-none : goal.returns-in_default-2-clause-none
+returns-in_default-2-clause-none c = λ none. number_unread c.args.id.now (rows_of (found_of c.args.matches.now)) (one_text (found_of c.args.matches.now) c.args.id.now) c.args.most (one_text-rows (found_of c.args.matches.now) c.args.id.now) c.in_default.ensures.value

@@ -1,0 +1,13 @@
+pub mod Lists
+pub mod Sizes
+pub mod Fine
+pub mod Whole
+pub mod Puts
+pub mod Owes
+pub mod Typed
+pub mod Entry
+pub mod Sim
+pub mod Program
+pub mod Runs
+pub mod Ranges
+pub mod Example

@@ -1,0 +1,13 @@
+pub mod Text
+pub mod Tables
+pub mod Residual
+pub mod Reread
+pub mod Exact
+pub mod Runs
+pub mod Names
+pub mod Steps
+pub mod Loads
+pub mod Stand
+pub mod Public
+pub mod Printing
+pub mod Examples

@@ -1,0 +1,12 @@
+// Values as text.
+#![tactic(auto)]
+
+mod load;
+mod print;
+mod read;
+mod scan;
+
+pub use load::{LoadError, load_values};
+
+#[cfg(test)]
+mod tests;

@@ -275,7 +275,8 @@ fn emit_tested(
         },
     )?;
     emit_clause(alloc, code, scalar, scrutinee, first, clause)?;
-    let target = size(code) as u32;
+    let end = size(code);
+    let target = end as u32;
     patch(
         code,
         start,

@@ -1,3 +1,12 @@
 mod OptionValues
 mod Prefixes
 mod WholeAnswer
+mod Explaining
+mod SpelledTypes
+mod Running
+mod Entering
+mod Lines
+mod Ready
+mod Outcome
+mod Finished
+mod Outcomes

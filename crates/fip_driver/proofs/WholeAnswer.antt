@@ -12,7 +12,8 @@ use Rattle.fip_driver.specs.Words.{Request}
 use Rattle.fip_driver.specs.Reply.{out_text, err_text}
 use Rattle.fip_driver.specs.Texts.{no_memory_text, folder_fault_text}
 use Rattle.fip_driver.specs.Delivered.{Seen, Tried, Told, ToldFailure, Delivered}
-use Rattle.fip_driver.specs.Answered.{Spelling, Replies, IsNoCommand, Answered, FailsAs, HasFailed, Explained}
+use Rattle.fip_driver.specs.Answered.{Spelling, Replies, IsNoCommand, Answered, HasFailed, Explained}
+use Rattle.fip_driver.specs.Explained.{FailsAs, PrintsAs}
 use Rattle.fip_driver.specs.Failures.{failure_text, failure_status}
 use Rattle.fip_driver.specs.declared.failure.Failure.{Failure}
 use Rattle.fip_driver.specs.declared.failure.Failure.TheVariants as F
@@ -72,14 +73,14 @@ module _ (spelling : Spelling) (words : List (List ℕ)) (files : List File) (in
   -- where no count of faults rose
   pub whole_answer : (folder_rose input_rose : Type 0) → (folder_rose → ⊥) → (input_rose → ⊥) → (outcome : Result (Vec ℕ Global) Failure) (s : ℕ) → Explained spelling words files input folder_rose input_rose outcome → Delivered out out' err err' outcome s → Whole s
   whole_answer fr ir no_f no_i (Ok text) s h (inl d) =
-      let same_text : text.items ≡ out_text h.0.gauge h.1 = h.4 in
+      let same_text : text.items ≡ out_text h.0.gauge h.1 = h.3.same_text in
       inr (inr (
         h.0,
         h.1,
         h.2,
-        d.0 ∙ sym h.3,
+        d.0 ∙ sym h.3.done,
         subst (Appends out.written out'.written) same_text d.1,
-        subst (Appends err.written err'.written) (sym h.5) (appends_nothing err.written err'.written (ap (λ e. e.written) d.2)),
+        subst (Appends err.written err'.written) (sym h.3.silent) (appends_nothing err.written err'.written (ap (λ e. e.written) d.2)),
       ))
   whole_answer fr ir no_f no_i (Ok text) s h (inr d) = absurd (no_out d.1)
   whole_answer fr ir no_f no_i (Err f) s h d = delivered_failure fr ir no_f no_i f s d.0 h d.1

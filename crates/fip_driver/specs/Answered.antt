@@ -11,7 +11,7 @@ use Rattle.fip_base.specs.Files.{File, file_of}
 use Rattle.fip_driver.specs.Words.{Request, IsRequest}
 use Rattle.fip_driver.specs.Reply.{out_text, err_text}
 use Rattle.fip_driver.specs.Texts.{not_understood_text, no_memory_text}
-use Rattle.fip_driver.specs.Failures.{failure_text, failure_status}
+use Rattle.fip_driver.specs.Explained.{FailsAs, PrintsAs}
 use Rattle.fip_driver.specs.declared.failure.Failure.{Failure}
 use Rattle.fip_driver.specs.declared.failure.Failure.TheVariants as F
 use Rattle.fip_driver.specs.declared.failure.Object.{Object}
@@ -41,12 +41,6 @@ Answered spelling words files input out out' err err' s =
     ⊎ (IsNoCommand words × (s ≡ 2) × (out' ≡ out) × Appends err err' not_understood_text)
     ⊎ ((r : Request) × (reply : Reply) × Replies spelling words files input r reply × (s ≡ status reply) × Appends out out' (out_text r.gauge reply) × Appends err err' (err_text reply))
 
--- A failure has the status and the text of a reply that prints nothing on out.
-pub record FailsAs (failure : Failure) (gauge : Bool) (reply : Reply) : Type 0 where
-  pub same_status : failure_status failure ≡ status reply
-  pub same_text : failure_text failure ≡ err_text reply
-  pub silent : out_text gauge reply ≡ []
-
 abbrev pub HasFailed : Spelling → List (List ℕ) → List File → List ℕ → Failure → Type 0
 HasFailed spelling words files input failure = (r : Request) × (reply : Reply) × Replies spelling words files input r reply × FailsAs failure r.gauge reply
 
@@ -59,8 +53,7 @@ FaultExplained spelling words files input folder_rose input_rose O.Err = ⊥
 -- A result is that of a reply, and what kept a command from one is a reply too, or want of memory, or a fault that was
 -- counted.
 abbrev pub Explained : Spelling → List (List ℕ) → List File → List ℕ → Type 0 → Type 0 → Result (Vec ℕ Global) Failure → Type 0
-Explained spelling words files input folder_rose input_rose (Ok text) =
-    (r : Request) × (reply : Reply) × Replies spelling words files input r reply × (status reply ≡ 0) × (text.items ≡ out_text r.gauge reply) × (err_text reply ≡ [])
+Explained spelling words files input folder_rose input_rose (Ok text) = (r : Request) × (reply : Reply) × Replies spelling words files input r reply × PrintsAs text.items r.gauge reply
 Explained spelling words files input folder_rose input_rose (Err F.NotUnderstood) = IsNoCommand words
 Explained spelling words files input folder_rose input_rose (Err (F.Refused r)) = HasFailed spelling words files input (F.Refused r)
 Explained spelling words files input folder_rose input_rose (Err (F.BadInput at)) = HasFailed spelling words files input (F.BadInput at)

@@ -4,5 +4,10 @@
 mod delivery;
 pub mod failure;
 mod fetched;
+mod front;
+mod program;
+mod run;
 mod texts;
 pub mod words;
+
+pub use program::fp2;

@@ -7,6 +7,7 @@ mod read;
 mod scan;
 
 pub use load::{LoadError, load_values};
+pub use print::print_value;
 
 #[cfg(test)]
 mod tests;

@@ -1,10 +1,9 @@
 // Texts and offsets from outside. The types are bool and lists of ints; a text has a list and an int.
-ghost use Rattle.std.specs.Prelude.{◌≡◌, IfOk};
-ghost use Rattle.fip_language.specs.Store.{Cell};
+ghost use Rattle.std.specs.Prelude.{◌≡◌};
 ghost use Rattle.value_text.specs.Examples.{list_types};
 
 use super::*;
-use cell_store::{Cells, Loader, seal};
+use cell_store::{Loader, seal};
 use fip_base::plain::{Name, Param, Types};
 use fip_base::table::{Constructor, DataType, TypeTable};
 use std::alloc::Global;
@@ -56,11 +55,15 @@ fn refused(rt: &impl Abort, alloc: Global, text: &[u8], words: usize) -> Option<
 fn printed_list(rt: &impl Abort, alloc: Global, text: &[u8], words: usize) -> Vec<u8> {
     let table = lists(rt, alloc);
     assert!(rt; words <= 16777216);
-    let loaded = load_values(alloc, &table, &PARAMS, text, Loader::new(alloc, words));
-    let (loader, words) = loaded.expect(rt, "a text that fits");
-    let cells = seal(loader);
-    assert!(rt; words.len() == 2);
-    print_value(alloc, &table, &cells, 2, words[0]).expect(rt, "memory")
+    match load_values(alloc, &table, &PARAMS, text, Loader::new(alloc, words)) {
+        Ok((loader, words)) => {
+            let cells = seal(loader);
+            let words = words.as_slice();
+            assert!(rt; words.len() == 2);
+            print_value(alloc, &table, &cells, 2, words[0]).expect(rt, "memory")
+        }
+        Err(_) => panic!(rt; "a text that fits"),
+    }
 }
 
 #[test]

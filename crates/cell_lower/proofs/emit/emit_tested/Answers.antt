@@ -16,10 +16,10 @@ returns c =
     let c2 = ops c.emit_clause.new.code.items in
     let len1 = ap length pushed ∙ length-append base (Test s k 0 ∷ []) in
     let len2 = ap length emitted ∙ length-append _ body in
-    let target : c.size-target.result ≡ length base + 1 + length body = omega (arith, c.size-target.ensures, len1, len2) in
+    let target : c.size-end.result ≡ length base + 1 + length body = omega (arith, c.size-end.ensures, len1, len2) in
     record {
       code = c.patch.ensures
-          ∙ ap (λ i. slice_set c2 i (Test s k c.size-target.result)) c.size-start.ensures
+          ∙ ap (λ i. slice_set c2 i (Test s k c.size-end.result)) c.size-start.ensures
           ∙ ap (λ t. slice_set c2 (length base) (Test s k t)) target
           ∙ patched base body _ c2 (Test s k 0) (Test s k (length base + 1 + length body)) pushed emitted;
     }

@@ -1,0 +1,45 @@
+// The program, over the real streams and files.
+#![tactic(auto)]
+
+use fip_base::real::{FileFolder, StdSink, StdSource};
+use fip_driver::fp2;
+use std::env;
+use std::io::ErrorKind;
+use std::process::ExitCode;
+
+// The words of the command line. A word that isn't UTF-8 is no command: then there is no word at all.
+fn words_of(rt: &HostRuntime) -> Result<Vec<String>, ExitCode> {
+    let mut words = Vec::new(rt.alloc());
+    match env::args(rt) {
+        Ok(args) => {
+            for word in args {
+                if words.push(word).is_err() {
+                    return Err(ExitCode::from(10));
+                }
+            }
+            Ok(words)
+        }
+        Err(e) if e.kind() == ErrorKind::OutOfMemory => Err(ExitCode::from(10)),
+        Err(_) => Ok(words),
+    }
+}
+
+fn main(rt: HostRuntime) -> ExitCode {
+    let words = match words_of(&rt) {
+        Ok(words) => words,
+        Err(code) => return code,
+    };
+    let mut folder = FileFolder::new(rt.alloc(), &rt);
+    let mut input = StdSource::new(rt.stdin());
+    let mut out = StdSink::new(rt.stdout());
+    let mut err = StdSink::new(rt.stderr());
+    let status = fp2(
+        rt.alloc(),
+        words.as_slice(),
+        &mut folder,
+        &mut input,
+        &mut out,
+        &mut err,
+    );
+    ExitCode::from(status.0)
+}

@@ -1,0 +1,64 @@
+-- What can come of a source: its core form, the loop program of that, and the one of the entry's name.
+use Rattle.std.specs.Prelude.{◌≡◌, ℕ, List, [], ◌∷◌, Option, Some, None}
+use Rattle.fip_language.specs.declared.Place.{Place}
+use Rattle.fip_language.specs.Core.{Core, Function}
+use Rattle.fip_language.specs.Declarations.{function_of}
+use Rattle.fip_language.specs.SoundTable.{IsSoundTable, AreTypes}
+use Rattle.fip_language.specs.Right.{IsRight}
+use Rattle.fip_language.specs.Answer.{Misspelt, NotRight, NoEntry}
+use Rattle.fip_base.specs.Refusal.{refusal_text}
+use Rattle.loop_form.specs.Loop.{Loop}
+use Rattle.loop_form.specs.Fine.{IsFine}
+use Rattle.fip_driver.specs.Reply.{err_text}
+use Rattle.fip_driver.specs.Answered.{Spelling}
+use Rattle.fip_driver.specs.Checked.{IsChecked}
+use Rattle.fip_driver.specs.declared.failure.Failure.{Failure}
+use Rattle.fip_driver.specs.declared.failure.Failure.TheVariants as F
+
+-- why a source has no core form
+abbrev pub SpellingFails : Spelling → List ℕ → Failure → Type 0
+SpellingFails spelling source F.NotUnderstood = ⊥
+SpellingFails spelling source (F.Refused r) = (rule : ℕ) × (place : Place) × spelling.misspells source rule place × (refusal_text r ≡ err_text (Misspelt rule place))
+SpellingFails spelling source (F.BadInput at) = ⊥
+SpellingFails spelling source (F.TooSmall needed given) = ⊥
+SpellingFails spelling source (F.OutOfCalls given) = ⊥
+SpellingFails spelling source (F.Fault object) = ⊥
+SpellingFails spelling source F.NoMemory = Unit {0}
+
+-- A loop program that can be run: it is that of a right core program, and fine.
+pub record IsReadyToRun (core : Core) (l : Loop) : Type 0 where
+  pub function : Function
+  pub checked : IsChecked core function l
+  pub fine : IsFine l
+  pub sound : IsSoundTable l.types
+  pub known : AreTypes l.types l.parameters
+
+-- a right program: its loop program, or none where it has no function
+abbrev pub IsPassed : Core → Option Loop → Type 0
+IsPassed core None = IsRight core × (core.functions ≡ [])
+IsPassed core (Some l) = IsReadyToRun core l
+
+-- A loop program that can be run, and its function has the entry's name.
+pub record HasEntry (core : Core) (l : Loop) (entry : List ℕ) : Type 0 where
+  pub ready : IsReadyToRun core l
+  pub named : ready.function.name ≡ entry
+
+-- why a core form isn't run
+abbrev pub CheckFails : Core → Failure → Type 0
+CheckFails core F.NotUnderstood = ⊥
+CheckFails core (F.Refused r) = (IsRight core → ⊥) × (refusal_text r ≡ err_text NotRight)
+CheckFails core (F.BadInput at) = ⊥
+CheckFails core (F.TooSmall needed given) = ⊥
+CheckFails core (F.OutOfCalls given) = ⊥
+CheckFails core (F.Fault object) = ⊥
+CheckFails core F.NoMemory = Unit {0}
+
+-- why the entry isn't run: no function has its name
+abbrev pub EntryFails : Core → List ℕ → Failure → Type 0
+EntryFails core entry F.NotUnderstood = ⊥
+EntryFails core entry (F.Refused r) = (function_of core entry ≡ None) × (refusal_text r ≡ err_text (NoEntry entry))
+EntryFails core entry (F.BadInput at) = ⊥
+EntryFails core entry (F.TooSmall needed given) = ⊥
+EntryFails core entry (F.OutOfCalls given) = ⊥
+EntryFails core entry (F.Fault object) = ⊥
+EntryFails core entry F.NoMemory = Unit {0}

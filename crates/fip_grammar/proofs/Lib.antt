@@ -1,0 +1,13 @@
+pub mod Residual
+pub mod Lists
+pub mod Functions
+pub mod DataTypes
+pub mod Types
+pub mod Patterns
+pub mod Operators
+pub mod Bodies
+pub mod Ends
+pub mod Alive
+pub mod Exact
+pub mod Fronts
+pub mod Unique

@@ -1,0 +1,6 @@
+pub mod Token
+pub mod Cut
+pub mod WordView
+pub mod Claims
+pub mod Grammar
+pub mod Machine

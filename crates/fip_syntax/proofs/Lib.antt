@@ -1,0 +1,4 @@
+mod CoreFacts
+mod ScopeFacts
+mod SurfaceFacts
+mod WalkFacts

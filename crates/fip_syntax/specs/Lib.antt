@@ -1,0 +1,3 @@
+pub mod ScopeView
+pub mod SurfaceView
+pub mod Walk

@@ -1,0 +1,31 @@
+//! The values of literals.
+
+/// The value of digits where it is at most 2^63.
+pub fn magnitude(digits: &[u8]) -> Option<u64> {
+    let limit: u64 = 1 << 63;
+    let mut value: u64 = 0;
+    for digit in digits {
+        let next = value
+            .checked_mul(10)?
+            .checked_add(u64::from(digit.saturating_sub(b'0')))?;
+        if next > limit {
+            return None;
+        }
+        value = next;
+    }
+    Some(value)
+}
+
+/// The value of a literal without a minus where it is at most 2^63 - 1.
+pub fn literal(digits: &[u8]) -> Option<i64> {
+    i64::try_from(magnitude(digits)?).ok()
+}
+
+/// The value of a literal behind a minus where it is at least -2^63.
+pub fn negated_literal(digits: &[u8]) -> Option<i64> {
+    let value = magnitude(digits)?;
+    match i64::try_from(value) {
+        Ok(small) => Some(-small),
+        Err(_) => Some(i64::MIN),
+    }
+}

@@ -1,0 +1,241 @@
+// The check of a program.
+ghost use Rattle.std.specs.Prelude.{◌≡◌, ℕ, ◌≤◌, true, None, Some, map, length, slice_get, IfOk, IfSome, MatchOption};
+ghost use Rattle.fip_base.specs.CoreView.{argument, block, clause, core, data_type, expression, function, parameter, is_destructive};
+ghost use Rattle.loop_check.specs.Header.{parameter_numbers};
+ghost use Rattle.loop_form.specs.View.{loop_of as loop_view, clause_of as clause_view};
+ghost use Rattle.loop_check.specs.Program as p;
+
+use crate::clauses::{Head, last_of, lower_checked};
+use crate::header::{Known, are_distinct, at, is_right_header, parameter_numbers, result_number};
+use crate::reached::are_few;
+use crate::table::{
+    are_right_types, constructor_ids, constructor_names, scalars_of, table_of, type_names,
+};
+use crate::valued::are_valued;
+use fip_base::core_form::{Argument, Block, Clause, Core, Data, Expression, Function, MatchKind};
+use fip_base::plain::{NoMemory, Types};
+use loop_form::program::LoopProgram;
+use std::alloc::Global;
+use thiserror::Error;
+
+/// Why a program has no loop program.
+#[derive(Clone, Copy, Debug, PartialEq, Eq, Error)]
+pub enum CheckError {
+    /// The program isn't in the loop form, or it breaks a rule.
+    #[error("the program is refused")]
+    Refused,
+    /// No memory was left.
+    #[error("no memory is left")]
+    NoMemory,
+}
+
+impl From<NoMemory> for CheckError {
+    fn from(_: NoMemory) -> CheckError {
+        CheckError::NoMemory
+    }
+}
+
+/// Checks a program, and resolves its function; `None` where a right program has no function.
+pub fn check(alloc: Global, program: &Core) -> Result<Option<LoopProgram>, CheckError>
+    ensures passes { IfOk result (λ o. IfSome o (λ l. p.PassesAll (core program.now) (loop_view l))) }
+{
+    match known_of(alloc, program.types.as_slice())? {
+        Some(known) => match program.functions.as_slice() {
+            [] => Ok(None),
+            [f] => match program_of(alloc, known, f)? {
+                Some(l) => Ok(Some(l)),
+                None => Err(CheckError::Refused),
+            },
+            _ => Err(CheckError::Refused),
+        },
+        None => Err(CheckError::Refused),
+    }
+}
+
+// The declarations of right types; none where a rule is broken.
+fn known_of<'a>(alloc: Global, types: &'a [Data]) -> Result<Option<Known<'a>>, NoMemory>
+    ensures known { IfOk result (λ o. IfSome o (λ k. p.IsKnown k (map data_type types.now))) }
+{
+    let Some(names) = type_names(alloc, types)? else {
+        return Ok(None);
+    };
+    let Some(constructors) = constructor_names(alloc, types)? else {
+        return Ok(None);
+    };
+    if !are_right_types(&names, types) {
+        return Ok(None);
+    }
+    let ids = constructor_ids(alloc, types)?;
+    let table = table_of(alloc, &names, types)?;
+    if table.len() != names.len() {
+        return Ok(None);
+    }
+    let count = names.len() as u32;
+    if !are_valued(alloc, &table, count)? {
+        return Ok(None);
+    }
+    let scalars = scalars_of(alloc, &table, count)?;
+    Ok(Some(Known {
+        types: names,
+        constructors,
+        ids,
+        table,
+        scalars,
+    }))
+}
+
+fn scrutinee_of(scrutinee: &Argument) -> Option<usize>
+    ensures { result ≡ p.scrutinee_of (argument scrutinee.now) }
+{
+    match scrutinee {
+        Argument::Variable { binder, .. } => *binder,
+        Argument::Literal { .. } => None,
+        Argument::Constructor { .. } => None,
+    }
+}
+
+// The variable that the function takes apart, and the clauses; none where it isn't so formed.
+fn taken_of(body: &Block) -> Option<(usize, &[Clause])>
+    ensures { MatchOption result (p.taken (block body.now) ≡ None) (λ r. p.taken (block body.now) ≡ Some (record { scrutinee = r.0; cases = map clause r.1.now })) }
+{
+    match last_of(body) {
+        Some(e) => taken_in(e),
+        None => None,
+    }
+}
+
+#[tactic(auto, using(crate::proofs::ProgramViews::cases_of_clauses))]
+fn taken_in(e: &Expression) -> Option<(usize, &[Clause])>
+    ensures { MatchOption result (p.taken_in (expression e.now) ≡ None) (λ r. p.taken_in (expression e.now) ≡ Some (record { scrutinee = r.0; cases = map clause r.1.now })) }
+{
+    match e {
+        Expression::Match {
+            kind,
+            scrutinee,
+            clauses,
+            ..
+        } => {
+            if !is_destructive(*kind) {
+                return None;
+            }
+            match scrutinee_of(scrutinee) {
+                Some(x) => Some((x, clauses.as_slice())),
+                None => None,
+            }
+        }
+        Expression::Give(..) => None,
+        Expression::Call { .. } => None,
+        Expression::Tuple { .. } => None,
+        Expression::Operation { .. } => None,
+        Expression::Nested(..) => None,
+    }
+}
+
+fn is_destructive(kind: MatchKind) -> bool
+    ensures { result ≡ is_destructive kind }
+{
+    match kind {
+        MatchKind::Destructive => true,
+        MatchKind::Borrowing => false,
+    }
+}
+
+// Whether the function's header, with these types, is right.
+fn is_right_signature(
+    alloc: Global,
+    known: &Known<'_>,
+    f: &Function,
+    parameters: &[u32],
+    given: u32,
+) -> Result<bool, NoMemory>
+    requires { parameters.now ≡ parameter_numbers known.now.types (map parameter f.now.parameters.items) }
+    ensures right { IfOk result (λ b. b ≡ true → p.HeaderPasses known.now (function f.now)) }
+    ensures few { IfOk result (λ b. b ≡ true → length parameters.now ≤ 4096) }
+{
+    if !is_right_header(&known.types, f)
+        || !known.are_narrow(parameters)
+        || parameters.len() > 4096
+    {
+        return Ok(false);
+    }
+    if !are_few(alloc, &known.table, parameters, given)? {
+        return Ok(false);
+    }
+    are_distinct(alloc, f.parameters.as_slice())
+}
+
+// The loop program of a function; none where it isn't in the loop form or breaks a rule.
+fn program_of(
+    alloc: Global,
+    known: Known<'_>,
+    f: &Function,
+) -> Result<Option<LoopProgram>, NoMemory>
+    ensures passes { IfOk result (λ o. IfSome o (λ l. p.Passes known.entry (function f.now) (loop_view l))) }
+{
+    let given = result_number(&known.types, &f.result);
+    let parameters = parameter_numbers(alloc, &known.types, f.parameters.as_slice())?;
+    if !is_right_signature(alloc, &known, f, parameters.as_slice(), given)? {
+        return Ok(None);
+    }
+    match taken_of(&f.body) {
+        Some((scrutinee, clauses)) => match at(parameters.as_slice(), scrutinee) {
+            Some(ty) => {
+                if ty == 0 {
+                    return Ok(None);
+                }
+                let found = Found { scrutinee, ty };
+                resolve(alloc, known, f, parameters, given, found, clauses)
+            }
+            None => Ok(None),
+        },
+        None => Ok(None),
+    }
+}
+
+// The parameter that a function takes apart, and its type.
+#[derive(Clone, Copy)]
+struct Found {
+    scrutinee: usize,
+    ty: u32,
+}
+
+// The loop program of a function with these types that takes this parameter apart in these clauses.
+fn resolve(
+    alloc: Global,
+    known: Known<'_>,
+    f: &Function,
+    parameters: Types,
+    given: u32,
+    found: Found,
+    clauses: &[Clause],
+) -> Result<Option<LoopProgram>, NoMemory>
+    requires few { length parameters ≤ 4096 }
+    requires scrutinee { slice_get parameters found.scrutinee ≡ Some found.ty }
+    requires data_type { 1 ≤ found.ty }
+    ensures fits { IfOk result (λ o. IfSome o (λ l. p.Fits known.entry (function f.now).name parameters given (record { scrutinee = found.scrutinee; cases = map clause clauses.now }) found.ty l.binders (map clause_view l.clauses.items))) }
+    ensures resolved { IfOk result (λ o. IfSome o (λ l. loop_view l ≡ p.resolved known.entry (function f.now).name parameters given (record { scrutinee = found.scrutinee; cases = map clause clauses.now }) l.binders (map clause_view l.clauses.items))) }
+{
+    let head = Head {
+        name: f.name.as_slice(),
+        parameters: parameters.as_slice(),
+        given,
+        scrutinee: found.scrutinee,
+        ty: found.ty,
+    };
+    match lower_checked(alloc, &known, &head, clauses)? {
+        Some(lowered) => {
+            let name = f.name.copy(alloc)?;
+            Ok(Some(LoopProgram {
+                types: known.table,
+                name,
+                parameters,
+                result: given,
+                scrutinee: found.scrutinee as u32,
+                binders: lowered.binders as u32,
+                clauses: lowered.clauses,
+                registers: lowered.registers as u32,
+            }))
+        }
+        None => Ok(None),
+    }
+}

@@ -2,7 +2,7 @@
 -- Registers are numbered from 0; a function's parameters stand in the first ones. Functions, types, constructors and
 -- instructions are numbered too. The code of
 --   fip fun rev(xs: ints, acc: ints): ints { match! xs { Nil -> acc; Cons(x, t) -> rev(t, Cons(x, acc)) } }
--- may be: Test 0 0 3 (goes to 3 where register 0 isn't Nil), Take 0 [], Ret [1], Take 0 [2, 3], Put 0 1 1 [2, 1],
+-- may be: Test 0 0 3 (goes to 3 where register 0 isn't Nil), Take 0 [], Ret [1], Take 0 [2, 3], Put 0 2 1 [2, 1],
 -- Tail 0 [3, 0].
 use Rattle.std.specs.Prelude.{ℕ, ℤ, Bool, List}
 use Rattle.fip_language.specs.declared.FunKind.{FunKind}

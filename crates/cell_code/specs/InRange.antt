@@ -6,7 +6,8 @@ abbrev pub AllBelow : ℕ → List ℕ → Type 0
 AllBelow n [] = Unit {0}
 AllBelow n (r ∷ rs) = (r < n) × AllBelow n rs
 
--- Instruction i of a function with n registers: its registers are there, it goes forward, and a call is of a function
+-- Instruction i of a function with n registers: its registers are there, it goes forward (that its target is there isn't
+-- asked, nor that its types and constructors are: they say nothing to the machine), and a call is of a function
 -- of the code, with an argument for each parameter.
 abbrev pub IsInRange : List Function → ℕ → ℕ → Instruction → Type 0
 IsInRange fs n i (Const d v) = d < n

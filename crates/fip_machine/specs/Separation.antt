@@ -67,7 +67,7 @@ abbrev pub there : List Cell → ℕ → ℕ
 there cs p = if nat_lt p (length cs) then 1 else 0
 
 -- A state on cells stands for one on trees: both are at the same place, and the running frame's registers have each
--- cell once.
+-- cell once. No type is spoken of here: the types come from the values of the other machine. No cell is released.
 pub record Apart (code : Code) (s : M.State) (t : T.State) : Type 0 where
   pub function : Function
   pub is : slice_get code.functions s.frame.function ≡ Some function

@@ -1,6 +1,6 @@
 // Copies of what the core form takes over as it is written: types, static parameters and data types.
 ghost use Rattle.std.specs.Prelude.{◌≡◌, IfOk, map, option_map};
-ghost use Rattle.fip_base.specs.CoreView as core;
+ghost use Rattle.fip_base.specs.CoreView as core_view;
 ghost use Rattle.fip_syntax.specs.SurfaceView as surface;
 
 use crate::tree;
@@ -21,7 +21,7 @@ pub fn copy_name(alloc: Global, bytes: &[u8]) -> Result<Name, NoMemory>
 
 /// The same type.
 pub fn copy_written(alloc: Global, t: &tree::Written) -> Result<Written, NoMemory>
-    ensures same { IfOk result (λ r. core.written r ≡ surface.written t.now) }
+    ensures same { IfOk result (λ r. core_view.written r ≡ surface.written t.now) }
 {
     match t {
         tree::Written::Int { place } => Ok(Written::Int(*place)),
@@ -46,7 +46,7 @@ pub fn copy_written(alloc: Global, t: &tree::Written) -> Result<Written, NoMemor
 
 /// The same types.
 pub fn copy_all_written(alloc: Global, ts: &[tree::Written]) -> Result<Vec<Written>, NoMemory>
-    ensures same { IfOk result (λ r. map core.written r.items ≡ map surface.written ts.now) }
+    ensures same { IfOk result (λ r. map core_view.written r.items ≡ map surface.written ts.now) }
 {
     let mut copied = Vec::new(alloc);
     for t in ts {
@@ -60,7 +60,7 @@ pub fn copy_annotation(
     alloc: Global,
     annotation: &Option<tree::Written>,
 ) -> Result<Option<Written>, NoMemory>
-    ensures same { IfOk result (λ r. option_map core.written r ≡ option_map surface.written annotation.now) }
+    ensures same { IfOk result (λ r. option_map core_view.written r ≡ option_map surface.written annotation.now) }
 {
     match annotation {
         None => Ok(None),
@@ -70,7 +70,7 @@ pub fn copy_annotation(
 
 /// The same result.
 pub fn copy_result(alloc: Global, r: &tree::ResultType) -> Result<ResultType, NoMemory>
-    ensures same { IfOk result (λ s. core.result_type s ≡ surface.result_type r.now) }
+    ensures same { IfOk result (λ s. core_view.result_type s ≡ surface.result_type r.now) }
 {
     match r {
         tree::ResultType::One { written } => Ok(ResultType::One(copy_written(alloc, written)?)),
@@ -85,7 +85,7 @@ fn copy_signature(
     alloc: Global,
     ps: &[tree::SignatureParameter],
 ) -> Result<Vec<SignatureParameter>, NoMemory>
-    ensures same { IfOk result (λ r. map core.signature_parameter r.items ≡ map surface.signature_parameter ps.now) }
+    ensures same { IfOk result (λ r. map core_view.signature_parameter r.items ≡ map surface.signature_parameter ps.now) }
 {
     let mut copied = Vec::new(alloc);
     for p in ps {
@@ -96,7 +96,7 @@ fn copy_signature(
 }
 
 fn copy_static(alloc: Global, s: &tree::Static) -> Result<Static, NoMemory>
-    ensures same { IfOk result (λ r. core.static r ≡ surface.static s.now) }
+    ensures same { IfOk result (λ r. core_view.static r ≡ surface.static s.now) }
 {
     match s {
         tree::Static::Type { name, place } => Ok(Static::Type {
@@ -119,7 +119,7 @@ fn copy_static(alloc: Global, s: &tree::Static) -> Result<Static, NoMemory>
 
 /// The same static parameters.
 pub fn copy_statics(alloc: Global, statics: &[tree::Static]) -> Result<Vec<Static>, NoMemory>
-    ensures same { IfOk result (λ r. map core.static r.items ≡ map surface.static statics.now) }
+    ensures same { IfOk result (λ r. map core_view.static r.items ≡ map surface.static statics.now) }
 {
     let mut copied = Vec::new(alloc);
     for s in statics {
@@ -129,7 +129,7 @@ pub fn copy_statics(alloc: Global, statics: &[tree::Static]) -> Result<Vec<Stati
 }
 
 fn copy_type_name(alloc: Global, t: &tree::TypeName) -> Result<TypeName, NoMemory>
-    ensures same { IfOk result (λ r. core.type_name r ≡ surface.type_name t.now) }
+    ensures same { IfOk result (λ r. core_view.type_name r ≡ surface.type_name t.now) }
 {
     Ok(TypeName {
         name: copy_name(alloc, &t.name)?,
@@ -138,7 +138,7 @@ fn copy_type_name(alloc: Global, t: &tree::TypeName) -> Result<TypeName, NoMemor
 }
 
 fn copy_type_names(alloc: Global, ts: &[tree::TypeName]) -> Result<Vec<TypeName>, NoMemory>
-    ensures same { IfOk result (λ r. map core.type_name r.items ≡ map surface.type_name ts.now) }
+    ensures same { IfOk result (λ r. map core_view.type_name r.items ≡ map surface.type_name ts.now) }
 {
     let mut copied = Vec::new(alloc);
     for t in ts {
@@ -151,7 +151,7 @@ fn copy_constructors(
     alloc: Global,
     cs: &[tree::DataConstructor],
 ) -> Result<Vec<DataConstructor>, NoMemory>
-    ensures same { IfOk result (λ r. map core.data_constructor r.items ≡ map surface.data_constructor cs.now) }
+    ensures same { IfOk result (λ r. map core_view.data_constructor r.items ≡ map surface.data_constructor cs.now) }
 {
     let mut copied = Vec::new(alloc);
     for c in cs {
@@ -168,7 +168,7 @@ fn copy_constructors(
 
 /// The same data type.
 pub fn copy_data(alloc: Global, d: &tree::Data) -> Result<Data, NoMemory>
-    ensures same { IfOk result (λ r. core.data_type r ≡ surface.data_type d.now) }
+    ensures same { IfOk result (λ r. core_view.data_type r ≡ surface.data_type d.now) }
 {
     Ok(Data {
         name: copy_name(alloc, &d.name)?,

@@ -7,7 +7,7 @@ ghost use Rattle.std.specs.Str.{bytes_eq};
 ghost use Rattle.fip_language.specs.Core as C;
 ghost use Rattle.fip_language.specs.Surface as S;
 ghost use Rattle.fip_language.specs.CoreForm as form;
-ghost use Rattle.fip_base.specs.CoreView as core;
+ghost use Rattle.fip_base.specs.CoreView as core_view;
 ghost use Rattle.fip_syntax.specs.SurfaceView as surface;
 ghost use Rattle.fip_syntax.specs.Walk.{bindings, fresh, part_behind, waiting, top_argument, under_top, stepped, part_left, let_made, case_made, operands_of};
 
@@ -42,7 +42,7 @@ struct Walk<'a> {
 
 /// The core form of a program; an error where no memory is left.
 pub fn core_of(alloc: Global, program: &tree::Program) -> Result<Core, NoMemory>
-    ensures same { IfOk result (λ c. core.core c ≡ form.core_form (surface.program program.now)) }
+    ensures same { IfOk result (λ c. core_view.core c ≡ form.core_form (surface.program program.now)) }
 {
     let mut types = Vec::new(alloc);
     let mut functions = Vec::new(alloc);
@@ -58,7 +58,7 @@ pub fn core_of(alloc: Global, program: &tree::Program) -> Result<Core, NoMemory>
 }
 
 fn core_function(alloc: Global, f: &tree::Function) -> Result<Function, NoMemory>
-    ensures same { IfOk result (λ r. core.function r ≡ form.function (surface.function f.now)) }
+    ensures same { IfOk result (λ r. core_view.function r ≡ form.function (surface.function f.now)) }
 {
     let mut walk = Walk {
         alloc,
@@ -80,7 +80,7 @@ fn core_function(alloc: Global, f: &tree::Function) -> Result<Function, NoMemory
 
 // The operand on the top of the stack. A list of steps that was made from a source never lacks one.
 fn pop_operand(stack: &mut Vec<Argument>) -> Argument
-    ensures given { core.argument result ≡ top_argument (waiting stack.old.items) }
+    ensures given { core_view.argument result ≡ top_argument (waiting stack.old.items) }
     ensures rest { waiting stack.new.items ≡ under_top (waiting stack.old.items) }
 {
     match stack.pop() {
@@ -105,7 +105,7 @@ fn operands(step: &Step) -> usize
 }
 
 fn argument_place(argument: &Argument) -> Place
-    ensures place { result ≡ form.argument_place (core.argument argument.now) }
+    ensures place { result ≡ form.argument_place (core_view.argument argument.now) }
 {
     match argument {
         Argument::Variable { place, .. } => *place,
@@ -116,7 +116,7 @@ fn argument_place(argument: &Argument) -> Place
 
 // The place of an expression's head; a block has its last expression's.
 fn place_of(e: &Expression) -> Place
-    ensures place { result ≡ form.place_of (core.expression e.now) }
+    ensures place { result ≡ form.place_of (core_view.expression e.now) }
 {
     match e {
         Expression::Give(argument) => argument_place(argument),
@@ -130,7 +130,7 @@ fn place_of(e: &Expression) -> Place
 
 // One more let.
 fn put(out: &mut Vec<Binding>, binders: Vec<Binder>, bound: Expression) -> Result<(), NoMemory>
-    ensures lets { OnOk result (bindings out.new.items ≡ bindings out.old.items ++ record { binders = core.binders binders.items; bound = core.expression bound } ∷ []) }
+    ensures lets { OnOk result (bindings out.new.items ≡ bindings out.old.items ++ record { binders = core_view.binders binders.items; bound = core_view.expression bound } ∷ []) }
 {
     out.push(Binding { binders, bound })?;
     Ok(())
@@ -150,7 +150,7 @@ impl<'a> Walk<'a> {
 
     // A new binder of a name, which is in scope from here on.
     fn binder(&mut self, name: &'a [u8], place: Place) -> Result<Binder, NoMemory>
-        ensures given { IfOk result (λ b. core.binder b ≡ fresh self.old.next name.now place) }
+        ensures given { IfOk result (λ b. core_view.binder b ≡ fresh self.old.next name.now place) }
         ensures scope { OnOk result (self.new.scope ≡ form.with_binder self.old.scope (fresh self.old.next name.now place)) }
         ensures next { OnOk result (self.new.next ≡ self.old.next + 1) }
     {
@@ -177,7 +177,7 @@ impl<'a> Walk<'a> {
     }
 
     fn parameters(&mut self, ps: &'a [tree::Parameter]) -> Result<Vec<Parameter>, NoMemory>
-        ensures given { IfOk result (λ r. map core.parameter r.items ≡ form.parameters self.old.next (map surface.parameter ps.now)) }
+        ensures given { IfOk result (λ r. map core_view.parameter r.items ≡ form.parameters self.old.next (map surface.parameter ps.now)) }
         ensures scope { let made = form.parameters self.old.next (map surface.parameter ps.now) in
             OnOk result (self.new.scope ≡ form.with_binders self.old.scope (map (λ p. p.binder) made)) }
         ensures next { OnOk result (self.new.next ≡ self.old.next + length ps.now) }
@@ -197,8 +197,8 @@ impl<'a> Walk<'a> {
 
     // The name _ at a place, bound to an expression by a let of its own.
     fn bind(&mut self, bound: Expression, out: &mut Vec<Binding>) -> Result<Argument, NoMemory>
-        ensures given { IfOk result (λ a. core.argument a ≡ (form.bound (bindings out.old.items) (core.expression bound) self.old.next).argument) }
-        ensures lets { OnOk result (bindings out.new.items ≡ (form.bound (bindings out.old.items) (core.expression bound) self.old.next).lets) }
+        ensures given { IfOk result (λ a. core_view.argument a ≡ (form.bound (bindings out.old.items) (core_view.expression bound) self.old.next).argument) }
+        ensures lets { OnOk result (bindings out.new.items ≡ (form.bound (bindings out.old.items) (core_view.expression bound) self.old.next).lets) }
         ensures next { OnOk result (self.new.next ≡ self.old.next + 1) }
         ensures scope { self.new.scope ≡ self.old.scope }
     {
@@ -227,9 +227,9 @@ impl<'a> Walk<'a> {
         is_free: bool,
         out: &mut Vec<Binding>,
     ) -> Result<Argument, NoMemory>
-        ensures given { IfOk result (λ a. core.argument a ≡ (part_behind is_free (bindings out.old.items) (core.expression e) self.old.next).argument) }
-        ensures lets { OnOk result (bindings out.new.items ≡ (part_behind is_free (bindings out.old.items) (core.expression e) self.old.next).lets) }
-        ensures next { OnOk result (self.new.next ≡ (part_behind is_free (bindings out.old.items) (core.expression e) self.old.next).next) }
+        ensures given { IfOk result (λ a. core_view.argument a ≡ (part_behind is_free (bindings out.old.items) (core_view.expression e) self.old.next).argument) }
+        ensures lets { OnOk result (bindings out.new.items ≡ (part_behind is_free (bindings out.old.items) (core_view.expression e) self.old.next).lets) }
+        ensures next { OnOk result (self.new.next ≡ (part_behind is_free (bindings out.old.items) (core_view.expression e) self.old.next).next) }
         ensures scope { self.new.scope ≡ self.old.scope }
     {
         match e {
@@ -250,9 +250,9 @@ impl<'a> Walk<'a> {
         argument: Argument,
         out: &mut Vec<Binding>,
     ) -> Result<Argument, NoMemory>
-        ensures given { IfOk result (λ a. core.argument a ≡ (form.variable_from (bindings out.old.items) (core.argument argument) self.old.next).argument) }
-        ensures lets { OnOk result (bindings out.new.items ≡ (form.variable_from (bindings out.old.items) (core.argument argument) self.old.next).lets) }
-        ensures next { OnOk result (self.new.next ≡ (form.variable_from (bindings out.old.items) (core.argument argument) self.old.next).next) }
+        ensures given { IfOk result (λ a. core_view.argument a ≡ (form.variable_from (bindings out.old.items) (core_view.argument argument) self.old.next).argument) }
+        ensures lets { OnOk result (bindings out.new.items ≡ (form.variable_from (bindings out.old.items) (core_view.argument argument) self.old.next).lets) }
+        ensures next { OnOk result (self.new.next ≡ (form.variable_from (bindings out.old.items) (core_view.argument argument) self.old.next).next) }
         ensures scope { self.new.scope ≡ self.old.scope }
     {
         match argument {
@@ -271,9 +271,9 @@ impl<'a> Walk<'a> {
 
     // An expression as the last one of a block: an operation is bound, and the lets of a block go before it.
     fn as_last(&mut self, e: Expression, out: &mut Vec<Binding>) -> Result<Expression, NoMemory>
-        ensures given { IfOk result (λ r. core.expression r ≡ (form.last_from (bindings out.old.items) (core.expression e) self.old.next).expression) }
-        ensures lets { OnOk result (bindings out.new.items ≡ (form.last_from (bindings out.old.items) (core.expression e) self.old.next).lets) }
-        ensures next { OnOk result (self.new.next ≡ (form.last_from (bindings out.old.items) (core.expression e) self.old.next).next) }
+        ensures given { IfOk result (λ r. core_view.expression r ≡ (form.last_from (bindings out.old.items) (core_view.expression e) self.old.next).expression) }
+        ensures lets { OnOk result (bindings out.new.items ≡ (form.last_from (bindings out.old.items) (core_view.expression e) self.old.next).lets) }
+        ensures next { OnOk result (self.new.next ≡ (form.last_from (bindings out.old.items) (core_view.expression e) self.old.next).next) }
         ensures scope { self.new.scope ≡ self.old.scope }
     {
         match e {
@@ -307,7 +307,7 @@ impl<'a> Walk<'a> {
         e: &'a tree::Expression,
         out: &mut Vec<Binding>,
     ) -> Result<Expression, NoMemory>
-        ensures given { IfOk result (λ r. core.expression r ≡ (form.whole self.old.scope self.old.next (surface.expression e.now)).expression) }
+        ensures given { IfOk result (λ r. core_view.expression r ≡ (form.whole self.old.scope self.old.next (surface.expression e.now)).expression) }
         ensures lets { OnOk result (bindings out.new.items ≡ bindings out.old.items ++ (form.whole self.old.scope self.old.next (surface.expression e.now)).lets) }
         ensures next { OnOk result (self.new.next ≡ (form.whole self.old.scope self.old.next (surface.expression e.now)).next) }
         ensures scope { OnOk result (self.new.scope ≡ self.old.scope) }
@@ -339,7 +339,7 @@ impl<'a> Walk<'a> {
         e: &'a tree::Expression,
         out: &mut Vec<Binding>,
     ) -> Result<Argument, NoMemory>
-        ensures given { IfOk result (λ r. core.argument r ≡ (form.as_part (form.whole self.old.scope self.old.next (surface.expression e.now))).argument) }
+        ensures given { IfOk result (λ r. core_view.argument r ≡ (form.as_part (form.whole self.old.scope self.old.next (surface.expression e.now))).argument) }
         ensures lets { OnOk result (bindings out.new.items ≡ bindings out.old.items ++ (form.as_part (form.whole self.old.scope self.old.next (surface.expression e.now))).lets) }
         ensures next { OnOk result (self.new.next ≡ (form.as_part (form.whole self.old.scope self.old.next (surface.expression e.now))).next) }
         ensures scope { OnOk result (self.new.scope ≡ self.old.scope) }
@@ -379,7 +379,7 @@ impl<'a> Walk<'a> {
         stack: &mut Vec<Argument>,
         out: &mut Vec<Binding>,
     ) -> Result<Expression, NoMemory>
-        ensures given { IfOk result (λ r. core.expression r ≡ (stepped self.old.scope self.old.next (surface.action step.now) (waiting stack.old.items)).expression) }
+        ensures given { IfOk result (λ r. core_view.expression r ≡ (stepped self.old.scope self.old.next (surface.action step.now) (waiting stack.old.items)).expression) }
         ensures lets { OnOk result (bindings out.new.items ≡ bindings out.old.items ++ (stepped self.old.scope self.old.next (surface.action step.now) (waiting stack.old.items)).lets) }
         ensures stack { OnOk result (waiting stack.new.items ≡ (stepped self.old.scope self.old.next (surface.action step.now) (waiting stack.old.items)).stack) }
         ensures next { OnOk result (self.new.next ≡ (stepped self.old.scope self.old.next (surface.action step.now) (waiting stack.old.items)).next) }
@@ -466,7 +466,7 @@ impl<'a> Walk<'a> {
         met: Block,
         unmet: Block,
     ) -> Result<Expression, NoMemory>
-        ensures same { IfOk result (λ r. core.expression r ≡ form.if_match place (core.argument scrutinee) (core.block met) (core.block unmet)) }
+        ensures same { IfOk result (λ r. core_view.expression r ≡ form.if_match place (core_view.argument scrutinee) (core_view.block met) (core_view.block unmet)) }
     {
         let mut clauses = Vec::new(self.alloc);
         clauses.push(Clause {
@@ -492,7 +492,7 @@ impl<'a> Walk<'a> {
         es: &'a [tree::Expression],
         out: &mut Vec<Binding>,
     ) -> Result<Vec<Argument>, NoMemory>
-        ensures given { IfOk result (λ r. map core.argument r.items ≡ (form.parts self.old.scope self.old.next (surface.expressions es.now)).arguments) }
+        ensures given { IfOk result (λ r. map core_view.argument r.items ≡ (form.parts self.old.scope self.old.next (surface.expressions es.now)).arguments) }
         ensures lets { OnOk result (bindings out.new.items ≡ bindings out.old.items ++ (form.parts self.old.scope self.old.next (surface.expressions es.now)).lets) }
         ensures next { OnOk result (self.new.next ≡ (form.parts self.old.scope self.old.next (surface.expressions es.now)).next) }
         ensures scope { OnOk result (self.new.scope ≡ self.old.scope) }
@@ -511,7 +511,7 @@ impl<'a> Walk<'a> {
         block: &'a tree::Block,
         out: &mut Vec<Binding>,
     ) -> Result<Expression, NoMemory>
-        ensures given { IfOk result (λ r. core.expression r ≡ (form.whole self.old.scope self.old.next (S.Bracket (surface.block block.now))).expression) }
+        ensures given { IfOk result (λ r. core_view.expression r ≡ (form.whole self.old.scope self.old.next (S.Bracket (surface.block block.now))).expression) }
         ensures lets { OnOk result (bindings out.new.items ≡ bindings out.old.items ++ (form.whole self.old.scope self.old.next (S.Bracket (surface.block block.now))).lets) }
         ensures next { OnOk result (self.new.next ≡ (form.whole self.old.scope self.old.next (S.Bracket (surface.block block.now))).next) }
         ensures scope { OnOk result (self.new.scope ≡ self.old.scope) }
@@ -525,7 +525,7 @@ impl<'a> Walk<'a> {
 
     #[cycle(walk)]
     fn block(&mut self, block: &'a tree::Block) -> Result<Block, NoMemory>
-        ensures given { IfOk result (λ r. core.block r ≡ (form.as_block (form.contents self.old.scope self.old.next (surface.block block.now))).block) }
+        ensures given { IfOk result (λ r. core_view.block r ≡ (form.as_block (form.contents self.old.scope self.old.next (surface.block block.now))).block) }
         ensures next { OnOk result (self.new.next ≡ (form.as_block (form.contents self.old.scope self.old.next (surface.block block.now))).next) }
         ensures scope { OnOk result (self.new.scope ≡ self.old.scope) }
     {
@@ -553,7 +553,7 @@ impl<'a> Walk<'a> {
     }
 
     fn binders(&mut self, binds: &'a [tree::Bind]) -> Result<Vec<Binder>, NoMemory>
-        ensures given { IfOk result (λ r. core.binders r.items ≡ form.binders self.old.next (map surface.bind binds.now)) }
+        ensures given { IfOk result (λ r. core_view.binders r.items ≡ form.binders self.old.next (map surface.bind binds.now)) }
         ensures scope { let made = form.binders self.old.next (map surface.bind binds.now) in
             OnOk result (self.new.scope ≡ form.with_binders self.old.scope made) }
         ensures next { OnOk result (self.new.next ≡ self.old.next + length binds.now) }
@@ -569,7 +569,7 @@ impl<'a> Walk<'a> {
 
     #[cycle(walk)]
     fn clauses(&mut self, cs: &'a [tree::Clause]) -> Result<Vec<Clause>, NoMemory>
-        ensures given { IfOk result (λ r. core.clauses r.items ≡ (form.cases self.old.scope self.old.next (surface.clauses cs.now)).clauses) }
+        ensures given { IfOk result (λ r. core_view.clauses r.items ≡ (form.cases self.old.scope self.old.next (surface.clauses cs.now)).clauses) }
         ensures next { OnOk result (self.new.next ≡ (form.cases self.old.scope self.old.next (surface.clauses cs.now)).next) }
         ensures scope { OnOk result (self.new.scope ≡ self.old.scope) }
     {
@@ -583,7 +583,7 @@ impl<'a> Walk<'a> {
     // A clause. The binders of its pattern are in scope in its body alone.
     #[cycle(walk)]
     fn clause(&mut self, c: &'a tree::Clause) -> Result<Clause, NoMemory>
-        ensures given { IfOk result (λ r. core.clause r ≡ (case_made self.old.scope self.old.next (surface.clause c.now)).case) }
+        ensures given { IfOk result (λ r. core_view.clause r ≡ (case_made self.old.scope self.old.next (surface.clause c.now)).case) }
         ensures next { OnOk result (self.new.next ≡ (case_made self.old.scope self.old.next (surface.clause c.now)).next) }
         ensures scope { OnOk result (self.new.scope ≡ self.old.scope) }
     {
@@ -596,7 +596,7 @@ impl<'a> Walk<'a> {
 
     // A pattern, whose binders are in scope from here on.
     fn pattern(&mut self, p: &'a tree::Pattern) -> Result<Pattern, NoMemory>
-        ensures given { IfOk result (λ r. core.pattern r ≡ (form.pattern self.old.scope self.old.next (surface.pattern p.now)).pattern) }
+        ensures given { IfOk result (λ r. core_view.pattern r ≡ (form.pattern self.old.scope self.old.next (surface.pattern p.now)).pattern) }
         ensures scope { OnOk result (self.new.scope ≡ (form.pattern self.old.scope self.old.next (surface.pattern p.now)).scope) }
         ensures next { OnOk result (self.new.next ≡ (form.pattern self.old.scope self.old.next (surface.pattern p.now)).next) }
     {
@@ -631,7 +631,7 @@ impl<'a> Walk<'a> {
 
 // The pattern of a constructor without fields.
 fn bare_pattern(alloc: Global, name: &[u8], place: Place) -> Result<Pattern, NoMemory>
-    ensures same { IfOk result (λ p. core.pattern p ≡ C.ConstructorPattern name.now place C.NoPatterns) }
+    ensures same { IfOk result (λ p. core_view.pattern p ≡ C.ConstructorPattern name.now place C.NoPatterns) }
 {
     Ok(Pattern::Constructor {
         name: copy_name(alloc, name)?,

@@ -4,5 +4,6 @@ pub mod Faults
 pub mod Files
 pub mod Objects
 pub mod Refusal
+pub mod SurfaceView
 pub mod TableView
 pub mod Takes

@@ -9,4 +9,5 @@ pub mod outside;
 pub mod plain;
 pub mod real;
 pub mod refusal;
+pub mod surface;
 pub mod table;

@@ -10,8 +10,8 @@ use Rattle.fip_base.specs.declared.refusal.Refusal.{Refusal}
 use Rattle.loop_form.specs.Loop.{Loop}
 use Rattle.fip_driver.specs.Reply.{err_text}
 use Rattle.fip_driver.specs.Fetched.{unknown_entry}
-use Rattle.fip_driver.specs.Checked.{IsChecked}
-use Rattle.fip_driver.specs.Fronted.{IsReadyToRun, IsPassed, HasEntry, EntryFails}
+use Rattle.loop_check.specs.Checked.{IsChecked, IsReadyToRun, IsPassed}
+use Rattle.fip_driver.specs.Fronted.{HasEntry, EntryFails}
 use Rattle.fip_driver.specs.declared.failure.Failure.{Failure}
 use Rattle.fip_driver.specs.declared.failure.Failure.TheVariants as F
 

@@ -25,7 +25,7 @@ use Rattle.loop_form.specs.Meaning as L
 use Rattle.fip_driver.specs.Reply.{out_text, err_text, gauge_lines, gauge_text, value_text}
 use Rattle.fip_driver.specs.Texts.{bad_input_text, too_small_text, out_of_calls_text}
 use Rattle.fip_driver.specs.LoopRun.{loop_text, IsLoaded, IsTooMuch, IsLoopRun}
-use Rattle.fip_driver.specs.Checked.{SameAnswer, IsChecked}
+use Rattle.loop_check.specs.Checked.{SameAnswer, IsChecked}
 use Rattle.fip_driver.specs.Explained.{FailsAs, PrintsAs, Fails, ExplainedBy}
 use Rattle.fip_driver.specs.declared.failure.Failure.{Failure}
 use Rattle.fip_driver.specs.declared.failure.Failure.TheVariants as F

@@ -11,7 +11,7 @@ use Rattle.loop_form.specs.Loop.{Loop}
 use Rattle.loop_form.specs.Fine.{IsFine}
 use Rattle.fip_driver.specs.Reply.{err_text}
 use Rattle.fip_driver.specs.Answered.{Spelling}
-use Rattle.fip_driver.specs.Checked.{IsChecked}
+use Rattle.loop_check.specs.Checked.{IsReadyToRun}
 use Rattle.fip_driver.specs.declared.failure.Failure.{Failure}
 use Rattle.fip_driver.specs.declared.failure.Failure.TheVariants as F
 
@@ -24,19 +24,6 @@ SpellingFails spelling source (F.TooSmall needed given) = ⊥
 SpellingFails spelling source (F.OutOfCalls given) = ⊥
 SpellingFails spelling source (F.Fault object) = ⊥
 SpellingFails spelling source F.NoMemory = Unit {0}
-
--- A loop program that can be run: it is that of a right core program, and fine.
-pub record IsReadyToRun (core : Core) (l : Loop) : Type 0 where
-  pub function : Function
-  pub checked : IsChecked core function l
-  pub fine : IsFine l
-  pub sound : IsSoundTable l.types
-  pub known : AreTypes l.types l.parameters
-
--- a right program: its loop program, or none where it has no function
-abbrev pub IsPassed : Core → Option Loop → Type 0
-IsPassed core None = IsRight core × (core.functions ≡ [])
-IsPassed core (Some l) = IsReadyToRun core l
 
 -- A loop program that can be run, and its function has the entry's name.
 pub record HasEntry (core : Core) (l : Loop) (entry : List ℕ) : Type 0 where

@@ -7,6 +7,7 @@ pub mod Prefix
 pub mod Store
 pub mod Character
 pub mod SoundTable
+pub mod UpperNames
 pub mod ValueText
 pub mod PrintedText
 pub mod Layout

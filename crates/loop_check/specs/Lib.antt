@@ -6,3 +6,4 @@ pub mod Typing
 pub mod Clauses
 pub mod Marks
 pub mod Program
+pub mod Checked

@@ -1,9 +1,11 @@
 -- When a function passes the check, where the declarations are known, and the loop program that it becomes.
 use Rattle.std.specs.Prelude.{◌≡◌, ℕ, ◌+◌, ◌-◌, ◌<◌, ◌≤◌, true, List, [], ◌∷◌, map, length, Option, Some, None, is_some, ◌==◌, count_by, slice_get, if◌then◌else◌, codes}
-use Rattle.fip_language.specs.Table.{constructors, all_bare}
+use Rattle.fip_language.specs.Table.{Shape, Table, constructors, all_bare}
 use Rattle.fip_language.specs.Declarations.{bool_type}
 use Rattle.fip_language.specs.Core.{Name, Argument, Variable, Literal, Constructor, Expression, Give, Tuple, Operation, Call, Match, Nested, Block, Clauses, NoClauses, MoreClauses, Function, Data, Core}
-use Rattle.fip_language.specs.Right.{HasValue, parameter_name}
+use Rattle.fip_language.specs.Every.{Every}
+use Rattle.fip_language.specs.Right.{HasValue, IsAmong, parameter_name}
+use Rattle.fip_language.specs.Scoped.{LiteralsFit, AllLiteralsFit}
 use Rattle.fip_base.specs.CoreView.{Case}
 use Rattle.loop_form.specs.Loop as L
 use Rattle.loop_check.specs.declared.header.Known.{Known}
@@ -11,7 +13,7 @@ use Rattle.loop_check.specs.Names.{with_names}
 use Rattle.loop_check.specs.Header.{right_header, result_number, parameter_numbers}
 use Rattle.loop_check.specs.Lookup.{are_narrow}
 use Rattle.loop_check.specs.Types.{data_names, declared_names, right_types, type_ids, numbered_table}
-use Rattle.loop_check.specs.Clauses.{Signature, last_in, right_clauses, numbered_clauses, case_registers}
+use Rattle.loop_check.specs.Clauses.{Signature, Parts, case_parts, last_in, right_clauses, numbered_clauses, case_registers}
 
 -- a match! on a variable: its binder, and the clauses
 pub record Taken : Type 0 where
@@ -62,6 +64,33 @@ pub record HeaderPasses (k : Known) (f : Function) : Type 0 where
   pub distinct : is_some (with_names [] (map parameter_name f.parameters)) ≡ true
   pub narrow : are_narrow k (parameter_numbers k.types f.parameters) ≡ true
 
+-- A list that has bool, these types and the types of the fields of each type in it; int is in every list.
+pub record HasReached (tb : Table) (ps : List ℕ) (r : ℕ) (ts : List ℕ) : Type 0 where
+  pub bool_type : IsAmong ts 1
+  pub parameters : Every (IsAmong ts) ps
+  pub result : IsAmong ts r
+  pub fields : Every (λ t. Every (λ (s : Shape). Every (IsAmong ts) s.fields) (constructors tb t)) ts
+
+-- At most 4,096 types are reached from these.
+abbrev pub AreFewTypes : Table → List ℕ → ℕ → Type 0
+AreFewTypes tb ps r = (ts : List ℕ) × (length ts ≤ 4096) × HasReached tb ps r ts
+
+-- the literals of an ending have 64 bits
+abbrev pub EndingLiteralsFit : Expression → Type 0
+EndingLiteralsFit (Give a) = LiteralsFit a
+EndingLiteralsFit (Tuple p as') = Unit {0}
+EndingLiteralsFit (Operation o p a b) = Unit {0}
+EndingLiteralsFit (Call name p statics as') = AllLiteralsFit as'
+EndingLiteralsFit (Match d p x cs) = Unit {0}
+EndingLiteralsFit (Nested b) = Unit {0}
+
+abbrev pub PartsLiteralsFit : Option Parts → Type 0
+PartsLiteralsFit None = Unit {0}
+PartsLiteralsFit (Some q) = EndingLiteralsFit q.ending
+
+abbrev pub CaseLiteralsFit : Case → Type 0
+CaseLiteralsFit c = PartsLiteralsFit (case_parts c)
+
 abbrev pub signature_of : Name → List ℕ → ℕ → Taken → ℕ → Signature
 signature_of name ps r m t = record { name = name; parameters = ps; given = r; scrutinee = m.scrutinee; ty = t }
 
@@ -76,6 +105,7 @@ pub record Fits (k : Known) (name : Name) (ps : List ℕ) (r : ℕ) (m : Taken) 
   pub registers : length ps + case_registers m.cases ≤ 4096
   pub nodes : length m.cases + (n - length ps) ≤ 256
   pub covered : (c : ℕ) → c < length (constructors k.table t) → count_by (λ (q : L.Clause). q.constructor == c) ks ≡ 1
+  pub literals : Every CaseLiteralsFit m.cases
 
 -- the loop program that it becomes
 abbrev pub resolved : Known → Name → List ℕ → ℕ → Taken → ℕ → List L.Clause → L.Loop
@@ -97,6 +127,7 @@ pub record Passes (k : Known) (f : Function) (l : L.Loop) : Type 0 where
   pub type : ℕ
   pub next : ℕ
   pub body : taken f.body ≡ Some found
+  pub few_types : AreFewTypes k.table (parameter_numbers k.types f.parameters) (result_number k.types f.result)
   pub fits : Fits k f.name (parameter_numbers k.types f.parameters) (result_number k.types f.result) found type next l.clauses
   pub loop : l ≡ resolved k f.name (parameter_numbers k.types f.parameters) (result_number k.types f.result) found next l.clauses
 

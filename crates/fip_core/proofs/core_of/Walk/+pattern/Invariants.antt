@@ -1,0 +1,15 @@
+use Rattle.std.proofs.Common.{◌≡◌, ◌++◌, map, drop}
+use Rattle.fip_language.specs.CoreForm as form
+use Rattle.fip_base.specs.CoreView as core
+use Rattle.fip_base.specs.SurfaceView as surface
+use Rattle.fip_core.proofs.core_of.Walk.+pattern.Given as goal
+
+abbrev pub invariant-loop-q : goal.invariant-loop-q
+invariant-loop-q l =
+    let first = form.patterns l.initial.self.scope l.initial.self.next (surface.patterns l.q-items) in
+    let rest = form.patterns l.self.scope l.self.next (surface.patterns (drop l.q-index l.q-items)) in
+    record {
+      given : map core.pattern l.numbered.items ++ rest.patterns ≡ first.patterns;
+      scope : rest.scope ≡ first.scope;
+      next : rest.next ≡ first.next;
+    }

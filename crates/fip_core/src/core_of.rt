@@ -1,0 +1,641 @@
+// The core form of a program.
+//
+// An expression is a list of steps in postfix order. The operands that wait for their operator are kept on a stack,
+// as arguments: each is bound as soon as it is complete, so that the lets stand from left to right.
+ghost use Rattle.std.specs.Prelude.{◌≡◌, ℕ, ◌+◌, List, [], ◌∷◌, ◌++◌, map, length, cond, Some, None, IfOk, OnOk};
+ghost use Rattle.std.specs.Str.{bytes_eq};
+ghost use Rattle.fip_language.specs.Core as C;
+ghost use Rattle.fip_language.specs.Surface as S;
+ghost use Rattle.fip_language.specs.CoreForm as form;
+ghost use Rattle.fip_base.specs.CoreView as core_view;
+ghost use Rattle.fip_base.specs.SurfaceView as surface;
+ghost use Rattle.fip_core.specs.Walk.{bindings, fresh, part_behind, waiting, top_argument, under_top, stepped, part_left, let_made, case_made, operands_of};
+
+use crate::copies::{
+    copy_all_written, copy_annotation, copy_data, copy_name, copy_result, copy_statics,
+    copy_written,
+};
+use crate::scope::Scope;
+use fip_base::surface as tree;
+use fip_base::surface::Step;
+use fip_base::core_form::{
+    Argument, Binder, Binding, Block, Clause, Core, Expression, Function, MatchKind, Parameter,
+    Pattern,
+};
+use fip_base::plain::{NoMemory, Place};
+use std::alloc::Global;
+
+// The first place of a text.
+const ORIGIN: Place = Place {
+    line: 1,
+    col: 1,
+    at: 0,
+};
+
+// A walk through one function: what is in scope, and the number of the next binder.
+#[derive(Drop)]
+struct Walk<'a> {
+    alloc: Global,
+    scope: Scope<'a>,
+    next: usize,
+}
+
+/// The core form of a program; an error where no memory is left.
+pub fn core_of(alloc: Global, program: &tree::Program) -> Result<Core, NoMemory>
+    ensures same { IfOk result (λ c. core_view.core c ≡ form.core_form (surface.program program.now)) }
+{
+    let mut types = Vec::new(alloc);
+    let mut functions = Vec::new(alloc);
+    for declaration in &program.declarations {
+        match declaration {
+            tree::Declaration::Data { data } => types.push(copy_data(alloc, data)?)?,
+            tree::Declaration::Function { function } => functions.push(core_function(
+                alloc, function,
+            )?)?,
+        }
+    }
+    Ok(Core { types, functions })
+}
+
+fn core_function(alloc: Global, f: &tree::Function) -> Result<Function, NoMemory>
+    ensures same { IfOk result (λ r. core_view.function r ≡ form.function (surface.function f.now)) }
+{
+    let mut walk = Walk {
+        alloc,
+        scope: Scope::new(alloc),
+        next: 0,
+    };
+    let parameters = walk.parameters(&f.parameters)?;
+    let body = walk.block(&f.body)?;
+    Ok(Function {
+        kind: f.kind,
+        name: copy_name(alloc, &f.name)?,
+        place: f.place,
+        statics: copy_statics(alloc, &f.statics)?,
+        parameters,
+        result: copy_result(alloc, &f.gives)?,
+        body,
+    })
+}
+
+// The operand on the top of the stack. A list of steps that was made from a source never lacks one.
+fn pop_operand(stack: &mut Vec<Argument>) -> Argument
+    ensures given { core_view.argument result ≡ top_argument (waiting stack.old.items) }
+    ensures rest { waiting stack.new.items ≡ under_top (waiting stack.old.items) }
+{
+    match stack.pop() {
+        Some(argument) => argument,
+        None => Argument::Literal {
+            value: 0,
+            place: ORIGIN,
+        },
+    }
+}
+
+// How many operands a step takes.
+fn operands(step: &Step) -> usize
+    ensures count { result ≡ operands_of (surface.action step.now) }
+{
+    match step {
+        Step::Binary { .. } => 2,
+        Step::Match { .. } => 1,
+        Step::If { .. } => 1,
+        _ => 0,
+    }
+}
+
+fn argument_place(argument: &Argument) -> Place
+    ensures place { result ≡ form.argument_place (core_view.argument argument.now) }
+{
+    match argument {
+        Argument::Variable { place, .. } => *place,
+        Argument::Literal { place, .. } => *place,
+        Argument::Constructor { place, .. } => *place,
+    }
+}
+
+// The place of an expression's head; a block has its last expression's.
+fn place_of(e: &Expression) -> Place
+    ensures place { result ≡ form.place_of (core_view.expression e.now) }
+{
+    match e {
+        Expression::Give(argument) => argument_place(argument),
+        Expression::Tuple { place, .. } => *place,
+        Expression::Operation { place, .. } => *place,
+        Expression::Call { place, .. } => *place,
+        Expression::Match { place, .. } => *place,
+        Expression::Nested(block) => place_of(&block.last),
+    }
+}
+
+// One more let.
+fn put(out: &mut Vec<Binding>, binders: Vec<Binder>, bound: Expression) -> Result<(), NoMemory>
+    ensures lets { OnOk result (bindings out.new.items ≡ bindings out.old.items ++ record { binders = core_view.binders binders.items; bound = core_view.expression bound } ∷ []) }
+{
+    out.push(Binding { binders, bound })?;
+    Ok(())
+}
+
+impl<'a> Walk<'a> {
+    // The number of a new binder. There are never more binders than memory holds.
+    fn number(&mut self) -> Result<usize, NoMemory>
+        ensures given { IfOk result (λ n. n ≡ self.old.next) }
+        ensures next { OnOk result (self.new.next ≡ self.old.next + 1) }
+        ensures scope { self.new.scope ≡ self.old.scope }
+    {
+        let number = self.next;
+        self.next = number.checked_add(1).ok_or(NoMemory)?;
+        Ok(number)
+    }
+
+    // A new binder of a name, which is in scope from here on.
+    fn binder(&mut self, name: &'a [u8], place: Place) -> Result<Binder, NoMemory>
+        ensures given { IfOk result (λ b. core_view.binder b ≡ fresh self.old.next name.now place) }
+        ensures scope { OnOk result (self.new.scope ≡ form.with_binder self.old.scope (fresh self.old.next name.now place)) }
+        ensures next { OnOk result (self.new.next ≡ self.old.next + 1) }
+    {
+        let number = self.number()?;
+        self.enter(name, number)?;
+        Ok(Binder {
+            number,
+            name: copy_name(self.alloc, name)?,
+            place,
+            annotation: None,
+        })
+    }
+
+    // A binder comes into scope; nothing names the one whose name is _.
+    fn enter(&mut self, name: &'a [u8], number: usize) -> Result<(), NoMemory>
+        ensures scope { let one = self.old.scope ++ record { name = name.now; number = number } ∷ [] in
+            OnOk result (self.new.scope ≡ cond (bytes_eq name.now form.underscore) self.old.scope one) }
+        ensures next { self.new.next ≡ self.old.next }
+    {
+        if name == b"_".as_slice() {
+            return Ok(());
+        }
+        self.scope.bind(name, number)
+    }
+
+    fn parameters(&mut self, ps: &'a [tree::Parameter]) -> Result<Vec<Parameter>, NoMemory>
+        ensures given { IfOk result (λ r. map core_view.parameter r.items ≡ form.parameters self.old.next (map surface.parameter ps.now)) }
+        ensures scope { let made = form.parameters self.old.next (map surface.parameter ps.now) in
+            OnOk result (self.new.scope ≡ form.with_binders self.old.scope (map (λ p. p.binder) made)) }
+        ensures next { OnOk result (self.new.next ≡ self.old.next + length ps.now) }
+    {
+        let mut parameters = Vec::new(self.alloc);
+        for p in ps {
+            let binder = self.binder(&p.name, p.place)?;
+            let ty = copy_written(self.alloc, &p.written)?;
+            parameters.push(Parameter {
+                lent: p.lent,
+                binder,
+                ty,
+            })?;
+        }
+        Ok(parameters)
+    }
+
+    // The name _ at a place, bound to an expression by a let of its own.
+    fn bind(&mut self, bound: Expression, out: &mut Vec<Binding>) -> Result<Argument, NoMemory>
+        ensures given { IfOk result (λ a. core_view.argument a ≡ (form.bound (bindings out.old.items) (core_view.expression bound) self.old.next).argument) }
+        ensures lets { OnOk result (bindings out.new.items ≡ (form.bound (bindings out.old.items) (core_view.expression bound) self.old.next).lets) }
+        ensures next { OnOk result (self.new.next ≡ self.old.next + 1) }
+        ensures scope { self.new.scope ≡ self.old.scope }
+    {
+        let number = self.number()?;
+        let place = place_of(&bound);
+        let binder = Binder {
+            number,
+            name: copy_name(self.alloc, b"_")?,
+            place,
+            annotation: None,
+        };
+        let mut binders = Vec::new(self.alloc);
+        binders.push(binder)?;
+        put(out, binders, bound)?;
+        Ok(Argument::Variable {
+            binder: Some(number),
+            name: copy_name(self.alloc, b"_")?,
+            place,
+        })
+    }
+
+    // An expression as a part. It is an argument only where no let was made for it.
+    fn as_part(
+        &mut self,
+        e: Expression,
+        is_free: bool,
+        out: &mut Vec<Binding>,
+    ) -> Result<Argument, NoMemory>
+        ensures given { IfOk result (λ a. core_view.argument a ≡ (part_behind is_free (bindings out.old.items) (core_view.expression e) self.old.next).argument) }
+        ensures lets { OnOk result (bindings out.new.items ≡ (part_behind is_free (bindings out.old.items) (core_view.expression e) self.old.next).lets) }
+        ensures next { OnOk result (self.new.next ≡ (part_behind is_free (bindings out.old.items) (core_view.expression e) self.old.next).next) }
+        ensures scope { self.new.scope ≡ self.old.scope }
+    {
+        match e {
+            Expression::Give(argument) => {
+                if is_free {
+                    Ok(argument)
+                } else {
+                    self.bind(Expression::Give(argument), out)
+                }
+            }
+            other => self.bind(other, out),
+        }
+    }
+
+    // A part as a scrutinee, which is a variable.
+    fn as_variable(
+        &mut self,
+        argument: Argument,
+        out: &mut Vec<Binding>,
+    ) -> Result<Argument, NoMemory>
+        ensures given { IfOk result (λ a. core_view.argument a ≡ (form.variable_from (bindings out.old.items) (core_view.argument argument) self.old.next).argument) }
+        ensures lets { OnOk result (bindings out.new.items ≡ (form.variable_from (bindings out.old.items) (core_view.argument argument) self.old.next).lets) }
+        ensures next { OnOk result (self.new.next ≡ (form.variable_from (bindings out.old.items) (core_view.argument argument) self.old.next).next) }
+        ensures scope { self.new.scope ≡ self.old.scope }
+    {
+        match argument {
+            Argument::Variable {
+                binder,
+                name,
+                place,
+            } => Ok(Argument::Variable {
+                binder,
+                name,
+                place,
+            }),
+            other => self.bind(Expression::Give(other), out),
+        }
+    }
+
+    // An expression as the last one of a block: an operation is bound, and the lets of a block go before it.
+    fn as_last(&mut self, e: Expression, out: &mut Vec<Binding>) -> Result<Expression, NoMemory>
+        ensures given { IfOk result (λ r. core_view.expression r ≡ (form.last_from (bindings out.old.items) (core_view.expression e) self.old.next).expression) }
+        ensures lets { OnOk result (bindings out.new.items ≡ (form.last_from (bindings out.old.items) (core_view.expression e) self.old.next).lets) }
+        ensures next { OnOk result (self.new.next ≡ (form.last_from (bindings out.old.items) (core_view.expression e) self.old.next).next) }
+        ensures scope { self.new.scope ≡ self.old.scope }
+    {
+        match e {
+            Expression::Operation {
+                operator,
+                place,
+                left,
+                right,
+            } => {
+                let bound = Expression::Operation {
+                    operator,
+                    place,
+                    left,
+                    right,
+                };
+                Ok(Expression::Give(self.bind(bound, out)?))
+            }
+            Expression::Nested(block) => {
+                let Block { mut bindings, last } = Box::into_inner(block);
+                out.append(&mut bindings)?;
+                Ok(last)
+            }
+            other => Ok(other),
+        }
+    }
+
+    // An expression that isn't bound yet, and before it the lets of its parts.
+    #[cycle(walk)]
+    fn whole(
+        &mut self,
+        e: &'a tree::Expression,
+        out: &mut Vec<Binding>,
+    ) -> Result<Expression, NoMemory>
+        ensures given { IfOk result (λ r. core_view.expression r ≡ (form.whole self.old.scope self.old.next (surface.expression e.now)).expression) }
+        ensures lets { OnOk result (bindings out.new.items ≡ bindings out.old.items ++ (form.whole self.old.scope self.old.next (surface.expression e.now)).lets) }
+        ensures next { OnOk result (self.new.next ≡ (form.whole self.old.scope self.old.next (surface.expression e.now)).next) }
+        ensures scope { OnOk result (self.new.scope ≡ self.old.scope) }
+    {
+        let Some((last, before)) = e.steps.split_last() else {
+            return Ok(Expression::Give(Argument::Literal {
+                value: 0,
+                place: ORIGIN,
+            }));
+        };
+        let mut stack = Vec::new(self.alloc);
+        for step in before {
+            self.operand(step, &mut stack, out)?;
+        }
+        if stack.len() <= operands(last) {
+            return self.step(last, &mut stack, out);
+        }
+        self.operand(last, &mut stack, out)?;
+        Ok(Expression::Tuple {
+            place: ORIGIN,
+            arguments: stack,
+        })
+    }
+
+    // An expression as a part: an argument is itself, any other is bound.
+    #[cycle(walk)]
+    fn part(
+        &mut self,
+        e: &'a tree::Expression,
+        out: &mut Vec<Binding>,
+    ) -> Result<Argument, NoMemory>
+        ensures given { IfOk result (λ r. core_view.argument r ≡ (form.as_part (form.whole self.old.scope self.old.next (surface.expression e.now))).argument) }
+        ensures lets { OnOk result (bindings out.new.items ≡ bindings out.old.items ++ (form.as_part (form.whole self.old.scope self.old.next (surface.expression e.now))).lets) }
+        ensures next { OnOk result (self.new.next ≡ (form.as_part (form.whole self.old.scope self.old.next (surface.expression e.now))).next) }
+        ensures scope { OnOk result (self.new.scope ≡ self.old.scope) }
+    {
+        let lets = out.len();
+        let whole = self.whole(e, out)?;
+        let is_free = out.len() == lets;
+        self.as_part(whole, is_free, out)
+    }
+
+    // What a step gives, as a part that waits on the stack.
+    #[cycle(walk)]
+    fn operand(
+        &mut self,
+        step: &'a Step,
+        stack: &mut Vec<Argument>,
+        out: &mut Vec<Binding>,
+    ) -> Result<(), NoMemory>
+        ensures given { OnOk result (waiting stack.new.items ≡ (part_left (stepped self.old.scope self.old.next (surface.action step.now) (waiting stack.old.items))).arguments) }
+        ensures lets { OnOk result (bindings out.new.items ≡ bindings out.old.items ++ (part_left (stepped self.old.scope self.old.next (surface.action step.now) (waiting stack.old.items))).lets) }
+        ensures next { OnOk result (self.new.next ≡ (part_left (stepped self.old.scope self.old.next (surface.action step.now) (waiting stack.old.items))).next) }
+        ensures scope { OnOk result (self.new.scope ≡ self.old.scope) }
+    {
+        let lets = out.len();
+        let whole = self.step(step, stack, out)?;
+        let is_free = out.len() == lets;
+        let part = self.as_part(whole, is_free, out)?;
+        stack.push(part)?;
+        Ok(())
+    }
+
+    // What a step gives, from the operands on the stack.
+    #[cycle(walk)]
+    fn step(
+        &mut self,
+        step: &'a Step,
+        stack: &mut Vec<Argument>,
+        out: &mut Vec<Binding>,
+    ) -> Result<Expression, NoMemory>
+        ensures given { IfOk result (λ r. core_view.expression r ≡ (stepped self.old.scope self.old.next (surface.action step.now) (waiting stack.old.items)).expression) }
+        ensures lets { OnOk result (bindings out.new.items ≡ bindings out.old.items ++ (stepped self.old.scope self.old.next (surface.action step.now) (waiting stack.old.items)).lets) }
+        ensures stack { OnOk result (waiting stack.new.items ≡ (stepped self.old.scope self.old.next (surface.action step.now) (waiting stack.old.items)).stack) }
+        ensures next { OnOk result (self.new.next ≡ (stepped self.old.scope self.old.next (surface.action step.now) (waiting stack.old.items)).next) }
+        ensures scope { OnOk result (self.new.scope ≡ self.old.scope) }
+    {
+        match step {
+            Step::Variable { name, place } => Ok(Expression::Give(Argument::Variable {
+                binder: self.scope.find(name),
+                name: copy_name(self.alloc, name)?,
+                place: *place,
+            })),
+            Step::Literal { value, place } => Ok(Expression::Give(Argument::Literal {
+                value: *value,
+                place: *place,
+            })),
+            Step::Call {
+                name,
+                place,
+                statics,
+                arguments,
+            } => Ok(Expression::Call {
+                name: copy_name(self.alloc, name)?,
+                place: *place,
+                statics: copy_all_written(self.alloc, statics)?,
+                arguments: self.parts(arguments, out)?,
+            }),
+            Step::Constructor {
+                name,
+                place,
+                arguments,
+            } => Ok(Expression::Give(Argument::Constructor {
+                name: copy_name(self.alloc, name)?,
+                place: *place,
+                arguments: self.parts(arguments, out)?,
+            })),
+            Step::Bracket { block } => self.brackets(block, out),
+            Step::Tuple { place, parts } => Ok(Expression::Tuple {
+                place: *place,
+                arguments: self.parts(parts, out)?,
+            }),
+            Step::Binary { operator, place } => {
+                let right = pop_operand(stack);
+                let left = pop_operand(stack);
+                Ok(Expression::Operation {
+                    operator: *operator,
+                    place: *place,
+                    left,
+                    right,
+                })
+            }
+            Step::Match {
+                destructive,
+                place,
+                clauses,
+            } => {
+                let scrutinee = self.as_variable(pop_operand(stack), out)?;
+                let clauses = self.clauses(clauses)?;
+                let kind = if *destructive {
+                    MatchKind::Destructive
+                } else {
+                    MatchKind::Borrowing
+                };
+                Ok(Expression::Match {
+                    kind,
+                    place: *place,
+                    scrutinee,
+                    clauses,
+                })
+            }
+            Step::If { place, yes, no } => {
+                let scrutinee = self.as_variable(pop_operand(stack), out)?;
+                let met = self.block(yes)?;
+                let unmet = self.block(no)?;
+                self.choice(*place, scrutinee, met, unmet)
+            }
+        }
+    }
+
+    // The match that an if is.
+    fn choice(
+        &self,
+        place: Place,
+        scrutinee: Argument,
+        met: Block,
+        unmet: Block,
+    ) -> Result<Expression, NoMemory>
+        ensures same { IfOk result (λ r. core_view.expression r ≡ form.if_match place (core_view.argument scrutinee) (core_view.block met) (core_view.block unmet)) }
+    {
+        let mut clauses = Vec::new(self.alloc);
+        clauses.push(Clause {
+            pattern: bare_pattern(self.alloc, b"True", place)?,
+            body: met,
+        })?;
+        clauses.push(Clause {
+            pattern: bare_pattern(self.alloc, b"False", place)?,
+            body: unmet,
+        })?;
+        Ok(Expression::Match {
+            kind: MatchKind::Borrowing,
+            place,
+            scrutinee,
+            clauses,
+        })
+    }
+
+    // The parts of a call, a tuple or a constructor, from left to right.
+    #[cycle(walk)]
+    fn parts(
+        &mut self,
+        es: &'a [tree::Expression],
+        out: &mut Vec<Binding>,
+    ) -> Result<Vec<Argument>, NoMemory>
+        ensures given { IfOk result (λ r. map core_view.argument r.items ≡ (form.parts self.old.scope self.old.next (surface.expressions es.now)).arguments) }
+        ensures lets { OnOk result (bindings out.new.items ≡ bindings out.old.items ++ (form.parts self.old.scope self.old.next (surface.expressions es.now)).lets) }
+        ensures next { OnOk result (self.new.next ≡ (form.parts self.old.scope self.old.next (surface.expressions es.now)).next) }
+        ensures scope { OnOk result (self.new.scope ≡ self.old.scope) }
+    {
+        let mut arguments = Vec::new(self.alloc);
+        for e in es {
+            arguments.push(self.part(e, out)?)?;
+        }
+        Ok(arguments)
+    }
+
+    // Brackets vanish where there is no let in them.
+    #[cycle(walk)]
+    fn brackets(
+        &mut self,
+        block: &'a tree::Block,
+        out: &mut Vec<Binding>,
+    ) -> Result<Expression, NoMemory>
+        ensures given { IfOk result (λ r. core_view.expression r ≡ (form.whole self.old.scope self.old.next (S.Bracket (surface.block block.now))).expression) }
+        ensures lets { OnOk result (bindings out.new.items ≡ bindings out.old.items ++ (form.whole self.old.scope self.old.next (S.Bracket (surface.block block.now))).lets) }
+        ensures next { OnOk result (self.new.next ≡ (form.whole self.old.scope self.old.next (S.Bracket (surface.block block.now))).next) }
+        ensures scope { OnOk result (self.new.scope ≡ self.old.scope) }
+    {
+        if block.lets.is_empty() {
+            return self.whole(&block.last, out);
+        }
+        let block = self.block(block)?;
+        Ok(Expression::Nested(Box::new(self.alloc, block)?))
+    }
+
+    #[cycle(walk)]
+    fn block(&mut self, block: &'a tree::Block) -> Result<Block, NoMemory>
+        ensures given { IfOk result (λ r. core_view.block r ≡ (form.as_block (form.contents self.old.scope self.old.next (surface.block block.now))).block) }
+        ensures next { OnOk result (self.new.next ≡ (form.as_block (form.contents self.old.scope self.old.next (surface.block block.now))).next) }
+        ensures scope { OnOk result (self.new.scope ≡ self.old.scope) }
+    {
+        let kept = self.scope.len();
+        let mut bindings = Vec::new(self.alloc);
+        for l in &block.lets {
+            self.binding(l, &mut bindings)?;
+        }
+        let whole = self.whole(&block.last, &mut bindings)?;
+        self.scope.release(kept);
+        let last = self.as_last(whole, &mut bindings)?;
+        Ok(Block { bindings, last })
+    }
+
+    // A let: its bound expression, and then its binders, which are in scope from here on.
+    #[cycle(walk)]
+    fn binding(&mut self, l: &'a tree::Let, out: &mut Vec<Binding>) -> Result<(), NoMemory>
+        ensures lets { OnOk result (bindings out.new.items ≡ bindings out.old.items ++ (let_made self.old.scope self.old.next (surface.let_part l.now)).lets) }
+        ensures scope { OnOk result (self.new.scope ≡ (let_made self.old.scope self.old.next (surface.let_part l.now)).scope) }
+        ensures next { OnOk result (self.new.next ≡ (let_made self.old.scope self.old.next (surface.let_part l.now)).next) }
+    {
+        let bound = self.whole(&l.bound, out)?;
+        let binders = self.binders(&l.binds)?;
+        put(out, binders, bound)
+    }
+
+    fn binders(&mut self, binds: &'a [tree::Bind]) -> Result<Vec<Binder>, NoMemory>
+        ensures given { IfOk result (λ r. core_view.binders r.items ≡ form.binders self.old.next (map surface.bind binds.now)) }
+        ensures scope { let made = form.binders self.old.next (map surface.bind binds.now) in
+            OnOk result (self.new.scope ≡ form.with_binders self.old.scope made) }
+        ensures next { OnOk result (self.new.next ≡ self.old.next + length binds.now) }
+    {
+        let mut binders = Vec::new(self.alloc);
+        for b in binds {
+            let mut binder = self.binder(&b.name, b.place)?;
+            binder.annotation = copy_annotation(self.alloc, &b.annotation)?;
+            binders.push(binder)?;
+        }
+        Ok(binders)
+    }
+
+    #[cycle(walk)]
+    fn clauses(&mut self, cs: &'a [tree::Clause]) -> Result<Vec<Clause>, NoMemory>
+        ensures given { IfOk result (λ r. core_view.clauses r.items ≡ (form.cases self.old.scope self.old.next (surface.clauses cs.now)).clauses) }
+        ensures next { OnOk result (self.new.next ≡ (form.cases self.old.scope self.old.next (surface.clauses cs.now)).next) }
+        ensures scope { OnOk result (self.new.scope ≡ self.old.scope) }
+    {
+        let mut clauses = Vec::new(self.alloc);
+        for c in cs {
+            clauses.push(self.clause(c)?)?;
+        }
+        Ok(clauses)
+    }
+
+    // A clause. The binders of its pattern are in scope in its body alone.
+    #[cycle(walk)]
+    fn clause(&mut self, c: &'a tree::Clause) -> Result<Clause, NoMemory>
+        ensures given { IfOk result (λ r. core_view.clause r ≡ (case_made self.old.scope self.old.next (surface.clause c.now)).case) }
+        ensures next { OnOk result (self.new.next ≡ (case_made self.old.scope self.old.next (surface.clause c.now)).next) }
+        ensures scope { OnOk result (self.new.scope ≡ self.old.scope) }
+    {
+        let kept = self.scope.len();
+        let pattern = self.pattern(&c.pattern)?;
+        let body = self.block(&c.body)?;
+        self.scope.release(kept);
+        Ok(Clause { pattern, body })
+    }
+
+    // A pattern, whose binders are in scope from here on.
+    fn pattern(&mut self, p: &'a tree::Pattern) -> Result<Pattern, NoMemory>
+        ensures given { IfOk result (λ r. core_view.pattern r ≡ (form.pattern self.old.scope self.old.next (surface.pattern p.now)).pattern) }
+        ensures scope { OnOk result (self.new.scope ≡ (form.pattern self.old.scope self.old.next (surface.pattern p.now)).scope) }
+        ensures next { OnOk result (self.new.next ≡ (form.pattern self.old.scope self.old.next (surface.pattern p.now)).next) }
+    {
+        match p {
+            tree::Pattern::Wildcard { place } => Ok(Pattern::Binder(self.binder(b"_", *place)?)),
+            tree::Pattern::Variable { name, place } => Ok(Pattern::Binder(self.binder(
+                name, *place,
+            )?)),
+            tree::Pattern::Literal { value, place } => Ok(Pattern::Literal {
+                value: *value,
+                place: *place,
+            }),
+            tree::Pattern::Constructor {
+                name,
+                place,
+                patterns,
+            } => {
+                let name = copy_name(self.alloc, name)?;
+                let mut numbered = Vec::new(self.alloc);
+                for q in patterns {
+                    numbered.push(self.pattern(q)?)?;
+                }
+                Ok(Pattern::Constructor {
+                    name,
+                    place: *place,
+                    patterns: numbered,
+                })
+            }
+        }
+    }
+}
+
+// The pattern of a constructor without fields.
+fn bare_pattern(alloc: Global, name: &[u8], place: Place) -> Result<Pattern, NoMemory>
+    ensures same { IfOk result (λ p. core_view.pattern p ≡ C.ConstructorPattern name.now place C.NoPatterns) }
+{
+    Ok(Pattern::Constructor {
+        name: copy_name(alloc, name)?,
+        place,
+        patterns: Vec::new(alloc),
+    })
+}

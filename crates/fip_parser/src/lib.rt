@@ -1,0 +1,12 @@
+// The parser: from the tokens of a source to the tree of its program. A state says which constructs are open; each
+// token leads to the next state.
+#![tactic(auto)]
+
+mod body;
+mod heading;
+mod literal;
+mod operators;
+pub mod parser;
+mod patterns;
+mod state;
+mod types;

@@ -1,3 +1,0 @@
-pub mod ScopeView
-pub mod SurfaceView
-pub mod Walk

@@ -11,3 +11,7 @@ pub mod Alive
 pub mod Exact
 pub mod Fronts
 pub mod Unique
+pub mod Signs
+pub mod Least
+pub mod UpperWords
+pub mod UpperNames

@@ -1,5 +1,5 @@
 -- A source is cut in one way.
-use Rattle.std.proofs.Common.{◌≡◌, ◌≢◌, ℕ, zero, suc, ◌+◌, ◌<◌, ◌≤◌, Bool, true, false, ◌||◌, ◌&&◌, List, [], ◌∷◌, ◌++◌, length, take, drop, Some, None, ◌⊎◌, inl, inr, refl, sym, ap, subst, ◌∙◌, arith}
+use Rattle.std.proofs.Common.{◌≡◌, ℕ, zero, suc, ◌<◌, Bool, true, false, ◌||◌, ◌&&◌, List, [], ◌∷◌, ◌++◌, length, take, drop, Some, None, ◌⊎◌, inl, inr, refl, sym, ap, subst, ◌∙◌, arith}
 use Rattle.std.specs.List.{list_all}
 use Rattle.fip_language.specs.declared.Place.{Place}
 use Rattle.fip_grammar.specs.Token.{Word, Token}
@@ -132,3 +132,9 @@ pub cut_or_bad : {A : Type 0} (source : List ℕ) (ts : List Token) (p q : Place
 cut_or_bad source ts p q c d =
     let h = same_pieces c.0 d.0 source [] d.1 c.1 d.2 (inl refl) (inr (d.5, d.6)) in
     absurd (d.4 (sym h.1))
+
+-- the first byte that begins no token stands at one place
+pub bad_once : (source : List ℕ) (p q : Place) → IsBadByte source p → IsBadByte source q → p ≡ q
+bad_once source p q c d =
+    let h = same_pieces c.0 d.0 source c.1 d.1 c.2 d.2 (inr (c.5, c.6)) (inr (d.5, d.6)) in
+    c.3 ∙ ap (behind_all first_place) h.0 ∙ sym d.3

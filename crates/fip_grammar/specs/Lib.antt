@@ -4,3 +4,4 @@ pub mod WordView
 pub mod Claims
 pub mod Grammar
 pub mod Machine
+pub mod Limits

@@ -1,5 +1,15 @@
 //! The bodies of functions.
 
+ghost use Rattle.std.specs.Prelude.{◌≡◌, Bool, false, true, List, [], ◌∷◌, map, IfOk, Some, None, option_map};
+ghost use Rattle.std.specs.List.{All};
+ghost use Rattle.fip_language.specs.Surface as Surface;
+ghost use Rattle.fip_base.specs.SurfaceView.{bind as bind_view, block as block_view, written, action, acted, kept};
+ghost use Rattle.fip_grammar.specs.WordView.{word};
+ghost use Rattle.fip_grammar.specs.Token as Pure;
+ghost use Rattle.fip_grammar.specs.Machine as machine;
+ghost use Rattle.fip_parser.specs.StateView as view;
+ghost use Rattle.fip_parser.specs.StateView.{Leads, Follows};
+
 use crate::heading::wants_type;
 use crate::literal::{literal, negated_literal};
 use crate::operators::after_operand;
@@ -17,7 +27,9 @@ use fip_language::{Operator, Place};
 use std::alloc::{AllocError, Global};
 
 /// No operator waits.
-pub fn none_waits() -> Waiting {
+pub fn none_waits() -> Waiting
+    ensures { result ≡ view.nothing_waits }
+{
     Waiting {
         comparison: None,
         sum: None,
@@ -26,7 +38,11 @@ pub fn none_waits() -> Waiting {
 }
 
 /// Nothing is read yet.
-pub fn new_partial(alloc: Global) -> Partial {
+pub fn new_partial(alloc: Global) -> Partial
+    ensures new { (es : List Surface.Expression) → view.partial result es ≡ machine.new_partial }
+    ensures steps { view.left result.steps.items ≡ [] }
+    ensures well { view.IsWellPartial result [] }
+{
     Partial {
         lets: Vec::new(alloc),
         binds: None,
@@ -37,14 +53,21 @@ pub fn new_partial(alloc: Global) -> Partial {
 }
 
 /// A place in a body.
-pub fn stays_in_body(position: BodyPosition, body: Body) -> Result<Next, AllocError> {
+pub fn stays_in_body(position: BodyPosition, body: Body) -> Result<Next, AllocError>
+    requires well { view.IsWellIn position body }
+    ensures next { Leads result (machine.Stays (view.in_body position body)) }
+{
     Ok(Next::Stays {
         state: State::Body { position, body },
     })
 }
 
 /// A bracket is opened.
-pub fn enter(alloc: Global, body: Body, purpose: Use) -> Result<Body, AllocError> {
+pub fn enter(alloc: Global, body: Body, purpose: Use) -> Result<Body, AllocError>
+    requires well { view.IsWellWith body (view.behind_purpose purpose (view.operands body)) }
+    ensures inner { IfOk result (λ b. view.body b ≡ machine.enter (view.body_with body (view.behind_purpose purpose (view.operands body))) (view.purpose purpose (view.operands body))) }
+    ensures well { IfOk result (λ b. view.IsWellBody b) }
+{
     let Body {
         head,
         gives,
@@ -65,7 +88,10 @@ pub fn enter(alloc: Global, body: Body, purpose: Use) -> Result<Body, AllocError
 }
 
 // Behind an operand, which is this step.
-pub fn operand(step: Step, body: Body) -> Result<Next, AllocError> {
+pub fn operand(step: Step, body: Body) -> Result<Next, AllocError>
+    requires well { view.IsWellWith body (kept (action step) (view.operands body)) }
+    ensures next { Leads result (machine.in_body (machine.AtOperator (acted (action step) (view.operands body))) (view.body_with body (kept (action step) (view.operands body)))) }
+{
     let mut body = body;
     body.partial.steps.push(step)?;
     stays_in_body(BodyPosition::Operator, body)
@@ -77,7 +103,10 @@ pub fn step_body(
     position: BodyPosition,
     body: Body,
     token: Token,
-) -> Result<Next, AllocError> {
+) -> Result<Next, AllocError>
+    requires well { view.IsWellIn position body }
+    ensures next { Follows (view.is_negated position) token.entry result (machine.step (view.in_body position body)) }
+{
     match position {
         BodyPosition::Block => block_start(alloc, body, token),
         BodyPosition::LetStart => let_start(alloc, body, token),
@@ -113,7 +142,10 @@ pub fn step_body(
     }
 }
 
-fn block_start(alloc: Global, body: Body, token: Token) -> Result<Next, AllocError> {
+fn block_start(alloc: Global, body: Body, token: Token) -> Result<Next, AllocError>
+    requires well { view.IsWellBody body }
+    ensures next { Follows false token.entry result (machine.step_body machine.AtBlock (view.body body)) }
+{
     match token.word {
         Word::Sign(Sign::Let) => stays_in_body(BodyPosition::LetStart, body),
         _ => operand_start(alloc, start_expression(alloc, body, None), token),
@@ -121,7 +153,11 @@ fn block_start(alloc: Global, body: Body, token: Token) -> Result<Next, AllocErr
 }
 
 // An expression of a block begins: it is bound to these binds, or the block's last.
-fn start_expression(alloc: Global, body: Body, binds: Option<Vec<Bind>>) -> Body {
+fn start_expression(alloc: Global, body: Body, binds: Option<Vec<Bind>>) -> Body
+    requires well { All view.IsWellLevel body.levels.items }
+    ensures started { view.body result ≡ view.started (view.body body) (view.bound_binds binds) }
+    ensures well { view.IsWellBody result }
+{
     let Body {
         head,
         gives,
@@ -150,7 +186,10 @@ fn start_expression(alloc: Global, body: Body, binds: Option<Vec<Bind>>) -> Body
     }
 }
 
-fn let_start(alloc: Global, body: Body, token: Token) -> Result<Next, AllocError> {
+fn let_start(alloc: Global, body: Body, token: Token) -> Result<Next, AllocError>
+    requires well { view.IsWellBody body }
+    ensures next { Follows false token.entry result (machine.step_body machine.LetStart (view.body body)) }
+{
     match token.word {
         Word::Sign(Sign::RoundOpen) => stays_in_body(
             BodyPosition::BindStart {
@@ -162,7 +201,10 @@ fn let_start(alloc: Global, body: Body, token: Token) -> Result<Next, AllocError
     }
 }
 
-fn bind_start(alloc: Global, binds: Binds, body: Body, token: Token) -> Result<Next, AllocError> {
+fn bind_start(alloc: Global, binds: Binds, body: Body, token: Token) -> Result<Next, AllocError>
+    requires well { view.IsWellBody body }
+    ensures next { Follows false token.entry result (machine.bind_start (view.binds binds) (view.body body)) }
+{
     let place = token.place;
     match token.word {
         Word::Lower(text) => stays_in_body(
@@ -192,7 +234,10 @@ fn bind_named(
     place: Place,
     body: Body,
     token: Token,
-) -> Result<Next, AllocError> {
+) -> Result<Next, AllocError>
+    requires well { view.IsWellBody body }
+    ensures next { Follows false token.entry result (machine.step_body (machine.BindNamed (view.binds binds) name.items place) (view.body body)) }
+{
     match token.word {
         Word::Sign(Sign::Colon) => wants_type(
             alloc,
@@ -224,7 +269,10 @@ pub fn end_bind(
     binds: Binds,
     bind: Bind,
     token: Token,
-) -> Result<Next, AllocError> {
+) -> Result<Next, AllocError>
+    requires well { view.IsWellBody body }
+    ensures next { Follows false token.entry result (λ w p. machine.end_bind (view.body body) (view.binds binds) (bind_view bind) w) }
+{
     match binds {
         Binds::Alone => {
             let mut binds = Vec::new(alloc);
@@ -240,7 +288,10 @@ fn end_bracketed_bind(
     done: Vec<Bind>,
     bind: Bind,
     token: Token,
-) -> Result<Next, AllocError> {
+) -> Result<Next, AllocError>
+    requires well { view.IsWellBody body }
+    ensures next { Follows false token.entry result (λ w p. machine.end_bind (view.body body) (machine.Bracketed (map bind_view done.items)) (bind_view bind) w) }
+{
     let is_first = done.is_empty();
     let mut done = done;
     done.push(bind)?;
@@ -256,12 +307,10 @@ fn end_bracketed_bind(
     }
 }
 
-fn let_equals(
-    alloc: Global,
-    binds: Vec<Bind>,
-    body: Body,
-    token: Token,
-) -> Result<Next, AllocError> {
+fn let_equals(alloc: Global, binds: Vec<Bind>, body: Body, token: Token) -> Result<Next, AllocError>
+    requires well { view.IsWellBody body }
+    ensures next { Follows false token.entry result (λ w p. machine.let_equals (map bind_view binds.items) (view.body body) w) }
+{
     match token.word {
         Word::Sign(Sign::Equals) => {
             stays_in_body(
@@ -274,7 +323,10 @@ fn let_equals(
 }
 
 // The first token of an operand.
-fn operand_start(alloc: Global, body: Body, token: Token) -> Result<Next, AllocError> {
+fn operand_start(alloc: Global, body: Body, token: Token) -> Result<Next, AllocError>
+    requires well { view.IsWellBody body }
+    ensures next { Follows false token.entry result (machine.operand_start (view.body body)) }
+{
     let place = token.place;
     match token.word {
         Word::Lower(text) => stays_in_body(
@@ -301,7 +353,10 @@ fn operand_start(alloc: Global, body: Body, token: Token) -> Result<Next, AllocE
     }
 }
 
-fn operand_sign(sign: Sign, place: Place, body: Body) -> Result<Next, AllocError> {
+fn operand_sign(sign: Sign, place: Place, body: Body) -> Result<Next, AllocError>
+    requires well { view.IsWellBody body }
+    ensures next { Leads result (machine.operand_start (view.body body) (Pure.Mark sign) place) }
+{
     match sign {
         Sign::RoundOpen => stays_in_body(BodyPosition::Parenthesis { place }, body),
         Sign::Match => open_match(false, place, body),
@@ -317,7 +372,10 @@ fn operand_sign(sign: Sign, place: Place, body: Body) -> Result<Next, AllocError
     }
 }
 
-fn open_match(destructive: bool, place: Place, body: Body) -> Result<Next, AllocError> {
+fn open_match(destructive: bool, place: Place, body: Body) -> Result<Next, AllocError>
+    requires well { view.IsWellBody body }
+    ensures next { Leads result (machine.in_body machine.AtOperand (machine.with_opener (view.body body) (machine.MatchOpener (view.body body).partial.waiting destructive place))) }
+{
     let mut body = body;
     let waiting = body.partial.waiting;
     body.partial.waiting = none_waits();
@@ -335,7 +393,10 @@ fn lower_name(
     place: Place,
     body: Body,
     token: Token,
-) -> Result<Next, AllocError> {
+) -> Result<Next, AllocError>
+    requires well { view.IsWellBody body }
+    ensures next { Follows false token.entry result (machine.step_body (machine.LowerName name.items place) (view.body body)) }
+{
     match token.word {
         Word::Sign(Sign::SquareOpen) => wants_type(
             alloc,
@@ -368,7 +429,10 @@ fn call_open(
     statics: Vec<Written>,
     body: Body,
     token: Token,
-) -> Result<Next, AllocError> {
+) -> Result<Next, AllocError>
+    requires well { view.IsWellBody body }
+    ensures next { Follows false token.entry result (machine.step_body (machine.CallOpen name.items place (map written statics.items)) (view.body body)) }
+{
     match token.word {
         Word::Sign(Sign::RoundOpen) => stays_in_body(
             BodyPosition::ArgumentFirst {
@@ -389,7 +453,10 @@ fn argument_first(
     statics: Vec<Written>,
     body: Body,
     token: Token,
-) -> Result<Next, AllocError> {
+) -> Result<Next, AllocError>
+    requires well { view.IsWellBody body }
+    ensures next { Follows false token.entry result (machine.step_body (machine.ArgumentFirst name.items place (map written statics.items)) (view.body body)) }
+{
     match token.word {
         Word::Sign(Sign::RoundClose) => operand(
             Step::Call {
@@ -422,7 +489,10 @@ fn upper_name(
     place: Place,
     body: Body,
     token: Token,
-) -> Result<Next, AllocError> {
+) -> Result<Next, AllocError>
+    requires well { view.IsWellBody body }
+    ensures next { Follows false token.entry result (machine.step_body (machine.UpperName name.items place) (view.body body)) }
+{
     match token.word {
         Word::Sign(Sign::RoundOpen) => {
             let inner = enter(
@@ -448,7 +518,10 @@ fn upper_name(
     }
 }
 
-fn minus(place: Place, body: Body, token: Token) -> Result<Next, AllocError> {
+fn minus(place: Place, body: Body, token: Token) -> Result<Next, AllocError>
+    requires well { view.IsWellBody body }
+    ensures next { Follows true token.entry result (machine.step_body (machine.Minus place) (view.body body)) }
+{
     match token.word {
         Word::Int(digits) => match negated_literal(digits) {
             Some(value) => operand(Step::Literal { value, place }, body),
@@ -458,7 +531,10 @@ fn minus(place: Place, body: Body, token: Token) -> Result<Next, AllocError> {
     }
 }
 
-fn parenthesis(alloc: Global, place: Place, body: Body, token: Token) -> Result<Next, AllocError> {
+fn parenthesis(alloc: Global, place: Place, body: Body, token: Token) -> Result<Next, AllocError>
+    requires well { view.IsWellBody body }
+    ensures next { Follows false token.entry result (machine.step_body (machine.Parenthesis place) (view.body body)) }
+{
     match token.word {
         Word::Sign(Sign::Let) => stays_in_body(
             BodyPosition::LetStart,
@@ -474,23 +550,29 @@ fn parenthesis(alloc: Global, place: Place, body: Body, token: Token) -> Result<
 
 fn clause_next(
     alloc: Global,
-    open: OpenMatch,
+    clauses: OpenMatch,
     body: Body,
     token: Token,
-) -> Result<Next, AllocError> {
+) -> Result<Next, AllocError>
+    requires well { view.IsWellUnder body }
+    ensures next { Follows false token.entry result (machine.step_body (machine.ClauseNext (view.open_match clauses (view.operand body))) (view.under_operand body)) }
+{
     match token.word {
-        Word::Sign(Sign::CurlyClose) => close_match(open, body),
-        _ => pattern_wanted(alloc, Vec::new(alloc), body, open, token),
+        Word::Sign(Sign::CurlyClose) => close_match(clauses, body),
+        _ => pattern_wanted(alloc, Vec::new(alloc), body, clauses, token),
     }
 }
 
 // The end of a match.
-pub fn close_match(open: OpenMatch, body: Body) -> Result<Next, AllocError> {
+pub fn close_match(clauses: OpenMatch, body: Body) -> Result<Next, AllocError>
+    requires well { view.IsWellUnder body }
+    ensures next { Leads result (machine.close_match (view.open_match clauses (view.operand body)) (view.under_operand body)) }
+{
     let OpenMatch {
         destructive,
         place,
         clauses,
-    } = open;
+    } = clauses;
     operand(
         Step::Match {
             destructive,
@@ -501,7 +583,10 @@ pub fn close_match(open: OpenMatch, body: Body) -> Result<Next, AllocError> {
     )
 }
 
-fn else_keyword(place: Place, yes: Block, body: Body, token: Token) -> Result<Next, AllocError> {
+fn else_keyword(place: Place, yes: Block, body: Body, token: Token) -> Result<Next, AllocError>
+    requires well { view.IsWellUnder body }
+    ensures next { Follows false token.entry result (machine.step_body (machine.Else place (view.operand body) (block_view yes)) (view.under_operand body)) }
+{
     match token.word {
         Word::Sign(Sign::Else) => stays_in_body(BodyPosition::ElseOpen { place, yes }, body),
         _ => Ok(Next::Refused),
@@ -514,7 +599,10 @@ fn else_open(
     yes: Block,
     body: Body,
     token: Token,
-) -> Result<Next, AllocError> {
+) -> Result<Next, AllocError>
+    requires well { view.IsWellUnder body }
+    ensures next { Follows false token.entry result (machine.step_body (machine.ElseOpen place (view.operand body) (block_view yes)) (view.under_operand body)) }
+{
     match token.word {
         Word::Sign(Sign::CurlyOpen) => stays_in_body(
             BodyPosition::Block,

@@ -1,33 +1,48 @@
 //! The heads of declarations.
 
+ghost use Rattle.std.specs.Prelude.{◌≡◌, Bool, false, true, List, [], ◌∷◌, map, IfOk, Some, None};
+ghost use Rattle.fip_language.specs.Surface as Surface;
+ghost use Rattle.fip_base.specs.SurfaceView.{result_type};
+ghost use Rattle.fip_grammar.specs.Token as Pure;
+ghost use Rattle.fip_grammar.specs.Machine as machine;
+ghost use Rattle.fip_parser.specs.StateView as view;
+ghost use Rattle.fip_parser.specs.StateView.{Leads, Follows};
+
 use crate::body::new_partial;
 use crate::state::{
     Body, BodyPosition, DataHead, DataHeading, FunctionHead, FunctionHeading, Next, ResultOwner,
     Signature, State, TypePosition, TypeUse,
 };
-use fip_base::surface::{Data, DataConstructor, Declaration, ResultType, Static, TypeName};
 use crate::types::step_type;
+use fip_base::surface::{Data, DataConstructor, Declaration, ResultType, Static, TypeName};
 use fip_grammar::Sign;
 use fip_grammar::token::{Token, Word};
 use fip_language::{FunKind, Place};
 use std::alloc::{AllocError, Global};
 
 // A place in a function's head.
-pub fn stays(heading: FunctionHeading) -> Result<Next, AllocError> {
+pub fn stays(heading: FunctionHeading) -> Result<Next, AllocError>
+    ensures next { Leads result (machine.in_function (view.function_heading heading)) }
+{
     Ok(Next::Stays {
         state: State::Function { heading },
     })
 }
 
 // A place in a data type.
-pub fn stays_in_data(heading: DataHeading) -> Result<Next, AllocError> {
+pub fn stays_in_data(heading: DataHeading) -> Result<Next, AllocError>
+    ensures next { Leads result (machine.in_data (view.data_heading heading)) }
+{
     Ok(Next::Stays {
         state: State::Data { heading },
     })
 }
 
 // A type comes next.
-pub fn wants_type(alloc: Global, purpose: TypeUse) -> Result<Next, AllocError> {
+pub fn wants_type(alloc: Global, purpose: TypeUse) -> Result<Next, AllocError>
+    requires well { view.IsWellUse purpose }
+    ensures next { Leads result (machine.wants_type (view.type_use purpose)) }
+{
     Ok(Next::Stays {
         state: State::Typing {
             position: TypePosition::Wanted,
@@ -38,7 +53,9 @@ pub fn wants_type(alloc: Global, purpose: TypeUse) -> Result<Next, AllocError> {
 }
 
 // Between two declarations.
-pub fn step_top(token: Token) -> Result<Next, AllocError> {
+pub fn step_top(token: Token) -> Result<Next, AllocError>
+    ensures next { Follows false token.entry result (machine.step_top) }
+{
     match token.word {
         Word::Sign(Sign::Data) => stays_in_data(DataHeading::DataName),
         Word::Sign(Sign::Fip) => stays(FunctionHeading::FunctionKeyword { kind: FunKind::Fip }),
@@ -50,14 +67,18 @@ pub fn step_top(token: Token) -> Result<Next, AllocError> {
     }
 }
 
-fn function_keyword(kind: FunKind, token: Token) -> Result<Next, AllocError> {
+fn function_keyword(kind: FunKind, token: Token) -> Result<Next, AllocError>
+    ensures next { Follows false token.entry result (machine.step_function (machine.FunctionKeyword kind)) }
+{
     match token.word {
         Word::Sign(Sign::Fun) => stays(FunctionHeading::FunctionName { kind }),
         _ => Ok(Next::Refused),
     }
 }
 
-fn function_name(alloc: Global, kind: FunKind, token: Token) -> Result<Next, AllocError> {
+fn function_name(alloc: Global, kind: FunKind, token: Token) -> Result<Next, AllocError>
+    ensures next { Follows false token.entry result (machine.step_function (machine.FunctionName kind)) }
+{
     match token.word {
         Word::Lower(text) => {
             let name = text.to_vec(alloc)?;
@@ -75,7 +96,9 @@ fn function_name(alloc: Global, kind: FunKind, token: Token) -> Result<Next, All
     }
 }
 
-fn function_start(head: FunctionHead, token: Token) -> Result<Next, AllocError> {
+fn function_start(head: FunctionHead, token: Token) -> Result<Next, AllocError>
+    ensures next { Follows false token.entry result (machine.step_function (machine.FunctionStart (view.function_head head))) }
+{
     match token.word {
         Word::Sign(Sign::SquareOpen) => stays(FunctionHeading::StaticName { head }),
         Word::Sign(Sign::RoundOpen) => stays(FunctionHeading::ParameterFirst { head }),
@@ -83,7 +106,9 @@ fn function_start(head: FunctionHead, token: Token) -> Result<Next, AllocError> 
     }
 }
 
-fn static_name(alloc: Global, head: FunctionHead, token: Token) -> Result<Next, AllocError> {
+fn static_name(alloc: Global, head: FunctionHead, token: Token) -> Result<Next, AllocError>
+    ensures next { Follows false token.entry result (machine.step_function (machine.StaticName (view.function_head head))) }
+{
     match token.word {
         Word::Lower(text) => stays(FunctionHeading::StaticStart {
             head,
@@ -95,7 +120,9 @@ fn static_name(alloc: Global, head: FunctionHead, token: Token) -> Result<Next, 
 }
 
 // What a static parameter's end leads to.
-pub fn static_end(head: FunctionHead, token: Token) -> Result<Next, AllocError> {
+pub fn static_end(head: FunctionHead, token: Token) -> Result<Next, AllocError>
+    ensures next { Follows false token.entry result (λ w p. machine.static_end (view.function_head head) w) }
+{
     match token.word {
         Word::Sign(Sign::Comma) => stays(FunctionHeading::StaticName { head }),
         Word::Sign(Sign::SquareClose) => stays(FunctionHeading::ParametersOpen { head }),
@@ -109,25 +136,33 @@ fn static_start(
     name: Vec<u8>,
     place: Place,
     token: Token,
-) -> Result<Next, AllocError> {
-    if let Word::Sign(Sign::Colon) = token.word {
-        let signature = Signature {
-            name,
-            place,
-            parameters: Vec::new(alloc),
-        };
-        return stays(FunctionHeading::SignatureKeyword { head, signature });
+) -> Result<Next, AllocError>
+    ensures next { Follows false token.entry result (machine.step_function (machine.StaticStart (view.function_head head) name.items place)) }
+{
+    match token.word {
+        Word::Sign(Sign::Colon) => {
+            let signature = Signature {
+                name,
+                place,
+                parameters: Vec::new(alloc),
+            };
+            stays(FunctionHeading::SignatureKeyword { head, signature })
+        }
+        _ => {
+            let mut head = head;
+            head.statics.push(Static::Type { name, place })?;
+            static_end(head, token)
+        }
     }
-    let mut head = head;
-    head.statics.push(Static::Type { name, place })?;
-    static_end(head, token)
 }
 
 fn signature_keyword(
     head: FunctionHead,
     signature: Signature,
     token: Token,
-) -> Result<Next, AllocError> {
+) -> Result<Next, AllocError>
+    ensures next { Follows false token.entry result (machine.step_function (machine.SignatureKeyword (view.function_head head) (view.signature signature))) }
+{
     match token.word {
         Word::Sign(Sign::Fun) => stays(FunctionHeading::SignatureOpen { head, signature }),
         _ => Ok(Next::Refused),
@@ -138,7 +173,9 @@ fn signature_open(
     head: FunctionHead,
     signature: Signature,
     token: Token,
-) -> Result<Next, AllocError> {
+) -> Result<Next, AllocError>
+    ensures next { Follows false token.entry result (machine.step_function (machine.SignatureOpen (view.function_head head) (view.signature signature))) }
+{
     match token.word {
         Word::Sign(Sign::RoundOpen) => stays(FunctionHeading::SignatureFirst { head, signature }),
         _ => Ok(Next::Refused),
@@ -150,7 +187,9 @@ fn signature_next(
     head: FunctionHead,
     signature: Signature,
     token: Token,
-) -> Result<Next, AllocError> {
+) -> Result<Next, AllocError>
+    ensures next { Follows false token.entry result (machine.signature_next (view.function_head head) (view.signature signature)) }
+{
     match token.word {
         Word::Sign(Sign::Caret) => wants_type(
             alloc,
@@ -177,7 +216,9 @@ fn signature_first(
     head: FunctionHead,
     signature: Signature,
     token: Token,
-) -> Result<Next, AllocError> {
+) -> Result<Next, AllocError>
+    ensures next { Follows false token.entry result (machine.step_function (machine.SignatureFirst (view.function_head head) (view.signature signature))) }
+{
     match token.word {
         Word::Sign(Sign::RoundClose) => stays(FunctionHeading::SignatureColon { head, signature }),
         _ => signature_next(alloc, head, signature, token),
@@ -188,7 +229,9 @@ fn signature_colon(
     head: FunctionHead,
     signature: Signature,
     token: Token,
-) -> Result<Next, AllocError> {
+) -> Result<Next, AllocError>
+    ensures next { Follows false token.entry result (machine.step_function (machine.SignatureColon (view.function_head head) (view.signature signature))) }
+{
     match token.word {
         Word::Sign(Sign::Colon) => stays(FunctionHeading::ResultStart {
             owner: ResultOwner::Signature { head, signature },
@@ -197,7 +240,9 @@ fn signature_colon(
     }
 }
 
-fn result_start(alloc: Global, owner: ResultOwner, token: Token) -> Result<Next, AllocError> {
+fn result_start(alloc: Global, owner: ResultOwner, token: Token) -> Result<Next, AllocError>
+    ensures next { Follows false token.entry result (machine.step_function (machine.ResultStart (view.result_owner owner))) }
+{
     match token.word {
         Word::Sign(Sign::RoundOpen) => wants_type(
             alloc,
@@ -212,11 +257,16 @@ fn result_start(alloc: Global, owner: ResultOwner, token: Token) -> Result<Next,
 }
 
 // The first token of a type.
-fn first_of_type(alloc: Global, purpose: TypeUse, token: Token) -> Result<Next, AllocError> {
+fn first_of_type(alloc: Global, purpose: TypeUse, token: Token) -> Result<Next, AllocError>
+    requires well { view.IsWellUse purpose }
+    ensures next { Follows false token.entry result (machine.type_wanted [] (view.type_use purpose)) }
+{
     step_type(alloc, TypePosition::Wanted, Vec::new(alloc), purpose, token)
 }
 
-fn parameters_open(head: FunctionHead, token: Token) -> Result<Next, AllocError> {
+fn parameters_open(head: FunctionHead, token: Token) -> Result<Next, AllocError>
+    ensures next { Follows false token.entry result (machine.step_function (machine.ParametersOpen (view.function_head head))) }
+{
     match token.word {
         Word::Sign(Sign::RoundOpen) => stays(FunctionHeading::ParameterFirst { head }),
         _ => Ok(Next::Refused),
@@ -228,7 +278,9 @@ fn parameter_name(
     head: FunctionHead,
     lent: bool,
     token: Token,
-) -> Result<Next, AllocError> {
+) -> Result<Next, AllocError>
+    ensures next { Follows false token.entry result (machine.parameter_name (view.function_head head) lent) }
+{
     match token.word {
         Word::Lower(text) => stays(FunctionHeading::ParameterColon {
             head,
@@ -240,14 +292,18 @@ fn parameter_name(
     }
 }
 
-fn parameter_next(alloc: Global, head: FunctionHead, token: Token) -> Result<Next, AllocError> {
+fn parameter_next(alloc: Global, head: FunctionHead, token: Token) -> Result<Next, AllocError>
+    ensures next { Follows false token.entry result (machine.parameter_next (view.function_head head)) }
+{
     match token.word {
         Word::Sign(Sign::Caret) => stays(FunctionHeading::ParameterName { head }),
         _ => parameter_name(alloc, head, false, token),
     }
 }
 
-fn parameter_first(alloc: Global, head: FunctionHead, token: Token) -> Result<Next, AllocError> {
+fn parameter_first(alloc: Global, head: FunctionHead, token: Token) -> Result<Next, AllocError>
+    ensures next { Follows false token.entry result (machine.step_function (machine.ParameterFirst (view.function_head head))) }
+{
     match token.word {
         Word::Sign(Sign::RoundClose) => stays(FunctionHeading::ResultColon { head }),
         _ => parameter_next(alloc, head, token),
@@ -261,7 +317,9 @@ fn parameter_colon(
     name: Vec<u8>,
     place: Place,
     token: Token,
-) -> Result<Next, AllocError> {
+) -> Result<Next, AllocError>
+    ensures next { Follows false token.entry result (machine.step_function (machine.ParameterColon (view.function_head head) lent name.items place)) }
+{
     match token.word {
         Word::Sign(Sign::Colon) => wants_type(
             alloc,
@@ -276,7 +334,9 @@ fn parameter_colon(
     }
 }
 
-fn result_colon(head: FunctionHead, token: Token) -> Result<Next, AllocError> {
+fn result_colon(head: FunctionHead, token: Token) -> Result<Next, AllocError>
+    ensures next { Follows false token.entry result (machine.step_function (machine.ResultColon (view.function_head head))) }
+{
     match token.word {
         Word::Sign(Sign::Colon) => stays(FunctionHeading::ResultStart {
             owner: ResultOwner::Function { head },
@@ -291,7 +351,9 @@ pub fn body_open(
     head: FunctionHead,
     gives: ResultType,
     token: Token,
-) -> Result<Next, AllocError> {
+) -> Result<Next, AllocError>
+    ensures next { Follows false token.entry result (λ w p. machine.body_open (view.function_head head) (result_type gives) w) }
+{
     match token.word {
         Word::Sign(Sign::CurlyOpen) => {
             let body = Body {
@@ -311,7 +373,9 @@ pub fn body_open(
     }
 }
 
-fn data_name(alloc: Global, token: Token) -> Result<Next, AllocError> {
+fn data_name(alloc: Global, token: Token) -> Result<Next, AllocError>
+    ensures next { Follows false token.entry result (machine.step_data machine.DataName) }
+{
     match token.word {
         Word::Lower(text) => {
             let name = text.to_vec(alloc)?;
@@ -327,7 +391,9 @@ fn data_name(alloc: Global, token: Token) -> Result<Next, AllocError> {
     }
 }
 
-fn data_start(data: DataHead, token: Token) -> Result<Next, AllocError> {
+fn data_start(data: DataHead, token: Token) -> Result<Next, AllocError>
+    ensures next { Follows false token.entry result (machine.step_data (machine.DataStart (view.data_head «data»))) }
+{
     match token.word {
         Word::Sign(Sign::SquareOpen) => stays_in_data(DataHeading::DataParameter { data }),
         Word::Sign(Sign::CurlyOpen) => stays_in_data(DataHeading::ConstructorFirst { data }),
@@ -335,7 +401,9 @@ fn data_start(data: DataHead, token: Token) -> Result<Next, AllocError> {
     }
 }
 
-fn data_parameter(alloc: Global, data: DataHead, token: Token) -> Result<Next, AllocError> {
+fn data_parameter(alloc: Global, data: DataHead, token: Token) -> Result<Next, AllocError>
+    ensures next { Follows false token.entry result (machine.step_data (machine.DataParameter (view.data_head «data»))) }
+{
     match token.word {
         Word::Lower(text) => {
             let mut data = data;
@@ -350,7 +418,9 @@ fn data_parameter(alloc: Global, data: DataHead, token: Token) -> Result<Next, A
     }
 }
 
-fn data_parameter_end(data: DataHead, token: Token) -> Result<Next, AllocError> {
+fn data_parameter_end(data: DataHead, token: Token) -> Result<Next, AllocError>
+    ensures next { Follows false token.entry result (machine.step_data (machine.DataParameterEnd (view.data_head «data»))) }
+{
     match token.word {
         Word::Sign(Sign::Comma) => stays_in_data(DataHeading::DataParameter { data }),
         Word::Sign(Sign::SquareClose) => stays_in_data(DataHeading::DataOpen { data }),
@@ -358,14 +428,18 @@ fn data_parameter_end(data: DataHead, token: Token) -> Result<Next, AllocError> 
     }
 }
 
-fn data_open(data: DataHead, token: Token) -> Result<Next, AllocError> {
+fn data_open(data: DataHead, token: Token) -> Result<Next, AllocError>
+    ensures next { Follows false token.entry result (machine.step_data (machine.DataOpen (view.data_head «data»))) }
+{
     match token.word {
         Word::Sign(Sign::CurlyOpen) => stays_in_data(DataHeading::ConstructorFirst { data }),
         _ => Ok(Next::Refused),
     }
 }
 
-fn constructor_first(alloc: Global, data: DataHead, token: Token) -> Result<Next, AllocError> {
+fn constructor_first(alloc: Global, data: DataHead, token: Token) -> Result<Next, AllocError>
+    ensures next { Follows false token.entry result (machine.constructor_first (view.data_head «data»)) }
+{
     match token.word {
         Word::Upper(text) => stays_in_data(DataHeading::ConstructorStart {
             data,
@@ -377,7 +451,9 @@ fn constructor_first(alloc: Global, data: DataHead, token: Token) -> Result<Next
 }
 
 // The end of a data type.
-fn data_close(data: DataHead) -> Result<Next, AllocError> {
+fn data_close(data: DataHead) -> Result<Next, AllocError>
+    ensures next { Leads result (machine.Declares (Surface.DataDeclaration (view.data_head «data»))) }
+{
     let DataHead {
         name,
         place,
@@ -395,14 +471,18 @@ fn data_close(data: DataHead) -> Result<Next, AllocError> {
     })
 }
 
-fn constructor_next(alloc: Global, data: DataHead, token: Token) -> Result<Next, AllocError> {
+fn constructor_next(alloc: Global, data: DataHead, token: Token) -> Result<Next, AllocError>
+    ensures next { Follows false token.entry result (machine.step_data (machine.ConstructorNext (view.data_head «data»))) }
+{
     match token.word {
         Word::Sign(Sign::CurlyClose) => data_close(data),
         _ => constructor_first(alloc, data, token),
     }
 }
 
-fn constructor_end(data: DataHead, token: Token) -> Result<Next, AllocError> {
+fn constructor_end(data: DataHead, token: Token) -> Result<Next, AllocError>
+    ensures next { Follows false token.entry result (λ w p. machine.constructor_end (view.data_head «data») w) }
+{
     match token.word {
         Word::Sign(Sign::Semicolon) => stays_in_data(DataHeading::ConstructorNext { data }),
         Word::Sign(Sign::CurlyClose) => data_close(data),
@@ -416,9 +496,11 @@ fn constructor_start(
     name: Vec<u8>,
     place: Place,
     token: Token,
-) -> Result<Next, AllocError> {
-    if let Word::Sign(Sign::RoundOpen) = token.word {
-        return wants_type(
+) -> Result<Next, AllocError>
+    ensures next { Follows false token.entry result (machine.step_data (machine.ConstructorStart (view.data_head «data») name.items place)) }
+{
+    match token.word {
+        Word::Sign(Sign::RoundOpen) => wants_type(
             alloc,
             TypeUse::Field {
                 data,
@@ -426,15 +508,17 @@ fn constructor_start(
                 place,
                 fields: Vec::new(alloc),
             },
-        );
+        ),
+        _ => {
+            let mut data = data;
+            data.constructors.push(DataConstructor {
+                name,
+                place,
+                fields: Vec::new(alloc),
+            })?;
+            constructor_end(data, token)
+        }
     }
-    let mut data = data;
-    data.constructors.push(DataConstructor {
-        name,
-        place,
-        fields: Vec::new(alloc),
-    })?;
-    constructor_end(data, token)
 }
 
 /// A token in the head of a function.
@@ -442,7 +526,9 @@ pub fn step_function(
     alloc: Global,
     heading: FunctionHeading,
     token: Token,
-) -> Result<Next, AllocError> {
+) -> Result<Next, AllocError>
+    ensures next { Follows false token.entry result (machine.step_function (view.function_heading heading)) }
+{
     match heading {
         FunctionHeading::FunctionKeyword { kind } => function_keyword(kind, token),
         FunctionHeading::FunctionName { kind } => function_name(alloc, kind, token),
@@ -484,7 +570,9 @@ pub fn step_function(
 }
 
 /// A token in a data type.
-pub fn step_data(alloc: Global, heading: DataHeading, token: Token) -> Result<Next, AllocError> {
+pub fn step_data(alloc: Global, heading: DataHeading, token: Token) -> Result<Next, AllocError>
+    ensures next { Follows false token.entry result (machine.step_data (view.data_heading heading)) }
+{
     match heading {
         DataHeading::DataName => data_name(alloc, token),
         DataHeading::DataStart { data } => data_start(data, token),

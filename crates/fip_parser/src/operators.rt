@@ -1,5 +1,13 @@
 //! Behind an operand: operators, and the end of an expression.
 
+ghost use Rattle.std.specs.Prelude.{◌≡◌, Bool, false, true, List, [], ◌∷◌, map, IfOk, Some, None};
+ghost use Rattle.std.specs.List.{All};
+ghost use Rattle.fip_base.specs.SurfaceView.{bind as bind_view, block as block_view, pattern as pattern_view, expression, written, result_type, top, below};
+ghost use Rattle.fip_grammar.specs.Token as Pure;
+ghost use Rattle.fip_grammar.specs.Machine as machine;
+ghost use Rattle.fip_parser.specs.StateView as view;
+ghost use Rattle.fip_parser.specs.StateView.{Leads, Follows};
+
 use crate::body::{close_match, enter, new_partial, none_waits, operand, stays_in_body};
 use crate::patterns::stays_in_pattern;
 use crate::state::{
@@ -23,7 +31,9 @@ pub enum Tightness {
 }
 
 /// How tightly an operator binds.
-pub fn tightness_of(operator: Operator) -> Tightness {
+pub fn tightness_of(operator: Operator) -> Tightness
+    ensures { view.tightness result ≡ machine.tightness_of operator }
+{
     match operator {
         Operator::Multiply | Operator::Divide | Operator::Remainder => Tightness::Product,
         Operator::Add | Operator::Subtract => Tightness::Sum,
@@ -32,7 +42,10 @@ pub fn tightness_of(operator: Operator) -> Tightness {
 }
 
 // The operation of an operator that waited is done.
-fn apply(steps: Vec<Step>, pending: Option<Pending>) -> Result<Vec<Step>, AllocError> {
+fn apply(steps: Vec<Step>, pending: Option<Pending>) -> Result<Vec<Step>, AllocError>
+    ensures top { IfOk result (λ r. top (view.left r.items) ≡ machine.applied (view.pending pending (below (view.left steps.items))) (top (view.left steps.items))) }
+    ensures below { IfOk result (λ r. below (view.left r.items) ≡ view.behind_pending pending (below (view.left steps.items))) }
+{
     match pending {
         None => Ok(steps),
         Some(pending) => {
@@ -47,7 +60,10 @@ fn apply(steps: Vec<Step>, pending: Option<Pending>) -> Result<Vec<Step>, AllocE
 }
 
 /// Behind an operand.
-pub fn after_operand(alloc: Global, body: Body, token: Token) -> Result<Next, AllocError> {
+pub fn after_operand(alloc: Global, body: Body, token: Token) -> Result<Next, AllocError>
+    requires well { view.IsWellUnder body }
+    ensures next { Follows false token.entry result (machine.after_operand (view.under_operand body) (view.operand body)) }
+{
     match token.word {
         Word::Operator(operator) => after_operator(body, operator, token.place),
         Word::Sign(sign) => end_expression(alloc, body, sign),
@@ -55,7 +71,10 @@ pub fn after_operand(alloc: Global, body: Body, token: Token) -> Result<Next, Al
     }
 }
 
-fn after_operator(body: Body, operator: Operator, place: Place) -> Result<Next, AllocError> {
+fn after_operator(body: Body, operator: Operator, place: Place) -> Result<Next, AllocError>
+    requires well { view.IsWellUnder body }
+    ensures next { Leads result (machine.after_operator (machine.tightness_of operator) (view.under_operand body) (view.operand body) operator place) }
+{
     let Body {
         head,
         gives,
@@ -155,7 +174,10 @@ fn after_operator(body: Body, operator: Operator, place: Place) -> Result<Next, 
 }
 
 // The end of an expression: all operators that wait are done.
-fn end_expression(alloc: Global, body: Body, sign: Sign) -> Result<Next, AllocError> {
+fn end_expression(alloc: Global, body: Body, sign: Sign) -> Result<Next, AllocError>
+    requires well { view.IsWellUnder body }
+    ensures next { Leads result (view.ended (view.under_operand body) (view.operand body) sign) }
+{
     let Body {
         head,
         gives,
@@ -229,7 +251,10 @@ fn end_expression(alloc: Global, body: Body, sign: Sign) -> Result<Next, AllocEr
 }
 
 // The end of a scrutinee or a condition.
-fn end_head(alloc: Global, body: Body, opener: Opener, sign: Sign) -> Result<Next, AllocError> {
+fn end_head(alloc: Global, body: Body, opener: Opener, sign: Sign) -> Result<Next, AllocError>
+    requires well { view.IsWellUnder (view.inside body opener) }
+    ensures next { Leads result (machine.end_head (view.under_operand (view.inside body opener)) (view.opener opener (below (view.operands body))) (view.operand body) sign) }
+{
     let mut body = body;
     match sign {
         Sign::CurlyOpen => match opener {
@@ -256,7 +281,11 @@ fn end_head(alloc: Global, body: Body, opener: Opener, sign: Sign) -> Result<Nex
 }
 
 // The end of a let's bound expression.
-fn end_bound(alloc: Global, body: Body, binds: Vec<Bind>, sign: Sign) -> Result<Next, AllocError> {
+fn end_bound(alloc: Global, body: Body, binds: Vec<Bind>, sign: Sign) -> Result<Next, AllocError>
+    requires levels { All view.IsWellLevel body.levels.items }
+    requires whole { below (view.operands body) ≡ [] }
+    ensures next { Leads result (machine.end_bound (view.body body) (map bind_view binds.items) (view.operand body) sign) }
+{
     match sign {
         Sign::Semicolon => {
             let Body {
@@ -269,8 +298,8 @@ fn end_bound(alloc: Global, body: Body, binds: Vec<Bind>, sign: Sign) -> Result<
                 lets,
                 binds: _,
                 steps,
-                openers,
-                waiting,
+                openers: _,
+                waiting: _,
             } = partial;
             let mut lets = lets;
             lets.push(Let {
@@ -281,8 +310,8 @@ fn end_bound(alloc: Global, body: Body, binds: Vec<Bind>, sign: Sign) -> Result<
                 lets,
                 binds: None,
                 steps: Vec::new(alloc),
-                openers,
-                waiting,
+                openers: Vec::new(alloc),
+                waiting: none_waits(),
             };
             stays_in_body(
                 BodyPosition::Block,
@@ -306,7 +335,10 @@ fn end_last(
     levels: Vec<Level>,
     block: Block,
     sign: Sign,
-) -> Result<Next, AllocError> {
+) -> Result<Next, AllocError>
+    requires levels { All view.IsWellLevel levels.items }
+    ensures next { Leads result (machine.end_last (view.function_head head) (result_type gives) (view.levels levels.items) (block_view block) sign) }
+{
     let mut levels = levels;
     match levels.pop() {
         None => end_body(head, gives, block, sign),
@@ -328,7 +360,9 @@ fn end_body(
     gives: ResultType,
     body: Block,
     sign: Sign,
-) -> Result<Next, AllocError> {
+) -> Result<Next, AllocError>
+    ensures next { Leads result (machine.end_body (view.function_head head) (result_type gives) (block_view body) sign) }
+{
     match sign {
         Sign::CurlyClose => {
             let FunctionHead {
@@ -362,36 +396,24 @@ fn end_level(
     purpose: Use,
     block: Block,
     sign: Sign,
-) -> Result<Next, AllocError> {
+) -> Result<Next, AllocError>
+    requires well { view.IsWellWith body (view.behind_purpose purpose (view.operands body)) }
+    ensures next { Leads result (machine.end_level (view.body_with body (view.behind_purpose purpose (view.operands body))) (view.purpose purpose (view.operands body)) (block_view block) sign) }
+{
     match purpose {
         Use::Arguments {
             name,
             place,
             statics,
             done,
-        } => end_argument(
-            alloc,
-            body,
-            name,
-            place,
-            statics,
-            with_part(done, block)?,
-            sign,
-        ),
-        Use::Fields { name, place, done } => end_field(
-            alloc,
-            body,
-            name,
-            place,
-            with_part(done, block)?,
-            sign,
-        ),
+        } => end_argument(alloc, body, name, place, statics, done, block, sign),
+        Use::Fields { name, place, done } => end_field(alloc, body, name, place, done, block, sign),
         Use::Parenthesis { place } => end_parenthesis(alloc, body, place, block, sign),
         Use::Bracket => match sign {
             Sign::RoundClose => operand(Step::Bracket { block }, body),
             _ => Ok(Next::Refused),
         },
-        Use::Tuple { place, done } => end_part(alloc, body, place, with_part(done, block)?, sign),
+        Use::Tuple { place, done } => end_part(alloc, body, place, done, block, sign),
         Use::Clause { open, pattern } => end_clause(open, pattern, body, block, sign),
         Use::Yes { place } => match sign {
             Sign::CurlyClose => stays_in_body(BodyPosition::Else { place, yes: block }, body),
@@ -412,7 +434,9 @@ fn end_level(
 }
 
 // One part more. What stands in no block has no lets.
-fn with_part(done: Vec<Expression>, block: Block) -> Result<Vec<Expression>, AllocError> {
+fn with_part(done: Vec<Expression>, block: Block) -> Result<Vec<Expression>, AllocError>
+    ensures { IfOk result (λ es. map expression es.items ≡ machine.part (block_view block) (map expression done.items)) }
+{
     let Block { lets: _, last } = block;
     let mut done = done;
     done.push(last)?;
@@ -426,8 +450,13 @@ fn end_argument(
     place: Place,
     statics: Vec<Written>,
     done: Vec<Expression>,
+    block: Block,
     sign: Sign,
-) -> Result<Next, AllocError> {
+) -> Result<Next, AllocError>
+    requires well { view.IsWellBody body }
+    ensures next { Leads result (machine.end_level (view.body body) (machine.ForArguments name.items place (map written statics.items) (map expression done.items)) (block_view block) sign) }
+{
+    let done = with_part(done, block)?;
     match sign {
         Sign::Comma => stays_in_body(
             BodyPosition::Operand,
@@ -461,8 +490,13 @@ fn end_field(
     name: Vec<u8>,
     place: Place,
     done: Vec<Expression>,
+    block: Block,
     sign: Sign,
-) -> Result<Next, AllocError> {
+) -> Result<Next, AllocError>
+    requires well { view.IsWellBody body }
+    ensures next { Leads result (machine.end_level (view.body body) (machine.ForFields name.items place (map expression done.items)) (block_view block) sign) }
+{
+    let done = with_part(done, block)?;
     match sign {
         Sign::Comma => stays_in_body(
             BodyPosition::Operand,
@@ -486,7 +520,10 @@ fn end_parenthesis(
     place: Place,
     block: Block,
     sign: Sign,
-) -> Result<Next, AllocError> {
+) -> Result<Next, AllocError>
+    requires well { view.IsWellBody body }
+    ensures next { Leads result (machine.end_level (view.body body) (machine.ForParenthesis place) (block_view block) sign) }
+{
     match sign {
         Sign::RoundClose => operand(Step::Bracket { block }, body),
         Sign::Comma => {
@@ -505,8 +542,13 @@ fn end_part(
     body: Body,
     place: Place,
     done: Vec<Expression>,
+    block: Block,
     sign: Sign,
-) -> Result<Next, AllocError> {
+) -> Result<Next, AllocError>
+    requires well { view.IsWellBody body }
+    ensures next { Leads result (machine.end_level (view.body body) (machine.ForTuple place (map expression done.items)) (block_view block) sign) }
+{
+    let done = with_part(done, block)?;
     match sign {
         Sign::Comma => stays_in_body(
             BodyPosition::Operand,
@@ -518,13 +560,16 @@ fn end_part(
 }
 
 fn end_clause(
-    open: OpenMatch,
+    clauses: OpenMatch,
     pattern: Pattern,
     body: Body,
     block: Block,
     sign: Sign,
-) -> Result<Next, AllocError> {
-    let mut open = open;
+) -> Result<Next, AllocError>
+    requires well { view.IsWellUnder body }
+    ensures next { Leads result (machine.end_level (view.under_operand body) (machine.ForClause (view.open_match clauses (view.operand body)) (pattern_view pattern)) (block_view block) sign) }
+{
+    let mut open = clauses;
     open.clauses.push(Clause {
         pattern,
         body: block,

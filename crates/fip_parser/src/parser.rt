@@ -1,56 +1,88 @@
 //! From a source to a program.
 
+ghost use Rattle.std.specs.Prelude.{◌≡◌, ℕ, ◌≤◌, ◌<◌, true, false, List, Some, None, Err, IfOk, IfErr, MatchResult, map};
+ghost use Rattle.fip_language.specs.declared.Place.{Place};
+ghost use Rattle.fip_language.specs.Surface as Surface;
+ghost use Rattle.fip_base.specs.SurfaceView as surface;
+ghost use Rattle.fip_base.specs.declared.refusal.Refusal.{Refusal};
+ghost use Rattle.fip_base.specs.declared.refusal.Rule.{Rule};
+ghost use Rattle.fip_grammar.specs.WordView as tokens_view;
+ghost use Rattle.fip_grammar.specs.Limits as limits;
+ghost use Rattle.fip_grammar.specs.Limits.{IsSpelt, IsMisspelt, IsLeastBroken, place_at};
+ghost use Rattle.fip_grammar.specs.Grammar.{Spells};
+ghost use Rattle.fip_grammar.specs.Machine as machine;
+ghost use Rattle.fip_parser.specs.StateView as view;
+ghost use Rattle.fip_parser.specs.StateView.{Follows, IsAbove};
+ghost use Rattle.fip_parser.specs.Parsed.{seen_of, machine_of, Takes, Stops, IsWithin, refusal_of, syntax_refusal, fault_rule, reading_of, Goes, Fails, IsSpeltBy, IsMisspeltBy, IsRefused};
+
 use crate::body::step_body;
 use crate::heading::{step_data, step_function, step_top};
 use crate::literal::magnitude;
 use crate::patterns::step_pattern;
 use crate::state::{Next, State};
-use fip_base::surface::{Declaration, Program};
 use crate::types::step_type;
+use fip_base::plain::Detail;
+use fip_base::refusal::{Refusal, Rule};
+use fip_base::surface::{Declaration, Program};
 use fip_grammar::Sign;
 use fip_grammar::lexer::{LexError, lex};
 use fip_grammar::token::{Token, Tokens, Word};
 use fip_language::{Operator, Place};
 use std::alloc::{AllocError, AllocFailed, Global};
 
-/// What is wrong with a source.
-#[derive(Clone, Copy, Debug, PartialEq, Eq)]
-pub enum SyntaxRule {
-    /// E01: a byte begins no token.
-    BadByte,
-    /// E02: the tokens are no program.
-    NoProgram,
-    /// E03: a bracket makes 101 open ones.
-    TooDeep,
-    /// E04: a literal is too large.
-    LiteralTooLarge,
-}
-
 /// Why a source isn't parsed.
 #[derive(Drop)]
 pub enum ParseError {
     /// Want of memory.
     NoMemory,
-    /// A rule is broken at a place.
-    Refused { rule: SyntaxRule, place: Place },
-}
-
-impl From<AllocError> for ParseError {
-    fn from(_: AllocError) -> ParseError {
-        ParseError::NoMemory
-    }
-}
-
-impl<T: Drop> From<AllocFailed<T>> for ParseError {
-    fn from(_: AllocFailed<T>) -> ParseError {
-        ParseError::NoMemory
-    }
+    /// A rule from E01 to E04 is broken at a place.
+    Refused(Refusal),
 }
 
 /// How many brackets may be open at once.
 pub const MAX_OPEN: usize = 100;
 
-fn step(alloc: Global, state: State, token: Token) -> Result<Next, AllocError> {
+// A rule that a token breaks although it fits.
+#[derive(Clone, Copy, Debug, PartialEq, Eq)]
+enum Fault {
+    TooDeep,
+    TooLarge,
+}
+
+// The tokens before a token, as far as brackets and literals go.
+#[derive(Clone, Copy)]
+struct Before {
+    // How many brackets are open.
+    brackets: usize,
+    // Whether the last token can end an operand: a literal, a name, `)` or `}`.
+    ends_operand: bool,
+    // Whether the last token is a `-` that isn't binary.
+    is_sign: bool,
+}
+
+// The declarations that ended, the state, and what the tokens so far are like.
+#[derive(Drop)]
+struct Reading {
+    declarations: Vec<Declaration>,
+    state: State,
+    before: Before,
+}
+
+// What a token does to the declarations and the state.
+#[derive(Drop)]
+enum Taken {
+    Refused,
+    TooLarge,
+    Goes {
+        declarations: Vec<Declaration>,
+        state: State,
+    },
+}
+
+fn step(alloc: Global, state: State, token: Token) -> Result<Next, AllocError>
+    requires well { view.IsWell state }
+    ensures next { Follows (view.negated state) token.entry result (machine.step (view.state state)) }
+{
     match state {
         State::Top => step_top(token),
         State::Function { heading } => step_function(alloc, heading, token),
@@ -70,32 +102,27 @@ fn step(alloc: Global, state: State, token: Token) -> Result<Next, AllocError> {
     }
 }
 
-/// The tokens before a token, as far as brackets and literals go.
-#[derive(Clone, Copy)]
-struct Before {
-    /// How many brackets are open.
-    open: usize,
-    /// Whether the last token can end an operand: an INT, a name, `)` or `}`.
-    ends_operand: bool,
-    /// Whether the last token is a `-` that isn't binary.
-    is_sign: bool,
-}
-
-fn opens(word: Word) -> bool {
+fn opens(word: Word) -> bool
+    ensures { result ≡ limits.is_opening (tokens_view.word word.entry) }
+{
     matches!(
         word,
         Word::Sign(Sign::RoundOpen | Sign::SquareOpen | Sign::CurlyOpen)
     )
 }
 
-fn closes(word: Word) -> bool {
+fn closes(word: Word) -> bool
+    ensures { result ≡ limits.is_closing (tokens_view.word word.entry) }
+{
     matches!(
         word,
         Word::Sign(Sign::RoundClose | Sign::SquareClose | Sign::CurlyClose)
     )
 }
 
-fn ends_operand(word: Word) -> bool {
+fn ends_operand(word: Word) -> bool
+    ensures { result ≡ limits.ends_operand (tokens_view.word word.entry) }
+{
     matches!(
         word,
         Word::Int(_)
@@ -105,87 +132,182 @@ fn ends_operand(word: Word) -> bool {
     )
 }
 
-fn is_too_large(before: Before, word: Word) -> bool {
+fn is_minus(word: Word) -> bool
+    ensures { result ≡ limits.is_minus (tokens_view.word word.entry) }
+{
+    matches!(word, Word::Operator(Operator::Subtract))
+}
+
+fn is_too_large(is_sign: bool, word: Word) -> bool
+    ensures over { result ≡ true → IsAbove is_sign (tokens_view.word word.entry) }
+    ensures within { result ≡ false → IsAbove is_sign (tokens_view.word word.entry) → ⊥ }
+{
     match word {
         Word::Int(digits) => match magnitude(digits) {
             None => true,
-            Some(value) => value == 1 << 63 && !before.is_sign,
+            Some(value) => !is_sign && value == 1 << 63,
         },
         _ => false,
     }
 }
 
-// What the tokens up to and with this one are like, or the rule that it breaks although it fits.
-fn count(before: Before, word: Word) -> Result<Before, SyntaxRule> {
-    let mut open = before.open;
+// How many brackets are open behind this token.
+fn open_behind(count: usize, word: Word) -> Result<usize, Fault>
+    ensures count { IfOk result (λ n. n ≡ limits.open_behind count (tokens_view.word word.entry)) }
+    ensures within { IfOk result (λ n. limits.is_opening (tokens_view.word word.entry) ≡ true → 100 ≤ count → ⊥) }
+    ensures deep { IfErr result (λ f. (fault_rule f ≡ 3) × (limits.is_opening (tokens_view.word word.entry) ≡ true) × (100 ≤ count)) }
+{
     if opens(word) {
-        if open >= MAX_OPEN {
-            return Err(SyntaxRule::TooDeep);
+        if count >= MAX_OPEN {
+            return Err(Fault::TooDeep);
         }
-        open += 1;
+        return Ok(count + 1);
     }
-    if closes(word) && open > 0 {
-        open -= 1;
+    if closes(word) && count > 0 {
+        return Ok(count - 1);
     }
-    if is_too_large(before, word) {
-        return Err(SyntaxRule::LiteralTooLarge);
+    Ok(count)
+}
+
+// What the tokens up to and with this one are like, or the rule that it breaks although it fits.
+fn behind(before: Before, word: Word) -> Result<Before, Fault>
+    ensures next { IfOk result (λ b. seen_of b ≡ limits.behind (seen_of before) (tokens_view.word word.entry)) }
+    ensures within { IfOk result (λ b. IsWithin (seen_of before) (tokens_view.word word.entry)) }
+    ensures stops { IfErr result (λ f. Stops (seen_of before) (tokens_view.word word.entry) (fault_rule f)) }
+{
+    let brackets = open_behind(before.brackets, word)?;
+    if is_too_large(before.is_sign, word) {
+        return Err(Fault::TooLarge);
     }
-    let is_sign = word == Word::Operator(Operator::Subtract) && !before.ends_operand;
+    let is_sign = is_minus(word) && !before.ends_operand;
     Ok(Before {
-        open,
+        brackets,
         ends_operand: ends_operand(word),
         is_sign,
     })
 }
 
-/// The program of a source.
-pub fn parse(alloc: Global, source: &[u8]) -> Result<Program, ParseError> {
-    match lex(alloc, source) {
-        Err(LexError::Memory) => Err(ParseError::NoMemory),
-        Err(LexError::BadByte { place }) => Err(ParseError::Refused {
-            rule: SyntaxRule::BadByte,
-            place,
+// The declarations and the state behind a token.
+fn take(
+    alloc: Global,
+    declarations: Vec<Declaration>,
+    state: State,
+    token: Token,
+) -> Result<Taken, AllocError>
+    requires well { view.IsWell state }
+    ensures takes { IfOk result (λ k. Takes (view.negated state) (tokens_view.token token.entry) k (machine.machine_step (machine_of declarations.items state) (tokens_view.token token.entry))) }
+{
+    match step(alloc, state, token)? {
+        Next::Refused => Ok(Taken::Refused),
+        Next::TooLarge => Ok(Taken::TooLarge),
+        Next::Stays { state } => Ok(Taken::Goes {
+            declarations,
+            state,
         }),
-        Ok(tokens) => parse_tokens(alloc, &tokens),
+        Next::Declares { declaration } => {
+            let mut declarations = declarations;
+            declarations.push(declaration)?;
+            Ok(Taken::Goes {
+                declarations,
+                state: State::Top,
+            })
+        }
+    }
+}
+
+// The refusal by this rule at this place.
+fn refused(alloc: Global, rule: Rule, place: Place) -> ParseError
+    ensures { result ≡ ParseError.Refused (refusal_of rule place) }
+{
+    ParseError::Refused(Refusal {
+        rule,
+        place: Some(place),
+        size: 0,
+        detail: Detail::new(Vec::new(alloc)),
+    })
+}
+
+// The reading behind a token.
+fn advance(alloc: Global, reading: Reading, token: Token) -> Result<Reading, ParseError>
+    requires well { view.IsWell reading.state }
+    ensures goes { IfOk result (λ r. Goes (reading_of reading) (reading_of r) (tokens_view.token token.entry)) }
+    ensures well { IfOk result (λ r. view.IsWell r.state) }
+    ensures fails { IfErr result (λ e. Fails (view.negated reading.state) (reading_of reading) (tokens_view.token token.entry) e) }
+{
+    let Reading {
+        declarations,
+        state,
+        before,
+    } = reading;
+    match take(alloc, declarations, state, token) {
+        Err(_) => Err(ParseError::NoMemory),
+        Ok(Taken::Refused) => Err(refused(alloc, Rule::E02, token.place)),
+        Ok(Taken::TooLarge) => Err(refused(alloc, Rule::E04, token.place)),
+        Ok(
+            Taken::Goes {
+                declarations,
+                state,
+            },
+        ) => match behind(before, token.word) {
+            Ok(before) => Ok(Reading {
+                declarations,
+                state,
+                before,
+            }),
+            Err(Fault::TooDeep) => Err(refused(alloc, Rule::E03, token.place)),
+            Err(Fault::TooLarge) => Err(refused(alloc, Rule::E04, token.place)),
+        },
     }
 }
 
 // The program that the tokens spell.
-fn parse_tokens(alloc: Global, tokens: &Tokens) -> Result<Program, ParseError> {
-    let mut declarations = Vec::new(alloc);
-    let mut state = State::Top;
-    let mut before = Before {
-        open: 0,
-        ends_operand: false,
-        is_sign: false,
+fn parse_tokens(alloc: Global, tokens: &Tokens) -> Result<Program, ParseError>
+    ensures spelt { IfOk result (λ p. IsSpeltBy (tokens_view.tokens tokens.now.tokens.items) (surface.program p)) }
+    ensures misspelt { IfErr result (λ e. IsMisspeltBy (tokens_view.tokens tokens.now.tokens.items) tokens.now.end e) }
+{
+    let mut reading = Reading {
+        declarations: Vec::new(alloc),
+        state: State::Top,
+        before: Before {
+            brackets: 0,
+            ends_operand: false,
+            is_sign: false,
+        },
     };
     for token in tokens.tokens.as_slice() {
-        let place = token.place;
-        match step(alloc, state, *token)? {
-            Next::Refused => return Err(ParseError::Refused {
-                rule: SyntaxRule::NoProgram,
-                place,
-            }),
-            Next::TooLarge => return Err(ParseError::Refused {
-                rule: SyntaxRule::LiteralTooLarge,
-                place,
-            }),
-            Next::Stays { state: next } => state = next,
-            Next::Declares { declaration } => {
-                declarations.push(declaration)?;
-                state = State::Top;
-            }
-        }
-        match count(before, token.word) {
-            Ok(next) => before = next,
-            Err(rule) => return Err(ParseError::Refused { rule, place }),
+        match advance(alloc, reading, *token) {
+            Ok(next) => reading = next,
+            Err(error) => return Err(error),
         }
     }
+    let Reading {
+        declarations,
+        state,
+        before: _,
+    } = reading;
     match state {
         State::Top => Ok(Program { declarations }),
-        _ => Err(ParseError::Refused {
-            rule: SyntaxRule::NoProgram,
-            place: tokens.end,
-        }),
+        _ => Err(refused(alloc, Rule::E02, tokens.end)),
     }
+}
+
+// The program of a source.
+fn parse_source(alloc: Global, source: &[u8]) -> Result<Program, ParseError>
+    ensures spelt { IfOk result (λ p. IsSpelt source.now (surface.program p)) }
+    ensures misspelt { IfErr result (λ e. IsRefused source.now e) }
+{
+    match lex(alloc, source) {
+        Err(LexError::Memory) => Err(ParseError::NoMemory),
+        Err(LexError::BadByte { place }) => Err(refused(alloc, Rule::E01, place)),
+        Ok(tokens) => parse_tokens(alloc, &tokens),
+    }
+}
+
+/// The program of a source. Where it breaks a rule from E01 to E04, the one that is named, at its place.
+pub fn parse(alloc: Global, source: &[u8]) -> Result<Program, ParseError>
+    ensures spelt { IfOk result (λ p. IsSpelt source.now (surface.program p)) }
+    ensures misspelt { (r : Refusal) → result ≡ Err (ParseError.Refused r) → (rule : ℕ) × (place : Place) × IsMisspelt source.now rule place × (r ≡ syntax_refusal rule place) }
+    ensures only { (p : Surface.Program) → IsSpelt source.now p → MatchResult result (λ q. surface.program q ≡ p) (λ e. e ≡ ParseError.NoMemory) }
+{
+    parse_source(alloc, source)
 }

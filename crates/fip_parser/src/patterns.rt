@@ -1,5 +1,12 @@
 //! The patterns of clauses.
 
+ghost use Rattle.std.specs.Prelude.{◌≡◌, Bool, false, true, List, [], ◌∷◌, map, IfOk, Some, None};
+ghost use Rattle.fip_base.specs.SurfaceView.{pattern as pattern_view};
+ghost use Rattle.fip_grammar.specs.Token as Pure;
+ghost use Rattle.fip_grammar.specs.Machine as machine;
+ghost use Rattle.fip_parser.specs.StateView as view;
+ghost use Rattle.fip_parser.specs.StateView.{Leads, Follows};
+
 use crate::body::{enter, stays_in_body};
 use crate::literal::{literal, negated_literal};
 use crate::state::{
@@ -17,7 +24,10 @@ pub fn stays_in_pattern(
     open: Vec<OpenPattern>,
     body: Body,
     clauses: OpenMatch,
-) -> Result<Next, AllocError> {
+) -> Result<Next, AllocError>
+    requires well { view.IsWellUnder body }
+    ensures next { Leads result (machine.in_pattern (view.pattern_position position) (view.open_patterns «open».items) (view.under_operand body) (view.open_match clauses (view.operand body))) }
+{
     Ok(Next::Stays {
         state: State::Matching {
             position,
@@ -28,6 +38,19 @@ pub fn stays_in_pattern(
     })
 }
 
+// Behind a pattern.
+fn pattern_read(
+    pattern: Pattern,
+    open: Vec<OpenPattern>,
+    body: Body,
+    clauses: OpenMatch,
+) -> Result<Next, AllocError>
+    requires well { view.IsWellUnder body }
+    ensures next { Leads result (machine.in_pattern (machine.PatternDone (pattern_view pattern)) (view.open_patterns «open».items) (view.under_operand body) (view.open_match clauses (view.operand body))) }
+{
+    stays_in_pattern(PatternPosition::Done { pattern }, open, body, clauses)
+}
+
 /// A token in a pattern.
 pub fn step_pattern(
     alloc: Global,
@@ -36,7 +59,10 @@ pub fn step_pattern(
     body: Body,
     clauses: OpenMatch,
     token: Token,
-) -> Result<Next, AllocError> {
+) -> Result<Next, AllocError>
+    requires well { view.IsWellUnder body }
+    ensures next { Follows (view.is_negated_pattern position) token.entry result (machine.step_pattern (view.pattern_position position) (view.open_patterns «open».items) (view.under_operand body) (view.open_match clauses (view.operand body))) }
+{
     match position {
         PatternPosition::Wanted => pattern_wanted(alloc, open, body, clauses, token),
         PatternPosition::Minus { place } => pattern_minus(place, open, body, clauses, token),
@@ -56,32 +82,48 @@ pub fn pattern_wanted(
     body: Body,
     clauses: OpenMatch,
     token: Token,
-) -> Result<Next, AllocError> {
+) -> Result<Next, AllocError>
+    requires well { view.IsWellUnder body }
+    ensures next { Follows false token.entry result (machine.pattern_wanted (view.open_patterns «open».items) (view.under_operand body) (view.open_match clauses (view.operand body))) }
+{
     let place = token.place;
-    let position = match token.word {
-        Word::Sign(Sign::Underscore) => PatternPosition::Done {
-            pattern: Pattern::Wildcard { place },
-        },
-        Word::Lower(text) => PatternPosition::Done {
-            pattern: Pattern::Variable {
+    match token.word {
+        Word::Sign(Sign::Underscore) => pattern_read(
+            Pattern::Wildcard { place },
+            open,
+            body,
+            clauses,
+        ),
+        Word::Lower(text) => pattern_read(
+            Pattern::Variable {
                 name: text.to_vec(alloc)?,
                 place,
             },
-        },
-        Word::Upper(text) => PatternPosition::Named {
-            name: text.to_vec(alloc)?,
-            place,
-        },
-        Word::Operator(Operator::Subtract) => PatternPosition::Minus { place },
-        Word::Int(digits) => match literal(digits) {
-            Some(value) => PatternPosition::Done {
-                pattern: Pattern::Literal { value, place },
+            open,
+            body,
+            clauses,
+        ),
+        Word::Upper(text) => stays_in_pattern(
+            PatternPosition::Named {
+                name: text.to_vec(alloc)?,
+                place,
             },
-            None => return Ok(Next::TooLarge),
+            open,
+            body,
+            clauses,
+        ),
+        Word::Operator(Operator::Subtract) => stays_in_pattern(
+            PatternPosition::Minus { place },
+            open,
+            body,
+            clauses,
+        ),
+        Word::Int(digits) => match literal(digits) {
+            Some(value) => pattern_read(Pattern::Literal { value, place }, open, body, clauses),
+            None => Ok(Next::TooLarge),
         },
-        _ => return Ok(Next::Refused),
-    };
-    stays_in_pattern(position, open, body, clauses)
+        _ => Ok(Next::Refused),
+    }
 }
 
 fn pattern_minus(
@@ -90,17 +132,13 @@ fn pattern_minus(
     body: Body,
     clauses: OpenMatch,
     token: Token,
-) -> Result<Next, AllocError> {
+) -> Result<Next, AllocError>
+    requires well { view.IsWellUnder body }
+    ensures next { Follows true token.entry result (machine.step_pattern (machine.PatternMinus place) (view.open_patterns «open».items) (view.under_operand body) (view.open_match clauses (view.operand body))) }
+{
     match token.word {
         Word::Int(digits) => match negated_literal(digits) {
-            Some(value) => stays_in_pattern(
-                PatternPosition::Done {
-                    pattern: Pattern::Literal { value, place },
-                },
-                open,
-                body,
-                clauses,
-            ),
+            Some(value) => pattern_read(Pattern::Literal { value, place }, open, body, clauses),
             None => Ok(Next::TooLarge),
         },
         _ => Ok(Next::Refused),
@@ -115,7 +153,10 @@ fn pattern_named(
     body: Body,
     clauses: OpenMatch,
     token: Token,
-) -> Result<Next, AllocError> {
+) -> Result<Next, AllocError>
+    requires well { view.IsWellUnder body }
+    ensures next { Follows false token.entry result (machine.step_pattern (machine.PatternNamed name.items place) (view.open_patterns «open».items) (view.under_operand body) (view.open_match clauses (view.operand body))) }
+{
     match token.word {
         Word::Sign(Sign::RoundOpen) => {
             let mut open = open;
@@ -148,7 +189,10 @@ fn pattern_done(
     body: Body,
     clauses: OpenMatch,
     token: Token,
-) -> Result<Next, AllocError> {
+) -> Result<Next, AllocError>
+    requires well { view.IsWellUnder body }
+    ensures next { Follows false token.entry result (λ w p. machine.pattern_done (pattern_view pattern) (view.open_patterns «open».items) (view.under_operand body) (view.open_match clauses (view.operand body)) w) }
+{
     let mut open = open;
     match open.pop() {
         None => after_pattern(alloc, pattern, body, clauses, token),
@@ -163,7 +207,10 @@ fn pattern_part(
     body: Body,
     clauses: OpenMatch,
     token: Token,
-) -> Result<Next, AllocError> {
+) -> Result<Next, AllocError>
+    requires well { view.IsWellUnder body }
+    ensures next { Follows false token.entry result (λ w p. machine.pattern_done (pattern_view pattern) (view.open_pattern around ∷ (view.open_patterns «open».items)) (view.under_operand body) (view.open_match clauses (view.operand body)) w) }
+{
     let mut open = open;
     let OpenPattern { name, place, done } = around;
     let mut done = done;
@@ -173,13 +220,11 @@ fn pattern_part(
             open.push(OpenPattern { name, place, done })?;
             stays_in_pattern(PatternPosition::Wanted, open, body, clauses)
         }
-        Word::Sign(Sign::RoundClose) => stays_in_pattern(
-            PatternPosition::Done {
-                pattern: Pattern::Constructor {
-                    name,
-                    place,
-                    patterns: done,
-                },
+        Word::Sign(Sign::RoundClose) => pattern_read(
+            Pattern::Constructor {
+                name,
+                place,
+                patterns: done,
             },
             open,
             body,
@@ -196,7 +241,10 @@ fn after_pattern(
     body: Body,
     clauses: OpenMatch,
     token: Token,
-) -> Result<Next, AllocError> {
+) -> Result<Next, AllocError>
+    requires well { view.IsWellUnder body }
+    ensures next { Follows false token.entry result (λ w p. machine.pattern_done (pattern_view pattern) [] (view.under_operand body) (view.open_match clauses (view.operand body)) w) }
+{
     match token.word {
         Word::Sign(Sign::Arrow) => stays_in_body(
             BodyPosition::Block,

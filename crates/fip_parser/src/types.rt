@@ -1,5 +1,13 @@
 //! Types, and what stands behind them.
 
+ghost use Rattle.std.specs.Prelude.{◌≡◌, Bool, false, true, List, [], ◌∷◌, map, IfOk};
+ghost use Rattle.fip_language.specs.Core as C;
+ghost use Rattle.fip_base.specs.SurfaceView.{written as written_view, result_type};
+ghost use Rattle.fip_grammar.specs.Token as Pure;
+ghost use Rattle.fip_grammar.specs.Machine as machine;
+ghost use Rattle.fip_parser.specs.StateView as view;
+ghost use Rattle.fip_parser.specs.StateView.{Leads, Follows};
+
 use crate::body::end_bind;
 use crate::heading::{body_open, static_end, stays, stays_in_data, wants_type};
 use crate::state::{
@@ -19,7 +27,10 @@ fn stays_in_type(
     position: TypePosition,
     open: Vec<OpenType>,
     purpose: TypeUse,
-) -> Result<Next, AllocError> {
+) -> Result<Next, AllocError>
+    requires well { view.IsWellUse purpose }
+    ensures next { Leads result (machine.Stays (machine.InType (view.type_position position) (view.open_types «open».items) (view.type_use purpose))) }
+{
     Ok(Next::Stays {
         state: State::Typing {
             position,
@@ -36,7 +47,10 @@ pub fn step_type(
     open: Vec<OpenType>,
     purpose: TypeUse,
     token: Token,
-) -> Result<Next, AllocError> {
+) -> Result<Next, AllocError>
+    requires well { view.IsWellUse purpose }
+    ensures next { Follows false token.entry result (machine.step_type (view.type_position position) (view.open_types «open».items) (view.type_use purpose)) }
+{
     match position {
         TypePosition::Wanted => type_wanted(alloc, open, purpose, token),
         TypePosition::Named { name, place } => type_named(alloc, open, purpose, name, place, token),
@@ -49,7 +63,10 @@ fn type_wanted(
     open: Vec<OpenType>,
     purpose: TypeUse,
     token: Token,
-) -> Result<Next, AllocError> {
+) -> Result<Next, AllocError>
+    requires well { view.IsWellUse purpose }
+    ensures next { Follows false token.entry result (machine.type_wanted (view.open_types «open».items) (view.type_use purpose)) }
+{
     match token.word {
         Word::Sign(Sign::Int) => stays_in_type(
             TypePosition::Done {
@@ -77,7 +94,10 @@ fn type_named(
     name: Vec<u8>,
     place: Place,
     token: Token,
-) -> Result<Next, AllocError> {
+) -> Result<Next, AllocError>
+    requires well { view.IsWellUse purpose }
+    ensures next { Follows false token.entry result (machine.step_type (machine.TypeNamed name.items place) (view.open_types «open».items) (view.type_use purpose)) }
+{
     match token.word {
         Word::Sign(Sign::SquareOpen) => {
             let mut open = open;
@@ -108,7 +128,10 @@ fn type_done(
     purpose: TypeUse,
     written: Written,
     token: Token,
-) -> Result<Next, AllocError> {
+) -> Result<Next, AllocError>
+    requires well { view.IsWellUse purpose }
+    ensures next { Follows false token.entry result (λ w p. machine.type_done (view.open_types «open».items) (view.type_use purpose) (written_view written) w) }
+{
     let mut open = open;
     match open.pop() {
         None => after_type(alloc, purpose, written, token),
@@ -122,7 +145,10 @@ fn type_argument(
     purpose: TypeUse,
     written: Written,
     token: Token,
-) -> Result<Next, AllocError> {
+) -> Result<Next, AllocError>
+    requires well { view.IsWellUse purpose }
+    ensures next { Follows false token.entry result (λ w p. machine.type_done (view.open_type around ∷ (view.open_types «open».items)) (view.type_use purpose) (written_view written) w) }
+{
     let mut open = open;
     let OpenType { name, place, done } = around;
     let mut done = done;
@@ -153,7 +179,10 @@ fn after_type(
     purpose: TypeUse,
     written: Written,
     token: Token,
-) -> Result<Next, AllocError> {
+) -> Result<Next, AllocError>
+    requires well { view.IsWellUse purpose }
+    ensures next { Follows false token.entry result (λ w p. machine.after_type (view.type_use purpose) (written_view written) w) }
+{
     match purpose {
         TypeUse::Field {
             data,
@@ -211,7 +240,9 @@ fn after_field(
     fields: Vec<Written>,
     written: Written,
     token: Token,
-) -> Result<Next, AllocError> {
+) -> Result<Next, AllocError>
+    ensures next { Follows false token.entry result (λ w p. machine.after_type (machine.ForField (view.data_head «data») name.items place (map written_view fields.items)) (written_view written) w) }
+{
     let mut fields = fields;
     fields.push(written)?;
     match token.word {
@@ -243,7 +274,9 @@ fn after_signature_parameter(
     lent: bool,
     written: Written,
     token: Token,
-) -> Result<Next, AllocError> {
+) -> Result<Next, AllocError>
+    ensures next { Follows false token.entry result (λ w p. machine.after_type (machine.ForSignatureParameter (view.function_head head) (view.signature signature) lent) (written_view written) w) }
+{
     let mut signature = signature;
     signature
         .parameters
@@ -262,7 +295,9 @@ fn after_parameter(
     place: Place,
     written: Written,
     token: Token,
-) -> Result<Next, AllocError> {
+) -> Result<Next, AllocError>
+    ensures next { Follows false token.entry result (λ w p. machine.after_type (machine.ForParameter (view.function_head head) lent name.items place) (written_view written) w) }
+{
     let mut head = head;
     head.parameters.push(Parameter {
         lent,
@@ -282,7 +317,9 @@ fn with_signature(
     head: FunctionHead,
     signature: Signature,
     gives: ResultType,
-) -> Result<FunctionHead, AllocError> {
+) -> Result<FunctionHead, AllocError>
+    ensures with { IfOk result (λ h. view.function_head h ≡ machine.with_signature (view.function_head head) (view.signature signature) (result_type gives)) }
+{
     let Signature {
         name,
         place,
@@ -303,7 +340,9 @@ fn after_one_result(
     owner: ResultOwner,
     written: Written,
     token: Token,
-) -> Result<Next, AllocError> {
+) -> Result<Next, AllocError>
+    ensures next { Follows false token.entry result (λ w p. machine.after_one_result (view.result_owner owner) (C.OneResult (written_view written)) w) }
+{
     let gives = ResultType::One { written };
     match owner {
         ResultOwner::Function { head } => body_open(alloc, head, gives, token),
@@ -315,7 +354,9 @@ fn after_one_result(
 }
 
 // Behind a tuple of results.
-fn after_tuple_result(owner: ResultOwner, gives: ResultType) -> Result<Next, AllocError> {
+fn after_tuple_result(owner: ResultOwner, gives: ResultType) -> Result<Next, AllocError>
+    ensures next { Leads result (machine.after_tuple_result (view.result_owner owner) (result_type gives)) }
+{
     match owner {
         ResultOwner::Function { head } => stays(FunctionHeading::BodyOpen { head, gives }),
         ResultOwner::Signature { head, signature } => stays(FunctionHeading::StaticEnd {
@@ -331,7 +372,9 @@ fn after_result_part(
     parts: Vec<Written>,
     written: Written,
     token: Token,
-) -> Result<Next, AllocError> {
+) -> Result<Next, AllocError>
+    ensures next { Follows false token.entry result (λ w p. machine.after_type (machine.ForResultPart (view.result_owner owner) place (map written_view parts.items)) (written_view written) w) }
+{
     let is_first = parts.is_empty();
     let mut parts = parts;
     parts.push(written)?;
@@ -362,7 +405,10 @@ fn after_static_argument(
     statics: Vec<Written>,
     written: Written,
     token: Token,
-) -> Result<Next, AllocError> {
+) -> Result<Next, AllocError>
+    requires well { view.IsWellBody body }
+    ensures next { Follows false token.entry result (λ w p. machine.after_type (machine.ForStaticArgument (view.body body) name.items place (map written_view statics.items)) (written_view written) w) }
+{
     let mut statics = statics;
     statics.push(written)?;
     match token.word {

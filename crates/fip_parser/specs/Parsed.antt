@@ -1,0 +1,95 @@
+-- What the parser's loop comes to: the machine that a reading stands for, and how a token stops it.
+use Rattle.std.specs.Prelude.{◌≡◌, ◌⊎◌, ◌≤◌, ℕ, zero, suc, Bool, true, List, [], map, Option, Some, None}
+use Rattle.fip_language.specs.declared.Place.{Place}
+use Rattle.fip_base.specs.declared.refusal.Rule.{Rule}
+use Rattle.fip_base.specs.declared.refusal.Rule.TheVariants as R
+use Rattle.fip_base.specs.declared.refusal.Refusal.{Refusal}
+use Rattle.fip_base.specs.declared.surface.Declaration.{Declaration}
+use Rattle.fip_base.specs.SurfaceView.{declaration}
+use Rattle.fip_grammar.specs.Token as T
+use Rattle.fip_grammar.specs.Limits.{Seen, Breaks, IsLeastBroken, IsMisspelt, is_opening, behind, place_at}
+use Rattle.fip_grammar.specs.Grammar.{Spells}
+use Rattle.fip_language.specs.Surface.{Program}
+use Rattle.fip_parser.specs.declared.parser.Reading.{Reading}
+use Rattle.fip_parser.specs.declared.parser.ParseError.{ParseError}
+use Rattle.fip_parser.specs.declared.parser.ParseError.TheVariants as E
+use Rattle.fip_grammar.specs.Machine.{Machine, machine_step}
+use Rattle.fip_parser.specs.declared.parser.Before.{Before}
+use Rattle.fip_parser.specs.declared.parser.Fault.{Fault}
+use Rattle.fip_parser.specs.declared.parser.Fault.TheVariants as F
+use Rattle.fip_parser.specs.declared.parser.Taken.{Taken}
+use Rattle.fip_parser.specs.declared.parser.Taken.TheVariants as K
+use Rattle.fip_parser.specs.declared.state.State.{State}
+use Rattle.fip_parser.specs.StateView.{state, IsWell, IsAbove}
+
+-- the rule of this number
+abbrev pub rule_of : ℕ → Rule
+rule_of (suc zero) = R.E01
+rule_of (suc (suc zero)) = R.E02
+rule_of (suc (suc (suc zero))) = R.E03
+rule_of _ = R.E04
+
+abbrev pub refusal_of : Rule → Place → Refusal
+refusal_of rule place = record { rule = rule; place = Some place; size = 0; detail = [] }
+
+-- the refusal of a source that breaks the rule of this number at a place
+abbrev pub syntax_refusal : ℕ → Place → Refusal
+syntax_refusal rule place = refusal_of (rule_of rule) place
+
+abbrev pub fault_rule : Fault → ℕ
+fault_rule F.TooDeep = 3
+fault_rule F.TooLarge = 4
+
+abbrev pub seen_of : Before → Seen
+seen_of b = record { open' = b.brackets; ends_operand = b.ends_operand; is_sign = b.is_sign }
+
+abbrev pub machine_of : List Declaration → State → Machine
+machine_of ds s = record { done = map declaration ds; state = state s }
+
+-- The token breaks neither of the rules that are asked of tokens alone.
+abbrev pub IsWithin : Seen → T.Word → Type 0
+IsWithin b w = (is_opening w ≡ true → 100 ≤ b.open' → ⊥) × (IsAbove b.is_sign w → ⊥)
+
+-- it breaks this one
+abbrev pub Stops : Seen → T.Word → ℕ → Type 0
+Stops b w rule = ((rule ≡ 3) × (is_opening w ≡ true) × (100 ≤ b.open')) ⊎ ((rule ≡ 4) × IsAbove b.is_sign w)
+
+-- what a token does, where the machine's next state is this
+abbrev pub Takes : Bool → T.Token → Taken → Option Machine → Type 0
+Takes negated t K.Refused x = x ≡ None
+Takes negated t K.TooLarge x = ((m : Machine) × (x ≡ Some m)) × IsAbove negated t.word
+Takes negated t (K.Goes ds s) x = (x ≡ Some (machine_of ds.items s)) × IsWell s
+
+-- what was read: the machine, and what the tokens so far are like
+pub record Read : Type 0 where
+  pub machine : Machine
+  pub seen : Seen
+
+abbrev pub reading_of : Reading → Read
+reading_of r = record { machine = machine_of r.declarations.items r.state; seen = seen_of r.before }
+
+-- the token fits, and breaks no rule
+abbrev pub Goes : Read → Read → T.Token → Type 0
+Goes old new t = (machine_step old.machine t ≡ Some new.machine) × (new.seen ≡ behind old.seen t.word) × IsWithin old.seen t.word
+
+-- A token breaks this rule: it doesn't fit, or it breaks another.
+abbrev pub Broken : Bool → Read → T.Token → ℕ → Type 0
+Broken negated r t rule =
+    ((rule ≡ 2) × (machine_step r.machine t ≡ None))
+    ⊎ (((m : Machine) × (machine_step r.machine t ≡ Some m)) × (Stops r.seen t.word rule ⊎ ((rule ≡ 4) × IsAbove negated t.word)))
+
+abbrev pub Fails : Bool → Read → T.Token → ParseError → Type 0
+Fails negated r t E.NoMemory = Unit {0}
+Fails negated r t (E.Refused x) = (rule : ℕ) × Broken negated r t rule × (x ≡ syntax_refusal rule t.place)
+
+-- These tokens are the program's, and break no rule.
+abbrev pub IsSpeltBy : List T.Token → Program → Type 0
+IsSpeltBy ts p = Spells ts p × ((r t : ℕ) → Breaks ts r t → ⊥)
+
+abbrev pub IsMisspeltBy : List T.Token → Place → ParseError → Type 0
+IsMisspeltBy ts end E.NoMemory = Unit {0}
+IsMisspeltBy ts end (E.Refused x) = (rule : ℕ) × (t : ℕ) × IsLeastBroken ts rule t × (x ≡ syntax_refusal rule (place_at ts end t))
+
+abbrev pub IsRefused : List ℕ → ParseError → Type 0
+IsRefused source E.NoMemory = Unit {0}
+IsRefused source (E.Refused x) = (rule : ℕ) × (place : Place) × IsMisspelt source rule place × (x ≡ syntax_refusal rule place)

@@ -1,10 +1,10 @@
 -- Marks on types: what a new mark changes, and that where no more type can be marked, just the marked types have a value.
-use Rattle.std.proofs.Common.{◌≡◌, ℕ, zero, suc, ◌+◌, ◌<◌, ◌⊎◌, inl, inr, Bool, true, false, ◌||◌, ◌&&◌, List, [], ◌∷◌, ◌++◌, length, slice_get, slice_set, get_or, Some, pos, replicate, refl, ap, sym, subst, ◌∙◌, arith, true≢false, add-one, FitsSigned, rules}
+use Rattle.std.proofs.Common.{◌≡◌, ℕ, zero, suc, ◌+◌, ◌<◌, ◌⊎◌, inl, inr, Bool, true, false, ◌||◌, ◌&&◌, List, [], ◌∷◌, length, slice_get, slice_set, Some, pos, replicate, refl, ap, sym, subst, ◌∙◌, arith, true≢false, add-one, FitsSigned, rules}
 use Rattle.std.specs.Int.{w64}
 use Rattle.fip_language.specs.Values.{Value, Int, Node, Values, End, More}
 use Rattle.fip_language.specs.Table.{Shape, Table, shapes, HasType, HaveTypes}
 use Rattle.fip_language.specs.Right.{HasValue}
-use Rattle.loop_check.specs.Marks.{true_of, is_marked, are_marked, has_marked, unmarked, AreSound}
+use Rattle.loop_check.specs.Marks.{true_of, is_marked, are_marked, has_marked, AreSound}
 
 and_true : (a b : Bool) → (a && b) ≡ true → (a ≡ true) × (b ≡ true)
 and_true true b e = (refl, e)
@@ -22,25 +22,18 @@ either_true true b h = refl
 either_true false b (inl e) = absurd (true≢false (sym e))
 either_true false b (inr e) = e
 
-pub unmarked_set : (marks : List Bool) (t : ℕ) (d : Bool) → t < length marks → get_or marks t d ≡ false → unmarked (slice_set marks t true) + 1 ≡ unmarked marks
-unmarked_set [] t d h e = absurd (omega (arith, h))
-unmarked_set (true ∷ bs) zero d h e = absurd (true≢false e)
-unmarked_set (false ∷ bs) zero d h e = omega arith
-unmarked_set (true ∷ bs) (suc t) d h e = let r = unmarked_set bs t d (omega (arith, h)) e in omega (arith, r)
-unmarked_set (false ∷ bs) (suc t) d h e = let r = unmarked_set bs t d (omega (arith, h)) e in omega (arith, r)
-
 later : {A : Type 0} (t u : ℕ) → (u ≡ t) ⊎ A → (suc u ≡ suc t) ⊎ A
 later t u (inl e) = inl (ap suc e)
 later t u (inr a) = inr a
 
-got_set : (marks : List Bool) (t u : ℕ) → true_of (slice_get (slice_set marks t true) u) ≡ true → (u ≡ t) ⊎ (true_of (slice_get marks u) ≡ true)
+pub got_set : (marks : List Bool) (t u : ℕ) → true_of (slice_get (slice_set marks t true) u) ≡ true → (u ≡ t) ⊎ (true_of (slice_get marks u) ≡ true)
 got_set [] t u h = inr h
 got_set (b ∷ bs) zero zero h = inl refl
 got_set (b ∷ bs) zero (suc u) h = inr h
 got_set (b ∷ bs) (suc t) zero h = inr h
 got_set (b ∷ bs) (suc t) (suc u) h = later t u (got_set bs t u h)
 
-found_constructor : (marks : List Bool) (ss : List Shape) → has_marked marks ss ≡ true → (c : ℕ) × (s : Shape) × (slice_get ss c ≡ Some s) × (are_marked marks s.fields ≡ true)
+pub found_constructor : (marks : List Bool) (ss : List Shape) → has_marked marks ss ≡ true → (c : ℕ) × (s : Shape) × (slice_get ss c ≡ Some s) × (are_marked marks s.fields ≡ true)
 found_constructor marks [] h = absurd (true≢false (sym h))
 found_constructor marks (s ∷ ss) h = by (or_true (are_marked marks s.fields) (has_marked marks ss) h) (found_constructor marks ss)
   where
@@ -82,7 +75,7 @@ pub sound_unmarked : (tb : Table) (n : ℕ) → AreSound tb (replicate n false)
 sound_unmarked tb n zero e = (Int (pos 0), zero_fits)
 sound_unmarked tb n (suc u) e = absurd (none_marked n u e)
 
-has_from : (marks : List Bool) (ss : List Shape) (c : ℕ) (s : Shape) → slice_get ss c ≡ Some s → are_marked marks s.fields ≡ true → has_marked marks ss ≡ true
+pub has_from : (marks : List Bool) (ss : List Shape) (c : ℕ) (s : Shape) → slice_get ss c ≡ Some s → are_marked marks s.fields ≡ true → has_marked marks ss ≡ true
 has_from marks [] c s e h = cc
 has_from marks (r ∷ ss) zero s e h = let same : r ≡ s = cc in either_true (are_marked marks r.fields) (has_marked marks ss) (inl (ap (λ (k : Shape). are_marked marks k.fields) same ∙ h))
 has_from marks (r ∷ ss) (suc c) s e h = either_true (are_marked marks r.fields) (has_marked marks ss) (inr (has_from marks ss c s e h))
@@ -91,7 +84,7 @@ some_shape : (ss : List Shape) (c : ℕ) (s : Shape) → ss ≡ [] → slice_get
 some_shape [] c s n e = cc
 some_shape (r ∷ ss) c s n e = cc
 
-within : (tb : Table) (t c : ℕ) (s : Shape) → slice_get (shapes tb t) c ≡ Some s → t < length tb
+pub within : (tb : Table) (t c : ℕ) (s : Shape) → slice_get (shapes tb t) c ≡ Some s → t < length tb
 within [] t c s e = absurd (some_shape [] c s refl e)
 within (row ∷ rows) zero c s e = omega arith
 within (row ∷ rows) (suc t) c s e = let r = within rows t c s e in omega (arith, r)
@@ -114,14 +107,3 @@ mutual
 
 pub no_value : (tb : Table) (marks : List Bool) → IsClosed tb marks → (t : ℕ) → is_marked marks t ≡ false → HasValue tb t → ⊥
 no_value tb marks closed t e h = true≢false (sym (value_marked tb marks closed h.0 t h.1) ∙ e)
-
-pub one_more_false : (n : ℕ) → replicate n false ++ false ∷ [] ≡ replicate (n + 1) false
-one_more_false zero = refl
-one_more_false (suc n) = ap (λ l. false ∷ l) (one_more_false n) ∙ ap (λ k. replicate k false) (next_sum n)
-  where
-    next_sum : (n : ℕ) → suc (n + 1) ≡ suc n + 1
-    next_sum n = omega arith
-
-pub length_replicate : (n : ℕ) → length (replicate n false) ≡ n
-length_replicate zero = refl
-length_replicate (suc n) = ap suc (length_replicate n)

@@ -1,7 +1,7 @@
 -- A loop program that stands for a right core program: it has its function's name, types and registers, and means the
 -- same.
-use Rattle.std.specs.Prelude.{◌≡◌, ℕ, suc, ◌+◌, List, [], ◌∷◌, Option, Some, None}
-use Rattle.fip_language.specs.Values.{Value, Values, End, More}
+use Rattle.std.specs.Prelude.{◌≡◌, ℕ, suc, [], ◌∷◌, Option, Some, None}
+use Rattle.fip_language.specs.Values.{Values, End, More}
 use Rattle.fip_language.specs.Table.{HaveTypes}
 use Rattle.fip_language.specs.Core.{Core, Function}
 use Rattle.fip_language.specs.Declarations.{table_of}

@@ -7,3 +7,6 @@ pub mod Clauses
 pub mod Marks
 pub mod Program
 pub mod Checked
+pub mod Reached
+pub mod Fitting
+pub mod Waiting

@@ -1,6 +1,7 @@
 // The types of arguments, and their terms.
 ghost use Rattle.std.specs.Prelude.{◌≡◌, map, IfOk};
 ghost use Rattle.fip_base.specs.CoreView.{argument, arguments};
+ghost use Rattle.fip_language.specs.Scoped.{LiteralsFit, AllLiteralsFit};
 ghost use Rattle.loop_form.specs.Meaning.{in_clause};
 ghost use Rattle.loop_form.specs.View.{term_of as term_view, terms_of as terms_view};
 ghost use Rattle.loop_check.specs.Typing as t;
@@ -82,7 +83,8 @@ pub fn have_types(known: &Known<'_>, scope: &Scope<'_>, types: &[u32], parts: &[
 /// The term of an argument that has a type. Another one may give any term.
 #[cycle(term_of)]
 pub fn term_of(alloc: Global, known: &Known<'_>, a: &Argument) -> Result<Term, NoMemory>
-    ensures { IfOk result (λ x. term_view x ≡ t.term_in known.now (argument a.now)) }
+    ensures term { IfOk result (λ x. term_view x ≡ t.term_in known.now (argument a.now)) }
+    ensures literals { IfOk result (λ x. LiteralsFit (argument a.now)) }
 {
     match a {
         Argument::Variable { binder, .. } => Ok(register(*binder)),
@@ -101,7 +103,8 @@ pub fn term_of(alloc: Global, known: &Known<'_>, a: &Argument) -> Result<Term, N
 /// The terms of arguments.
 #[cycle(term_of)]
 pub fn terms_of(alloc: Global, known: &Known<'_>, parts: &[Argument]) -> Result<Vec<Term>, NoMemory>
-    ensures { IfOk result (λ l. terms_view l.items ≡ t.terms_in known.now (arguments parts.now)) }
+    ensures terms { IfOk result (λ l. terms_view l.items ≡ t.terms_in known.now (arguments parts.now)) }
+    ensures literals { IfOk result (λ l. AllLiteralsFit (arguments parts.now)) }
 {
     let mut terms = Vec::new(alloc);
     for a in parts {

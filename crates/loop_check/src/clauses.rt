@@ -2,12 +2,15 @@
 ghost use Rattle.std.specs.Prelude.{◌≡◌, ◌&&◌, ℕ, ◌+◌, ◌<◌, ◌≤◌, ◌==◌, min, true, false, Some, None, [], map, length, count_by, is_some, nat_le, IfOk, IfSome, MatchOption, IsTrue, ◌↔◌, ◌-◌, if◌then◌else◌};
 ghost use Rattle.fip_base.specs.CoreView.{block, clause, expression, pattern, patterns, writtens};
 ghost use Rattle.fip_language.specs.Declarations.{same_name};
+ghost use Rattle.fip_language.specs.Every.{Every};
 ghost use Rattle.fip_language.specs.Table.{constructors};
 ghost use Rattle.loop_check.specs.Types.{no_writtens};
 ghost use Rattle.loop_form.specs.Meaning.{in_clause};
 ghost use Rattle.loop_form.specs.View.{ending_of as ending_view, clause_of as clause_view};
 ghost use Rattle.loop_check.specs.Names.{with_names};
 ghost use Rattle.loop_check.specs.Clauses as s;
+ghost use Rattle.loop_check.specs.Program.{CaseLiteralsFit, EndingLiteralsFit};
+ghost use Rattle.loop_check.specs.Fitting.{AreFitting};
 
 use crate::arguments::{Scope, has_type, have_types, term_of, terms_of};
 use crate::counts::{
@@ -328,7 +331,8 @@ fn arity(c: &Clause) -> usize
 }
 
 fn ending_of(alloc: Global, known: &Known<'_>, ending: &Expression) -> Result<Ending, NoMemory>
-    ensures { IfOk result (λ e. ending_view e ≡ s.numbered_ending known.now (expression ending.now)) }
+    ensures ending { IfOk result (λ e. ending_view e ≡ s.numbered_ending known.now (expression ending.now)) }
+    ensures literals { IfOk result (λ e. EndingLiteralsFit (expression ending.now)) }
 {
     match ending {
         Expression::Give(a) => Ok(Ending::Give(term_of(alloc, known, a)?)),
@@ -355,7 +359,8 @@ fn number_of(id: Option<ConstructorId>) -> u32
 #[tactic(auto, using(crate::proofs::Views::count_patterns))]
 fn lower(alloc: Global, known: &Known<'_>, first: usize, c: &Clause) -> Result<LoopClause, NoMemory>
     requires { first + s.arity (s.case_parts (clause c.now)) ≤ 4096 }
-    ensures { IfOk result (λ l. clause_view l ≡ s.numbered_parts known.now first (s.case_parts (clause c.now))) }
+    ensures clause { IfOk result (λ l. clause_view l ≡ s.numbered_parts known.now first (s.case_parts (clause c.now))) }
+    ensures literals { IfOk result (λ l. CaseLiteralsFit (clause c.now)) }
 {
     match parts_of(c) {
         Some((name, ps, ending)) => Ok(LoopClause {
@@ -386,6 +391,7 @@ pub fn lower_all(
     requires parameters { length head.now.parameters.now ≤ 4096 }
     ensures right { IfOk result (λ o. MatchOption o (s.right_clauses known.now (s.signature head.now) first (map clause cs.now) ≡ None) (λ r. s.right_clauses known.now (s.signature head.now) first (map clause cs.now) ≡ Some r.1)) }
     ensures numbered { IfOk result (λ o. IfSome o (λ r. map clause_view r.0.items ≡ s.numbered_clauses known.now first (map clause cs.now))) }
+    ensures literals { IfOk result (λ o. IfSome o (λ r. Every CaseLiteralsFit (map clause cs.now))) }
     ensures bound { IfOk result (λ o. IfSome o (λ r. r.1 ≤ 4096)) }
 {
     let mut lowered = Vec::new(alloc);
@@ -467,12 +473,14 @@ pub fn lower_checked(
     requires { length head.now.parameters.now ≤ 4096 }
     ensures right { IfOk result (λ o. IfSome o (λ r. s.right_clauses known.now (s.signature head.now) (length head.now.parameters.now) (map clause cs.now) ≡ Some r.binders)) }
     ensures numbered { IfOk result (λ o. IfSome o (λ r. map clause_view r.clauses.items ≡ s.numbered_clauses known.now (length head.now.parameters.now) (map clause cs.now))) }
+    ensures literals { IfOk result (λ o. IfSome o (λ r. Every CaseLiteralsFit (map clause cs.now))) }
     ensures registers { IfOk result (λ o. IfSome o (λ r. r.registers ≡ length head.now.parameters.now + s.case_registers (map clause cs.now))) }
     ensures few_registers { IfOk result (λ o. IfSome o (λ r. r.registers ≤ 4096)) }
     ensures bound { IfOk result (λ o. IfSome o (λ r. r.binders ≤ 4096)) }
     ensures few { IfOk result (λ o. IfSome o (λ r. length cs.now ≤ 64)) }
     ensures nodes { IfOk result (λ o. IfSome o (λ r. length cs.now + (r.binders - length head.now.parameters.now) ≤ 256)) }
     ensures covered { IfOk result (λ o. IfSome o (λ r. (n : ℕ) → n < length (constructors known.now.table head.now.ty) → count_by (λ k. k.constructor == n) (map clause_view r.clauses.items) ≡ 1)) }
+    ensures refused { IfOk result (λ o. o ≡ None → (n : ℕ) → AreFitting known.now head.now.name.now head.now.parameters.now head.now.given (record { scrutinee = head.now.scrutinee; cases = map clause cs.now }) head.now.ty n → ⊥) }
 {
     let count = head.parameters.len();
     if cs.len() > 64 {

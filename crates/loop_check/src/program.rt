@@ -1,9 +1,18 @@
 // The check of a program.
-ghost use Rattle.std.specs.Prelude.{◌≡◌, ℕ, ◌≤◌, true, None, Some, map, length, slice_get, IfOk, IfSome, MatchOption};
+ghost use Rattle.std.specs.Prelude.{◌≡◌, ℕ, ◌≤◌, true, false, [], None, Some, map, length, slice_get, IfOk, IfSome, MatchOption, option_map};
 ghost use Rattle.fip_base.specs.CoreView.{argument, block, clause, core, data_type, expression, function, parameter, is_destructive};
 ghost use Rattle.loop_check.specs.Header.{parameter_numbers};
 ghost use Rattle.loop_form.specs.View.{loop_of as loop_view, clause_of as clause_view};
+ghost use Rattle.fip_language.specs.Core.{Core as CoreForm};
+ghost use Rattle.fip_language.specs.Every.{Every};
+ghost use Rattle.fip_language.specs.LoopForm.{IsPlainData};
+ghost use Rattle.fip_language.specs.CoreForm.{core_form};
+ghost use Rattle.fip_language.specs.Right.{AreRightTypes, IsRight};
+ghost use Rattle.fip_language.specs.Surface.{Program};
+ghost use Rattle.fip_language.specs.UpperNames.{HaveUpperNames};
+ghost use Rattle.loop_check.specs.Checked.{IsPassed};
 ghost use Rattle.loop_check.specs.Program as p;
+ghost use Rattle.loop_check.specs.Fitting.{IsFitting, AreFitting};
 
 use crate::clauses::{Head, last_of, lower_checked};
 use crate::header::{Known, are_distinct, at, is_right_header, parameter_numbers, result_number};
@@ -30,6 +39,10 @@ pub enum CheckError {
 }
 
 impl From<NoMemory> for CheckError {
+    ghost use Rattle.loop_check.specs.declared.program.CheckError.TheVariants as E;
+
+    ghost from_gives = { λ _ e. e ≡ E.NoMemory };
+
     fn from(_: NoMemory) -> CheckError {
         CheckError::NoMemory
     }
@@ -37,7 +50,8 @@ impl From<NoMemory> for CheckError {
 
 /// Checks a program, and resolves its function; `None` where a right program has no function.
 pub fn check(alloc: Global, program: &Core) -> Result<Option<LoopProgram>, CheckError>
-    ensures passes { IfOk result (λ o. IfSome o (λ l. p.PassesAll (core program.now) (loop_view l))) }
+    ensures passes { IfOk result (λ o. HaveUpperNames (core program.now).types → IsPassed (core program.now) (option_map loop_view o)) }
+    ensures refused { result ≡ Err CheckError.Refused → (source : Program) → core program.now ≡ core_form source → IsRight (core program.now) → ⊥ }
 {
     match known_of(alloc, program.types.as_slice())? {
         Some(known) => match program.functions.as_slice() {
@@ -55,6 +69,7 @@ pub fn check(alloc: Global, program: &Core) -> Result<Option<LoopProgram>, Check
 // The declarations of right types; none where a rule is broken.
 fn known_of<'a>(alloc: Global, types: &'a [Data]) -> Result<Option<Known<'a>>, NoMemory>
     ensures known { IfOk result (λ o. IfSome o (λ k. p.IsKnown k (map data_type types.now))) }
+    ensures refused { IfOk result (λ o. o ≡ None → (program : CoreForm) → program.types ≡ map data_type types.now → Every IsPlainData program.types → AreRightTypes program → ⊥) }
 {
     let Some(names) = type_names(alloc, types)? else {
         return Ok(None);
@@ -71,7 +86,7 @@ fn known_of<'a>(alloc: Global, types: &'a [Data]) -> Result<Option<Known<'a>>, N
         return Ok(None);
     }
     let count = names.len() as u32;
-    if !are_valued(alloc, &table, count)? {
+    if !are_valued(alloc, &table, count, ids.as_slice())? {
         return Ok(None);
     }
     let scalars = scalars_of(alloc, &table, count)?;
@@ -151,6 +166,8 @@ fn is_right_signature(
     requires { parameters.now ≡ parameter_numbers known.now.types (map parameter f.now.parameters.items) }
     ensures right { IfOk result (λ b. b ≡ true → p.HeaderPasses known.now (function f.now)) }
     ensures few { IfOk result (λ b. b ≡ true → length parameters.now ≤ 4096) }
+    ensures few_types { IfOk result (λ b. b ≡ true → p.AreFewTypes known.now.table parameters.now given) }
+    ensures refused { IfOk result (λ b. b ≡ false → p.HeaderPasses known.now (function f.now) → p.AreFewTypes known.now.table parameters.now given → length parameters.now ≤ 4096 → ⊥) }
 {
     if !is_right_header(&known.types, f)
         || !known.are_narrow(parameters)
@@ -171,6 +188,7 @@ fn program_of(
     f: &Function,
 ) -> Result<Option<LoopProgram>, NoMemory>
     ensures passes { IfOk result (λ o. IfSome o (λ l. p.Passes known.entry (function f.now) (loop_view l))) }
+    ensures refused { IfOk result (λ o. o ≡ None → IsFitting known.entry (function f.now) → ⊥) }
 {
     let given = result_number(&known.types, &f.result);
     let parameters = parameter_numbers(alloc, &known.types, f.parameters.as_slice())?;
@@ -214,6 +232,7 @@ fn resolve(
     requires data_type { 1 ≤ found.ty }
     ensures fits { IfOk result (λ o. IfSome o (λ l. p.Fits known.entry (function f.now).name parameters given (record { scrutinee = found.scrutinee; cases = map clause clauses.now }) found.ty l.binders (map clause_view l.clauses.items))) }
     ensures resolved { IfOk result (λ o. IfSome o (λ l. loop_view l ≡ p.resolved known.entry (function f.now).name parameters given (record { scrutinee = found.scrutinee; cases = map clause clauses.now }) l.binders (map clause_view l.clauses.items))) }
+    ensures refused { IfOk result (λ o. o ≡ None → (n : ℕ) → AreFitting known.entry (function f.now).name parameters given (record { scrutinee = found.scrutinee; cases = map clause clauses.now }) found.ty n → ⊥) }
 {
     let head = Head {
         name: f.name.as_slice(),

@@ -1,48 +1,89 @@
 // How many types a function uses.
-ghost use Rattle.std.specs.Prelude.{◌≡◌, length};
+ghost use Rattle.std.specs.Prelude.{◌≡◌, ℕ, List, [], true, false, length, slice_get, IfOk, OnOk};
+ghost use Rattle.fip_language.specs.Table.{constructors};
+ghost use Rattle.loop_check.specs.Program.{AreFewTypes};
+ghost use Rattle.loop_check.specs.Reached.{with_type, with_types, with_fields};
 
 use fip_base::plain::NoMemory;
-use fip_base::table::TypeTable;
+use fip_base::table::{Constructor, TypeTable};
+use indexmap::IndexSet;
 use std::alloc::Global;
+use std::marker::Model;
 
 /// The most types that a function may use.
 pub const MOST_TYPES: usize = 4096;
 
-// The types that were reached, in this order, and a mark for each type of the table that was.
+// Types but int, each once, in the order in which they were reached.
 #[derive(Drop)]
-struct Reached {
-    types: Vec<u32>,
-    marks: Vec<bool>,
+struct TypeSet {
+    types: IndexSet<u32>,
 }
 
-// Reaches a type of the table, if it is new.
-fn reach(reached: &mut Reached, ty: u32) -> Result<(), NoMemory> {
-    if ty == 0 {
-        return Ok(());
-    }
-    let place = ty as usize - 1;
-    if place < reached.marks.len() && !reached.marks[place] {
-        reached.marks[place] = true;
-        reached.types.push(ty)?;
-    }
-    Ok(())
+impl Model for TypeSet {
+    ghost Value = { List ℕ };
+
+    ghost view = { λ s. s.types.keys };
 }
 
-fn reach_all(reached: &mut Reached, types: &[u32]) -> Result<(), NoMemory> {
+impl TypeSet {
+    fn new(alloc: Global) -> Self
+        ensures empty { result ≡ [] }
+    {
+        TypeSet {
+            types: IndexSet::new(alloc),
+        }
+    }
+
+    // Adds a type behind the others, if it is new.
+    fn reach(&mut self, ty: u32) -> Result<(), NoMemory>
+        ensures added { OnOk result (self.new ≡ with_type self.old ty) }
+    {
+        if ty != 0 {
+            self.types.insert(ty)?;
+        }
+        Ok(())
+    }
+
+    // The type at a place.
+    fn at(&self, i: usize) -> Option<u32>
+        ensures { result ≡ slice_get self.now i }
+    {
+        self.types.get_index(i).copied()
+    }
+
+    fn len(&self) -> usize
+        ensures count { result ≡ length self.now }
+    {
+        self.types.len()
+    }
+}
+
+fn reach_all(reached: &mut TypeSet, types: &[u32]) -> Result<(), NoMemory>
+    ensures added { OnOk result (reached.new ≡ with_types reached.old types.now) }
+{
     for ty in types {
-        reach(reached, *ty)?;
+        reached.reach(*ty)?;
     }
     Ok(())
 }
 
-fn reach_fields(reached: &mut Reached, table: &TypeTable, ty: u32) -> Result<(), NoMemory> {
-    if ty as usize > table.len() {
-        return Ok(());
-    }
-    for k in table.constructors_of(ty) {
+fn reach_constructors(reached: &mut TypeSet, constructors: &[Constructor]) -> Result<(), NoMemory>
+    ensures added { OnOk result (reached.new ≡ with_fields reached.old constructors.now) }
+{
+    for k in constructors {
         reach_all(reached, k.fields())?;
     }
     Ok(())
+}
+
+#[tactic(auto, using(crate::proofs::Views::constructors_past))]
+fn reach_fields(reached: &mut TypeSet, table: &TypeTable, ty: u32) -> Result<(), NoMemory>
+    ensures added { OnOk result (reached.new ≡ with_fields reached.old (constructors table.now ty)) }
+{
+    if ty as usize > table.len() {
+        return Ok(());
+    }
+    reach_constructors(reached, table.constructors_of(ty))
 }
 
 /// Whether bool, these types and those of their constructors' fields, and so on, are at most 4,096; int isn't counted.
@@ -51,24 +92,19 @@ pub fn are_few(
     table: &TypeTable,
     parameters: &[u32],
     given: u32,
-) -> Result<bool, NoMemory> {
-    let mut marks = Vec::new(alloc);
-    for _ in 0..table.len() {
-        marks.push(false)?;
-    }
-    let mut reached = Reached {
-        types: Vec::new(alloc),
-        marks,
-    };
-    reach(&mut reached, 1)?;
-    reach(&mut reached, given)?;
+) -> Result<bool, NoMemory>
+    ensures few { IfOk result (λ b. b ≡ true → AreFewTypes table.now parameters.now given) }
+    ensures many { IfOk result (λ b. b ≡ false → AreFewTypes table.now parameters.now given → ⊥) }
+{
+    let mut reached = TypeSet::new(alloc);
+    reached.reach(1)?;
+    reached.reach(given)?;
     reach_all(&mut reached, parameters)?;
     for i in 0..MOST_TYPES {
-        if i >= reached.types.len() {
-            return Ok(true);
+        match reached.at(i) {
+            Some(ty) => reach_fields(&mut reached, table, ty)?,
+            None => return Ok(true),
         }
-        let ty = reached.types[i];
-        reach_fields(&mut reached, table, ty)?;
     }
-    Ok(reached.types.len() <= MOST_TYPES)
+    Ok(reached.len() <= MOST_TYPES)
 }

@@ -2,8 +2,4 @@ pub mod Loop
 pub mod View
 pub mod Meaning
 pub mod Fine
-pub mod FineTest
-pub mod Names
-pub mod Marks
-pub mod TableTest
 pub mod Example

@@ -1,9 +1,9 @@
-use Rattle.std.proofs.Common.{◌≡◌, length}
-use Rattle.loop_check.specs.Marks.{unmarked, AreSound}
+use Rattle.std.proofs.Common.{[]}
+use Rattle.loop_check.proofs.Waits.{IsGoing, left}
 use Rattle.loop_check.proofs.valued.are_valued.Given as goal
 
-abbrev pub invariant-loop : goal.invariant-loop
-invariant-loop l = record { all : length l.marks.items ≡ l.count; sound : AreSound l.table l.marks.items }
+abbrev pub invariant-loop-place : goal.invariant-loop-place
+invariant-loop-place l = IsGoing l.table l.marking []
 
-abbrev pub decreases-loop : goal.decreases-loop
-decreases-loop l = unmarked l.marks.items
+abbrev pub decreases-loop-place : goal.decreases-loop-place
+decreases-loop-place l = left l.marking

@@ -3,11 +3,11 @@ ghost use Rattle.std.specs.Prelude.{◌≡◌, IfOk, map, option_map};
 ghost use Rattle.fip_base.specs.CoreView as core_view;
 ghost use Rattle.fip_base.specs.SurfaceView as surface;
 
-use fip_base::surface as tree;
 use fip_base::core_form::{
     Data, DataConstructor, ResultType, SignatureParameter, Static, TypeName, Written,
 };
 use fip_base::plain::{Name, NoMemory};
+use fip_base::surface as tree;
 use std::alloc::Global;
 
 /// A name with these bytes.

@@ -16,13 +16,13 @@ use crate::copies::{
     copy_written,
 };
 use crate::scope::Scope;
-use fip_base::surface as tree;
-use fip_base::surface::Step;
 use fip_base::core_form::{
     Argument, Binder, Binding, Block, Clause, Core, Expression, Function, MatchKind, Parameter,
     Pattern,
 };
 use fip_base::plain::{NoMemory, Place};
+use fip_base::surface as tree;
+use fip_base::surface::Step;
 use std::alloc::Global;
 
 // The first place of a text.

@@ -10,3 +10,4 @@ mod Ready
 mod Outcome
 mod Finished
 mod Outcomes
+mod Fronts

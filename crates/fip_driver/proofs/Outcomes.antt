@@ -1,83 +1,170 @@
--- What the parts of a command come to, and so the whole.
-use Rattle.std.proofs.Common.{◌≡◌, ◌∙◌, ◌<◌, ◌≤◌, ◌+◌, ℕ, List, [], ◌++◌, sym, ap, subst, refl, inl, inr, length, arith, append-nil}
-use Rattle.std.specs.Prelude.{◌⊎◌, Option, Some, None, Result, Ok, Err}
+-- What the parts of a command come to, and so the whole: each part's outcome is explained by the reply to what the objects
+-- told, or to something where they told nothing.
+use Rattle.std.proofs.Common.{◌≡◌, ◌∙◌, ◌<◌, ◌≤◌, ◌+◌, ℕ, zero, suc, List, [], ◌∷◌, ◌++◌, sym, ap, subst, refl, inl, inr, length, arith, append-nil, replicate}
+use Rattle.std.specs.Prelude.{◌⊎◌, Option, Some, None, Result, Ok, Err, IsSomeAnd, Bool, true, false, bytes_eq, if◌then◌else◌}
 use Rattle.std.specs.Io.KnownBytes.{Consumes, IsAtEnd}
 use Rattle.std.specs.declared.vec.Vec.{Vec}
 use Rattle.std.specs.declared.alloc.Global.{Global}
-use Rattle.std.proofs.lemmas.List.{length-append}
+use Rattle.std.proofs.lemmas.List.{length-append, length-replicate}
+use Rattle.std.proofs.lemmas.Slice.Eq.{bytes_eq-Decides}
+use Rattle.fip_language.specs.Core.{Core, Function}
+use Rattle.fip_language.specs.Declarations.{function_of}
+use Rattle.fip_language.specs.Answer.{Reply, Answers, Runs, Reads}
+use Rattle.fip_language.specs.Right.{IsRight}
+use Rattle.fip_language.proofs.LoopStack.{function_of-only}
 use Rattle.fip_base.specs.Faults.{Rose}
-use Rattle.fip_base.specs.Files.{File}
+use Rattle.fip_base.specs.Files.{File, file_of, HoldsFile, HoldsLonger, IsMissing}
 use Rattle.fip_base.specs.Takes.{Takes}
 use Rattle.loop_form.specs.Loop.{Loop}
-use Rattle.fip_driver.specs.Words.{Request}
+use Rattle.fip_driver.specs.Words.{Request, IsRequest}
 use Rattle.fip_driver.specs.LoopRun.{IsLoopRun}
 use Rattle.fip_driver.specs.Fetched.{FetchFails, ReadFails}
-use Rattle.fip_driver.specs.ExecOutcome.{HasLoop, IsSourceFailure, IsWhole, IsLong, RunsAs, EntryOutcome, EntryRuns, RequestOutcome}
+use Rattle.fip_driver.specs.Fronted.{HasEntry, FrontFails, IsFront}
+use Rattle.fip_driver.specs.Answered.{Spelling, source_spelling, IsTold, IsNoCommand, Explained, Replies, Answered, plain_request}
+use Rattle.fip_driver.specs.Explained.{ExplainedBy}
+use Rattle.fip_driver.specs.ExecOutcome.{EntryOutcome, RequestOutcome, ExecOutcome}
 use Rattle.fip_driver.specs.declared.failure.Failure.{Failure}
 use Rattle.fip_driver.specs.declared.failure.Failure.TheVariants as F
 use Rattle.fip_driver.specs.declared.failure.Object.TheVariants as O
+use Rattle.fip_driver.proofs.Explaining.{explained_up, explained, fetch_explained, file_reply, core_reply, function_reply, spelling_explained, check_explained, entry_explained, input_explained}
+use Rattle.fip_driver.proofs.Running.{run_explained}
+use Rattle.fip_driver.proofs.WholeAnswer.{whole_answer}
+use Rattle.fip_driver.specs.Delivered.{Seen, Delivered}
+
+-- something is told, or else this may be
+any_told : {A : Type 0} (o : Option A) (x : A) → (y : A) × IsTold o y
+any_told None x = (x, tt)
+any_told (Some y) x = (y, refl)
+
+own_name : (name bytes : List ℕ) → file_of name (record { name = name; bytes = bytes } ∷ []) ≡ Some bytes
+own_name name bytes = ap (λ b. if b then Some bytes else None) ((bytes_eq-Decides name name).1 refl)
+
+-- files that are told, with these bytes under the name
+held : (files : Option (List File)) (name bytes : List ℕ) → HoldsFile files name bytes → (all : List File) × IsTold files all × (file_of name all ≡ Some bytes)
+held None name bytes h = (record { name = name; bytes = bytes } ∷ [], tt, own_name name bytes)
+held (Some all) name bytes h = (all, refl, h)
+
+-- so many bytes
+bytes_of : (n : ℕ) → (bytes : List ℕ) × (length bytes ≡ n)
+bytes_of n = (replicate n 0, length-replicate n 0)
+
+-- ---- the file
+
+longer : (name : List ℕ) (limit : ℕ) → (all : List File) × HoldsLonger (Some all) name limit
+longer name limit =
+    let b = bytes_of (limit + 1) in
+    let all : List File = record { name = name; bytes = b.0 } ∷ [] in
+    let enough : limit < length b.0 = let n = b.1 in omega arith in
+    (all, subst (λ o. IsSomeAnd o (λ bs. limit < length bs)) (sym (own_name name b.0)) enough)
+
+-- the same cause, of files that are told
+told_fetch : (files : Option (List File)) (name : List ℕ) (before now : ℕ) (f : Failure) → FetchFails files name before now f → (all : List File) × IsTold files all × FetchFails (Some all) name before now f
+told_fetch (Some all) name before now f h = (all, refl, h)
+told_fetch None name before now F.NotUnderstood h = absurd h
+told_fetch None name before now (F.Refused x) h = let l = longer name 1048576 in (l.0, tt, (h.0, l.1))
+told_fetch None name before now (F.BadInput at) h = absurd h
+told_fetch None name before now (F.TooSmall needed given) h = absurd h
+told_fetch None name before now (F.OutOfCalls given) h = absurd h
+told_fetch None name before now (F.Fault object) h = ([], tt, (h.0, elim h.1 [ inl up ↦ inl up | inr gone ↦ absurd gone ]))
+told_fetch None name before now F.NoMemory h = ([], tt, tt)
 
 pub fetch_outcome : (r : Request) (files : Option (List File)) (left : Option (List ℕ)) (before now : ℕ) (rose : Type 0) (f : Failure) → FetchFails files r.file before now f → RequestOutcome r files left (Rose before now) rose (Err f)
-fetch_outcome r files left before now rose F.NotUnderstood h = h
-fetch_outcome r files left before now rose (F.Refused x) h = tt
-fetch_outcome r files left before now rose (F.BadInput at) h = absurd h
-fetch_outcome r files left before now rose (F.TooSmall needed given) h = absurd h
-fetch_outcome r files left before now rose (F.OutOfCalls given) h = absurd h
-fetch_outcome r files left before now rose (F.Fault object) h = inl h
-fetch_outcome r files left before now rose F.NoMemory h = tt
+fetch_outcome r files left before now rose f h words asked =
+    let t = told_fetch files r.file before now f h in
+    let i = any_told left [] in
+    (t.0, i.0, t.1, i.1, fetch_explained source_spelling words t.0 i.0 rose before now r f asked t.2)
 
-pub source_outcome : (r : Request) (files : Option (List File)) (left : Option (List ℕ)) (folder_rose rose : Type 0) (f : Failure) → IsSourceFailure f → RequestOutcome r files left folder_rose rose (Err f)
-source_outcome r files left fr rose F.NotUnderstood h = h
-source_outcome r files left fr rose (F.Refused x) h = tt
-source_outcome r files left fr rose (F.BadInput at) h = absurd h
-source_outcome r files left fr rose (F.TooSmall needed given) h = absurd h
-source_outcome r files left fr rose (F.OutOfCalls given) h = absurd h
-source_outcome r files left fr rose (F.Fault object) h = absurd h
-source_outcome r files left fr rose F.NoMemory h = tt
+-- ---- the source
 
-more_left : (input : List ℕ) (left : Option (List ℕ)) → Takes (Some input) left 16777217 → 16777216 < length input
-more_left input None h = absurd h.1
-more_left input (Some rest) h =
-    let long : length input ≡ length h.0 + length rest = ap length h.1 ∙ length-append h.0 rest in
-    let taken = h.2 in
-    omega arith
+front_answers : (r : Request) (source input : List ℕ) (rose : Type 0) (f : Failure) → length source ≤ 1048576 → FrontFails source_spelling source r.entry f → ExplainedBy (Answers source_spelling.spells source_spelling.misspells (plain_request r) source input) r.gauge rose (Err f)
+front_answers r source input rose f le (inl h) = spelling_explained source_spelling (plain_request r) source input r.gauge rose f le h
+front_answers r source input rose f le (inr (core, spelt, inl h)) =
+    explained_up (Runs (plain_request r) core input) _ r.gauge rose (core_reply source_spelling (plain_request r) source input core le spelt) (Err f) (check_explained (plain_request r) core input r.gauge rose f h)
+front_answers r source input rose f le (inr (core, spelt, inr h)) =
+    explained_up (Runs (plain_request r) core input) _ r.gauge rose (core_reply source_spelling (plain_request r) source input core le spelt) (Err f) (entry_explained (plain_request r) core input r.gauge rose f h.0 h.1)
 
-long_input : (before left : Option (List ℕ)) (at : ℕ) → at ≡ 16777216 → Takes before left 16777217 → IsLong before at
-long_input before left at e h = (e, λ bytes told. more_left bytes left (subst (λ o. Takes o left 16777217) told h))
+-- the replies to a source of a file explain the request's outcome
+of_source : (r : Request) (files : Option (List File)) (left : Option (List ℕ)) (folder_rose rose : Type 0) (source : List ℕ) (o : Result (Vec ℕ Global) Failure) → HoldsFile files r.file source → (input : List ℕ) × IsTold left input × ExplainedBy (Answers source_spelling.spells source_spelling.misspells (plain_request r) source input) r.gauge rose o → RequestOutcome r files left folder_rose rose o
+of_source r files left fr rose source o holds h words asked =
+    let t = held files r.file source holds in
+    (t.0, h.0, t.1, h.1, explained source_spelling words t.0 h.0 fr rose r o (explained_up (Answers source_spelling.spells source_spelling.misspells (plain_request r) source h.0) _ r.gauge rose (file_reply source_spelling words t.0 h.0 source r asked t.2) o h.2))
+
+pub source_outcome : (r : Request) (files : Option (List File)) (left : Option (List ℕ)) (folder_rose rose : Type 0) (source text : List ℕ) (f : Failure) → HoldsFile files r.file source → length source ≤ 1048576 → text ≡ source → FrontFails source_spelling text r.entry f → RequestOutcome r files left folder_rose rose (Err f)
+source_outcome r files left fr rose source text f holds le same h =
+    let i = any_told left [] in
+    of_source r files left fr rose source (Err f) holds (i.0, i.1, front_answers r source i.0 rose f le (subst (λ x. FrontFails source_spelling x r.entry f) same h))
+
+pub entry_outcome : (l : Loop) (r : Request) (files : Option (List File)) (left : Option (List ℕ)) (folder_rose rose : Type 0) (source text : List ℕ) (o : Result (Vec ℕ Global) Failure) → HoldsFile files r.file source → length source ≤ 1048576 → text ≡ source → IsFront source_spelling text r.entry l → EntryOutcome l r left rose o → RequestOutcome r files left folder_rose rose o
+entry_outcome l r files left fr rose source text o holds le same fronts ends =
+    let front = subst (λ x. IsFront source_spelling x r.entry l) same fronts in
+    let e = ends front.0 front.2 in
+    of_source r files left fr rose source o holds (e.0, e.1, explained_up (Runs (plain_request r) front.0 e.0) _ r.gauge rose (core_reply source_spelling (plain_request r) source e.0 front.0 le front.1) o e.2)
+
+-- ---- the input
+
+entered : (core : Core) (l : Loop) (r : Request) (h : HasEntry core l r.entry) → function_of core r.entry ≡ Some h.ready.function
+entered core l r h = subst (λ name. function_of core name ≡ Some h.ready.function) h.named (function_of-only core h.ready.function h.ready.checked.only)
+
+-- the replies to an input explain the entry's outcome
+of_input : (l : Loop) (r : Request) (rose : Type 0) (o : Result (Vec ℕ Global) Failure) (core : Core) (h : HasEntry core l r.entry) (input : List ℕ) → ExplainedBy (Reads (plain_request r) core h.ready.function input) r.gauge rose o → ExplainedBy (Runs (plain_request r) core input) r.gauge rose o
+of_input l r rose o core h input e =
+    explained_up (Reads (plain_request r) core h.ready.function input) _ r.gauge rose (function_reply (plain_request r) core input h.ready.function h.ready.checked.right (entered core l r h)) o e
+
+-- the same cause, of an input that is told
+told_input : (before left : Option (List ℕ)) (old new : ℕ) (f : Failure) → ReadFails before left old new f → (input : List ℕ) × IsTold before input × ((rest : Option (List ℕ)) × ReadFails (Some input) rest old new f)
+told_input (Some input) left old new f h = (input, refl, (left, h))
+told_input None left old new F.NotUnderstood h = absurd h
+told_input None left old new (F.Refused x) h = absurd h
+told_input None left old new (F.BadInput at) h =
+    let b = bytes_of 16777217 in
+    (b.0, tt, (Some [], (h.0, (b.0, sym (append-nil b.0), b.1))))
+told_input None left old new (F.TooSmall needed given) h = absurd h
+told_input None left old new (F.OutOfCalls given) h = absurd h
+told_input None left old new (F.Fault object) h = ([], tt, (None, h))
+told_input None left old new F.NoMemory h = ([], tt, (None, tt))
 
 pub read_outcome : (l : Loop) (r : Request) (before left : Option (List ℕ)) (old new : ℕ) (f : Failure) → ReadFails before left old new f → EntryOutcome l r before (Rose old new) (Err f)
-read_outcome l r before left old new F.NotUnderstood h = h
-read_outcome l r before left old new (F.Refused x) h = h
-read_outcome l r before left old new (F.BadInput at) h = inl (long_input before left at h.0 h.1)
-read_outcome l r before left old new (F.TooSmall needed given) h = absurd h
-read_outcome l r before left old new (F.OutOfCalls given) h = absurd h
-read_outcome l r before left old new (F.Fault object) h = h
-read_outcome l r before left old new F.NoMemory h = tt
+read_outcome l r before left old new f h core has =
+    let t = told_input before left old new f h in
+    (t.0, t.1, of_input l r (Rose old new) (Err f) core has t.0 (input_explained (plain_request r) core has.ready.function t.0 t.2.0 old new r.gauge f t.2.1))
 
-whole_of : (before left : Option (List ℕ)) (read : List ℕ) → Consumes before left read → IsAtEnd left → IsWhole before read
-whole_of None left read c end bytes e = cc
-whole_of (Some xs) None read c end bytes e = absurd c
-whole_of (Some xs) (Some ys) read c end bytes e =
-    let same : xs ≡ bytes = cc in
+-- an input that was read to its end is what was told
+whole_of : (before left : Option (List ℕ)) (read : List ℕ) → Consumes before left read → IsAtEnd left → IsTold before read
+whole_of None left read c end = tt
+whole_of (Some xs) None read c end = absurd c
+whole_of (Some xs) (Some ys) read c end =
     let none : ys ≡ [] = end in
-    sym same ∙ (c ∙ (ap (λ ys. read ++ ys) none ∙ append-nil read))
+    c ∙ (ap (λ ys. read ++ ys) none ∙ append-nil read)
 
-pub run_outcome : (l : Loop) (r : Request) (before left : Option (List ℕ)) (rose : Type 0) (read : List ℕ) (o : Result (Vec ℕ Global) Failure) → Consumes before left read → IsAtEnd left → IsLoopRun l read r.words r.calls r.gauge o → EntryOutcome l r before rose o
-run_outcome l r before left rose read (Ok text) c end h = (read, whole_of before left read c end, h)
-run_outcome l r before left rose read (Err F.NotUnderstood) c end h = h
-run_outcome l r before left rose read (Err (F.Refused x)) c end h = h
-run_outcome l r before left rose read (Err (F.BadInput at)) c end h = inr (read, whole_of before left read c end, h)
-run_outcome l r before left rose read (Err (F.TooSmall needed given)) c end h = (read, whole_of before left read c end, h)
-run_outcome l r before left rose read (Err (F.OutOfCalls given)) c end h = (read, whole_of before left read c end, h)
-run_outcome l r before left rose read (Err (F.Fault object)) c end h = absurd h
-run_outcome l r before left rose read (Err F.NoMemory) c end h = tt
+pub run_outcome : (l : Loop) (r : Request) (before left : Option (List ℕ)) (rose : Type 0) (read bytes : List ℕ) (o : Result (Vec ℕ Global) Failure) → Consumes before left read → IsAtEnd left → length read ≤ 16777216 → bytes ≡ read → IsLoopRun l bytes r.words r.calls r.gauge o → EntryOutcome l r before rose o
+run_outcome l r before left rose read bytes o c end le same h core has =
+    let runs = subst (λ x. IsLoopRun l x r.words r.calls r.gauge o) same h in
+    (read, whole_of before left read c end, of_input l r rose o core has read (run_explained core has.ready.function l has.ready.checked (plain_request r) read le r.gauge rose o runs))
 
-pub entry_outcome : (l : Loop) (r : Request) (files : Option (List File)) (left : Option (List ℕ)) (folder_rose rose : Type 0) (o : Result (Vec ℕ Global) Failure) → HasLoop r.entry l → EntryOutcome l r left rose o → RequestOutcome r files left folder_rose rose o
-entry_outcome l r files left fr rose (Ok text) has h = (l, has, h)
-entry_outcome l r files left fr rose (Err F.NotUnderstood) has h = h
-entry_outcome l r files left fr rose (Err (F.Refused x)) has h = tt
-entry_outcome l r files left fr rose (Err (F.BadInput at)) has h = (l, has, h)
-entry_outcome l r files left fr rose (Err (F.TooSmall needed given)) has h = (l, has, h)
-entry_outcome l r files left fr rose (Err (F.OutOfCalls given)) has h = (l, has, h)
-entry_outcome l r files left fr rose (Err (F.Fault object)) has h = inr h
-entry_outcome l r files left fr rose (Err F.NoMemory) has h = tt
+-- ---- the words
+
+pub no_command_outcome : (words : List (List ℕ)) (files : Option (List File)) (left : Option (List ℕ)) (folder_rose rose : Type 0) → IsNoCommand words → ExecOutcome words files left folder_rose rose (Err F.NotUnderstood)
+no_command_outcome words files left fr rose h =
+    let t = any_told files [] in
+    let i = any_told left [] in
+    (t.0, i.0, t.1, i.1, h)
+
+pub no_memory_outcome : (words : List (List ℕ)) (files : Option (List File)) (left : Option (List ℕ)) (folder_rose rose : Type 0) → ExecOutcome words files left folder_rose rose (Err F.NoMemory)
+no_memory_outcome words files left fr rose =
+    let t = any_told files [] in
+    let i = any_told left [] in
+    (t.0, i.0, t.1, i.1, tt)
+
+-- ---- the whole
+
+module _ (words : List (List ℕ)) (files : List File) (input : List ℕ) (out out' err err' : Seen) where
+  told_whole : (folder_rose input_rose : Type 0) → (folder_rose → ⊥) → (input_rose → ⊥) → (Rose out.faults out'.faults → ⊥) → (Rose err.faults err'.faults → ⊥) → (o : Result (Vec ℕ Global) Failure) (s : ℕ) (fs : List File) (bytes : List ℕ) → files ≡ fs → input ≡ bytes → Explained source_spelling words fs bytes folder_rose input_rose o → Delivered out out' err err' o s → Answered source_spelling words files input out.written out'.written err.written err'.written s
+  told_whole fr ir no_f no_i no_out no_err o s fs bytes same_files same_input h d =
+      let told = subst (λ x. Explained source_spelling words x input fr ir o) (sym same_files) (subst (λ x. Explained source_spelling words fs x fr ir o) (sym same_input) h) in
+      whole_answer source_spelling words files input out out' err err' no_out no_err fr ir no_f no_i o s told d
+
+  -- where no count of faults rose, and the folder and the input tell what they hold
+  pub whole_outcome : (folder : Option (List File)) (left : Option (List ℕ)) (folder_rose input_rose : Type 0) → folder ≡ Some files → left ≡ Some input → (folder_rose → ⊥) → (input_rose → ⊥) → (Rose out.faults out'.faults → ⊥) → (Rose err.faults err'.faults → ⊥) → (o : Result (Vec ℕ Global) Failure) (s : ℕ) → ExecOutcome words folder left folder_rose input_rose o → Delivered out out' err err' o s → Answered source_spelling words files input out.written out'.written err.written err'.written s
+  whole_outcome folder left fr ir of_folder of_left no_f no_i no_out no_err o s h d =
+      let k = subst (λ x. ExecOutcome words x (Some input) fr ir o) of_folder (subst (λ x. ExecOutcome words folder x fr ir o) of_left h) in
+      told_whole fr ir no_f no_i no_out no_err o s k.0 k.1 k.2 k.3 k.4 d

@@ -1,10 +1,13 @@
 -- What the program answers, where the folder tells its files and the input its bytes.
-use Rattle.std.specs.Prelude.{◌≡◌, ℕ, List, [], ◌⊎◌, Option, Bool, Result, Ok, Err}
+use Rattle.std.specs.Prelude.{◌≡◌, ℕ, List, [], ◌⊎◌, Option, Some, None, Bool, Result, Ok, Err}
 use Rattle.std.specs.Io.KnownBytes.{Appends}
 use Rattle.std.specs.declared.vec.Vec.{Vec}
 use Rattle.std.specs.declared.alloc.Global.{Global}
 use Rattle.fip_language.specs.declared.Place.{Place}
 use Rattle.fip_language.specs.Core.{Core}
+use Rattle.fip_language.specs.CoreForm.{core_form}
+use Rattle.fip_language.specs.Surface.{Program}
+use Rattle.fip_grammar.specs.Limits.{IsSpelt, IsMisspelt}
 use Rattle.fip_language.specs.Answer as A
 use Rattle.fip_language.specs.Answer.{Reply, NoFile, Execs, status}
 use Rattle.fip_base.specs.Files.{File, file_of}
@@ -21,6 +24,19 @@ use Rattle.fip_driver.specs.declared.failure.Object.TheVariants as O
 pub record Spelling : Type 1 where
   pub spells : List ℕ → Core → Type 0
   pub misspells : List ℕ → ℕ → Place → Type 0
+
+-- How the sources of the language are spelt: their tokens are those of a program, whose core form it is; or they break one
+-- of the rules E01 to E04.
+abbrev pub source_spelling : Spelling
+source_spelling = record {
+  spells = λ source core. (p : Program) × IsSpelt source p × (core ≡ core_form p);
+  misspells = IsMisspelt;
+}
+
+-- what an object tells, where it tells something
+abbrev pub IsTold : {A : Type 0} → Option A → A → Type 0
+IsTold None x = Unit {0}
+IsTold (Some y) x = y ≡ x
 
 -- what is asked for, without the gauge
 abbrev pub plain_request : Request → A.Request

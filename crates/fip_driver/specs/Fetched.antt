@@ -1,7 +1,7 @@
 -- What can come of fetching a source and of reading an input.
-use Rattle.std.specs.Prelude.{◌≡◌, ℕ, ◌+◌, List, [], ◌⊎◌, None, Option}
+use Rattle.std.specs.Prelude.{◌≡◌, ℕ, ◌+◌, List, [], ◌⊎◌, Some, None, Option}
 use Rattle.fip_base.specs.declared.refusal.Refusal.{Refusal}
-use Rattle.fip_base.specs.declared.refusal.Rule.TheVariants.{E05, E70}
+use Rattle.fip_base.specs.declared.refusal.Rule.TheVariants.{E05, E09, E70}
 use Rattle.fip_base.specs.Faults.{Rose}
 use Rattle.fip_base.specs.Files.{File, HoldsLonger, IsMissing}
 use Rattle.fip_base.specs.Takes.{Takes}
@@ -12,6 +12,10 @@ use Rattle.fip_driver.specs.declared.failure.Failure.TheVariants as F
 -- the refusal of a source that is too long
 abbrev pub too_long : Refusal
 too_long = record { rule = E05; place = None; size = 0; detail = [] }
+
+-- the refusal of a program that isn't right, or that has a form which doesn't run yet
+abbrev pub no_right_program : Refusal
+no_right_program = record { rule = E09; place = Some (record { line = 1; col = 1; at = 0 }); size = 0; detail = [] }
 
 -- the refusal of a name that no function has
 abbrev pub unknown_entry : List ℕ → Refusal

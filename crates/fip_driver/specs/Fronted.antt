@@ -1,5 +1,5 @@
 -- What can come of a source: its core form, the loop program of that, and the one of the entry's name.
-use Rattle.std.specs.Prelude.{◌≡◌, ℕ, List, [], ◌∷◌, Option, Some, None}
+use Rattle.std.specs.Prelude.{◌≡◌, ◌⊎◌, ℕ, List, [], ◌∷◌, Option, Some, None, Result, Ok, Err}
 use Rattle.fip_language.specs.declared.Place.{Place}
 use Rattle.fip_language.specs.Core.{Core, Function}
 use Rattle.fip_language.specs.Declarations.{function_of}
@@ -49,3 +49,13 @@ EntryFails core entry (F.TooSmall needed given) = ⊥
 EntryFails core entry (F.OutOfCalls given) = ⊥
 EntryFails core entry (F.Fault object) = ⊥
 EntryFails core entry F.NoMemory = Unit {0}
+
+-- Why a source isn't run: its spelling breaks a rule, or its core form isn't right, or no function has the entry's name.
+abbrev pub FrontFails : Spelling → List ℕ → List ℕ → Failure → Type 0
+FrontFails spelling source entry e =
+    SpellingFails spelling source e
+    ⊎ ((core : Core) × spelling.spells source core × (CheckFails core e ⊎ (IsRight core × EntryFails core entry e)))
+
+-- The source is that of a core form, whose loop program this is, and its function has the entry's name.
+abbrev pub IsFront : Spelling → List ℕ → List ℕ → Loop → Type 0
+IsFront spelling source entry l = (core : Core) × spelling.spells source core × HasEntry core l entry

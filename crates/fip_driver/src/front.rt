@@ -1,54 +1,47 @@
 // From the bytes of a source to the loop program of its entry.
-ghost use Rattle.std.specs.Prelude.{◌≡◌, IfOk, IfErr, IfSome, IsTrue, ◌↔◌};
-ghost use Rattle.fip_language.specs.Surface.{Program as Program'};
-ghost use Rattle.fip_language.specs.CoreForm.{core_form};
+ghost use Rattle.std.specs.Prelude.{◌≡◌, List, ℕ, Err, IfOk, IfErr, IsTrue, ◌↔◌, option_map};
 ghost use Rattle.fip_base.specs.CoreView.{core as core_view};
-ghost use Rattle.loop_check.specs.Program.{PassesAll};
-ghost use Rattle.fip_language.specs.SoundTable.{IsSoundTable, AreTypes};
+ghost use Rattle.fip_base.specs.SurfaceView.{program as program_view};
+ghost use Rattle.fip_grammar.specs.Limits.{IsSpelt};
+ghost use Rattle.loop_check.specs.Checked.{IsPassed};
 ghost use Rattle.loop_form.specs.View.{loop_of};
 ghost use Rattle.loop_form.specs.Fine.{IsFine};
-ghost use Rattle.fip_driver.specs.ExecOutcome.{HasLoop, IsSourceFailure};
+ghost use Rattle.fip_language.specs.SoundTable.{IsSoundTable, AreTypes};
+ghost use Rattle.fip_driver.specs.Answered.{source_spelling};
+ghost use Rattle.fip_driver.specs.Fetched.{no_right_program, unknown_entry};
+ghost use Rattle.fip_driver.specs.Fronted.{SpellingFails, CheckFails, FrontFails, IsFront};
 
 use crate::failure::Failure;
 use fip_base::core_form::Core;
 use fip_base::plain::{Detail, NoMemory, Place};
 use fip_base::refusal::{Refusal, Rule};
-use fip_syntax::core_of;
-use fip_parser::parser::{ParseError, SyntaxRule};
-use fip_syntax::parse;
 use fip_base::surface::Program;
+use fip_parser::parser::ParseError;
+use fip_syntax::{core_of, parse};
 use loop_check::{CheckError, check};
-use loop_form::fine::is_fine;
 use loop_form::program::LoopProgram;
-use loop_form::sound::{are_known, is_sound_table};
 use std::alloc::Global;
 
-// A refusal that names a place alone.
-fn refusal_at(alloc: Global, rule: Rule, place: Place) -> Failure
-    ensures source { IsSourceFailure result }
+// The refusal of a program that isn't right, or that has a form which doesn't run yet.
+fn not_right(alloc: Global) -> Refusal
+    ensures refusal { result ≡ no_right_program }
 {
-    Failure::Refused(Refusal {
-        rule,
-        place: Some(place),
+    Refusal {
+        rule: Rule::E09,
+        place: Some(Place {
+            line: 1,
+            col: 1,
+            at: 0,
+        }),
         size: 0,
         detail: Detail::new(Vec::new(alloc)),
-    })
+    }
 }
 
-// A program that isn't right, or that has a form which doesn't run yet.
-fn not_right(alloc: Global) -> Failure
-    ensures source { IsSourceFailure result }
+// The refusal where no function has the entry's name.
+fn no_entry(alloc: Global, entry: &str) -> Result<Refusal, NoMemory>
+    ensures refusal { IfOk result (λ r. r ≡ unknown_entry entry.now) }
 {
-    let place = Place {
-        line: 1,
-        col: 1,
-        at: 0,
-    };
-    refusal_at(alloc, Rule::E09, place)
-}
-
-// No function has the entry's name.
-fn no_entry(alloc: Global, entry: &str) -> Result<Refusal, NoMemory> {
     Ok(Refusal {
         rule: Rule::E70,
         place: None,
@@ -57,39 +50,32 @@ fn no_entry(alloc: Global, entry: &str) -> Result<Refusal, NoMemory> {
     })
 }
 
-// The rule of a source's spelling.
-fn spelling_rule(rule: SyntaxRule) -> Rule {
-    match rule {
-        SyntaxRule::BadByte => Rule::E01,
-        SyntaxRule::NoProgram => Rule::E02,
-        SyntaxRule::TooDeep => Rule::E03,
-        SyntaxRule::LiteralTooLarge => Rule::E04,
-    }
-}
-
 // The tree of a source. E01 to E04 where it is no program.
+#[tactic(auto, using(crate::proofs::Fronts::spelling_refused))]
 fn parsed(alloc: Global, source: &[u8]) -> Result<Program, Failure>
-    ensures source { IfErr result IsSourceFailure }
+    ensures spelt { IfOk result (λ p. IsSpelt source.now (program_view p)) }
+    ensures fails { IfErr result (λ e. SpellingFails source_spelling source.now e) }
 {
     match parse(alloc, source) {
         Ok(program) => Ok(program),
-        Err(ParseError::Refused { rule, place }) => {
-            Err(refusal_at(alloc, spelling_rule(rule), place))
-        }
+        Err(ParseError::Refused(refusal)) => Err(Failure::Refused(refusal)),
         Err(ParseError::NoMemory) => Err(Failure::NoMemory),
     }
 }
 
-// Whether a loop program can be run: it is fine, and its types are sound and known.
-fn can_run(alloc: Global, program: &LoopProgram) -> Result<bool, NoMemory>
-    ensures fine { IfOk result (λ b. IsTrue b → IsFine (loop_of program.now)) }
-    ensures sound { IfOk result (λ b. IsTrue b → IsSoundTable (loop_of program.now).types) }
-    ensures known { IfOk result (λ b. IsTrue b → AreTypes (loop_of program.now).types (loop_of program.now).parameters) }
+// The core form of a source.
+#[tactic(auto, using(crate::proofs::Fronts::core_spelt))]
+fn core_form_of(alloc: Global, source: &[u8]) -> Result<Core, Failure>
+    ensures core { IfOk result (λ c. source_spelling.spells source.now (core_view c)) }
+    ensures fails { IfErr result (λ e. SpellingFails source_spelling source.now e) }
 {
-    if !is_fine(program) || !are_known(&program.types, program.parameters.as_slice()) {
-        return Ok(false);
+    match parsed(alloc, source) {
+        Ok(program) => match core_of(alloc, &program) {
+            Ok(core) => Ok(core),
+            Err(_) => Err(Failure::NoMemory),
+        },
+        Err(failure) => Err(failure),
     }
-    Ok(is_sound_table(alloc, &program.types)?)
 }
 
 // Whether a loop program has this name.
@@ -99,48 +85,41 @@ fn is_named(program: &LoopProgram, entry: &str) -> bool
     program.name.as_slice() == entry.as_bytes()
 }
 
-// The loop program of a core form; none where a right program has no function. E09 where it isn't right.
+// The loop program of a source's core form; none where a right program has no function. E09 where it isn't right.
+#[tactic(auto, using(crate::proofs::Fronts::passed, crate::proofs::Fronts::refused))]
 fn resolved(alloc: Global, core: &Core) -> Result<Option<LoopProgram>, Failure>
-    ensures passes { IfOk result (λ o. IfSome o (λ l. PassesAll (core_view core.now) (loop_of l))) }
-    ensures source { IfErr result IsSourceFailure }
+    ensures passed { (source : List ℕ) → source_spelling.spells source (core_view core.now) → IfOk result (λ o. IsPassed (core_view core.now) (option_map loop_of o)) }
+    ensures fails { (source : List ℕ) → source_spelling.spells source (core_view core.now) → IfErr result (λ e. CheckFails (core_view core.now) e) }
 {
     match check(alloc, core) {
         Ok(program) => Ok(program),
-        Err(CheckError::Refused) => Err(not_right(alloc)),
+        Err(CheckError::Refused) => Err(Failure::Refused(not_right(alloc))),
         Err(CheckError::NoMemory) => Err(Failure::NoMemory),
-    }
-}
-
-// The core form of a source.
-fn core_form_of(alloc: Global, source: &[u8]) -> Result<Core, Failure>
-    ensures core { IfOk result (λ c. (p : Program') × (core_view c ≡ core_form p)) }
-    ensures source { IfErr result IsSourceFailure }
-{
-    let program = parsed(alloc, source)?;
-    match core_of(alloc, &program) {
-        Ok(core) => Ok(core),
-        Err(_) => Err(Failure::NoMemory),
     }
 }
 
 /// The loop program of a source, where its function has the entry's name. E01 to E04 where the source is no program, E09
 /// where it isn't right or doesn't run yet, E70 where no function has the entry's name.
+#[tactic(auto, using(crate::proofs::Fronts::spelling_front, crate::proofs::Fronts::check_front, crate::proofs::Fronts::other_front, crate::proofs::Fronts::none_front, crate::proofs::Fronts::found_front))]
 pub fn entry_program(alloc: Global, source: &[u8], entry: &str) -> Result<LoopProgram, Failure>
-    ensures entry { IfOk result (λ l. HasLoop entry.now (loop_of l)) }
     ensures fine { IfOk result (λ l. IsFine (loop_of l)) }
     ensures sound { IfOk result (λ l. IsSoundTable (loop_of l).types) }
     ensures known { IfOk result (λ l. AreTypes (loop_of l).types (loop_of l).parameters) }
-    ensures source { IfErr result IsSourceFailure }
+    ensures front { IfOk result (λ l. IsFront source_spelling source.now entry.now (loop_of l)) }
+    ensures fails { IfErr result (λ e. FrontFails source_spelling source.now entry.now e) }
 {
-    let core = core_form_of(alloc, source)?;
-    match resolved(alloc, &core)? {
-        Some(program) if is_named(&program, entry) => {
-            if can_run(alloc, &program)? {
-                Ok(program)
-            } else {
-                Err(not_right(alloc))
+    match core_form_of(alloc, source) {
+        Ok(core) => match resolved(alloc, &core) {
+            Ok(Some(program)) => {
+                if is_named(&program, entry) {
+                    Ok(program)
+                } else {
+                    Err(Failure::Refused(no_entry(alloc, entry)?))
+                }
             }
-        }
-        _ => Err(Failure::Refused(no_entry(alloc, entry)?)),
+            Ok(None) => Err(Failure::Refused(no_entry(alloc, entry)?)),
+            Err(failure) => Err(failure),
+        },
+        Err(failure) => Err(failure),
     }
 }

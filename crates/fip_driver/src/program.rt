@@ -3,11 +3,13 @@ ghost use Rattle.std.specs.Prelude.{◌≡◌, ◌≤◌, ◌⊎◌, ℕ, List, 
 ghost use Rattle.std.specs.Io.KnownBytes.{IsAtEnd};
 ghost use Rattle.std.specs.declared.vec.Vec.{Vec as a_vec};
 ghost use Rattle.std.specs.declared.alloc.Global.{Global as an_allocator};
-ghost use Rattle.fip_language.specs.SoundTable.{IsSoundTable, AreTypes};
 ghost use Rattle.fip_base.specs.Faults.{Rose};
-ghost use Rattle.loop_form.specs.View.{loop_of};
+ghost use Rattle.fip_base.specs.Files.{File};
+ghost use Rattle.fip_language.specs.SoundTable.{IsSoundTable, AreTypes};
 ghost use Rattle.loop_form.specs.Fine.{IsFine};
+ghost use Rattle.loop_form.specs.View.{loop_of};
 ghost use Rattle.fip_driver.specs.View.{request_of};
+ghost use Rattle.fip_driver.specs.Answered.{Answered, source_spelling};
 ghost use Rattle.fip_driver.specs.Delivered.{Delivered};
 ghost use Rattle.fip_driver.specs.ExecOutcome.{EntryOutcome, RequestOutcome, ExecOutcome};
 
@@ -107,6 +109,10 @@ pub fn fp2<F: Folder, S: Source, O: Sink, E: Sink>(
     ensures answer { (o : Result (a_vec ℕ an_allocator) Failure) × ExecOutcome (map string_bytes words.now) (F.files folder.old) (S.left input.old) (Rose (F.faults folder.old) (F.faults folder.new)) (Rose (S.faults input.old) (S.faults input.new)) o × Delivered (record { written = O.written out.old; faults = O.faults out.old }) (record { written = O.written out.new; faults = O.faults out.new }) (record { written = E.written err.old; faults = E.faults err.old }) (record { written = E.written err.new; faults = E.faults err.new }) o result.0 }
     // No file changes.
     ensures files { F.files folder.new ≡ F.files folder.old }
+    // Where no count of faults rose, and the folder and the input tell what they hold: the whole answer is the written one.
+    ensures whole { (files : List File) (bytes : List ℕ) → F.files folder.old ≡ Some files → S.left input.old ≡ Some bytes → (Rose (F.faults folder.old) (F.faults folder.new) → ⊥) → (Rose (S.faults input.old) (S.faults input.new) → ⊥) → (Rose (O.faults out.old) (O.faults out.new) → ⊥) → (Rose (E.faults err.old) (E.faults err.new) → ⊥) → Answered source_spelling (map string_bytes words.now) files bytes (O.written out.old) (O.written out.new) (E.written err.old) (E.written err.new) result.0 }
+    // After status 0 the input was read to its end.
+    ensures read { result.0 ≡ 0 → IsAtEnd (S.left input.new) }
 {
     let outcome = exec(alloc, words, folder, input);
     deliver(alloc, outcome, out, err)

@@ -1,38 +1,48 @@
 // The program, over the real streams and files.
 #![tactic(auto)]
 
+use fip_base::all::write_all;
+use fip_base::plain::NoMemory;
 use fip_base::real::{FileFolder, StdSink, StdSource};
 use fip_driver::fp2;
 use std::env;
 use std::io::ErrorKind;
 use std::process::ExitCode;
 
-// The words of the command line. A word that isn't UTF-8 is no command: then there is no word at all.
-fn words_of(rt: &HostRuntime) -> Result<Vec<String>, ExitCode> {
+// The words of the command line; want of memory is the one error. A word that isn't UTF-8 is no command: then there is no
+// word at all.
+fn words_of(rt: &HostRuntime) -> Result<Vec<String>, NoMemory> {
     let mut words = Vec::new(rt.alloc());
     match env::args(rt) {
         Ok(args) => {
             for word in args {
                 if words.push(word).is_err() {
-                    return Err(ExitCode::from(10));
+                    return Err(NoMemory);
                 }
             }
             Ok(words)
         }
-        Err(e) if e.kind() == ErrorKind::OutOfMemory => Err(ExitCode::from(10)),
+        Err(e) if e.kind() == ErrorKind::OutOfMemory => Err(NoMemory),
         Err(_) => Ok(words),
     }
 }
 
 fn main(rt: HostRuntime) -> ExitCode {
+    let mut err = StdSink::new(rt.stderr());
     let words = match words_of(&rt) {
         Ok(words) => words,
-        Err(code) => return code,
+        Err(NoMemory) => {
+            // What becomes of the text changes nothing.
+            match write_all(&mut err, b"out of memory\n") {
+                Ok(()) => {}
+                Err(_) => {}
+            }
+            return ExitCode::from(10);
+        }
     };
     let mut folder = FileFolder::new(rt.alloc(), &rt);
     let mut input = StdSource::new(rt.stdin());
     let mut out = StdSink::new(rt.stdout());
-    let mut err = StdSink::new(rt.stderr());
     let status = fp2(
         rt.alloc(),
         words.as_slice(),

@@ -9,7 +9,8 @@ use Rattle.fip_language.specs.Matching.{Binding, matching}
 use Rattle.fip_language.specs.Registers.{frame_words}
 use Rattle.fip_language.specs.Statics.{Closed, Closeds, ClosedInt, ClosedName, Instance, callee}
 use Rattle.fip_language.specs.Meaning.{Answer, Gives, Trap, Out, Deep, Stuck, Run, after, above, entered, go_on, then_with, counted, in_frame, Environment, nothing_bound, bind_matched, bind_binders, bind_parameters, argument_value, argument_values, with_value, with_values, if_matches, Calls, eval, eval_block, eval_clauses, body_run, function_run, calls_of, evaluate, evaluate_block}
-use Rattle.fip_language.proofs.Left.{AtMost, Honest, eval_left, calls_left}
+use Rattle.fip_language.specs.Laws.{AtMost}
+use Rattle.fip_language.proofs.Left.{Honest, eval_left, calls_left}
 
 -- two ways to call agree below so many calls
 abbrev pub Agree : Calls → Calls → ℕ → Type 0

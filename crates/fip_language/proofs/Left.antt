@@ -10,14 +10,7 @@ use Rattle.fip_language.specs.Arithmetic.{Operated, Is, Fails, operate}
 use Rattle.fip_language.specs.Registers.{frame_words}
 use Rattle.fip_language.specs.Statics.{Closed, Closeds, ClosedInt, ClosedName, Instance, callee}
 use Rattle.fip_language.specs.Meaning.{Answer, Gives, Trap, Out, Deep, Stuck, Run, go_on, counted, in_frame, Environment, nothing_bound, bind_matched, bind_binders, bind_parameters, argument_value, argument_values, with_value, with_values, operated, operation, if_matches, Calls, eval, eval_block, eval_clauses, body_run, function_run, calls_of, evaluate, meaning}
-
--- an answer leaves at most so many calls
-abbrev pub AtMost : ℕ → Answer → Type 0
-AtMost k (Gives vs left) = left ≤ k
-AtMost k (Trap kind line col) = Unit {0}
-AtMost k Out = Unit {0}
-AtMost k Deep = Unit {0}
-AtMost k Stuck = Unit {0}
+use Rattle.fip_language.specs.Laws.{AtMost}
 
 pub AtMost-wider : (j k : ℕ) (a : Answer) → j ≤ k → AtMost j a → AtMost k a
 AtMost-wider j k (Gives vs left) le h = omega arith
@@ -109,3 +102,8 @@ evaluate_left core here e tail d env k = eval_left core (calls_of core k) (calls
 pub meaning_left : (core : Core) (name : Name) (given : Closeds) (vs : Values) (n d : ℕ) → AtMost n (meaning core name given vs n d).answer
 unfolding meaning
 meaning_left core name given vs n d = AtMost-counted n _ (λ left. calls_left core n d (ClosedName name given) vs left)
+
+-- the entry costs one
+pub entry_left : (core : Core) (name : Name) (given : Closeds) (vs : Values) (n d : ℕ) → AtMost n (meaning core name given vs (suc n) d).answer
+unfolding meaning
+entry_left core name given vs n d = calls_left core (suc n) d (ClosedName name given) vs n

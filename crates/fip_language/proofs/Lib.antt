@@ -7,6 +7,7 @@ pub mod More
 pub mod Peak
 pub mod LoopStack
 pub mod Words
+pub mod Plain
 pub mod Constructors
 pub mod NoViolation
 pub mod LoopBody
@@ -23,3 +24,5 @@ pub mod Scoping
 pub mod Frames
 pub mod OnePlace
 pub mod OneReply
+pub mod RightPrograms
+pub mod SoundTables

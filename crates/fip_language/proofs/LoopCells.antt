@@ -5,6 +5,7 @@
 use Rattle.std.proofs.Common.{◌≡◌, inl, inr, ℕ, zero, suc, ◌+◌, ◌≤◌, List, [], ◌∷◌, map, length, Bool, true, false, cond, Option, Some, None, refl, sym, ap, ◌∙◌, subst, arith}
 use Rattle.std.specs.Prelude.{slice_get, nat_eq, ◌==◌, ◌&&◌}
 use Rattle.std.proofs.lemmas.Bool.{eqb-true, eq-eqb}
+use Rattle.std.proofs.lemmas.List.{length-map}
 use Rattle.fip_language.specs.Values.{Value, Int, Node, Values, End, More, count_of, one_of_size, cells, cells_of_all}
 use Rattle.fip_language.specs.Table.{Shape, Table, shapes, constructors, no_fields, all_bare, is_scalar, HasType, HaveTypes}
 use Rattle.fip_language.specs.Store.{one_at, count}
@@ -19,7 +20,7 @@ use Rattle.fip_language.specs.Right.{Scope, nothing_in_scope, in_scope, paramete
 use Rattle.fip_language.specs.Violations.{parameter_scope, clause_scope}
 use Rattle.fip_language.specs.Scoped.{binder_number, parameter_number, parameter_numbers, clause_numbers, EndingLiteralsFit, LoopLiteralsFit, NumbersDiffer}
 use Rattle.fip_language.specs.Meaning.{Answer, Gives, Trap, Out, Deep, Stuck, Run, ends, Environment, nothing_bound, bind, bind_matched, bind_parameters, binder_value, node_of, more_of, argument_value, argument_values, with_value, with_values, if_matches, meaning}
-use Rattle.fip_language.proofs.Words.{length-mapped}
+use Rattle.fip_language.specs.Laws.{KeepsCells}
 use Rattle.fip_language.proofs.Constructors.{constructor_of-shape}
 use Rattle.fip_language.proofs.NoViolation.{some_is, RightClauses, count-append, one_at-same, one_at-no, among_counts}
 use Rattle.fip_language.proofs.Typing.{parameters-from}
@@ -315,14 +316,6 @@ all_used_once tb k scope scrutinee e (b ∷ bs) once h =
 
 -- ---- runs
 
--- where the answer gives values, they have so many cells of size k
-abbrev pub KeepsCells : ℕ → ℕ → Answer → Type 0
-KeepsCells k n (Gives results left) = cells_of_all k results ≡ n
-KeepsCells k n (Trap kind line col) = Unit {0}
-KeepsCells k n Out = Unit {0}
-KeepsCells k n Deep = Unit {0}
-KeepsCells k n Stuck = Unit {0}
-
 abbrev pub Keeps : Core → Function → ℕ → ℕ → ℕ → Type 0
 Keeps core f k d n = (vs : Values) → HaveTypes (table_of core) (parameter_types core f) vs → KeepsCells k (cells_of_all k vs) (meaning core f.name NoClosed vs n d).answer
 
@@ -366,7 +359,7 @@ clause_keeps : (core : Core) (f : Function) (l : Loop) → core.functions ≡ f 
 clause_keeps core f l only t k d m keeps scrutinee us types c x r fit one n vs h at true e rest other =
     let env : Environment = bind_parameters nothing_bound f.parameters us in
     let fields : HaveTypes (table_of core) (field_types core x) vs = node_fields (table_of core) t x.number n _ vs (eqb-true x.number n e) (subst (λ u. slice_get (constructors (table_of core) u) x.number ≡ Some (record { name = c.constructor; fields = field_types core x })) r.of_type (constructor_of-shape core c.constructor x r.meant)) h in
-    let long : length c.binders ≡ length (field_types core x) = r.as_many ∙ sym (length-mapped (type_number core) x.fields) in
+    let long : length c.binders ≡ length (field_types core x) = r.as_many ∙ sym (length-map x.fields (type_number core)) in
     let matched : matching core (clause_pattern c) (Node n vs) ≡ Some (bindings_of c.binders vs) = ap (λ o. cond (is_constructor o n) (matching_all core (binder_patterns c.binders) vs) None) r.meant ∙ ap (λ b. cond b (matching_all core (binder_patterns c.binders) vs) None) e ∙ matched_is core c.binders (field_types core x) vs long fields in
     let split = λ (y : ℕ). count-append y (parameter_numbers f) (map binder_number c.binders) in
     let first = parameters_laid core k nothing_bound nothing_in_scope [] f.parameters us (nothing_laid (table_of core) k) (λ y. let s = split y in let o = one y in omega arith) types in
@@ -421,7 +414,7 @@ loop_keeps_cells core f l only loop t r fit one k d (suc m) us types =
 
 -- ---- the gauge
 
-none_lent : (ps : List Parameter) (vs : Values) → Every IsPlainParameter ps → lent_values ps vs ≡ End
+pub none_lent : (ps : List Parameter) (vs : Values) → Every IsPlainParameter ps → lent_values ps vs ≡ End
 none_lent [] vs h = refl
 none_lent (p ∷ ps) End h = refl
 none_lent (p ∷ ps) (More v vs) h = ap (λ b. cond b (More v (lent_values ps vs)) (lent_values ps vs)) h.0.owned ∙ none_lent ps vs h.1

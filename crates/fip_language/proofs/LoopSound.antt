@@ -5,6 +5,8 @@
 use Rattle.std.proofs.Common.{◌≡◌, ℕ, zero, suc, ◌≤◌, List, [], ◌∷◌, map, length, Bool, true, false, cond, Option, Some, None, refl, sym, ap, ◌∙◌, subst, arith}
 use Rattle.std.specs.Prelude.{slice_get, ◌==◌}
 use Rattle.std.proofs.lemmas.Bool.{eqb-true}
+use Rattle.std.proofs.lemmas.List.{length-map}
+use Rattle.std.proofs.lemmas.Option.{slice_get_within}
 use Rattle.fip_language.specs.Values.{Value, Int, Node, Values, End, More}
 use Rattle.fip_language.specs.Table.{Shape, Table, shapes, constructors, HasType, HaveTypes}
 use Rattle.fip_language.specs.Core.{Name, Binder, Argument, Variable, Literal, Constructor, Arguments, NoArguments, MoreArguments, Parameter, Function, Core}
@@ -17,8 +19,8 @@ use Rattle.fip_language.specs.LoopForm.{Ending, Returns, Calls, LoopClause, Loop
 use Rattle.fip_language.specs.Right.{Scope, nothing_in_scope, in_scope, parameters_in_scope, binders_in_scope, field_types, parameter_types, result_type, binder_type, IsOfType, AreOfTypes, EndsWith, IsRightClause, one_if_number, clauses_of_number, IsRightLoop}
 use Rattle.fip_language.specs.Violations.{parameter_scope, clause_scope}
 use Rattle.fip_language.specs.Scoped.{LiteralsFit, AllLiteralsFit, EndingLiteralsFit, LoopLiteralsFit}
-use Rattle.fip_language.specs.Meaning.{Answer, Gives, Trap, Out, Deep, Stuck, Run, ends, entered, counted, Environment, nothing_bound, bind, bind_matched, bind_parameters, binder_value, node_of, more_of, argument_value, argument_values, with_value, with_values, if_matches, meaning}
-use Rattle.fip_language.proofs.Words.{slice_get_within, length-mapped}
+use Rattle.fip_language.specs.Meaning.{Gives, Run, ends, entered, counted, Environment, nothing_bound, bind, bind_matched, bind_parameters, binder_value, node_of, more_of, argument_value, argument_values, with_value, with_values, if_matches, meaning}
+use Rattle.fip_language.specs.Laws.{IsSoundAnswer}
 use Rattle.fip_language.proofs.Constructors.{constructor_of-shape, constructor_of-type}
 use Rattle.fip_language.proofs.NoViolation.{some_is, RightClauses}
 use Rattle.fip_language.proofs.Equations.{body_meaning, meaning_entry}
@@ -89,13 +91,6 @@ mutual
 
 -- ---- runs
 
-abbrev pub IsSoundAnswer : Table → ℕ → Answer → Type 0
-IsSoundAnswer tb t (Gives results left) = HaveTypes tb (t ∷ []) results
-IsSoundAnswer tb t (Trap kind line col) = ⊥
-IsSoundAnswer tb t Out = Unit {0}
-IsSoundAnswer tb t Deep = ⊥
-IsSoundAnswer tb t Stuck = ⊥
-
 -- the run ends in a value of type t or has no call left, holds no frame and at most so many words
 pub record IsSoundRun (tb : Table) (t words : ℕ) (r : Run) : Type 0 where
   pub answer : IsSoundAnswer tb t r.answer
@@ -138,7 +133,7 @@ node_fields tb (suc t) m n s vs same e h =
 clause_sound : (core : Core) (f : Function) (l : Loop) → core.functions ≡ f ∷ [] → (t d k : ℕ) → Sound core f d k → (env : Environment) → Agree (table_of core) env (parameter_scope core f) → (c : LoopClause) (x : Declared) → IsRightClause core f l t c x → EndingLiteralsFit c.ending → (n : ℕ) (vs : Values) → HasType (table_of core) t (Node n vs) → (b : Bool) → (x.number == n) ≡ b → (rest : Run) → (one_if_number (constructor_of core c.constructor) n ≡ 0 → IsSoundRun (table_of core) (result_type core f.result) (frame_words f) rest) → IsSoundRun (table_of core) (result_type core f.result) (frame_words f) (if_matches (matching core (clause_pattern c) (Node n vs)) (λ bs. ending_run core d k (bind_matched env bs) c.ending) rest)
 clause_sound core f l only t d k sound env agree c x r fit n vs h true e rest other =
     let fields : HaveTypes (table_of core) (field_types core x) vs = node_fields (table_of core) t x.number n _ vs (eqb-true x.number n e) (subst (λ u. slice_get (constructors (table_of core) u) x.number ≡ Some (record { name = c.constructor; fields = field_types core x })) r.of_type (constructor_of-shape core c.constructor x r.meant)) h in
-    let long : length c.binders ≡ length (field_types core x) = r.as_many ∙ sym (length-mapped (type_number core) x.fields) in
+    let long : length c.binders ≡ length (field_types core x) = r.as_many ∙ sym (length-map x.fields (type_number core)) in
     let m = binders_match core env (parameter_scope core f) c.binders (field_types core x) vs agree long fields in
     let matched : matching core (clause_pattern c) (Node n vs) ≡ Some m.0 = ap (λ o. cond (is_constructor o n) (matching_all core (binder_patterns c.binders) vs) None) r.meant ∙ ap (λ b. cond b (matching_all core (binder_patterns c.binders) vs) None) e ∙ m.1 in
     subst (λ o. IsSoundRun (table_of core) (result_type core f.result) (frame_words f) (if_matches o (λ bs. ending_run core d k (bind_matched env bs) c.ending) rest)) (sym matched)

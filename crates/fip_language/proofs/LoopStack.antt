@@ -1,6 +1,7 @@
 -- A loop calls in tail position alone, so that its function holds no frame, and its stack is its own frame.
-use Rattle.std.proofs.Common.{◌≡◌, inl, inr, ℕ, ◌+◌, ◌≤◌, List, [], ◌∷◌, ◌++◌, Bool, true, false, cond, Option, Some, None, refl, sym, ap, ◌∙◌, subst, arith}
+use Rattle.std.proofs.Common.{◌≡◌, inl, inr, ℕ, ◌+◌, ◌≤◌, List, [], ◌∷◌, ◌++◌, true, cond, Option, Some, None, refl, sym, ap, ◌∙◌, subst, arith}
 use Rattle.std.proofs.lemmas.Slice.Eq.{bytes_eq-Decides}
+use Rattle.std.proofs.lemmas.Option.{cond_some}
 use Rattle.fip_language.specs.Core.{Name, Block, Function, Core}
 use Rattle.fip_language.specs.Declarations.{same_name, function_in, function_of}
 use Rattle.fip_language.specs.Every.{Among}
@@ -16,12 +17,8 @@ same_name-self name = (bytes_eq-Decides name name).1 refl
 pub function_of-only : (core : Core) (f : Function) → core.functions ≡ f ∷ [] → function_of core f.name ≡ Some f
 function_of-only core f e = ap (function_in f.name) e ∙ ap (λ b. cond b (Some f) None) (same_name-self f.name)
 
-found_is_only : (b : Bool) (f g : Function) → cond b (Some f) None ≡ Some g → f ≡ g
-found_is_only true f g e = cc
-found_is_only false f g e = cc
-
 pub function_in-only : (name : Name) (fs : List Function) (f g : Function) → fs ≡ f ∷ [] → function_in name fs ≡ Some g → f ≡ g
-function_in-only name fs f g e h = found_is_only (same_name name f.name) f g (sym (ap (function_in name) e) ∙ h)
+function_in-only name fs f g e h = (cond_some (same_name name f.name) f g (sym (ap (function_in name) e) ∙ h)).1
 
 instance_is : (given : Closeds) (o : Option Function) (here : Instance) → instance_with given o ≡ Some here → o ≡ Some here.function
 instance_is given None here h = cc

@@ -3,6 +3,8 @@ use Rattle.std.proofs.Common.{◌≡◌, ◌⊎◌, inl, inr, ℕ, suc, ◌+◌,
 use Rattle.std.specs.Prelude.{is_some, nat_eq}
 use Rattle.std.proofs.lemmas.Bool.{eqb-true, eq-eqb}
 use Rattle.std.proofs.lemmas.Slice.Eq.{bytes_eq-Decides}
+use Rattle.std.proofs.lemmas.List.{length-map, map-append}
+use Rattle.std.proofs.lemmas.Option.{slice_get_within}
 use Rattle.fip_language.specs.Store.{one_at, count}
 use Rattle.fip_language.specs.declared.Place.{Place}
 use Rattle.fip_language.specs.Table.{constructors}
@@ -13,7 +15,7 @@ use Rattle.fip_language.specs.Mentions.{Mention, mention, all_of, calls_in_expre
 use Rattle.fip_language.specs.LoopForm.{Ending, Returns, Calls, LoopClause, Loop, ending_expression, loop_clauses, IsLoop}
 use Rattle.fip_language.specs.Right.{data_name, constructor_name, parameter_name, KnownType, KnownConstructor, FewFields, AreRightTypes, Scope, field_types, parameter_types, result_type, binder_type, IsOfType, AreOfTypes, EndsWith, occurrences, occurrences_in_all, occurrences_in_ending, taken_apart, arguments_count, is_blank, names_of_binders, IsRightClause, one_if_number, clauses_of_number, IsRightLoop}
 use Rattle.fip_language.specs.Violations.{Violation, mention_name, IsRepeated, type_mention, constructor_mention, constructor_mentions, parameter_mention, TypesBreak, SecondType, SecondConstructor, UnknownTypeIn, NoValue, ManyFields, UnknownIn, UnknownInAll, MiscountedIn, MiscountedInAll, types_or_none, MisfitIn, MisfitInAll, UnknownAtEnd, MiscountedAtEnd, MisfitAtEnd, clause_mention, binder_mentions, Use, uses_in_argument, uses_in_arguments, uses_at_end, uses_of_clause, use_binder, IsUsedAgain, excess, most_excess, parameter_scope, IsClause, LoopBreaks, SecondParameter, UnknownType, UnknownConstructor, UnknownFunction, ManyTypes, PatternMisfit, EndMisfit, UnknownScrutinee, UnknownVariable, PatternMiscount, EndMiscount, Uncovered, Unreached, SecondBinder, ManyClauses, ManyNodes, UsedTwice, UnusedParameter, UnusedBinder, NeedsCredit, LeavesCredit, ClausesDiffer, ManyRegisters, WideParameter, WideBinder}
-use Rattle.fip_language.proofs.Words.{every_among, map-append, map-map, repeated_twice, repeated_not_once, slice_get_within, length-mapped}
+use Rattle.fip_language.proofs.Words.{every_among, map-map, repeated_twice, repeated_not_once}
 use Rattle.fip_language.proofs.Constructors.{constructor_of-shape}
 
 -- ---- declarations
@@ -37,7 +39,7 @@ types_break_not core v r (SecondConstructor m h) = repeated_not_once _ m h (subs
 types_break_not core v r (UnknownTypeIn m a e) = known_not_none (type_of_name core m.name) (every_among (KnownType core) m _ r.known a) e
 types_break_not core v r (NoValue n d e h) =
     let within = slice_get_within core.types n d e in
-    let long : length (table_of core) ≡ suc (length core.types) = length-mapped (row_of core) (data_types core) in
+    let long : length (table_of core) ≡ suc (length core.types) = length-map (data_types core) (row_of core) in
     h (r.valued (suc n) (omega arith))
 types_break_not core v r (ManyFields d k a b h) =
     let few : length k.fields ≤ 16 = every_among FewFields k d.constructors (every_among (λ (d : Data). Every FewFields d.constructors) d core.types r.few_fields a) b in
@@ -71,7 +73,7 @@ counted_arguments core scope (t ∷ ts) NoArguments h = absurd h
 counted_arguments core scope (t ∷ ts) (MoreArguments a as') h = ap suc (counted_arguments core scope ts as' h.1)
 
 counted_fields : (core : Core) (scope : Scope) (d : Declared) (as' : Arguments) → AreOfTypes core scope (field_types core d) as' → arguments_count as' ≡ length d.fields
-counted_fields core scope d as' h = counted_arguments core scope (field_types core d) as' h ∙ length-mapped (type_number core) d.fields
+counted_fields core scope d as' h = counted_arguments core scope (field_types core d) as' h ∙ length-map d.fields (type_number core)
 
 mutual
   miscounted_not : (core : Core) (scope : Scope) (t : ℕ) (a : Argument) (m : Mention) → IsOfType core scope t a → MiscountedIn core a m → ⊥
@@ -115,7 +117,7 @@ miscounted_not_at_end : (core : Core) (scope : Scope) (t : ℕ) (e : Ending) (m 
 miscounted_not_at_end core scope t (Returns a) m h u = miscounted_not core scope t a m h u
 miscounted_not_at_end core scope t (Calls n p as') m h (inl u) =
     let same : h.0 ≡ u.0 = some_is (function_of core n) h.0 u.0 h.1 u.1 in
-    u.2 (counted_arguments core scope (parameter_types core h.0) as' h.3 ∙ length-mapped (λ (x : Parameter). type_number core x.type) h.0.parameters ∙ ap (λ (x : Function). length x.parameters) same)
+    u.2 (counted_arguments core scope (parameter_types core h.0) as' h.3 ∙ length-map h.0.parameters (λ (x : Parameter). type_number core x.type) ∙ ap (λ (x : Function). length x.parameters) same)
 miscounted_not_at_end core scope t (Calls n p as') m h (inr u) = miscounted_not_in_all core scope (parameter_types core h.0) as' m h.3 u
 
 misfit_not_at_end : (core : Core) (scope : Scope) (t : ℕ) (e : Ending) (p : Place) → EndsWith core scope t e → MisfitAtEnd core scope t e p → ⊥

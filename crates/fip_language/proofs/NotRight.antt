@@ -5,6 +5,7 @@ use Rattle.std.proofs.Common.{◌≡◌, ◌⊎◌, inl, inr, ℕ, zero, suc, �
 use Rattle.std.specs.Prelude.{slice_get, ◌==◌}
 use Rattle.std.proofs.lemmas.Bool.{eqb-true}
 use Rattle.std.proofs.lemmas.Slice.Eq.{bytes_eq-Decides}
+use Rattle.std.proofs.lemmas.List.{length-map}
 use Rattle.fip_language.specs.Values.{Node, End, one_of_size}
 use Rattle.fip_language.specs.Store.{one_at, count}
 use Rattle.fip_language.specs.Table.{Shape, constructors, is_scalar}
@@ -17,7 +18,7 @@ use Rattle.fip_language.specs.LoopForm.{ending_expression, binder_patterns, Loop
 use Rattle.fip_language.specs.Right.{KnownType, KnownConstructor, FewFields, HasValue, AreRightTypes, Scope, nothing_in_scope, field_types, result_type, binder_type, needed_by_ending, Narrow, IsRightClause, one_if_number, clauses_of_number, pattern_nodes, HasTypesOf, IsRightLoop, AtMostOneRightLoop, IsRight}
 use Rattle.fip_language.specs.Violations.{Violation, mention_name, type_mention, constructor_mentions, parameter_mention, TypesBreak, SecondType, SecondConstructor, UnknownTypeIn, NoValue, ManyFields, clause_mention, binder_mentions, Use, uses_of_clause, use_binder, IsUsedAgain, IsOwned, excess, most_excess, parameter_scope, clause_scope, IsWide, IsClause, LoopBreaks, SecondParameter, UnknownType, UnknownConstructor, UnknownFunction, ManyTypes, PatternMisfit, EndMisfit, UnknownScrutinee, UnknownVariable, PatternMiscount, EndMiscount, Uncovered, Unreached, SecondBinder, ManyClauses, ManyNodes, UsedTwice, UnusedParameter, UnusedBinder, NeedsCredit, LeavesCredit, ManyRegisters, WideParameter, WideBinder, Violates}
 use Rattle.fip_language.specs.Scoped.{binder_number, parameter_number, InScope, IsScopedEnding, parameter_numbers, clause_numbers, IsScopedLoop, IsScopedCore}
-use Rattle.fip_language.proofs.Words.{every_among, length-mapped}
+use Rattle.fip_language.proofs.Words.{every_among}
 use Rattle.fip_language.proofs.Constructors.{constructor_of-shape, constructor_of-type}
 use Rattle.fip_language.proofs.NoViolation.{type_names, constructor_names_of, parameter_names, RightClauses, one_at-same, used, used_in_clause, binder_names, among_map}
 use Rattle.fip_language.proofs.Search.{le_unless, same_unless, some_unless, is_some_unless, every_from, twice_repeated, once_unless, least_zero, slice_get_there, below_not_not}
@@ -38,7 +39,7 @@ types_unless core fault valued = record {
 no_valueless : (core : Core) → ((v : Violation) → TypesBreak core v → ⊥) → (t : ℕ) → t < length (table_of core) → (HasValue (table_of core) (suc t) → ⊥) → ⊥
 no_valueless core fault zero lt h = h (Node 0 End, (_, refl, tt))
 no_valueless core fault (suc n) lt h =
-    let long : length (table_of core) ≡ suc (length core.types) = length-mapped (row_of core) (data_types core) in
+    let long : length (table_of core) ≡ suc (length core.types) = length-map (data_types core) (row_of core) in
     let d = slice_get_there core.types n (omega arith) in
     fault _ (NoValue n d.0 d.1 h)
 

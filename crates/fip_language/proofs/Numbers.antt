@@ -1,6 +1,6 @@
 -- The core form numbers binders in order: in each function from 0 on, the parameters first, then each binder where it
 -- comes to stand. What a part of the source comes to has the numbers from the one that it was given up to the next.
-use Rattle.std.proofs.Common.{◌≡◌, inl, inr, ℕ, zero, suc, ◌+◌, ◌<◌, ◌≤◌, List, [], ◌∷◌, ◌++◌, map, length, Bool, true, false, cond, refl, sym, ap, ◌∙◌, subst, arith}
+use Rattle.std.proofs.Common.{◌≡◌, inl, inr, ℕ, zero, suc, ◌+◌, ◌<◌, ◌≤◌, List, [], ◌∷◌, ◌++◌, map, length, Bool, true, false, cond, refl, sym, ap, ◌∙◌, subst, arith, append-nil, append_assoc}
 use Rattle.fip_language.specs.Core.{Binder, Argument, Variable, Literal, Constructor, Pattern, BinderPattern, LiteralPattern, ConstructorPattern, Patterns, NoPatterns, MorePatterns, Expression, Give, Tuple, Operation, Call, Match, Nested, Block, Last, Let, Clauses, NoClauses, MoreClauses, Parameter, Function}
 use Rattle.fip_language.specs.Surface as S
 use Rattle.fip_language.specs.CoreForm.{Binding, Whole, Scope, block_of, bindings_in, last_in, patterns_of, made_let, part_from, as_part, variable_from, as_scrutinee, last_from, as_last, as_block, in_brackets, binders, pattern, patterns, whole, parts, contents, cases, parameters, function, with_binders, core_form}
@@ -55,14 +55,6 @@ record IsRun (n next : ℕ) (xs : List ℕ) : Type 0 where
   same : xs ≡ numbers_from n many
   end : next ≡ n + many
 
-append-nil : {A : Type 0} (xs : List A) → xs ++ [] ≡ xs
-append-nil [] = refl
-append-nil (x ∷ xs) = ap (λ l. x ∷ l) (append-nil xs)
-
-append-assoc : {A : Type 0} (xs ys zs : List A) → (xs ++ ys) ++ zs ≡ xs ++ (ys ++ zs)
-append-assoc [] ys zs = refl
-append-assoc (x ∷ xs) ys zs = ap (λ l. x ∷ l) (append-assoc xs ys zs)
-
 numbers_from-add : (n j k : ℕ) → numbers_from n (j + k) ≡ numbers_from n j ++ numbers_from (n + j) k
 numbers_from-add n zero k =
     let e : 0 + k ≡ k = omega arith in
@@ -95,20 +87,20 @@ run_as n r xs ys e a = subst (IsRun n r) e a
 
 lets-append : (ls ms : List Binding) → numbers_in_lets (ls ++ ms) ≡ numbers_in_lets ls ++ numbers_in_lets ms
 lets-append [] ms = refl
-lets-append (l ∷ ls) ms = ap (λ x. (numbers_in l.bound ++ map binder_number l.binders) ++ x) (lets-append ls ms) ∙ sym (append-assoc (numbers_in l.bound ++ map binder_number l.binders) (numbers_in_lets ls) (numbers_in_lets ms))
+lets-append (l ∷ ls) ms = ap (λ x. (numbers_in l.bound ++ map binder_number l.binders) ++ x) (lets-append ls ms) ∙ sym (append_assoc (numbers_in l.bound ++ map binder_number l.binders) (numbers_in_lets ls) (numbers_in_lets ms))
 
 in_block_of : (ls : List Binding) (e : Expression) → numbers_in_block (block_of ls e) ≡ numbers_in_lets ls ++ numbers_in e
 in_block_of [] e = refl
-in_block_of (l ∷ ls) e = ap (λ x. (numbers_in l.bound ++ map binder_number l.binders) ++ x) (in_block_of ls e) ∙ sym (append-assoc (numbers_in l.bound ++ map binder_number l.binders) (numbers_in_lets ls) (numbers_in e))
+in_block_of (l ∷ ls) e = ap (λ x. (numbers_in l.bound ++ map binder_number l.binders) ++ x) (in_block_of ls e) ∙ sym (append_assoc (numbers_in l.bound ++ map binder_number l.binders) (numbers_in_lets ls) (numbers_in e))
 
 in_parts_of_block : (b : Block) → numbers_in_lets (bindings_in b) ++ numbers_in (last_in b) ≡ numbers_in_block b
 in_parts_of_block (Last e) = refl
-in_parts_of_block (Let bs e rest) = append-assoc (numbers_in e ++ map binder_number bs) (numbers_in_lets (bindings_in rest)) (numbers_in (last_in rest)) ∙ ap (λ x. (numbers_in e ++ map binder_number bs) ++ x) (in_parts_of_block rest)
+in_parts_of_block (Let bs e rest) = append_assoc (numbers_in e ++ map binder_number bs) (numbers_in_lets (bindings_in rest)) (numbers_in (last_in rest)) ∙ ap (λ x. (numbers_in e ++ map binder_number bs) ++ x) (in_parts_of_block rest)
 
 bound_run : (n m : ℕ) (ls : List Binding) (e : Expression) → IsRun n m (numbers_in_lets ls ++ numbers_in e) → IsRun n (m + 1) (numbers_in_lets (ls ++ made_let e m ∷ []))
 bound_run n m ls e r =
     run_as n (m + 1) ((numbers_in_lets ls ++ numbers_in e) ++ m ∷ []) (numbers_in_lets (ls ++ made_let e m ∷ []))
-    (append-assoc (numbers_in_lets ls) (numbers_in e) (m ∷ []) ∙ ap (λ x. numbers_in_lets ls ++ x) (sym (append-nil (numbers_in e ++ m ∷ []))) ∙ sym (lets-append ls (made_let e m ∷ [])))
+    (append_assoc (numbers_in_lets ls) (numbers_in e) (m ∷ []) ∙ ap (λ x. numbers_in_lets ls ++ x) (sym (append-nil (numbers_in e ++ m ∷ []))) ∙ sym (lets-append ls (made_let e m ∷ [])))
     (run_on n m (m + 1) (numbers_in_lets ls ++ numbers_in e) (m ∷ []) r (one_run m))
 
 part_run : (n m : ℕ) (ls : List Binding) (e : Expression) → IsRun n m (numbers_in_lets ls ++ numbers_in e) → IsRun n (part_from ls e m).next (numbers_in_lets (part_from ls e m).lets)
@@ -133,7 +125,7 @@ last_run n m ls (Call x p ts as') r = r
 last_run n m ls (Match d p x cs) r = r
 last_run n m ls (Nested b) r =
     run_as n m (numbers_in_lets ls ++ numbers_in_block b) (numbers_in_lets (ls ++ bindings_in b) ++ numbers_in (last_in b))
-    (ap (λ x. numbers_in_lets ls ++ x) (sym (in_parts_of_block b)) ∙ sym (append-assoc (numbers_in_lets ls) (numbers_in_lets (bindings_in b)) (numbers_in (last_in b))) ∙ ap (λ x. x ++ numbers_in (last_in b)) (sym (lets-append ls (bindings_in b)))) r
+    (ap (λ x. numbers_in_lets ls ++ x) (sym (in_parts_of_block b)) ∙ sym (append_assoc (numbers_in_lets ls) (numbers_in_lets (bindings_in b)) (numbers_in (last_in b))) ∙ ap (λ x. x ++ numbers_in (last_in b)) (sym (lets-append ls (bindings_in b)))) r
 
 -- what an expression comes to
 abbrev WholeRun : ℕ → Whole → Type 0
@@ -180,9 +172,9 @@ let_numbers ls e ns ms f =
     let c = map binder_number ns in
     let d = numbers_in_lets ms in
     let here : numbers_in_lets (ls ++ record { binders = ns; bound = e } ∷ ms) ≡ a ++ ((b ++ c) ++ d) = lets-append ls (record { binders = ns; bound = e } ∷ ms) in
-    ap (λ x. x ++ (d ++ numbers_in f)) (append-assoc a b c)
-    ∙ sym (append-assoc (a ++ (b ++ c)) d (numbers_in f))
-    ∙ ap (λ x. x ++ numbers_in f) (append-assoc a (b ++ c) d)
+    ap (λ x. x ++ (d ++ numbers_in f)) (append_assoc a b c)
+    ∙ sym (append_assoc (a ++ (b ++ c)) d (numbers_in f))
+    ∙ ap (λ x. x ++ numbers_in f) (append_assoc a (b ++ c) d)
     ∙ ap (λ x. x ++ numbers_in f) (sym here)
 
 mutual

@@ -1,5 +1,6 @@
 -- The peak: no run holds more frames than were free, and a function that is entered has its own frame.
 use Rattle.std.proofs.Common.{◌≡◌, ℕ, zero, suc, ◌≤◌, max, List, Bool, true, false, Option, Some, None, arith, subst}
+use Rattle.std.proofs.Math.Nat.{le-max_left}
 use Rattle.fip_language.specs.declared.Place.{Place}
 use Rattle.fip_language.specs.declared.Operator.{Operator}
 use Rattle.fip_language.specs.Values.{Value, Int, Node, Values}
@@ -55,9 +56,6 @@ within_matches d (Some bs) go r h g = h bs
 max_within : (a b d : ℕ) → a ≤ d → b ≤ d → max a b ≤ d
 max_within a b d p q = omega arith
 
-le_max : (a b : ℕ) → a ≤ max a b
-le_max a b = omega arith
-
 mutual
   eval_within : (core : Core) (c : Calls) → Within c → (here : Instance) (e : Expression) (tail : Bool) (d : ℕ) (env : Environment) (k : ℕ) → (eval core c here e tail d env k).peak.frames ≤ d
   eval_within core c h here (Give a) tail d env k = within_with_value d (argument_value core env a) _ (λ v. omega arith)
@@ -101,7 +99,7 @@ has_frame : (core : Core) (n d : ℕ) (o : Option Function) (given : Closeds) (v
 has_frame core n d None given vs f e = cc
 has_frame core n d (Some g) given vs f e =
     let same : g ≡ f = cc in
-    subst (λ x. frame_words x ≤ (body_run core (calls_of core n) d (Some g) given vs n).peak.words) same (le_max (frame_words g) _)
+    subst (λ x. frame_words x ≤ (body_run core (calls_of core n) d (Some g) given vs n).peak.words) same (le-max_left (frame_words g) _)
 
 -- a function that is entered has its frame
 pub peak_of_entry : (core : Core) (name : Name) (given : Closeds) (vs : Values) (n d : ℕ) (f : Function) → function_of core name ≡ Some f → frame_words f ≤ (meaning core name given vs (suc n) d).peak.words

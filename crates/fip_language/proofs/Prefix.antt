@@ -1,12 +1,7 @@
 -- Where a machine stops is the place of the fault, and what it accepts is spelled so.
 use Rattle.std.proofs.Common.{◌≡◌, ℕ, suc, ◌+◌, List, [], ◌∷◌, ◌++◌, take, Option, Some, None, refl, sym, ap, ◌∙◌, subst, arith}
+use Rattle.std.proofs.lemmas.Option.{none-some, same_Some}
 use Rattle.fip_language.specs.Prefix.{Accepted, Stopped, end_outcome, or_stop, run, Begins, IsPlace}
-
-some_same : {A : Type 0} → (a b : A) → Some a ≡ Some b → a ≡ b
-some_same a b e = cc
-
-none_some : {A B : Type 0} → (a : A) → None ≡ Some a → B
-none_some a e = cc
 
 -- What a machine and the relation of what completes its states have to do with each other.
 pub record IsExact {S T V : Type 0} (step : S → T → Option S) (final : S → Option V) (Good : S → Type 0) (Completes : S → List T → V → Type 0) : Type 0 where
@@ -26,11 +21,11 @@ module _ {S T V : Type 0} (step : S → T → Option S) (final : S → Option V)
   begins_before : (s s' : S) (t : T) (front : List T) → Good s → step s t ≡ Some s' → Begins (Completes s) (t ∷ front) → Begins (Completes s') front
   begins_before s s' t front g e b =
       let h = law.takes s t (front ++ b.0) b.1 g b.2 in
-      let same : h.0 ≡ s' = some_same h.0 s' (sym h.1 ∙ e) in
+      let same : h.0 ≡ s' = same_Some h.0 s' (sym h.1 ∙ e) in
       (b.0, b.1, subst (λ s. Completes s (front ++ b.0) b.1) same h.2)
 
   not_here : (s : S) (t : T) (front : List T) → Good s → step s t ≡ None → Begins (Completes s) (t ∷ front) → ⊥
-  not_here s t front g e b = let h = law.takes s t (front ++ b.0) b.1 g b.2 in none_some h.0 (sym e ∙ h.1)
+  not_here s t front g e b = let h = law.takes s t (front ++ b.0) b.1 g b.2 in absurd (none-some h.0 (sym e ∙ h.1))
 
   place_end : (s : S) (at t : ℕ) → Good s → end_outcome (final s) at ≡ Stopped t → (o : Option V) → final s ≡ o → (t ≡ at) × From s [] 0
   place_end s at t g h None e = (
@@ -39,7 +34,7 @@ module _ {S T V : Type 0} (step : S → T → Option S) (final : S → Option V)
       within = omega arith;
       before = law.alive s g;
       there = λ lt. absurd (omega arith);
-      at_end = λ n x c. none_some x (sym e ∙ law.ends s x g c);
+      at_end = λ n x c. absurd (none-some x (sym e ∙ law.ends s x g c));
     },
   )
   place_end s at t g h (Some x) e = let k : Accepted x ≡ Stopped t = ap (λ o. end_outcome o at) (sym e) ∙ h in cc
@@ -59,7 +54,7 @@ module _ {S T V : Type 0} (step : S → T → Option S) (final : S → Option V)
     there = λ lt b. p.there (omega arith) (begins_before s s' t (take (suc k) ts) g e b);
     at_end = λ n x c.
         let h = law.takes s t ts x g c in
-        let same : h.0 ≡ s' = some_same h.0 s' (sym h.1 ∙ e) in
+        let same : h.0 ≡ s' = same_Some h.0 s' (sym h.1 ∙ e) in
         p.at_end (omega arith) x (subst (λ s. Completes s ts x) same h.2);
   }
 

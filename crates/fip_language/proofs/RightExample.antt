@@ -1,9 +1,10 @@
 -- rev is right, so that IsRight can be met; and what breaks rules when rev is changed.
 use Rattle.std.proofs.Common.{◌≡◌, inl, inr, ℕ, zero, suc, ◌+◌, ◌<◌, ◌≤◌, [], ◌∷◌, map, length, true, false, Some, refl, sym, subst, arith}
 use Rattle.std.specs.Prelude.{codes}
+use Rattle.std.proofs.lemmas.Option.{same_Some}
 use Rattle.fip_language.specs.Values.{Node, End, More}
 use Rattle.fip_language.specs.Table.{constructors, is_scalar}
-use Rattle.fip_language.specs.Core.{WrittenInt, Argument}
+use Rattle.fip_language.specs.Core.{WrittenInt, Argument, Function}
 use Rattle.fip_language.specs.Declarations.{data_types, Declared, table_of}
 use Rattle.fip_language.specs.Every.{Among}
 use Rattle.fip_language.specs.LoopForm.{Returns, Calls, LoopClause, Loop, IsLoop}
@@ -11,10 +12,12 @@ use Rattle.fip_language.specs.Meaning.{meaning}
 use Rattle.fip_language.specs.Answer.{Request, Finished, Evaluates}
 use Rattle.fip_language.specs.Right.{data_name, constructor_names, parameter_name, nothing_in_scope, field_types, names_of_binders, taken_apart, occurrences_in_ending, clauses_of_number, Narrow, HasValue, AreRightTypes, IsRightClause, HasTypesOf, IsRightLoop, IsRight}
 use Rattle.fip_language.specs.Violations.{of_size, E56, E58, LoopBreaks, NeedsCredit, ClausesDiffer, parameter_scope, clause_scope}
+use Rattle.fip_language.specs.Scoped.{LoopLiteralsFit, IsNumbered, CoreLiteralsFit, IsNumberedCore}
+use Rattle.fip_language.proofs.LoopBody.{IsLoop-unique}
 use Rattle.fip_language.proofs.Words.{distinct_once}
 use Rattle.fip_language.proofs.Typing.{Typed, parameters-from, binders-from}
 use Rattle.fip_language.proofs.LoopStack.{loop_frames, loop_words}
-use Rattle.fip_language.proofs.Examples.{here, bound, var, two, ints, cons, rev, reversing, empty, pair, three, three_reversed}
+use Rattle.fip_language.specs.Example.{here, bound, var, two, ints, cons, rev, reversing, empty, pair, three, three_reversed}
 
 abbrev nil_clause : LoopClause
 nil_clause = record { constructor = codes "Nil"; place = here; binders = []; ending = Returns (var 1 (codes "acc")) }
@@ -61,12 +64,9 @@ rev_types = record {
   valued = valued;
 }
 
-some_number : (t u : ℕ) → Some t ≡ Some u → t ≡ u
-some_number t u e = cc
-
 -- a scalar variable may be used as often as one likes
 not_scalar : (n : ℕ) (t : ℕ) → Some 0 ≡ Some t → is_scalar (table_of reversing) t ≡ false → n ≡ 1
-not_scalar n t e s = let same : 0 ≡ t = some_number 0 t e in let b : true ≡ false = subst (λ u. is_scalar (table_of reversing) u ≡ false) (sym same) s in cc
+not_scalar n t e s = let same : 0 ≡ t = same_Some 0 t e in let b : true ≡ false = subst (λ u. is_scalar (table_of reversing) u ≡ false) (sym same) s in cc
 
 -- nothing else is in scope
 no_type : (A : Type 0) (x : ℕ) → Typed nothing_in_scope x → A
@@ -116,7 +116,7 @@ two_constructors (suc (suc zero)) h = omega arith
 two_constructors (suc (suc (suc t))) h = absurd (omega (arith, h))
 
 narrow_by : (u t : ℕ) → u ≤ 2 → Some u ≡ Some t → length (constructors (table_of reversing) t) ≤ 65535
-narrow_by u t h e = two_constructors t (let same : u ≡ t = some_number u t e in omega arith)
+narrow_by u t h e = two_constructors t (let same : u ≡ t = same_Some u t e in omega arith)
 
 nil_narrow : Narrow (table_of reversing) (clause_scope reversing rev nil_clause nil_declared)
 nil_narrow zero t e s = narrow_by 2 t (omega arith) e
@@ -190,6 +190,20 @@ rev_is_right = record {
   types = rev_types;
   loop = (rev_loop, 2, rev_is_loop, rev_is_right_loop);
 }
+
+-- what holds of the loop holds of each function and loop of the program
+each_loop : (P : Function → Loop → Type 0) → P rev rev_loop → (f : Function) (l : Loop) → Among f reversing.functions → IsLoop f l → P f l
+each_loop P h f l (inl e) loop =
+    let is : IsLoop rev l = subst (λ (x : Function). IsLoop x l) e loop in
+    let there : P rev l = subst (P rev) (IsLoop-unique rev rev_loop l rev_is_loop is) h in
+    subst (λ (x : Function). P x l) (sym e) there
+each_loop P h f l (inr a) loop = absurd a
+
+pub rev_literals_fit : CoreLiteralsFit reversing
+rev_literals_fit = each_loop (λ f l. LoopLiteralsFit l) (tt, ((tt, ((tt, (tt, tt)), tt)), tt))
+
+pub rev_is_numbered : IsNumberedCore reversing
+rev_is_numbered = each_loop IsNumbered refl
 
 -- ---- rev with Cons(x, Cons(x, acc)) for Cons(x, acc)
 

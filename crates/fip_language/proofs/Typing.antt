@@ -2,6 +2,7 @@
 use Rattle.std.proofs.Common.{◌≡◌, ◌⊎◌, inl, inr, ℕ, List, [], ◌∷◌, ◌++◌, map, length, Bool, true, false, cond, Option, Some, None, refl, sym, ap, ◌∙◌, subst, arith}
 use Rattle.std.specs.Prelude.{◌==◌}
 use Rattle.std.proofs.lemmas.Bool.{eqb-true, eq-eqb}
+use Rattle.std.proofs.lemmas.List.{length-map}
 use Rattle.fip_language.specs.declared.Place.{Place}
 use Rattle.fip_language.specs.Core.{Binder, Argument, Variable, Literal, Constructor, Arguments, NoArguments, MoreArguments, Parameter, Function, Core}
 use Rattle.fip_language.specs.Declarations.{Declared, constructor_of, function_of, type_number}
@@ -11,7 +12,6 @@ use Rattle.fip_language.specs.LoopForm.{Ending, Returns, Calls, LoopClause, endi
 use Rattle.fip_language.specs.Right.{Scope, nothing_in_scope, in_scope, parameters_in_scope, binders_in_scope, field_types, parameter_types, result_type, IsOfType, AreOfTypes, EndsWith, arguments_count}
 use Rattle.fip_language.specs.Violations.{UnknownIn, UnknownInAll, MiscountedIn, MiscountedInAll, MisfitIn, MisfitInAll, UnknownAtEnd, MiscountedAtEnd, MisfitAtEnd, parameter_scope, clause_scope}
 use Rattle.fip_language.specs.Scoped.{binder_number, parameter_number, IsScoped, AreScoped, IsScopedEnding, parameter_numbers, clause_numbers}
-use Rattle.fip_language.proofs.Words.{length-mapped}
 use Rattle.fip_language.proofs.NoViolation.{types_of, among_append}
 use Rattle.fip_language.proofs.Search.{same_unless, some_unless}
 
@@ -85,7 +85,7 @@ pub clause-typed : (core : Core) (f : Function) (c : LoopClause) (d : Declared) 
 clause-typed core f c d e x a =
     elim (among_append x (parameter_numbers f) (map binder_number c.binders) a) as (λ _. Typed (clause_scope core f c d) x) [
       | inl p ↦ binders-keep (parameter_scope core f) c.binders (field_types core d) x (parameters-add core nothing_in_scope f.parameters x p)
-      | inr b ↦ binders-add (parameter_scope core f) c.binders (field_types core d) x (e ∙ sym (length-mapped (type_number core) d.fields)) b
+      | inr b ↦ binders-add (parameter_scope core f) c.binders (field_types core d) x (e ∙ sym (length-map d.fields (type_number core))) b
     ]
 
 -- ---- types
@@ -105,7 +105,7 @@ mutual
       let d = some_unless (constructor_of core n) (λ e. known (mention n p) (inl refl) e) in
       let type : d.0.type ≡ t = same_unless d.0.type t (λ ne. misfit p (inl (d.0, d.1, ne, refl))) in
       let counted : arguments_count as' ≡ length d.0.fields = same_unless (arguments_count as') (length d.0.fields) (λ ne. miscount (mention n p) (inl (d.0, d.1, ne, refl))) in
-      let long : arguments_count as' ≡ length (field_types core d.0) = counted ∙ sym (length-mapped (type_number core) d.0.fields) in
+      let long : arguments_count as' ≡ length (field_types core d.0) = counted ∙ sym (length-map d.0.fields (type_number core)) in
       (d.0, d.1, type, types_unless core scope xs has (field_types core d.0) as' s (λ m a e. known m (inr a) e) unknown (λ m h. miscount m (inr h)) (λ q h. misfit q (inr (subst (λ ts. MisfitInAll core scope ts as' q) (types_of core n d.0 d.1) h))) long)
 
   types_unless : (core : Core) (scope : Scope) (xs : List ℕ) → ((x : ℕ) → Among x xs → Typed scope x) → (ts : List ℕ) (as' : Arguments) → AreScoped xs as' → KnownIn core (constructors_in_arguments as') → ((m : Mention) → UnknownInAll as' m → ⊥) → ((m : Mention) → MiscountedInAll core as' m → ⊥) → ((p : Place) → MisfitInAll core scope ts as' p → ⊥) → arguments_count as' ≡ length ts → AreOfTypes core scope ts as'
@@ -123,5 +123,5 @@ end_unless core scope xs has t (Calls n p as') s known called unknown miscount m
     let g = some_unless (function_of core n) (λ e. called (mention n p) (inl refl) e) in
     let result : result_type core g.0.result ≡ t = same_unless (result_type core g.0.result) t (λ ne. misfit p (g.0, g.1, inl (ne, refl))) in
     let counted : arguments_count as' ≡ length g.0.parameters = same_unless (arguments_count as') (length g.0.parameters) (λ ne. miscount (mention n p) (inl (g.0, g.1, ne, refl))) in
-    let long : arguments_count as' ≡ length (parameter_types core g.0) = counted ∙ sym (length-mapped (λ (x : Parameter). type_number core x.type) g.0.parameters) in
+    let long : arguments_count as' ≡ length (parameter_types core g.0) = counted ∙ sym (length-map g.0.parameters (λ (x : Parameter). type_number core x.type)) in
     (g.0, g.1, result, types_unless core scope xs has (parameter_types core g.0) as' s known unknown (λ m h. miscount m (inr h)) (λ q h. misfit q (g.0, g.1, inr h)) long)

@@ -1,8 +1,9 @@
 -- Laws of the words on lists.
-use Rattle.std.proofs.Common.{◌≡◌, inl, inr, ℕ, zero, suc, ◌+◌, ◌<◌, ◌≤◌, List, [], ◌∷◌, ◌++◌, map, length, Bool, true, false, cond, Some, refl, sym, ap, ◌∙◌, subst, arith}
+use Rattle.std.proofs.Common.{◌≡◌, inl, inr, ℕ, zero, suc, ◌+◌, ◌≤◌, List, [], ◌∷◌, ◌++◌, map, Bool, true, false, cond, Some, refl, sym, ap, ◌∙◌, subst, arith}
 use Rattle.std.specs.Prelude.{slice_get, nat_eq, ◌&&◌}
-use Rattle.std.proofs.lemmas.Bool.{eqb-true}
+use Rattle.std.proofs.lemmas.Bool.{eqb-true, and_parts}
 use Rattle.std.proofs.lemmas.Slice.Eq.{bytes_eq-Decides}
+use Rattle.std.proofs.lemmas.List.{map-append}
 use Rattle.fip_language.specs.Core.{Name}
 use Rattle.fip_language.specs.Declarations.{same_name}
 use Rattle.fip_language.specs.Every.{Every, Among, one_if_named, times, Once}
@@ -13,10 +14,6 @@ pub every_among : {A : Type 0} (P : A → Type 0) (x : A) (xs : List A) → Ever
 every_among P x [] h a = absurd a
 every_among P x (y ∷ ys) h (inl e) = subst P (sym e) h.0
 every_among P x (y ∷ ys) h (inr a) = every_among P x ys h.1 a
-
-pub map-append : {A B : Type 0} (f : A → B) (xs ys : List A) → map f (xs ++ ys) ≡ map f xs ++ map f ys
-map-append f [] ys = refl
-map-append f (x ∷ xs) ys = ap (λ l. f x ∷ l) (map-append f xs ys)
 
 pub map-map : {A B C : Type 0} (f : B → C) (g : A → B) (xs : List A) → map f (map g xs) ≡ map (λ x. f (g x)) xs
 map-map f g [] = refl
@@ -48,32 +45,15 @@ repeated_not_once ms m r once =
     let few = once m.name in
     omega arith
 
-pub slice_get_within : {A : Type 0} (xs : List A) (n : ℕ) (x : A) → slice_get xs n ≡ Some x → n < length xs
-slice_get_within [] n x e = cc
-slice_get_within (y ∷ ys) zero x e = omega arith
-slice_get_within (y ∷ ys) (suc n) x e = let h = slice_get_within ys n x e in omega arith
-
 pub slice_get-map : {A B : Type 0} (f : A → B) (xs : List A) (n : ℕ) (x : A) → slice_get xs n ≡ Some x → slice_get (map f xs) n ≡ Some (f x)
 slice_get-map f [] n x e = cc
 slice_get-map f (y ∷ ys) zero x e = let same : y ≡ x = cc in ap (λ z. Some (f z)) same
 slice_get-map f (y ∷ ys) (suc n) x e = slice_get-map f ys n x e
 
-pub length-mapped : {A B : Type 0} (f : A → B) (xs : List A) → length (map f xs) ≡ length xs
-length-mapped f [] = refl
-length-mapped f (x ∷ xs) = ap suc (length-mapped f xs)
-
 -- whether no name stands twice
 abbrev pub distinct : List Name → Bool
 distinct [] = true
 distinct (n ∷ ns) = nat_eq (times n ns) 0 && distinct ns
-
-first_of_and : (b c : Bool) → (b && c) ≡ true → b ≡ true
-first_of_and true c e = refl
-first_of_and false c e = e
-
-second_of_and : (b c : Bool) → (b && c) ≡ true → c ≡ true
-second_of_and true c e = e
-second_of_and false c e = cc
 
 once_more : (b : Bool) (name n : Name) (ns : List Name) → same_name name n ≡ b → times n ns ≡ 0 → times name ns ≤ 1 → one_if_named name n + times name ns ≤ 1
 once_more true name n ns e none few =
@@ -86,4 +66,4 @@ once_more false name n ns e none few = let zero : one_if_named name n ≡ 0 = ap
 pub distinct_once : (names : List Name) → distinct names ≡ true → Once names
 distinct_once [] e name = omega arith
 distinct_once (n ∷ ns) e name =
-    once_more (same_name name n) name n ns refl (eqb-true (times n ns) 0 (first_of_and (nat_eq (times n ns) 0) (distinct ns) e)) (distinct_once ns (second_of_and (nat_eq (times n ns) 0) (distinct ns) e) name)
+    once_more (same_name name n) name n ns refl (eqb-true (times n ns) 0 (and_parts (nat_eq (times n ns) 0) (distinct ns) e).0) (distinct_once ns (and_parts (nat_eq (times n ns) 0) (distinct ns) e).1 name)

@@ -26,3 +26,5 @@ pub mod Scoped
 pub mod Stack
 pub mod Gauge
 pub mod Answer
+pub mod Laws
+pub mod Example

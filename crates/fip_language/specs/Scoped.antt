@@ -66,6 +66,9 @@ EndingLiteralsFit (Calls n p as') = AllLiteralsFit as'
 abbrev pub LoopLiteralsFit : Loop → Type 0
 LoopLiteralsFit l = Every (λ (c : LoopClause). EndingLiteralsFit c.ending) l.clauses
 
+abbrev pub CoreLiteralsFit : Core → Type 0
+CoreLiteralsFit core = (f : Function) (l : Loop) → Among f core.functions → IsLoop f l → LoopLiteralsFit l
+
 -- the numbers from n on, so many
 abbrev pub numbers_from : ℕ → ℕ → List ℕ
 numbers_from n zero = []
@@ -80,6 +83,9 @@ binder_numbers f l = parameter_numbers f ++ all_of clause_binders l.clauses
 -- The binders are numbered in order.
 abbrev pub IsNumbered : Function → Loop → Type 0
 IsNumbered f l = binder_numbers f l ≡ numbers_from 0 (length (binder_numbers f l))
+
+abbrev pub IsNumberedCore : Core → Type 0
+IsNumberedCore core = (f : Function) (l : Loop) → Among f core.functions → IsLoop f l → IsNumbered f l
 
 -- The binders that are in scope together have different numbers.
 abbrev pub NumbersDiffer : Function → Loop → Type 0

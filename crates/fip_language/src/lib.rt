@@ -1,5 +1,7 @@
-// The plain types of the language that take no memory. The language itself is defined in specs/.
+// The plain types of the language that take no memory. The language itself is defined in specs/; its laws are in `laws`.
 #![tactic(auto)]
+
+pub mod laws;
 
 /// A place in a source: line and column, both from 1, the column in bytes; and the offset in bytes from 0.
 #[derive(Clone, Copy, Debug, PartialEq, Eq)]

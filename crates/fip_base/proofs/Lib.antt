@@ -1,4 +1,5 @@
 pub mod Named
 pub mod Stored
+pub mod SurfaceLayers
 pub mod TableReads
 pub mod Turns

@@ -7,7 +7,7 @@ use Rattle.fip_base.specs.Files.{File, has_name, file_of, put_file}
 bytes_eq-same : (a : List ℕ) → bytes_eq a a ≡ true
 bytes_eq-same a = (bytes_eq-Decides a a).1 refl
 
-bytes_eq-other : (a b : List ℕ) → (b ≡ a → ⊥) → bytes_eq a b ≡ false
+pub bytes_eq-other : (a b : List ℕ) → (b ≡ a → ⊥) → bytes_eq a b ≡ false
 bytes_eq-other a b n =
     let P : Bool → Type 0 = λ v. bytes_eq a b ≡ v → v ≡ false in
     let cases : P (bytes_eq a b) = elim (bytes_eq a b) as P [ true ↦ λ e. absurd (n (sym ((bytes_eq-Decides a b).0 e))) | false ↦ λ _. refl ] in

@@ -1,5 +1,8 @@
 // The real thing: std's readers, writers and files, with a count of faults.
-ghost use Rattle.std.specs.Prelude.{◌≡◌, None};
+ghost use Rattle.std.specs.Prelude.{◌≡◌, ◌≤◌, ◌⊎◌, None, Err, length, true, IfOk, OnOk};
+ghost use Rattle.std.specs.Io.KnownBytes.{Appends, Consumes, IsAtEnd};
+ghost use Rattle.fip_base.specs.Faults.{Rose};
+ghost use Rattle.fip_base.specs.Files.{HoldsFile, IsMissing};
 
 use crate::all::{ReadError, read_all, write_all};
 use crate::outside::{Failed, FetchError, Folder, Sink, Source, StoreError};
@@ -96,17 +99,42 @@ impl<'a, F: Files> FileFolder<'a, F> {
     }
 }
 
+// All that a reader has, of which there may be `limit` bytes.
+fn all_of<R: Read + Drop>(alloc: Global, file: R, limit: usize) -> Result<Vec<u8>, ReadError>
+    ensures read { IfOk result (λ v. (rest : R) × Consumes (R.remaining file) (R.remaining rest) v.items × IsAtEnd (R.remaining rest)) }
+    ensures within { IfOk result (λ v. length v.items ≤ limit) }
+{
+    let mut source = StdSource::new(file);
+    read_all(alloc, &mut source, limit)
+}
+
+// Whether all bytes were written.
+fn is_written<W: Write + Drop>(file: W, bytes: &[u8]) -> bool
+    ensures written { result ≡ true → (filled : W) × Appends (W.contents file) (W.contents filled) bytes.now }
+{
+    let mut sink = StdSink::new(file);
+    write_all(&mut sink, bytes).is_ok()
+}
+
 impl<F: Files> Folder for FileFolder<'_, F> {
     ghost files = { λ _. None };
 
     ghost faults = { λ s. s.faults };
 
-    fn fetch(&mut self, name: &str, limit: usize) -> Result<Vec<u8>, FetchError> {
+    /// The bytes are all that an opened file gave.
+    fn fetch(&mut self, name: &str, limit: usize) -> Result<Vec<u8>, FetchError>
+        ensures found { IfOk result (λ bytes. HoldsFile None name.now bytes.items) }
+        ensures read { IfOk result (λ bytes. (file rest : F.File) × Consumes (F.File.remaining file) (F.File.remaining rest) bytes.items × IsAtEnd (F.File.remaining rest)) }
+        ensures within { IfOk result (λ bytes. length bytes.items ≤ limit) }
+        ensures failed { result ≡ Err FetchError.Failed → Rose self.old.faults self.new.faults ⊎ IsMissing None name.now }
+        ensures memory { result ≡ Err FetchError.NoMemory → self.new.faults ≡ self.old.faults }
+        ensures later { self.old.faults ≤ self.new.faults }
+    {
         let Ok(file) = fs::open(self.files, name) else {
             self.faults = self.faults.saturating_add(1);
             return Err(FetchError::Failed);
         };
-        match read_all(self.alloc, &mut StdSource::new(file), limit) {
+        match all_of(self.alloc, file, limit) {
             Ok(bytes) => Ok(bytes),
             Err(ReadError::TooLong) => Err(FetchError::TooLong),
             Err(ReadError::NoMemory) => Err(FetchError::NoMemory),
@@ -117,9 +145,16 @@ impl<F: Files> Folder for FileFolder<'_, F> {
         }
     }
 
-    fn store(&mut self, name: &str, bytes: &[u8]) -> Result<(), StoreError> {
+    /// All bytes were written to an opened file.
+    fn store(&mut self, name: &str, bytes: &[u8]) -> Result<(), StoreError>
+        ensures stored { OnOk result (HoldsFile None name.now bytes.now) }
+        ensures written { OnOk result ((file filled : F.File) × Appends (F.File.contents file) (F.File.contents filled) bytes.now) }
+        ensures failed { result ≡ Err StoreError.Failed → Rose self.old.faults self.new.faults }
+        ensures memory { result ≡ Err StoreError.NoMemory → self.new.faults ≡ self.old.faults }
+        ensures later { self.old.faults ≤ self.new.faults }
+    {
         let written = match fs::create(self.files, name) {
-            Ok(file) => write_all(&mut StdSink::new(file), bytes).is_ok(),
+            Ok(file) => is_written(file, bytes),
             Err(_) => false,
         };
         if written {

@@ -1,4 +1,3 @@
 mod CoreFacts
 mod ScopeFacts
-mod SurfaceFacts
 mod WalkFacts

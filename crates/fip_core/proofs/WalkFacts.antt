@@ -1,6 +1,6 @@
 -- What a walk over the steps of an expression comes to, against the core form of the expression that they stand for.
-use Rattle.std.proofs.Common.{◌≡◌, ℕ, suc, ◌+◌, ◌≤◌, ◌<◌, Bool, true, false, cond, List, [], ◌∷◌, ◌++◌, length, map, take, Some, None, refl, sym, ap, ◌∙◌, arith, zero-add, length-take}
-use Rattle.std.specs.Prelude.{reverse, pos, codes}
+use Rattle.std.proofs.Common.{◌≡◌, ℕ, zero, suc, ◌+◌, ◌≤◌, ◌<◌, Bool, true, false, cond, List, [], ◌∷◌, ◌++◌, length, map, take, Some, None, refl, sym, ap, ◌∙◌, arith, zero-add, length-take}
+use Rattle.std.specs.Prelude.{reverse, pos, codes, ◌==◌}
 use Rattle.std.specs.Str.{bytes_eq}
 use Rattle.std.proofs.lemmas.List.{append_assoc, append-nil, reverse-append, take-append-le, take_all, map-append, length-map}
 use Rattle.fip_language.specs.declared.Place.{Place}
@@ -11,7 +11,7 @@ use Rattle.fip_language.specs.CoreForm as form
 use Rattle.fip_language.specs.CoreForm.{Scope, Binding, Whole, Part, Parts}
 use Rattle.fip_base.specs.CoreView as core
 use Rattle.fip_core.proofs.CoreFacts.{clauses_push}
-use Rattle.fip_core.proofs.SurfaceFacts.{expression_view}
+use Rattle.fip_base.proofs.SurfaceLayers.{expression_view, left_by_push}
 use Rattle.fip_base.specs.declared.surface.Expression.{Expression, out-Expression}
 use Rattle.fip_base.specs.declared.surface.Step.{Step}
 use Rattle.fip_base.specs.declared.surface.Parameter as Q
@@ -213,10 +213,6 @@ follows s n (Chooses p met unmet) (e ∷ es) =
       part_arguments = ap (λ y. y ∷ k.arguments) r.part_argument;
       part_next = r.part_next;
     }
-
-pub left_by_push : (as' : List Action) (a : Action) (es : List S.Expression) → left_by (as' ++ a ∷ []) es ≡ acted a (left_by as' es) ∷ kept a (left_by as' es)
-left_by_push [] a es = refl
-left_by_push (b ∷ as') a es = left_by_push as' a (acted b es ∷ kept b es)
 
 pub waits_length : (s : Scope) (n : ℕ) (es : List S.Expression) → length (waits s n es).arguments ≡ length es
 waits_length s n [] = refl
@@ -537,3 +533,13 @@ body_stands s e m ps qs body b hp he hs hm hb =
     hb
     ∙ ap (λ z. (form.as_block (form.contents z m body)).block) es
     ∙ ap (λ k. (form.as_block (form.contents (form.with_binders [] (map (λ p. p.binder) (form.parameters 0 (map surface.parameter qs)))) k body)).block) em
+
+-- brackets round a block with lets
+pub brackets_of_lets : (ls : List surface.LetPart) (e : S.Expression) (w : form.Whole) → 0 < length ls → form.in_brackets (surface.block_of ls e) w ≡ record { lets = []; expression = C.Nested (form.as_block w).block; next = (form.as_block w).next }
+brackets_of_lets [] e w h = absurd (omega arith)
+brackets_of_lets (l ∷ ls) e w h = refl
+
+-- a test of a length against 0
+pub not_empty : (m n : ℕ) (r : Bool) → r ≡ false → r ≡ (m == 0) → m ≡ n → 0 < n
+not_empty zero n r h k e = let k' : r ≡ true = k in cc
+not_empty (suc m) n r h k e = omega arith

@@ -20,7 +20,7 @@ use fip_base::core_form::{
     Argument, Binder, Binding, Block, Clause, Core, Expression, Function, MatchKind, Parameter,
     Pattern,
 };
-use fip_base::plain::{NoMemory, Place};
+use fip_base::plain::{NoMemory, Operator, Place};
 use fip_base::surface as tree;
 use fip_base::surface::Step;
 use std::alloc::Global;
@@ -78,6 +78,12 @@ fn core_function(alloc: Global, f: &tree::Function) -> Result<Function, NoMemory
     })
 }
 
+fn literal(value: i64, place: Place) -> Argument
+    ensures same { core_view.argument result ≡ C.Literal value place }
+{
+    Argument::Literal { value, place }
+}
+
 // The operand on the top of the stack. A list of steps that was made from a source never lacks one.
 fn pop_operand(stack: &mut Vec<Argument>) -> Argument
     ensures given { core_view.argument result ≡ top_argument (waiting stack.old.items) }
@@ -85,11 +91,59 @@ fn pop_operand(stack: &mut Vec<Argument>) -> Argument
 {
     match stack.pop() {
         Some(argument) => argument,
-        None => Argument::Literal {
-            value: 0,
-            place: ORIGIN,
-        },
+        None => literal(0, ORIGIN),
     }
+}
+
+// An operator's two operands are those on the top of the stack, the right one last.
+fn operation(operator: Operator, place: Place, stack: &mut Vec<Argument>) -> Expression
+    ensures same { core_view.expression result ≡ C.Operation operator place (top_argument (under_top (waiting stack.old.items))) (top_argument (waiting stack.old.items)) }
+    ensures rest { waiting stack.new.items ≡ under_top (under_top (waiting stack.old.items)) }
+{
+    let right = pop_operand(stack);
+    let left = pop_operand(stack);
+    Expression::Operation {
+        operator,
+        place,
+        left,
+        right,
+    }
+}
+
+fn match_of(
+    destructive: bool,
+    place: Place,
+    scrutinee: Argument,
+    clauses: Vec<Clause>,
+) -> Expression
+    ensures same { core_view.expression result ≡ C.Match destructive place (core_view.argument scrutinee) (core_view.clauses clauses.items) }
+{
+    let kind = if destructive {
+        MatchKind::Destructive
+    } else {
+        MatchKind::Borrowing
+    };
+    Expression::Match {
+        kind,
+        place,
+        scrutinee,
+        clauses,
+    }
+}
+
+fn constructor(
+    alloc: Global,
+    name: &[u8],
+    place: Place,
+    arguments: Vec<Argument>,
+) -> Result<Expression, NoMemory>
+    ensures same { IfOk result (λ r. core_view.expression r ≡ C.Give (C.Constructor name.now place (core_view.arguments arguments.items))) }
+{
+    Ok(Expression::Give(Argument::Constructor {
+        name: copy_name(alloc, name)?,
+        place,
+        arguments,
+    }))
 }
 
 // How many operands a step takes.
@@ -161,6 +215,17 @@ impl<'a> Walk<'a> {
             name: copy_name(self.alloc, name)?,
             place,
             annotation: None,
+        })
+    }
+
+    // A variable, as what its name has in scope.
+    fn occurrence(&self, name: &'a [u8], place: Place) -> Result<Argument, NoMemory>
+        ensures same { IfOk result (λ a. core_view.argument a ≡ C.Variable (form.lookup self.now.scope name.now) name.now place) }
+    {
+        Ok(Argument::Variable {
+            binder: self.scope.find(name),
+            name: copy_name(self.alloc, name)?,
+            place,
         })
     }
 
@@ -313,10 +378,7 @@ impl<'a> Walk<'a> {
         ensures scope { OnOk result (self.new.scope ≡ self.old.scope) }
     {
         let Some((last, before)) = e.steps.split_last() else {
-            return Ok(Expression::Give(Argument::Literal {
-                value: 0,
-                place: ORIGIN,
-            }));
+            return Ok(Expression::Give(literal(0, ORIGIN)));
         };
         let mut stack = Vec::new(self.alloc);
         for step in before {
@@ -386,15 +448,8 @@ impl<'a> Walk<'a> {
         ensures scope { OnOk result (self.new.scope ≡ self.old.scope) }
     {
         match step {
-            Step::Variable { name, place } => Ok(Expression::Give(Argument::Variable {
-                binder: self.scope.find(name),
-                name: copy_name(self.alloc, name)?,
-                place: *place,
-            })),
-            Step::Literal { value, place } => Ok(Expression::Give(Argument::Literal {
-                value: *value,
-                place: *place,
-            })),
+            Step::Variable { name, place } => Ok(Expression::Give(self.occurrence(name, *place)?)),
+            Step::Literal { value, place } => Ok(Expression::Give(literal(*value, *place))),
             Step::Call {
                 name,
                 place,
@@ -410,26 +465,13 @@ impl<'a> Walk<'a> {
                 name,
                 place,
                 arguments,
-            } => Ok(Expression::Give(Argument::Constructor {
-                name: copy_name(self.alloc, name)?,
-                place: *place,
-                arguments: self.parts(arguments, out)?,
-            })),
+            } => constructor(self.alloc, name, *place, self.parts(arguments, out)?),
             Step::Bracket { block } => self.brackets(block, out),
             Step::Tuple { place, parts } => Ok(Expression::Tuple {
                 place: *place,
                 arguments: self.parts(parts, out)?,
             }),
-            Step::Binary { operator, place } => {
-                let right = pop_operand(stack);
-                let left = pop_operand(stack);
-                Ok(Expression::Operation {
-                    operator: *operator,
-                    place: *place,
-                    left,
-                    right,
-                })
-            }
+            Step::Binary { operator, place } => Ok(operation(*operator, *place, stack)),
             Step::Match {
                 destructive,
                 place,
@@ -437,17 +479,7 @@ impl<'a> Walk<'a> {
             } => {
                 let scrutinee = self.as_variable(pop_operand(stack), out)?;
                 let clauses = self.clauses(clauses)?;
-                let kind = if *destructive {
-                    MatchKind::Destructive
-                } else {
-                    MatchKind::Borrowing
-                };
-                Ok(Expression::Match {
-                    kind,
-                    place: *place,
-                    scrutinee,
-                    clauses,
-                })
+                Ok(match_of(*destructive, *place, scrutinee, clauses))
             }
             Step::If { place, yes, no } => {
                 let scrutinee = self.as_variable(pop_operand(stack), out)?;

@@ -1,9 +1,1 @@
 pub mod Reading
-pub mod Rows
-pub mod StateFacts
-pub mod StepFacts
-pub mod BodyRows
-pub mod HeadFacts
-pub mod DefaultRows
-pub mod TooLarge
-pub mod PatternFacts

@@ -20,13 +20,13 @@ use Rattle.fip_grammar.proofs.Least.{Reads, reads_limit, reads_refused, reads_to
 use Rattle.fip_grammar.specs.declared.lexer.LexError.{LexError}
 use Rattle.fip_grammar.specs.declared.lexer.LexError.TheVariants as L
 use Rattle.fip_grammar.specs.Claims.{Bad}
-use Rattle.fip_parser.specs.declared.state.State.{State}
-use Rattle.fip_parser.specs.declared.state.State.TheVariants as V
-use Rattle.fip_parser.specs.declared.state.BodyPosition.TheVariants as B
-use Rattle.fip_parser.specs.declared.state.PatternPosition.TheVariants as P
+use Rattle.parser_state.specs.declared.state.State.{State}
+use Rattle.parser_state.specs.declared.state.State.TheVariants as V
+use Rattle.parser_state.specs.declared.state.BodyPosition.TheVariants as B
+use Rattle.parser_state.specs.declared.state.PatternPosition.TheVariants as P
 use Rattle.fip_parser.specs.declared.parser.ParseError.{ParseError}
 use Rattle.fip_parser.specs.declared.parser.ParseError.TheVariants as E
-use Rattle.fip_parser.specs.StateView as view
+use Rattle.parser_state.specs.StateView as view
 use Rattle.fip_parser.specs.Parsed.{Read, Goes, Broken, Fails, IsSpeltBy, IsMisspeltBy, IsRefused, syntax_refusal}
 
 pub state_negates : (s : State) → view.negated s ≡ negates (view.state s)

@@ -1,2 +1,1 @@
-pub mod StateView
 pub mod Parsed

@@ -19,8 +19,8 @@ use Rattle.fip_parser.specs.declared.parser.Fault.{Fault}
 use Rattle.fip_parser.specs.declared.parser.Fault.TheVariants as F
 use Rattle.fip_parser.specs.declared.parser.Taken.{Taken}
 use Rattle.fip_parser.specs.declared.parser.Taken.TheVariants as K
-use Rattle.fip_parser.specs.declared.state.State.{State}
-use Rattle.fip_parser.specs.StateView.{state, IsWell, IsAbove}
+use Rattle.parser_state.specs.declared.state.State.{State}
+use Rattle.parser_state.specs.StateView.{state, IsWell, IsAbove}
 
 -- the rule of this number
 abbrev pub rule_of : ℕ → Rule

@@ -2,11 +2,6 @@
 // token leads to the next state.
 #![tactic(auto)]
 
-mod body;
-mod heading;
-mod literal;
-mod operators;
 pub mod parser;
-mod patterns;
-mod state;
+mod step;
 mod types;

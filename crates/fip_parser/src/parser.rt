@@ -1,26 +1,19 @@
 //! From a source to a program.
 
-ghost use Rattle.std.specs.Prelude.{◌≡◌, ℕ, ◌≤◌, ◌<◌, true, false, List, Some, None, Err, IfOk, IfErr, MatchResult, map};
+ghost use Rattle.std.specs.Prelude.{◌≡◌, ℕ, ◌≤◌, true, false, Err, IfOk, IfErr, MatchResult};
 ghost use Rattle.fip_language.specs.declared.Place.{Place};
 ghost use Rattle.fip_language.specs.Surface as Surface;
 ghost use Rattle.fip_base.specs.SurfaceView as surface;
 ghost use Rattle.fip_base.specs.declared.refusal.Refusal.{Refusal};
-ghost use Rattle.fip_base.specs.declared.refusal.Rule.{Rule};
 ghost use Rattle.fip_grammar.specs.WordView as tokens_view;
 ghost use Rattle.fip_grammar.specs.Limits as limits;
-ghost use Rattle.fip_grammar.specs.Limits.{IsSpelt, IsMisspelt, IsLeastBroken, place_at};
-ghost use Rattle.fip_grammar.specs.Grammar.{Spells};
+ghost use Rattle.fip_grammar.specs.Limits.{IsSpelt, IsMisspelt};
 ghost use Rattle.fip_grammar.specs.Machine as machine;
-ghost use Rattle.fip_parser.specs.StateView as view;
-ghost use Rattle.fip_parser.specs.StateView.{Follows, IsAbove};
+ghost use Rattle.parser_state.specs.StateView as view;
+ghost use Rattle.parser_state.specs.StateView.{IsAbove};
 ghost use Rattle.fip_parser.specs.Parsed.{seen_of, machine_of, Takes, Stops, IsWithin, refusal_of, syntax_refusal, fault_rule, reading_of, Goes, Fails, IsSpeltBy, IsMisspeltBy, IsRefused};
 
-use crate::body::step_body;
-use crate::heading::{step_data, step_function, step_top};
-use crate::literal::magnitude;
-use crate::patterns::step_pattern;
-use crate::state::{Next, State};
-use crate::types::step_type;
+use crate::step::step;
 use fip_base::plain::Detail;
 use fip_base::refusal::{Refusal, Rule};
 use fip_base::surface::{Declaration, Program};
@@ -28,7 +21,9 @@ use fip_grammar::Sign;
 use fip_grammar::lexer::{LexError, lex};
 use fip_grammar::token::{Token, Tokens, Word};
 use fip_language::{Operator, Place};
-use std::alloc::{AllocError, AllocFailed, Global};
+use parser_state::literal::magnitude;
+use parser_state::state::{Next, State};
+use std::alloc::{AllocError, Global};
 
 /// Why a source isn't parsed.
 #[derive(Drop)]
@@ -77,29 +72,6 @@ enum Taken {
         declarations: Vec<Declaration>,
         state: State,
     },
-}
-
-fn step(alloc: Global, state: State, token: Token) -> Result<Next, AllocError>
-    requires well { view.IsWell state }
-    ensures next { Follows (view.negated state) token.entry result (machine.step (view.state state)) }
-{
-    match state {
-        State::Top => step_top(token),
-        State::Function { heading } => step_function(alloc, heading, token),
-        State::Data { heading } => step_data(alloc, heading, token),
-        State::Typing {
-            position,
-            open,
-            purpose,
-        } => step_type(alloc, position, open, purpose, token),
-        State::Matching {
-            position,
-            open,
-            body,
-            clauses,
-        } => step_pattern(alloc, position, open, body, clauses, token),
-        State::Body { position, body } => step_body(alloc, position, body, token),
-    }
 }
 
 fn opens(word: Word) -> bool

@@ -1,6 +1,6 @@
 use Rattle.std.proofs.Common.{inl, inr, refl, sym, subst}
 use Rattle.fip_grammar.specs.WordView.{token}
-use Rattle.fip_parser.specs.StateView as view
+use Rattle.parser_state.specs.StateView as view
 use Rattle.fip_parser.specs.Parsed.{Fails, reading_of}
 use Rattle.fip_parser.proofs.parser.advance.Goals as goal
 

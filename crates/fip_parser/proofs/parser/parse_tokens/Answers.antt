@@ -3,7 +3,7 @@ use Rattle.fip_base.specs.SurfaceView as surface
 use Rattle.fip_grammar.specs.WordView.{tokens}
 use Rattle.fip_grammar.specs.Machine as machine
 use Rattle.fip_grammar.proofs.Least.{reads_ended, reads_unended}
-use Rattle.fip_parser.specs.StateView as view
+use Rattle.parser_state.specs.StateView as view
 use Rattle.fip_parser.specs.Parsed.{reading_of, IsMisspeltBy, syntax_refusal}
 use Rattle.fip_parser.proofs.Reading.{state_negates, unended, fails_least, goes_on, at_token, at_end, place_of_end}
 use Rattle.fip_parser.proofs.parser.parse_tokens.Goals as goal

@@ -1,6 +1,6 @@
 use Rattle.fip_grammar.specs.WordView.{tokens}
 use Rattle.fip_grammar.proofs.Least.{Reads}
-use Rattle.fip_parser.specs.StateView.{IsWell}
+use Rattle.parser_state.specs.StateView.{IsWell}
 use Rattle.fip_parser.specs.Parsed.{reading_of}
 use Rattle.fip_parser.proofs.parser.parse_tokens.Given as goal
 

@@ -2,7 +2,7 @@ use Rattle.std.proofs.Common.{map, ap, subst}
 use Rattle.fip_base.specs.SurfaceView as surface
 use Rattle.fip_grammar.specs.WordView.{word}
 use Rattle.fip_grammar.specs.Machine as machine
-use Rattle.fip_parser.specs.StateView as view
+use Rattle.parser_state.specs.StateView as view
 use Rattle.fip_parser.proofs.parser.take.Goals as goal
 
 pub returns-in-TooLarge : goal.returns-in-TooLarge

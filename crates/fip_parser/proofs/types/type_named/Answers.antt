@@ -3,8 +3,8 @@ use Rattle.fip_grammar.specs.declared.token.Word.TheVariants as W
 use Rattle.fip_grammar.specs.declared.Sign.TheVariants as S
 use Rattle.fip_grammar.specs.WordView.{word}
 use Rattle.fip_grammar.specs.Machine as machine
-use Rattle.fip_parser.specs.StateView as view
-use Rattle.fip_parser.proofs.HeadFacts as facts
+use Rattle.parser_state.specs.StateView as view
+use Rattle.parser_types.proofs.TypeFacts as facts
 use Rattle.fip_parser.proofs.types.type_named.Goals as goal
 
 pub returns-in_ok-push-in-Sign-SquareOpen : goal.returns-in_ok-push-in-Sign-SquareOpen

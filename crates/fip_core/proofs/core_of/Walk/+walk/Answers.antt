@@ -11,7 +11,7 @@ use Rattle.fip_base.specs.declared.surface.Clause.{out-Clause}
 use Rattle.fip_base.specs.SurfaceView as surface
 use Rattle.fip_core.specs.Walk.{bindings, waiting, waits, stepped, part_left, operands_of, case_made, clauses_before}
 use Rattle.fip_core.proofs.CoreFacts as cores
-use Rattle.fip_core.proofs.SurfaceFacts as views
+use Rattle.fip_base.proofs.SurfaceLayers as views
 use Rattle.fip_core.proofs.WalkFacts as walk
 use Rattle.fip_core.proofs.core_of.Walk.+walk.Goals as goal
 
@@ -110,9 +110,9 @@ brackets_hold t c =
     let w = form.contents c.args.self.now.scope c.args.self.now.next (surface.block c.args.block.now) in
     let ls = (out-Block c.args.block.now).lets.items in
     let h : 0 < length ls =
-    views.not_empty (out-Block c.args.block.now).lets.len (length ls) c.is_empty.result c.if-is_empty.false c.is_empty.ensures (out-Block c.args.block.now).lets.ok.0 in
+    walk.not_empty (out-Block c.args.block.now).lets.len (length ls) c.is_empty.result c.if-is_empty.false c.is_empty.ensures (out-Block c.args.block.now).lets.ok.0 in
     ap (λ y. form.in_brackets y w) (views.block_view c.args.block.now)
-    ∙ views.brackets_of_lets (map surface.let_part ls) (surface.expression (out-Block c.args.block.now).last) w
+    ∙ walk.brackets_of_lets (map surface.let_part ls) (surface.expression (out-Block c.args.block.now).last) w
     (omega (arith, h, length-map ls surface.let_part))
 
 pub brackets-returns-clause-given : goal.brackets-returns-clause-given
@@ -201,16 +201,20 @@ step-returns-in_ok-parts-in-Constructor-clause-given t c =
     let n = c.args.self.now.next in
     let st = waiting c.args.stack.now.items in
     let ps = form.parts s n (surface.expressions c.in-Constructor.arguments.items) in
-    cores.give_view _
-    ∙ ap C.Give (cores.constructor_view c.in_ok-copy_name-in-Constructor.field-0 c.in-Constructor.place c.in_ok-parts-in-Constructor.field-0)
-    ∙ ap (λ x. C.Give (C.Constructor x c.in-Constructor.place (core.arguments c.in_ok-parts-in-Constructor.field-0.items)))
-    (c.in_ok-copy_name-in-Constructor.ensures.same ∙ c.deref-in-Constructor.ensures.value)
+    let as' = core.arguments c.in_ok-parts-in-Constructor.field-0.items in
+    let e =
+    ap (λ x. C.Give (C.Constructor x c.in-Constructor.place as')) c.deref-in-Constructor.ensures.value
     ∙ ap (λ x. C.Give (C.Constructor c.in-Constructor.name.items c.in-Constructor.place x))
     (ap core.arguments_of c.in_ok-parts-in-Constructor.ensures.given
     ∙ ap (λ z. core.arguments_of (form.parts s n (surface.expressions z)).arguments) c.deref-in-Constructor-2.ensures.value
     ∙ sym (cores.arguments_of_arguments_of ps.arguments))
     ∙ ap (λ a. (stepped s n a st).expression) (sym (views.action_constructor c.in-Constructor.name c.in-Constructor.place c.in-Constructor.arguments))
-    ∙ ap (λ x. (stepped s n (surface.action x) st).expression) (sym c.in-Constructor.is)
+    ∙ ap (λ x. (stepped s n (surface.action x) st).expression) (sym c.in-Constructor.is) in
+    IfOk-weaker c.constructor.result
+    (λ r. core.expression r ≡ C.Give (C.Constructor c.deref-in-Constructor.result.now c.in-Constructor.place as'))
+    (λ r. core.expression r ≡ (stepped s n (surface.action c.args.step.now) st).expression)
+    (λ r h. h ∙ e)
+    c.constructor.ensures.same
 
 pub step-returns-in_ok-parts-in-Tuple-clause-given : goal.step-returns-in_ok-parts-in-Tuple-clause-given
 step-returns-in_ok-parts-in-Tuple-clause-given t c =
@@ -300,7 +304,7 @@ whole-loop-step-preserved t c =
     sym
     (ap (λ z. surface.left_by (map surface.action z) []) d
     ∙ ap (λ z. surface.left_by z []) (map-append surface.action (take i xs) (x ∷ []))
-    ∙ walk.left_by_push (map surface.action (take i xs)) a []) in
+    ∙ views.left_by_push (map surface.action (take i xs)) a []) in
     let f = walk.follows s n a es in
     let q : stepped c.loop-step.self.scope c.loop-step.self.next a (waiting c.loop-step.stack.items) ≡ stepped s b.next a b.arguments =
     ap (λ z. stepped z c.loop-step.self.next a (waiting c.loop-step.stack.items)) c.loop-step.invariant.scope

@@ -1,8 +1,0 @@
-use Rattle.std.proofs.Common.{◌∙◌}
-use Rattle.fip_parser.proofs.StepFacts as steps
-use Rattle.fip_parser.proofs.body.close_match.Goals as goal
-
-pub returns : goal.returns
-returns c =
-    let m = c.args.clauses in
-    record { next = λ negated w x e. c.operand.ensures.next negated w x (e ∙ steps.at_match c.args.body m.destructive m.place m.clauses) }

@@ -1,0 +1,2 @@
+mod DefaultRows
+mod HeadFacts

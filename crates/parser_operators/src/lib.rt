@@ -1,0 +1,6 @@
+// Behind an operand: operators, the end of an expression, and the end of what stands in a bracket.
+#![tactic(auto)]
+
+mod levels;
+pub mod names;
+pub mod operators;

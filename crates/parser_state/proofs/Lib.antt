@@ -1,0 +1,4 @@
+pub mod Rows
+pub mod StateFacts
+pub mod StepFacts
+pub mod TooLarge

@@ -1,13 +1,15 @@
 -- The clauses of a right loop pass the tests on clauses.
-use Rattle.std.proofs.Common.{◌≡◌, ℕ, suc, ◌+◌, ◌-◌, ◌≤◌, Bool, true, false, List, [], ◌∷◌, ◌++◌, map, length, Some, None, refl, ap, sym, subst, ◌∙◌, arith, is_some, ◌==◌, cond, count_by, if◌then◌else◌}
+use Rattle.std.proofs.Common.{◌≡◌, ℕ, suc, ◌+◌, ◌-◌, ◌≤◌, Bool, true, List, [], ◌∷◌, length, Some, None, refl, ap, sym, subst, ◌∙◌, arith, is_some, ◌==◌, cond, count_by, if◌then◌else◌, eq-eqb, le-leb, zero-add}
+use Rattle.std.proofs.lemmas.List.{length-map}
+use Rattle.std.proofs.lemmas.Bool.{and_from}
 use Rattle.std.specs.List.{fold}
 use Rattle.fip_language.specs.Values.{one_of_size}
-use Rattle.fip_language.specs.Core.{Name, Binder, Function, Core}
+use Rattle.fip_language.specs.Core.{Binder, Function, Core}
 use Rattle.fip_language.specs.Declarations.{Declared, constructor_of, table_of}
 use Rattle.fip_language.specs.Every.{Every, Once}
 use Rattle.fip_language.specs.LoopForm.{Ending, Returns, Calls, LoopClause, Loop, ending_expression, binder_patterns, loop_clauses, IsLoop}
-use Rattle.fip_language.specs.Registers.{registers_of_patterns, registers_of_expression, registers_of_block, registers_of_clauses, registers}
-use Rattle.fip_language.specs.Right.{Scope, nothing_in_scope, parameters_in_scope, binders_in_scope, field_types, parameter_types, result_type, is_blank, names_of_binders, IsRightClause, one_if_number, clauses_of_number, pattern_nodes, UsedOnce}
+use Rattle.fip_language.specs.Registers.{registers_of_expression, registers_of_block, registers_of_clauses, registers}
+use Rattle.fip_language.specs.Right.{Scope, nothing_in_scope, parameters_in_scope, binders_in_scope, field_types, parameter_types, result_type, names_of_binders, IsRightClause, one_if_number, clauses_of_number, pattern_nodes, UsedOnce}
 use Rattle.loop_form.specs.Loop as L
 use Rattle.loop_form.specs.Meaning.{in_clause}
 use Rattle.loop_check.specs.declared.header.Known.{Known}
@@ -15,8 +17,10 @@ use Rattle.loop_check.specs.Names.{with_names}
 use Rattle.loop_check.specs.Lookup.{found}
 use Rattle.loop_check.specs.Clauses.{Signature, Parts, pattern_count, are_binders, pattern_names, ending_registers, right_ending, right_fields, right_found, right_parts, right_clauses, id_number, numbered_clauses, case_registers}
 use Rattle.loop_check.specs.Program.{cases_of}
+use Rattle.loop_check.proofs.RightShape.{count_binders, names_of}
+use Rattle.loop_check.proofs.RightCounts.{binders_registers}
 use Rattle.loop_check.proofs.CompleteNames.{once_some}
-use Rattle.loop_check.proofs.CompleteTypes.{both, le_test, same_test, ParametersFrom}
+use Rattle.loop_check.proofs.CompleteTypes.{ParametersFrom}
 use Rattle.loop_check.proofs.CompleteScope.{BindersFrom, ClausesFrom, scope_from, parameters_scope, binders_scope, clause_types, parameter_at, field_at, scope_clause}
 use Rattle.loop_check.proofs.CompleteTyping.{Finds, Shows, Stand, ending_typed, all_narrow, all_once, paid_for}
 
@@ -24,24 +28,12 @@ use Rattle.loop_check.proofs.CompleteTyping.{Finds, Shows, Stand, ending_typed, 
 abbrev pub clause_parts : LoopClause → Parts
 clause_parts c = record { name = c.constructor; patterns = binder_patterns c.binders; ending = ending_expression c.ending }
 
-count_patterns : (bs : List Binder) → pattern_count (binder_patterns bs) ≡ length bs
-count_patterns [] = refl
-count_patterns (b ∷ bs) = let r = count_patterns bs in omega (arith, r)
-
 binders_right : (n : ℕ) (bs : List Binder) → BindersFrom n bs → are_binders n (binder_patterns bs) ≡ true
 binders_right n [] h = refl
-binders_right n (b ∷ bs) h = both _ _ (same_test b.number n h.0) (binders_right (n + 1) bs h.1)
-
-names_by : (blank : Bool) (name : Name) (xs ys : List Name) → xs ≡ ys → (if blank then [] else name ∷ []) ++ xs ≡ (if blank then ys else name ∷ ys)
-names_by true name xs ys e = e
-names_by false name xs ys e = ap (λ l. name ∷ l) e
-
-names_are : (bs : List Binder) → pattern_names (binder_patterns bs) ≡ names_of_binders bs
-names_are [] = refl
-names_are (b ∷ bs) = names_by (is_blank b.name) b.name (pattern_names (binder_patterns bs)) (names_of_binders bs) (names_are bs)
+binders_right n (b ∷ bs) h = and_from _ _ (eq-eqb b.number n h.0) (binders_right (n + 1) bs h.1)
 
 names_right : (bs : List Binder) → Once (names_of_binders bs) → is_some (with_names [] (pattern_names (binder_patterns bs))) ≡ true
-names_right bs once = ap (λ ns. is_some (with_names [] ns)) (names_are bs) ∙ once_some [] (names_of_binders bs) once
+names_right bs once = ap (λ ns. is_some (with_names [] ns)) (names_of bs) ∙ once_some [] (names_of_binders bs) once
 
 -- what a loop is checked against
 pub record IsHead (core : Core) (f : Function) (l : Loop) (t : ℕ) (h : Signature) : Type 0 where
@@ -62,15 +54,8 @@ scope_is core f first c d ps bs e =
     ap (λ s. binders_in_scope s c.binders (field_types core d)) (parameters_scope core nothing_in_scope 0 f.parameters ps)
     ∙ binders_scope (scope_from nothing_in_scope 0 (parameter_types core f)) first c.binders (field_types core d) e bs
 
-length_map : {A B : Type 0} (g : A → B) (xs : List A) → length (map g xs) ≡ length xs
-length_map g [] = refl
-length_map g (x ∷ xs) = ap suc (length_map g xs)
-
-from_zero : (n : ℕ) → 0 + n ≡ n
-from_zero n = omega arith
-
 parameters_stand : (scope : Scope) (ps fields : List ℕ) (first : ℕ) → length ps ≤ first → scope ≡ clause_types ps first fields → Stand scope 0 ps
-parameters_stand scope ps fields first le e i t g = ap scope (from_zero i) ∙ ap (λ (s : Scope). s i) e ∙ parameter_at ps first fields i t le g
+parameters_stand scope ps fields first le e i t g = ap scope (zero-add i) ∙ ap (λ (s : Scope). s i) e ∙ parameter_at ps first fields i t le g
 
 fields_stand : (scope : Scope) (ps fields : List ℕ) (first : ℕ) → scope ≡ clause_types ps first fields → Stand scope first fields
 fields_stand scope ps fields first e i t g = ap (λ (s : Scope). s (first + i)) e ∙ field_at ps first fields i t g
@@ -80,28 +65,28 @@ clause_shows scope ps fields first le e x t g = scope_clause ps first fields x t
 
 ending_right : (core : Core) (k : Known) (f : Function) (l : Loop) (t : ℕ) (h : Signature) (first : ℕ) (c : LoopClause) (d : Declared) → Finds core k → IsHead core f l t h → IsRightClause core f l t c d → length h.parameters ≤ first → BindersFrom first c.binders → right_ending k h first (field_types core d) (ending_expression c.ending) ≡ true
 ending_right core k f l t h first c d finds head right le bs =
-    let many : length c.binders ≡ length (field_types core d) = right.as_many ∙ sym (length_map _ d.fields) in
+    let many : length c.binders ≡ length (field_types core d) = right.as_many ∙ sym (length-map d.fields _) in
     let is : rule_scope core f c d ≡ clause_types h.parameters first (field_types core d) = scope_is core f first c d head.numbered bs many ∙ ap (λ ps. clause_types ps first (field_types core d)) (sym head.parameters) in
     let used = subst (λ o. UsedOnce (table_of core) (rule_scope core f c d) o c.ending) head.scrutinee right.used_once in
-    both _ _ (ending_typed core k f (rule_scope core f c d) (in_clause h.parameters first (field_types core d)) h c.ending finds head.one head.name head.parameters head.given (clause_shows _ h.parameters (field_types core d) first le is) right.typed)
-    (both _ _ (all_once core k h (rule_scope core f c d) 0 h.parameters c.ending finds (parameters_stand _ h.parameters (field_types core d) first le is) used)
-    (both _ _ (all_once core k h (rule_scope core f c d) first (field_types core d) c.ending finds (fields_stand _ h.parameters (field_types core d) first is) used)
+    and_from _ _ (ending_typed core k f (rule_scope core f c d) (in_clause h.parameters first (field_types core d)) h c.ending finds head.one head.name head.parameters head.given (clause_shows _ h.parameters (field_types core d) first le is) right.typed)
+    (and_from _ _ (all_once core k h (rule_scope core f c d) 0 h.parameters c.ending finds (parameters_stand _ h.parameters (field_types core d) first le is) used)
+    (and_from _ _ (all_once core k h (rule_scope core f c d) first (field_types core d) c.ending finds (fields_stand _ h.parameters (field_types core d) first is) used)
     (paid_for (length (field_types core d)) c.ending (λ s. right.paid s ∙ ap (one_of_size s) many))))
 
 fields_right : (core : Core) (k : Known) (f : Function) (l : Loop) (t : ℕ) (h : Signature) (first : ℕ) (c : LoopClause) (d : Declared) → Finds core k → IsHead core f l t h → IsRightClause core f l t c d → length h.parameters ≤ first → first + length c.binders ≤ 4096 → BindersFrom first c.binders → right_fields k h first (field_types core d) (binder_patterns c.binders) (ending_expression c.ending) ≡ true
 fields_right core k f l t h first c d finds head right le few bs =
-    let many : length c.binders ≡ length (field_types core d) = right.as_many ∙ sym (length_map _ d.fields) in
+    let many : length c.binders ≡ length (field_types core d) = right.as_many ∙ sym (length-map d.fields _) in
     let is : rule_scope core f c d ≡ clause_types (parameter_types core f) first (field_types core d) = scope_is core f first c d head.numbered bs many in
-    both _ _ (same_test _ _ (count_patterns c.binders ∙ many))
-    (both _ _ (le_test _ _ (omega (arith, few, many)))
-    (both _ _ (binders_right first c.binders bs)
-    (both _ _ (all_narrow core k (rule_scope core f c d) first (field_types core d) finds (fields_stand _ (parameter_types core f) (field_types core d) first is) right.narrow)
-    (both _ _ (ending_right core k f l t h first c d finds head right le bs) (names_right c.binders right.names_once)))))
+    and_from _ _ (eq-eqb _ _ (count_binders c.binders ∙ many))
+    (and_from _ _ (le-leb _ _ (omega (arith, few, many)))
+    (and_from _ _ (binders_right first c.binders bs)
+    (and_from _ _ (all_narrow core k (rule_scope core f c d) first (field_types core d) finds (fields_stand _ (parameter_types core f) (field_types core d) first is) right.narrow)
+    (and_from _ _ (ending_right core k f l t h first c d finds head right le bs) (names_right c.binders right.names_once)))))
 
 parts_right : (core : Core) (k : Known) (f : Function) (l : Loop) (t : ℕ) (h : Signature) (first : ℕ) (c : LoopClause) (d : Declared) → Finds core k → IsHead core f l t h → IsRightClause core f l t c d → length h.parameters ≤ first → first + length c.binders ≤ 4096 → BindersFrom first c.binders → right_parts k h first (Some (clause_parts c)) ≡ true
 parts_right core k f l t h first c d finds head right le few bs =
     ap (right_found k h first (clause_parts c)) (finds.constructor c.constructor d right.meant)
-    ∙ both _ _ (same_test d.type h.ty (right.of_type ∙ sym head.type))
+    ∙ and_from _ _ (eq-eqb d.type h.ty (right.of_type ∙ sym head.type))
     (ap (λ ts. right_fields k h first ts (binder_patterns c.binders) (ending_expression c.ending)) (finds.fields c.constructor d right.meant) ∙ fields_right core k f l t h first c d finds head right le few bs)
 
 -- the number behind the binders of all clauses
@@ -113,23 +98,19 @@ clause_registers : (e : Ending) → registers_of_expression (ending_expression e
 clause_registers (Returns a) = refl
 clause_registers (Calls n p as') = refl
 
-binder_registers : (bs : List Binder) → registers_of_patterns (binder_patterns bs) ≡ length bs
-binder_registers [] = refl
-binder_registers (b ∷ bs) = let r = binder_registers bs in omega (arith, r)
-
 registers_are : (cs : List LoopClause) → registers_of_clauses (loop_clauses cs) ≡ case_registers (cases_of (loop_clauses cs))
 registers_are [] = refl
 registers_are (c ∷ cs) =
     let r = registers_are cs in
     let e = clause_registers c.ending in
-    let b = binder_registers c.binders in
-    let n = count_patterns c.binders in
+    let b = binders_registers c.binders in
+    let n = count_binders c.binders in
     omega (arith, r, e, b, n)
 
 pub loop_registers : (f : Function) (l : Loop) → IsLoop f l → registers f ≡ length f.parameters + case_registers (cases_of (loop_clauses l.clauses))
 loop_registers f l loop =
     ap (λ b. length f.parameters + registers_of_block b) loop.body
-    ∙ ap (λ n. length f.parameters + n) (from_zero (registers_of_clauses (loop_clauses l.clauses)) ∙ registers_are l.clauses)
+    ∙ ap (λ n. length f.parameters + n) (zero-add (registers_of_clauses (loop_clauses l.clauses)) ∙ registers_are l.clauses)
 
 abbrev pub RightOnes : Core → Function → Loop → ℕ → List LoopClause → Type 0
 RightOnes core f l t cs = Every (λ (c : LoopClause). (d : Declared) × IsRightClause core f l t c d) cs
@@ -137,13 +118,13 @@ RightOnes core f l t cs = Every (λ (c : LoopClause). (d : Declared) × IsRightC
 step_clauses : (k : Known) (h : Signature) (first n : ℕ) (c : LoopClause) (cs : List LoopClause) → right_parts k h first (Some (clause_parts c)) ≡ true → right_clauses k h (first + length c.binders) (cases_of (loop_clauses cs)) ≡ Some n → right_clauses k h first (cases_of (loop_clauses (c ∷ cs))) ≡ Some n
 step_clauses k h first n c cs e rest =
     ap (λ b. if b then right_clauses k h (first + pattern_count (binder_patterns c.binders)) (cases_of (loop_clauses cs)) else None) e
-    ∙ ap (λ m. right_clauses k h (first + m) (cases_of (loop_clauses cs))) (count_patterns c.binders)
+    ∙ ap (λ m. right_clauses k h (first + m) (cases_of (loop_clauses cs))) (count_binders c.binders)
     ∙ rest
 
 pub clauses_right : (core : Core) (k : Known) (f : Function) (l : Loop) (t : ℕ) (h : Signature) (first : ℕ) (cs : List LoopClause) → Finds core k → IsHead core f l t h → RightOnes core f l t cs → length h.parameters ≤ first → first + case_registers (cases_of (loop_clauses cs)) ≤ 4096 → ClausesFrom first cs → right_clauses k h first (cases_of (loop_clauses cs)) ≡ Some (end_of first cs)
 clauses_right core k f l t h first [] finds head right le few bs = refl
 clauses_right core k f l t h first (c ∷ cs) finds head right le few bs =
-    let n = count_patterns c.binders in
+    let n = count_binders c.binders in
     step_clauses k h first (end_of (first + length c.binders) cs) c cs
     (parts_right core k f l t h first c right.0.0 finds head right.0.1 le (omega (arith, few, n)) bs.0)
     (clauses_right core k f l t h (first + length c.binders) cs finds head right.1 (omega (arith, le)) (omega (arith, few, n)) bs.1)
@@ -186,4 +167,4 @@ folded core k f l t n first a (c ∷ cs) finds right =
     ∙ sum_of a (one_if_number (constructor_of core c.constructor) n) (clauses_of_number core n cs)
 
 pub counted_are : (core : Core) (k : Known) (f : Function) (l : Loop) (t n first : ℕ) (cs : List LoopClause) → Finds core k → RightOnes core f l t cs → count_by (λ (q : L.Clause). q.constructor == n) (numbered_clauses k first (cases_of (loop_clauses cs))) ≡ clauses_of_number core n cs
-counted_are core k f l t n first cs finds right = folded core k f l t n first 0 cs finds right ∙ from_zero (clauses_of_number core n cs)
+counted_are core k f l t n first cs finds right = folded core k f l t n first 0 cs finds right ∙ zero-add (clauses_of_number core n cs)

@@ -1,24 +1,20 @@
 -- Right types pass each test on declarations.
-use Rattle.std.proofs.Common.{◌≡◌, ℕ, suc, ◌+◌, ◌<◌, true, List, [], ◌∷◌, ◌++◌, map, length, Option, Some, None, refl, ap, sym, subst, ◌∙◌, arith, add-one, codes, is_some, position, zero}
+use Rattle.std.proofs.Common.{◌≡◌, ℕ, ◌+◌, ◌<◌, true, List, [], ◌∷◌, ◌++◌, map, length, Option, Some, None, refl, ap, sym, subst, ◌∙◌, arith, add-one, codes, is_some}
 use Rattle.fip_language.specs.Core.{Name, DataConstructor, Data, Core}
 use Rattle.fip_language.specs.Table.{Table}
-use Rattle.fip_language.specs.Declarations.{same_name, data_types, Declared, constructor_of, table_of}
+use Rattle.fip_language.specs.Declarations.{data_types, table_of}
 use Rattle.fip_language.specs.Every.{Every, Once}
 use Rattle.fip_language.specs.LoopForm.{IsPlainData}
 use Rattle.fip_language.specs.Mentions.{all_of}
 use Rattle.fip_language.specs.Right.{data_name, constructor_name, HasValue, AreRightTypes}
-use Rattle.fip_base.specs.TableView.{fields_at}
-use Rattle.fip_language.specs.Table.{Shape, constructors}
-use Rattle.fip_language.proofs.Constructors.{constructor_of-shape}
-use Rattle.fip_language.proofs.Words.{length-mapped}
-use Rattle.std.specs.Prelude.{slice_get, option_map}
-use Rattle.loop_check.specs.declared.table.ConstructorId.{ConstructorId}
+use Rattle.std.proofs.lemmas.List.{length-map}
 use Rattle.loop_check.specs.declared.header.Known.{Known}
 use Rattle.loop_check.specs.Names.{with_names}
 use Rattle.loop_check.specs.Types.{right_types, numbered_table, data_names, row_names, declared_names}
-use Rattle.loop_check.specs.Lookup.{id_at}
 use Rattle.loop_check.specs.Program.{IsKnown}
-use Rattle.loop_check.proofs.CompleteNames.{once_some, with_names_are, length_data_names, table_is, number_id, constructor_found}
+use Rattle.loop_check.proofs.RightNames.{with_names-all}
+use Rattle.loop_check.proofs.RightNumbers.{ids_of, table_is, same_constructor, same_fields, same_table}
+use Rattle.loop_check.proofs.CompleteNames.{once_some}
 use Rattle.loop_check.proofs.CompleteTypes.{right_data}
 use Rattle.loop_check.proofs.CompleteTyping.{Finds}
 
@@ -46,7 +42,7 @@ constructors_named core right = none_some _ (once_some (codes "False" ∷ codes 
 
 -- the names that were taken in
 pub names_are : (core : Core) (names : List Name) → with_names (codes "bool" ∷ []) (data_names core.types) ≡ Some names → names ≡ data_names (data_types core)
-names_are core names e = with_names_are (codes "bool" ∷ []) (data_names core.types) names e
+names_are core names e = with_names-all (codes "bool" ∷ []) (data_names core.types) names e
 
 pub types_pass : (core : Core) (names : List Name) → with_names (codes "bool" ∷ []) (data_names core.types) ≡ Some names → Every IsPlainData core.types → AreRightTypes core → right_types names core.types ≡ true
 types_pass core names e plain right = ap (λ ns. right_types ns core.types) (names_are core names e) ∙ right_data core core.types plain right.few_fields right.known
@@ -56,7 +52,7 @@ table_names core names e = ap (λ ns. numbered_table ns core.types) (names_are c
 
 pub as_many : (core : Core) (names : List Name) → with_names (codes "bool" ∷ []) (data_names core.types) ≡ Some names → length (numbered_table names core.types) ≡ length names
 as_many core names e =
-    ap length (table_names core names e) ∙ length-mapped _ (data_types core) ∙ sym (length_data_names (data_types core)) ∙ ap length (sym (names_are core names e))
+    ap length (table_names core names e) ∙ length-map (data_types core) _ ∙ sym (ap length (sym (names_of (data_types core))) ∙ length-map (data_types core) data_name) ∙ ap length (sym (names_are core names e))
 
 pub all_valued : (core : Core) (names : List Name) (t : ℕ) → with_names (codes "bool" ∷ []) (data_names core.types) ≡ Some names → AreRightTypes core → t < length names → HasValue (numbered_table names core.types) (t + 1)
 all_valued core names t e right lt =
@@ -67,28 +63,13 @@ all_valued core names t e right lt =
 
 -- ---- what is known of them
 
-at_is : (ss : List Shape) (c : ℕ) (s : Shape) → slice_get ss c ≡ Some s → fields_at ss c ≡ s.fields
-at_is [] c s e = cc
-at_is (r ∷ ss) zero s e = let same : r ≡ s = cc in ap (λ (x : Shape). x.fields) same
-at_is (r ∷ ss) (suc c) s e = at_is ss c s e
-
-mapped : (o : Option Declared) (d : Declared) → o ≡ Some d → option_map number_id o ≡ Some (number_id d)
-mapped o d e = ap (option_map number_id) e
-
 pub known_types : (core : Core) (k : Known) → IsKnown k core.types → k.types ≡ data_names (data_types core)
 known_types core k known = names_are core k.types known.types
 
 pub known_finds : (core : Core) (k : Known) → IsKnown k core.types → Finds core k
-known_finds core k known =
-    let names : k.constructors ≡ declared_names (data_types core) = with_names_are (codes "False" ∷ codes "True" ∷ []) (declared_names core.types) k.constructors known.constructors in
-    let table : k.table ≡ table_of core = known.table ∙ table_names core k.types known.types in
-    record {
-      constructor = λ name d e.
-          ap (λ ns. id_at k.ids.items (position (same_name name) ns)) names
-          ∙ ap (λ (is : List ConstructorId). id_at is (position (same_name name) (declared_names (data_types core)))) known.ids
-          ∙ constructor_found core name
-          ∙ mapped (constructor_of core name) d e;
-      fields = λ name d e. ap (λ (tb : Table). fields_at (constructors tb d.type) d.number) table ∙ at_is (constructors (table_of core) d.type) d.number _ (constructor_of-shape core name d e);
-      table = table;
-      scalars = known.scalars;
-    }
+known_finds core k known = record {
+  constructor = λ name d e. same_constructor core k known name ∙ ap ids_of e;
+  fields = same_fields core k known;
+  table = same_table core k known;
+  scalars = known.scalars;
+}

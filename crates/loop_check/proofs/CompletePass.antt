@@ -1,5 +1,8 @@
 -- A right program passes the check.
-use Rattle.std.proofs.Common.{◌≡◌, ℕ, suc, ◌+◌, ◌<◌, ◌≤◌, true, List, [], ◌∷◌, map, length, Option, Some, None, refl, ap, sym, subst, ◌∙◌, arith, slice_get, inl}
+use Rattle.std.proofs.Common.{◌≡◌, ℕ, ◌+◌, ◌<◌, ◌≤◌, true, List, [], ◌∷◌, map, length, Option, Some, None, refl, ap, sym, subst, ◌∙◌, arith, slice_get, inl, zero-add}
+use Rattle.std.proofs.lemmas.Bool.{and_from}
+use Rattle.std.proofs.lemmas.List.{length-map}
+use Rattle.fip_language.proofs.Plain.{every_split}
 use Rattle.fip_language.specs.Core.{Result, Parameter, Function, Core}
 use Rattle.fip_language.specs.Declarations.{data_types, table_of}
 use Rattle.fip_language.specs.Table.{Table, constructors}
@@ -19,7 +22,7 @@ use Rattle.loop_check.specs.Clauses.{case_registers}
 use Rattle.loop_check.specs.Program.{Taken, cases_of, taken, taken_by, IsKnown, HeaderPasses, AreFewTypes, signature_of}
 use Rattle.loop_check.specs.Fitting.{AreFitting, IsFitting}
 use Rattle.loop_check.proofs.CompleteNames.{once_some}
-use Rattle.loop_check.proofs.CompleteTypes.{both, every_split, ParametersFrom, known_result, right_ones, result_is, parameters_are}
+use Rattle.loop_check.proofs.CompleteTypes.{ParametersFrom, known_result, right_ones, result_is, parameters_are}
 use Rattle.loop_check.proofs.CompleteScope.{ClausesFrom, numbered_from, parameters_scope, parameter_there, parameter_back}
 use Rattle.loop_check.proofs.CompleteTyping.{Finds, Stand, all_narrow}
 use Rattle.loop_check.proofs.CompleteClauses.{IsHead, end_of, loop_registers, clauses_right, nodes_are, count_cases, counted_are}
@@ -36,16 +39,13 @@ number_is core k r types = ap (λ ns. result_number ns r) types ∙ result_is co
 header_right : (core : Core) (f : Function) (l : Loop) (t : ℕ) → IsLoop f l → IsRightLoop core f l t → ParametersFrom 0 f.parameters → right_header (data_names (data_types core)) f ≡ true
 header_right core f l t loop right numbered =
     let s = every_split (KnownType core) (types_in_parameters f.parameters) (types_in_result f.result) right.types_known in
-    both _ _ (ap is_fip loop.fip)
-    (both _ _ (ap is_empty loop.no_statics)
-    (both _ _ (known_result core f.result loop.plain_result s.1) (right_ones core 0 f.parameters loop.plain_parameters s.0 numbered)))
-
-from_zero : (n : ℕ) → 0 + n ≡ n
-from_zero n = omega arith
+    and_from _ _ (ap is_fip loop.fip)
+    (and_from _ _ (ap is_empty loop.no_statics)
+    (and_from _ _ (known_result core f.result loop.plain_result s.1) (right_ones core 0 f.parameters loop.plain_parameters s.0 numbered)))
 
 parameters_stand : (core : Core) (f : Function) → ParametersFrom 0 f.parameters → Stand (parameters_in_scope core nothing_in_scope f.parameters) 0 (parameter_types core f)
 parameters_stand core f numbered i t e =
-    ap (parameters_in_scope core nothing_in_scope f.parameters) (from_zero i)
+    ap (parameters_in_scope core nothing_in_scope f.parameters) (zero-add i)
     ∙ ap (λ (s : Scope). s i) (parameters_scope core nothing_in_scope 0 f.parameters numbered)
     ∙ parameter_there (parameter_types core f) i t e
 
@@ -94,10 +94,6 @@ fitting core k f l t x finds loop right head numbered many =
       covered = λ n lt. counted_are core k f l t n (length (parameter_types core f)) l.clauses finds right.clauses ∙ right.covered n (subst (λ (tb : Table). n < length (constructors tb t)) finds.table lt);
     }
 
-length_map : {A B : Type 0} (g : A → B) (xs : List A) → length (map g xs) ≡ length xs
-length_map g [] = refl
-length_map g (x ∷ xs) = ap suc (length_map g xs)
-
 loop_fits : (core : Core) (k : Known) (f : Function) (l : Loop) (t : ℕ) → IsKnown k core.types → core.functions ≡ f ∷ [] → IsLoop f l → IsNumbered f l → IsRightLoop core f l t → IsFitting k f
 loop_fits core k f l t known one loop numbered right =
     let finds = known_finds core k known in
@@ -121,7 +117,7 @@ loop_fits core k f l t known one loop numbered right =
           (subst (λ r. AreFitting k f.name (parameter_types core f) r m t n) (sym (number_is core k f.result types))
           (fitting core k f l t bound.0 finds loop right
           (record { one = one; name = refl; parameters = refl; given = refl; scrutinee = bound.1; type = refl; numbered = from.0 })
-          from.1 (length_map (parameter_type core) f.parameters)));
+          from.1 (length-map f.parameters (parameter_type core))));
     }
 
 -- a right program whose only function this is

@@ -1,6 +1,7 @@
 -- Right types pass the tests on types, and a right header those on headers.
-use Rattle.std.proofs.Common.{◌≡◌, ℕ, ◌+◌, ◌≤◌, Bool, true, ◌&&◌, List, [], ◌∷◌, ◌++◌, map, length, refl, ap, ◌∙◌, arith, nat_le, ◌==◌, not}
-use Rattle.std.proofs.lemmas.Bool.Decides.{nat_tests}
+use Rattle.std.proofs.Common.{◌≡◌, ℕ, ◌+◌, true, List, [], ◌∷◌, map, length, refl, ap, ◌∙◌, not, eq-eqb, le-leb}
+use Rattle.std.proofs.lemmas.Bool.{and_from}
+use Rattle.fip_language.proofs.Plain.{every_split}
 use Rattle.fip_language.specs.Core.{Written, WrittenInt, WrittenName, NoWritten, MoreWritten, Result, OneResult, TupleResult, Parameter, DataConstructor, Data, Core}
 use Rattle.fip_language.specs.Declarations.{data_types}
 use Rattle.fip_language.specs.Every.{Every}
@@ -9,20 +10,7 @@ use Rattle.fip_language.specs.Mentions.{Mention, all_of, types_in_written, types
 use Rattle.fip_language.specs.Right.{KnownType, FewFields, parameter_type, result_type}
 use Rattle.loop_check.specs.Types.{is_empty, is_known, are_known, right_constructors, right_types, data_names}
 use Rattle.loop_check.specs.Header.{right_result, right_parameters, result_number, parameter_numbers}
-use Rattle.loop_check.proofs.CompleteNames.{known_name, written_type}
-
-pub both : (a b : Bool) → a ≡ true → b ≡ true → (a && b) ≡ true
-both a b e f = ap (λ x. x && b) e ∙ f
-
-pub le_test : (m n : ℕ) → m ≤ n → nat_le m n ≡ true
-le_test m n h = grind (arith, nat_tests)
-
-pub same_test : (m n : ℕ) → m ≡ n → (m == n) ≡ true
-same_test m n h = grind (arith, nat_tests)
-
-pub every_split : {A : Type 0} (P : A → Type 0) (xs ys : List A) → Every P (xs ++ ys) → Every P xs × Every P ys
-every_split P [] ys h = (tt, h)
-every_split P (x ∷ xs) ys h = let r = every_split P xs ys h.1 in ((h.0, r.0), r.1)
+use Rattle.loop_check.proofs.RightNumbers.{known_name, written_type}
 
 known_written : (core : Core) (w : Written) → IsPlain w → Every (KnownType core) (types_in_written w) → is_known (data_names (data_types core)) w ≡ true
 known_written core (WrittenInt p) plain h = refl
@@ -33,7 +21,7 @@ known_writtens : (core : Core) (ws : List Written) → Every IsPlain ws → Ever
 known_writtens core [] plain h = refl
 known_writtens core (w ∷ ws) plain h =
     let s = every_split (KnownType core) (types_in_written w) (all_of types_in_written ws) h in
-    both _ _ (known_written core w plain.0 s.0) (known_writtens core ws plain.1 s.1)
+    and_from _ _ (known_written core w plain.0 s.0) (known_writtens core ws plain.1 s.1)
 
 abbrev fields_mentions : DataConstructor → List Mention
 fields_mentions k = all_of types_in_written k.fields
@@ -42,7 +30,7 @@ right_rows : (core : Core) (ks : List DataConstructor) → Every PlainFields ks 
 right_rows core [] plain few h = refl
 right_rows core (k ∷ ks) plain few h =
     let s = every_split (KnownType core) (fields_mentions k) (all_of fields_mentions ks) h in
-    both _ _ (both _ _ (le_test (length k.fields) 16 few.0) (known_writtens core k.fields plain.0 s.0)) (right_rows core ks plain.1 few.1 s.1)
+    and_from _ _ (and_from _ _ (le-leb (length k.fields) 16 few.0) (known_writtens core k.fields plain.0 s.0)) (right_rows core ks plain.1 few.1 s.1)
 
 empty_is : {A : Type 0} (xs : List A) → xs ≡ [] → is_empty xs ≡ true
 empty_is xs e = ap is_empty e
@@ -51,7 +39,7 @@ pub right_data : (core : Core) (ds : List Data) → Every IsPlainData ds → Eve
 right_data core [] plain few h = refl
 right_data core (d ∷ ds) plain few h =
     let s = every_split (KnownType core) (types_in_data d) (all_of types_in_data ds) h in
-    both _ _ (both _ _ (empty_is d.parameters plain.0.no_parameters) (right_rows core d.constructors plain.0.plain few.0 s.0)) (right_data core ds plain.1 few.1 s.1)
+    and_from _ _ (and_from _ _ (empty_is d.parameters plain.0.no_parameters) (right_rows core d.constructors plain.0.plain few.0 s.0)) (right_data core ds plain.1 few.1 s.1)
 
 -- ---- headers
 
@@ -68,7 +56,7 @@ pub right_ones : (core : Core) (n : ℕ) (ps : List Parameter) → Every IsPlain
 right_ones core n [] plain h numbered = refl
 right_ones core n (p ∷ ps) plain h numbered =
     let s = every_split (KnownType core) (types_in_written p.type) (types_in_parameters ps) h in
-    both _ _ (both _ _ (ap not plain.0.owned) (both _ _ (same_test p.binder.number n numbered.0) (known_written core p.type plain.0.plain s.0))) (right_ones core (n + 1) ps plain.1 s.1 numbered.1)
+    and_from _ _ (and_from _ _ (ap not plain.0.owned) (and_from _ _ (eq-eqb p.binder.number n numbered.0) (known_written core p.type plain.0.plain s.0))) (right_ones core (n + 1) ps plain.1 s.1 numbered.1)
 
 pub result_is : (core : Core) (r : Result) → result_number (data_names (data_types core)) r ≡ result_type core r
 result_is core (OneResult t) = written_type core t

@@ -1,7 +1,9 @@
 -- What has a type by the rules has it by the test, and an ending that uses each variable once and pays for its cells
 -- passes the counts.
-use Rattle.std.proofs.Common.{◌≡◌, ℕ, zero, suc, ◌+◌, ◌≤◌, Bool, true, false, ◌&&◌, ◌||◌, List, [], ◌∷◌, map, length, min, Option, Some, None, refl, ap, sym, subst, ◌∙◌, arith, slice_get, nat_le, ◌==◌, if◌then◌else◌}
-use Rattle.std.proofs.lemmas.Bool.{eqb-true, eqb-false}
+use Rattle.std.proofs.Common.{◌≡◌, ℕ, zero, suc, ◌+◌, ◌≤◌, Bool, true, false, ◌&&◌, ◌||◌, List, [], ◌∷◌, map, length, min, Option, Some, None, refl, ap, sym, subst, ◌∙◌, arith, slice_get, nat_le, ◌==◌, if◌then◌else◌, add-zero, eq-eqb, le-leb}
+use Rattle.std.proofs.lemmas.Bool.{and_from, eqb-true, eqb-false}
+use Rattle.std.proofs.lemmas.Option.{cond_some}
+use Rattle.fip_language.proofs.Plain.{next_sum}
 use Rattle.std.proofs.lemmas.Bool.Decides.{nat_tests}
 use Rattle.fip_language.specs.Values.{one_of_size}
 use Rattle.fip_language.specs.Core.{Name, Argument, Variable, Literal, Constructor, Arguments, NoArguments, MoreArguments, Function, Core}
@@ -13,13 +15,13 @@ use Rattle.loop_check.specs.declared.header.Known.{Known}
 use Rattle.loop_check.specs.Lookup.{found, id_fields, true_or, marked_scalar, is_narrow, are_narrow}
 use Rattle.loop_check.specs.Typing.{is_number, binder_has, id_has, found_fields, has_type, have_types, weight_of, how_many, weight, weight_of_all}
 use Rattle.loop_check.specs.Clauses.{Signature, ends_right, uses, ending_weight, wanted, once, used_once, one_unless_zero}
-use Rattle.loop_check.proofs.CompleteNames.{number_id}
-use Rattle.loop_check.proofs.CompleteTypes.{both, le_test, same_test}
+use Rattle.loop_check.proofs.RightNumbers.{id_of, shapes_mark}
+use Rattle.loop_check.proofs.RightTerms.{uses_is}
 
 -- A constructor of the program is found by its name, with its fields' types, and the scalar types are marked.
 pub record Finds (core : Core) (k : Known) : Type 0 where
-  pub constructor : (name : Name) (d : Declared) → constructor_of core name ≡ Some d → found k name ≡ Some (number_id d)
-  pub fields : (name : Name) (d : Declared) → constructor_of core name ≡ Some d → id_fields k (number_id d) ≡ field_types core d
+  pub constructor : (name : Name) (d : Declared) → constructor_of core name ≡ Some d → found k name ≡ Some (id_of d)
+  pub fields : (name : Name) (d : Declared) → constructor_of core name ≡ Some d → id_fields k (id_of d) ≡ field_types core d
   pub table : k.table ≡ table_of core
   pub scalars : k.scalars.items ≡ map all_bare k.table
 
@@ -30,7 +32,7 @@ abbrev pub Shows : Scope → Scope → Type 0
 Shows scope other = (x t : ℕ) → scope x ≡ Some t → other x ≡ Some t
 
 has_number : (o : Option ℕ) (t : ℕ) → o ≡ Some t → is_number o t ≡ true
-has_number o t e = ap (λ p. is_number p t) e ∙ same_test t t refl
+has_number o t e = ap (λ p. is_number p t) e ∙ eq-eqb t t refl
 
 binder_right : (scope other : Scope) (x : Option ℕ) (t : ℕ) → Shows scope other → binder_type scope x ≡ Some t → binder_has other x t ≡ true
 binder_right scope other None t shows e = cc
@@ -39,45 +41,36 @@ binder_right scope other (Some x) t shows e = has_number (other x) t (shows x t 
 mutual
   type_right : (core : Core) (k : Known) (scope other : Scope) (t : ℕ) (a : Argument) → Finds core k → Shows scope other → IsOfType core scope t a → has_type k other t a ≡ true
   type_right core k scope other t (Variable x n p) finds shows h = binder_right scope other x t shows h
-  type_right core k scope other t (Literal i p) finds shows h = same_test t 0 h
+  type_right core k scope other t (Literal i p) finds shows h = eq-eqb t 0 h
   type_right core k scope other t (Constructor n p as') finds shows h =
       ap (λ o. id_has o t && have_types k other (found_fields k o) as') (finds.constructor n h.0 h.1)
-      ∙ both _ _ (same_test h.0.type t h.2) (ap (λ ts. have_types k other ts as') (finds.fields n h.0 h.1) ∙ types_right core k scope other (field_types core h.0) as' finds shows h.3)
+      ∙ and_from _ _ (eq-eqb h.0.type t h.2) (ap (λ ts. have_types k other ts as') (finds.fields n h.0 h.1) ∙ types_right core k scope other (field_types core h.0) as' finds shows h.3)
 
   types_right : (core : Core) (k : Known) (scope other : Scope) (ts : List ℕ) (as' : Arguments) → Finds core k → Shows scope other → AreOfTypes core scope ts as' → have_types k other ts as' ≡ true
   types_right core k scope other [] NoArguments finds shows h = refl
   types_right core k scope other [] (MoreArguments a as') finds shows h = absurd h
   types_right core k scope other (t ∷ ts) NoArguments finds shows h = absurd h
-  types_right core k scope other (t ∷ ts) (MoreArguments a as') finds shows h = both _ _ (type_right core k scope other t a finds shows h.0) (types_right core k scope other ts as' finds shows h.1)
-
-only_by : (b : Bool) (f g : Function) → (if b then Some f else None) ≡ Some g → (b ≡ true) × (f ≡ g)
-only_by true f g e = (refl, cc)
-only_by false f g e = cc
+  types_right core k scope other (t ∷ ts) (MoreArguments a as') finds shows h = and_from _ _ (type_right core k scope other t a finds shows h.0) (types_right core k scope other ts as' finds shows h.1)
 
 only_function : (core : Core) (f g : Function) (name : Name) → core.functions ≡ f ∷ [] → function_of core name ≡ Some g → (same_name name f.name ≡ true) × (f ≡ g)
-only_function core f g name one e = only_by (same_name name f.name) f g (ap (function_in name) (sym one) ∙ e)
+only_function core f g name one e = cond_some (same_name name f.name) f g (ap (function_in name) (sym one) ∙ e)
 
 pub ending_typed : (core : Core) (k : Known) (f : Function) (scope other : Scope) (h : Signature) (e : Ending) → Finds core k → core.functions ≡ f ∷ [] → h.name ≡ f.name → h.parameters ≡ parameter_types core f → h.given ≡ result_type core f.result → Shows scope other → EndsWith core scope (result_type core f.result) e → ends_right k other h (ending_expression e) ≡ true
 ending_typed core k f scope other h (Returns a) finds one named types given shows w = ap (λ t. has_type k other t a) given ∙ type_right core k scope other (result_type core f.result) a finds shows w
 ending_typed core k f scope other h (Calls n p as') finds one named types given shows w =
     let o = only_function core f w.0 n one w.1 in
-    both _ _ (ap (same_name n) named ∙ o.0)
+    and_from _ _ (ap (same_name n) named ∙ o.0)
     (ap (λ ts. have_types k other ts as') types ∙ types_right core k scope other (parameter_types core f) as' finds shows (subst (λ (g : Function). AreOfTypes core scope (parameter_types core g) as') (sym o.1) w.3))
 
 -- ---- scalar types and narrow types
 
-scalar_at : (tb : Table) (t : ℕ) → true_or (slice_get (map all_bare tb) t) ≡ all_bare (shapes tb t)
-scalar_at [] t = refl
-scalar_at (row ∷ rows) zero = refl
-scalar_at (row ∷ rows) (suc t) = scalar_at rows t
-
 marked_is : (core : Core) (k : Known) (t : ℕ) → Finds core k → marked_scalar k t ≡ is_scalar (table_of core) t
 marked_is core k zero finds = refl
-marked_is core k (suc t) finds = ap (λ bs. true_or (slice_get bs t)) finds.scalars ∙ scalar_at k.table t ∙ ap (λ (tb : Table). all_bare (shapes tb t)) finds.table
+marked_is core k (suc t) finds = ap (λ bs. true_or (slice_get bs t)) finds.scalars ∙ shapes_mark k.table t ∙ ap (λ (tb : Table). all_bare (shapes tb t)) finds.table
 
 or_narrow : (b : Bool) (n : ℕ) → (b ≡ false → n ≤ 65535) → (b || nat_le n 65535) ≡ true
 or_narrow true n h = refl
-or_narrow false n h = le_test n 65535 (h refl)
+or_narrow false n h = le-leb n 65535 (h refl)
 
 one_narrow : (core : Core) (k : Known) (t : ℕ) → Finds core k → (is_scalar (table_of core) t ≡ false → length (constructors (table_of core) t) ≤ 65535) → is_narrow k t ≡ true
 one_narrow core k t finds h =
@@ -89,28 +82,18 @@ one_narrow core k t finds h =
 abbrev pub Stand : Scope → ℕ → List ℕ → Type 0
 Stand scope n ts = (i t : ℕ) → slice_get ts i ≡ Some t → scope (n + i) ≡ Some t
 
-sum_next : (n i : ℕ) → n + 1 + i ≡ n + suc i
-sum_next n i = omega arith
-
 stand_next : (scope : Scope) (n t : ℕ) (ts : List ℕ) → Stand scope n (t ∷ ts) → Stand scope (n + 1) ts
-stand_next scope n t ts h i u e = ap scope (sum_next n i) ∙ h (suc i) u e
-
-no_more : (n : ℕ) → n ≡ n + 0
-no_more n = omega arith
+stand_next scope n t ts h i u e = ap scope (next_sum n i) ∙ h (suc i) u e
 
 stand_here : (scope : Scope) (n t : ℕ) (ts : List ℕ) → Stand scope n (t ∷ ts) → scope n ≡ Some t
-stand_here scope n t ts h = ap scope (no_more n) ∙ h 0 t refl
+stand_here scope n t ts h = ap scope (sym (add-zero n)) ∙ h 0 t refl
 
 pub all_narrow : (core : Core) (k : Known) (scope : Scope) (n : ℕ) (ts : List ℕ) → Finds core k → Stand scope n ts → Narrow (table_of core) scope → are_narrow k ts ≡ true
 all_narrow core k scope n [] finds stand narrow = refl
 all_narrow core k scope n (t ∷ ts) finds stand narrow =
-    both _ _ (one_narrow core k t finds (narrow n t (stand_here scope n t ts stand))) (all_narrow core k scope (n + 1) ts finds (stand_next scope n t ts stand) narrow)
+    and_from _ _ (one_narrow core k t finds (narrow n t (stand_here scope n t ts stand))) (all_narrow core k scope (n + 1) ts finds (stand_next scope n t ts stand) narrow)
 
 -- ---- use
-
-uses_are : (x : ℕ) (e : Ending) → uses x (ending_expression e) ≡ occurrences_in_ending x e
-uses_are x (Returns a) = refl
-uses_are x (Calls n p as') = refl
 
 count_by_cases : (b : Bool) (o : ℕ) → (if b then 1 else 0) + o ≡ 1 → (min 2 o == (if b then 0 else 1)) ≡ true
 count_by_cases true o e = let z : o ≡ 0 = omega (arith, e) in ap (λ m. min 2 m == 0) z
@@ -123,12 +106,12 @@ or_once false c h = h refl
 one_once : (core : Core) (k : Known) (h : Signature) (x t : ℕ) (e : Ending) → Finds core k → (is_scalar (table_of core) t ≡ false → taken_apart x (Some h.scrutinee) + occurrences_in_ending x e ≡ 1) → once k h x t (ending_expression e) ≡ true
 one_once core k h x t e finds used =
     or_once (marked_scalar k t) (min 2 (uses x (ending_expression e)) == wanted x h.scrutinee)
-    (λ f. ap (λ n. min 2 n == wanted x h.scrutinee) (uses_are x e) ∙ count_by_cases (x == h.scrutinee) (occurrences_in_ending x e) (used (sym (marked_is core k t finds) ∙ f)))
+    (λ f. ap (λ n. min 2 n == wanted x h.scrutinee) (uses_is x e) ∙ count_by_cases (x == h.scrutinee) (occurrences_in_ending x e) (used (sym (marked_is core k t finds) ∙ f)))
 
 pub all_once : (core : Core) (k : Known) (h : Signature) (scope : Scope) (n : ℕ) (ts : List ℕ) (e : Ending) → Finds core k → Stand scope n ts → UsedOnce (table_of core) scope (Some h.scrutinee) e → used_once k h n ts (ending_expression e) ≡ true
 all_once core k h scope n [] e finds stand used = refl
 all_once core k h scope n (t ∷ ts) e finds stand used =
-    both _ _ (one_once core k h n t e finds (used n t (stand_here scope n t ts stand))) (all_once core k h scope (n + 1) ts e finds (stand_next scope n t ts stand) used)
+    and_from _ _ (one_once core k h n t e finds (used n t (stand_here scope n t ts stand))) (all_once core k h scope (n + 1) ts e finds (stand_next scope n t ts stand) used)
 
 -- ---- cells
 
@@ -138,10 +121,10 @@ count_is (MoreArguments a as') = let r = count_is as' in omega (arith, r)
 
 -- a cell of another size is needed
 other_size : (n m : ℕ) → (suc m == n) ≡ false → one_of_size (suc m) (suc m) ≡ 1
-other_size n m e = ap (λ b. if b then 1 else 0) (same_test (suc m) (suc m) refl)
+other_size n m e = ap (λ b. if b then 1 else 0) (eq-eqb (suc m) (suc m) refl)
 
 size_by : (b : Bool) (n m rest : ℕ) → (suc m == n) ≡ b → ((suc m ≡ n → ⊥) → one_of_size (suc m) (suc m) + rest ≡ 0) → (if b then 1 else 2) ≡ one_of_size n (suc m)
-size_by true n m rest e h = sym (ap (λ b. if b then 1 else 0) (same_test n (suc m) (sym (eqb-true (suc m) n e))))
+size_by true n m rest e h = sym (ap (λ b. if b then 1 else 0) (eq-eqb n (suc m) (sym (eqb-true (suc m) n e))))
 size_by false n m rest e h =
     let z = h (eqb-false (suc m) n e) in
     let o = other_size n m e in
@@ -195,4 +178,4 @@ capped (suc n) = refl
 
 pub paid_for : (n : ℕ) (e : Ending) → ((s : ℕ) → needed_by_ending s e ≡ one_of_size s n) → (min 2 (ending_weight n (ending_expression e)) == one_unless_zero n) ≡ true
 paid_for n e paid =
-    same_test _ _ (ap (min 2) (ending_weight_is n e (λ s o. paid s ∙ no_other s n o) ∙ paid n ∙ own_size n) ∙ capped n)
+    eq-eqb _ _ (ap (min 2) (ending_weight_is n e (λ s o. paid s ∙ no_other s n o) ∙ paid n ∙ own_size n) ∙ capped n)

@@ -1,26 +1,11 @@
 -- Marks on types: what a new mark changes, and that where no more type can be marked, just the marked types have a value.
-use Rattle.std.proofs.Common.{◌≡◌, ℕ, zero, suc, ◌+◌, ◌<◌, ◌⊎◌, inl, inr, Bool, true, false, ◌||◌, ◌&&◌, List, [], ◌∷◌, length, slice_get, slice_set, Some, pos, replicate, refl, ap, sym, subst, ◌∙◌, arith, true≢false, add-one, FitsSigned, rules}
+use Rattle.std.proofs.Common.{◌≡◌, ℕ, zero, suc, ◌+◌, ◌<◌, ◌⊎◌, inl, inr, Bool, true, false, List, [], ◌∷◌, length, slice_get, slice_set, Some, pos, replicate, refl, ap, sym, subst, ◌∙◌, arith, true≢false, add-one, FitsSigned, rules}
+use Rattle.std.proofs.lemmas.Bool.{and_parts, and_from, or_cases, or_left, or_right}
 use Rattle.std.specs.Int.{w64}
 use Rattle.fip_language.specs.Values.{Value, Int, Node, Values, End, More}
 use Rattle.fip_language.specs.Table.{Shape, Table, shapes, HasType, HaveTypes}
 use Rattle.fip_language.specs.Right.{HasValue}
 use Rattle.loop_check.specs.Marks.{true_of, is_marked, are_marked, has_marked, AreSound}
-
-and_true : (a b : Bool) → (a && b) ≡ true → (a ≡ true) × (b ≡ true)
-and_true true b e = (refl, e)
-and_true false b e = absurd (true≢false (sym e))
-
-or_true : (a b : Bool) → (a || b) ≡ true → (a ≡ true) ⊎ (b ≡ true)
-or_true true b e = inl refl
-or_true false b e = inr e
-
-both_true : (a b : Bool) → a ≡ true → b ≡ true → (a && b) ≡ true
-both_true a b e f = ap (λ x. x && b) e ∙ f
-
-either_true : (a b : Bool) → (a ≡ true) ⊎ (b ≡ true) → (a || b) ≡ true
-either_true true b h = refl
-either_true false b (inl e) = absurd (true≢false (sym e))
-either_true false b (inr e) = e
 
 later : {A : Type 0} (t u : ℕ) → (u ≡ t) ⊎ A → (suc u ≡ suc t) ⊎ A
 later t u (inl e) = inl (ap suc e)
@@ -35,7 +20,7 @@ got_set (b ∷ bs) (suc t) (suc u) h = later t u (got_set bs t u h)
 
 pub found_constructor : (marks : List Bool) (ss : List Shape) → has_marked marks ss ≡ true → (c : ℕ) × (s : Shape) × (slice_get ss c ≡ Some s) × (are_marked marks s.fields ≡ true)
 found_constructor marks [] h = absurd (true≢false (sym h))
-found_constructor marks (s ∷ ss) h = by (or_true (are_marked marks s.fields) (has_marked marks ss) h) (found_constructor marks ss)
+found_constructor marks (s ∷ ss) h = by (or_cases (are_marked marks s.fields) (has_marked marks ss) h) (found_constructor marks ss)
   where
     by : (are_marked marks s.fields ≡ true) ⊎ (has_marked marks ss ≡ true) → (has_marked marks ss ≡ true → (c : ℕ) × (r : Shape) × (slice_get ss c ≡ Some r) × (are_marked marks r.fields ≡ true)) → (c : ℕ) × (r : Shape) × (slice_get (s ∷ ss) c ≡ Some r) × (are_marked marks r.fields ≡ true)
     by (inl e) more = (0, s, refl, e)
@@ -44,7 +29,7 @@ found_constructor marks (s ∷ ss) h = by (or_true (are_marked marks s.fields) (
 fields_valued : (tb : Table) (marks : List Bool) → AreSound tb marks → (ts : List ℕ) → are_marked marks ts ≡ true → (vs : Values) × HaveTypes tb ts vs
 fields_valued tb marks sound [] h = (End, tt)
 fields_valued tb marks sound (t ∷ ts) h =
-    let p = and_true (is_marked marks t) (are_marked marks ts) h in
+    let p = and_parts (is_marked marks t) (are_marked marks ts) h in
     let v = sound t p.0 in
     let vs = fields_valued tb marks sound ts p.1 in
     (More v.0 vs.0, (v.1, vs.1))
@@ -77,8 +62,8 @@ sound_unmarked tb n (suc u) e = absurd (none_marked n u e)
 
 pub has_from : (marks : List Bool) (ss : List Shape) (c : ℕ) (s : Shape) → slice_get ss c ≡ Some s → are_marked marks s.fields ≡ true → has_marked marks ss ≡ true
 has_from marks [] c s e h = cc
-has_from marks (r ∷ ss) zero s e h = let same : r ≡ s = cc in either_true (are_marked marks r.fields) (has_marked marks ss) (inl (ap (λ (k : Shape). are_marked marks k.fields) same ∙ h))
-has_from marks (r ∷ ss) (suc c) s e h = either_true (are_marked marks r.fields) (has_marked marks ss) (inr (has_from marks ss c s e h))
+has_from marks (r ∷ ss) zero s e h = let same : r ≡ s = cc in or_left (are_marked marks r.fields) (has_marked marks ss) (ap (λ (k : Shape). are_marked marks k.fields) same ∙ h)
+has_from marks (r ∷ ss) (suc c) s e h = or_right (are_marked marks r.fields) (has_marked marks ss) (has_from marks ss c s e h)
 
 some_shape : (ss : List Shape) (c : ℕ) (s : Shape) → ss ≡ [] → slice_get ss c ≡ Some s → ⊥
 some_shape [] c s n e = cc
@@ -103,7 +88,7 @@ mutual
   pub values_marked : (tb : Table) (marks : List Bool) → IsClosed tb marks → (vs : Values) (ts : List ℕ) → HaveTypes tb ts vs → are_marked marks ts ≡ true
   values_marked tb marks closed vs [] h = refl
   values_marked tb marks closed End (t ∷ ts) h = absurd h
-  values_marked tb marks closed (More v vs) (t ∷ ts) h = both_true (is_marked marks t) (are_marked marks ts) (value_marked tb marks closed v t h.0) (values_marked tb marks closed vs ts h.1)
+  values_marked tb marks closed (More v vs) (t ∷ ts) h = and_from (is_marked marks t) (are_marked marks ts) (value_marked tb marks closed v t h.0) (values_marked tb marks closed vs ts h.1)
 
 pub no_value : (tb : Table) (marks : List Bool) → IsClosed tb marks → (t : ℕ) → is_marked marks t ≡ false → HasValue tb t → ⊥
 no_value tb marks closed t e h = true≢false (sym (value_marked tb marks closed h.0 t h.1) ∙ e)

@@ -1,17 +1,15 @@
 -- Tests on mapped lists, and the place of the first element that passes a test.
 use Rattle.std.proofs.Common.{◌≡◌, ◌++◌, ℕ, suc, ◌+◌, Bool, true, false, ◌||◌, not, List, [], ◌∷◌, map, length, position, Option, Some, None, refl, ap, ◌∙◌, cond, nat_lt, arith, if◌then◌else◌}
 use Rattle.std.proofs.lemmas.Bool.Decides.{nat_tests}
+use Rattle.std.proofs.lemmas.List.{length-map}
 use Rattle.std.specs.List.{list_any, position_or_len}
 use Rattle.fip_language.specs.Core.{Name}
 use Rattle.loop_check.specs.Names.{is_among, with_names}
+use Rattle.loop_check.proofs.RightTests.{if_none}
 
 pub list_any-map : {A B : Type 0} (p : B → Bool) (f : A → B) (xs : List A) → list_any p (map f xs) ≡ list_any (λ x. p (f x)) xs
 list_any-map p f [] = refl
 list_any-map p f (x ∷ xs) = ap (λ b. p (f x) || b) (list_any-map p f xs)
-
-length-mapped : {A B : Type 0} (f : A → B) (xs : List A) → length (map f xs) ≡ length xs
-length-mapped f [] = refl
-length-mapped f (x ∷ xs) = ap suc (length-mapped f xs)
 
 position_or_len-map : {A B : Type 0} (p : B → Bool) (f : A → B) (xs : List A) → position_or_len p (map f xs) ≡ position_or_len (λ x. p (f x)) xs
 position_or_len-map p f [] = refl
@@ -20,7 +18,7 @@ position_or_len-map p f (x ∷ xs) = ap (λ n. cond (not (p (f x))) (1 + n) 0) (
 pub position-map : {A B : Type 0} (p : B → Bool) (f : A → B) (xs : List A) → position p (map f xs) ≡ position (λ x. p (f x)) xs
 position-map p f xs =
     ap (λ n. cond (nat_lt n (length (map f xs))) (Some n) None) (position_or_len-map p f xs)
-    ∙ ap (λ n. cond (nat_lt (position_or_len (λ x. p (f x)) xs) n) (Some (position_or_len (λ x. p (f x)) xs)) None) (length-mapped f xs)
+    ∙ ap (λ n. cond (nat_lt (position_or_len (λ x. p (f x)) xs) n) (Some (position_or_len (λ x. p (f x)) xs)) None) (length-map xs f)
 
 nat_lt-next : (a b : ℕ) → nat_lt (1 + a) (suc b) ≡ nat_lt a b
 nat_lt-next a b = grind (arith, nat_tests)
@@ -44,10 +42,6 @@ position-cons p x xs false e =
     ∙ ap (λ b. cond b (Some (1 + position_or_len p xs)) None) (nat_lt-next (position_or_len p xs) (length xs))
     ∙ counted (nat_lt (position_or_len p xs) (length xs)) (position_or_len p xs)
 
-some_of_else : (b : Bool) (x : Option (List Name)) (m : List Name) → (if b then None else x) ≡ Some m → (b ≡ false) × (x ≡ Some m)
-some_of_else true x m e = cc
-some_of_else false x m e = (refl, e)
-
 none_of_else : (b : Bool) (x y : Option (List Name)) → (x ≡ None → y ≡ None) → (if b then None else x) ≡ None → (if b then None else y) ≡ None
 none_of_else true x y more e = refl
 none_of_else false x y more e = more e
@@ -58,7 +52,7 @@ with_names-append mid ys [] seen e = some_here seen mid ys e
     some_here : (seen mid ys : List Name) → Some seen ≡ Some mid → with_names seen ys ≡ with_names mid ys
     some_here seen mid ys e = let same : seen ≡ mid = cc in ap (λ l. with_names l ys) same
 with_names-append mid ys (n ∷ ns) seen e =
-    let p = some_of_else (is_among n seen) (with_names (seen ++ n ∷ []) ns) mid e in
+    let p = if_none (is_among n seen) (with_names (seen ++ n ∷ []) ns) mid e in
     ap (λ b. if b then None else with_names (seen ++ n ∷ []) (ns ++ ys)) p.0 ∙ with_names-append mid ys ns (seen ++ n ∷ []) p.1
 
 pub with_names-append-none : (ys xs seen : List Name) → with_names seen xs ≡ None → with_names seen (xs ++ ys) ≡ None

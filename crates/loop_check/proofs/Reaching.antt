@@ -3,9 +3,11 @@
 use Rattle.std.proofs.Common.{◌≡◌, ℕ, zero, suc, ◌+◌, ◌<◌, ◌≤◌, ◌⊎◌, inl, inr, Bool, true, false, ◌||◌, List, [], ◌∷◌, ◌++◌, length, slice_get, Some, None, refl, ap, sym, subst, ◌∙◌, arith, ◌==◌, if◌then◌else◌}
 use Rattle.std.specs.List.{list_any}
 use Rattle.std.proofs.lemmas.Bool.{eqb-true, eqb-false}
+use Rattle.std.proofs.lemmas.Option.{slice_get_within}
 use Rattle.fip_language.specs.Table.{Shape, Table, constructors}
 use Rattle.fip_language.specs.Every.{Every}
 use Rattle.fip_language.specs.Right.{IsAmong}
+use Rattle.fip_language.proofs.Plain.{every_last, every_at}
 use Rattle.loop_check.specs.Reached.{with_new, with_type, with_types, with_fields}
 use Rattle.loop_check.specs.Program.{HasReached, AreFewTypes}
 
@@ -43,10 +45,6 @@ differ_last (x ∷ xs) t new d = ((λ h. by (among_split xs t x h)), differ_last
     by : (x ≡ t) ⊎ IsAmong xs x → ⊥
     by (inl e) = new (inl (sym e))
     by (inr h) = d.0 h
-
-every_last : (P : ℕ → Type 0) (ts : List ℕ) (t : ℕ) → P t → Every P ts → Every P (ts ++ t ∷ [])
-every_last P [] t p h = (p, tt)
-every_last P (x ∷ xs) t p h = (h.0, every_last P xs t p h.1)
 
 place_front : (ts : List ℕ) (t j u : ℕ) → j < length ts → slice_get (ts ++ t ∷ []) j ≡ Some u → slice_get ts j ≡ Some u
 place_front [] t j u h e = absurd (omega (arith, h))
@@ -107,7 +105,7 @@ adds_new false ts t z e =
     record {
       grows = record { keeps = among_front ts t; longer = longer_last ts t; places = place_front ts t; differ = differ_last ts t (not_among ts t z e) };
       has = among_last ts t;
-      only = λ cs p h. every_last (IsAmong cs) ts t p h;
+      only = λ cs p h. every_last (IsAmong cs) ts t h p;
     }
 
 adds_type_by : (b : Bool) (ts : List ℕ) (t : ℕ) → (t == 0) ≡ b → Adds ts t (if b then ts else with_new ts t)
@@ -183,16 +181,6 @@ walk_starts tb ps r =
       least = λ us h. c.only us h.parameters (b.only us h.result (a.only us h.bool_type tt));
     }
 
-at_place : (P : ℕ → Type 0) (ts : List ℕ) (i t : ℕ) → slice_get ts i ≡ Some t → Every P ts → P t
-at_place P [] i t e h = cc
-at_place P (x ∷ xs) zero t e h = let same : x ≡ t = cc in subst P same h.0
-at_place P (x ∷ xs) (suc i) t e h = at_place P xs i t e h.1
-
-within : (ts : List ℕ) (i t : ℕ) → slice_get ts i ≡ Some t → i < length ts
-within [] i t e = cc
-within (x ∷ xs) zero t e = omega arith
-within (x ∷ xs) (suc i) t e = let r = within xs i t e in omega (arith, r)
-
 among_has : (tb : Table) (us vs : List ℕ) (t : ℕ) → IsAmong vs t → Every (λ u. FieldsAmong us (constructors tb u)) vs → FieldsAmong us (constructors tb t)
 among_has tb us [] t e h = subst (λ u. FieldsAmong us (constructors tb u)) (sym e) tt
 among_has tb us (v ∷ vs) t (inl e) h = subst (λ u. FieldsAmong us (constructors tb u)) (sym e) h.0
@@ -219,7 +207,7 @@ walk_goes tb ps r i ts t e w =
       result = a.grows.keeps r w.result;
       done = λ j u lt f. by j u (below_or_at j i lt) (a.grows.places j u (omega (arith, lt, here)) f);
       differ = a.grows.differ w.differ;
-      least = λ us h. a.only us (among_has tb us us t (at_place (IsAmong us) ts i t e (w.least us h)) h.fields) (w.least us h);
+      least = λ us h. a.only us (among_has tb us us t (every_at (IsAmong us) ts i t (w.least us h) e) h.fields) (w.least us h);
     }
   where
     all : List ℕ
@@ -229,15 +217,15 @@ walk_goes tb ps r i ts t e w =
     a = adds_fields ts (constructors tb t)
 
     here : i < length ts
-    here = within ts i t e
+    here = slice_get_within ts i t e
 
     by : (j u : ℕ) → (j < i) ⊎ (j ≡ i) → slice_get ts j ≡ Some u → FieldsAmong all (constructors tb u)
     by j u (inl lt) f = fields_more (constructors tb u) ts all a.grows (w.done j u lt f)
     by j u (inr q) f = subst (λ x. FieldsAmong all (constructors tb x)) (same_item ts i t u e (ap (slice_get ts) (sym q) ∙ f)) a.has
 
-every_at : (P : ℕ → Type 0) (ts : List ℕ) → ((j t : ℕ) → slice_get ts j ≡ Some t → P t) → Every P ts
-every_at P [] h = tt
-every_at P (x ∷ xs) h = (h 0 x refl, every_at P xs (λ j t e. h (suc j) t e))
+every_place : (P : ℕ → Type 0) (ts : List ℕ) → ((j t : ℕ) → slice_get ts j ≡ Some t → P t) → Every P ts
+every_place P [] h = tt
+every_place P (x ∷ xs) h = (h 0 x refl, every_place P xs (λ j t e. h (suc j) t e))
 
 -- where the walk is at the end, the list has all that is reached
 pub walk_ends : (tb : Table) (ps : List ℕ) (r i : ℕ) (ts : List ℕ) → length ts ≤ i → length ts ≤ 4096 → IsWalk tb ps r i ts → AreFewTypes tb ps r
@@ -248,7 +236,7 @@ walk_ends tb ps r i ts end few w = (
     bool_type = w.bool_type;
     parameters = w.parameters;
     result = w.result;
-    fields = every_at (λ t. FieldsAmong ts (constructors tb t)) ts (λ j t e. let lt = within ts j t e in w.done j t (omega (arith, lt, end)) e);
+    fields = every_place (λ t. FieldsAmong ts (constructors tb t)) ts (λ j t e. let lt = slice_get_within ts j t e in w.done j t (omega (arith, lt, end)) e);
   },
 )
 

@@ -1,6 +1,9 @@
 -- A clause that passes the check is right.
-use Rattle.std.proofs.Common.{◌≡◌, ◌⊎◌, inl, inr, ℕ, zero, suc, ◌+◌, ◌-◌, ◌≤◌, Bool, true, false, ◌==◌, nat_lt, List, [], ◌∷◌, map, length, Option, Some, None, refl, sym, ap, ◌∙◌, subst, arith, if◌then◌else◌}
+use Rattle.std.proofs.Common.{◌≡◌, ◌⊎◌, inl, inr, ℕ, zero, suc, ◌+◌, ◌-◌, ◌≤◌, Bool, true, false, ◌==◌, nat_lt, List, [], ◌∷◌, map, length, Option, Some, None, refl, sym, ap, ◌∙◌, subst, arith, if◌then◌else◌, eqb-true, leb-true, ltb-false}
+use Rattle.std.proofs.lemmas.Bool.{both_ways, and_parts, or_cases}
 use Rattle.std.specs.Prelude.{slice_get, min, nat_le}
+use Rattle.std.proofs.lemmas.List.{length-map}
+use Rattle.std.proofs.lemmas.Option.{slice_get_within}
 use Rattle.fip_language.specs.Core.{Function, Core}
 use Rattle.fip_language.specs.Declarations.{Declared, constructor_of, type_number, table_of}
 use Rattle.fip_language.specs.Every.{Every}
@@ -8,20 +11,18 @@ use Rattle.fip_language.specs.LoopForm.{Ending, LoopClause, Loop, ending_express
 use Rattle.fip_language.specs.Right.{Scope, nothing_in_scope, parameters_in_scope, binders_in_scope, field_types, parameter_types, result_type, EndsWith, Narrow, UsedOnce, taken_apart, occurrences_in_ending, IsRightClause}
 use Rattle.fip_language.specs.Table.{Table, constructors, is_scalar}
 use Rattle.fip_language.specs.Values.{one_of_size}
-use Rattle.fip_language.proofs.Words.{length-mapped}
 use Rattle.loop_form.specs.Meaning.{in_clause}
 use Rattle.loop_check.specs.declared.table.ConstructorId.{ConstructorId}
 use Rattle.loop_check.specs.declared.header.Known.{Known}
 use Rattle.loop_check.specs.Lookup.{id_fields, marked_scalar, is_narrow, are_narrow}
 use Rattle.loop_check.specs.Clauses.{Signature, uses, wanted, once, used_once}
 use Rattle.loop_check.specs.Program.{IsKnown}
-use Rattle.loop_check.proofs.RightTests.{no_test, both_true, one_true, eq_of, le_of, over_of, min_two}
+use Rattle.loop_check.proofs.RightTests.{min_two}
 use Rattle.loop_check.proofs.RightNumbers.{ids_of, id_of, same_constructor, same_fields, same_scalar, same_table}
 use Rattle.loop_check.proofs.RightScope.{put, nothing, in_clause_put, AreFrom, parameter_number, parameters_put, binders_put}
 use Rattle.loop_check.proofs.RightShape.{IsRightCase, AreRightCases}
 use Rattle.loop_check.proofs.RightTyping.{IsNarrow, ends_typed}
 use Rattle.loop_check.proofs.RightTerms.{uses_is, credits_paid}
-use Rattle.fip_language.proofs.Words.{slice_get_within}
 
 -- ---- what is in a clause
 
@@ -31,12 +32,12 @@ IsInClause ps first fs x a = (slice_get ps x ≡ Some a) ⊎ ((i : ℕ) × (x �
 
 in_fields : {A : Type 0} (ps fs : List A) (first x : ℕ) (a : A) (b : Bool) → nat_lt x first ≡ b → first ≤ x ⊎ (b ≡ true) → (if b then None else slice_get fs (x - first)) ≡ Some a → IsInClause ps first fs x a
 in_fields ps fs first x a true e le h = cc
-in_fields ps fs first x a false e (inr f) h = absurd (no_test false refl f)
+in_fields ps fs first x a false e (inr f) h = absurd (both_ways false refl f)
 in_fields ps fs first x a false e (inl le) h = inr (x - first, omega (arith, le), h)
 
 over_or : (x n : ℕ) (b : Bool) → nat_lt x n ≡ b → (n ≤ x) ⊎ (b ≡ true)
 over_or x n true e = inr refl
-over_or x n false e = inl (over_of x n e)
+over_or x n false e = inl (ltb-false x n e)
 
 pub in_clause_is : {A : Type 0} (ps fs : List A) (first x : ℕ) (a : A) → in_clause ps first fs x ≡ Some a → IsInClause ps first fs x a
 in_clause_is ps fs first x a h = by (nat_lt x (length ps)) h
@@ -60,13 +61,13 @@ used_at k h [] x y i t e u same at = cc
 used_at k h (s ∷ ts) x y zero t e u same at =
     let it : s ≡ t = cc in
     let here : y ≡ x = omega (arith, same) in
-    ap (λ z. once k h z t (ending_expression e)) here ∙ sym (ap (λ z. once k h x z (ending_expression e)) it) ∙ (both_true (once k h x s (ending_expression e)) (used_once k h (x + 1) ts (ending_expression e)) u).0
-used_at k h (s ∷ ts) x y (suc i) t e u same at = used_at k h ts (x + 1) y i t e (both_true (once k h x s (ending_expression e)) (used_once k h (x + 1) ts (ending_expression e)) u).1 (omega (arith, same)) at
+    ap (λ z. once k h z t (ending_expression e)) here ∙ sym (ap (λ z. once k h x z (ending_expression e)) it) ∙ (and_parts (once k h x s (ending_expression e)) (used_once k h (x + 1) ts (ending_expression e)) u).0
+used_at k h (s ∷ ts) x y (suc i) t e u same at = used_at k h ts (x + 1) y i t e (and_parts (once k h x s (ending_expression e)) (used_once k h (x + 1) ts (ending_expression e)) u).1 (omega (arith, same)) at
 
 narrow_at : (k : Known) (ts : List ℕ) (i t : ℕ) → are_narrow k ts ≡ true → slice_get ts i ≡ Some t → is_narrow k t ≡ true
 narrow_at k [] i t h e = cc
-narrow_at k (s ∷ ts) zero t h e = let it : s ≡ t = cc in ap (is_narrow k) (sym it) ∙ (both_true (is_narrow k s) (are_narrow k ts) h).0
-narrow_at k (s ∷ ts) (suc i) t h e = narrow_at k ts i t (both_true (is_narrow k s) (are_narrow k ts) h).1 e
+narrow_at k (s ∷ ts) zero t h e = let it : s ≡ t = cc in ap (is_narrow k) (sym it) ∙ (and_parts (is_narrow k s) (are_narrow k ts) h).0
+narrow_at k (s ∷ ts) (suc i) t h e = narrow_at k ts i t (and_parts (is_narrow k s) (are_narrow k ts) h).1 e
 
 wanted_few : (x s : ℕ) → wanted x s ≤ 1
 wanted_few x s = by (x == s)
@@ -88,18 +89,18 @@ declared_of (Some d) id e = (d, refl, (let it : id_of d ≡ id = cc in it))
 
 module _ (core : Core) (k : Known) (known : IsKnown k core.types) where
   once_used : (h : Signature) (x t : ℕ) (e : Ending) → once k h x t (ending_expression e) ≡ true → is_scalar (table_of core) t ≡ false → occurrences_in_ending x e ≡ wanted x h.scrutinee
-  once_used h x t e u owned = by (one_true (marked_scalar k t) (min 2 (uses x (ending_expression e)) == wanted x h.scrutinee) u)
+  once_used h x t e u owned = by (or_cases (marked_scalar k t) (min 2 (uses x (ending_expression e)) == wanted x h.scrutinee) u)
     where
       by : (marked_scalar k t ≡ true) ⊎ ((min 2 (uses x (ending_expression e)) == wanted x h.scrutinee) ≡ true) → occurrences_in_ending x e ≡ wanted x h.scrutinee
-      by (inl m) = absurd (no_test (marked_scalar k t) (same_scalar core k known t ∙ owned) m)
-      by (inr m) = sym (uses_is x e) ∙ min_two (uses x (ending_expression e)) (wanted x h.scrutinee) (wanted_few x h.scrutinee) (eq_of (min 2 (uses x (ending_expression e))) (wanted x h.scrutinee) m)
+      by (inl m) = absurd (both_ways (marked_scalar k t) (same_scalar core k known t ∙ owned) m)
+      by (inr m) = sym (uses_is x e) ∙ min_two (uses x (ending_expression e)) (wanted x h.scrutinee) (wanted_few x h.scrutinee) (eqb-true (min 2 (uses x (ending_expression e))) (wanted x h.scrutinee) m)
 
   few_narrow : (t : ℕ) → is_narrow k t ≡ true → is_scalar (table_of core) t ≡ false → length (constructors (table_of core) t) ≤ 65535
-  few_narrow t n owned = by (one_true (marked_scalar k t) (nat_le (length (constructors k.table t)) 65535) n)
+  few_narrow t n owned = by (or_cases (marked_scalar k t) (nat_le (length (constructors k.table t)) 65535) n)
     where
       by : (marked_scalar k t ≡ true) ⊎ (nat_le (length (constructors k.table t)) 65535 ≡ true) → length (constructors (table_of core) t) ≤ 65535
-      by (inl m) = absurd (no_test (marked_scalar k t) (same_scalar core k known t ∙ owned) m)
-      by (inr m) = subst (λ (tb : Table). length (constructors tb t) ≤ 65535) (same_table core k known) (le_of (length (constructors k.table t)) 65535 m)
+      by (inl m) = absurd (both_ways (marked_scalar k t) (same_scalar core k known t ∙ owned) m)
+      by (inr m) = subst (λ (tb : Table). length (constructors tb t) ≤ 65535) (same_table core k known) (leb-true (length (constructors k.table t)) 65535 m)
 
   -- how often a register of a clause is used
   pub clause_uses : (h : Signature) (first : ℕ) (fs : List ℕ) (e : Ending) → used_once k h 0 h.parameters (ending_expression e) ≡ true → used_once k h first fs (ending_expression e) ≡ true → (x t : ℕ) → in_clause h.parameters first fs x ≡ Some t → is_scalar (table_of core) t ≡ false → occurrences_in_ending x e ≡ wanted x h.scrutinee
@@ -159,7 +160,7 @@ module _ (core : Core) (k : Known) (known : IsKnown k core.types) (f : Function)
       record {
         meant = d.1;
         of_type = ap (λ (i : ConstructorId). i.ty) d.2 ∙ r.of_type;
-        as_many = clause_many first c r ∙ length-mapped (type_number core) d.0.fields;
+        as_many = clause_many first c r ∙ length-map d.0.fields (type_number core);
         typed = subst (λ (s : Scope). EndsWith core s (result_type core f.result) c.ending) scope (clause_ends first c r);
         names_once = r.names;
         used_once = subst (λ o. UsedOnce (table_of core) (binders_in_scope (parameters_in_scope core nothing_in_scope f.parameters) c.binders (field_types core d.0)) o c.ending) (sym scrutinee) (subst (λ (s : Scope). UsedOnce (table_of core) s (Some h.scrutinee) c.ending) scope once);

@@ -29,7 +29,7 @@ last_behind k h first n (c ∷ cs) r = let e = last_behind k h (first + length c
 
 -- ---- registers
 
-binders_registers : (bs : List Binder) → registers_of_patterns (binder_patterns bs) ≡ length bs
+pub binders_registers : (bs : List Binder) → registers_of_patterns (binder_patterns bs) ≡ length bs
 binders_registers [] = refl
 binders_registers (b ∷ bs) = let e = binders_registers bs in omega (arith, e)
 

@@ -1,6 +1,7 @@
 -- The loop program of a program that passes the check is fine, and its table is sound.
-use Rattle.std.proofs.Common.{◌≡◌, ℕ, zero, suc, ◌+◌, ◌-◌, ◌<◌, ◌≤◌, Bool, true, false, ◌==◌, nat_lt, List, [], ◌∷◌, map, length, Option, Some, None, cond, refl, sym, ap, ◌∙◌, subst, arith, if◌then◌else◌}
+use Rattle.std.proofs.Common.{◌≡◌, ℕ, zero, suc, ◌+◌, ◌-◌, ◌<◌, ◌≤◌, Bool, true, false, ◌==◌, nat_lt, List, [], ◌∷◌, map, length, Option, Some, None, cond, refl, sym, ap, ◌∙◌, subst, arith, if◌then◌else◌, eqb-true, eq-eqb, ne_eqb, lt-ltb}
 use Rattle.std.specs.Prelude.{slice_get}
+use Rattle.std.proofs.lemmas.Option.{slice_get_within}
 use Rattle.fip_language.specs.Values.{Int, Node}
 use Rattle.fip_language.specs.Core.{Name, Function, Core}
 use Rattle.fip_language.specs.Declarations.{Declared, constructor_of, table_of}
@@ -11,7 +12,6 @@ use Rattle.fip_language.specs.Scoped as S
 use Rattle.fip_language.specs.SoundTable.{AreTypes, IsSoundTable}
 use Rattle.fip_language.specs.Table.{Shape, Table, shapes, constructors, is_scalar}
 use Rattle.fip_language.specs.UpperNames.{HaveUpperNames}
-use Rattle.fip_language.proofs.Words.{slice_get_within}
 use Rattle.fip_language.proofs.LoopStack.{function_in-only}
 use Rattle.fip_language.proofs.Constructors.{constructor_of-shape}
 use Rattle.fip_base.specs.CoreView.{Case}
@@ -24,15 +24,15 @@ use Rattle.loop_check.specs.Lookup.{id_fields}
 use Rattle.loop_check.specs.Typing.{term_in, terms_in}
 use Rattle.loop_check.specs.Clauses.{Signature, id_number, numbered_ending, numbered_parts, numbered_clauses, arity, case_parts, case_registers}
 use Rattle.loop_check.specs.Program.{IsKnown, Passes, PassesAll}
-use Rattle.loop_check.proofs.RightTests.{eq_of, eq_test, other_test, lt_test}
 use Rattle.loop_check.proofs.RightNumbers.{ids_of, same_constructor, same_table}
-use Rattle.loop_check.proofs.RightTypes.{are_right_types, sound_table}
+use Rattle.fip_language.proofs.SoundTables.{sound_table, parameters_there}
+use Rattle.loop_check.proofs.RightTypes.{are_right_types}
 use Rattle.loop_check.proofs.RightShape.{case_of, count_binders, IsRightCase, AreRightCases}
 use Rattle.loop_check.proofs.RightTyping.{IsNarrow, term_typed, terms_typed}
 use Rattle.loop_check.proofs.RightTerms.{ending_uses_same, ending_made_same, sizes_paid}
 use Rattle.loop_check.proofs.RightClauses.{in_clause_narrow, clause_uses, case_declared, case_fields, IsSignature, clause_ends}
 use Rattle.loop_check.proofs.RightCounts.{counts, counts_are, last_behind}
-use Rattle.loop_check.proofs.RightHeaders.{same_parameters, same_result, parameters_there}
+use Rattle.loop_check.proofs.RightHeaders.{same_parameters, same_result}
 use Rattle.loop_check.proofs.RightLoops.{ps, r, h, fits, signature, body, written, literals}
 
 -- ---- a clause by its place
@@ -83,7 +83,7 @@ made_within k h first n (c ∷ cs) r (suc j) e g =
 -- ---- a clause is fine
 
 in_front : (ps fs : List ℕ) (first x t : ℕ) → slice_get ps x ≡ Some t → in_clause ps first fs x ≡ Some t
-in_front ps fs first x t e = ap (λ b. if b then slice_get ps x else if nat_lt x first then None else slice_get fs (x - first)) (lt_test x (length ps) (slice_get_within ps x t e)) ∙ e
+in_front ps fs first x t e = ap (λ b. if b then slice_get ps x else if nat_lt x first then None else slice_get fs (x - first)) (lt-ltb x (length ps) (slice_get_within ps x t e)) ∙ e
 
 module _ (core : Core) (k : Known) (known : IsKnown k core.types) (f : Function) (h : Signature) (g : IsSignature core k f h) where
   ending_typed : (q : L.Loop) → q.types ≡ table_of core → q.parameters ≡ parameter_types core f → q.result ≡ result_type core f.result → (context : ℕ → Option ℕ) → IsNarrow context → (e : Ending) → S.EndingLiteralsFit e → EndsWith core context (result_type core f.result) e → EndingHasType q context (numbered_ending k (ending_expression e))
@@ -115,8 +115,8 @@ module _ (core : Core) (k : Known) (known : IsKnown k core.types) (f : Function)
         behind = subst (λ ts. length ts ≤ at) (sym parameters) le;
         bound = (let counted = count_binders c.binders in omega (arith, counted, bound));
         typed = subst (λ (s : ℕ → Option ℕ). EndingHasType q s (numbered_ending k (ending_expression c.ending))) (sym same) (ending_typed q types (parameters ∙ g.parameters) result context narrow c.ending fit ends);
-        once = λ x t is owned other. uses x t is owned ∙ ap (λ b. if b then 0 else 1) (other_test x h.scrutinee (λ e. other (e ∙ sym scrutinee)));
-        matched = λ t is owned. uses q.scrutinee t (in_front q.parameters fs at q.scrutinee t is) owned ∙ ap (λ b. if b then 0 else 1) (eq_test q.scrutinee h.scrutinee scrutinee);
+        once = λ x t is owned other. uses x t is owned ∙ ap (λ b. if b then 0 else 1) (ne_eqb x h.scrutinee (λ e. other (e ∙ sym scrutinee)));
+        matched = λ t is owned. uses q.scrutinee t (in_front q.parameters fs at q.scrutinee t is) owned ∙ ap (λ b. if b then 0 else 1) (eq-eqb q.scrutinee h.scrutinee scrutinee);
         paid = sizes_paid (length fs) k c.ending r.paid;
         room = room;
       }
@@ -208,10 +208,10 @@ module _ (core : Core) (k : Known) (known : IsKnown k core.types) (f : Function)
       let one = (fits core k known f only l p).covered c here in
       let count = counts_are (λ (q : L.Clause). q.constructor == c) l.clauses in
       let at = counted_at (λ (q : L.Clause). q.constructor == c) l.clauses (omega (arith, one, count)) in
-      (at.0, at.1, at.2, eq_of (at.1).constructor c at.3)
+      (at.0, at.1, at.2, eqb-true (at.1).constructor c at.3)
 
   pub types_there : AreTypes l.types l.parameters
-  types_there = subst (λ (tb : Table). AreTypes tb l.parameters) (sym loop_types) (subst (AreTypes (table_of core)) (sym (loop_parameters ∙ same_parameters core k known f)) (parameters_there core k known f))
+  types_there = subst (λ (tb : Table). AreTypes tb l.parameters) (sym loop_types) (subst (AreTypes (table_of core)) (sym (loop_parameters ∙ same_parameters core k known f)) (parameters_there core f))
 
   scrutinee_type : slice_get l.parameters l.scrutinee ≡ Some p.type
   scrutinee_type = ap (λ ts. slice_get ts l.scrutinee) loop_parameters ∙ ap (slice_get these) loop_scrutinee ∙ (fits core k known f only l p).scrutinee
@@ -255,4 +255,4 @@ pub passes_known : (core : Core) (l : L.Loop) → PassesAll core l → AreTypes 
 passes_known core l p = types_there core p.known p.declared p.function p.one l p.passes
 
 pub passes_sound : (core : Core) (l : L.Loop) → PassesAll core l → HaveUpperNames core.types → IsSoundTable l.types
-passes_sound core l p upper = subst IsSoundTable (sym (loop_types core p.known p.declared p.function p.one l p.passes)) (sound_table core p.known p.declared upper)
+passes_sound core l p upper = subst IsSoundTable (sym (loop_types core p.known p.declared p.function p.one l p.passes)) (sound_table core (are_right_types core p.known p.declared) upper)

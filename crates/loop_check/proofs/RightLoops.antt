@@ -1,6 +1,9 @@
 -- A program that passes the check is right.
 use Rattle.std.proofs.Common.{◌≡◌, ℕ, ◌+◌, ◌<◌, ◌≤◌, ◌==◌, List, [], ◌∷◌, ◌++◌, map, length, Some, refl, sym, ap, ◌∙◌, subst, arith}
+use Rattle.fip_language.proofs.Plain.{every_append, every_at, every_so}
 use Rattle.std.specs.Prelude.{slice_get, count_by}
+use Rattle.std.proofs.lemmas.List.{length-map}
+use Rattle.std.proofs.lemmas.Option.{slice_get_within}
 use Rattle.fip_language.specs.Core.{Binder, Function, Core, Block, ConstructorPattern}
 use Rattle.fip_language.specs.Declarations.{constructor_of, table_of}
 use Rattle.fip_language.specs.Every.{Every}
@@ -10,7 +13,6 @@ use Rattle.fip_language.specs.Registers.{registers, registers_of_block, register
 use Rattle.fip_language.specs.Right.{Scope, nothing_in_scope, parameters_in_scope, binder_type, parameter_types, parameter_type, parameter_name, result_type, EndsWith, Narrow, clauses_of_number, pattern_nodes, IsAmong, constructor_type, KnownConstructor, IsRightLoop, IsRight, AtMostOneRightLoop}
 use Rattle.fip_language.specs.Scoped as S
 use Rattle.fip_language.specs.Table.{Shape, Table, constructors}
-use Rattle.fip_language.proofs.Words.{length-mapped, slice_get_within}
 use Rattle.fip_language.proofs.LoopStack.{function_in-only}
 use Rattle.fip_base.specs.CoreView.{Case}
 use Rattle.loop_form.specs.Loop as L
@@ -20,7 +22,6 @@ use Rattle.loop_check.specs.Lookup.{id_fields}
 use Rattle.loop_check.specs.Header.{result_number, parameter_numbers}
 use Rattle.loop_check.specs.Clauses.{Signature, case_registers, numbered_clauses}
 use Rattle.loop_check.specs.Program.{IsKnown, HasReached, Fits, Passes, PassesAll, signature_of, CaseLiteralsFit}
-use Rattle.loop_check.proofs.RightTests.{every_append, every_at, every_so}
 use Rattle.loop_check.proofs.RightNames.{once_named}
 use Rattle.loop_check.proofs.RightNumbers.{same_table}
 use Rattle.loop_check.proofs.RightTypes.{plain_types, are_right_types}
@@ -116,10 +117,10 @@ module _ (core : Core) (k : Known) (known : IsKnown k core.types) (f : Function)
       ∙ at
 
   as_many : length (p.found).cases ≡ length written.clauses
-  as_many = ap length body.cases ∙ length-mapped case_of written.clauses
+  as_many = ap length body.cases ∙ length-map written.clauses case_of
 
   pub same_length : length f.parameters ≡ length ps
-  same_length = sym (ap length (same_parameters core k known f) ∙ length-mapped (parameter_type core) f.parameters)
+  same_length = sym (ap length (same_parameters core k known f) ∙ length-map f.parameters (parameter_type core))
 
   pub same_registers : length ps + case_registers (p.found).cases ≡ registers f
   same_registers =

@@ -1,7 +1,8 @@
 -- A program that passes the check means what its loop program means: one turn of the loop is one call of the function,
 -- since a register holds what the binder of its number is bound to.
-use Rattle.std.proofs.Common.{◌≡◌, ℕ, zero, suc, ◌+◌, ◌<◌, ◌≤◌, Bool, true, false, ◌==◌, List, [], ◌∷◌, map, length, Option, Some, None, cond, refl, sym, ap, ◌∙◌, subst, arith, if◌then◌else◌}
+use Rattle.std.proofs.Common.{◌≡◌, ℕ, zero, suc, ◌+◌, ◌<◌, ◌≤◌, Bool, true, false, ◌==◌, List, [], ◌∷◌, map, length, Option, Some, None, cond, refl, sym, ap, ◌∙◌, subst, arith, if◌then◌else◌, eqb-true}
 use Rattle.std.specs.Prelude.{slice_get, nat_eq}
+use Rattle.std.proofs.lemmas.Option.{slice_get_within}
 use Rattle.fip_language.specs.Values.{Value, Values, Int, Node, End, More}
 use Rattle.fip_language.specs.Core.{Function, Core}
 use Rattle.fip_language.specs.Declarations.{table_of}
@@ -13,8 +14,6 @@ use Rattle.fip_language.specs.Right.{Scope, nothing_in_scope, parameters_in_scop
 use Rattle.fip_language.specs.Scoped as S
 use Rattle.fip_language.specs.Statics.{NoClosed}
 use Rattle.fip_language.specs.Table.{Table, constructors, HasType, HaveTypes}
-use Rattle.fip_language.specs.UpperNames.{HaveUpperNames}
-use Rattle.fip_language.proofs.Words.{slice_get_within}
 use Rattle.fip_language.proofs.Constructors.{constructor_of-shape}
 use Rattle.fip_language.proofs.LoopStack.{function_in-only}
 use Rattle.fip_language.proofs.LoopMeaning.{clause_pattern, ending_run, clauses_run, meaning_loop, meaning_out}
@@ -28,7 +27,6 @@ use Rattle.loop_check.specs.Typing.{term_in, terms_in}
 use Rattle.loop_check.specs.Clauses.{Signature, id_number, numbered_ending, numbered_parts, numbered_clauses, arity, case_parts}
 use Rattle.loop_check.specs.Program.{IsKnown, Passes, PassesAll}
 use Rattle.loop_check.specs.Checked.{SameAnswer, IsChecked, IsReadyToRun}
-use Rattle.loop_check.proofs.RightTests.{eq_of}
 use Rattle.loop_check.proofs.RightNumbers.{ids_of, same_constructor}
 use Rattle.loop_check.proofs.RightScope.{put, put_at, nothing, in_clause_put, parameters_bound, binders_bound, as_many_values}
 use Rattle.loop_check.proofs.RightShape.{case_of, count_binders, IsRightCase, AreRightCases}
@@ -88,7 +86,7 @@ module _ (core : Core) (k : Known) (known : IsKnown k core.types) (f : Function)
         let x = case_declared core k known h first c r in
         let ts = field_types core x.0 in
         let of_type : (x.0).type ≡ h.ty = ap (λ (i : ConstructorId). i.ty) x.2 ∙ r.of_type in
-        let fields : HaveTypes (table_of core) ts fs = node_fields (table_of core) h.ty (x.0).number n _ fs (eq_of (x.0).number n e) (subst (λ u. slice_get (constructors (table_of core) u) (x.0).number ≡ Some (record { name = c.constructor; fields = ts })) of_type (constructor_of-shape core c.constructor x.0 x.1)) type in
+        let fields : HaveTypes (table_of core) ts fs = node_fields (table_of core) h.ty (x.0).number n _ fs (eqb-true (x.0).number n e) (subst (λ u. slice_get (constructors (table_of core) u) (x.0).number ≡ Some (record { name = c.constructor; fields = ts })) of_type (constructor_of-shape core c.constructor x.0 x.1)) type in
         let m = binders_match core env scope c.binders ts fs env_agrees (clause_many core k known f h g first c r) fields in
         let is : matching core (clause_pattern c) (Node n fs) ≡ Some m.0 = ap (λ o. cond (is_constructor o n) (matching_all core (binder_patterns c.binders) fs) None) x.1 ∙ ap (λ b. cond b (matching_all core (binder_patterns c.binders) fs) None) e ∙ m.1 in
         let there : M.bind_matched env m.0 ≡ N.in_clause (N.list_of vs) first (N.list_of fs) =
@@ -174,11 +172,11 @@ pub passes_checked : (core : Core) (l : L.Loop) (p : PassesAll core l) → IsChe
 passes_checked core l p = loop_checked core p.known p.declared p.function p.one l p.passes
 
 -- A program that passes the check can be run as its loop program.
-pub passes_ready : (core : Core) (l : L.Loop) → PassesAll core l → HaveUpperNames core.types → IsReadyToRun core l
-passes_ready core l p upper = record {
+pub passes_ready : (core : Core) (l : L.Loop) → PassesAll core l → IsReadyToRun core l
+passes_ready core l p = record {
   function = p.function;
   checked = passes_checked core l p;
   fine = passes_fine core l p;
-  sound = passes_sound core l p upper;
+  sound = passes_sound core l p;
   known = passes_known core l p;
 }

@@ -1,5 +1,5 @@
 -- The numbers of types and constructors are those that the declarations give them.
-use Rattle.std.proofs.Common.{◌≡◌, ℕ, zero, suc, ◌+◌, Bool, true, false, List, [], ◌∷◌, ◌++◌, map, position, Option, Some, None, refl, sym, ap, ◌∙◌, arith, if◌then◌else◌}
+use Rattle.std.proofs.Common.{◌≡◌, ℕ, zero, suc, ◌+◌, Bool, true, false, List, [], ◌∷◌, ◌++◌, map, position, Option, Some, None, refl, sym, ap, ◌∙◌, arith, if◌then◌else◌, add-zero, add-one, one-add, add_comm}
 use Rattle.std.specs.Prelude.{is_some, slice_get, codes}
 use Rattle.fip_language.specs.Core.{Name, Written, WrittenInt, WrittenName, DataConstructor, Data, Core}
 use Rattle.fip_language.specs.Declarations.{same_name, bool_type, data_types, or_else, Declared, constructor_among, constructor_in, constructor_of, type_in, type_of_name, number_or_int, type_number, table_of}
@@ -10,7 +10,7 @@ use Rattle.fip_language.proofs.Constructors.{constructor_of-shape}
 use Rattle.loop_check.specs.declared.table.ConstructorId.{ConstructorId}
 use Rattle.loop_check.specs.declared.header.Known.{Known}
 use Rattle.loop_check.specs.Names.{with_names}
-use Rattle.loop_check.specs.Types.{type_at, written_number, row_ids, type_ids, data_names, row_names, declared_names}
+use Rattle.loop_check.specs.Types.{type_at, written_number, numbered_table, row_ids, type_ids, data_names, row_names, declared_names}
 use Rattle.loop_check.specs.Lookup.{id_at, found, id_fields, true_or, marked_scalar}
 use Rattle.loop_check.specs.Program.{IsKnown}
 use Rattle.loop_check.proofs.NameLists.{one_more, position-cons}
@@ -34,10 +34,7 @@ type_in-position name [] t = refl
 type_in-position name (d ∷ ds) t = by (same_name name d.name) refl (type_in-position name ds (suc t))
   where
     by : (b : Bool) → same_name name d.name ≡ b → from (suc t) (position (same_name name) (data_names ds)) ≡ type_in name (suc t) ds → from t (position (same_name name) (d.name ∷ data_names ds)) ≡ type_in name t (d ∷ ds)
-    by true e rest = ap (from t) (position-cons (same_name name) d.name (data_names ds) true e) ∙ ap Some (plus_none t) ∙ sym (ap (λ b. if b then Some t else type_in name (suc t) ds) e)
-      where
-        plus_none : (t : ℕ) → t + 0 ≡ t
-        plus_none t = omega arith
+    by true e rest = ap (from t) (position-cons (same_name name) d.name (data_names ds) true e) ∙ ap Some (add-zero t) ∙ sym (ap (λ b. if b then Some t else type_in name (suc t) ds) e)
     by false e rest =
         ap (from t) (position-cons (same_name name) d.name (data_names ds) false e)
         ∙ from_next t (position (same_name name) (data_names ds))
@@ -46,14 +43,25 @@ type_in-position name (d ∷ ds) t = by (same_name name d.name) refl (type_in-po
 
 type_at-from : (o : Option ℕ) → type_at o ≡ number_or_int (from 1 o)
 type_at-from None = refl
-type_at-from (Some i) = swap i
-  where
-    swap : (i : ℕ) → i + 1 ≡ 1 + i
-    swap i = omega arith
+type_at-from (Some i) = add_comm i 1
 
 some_from : (o : Option ℕ) → is_some o ≡ is_some (from 1 o)
 some_from None = refl
 some_from (Some i) = refl
+
+-- the number of a type as it is written, and whether its name is known
+pub written_type : (core : Core) (w : Written) → written_number (data_names (data_types core)) w ≡ type_number core w
+written_type core (WrittenInt p) = refl
+written_type core (WrittenName name p ws) = type_at-from (position (same_name name) (data_names (data_types core))) ∙ ap number_or_int (type_in-position name (data_types core) 1)
+
+same_known_name : (core : Core) (name : Name) → is_some (position (same_name name) (data_names (data_types core))) ≡ is_some (type_of_name core name)
+same_known_name core name = some_from (position (same_name name) (data_names (data_types core))) ∙ ap is_some (type_in-position name (data_types core) 1)
+
+pub known_name : (core : Core) (name : Name) → is_some (type_of_name core name) ≡ true → is_some (position (same_name name) (data_names (data_types core))) ≡ true
+known_name core name e = same_known_name core name ∙ e
+
+pub table_is : (core : Core) → numbered_table (data_names (data_types core)) core.types ≡ table_of core
+table_is core = ap (λ (f : Written → ℕ). map (λ (d : Data). map (λ (x : DataConstructor). record { name = x.name; fields = map f x.fields }) d.constructors) (data_types core)) (λ i w. written_type core w i)
 
 names_all : (ds : List Data) (names : List Name) → with_names (codes "bool" ∷ []) (data_names ds) ≡ Some names → names ≡ data_names (bool_type ∷ ds)
 names_all ds names e = with_names-all (codes "bool" ∷ []) (data_names ds) names e
@@ -67,10 +75,7 @@ lookup name (n ∷ ns) (i ∷ is) = if same_name name n then Some i else lookup 
 
 id_at-next : (i : ConstructorId) (ids : List ConstructorId) (o : Option ℕ) → id_at (i ∷ ids) (one_more o) ≡ id_at ids o
 id_at-next i ids None = refl
-id_at-next i ids (Some n) = ap (slice_get (i ∷ ids)) (one_before n)
-  where
-    one_before : (n : ℕ) → 1 + n ≡ suc n
-    one_before n = omega arith
+id_at-next i ids (Some n) = ap (slice_get (i ∷ ids)) (one-add n)
 
 id_at-none : (o : Option ℕ) → id_at [] o ≡ None
 id_at-none None = refl
@@ -101,9 +106,6 @@ abbrev id_or : Option Declared → Option ConstructorId → Option ConstructorId
 id_or None o = o
 id_or (Some d) o = Some (id_of d)
 
-plus_one : (n : ℕ) → n + 1 ≡ suc n
-plus_one n = omega arith
-
 lookup_row : (name : Name) (t : ℕ) (ks : List DataConstructor) (c : ℕ) (ns : List Name) (is : List ConstructorId) → lookup name (row_names ks ++ ns) (row_ids t c ks ++ is) ≡ id_or (constructor_among name t c ks) (lookup name ns is)
 lookup_row name t [] c ns is = refl
 lookup_row name t (k ∷ ks) c ns is = by (same_name name k.name) refl (lookup_row name t ks (c + 1) ns is)
@@ -115,7 +117,7 @@ lookup_row name t (k ∷ ks) c ns is = by (same_name name k.name) refl (lookup_r
     by false e rest =
         ap (λ b. if b then Some (record { ty = t; number = c }) else lookup name (row_names ks ++ ns) (row_ids t (c + 1) ks ++ is)) e
         ∙ rest
-        ∙ ap (λ n. id_or (constructor_among name t n ks) (lookup name ns is)) (plus_one c)
+        ∙ ap (λ n. id_or (constructor_among name t n ks) (lookup name ns is)) (add-one c)
         ∙ sym (ap (λ b. id_or (if b then Some (record { type = t; number = c; fields = k.fields }) else constructor_among name t (suc c) ks) (lookup name ns is)) e)
 
 ids_or : (o p : Option Declared) → id_or o (ids_of p) ≡ ids_of (or_else o p)
@@ -126,7 +128,7 @@ lookup_types : (name : Name) (ds : List Data) (t : ℕ) → lookup name (declare
 lookup_types name [] t = refl
 lookup_types name (d ∷ ds) t =
     lookup_row name t d.constructors 0 (declared_names ds) (type_ids (t + 1) ds)
-    ∙ ap (id_or (constructor_among name t 0 d.constructors)) (lookup_types name ds (t + 1) ∙ ap (λ n. ids_of (constructor_in name n ds)) (plus_one t))
+    ∙ ap (id_or (constructor_among name t 0 d.constructors)) (lookup_types name ds (t + 1) ∙ ap (λ n. ids_of (constructor_in name n ds)) (add-one t))
     ∙ ids_or (constructor_among name t 0 d.constructors) (constructor_in name (suc t) ds)
 
 declared_all : (ds : List Data) (names : List Name) → with_names (codes "False" ∷ codes "True" ∷ []) (declared_names ds) ≡ Some names → names ≡ declared_names (bool_type ∷ ds)
@@ -134,7 +136,7 @@ declared_all ds names e = with_names-all (codes "False" ∷ codes "True" ∷ [])
 
 -- ---- lists at places
 
-shapes_mark : (tb : Table) (t : ℕ) → true_or (slice_get (map all_bare tb) t) ≡ all_bare (shapes tb t)
+pub shapes_mark : (tb : Table) (t : ℕ) → true_or (slice_get (map all_bare tb) t) ≡ all_bare (shapes tb t)
 shapes_mark [] t = refl
 shapes_mark (row ∷ rows) zero = refl
 shapes_mark (row ∷ rows) (suc t) = shapes_mark rows t
@@ -150,23 +152,17 @@ module _ (core : Core) (k : Known) (known : IsKnown k core.types) where
   pub types_named : k.types ≡ data_names (data_types core)
   types_named = names_all core.types k.types known.types
 
-  pub same_type_name : (name : Name) → from 1 (position (same_name name) k.types) ≡ type_of_name core name
-  same_type_name name = ap (λ ns. from 1 (position (same_name name) ns)) types_named ∙ type_in-position name (data_types core) 1
-
   pub same_known : (name : Name) → is_some (position (same_name name) k.types) ≡ is_some (type_of_name core name)
-  same_known name = some_from (position (same_name name) k.types) ∙ ap is_some (same_type_name name)
+  same_known name = ap (λ ns. is_some (position (same_name name) ns)) types_named ∙ same_known_name core name
 
   same_number_at : (w : Written) → written_number k.types w ≡ type_number core w
-  same_number_at (WrittenInt p) = refl
-  same_number_at (WrittenName name p ws) = type_at-from (position (same_name name) k.types) ∙ ap number_or_int (same_type_name name)
+  same_number_at w = ap (λ ns. written_number ns w) types_named ∙ written_type core w
 
   pub same_number : written_number k.types ≡ type_number core
   same_number = λ i w. same_number_at w i
 
   pub same_table : k.table ≡ table_of core
-  same_table =
-      known.table
-      ∙ ap (λ (f : Written → ℕ). map (λ (d : Data). map (λ (x : DataConstructor). record { name = x.name; fields = map f x.fields }) d.constructors) (data_types core)) same_number
+  same_table = known.table ∙ ap (λ ns. numbered_table ns core.types) types_named ∙ table_is core
 
   pub same_constructor : (name : Name) → found k name ≡ ids_of (constructor_of core name)
   same_constructor name =

@@ -1,6 +1,7 @@
 -- What belongs to a binder in a clause, by its number: parameters are numbered from 0, and a clause's binders from its
 -- first binder on. So a scope is read from the lists of types, and an environment from the lists of values.
-use Rattle.std.proofs.Common.{◌≡◌, ◌⊎◌, inl, inr, ℕ, zero, suc, ◌+◌, ◌-◌, ◌<◌, ◌≤◌, Bool, true, false, ◌==◌, nat_lt, List, [], ◌∷◌, map, length, Option, Some, None, refl, sym, ap, ◌∙◌, arith, if◌then◌else◌}
+use Rattle.std.proofs.Common.{◌≡◌, ◌⊎◌, inl, inr, ℕ, zero, suc, ◌+◌, ◌-◌, ◌<◌, ◌≤◌, Bool, true, false, ◌==◌, nat_lt, List, [], ◌∷◌, map, length, Option, Some, None, refl, sym, ap, ◌∙◌, arith, if◌then◌else◌, eq-eqb, ne_eqb, ltb-true, ltb-false}
+use Rattle.std.proofs.lemmas.Option.{slice_get_past}
 use Rattle.std.specs.Prelude.{slice_get}
 use Rattle.fip_language.specs.Core.{Binder, Parameter, Core}
 use Rattle.fip_language.specs.Declarations.{type_number}
@@ -11,7 +12,6 @@ use Rattle.fip_language.specs.Right.{Scope, in_scope, parameters_in_scope, binde
 use Rattle.fip_language.specs.Table.{Table, HaveTypes}
 use Rattle.fip_language.specs.Values.{Values, End, More}
 use Rattle.loop_form.specs.Meaning.{list_of, in_clause}
-use Rattle.loop_check.proofs.RightTests.{eq_test, other_test, lt_of, over_of, slice_past}
 
 -- these for the numbers from n on
 abbrev pub put : {A : Type 0} → (ℕ → Option A) → ℕ → List A → ℕ → Option A
@@ -20,15 +20,15 @@ put scope n (a ∷ as') = put (λ y. if n == y then Some a else scope y) (n + 1)
 
 pub put_before : {A : Type 0} (scope : ℕ → Option A) (n : ℕ) (as' : List A) (x : ℕ) → x < n → put scope n as' x ≡ scope x
 put_before scope n [] x h = refl
-put_before scope n (a ∷ as') x h = put_before (λ y. if n == y then Some a else scope y) (n + 1) as' x (omega (arith, h)) ∙ ap (λ b. if b then Some a else scope x) (other_test n x (λ e. omega (arith, e, h)))
+put_before scope n (a ∷ as') x h = put_before (λ y. if n == y then Some a else scope y) (n + 1) as' x (omega (arith, h)) ∙ ap (λ b. if b then Some a else scope x) (ne_eqb n x (λ e. omega (arith, e, h)))
 
 pub put_behind : {A : Type 0} (scope : ℕ → Option A) (n : ℕ) (as' : List A) (x : ℕ) → n + length as' ≤ x → put scope n as' x ≡ scope x
 put_behind scope n [] x h = refl
-put_behind scope n (a ∷ as') x h = put_behind (λ y. if n == y then Some a else scope y) (n + 1) as' x (omega (arith, h)) ∙ ap (λ b. if b then Some a else scope x) (other_test n x (λ e. omega (arith, e, h)))
+put_behind scope n (a ∷ as') x h = put_behind (λ y. if n == y then Some a else scope y) (n + 1) as' x (omega (arith, h)) ∙ ap (λ b. if b then Some a else scope x) (ne_eqb n x (λ e. omega (arith, e, h)))
 
 pub put_at : {A : Type 0} (scope : ℕ → Option A) (n : ℕ) (as' : List A) (i x : ℕ) → x ≡ n + i → i < length as' → put scope n as' x ≡ slice_get as' i
 put_at scope n [] i x e h = absurd (omega (arith, h))
-put_at scope n (a ∷ as') zero x e h = put_before (λ y. if n == y then Some a else scope y) (n + 1) as' x (omega (arith, e)) ∙ ap (λ b. if b then Some a else scope x) (eq_test n x (omega (arith, e)))
+put_at scope n (a ∷ as') zero x e h = put_before (λ y. if n == y then Some a else scope y) (n + 1) as' x (omega (arith, e)) ∙ ap (λ b. if b then Some a else scope x) (eq-eqb n x (omega (arith, e)))
 put_at scope n (a ∷ as') (suc i) x e h = put_at (λ y. if n == y then Some a else scope y) (n + 1) as' i x (omega (arith, e)) (omega (arith, h))
 
 abbrev pub nothing : {A : Type 0} → ℕ → Option A
@@ -38,8 +38,8 @@ less_or : (m n : ℕ) → (m < n) ⊎ (n ≤ m)
 less_or m n = by (nat_lt m n) refl
   where
     by : (b : Bool) → nat_lt m n ≡ b → (m < n) ⊎ (n ≤ m)
-    by true e = inl (lt_of m n e)
-    by false e = inr (over_of m n e)
+    by true e = inl (ltb-true m n e)
+    by false e = inr (ltb-false m n e)
 
 plus_rest : (first r : ℕ) → first ≤ r → r ≡ first + (r - first)
 plus_rest first r h = omega (arith, h)
@@ -50,21 +50,21 @@ module _ {A : Type 0} (ps fs : List A) (first : ℕ) (le : length ps ≤ first) 
     where
       by : (r - first < length fs) ⊎ (length fs ≤ r - first) → slice_get fs (r - first) ≡ put (put nothing 0 ps) first fs r
       by (inl lt) = sym (put_at (put nothing 0 ps) first fs (r - first) r (plus_rest first r h) lt)
-      by (inr ge) = slice_past fs (r - first) ge ∙ sym (put_behind (put nothing 0 ps) first fs r (omega (arith, h, ge)) ∙ put_behind nothing 0 ps r (omega (arith, h, le)))
+      by (inr ge) = slice_get_past fs (r - first) ge ∙ sym (put_behind (put nothing 0 ps) first fs r (omega (arith, h, ge)) ∙ put_behind nothing 0 ps r (omega (arith, h, le)))
 
   behind_parameters : (r : ℕ) → length ps ≤ r → (if nat_lt r first then None else slice_get fs (r - first)) ≡ put (put nothing 0 ps) first fs r
   behind_parameters r h = by (nat_lt r first) refl
     where
       by : (b : Bool) → nat_lt r first ≡ b → (if b then None else slice_get fs (r - first)) ≡ put (put nothing 0 ps) first fs r
-      by true e = sym (put_before (put nothing 0 ps) first fs r (lt_of r first e) ∙ put_behind nothing 0 ps r (omega (arith, h)))
-      by false e = behind_all r (over_of r first e)
+      by true e = sym (put_before (put nothing 0 ps) first fs r (ltb-true r first e) ∙ put_behind nothing 0 ps r (omega (arith, h)))
+      by false e = behind_all r (ltb-false r first e)
 
   in_clause_at : (r : ℕ) → in_clause ps first fs r ≡ put (put nothing 0 ps) first fs r
   in_clause_at r = by (nat_lt r (length ps)) refl
     where
       by : (b : Bool) → nat_lt r (length ps) ≡ b → (if b then slice_get ps r else if nat_lt r first then None else slice_get fs (r - first)) ≡ put (put nothing 0 ps) first fs r
-      by true e = let lt = lt_of r (length ps) e in sym (put_before (put nothing 0 ps) first fs r (omega (arith, lt, le)) ∙ put_at nothing 0 ps r r (omega arith) lt)
-      by false e = behind_parameters r (over_of r (length ps) e)
+      by true e = let lt = ltb-true r (length ps) e in sym (put_before (put nothing 0 ps) first fs r (omega (arith, lt, le)) ∙ put_at nothing 0 ps r r (omega arith) lt)
+      by false e = behind_parameters r (ltb-false r (length ps) e)
 
   -- parameters from 0 on, and fields from the first binder on
   pub in_clause_put : in_clause ps first fs ≡ put (put nothing 0 ps) first fs

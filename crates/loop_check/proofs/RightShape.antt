@@ -1,6 +1,7 @@
 -- A body that passes the check is a loop: a match! on a variable, whose clauses have a constructor with binders for its
 -- fields, and end in an argument or in a call.
-use Rattle.std.proofs.Common.{◌≡◌, ℕ, ◌+◌, ◌≤◌, Bool, true, false, ◌&&◌, ◌==◌, List, [], ◌∷◌, ◌++◌, map, length, Option, Some, None, refl, sym, ap, ◌∙◌, subst, arith, if◌then◌else◌}
+use Rattle.std.proofs.Common.{◌≡◌, ℕ, ◌+◌, ◌≤◌, Bool, true, false, ◌&&◌, ◌==◌, List, [], ◌∷◌, ◌++◌, map, length, Option, Some, None, refl, sym, ap, ◌∙◌, subst, arith, if◌then◌else◌, eqb-true, leb-true}
+use Rattle.std.proofs.lemmas.Bool.{both_ways, and_parts}
 use Rattle.std.specs.Prelude.{is_some, nat_le, min}
 use Rattle.fip_language.specs.declared.Place.{Place}
 use Rattle.fip_language.specs.Core.{Name, NoWritten, MoreWritten, Writtens, Binder, Variable, Literal, Constructor, Pattern, BinderPattern, LiteralPattern, ConstructorPattern, Patterns, NoPatterns, MorePatterns, Expression, Give, Tuple, Operation, Call, Match, Nested, Block, Last, Let, Clauses, NoClauses, MoreClauses}
@@ -16,9 +17,9 @@ use Rattle.loop_check.specs.Names.{with_names}
 use Rattle.loop_check.specs.Types.{no_writtens}
 use Rattle.loop_check.specs.Lookup.{found, id_fields, are_narrow}
 use Rattle.loop_check.specs.Typing.{have_types}
-use Rattle.loop_check.specs.Clauses.{Signature, parts, case_parts, arity, pattern_count, are_binders, unless_blank, pattern_names, ends_right, ending_weight, used_once, one_unless_zero, right_ending, right_fields, right_found, right_parts, right_clauses}
+use Rattle.loop_check.specs.Clauses.{Signature, parts, case_parts, arity, pattern_count, are_binders, pattern_names, ends_right, ending_weight, used_once, one_unless_zero, right_ending, right_fields, right_found, right_parts, right_clauses}
 use Rattle.loop_check.specs.Program.{Taken, cases_of, taken}
-use Rattle.loop_check.proofs.RightTests.{no_test, both_true, if_some, eq_of, le_of}
+use Rattle.loop_check.proofs.RightTests.{if_some}
 use Rattle.loop_check.proofs.RightNames.{once_named}
 use Rattle.loop_check.proofs.RightScope.{AreFrom, number}
 
@@ -32,40 +33,40 @@ record AreBinders (n : ℕ) (ps : Patterns) : Type 0 where
 binders_are : (n : ℕ) (ps : Patterns) → are_binders n ps ≡ true → AreBinders n ps
 binders_are n NoPatterns h = record { binders = []; are = refl; numbered = tt }
 binders_are n (MorePatterns (BinderPattern b) ps) h =
-    let p = both_true (b.number == n) (are_binders (n + 1) ps) h in
+    let p = and_parts (b.number == n) (are_binders (n + 1) ps) h in
     let r = binders_are (n + 1) ps p.1 in
-    record { binders = b ∷ r.binders; are = ap (MorePatterns (BinderPattern b)) r.are; numbered = (eq_of b.number n p.0, r.numbered) }
-binders_are n (MorePatterns (LiteralPattern i p) ps) h = absurd (no_test false refl h)
-binders_are n (MorePatterns (ConstructorPattern name p qs) ps) h = absurd (no_test false refl h)
+    record { binders = b ∷ r.binders; are = ap (MorePatterns (BinderPattern b)) r.are; numbered = (eqb-true b.number n p.0, r.numbered) }
+binders_are n (MorePatterns (LiteralPattern i p) ps) h = absurd (both_ways false refl h)
+binders_are n (MorePatterns (ConstructorPattern name p qs) ps) h = absurd (both_ways false refl h)
 
 pub count_binders : (bs : List Binder) → pattern_count (binder_patterns bs) ≡ length bs
 count_binders [] = refl
 count_binders (b ∷ bs) = let r = count_binders bs in omega (arith, r)
 
-names_of : (bs : List Binder) → pattern_names (binder_patterns bs) ≡ names_of_binders bs
+names_by : (blank : Bool) (name : Name) (xs : List Name) → (if blank then [] else name ∷ []) ++ xs ≡ (if blank then xs else name ∷ xs)
+names_by true name xs = refl
+names_by false name xs = refl
+
+pub names_of : (bs : List Binder) → pattern_names (binder_patterns bs) ≡ names_of_binders bs
 names_of [] = refl
-names_of (b ∷ bs) = by (is_blank b.name) refl ∙ ap (λ ns. if is_blank b.name then ns else b.name ∷ ns) (names_of bs)
-  where
-    by : (t : Bool) → is_blank b.name ≡ t → unless_blank b.name ++ pattern_names (binder_patterns bs) ≡ (if is_blank b.name then pattern_names (binder_patterns bs) else b.name ∷ pattern_names (binder_patterns bs))
-    by true e = ap (λ t. (if t then [] else b.name ∷ []) ++ pattern_names (binder_patterns bs)) e ∙ sym (ap (λ t. if t then pattern_names (binder_patterns bs) else b.name ∷ pattern_names (binder_patterns bs)) e)
-    by false e = ap (λ t. (if t then [] else b.name ∷ []) ++ pattern_names (binder_patterns bs)) e ∙ sym (ap (λ t. if t then pattern_names (binder_patterns bs) else b.name ∷ pattern_names (binder_patterns bs)) e)
+names_of (b ∷ bs) = names_by (is_blank b.name) b.name (pattern_names (binder_patterns bs)) ∙ ap (λ ns. if is_blank b.name then ns else b.name ∷ ns) (names_of bs)
 
 -- ---- endings
 
 none_written : (ws : Writtens) → no_writtens ws ≡ true → ws ≡ NoWritten
 none_written NoWritten h = refl
-none_written (MoreWritten w ws) h = absurd (no_test false refl h)
+none_written (MoreWritten w ws) h = absurd (both_ways false refl h)
 
 ending_is : (k : Known) (scope : ℕ → Option ℕ) (h : Signature) (e : Expression) → ends_right k scope h e ≡ true → (f : Ending) × (e ≡ ending_expression f)
 ending_is k scope h (Give a) r = (Returns a, refl)
-ending_is k scope h (Tuple p as') r = absurd (no_test false refl r)
-ending_is k scope h (Operation o p a b) r = absurd (no_test false refl r)
+ending_is k scope h (Tuple p as') r = absurd (both_ways false refl r)
+ending_is k scope h (Operation o p a b) r = absurd (both_ways false refl r)
 ending_is k scope h (Call name p ss as') r =
-    let q = both_true (no_writtens ss && same_name name h.name) (have_types k scope h.parameters as') r in
-    let none = none_written ss (both_true (no_writtens ss) (same_name name h.name) q.0).0 in
+    let q = and_parts (no_writtens ss && same_name name h.name) (have_types k scope h.parameters as') r in
+    let none = none_written ss (and_parts (no_writtens ss) (same_name name h.name) q.0).0 in
     (Calls name p as', ap (λ ws. Call name p ws as') none)
-ending_is k scope h (Match d p a cs) r = absurd (no_test false refl r)
-ending_is k scope h (Nested b) r = absurd (no_test false refl r)
+ending_is k scope h (Match d p a cs) r = absurd (both_ways false refl r)
+ending_is k scope h (Nested b) r = absurd (both_ways false refl r)
 
 -- ---- clauses
 
@@ -94,14 +95,14 @@ IsClauseOf k h first p b c = (p ≡ ConstructorPattern c.constructor c.place (bi
 fields_right : (k : Known) (h : Signature) (first : ℕ) (name : Name) (p : Place) (id : ConstructorId) (ps : Patterns) (e : Expression) → found k name ≡ Some id → id.ty ≡ h.ty → right_fields k h first (id_fields k id) ps e ≡ true → (c : LoopClause) × IsClauseOf k h first (ConstructorPattern name p ps) (Last e) c
 fields_right k h first name p id ps e is of_type r =
     let fs = id_fields k id in
-    let q0 = both_true (pattern_count ps == length fs) (nat_le (first + length fs) 4096 && (are_binders first ps && (are_narrow k fs && (right_ending k h first fs e && is_some (with_names [] (pattern_names ps)))))) r in
-    let q1 = both_true (nat_le (first + length fs) 4096) (are_binders first ps && (are_narrow k fs && (right_ending k h first fs e && is_some (with_names [] (pattern_names ps))))) q0.1 in
-    let q2 = both_true (are_binders first ps) (are_narrow k fs && (right_ending k h first fs e && is_some (with_names [] (pattern_names ps)))) q1.1 in
-    let q3 = both_true (are_narrow k fs) (right_ending k h first fs e && is_some (with_names [] (pattern_names ps))) q2.1 in
-    let q4 = both_true (right_ending k h first fs e) (is_some (with_names [] (pattern_names ps))) q3.1 in
-    let e0 = both_true (ends_right k (in_clause h.parameters first fs) h e) (used_once k h 0 h.parameters e && (used_once k h first fs e && (min 2 (ending_weight (length fs) e) == one_unless_zero (length fs)))) q4.0 in
-    let e1 = both_true (used_once k h 0 h.parameters e) (used_once k h first fs e && (min 2 (ending_weight (length fs) e) == one_unless_zero (length fs))) e0.1 in
-    let e2 = both_true (used_once k h first fs e) (min 2 (ending_weight (length fs) e) == one_unless_zero (length fs)) e1.1 in
+    let q0 = and_parts (pattern_count ps == length fs) (nat_le (first + length fs) 4096 && (are_binders first ps && (are_narrow k fs && (right_ending k h first fs e && is_some (with_names [] (pattern_names ps)))))) r in
+    let q1 = and_parts (nat_le (first + length fs) 4096) (are_binders first ps && (are_narrow k fs && (right_ending k h first fs e && is_some (with_names [] (pattern_names ps))))) q0.1 in
+    let q2 = and_parts (are_binders first ps) (are_narrow k fs && (right_ending k h first fs e && is_some (with_names [] (pattern_names ps)))) q1.1 in
+    let q3 = and_parts (are_narrow k fs) (right_ending k h first fs e && is_some (with_names [] (pattern_names ps))) q2.1 in
+    let q4 = and_parts (right_ending k h first fs e) (is_some (with_names [] (pattern_names ps))) q3.1 in
+    let e0 = and_parts (ends_right k (in_clause h.parameters first fs) h e) (used_once k h 0 h.parameters e && (used_once k h first fs e && (min 2 (ending_weight (length fs) e) == one_unless_zero (length fs)))) q4.0 in
+    let e1 = and_parts (used_once k h 0 h.parameters e) (used_once k h first fs e && (min 2 (ending_weight (length fs) e) == one_unless_zero (length fs))) e0.1 in
+    let e2 = and_parts (used_once k h first fs e) (min 2 (ending_weight (length fs) e) == one_unless_zero (length fs)) e1.1 in
     let bs = binders_are first ps q2.0 in
     let end = ending_is k (in_clause h.parameters first fs) h e e0.0 in (
       record { constructor = name; place = p; binders = bs.binders; ending = end.0 },
@@ -112,30 +113,30 @@ fields_right k h first name p id ps e is of_type r =
           id = id;
           is_found = is;
           of_type = of_type;
-          count = sym (count_binders bs.binders) ∙ sym (ap pattern_count bs.are) ∙ eq_of (pattern_count ps) (length fs) q0.0;
-          within = le_of (first + length fs) 4096 q1.0;
+          count = sym (count_binders bs.binders) ∙ sym (ap pattern_count bs.are) ∙ eqb-true (pattern_count ps) (length fs) q0.0;
+          within = leb-true (first + length fs) 4096 q1.0;
           numbered = bs.numbered;
           narrow = q3.0;
           ends = subst (λ x. ends_right k (in_clause h.parameters first fs) h x ≡ true) end.1 e0.0;
           parameters_once = subst (λ x. used_once k h 0 h.parameters x ≡ true) end.1 e1.0;
           fields_once = subst (λ x. used_once k h first fs x ≡ true) end.1 e2.0;
-          paid = subst (λ x. min 2 (ending_weight (length fs) x) ≡ one_unless_zero (length fs)) end.1 (eq_of (min 2 (ending_weight (length fs) e)) (one_unless_zero (length fs)) e2.1);
+          paid = subst (λ x. min 2 (ending_weight (length fs) x) ≡ one_unless_zero (length fs)) end.1 (eqb-true (min 2 (ending_weight (length fs) e)) (one_unless_zero (length fs)) e2.1);
           names = subst Once (ap pattern_names bs.are ∙ names_of bs.binders) (once_named [] (pattern_names ps) q4.1);
         },
       ),
     )
 
 found_right : (k : Known) (h : Signature) (first : ℕ) (name : Name) (p : Place) (ps : Patterns) (e : Expression) (o : Option ConstructorId) → found k name ≡ o → right_found k h first (record { name = name; patterns = ps; ending = e }) o ≡ true → (c : LoopClause) × IsClauseOf k h first (ConstructorPattern name p ps) (Last e) c
-found_right k h first name p ps e None is r = absurd (no_test false refl r)
+found_right k h first name p ps e None is r = absurd (both_ways false refl r)
 found_right k h first name p ps e (Some id) is r =
-    let q = both_true (id.ty == h.ty) (right_fields k h first (id_fields k id) ps e) r in
-    fields_right k h first name p id ps e is (eq_of id.ty h.ty q.0) q.1
+    let q = and_parts (id.ty == h.ty) (right_fields k h first (id_fields k id) ps e) r in
+    fields_right k h first name p id ps e is (eqb-true id.ty h.ty q.0) q.1
 
 case_right : (k : Known) (h : Signature) (first : ℕ) (p : Pattern) (b : Block) → right_parts k h first (parts p b) ≡ true → (c : LoopClause) × IsClauseOf k h first p b c
-case_right k h first (BinderPattern b) body r = absurd (no_test false refl r)
-case_right k h first (LiteralPattern i p) body r = absurd (no_test false refl r)
+case_right k h first (BinderPattern b) body r = absurd (both_ways false refl r)
+case_right k h first (LiteralPattern i p) body r = absurd (both_ways false refl r)
 case_right k h first (ConstructorPattern name p ps) (Last e) r = found_right k h first name p ps e (found k name) refl r
-case_right k h first (ConstructorPattern name p ps) (Let bs e rest) r = absurd (no_test false refl r)
+case_right k h first (ConstructorPattern name p ps) (Let bs e rest) r = absurd (both_ways false refl r)
 
 -- The clauses pass the check, and the last number is n.
 abbrev pub AreRightCases : Known → Signature → ℕ → List LoopClause → ℕ → Type 0

@@ -1,6 +1,8 @@
 -- An argument that passes the test has the type, and its constructors are declared, with types of a list that has all
 -- types of fields.
-use Rattle.std.proofs.Common.{◌≡◌, inl, inr, ℕ, ◌≤◌, true, false, ◌&&◌, ◌==◌, List, [], ◌∷◌, Option, Some, None, refl, sym, ap, ◌∙◌, subst, arith, if◌then◌else◌}
+use Rattle.std.proofs.Common.{◌≡◌, inl, inr, ℕ, ◌≤◌, true, false, ◌&&◌, ◌==◌, List, [], ◌∷◌, Option, Some, None, refl, sym, ap, ◌∙◌, subst, arith, if◌then◌else◌, eqb-true, le-leb}
+use Rattle.std.proofs.lemmas.Bool.{both_ways, and_parts}
+use Rattle.fip_language.proofs.Plain.{every_append, every_at}
 use Rattle.std.specs.Prelude.{is_some, slice_get}
 use Rattle.std.proofs.lemmas.Slice.Eq.{bytes_eq-Decides}
 use Rattle.fip_language.specs.declared.Place.{Place}
@@ -22,15 +24,14 @@ use Rattle.loop_check.specs.Lookup.{found}
 use Rattle.loop_check.specs.Typing.{is_number, binder_has, id_has, found_fields, has_type, have_types, register_of, made_of, node_of, term_in, terms_in}
 use Rattle.loop_check.specs.Clauses.{Signature, ends_right}
 use Rattle.loop_check.specs.Program.{IsKnown}
-use Rattle.loop_check.proofs.RightTests.{no_test, both_true, eq_of, le_test, every_append, every_at}
 use Rattle.loop_check.proofs.RightNumbers.{ids_of, id_of, same_constructor, same_fields}
 
 number_is : (o : Option ℕ) (t : ℕ) → is_number o t ≡ true → o ≡ Some t
-number_is None t h = absurd (no_test false refl h)
-number_is (Some u) t h = ap Some (eq_of u t h)
+number_is None t h = absurd (both_ways false refl h)
+number_is (Some u) t h = ap Some (eqb-true u t h)
 
 binder_typed : (scope : Scope) (o : Option ℕ) (t : ℕ) → binder_has scope o t ≡ true → binder_type scope o ≡ Some t
-binder_typed scope None t h = absurd (no_test false refl h)
+binder_typed scope None t h = absurd (both_ways false refl h)
 binder_typed scope (Some x) t h = number_is (scope x) t h
 
 -- what is among the types and isn't int has what each of them has
@@ -44,7 +45,7 @@ abbrev pub IsNarrow : Scope → Type 0
 IsNarrow scope = (x t : ℕ) → scope x ≡ Some t → x ≤ 4294967295
 
 pub register_is : (scope : Scope) (x t : ℕ) → IsNarrow scope → scope x ≡ Some t → register_of (Some x) ≡ x
-register_is scope x t narrow e = ap (λ b. if b then x else 0) (le_test x 4294967295 (narrow x t e))
+register_is scope x t narrow e = ap (λ b. if b then x else 0) (le-leb x 4294967295 (narrow x t e))
 
 no_terms : (tb : Table) (scope : Scope) (ts : List ℕ) → TermsHaveTypes tb scope L.NoTerms ts → ts ≡ []
 no_terms tb scope [] h = refl
@@ -59,15 +60,15 @@ module _ (core : Core) (k : Known) (known : IsKnown k core.types) where
       (scope : Scope) (t : ℕ) (name : Name) (p : Place) (as' : Arguments) (o : Option Declared) → constructor_of core name ≡ o → (id_has (ids_of o) t && have_types k scope (found_fields k (ids_of o)) as') ≡ true
       → ((ts : List ℕ) → have_types k scope ts as' ≡ true → AreOfTypes core scope ts as')
       → IsOfType core scope t (Constructor name p as')
-  constructor_typed scope t name p as' None e h rest = absurd (no_test false refl h)
+  constructor_typed scope t name p as' None e h rest = absurd (both_ways false refl h)
   constructor_typed scope t name p as' (Some d) e h rest =
-      let q = both_true (d.type == t) (have_types k scope (found_fields k (Some (id_of d))) as') h in
-      (d, e, eq_of d.type t q.0, rest (field_types core d) (subst (λ ts. have_types k scope ts as' ≡ true) (same_fields core k known name d e) q.1))
+      let q = and_parts (d.type == t) (have_types k scope (found_fields k (Some (id_of d))) as') h in
+      (d, e, eqb-true d.type t q.0, rest (field_types core d) (subst (λ ts. have_types k scope ts as' ≡ true) (same_fields core k known name d e) q.1))
 
   mutual
     pub typed : (scope : Scope) (t : ℕ) (a : Argument) → has_type k scope t a ≡ true → IsOfType core scope t a
     typed scope t (Variable x name p) h = binder_typed scope x t h
-    typed scope t (Literal i p) h = eq_of t 0 h
+    typed scope t (Literal i p) h = eqb-true t 0 h
     typed scope t (Constructor name p as') h =
         constructor_typed scope t name p as' (constructor_of core name) refl
         (subst (λ o. (id_has o t && have_types k scope (found_fields k o) as') ≡ true) (same_constructor core k known name) h)
@@ -75,17 +76,17 @@ module _ (core : Core) (k : Known) (known : IsKnown k core.types) where
 
     pub all_typed : (scope : Scope) (ts : List ℕ) (as' : Arguments) → have_types k scope ts as' ≡ true → AreOfTypes core scope ts as'
     all_typed scope [] NoArguments h = tt
-    all_typed scope [] (MoreArguments a as') h = absurd (no_test false refl h)
-    all_typed scope (t ∷ ts) NoArguments h = absurd (no_test false refl h)
+    all_typed scope [] (MoreArguments a as') h = absurd (both_ways false refl h)
+    all_typed scope (t ∷ ts) NoArguments h = absurd (both_ways false refl h)
     all_typed scope (t ∷ ts) (MoreArguments a as') h =
-        let q = both_true (has_type k scope t a) (have_types k scope ts as') h in
+        let q = and_parts (has_type k scope t a) (have_types k scope ts as') h in
         (typed scope t a q.0, all_typed scope ts as' q.1)
 
   pub ends_typed : (f : Function) → core.functions ≡ f ∷ [] → (h : Signature) → h.name ≡ f.name → h.parameters ≡ parameter_types core f → h.given ≡ result_type core f.result → (scope : Scope) (e : Ending) → ends_right k scope h (ending_expression e) ≡ true → EndsWith core scope (result_type core f.result) e
   ends_typed f only h named parameters given scope (Returns a) r = subst (λ t. IsOfType core scope t a) given (typed scope h.given a r)
   ends_typed f only h named parameters given scope (Calls name p as') r =
-      let q = both_true (no_writtens NoWritten && same_name name h.name) (have_types k scope h.parameters as') r in
-      let same : name ≡ f.name = (bytes_eq-Decides name h.name).0 (both_true (no_writtens NoWritten) (same_name name h.name) q.0).1 ∙ named in
+      let q = and_parts (no_writtens NoWritten && same_name name h.name) (have_types k scope h.parameters as') r in
+      let same : name ≡ f.name = (bytes_eq-Decides name h.name).0 (and_parts (no_writtens NoWritten) (same_name name h.name) q.0).1 ∙ named in
       (f, ap (function_of core) same ∙ function_of-only core f only, refl, subst (λ ts. AreOfTypes core scope ts as') parameters (all_typed scope h.parameters as' q.1))
 
   -- ---- terms

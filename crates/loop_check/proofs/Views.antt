@@ -87,10 +87,6 @@ fields_at_past [] c h = refl
 fields_at_past (s ∷ ss) zero h = absurd (omega (arith, h))
 fields_at_past (s ∷ ss) (suc c) h = fields_at_past ss c (omega (arith, h))
 
-pub drop_all : {A : Type 0} (xs : List A) (n : ℕ) → n ≡ length xs → drop n xs ≡ []
-drop_all [] n h = ap (λ k. drop k []) h
-drop_all (x ∷ xs) n h = ap (λ k. drop k (x ∷ xs)) h ∙ drop_all xs (length xs) refl
-
 pub count_patterns : (xs : List Pattern) → pattern_count (patterns xs) ≡ length xs
 count_patterns [] = refl
 count_patterns (x ∷ xs) = next _ _ (count_patterns xs)

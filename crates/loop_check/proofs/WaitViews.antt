@@ -1,5 +1,5 @@
 -- The lists of what waits, as they lie in memory.
-use Rattle.std.proofs.Common.{◌≡◌, ℕ, zero, suc, ◌<◌, ◌≤◌, List, [], ◌∷◌, ◌++◌, map, length, slice_get, slice_set, get_or, Some, None, Vec, Global, refl, ap, arith}
+use Rattle.std.proofs.Common.{◌≡◌, ℕ, zero, suc, ◌<◌, ◌≤◌, List, [], ◌∷◌, ◌++◌, map, length, slice_get, slice_set, get_or, Some, Vec, Global, refl, ap, arith}
 use Rattle.fip_language.specs.Table.{Shape}
 use Rattle.fip_base.specs.TableView.{fields_at}
 use Rattle.loop_check.specs.declared.table.ConstructorId.{ConstructorId}
@@ -45,8 +45,3 @@ pub shape_at : (ss : List Shape) (c : ℕ) → c < length ss → (s : Shape) × 
 shape_at [] c h = absurd (omega (arith, h))
 shape_at (s ∷ ss) zero h = (s, refl, refl)
 shape_at (s ∷ ss) (suc c) h = shape_at ss c (omega (arith, h))
-
-pub no_shape : (ss : List Shape) (c : ℕ) → length ss ≤ c → slice_get ss c ≡ None
-no_shape [] c h = refl
-no_shape (s ∷ ss) zero h = absurd (omega (arith, h))
-no_shape (s ∷ ss) (suc c) h = no_shape ss c (omega (arith, h))

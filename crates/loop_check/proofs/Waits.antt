@@ -1,24 +1,19 @@
 -- While types are marked, each constructor of the table has a marked type, waits for a type that isn't marked, or is still
 -- to be looked at. So at the end no more type can be marked.
-use Rattle.std.proofs.Common.{◌≡◌, ℕ, zero, suc, ◌+◌, ◌-◌, ◌<◌, ◌≤◌, ◌⊎◌, inl, inr, Bool, true, false, ◌&&◌, List, [], ◌∷◌, ◌++◌, length, slice_get, slice_set, Option, Some, None, replicate, refl, ap, sym, subst, ◌∙◌, arith, true≢false, add-one, if◌then◌else◌}
+use Rattle.std.proofs.Common.{◌≡◌, ℕ, zero, suc, ◌+◌, ◌-◌, ◌<◌, ◌≤◌, ◌⊎◌, inl, inr, Bool, true, false, List, [], ◌∷◌, ◌++◌, length, slice_get, slice_set, Option, Some, None, replicate, refl, ap, sym, subst, ◌∙◌, arith, true≢false, add-one, if◌then◌else◌, length-append, ◌&&◌, length-set}
 use Rattle.fip_language.specs.Table.{Shape, Table, shapes, constructors}
 use Rattle.fip_language.specs.Every.{Every, Among}
 use Rattle.loop_check.specs.declared.table.ConstructorId.{ConstructorId}
 use Rattle.loop_check.specs.Marks.{true_of, is_marked, are_marked, unmarked, AreSound}
 use Rattle.loop_check.specs.Waiting.{Progress, starting, list_at, add_at, empty_at, first_unmarked, by_mark, with_mark, with_wait, by_field, by_shape, visit, visits, taken, HaveAll}
 use Rattle.fip_language.proofs.Search.{le_or_less, slice_get_there}
+use Rattle.fip_language.proofs.NoViolation.{some_is}
+use Rattle.fip_language.proofs.Typing.{among_left, among_right}
+use Rattle.fip_language.proofs.Plain.{every_last, every_split}
+use Rattle.std.proofs.lemmas.Bool.{and_parts}
 use Rattle.loop_check.proofs.MarkFacts.{got_set, sound_set, sound_unmarked, has_from, found_constructor, within, IsClosed}
 
 -- ---- lists of what waits
-
-among_front : {A : Type 0} (x y : A) (xs : List A) → Among x xs → Among x (xs ++ y ∷ [])
-among_front x y [] h = absurd h
-among_front x y (z ∷ zs) (inl e) = inl e
-among_front x y (z ∷ zs) (inr h) = inr (among_front x y zs h)
-
-among_last : {A : Type 0} (y : A) (xs : List A) → Among y (xs ++ y ∷ [])
-among_last y [] = inl refl
-among_last y (z ∷ zs) = inr (among_last y zs)
 
 among_split : {A : Type 0} (x y : A) (xs : List A) → Among x (xs ++ y ∷ []) → (x ≡ y) ⊎ Among x xs
 among_split x y [] (inl e) = inl e
@@ -32,14 +27,14 @@ among_split x y (z ∷ zs) (inr h) = later (among_split x y zs h)
 
 stays_waiting : (x id : ConstructorId) (ws : List (List ConstructorId)) (p q : ℕ) → Among x (list_at ws q) → Among x (list_at (add_at ws p id) q)
 stays_waiting x id [] p q h = h
-stays_waiting x id (w ∷ ws) zero zero h = among_front x id w h
+stays_waiting x id (w ∷ ws) zero zero h = among_left x w (id ∷ []) h
 stays_waiting x id (w ∷ ws) zero (suc q) h = h
 stays_waiting x id (w ∷ ws) (suc p) zero h = h
 stays_waiting x id (w ∷ ws) (suc p) (suc q) h = stays_waiting x id ws p q h
 
 comes_waiting : (id : ConstructorId) (ws : List (List ConstructorId)) (p : ℕ) → p < length ws → Among id (list_at (add_at ws p id) p)
 comes_waiting id [] p h = absurd (omega (arith, h))
-comes_waiting id (w ∷ ws) zero h = among_last id w
+comes_waiting id (w ∷ ws) zero h = among_right id w (id ∷ []) (inl refl)
 comes_waiting id (w ∷ ws) (suc p) h = comes_waiting id ws p (omega (arith, h))
 
 length_added : (id : ConstructorId) (ws : List (List ConstructorId)) (p : ℕ) → length (add_at ws p id) ≡ length ws
@@ -149,9 +144,6 @@ goes_none tb g id rest none w =
     some_none : (o : Option Shape) (s : Shape) → o ≡ None → o ≡ Some s → ⊥
     some_none o s e f = cc
 
-same_shape : (o : Option Shape) (s r : Shape) → o ≡ Some s → o ≡ Some r → s ≡ r
-same_shape o s r e f = cc
-
 keeps_wait : (g : Progress) (p : ℕ) (id x : ConstructorId) (ts : List ℕ) → Waits g ts x → Waits (with_wait g p id) ts x
 keeps_wait g p id x ts (u, a, w, m) = (u, a, by w, m)
   where
@@ -180,7 +172,7 @@ goes_wait tb g id rest s u there among free w =
   where
     waits_now : (t c : ℕ) (r : Shape) → slice_get (shapes tb t) c ≡ Some r → id_of t c ≡ id → Held (with_wait g u id) rest t c r
     waits_now t c r e same =
-        inr (inl (u, subst (λ (q : Shape). Among (suc u) q.fields) (same_shape (slice_get (shapes tb t) c) s r (sym (shape_named tb t c id same) ∙ there) e) among, stands_waiting g.waiting u (id_of t c) id same (le_or_less (length g.waiting) u), inl free))
+        inr (inl (u, subst (λ (q : Shape). Among (suc u) q.fields) (some_is (slice_get (shapes tb t) c) s r (sym (shape_named tb t c id same) ∙ there) e) among, stands_waiting g.waiting u (id_of t c) id same (le_or_less (length g.waiting) u), inl free))
 
 -- ---- a type is marked
 
@@ -196,15 +188,6 @@ new_mark [] p h = absurd (omega (arith, h))
 new_mark (b ∷ bs) zero h = refl
 new_mark (b ∷ bs) (suc p) h = new_mark bs p (omega (arith, h))
 
-length_marked : (marks : List Bool) (p : ℕ) → length (slice_set marks p true) ≡ length marks
-length_marked [] p = refl
-length_marked (b ∷ bs) zero = refl
-length_marked (b ∷ bs) (suc p) = ap suc (length_marked bs p)
-
-every_last : (P : ℕ → Type 0) (xs : List ℕ) (x : ℕ) → Every P xs → P x → Every P (xs ++ x ∷ [])
-every_last P [] x h p = (p, tt)
-every_last P (y ∷ ys) x h p = (h.0, every_last P ys x h.1 p)
-
 abbrev marked_at : Progress → ℕ → Progress
 marked_at g p = record { marks = slice_set g.marks p true; waiting = g.waiting; todo = g.todo ++ p ∷ [] }
 
@@ -213,12 +196,12 @@ free_by false marks todo p u e free = inl e
 free_by true marks todo p u e free = by (got_set marks p u e)
   where
     by : (u ≡ p) ⊎ (true_of (slice_get marks u) ≡ true) → (true_of (slice_get (slice_set marks p true) u) ≡ false) ⊎ Among u (todo ++ p ∷ [])
-    by (inl q) = inr (subst (λ x. Among x (todo ++ p ∷ [])) (sym q) (among_last p todo))
+    by (inl q) = inr (subst (λ x. Among x (todo ++ p ∷ [])) (sym q) (among_right p todo (p ∷ []) (inl refl)))
     by (inr m) = absurd (true≢false (sym m ∙ free))
 
 mark_keeps_wait : (g : Progress) (p : ℕ) (x : ConstructorId) (ts : List ℕ) → Waits g ts x → Waits (marked_at g p) ts x
 mark_keeps_wait g p x ts (u, a, w, inl free) = (u, a, w, free_by (true_of (slice_get (slice_set g.marks p true) u)) g.marks g.todo p u refl free)
-mark_keeps_wait g p x ts (u, a, w, inr h) = (u, a, w, inr (among_front u p g.todo h))
+mark_keeps_wait g p x ts (u, a, w, inr h) = (u, a, w, inr (among_left u g.todo (p ∷ []) h))
 
 mark_keeps_held : (g : Progress) (p : ℕ) (rest : List ConstructorId) (t c : ℕ) (s : Shape) → Held g rest t c s → Held (marked_at g p) rest t c s
 mark_keeps_held g p rest t c s (inl m) = inl (kept_mark g.marks p t m)
@@ -248,7 +231,7 @@ mark_by (Some false) tb g id rest s p is ty there all w =
     let n = within tb p id.number s there in
     let m = w.marks in
     record {
-      marks = length_marked g.marks p ∙ w.marks;
+      marks = length-set g.marks p true ∙ w.marks;
       waiting = w.waiting;
       sound = sound_set tb g.marks p (has_from g.marks (shapes tb p) id.number s there all) w.sound;
       within = every_last (λ t. t < length tb) g.todo p w.within n;
@@ -282,10 +265,6 @@ goes_all tb [] g w = w
 goes_all tb (i ∷ is) g w = goes_all tb is (visit tb g i) (shape_by (slice_get (constructors tb i.ty) i.number) tb g i is refl w)
 
 -- ---- the next marked type
-
-every_front : (P : ℕ → Type 0) (xs : List ℕ) (x : ℕ) → Every P (xs ++ x ∷ []) → Every P xs × P x
-every_front P [] x h = (tt, h.0)
-every_front P (y ∷ ys) x h = let r = every_front P ys x h.1 in ((h.0, r.0), r.1)
 
 abbrev before : List Bool → List (List ConstructorId) → List ℕ → ℕ → Progress
 before marks ws todo t = record { marks = marks; waiting = ws; todo = todo ++ t ∷ [] }
@@ -326,7 +305,7 @@ goes_next tb marks ws todo t w =
     }
   where
     s : Every (λ n. n < length tb) todo × (t < length tb)
-    s = every_front (λ n. n < length tb) todo t w.within
+    s = let r = every_split (λ n. n < length tb) todo (t ∷ []) w.within in (r.0, r.1.0)
 
     lt : t < length ws
     lt = let n = w.waiting in let m = s.1 in omega (arith, n, m)
@@ -344,16 +323,8 @@ goes_next tb marks ws todo t w =
 
 marked_among : (marks : List Bool) (ts : List ℕ) (u : ℕ) → are_marked marks ts ≡ true → Among (suc u) ts → true_of (slice_get marks u) ≡ true
 marked_among marks [] u h a = absurd a
-marked_among marks (t ∷ ts) u h (inl e) = ap (is_marked marks) e ∙ first_true (is_marked marks t) (are_marked marks ts) h
-  where
-    first_true : (b c : Bool) → (b && c) ≡ true → b ≡ true
-    first_true true c h = refl
-    first_true false c h = h
-marked_among marks (t ∷ ts) u h (inr a) = marked_among marks ts u (rest_true (is_marked marks t) (are_marked marks ts) h) a
-  where
-    rest_true : (b c : Bool) → (b && c) ≡ true → c ≡ true
-    rest_true true c h = h
-    rest_true false c h = absurd (true≢false (sym h))
+marked_among marks (t ∷ ts) u h (inl e) = ap (is_marked marks) e ∙ (and_parts (is_marked marks t) (are_marked marks ts) h).0
+marked_among marks (t ∷ ts) u h (inr a) = marked_among marks ts u (and_parts (is_marked marks t) (are_marked marks ts) h).1 a
 
 pub goes_closed : (tb : Table) (g : Progress) → g.todo ≡ [] → IsGoing tb g [] → IsClosed tb g.marks
 goes_closed tb g none w t lt h = subst (λ n. is_marked g.marks n ≡ true) (sym (add-one t)) (by (w.held t k.0 k.1 k.2))
@@ -382,14 +353,10 @@ one_marked (false ∷ bs) zero e = omega arith
 one_marked (true ∷ bs) (suc t) e = let r = one_marked bs t e in omega (arith, r)
 one_marked (false ∷ bs) (suc t) e = let r = one_marked bs t e in omega (arith, r)
 
-length_last : (xs : List ℕ) (x : ℕ) → length (xs ++ x ∷ []) ≡ length xs + 1
-length_last [] x = refl
-length_last (y ∷ ys) x = let r = length_last ys x in omega (arith, r)
-
 left_mark : (o : Option Bool) (g : Progress) (t : ℕ) → slice_get g.marks t ≡ o → left (by_mark g t o) ≡ left g
 left_mark None g t e = refl
 left_mark (Some true) g t e = refl
-left_mark (Some false) g t e = let m = one_marked g.marks t e in let n = length_last g.todo t in omega (arith, m, n)
+left_mark (Some false) g t e = let m = one_marked g.marks t e in let n = length-append g.todo (t ∷ []) in omega (arith, m, n)
 
 left_field : (o : Option ℕ) (g : Progress) (id : ConstructorId) → left (by_field g id o) ≡ left g
 left_field None g id = left_mark (slice_get g.marks (id.ty - 1)) g (id.ty - 1) refl
@@ -415,7 +382,7 @@ goes_step tb old new t e f d w =
 pub left_step : (tb : Table) (old new : Progress) (t : ℕ) (ids : List ConstructorId) → new.marks ≡ old.marks → old.todo ≡ new.todo ++ t ∷ [] → left (visits tb (taken new t) ids) < left old
 left_step tb old new t ids e d =
     let v = left_visits tb ids (taken new t) in
-    let n = length_last new.todo t in
+    let n = length-append new.todo (t ∷ []) in
     let m : unmarked new.marks ≡ unmarked old.marks = ap unmarked e in
     let l : length old.todo ≡ length (new.todo ++ t ∷ []) = ap length d in
     omega (arith, v, n, m, l)

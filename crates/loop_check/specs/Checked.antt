@@ -6,6 +6,7 @@ use Rattle.fip_language.specs.Table.{HaveTypes}
 use Rattle.fip_language.specs.Core.{Core, Function}
 use Rattle.fip_language.specs.Declarations.{table_of}
 use Rattle.fip_language.specs.SoundTable.{IsSoundTable, AreTypes}
+use Rattle.fip_language.specs.UpperNames.{HaveUpperNames}
 use Rattle.fip_language.specs.Statics.{NoClosed}
 use Rattle.fip_language.specs.Registers.{registers, frame_words}
 use Rattle.fip_language.specs.LoopForm as F
@@ -37,12 +38,13 @@ pub record IsChecked (core : Core) (f : Function) (l : Loop) : Type 0 where
   -- where a call is given, no frame is held beside the function's own
   pub peak : (vs : Values) (n d : ℕ) → HaveTypes l.types l.parameters vs → (M.meaning core f.name NoClosed vs (suc n) d).peak ≡ record { frames = 0; words = frame_words f }
 
--- A loop program that can be run: it is that of a right core program, and fine.
+-- A loop program that can be run: it is that of a right core program, and fine. Where the names of the constructors
+-- begin with upper-case letters, as in each source, its table of types is sound.
 pub record IsReadyToRun (core : Core) (l : Loop) : Type 0 where
   pub function : Function
   pub checked : IsChecked core function l
   pub fine : IsFine l
-  pub sound : IsSoundTable l.types
+  pub sound : HaveUpperNames core.types → IsSoundTable l.types
   pub known : AreTypes l.types l.parameters
 
 -- a right program: its loop program, or none where it has no function

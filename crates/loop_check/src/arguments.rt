@@ -2,6 +2,7 @@
 ghost use Rattle.std.specs.Prelude.{◌≡◌, map, IfOk};
 ghost use Rattle.fip_base.specs.CoreView.{argument, arguments};
 ghost use Rattle.fip_language.specs.Scoped.{LiteralsFit, AllLiteralsFit};
+ghost use Rattle.loop_form.specs.Loop as L;
 ghost use Rattle.loop_form.specs.Meaning.{in_clause};
 ghost use Rattle.loop_form.specs.View.{term_of as term_view, terms_of as terms_view};
 ghost use Rattle.loop_check.specs.Typing as t;
@@ -152,5 +153,3 @@ fn made(ty: u32, constructor: u32, parts: Vec<Term>) -> Term
         }
     }
 }
-
-ghost use Rattle.loop_form.specs.Loop as L;

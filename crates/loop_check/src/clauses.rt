@@ -14,8 +14,8 @@ ghost use Rattle.loop_check.specs.Fitting.{AreFitting};
 
 use crate::arguments::{Scope, has_type, have_types, term_of, terms_of};
 use crate::counts::{
-    cells, cells_in_all, more_registers, occurrences, occurrences_in_all, registers,
-    registers_of_all,
+    MOST_REGISTERS, cells, cells_in_all, more_registers, occurrences, occurrences_in_all,
+    registers, registers_of_all,
 };
 use crate::header::Known;
 use crate::names::NameSet;
@@ -24,6 +24,12 @@ use fip_base::core_form::{Block, Clause, Expression, Pattern, Written};
 use fip_base::plain::NoMemory;
 use loop_form::program::{Ending, LoopClause};
 use std::alloc::Global;
+
+/// The most clauses of a match.
+pub const MOST_CLAUSES: usize = 64;
+
+/// The most nodes of all patterns of a match: their constructors and their binders.
+pub const MOST_NODES: usize = 256;
 
 /// What the clauses of a loop are checked against.
 #[derive(Clone, Copy)]
@@ -233,7 +239,7 @@ fn fits(first: usize, count: usize) -> bool
     ensures fits { result ≡ nat_le (first + count) 4096 }
     ensures bound { result ≡ true → first + count ≤ 4096 }
 {
-    count <= 4096 - first
+    count <= MOST_REGISTERS - first
 }
 
 // Whether an ending has a right type, uses each variable once, and makes the cell that the pattern gives.
@@ -357,7 +363,12 @@ fn number_of(id: Option<ConstructorId>) -> u32
 
 // A right clause with numbers for its names. Another one may give any clause.
 #[tactic(auto, using(crate::proofs::Views::count_patterns))]
-fn lower(alloc: Global, known: &Known<'_>, first: usize, c: &Clause) -> Result<LoopClause, NoMemory>
+fn resolved_clause(
+    alloc: Global,
+    known: &Known<'_>,
+    first: usize,
+    c: &Clause,
+) -> Result<LoopClause, NoMemory>
     requires { first + s.arity (s.case_parts (clause c.now)) ≤ 4096 }
     ensures clause { IfOk result (λ l. clause_view l ≡ s.numbered_parts known.now first (s.case_parts (clause c.now))) }
     ensures literals { IfOk result (λ l. CaseLiteralsFit (clause c.now)) }
@@ -380,7 +391,7 @@ fn lower(alloc: Global, known: &Known<'_>, first: usize, c: &Clause) -> Result<L
 
 /// The clauses with numbers for names, and the first number behind the last one's binders; none where a clause breaks a
 /// rule.
-pub fn lower_all(
+pub fn resolved_clauses(
     alloc: Global,
     known: &Known<'_>,
     head: &Head<'_>,
@@ -394,16 +405,16 @@ pub fn lower_all(
     ensures literals { IfOk result (λ o. IfSome o (λ r. Every CaseLiteralsFit (map clause cs.now))) }
     ensures bound { IfOk result (λ o. IfSome o (λ r. r.1 ≤ 4096)) }
 {
-    let mut lowered = Vec::new(alloc);
+    let mut resolved = Vec::new(alloc);
     let mut next = first;
     for c in cs {
         if !is_right(alloc, known, head, next, c)? {
             return Ok(None);
         }
-        lowered.push(lower(alloc, known, next, c)?)?;
+        resolved.push(resolved_clause(alloc, known, next, c)?)?;
         next += arity(c);
     }
-    Ok(Some((lowered, next)))
+    Ok(Some((resolved, next)))
 }
 
 // The registers of a clause and those that were found before, up to 4,097.
@@ -457,19 +468,19 @@ pub fn are_covered(clauses: &[LoopClause], count: usize) -> bool
 /// The clauses of a loop with numbers for names, the first number behind their binders, and the registers of the whole
 /// function.
 #[derive(Drop)]
-pub struct Lowered {
+pub struct Resolved {
     pub clauses: Vec<LoopClause>,
     pub binders: usize,
     pub registers: usize,
 }
 
 /// The clauses of a loop with numbers for names; none where they break a rule.
-pub fn lower_checked(
+pub fn checked_clauses(
     alloc: Global,
     known: &Known<'_>,
     head: &Head<'_>,
     cs: &[Clause],
-) -> Result<Option<Lowered>, NoMemory>
+) -> Result<Option<Resolved>, NoMemory>
     requires { length head.now.parameters.now ≤ 4096 }
     ensures right { IfOk result (λ o. IfSome o (λ r. s.right_clauses known.now (s.signature head.now) (length head.now.parameters.now) (map clause cs.now) ≡ Some r.binders)) }
     ensures numbered { IfOk result (λ o. IfSome o (λ r. map clause_view r.clauses.items ≡ s.numbered_clauses known.now (length head.now.parameters.now) (map clause cs.now))) }
@@ -483,19 +494,19 @@ pub fn lower_checked(
     ensures refused { IfOk result (λ o. o ≡ None → (n : ℕ) → AreFitting known.now head.now.name.now head.now.parameters.now head.now.given (record { scrutinee = head.now.scrutinee; cases = map clause cs.now }) head.now.ty n → ⊥) }
 {
     let count = head.parameters.len();
-    if cs.len() > 64 {
+    if cs.len() > MOST_CLAUSES {
         return Ok(None);
     }
-    match lower_all(alloc, known, head, count, cs)? {
+    match resolved_clauses(alloc, known, head, count, cs)? {
         Some((clauses, binders)) => {
             let registers = all_registers(count, cs);
-            if registers > 4096 || !have_few_nodes(cs.len(), count, binders) {
+            if registers > MOST_REGISTERS || !have_few_nodes(cs.len(), count, binders) {
                 return Ok(None);
             }
             if !are_covered(clauses.as_slice(), known.count(head.ty)) {
                 return Ok(None);
             }
-            Ok(Some(Lowered {
+            Ok(Some(Resolved {
                 clauses,
                 binders,
                 registers,
@@ -505,10 +516,10 @@ pub fn lower_checked(
     }
 }
 
-// Whether so many constructors and the binders between two numbers are at most 256.
+// Whether so many constructors and the binders between two numbers are few enough.
 fn have_few_nodes(clauses: usize, first: usize, next: usize) -> bool
     requires { clauses ≤ 64 }
     ensures { IsTrue result ↔ (clauses + (next - first) ≤ 256) }
 {
-    next <= first || next - first <= 256 - clauses
+    next <= first || next - first <= MOST_NODES - clauses
 }

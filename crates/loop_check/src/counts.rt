@@ -43,8 +43,8 @@ pub fn more_registers(found: usize, more: usize) -> usize
     requires { found ≤ 4097 }
     ensures { result ≡ min 4097 (found + more) }
 {
-    if more > 4097 - found {
-        4097
+    if more > MOST_REGISTERS + 1 - found {
+        MOST_REGISTERS + 1
     } else {
         found + more
     }

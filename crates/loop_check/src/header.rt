@@ -14,6 +14,9 @@ use fip_base::plain::{FunKind, NoMemory, Types};
 use fip_base::table::TypeTable;
 use std::alloc::Global;
 
+/// The most constructors of a type that isn't scalar.
+pub const MOST_CONSTRUCTORS: usize = 65535;
+
 /// The declarations of a program.
 #[derive(Drop)]
 pub struct Known<'a> {
@@ -45,8 +48,8 @@ impl<'a> Known<'a> {
         }
     }
 
-    #[tactic(auto, using(crate::proofs::Views::fields_at_past))]
     /// The types of a constructor's fields; none where there is no such constructor.
+    #[tactic(auto, using(crate::proofs::Views::fields_at_past))]
     pub fn fields(&self, id: ConstructorId) -> &[u32]
         ensures { result.now ≡ k.id_fields self.now id }
     {
@@ -57,8 +60,8 @@ impl<'a> Known<'a> {
         }
     }
 
-    #[tactic(auto, using(crate::proofs::Views::constructors_past))]
     /// How many constructors a type has; none where there is no such type.
+    #[tactic(auto, using(crate::proofs::Views::constructors_past))]
     pub fn count(&self, ty: u32) -> usize
         ensures count { result ≡ length (constructors self.now.table ty) }
         ensures of_table { result ≡ 0 ⊎ ty ≤ length self.now.table }
@@ -86,7 +89,7 @@ impl<'a> Known<'a> {
     pub fn is_narrow(&self, ty: u32) -> bool
         ensures { result ≡ k.is_narrow self.now ty }
     {
-        self.is_scalar(ty) || self.count(ty) <= 65535
+        self.is_scalar(ty) || self.count(ty) <= MOST_CONSTRUCTORS
     }
 
     /// The same of each type of a list.

@@ -9,12 +9,12 @@ ghost use Rattle.fip_language.specs.LoopForm.{IsPlainData};
 ghost use Rattle.fip_language.specs.CoreForm.{core_form};
 ghost use Rattle.fip_language.specs.Right.{AreRightTypes, IsRight};
 ghost use Rattle.fip_language.specs.Surface.{Program};
-ghost use Rattle.fip_language.specs.UpperNames.{HaveUpperNames};
 ghost use Rattle.loop_check.specs.Checked.{IsPassed};
 ghost use Rattle.loop_check.specs.Program as p;
 ghost use Rattle.loop_check.specs.Fitting.{IsFitting, AreFitting};
 
-use crate::clauses::{Head, last_of, lower_checked};
+use crate::clauses::{Head, checked_clauses, last_of};
+use crate::counts::MOST_REGISTERS;
 use crate::header::{Known, are_distinct, at, is_right_header, parameter_numbers, result_number};
 use crate::reached::are_few;
 use crate::table::{
@@ -50,7 +50,7 @@ impl From<NoMemory> for CheckError {
 
 /// Checks a program, and resolves its function; `None` where a right program has no function.
 pub fn check(alloc: Global, program: &Core) -> Result<Option<LoopProgram>, CheckError>
-    ensures passes { IfOk result (λ o. HaveUpperNames (core program.now).types → IsPassed (core program.now) (option_map loop_view o)) }
+    ensures passes { IfOk result (λ o. IsPassed (core program.now) (option_map loop_view o)) }
     ensures refused { result ≡ Err CheckError.Refused → (source : Program) → core program.now ≡ core_form source → IsRight (core program.now) → ⊥ }
 {
     match known_of(alloc, program.types.as_slice())? {
@@ -171,7 +171,7 @@ fn is_right_signature(
 {
     if !is_right_header(&known.types, f)
         || !known.are_narrow(parameters)
-        || parameters.len() > 4096
+        || parameters.len() > MOST_REGISTERS
     {
         return Ok(false);
     }
@@ -241,8 +241,8 @@ fn resolve(
         scrutinee: found.scrutinee,
         ty: found.ty,
     };
-    match lower_checked(alloc, &known, &head, clauses)? {
-        Some(lowered) => {
+    match checked_clauses(alloc, &known, &head, clauses)? {
+        Some(resolved) => {
             let name = f.name.copy(alloc)?;
             Ok(Some(LoopProgram {
                 types: known.table,
@@ -250,9 +250,9 @@ fn resolve(
                 parameters,
                 result: given,
                 scrutinee: found.scrutinee as u32,
-                binders: lowered.binders as u32,
-                clauses: lowered.clauses,
-                registers: lowered.registers as u32,
+                binders: resolved.binders as u32,
+                clauses: resolved.clauses,
+                registers: resolved.registers as u32,
             }))
         }
         None => Ok(None),

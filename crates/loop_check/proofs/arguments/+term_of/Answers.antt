@@ -1,4 +1,4 @@
-use Rattle.std.proofs.Common.{◌≡◌, ◌+◌, sym, ◌∙◌, ap, subst, List, [], ◌∷◌, length, map, drop, arith}
+use Rattle.std.proofs.Common.{◌≡◌, ◌+◌, sym, ◌∙◌, ap, subst, List, [], ◌∷◌, length, map, drop, arith, drop_of_length-le, le_of_eq}
 use Rattle.std.proofs.lemmas.List.{map-append}
 use Rattle.fip_base.specs.CoreView.{arguments}
 use Rattle.fip_base.specs.declared.core_form.Argument.{Argument}
@@ -6,7 +6,7 @@ use Rattle.fip_language.specs.Scoped.{AllLiteralsFit}
 use Rattle.loop_form.specs.View.{term_of}
 use Rattle.loop_form.specs.Loop as L
 use Rattle.loop_check.specs.Typing.{terms_in}
-use Rattle.loop_check.proofs.Views.{onto, onto-push, onto-none, drop_at, drop_all}
+use Rattle.loop_check.proofs.Views.{onto, onto-push, onto-none, drop_at}
 use Rattle.loop_check.proofs.arguments.+term_of.Goals as goal
 
 pub terms_of-loop-a-preserved : goal.terms_of-loop-a-preserved
@@ -27,10 +27,10 @@ pub terms_of-returns-clause-terms : goal.terms_of-returns-clause-terms
 terms_of-returns-clause-terms t c =
     let here : c.loop-a.a-index ≡ length c.args.parts.now = omega arith in
     sym (onto-none (map term_of c.loop-a.terms.items))
-    ∙ ap (λ (xs : List Argument). onto (map term_of c.loop-a.terms.items) (terms_in c.args.known.now (arguments xs))) (sym (drop_all c.args.parts.now c.loop-a.a-index here))
+    ∙ ap (λ (xs : List Argument). onto (map term_of c.loop-a.terms.items) (terms_in c.args.known.now (arguments xs))) (sym (drop_of_length-le c.args.parts.now (le_of_eq (sym here))))
     ∙ c.loop-a.invariant.rest
 
 pub terms_of-returns-clause-literals : goal.terms_of-returns-clause-literals
 terms_of-returns-clause-literals t c =
     let here : c.loop-a.a-index ≡ length c.args.parts.now = omega arith in
-    c.loop-a.invariant.literals (subst (λ (xs : List Argument). AllLiteralsFit (arguments xs)) (sym (drop_all c.args.parts.now c.loop-a.a-index here)) tt)
+    c.loop-a.invariant.literals (subst (λ (xs : List Argument). AllLiteralsFit (arguments xs)) (sym (drop_of_length-le c.args.parts.now (le_of_eq (sym here)))) tt)

@@ -21,7 +21,7 @@ nothing_in [] h = refl
 nothing_in (x ∷ xs) h = absurd (omega (arith, h))
 
 pub returns-in-Some-2-clause-passes : goal.returns-in-Some-2-clause-passes
-returns-in-Some-2-clause-passes c = λ upper.
+returns-in-Some-2-clause-passes c =
     let declared : IsKnown c.in-Some.known (map data_type c.as_slice.result.now) = subst (λ o. IfSome o (λ (k : Known). IsKnown k (map data_type c.as_slice.result.now))) c.in-Some.is c.in_ok-known.ensures.known in
     let one : length c.as_slice-in-Some.result.now ≡ 1 = omega arith in
     let all : PassesAll (core c.args.program.now) (loop_of c.in-Some-2.l) = record {
@@ -31,10 +31,10 @@ returns-in-Some-2-clause-passes c = λ upper.
       one = ap (map function) (sym c.as_slice-in-Some.ensures.value) ∙ ap (map function) (single c.as_slice-in-Some.result.now c.f-item.result one c.f-item.is);
       passes = subst (λ o. IfSome o (λ (l : LoopProgram). Passes c.in-Some.known (function c.f-item.result) (loop_of l))) c.in-Some-2.is c.in_ok-l-in-len1.ensures.passes;
     } in
-    passes_ready (core c.args.program.now) (loop_of c.in-Some-2.l) all upper
+    passes_ready (core c.args.program.now) (loop_of c.in-Some-2.l) all
 
 pub returns-in-empty-clause-passes : goal.returns-in-empty-clause-passes
-returns-in-empty-clause-passes c = λ upper.
+returns-in-empty-clause-passes c =
     let declared : IsKnown c.in-Some.known (map data_type c.as_slice.result.now) = subst (λ o. IfSome o (λ (k : Known). IsKnown k (map data_type c.as_slice.result.now))) c.in-Some.is c.in_ok-known.ensures.known in
     let none : (core c.args.program.now).functions ≡ [] = ap (map function) (sym c.as_slice-in-Some.ensures.value ∙ nothing_in c.as_slice-in-Some.result.now c.in-empty.len_below) in
     (none_right (core c.args.program.now) c.in-Some.known (subst (λ (ds : List Data). IsKnown c.in-Some.known (map data_type ds)) c.as_slice.ensures.value declared) none, none)

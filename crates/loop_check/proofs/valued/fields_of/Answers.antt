@@ -1,7 +1,8 @@
 use Rattle.std.proofs.Common.{◌<◌, length, slice_get, sym, ◌∙◌, ap, subst, arith}
+use Rattle.std.proofs.lemmas.Option.{slice_get_past}
 use Rattle.fip_language.specs.Table.{constructors}
 use Rattle.loop_check.proofs.Views.{constructors_past}
-use Rattle.loop_check.proofs.WaitViews.{shape_at, no_shape}
+use Rattle.loop_check.proofs.WaitViews.{shape_at}
 use Rattle.loop_check.proofs.valued.fields_of.Goals as goal
 
 pub returns-then-id-eq0-clause-fields : goal.returns-then-id-eq0-clause-fields
@@ -24,4 +25,4 @@ pub returns-else-id-constructors_of-clause-fields : goal.returns-else-id-constru
 returns-else-id-constructors_of-clause-fields c =
     let n = ap length c.constructors_of.ensures.same in
     let b = c.if-id-constructors_of.false in
-    no_shape (constructors c.args.table.now c.args.id.ty) c.args.id.number (omega (arith, n, b))
+    slice_get_past (constructors c.args.table.now c.args.id.ty) c.args.id.number (omega (arith, n, b))

@@ -4,7 +4,7 @@ use Rattle.loop_check.specs.Clauses.{numbered_clauses}
 use Rattle.loop_form.specs.Loop as L
 use Rattle.loop_form.specs.View.{clause_of}
 use Rattle.loop_form.specs.declared.program.LoopClause.{LoopClause}
-use Rattle.loop_check.proofs.clauses.lower_checked.Goals as goal
+use Rattle.loop_check.proofs.clauses.checked_clauses.Goals as goal
 
 pub returns-else-not-are_covered-clause-covered : goal.returns-else-not-are_covered-clause-covered
 returns-else-not-are_covered-clause-covered c = λ n h.

@@ -190,58 +190,43 @@ impl Engine {
     {
         match instruction {
             Instr::Const { destination, value } => {
-                self.write(*destination, value.cast_unsigned());
-                Stepped::Went
+                self.write(*destination, value.cast_unsigned())
             }
             Instr::Atom {
                 destination,
                 constructor,
                 ..
-            } => {
-                self.write(*destination, 2 * (*constructor as u64));
-                Stepped::Went
-            }
+            } => self.write(*destination, 2 * (*constructor as u64)),
             Instr::Move {
                 destination,
                 source,
-            } => {
-                self.move_word(*destination, *source);
-                Stepped::Went
-            }
+            } => self.move_word(*destination, *source),
             Instr::Test {
                 register,
                 constructor,
                 target,
-            } => {
-                self.test(*register, *constructor, *target);
-                Stepped::Went
-            }
-            Instr::Take { register, fields } => {
-                self.take(*register, fields.as_slice());
-                Stepped::Went
-            }
+            } => self.test(*register, *constructor, *target),
+            Instr::Take { register, fields } => self.take(*register, fields.as_slice()),
             Instr::Put {
                 register,
                 constructor,
                 fields,
                 ..
-            } => {
-                self.put(*register, *constructor, fields.as_slice());
-                Stepped::Went
-            }
+            } => self.put(*register, *constructor, fields.as_slice()),
             Instr::Tail {
                 function,
                 arguments,
             } => {
                 let callee = &code.functions[*function as usize];
                 self.enter(*function, callee, arguments.as_slice());
-                Stepped::Entered
+                return Stepped::Entered;
             }
             Instr::Ret { results } => {
                 self.give(results.as_slice());
-                Stepped::Value
+                return Stepped::Value;
             }
         }
+        Stepped::Went
     }
 
     /// Does the instruction that is next. Once the run is over, it answers the same again and changes nothing.

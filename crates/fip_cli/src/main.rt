@@ -1,10 +1,9 @@
 // The program, over the real streams and files.
 #![tactic(auto)]
 
-use fip_base::all::write_all;
 use fip_base::plain::NoMemory;
 use fip_base::real::{FileFolder, StdSink, StdSource};
-use fip_driver::fp2;
+use fip_driver::{fp2, tell_no_memory};
 use std::env;
 use std::io::ErrorKind;
 use std::process::ExitCode;
@@ -31,14 +30,7 @@ fn main(rt: HostRuntime) -> ExitCode {
     let mut err = StdSink::new(rt.stderr());
     let words = match words_of(&rt) {
         Ok(words) => words,
-        Err(NoMemory) => {
-            // What becomes of the text changes nothing.
-            match write_all(&mut err, b"out of memory\n") {
-                Ok(()) => {}
-                Err(_) => {}
-            }
-            return ExitCode::from(10);
-        }
+        Err(NoMemory) => return ExitCode::from(tell_no_memory(&mut err).0),
     };
     let mut folder = FileFolder::new(rt.alloc(), &rt);
     let mut input = StdSource::new(rt.stdin());

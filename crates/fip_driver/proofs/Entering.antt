@@ -1,29 +1,22 @@
 -- The entry of a checked program.
-use Rattle.std.proofs.Common.{◌≡◌, ◌∙◌, ℕ, List, [], ◌∷◌, sym, ap, subst, refl}
-use Rattle.std.specs.Prelude.{Option, Some, None, Bool, true, false, bytes_eq, if◌then◌else◌}
-use Rattle.std.proofs.lemmas.Slice.Eq.{bytes_eq-Decides}
+use Rattle.std.proofs.Common.{◌≡◌, ◌∙◌, ℕ, List, [], ◌∷◌, sym, ap, refl}
+use Rattle.std.specs.Prelude.{Some, None, if◌then◌else◌}
 use Rattle.fip_language.specs.Core.{Core, Function}
-use Rattle.fip_language.specs.Declarations.{function_of, function_in, same_name}
+use Rattle.fip_language.specs.Declarations.{function_in}
 use Rattle.fip_language.specs.Answer.{NoEntry}
 use Rattle.fip_base.specs.Refusal.{refusal_text}
+use Rattle.fip_base.proofs.Stored.{bytes_eq-other}
 use Rattle.fip_base.specs.declared.refusal.Refusal.{Refusal}
 use Rattle.loop_form.specs.Loop.{Loop}
 use Rattle.fip_driver.specs.Reply.{err_text}
 use Rattle.fip_driver.specs.Fetched.{unknown_entry}
-use Rattle.loop_check.specs.Checked.{IsChecked, IsReadyToRun, IsPassed}
+use Rattle.loop_check.specs.Checked.{IsPassed}
 use Rattle.fip_driver.specs.Fronted.{HasEntry, EntryFails}
-use Rattle.fip_driver.specs.declared.failure.Failure.{Failure}
 use Rattle.fip_driver.specs.declared.failure.Failure.TheVariants as F
-
-other_name : (a b : List ℕ) → (b ≡ a → ⊥) → bytes_eq a b ≡ false
-other_name a b differ =
-    let P : Bool → Type 0 = λ v. bytes_eq a b ≡ v → v ≡ false in
-    let cases : P (bytes_eq a b) = elim (bytes_eq a b) as P [ true ↦ λ e. absurd (differ (sym ((bytes_eq-Decides a b).0 e))) | false ↦ λ e. refl ] in
-    cases refl
 
 -- no function of one has another name than its own
 not_found : (entry : List ℕ) (f : Function) → (f.name ≡ entry → ⊥) → function_in entry (f ∷ []) ≡ None
-not_found entry f differ = ap (λ b. if b then Some f else None) (other_name entry f.name differ)
+not_found entry f differ = ap (λ b. if b then Some f else None) (bytes_eq-other entry f.name differ)
 
 entry_text : (entry : List ℕ) → refusal_text (unknown_entry entry) ≡ err_text (NoEntry entry)
 entry_text entry = refl

@@ -1,6 +1,6 @@
 -- From what a part of the program answered to the reply of the whole.
-use Rattle.std.proofs.Common.{◌≡◌, ◌∙◌, ◌<◌, ◌≤◌, ◌+◌, ℕ, List, [], ◌++◌, sym, ap, subst, refl, inl, inr, length, arith}
-use Rattle.std.specs.Prelude.{◌⊎◌, Option, Some, None, Result, Ok, Err, Bool, IsSomeAnd}
+use Rattle.std.proofs.Common.{◌≡◌, ◌∙◌, ◌<◌, ◌≤◌, ◌+◌, ℕ, List, [], sym, ap, subst, refl, inl, inr, length, arith}
+use Rattle.std.specs.Prelude.{Option, Some, None, Result, Ok, Err, Bool, IsSomeAnd}
 use Rattle.std.specs.declared.vec.Vec.{Vec}
 use Rattle.std.specs.declared.alloc.Global.{Global}
 use Rattle.fip_language.specs.declared.Place.{Place}
@@ -10,18 +10,18 @@ use Rattle.fip_language.specs.Answer as A
 use Rattle.fip_language.specs.Answer.{Reply, NoFile, SourceTooLong, Misspelt, NotRight, NoEntry, Execs, AnswersFile, Answers, Runs, Enters, Reads, status}
 use Rattle.fip_language.specs.Right.{IsRight}
 use Rattle.fip_base.specs.Faults.{Rose}
-use Rattle.fip_base.specs.Files.{File, file_of, HoldsFile, HoldsLonger, IsMissing}
+use Rattle.fip_base.specs.Files.{File, file_of}
 use Rattle.fip_base.specs.Refusal.{refusal_text}
 use Rattle.fip_base.specs.declared.refusal.Refusal.{Refusal}
 use Rattle.fip_driver.specs.Words.{Request, IsRequest}
 use Rattle.fip_driver.specs.Reply.{out_text, err_text}
 use Rattle.fip_driver.specs.Texts.{bad_input_text}
-use Rattle.fip_driver.specs.Explained.{FailsAs, PrintsAs, Fails, FaultBy, ExplainedBy}
+use Rattle.fip_driver.specs.Explained.{FailsAs, Fails, ExplainedBy}
 use Rattle.fip_base.specs.Takes.{Takes}
 use Rattle.std.proofs.lemmas.List.{length-append}
 use Rattle.fip_driver.specs.Fronted.{SpellingFails, CheckFails, EntryFails}
 use Rattle.fip_driver.specs.Fetched.{FetchFails, ReadFails, too_long}
-use Rattle.fip_driver.specs.Answered.{Spelling, Replies, IsNoCommand, HasFailed, FaultExplained, Explained, plain_request}
+use Rattle.fip_driver.specs.Answered.{Spelling, Replies, ComesToInput, Explained, plain_request}
 use Rattle.fip_driver.specs.declared.failure.Failure.{Failure}
 use Rattle.fip_driver.specs.declared.failure.Failure.TheVariants as F
 use Rattle.fip_driver.specs.declared.failure.Object.TheVariants as O
@@ -40,8 +40,22 @@ explained_up Is More gauge rose up (Err (F.Fault O.Out)) h = h
 explained_up Is More gauge rose up (Err (F.Fault O.Err)) h = h
 explained_up Is More gauge rose up (Err F.NoMemory) h = tt
 
+-- what is known of a fault may be said of it
+pub explained_fault : (Is : Reply → Type 0) (gauge : Bool) (rose more : Type 0) → (rose → more) → (o : Result (Vec ℕ Global) Failure) → ExplainedBy Is gauge rose o → ExplainedBy Is gauge more o
+explained_fault Is gauge rose more up (Ok text) h = h
+explained_fault Is gauge rose more up (Err F.NotUnderstood) h = h
+explained_fault Is gauge rose more up (Err (F.Refused r)) h = h
+explained_fault Is gauge rose more up (Err (F.BadInput at)) h = h
+explained_fault Is gauge rose more up (Err (F.TooSmall needed given)) h = h
+explained_fault Is gauge rose more up (Err (F.OutOfCalls given)) h = h
+explained_fault Is gauge rose more up (Err (F.Fault O.Folder)) h = h
+explained_fault Is gauge rose more up (Err (F.Fault O.Input)) h = up h
+explained_fault Is gauge rose more up (Err (F.Fault O.Out)) h = h
+explained_fault Is gauge rose more up (Err (F.Fault O.Err)) h = h
+explained_fault Is gauge rose more up (Err F.NoMemory) h = tt
+
 -- where the words are understood, the replies explain the whole outcome
-pub explained : (spelling : Spelling) (words : List (List ℕ)) (files : List File) (input : List ℕ) (folder_rose rose : Type 0) (r : Request) (o : Result (Vec ℕ Global) Failure) → ExplainedBy (Replies spelling words files input r) r.gauge rose o → Explained spelling words files input folder_rose rose o
+pub explained : (spelling : Spelling) (words : List (List ℕ)) (files : List File) (input : List ℕ) (folder_rose rose : Type 0) (r : Request) (o : Result (Vec ℕ Global) Failure) → ExplainedBy (Replies spelling words files input r) r.gauge (rose × ComesToInput spelling words files) o → Explained spelling words files input folder_rose rose o
 explained spelling words files input fr rose r (Ok text) h = (r, h.0, h.1, h.2)
 explained spelling words files input fr rose r (Err F.NotUnderstood) h = absurd h
 explained spelling words files input fr rose r (Err (F.Refused x)) h = (r, h.0, h.1, h.2)
@@ -76,7 +90,7 @@ fetch_explained spelling words files input rose before now r (F.BadInput at) ask
 fetch_explained spelling words files input rose before now r (F.TooSmall needed given) asked h = absurd h
 fetch_explained spelling words files input rose before now r (F.OutOfCalls given) asked h = absurd h
 fetch_explained spelling words files input rose before now r (F.Fault O.Folder) asked h = elim h.1 [
-  | inl up ↦ inl up
+  | inl up ↦ inl (up, (r, asked))
   | inr gone ↦ inr (r, NoFile, record { asked = asked; execs = missing_file spelling (plain_request r) (file_of r.file files) input gone }, record { same_status = refl; same_text = refl; silent = refl })
 ]
 fetch_explained spelling words files input rose before now r (F.Fault O.Input) asked h = cc

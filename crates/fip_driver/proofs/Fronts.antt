@@ -1,6 +1,6 @@
 -- From the parts of a source's front, the parser, the core form and the check, to what can come of the source.
-use Rattle.std.proofs.Common.{◌≡◌, ◌∙◌, ℕ, List, [], ◌∷◌, sym, ap, subst, refl, inl, inr}
-use Rattle.std.specs.Prelude.{◌⊎◌, Option, Some, None, Result, Ok, Err, codes, ◌++◌, option_map}
+use Rattle.std.proofs.Common.{◌≡◌, ◌∙◌, ℕ, List, sym, ap, subst, refl, inl, inr}
+use Rattle.std.specs.Prelude.{◌⊎◌, Option, Some, None, codes, ◌++◌, option_map}
 use Rattle.std.specs.Fmt.{digits, decimal}
 use Rattle.fip_language.specs.declared.Place.{Place}
 use Rattle.fip_language.specs.Core.{Core}
@@ -13,17 +13,17 @@ use Rattle.fip_language.specs.UpperNames.{HaveUpperNames}
 use Rattle.fip_base.specs.Refusal.{refusal_text, place_text}
 use Rattle.fip_driver.specs.Texts.{line_end}
 use Rattle.fip_base.specs.declared.refusal.Refusal.{Refusal}
-use Rattle.fip_grammar.specs.Limits.{IsSpelt, IsMisspelt, IsLeastBroken}
+use Rattle.fip_grammar.specs.Limits.{IsSpelt, IsMisspelt}
 use Rattle.fip_grammar.proofs.UpperNames.{spelt_upper_names}
 use Rattle.fip_parser.specs.Parsed.{syntax_refusal}
 use Rattle.loop_form.specs.Loop.{Loop}
 use Rattle.loop_form.specs.View.{loop_of}
 use Rattle.loop_form.specs.declared.program.LoopProgram.{LoopProgram}
 use Rattle.loop_form.specs.Fine.{IsFine}
-use Rattle.loop_check.specs.Checked.{IsReadyToRun, IsPassed}
+use Rattle.loop_check.specs.Checked.{IsPassed}
 use Rattle.fip_driver.specs.Reply.{err_text}
-use Rattle.fip_driver.specs.Answered.{Spelling, source_spelling}
-use Rattle.fip_driver.specs.Fronted.{SpellingFails, CheckFails, EntryFails, HasEntry, FrontFails, IsFront}
+use Rattle.fip_driver.specs.Answered.{source_spelling}
+use Rattle.fip_driver.specs.Fronted.{SpellingFails, CheckFails, FrontFails, IsFront}
 use Rattle.fip_driver.specs.Fetched.{no_right_program, unknown_entry}
 use Rattle.fip_driver.specs.declared.failure.Failure.{Failure}
 use Rattle.fip_driver.specs.declared.failure.Failure.TheVariants as F
@@ -90,9 +90,6 @@ core_spelt source p c h e = (p, h, e)
 upper : (source : List ℕ) (c : Core) → source_spelling.spells source c → HaveUpperNames c.types
 upper source c h = subst (λ x. HaveUpperNames x.types) (sym h.2) (spelt_upper_names source h.0 h.1)
 
-pub passed : (source : List ℕ) (c : Core) (o : Option Loop) → source_spelling.spells source c → (HaveUpperNames c.types → IsPassed c o) → IsPassed c o
-passed source c o h f = f (upper source c h)
-
 pub passed_some : (c : Core) (o : Option LoopProgram) (l : LoopProgram) → o ≡ Some l → IsPassed c (option_map loop_of o) → IsPassed c (Some (loop_of l))
 passed_some c o l e h = subst (λ o. IsPassed c (option_map loop_of o)) e h
 
@@ -123,7 +120,7 @@ pub front_fine : (source entry : List ℕ) (l : Loop) → IsFront source_spellin
 front_fine source entry l h = h.2.ready.fine
 
 pub front_sound : (source entry : List ℕ) (l : Loop) → IsFront source_spelling source entry l → IsSoundTable l.types
-front_sound source entry l h = h.2.ready.sound
+front_sound source entry l h = h.2.ready.sound (upper source h.0 h.1)
 
 pub front_known : (source entry : List ℕ) (l : Loop) → IsFront source_spelling source entry l → AreTypes l.types l.parameters
 front_known source entry l h = h.2.ready.known

@@ -1,8 +1,6 @@
 mod OptionValues
-mod Prefixes
 mod WholeAnswer
 mod Explaining
-mod SpelledTypes
 mod Running
 mod Entering
 mod Lines
@@ -11,3 +9,5 @@ mod Outcome
 mod Finished
 mod Outcomes
 mod Fronts
+mod Unread
+mod OneAnswer

@@ -1,5 +1,6 @@
 -- What is read of an option.
 use Rattle.std.proofs.Common.{arith, ◌≡◌, ◌≤◌, ◌≢◌, ◌∙◌, ◌<◌, ◌^◌, ℕ, List, sym, ap, subst, refl}
+use Rattle.std.proofs.lemmas.Option.{same_Some, none-some}
 use Rattle.std.specs.Prelude.{Result, Option, Some, None, IfSome, IsNone, Bool, true, false, codes}
 use Rattle.std.specs.Str.Parse.{ParsesUnsigned, ExplainsUnsignedError, HasUnsignedDigitsIfOk, ParsesBool, IsNumeral, digits_value, without_leading_plus}
 use Rattle.std.specs.declared.num.ParseIntError.{ParseIntError}
@@ -10,24 +11,18 @@ use Rattle.fip_driver.specs.Words.{IsNumberIn, flag_text}
 abbrev pub Gives : List ℕ → Result ℕ ParseIntError → Type 0
 Gives bs r = ParsesUnsigned 64 10 bs r × ExplainsUnsignedError 10 bs r × HasUnsignedDigitsIfOk bs r
 
-some_same : {A : Type 0} → (a b : A) → Some a ≡ Some b → a ≡ b
-some_same a b e = cc
-
-none_some : {A B : Type 0} → (a : A) → None ≡ Some a → B
-none_some a e = cc
-
 -- the number that was read, where it isn't too great
 pub number_read : (id : Text) (rows : List Row) (one : Option Text) (most n : ℕ) → one ≡ one_of id rows → (one ≡ None → Some n ≡ None) → ((t : List ℕ) → one ≡ Some t → ReadsOne Gives t (Some n)) → n ≤ most → IsNumberIn id most rows n
-number_read id rows None most n is none value le = none_some n (sym (none refl))
+number_read id rows None most n is none value le = absurd (none-some n (sym (none refl)))
 number_read id rows (Some t) most n is none value le =
     let given = (value t refl).0 in
     record { text = t; given = sym is; numeral = given.0.0; value = given.1; fits = subst (λ k. k < 2 ^ 64) (sym given.1) given.0.1; within = le }
 
 -- no number was read
 pub number_unread : (id : Text) (rows : List Row) (one : Option Text) (most : ℕ) → one ≡ one_of id rows → ((t : List ℕ) → one ≡ Some t → ReadsOne Gives t None) → (n : ℕ) → IsNumberIn id most rows n → ⊥
-number_unread id rows None most is value n h = none_some h.text (is ∙ h.given)
+number_unread id rows None most is value n h = absurd (none-some h.text (is ∙ h.given))
 number_unread id rows (Some t) most is value n h =
-    let same : t ≡ h.text = some_same t h.text (is ∙ h.given) in
+    let same : t ≡ h.text = same_Some t h.text (is ∙ h.given) in
     (value t refl).1.0 (
       subst (λ t. IsNumeral 10 (without_leading_plus t)) (sym same) h.numeral,
       subst (λ t. digits_value 10 (without_leading_plus t) < 2 ^ 64) (sym same) (subst (λ k. k < 2 ^ 64) h.value h.fits),
@@ -35,9 +30,9 @@ number_unread id rows (Some t) most is value n h =
 
 -- a number was read that is too great
 pub number_too_great : (id : Text) (rows : List Row) (one : Option Text) (most m : ℕ) → one ≡ one_of id rows → ((t : List ℕ) → one ≡ Some t → ReadsOne Gives t (Some m)) → most < m → (n : ℕ) → IsNumberIn id most rows n → ⊥
-number_too_great id rows None most m is value great n h = none_some h.text (is ∙ h.given)
+number_too_great id rows None most m is value great n h = absurd (none-some h.text (is ∙ h.given))
 number_too_great id rows (Some t) most m is value great n h =
-    let same : t ≡ h.text = some_same t h.text (is ∙ h.given) in
+    let same : t ≡ h.text = same_Some t h.text (is ∙ h.given) in
     let number : m ≡ n = (value t refl).0.1 ∙ (ap (λ t. digits_value 10 (without_leading_plus t)) same ∙ sym h.value) in
     let within = subst (λ k. k ≤ most) (sym number) h.within in
     absurd (omega arith)
@@ -56,8 +51,8 @@ flag_other t true not_yes not_no e = not_yes e
 flag_other t false not_yes not_no e = not_no e
 
 pub flag_unread : (id : Text) (rows : List Row) (one : Option Text) (r : Option Bool) → one ≡ one_of id rows → (one ≡ None → r ≡ None) → ((t : List ℕ) → one ≡ Some t → ReadsOne GivesBool t r) → IsNone r → (b : Bool) → one_of id rows ≡ Some (flag_text b) → ⊥
-flag_unread id rows None r is none value empty b h = none_some (flag_text b) (is ∙ h)
+flag_unread id rows None r is none value empty b h = absurd (none-some (flag_text b) (is ∙ h))
 flag_unread id rows (Some t) (Some c) is none value empty b h = let e : true ≡ false = empty in cc
 flag_unread id rows (Some t) None is none value empty b h =
     let given = (value t refl).1 in
-    flag_other t b given.0 given.1 (some_same t (flag_text b) (is ∙ h))
+    flag_other t b given.0 given.1 (same_Some t (flag_text b) (is ∙ h))

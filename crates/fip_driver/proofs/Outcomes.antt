@@ -1,32 +1,29 @@
 -- What the parts of a command come to, and so the whole: each part's outcome is explained by the reply to what the objects
 -- told, or to something where they told nothing.
-use Rattle.std.proofs.Common.{◌≡◌, ◌∙◌, ◌<◌, ◌≤◌, ◌+◌, ℕ, zero, suc, List, [], ◌∷◌, ◌++◌, sym, ap, subst, refl, inl, inr, length, arith, append-nil, replicate}
-use Rattle.std.specs.Prelude.{◌⊎◌, Option, Some, None, Result, Ok, Err, IsSomeAnd, Bool, true, false, bytes_eq, if◌then◌else◌}
+use Rattle.std.proofs.Common.{◌≡◌, ◌∙◌, ◌<◌, ◌≤◌, ◌+◌, ℕ, List, [], ◌∷◌, ◌++◌, sym, ap, subst, refl, inl, inr, length, arith, append-nil, replicate}
+use Rattle.std.specs.Prelude.{Option, Some, None, Result, Err, IsSomeAnd, if◌then◌else◌}
 use Rattle.std.specs.Io.KnownBytes.{Consumes, IsAtEnd}
 use Rattle.std.specs.declared.vec.Vec.{Vec}
 use Rattle.std.specs.declared.alloc.Global.{Global}
-use Rattle.std.proofs.lemmas.List.{length-append, length-replicate}
+use Rattle.std.proofs.lemmas.List.{length-replicate}
 use Rattle.std.proofs.lemmas.Slice.Eq.{bytes_eq-Decides}
-use Rattle.fip_language.specs.Core.{Core, Function}
+use Rattle.fip_language.specs.Core.{Core}
 use Rattle.fip_language.specs.Declarations.{function_of}
-use Rattle.fip_language.specs.Answer.{Reply, Answers, Runs, Reads}
-use Rattle.fip_language.specs.Right.{IsRight}
+use Rattle.fip_language.specs.Answer.{Answers, Runs, Reads}
 use Rattle.fip_language.proofs.LoopStack.{function_of-only}
 use Rattle.fip_base.specs.Faults.{Rose}
-use Rattle.fip_base.specs.Files.{File, file_of, HoldsFile, HoldsLonger, IsMissing}
-use Rattle.fip_base.specs.Takes.{Takes}
+use Rattle.fip_base.specs.Files.{File, file_of, HoldsFile, HoldsLonger}
 use Rattle.loop_form.specs.Loop.{Loop}
-use Rattle.fip_driver.specs.Words.{Request, IsRequest}
+use Rattle.fip_driver.specs.Words.{Request}
 use Rattle.fip_driver.specs.LoopRun.{IsLoopRun}
 use Rattle.fip_driver.specs.Fetched.{FetchFails, ReadFails}
 use Rattle.fip_driver.specs.Fronted.{HasEntry, FrontFails, IsFront}
-use Rattle.fip_driver.specs.Answered.{Spelling, source_spelling, IsTold, IsNoCommand, Explained, Replies, Answered, plain_request}
+use Rattle.fip_driver.specs.Answered.{source_spelling, IsTold, IsNoCommand, HasRightEntry, ComesToInput, Explained, Answered, plain_request}
 use Rattle.fip_driver.specs.Explained.{ExplainedBy}
 use Rattle.fip_driver.specs.ExecOutcome.{EntryOutcome, RequestOutcome, ExecOutcome}
 use Rattle.fip_driver.specs.declared.failure.Failure.{Failure}
 use Rattle.fip_driver.specs.declared.failure.Failure.TheVariants as F
-use Rattle.fip_driver.specs.declared.failure.Object.TheVariants as O
-use Rattle.fip_driver.proofs.Explaining.{explained_up, explained, fetch_explained, file_reply, core_reply, function_reply, spelling_explained, check_explained, entry_explained, input_explained}
+use Rattle.fip_driver.proofs.Explaining.{explained_up, explained_fault, explained, fetch_explained, file_reply, core_reply, function_reply, spelling_explained, check_explained, entry_explained, input_explained}
 use Rattle.fip_driver.proofs.Running.{run_explained}
 use Rattle.fip_driver.proofs.WholeAnswer.{whole_answer}
 use Rattle.fip_driver.specs.Delivered.{Seen, Delivered}
@@ -83,27 +80,31 @@ front_answers r source input rose f le (inr (core, spelt, inl h)) =
 front_answers r source input rose f le (inr (core, spelt, inr h)) =
     explained_up (Runs (plain_request r) core input) _ r.gauge rose (core_reply source_spelling (plain_request r) source input core le spelt) (Err f) (entry_explained (plain_request r) core input r.gauge rose f h.0 h.1)
 
+entered : (core : Core) (l : Loop) (r : Request) (h : HasEntry core l r.entry) → function_of core r.entry ≡ Some h.ready.function
+entered core l r h = subst (λ name. function_of core name ≡ Some h.ready.function) h.named (function_of-only core h.ready.function h.ready.checked.only)
+
 -- the replies to a source of a file explain the request's outcome
-of_source : (r : Request) (files : Option (List File)) (left : Option (List ℕ)) (folder_rose rose : Type 0) (source : List ℕ) (o : Result (Vec ℕ Global) Failure) → HoldsFile files r.file source → (input : List ℕ) × IsTold left input × ExplainedBy (Answers source_spelling.spells source_spelling.misspells (plain_request r) source input) r.gauge rose o → RequestOutcome r files left folder_rose rose o
+of_source : (r : Request) (files : Option (List File)) (left : Option (List ℕ)) (folder_rose rose : Type 0) (source : List ℕ) (o : Result (Vec ℕ Global) Failure) → HoldsFile files r.file source → (input : List ℕ) × IsTold left input × ExplainedBy (Answers source_spelling.spells source_spelling.misspells (plain_request r) source input) r.gauge (rose × HasRightEntry source_spelling source r.entry) o → RequestOutcome r files left folder_rose rose o
 of_source r files left fr rose source o holds h words asked =
     let t = held files r.file source holds in
-    (t.0, h.0, t.1, h.1, explained source_spelling words t.0 h.0 fr rose r o (explained_up (Answers source_spelling.spells source_spelling.misspells (plain_request r) source h.0) _ r.gauge rose (file_reply source_spelling words t.0 h.0 source r asked t.2) o h.2))
+    let Is = Answers source_spelling.spells source_spelling.misspells (plain_request r) source h.0 in
+    let comes : rose × HasRightEntry source_spelling source r.entry → rose × ComesToInput source_spelling words t.0 = λ k. (k.0, record { request = r; asked = asked; source = source; there = t.2; entry = k.1 }) in
+    (t.0, h.0, t.1, h.1, explained source_spelling words t.0 h.0 fr rose r o (explained_up Is _ r.gauge _ (file_reply source_spelling words t.0 h.0 source r asked t.2) o (explained_fault Is r.gauge _ _ comes o h.2)))
 
 pub source_outcome : (r : Request) (files : Option (List File)) (left : Option (List ℕ)) (folder_rose rose : Type 0) (source text : List ℕ) (f : Failure) → HoldsFile files r.file source → length source ≤ 1048576 → text ≡ source → FrontFails source_spelling text r.entry f → RequestOutcome r files left folder_rose rose (Err f)
 source_outcome r files left fr rose source text f holds le same h =
     let i = any_told left [] in
-    of_source r files left fr rose source (Err f) holds (i.0, i.1, front_answers r source i.0 rose f le (subst (λ x. FrontFails source_spelling x r.entry f) same h))
+    of_source r files left fr rose source (Err f) holds (i.0, i.1, front_answers r source i.0 (rose × HasRightEntry source_spelling source r.entry) f le (subst (λ x. FrontFails source_spelling x r.entry f) same h))
 
 pub entry_outcome : (l : Loop) (r : Request) (files : Option (List File)) (left : Option (List ℕ)) (folder_rose rose : Type 0) (source text : List ℕ) (o : Result (Vec ℕ Global) Failure) → HoldsFile files r.file source → length source ≤ 1048576 → text ≡ source → IsFront source_spelling text r.entry l → EntryOutcome l r left rose o → RequestOutcome r files left folder_rose rose o
 entry_outcome l r files left fr rose source text o holds le same fronts ends =
     let front = subst (λ x. IsFront source_spelling x r.entry l) same fronts in
     let e = ends front.0 front.2 in
-    of_source r files left fr rose source o holds (e.0, e.1, explained_up (Runs (plain_request r) front.0 e.0) _ r.gauge rose (core_reply source_spelling (plain_request r) source e.0 front.0 le front.1) o e.2)
+    let right : HasRightEntry source_spelling source r.entry = record { within = le; core = front.0; spelt = front.1; right = front.2.ready.checked.right; function = front.2.ready.function; named = entered front.0 l r front.2 } in
+    let Is = Runs (plain_request r) front.0 e.0 in
+    of_source r files left fr rose source o holds (e.0, e.1, explained_up Is _ r.gauge _ (core_reply source_spelling (plain_request r) source e.0 front.0 le front.1) o (explained_fault Is r.gauge rose _ (λ k. (k, right)) o e.2))
 
 -- ---- the input
-
-entered : (core : Core) (l : Loop) (r : Request) (h : HasEntry core l r.entry) → function_of core r.entry ≡ Some h.ready.function
-entered core l r h = subst (λ name. function_of core name ≡ Some h.ready.function) h.named (function_of-only core h.ready.function h.ready.checked.only)
 
 -- the replies to an input explain the entry's outcome
 of_input : (l : Loop) (r : Request) (rose : Type 0) (o : Result (Vec ℕ Global) Failure) (core : Core) (h : HasEntry core l r.entry) (input : List ℕ) → ExplainedBy (Reads (plain_request r) core h.ready.function input) r.gauge rose o → ExplainedBy (Runs (plain_request r) core input) r.gauge rose o

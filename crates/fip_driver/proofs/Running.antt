@@ -1,6 +1,6 @@
 -- From the run of a checked loop program to the reply of its entry.
-use Rattle.std.proofs.Common.{◌≡◌, ◌∙◌, ◌<◌, ◌≤◌, ◌+◌, ℕ, zero, suc, List, [], ◌∷◌, ◌++◌, sym, ap, subst, refl, inl, inr, length, arith}
-use Rattle.std.specs.Prelude.{◌⊎◌, Option, Some, None, Result, Ok, Err, Bool, true, false, if◌then◌else◌}
+use Rattle.std.proofs.Common.{◌≡◌, ◌∙◌, ◌≤◌, ◌+◌, ℕ, zero, suc, List, [], ◌∷◌, ◌++◌, sym, ap, subst, refl, inl, inr, length, arith}
+use Rattle.std.specs.Prelude.{Result, Ok, Err, Bool, true, false}
 use Rattle.std.specs.declared.vec.Vec.{Vec}
 use Rattle.std.specs.declared.alloc.Global.{Global}
 use Rattle.fip_language.specs.Values.{Value, Values, End, More, cells_of_all, words_needed_by_all}
@@ -8,37 +8,32 @@ use Rattle.fip_language.specs.Table.{HaveTypes}
 use Rattle.fip_language.specs.Prefix.{IsPlace}
 use Rattle.fip_language.specs.ValueText.{SpellsValues}
 use Rattle.fip_language.specs.PrintedText.{printed_lines}
-use Rattle.fip_language.specs.Core.{Core, Function, Parameter}
+use Rattle.fip_language.specs.Core.{Core, Function}
 use Rattle.fip_language.specs.Declarations.{table_of}
-use Rattle.fip_language.specs.Statics.{ClosedName, NoClosed}
-use Rattle.fip_language.specs.Registers.{registers, frame_words}
+use Rattle.fip_language.specs.Statics.{NoClosed}
+use Rattle.fip_language.specs.Registers.{frame_words}
 use Rattle.fip_language.specs.Right.{parameter_types, result_type}
-use Rattle.fip_language.specs.LoopForm.{IsPlainParameter}
-use Rattle.fip_language.specs.Every.{Every}
-use Rattle.fip_language.specs.Gauge.{lowest_by_trees, highest_by_trees, lent_values}
+use Rattle.fip_language.specs.Gauge.{lowest_by_trees, lent_values}
 use Rattle.fip_language.specs.Meaning as M
 use Rattle.fip_language.specs.Answer as A
 use Rattle.fip_language.specs.Answer.{Reply, Done, BadInput, TooSmall, OutOfCalls, Finished, Reads, Fits, Evaluates, EndsAs}
 use Rattle.fip_language.proofs.LoopStack.{loop_frames, loop_words}
 use Rattle.loop_form.specs.Loop.{Loop}
 use Rattle.loop_form.specs.Meaning as L
-use Rattle.fip_driver.specs.Reply.{out_text, err_text, gauge_lines, gauge_text, value_text}
-use Rattle.fip_driver.specs.Texts.{bad_input_text, too_small_text, out_of_calls_text}
+use Rattle.fip_driver.specs.Reply.{out_text, gauge_lines, gauge_text}
+use Rattle.fip_driver.specs.Texts.{too_small_text, out_of_calls_text}
 use Rattle.fip_driver.specs.LoopRun.{loop_text, IsLoaded, IsTooMuch, IsLoopRun}
 use Rattle.loop_check.specs.Checked.{SameAnswer, IsChecked}
-use Rattle.fip_driver.specs.Explained.{FailsAs, PrintsAs, Fails, ExplainedBy}
+use Rattle.fip_driver.specs.Explained.{PrintsAs, Fails, ExplainedBy}
 use Rattle.fip_driver.specs.declared.failure.Failure.{Failure}
 use Rattle.fip_driver.specs.declared.failure.Failure.TheVariants as F
-use Rattle.fip_driver.proofs.SpelledTypes.{spelled_typed}
+use Rattle.fip_language.specs.Character.{characters}
+use Rattle.fip_language.proofs.LoopCells.{none_lent}
+use Rattle.value_text.proofs.Stand.{input_typed}
 
 -- what was evaluated, with this peak
 abbrev done_with : Core → Function → Values → Value → M.Peak → Done
 done_with core f vs v peak = record { core = core; function = f; arguments = vs; results = More v End; stack = peak; bound = record { frames = 0; words = frame_words f } }
-
-none_lent : (ps : List Parameter) (vs : Values) → Every IsPlainParameter ps → lent_values ps vs ≡ End
-none_lent [] vs h = refl
-none_lent (p ∷ ps) End h = refl
-none_lent (p ∷ ps) (More v vs) h = ap (λ b. if b then More v (lent_values ps vs) else lent_values ps vs) h.0.owned ∙ none_lent ps vs h.1
 
 module _ (core : Core) (f : Function) (l : Loop) (c : IsChecked core f l) (q : A.Request) (input : List ℕ) (short : length input ≤ 16777216) where
   -- the input's values, by the program's own table
@@ -65,7 +60,7 @@ module _ (core : Core) (f : Function) (l : Loop) (c : IsChecked core f l) (q : A
   value_ends vs v left a peak e = subst (λ a. EndsAs q core f vs (record { frames = 0; words = frame_words f }) a peak (Finished (done_with core f vs v peak))) (sym e) refl
 
   typed : (vs : Values) → IsLoaded l input q.words vs → HaveTypes l.types l.parameters vs
-  typed vs h = spelled_typed l.types l.parameters input vs h.spells
+  typed vs h = input_typed l.types l.parameters (characters input) vs h.spells
 
   -- the run is out of calls
   out : (gauge : Bool) (vs : Values) (given : ℕ) → IsLoaded l input q.words vs → L.loop_meaning l vs q.calls ≡ L.Out → given ≡ q.calls → Fails (Reads q core f input) gauge (F.OutOfCalls given)

@@ -1,19 +1,15 @@
 -- From an explained outcome and its delivery to the whole answer.
-use Rattle.std.proofs.Common.{◌≡◌, ◌∙◌, ℕ, List, [], ◌++◌, sym, ap, subst, refl, inl, inr, append-nil}
+use Rattle.std.proofs.Common.{◌≡◌, ◌∙◌, ℕ, List, [], sym, ap, subst, inl, inr, append-nil}
 use Rattle.std.specs.Prelude.{◌⊎◌, Option, Some, None, Result, Ok, Err}
 use Rattle.std.specs.Io.KnownBytes.{Appends}
 use Rattle.std.specs.declared.vec.Vec.{Vec}
 use Rattle.std.specs.declared.alloc.Global.{Global}
-use Rattle.fip_language.specs.Answer.{Reply, status}
 use Rattle.fip_base.specs.Faults.{Rose}
 use Rattle.fip_base.specs.Files.{File}
-use Rattle.fip_base.specs.Takes.{WritesPrefix}
-use Rattle.fip_driver.specs.Words.{Request}
-use Rattle.fip_driver.specs.Reply.{out_text, err_text}
+use Rattle.fip_driver.specs.Reply.{out_text}
 use Rattle.fip_driver.specs.Texts.{no_memory_text, folder_fault_text}
 use Rattle.fip_driver.specs.Delivered.{Seen, Tried, Told, ToldFailure, Delivered}
-use Rattle.fip_driver.specs.Answered.{Spelling, Replies, IsNoCommand, Answered, HasFailed, Explained}
-use Rattle.fip_driver.specs.Explained.{FailsAs, PrintsAs}
+use Rattle.fip_driver.specs.Answered.{Spelling, Answered, HasFailed, Explained}
 use Rattle.fip_driver.specs.Failures.{failure_text, failure_status}
 use Rattle.fip_driver.specs.declared.failure.Failure.{Failure}
 use Rattle.fip_driver.specs.declared.failure.Failure.TheVariants as F
@@ -63,9 +59,9 @@ module _ (spelling : Spelling) (words : List (List ℕ)) (files : List File) (in
   delivered_failure fr ir no_f no_i (F.BadInput at) s same h t = told (F.BadInput at) s same h t
   delivered_failure fr ir no_f no_i (F.TooSmall needed given) s same h t = told (F.TooSmall needed given) s same h t
   delivered_failure fr ir no_f no_i (F.OutOfCalls given) s same h t = told (F.OutOfCalls given) s same h t
-  delivered_failure fr ir no_f no_i (F.Fault O.Folder) s same (inl rose) t = absurd (no_f rose)
+  delivered_failure fr ir no_f no_i (F.Fault O.Folder) s same (inl rose) t = absurd (no_f rose.0)
   delivered_failure fr ir no_f no_i (F.Fault O.Folder) s same (inr h) t = told_fault s same h t.0 t.1
-  delivered_failure fr ir no_f no_i (F.Fault O.Input) s same rose t = absurd (no_i rose)
+  delivered_failure fr ir no_f no_i (F.Fault O.Input) s same rose t = absurd (no_i rose.0)
   delivered_failure fr ir no_f no_i (F.Fault O.Out) s same never t = absurd never
   delivered_failure fr ir no_f no_i (F.Fault O.Err) s same never t = absurd never
   delivered_failure fr ir no_f no_i F.NoMemory s same h t = no_memory s same t

@@ -1,10 +1,12 @@
 -- What the program answers, where the folder tells its files and the input its bytes.
-use Rattle.std.specs.Prelude.{◌≡◌, ℕ, List, [], ◌⊎◌, Option, Some, None, Bool, Result, Ok, Err}
+use Rattle.std.specs.Prelude.{◌≡◌, ◌≤◌, ℕ, List, length, ◌⊎◌, Option, Some, None, Result, Ok, Err}
 use Rattle.std.specs.Io.KnownBytes.{Appends}
 use Rattle.std.specs.declared.vec.Vec.{Vec}
 use Rattle.std.specs.declared.alloc.Global.{Global}
 use Rattle.fip_language.specs.declared.Place.{Place}
-use Rattle.fip_language.specs.Core.{Core}
+use Rattle.fip_language.specs.Core.{Function, Core}
+use Rattle.fip_language.specs.Declarations.{function_of}
+use Rattle.fip_language.specs.Right.{IsRight}
 use Rattle.fip_language.specs.CoreForm.{core_form}
 use Rattle.fip_language.specs.Surface.{Program}
 use Rattle.fip_grammar.specs.Limits.{IsSpelt, IsMisspelt}
@@ -60,14 +62,37 @@ Answered spelling words files input out out' err err' s =
 abbrev pub HasFailed : Spelling → List (List ℕ) → List File → List ℕ → Failure → Type 0
 HasFailed spelling words files input failure = (r : Request) × (reply : Reply) × Replies spelling words files input r reply × FailsAs failure r.gauge reply
 
+-- The words are a command, so its file is fetched.
+abbrev pub IsCommand : List (List ℕ) → Type 0
+IsCommand words = (r : Request) × IsRequest words r
+
+-- A source of a right program that has a function of this name.
+pub record HasRightEntry (spelling : Spelling) (source : List ℕ) (entry : List ℕ) : Type 0 where
+  pub within : length source ≤ 1048576
+  pub core : Core
+  pub spelt : spelling.spells source core
+  pub right : IsRight core
+  pub function : Function
+  pub named : function_of core entry ≡ Some function
+
+-- The words ask for a file that is there and has such a source, so the input is read.
+pub record ComesToInput (spelling : Spelling) (words : List (List ℕ)) (files : List File) : Type 0 where
+  pub request : Request
+  pub asked : IsRequest words request
+  pub source : List ℕ
+  pub there : file_of request.file files ≡ Some source
+  pub entry : HasRightEntry spelling source request.entry
+
+-- A fault of the folder was counted when the file was fetched, or the file is missing; a fault of the input was counted when
+-- its turn had come.
 abbrev pub FaultExplained : Spelling → List (List ℕ) → List File → List ℕ → Type 0 → Type 0 → Object → Type 0
-FaultExplained spelling words files input folder_rose input_rose O.Folder = folder_rose ⊎ HasFailed spelling words files input (F.Fault O.Folder)
-FaultExplained spelling words files input folder_rose input_rose O.Input = input_rose
+FaultExplained spelling words files input folder_rose input_rose O.Folder = (folder_rose × IsCommand words) ⊎ HasFailed spelling words files input (F.Fault O.Folder)
+FaultExplained spelling words files input folder_rose input_rose O.Input = input_rose × ComesToInput spelling words files
 FaultExplained spelling words files input folder_rose input_rose O.Out = ⊥
 FaultExplained spelling words files input folder_rose input_rose O.Err = ⊥
 
 -- A result is that of a reply, and what kept a command from one is a reply too, or want of memory, or a fault that was
--- counted.
+-- counted in its turn.
 abbrev pub Explained : Spelling → List (List ℕ) → List File → List ℕ → Type 0 → Type 0 → Result (Vec ℕ Global) Failure → Type 0
 Explained spelling words files input folder_rose input_rose (Ok text) = (r : Request) × (reply : Reply) × Replies spelling words files input r reply × PrintsAs text.items r.gauge reply
 Explained spelling words files input folder_rose input_rose (Err F.NotUnderstood) = IsNoCommand words

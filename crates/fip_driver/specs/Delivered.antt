@@ -6,8 +6,7 @@ use Rattle.std.specs.declared.vec.Vec.{Vec}
 use Rattle.std.specs.declared.alloc.Global.{Global}
 use Rattle.fip_base.specs.Faults.{Rose}
 use Rattle.fip_base.specs.Takes.{WritesPrefix}
-use Rattle.fip_driver.specs.Delivery.{WritesPrefixes}
-use Rattle.fip_driver.specs.Failures.{failure_text, failure_status, fault_text}
+use Rattle.fip_driver.specs.Failures.{failure_text, fault_text}
 use Rattle.fip_driver.specs.Texts.{no_memory_text, out_fault_text, err_fault_text}
 use Rattle.fip_driver.specs.declared.failure.Failure.{Failure}
 use Rattle.fip_driver.specs.declared.failure.Failure.TheVariants as F
@@ -17,15 +16,23 @@ pub record Seen : Type 0 where
   pub written : Option (List ℕ)
   pub faults : ℕ
 
+abbrev pub seen : Option (List ℕ) → ℕ → Seen
+seen written faults = record { written = written; faults = faults }
+
+-- a count of faults that didn't rise, and doesn't stand at its greatest
+abbrev pub NotRisen : ℕ → ℕ → Type 0
+NotRisen before now = Rose before now → ⊥
+
 -- A text was tried once: it stands on the sink, or the sink failed behind a front part of it.
 abbrev pub Tried : Seen → Seen → List ℕ → Type 0
 Tried old new text = Appends old.written new.written text ⊎ (Rose old.faults new.faults × WritesPrefix old.written new.written text)
 
--- The text stands on a sink, and the status is this one; or the sink failed, and the status is 9.
+-- The text stands on a sink, and the status is this one; or the sink failed behind a front part of it, its own fault was
+-- then tried to be told once, and the status is 9.
 abbrev pub Told : Seen → Seen → ℕ → List ℕ → ℕ → Type 0
 Told old new status text s =
     ((s ≡ status) × Appends old.written new.written text)
-    ⊎ ((s ≡ 9) × Rose old.faults new.faults × WritesPrefixes old.written new.written text err_fault_text)
+    ⊎ ((s ≡ 9) × Rose old.faults new.faults × ((between : Seen) × Rose old.faults between.faults × WritesPrefix old.written between.written text × Tried between new err_fault_text))
 
 -- a failure's own text; or that of want of memory, where there was none for the text
 abbrev pub ToldFailure : Seen → Seen → Failure → ℕ → Type 0

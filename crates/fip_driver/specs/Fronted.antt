@@ -1,14 +1,12 @@
 -- What can come of a source: its core form, the loop program of that, and the one of the entry's name.
-use Rattle.std.specs.Prelude.{◌≡◌, ◌⊎◌, ℕ, List, [], ◌∷◌, Option, Some, None, Result, Ok, Err}
+use Rattle.std.specs.Prelude.{◌≡◌, ◌⊎◌, ℕ, List, None}
 use Rattle.fip_language.specs.declared.Place.{Place}
-use Rattle.fip_language.specs.Core.{Core, Function}
+use Rattle.fip_language.specs.Core.{Core}
 use Rattle.fip_language.specs.Declarations.{function_of}
-use Rattle.fip_language.specs.SoundTable.{IsSoundTable, AreTypes}
 use Rattle.fip_language.specs.Right.{IsRight}
 use Rattle.fip_language.specs.Answer.{Misspelt, NotRight, NoEntry}
 use Rattle.fip_base.specs.Refusal.{refusal_text}
 use Rattle.loop_form.specs.Loop.{Loop}
-use Rattle.loop_form.specs.Fine.{IsFine}
 use Rattle.fip_driver.specs.Reply.{err_text}
 use Rattle.fip_driver.specs.Answered.{Spelling}
 use Rattle.loop_check.specs.Checked.{IsReadyToRun}

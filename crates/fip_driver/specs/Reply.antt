@@ -1,5 +1,5 @@
 -- The bytes of a reply: what stands on out and on err.
-use Rattle.std.specs.Prelude.{ℕ, zero, suc, ◌-◌, Bool, true, false, List, [], ◌∷◌, ◌++◌, Option, Some, None, codes, if◌then◌else◌}
+use Rattle.std.specs.Prelude.{ℕ, zero, suc, ◌-◌, Bool, List, [], ◌∷◌, ◌++◌, Some, codes, if◌then◌else◌}
 use Rattle.std.specs.Fmt.{decimal}
 use Rattle.fip_language.specs.declared.Place.{Place}
 use Rattle.fip_language.specs.PrintedText.{printed_lines}

@@ -54,6 +54,7 @@ pub record IsNumberIn (id : Text) (most : ℕ) (rows : List Row) (n : ℕ) : Typ
   pub given : one_of id rows ≡ Some text
   pub numeral : IsNumeral 10 (without_leading_plus text)
   pub value : n ≡ digits_value 10 (without_leading_plus text)
+  -- as an option is read into 64 bits
   pub fits : n < 2 ^ 64
   pub within : n ≤ most
 

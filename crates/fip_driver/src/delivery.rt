@@ -2,9 +2,7 @@
 ghost use Rattle.std.specs.Prelude.{◌≡◌, ℕ, ◌≤◌, OnOk, OnErr};
 ghost use Rattle.std.specs.Io.KnownBytes.{Appends};
 ghost use Rattle.fip_base.specs.Faults.{Rose};
-ghost use Rattle.fip_base.specs.Takes.{WritesPrefix};
-ghost use Rattle.fip_driver.specs.Delivery.{WritesPrefixes};
-ghost use Rattle.fip_driver.specs.Delivered.{Tried, Told, ToldFailure, Delivered};
+ghost use Rattle.fip_driver.specs.Delivered.{seen, Tried, Told, ToldFailure, Delivered};
 ghost use Rattle.fip_driver.specs.Texts.{err_fault_text, no_memory_text};
 
 use crate::failure::{Failure, Object};
@@ -15,8 +13,7 @@ use std::alloc::Global;
 
 // Tries once to say that an object failed; what becomes of it changes nothing.
 fn try_to_tell<E: Sink>(err: &mut E, text: &[u8])
-    ensures tried { Tried (record { written = E.written err.old; faults = E.faults err.old }) (record { written = E.written err.new; faults = E.faults err.new }) text.now }
-    ensures prefix { WritesPrefix (E.written err.old) (E.written err.new) text.now }
+    ensures tried { Tried (seen (E.written err.old) (E.faults err.old)) (seen (E.written err.new) (E.faults err.new)) text.now }
     ensures later { E.faults err.old ≤ E.faults err.new }
 {
     match write_all(err, text) {
@@ -27,7 +24,7 @@ fn try_to_tell<E: Sink>(err: &mut E, text: &[u8])
 
 // Writes the text of a status; where that fails, tries once to say so.
 fn tell<E: Sink>(err: &mut E, status: Status, text: &[u8]) -> Status
-    ensures told { Told (record { written = E.written err.old; faults = E.faults err.old }) (record { written = E.written err.new; faults = E.faults err.new }) status.0 text.now result.0 }
+    ensures told { Told (seen (E.written err.old) (E.faults err.old)) (seen (E.written err.new) (E.faults err.new)) status.0 text.now result.0 }
     ensures later { E.faults err.old ≤ E.faults err.new }
 {
     match write_all(err, text) {
@@ -39,9 +36,18 @@ fn tell<E: Sink>(err: &mut E, status: Status, text: &[u8]) -> Status
     }
 }
 
+/// Says that memory is wanting, for a host that had none for the words. The status is 10; or 9 where `err` failed, whose
+/// fault is then tried to be told once.
+pub fn tell_no_memory<E: Sink>(err: &mut E) -> Status
+    ensures told { Told (seen (E.written err.old) (E.faults err.old)) (seen (E.written err.new) (E.faults err.new)) 10 no_memory_text result.0 }
+    ensures later { E.faults err.old ≤ E.faults err.new }
+{
+    tell(err, Status(10), b"out of memory\n")
+}
+
 // Says what kept a command from its result. After a fault its text is tried once.
 fn tell_failure<E: Sink>(alloc: Global, err: &mut E, failure: &Failure) -> Status
-    ensures told { ToldFailure (record { written = E.written err.old; faults = E.faults err.old }) (record { written = E.written err.new; faults = E.faults err.new }) failure.now result.0 }
+    ensures told { ToldFailure (seen (E.written err.old) (E.faults err.old)) (seen (E.written err.new) (E.faults err.new)) failure.now result.0 }
     ensures later { E.faults err.old ≤ E.faults err.new }
 {
     match failure {
@@ -49,10 +55,10 @@ fn tell_failure<E: Sink>(alloc: Global, err: &mut E, failure: &Failure) -> Statu
             try_to_tell(err, object.fault_text().as_bytes());
             Status(9)
         }
-        Failure::NoMemory => tell(err, Status(10), b"out of memory\n"),
+        Failure::NoMemory => tell_no_memory(err),
         _ => match failure.text(alloc) {
             Ok(text) => tell(err, failure.status(), text.as_slice()),
-            Err(_) => tell(err, Status(10), b"out of memory\n"),
+            Err(_) => tell_no_memory(err),
         },
     }
 }
@@ -64,7 +70,7 @@ pub fn deliver<O: Sink, E: Sink>(
     out: &mut O,
     err: &mut E,
 ) -> Status
-    ensures delivered { Delivered (record { written = O.written out.old; faults = O.faults out.old }) (record { written = O.written out.new; faults = O.faults out.new }) (record { written = E.written err.old; faults = E.faults err.old }) (record { written = E.written err.new; faults = E.faults err.new }) outcome result.0 }
+    ensures delivered { Delivered (seen (O.written out.old) (O.faults out.old)) (seen (O.written out.new) (O.faults out.new)) (seen (E.written err.old) (E.faults err.old)) (seen (E.written err.new) (E.faults err.new)) outcome result.0 }
     ensures later_out { O.faults out.old ≤ O.faults out.new }
     ensures later_err { E.faults err.old ≤ E.faults err.new }
 {

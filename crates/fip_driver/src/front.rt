@@ -86,9 +86,9 @@ fn is_named(program: &LoopProgram, entry: &str) -> bool
 }
 
 // The loop program of a source's core form; none where a right program has no function. E09 where it isn't right.
-#[tactic(auto, using(crate::proofs::Fronts::passed, crate::proofs::Fronts::refused))]
+#[tactic(auto, using(crate::proofs::Fronts::refused))]
 fn resolved(alloc: Global, core: &Core) -> Result<Option<LoopProgram>, Failure>
-    ensures passed { (source : List ℕ) → source_spelling.spells source (core_view core.now) → IfOk result (λ o. IsPassed (core_view core.now) (option_map loop_of o)) }
+    ensures passed { IfOk result (λ o. IsPassed (core_view core.now) (option_map loop_of o)) }
     ensures fails { (source : List ℕ) → source_spelling.spells source (core_view core.now) → IfErr result (λ e. CheckFails (core_view core.now) e) }
 {
     match check(alloc, core) {

@@ -10,4 +10,5 @@ mod run;
 mod texts;
 pub mod words;
 
+pub use delivery::tell_no_memory;
 pub use program::fp2;

@@ -129,6 +129,29 @@ impl Text {
         self.put(b")")
     }
 
+    fn put_sign(&mut self, operator: Operator, place: Place) -> Result<(), NoMemory> {
+        self.put(b" ")?;
+        self.put(sign_of(operator))?;
+        self.put_place(place)?;
+        self.put(b" ")
+    }
+
+    // A match up to its clauses.
+    fn put_head(
+        &mut self,
+        kind: MatchKind,
+        place: Place,
+        scrutinee: &Argument,
+    ) -> Result<(), NoMemory> {
+        self.put(match kind {
+            MatchKind::Borrowing => b"match",
+            MatchKind::Destructive => b"match!",
+        })?;
+        self.put_place(place)?;
+        self.put(b" ")?;
+        self.put_argument(scrutinee)
+    }
+
     #[cycle(block)]
     fn put_expression(&mut self, e: &Expression) -> Result<(), NoMemory> {
         match e {
@@ -144,10 +167,7 @@ impl Text {
                 right,
             } => {
                 self.put_argument(left)?;
-                self.put(b" ")?;
-                self.put(sign_of(*operator))?;
-                self.put_place(*place)?;
-                self.put(b" ")?;
+                self.put_sign(*operator, *place)?;
                 self.put_argument(right)
             }
             Expression::Call {
@@ -166,13 +186,7 @@ impl Text {
                 scrutinee,
                 clauses,
             } => {
-                self.put(match kind {
-                    MatchKind::Borrowing => b"match",
-                    MatchKind::Destructive => b"match!",
-                })?;
-                self.put_place(*place)?;
-                self.put(b" ")?;
-                self.put_argument(scrutinee)?;
+                self.put_head(*kind, *place, scrutinee)?;
                 self.put_clauses(clauses.as_slice())
             }
             Expression::Nested(block) => self.put_block(block),

@@ -200,6 +200,9 @@ fn each_run_ends_with_its_status_and_text(rt: HostRuntime) -> Result<(), Fail> {
             assert!(rt; seen.out.is_empty());
             assert_eq!(rt; seen.err.as_slice(), row.text);
         }
+        if matches!(row.status, 1 | 2) {
+            assert_eq!(rt; seen.left, row.input.len());
+        }
         assert!(rt; seen.same_file);
     }
     Ok(())

@@ -1,6 +1,5 @@
 use Rattle.loop_form.specs.View.{loop_of}
 use Rattle.fip_driver.specs.View.{request_of}
-use Rattle.fip_base.specs.Faults.{Rose}
 use Rattle.fip_driver.proofs.Outcomes.{run_outcome, read_outcome}
 use Rattle.fip_driver.proofs.program.run_entry.Goals as goal
 

@@ -1,1 +1,2 @@
 pub mod FunctionReads
+pub mod Puts

@@ -1,13 +1,13 @@
 -- The registers where a clause begins: after the Take, or at the function's entry where the scrutinee is scalar.
 use Rattle.std.proofs.Common.{◌≡◌, ℕ, zero, suc, ◌<◌, ◌≤◌, ◌-◌, true, List, [], ◌∷◌, length, Option, Some, None, refl, sym, ap, ◌∙◌, ⊎_elim, arith}
 use Rattle.std.specs.Prelude.{slice_get, nat_lt, if◌then◌else◌, option_and_then}
-use Rattle.std.proofs.lemmas.Bool.{cond_both, ltb-true, ltb-false, cases_lt}
+use Rattle.std.proofs.lemmas.Bool.{cond_both, ltb-true, ltb-false, cases_lt, cases_eq}
 use Rattle.std.proofs.lemmas.Option.{slice_get_past}
+use Rattle.cell_code.proofs.Puts.{put-same, put-other}
 use Rattle.fip_language.specs.Values.{Value, Values, End, More, count_of}
 use Rattle.loop_form.specs.Meaning.{list_of, in_clause}
 use Rattle.cell_code.specs.TreeMachine.{Content, Empty, Holds, Registers, put, is_free, write_all, arguments, credit_of}
 use Rattle.cell_lower.specs.Lower.{numbers_from}
-use Rattle.cell_lower.proofs.Puts.{put-same, put-other, same_or_not}
 
 abbrev pub content_of : Option Value → Content
 content_of None = Empty
@@ -42,12 +42,12 @@ writes_all regs b (More v vs) empty =
       above = λ r le. ⊎_elim
           (λ e.
           let z : 0 ≡ r - b = omega (arith, e) in
-          more.below r (omega (arith, e)) ∙ ap regs1 e ∙ put-same regs b (Holds v) ∙ ap (λ m. content_of (slice_get (v ∷ list_of vs) m)) z)
+          more.below r (omega (arith, e)) ∙ ap regs1 e ∙ put-same regs b (Holds v) b refl ∙ ap (λ m. content_of (slice_get (v ∷ list_of vs) m)) z)
           (λ ne.
           let lt : suc b ≤ r = past r le ne in
           let z : suc (r - suc b) ≡ r - b = omega (arith, lt) in
           more.above r lt ∙ ap (λ m. content_of (slice_get (v ∷ list_of vs) m)) z)
-          (same_or_not r b);
+          (cases_eq r b);
     }
   where
     past : (r : ℕ) → b ≤ r → (r ≡ b → ⊥) → suc b ≤ r
@@ -91,7 +91,7 @@ takes s b vs ws within le =
     record {
       rest = w.rest;
       wrote = w.wrote;
-      credit = w.below s (omega (arith, within, le)) ∙ put-same (arguments vs) s (credit_of (count_of ws));
+      credit = w.below s (omega (arith, within, le)) ∙ put-same (arguments vs) s (credit_of (count_of ws)) s refl;
       begins = record {
         others = λ r ne. ⊎_elim
             (λ lt. w.below r lt ∙ put-other (arguments vs) s _ r ne ∙ arguments_at vs r ∙ ap content_of (sym (in_clause-below (list_of vs) b (list_of ws) r le lt)))

@@ -1,6 +1,7 @@
 -- rev is fine.
 use Rattle.std.proofs.Common.{◌≡◌, ℕ, zero, suc, ◌<◌, ◌-◌, false, List, [], ◌∷◌, Some, None, refl, sym, ap, ◌∙◌, subst, arith}
 use Rattle.std.specs.Prelude.{slice_get, codes}
+use Rattle.std.proofs.lemmas.Option.{none-some}
 use Rattle.fip_language.specs.Table.{Shape, shapes, is_scalar}
 use Rattle.loop_form.specs.Loop as L
 use Rattle.loop_form.specs.Meaning.{in_clause}
@@ -8,11 +9,8 @@ use Rattle.loop_form.specs.Fine.{IsFineClause, IsFine}
 use Rattle.loop_form.specs.Example.{shape, nil_clause, cons_ending, cons_clause, rev}
 use Rattle.cell_lower.proofs.Entry.{in_clause-above}
 
-none_some : {A : Type 0} (x : A) → None ≡ Some x → ⊥
-none_some x e = cc
-
 past_none : (fs : List ℕ) (r t : ℕ) → slice_get fs (suc (suc r) - 2) ≡ None → in_clause (2 ∷ (2 ∷ [])) 2 fs (suc (suc r)) ≡ Some t → ⊥
-past_none fs r t n e = none_some t (sym (in_clause-above (2 ∷ (2 ∷ [])) 2 fs (suc (suc r)) (omega arith) (omega arith) ∙ n) ∙ e)
+past_none fs r t n e = none-some t (sym (in_clause-above (2 ∷ (2 ∷ [])) 2 fs (suc (suc r)) (omega arith) (omega arith) ∙ n) ∙ e)
 
 nil_once : (r t : ℕ) → in_clause rev.parameters 2 [] r ≡ Some t → (r ≡ 0 → ⊥) → L.uses r (L.Register 1) ≡ 1
 nil_once zero t e ne = absurd (ne refl)
@@ -58,7 +56,7 @@ HasShape c = (s : Shape) × (slice_get (shapes rev.types 1) c.constructor ≡ So
 has_shape : (i : ℕ) (c : L.Clause) → slice_get rev.clauses i ≡ Some c → HasShape c
 has_shape zero c e = let same : nil_clause ≡ c = cc in subst HasShape same (shape (codes "Nil") [], refl, nil_fine)
 has_shape (suc zero) c e = let same : cons_clause ≡ c = cc in subst HasShape same (shape (codes "Cons") (0 ∷ (2 ∷ [])), refl, cons_fine)
-has_shape (suc (suc i)) c e = absurd (none_some c e)
+has_shape (suc (suc i)) c e = absurd (none-some c e)
 
 covered : (c : ℕ) → c < 2 → (k : ℕ) × (e : L.Clause) × (slice_get rev.clauses k ≡ Some e) × (e.constructor ≡ c)
 covered zero lt = (0, nil_clause, refl, refl)

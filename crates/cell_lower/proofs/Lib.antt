@@ -2,7 +2,6 @@ pub mod Lists
 pub mod Sizes
 pub mod Fine
 pub mod Whole
-pub mod Puts
 pub mod Owes
 pub mod Typed
 pub mod Entry

@@ -6,8 +6,8 @@ use Rattle.fip_language.specs.Values.{Value, Int, Node, Values, End, More}
 use Rattle.fip_language.specs.Store.{one_at, count}
 use Rattle.cell_code.specs.TreeMachine.{Content, Empty, Holds, Credit, Registers, put, has_cells, kept, is_free, all_free, read_all, with_value, and_value}
 use Rattle.std.specs.Prelude.{nat_eq, ◌&&◌}
-use Rattle.std.proofs.lemmas.Bool.{eqb-true, eqb-false, cond_both}
-use Rattle.cell_lower.proofs.Puts.{put_elim, put-other, same_or_not}
+use Rattle.std.proofs.lemmas.Bool.{eqb-true, eqb-false, cond_both, cases_eq}
+use Rattle.cell_code.proofs.Puts.{put_elim, put-other}
 
 pub one_at-same : (r : ℕ) → one_at r r ≡ 1
 one_at-same r = cond_both (nat_eq r r) 1 0 (λ n. ◌≡◌ {A = ℕ} n 1) (λ _. refl) (λ e. absurd (eqb-false r r e refl))
@@ -99,15 +99,15 @@ owes_spend s regs regs' d k ks o same free = record {
   live = λ r lt. ⊎_elim
       (λ e. let h = o.live s (subst (λ m. 0 < d m) e lt) in absurd (credit_holds k h.0 (sym o.spares.0 ∙ h.1)))
       (λ other. let h = o.live r lt in (h.0, same r other ∙ h.1))
-      (same_or_not r s);
+      (cases_eq r s);
   once = λ r v h cells. ⊎_elim
       (λ e. absurd (free_cells (regs' s) v (ap regs' (sym e) ∙ h) cells free))
       (λ other. o.once r v (sym (same r other) ∙ h) cells)
-      (same_or_not r s);
+      (cases_eq r s);
   spares = λ r c. ⊎_elim
       (λ e. free_credit (regs' s) (subst (λ m. IsCredit (regs' m)) e c) free)
       (λ other. other (o.spares.2 r (subst IsCredit (same r other) c)))
-      (same_or_not r s);
+      (cases_eq r s);
 }
   where
     credit_holds : (k : ℕ) (v : Value) → Credit k ≡ Holds v → ⊥

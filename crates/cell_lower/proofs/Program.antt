@@ -1,8 +1,8 @@
 -- Whole programs: a clause from its Take on, the choice of the clause, and turn after turn.
 use Rattle.std.proofs.Common.{◌≡◌, ℕ, zero, suc, ◌+◌, ◌<◌, ◌≤◌, ◌-◌, Bool, true, false, List, [], ◌∷◌, ◌++◌, length, Option, Some, None, refl, sym, ap, ◌∙◌, subst, ⊎_elim, arith}
 use Rattle.std.specs.Prelude.{slice_get, slice_index, nat_eq, ◌==◌, if◌then◌else◌}
-use Rattle.std.proofs.lemmas.Bool.{cond_both, cond-true, cond-false, eqb-true, eqb-false, eq-eqb, ne_eqb}
-use Rattle.std.proofs.lemmas.Option.{slice_get_within, slice_get_past}
+use Rattle.std.proofs.lemmas.Bool.{cond_both, cond-true, cond-false, eqb-true, eqb-false, eq-eqb, ne_eqb, cases_eq}
+use Rattle.std.proofs.lemmas.Option.{slice_get_within, slice_get_past, none-some, same_Some}
 use Rattle.fip_language.specs.Values.{Value, Int, Node, Values, End, More, count_of}
 use Rattle.fip_language.specs.Table.{Shape, shapes, is_scalar, HasType, HaveTypes}
 use Rattle.loop_form.specs.Loop as L
@@ -12,14 +12,10 @@ use Rattle.cell_code.specs.Code.{Instruction, Test, Take}
 use Rattle.cell_code.specs.Machine as M
 use Rattle.cell_code.specs.TreeMachine.{Empty, Holds, Registers, has_cells, put, write_all, with_value, taken, test_content, went, loaded, arguments, credit_of, act}
 use Rattle.cell_lower.specs.Lower.{numbers_from, ending_code, clause_code, placed_clause, clauses_code, has_scalar_scrutinee, instructions}
-use Rattle.cell_lower.proofs.Puts.{same_or_not}
 use Rattle.cell_lower.proofs.Owes.{IsCredit, Spares, Owes}
 use Rattle.cell_lower.proofs.Typed.{Both, both_some, both_back, both_get, typed-length, both_in_clause, term_typed, terms_typed, term_uses, terms_uses, cells_not_scalar, scalar_fields}
 use Rattle.cell_lower.proofs.Entry.{content_of, list_of-length, arguments_at, in_clause-below, in_clause-above, Begins, takes, begins_bare}
 use Rattle.cell_lower.proofs.Sim.{HasAt, has_front, has_back, Agrees, AreNew, state, Ends, EndsAt, moves_to, steps, goes_on, give_runs, again_runs}
-
-none_some : {A : Type 0} (x : A) → None ≡ Some x → ⊥
-none_some x e = cc
 
 content_inv : (o : Option Value) (v : Value) → content_of o ≡ Holds v → o ≡ Some v
 content_inv None v e = absurd (empty e)
@@ -67,7 +63,7 @@ ending_runs p free left e s n pc context env both (L.Again ts) h regs has agree 
 
 -- the first clause with a constructor that some clause has
 pub choose-found : (ks : List L.Clause) (c i : ℕ) (k : L.Clause) → slice_get ks i ≡ Some k → k.constructor ≡ c → (x : L.Clause) × (j : ℕ) × (N.choose ks c ≡ Some x) × (slice_get ks j ≡ Some x) × (x.constructor ≡ c)
-choose-found [] c i k g e = absurd (none_some k g)
+choose-found [] c i k g e = absurd (none-some k g)
 choose-found (x ∷ ks) c i k g e = by_test (nat_eq x.constructor c) refl i g (λ j h. choose-found ks c j k h e)
   where
     by_test : (b : Bool) → nat_eq x.constructor c ≡ b → (i : ℕ) → slice_get (x ∷ ks) i ≡ Some k → ((j : ℕ) → slice_get ks j ≡ Some k → (y : L.Clause) × (m : ℕ) × (N.choose ks c ≡ Some y) × (slice_get ks m ≡ Some y) × (y.constructor ≡ c)) → (y : L.Clause) × (m : ℕ) × ((if b then Some x else N.choose ks c) ≡ Some y) × (slice_get (x ∷ ks) m ≡ Some y) × (y.constructor ≡ c)
@@ -76,12 +72,12 @@ choose-found (x ∷ ks) c i k g e = by_test (nat_eq x.constructor c) refl i g (�
     by_test false t (suc i) g rec = let r = rec i g in (r.0, suc r.1, r.2, r.3, r.4)
 
 length_none : (ks : List L.Clause) (c : ℕ) (k : L.Clause) → length ks ≡ 0 → N.choose ks c ≡ Some k → ⊥
-length_none [] c k z h = none_some k h
+length_none [] c k z h = none-some k h
 length_none (x ∷ ks) c k z h = absurd (omega (arith, z))
 
 -- The tests come to the clause that is chosen.
 clauses_run : (p : L.Loop) (free left : ℕ) (e : M.End Values) (scalar : Bool) (s n c : ℕ) (ws : Values) (regs : Registers) (k : L.Clause) → regs s ≡ Holds (Node c ws) → ((pc : ℕ) → HasAt (instructions p) pc (clause_code scalar s n k) → EndsAt p free left e pc regs) → (ks : List L.Clause) (at : ℕ) → HasAt (instructions p) at (clauses_code scalar s n at ks) → N.choose ks c ≡ Some k → EndsAt p free left e at regs
-clauses_run p free left e scalar s n c ws regs k there go [] at has h = absurd (none_some k h)
+clauses_run p free left e scalar s n c ws regs k there go [] at has h = absurd (none-some k h)
 clauses_run p free left e scalar s n c ws regs k there go (x ∷ ks) at has h =
     by_last (length ks == 0) refl has (λ pc g i. clauses_run p free left e scalar s n c ws regs k there go ks pc g i)
   where
@@ -144,7 +140,7 @@ chooses p f vs h =
         let found = choose-found p.clauses c cover.0 cover.1 cover.2 cover.3 in
         let k = found.0 in
         let kf = f.clauses found.1 k found.3 in
-        let same : g.0 ≡ kf.0 = some_inj (sym g.1 ∙ ap (slice_get (shapes p.types t)) (sym found.4) ∙ kf.1) in
+        let same : g.0 ≡ kf.0 = same_Some g.0 kf.0 (sym g.1 ∙ ap (slice_get (shapes p.types t)) (sym found.4) ∙ kf.1) in
         record {
           c = c;
           fields = ws;
@@ -158,9 +154,6 @@ chooses p f vs h =
           typed = subst (λ s. HaveTypes p.types s.fields ws) same g.2;
           fine = kf.2;
         }
-      where
-        some_inj : {a b : Shape} → Some a ≡ Some b → a ≡ b
-        some_inj q = cc
 
 module _ (p : L.Loop) (vs : Values) (typed : HaveTypes p.types p.parameters vs) (x : Chosen p vs) where
   abbrev pub context : ℕ → Option ℕ
@@ -202,7 +195,7 @@ module _ (p : L.Loop) (vs : Values) (typed : HaveTypes p.types p.parameters vs) 
           let c = x.fine.count in
           let j = ending_uses_typed p context env x.clause.ending x.fine.typed r (omega (arith, e)) in
           let none = in_clause-above p.parameters x.clause.first_binder x.shape.fields r b (omega (arith, a, le)) ∙ slice_get_past x.shape.fields (r - x.clause.first_binder) (omega (arith, a, c, le)) in
-          absurd (none_some j.0 (sym none ∙ j.1))
+          absurd (none-some j.0 (sym none ∙ j.1))
 
   below : p.scrutinee < p.binders
   below = let a = x.fine.bound in let b = x.fine.behind in let c = within in omega (arith, a, b, c)
@@ -247,11 +240,11 @@ module _ (p : L.Loop) (vs : Values) (typed : HaveTypes p.types p.parameters vs) 
     live = λ r lt. ⊎_elim
         (λ same. let z = x.fine.matched (suc x.t) x.matched b in let y : wanted r ≡ wanted p.scrutinee = ap wanted same in absurd (omega (arith, lt, z, y)))
         (λ ne. let v = has_value r lt in (v.0, begins.others r ne ∙ ap content_of v.1))
-        (same_or_not r p.scrutinee);
+        (cases_eq r p.scrutinee);
     once = λ r v h cells. ⊎_elim
         (λ same. absurd (credit_holds (count_of x.fields) v (sym left ∙ ap regs (sym same) ∙ h)))
         (λ ne. once r v (content_inv (env r) v (sym (begins.others r ne) ∙ h)) cells ne)
-        (same_or_not r p.scrutinee);
+        (cases_eq r p.scrutinee);
     spares = subst (λ l. Spares regs p.scrutinee l) (sym x.fine.paid) (by_size (length x.shape.fields) (left ∙ ap credit_of (sym (list_of-length x.fields) ∙ typed-length p.types x.shape.fields x.fields x.typed)));
   }
     where
@@ -263,8 +256,8 @@ module _ (p : L.Loop) (vs : Values) (typed : HaveTypes p.types p.parameters vs) 
       others_none r ne c = not_credit (env r) (subst IsCredit (begins.others r ne) c)
 
       by_size : (n : ℕ) → regs p.scrutinee ≡ credit_of n → Spares regs p.scrutinee (credit n)
-      by_size zero q = λ r c. ⊎_elim (λ same. subst IsCredit (ap regs same ∙ q) c) (λ ne. others_none r ne c) (same_or_not r p.scrutinee)
-      by_size (suc n) q = (q, refl, λ r c. ⊎_elim (λ same. same) (λ ne. absurd (others_none r ne c)) (same_or_not r p.scrutinee))
+      by_size zero q = λ r c. ⊎_elim (λ same. subst IsCredit (ap regs same ∙ q) c) (λ ne. others_none r ne c) (cases_eq r p.scrutinee)
+      by_size (suc n) q = (q, refl, λ r c. ⊎_elim (λ same. same) (λ ne. absurd (others_none r ne c)) (cases_eq r p.scrutinee))
 
   -- the chosen clause runs
   clause_runs : (free left : ℕ) (e : M.End Values) (scalar : Bool) → is_scalar p.types (suc x.t) ≡ scalar → Done p free left e (N.ending_turn env x.clause.ending) → (pc : ℕ) → HasAt (instructions p) pc (clause_code scalar p.scrutinee p.binders x.clause) → EndsAt p free left e pc (arguments vs)
@@ -297,7 +290,7 @@ module _ (p : L.Loop) (vs : Values) (typed : HaveTypes p.types p.parameters vs) 
         by = λ r lt. ⊎_elim
             (λ same. let z = x.fine.matched (suc x.t) x.matched b in let y : wanted r ≡ wanted p.scrutinee = ap wanted same in absurd (omega (arith, lt, z, y)))
             (λ ne. took.begins.others r ne)
-            (same_or_not r p.scrutinee);
+            (cases_eq r p.scrutinee);
       })
       (taken_owes b took.rest took.credit took.begins) new below done)
 

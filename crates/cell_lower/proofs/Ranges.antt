@@ -2,7 +2,8 @@
 use Rattle.std.proofs.Common.{◌≡◌, ℕ, zero, suc, ◌+◌, ◌<◌, ◌≤◌, ◌-◌, Bool, true, false, List, [], ◌∷◌, ◌++◌, length, map, Option, Some, None, refl, sym, ap, ◌∙◌, subst, ⊎_elim, arith}
 use Rattle.std.specs.Prelude.{slice_get, ◌==◌}
 use Rattle.std.proofs.lemmas.Bool.{cases_lt}
-use Rattle.std.proofs.lemmas.Option.{slice_get_within, slice_get_past}
+use Rattle.std.proofs.lemmas.Option.{slice_get_within, slice_get_past, none-some}
+use Rattle.std.proofs.lemmas.List.{length-map}
 use Rattle.fip_language.specs.Table.{Table}
 use Rattle.loop_form.specs.Loop as L
 use Rattle.loop_form.specs.Meaning.{in_clause}
@@ -59,10 +60,6 @@ typed-how_many tb context L.NoTerms (k ∷ ks) h = absurd h
 typed-how_many tb context (L.MoreTerms t ts) [] h = absurd h
 typed-how_many tb context (L.MoreTerms t ts) (k ∷ ks) h = ap suc (typed-how_many tb context ts ks h.1)
 
-map-length : {A B : Type 0} (f : A → B) (xs : List A) → length (map f xs) ≡ length xs
-map-length f [] = refl
-map-length f (x ∷ xs) = ap suc (map-length f xs)
-
 numbers-below : (m n k : ℕ) → n + k ≤ m → AllBelow m (numbers_from n k)
 numbers-below m n zero le = tt
 numbers-below m n (suc k) le = (omega (arith, le), numbers-below m (suc n) k (omega (arith, le)))
@@ -104,7 +101,7 @@ module _ (p : L.Loop) (within : p.scrutinee < p.registers) where
   ending_range at (L.Again ts) used room many =
       let q = terms_code p.scrutinee p.binders ts in
       let a = terms_range (loop_function p ∷ []) p.registers p.scrutinee within p.binders at ts used room in
-      let n : length q.registers ≡ length (map owned p.parameters) = registers-length p.scrutinee p.binders ts ∙ many ts refl ∙ sym (map-length owned p.parameters) in
+      let n : length q.registers ≡ length (map owned p.parameters) = registers-length p.scrutinee p.binders ts ∙ many ts refl ∙ sym (length-map p.parameters owned) in
       range_append (loop_function p ∷ []) p.registers at q.code (Tail 0 q.registers ∷ []) a.0 ((a.1, loop_function p, refl, n), tt)
 
   clause_range : (scalar : Bool) (at : ℕ) (k : L.Clause) → IsPlain p k → AllInRange (loop_function p ∷ []) p.registers at (clause_code scalar p.scrutinee p.binders k)
@@ -122,9 +119,6 @@ module _ (p : L.Loop) (within : p.scrutinee < p.registers) where
       (placed_range scalar at (length ks == 0) k (h 0 k refl))
       (clauses_range scalar (at + length (placed_clause scalar p.scrutinee p.binders at (length ks == 0) k)) ks (λ i j e. h (suc i) j e))
 
-none_some : {A : Type 0} (x : A) → None ≡ Some x → ⊥
-none_some x e = cc
-
 context-below : (p : L.Loop) (fields : List ℕ) (k : L.Clause) → IsFineClause p fields k → (r j : ℕ) → in_clause p.parameters k.first_binder fields r ≡ Some j → r < p.binders
 context-below p fields k f r j e = ⊎_elim
     (λ lt. lt)
@@ -132,7 +126,7 @@ context-below p fields k f r j e = ⊎_elim
     let a = f.bound in
     let b = f.behind in
     let c = f.count in
-    absurd (none_some j (sym (in_clause-above p.parameters k.first_binder fields r b (omega (arith, a, ge)) ∙ slice_get_past fields (r - k.first_binder) (omega (arith, a, c, ge))) ∙ e)))
+    absurd (none-some j (sym (in_clause-above p.parameters k.first_binder fields r b (omega (arith, a, ge)) ∙ slice_get_past fields (r - k.first_binder) (omega (arith, a, c, ge))) ∙ e)))
     (cases_lt r p.binders)
 
 is_plain : (p : L.Loop) (fields : List ℕ) (k : L.Clause) → IsFineClause p fields k → IsPlain p k
@@ -157,7 +151,7 @@ in_range p f =
     let inside = slice_get_within p.parameters p.scrutinee (suc f.scrutinee.0) f.scrutinee.1 in
     let room : length p.parameters ≤ p.registers = omega (arith, a, b, c) in
     let ranges = clauses_range p (omega (arith, inside, room)) (has_scalar_scrutinee p) 0 p.clauses (λ i j e. let g = f.clauses i j e in is_plain p g.0.fields j g.2) in
-    record { functions = λ g h e. by_number g h e (let l = map-length owned p.parameters in omega (arith, l, room)) ranges }
+    record { functions = λ g h e. by_number g h e (let l = length-map p.parameters owned in omega (arith, l, room)) ranges }
   where
     by_number : (g : ℕ) (h : Function) → slice_get (loop_function p ∷ []) g ≡ Some h → length (map owned p.parameters) ≤ p.registers → AllInRange (loop_function p ∷ []) p.registers 0 (instructions p) → IsFunction (loop_function p ∷ []) h
     by_number zero h e room ranges =
@@ -166,4 +160,4 @@ in_range p f =
           room = room;
           instructions = λ i x g. let z : 0 + i ≡ i = omega arith in subst (λ k. IsInRange (loop_function p ∷ []) p.registers k x) z (range_get (loop_function p ∷ []) p.registers 0 (instructions p) i x ranges g);
         })
-    by_number (suc g) h e room ranges = absurd (none_some h e)
+    by_number (suc g) h e room ranges = absurd (none-some h e)

@@ -1,8 +1,8 @@
 -- Whole runs: turn after turn, as the program's meaning; and a run has one end.
-use Rattle.std.proofs.Common.{◌≡◌, ℕ, zero, suc, ◌+◌, List, [], ◌∷◌, ◌++◌, length, map, Some, None, refl, sym, ap, ◌∙◌, subst, arith, append_assoc, length-append}
+use Rattle.std.proofs.Common.{◌≡◌, ℕ, zero, suc, ◌+◌, List, [], ◌∷◌, ◌++◌, length, map, Some, refl, sym, ap, ◌∙◌, subst, arith, append_assoc, length-append}
 use Rattle.std.specs.Prelude.{slice_index}
 use Rattle.std.proofs.Math.Seq.{get_or-append_seam}
-use Rattle.std.proofs.lemmas.Option.{slice_get-get_or, get_or_from_slice_get}
+use Rattle.std.proofs.lemmas.Option.{slice_get-get_or, get_or_from_slice_get, none-some, same_Some}
 use Rattle.fip_language.specs.Values.{Value, Values, End, More}
 use Rattle.fip_language.specs.Table.{HasType, HaveTypes}
 use Rattle.loop_form.specs.Loop as L
@@ -27,10 +27,7 @@ has_all (x ∷ xs) pre =
 
 -- the entry takes a call
 entry_ends : (p : L.Loop) (free left : ℕ) (e : M.End Values) (vs : Values) → EndsAt p free left e 0 (arguments vs) → EndsIn (lowered p) vs free (suc left) e
-entry_ends p free left e vs (zero, h) = absurd (none_some h)
-  where
-    none_some : None ≡ Some e → ⊥
-    none_some q = cc
+entry_ends p free left e vs (zero, h) = absurd (none-some e h)
 entry_ends p free left e vs (suc m, h) = (suc m, h)
 
 -- The run ends as the meaning does. By recursion on the calls: each turn takes one.
@@ -109,13 +106,10 @@ behaves p f = record {
   ends = λ vs free calls h. ends p f free calls vs h;
   ends_only = λ vs free calls e o h w is.
       let r = ends p f free calls vs h in
-      let same : r.0 ≡ o = some_inj (sym r.1 ∙ is) in
+      let same : r.0 ≡ o = same_Some r.0 o (sym r.1 ∙ is) in
       same_end (next (lowered p)) w.0 r.2.0 calls (M.Entered (loaded 0 vs free)) e r.0 w.1 r.2.1 ∙ same;
   typed = λ vs calls left v h e. value_typed p f calls vs v left h e;
 }
-  where
-    some_inj : {a b : M.End Values} → Some a ≡ Some b → a ≡ b
-    some_inj q = cc
 
 parameter-types : (ts : List ℕ) → map (λ q. q.type) (map owned ts) ≡ ts
 parameter-types [] = refl

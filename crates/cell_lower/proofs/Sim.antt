@@ -1,8 +1,9 @@
 -- The tree machine runs a clause's terms as they mean. Each statement says: if the run ends in e from every state that
 -- the code leaves as it should, then it ends in e from the state before the code.
-use Rattle.std.proofs.Common.{◌≡◌, ℕ, suc, ◌+◌, ◌<◌, ◌≤◌, List, [], ◌∷◌, ◌++◌, length, Option, Some, None, refl, sym, ap, ◌∙◌, subst, ⊎_elim, arith, length-append, append_assoc, append-nil}
+use Rattle.std.proofs.Common.{◌≡◌, ℕ, suc, ◌+◌, ◌<◌, ◌≤◌, List, [], ◌∷◌, ◌++◌, length, Option, Some, None, refl, sym, ap, ◌∙◌, subst, ⊎_elim, arith, length-append, append_assoc, append-nil, eq-eqb}
 use Rattle.std.specs.Prelude.{slice_get, if◌then◌else◌, option_and_then}
 use Rattle.std.proofs.lemmas.Bool.{cases_lt}
+use Rattle.cell_code.proofs.Puts.{put-same, put-other}
 use Rattle.fip_language.specs.Values.{Value, Int, Node, Values, End, More, count_of}
 use Rattle.fip_language.specs.Store.{one_at, count}
 use Rattle.loop_form.specs.Loop as L
@@ -11,7 +12,6 @@ use Rattle.cell_code.specs.Code.{Instruction, Const, Atom, Move, Put, Tail, Ret}
 use Rattle.cell_code.specs.Machine as M
 use Rattle.cell_code.specs.TreeMachine.{Holds, Credit, Registers, put, kept, is_free, put_node, moved, write, State, TreeNext, went, leaving, returned, entered, loaded, act, act_at, next}
 use Rattle.cell_lower.specs.Lower.{term_code, terms_code, give_code, again_code, instructions, lowered}
-use Rattle.cell_lower.proofs.Puts.{put-same, put-other, nat_eq-same}
 use Rattle.cell_lower.proofs.Owes.{one_at-same, one_at-other, Owes, owes_same, owes_write, owes_spend, Kept, kept_refl, kept_on, kept_less, free_there, free_all, kept-free, AllHold, reads}
 use Rattle.cell_lower.proofs.Entry.{content_of}
 
@@ -107,7 +107,7 @@ module _ (p : L.Loop) (free left : ℕ) (e : M.End Values) where
         goes_on pc x regs regs' at (is ∙ ap (λ b. went (state pc regs) (if b then Some regs' else None)) clear)
         (go regs'
         (record { by = λ r wanted. put-other regs n (Holds v) r (λ h. let z : d r ≡ d n = ap d h in absurd (omega (arith, z, none, wanted))) })
-        (put-same regs n (Holds v))
+        (put-same regs n (Holds v) n refl)
         (owes_write s regs d after n v o none other))
 
     -- A node is made of values that are there, and moved to its register: the sources are read, the Put finds the credit
@@ -123,15 +123,15 @@ module _ (p : L.Loop) (free left : ℕ) (e : M.End Values) where
         let other : n ≡ s → ⊥ = λ h. absurd (omega (arith, h, lt)) in
         let none_after : after ≡ [] = read.owes.spares.1 in
         let same4 : (r : ℕ) → (r ≡ s → ⊥) → regs4 r ≡ regs2 r = λ r ne. put-other regs3 s (kept node) r ne ∙ put-other regs2 s (Holds node) r ne in
-        let spent = owes_spend s regs2 regs4 d k after read.owes same4 (ap is_free (put-same regs3 s (kept node)) ∙ kept-free node) in
+        let spent = owes_spend s regs2 regs4 d k after read.owes same4 (ap is_free (put-same regs3 s (kept node) s refl) ∙ kept-free node) in
         let owes4 : Owes s regs4 d after = subst (λ l. Owes s regs4 d l) (sym none_after) spent in
         let clear = free_there s regs4 d after n owes4 none other in
         let made : act p.registers (state pc regs) (Put s ty c rs) ≡ M.Went (state (pc + 1) regs3) =
         ap (λ x. went (state pc regs) (option_and_then (put_node s c (regs s)) x)) read.read
         ∙ ap (λ x. went (state pc regs) (put_node s c x (record { values = vs; rest = regs2 }))) o.spares.0
-        ∙ ap (λ b. went (state pc regs) (if b then Some regs3 else None)) (nat_eq-same (count_of vs) k many) in
+        ∙ ap (λ b. went (state pc regs) (if b then Some regs3 else None)) (eq-eqb (count_of vs) k many) in
         let gone : act p.registers (state (pc + 1) regs3) (Move n s) ≡ M.Went (state (pc + 1 + 1) regs5) =
-        ap (λ x. went (state (pc + 1) regs3) (moved regs3 n s x)) (put-same regs2 s (Holds node))
+        ap (λ x. went (state (pc + 1) regs3) (moved regs3 n s x)) (put-same regs2 s (Holds node) s refl)
         ∙ ap (λ b. went (state (pc + 1) regs3) (if b then Some regs5 else None)) clear in
         goes_on pc (Put s ty c rs) regs regs3 has.0 made
         (goes_on (pc + 1) (Move n s) regs3 regs5 has.1.0 gone
@@ -142,7 +142,7 @@ module _ (p : L.Loop) (free left : ℕ) (e : M.End Values) where
               let not_s : r ≡ s → ⊥ = λ h. let z : d r ≡ d s = ap d h in let live = read.owes.live s (omega (arith, z, wanted)) in absurd (credit_holds k live.0 (sym read.owes.spares.0 ∙ live.1)) in
               put-other regs4 n (Holds node) r not_n ∙ same4 r not_s ∙ read.keeps.by r wanted;
         })
-        (put-same regs4 n (Holds node))
+        (put-same regs4 n (Holds node) n refl)
         (owes_write s regs4 d after n node owes4 none other)))
       where
         credit_holds : (k : ℕ) (v : Value) → Credit k ≡ Holds v → ⊥

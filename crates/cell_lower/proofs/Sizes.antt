@@ -1,6 +1,7 @@
 -- How many instructions the code of a term has.
-use Rattle.std.proofs.Common.{◌≡◌, ◌≤◌, ◌+◌, ◌*◌, ℕ, zero, suc, Bool, true, false, List, [], ◌∷◌, length, Some, None, subst, arith, length-append}
+use Rattle.std.proofs.Common.{◌≡◌, ◌≤◌, ◌+◌, ◌*◌, ℕ, zero, suc, Bool, true, false, List, [], ◌∷◌, length, subst, arith, length-append}
 use Rattle.std.specs.Prelude.{◌==◌}
+use Rattle.std.proofs.lemmas.Option.{none-some}
 use Rattle.loop_form.specs.Loop as L
 use Rattle.cell_code.specs.Code.{Put, Move, Ret, Tail}
 use Rattle.cell_lower.specs.Lower.{term_code, terms_code, ending_code, clause_code, placed_clause, clauses_code, has_scalar_scrutinee, loop_function, lowered}
@@ -61,7 +62,4 @@ is_short p zero g e =
     let same : loop_function p ≡ g = cc in
     let n = clauses_code-length (has_scalar_scrutinee p) p.scrutinee p.binders p.clauses 0 in
     subst (λ h. length h.instructions ≤ 2 * L.made_in_clauses p.clauses + 3 * length p.clauses) same n
-is_short p (suc f) g e = absurd (none_some e)
-  where
-    none_some : None ≡ Some g → ⊥
-    none_some q = cc
+is_short p (suc f) g e = absurd (none-some g e)

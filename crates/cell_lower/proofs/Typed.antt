@@ -1,13 +1,14 @@
 -- In a fine program each register has a value of its type, and terms have values of theirs.
 use Rattle.std.proofs.Common.{◌≡◌, ℕ, zero, suc, ◌<◌, ◌-◌, Bool, true, false, List, [], ◌∷◌, length, Option, Some, None, refl, sym, ap, ◌∙◌, subst, ⊎_elim, arith}
 use Rattle.std.specs.Prelude.{slice_get, nat_lt, if◌then◌else◌, ◌&&◌}
+use Rattle.std.proofs.lemmas.Option.{none-some}
+use Rattle.std.proofs.lemmas.Bool.{cases_eq}
 use Rattle.fip_language.specs.Values.{Value, Int, Node, Values, End, More}
 use Rattle.fip_language.specs.Table.{Table, Shape, shapes, constructors, no_fields, all_bare, is_scalar, HasType, HaveTypes}
 use Rattle.loop_form.specs.Loop as L
 use Rattle.loop_form.specs.Meaning.{list_of, in_clause, node_of, more_of, term_value, terms_values}
 use Rattle.loop_form.specs.Fine.{TermHasType, TermsHaveTypes}
 use Rattle.cell_code.specs.TreeMachine.{has_cells}
-use Rattle.cell_lower.proofs.Puts.{same_or_not}
 use Rattle.cell_lower.proofs.Owes.{one_at-other}
 
 -- a type and a value of it, or neither
@@ -53,10 +54,7 @@ both_in_clause tb ts vs b fs ws h g r =
     (both_if tb (nat_lt r (length ts)) _ _ _ _ (both_get tb ts vs h r) (both_if tb (nat_lt r b) None _ None _ tt (both_get tb fs ws g (r - b))))
 
 atom_typed : (tb : Table) (ty c : ℕ) (s : Shape) → slice_get (constructors tb ty) c ≡ Some s → (vs : Values) → HaveTypes tb s.fields vs → HasType tb ty (Node c vs)
-atom_typed tb zero c s e vs h = absurd (none e)
-  where
-    none : None ≡ Some s → ⊥
-    none e = cc
+atom_typed tb zero c s e vs h = absurd (none-some s e)
 atom_typed tb (suc t) c s e vs h = (s, e, h)
 
 module _ (tb : Table) (context : ℕ → Option ℕ) (env : ℕ → Option Value) where
@@ -85,7 +83,7 @@ module _ (tb : Table) (context : ℕ → Option ℕ) (env : ℕ → Option Value
     term_uses (L.Register q) k h r lt = ⊎_elim
         (λ e. (k, ap context e ∙ h))
         (λ ne. let z = one_at-other r q ne in absurd (omega (arith, lt, z)))
-        (same_or_not r q)
+        (cases_eq r q)
     term_uses (L.Literal i) k h r lt = absurd (omega (arith, lt))
     term_uses (L.Atom ty c) k h r lt = absurd (omega (arith, lt))
     term_uses (L.Node ty c ts) k h r lt = terms_uses ts h.1.fields h.3 r lt
@@ -104,10 +102,7 @@ and_false true = refl
 and_false false = refl
 
 bare_get : (ss : List Shape) (c : ℕ) (s : Shape) → slice_get ss c ≡ Some s → no_fields s.fields ≡ false → all_bare ss ≡ false
-bare_get [] c s e n = absurd (none e)
-  where
-    none : None ≡ Some s → ⊥
-    none e = cc
+bare_get [] c s e n = absurd (none-some s e)
 bare_get (x ∷ ss) zero s e n = let same : x ≡ s = cc in ap (λ y. no_fields y.fields && all_bare ss) same ∙ ap (λ b. b && all_bare ss) n
 bare_get (x ∷ ss) (suc c) s e n = ap (λ b. no_fields x.fields && b) (bare_get ss c s e n) ∙ and_false (no_fields x.fields)
 
@@ -125,10 +120,7 @@ cells_not_scalar tb (suc t) (Node c (More v vs)) h e = bare_get (shapes tb t) c 
 
 -- the constructors of a scalar type have no field
 pub scalar_fields : (ss : List Shape) (c : ℕ) (s : Shape) → all_bare ss ≡ true → slice_get ss c ≡ Some s → s.fields ≡ []
-scalar_fields [] c s b e = absurd (none e)
-  where
-    none : None ≡ Some s → ⊥
-    none e = cc
+scalar_fields [] c s b e = absurd (none-some s e)
 scalar_fields (x ∷ ss) zero s b e = let same : x ≡ s = cc in sym (ap (λ y. y.fields) same) ∙ by_fields x.fields b
   where
     by_fields : (fs : List ℕ) → (no_fields fs && all_bare ss) ≡ true → fs ≡ []

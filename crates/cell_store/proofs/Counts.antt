@@ -2,7 +2,7 @@
 use Rattle.std.proofs.Common.{◌≡◌, ℕ, zero, suc, ◌+◌, ◌<◌, ◌≤◌, Bool, true, false, List, [], ◌∷◌, ◌++◌, length, set, get_or, slice_get, Some, All, nat_eq, refl, ◌∙◌, ap, arith, cond}
 use Rattle.std.proofs.lemmas.Grind.{get_or-set_at}
 use Rattle.std.proofs.lemmas.List.{get_or-set_other}
-use Rattle.std.proofs.lemmas.Option.{slice_get_read}
+use Rattle.std.proofs.lemmas.Option.{slice_get_read, slice_get_within, get_or_from_slice_get}
 use Rattle.std.specs.Option.{option_and_then}
 use Rattle.fip_language.specs.Store.{Cell}
 use Rattle.cell_store.specs.Count.{size_of, sizes, size_at, one_live, count_live}
@@ -69,6 +69,9 @@ pub size_at-get_or : (cs : List Cell) (p : ℕ) (d : Cell) → p < length cs →
 size_at-get_or [] p d h = absurd (omega arith)
 size_at-get_or (c ∷ cs) zero d h = refl
 size_at-get_or (c ∷ cs) (suc p) d h = size_at-get_or cs p d (omega arith)
+
+pub size_at_is : (cs : List Cell) (p : ℕ) (c : Cell) → slice_get cs p ≡ Some c → size_at cs p ≡ size_of c
+size_at_is cs p c e = size_at-get_or cs p c (slice_get_within cs p c e) ∙ ap size_of (get_or_from_slice_get cs p c c e)
 
 pub size_at_within : (cs : List Cell) (p i : ℕ) → i < size_at cs p → p < length cs
 size_at_within [] p i h = absurd (omega arith)

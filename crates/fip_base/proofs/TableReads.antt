@@ -1,5 +1,5 @@
 -- Reads of the table of types.
-use Rattle.std.proofs.Common.{◌≡◌, ◌≢◌, ℕ, zero, suc, ◌+◌, ◌<◌, ◌≤◌, ◌-◌, ◌⊎◌, List, [], ◌∷◌, length, get_or, refl, arith, sym, ◌∙◌, ap, subst, Bool, true, false, inl, inr}
+use Rattle.std.proofs.Common.{◌≡◌, ◌≢◌, ℕ, zero, suc, ◌+◌, ◌<◌, ◌≤◌, ◌-◌, ◌⊎◌, List, [], ◌∷◌, length, get_or, refl, arith, sym, ◌∙◌, ap, subst, inl, inr}
 use Rattle.std.proofs.lemmas.Option.{slice_get_within, get_or_from_slice_get}
 use Rattle.std.proofs.lemmas.Bool.{cases_lt}
 use Rattle.fip_language.specs.Table.{Shape, Table, constructors, shapes}
@@ -36,6 +36,3 @@ below_next i d h = elim (cases_lt d i) [ inl l ↦ inl l | inr g ↦ inr (omega 
 pub IsNamed_none_more : (ss : List Shape) (name : List ℕ) (i : ℕ) (s : Shape) → s ≡ get_or ss i s → (s.name ≡ name → ⊥) → ((d : ℕ) → d < i → IsNamed ss name d → ⊥) → (d : ℕ) → d < i + 1 → IsNamed ss name d → ⊥
 IsNamed_none_more ss name i s e other before d h is =
     elim (below_next i d h) [ inl l ↦ before d l is | inr q ↦ other (IsNamed_read ss name i s e (subst (λ k. IsNamed ss name k) q is)) ]
-
-pub not_both : (b : Bool) → b ≡ false → b ≡ true → ⊥
-not_both b e f = cc

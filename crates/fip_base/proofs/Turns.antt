@@ -1,5 +1,5 @@
 -- Two turns of reading or writing, one after the other, and the bytes that a turn moves.
-use Rattle.std.proofs.Common.{◌≡◌, ℕ, ◌+◌, ◌-◌, ◌≤◌, List, [], ◌++◌, drop, take, length, ap, sym, ◌∙◌, Option, Some, None, append_assoc, arith}
+use Rattle.std.proofs.Common.{◌≡◌, ℕ, ◌+◌, ◌-◌, ◌≤◌, List, ◌++◌, drop, take, length, ap, sym, ◌∙◌, Option, Some, None, append_assoc, arith}
 use Rattle.std.proofs.lemmas.Grind.{common_steps}
 use Rattle.std.proofs.lemmas.List.{take-append-drop}
 use Rattle.std.specs.Io.KnownBytes.{Appends, Consumes}
@@ -19,6 +19,3 @@ Consumes-append (Some a) (Some b) (Some c) xs ys h k = h ∙ ap (λ z. xs ++ z) 
 -- n bytes from a place on stand in front of a buffer, and what comes after them is left.
 pub drop-moved : (bs : List ℕ) (start n : ℕ) (ys rest : List ℕ) → start + n ≤ length bs → ys ≡ take (start + n - start) (drop start bs) → drop start bs ≡ take n (ys ++ rest) ++ drop (start + n) bs
 drop-moved bs start n ys rest h e = grind (arith, common_steps, take-append-drop n (drop start bs))
-
-pub drop-past : (bs : List ℕ) (start : ℕ) → length bs ≤ start → drop start bs ≡ []
-drop-past bs start h = grind (arith, common_steps)

@@ -1,5 +1,5 @@
 -- Each state can be completed.
-use Rattle.std.proofs.Common.{◌≡◌, ℕ, pos, neg_ℤ, ◌≤◌, Bool, true, false, List, [], ◌∷◌, ◌++◌, Option, Some, None, ◌⊎◌, inl, inr, refl, ◌∙◌}
+use Rattle.std.proofs.Common.{ℕ, pos, neg_ℤ, Bool, true, false, List, [], ◌∷◌, ◌++◌, Option, Some, None, inl, inr, refl}
 use Rattle.fip_language.specs.declared.Place.{Place}
 use Rattle.fip_language.specs.declared.FunKind.{FunKind}
 use Rattle.fip_language.specs.Core.{Name, Written, WrittenInt, WrittenName, Writtens, NoWritten, MoreWritten, Result, OneResult, TupleResult, SignatureParameter, TypeParameter, TypeName, Data}

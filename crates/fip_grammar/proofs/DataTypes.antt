@@ -1,5 +1,5 @@
 -- The rows of data types.
-use Rattle.std.proofs.Common.{◌≡◌, List, [], ◌∷◌, ◌++◌, ◌⊎◌, inl, inr, refl, sym, subst, ◌∙◌}
+use Rattle.std.proofs.Common.{List, [], ◌∷◌, inl, inr, refl, sym, subst, ◌∙◌}
 use Rattle.fip_language.specs.declared.Place.{Place}
 use Rattle.fip_language.specs.Core.{Name, Written, TypeName, DataConstructor, Data}
 use Rattle.fip_language.specs.Surface.{Declaration, DataDeclaration}

@@ -1,5 +1,5 @@
 -- No state inside a declaration is complete where no token is left.
-use Rattle.std.proofs.Common.{◌≡◌, ℕ, ℤ, suc, ◌≤◌, Bool, true, false, List, [], ◌∷◌, ◌++◌, Option, Some, None, ◌⊎◌, inl, inr, refl, sym, ap, subst, ◌∙◌}
+use Rattle.std.proofs.Common.{◌≡◌, ℕ, ℤ, suc, Bool, true, false, List, [], ◌∷◌, ◌++◌, Option, Some, None, ◌⊎◌, inl, inr, refl, sym, ap, subst, ◌∙◌, append-nil}
 use Rattle.fip_language.specs.declared.Place.{Place}
 use Rattle.fip_language.specs.declared.FunKind.{FunKind}
 use Rattle.fip_language.specs.declared.Operator.{Operator}
@@ -13,7 +13,6 @@ use Rattle.fip_grammar.specs.Machine.{Binding, FunctionHead, FunctionHeading, Da
 use Rattle.fip_language.specs.declared.FunKind.TheVariants as K
 use Rattle.fip_grammar.proofs.Residual.{more_statics, FromOpen, FromStaticStart, InFunctionFrom, more_names, AfterConstructor, FromDataBrace, new_constructor, InDataFrom, Compared, Grown, LevelEnds, ExpressionEnds, AfterOperand, AfterBind, CallFrom, InBodyFrom, AfterUse, AfterType, InTypeFrom, AfterPatterns, InPatternFrom, From, Chain}
 use Rattle.fip_grammar.proofs.Operators.{peel}
-use Rattle.fip_grammar.proofs.Lists.{append_none}
 
 none : {A : Type 0} {t : Token} {ts : List Token} → [] ≡ t ∷ ts → A
 none {A = A} {t = t} {ts = ts} e = cc
@@ -325,7 +324,7 @@ no_program (DataDeclaration d ∷ ds) c = let k = c.1 in none k.4.1
 no_program (FunctionDeclaration f ∷ ds) c = let k = c.1 in absurd (no_kind f.kind k.0 k.1 k.3 k.4)
 
 pub ends_in : (done : List Declaration) (s : State) (ds : List Declaration) → From s [] ds → ended_in done s ≡ Some (done ++ ds)
-ends_in done Top ds c = ap Some (sym (append_none done) ∙ ap (λ l. done ++ l) (sym (no_program ds c)))
+ends_in done Top ds c = ap Some (sym (append-nil done) ∙ ap (λ l. done ++ l) (sym (no_program ds c)))
 ends_in done (InFunction h) ds c = absurd (no_function h ds c)
 ends_in done (InData h) ds c = absurd (no_data h ds c)
 ends_in done (InType x o u) ds c = absurd (no_in_type x o u ds c)

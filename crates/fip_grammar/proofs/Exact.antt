@@ -1,5 +1,5 @@
 -- The machine accepts just the programs, and stops at the least token with which no program begins.
-use Rattle.std.proofs.Common.{◌≡◌, ℕ, suc, ◌≤◌, List, [], ◌∷◌, ◌++◌, Some, ◌⊎◌, refl, sym, ap, subst, ◌∙◌, take}
+use Rattle.std.proofs.Common.{◌≡◌, ℕ, suc, List, [], ◌∷◌, ◌++◌, Some, refl, sym, ap, subst, ◌∙◌, take, append-nil, append_assoc}
 use Rattle.fip_language.specs.declared.Place.{Place}
 use Rattle.fip_language.specs.declared.FunKind.{FunKind}
 use Rattle.fip_language.specs.Core.{DataConstructor, Data}
@@ -12,7 +12,6 @@ use Rattle.fip_language.specs.declared.FunKind.TheVariants as K
 use Rattle.fip_grammar.proofs.Residual.{more_parameters, more_statics, FromStart, new_head, FunctionNameFrom, more_constructors, more_names, FromConstructor, new_data, FromDataName, From, Fits}
 use Rattle.fip_language.specs.Prefix.{Accepted, Stopped, run, IsPlace}
 use Rattle.fip_language.proofs.Prefix.{IsExact, stops_at_place, accepts, accepted}
-use Rattle.fip_grammar.proofs.Lists.{snoc_append, append_none}
 use Rattle.fip_grammar.proofs.Functions.{head, take_function, give_function}
 use Rattle.fip_grammar.proofs.DataTypes.{take_data, give_data}
 use Rattle.fip_grammar.proofs.Types.{take_in_type, give_in_type}
@@ -111,7 +110,7 @@ Completes m ts x = (ds : List Declaration) × (x ≡ m.done ++ ds) × From m.sta
 takes_next : (done : List Declaration) (n : Next) (ts : List Token) (x : Program) (ds : List Declaration) → x ≡ done ++ ds → Fits n ts ds → (m : Machine) × (then_next done n ≡ Some m) × Completes m ts x
 takes_next done Refused ts x ds e c = absurd c
 takes_next done (Stays s) ts x ds e c = (record { done = done; state = s }, refl, (ds, e, c))
-takes_next done (Declares d) ts x ds e c = (record { done = done ++ d ∷ []; state = Top }, refl, (c.0, e ∙ ap (λ l. done ++ l) c.1 ∙ sym (snoc_append done d c.0), c.2))
+takes_next done (Declares d) ts x ds e c = (record { done = done ++ d ∷ []; state = Top }, refl, (c.0, e ∙ ap (λ l. done ++ l) c.1 ∙ sym (append_assoc done (d ∷ []) c.0), c.2))
 
 gives_next : (done : List Declaration) (n : Next) (m : Machine) (ts : List Token) (x : Program) → then_next done n ≡ Some m → Completes m ts x → (ds : List Declaration) × (x ≡ done ++ ds) × Fits n ts ds
 gives_next done Refused m ts x e c = cc
@@ -121,10 +120,10 @@ gives_next done (Stays s) m ts x e c =
 gives_next done (Declares d) m ts x e c =
     let same : m ≡ record { done = done ++ d ∷ []; state = Top } = cc in
     let k = subst (λ z. Completes z ts x) same c in
-    (d ∷ k.0, k.1 ∙ snoc_append done d k.0, (k.0, refl, k.2))
+    (d ∷ k.0, k.1 ∙ append_assoc done (d ∷ []) k.0, (k.0, refl, k.2))
 
 ended_none : (done : List Declaration) (s : State) (x : Program) → ended_in done s ≡ Some x → Completes (record { done = done; state = s }) [] x
-ended_none done Top x e = let h : x ≡ done = cc in ([], h ∙ sym (append_none done), refl)
+ended_none done Top x e = let h : x ≡ done = cc in ([], h ∙ sym (append-nil done), refl)
 ended_none done (InFunction h) x e = cc
 ended_none done (InData h) x e = cc
 ended_none done (InType q o u) x e = cc

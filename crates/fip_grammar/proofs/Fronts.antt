@@ -1,34 +1,16 @@
 -- The longest token at the front of a text.
-use Rattle.std.proofs.Common.{rules, ◌≡◌, ◌≢◌, ℕ, zero, suc, ◌+◌, ◌-◌, ◌<◌, ◌≤◌, Bool, true, false, cond, ◌&&◌, ◌||◌, ◌==◌, codes, List, [], ◌∷◌, ◌++◌, length, take, drop, map, Some, None, refl, sym, ap, subst, ◌∙◌, arith}
+use Rattle.std.proofs.Common.{rules, ◌≡◌, ◌≢◌, ℕ, zero, suc, ◌+◌, ◌-◌, ◌<◌, ◌≤◌, Bool, true, false, cond, ◌&&◌, ◌||◌, ◌==◌, codes, List, [], ◌∷◌, ◌++◌, length, take, drop, Some, None, refl, sym, ap, subst, ◌∙◌, arith, append-nil, append_assoc, drop_of_length-le, length-append, length-take-le, take-append-drop, drop-drop}
 use Rattle.std.specs.List.{prefix_len, list_all}
 use Rattle.std.specs.Str.{bytes_eq}
 use Rattle.std.proofs.lemmas.List.{take_all}
 use Rattle.std.proofs.lemmas.Slice.Eq.{bytes_eq-Decides}
+use Rattle.std.proofs.lemmas.Bool.{cond-true, cond-false, false_from_ne_true}
+use Rattle.std.proofs.Math.Seq.{drop-append_seam}
 use Rattle.fip_language.specs.declared.Place.{Place}
 use Rattle.fip_grammar.specs.Token.{Word, Upper, Number, Mark, Token}
 use Rattle.fip_grammar.specs.declared.Sign.TheVariants as S
 use Rattle.fip_grammar.specs.Cut.{is_lower, is_upper, is_digit, is_name, keyword_or_name, single_sign, sign_of, lower_word, word_of, IsFirst, BeginsNone, is_blank, is_comment, is_gap, is_no_lf, EndsLine, Piece, Blank, Comment, Cut, piece_text, BeginsWith, along, next_line, behind, behind_all, Pieces, tokens_at, tokens_of, first_place, IsCut, IsBadByte}
 use Rattle.fip_grammar.specs.Claims.{double_start, IsFront, IsRead}
-
-cond_true : {A : Type 0} (b : Bool) (x y : A) → b ≡ true → cond b x y ≡ x
-cond_true b x y e = ap (λ c. cond c x y) e
-
-cond_false : {A : Type 0} (b : Bool) (x y : A) → b ≡ false → cond b x y ≡ y
-cond_false b x y e = ap (λ c. cond c x y) e
-
-is_false : (b : Bool) → (b ≡ true → ⊥) → b ≡ false
-is_false true h = absurd (h refl)
-is_false false h = refl
-
-take_length : (n : ℕ) (xs : List ℕ) → n ≤ length xs → length (take n xs) ≡ n
-take_length zero xs h = refl
-take_length (suc n) [] h = absurd (omega (arith, h))
-take_length (suc n) (x ∷ xs) h = ap suc (take_length n xs (omega (arith, h)))
-
-take_drop : (n : ℕ) (xs : List ℕ) → xs ≡ take n xs ++ drop n xs
-take_drop zero xs = refl
-take_drop (suc n) [] = refl
-take_drop (suc n) (x ∷ xs) = ap (λ l. x ∷ l) (take_drop n xs)
 
 -- The bytes at the front that pass a test pass, and with one more they don't.
 
@@ -63,24 +45,24 @@ within_front p (x ∷ xs) = within_on p x xs (p x) (within_front p xs)
 -- What a text is whose first byte is of a kind.
 
 lower_is : (b : ℕ) (bs : List ℕ) → is_lower b ≡ true → word_of (b ∷ bs) ≡ lower_word (list_all is_name bs) (b ∷ bs)
-lower_is b bs e = cond_true (is_lower b) (lower_word (list_all is_name bs) (b ∷ bs)) (cond (is_upper b) (cond (list_all is_name bs) (Some (Upper (b ∷ bs))) None) (cond (is_digit b) (cond (list_all is_digit bs) (Some (Number (b ∷ bs))) None) (sign_of b bs))) e
+lower_is b bs e = cond-true (is_lower b) (lower_word (list_all is_name bs) (b ∷ bs)) (cond (is_upper b) (cond (list_all is_name bs) (Some (Upper (b ∷ bs))) None) (cond (is_digit b) (cond (list_all is_digit bs) (Some (Number (b ∷ bs))) None) (sign_of b bs))) e
 
 upper_is : (b : ℕ) (bs : List ℕ) → is_lower b ≡ false → is_upper b ≡ true → word_of (b ∷ bs) ≡ cond (list_all is_name bs) (Some (Upper (b ∷ bs))) None
 upper_is b bs l e =
-    cond_false (is_lower b) (lower_word (list_all is_name bs) (b ∷ bs)) (cond (is_upper b) (cond (list_all is_name bs) (Some (Upper (b ∷ bs))) None) (cond (is_digit b) (cond (list_all is_digit bs) (Some (Number (b ∷ bs))) None) (sign_of b bs))) l
-    ∙ cond_true (is_upper b) (cond (list_all is_name bs) (Some (Upper (b ∷ bs))) None) (cond (is_digit b) (cond (list_all is_digit bs) (Some (Number (b ∷ bs))) None) (sign_of b bs)) e
+    cond-false (is_lower b) (lower_word (list_all is_name bs) (b ∷ bs)) (cond (is_upper b) (cond (list_all is_name bs) (Some (Upper (b ∷ bs))) None) (cond (is_digit b) (cond (list_all is_digit bs) (Some (Number (b ∷ bs))) None) (sign_of b bs))) l
+    ∙ cond-true (is_upper b) (cond (list_all is_name bs) (Some (Upper (b ∷ bs))) None) (cond (is_digit b) (cond (list_all is_digit bs) (Some (Number (b ∷ bs))) None) (sign_of b bs)) e
 
 digit_is : (b : ℕ) (bs : List ℕ) → is_lower b ≡ false → is_upper b ≡ false → is_digit b ≡ true → word_of (b ∷ bs) ≡ cond (list_all is_digit bs) (Some (Number (b ∷ bs))) None
 digit_is b bs l u e =
-    cond_false (is_lower b) (lower_word (list_all is_name bs) (b ∷ bs)) (cond (is_upper b) (cond (list_all is_name bs) (Some (Upper (b ∷ bs))) None) (cond (is_digit b) (cond (list_all is_digit bs) (Some (Number (b ∷ bs))) None) (sign_of b bs))) l
-    ∙ cond_false (is_upper b) (cond (list_all is_name bs) (Some (Upper (b ∷ bs))) None) (cond (is_digit b) (cond (list_all is_digit bs) (Some (Number (b ∷ bs))) None) (sign_of b bs)) u
-    ∙ cond_true (is_digit b) (cond (list_all is_digit bs) (Some (Number (b ∷ bs))) None) (sign_of b bs) e
+    cond-false (is_lower b) (lower_word (list_all is_name bs) (b ∷ bs)) (cond (is_upper b) (cond (list_all is_name bs) (Some (Upper (b ∷ bs))) None) (cond (is_digit b) (cond (list_all is_digit bs) (Some (Number (b ∷ bs))) None) (sign_of b bs))) l
+    ∙ cond-false (is_upper b) (cond (list_all is_name bs) (Some (Upper (b ∷ bs))) None) (cond (is_digit b) (cond (list_all is_digit bs) (Some (Number (b ∷ bs))) None) (sign_of b bs)) u
+    ∙ cond-true (is_digit b) (cond (list_all is_digit bs) (Some (Number (b ∷ bs))) None) (sign_of b bs) e
 
 sign_is : (b : ℕ) (bs : List ℕ) → is_lower b ≡ false → is_upper b ≡ false → is_digit b ≡ false → word_of (b ∷ bs) ≡ sign_of b bs
 sign_is b bs l u d =
-    cond_false (is_lower b) (lower_word (list_all is_name bs) (b ∷ bs)) (cond (is_upper b) (cond (list_all is_name bs) (Some (Upper (b ∷ bs))) None) (cond (is_digit b) (cond (list_all is_digit bs) (Some (Number (b ∷ bs))) None) (sign_of b bs))) l
-    ∙ cond_false (is_upper b) (cond (list_all is_name bs) (Some (Upper (b ∷ bs))) None) (cond (is_digit b) (cond (list_all is_digit bs) (Some (Number (b ∷ bs))) None) (sign_of b bs)) u
-    ∙ cond_false (is_digit b) (cond (list_all is_digit bs) (Some (Number (b ∷ bs))) None) (sign_of b bs) d
+    cond-false (is_lower b) (lower_word (list_all is_name bs) (b ∷ bs)) (cond (is_upper b) (cond (list_all is_name bs) (Some (Upper (b ∷ bs))) None) (cond (is_digit b) (cond (list_all is_digit bs) (Some (Number (b ∷ bs))) None) (sign_of b bs))) l
+    ∙ cond-false (is_upper b) (cond (list_all is_name bs) (Some (Upper (b ∷ bs))) None) (cond (is_digit b) (cond (list_all is_digit bs) (Some (Number (b ∷ bs))) None) (sign_of b bs)) u
+    ∙ cond-false (is_digit b) (cond (list_all is_digit bs) (Some (Number (b ∷ bs))) None) (sign_of b bs) d
 
 -- match!
 
@@ -92,11 +74,11 @@ same_bang xs e = (bytes_eq-Decides xs bang).0 e
 
 -- no other front of the text is match!
 other_bang : (text : List ℕ) (m : ℕ) → m ≤ length text → m ≢ 6 → bytes_eq (take m text) bang ≡ false
-other_bang text m l n = is_false (bytes_eq (take m text) bang) (λ e. n (sym (take_length m text l) ∙ ap length (same_bang (take m text) e)))
+other_bang text m l n = false_from_ne_true (bytes_eq (take m text) bang) (λ e. n (sym (length-take-le m text l) ∙ ap length (same_bang (take m text) e)))
 
 not_bang : (text : List ℕ) (m : ℕ) → m ≤ length text → bytes_eq (take 6 text) bang ≡ false → bytes_eq (take m text) bang ≡ false
-not_bang text m l e = is_false (bytes_eq (take m text) bang) (λ h.
-    let six : m ≡ 6 = sym (take_length m text l) ∙ ap length (same_bang (take m text) h) in
+not_bang text m l e = false_from_ne_true (bytes_eq (take m text) bang) (λ h.
+    let six : m ≡ 6 = sym (length-take-le m text l) ∙ ap length (same_bang (take m text) h) in
     let k : true ≡ false = sym h ∙ ap (λ i. bytes_eq (take i text) bang) six ∙ e in
     absurd (cc))
 
@@ -108,12 +90,12 @@ bang_longer more (suc j) h l =
     let f : list_all is_name (take j rest) ≡ false = all_more is_name rest j (omega (arith, h, four)) (omega (arith, l)) in
     lower_is 109 (take j rest) refl
     ∙ ap (λ c. lower_word c (109 ∷ take j rest)) f
-    ∙ cond_false (bytes_eq (109 ∷ take j rest) bang) (Some (Mark S.MatchBang)) None (other_bang (bang ++ more) (suc j) l (λ e. absurd (omega (arith, h, e))))
+    ∙ cond-false (bytes_eq (109 ∷ take j rest) bang) (Some (Mark S.MatchBang)) None (other_bang (bang ++ more) (suc j) l (λ e. absurd (omega (arith, h, e))))
 
 pub first_bang : (text : List ℕ) → bytes_eq (take 6 text) bang ≡ true → IsFirst text 6 (Mark S.MatchBang)
 first_bang text e =
     let same : take 6 text ≡ bang = same_bang (take 6 text) e in
-    let whole : text ≡ bang ++ drop 6 text = take_drop 6 text ∙ ap (λ l. l ++ drop 6 text) same in
+    let whole : text ≡ bang ++ drop 6 text = sym (take-append-drop 6 text) ∙ ap (λ l. l ++ drop 6 text) same in
     let made : IsFirst (bang ++ drop 6 text) 6 (Mark S.MatchBang) = record { within = omega arith; word = refl; longest = bang_longer (drop 6 text) } in
     subst (λ l. IsFirst l 6 (Mark S.MatchBang)) (sym whole) made
 
@@ -124,7 +106,7 @@ lower_longer b rest e n zero h l = absurd (omega (arith, h))
 lower_longer b rest e n (suc j) h l =
     lower_is b (take j rest) e
     ∙ ap (λ c. lower_word c (b ∷ take j rest)) (all_more is_name rest j (omega (arith, h)) (omega (arith, l)))
-    ∙ cond_false (bytes_eq (b ∷ take j rest) bang) (Some (Mark S.MatchBang)) None (not_bang (b ∷ rest) (suc j) l n)
+    ∙ cond-false (bytes_eq (b ∷ take j rest) bang) (Some (Mark S.MatchBang)) None (not_bang (b ∷ rest) (suc j) l n)
 
 first_lower_at : (b : ℕ) (rest : List ℕ) → is_lower b ≡ true → bytes_eq (take 6 (b ∷ rest)) bang ≡ false → IsFirst (b ∷ rest) (suc (prefix_len is_name rest)) (keyword_or_name (take (suc (prefix_len is_name rest)) (b ∷ rest)))
 first_lower_at b rest e n = record {
@@ -141,12 +123,12 @@ first_lower text rest b n w t e h k v =
 
 upper_longer : (b : ℕ) (rest : List ℕ) → is_lower b ≡ false → is_upper b ≡ true → (m : ℕ) → suc (prefix_len is_name rest) < m → m ≤ length (b ∷ rest) → word_of (take m (b ∷ rest)) ≡ None
 upper_longer b rest u e zero h l = absurd (omega (arith, h))
-upper_longer b rest u e (suc j) h l = upper_is b (take j rest) u e ∙ cond_false (list_all is_name (take j rest)) (Some (Upper (b ∷ take j rest))) None (all_more is_name rest j (omega (arith, h)) (omega (arith, l)))
+upper_longer b rest u e (suc j) h l = upper_is b (take j rest) u e ∙ cond-false (list_all is_name (take j rest)) (Some (Upper (b ∷ take j rest))) None (all_more is_name rest j (omega (arith, h)) (omega (arith, l)))
 
 first_upper_at : (b : ℕ) (rest : List ℕ) → is_lower b ≡ false → is_upper b ≡ true → IsFirst (b ∷ rest) (suc (prefix_len is_name rest)) (Upper (take (suc (prefix_len is_name rest)) (b ∷ rest)))
 first_upper_at b rest u e = record {
   within = let w = within_front is_name rest in omega (arith, w);
-  word = upper_is b (take (prefix_len is_name rest) rest) u e ∙ cond_true (list_all is_name (take (prefix_len is_name rest) rest)) (Some (Upper (b ∷ take (prefix_len is_name rest) rest))) None (all_front is_name rest);
+  word = upper_is b (take (prefix_len is_name rest) rest) u e ∙ cond-true (list_all is_name (take (prefix_len is_name rest) rest)) (Some (Upper (b ∷ take (prefix_len is_name rest) rest))) None (all_front is_name rest);
   longest = upper_longer b rest u e;
 }
 
@@ -157,12 +139,12 @@ first_upper text rest b n t u e k =
 
 digit_longer : (b : ℕ) (rest : List ℕ) → is_lower b ≡ false → is_upper b ≡ false → is_digit b ≡ true → (m : ℕ) → suc (prefix_len is_digit rest) < m → m ≤ length (b ∷ rest) → word_of (take m (b ∷ rest)) ≡ None
 digit_longer b rest u v e zero h l = absurd (omega (arith, h))
-digit_longer b rest u v e (suc j) h l = digit_is b (take j rest) u v e ∙ cond_false (list_all is_digit (take j rest)) (Some (Number (b ∷ take j rest))) None (all_more is_digit rest j (omega (arith, h)) (omega (arith, l)))
+digit_longer b rest u v e (suc j) h l = digit_is b (take j rest) u v e ∙ cond-false (list_all is_digit (take j rest)) (Some (Number (b ∷ take j rest))) None (all_more is_digit rest j (omega (arith, h)) (omega (arith, l)))
 
 first_digit_at : (b : ℕ) (rest : List ℕ) → is_lower b ≡ false → is_upper b ≡ false → is_digit b ≡ true → IsFirst (b ∷ rest) (suc (prefix_len is_digit rest)) (Number (take (suc (prefix_len is_digit rest)) (b ∷ rest)))
 first_digit_at b rest u v e = record {
   within = let w = within_front is_digit rest in omega (arith, w);
-  word = digit_is b (take (prefix_len is_digit rest) rest) u v e ∙ cond_true (list_all is_digit (take (prefix_len is_digit rest) rest)) (Some (Number (b ∷ take (prefix_len is_digit rest) rest))) None (all_front is_digit rest);
+  word = digit_is b (take (prefix_len is_digit rest) rest) u v e ∙ cond-true (list_all is_digit (take (prefix_len is_digit rest) rest)) (Some (Number (b ∷ take (prefix_len is_digit rest) rest))) None (all_front is_digit rest);
   longest = digit_longer b rest u v e;
 }
 
@@ -230,16 +212,16 @@ pub gap_lf : (text rest : List ℕ) (p : Place) → text ≡ 10 ∷ rest → IsF
 gap_lf text rest p e = record { after = rest; whole = e; begins = refl; behind = refl; some = omega arith; moved = refl }
 
 pub gap_blank : (text rest : List ℕ) (b : ℕ) (p : Place) → text ≡ b ∷ rest → is_blank b ≡ true → (b == 10) ≡ false → IsFront text p (Blank b) (along p 1)
-gap_blank text rest b p e k n = record { after = rest; whole = e; begins = k; behind = sym (cond_false (b == 10) (next_line p) (along p 1) n); some = omega arith; moved = refl }
+gap_blank text rest b p e k n = record { after = rest; whole = e; begins = k; behind = sym (cond-false (b == 10) (next_line p) (along p 1) n); some = omega arith; moved = refl }
 
 pub gap_comment : (text more : List ℕ) (n : ℕ) (p : Place) → text ≡ 47 ∷ 47 ∷ more → n ≡ prefix_len is_no_lf more → IsFront text p (Comment (take n more)) (along p (n + 2))
 gap_comment text more n p e k =
     let w = within_front is_no_lf more in
-    let len : length (take n more) ≡ n = take_length n more (omega (arith, k, w)) in
+    let len : length (take n more) ≡ n = length-take-le n more (omega (arith, k, w)) in
     let two : n + 2 ≡ 2 + length (take n more) = omega (arith, len) in
     record {
       after = drop n more;
-      whole = e ∙ ap (λ l. 47 ∷ 47 ∷ l) (take_drop n more);
+      whole = e ∙ ap (λ l. 47 ∷ 47 ∷ l) (sym (take-append-drop n more));
       begins = (subst (λ i. list_all is_no_lf (take i more) ≡ true) (sym k) (all_front is_no_lf more), subst (λ i. EndsLine (drop i more)) (sym k) (ends_line more));
       behind = ap (along p) two;
       some = omega arith;
@@ -252,11 +234,11 @@ some_first text (suc n) w e = omega arith
 
 pub cut_first : (text : List ℕ) (n : ℕ) (w : Word) (p : Place) → is_gap text ≡ false → IsFirst text n w → IsFront text p (Cut (take n text) w) (along p n)
 cut_first text n w p g f =
-    let len : length (take n text) ≡ n = take_length n text f.within in
+    let len : length (take n text) ≡ n = length-take-le n text f.within in
     let pos : 0 < n = some_first text n w f.word in
     record {
       after = drop n text;
-      whole = take_drop n text;
+      whole = sym (take-append-drop n text);
       begins = (g, subst (λ i. IsFirst text i w) (sym len) f);
       behind = ap (along p) (sym len);
       some = omega (arith, len, pos);
@@ -273,17 +255,9 @@ behind_on : (p : Place) (xs : List Piece) (x : Piece) → behind_all p (xs ++ x 
 behind_on p [] x = refl
 behind_on p (y ∷ ys) x = behind_on (behind p y) ys x
 
-none_after : {A : Type 0} (xs : List A) → xs ++ [] ≡ xs
-none_after [] = refl
-none_after (x ∷ xs) = ap (λ l. x ∷ l) (none_after xs)
-
-assoc : {A : Type 0} (xs ys zs : List A) → (xs ++ ys) ++ zs ≡ xs ++ (ys ++ zs)
-assoc [] ys zs = refl
-assoc (x ∷ xs) ys zs = ap (λ l. x ∷ l) (assoc xs ys zs)
-
 tokens_on : (p : Place) (xs : List Piece) (x : Piece) → tokens_of p (xs ++ x ∷ []) ≡ tokens_of p xs ++ tokens_at (behind_all p xs) x
-tokens_on p [] x = none_after (tokens_at p x)
-tokens_on p (y ∷ ys) x = ap (λ l. tokens_at p y ++ l) (tokens_on (behind p y) ys x) ∙ sym (assoc (tokens_at p y) (tokens_of (behind p y) ys) (tokens_at (behind_all (behind p y) ys) x))
+tokens_on p [] x = append-nil (tokens_at p x)
+tokens_on p (y ∷ ys) x = ap (λ l. tokens_at p y ++ l) (tokens_on (behind p y) ys x) ∙ sym (append_assoc (tokens_at p y) (tokens_of (behind p y) ys) (tokens_at (behind_all (behind p y) ys) x))
 
 pub read_more : (source text : List ℕ) (p next : Place) (ts : List Token) (x : Piece) (f : IsFront text p x next) → IsRead source text p ts → IsRead source f.after next (ts ++ tokens_at p x)
 read_more source text p next ts x f r = (
@@ -293,33 +267,19 @@ read_more source text p next ts x f r = (
   f.behind ∙ ap (λ q. behind q x) r.3 ∙ sym (behind_on first_place r.0 x),
 )
 
-drop_on : (xs ys : List ℕ) → drop (length xs) (xs ++ ys) ≡ ys
-drop_on [] ys = refl
-drop_on (x ∷ xs) ys = drop_on xs ys
-
-drop_drop : (i j : ℕ) (xs : List ℕ) → drop j (drop i xs) ≡ drop (i + j) xs
-drop_drop zero j xs = let e : j ≡ 0 + j = omega arith in ap (λ k. drop k xs) e
-drop_drop (suc i) zero [] = let e : suc i + 0 ≡ suc i = omega arith in ap (λ k. drop k []) (sym e)
-drop_drop (suc i) (suc j) [] = let e : suc i + suc j ≡ suc (i + suc j) = omega arith in ap (λ k. drop k []) (sym e)
-drop_drop (suc i) j (x ∷ xs) = let e : suc i + j ≡ suc (i + j) = omega arith in drop_drop i j xs ∙ ap (λ k. drop k (x ∷ xs)) (sym e)
-
 pub after_is : (source : List ℕ) (p next : Place) (x : Piece) (f : IsFront (drop p.at source) p x next) → f.after ≡ drop next.at source
 after_is source p next x f =
-    sym (drop_on (piece_text x) f.after) ∙ ap (drop (length (piece_text x))) (sym f.whole) ∙ drop_drop p.at (length (piece_text x)) source ∙ ap (λ i. drop i source) (sym f.moved)
+    sym (drop-append_seam (piece_text x) f.after) ∙ ap (drop (length (piece_text x))) (sym f.whole) ∙ drop-drop (length (piece_text x)) p.at source ∙ ap (λ i. drop i source) (sym f.moved)
 
 drop_length : (n : ℕ) (xs : List ℕ) → n ≤ length xs → length (drop n xs) + n ≡ length xs
 drop_length zero xs l = omega arith
 drop_length (suc n) [] l = absurd (omega (arith, l))
 drop_length (suc n) (x ∷ xs) l = let h = drop_length n xs (omega (arith, l)) in omega (arith, h)
 
-append_length : (xs ys : List ℕ) → length (xs ++ ys) ≡ length xs + length ys
-append_length [] ys = omega arith
-append_length (x ∷ xs) ys = let h = append_length xs ys in omega (arith, h)
-
 pub next_within : (source : List ℕ) (p next : Place) (x : Piece) → p.at ≤ length source → IsFront (drop p.at source) p x next → next.at ≤ length source
 next_within source p next x l f =
     let a = drop_length p.at source l in
-    let b = ap length f.whole ∙ append_length (piece_text x) f.after in
+    let b = ap length f.whole ∙ length-append (piece_text x) f.after in
     omega (arith, a, b, f.moved)
 
 blank_line : (p : Place) (b : Bool) → p.line ≤ p.at + 1 → (cond b (next_line p) (along p 1)).line ≤ p.at + 2
@@ -361,7 +321,7 @@ pub take_rest : (n : ℕ) (xs : List ℕ) → n ≤ length xs → take (length x
 take_rest n xs l = let h = drop_length n xs l in take_all (length xs - n) (drop n xs) (omega (arith, h))
 
 pub no_more : {A : Type 0} (xs ys : List A) → ys ≡ [] → xs ++ ys ≡ xs
-no_more xs ys e = ap (λ l. xs ++ l) e ∙ none_after xs
+no_more xs ys e = ap (λ l. xs ++ l) e ∙ append-nil xs
 
 -- what was read with one piece more, behind which the source goes on at a place
 pub read_on : (source : List ℕ) (p next : Place) (ts : List Token) (x : Piece) → p.at ≤ length source → IsFront (take (length source - p.at) (drop p.at source)) p x next → IsRead source (drop p.at source) p ts → IsRead source (drop next.at source) next (ts ++ tokens_at p x)
@@ -372,19 +332,9 @@ read_on source p next ts x l f r =
 pub within_on_next : (source : List ℕ) (p next : Place) (x : Piece) → p.at ≤ length source → IsFront (take (length source - p.at) (drop p.at source)) p x next → next.at ≤ length source
 within_on_next source p next x l f = next_within source p next x l (subst (λ t. IsFront t p x next) (take_rest p.at source l) f)
 
-pub map_snoc : {A B : Type 0} (f : A → B) (xs : List A) (x : A) → map f (xs ++ x ∷ []) ≡ map f xs ++ f x ∷ []
-map_snoc f [] x = refl
-map_snoc f (y ∷ ys) x = ap (λ l. f y ∷ l) (map_snoc f ys x)
-
-drop_all : (n : ℕ) (xs : List ℕ) → length xs ≤ n → drop n xs ≡ []
-drop_all zero [] l = refl
-drop_all zero (x ∷ xs) l = absurd (omega (arith, l))
-drop_all (suc n) [] l = refl
-drop_all (suc n) (x ∷ xs) l = drop_all n xs (omega (arith, l))
-
 -- All was read.
 pub read_all : (source : List ℕ) (p : Place) (ts : List Token) → length source ≤ p.at → IsRead source (drop p.at source) p ts → IsCut source ts p
-read_all source p ts l r = subst (λ t. IsRead source t p ts) (drop_all p.at source l) r
+read_all source p ts l r = subst (λ t. IsRead source t p ts) (drop_of_length-le source l) r
 
 -- Nothing begins where the source was read up to.
 pub bad_at : (source : List ℕ) (p : Place) (ts : List Token) → p.at < length source → is_gap (take (length source - p.at) (drop p.at source)) ≡ false → BeginsNone (take (length source - p.at) (drop p.at source)) → IsRead source (drop p.at source) p ts → IsBadByte source p

@@ -1,6 +1,6 @@
 -- One row after another: what completes a state begins with a token that leads on (take), and a token that leads on
 -- may come (give). Here: the heads of functions.
-use Rattle.std.proofs.Common.{◌≡◌, Bool, true, false, List, [], ◌∷◌, ◌++◌, ◌⊎◌, inl, inr, refl, subst, ◌∙◌}
+use Rattle.std.proofs.Common.{◌≡◌, Bool, true, false, List, [], ◌∷◌, inl, inr, refl, subst, ◌∙◌}
 use Rattle.fip_language.specs.declared.Place.{Place}
 use Rattle.fip_language.specs.declared.FunKind.{FunKind}
 use Rattle.fip_language.specs.Core.{Name, Written, WrittenInt, WrittenName, Result, OneResult, TupleResult, SignatureParameter, Static, TypeParameter, FunctionParameter}

@@ -3,7 +3,8 @@
 -- place at most, and none where it is spelt.
 use Rattle.std.proofs.Common.{◌≡◌, ℕ, zero, suc, ◌+◌, ◌<◌, ◌≤◌, true, false, List, [], ◌∷◌, ◌++◌, take, drop, length, Option, Some, None, ◌⊎◌, inl, inr, refl, sym, ap, subst, ◌∙◌, arith}
 use Rattle.std.specs.List.{slice_get}
-use Rattle.std.proofs.lemmas.Option.{slice_get_within}
+use Rattle.std.proofs.lemmas.Option.{slice_get_within, same_Some}
+use Rattle.std.proofs.Math.Seq.{drop-length}
 use Rattle.fip_language.specs.declared.Place.{Place}
 use Rattle.fip_language.specs.Prefix.{IsPlace, Outcome, Accepted, Stopped, end_outcome, or_stop, run}
 use Rattle.fip_language.specs.Surface.{Declaration, Program}
@@ -21,16 +22,6 @@ rest_at : {A : Type 0} (ts : List A) (i : ℕ) (t : A) → slice_get ts i ≡ So
 rest_at [] i t e = cc
 rest_at (x ∷ xs) zero t e = let h : x ≡ t = cc in ap (λ z. z ∷ xs) h
 rest_at (x ∷ xs) (suc i) t e = rest_at xs i t e
-
-past_end : {A : Type 0} (ts : List A) → drop (length ts) ts ≡ []
-past_end [] = refl
-past_end (x ∷ xs) = past_end xs
-
-some_same : {A : Type 0} (x y : A) → Some x ≡ Some y → x ≡ y
-some_same x y e = cc
-
-none_some : {A : Type 0} (x : A) → None ≡ Some x → ⊥
-none_some x e = cc
 
 -- what one token more is like
 seen_more : (ts : List Token) (i : ℕ) (b : Seen) (t : Token) → slice_get ts i ≡ Some t → seen_from b (take (suc i) ts) ≡ behind (seen_from b (take i ts)) t.word
@@ -140,7 +131,7 @@ four_at_least : (ts : List Token) (i u r : ℕ) (t : Token) (ds : List ℕ) → 
 four_at_least ts i u r t ds e at w none (inl c) = absurd (none c.1)
 four_at_least ts i u r t ds e at w none (inr (inl c)) =
     let k = c.1 in
-    let same : t ≡ k.0 = some_same t k.0 (sym at ∙ ap (slice_get ts) e ∙ k.1) in
+    let same : t ≡ k.0 = same_Some t k.0 (sym at ∙ ap (slice_get ts) e ∙ k.1) in
     absurd (number_opens_none k.0.word ds (ap (λ x. x.word) (sym same) ∙ w) k.2)
 four_at_least ts i u r t ds e at w none (inr (inr c)) = inr (e, omega (arith, c.0))
 
@@ -179,12 +170,12 @@ unbroken_here : (ts : List Token) (i : ℕ) (b : Seen) (t : Token) (r u : ℕ) �
 unbroken_here ts i b t r u like at none deep large e (inl c) = none c.1
 unbroken_here ts i b t r u like at none deep large e (inr (inl c)) =
     let k = c.1 in
-    let same : k.0 ≡ t = some_same k.0 t (sym k.1 ∙ ap (slice_get ts) (sym e) ∙ at) in
+    let same : k.0 ≡ t = same_Some k.0 t (sym k.1 ∙ ap (slice_get ts) (sym e) ∙ at) in
     let count : seen ts u ≡ b = ap (seen ts) (sym e) ∙ sym like in
     deep (subst (λ x. is_opening x.word ≡ true) same k.2) (subst (λ s. 100 ≤ s.open') count k.3)
 unbroken_here ts i b t r u like at none deep large e (inr (inr c)) =
     let k = c.1 in
-    let same : k.0 ≡ t = some_same k.0 t (sym k.2 ∙ ap (slice_get ts) (sym e) ∙ at) in
+    let same : k.0 ≡ t = same_Some k.0 t (sym k.2 ∙ ap (slice_get ts) (sym e) ∙ at) in
     let count : seen ts u ≡ b = ap (seen ts) (sym e) ∙ sym like in
     large k.1 (subst (λ x. x.word ≡ Number k.1) same k.3) (subst (λ s. limit s.is_sign < value_of k.1) count k.4)
 
@@ -209,7 +200,7 @@ reads_next ts i m m' b t h at e deep large =
 
 reads_end : (ts : List Token) (i : ℕ) (m : Machine) (b : Seen) (o : Option Program) → Reads ts i m b → i ≡ length ts → machine_end m ≡ o → run machine_step machine_end start ts 0 ≡ end_outcome o i
 reads_end ts i m b o h end e =
-    let nothing : drop i ts ≡ [] = ap (λ k. drop k ts) end ∙ past_end ts in
+    let nothing : drop i ts ≡ [] = ap (λ k. drop k ts) end ∙ drop-length ts in
     h.runs ∙ ap (λ l. run machine_step machine_end m l i) nothing ∙ ap (λ o. end_outcome o i) e
 
 -- behind the last token only the grammar may be broken

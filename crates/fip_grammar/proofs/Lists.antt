@@ -1,29 +1,21 @@
 -- Lists that grow at their end.
-use Rattle.std.proofs.Common.{◌≡◌, List, [], ◌∷◌, ◌++◌, refl, sym, ap, subst}
+use Rattle.std.proofs.Common.{◌≡◌, List, [], ◌∷◌, ◌++◌, refl, sym, ap, subst, append-nil, append_assoc}
 use Rattle.fip_language.specs.Core.{Written, Writtens, MoreWritten}
 use Rattle.fip_language.specs.Surface.{Pattern, Patterns, MorePatterns, Expression, Expressions, MoreExpressions, Block, Let, Clauses, MoreClauses}
 use Rattle.fip_grammar.specs.Machine.{Binding, Clause, onto_types, onto_patterns, onto_expressions, onto_block, onto_clauses}
 
-pub snoc_append : {A : Type 0} (xs : List A) (x : A) (ys : List A) → (xs ++ x ∷ []) ++ ys ≡ xs ++ (x ∷ ys)
-snoc_append [] x ys = refl
-snoc_append (z ∷ zs) x ys = ap (λ l. z ∷ l) (snoc_append zs x ys)
-
-pub append_none : {A : Type 0} (xs : List A) → xs ++ [] ≡ xs
-append_none [] = refl
-append_none (z ∷ zs) = ap (λ l. z ∷ l) (append_none zs)
-
 -- a fact of a list and one more, seen as one of a list that grew
 pub on : {A : Type 0} (P : List A → Type 0) (xs : List A) (x : A) (ys : List A) → P (xs ++ (x ∷ ys)) → P ((xs ++ x ∷ []) ++ ys)
-on P xs x ys h = subst P (sym (snoc_append xs x ys)) h
+on P xs x ys h = subst P (sym (append_assoc xs (x ∷ []) ys)) h
 
 pub off : {A : Type 0} (P : List A → Type 0) (xs : List A) (x : A) (ys : List A) → P ((xs ++ x ∷ []) ++ ys) → P (xs ++ (x ∷ ys))
-off P xs x ys h = subst P (snoc_append xs x ys) h
+off P xs x ys h = subst P (append_assoc xs (x ∷ []) ys) h
 
 pub none_on : {A : Type 0} (P : List A → Type 0) (xs : List A) → P (xs ++ []) → P xs
-none_on P xs h = subst P (append_none xs) h
+none_on P xs h = subst P (append-nil xs) h
 
 pub none_off : {A : Type 0} (P : List A → Type 0) (xs : List A) → P xs → P (xs ++ [])
-none_off P xs h = subst P (sym (append_none xs)) h
+none_off P xs h = subst P (sym (append-nil xs)) h
 
 pub types_snoc : (ts : List Written) (t : Written) (rest : Writtens) → onto_types (ts ++ t ∷ []) rest ≡ onto_types ts (MoreWritten t rest)
 types_snoc [] t rest = refl

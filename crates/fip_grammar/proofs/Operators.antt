@@ -1,9 +1,9 @@
 -- Expressions from left to right: a sum is its first operand, extended by operators one after another, although the
 -- tree that groups to the left has the last operator at its root.
-use Rattle.std.proofs.Common.{◌≡◌, ℕ, suc, ◌≤◌, List, [], ◌∷◌, ◌++◌, None, ◌⊎◌, inl, inr, refl, sym, ap, subst, ◌∙◌, arith}
+use Rattle.std.proofs.Common.{◌≡◌, ℕ, suc, ◌≤◌, List, ◌∷◌, None, ◌⊎◌, inl, inr, refl, sym, ap, subst, ◌∙◌, arith}
 use Rattle.fip_language.specs.declared.Place.{Place}
 use Rattle.fip_language.specs.declared.Operator.{Operator}
-use Rattle.fip_language.specs.Surface.{Expression, Variable, Literal, Call, Constructor, Bracket, Tuple, Match, If, Binary, Expressions, NoExpressions, MoreExpressions}
+use Rattle.fip_language.specs.Surface.{Expression, Variable, Literal, Call, Constructor, Bracket, Tuple, Match, If, Binary, NoExpressions, MoreExpressions}
 use Rattle.fip_grammar.specs.Token.{Operate, Token, token}
 use Rattle.fip_grammar.specs.Grammar.{tightness, left_tightness, Spelled}
 use Rattle.fip_grammar.specs.Machine.{none_waits}

@@ -1,5 +1,5 @@
 -- The rows of patterns.
-use Rattle.std.proofs.Common.{◌≡◌, ℤ, pos, neg_ℤ, ◌≤◌, List, [], ◌∷◌, ◌++◌, ◌⊎◌, inl, inr, refl, sym, ap, subst, ◌∙◌}
+use Rattle.std.proofs.Common.{ℤ, pos, neg_ℤ, List, [], ◌∷◌, inl, inr, refl, sym, ap, subst}
 use Rattle.fip_language.specs.declared.Place.{Place}
 use Rattle.fip_language.specs.Core.{Name}
 use Rattle.fip_language.specs.Surface.{Pattern, Wildcard, VariablePattern, LiteralPattern, ConstructorPattern, Patterns, NoPatterns, MorePatterns, Declaration}

@@ -1,6 +1,9 @@
 -- A source is cut in one way.
-use Rattle.std.proofs.Common.{◌≡◌, ℕ, zero, suc, ◌<◌, Bool, true, false, ◌||◌, ◌&&◌, List, [], ◌∷◌, ◌++◌, length, take, drop, Some, None, ◌⊎◌, inl, inr, refl, sym, ap, subst, ◌∙◌, arith}
+use Rattle.std.proofs.Common.{◌≡◌, ℕ, zero, suc, ◌<◌, true, false, ◌||◌, List, [], ◌∷◌, ◌++◌, length, take, drop, Some, None, ◌⊎◌, inl, inr, refl, sym, ap, subst, ◌∙◌, arith}
 use Rattle.std.specs.List.{list_all}
+use Rattle.std.proofs.lemmas.Bool.{and_parts}
+use Rattle.std.proofs.lemmas.Option.{same_Some}
+use Rattle.std.proofs.Math.Seq.{take-append_seam, drop-append_seam}
 use Rattle.fip_language.specs.declared.Place.{Place}
 use Rattle.fip_grammar.specs.Token.{Word, Token}
 use Rattle.fip_grammar.specs.Cut.{word_of, IsFirst, BeginsNone, is_blank, is_comment, is_gap, is_no_lf, EndsLine, Piece, Blank, Comment, Cut, piece_text, BeginsWith, behind_all, Pieces, tokens_of, first_place, IsCut, IsBadByte}
@@ -40,10 +43,6 @@ stopped (Cut t w) text after e k (inr s) = some_none (sym k.1.word ∙ s.1 (leng
 not_lf : (c : ℕ) (cs : List ℕ) → list_all is_no_lf (c ∷ cs) ≡ true → c ≡ 10 → ⊥
 not_lf c cs h e = true_false (sym h ∙ ap (λ b. list_all is_no_lf (b ∷ cs)) e)
 
-rest_lf : (p : Bool) (q : Bool) → (p && q) ≡ true → q ≡ true
-rest_lf true q h = h
-rest_lf false q h = true_false (sym h)
-
 same_line : (bs cs a d : List ℕ) → bs ++ a ≡ cs ++ d → list_all is_no_lf bs ≡ true → list_all is_no_lf cs ≡ true → EndsLine a → EndsLine d → (bs ≡ cs) × (a ≡ d)
 same_line [] [] a d e p q f g = (refl, e)
 same_line [] (c ∷ cs) a d e p q f g = absurd (not_lf c cs q (subst EndsLine e f))
@@ -51,7 +50,7 @@ same_line (b ∷ bs) [] a d e p q f g = absurd (not_lf b bs p (subst EndsLine (s
 same_line (b ∷ bs) (c ∷ cs) a d e p q f g =
     let t : bs ++ a ≡ cs ++ d = cc in
     let h : b ≡ c = cc in
-    let r = same_line bs cs a d t (rest_lf (is_no_lf b) (list_all is_no_lf bs) p) (rest_lf (is_no_lf c) (list_all is_no_lf cs) q) f g in
+    let r = same_line bs cs a d t (and_parts (is_no_lf b) (list_all is_no_lf bs) p).1 (and_parts (is_no_lf c) (list_all is_no_lf cs) q).1 f g in
     (ap (λ l. l ++ bs) (ap (λ x. x ∷ []) h) ∙ ap (λ l. c ∷ l) r.0, r.1)
 
 -- A token ends in one place.
@@ -64,26 +63,15 @@ equal zero (suc m) h k = absurd (h (omega arith))
 equal (suc n) zero h k = absurd (k (omega arith))
 equal (suc n) (suc m) h k = ap suc (equal n m (λ l. h (omega (arith, l))) (λ l. k (omega (arith, l))))
 
-take_on : (xs ys : List ℕ) → take (length xs) (xs ++ ys) ≡ xs
-take_on [] ys = refl
-take_on (x ∷ xs) ys = ap (λ l. x ∷ l) (take_on xs ys)
-
-drop_on : (xs ys : List ℕ) → drop (length xs) (xs ++ ys) ≡ ys
-drop_on [] ys = refl
-drop_on (x ∷ xs) ys = drop_on xs ys
-
-some_same : (w v : Word) → Some w ≡ Some v → w ≡ v
-some_same w v e = cc
-
 abbrev Same : Piece → Piece → List ℕ → List ℕ → Type 0
 Same x y a d = (x ≡ y) × (a ≡ d)
 
 same_cut : (bs cs : List ℕ) (w v : Word) (text a d : List ℕ) → text ≡ bs ++ a → text ≡ cs ++ d → IsFirst text (length bs) w → IsFirst text (length cs) v → Same (Cut bs w) (Cut cs v) a d
 same_cut bs cs w v text a d e k f g =
     let n : length bs ≡ length cs = equal (length bs) (length cs) (same_length text (length bs) (length cs) w v f g) (same_length text (length cs) (length bs) v w g f) in
-    let t : bs ≡ cs = sym (take_on bs a) ∙ ap (take (length bs)) (sym e) ∙ ap (λ i. take i text) n ∙ ap (take (length cs)) k ∙ take_on cs d in
-    let r : a ≡ d = sym (drop_on bs a) ∙ ap (drop (length bs)) (sym e) ∙ ap (λ i. drop i text) n ∙ ap (drop (length cs)) k ∙ drop_on cs d in
-    let u : w ≡ v = some_same w v (sym f.word ∙ ap (λ i. word_of (take i text)) n ∙ g.word) in
+    let t : bs ≡ cs = sym (take-append_seam bs a) ∙ ap (take (length bs)) (sym e) ∙ ap (λ i. take i text) n ∙ ap (take (length cs)) k ∙ take-append_seam cs d in
+    let r : a ≡ d = sym (drop-append_seam bs a) ∙ ap (drop (length bs)) (sym e) ∙ ap (λ i. drop i text) n ∙ ap (drop (length cs)) k ∙ drop-append_seam cs d in
+    let u : w ≡ v = same_Some w v (sym f.word ∙ ap (λ i. word_of (take i text)) n ∙ g.word) in
     (ap (λ l. Cut l w) t ∙ ap (Cut cs) u, r)
 
 slash_is_no_blank : (b : ℕ) → is_blank b ≡ true → b ≡ 47 → ⊥

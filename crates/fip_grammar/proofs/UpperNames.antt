@@ -1,6 +1,7 @@
 -- The names of the constructors in a source are upper-case names: the machine takes a constructor's name from an Upper
 -- token, and it hands on the data types of a program as it took them.
 use Rattle.std.proofs.Common.{◌≡◌, ℕ, ◌+◌, Bool, true, false, List, [], ◌∷◌, ◌++◌, Option, Some, None, refl, subst}
+use Rattle.fip_language.proofs.Plain.{every_last}
 use Rattle.fip_language.specs.declared.Place.{Place}
 use Rattle.fip_language.specs.declared.Operator.{Operator}
 use Rattle.fip_language.specs.declared.Operator.TheVariants as O
@@ -18,10 +19,6 @@ use Rattle.fip_language.specs.Prefix.{Accepted, end_outcome, or_stop, run}
 use Rattle.fip_grammar.specs.Limits.{IsSpelt}
 use Rattle.fip_grammar.proofs.Exact.{spelled_is_accepted}
 use Rattle.fip_grammar.proofs.UpperWords.{Proper, proper_tokens}
-
-every_more : {A : Type 0} (P : A → Type 0) (xs : List A) (x : A) → Every P xs → P x → Every P (xs ++ x ∷ [])
-every_more P [] x h k = (k, tt)
-every_more P (y ∷ ys) x h k = (h.0, every_more P ys x h.1 k)
 
 abbrev Names : Data → Type 0
 Names d = Every HasUpperName d.constructors
@@ -311,7 +308,7 @@ led_body (ElseOpen q c one) y _ p = tt
 -- Data types and types.
 
 one_more : (d : Data) (n : Name) (q : Place) (fs : List Written) → Names d → is_upper_name n ≡ true → Names (with_constructor d (record { name = n; place = q; fields = fs }))
-one_more d n q fs h k = every_more HasUpperName d.constructors (record { name = n; place = q; fields = fs }) h k
+one_more d n q fs h k = every_last HasUpperName d.constructors (record { name = n; place = q; fields = fs }) h k
 
 led_constructor_first : (d : Data) (w : Word) (p : Place) → Proper w → Names d → Led (constructor_first d w p)
 led_constructor_first d (Upper n) p u h = (h, u)
@@ -408,7 +405,7 @@ good_next done (Stays s) m h k e =
     subst Good same (h, k)
 good_next done (Declares d) m h k e =
     let same : record { done = done ++ d ∷ []; state = Top } ≡ m = cc in
-    subst Good same (every_more NamesIn done d h k, tt)
+    subst Good same (every_last NamesIn done d h k, tt)
 
 abbrev ProperToken : Token → Type 0
 ProperToken t = Proper t.word

@@ -1,7 +1,8 @@
 -- The Upper tokens that a source is cut into have upper-case names.
-use Rattle.std.proofs.Common.{◌≡◌, ℕ, Bool, true, false, cond, ◌&&◌, ◌||◌, ◌==◌, codes, List, [], ◌∷◌, length, take, Option, Some, None, refl, sym, ap, subst, ◌∙◌}
+use Rattle.std.proofs.Common.{◌≡◌, ℕ, Bool, true, false, cond, ◌&&◌, ◌||◌, ◌==◌, codes, List, [], ◌∷◌, length, take, Option, Some, None, refl, sym, subst}
 use Rattle.std.specs.List.{list_all}
 use Rattle.std.specs.Str.{bytes_eq}
+use Rattle.std.proofs.lemmas.Bool.{and_from, and_parts}
 use Rattle.fip_language.specs.declared.Place.{Place}
 use Rattle.fip_language.specs.declared.Operator.TheVariants as O
 use Rattle.fip_language.specs.Every.{Every}
@@ -93,26 +94,15 @@ name_byte l true false x e = refl
 name_byte true false false x e = refl
 name_byte false false false x e = e
 
-first_true : (a b : Bool) → (a && b) ≡ true → a ≡ true
-first_true true b e = refl
-first_true false b e = e
-
-second_true : (a b : Bool) → (a && b) ≡ true → b ≡ true
-second_true true b e = e
-second_true false b e = let h : false ≡ true = e in cc
-
-both_true : (a b : Bool) → a ≡ true → b ≡ true → (a && b) ≡ true
-both_true a b h k = ap (λ c. c && b) h ∙ k
-
 name_bytes : (bs : List ℕ) → list_all is_name bs ≡ true → are_name_bytes bs ≡ true
 name_bytes [] e = refl
 name_bytes (b ∷ bs) e =
-    both_true (is_digit b || is_letter b) (are_name_bytes bs)
-    (name_byte (is_lower b) (is_upper b) (is_digit b) (b == 95) (first_true (is_name b) (list_all is_name bs) e))
-    (name_bytes bs (second_true (is_name b) (list_all is_name bs) e))
+    and_from (is_digit b || is_letter b) (are_name_bytes bs)
+    (name_byte (is_lower b) (is_upper b) (is_digit b) (b == 95) (and_parts (is_name b) (list_all is_name bs) e).0)
+    (name_bytes bs (and_parts (is_name b) (list_all is_name bs) e).1)
 
 proper_name : (b : ℕ) (bs : List ℕ) (names : Bool) → is_upper b ≡ true → list_all is_name bs ≡ names → ProperOption (cond names (Some (Upper (b ∷ bs))) None)
-proper_name b bs true u e = both_true (is_upper b) (are_name_bytes bs) u (name_bytes bs e)
+proper_name b bs true u e = and_from (is_upper b) (are_name_bytes bs) u (name_bytes bs e)
 proper_name b bs false u e = tt
 
 proper_upper : (b : ℕ) (bs : List ℕ) (upper : Bool) (other : Option Word) → is_upper b ≡ upper → ProperOption other → ProperOption (cond upper (cond (list_all is_name bs) (Some (Upper (b ∷ bs))) None) other)

@@ -1,16 +1,18 @@
 -- What a file of registers can do: its slots are read, written and exchanged one at a time. Each operation says what
 -- it does to the count of each place.
-use Rattle.std.proofs.Common.{◌≡◌, ℕ, ◌+◌, ◌<◌, List, [], ◌∷◌, length, Option, Some, None, true, refl, sym, ap, ◌∙◌, subst, ⊎_elim, arith}
+use Rattle.std.proofs.Common.{◌≡◌, ℕ, ◌+◌, ◌<◌, List, [], ◌∷◌, length, Option, Some, None, true, refl, sym, ap, ◌∙◌, subst, ⊎_elim, arith, length-set}
 use Rattle.std.specs.Prelude.{slice_get, slice_set, nat_lt, if◌then◌else◌}
 use Rattle.std.proofs.lemmas.Bool.Decides.{nat_tests}
-use Rattle.std.proofs.lemmas.Option.{none-some, same_Some}
+use Rattle.std.proofs.lemmas.Option.{none-some, same_Some, cond_some}
+use Rattle.std.proofs.lemmas.Bool.{cases_eq}
+use Rattle.cell_code.proofs.Puts.{put-same, put-other}
 use Rattle.fip_language.specs.Values.{Value, End, More}
 use Rattle.fip_language.specs.Store.{Cell, Placed, Parts, NoParts, MoreParts, value_of, values_of, word_of, words_of, uses, uses_of_all}
 use Rattle.cell_code.specs.InRange.{AllBelow}
 use Rattle.cell_code.specs.TreeMachine as T
 use Rattle.cell_code.specs.CellMachine as M
 use Rattle.fip_machine.specs.Separation.{Lies, LieAll, Slot, Full, slot_uses, used, content_of, Fits, File}
-use Rattle.fip_machine.proofs.Puts.{put_same, put_other, same_or_not, get_set_other, get_set_same, length_set, then_some, some_then, if_some}
+use Rattle.fip_machine.proofs.Puts.{get_set_other, get_set_same, then_some, some_then}
 use Rattle.fip_machine.proofs.Trees.{fits_agree, full_of, kept_slot, kept_content, kept_uses, kept_fits, free_uses, used_put, used_at}
 
 -- a file whose register d was changed, and what came in and went out
@@ -28,13 +30,13 @@ module _ (cs : List Cell) (n : ℕ) where
       slots = T.put f.slots d x;
       long = long ∙ f.long;
       holds = λ r below. ⊎_elim
-          (λ e. ap content_of (put_same f.slots d x r e) ∙ is ∙ sym (put_same regs d c r e))
-          (λ ne. ap content_of (put_other f.slots d x r ne) ∙ f.holds r below ∙ sym (put_other regs d c r ne))
-          (same_or_not r d);
+          (λ e. ap content_of (put-same f.slots d x r e) ∙ is ∙ sym (put-same regs d c r e))
+          (λ ne. ap content_of (put-other f.slots d x r ne) ∙ f.holds r below ∙ sym (put-other regs d c r ne))
+          (cases_eq r d);
       fits = λ r below. ⊎_elim
-          (λ e. subst (λ s. Fits cs s (slice_get new r)) (sym (put_same f.slots d x r e)) (subst (λ i. Fits cs x (slice_get new i)) (sym e) fits))
-          (λ ne. subst (λ s. Fits cs s (slice_get new r)) (sym (put_other f.slots d x r ne)) (subst (Fits cs (f.slots r)) (sym (same r ne)) (f.fits r below)))
-          (same_or_not r d);
+          (λ e. subst (λ s. Fits cs s (slice_get new r)) (sym (put-same f.slots d x r e)) (subst (λ i. Fits cs x (slice_get new i)) (sym e) fits))
+          (λ ne. subst (λ s. Fits cs s (slice_get new r)) (sym (put-other f.slots d x r ne)) (subst (Fits cs (f.slots r)) (sym (same r ne)) (f.fits r below)))
+          (cases_eq r d);
       counts = λ q. refl;
     };
     parts = λ q. let a = used_put q f.slots n d x lt in let b = f.counts q in omega arith;
@@ -126,11 +128,11 @@ module _ (cs : List Cell) (n : ℕ) where
 
   pub write : (regs new : T.Registers) (ws : List ℕ) (u : ℕ → ℕ) (d w : ℕ) (x : Slot) (c : T.Content) → File cs n regs ws u → d < n → T.write regs d c ≡ Some new → Fits cs x (Some w) → content_of x ≡ c → Written ws u d w x new
   write regs new ws u d w x c f lt e fits is =
-      let i = if_some (T.is_free (regs d)) (T.put regs d c) new e in
+      let i = cond_some (T.is_free (regs d)) (T.put regs d c) new e in
       let free = free_uses cs (f.slots d) (slice_get ws d) in
       let long = f.long in
       let within : d < length ws = omega (arith, lt, long) in
-      let k = change regs ws (slice_set ws d w) u d x c f lt (length_set ws d w) (λ r ne. get_set_other ws d r w (λ e. ne (sym e))) (subst (Fits cs x) (sym (get_set_same ws d w within)) fits) is in
+      let k = change regs ws (slice_set ws d w) u d x c f lt (length-set ws d w) (λ r ne. get_set_other ws d r w (λ e. ne (sym e))) (subst (Fits cs x) (sym (get_set_same ws d w within)) fits) is in
       record {
         words = slice_set ws d w;
         put = let test : nat_lt d (length ws) ≡ true = grind (arith, nat_tests) in ap (λ b. if b then Some (slice_set ws d w) else None) test;

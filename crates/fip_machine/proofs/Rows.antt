@@ -2,10 +2,9 @@
 use Rattle.std.proofs.Common.{◌≡◌, ◌≢◌, ℕ, zero, suc, ◌+◌, ◌-◌, ◌/◌, ◌%◌, ◌<◌, ◌≤◌, List, [], ◌∷◌, ◌++◌, length, map, take, drop, Option, Some, None, Bool, true, false, refl, sym, ap, ◌∙◌, arith}
 use Rattle.std.specs.Prelude.{slice_get, slice_set, slice_index_or, nat_eq, nat_lt, option_and_then, option_map, if◌then◌else◌, replicate}
 use Rattle.std.proofs.lemmas.Bool.Decides.{nat_tests}
-use Rattle.std.proofs.lemmas.Option.{none-some, same_Some, slice_get_within, slice_get-get_or}
+use Rattle.std.proofs.lemmas.Option.{none-some, same_Some, slice_get_within, slice_get-get_or, cond_some}
 use Rattle.std.proofs.lemmas.List.{length-drop, take_all}
 use Rattle.fip_language.specs.Store.{Cell}
-use Rattle.cell_store.specs.Count.{size_at}
 use Rattle.cell_code.specs.Code.{Instruction, Function, Code}
 use Rattle.cell_code.specs.InRange.{AllBelow}
 use Rattle.cell_code.specs.Machine.{Went, Entered, Returned, Stuck}
@@ -14,7 +13,7 @@ use Rattle.cell_code.specs.View.{code_of, function_of, instruction_of}
 use Rattle.cell_code.specs.declared.instructions.Code.{Code as RustCode}
 use Rattle.cell_code.specs.declared.instructions.Function.{Function as RustFunction}
 use Rattle.cell_code.specs.declared.instructions.Instr.{Instr}
-use Rattle.fip_machine.proofs.Puts.{then_some, some_then, if_some}
+use Rattle.fip_machine.proofs.Puts.{then_some, some_then}
 
 pub went_some : (s : M.State) (o : Option (List ℕ)) → M.went s o ≢ Stuck → (ws : List ℕ) × (o ≡ Some ws)
 went_some s None h = absurd (h refl)
@@ -25,7 +24,7 @@ went_cells s None h = absurd (h refl)
 went_cells s (Some cs) h = (cs, refl)
 
 pub write_some : (ws : List ℕ) (d w : ℕ) (new : List ℕ) → M.write ws d w ≡ Some new → (d < length ws) × (slice_set ws d w ≡ new)
-write_some ws d w new e = let i = if_some (nat_lt d (length ws)) (slice_set ws d w) new e in let test = i.0 in (grind (arith, nat_tests), i.1)
+write_some ws d w new e = let i = cond_some (nat_lt d (length ws)) (slice_set ws d w) new e in let test = i.0 in (grind (arith, nat_tests), i.1)
 
 pub write_is : (ws : List ℕ) (d w : ℕ) → d < length ws → M.write ws d w ≡ Some (slice_set ws d w)
 write_is ws d w h = let test : nat_lt d (length ws) ≡ true = grind (arith, nat_tests) in ap (λ b. if b then Some (slice_set ws d w) else None) test
@@ -158,7 +157,7 @@ pub record Makes (s : M.State) (d c : ℕ) (ss : List ℕ) : Type 0 where
 resized_some : (cs : List Cell) (p : ℕ) (c : Cell) (o : Option Cell) (new : List Cell) → M.resized cs p c o ≡ Some new → (old : Cell) × (o ≡ Some old) × (length old.fields ≡ length c.fields) × (slice_set cs p c ≡ new)
 resized_some cs p c None new e = absurd (none-some new e)
 resized_some cs p c (Some old) new e =
-    let i = if_some (nat_eq (length old.fields) (length c.fields)) (slice_set cs p c) new e in
+    let i = cond_some (nat_eq (length old.fields) (length c.fields)) (slice_set cs p c) new e in
     let test = i.0 in
     (old, refl, grind (arith, nat_tests), i.1)
 
@@ -246,11 +245,6 @@ pub cell_there : (cs : List Cell) (p : ℕ) → p < length cs → (c : Cell) × 
 cell_there [] p h = absurd (omega arith)
 cell_there (c ∷ cs) zero h = (c, refl)
 cell_there (c ∷ cs) (suc p) h = cell_there cs p (omega arith)
-
-pub size_at_is : (cs : List Cell) (p : ℕ) (c : Cell) → slice_get cs p ≡ Some c → size_at cs p ≡ length c.fields
-size_at_is [] p c e = absurd (none-some c e)
-size_at_is (x ∷ cs) zero c e = ap (λ (c : Cell). length c.fields) (same_Some x c e)
-size_at_is (x ∷ cs) (suc p) c e = size_at_is cs p c e
 
 -- the other way round: from what is found to what is left
 

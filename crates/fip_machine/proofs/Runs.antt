@@ -1,7 +1,7 @@
 -- A state that stands for one on trees from which the run ends: it can do a step, and the next one stands so too.
 use Rattle.std.proofs.Common.{◌≡◌, ◌≢◌, ℕ, zero, suc, ◌+◌, ◌/◌, List, [], ◌∷◌, length, Option, Some, None, Bool, true, false, refl, sym, ap, ◌∙◌, subst, arith}
 use Rattle.std.specs.Prelude.{slice_get, slice_set, option_and_then, if◌then◌else◌, nat_eq}
-use Rattle.std.proofs.lemmas.Option.{none-some, same_Some}
+use Rattle.std.proofs.lemmas.Option.{none-some, same_Some, cond_some}
 use Rattle.std.proofs.lemmas.Bool.Decides.{nat_tests}
 use Rattle.fip_language.specs.Values.{Values}
 use Rattle.fip_language.specs.Store.{Cell}
@@ -18,7 +18,7 @@ use Rattle.fip_language.specs.declared.TrapKind.{TrapKind}
 use Rattle.fip_machine.specs.declared.engine.Stepped.{Stepped}
 use Rattle.fip_machine.specs.declared.engine.Stepped.TheVariants as S
 use Rattle.std.proofs.lemmas.List.{length-map}
-use Rattle.fip_machine.proofs.Puts.{then_some, if_some}
+use Rattle.fip_machine.proofs.Puts.{then_some}
 use Rattle.fip_machine.proofs.Transfer.{Follows, step_follows}
 
 -- with any number of calls, the run on trees ends
@@ -179,7 +179,7 @@ put_keeps s (Some cs) h = (h cs refl, refl)
 resized_sizes : (cs new : List Cell) (p : ℕ) (c : Cell) (o : Option Cell) → slice_get cs p ≡ o → M.resized cs p c o ≡ Some new → sizes new ≡ sizes cs
 resized_sizes cs new p c None h e = absurd (none-some new e)
 resized_sizes cs new p c (Some old) h e =
-    let i = if_some (nat_eq (length old.fields) (length c.fields)) (slice_set cs p c) new e in
+    let i = cond_some (nat_eq (length old.fields) (length c.fields)) (slice_set cs p c) new e in
     let test = i.0 in
     ap sizes (sym i.1) ∙ set_sizes cs p c old h (grind (arith, nat_tests))
 

@@ -12,6 +12,7 @@ use Rattle.std.proofs.lemmas.List.Elements.{All-append}
 use Rattle.fip_language.specs.Table.{Table, HasType, HaveTypes}
 use Rattle.fip_language.specs.Store.{Cell, Placed, PlacedInt, Bare, At, Parts, NoParts, MoreParts, value_of, values_of, words_of, uses, uses_of_all, one_at, Stands, StandAll}
 use Rattle.cell_store.specs.Count.{size_of}
+use Rattle.cell_store.proofs.Standing.{stand_types}
 use Rattle.cell_code.specs.Code.{Function, Code}
 use Rattle.cell_code.specs.InRange.{IsCode}
 use Rattle.cell_code.specs.TreeMachine as T
@@ -52,21 +53,6 @@ mutual
   stand_lie tb cs [] (MoreParts x xs) h s = absurd s
   stand_lie tb cs (k ∷ ks) NoParts h s = tt
   stand_lie tb cs (k ∷ ks) (MoreParts x xs) h s = (stands_lies tb cs k x h s.0, stand_lie tb cs ks xs h s.1)
-
-mutual
-  pub stands_type : (tb : Table) (cs : List Cell) (k : ℕ) (x : Placed) → Stands tb cs k x → HasType tb k (value_of x)
-  stands_type tb cs zero (PlacedInt i) s = s
-  stands_type tb cs zero (Bare c) s = s
-  stands_type tb cs zero (At p c xs) s = s
-  stands_type tb cs (suc t) (PlacedInt i) s = s
-  stands_type tb cs (suc t) (Bare c) s = (s.0, s.1, subst (λ ks. HaveTypes tb ks End) (sym s.2) tt)
-  stands_type tb cs (suc t) (At p c xs) s = (s.1, s.2, stand_types tb cs s.1.fields xs s.3)
-
-  pub stand_types : (tb : Table) (cs : List Cell) (ks : List ℕ) (xs : Parts) → StandAll tb cs ks xs → HaveTypes tb ks (values_of xs)
-  stand_types tb cs [] NoParts s = tt
-  stand_types tb cs [] (MoreParts x xs) s = s
-  stand_types tb cs (k ∷ ks) NoParts s = s
-  stand_types tb cs (k ∷ ks) (MoreParts x xs) s = (stands_type tb cs k x s.0, stand_types tb cs ks xs s.1)
 
 -- the other way round: what lies in the cells and is of a type stands there
 

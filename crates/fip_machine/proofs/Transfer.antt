@@ -1,12 +1,13 @@
 -- A step on cells follows a step on trees.
 -- Each instruction is a few operations on the file of registers. Where the machine on trees goes on, so does the one
 -- on cells, and the states are apart again; all cells are used once before and after, which the counts show.
-use Rattle.std.proofs.Common.{◌≡◌, ℕ, zero, suc, ◌+◌, ◌*◌, ◌-◌, ◌/◌, ◌<◌, ◌≤◌, List, [], ◌∷◌, ◌++◌, length, length-append, Option, Some, None, Bool, true, false, refl, sym, ap, ◌∙◌, subst, ⊎_elim, arith}
+use Rattle.std.proofs.Common.{◌≡◌, ℕ, zero, suc, ◌+◌, ◌*◌, ◌-◌, ◌/◌, ◌<◌, ◌≤◌, List, [], ◌∷◌, ◌++◌, length, length-append, Option, Some, None, Bool, true, false, refl, sym, ap, ◌∙◌, subst, ⊎_elim, arith, length-set}
 use Rattle.std.proofs.lemmas.List.{length-replicate}
-use Rattle.std.proofs.lemmas.Bool.{cases_lt}
+use Rattle.std.proofs.lemmas.Bool.{cases_lt, and_parts, cases_eq}
 use Rattle.std.specs.Prelude.{slice_get, slice_set, nat_eq, nat_lt, option_and_then, if◌then◌else◌, replicate}
 use Rattle.std.proofs.lemmas.Bool.Decides.{nat_tests}
-use Rattle.std.proofs.lemmas.Option.{none-some, same_Some, slice_get_within}
+use Rattle.std.proofs.lemmas.Option.{none-some, same_Some, slice_get_within, cond_some}
+use Rattle.cell_code.proofs.Puts.{put-same, put-other}
 use Rattle.fip_language.specs.Values.{Value, Node, Values, End, More, count_of}
 use Rattle.fip_language.specs.Store.{Cell, Placed, PlacedInt, Bare, At, Parts, NoParts, MoreParts, value_of, values_of, word_of, words_of, uses, uses_of_all, one_at, int_word}
 use Rattle.cell_code.specs.Code.{Instruction, Const, Atom, Move, Test, Take, Put, Tail, Ret, Function, Code}
@@ -15,7 +16,7 @@ use Rattle.cell_code.specs.Machine.{Went, Entered, Returned, Trapped, TooDeep, S
 use Rattle.cell_code.specs.TreeMachine as T
 use Rattle.cell_code.specs.CellMachine as M
 use Rattle.fip_machine.specs.Separation.{HasPart, Lies, LieAll, Slot, Vacant, Full, Spare, slot_uses, used, content_of, Fits, File, there, Apart, StandFor}
-use Rattle.fip_machine.proofs.Puts.{then_some, some_then, if_some, both_true, get_set_other, get_set_same, length_set, one_at_same, same_or_not, put_same, put_other}
+use Rattle.fip_machine.proofs.Puts.{then_some, some_then, get_set_other, get_set_same, one_at_same}
 use Rattle.fip_machine.proofs.Trees.{lie_all_agree, full_of, spare_of, free_uses, count_words, bare_constructor, bare_fields, cell_constructor, cell_fields, used_none, used_first}
 use Rattle.fip_machine.proofs.Files.{swap, read_one, read_all, write, write_all, file_agree, recount}
 
@@ -86,7 +87,7 @@ node_some : (d tag : ℕ) (x : T.Content) (b : T.Reading) (regs : T.Registers) �
 node_some d tag T.Empty b regs e = absurd (none-some regs e)
 node_some d tag (T.Holds v) b regs e = absurd (none-some regs e)
 node_some d tag (T.Credit k) b regs e =
-    let i = if_some (nat_eq (count_of b.values) k) (T.put b.rest d (T.Holds (Node tag b.values))) regs e in
+    let i = cond_some (nat_eq (count_of b.values) k) (T.put b.rest d (T.Holds (Node tag b.values))) regs e in
     let test = i.0 in
     (k, refl, grind (arith, nat_tests), i.1)
 
@@ -107,7 +108,7 @@ there_small cs q = by_test (nat_lt q (length cs))
     by_test false = omega arith
 
 there_set : (cs : List Cell) (p : ℕ) (c : Cell) (q : ℕ) → there (slice_set cs p c) q ≡ there cs q
-there_set cs p c q = ap (λ n. if nat_lt q n then 1 else 0) (length_set cs p c)
+there_set cs p c q = ap (λ n. if nat_lt q n then 1 else 0) (length-set cs p c)
 
 overwrites : (cs : List Cell) (p : ℕ) (c old : Cell) → slice_get cs p ≡ Some old → length old.fields ≡ length c.fields → M.overwrite cs (2 * p + 1) c ≡ Some (slice_set cs p c)
 overwrites cs p c old e size =
@@ -117,9 +118,9 @@ overwrites cs p c old e size =
 
 put_again : {A : Type 0} (f : ℕ → A) (d : ℕ) (x y : A) (r : ℕ) → T.put (T.put f d x) d y r ≡ T.put f d y r
 put_again f d x y r = ⊎_elim
-    (λ e. put_same (T.put f d x) d y r e ∙ sym (put_same f d y r e))
-    (λ ne. put_other (T.put f d x) d y r ne ∙ put_other f d x r ne ∙ sym (put_other f d y r ne))
-    (same_or_not r d)
+    (λ e. put-same (T.put f d x) d y r e ∙ sym (put-same f d y r e))
+    (λ ne. put-other (T.put f d x) d y r ne ∙ put-other f d x r ne ∙ sym (put-other f d y r ne))
+    (cases_eq r d)
 
 same_registers : (cs : List Cell) (n : ℕ) (regs new : T.Registers) (ws : List ℕ) (u : ℕ → ℕ) → ((r : ℕ) → r < n → regs r ≡ new r) → File cs n regs ws u → File cs n new ws u
 same_registers cs n regs new ws u e f = record { slots = f.slots; long = f.long; holds = λ r lt. f.holds r lt ∙ e r lt; fits = f.fits; counts = f.counts }
@@ -127,7 +128,7 @@ same_registers cs n regs new ws u e f = record { slots = f.slots; long = f.long;
 free_at : (n : ℕ) (regs : T.Registers) → T.all_free n regs ≡ true → (r : ℕ) → r < n → T.is_free (regs r) ≡ true
 free_at zero regs e r lt = absurd (omega arith)
 free_at (suc n) regs e r lt =
-    let b = both_true (T.is_free (regs n)) (T.all_free n regs) e in
+    let b = and_parts (T.is_free (regs n)) (T.all_free n regs) e in
     ⊎_elim
     (λ less. free_at n regs b.1 r less)
     (λ le. let same : r ≡ n = omega (arith, le, lt) in ap (λ i. T.is_free (regs i)) same ∙ b.0)
@@ -278,7 +279,7 @@ module _ (code : Code) (s : M.State) (t : T.State) (a : Apart code s t) where
       by_content (T.Holds v) h e go =
           let b = and_reading v (T.read_all (T.put regs r (T.kept v)) ss) x e in
           let ne : d ≡ r → ⊥ = λ same. let both = sym is ∙ ap regs same ∙ h in absurd cc in
-          ap (λ (x : T.Reading). x.rest d) (sym b.2) ∙ go v b.0 b.1 (put_other regs r (T.kept v) d ne ∙ is)
+          ap (λ (x : T.Reading). x.rest d) (sym b.2) ∙ go v b.0 b.1 (put-other regs r (T.kept v) d ne ∙ is)
 
   follows_put : (d tag : ℕ) (ss : List ℕ) → d < a.function.registers → AllBelow a.function.registers ss → (i : ℕ) → Follows code s.cells (M.put s d tag ss) (T.act a.function.registers t (Put d i tag ss))
   follows_put d tag ss lt below i = goes_with code s t a (option_and_then (T.put_node d tag (t.frame.registers d)) (T.read_all t.frame.registers ss)) (option_and_then (λ w. option_and_then (λ vs. M.overwrite s.cells w (record { tag = tag; fields = vs })) (M.read_all s.frame.words ss)) (slice_get s.frame.words d)) (λ regs e.
@@ -307,7 +308,7 @@ module _ (code : Code) (s : M.State) (t : T.State) (a : Apart code s t) where
       let file = file_agree s.cells new n (T.put x.rest d T.Empty) ws out.uses (λ q lt. get_set_other s.cells p q cell (λ e. absurd (let z = ap out.uses e in omega arith))) out.file in
       let lie = lie_all_agree s.cells new xs (λ q lt. get_set_other s.cells p q cell (λ e. absurd (let z = ap (λ q. uses_of_all q xs) e in omega arith))) all.lie in
       let inn = swap new n (T.put x.rest d T.Empty) ws out.uses d (Full (At p tag xs)) (T.Holds (Node tag x.values)) file lt (fit.0, (get_set_same s.cells p cell within, some_part xs k size fit.1, lie)) (ap (λ vs. T.Holds (Node tag vs)) all.values) in
-      let vacant = vacant_of (file.slots d) (file.holds d lt ∙ put_same x.rest d T.Empty d refl) in (
+      let vacant = vacant_of (file.slots d) (file.holds d lt ∙ put-same x.rest d T.Empty d refl) in (
         new,
         some_then (λ w. option_and_then (λ vs. M.overwrite s.cells w (record { tag = tag; fields = vs })) (M.read_all ws ss)) (slice_get ws d) (2 * p + 1) new fit.0
             (some_then (λ vs. M.overwrite s.cells (2 * p + 1) (record { tag = tag; fields = vs })) (M.read_all ws ss) (words_of xs) new all.words

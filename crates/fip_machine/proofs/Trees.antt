@@ -3,12 +3,13 @@ use Rattle.std.proofs.Common.{◌≡◌, ℕ, zero, suc, ◌+◌, ◌*◌, ◌/�
 use Rattle.std.specs.Prelude.{slice_get, nat_eq, option_map, if◌then◌else◌}
 use Rattle.std.proofs.lemmas.Bool.{cases_lt}
 use Rattle.std.proofs.lemmas.Bool.Decides.{nat_tests}
+use Rattle.cell_code.proofs.Puts.{put-same, put-other}
 use Rattle.fip_language.specs.Values.{Value, count_of}
 use Rattle.fip_language.specs.Store.{Cell, Placed, PlacedInt, Bare, At, Parts, NoParts, MoreParts, value_of, values_of, words_of, uses, uses_of_all, one_at}
 use Rattle.cell_code.specs.TreeMachine.{Holds, Credit, put, kept, is_free}
 use Rattle.cell_code.specs.CellMachine.{constructor_at, fields_at}
 use Rattle.fip_machine.specs.Separation.{Lies, LieAll, Slot, Vacant, Full, Spare, slot_uses, used, content_of, Fits}
-use Rattle.fip_machine.proofs.Puts.{put_same, put_other, one_at_same}
+use Rattle.fip_machine.proofs.Puts.{one_at_same}
 
 -- cells outside a tree don't matter to it
 mutual
@@ -107,7 +108,7 @@ cell_fields cs p cell e =
 pub used_past : (q : ℕ) (slots : ℕ → Slot) (n d : ℕ) (x : Slot) → n ≤ d → used q (put slots d x) n ≡ used q slots n
 used_past q slots zero d x h = refl
 used_past q slots (suc n) d x h =
-    let other = put_other slots d x n (λ e. absurd (omega (arith, e, h))) in
+    let other = put-other slots d x n (λ e. absurd (omega (arith, e, h))) in
     let this = ap (slot_uses q) other in
     let rest = used_past q slots n d x (omega arith) in
     omega arith
@@ -117,12 +118,12 @@ used_put q slots zero d x h = absurd (omega arith)
 used_put q slots (suc n) d x h =
     ⊎_elim
     (λ less.
-    let this = ap (slot_uses q) (put_other slots d x n (λ e. absurd (omega (arith, e, less)))) in
+    let this = ap (slot_uses q) (put-other slots d x n (λ e. absurd (omega (arith, e, less)))) in
     let rest = used_put q slots n d x less in
     omega arith)
     (λ le.
     let same : n ≡ d = omega (arith, le, h) in
-    let this = ap (slot_uses q) (put_same slots d x n same) in
+    let this = ap (slot_uses q) (put-same slots d x n same) in
     let old = ap (λ i. slot_uses q (slots i)) same in
     let rest = used_past q slots n d x le in
     omega arith)

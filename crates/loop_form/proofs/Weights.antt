@@ -1,8 +1,7 @@
 -- Weights of sizes: how an ending's nodes are weighed against the one credit that a pattern gives. Where the weights add up
 -- to that of the credit, the nodes need just it.
-use Rattle.std.proofs.Common.{◌≡◌, ℕ, zero, suc, ◌+◌, List, [], ◌∷◌, ◌++◌, Bool, true, false, ◌==◌, refl, ap, sym, ◌∙◌, arith}
+use Rattle.std.proofs.Common.{◌≡◌, ℕ, zero, suc, ◌+◌, List, [], ◌∷◌, ◌++◌, Bool, true, false, ◌==◌, refl, ap, sym, ◌∙◌, arith, eqb-true}
 use Rattle.std.specs.Prelude.{if◌then◌else◌}
-use Rattle.std.proofs.lemmas.Bool.Decides.{nat_tests}
 use Rattle.loop_form.specs.Loop as L
 use Rattle.loop_form.specs.Fine.{credit}
 
@@ -30,9 +29,6 @@ ending_weight n (L.Again xs) = weight_of_all n xs
 abbrev pub weight_given : ℕ → ℕ
 weight_given zero = 0
 weight_given (suc n) = 1
-
-pub same_of : (a b : ℕ) → (a == b) ≡ true → a ≡ b
-same_of a b h = grind (arith, nat_tests, h)
 
 -- the weights of these sizes
 abbrev weights : ℕ → List ℕ → ℕ
@@ -77,7 +73,7 @@ weights_one : (n : ℕ) (ms : List ℕ) → weights n ms ≡ 1 → ms ≡ n ∷ 
 weights_one n [] h = absurd (omega (arith, h))
 weights_one n (m ∷ ms) h =
     let p = if_one (m == n) (weights n ms) h in
-    ap (λ k. k ∷ ms) (same_of m n p.0) ∙ ap (λ ks. n ∷ ks) (weights_none n ms p.1)
+    ap (λ k. k ∷ ms) (eqb-true m n p.0) ∙ ap (λ ks. n ∷ ks) (weights_none n ms p.1)
 
 weights_paid : (n : ℕ) (ms : List ℕ) → weights n ms ≡ weight_given n → ms ≡ credit n
 weights_paid zero ms h = weights_none zero ms h

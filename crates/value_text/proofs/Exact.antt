@@ -1,8 +1,9 @@
 -- Each state can be completed, so the machine stops at the least place.
 use Rattle.std.proofs.Common.{◌≡◌, ℕ, zero, suc, ◌+◌, ◌*◌, ◌≤◌, List, [], ◌∷◌, ◌++◌, Option, Some, None, Bool, true, false, refl, sym, ap, ap₂, ◌∙◌, subst, arith}
 use Rattle.std.specs.Prelude.{nat_le, if◌then◌else◌}
-use Rattle.std.proofs.lemmas.Bool.{leb-true}
+use Rattle.std.proofs.lemmas.Bool.{leb-true, and_parts}
 use Rattle.std.proofs.lemmas.List.{map-append, append-nil}
+use Rattle.std.proofs.lemmas.Option.{same_Some, cond_some}
 use Rattle.fip_language.specs.Prefix.{run, Accepted, Stopped}
 use Rattle.fip_language.specs.Prefix.{Begins, IsPlace}
 use Rattle.fip_language.proofs.Prefix.{IsExact, stops_at_place, accepts, accepted}
@@ -13,7 +14,6 @@ use Rattle.fip_language.specs.ValueText.{skip, number, after_number, bound, int_
 use Rattle.fip_language.specs.PrintedText.{printed, printed_fields, printed_more, printed_lines}
 use Rattle.value_text.specs.Machine.{same_character, same_text, begins, lookup, join, snoc, Around, Lines, Field, State, Want, Naming, Signed, Number, Await, Over, filled, named, any_begins, is_sign, pass, naming, pass_named, in_name, numbered, act, over, over_named, final, start, step}
 use Rattle.value_text.proofs.Tables.{same_refl, same_is, name_chars_of, AreNameChars, IsName, AreNames, Alive, AllAlive, IsTable}
-use Rattle.value_text.proofs.Text.{guard, both}
 use Rattle.value_text.proofs.Residual.{node_text, Ends, Completes, IsPass, InBound, filled_takes, filled_is_pass, named_takes, named_gives, named_is_pass, filled_gives, takes, gives}
 use Rattle.value_text.proofs.Reread.{IsBreak, value_reads, fields_read, more_read, fields_break, name_reads}
 
@@ -48,14 +48,11 @@ found_alive : (tb : Table) (name : List Character) (ss : List Shape) (r : ℕ ×
 found_alive tb name [] r a i e = cc
 found_alive tb name (s ∷ ss) r a i e = alive_step tb name i s ss r a.0 (found_alive tb name ss r a.1) (same_text name (characters s.name)) e
 
-some_same : {A : Type 0} → (a b : A) → Some a ≡ Some b → a ≡ b
-some_same a b e = cc
-
 sign_keeps : (tb : Table) (sign : Character) (next s' : State) (c : Character) → Good tb next → (if is_sign sign c then Some next else None) ≡ Some s' → Good tb s'
-sign_keeps tb sign next s' c g e = subst (Good tb) (guard (is_sign sign c) next s' e).1 g
+sign_keeps tb sign next s' c g e = subst (Good tb) (cond_some (is_sign sign c) next s' e).1 g
 
 pass_keeps : (tb : Table) (s : State) (c : Character) (s' : State) → Good tb s → pass s c ≡ Some s' → Good tb s'
-pass_keeps tb (Await sign next) Blank s' g e = subst (Good tb) (some_same (Await sign next) s' e) g
+pass_keeps tb (Await sign next) Blank s' g e = subst (Good tb) (same_Some (Await sign next) s' e) g
 pass_keeps tb (Await sign next) Line s' g e = sign_keeps tb sign next s' Line g.1 e
 pass_keeps tb (Await sign next) Open s' g e = sign_keeps tb sign next s' Open g.1 e
 pass_keeps tb (Await sign next) Close s' g e = sign_keeps tb sign next s' Close g.1 e
@@ -64,8 +61,8 @@ pass_keeps tb (Await sign next) Minus s' g e = sign_keeps tb sign next s' Minus 
 pass_keeps tb (Await sign next) (Digit d) s' g e = sign_keeps tb sign next s' (Digit d) g.1 e
 pass_keeps tb (Await sign next) (Letter b) s' g e = sign_keeps tb sign next s' (Letter b) g.1 e
 pass_keeps tb (Await sign next) Other s' g e = sign_keeps tb sign next s' Other g.1 e
-pass_keeps tb (Over vs) Blank s' g e = subst (Good tb) (some_same (Over vs) s' e) g
-pass_keeps tb (Over vs) Line s' g e = subst (Good tb) (some_same (Over vs) s' e) g
+pass_keeps tb (Over vs) Blank s' g e = subst (Good tb) (same_Some (Over vs) s' e) g
+pass_keeps tb (Over vs) Line s' g e = subst (Good tb) (same_Some (Over vs) s' e) g
 pass_keeps tb (Over vs) _ s' g e = cc
 pass_keeps tb (Want k around) c s' g e = cc
 pass_keeps tb (Naming t front around) c s' g e = cc
@@ -74,7 +71,7 @@ pass_keeps tb (Number neg n around) c s' g e = cc
 
 name_keeps : (tb : Table) (t : ℕ) (front : List Character) (around : Around) (s' : State) → GoodAround tb around → naming tb t front around ≡ Some s' → Good tb s'
 name_keeps tb t front around s' g e =
-    let h = guard (any_begins front (shapes tb t)) (Naming t front around) s' e in
+    let h = cond_some (any_begins front (shapes tb t)) (Naming t front around) s' e in
     subst (Good tb) h.1 (h.0, g)
 
 done_keeps : (tb : Table) (table : IsTable tb) (t : ℕ) (front : List Character) (around : Around) (c : Character) (s' : State) → GoodAround tb around → (o : Option (ℕ × List ℕ)) → lookup 0 front (shapes tb t) ≡ o → pass_named o around c ≡ Some s' → Good tb s'
@@ -94,7 +91,7 @@ in_name_keeps tb table t front around Other s' g e = done_keeps tb table t front
 
 numbered_keeps : (tb : Table) (neg : Bool) (n : ℕ) (around : Around) (s' : State) → GoodAround tb around → numbered neg n around ≡ Some s' → Good tb s'
 numbered_keeps tb neg n around s' g e =
-    let h = guard (nat_le n (bound neg)) (Number neg n around) s' e in
+    let h = cond_some (nat_le n (bound neg)) (Number neg n around) s' e in
     subst (Good tb) h.1 (leb-true n (bound neg) h.0, g)
 
 number_keeps : (tb : Table) (neg : Bool) (n : ℕ) (around : Around) (c : Character) (s' : State) → GoodAround tb around → act tb (Number neg n around) c ≡ Some s' → Good tb s'
@@ -109,11 +106,11 @@ number_keeps tb neg n around (Letter b) s' g e = pass_keeps tb (filled around (I
 number_keeps tb neg n around Other s' g e = pass_keeps tb (filled around (Int (int_of neg n))) Other s' (good_filled tb around (Int (int_of neg n)) g) e
 
 want_keeps : (tb : Table) (table : IsTable tb) (k : ℕ) (around : Around) (c : Character) (s' : State) → Good tb (Want k around) → act tb (Want k around) c ≡ Some s' → Good tb s'
-want_keeps tb table zero around Blank s' g e = subst (Good tb) (some_same (Want zero around) s' e) g
-want_keeps tb table zero around Minus s' g e = subst (Good tb) (some_same (Signed around) s' e) g.1
+want_keeps tb table zero around Blank s' g e = subst (Good tb) (same_Some (Want zero around) s' e) g
+want_keeps tb table zero around Minus s' g e = subst (Good tb) (same_Some (Signed around) s' e) g.1
 want_keeps tb table zero around (Digit d) s' g e = numbered_keeps tb false d around s' g.1 e
 want_keeps tb table zero around _ s' g e = cc
-want_keeps tb table (suc t) around Blank s' g e = subst (Good tb) (some_same (Want (suc t) around) s' e) g
+want_keeps tb table (suc t) around Blank s' g e = subst (Good tb) (same_Some (Want (suc t) around) s' e) g
 want_keeps tb table (suc t) around Line s' g e = in_name_keeps tb table t [] around Line s' g.1 e
 want_keeps tb table (suc t) around Open s' g e = in_name_keeps tb table t [] around Open s' g.1 e
 want_keeps tb table (suc t) around Close s' g e = in_name_keeps tb table t [] around Close s' g.1 e
@@ -187,7 +184,7 @@ begins_more : (front : List Character) (name : List ℕ) → AreNameChars (chara
 begins_more [] name h e = (name, refl, h)
 begins_more (c ∷ front) [] h e = cc
 begins_more (c ∷ front) (b ∷ name) h e =
-    let k = both (same_character c (character b)) (begins front (characters name)) e in
+    let k = and_parts (same_character c (character b)) (begins front (characters name)) e in
     let r = begins_more front name (tail_chars (character b) (characters name) h) k.1 in
     (r.0, ap₂ (λ c cs. c ∷ cs) (sym (same_is c (character b) k.0)) r.1, r.2)
 
@@ -281,7 +278,7 @@ pass_ends tb (Signed around) x p h = absurd p
 pass_ends tb (Number neg n around) x p h = absurd p
 
 over_ends : (tb : Table) (s : State) (x : Values) → over s ≡ Some x → Completes tb s [] x
-over_ends tb (Over vs) x e = (tt, some_same vs x e)
+over_ends tb (Over vs) x e = (tt, same_Some vs x e)
 over_ends tb (Await sign next) x e = cc
 over_ends tb (Want k around) x e = cc
 over_ends tb (Naming t front around) x e = cc
@@ -325,7 +322,7 @@ ended tb (Naming t front around) x g e = name_ended tb t front around x (lookup 
 ended tb (Signed around) x g e = cc
 ended tb (Number neg n around) x g e = (g.0, filled_gives tb around (Int (int_of neg n)) [] x (over_ends tb (filled around (Int (int_of neg n))) x e))
 ended tb (Await sign next) x g e = cc
-ended tb (Over vs) x g e = (tt, some_same vs x e)
+ended tb (Over vs) x g e = (tt, same_Some vs x e)
 
 in_bound : (tb : Table) (s : State) → Good tb s → InBound s
 in_bound tb (Number neg n around) g = g.0

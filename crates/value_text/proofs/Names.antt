@@ -1,7 +1,7 @@
 -- Names: which front of a name is known, and where the machine goes or stops in a name.
 use Rattle.std.proofs.Common.{◌≡◌, ◌≢◌, ◌⊎◌, inl, inr, ℕ, zero, suc, ◌+◌, ◌-◌, ◌<◌, ◌≤◌, List, [], ◌∷◌, ◌++◌, length, take, drop, get_or, Option, Some, None, Bool, true, false, refl, sym, ap, ap₂, ◌∙◌, subst, append_assoc, arith, length-drop}
 use Rattle.std.specs.Prelude.{nat_le, nat_eq, ◌||◌, ◌&&◌, if◌then◌else◌, max, slice_get}
-use Rattle.std.proofs.lemmas.Bool.{eqb-true, eq-eqb, leb-true}
+use Rattle.std.proofs.lemmas.Bool.{eqb-true, eq-eqb, leb-true, and_parts, or_right, or_from, or_parts}
 use Rattle.std.proofs.lemmas.Bool.Decides.{nat_tests}
 use Rattle.std.proofs.lemmas.List.{get_or-drop, take_more, drop-drop, take-take, take-append-drop, length-take-le, append-nil, map-append}
 use Rattle.std.proofs.Math.Seq.{take-suc}
@@ -12,7 +12,7 @@ use Rattle.fip_language.specs.SoundTable.{IsSoundTable}
 use Rattle.fip_language.specs.Character.{Character, Blank, Line, Open, Close, Comma, Minus, Digit, Letter, Other, is_blank, character, characters, are_name_bytes, is_upper_name}
 use Rattle.value_text.specs.Machine.{Around, State, Want, Naming, named, any_begins, begins, same_character, pass, naming, pass_named, act, over, over_named, final, step, lookup}
 use Rattle.value_text.specs.Scan.{runs, is_name_byte, begins_bytes, some_begins, IsLongest}
-use Rattle.value_text.proofs.Text.{both, lookup_begins}
+use Rattle.value_text.proofs.Text.{lookup_begins}
 use Rattle.value_text.proofs.Tables.{is_table, found_shape, name_byte, same_bytes, upper_bytes}
 use Rattle.value_text.proofs.Runs.{runs_alike, stops, ends_short, pass_filled, over_filled, is_blank_char, blank_char}
 
@@ -23,7 +23,7 @@ begins_more text other i l m e h = let n : i + 1 ≡ suc i = omega arith in ap (
   on [] other i l m e h = absurd (omega arith)
   on (t ∷ ts) [] i l m e h = absurd (omega arith)
   on (t ∷ ts) (d ∷ ds) zero l m e h = ap (λ b. b && true) (eq-eqb t d e)
-  on (t ∷ ts) (d ∷ ds) (suc i) l m e h = let k = both (nat_eq t d) (begins_bytes (take i ts) ds) h in ap₂ (λ a b. a && b) k.0 (on ts ds i (omega arith) (omega arith) e k.1)
+  on (t ∷ ts) (d ∷ ds) (suc i) l m e h = let k = and_parts (nat_eq t d) (begins_bytes (take i ts) ds) h in ap₂ (λ a b. a && b) k.0 (on ts ds i (omega arith) (omega arith) e k.1)
 
 and_false : (a : Bool) → (a && false) ≡ false
 and_false true = refl
@@ -47,7 +47,7 @@ begins_less zero j text other le h = refl
 begins_less (suc i) zero text other le h = absurd (omega arith)
 begins_less (suc i) (suc j) [] other le h = refl
 begins_less (suc i) (suc j) (t ∷ ts) [] le h = cc
-begins_less (suc i) (suc j) (t ∷ ts) (d ∷ ds) le h = let k = both (nat_eq t d) (begins_bytes (take j ts) ds) h in ap₂ (λ a b. a && b) k.0 (begins_less i j ts ds (omega arith) k.1)
+begins_less (suc i) (suc j) (t ∷ ts) (d ∷ ds) le h = let k = and_parts (nat_eq t d) (begins_bytes (take j ts) ds) h in ap₂ (λ a b. a && b) k.0 (begins_less i j ts ds (omega arith) k.1)
 
 some_push : (front : List ℕ) (ss : List Shape) (s : Shape) → some_begins front (ss ++ s ∷ []) ≡ (some_begins front ss || begins_bytes front s.name)
 some_push front [] s = last (begins_bytes front s.name) where
@@ -59,13 +59,6 @@ some_push front (r ∷ ss) s = ap (λ b. begins_bytes front r.name || b) (some_p
   assoc true b c = refl
   assoc false b c = refl
 
-or_right : (a b : Bool) → b ≡ true → (a || b) ≡ true
-or_right true b e = refl
-or_right false b e = e
-
-or_both : (a b : Bool) → a ≡ false → b ≡ false → (a || b) ≡ false
-or_both a b e h = ap₂ (λ a b. a || b) e h
-
 false_less : (i j : ℕ) (text other : List ℕ) → i ≤ j → begins_bytes (take i text) other ≡ false → (t : Bool) → begins_bytes (take j text) other ≡ t → begins_bytes (take j text) other ≡ false
 false_less i j text other le f true e = let h = begins_less i j text other le e in cc
 false_less i j text other le f false e = e
@@ -73,11 +66,8 @@ false_less i j text other le f false e = e
 some_less : (i j : ℕ) (text : List ℕ) (ss : List Shape) → i ≤ j → some_begins (take i text) ss ≡ false → some_begins (take j text) ss ≡ false
 some_less i j text [] le f = refl
 some_less i j text (s ∷ ss) le f =
-    let k = neither (begins_bytes (take i text) s.name) (some_begins (take i text) ss) f in
-    or_both (begins_bytes (take j text) s.name) (some_begins (take j text) ss) (false_less i j text s.name le k.0 (begins_bytes (take j text) s.name) refl) (some_less i j text ss le k.1) where
-      neither : (a b : Bool) → (a || b) ≡ false → (a ≡ false) × (b ≡ false)
-      neither false b e = (refl, e)
-      neither true b e = cc
+    let k = or_parts (begins_bytes (take i text) s.name) (some_begins (take i text) ss) f in
+    or_from (begins_bytes (take j text) s.name) (some_begins (take j text) ss) (false_less i j text s.name le k.0 (begins_bytes (take j text) s.name) refl) (some_less i j text ss le k.1)
 
 pub longest_none : (text : List ℕ) → IsLongest text [] 0
 longest_none text = record { within = omega arith; begun = inl refl; longest = λ l. refl }
@@ -89,7 +79,7 @@ longest_by text ss s m k h le b l true e =
     let r : IsLongest text (ss ++ s ∷ []) k = record {
       within = le;
       begun = inr (some_push (take k text) ss s ∙ or_right (some_begins (take k text) ss) (begins_bytes (take k text) s.name) b);
-      longest = λ lt. some_push (take (suc k) text) ss s ∙ or_both (some_begins (take (suc k) text) ss) (begins_bytes (take (suc k) text) s.name) (some_less (suc m) (suc k) text ss (omega (arith, mk)) (h.longest (omega (arith, mk, lt)))) (l lt);
+      longest = λ lt. some_push (take (suc k) text) ss s ∙ or_from (some_begins (take (suc k) text) ss) (begins_bytes (take (suc k) text) s.name) (some_less (suc m) (suc k) text ss (omega (arith, mk)) (h.longest (omega (arith, mk, lt)))) (l lt);
     } in
     subst (IsLongest text (ss ++ s ∷ [])) q r
 longest_by text ss s m k h le b l false e =
@@ -98,7 +88,7 @@ longest_by text ss s m k h le b l false e =
     let r : IsLongest text (ss ++ s ∷ []) m = record {
       within = h.within;
       begun = begun_on h.begun;
-      longest = λ lt. some_push (take (suc m) text) ss s ∙ or_both (some_begins (take (suc m) text) ss) (begins_bytes (take (suc m) text) s.name) (h.longest lt) (false_less (suc k) (suc m) text s.name (omega (arith, km)) (l (let w = h.within in omega (arith, km, w))) (begins_bytes (take (suc m) text) s.name) refl);
+      longest = λ lt. some_push (take (suc m) text) ss s ∙ or_from (some_begins (take (suc m) text) ss) (begins_bytes (take (suc m) text) s.name) (h.longest lt) (false_less (suc k) (suc m) text s.name (omega (arith, km)) (l (let w = h.within in omega (arith, km, w))) (begins_bytes (take (suc m) text) s.name) refl);
     } in
     subst (IsLongest text (ss ++ s ∷ [])) q r where
       begun_on : (m ≡ 0) ⊎ (some_begins (take m text) ss ≡ true) → (m ≡ 0) ⊎ (some_begins (take m text) (ss ++ s ∷ []) ≡ true)
@@ -135,7 +125,7 @@ name_act tb t front around b e = by_char (name_byte b e) where
 begins_front : (a b name : List Character) → begins (a ++ b) name ≡ true → begins a name ≡ true
 begins_front [] b name e = refl
 begins_front (c ∷ a) b [] e = e
-begins_front (c ∷ a) b (d ∷ name) e = let h = both (same_character c d) (begins (a ++ b) name) e in ap₂ (λ x y. x && y) h.0 (begins_front a b name h.1)
+begins_front (c ∷ a) b (d ∷ name) e = let h = and_parts (same_character c d) (begins (a ++ b) name) e in ap₂ (λ x y. x && y) h.0 (begins_front a b name h.1)
 
 any_front : (a b : List Character) (ss : List Shape) → any_begins (a ++ b) ss ≡ true → any_begins a ss ≡ true
 any_front a b [] e = cc
@@ -154,7 +144,7 @@ name_run tb t around [] rest front i n e =
     let z : i ≡ i + 0 = omega arith in
     ap (λ f. run (step tb) (final tb) (Naming t f around) rest i) (sym (append-nil front)) ∙ ap (λ i. run (step tb) (final tb) (Naming t (front ++ []) around) rest i) z
 name_run tb t around (b ∷ ns) rest front i n e =
-    let k = both (is_name_byte b) (are_name_bytes ns) n in
+    let k = and_parts (is_name_byte b) (are_name_bytes ns) n in
     let c = character b in
     let same : (front ++ c ∷ []) ++ characters ns ≡ front ++ c ∷ characters ns = append_assoc front (c ∷ []) (characters ns) in
     let e2 : any_begins ((front ++ c ∷ []) ++ characters ns) (shapes tb t) ≡ true = ap (λ f. any_begins f (shapes tb t)) same ∙ e in
@@ -239,8 +229,8 @@ begins_chars : (front name : List ℕ) → are_name_bytes front ≡ true → are
 begins_chars [] name f n = refl
 begins_chars (a ∷ front) [] f n = refl
 begins_chars (a ∷ front) (b ∷ name) f n =
-    let p = both (is_name_byte a) (are_name_bytes front) f in
-    let q = both (is_name_byte b) (are_name_bytes name) n in
+    let p = and_parts (is_name_byte a) (are_name_bytes front) f in
+    let q = and_parts (is_name_byte b) (are_name_bytes name) n in
     ap₂ (λ x y. x && y) (same_char_byte a b (name_byte a p.0) (name_byte b q.0)) (begins_chars front name p.1 q.1)
 
 some_chars : (front : List ℕ) (ss : List Shape) → are_name_bytes front ≡ true → ((c : ℕ) (s : Shape) → slice_get ss c ≡ Some s → is_upper_name s.name ≡ true) → any_begins (characters front) ss ≡ some_begins front ss
@@ -253,7 +243,7 @@ some_chars front (s ∷ ss) f n = ap₂ (λ x y. if x then true else y) (begins_
 name_bytes_take : (m : ℕ) (xs : List ℕ) → are_name_bytes xs ≡ true → are_name_bytes (take m xs) ≡ true
 name_bytes_take zero xs e = refl
 name_bytes_take (suc m) [] e = refl
-name_bytes_take (suc m) (x ∷ xs) e = let k = both (is_name_byte x) (are_name_bytes xs) e in ap₂ (λ a b. a && b) k.0 (name_bytes_take m xs k.1)
+name_bytes_take (suc m) (x ∷ xs) e = let k = and_parts (is_name_byte x) (are_name_bytes xs) e in ap₂ (λ a b. a && b) k.0 (name_bytes_take m xs k.1)
 
 -- Where the name is no constructor's: m is its longest known front.
 module _ (tb : Table) (sound : IsSoundTable tb) (bytes : List ℕ) (t : ℕ) (around : Around) (i n m : ℕ) (le : i + n ≤ length bytes) (name : are_name_bytes (take n (drop i bytes)) ≡ true) (behind : i + n < length bytes → is_name_byte (get_or bytes (i + n) 0) ≡ false) (longest : IsLongest (take n (drop i bytes)) (shapes tb t) m) where
@@ -289,8 +279,8 @@ module _ (tb : Table) (sound : IsSoundTable tb) (bytes : List ℕ) (t : ℕ) (ar
       let none : any_begins (characters (take m (drop i bytes)) ++ character b ∷ []) (shapes tb t) ≡ false = ap (λ f. any_begins f (shapes tb t)) chars ∙ ap (λ f. any_begins (characters f) (shapes tb t)) (sym (fronts (suc m) lt)) ∙ known (suc m) ∙ longest.longest (omega (arith, lt, len)) in
       stops tb bytes (Naming t (characters (take m (drop i bytes))) around) (i + m) (omega (arith, lt, le)) (name_act tb t (characters (take m (drop i bytes))) around b is ∙ ap (λ (u : Bool). if u then Some (Naming t (characters (take m (drop i bytes)) ++ character b ∷ []) around) else None) none) where
         last_is : (xs : List ℕ) (b : ℕ) → are_name_bytes (xs ++ b ∷ []) ≡ true → is_name_byte b ≡ true
-        last_is [] b e = (both (is_name_byte b) true e).0
-        last_is (x ∷ xs) b e = last_is xs b (both (is_name_byte x) (are_name_bytes (xs ++ b ∷ [])) e).1
+        last_is [] b e = (and_parts (is_name_byte b) true e).0
+        last_is (x ∷ xs) b e = last_is xs b (and_parts (is_name_byte x) (are_name_bytes (xs ++ b ∷ [])) e).1
 
   pub name_stops : lookup 0 (characters text) (shapes tb t) ≡ None → runs tb bytes (Naming t [] around) i ≡ Stopped (i + m)
   name_stops e = reached ∙ by_end (nat_le (suc m) n) refl where

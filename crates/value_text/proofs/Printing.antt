@@ -15,12 +15,14 @@ use Rattle.value_text.specs.Printing.{last_first, AreLast, Prints, Printing}
 use Rattle.value_text.proofs.Reread.{decimal_reads, shape_is}
 use Rattle.std.specs.Borrow.{Bor}
 use Rattle.cell_store.specs.Count.{size_of, size_at}
-use Rattle.fip_language.specs.Table.{HasType, HaveTypes}
 use Rattle.fip_language.specs.ValueText.{SpellsValues}
 use Rattle.value_text.proofs.Tables.{is_table}
 use Rattle.value_text.proofs.Exact.{printed_reads}
 use Rattle.std.proofs.lemmas.List.{append-nil}
 use Rattle.std.specs.Prelude.{Result, Ok, Err, OnOk}
+use Rattle.std.proofs.lemmas.Option.{slice_get_within}
+use Rattle.cell_store.proofs.Standing.{stands_type}
+use Rattle.cell_store.proofs.Counts.{size_at_is}
 use Rattle.fip_base.specs.TableView.{fields_at}
 use Rattle.value_text.proofs.Steps.{fields_of_shape}
 
@@ -53,17 +55,6 @@ decimal_some n h = by_text (decimal n) refl where
 pub signed_some : (i : ℤ) → FitsSigned w64 i → 0 < length (signed_decimal i)
 signed_some (pos n) f = decimal_some n (omega (arith, f))
 signed_some (negsuc n) f = omega arith
-
--- the store
-get_below : (cs : List Cell) (p : ℕ) (x : Cell) → slice_get cs p ≡ Some x → p < length cs
-get_below [] p x e = cc
-get_below (c ∷ cs) zero x e = omega arith
-get_below (c ∷ cs) (suc p) x e = let h = get_below cs p x e in omega (arith, h)
-
-pub size_there : (cs : List Cell) (p : ℕ) (x : Cell) → slice_get cs p ≡ Some x → size_at cs p ≡ length x.fields
-size_there [] p x e = cc
-size_there (c ∷ cs) zero x e = let same : c ≡ x = cc in ap (λ (c : Cell). length c.fields) same
-size_there (c ∷ cs) (suc p) x e = size_there cs p x e
 
 pub size_is : (cs : List Cell) (p n : ℕ) (x : Cell) → slice_get cs p ≡ Some x → option_map size_of (slice_get cs p) ≡ Some n → n ≡ length x.fields
 size_is cs p n x e h = let k : Some (length x.fields) ≡ Some n = sym (ap (option_map size_of) e) ∙ h in cc
@@ -137,11 +128,6 @@ name_some : (name : List ℕ) → is_upper_name name ≡ true → 0 < length nam
 name_some [] e = cc
 name_some (b ∷ bs) e = omega arith
 
-shape_below : (ss : List Shape) (c : ℕ) (s : Shape) → slice_get ss c ≡ Some s → c < length ss
-shape_below [] c s e = cc
-shape_below (r ∷ ss) zero s e = omega arith
-shape_below (r ∷ ss) (suc c) s e = let h = shape_below ss c s e in omega (arith, h)
-
 text_of : (tb : Table) (t c : ℕ) (s : Shape) (vs : Values) (rest : List ℕ) → slice_get (shapes tb t) c ≡ Some s → printed tb (suc t) (Node c vs) rest ≡ s.name ++ printed_fields tb s.fields vs rest
 text_of tb t c s vs rest e = ap (λ (s : Shape). s.name ++ printed_fields tb s.fields vs rest) (shape_is (shapes tb t) c s e)
 
@@ -153,8 +139,8 @@ node_of tb cs (suc t) p c xs h = record {
   shape = h.2;
   stand = h.3;
   text = λ rest. text_of tb t c h.1 (values_of xs) rest h.2;
-  below = get_below cs p _ h.0;
-  known = shape_below (shapes tb t) c h.1 h.2;
+  below = slice_get_within cs p _ h.0;
+  known = slice_get_within (shapes tb t) c h.1 h.2;
   named = λ sound. name_some (h.1).name (sound.names t c h.1 h.2);
 }
 
@@ -192,7 +178,7 @@ pub first_there : (tb : Table) (cs : List Cell) (ty p c : ℕ) (xs : Parts) (h :
 first_there tb cs ty p c xs h k ks f =
     let n = stand_length tb cs (h.s).fields xs h.stand in
     let l = ap length f in
-    let z = size_there cs p _ h.cell in
+    let z = size_at_is cs p _ h.cell in
     omega (arith, n, l, z)
 
 -- which types have trees
@@ -225,7 +211,7 @@ odd_cell tb cs (suc t) w (PlacedInt i) z e h q = absurd h
 odd_cell tb cs (suc t) w (Bare c) z e h q = absurd (e (let k : 2 * c ≡ w = q in omega (arith, k)))
 odd_cell tb cs (suc t) w (At p c xs) z e h q =
     let n : p ≡ w / 2 = let k : 2 * p + 1 ≡ w = q in omega (arith, k) in
-    (c, xs, subst (λ p. Stands tb cs (suc t) (At p c xs)) n h, ap (λ p. At p c xs) n, subst (λ p. p < length cs) n (get_below cs p _ h.0))
+    (c, xs, subst (λ p. Stands tb cs (suc t) (At p c xs)) n h, ap (λ p. At p c xs) n, subst (λ p. p < length cs) n (slice_get_within cs p _ h.0))
 
 -- the shape and the fields that the table gives for a tag
 pub fields_at_shape : (tb : Table) (ty tag c : ℕ) (s : Shape) (fields : List ℕ) → tag ≡ c → slice_get (constructors tb ty) c ≡ Some s → fields ≡ fields_at (constructors tb ty) tag → fields ≡ s.fields
@@ -288,23 +274,7 @@ mutual
   more_on tb (k ∷ ks) End a b = refl
   more_on tb (k ∷ ks) (More v vs) a b = ap (λ x. 44 ∷ 32 ∷ x) (printed_on tb k v (printed_more tb ks vs a) b ∙ ap (printed tb k v) (more_on tb ks vs a b))
 
--- a tree that stands has its type
-mutual
-  stands_typed : (tb : Table) (cs : List Cell) (k : ℕ) (x : Placed) → Stands tb cs k x → HasType tb k (value_of x)
-  stands_typed tb cs zero (PlacedInt i) h = h
-  stands_typed tb cs zero (Bare c) h = absurd h
-  stands_typed tb cs zero (At p c xs) h = absurd h
-  stands_typed tb cs (suc t) (PlacedInt i) h = absurd h
-  stands_typed tb cs (suc t) (Bare c) h = (h.0, h.1, subst (λ ks. HaveTypes tb ks End) (sym h.2) tt)
-  stands_typed tb cs (suc t) (At p c xs) h = (h.1, h.2, stand_typed tb cs (h.1).fields xs h.3)
-
-  stand_typed : (tb : Table) (cs : List Cell) (ks : List ℕ) (xs : Parts) → StandAll tb cs ks xs → HaveTypes tb ks (values_of xs)
-  stand_typed tb cs [] NoParts h = tt
-  stand_typed tb cs [] (MoreParts x xs) h = absurd h
-  stand_typed tb cs (k ∷ ks) NoParts h = absurd h
-  stand_typed tb cs (k ∷ ks) (MoreParts x xs) h = (stands_typed tb cs k x h.0, stand_typed tb cs ks xs h.1)
-
 pub read_again : (tb : Table) → IsSoundTable tb → (cs : List Cell) (k : ℕ) (x : Placed) (text : List ℕ) → Stands tb cs k x → text ≡ printed tb k (value_of x) [] → SpellsValues tb (k ∷ []) (text ++ 10 ∷ []) (More (value_of x) End)
 read_again tb sound cs k x text h e =
     subst (λ t. SpellsValues tb (k ∷ []) t (More (value_of x) End)) (sym (ap (λ t. t ++ 10 ∷ []) e ∙ printed_on tb k (value_of x) [] (10 ∷ [])))
-    (printed_reads tb (is_table tb sound) (k ∷ []) (More (value_of x) End) (stands_typed tb cs k x h, tt))
+    (printed_reads tb (is_table tb sound) (k ∷ []) (More (value_of x) End) (stands_type tb cs k x h, tt))

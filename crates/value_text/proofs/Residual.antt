@@ -3,13 +3,14 @@ use Rattle.std.proofs.Common.{◌≡◌, ℕ, zero, suc, ◌+◌, ◌*◌, ◌�
 use Rattle.std.specs.Prelude.{slice_get, nat_le, if◌then◌else◌}
 use Rattle.std.proofs.lemmas.Bool.{le-leb}
 use Rattle.std.proofs.lemmas.List.{append-nil}
+use Rattle.std.proofs.lemmas.Option.{same_Some, cond_some}
 use Rattle.fip_language.specs.Values.{Value, Int, Node, Values, End, More}
 use Rattle.fip_language.specs.Table.{Shape, Table, shapes}
 use Rattle.fip_language.specs.Character.{Character, Blank, Line, Open, Close, Comma, Minus, Digit, Letter, Other, characters}
 use Rattle.fip_language.specs.ValueText.{skip, name_of, after_name, number, after_number, bound, int_of, Digits, ValueText, FieldsText, MoreText, AllBlank, LinesText}
 use Rattle.value_text.specs.Machine.{lookup, join, snoc, Around, Lines, Field, State, Want, Naming, Signed, Number, Await, Over, filled, named, any_begins, is_sign, pass, naming, pass_named, in_name, numbered, act}
 use Rattle.value_text.proofs.Tables.{found_shape, IsTable}
-use Rattle.value_text.proofs.Text.{guard, guarded, lookup_begins, number_grows, is_sign_same}
+use Rattle.value_text.proofs.Text.{guarded, lookup_begins, number_grows, is_sign_same}
 
 -- what may follow a value
 abbrev pub Ends : Table → Around → Value → List Character → Values → Type 0
@@ -123,15 +124,12 @@ pass_takes tb (Number neg n around) c cs x p h = absurd p
 
 await_gives : (tb : Table) (sign : Character) (next : State) (c : Character) (s' : State) (cs : List Character) (x : Values) → (if is_sign sign c then Some next else None) ≡ Some s' → Completes tb s' cs x → skip (c ∷ cs) ≡ c ∷ cs → Completes tb (Await sign next) (c ∷ cs) x
 await_gives tb sign next c s' cs x e h k =
-    let g = guard (is_sign sign c) next s' e in
+    let g = cond_some (is_sign sign c) next s' e in
     let same = is_sign_same sign c g.0 in
     (subst (λ c. is_sign sign c ≡ true) same g.0, cs, k ∙ ap (λ c. c ∷ cs) same, subst (λ s. Completes tb s cs x) (sym g.1) h)
 
-some_same : {A : Type 0} → (a b : A) → Some a ≡ Some b → a ≡ b
-some_same a b e = cc
-
 pub pass_gives : (tb : Table) (s : State) (c : Character) (s' : State) (cs : List Character) (x : Values) → pass s c ≡ Some s' → Completes tb s' cs x → Completes tb s (c ∷ cs) x
-pass_gives tb (Await sign next) Blank s' cs x e h = subst (λ s. Completes tb s cs x) (sym (some_same (Await sign next) s' e)) h
+pass_gives tb (Await sign next) Blank s' cs x e h = subst (λ s. Completes tb s cs x) (sym (same_Some (Await sign next) s' e)) h
 pass_gives tb (Await sign next) Line s' cs x e h = await_gives tb sign next Line s' cs x e h refl
 pass_gives tb (Await sign next) Open s' cs x e h = await_gives tb sign next Open s' cs x e h refl
 pass_gives tb (Await sign next) Close s' cs x e h = await_gives tb sign next Close s' cs x e h refl
@@ -140,8 +138,8 @@ pass_gives tb (Await sign next) Minus s' cs x e h = await_gives tb sign next Min
 pass_gives tb (Await sign next) (Digit d) s' cs x e h = await_gives tb sign next (Digit d) s' cs x e h refl
 pass_gives tb (Await sign next) (Letter b) s' cs x e h = await_gives tb sign next (Letter b) s' cs x e h refl
 pass_gives tb (Await sign next) Other s' cs x e h = await_gives tb sign next Other s' cs x e h refl
-pass_gives tb (Over vs) Blank s' cs x e h = subst (λ s. Completes tb s cs x) (sym (some_same (Over vs) s' e)) h
-pass_gives tb (Over vs) Line s' cs x e h = subst (λ s. Completes tb s cs x) (sym (some_same (Over vs) s' e)) h
+pass_gives tb (Over vs) Blank s' cs x e h = subst (λ s. Completes tb s cs x) (sym (same_Some (Over vs) s' e)) h
+pass_gives tb (Over vs) Line s' cs x e h = subst (λ s. Completes tb s cs x) (sym (same_Some (Over vs) s' e)) h
 pass_gives tb (Over vs) _ s' cs x e h = cc
 pass_gives tb (Want k around) c s' cs x e h = cc
 pass_gives tb (Naming t front around) c s' cs x e h = cc
@@ -175,7 +173,7 @@ in_name_takes tb t front around Other cs x h = name_done tb t front around Other
 
 name_gives : (tb : Table) (t : ℕ) (front : List Character) (around : Around) (c : Character) (s' : State) (cs : List Character) (x : Values) → name_of (c ∷ cs) ≡ c ∷ name_of cs → after_name (c ∷ cs) ≡ after_name cs → naming tb t (front ++ c ∷ []) around ≡ Some s' → Completes tb s' cs x → Completes tb (Naming t front around) (c ∷ cs) x
 name_gives tb t front around c s' cs x en ea e k =
-    let g = guard (any_begins (front ++ c ∷ []) (shapes tb t)) (Naming t (front ++ c ∷ []) around) s' e in
+    let g = cond_some (any_begins (front ++ c ∷ []) (shapes tb t)) (Naming t (front ++ c ∷ []) around) s' e in
     let h = subst (λ s. Completes tb s cs x) (sym g.1) k in
     (h.0, h.1, h.2, h.3, ap (λ n. lookup 0 n (shapes tb t)) (ap (λ n. front ++ n) en ∙ sym (append_assoc front (c ∷ []) (name_of cs))) ∙ h.4, subst (λ a. FieldsText tb h.1 a h.2 h.3) (sym ea) h.5, h.6)
 
@@ -204,7 +202,7 @@ numbered_takes : (tb : Table) (neg : Bool) (n : ℕ) (around : Around) (cs : Lis
 numbered_takes tb neg n around cs x h = (Number neg n around, guarded (nat_le n (bound neg)) (Number neg n around) (le-leb n (bound neg) (omega (arith, number_grows n cs, h.0))), h)
 
 numbered_gives : (tb : Table) (neg : Bool) (n : ℕ) (around : Around) (s' : State) (cs : List Character) (x : Values) → numbered neg n around ≡ Some s' → Completes tb s' cs x → Completes tb (Number neg n around) cs x
-numbered_gives tb neg n around s' cs x e h = subst (λ s. Completes tb s cs x) (sym (guard (nat_le n (bound neg)) (Number neg n around) s' e).1) h
+numbered_gives tb neg n around s' cs x e h = subst (λ s. Completes tb s cs x) (sym (cond_some (nat_le n (bound neg)) (Number neg n around) s' e).1) h
 
 digits_takes : (tb : Table) (neg : Bool) (d : ℕ) (around : Around) (i : _) (rest cs : List Character) (x : Values) → Digits neg (Digit d ∷ cs) i rest → Ends tb around (Int i) rest x → Goes tb (numbered neg d around) cs x
 digits_takes tb neg d around i rest cs x h e =
@@ -298,7 +296,7 @@ takes tb table (Over vs) c cs x h = pass_takes tb (Over vs) c cs x tt h
 
 want_gives : (tb : Table) (t : ℕ) (around : Around) (c : Character) (s' : State) (cs : List Character) (x : Values) → act tb (Want (suc t) around) c ≡ Some s' → Completes tb s' cs x → Completes tb (Want (suc t) around) (c ∷ cs) x
 want_gives tb t around Blank s' cs x e k =
-    let h = subst (λ s. Completes tb s cs x) (sym (some_same (Want (suc t) around) s' e)) k in
+    let h = subst (λ s. Completes tb s cs x) (sym (same_Some (Want (suc t) around) s' e)) k in
     (h.0, h.1, value_blank tb (suc t) cs h.0 h.1 h.2, h.3)
 want_gives tb t around Line s' cs x e h = name_want tb t around Line s' cs x refl e h
 want_gives tb t around Open s' cs x e h = name_want tb t around Open s' cs x refl e h
@@ -311,10 +309,10 @@ want_gives tb t around Other s' cs x e h = name_want tb t around Other s' cs x r
 
 int_gives : (tb : Table) (around : Around) (c : Character) (s' : State) (cs : List Character) (x : Values) → act tb (Want zero around) c ≡ Some s' → Completes tb s' cs x → Completes tb (Want zero around) (c ∷ cs) x
 int_gives tb around Blank s' cs x e k =
-    let h = subst (λ s. Completes tb s cs x) (sym (some_same (Want zero around) s' e)) k in
+    let h = subst (λ s. Completes tb s cs x) (sym (same_Some (Want zero around) s' e)) k in
     (h.0, h.1, value_blank tb zero cs h.0 h.1 h.2, h.3)
 int_gives tb around Minus s' cs x e k =
-    let h = subst (λ s. Completes tb s cs x) (sym (some_same (Signed around) s' e)) k in
+    let h = subst (λ s. Completes tb s cs x) (sym (same_Some (Signed around) s' e)) k in
     (Int h.0, h.1, h.2, h.3)
 int_gives tb around (Digit d) s' cs x e k =
     let h = numbered_gives tb false d around s' cs x e k in

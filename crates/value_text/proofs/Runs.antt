@@ -1,13 +1,14 @@
 -- The machine at a place of the bytes: how it goes on, and where it stops.
 use Rattle.std.proofs.Common.{◌≡◌, ℕ, zero, suc, ◌+◌, ◌-◌, ◌*◌, ◌<◌, ◌≤◌, List, [], ◌∷◌, length, take, drop, get_or, Some, None, Bool, true, false, ◌≢◌, length-drop, refl, sym, ap, ap₂, ◌∙◌, subst, arith}
 use Rattle.std.specs.Prelude.{nat_le, ◌==◌, ◌||◌, ◌&&◌, if◌then◌else◌, ℤ, Result, Ok, Err, MatchResult}
-use Rattle.std.proofs.lemmas.Bool.{eqb-true, le-leb, leb-true}
+use Rattle.std.proofs.lemmas.Bool.{eqb-true, le-leb, leb-true, and_parts}
 use Rattle.std.proofs.lemmas.Bool.Decides.{nat_tests}
 use Rattle.std.specs.Prelude.{FitsSigned}
 use Rattle.std.specs.Int.{w64}
 use Rattle.std.proofs.Common.{to_z, of_z}
 use Rattle.std.proofs.lemmas.Int.{to_z-of_z}
 use Rattle.std.proofs.lemmas.List.{drop_more, get_or-drop}
+use Rattle.std.proofs.Math.Seq.{drop-length}
 use Rattle.fip_language.specs.Prefix.{run, Accepted, Stopped, or_stop, end_outcome}
 use Rattle.fip_language.specs.Values.{Value, Int, Values}
 use Rattle.fip_language.specs.Table.{Table}
@@ -15,12 +16,7 @@ use Rattle.fip_language.specs.Character.{Character, Blank, Line, Open, Close, Co
 use Rattle.fip_language.specs.ValueText.{bound, int_of}
 use Rattle.value_text.specs.Machine.{Around, Lines, Field, State, Want, Signed, Number, Await, Over, filled, is_sign, pass, numbered, act, over, final, step}
 use Rattle.value_text.specs.Scan.{runs, is_name_byte, before_digits}
-use Rattle.value_text.proofs.Text.{both}
 use Rattle.value_text.proofs.Tables.{character_is_digit, digit_small}
-
-drop_all : (ts : List ℕ) → drop (length ts) ts ≡ []
-drop_all [] = refl
-drop_all (t ∷ ts) = drop_all ts
 
 pub runs_byte : (tb : Table) (bytes : List ℕ) (s : State) (i : ℕ) → i < length bytes → runs tb bytes s i ≡ or_stop (act tb s (character (get_or bytes i 0))) i (λ s. runs tb bytes s (i + 1))
 runs_byte tb bytes s i lt = ap (λ ts. run (step tb) (final tb) s ts i) (drop_more bytes i 0 lt)
@@ -32,7 +28,7 @@ pub stops : (tb : Table) (bytes : List ℕ) (s : State) (i : ℕ) → i < length
 stops tb bytes s i lt e = runs_byte tb bytes s i lt ∙ ap (λ o. or_stop o i (λ s. runs tb bytes s (i + 1))) e
 
 pub runs_end : (tb : Table) (bytes : List ℕ) (s : State) (i : ℕ) → i ≡ length bytes → runs tb bytes s i ≡ end_outcome (final tb s) i
-runs_end tb bytes s i e = ap (λ ts. run (step tb) (final tb) s ts i) (ap (λ n. drop n bytes) e ∙ drop_all bytes)
+runs_end tb bytes s i e = ap (λ ts. run (step tb) (final tb) s ts i) (ap (λ n. drop n bytes) e ∙ drop-length bytes)
 
 pub ends_short : (tb : Table) (bytes : List ℕ) (s : State) (i : ℕ) → i ≡ length bytes → final tb s ≡ None → runs tb bytes s i ≡ Stopped i
 ends_short tb bytes s i e f = runs_end tb bytes s i e ∙ ap (λ o. end_outcome o i) f
@@ -235,7 +231,7 @@ front_more : (xs : List ℕ) (j : ℕ) → j < length xs → are_name_bytes (tak
 front_more [] j lt h e = absurd (omega arith)
 front_more (x ∷ xs) zero lt h e = ap (λ t. t && true) e
 front_more (x ∷ xs) (suc j) lt h e =
-    let k = both (is_name_byte x) (are_name_bytes (take j xs)) h in
+    let k = and_parts (is_name_byte x) (are_name_bytes (take j xs)) h in
     ap₂ (λ s t. s && t) k.0 (front_more xs j (omega arith) k.1 e)
 
 pub name_more : (bytes : List ℕ) (at i : ℕ) → at ≤ i → i < length bytes → are_name_bytes (take (i - at) (drop at bytes)) ≡ true → is_name_byte (get_or bytes i 0) ≡ true → are_name_bytes (take (i + 1 - at) (drop at bytes)) ≡ true

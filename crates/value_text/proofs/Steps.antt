@@ -1,6 +1,7 @@
 -- Each step of the reader, from spot to spot.
 use Rattle.std.proofs.Common.{◌≡◌, ℕ, zero, suc, ◌+◌, ◌<◌, ◌≤◌, List, [], ◌∷◌, ◌++◌, length, Option, Some, None, refl, sym, ap, ap₂, ◌∙◌, arith}
 use Rattle.std.specs.Prelude.{ℤ, slice_get, Ok}
+use Rattle.std.proofs.lemmas.Option.{none-some}
 use Rattle.fip_language.specs.Prefix.{Accepted, Stopped}
 use Rattle.fip_language.specs.Values.{Value, Int, Node, Values, End, More, count_of}
 use Rattle.fip_language.specs.Table.{Shape, Table, constructors}
@@ -32,9 +33,6 @@ head_same x y xs ys e = cc
 tail_same : {A : Type 0} (x y : A) (xs ys : List A) → x ∷ xs ≡ y ∷ ys → xs ≡ ys
 tail_same x y xs ys e = cc
 
-some_none : {A : Type 0} → (k : ℕ) → None ≡ Some k → A
-some_none k e = cc
-
 abbrev pub outlined : Option ℕ → List Pending → List ℕ → Outline
 outlined n f l = record { next = n; frames = f; lines = l }
 
@@ -43,16 +41,16 @@ pub number_step : (tb : Table) (bytes : List ℕ) (at at' : ℕ) (o : Outline) (
 number_step tb bytes at at' o (Before k a) i i' e n same r =
     let z : k ≡ 0 = let q : Some k ≡ Some 0 = sym (ap (λ (o : Outline). o.next) e) ∙ n in cc in
     (Behind a (Int i'), (a, ap (λ k. Before k a) z, refl), ap (λ (o : Outline). record o { next = None }) e, ap (λ k. runs tb bytes (Want k a) at) z ∙ r a ∙ ap (λ i. runs tb bytes (filled a (Int i)) at') same)
-number_step tb bytes at at' o (Behind a v) i i' e n same r = some_none 0 (sym (ap (λ (o : Outline). o.next) e) ∙ n)
-number_step tb bytes at at' o Nowhere i i' e n same r = some_none 0 (sym (ap (λ (o : Outline). o.next) e) ∙ n)
+number_step tb bytes at at' o (Behind a v) i i' e n same r = absurd (none-some 0 (sym (ap (λ (o : Outline). o.next) e) ∙ n))
+number_step tb bytes at at' o Nowhere i i' e n same r = absurd (none-some 0 (sym (ap (λ (o : Outline). o.next) e) ∙ n))
 
 -- a value that is refused
 pub value_bad : (tb : Table) (bytes : List ℕ) (at ty k : ℕ) (o : Outline) (s : Spot) → o ≡ outline_at s → o.next ≡ Some ty → ((a : Around) → runs tb bytes (Want ty a) at ≡ Stopped k) → runs tb bytes (state_at s) at ≡ Stopped k
 value_bad tb bytes at ty k o (Before j a) e n r =
     let z : j ≡ ty = let q : Some j ≡ Some ty = sym (ap (λ (o : Outline). o.next) e) ∙ n in cc in
     ap (λ j. runs tb bytes (Want j a) at) z ∙ r a
-value_bad tb bytes at ty k o (Behind a v) e n r = some_none ty (sym (ap (λ (o : Outline). o.next) e) ∙ n)
-value_bad tb bytes at ty k o Nowhere e n r = some_none ty (sym (ap (λ (o : Outline). o.next) e) ∙ n)
+value_bad tb bytes at ty k o (Behind a v) e n r = absurd (none-some ty (sym (ap (λ (o : Outline). o.next) e) ∙ n))
+value_bad tb bytes at ty k o Nowhere e n r = absurd (none-some ty (sym (ap (λ (o : Outline). o.next) e) ∙ n))
 
 -- a constructor without fields
 pub bare_step : (tb : Table) (bytes : List ℕ) (at at' ty c : ℕ) (fields : List ℕ) (o : Outline) (s : Spot) → o ≡ outline_at s → o.next ≡ Some ty → 0 < ty → fields ≡ [] → ((a : Around) → runs tb bytes (Want ty a) at ≡ runs tb bytes (named c fields a) at') → Stepped tb bytes s at (Ok (Some (E.Bare c))) (record o { next = None }) at'
@@ -60,8 +58,8 @@ bare_step tb bytes at at' zero c fields o s e n d f r = absurd (omega arith)
 bare_step tb bytes at at' (suc t) c fields o (Before k a) e n d f r =
     let z : k ≡ suc t = let q : Some k ≡ Some (suc t) = sym (ap (λ (o : Outline). o.next) e) ∙ n in cc in
     (Behind a (Node c End), (t, a, ap (λ k. Before k a) z, refl), ap (λ (o : Outline). record o { next = None }) e, ap (λ k. runs tb bytes (Want k a) at) z ∙ r a ∙ ap (λ f. runs tb bytes (named c f a) at') f)
-bare_step tb bytes at at' (suc t) c fields o (Behind a v) e n d f r = some_none (suc t) (sym (ap (λ (o : Outline). o.next) e) ∙ n)
-bare_step tb bytes at at' (suc t) c fields o Nowhere e n d f r = some_none (suc t) (sym (ap (λ (o : Outline). o.next) e) ∙ n)
+bare_step tb bytes at at' (suc t) c fields o (Behind a v) e n d f r = absurd (none-some (suc t) (sym (ap (λ (o : Outline). o.next) e) ∙ n))
+bare_step tb bytes at at' (suc t) c fields o Nowhere e n d f r = absurd (none-some (suc t) (sym (ap (λ (o : Outline). o.next) e) ∙ n))
 
 -- a constructor with fields
 pub open_step : (tb : Table) (bytes : List ℕ) (at mid at' ty c k size : ℕ) (ks fields : List ℕ) (o : Outline) (frames : List Pending) (s : Spot) → o ≡ outline_at s → o.next ≡ Some ty → 0 < ty → fields ≡ k ∷ ks → size ≡ length fields → frames ≡ record { c = c; rest = ks; size = size } ∷ o.frames → ((a : Around) → runs tb bytes (Want ty a) at ≡ runs tb bytes (named c fields a) mid) → ((s : State) → runs tb bytes (Await Open s) mid ≡ runs tb bytes s at') → Stepped tb bytes s at (Ok (Some E.Opened)) (record { next = Some k; frames = frames; lines = o.lines }) at'
@@ -72,8 +70,8 @@ open_step tb bytes at mid at' (suc t) c k size ks fields o frames (Before j a) e
     let si : size ≡ suc (count_of End) + length ks = omega (arith, z, len) in
     let rows : frames ≡ rows_of (Field c End ks a) = fr ∙ ap₂ (λ (m : ℕ) (ps : List Pending). record { c = c; rest = ks; size = m } ∷ ps) si (ap (λ (o : Outline). o.frames) e) in
     (Before k (Field c End ks a), (t, a, c, k, ks, ap (λ k. Before k a) w, refl), ap₂ (λ (ps : List Pending) (ls : List ℕ). outlined (Some k) ps ls) rows (ap (λ (o : Outline). o.lines) e), ap (λ k. runs tb bytes (Want k a) at) w ∙ r a ∙ ap (λ f. runs tb bytes (named c f a) mid) f ∙ q (Want k (Field c End ks a)))
-open_step tb bytes at mid at' (suc t) c k size ks fields o frames (Behind a v) e n d f z fr r q = some_none (suc t) (sym (ap (λ (o : Outline). o.next) e) ∙ n)
-open_step tb bytes at mid at' (suc t) c k size ks fields o frames Nowhere e n d f z fr r q = some_none (suc t) (sym (ap (λ (o : Outline). o.next) e) ∙ n)
+open_step tb bytes at mid at' (suc t) c k size ks fields o frames (Behind a v) e n d f z fr r q = absurd (none-some (suc t) (sym (ap (λ (o : Outline). o.next) e) ∙ n))
+open_step tb bytes at mid at' (suc t) c k size ks fields o frames Nowhere e n d f z fr r q = absurd (none-some (suc t) (sym (ap (λ (o : Outline). o.next) e) ∙ n))
 
 -- no ( behind the name of a constructor with fields
 pub open_bad : (tb : Table) (bytes : List ℕ) (at mid ty c k p : ℕ) (ks fields : List ℕ) → fields ≡ k ∷ ks → ((a : Around) → runs tb bytes (Want ty a) at ≡ runs tb bytes (named c fields a) mid) → ((s : State) → runs tb bytes (Await Open s) mid ≡ Stopped p) → (a : Around) → runs tb bytes (Want ty a) at ≡ Stopped p
@@ -81,7 +79,7 @@ open_bad tb bytes at mid ty c k p ks fields f r q a = r a ∙ ap (λ f. runs tb 
 
 -- behind the last field
 pub close_step : (tb : Table) (bytes : List ℕ) (at at' : ℕ) (o : Outline) (p : Pending) (s : Spot) → record o { frames = p ∷ o.frames } ≡ outline_at s → o.next ≡ None → p.rest ≡ [] → ((s : State) → runs tb bytes (Await Close s) at ≡ runs tb bytes s at') → Stepped tb bytes s at (Ok (Some (E.Closed p.c p.size))) o at'
-close_step tb bytes at at' o p (Before k a) e n f q = some_none k (sym n ∙ ap (λ (o : Outline). o.next) e)
+close_step tb bytes at at' o p (Before k a) e n f q = absurd (none-some k (sym n ∙ ap (λ (o : Outline). o.next) e))
 close_step tb bytes at at' o p (Behind (Lines done rest) v) e n f q = let z : (p ∷ o.frames) ≡ [] = ap (λ (o : Outline). o.frames) e in cc
 close_step tb bytes at at' o p (Behind (Field c done (k ∷ ks) a) v) e n f q =
     let z : (p ∷ o.frames) ≡ record { c = c; rest = k ∷ ks; size = suc (count_of done) + length (k ∷ ks) } ∷ rows_of a = ap (λ (o : Outline). o.frames) e in
@@ -102,7 +100,7 @@ close_step tb bytes at at' o p Nowhere e n f q = let z : (p ∷ o.frames) ≡ []
 
 -- behind another field
 pub comma_step : (tb : Table) (bytes : List ℕ) (at at' k : ℕ) (ks : List ℕ) (o : Outline) (p : Pending) (frames : List Pending) (s : Spot) → record o { frames = p ∷ o.frames } ≡ outline_at s → o.next ≡ None → p.rest ≡ k ∷ ks → frames ≡ record { c = p.c; rest = ks; size = p.size } ∷ o.frames → ((s : State) → runs tb bytes (Await Comma s) at ≡ runs tb bytes s at') → Stepped tb bytes s at (Ok (Some E.Comma)) (record { next = Some k; frames = frames; lines = o.lines }) at'
-comma_step tb bytes at at' k ks o p frames (Before j a) e n f fr q = some_none j (sym n ∙ ap (λ (o : Outline). o.next) e)
+comma_step tb bytes at at' k ks o p frames (Before j a) e n f fr q = absurd (none-some j (sym n ∙ ap (λ (o : Outline). o.next) e))
 comma_step tb bytes at at' k ks o p frames (Behind (Lines done rest) v) e n f fr q = let z : (p ∷ o.frames) ≡ [] = ap (λ (o : Outline). o.frames) e in cc
 comma_step tb bytes at at' k ks o p frames (Behind (Field c done [] a) v) e n f fr q =
     let z : (p ∷ o.frames) ≡ record { c = c; rest = []; size = suc (count_of done) + 0 } ∷ rows_of a = ap (λ (o : Outline). o.frames) e in
@@ -126,7 +124,7 @@ comma_step tb bytes at at' k ks o p frames Nowhere e n f fr q = let z : (p ∷ o
 
 -- a sign is missing behind a field
 pub field_bad : (tb : Table) (bytes : List ℕ) (at k : ℕ) (o : Outline) (p : Pending) (s : Spot) → record o { frames = p ∷ o.frames } ≡ outline_at s → o.next ≡ None → (p.rest ≡ [] → (s : State) → runs tb bytes (Await Close s) at ≡ Stopped k) → ((j : ℕ) (js : List ℕ) → p.rest ≡ j ∷ js → (s : State) → runs tb bytes (Await Comma s) at ≡ Stopped k) → runs tb bytes (state_at s) at ≡ Stopped k
-field_bad tb bytes at k o p (Before j a) e n f g = some_none j (sym n ∙ ap (λ (o : Outline). o.next) e)
+field_bad tb bytes at k o p (Before j a) e n f g = absurd (none-some j (sym n ∙ ap (λ (o : Outline). o.next) e))
 field_bad tb bytes at k o p (Behind (Lines done rest) v) e n f g = let z : (p ∷ o.frames) ≡ [] = ap (λ (o : Outline). o.frames) e in cc
 field_bad tb bytes at k o p (Behind (Field c done [] a) v) e n f g =
     let z : (p ∷ o.frames) ≡ record { c = c; rest = []; size = suc (count_of done) + 0 } ∷ rows_of a = ap (λ (o : Outline). o.frames) e in
@@ -140,7 +138,7 @@ field_bad tb bytes at k o p Nowhere e n f g = let z : (p ∷ o.frames) ≡ [] = 
 
 -- behind a line
 pub line_step : (tb : Table) (bytes : List ℕ) (at at' k : ℕ) (ks : List ℕ) (o : Outline) (lines : List ℕ) (s : Spot) → o ≡ outline_at s → o.next ≡ None → o.frames ≡ [] → o.lines ≡ k ∷ ks → ks ≡ lines → ((s : State) → runs tb bytes (Await Line s) at ≡ runs tb bytes s at') → Stepped tb bytes s at (Ok (Some E.Line)) (record { next = Some k; frames = o.frames; lines = lines }) at'
-line_step tb bytes at at' k ks o lines (Before j a) e n f l w q = some_none j (sym n ∙ ap (λ (o : Outline). o.next) e)
+line_step tb bytes at at' k ks o lines (Before j a) e n f l w q = absurd (none-some j (sym n ∙ ap (λ (o : Outline). o.next) e))
 line_step tb bytes at at' k ks o lines (Behind (Field c done rest a) v) e n f l w q = let z = sym f ∙ ap (λ (o : Outline). o.frames) e in cc
 line_step tb bytes at at' k ks o lines (Behind (Lines done []) v) e n f l w q = let z = sym l ∙ ap (λ (o : Outline). o.lines) e in cc
 line_step tb bytes at at' k ks o lines (Behind (Lines done (j ∷ js)) v) e n f l w q =
@@ -151,7 +149,7 @@ line_step tb bytes at at' k ks o lines (Behind (Lines done (j ∷ js)) v) e n f 
 line_step tb bytes at at' k ks o lines Nowhere e n f l w q = let z = sym l ∙ ap (λ (o : Outline). o.lines) e in cc
 
 pub line_bad : (tb : Table) (bytes : List ℕ) (at k : ℕ) (o : Outline) (s : Spot) (p : ℕ) (ks : List ℕ) → o ≡ outline_at s → o.next ≡ None → o.frames ≡ [] → o.lines ≡ p ∷ ks → ((s : State) → runs tb bytes (Await Line s) at ≡ Stopped k) → runs tb bytes (state_at s) at ≡ Stopped k
-line_bad tb bytes at k o (Before j a) p ks e n f l q = some_none j (sym n ∙ ap (λ (o : Outline). o.next) e)
+line_bad tb bytes at k o (Before j a) p ks e n f l q = absurd (none-some j (sym n ∙ ap (λ (o : Outline). o.next) e))
 line_bad tb bytes at k o (Behind (Field c done rest a) v) p ks e n f l q = let z = sym f ∙ ap (λ (o : Outline). o.frames) e in cc
 line_bad tb bytes at k o (Behind (Lines done []) v) p ks e n f l q = let z = sym l ∙ ap (λ (o : Outline). o.lines) e in cc
 line_bad tb bytes at k o (Behind (Lines done (j ∷ js)) v) p ks e n f l q = q (Want j (Lines (snoc done v) js))
@@ -159,14 +157,14 @@ line_bad tb bytes at k o Nowhere p ks e n f l q = let z = sym l ∙ ap (λ (o : 
 
 -- the end
 pub end_step : (tb : Table) (bytes : List ℕ) (at at' : ℕ) (o o' : Outline) (s : Spot) → o ≡ outline_at s → o.next ≡ None → o.frames ≡ [] → o.lines ≡ [] → ((vs : Values) → runs tb bytes (Over vs) at ≡ Accepted vs) → Stepped tb bytes s at (Ok None) o' at'
-end_step tb bytes at at' o o' (Before j a) e n f l q = some_none j (sym n ∙ ap (λ (o : Outline). o.next) e)
+end_step tb bytes at at' o o' (Before j a) e n f l q = absurd (none-some j (sym n ∙ ap (λ (o : Outline). o.next) e))
 end_step tb bytes at at' o o' (Behind (Field c done rest a) v) e n f l q = let z = sym f ∙ ap (λ (o : Outline). o.frames) e in cc
 end_step tb bytes at at' o o' (Behind (Lines done []) v) e n f l q = (snoc done v, (done, refl, refl), q (snoc done v))
 end_step tb bytes at at' o o' (Behind (Lines done (j ∷ js)) v) e n f l q = let z = sym l ∙ ap (λ (o : Outline). o.lines) e in cc
 end_step tb bytes at at' o o' Nowhere e n f l q = (End, refl, q End)
 
 pub end_bad : (tb : Table) (bytes : List ℕ) (at k : ℕ) (o : Outline) (s : Spot) → o ≡ outline_at s → o.next ≡ None → o.frames ≡ [] → o.lines ≡ [] → ((vs : Values) → runs tb bytes (Over vs) at ≡ Stopped k) → runs tb bytes (state_at s) at ≡ Stopped k
-end_bad tb bytes at k o (Before j a) e n f l q = some_none j (sym n ∙ ap (λ (o : Outline). o.next) e)
+end_bad tb bytes at k o (Before j a) e n f l q = absurd (none-some j (sym n ∙ ap (λ (o : Outline). o.next) e))
 end_bad tb bytes at k o (Behind (Field c done rest a) v) e n f l q = let z = sym f ∙ ap (λ (o : Outline). o.frames) e in cc
 end_bad tb bytes at k o (Behind (Lines done []) v) e n f l q = q (snoc done v)
 end_bad tb bytes at k o (Behind (Lines done (j ∷ js)) v) e n f l q = let z = sym l ∙ ap (λ (o : Outline). o.lines) e in cc

@@ -1,7 +1,7 @@
 -- What follows from a sound table: names as characters, and which constructor a name is found at.
 use Rattle.std.proofs.Common.{◌≡◌, ℕ, zero, suc, ◌+◌, ◌-◌, ◌≤◌, List, [], ◌∷◌, Some, Bool, true, false, refl, inl, inr, sym, ap, ap₂, ◌∙◌, subst, arith}
 use Rattle.std.specs.Prelude.{pos, ◌⊎◌, slice_get, nat_le, if◌then◌else◌, ◌&&◌, ◌||◌, ◌==◌}
-use Rattle.std.proofs.lemmas.Bool.{eqb-true, eq-eqb, leb-true}
+use Rattle.std.proofs.lemmas.Bool.{eqb-true, eq-eqb, leb-true, and_parts}
 use Rattle.std.proofs.lemmas.Bool.Decides.{nat_tests}
 use Rattle.std.proofs.Math.Bool.{or-true}
 use Rattle.fip_language.specs.Values.{Value, Int}
@@ -9,7 +9,6 @@ use Rattle.fip_language.specs.Table.{Shape, Table, shapes, HasType}
 use Rattle.fip_language.specs.Character.{Character, Digit, Letter, is_digit, is_upper, is_letter, character, characters, are_name_bytes, is_upper_name}
 use Rattle.fip_language.specs.SoundTable.{AreTypes, IsSoundTable}
 use Rattle.value_text.specs.Machine.{same_character, same_text, lookup}
-use Rattle.value_text.proofs.Text.{both}
 
 -- letters and digits alone
 abbrev pub AreNameChars : List Character → Type 0
@@ -44,10 +43,10 @@ pub record IsTable (tb : Table) : Type 0 where
   pub alive : (t : ℕ) → AllAlive tb (shapes tb t)
 
 digit_range : (b : ℕ) → is_digit b ≡ true → (48 ≤ b) × (b ≤ 57)
-digit_range b e = let h = both (nat_le 48 b) (nat_le b 57) e in (leb-true 48 b h.0, leb-true b 57 h.1)
+digit_range b e = let h = and_parts (nat_le 48 b) (nat_le b 57) e in (leb-true 48 b h.0, leb-true b 57 h.1)
 
 upper_range : (b : ℕ) → is_upper b ≡ true → (65 ≤ b) × (b ≤ 90)
-upper_range b e = let h = both (nat_le 65 b) (nat_le b 90) e in (leb-true 65 b h.0, leb-true b 90 h.1)
+upper_range b e = let h = and_parts (nat_le 65 b) (nat_le b 90) e in (leb-true 65 b h.0, leb-true b 90 h.1)
 
 pub character_digit : (b : ℕ) → 48 ≤ b → b ≤ 57 → character b ≡ Digit (b - 48)
 character_digit b l h = grind (arith, nat_tests)
@@ -79,12 +78,12 @@ name_char b cs (inr k) h = subst (λ c. AreNameChars (c ∷ cs)) (sym k) h
 
 pub name_chars : (bs : List ℕ) → are_name_bytes bs ≡ true → AreNameChars (characters bs)
 name_chars [] e = tt
-name_chars (b ∷ bs) e = let h = both (is_digit b || is_letter b) (are_name_bytes bs) e in name_char b (characters bs) (name_byte b h.0) (name_chars bs h.1)
+name_chars (b ∷ bs) e = let h = and_parts (is_digit b || is_letter b) (are_name_bytes bs) e in name_char b (characters bs) (name_byte b h.0) (name_chars bs h.1)
 
 pub upper_name : (bs : List ℕ) → is_upper_name bs ≡ true → IsName (characters bs)
 upper_name [] e = cc
 upper_name (b ∷ bs) e =
-    let h = both (is_upper b) (are_name_bytes bs) e in
+    let h = and_parts (is_upper b) (are_name_bytes bs) e in
     let r = upper_range b h.0 in
     subst (λ c. IsName (c ∷ characters bs)) (sym (character_upper b r.0 r.1)) (name_chars bs h.1)
 
@@ -100,8 +99,8 @@ same_bytes [] [] k h e = refl
 same_bytes [] (b ∷ bs) k h e = cc
 same_bytes (a ∷ as') [] k h e = cc
 same_bytes (a ∷ as') (b ∷ bs) k h e =
-    let p = both (is_digit a || is_letter a) (are_name_bytes as') k in
-    let q = both (is_digit b || is_letter b) (are_name_bytes bs) h in
+    let p = and_parts (is_digit a || is_letter a) (are_name_bytes as') k in
+    let q = and_parts (is_digit b || is_letter b) (are_name_bytes bs) h in
     let x : character a ≡ character b = cc in
     let y : characters as' ≡ characters bs = cc in
     ap₂ (λ (a : ℕ) (as' : List ℕ). a ∷ as') (same_byte a b (name_byte a p.0) (name_byte b q.0) x) (same_bytes as' bs p.1 q.1 y)
@@ -109,7 +108,7 @@ same_bytes (a ∷ as') (b ∷ bs) k h e =
 pub upper_bytes : (bs : List ℕ) → is_upper_name bs ≡ true → are_name_bytes bs ≡ true
 upper_bytes [] e = refl
 upper_bytes (b ∷ bs) e =
-    let h = both (is_upper b) (are_name_bytes bs) e in
+    let h = and_parts (is_upper b) (are_name_bytes bs) e in
     let r = upper_range b h.0 in
     let l : is_letter b ≡ true = ap (λ u. u || (nat_le 97 b && nat_le b 122) || (b == 95)) h.0 in
     let n : (is_digit b || is_letter b) ≡ true = ap (λ l. is_digit b || l) l ∙ or-true (is_digit b) in
@@ -131,7 +130,7 @@ text_is [] [] e = refl
 text_is [] (d ∷ b) e = cc
 text_is (c ∷ a) [] e = cc
 text_is (c ∷ a) (d ∷ b) e =
-    let h = both (same_character c d) (same_text a b) e in
+    let h = and_parts (same_character c d) (same_text a b) e in
     ap₂ (λ (c : Character) (a : List Character). c ∷ a) (same_is c d h.0) (text_is a b h.1)
 
 pub name_chars_of : (cs : List Character) → IsName cs → AreNameChars cs

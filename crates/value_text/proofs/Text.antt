@@ -1,18 +1,11 @@
 -- Names and numbers.
 use Rattle.std.proofs.Common.{◌≡◌, ℕ, suc, ◌+◌, ◌*◌, ◌≤◌, List, [], ◌∷◌, ◌++◌, Some, None, Bool, true, false, refl, ap, ap₂, arith}
 use Rattle.std.specs.Prelude.{if◌then◌else◌, ◌&&◌}
+use Rattle.std.proofs.lemmas.Bool.{and_parts}
 use Rattle.fip_language.specs.Table.{Shape}
 use Rattle.fip_language.specs.Character.{Character, Blank, Line, Open, Close, Comma, Minus, Digit, Letter, Other, characters}
 use Rattle.fip_language.specs.ValueText.{number}
 use Rattle.value_text.specs.Machine.{same_character, same_text, begins, lookup, any_begins, is_sign}
-
-pub both : (a b : Bool) → (a && b) ≡ true → (a ≡ true) × (b ≡ true)
-both true b e = (refl, e)
-both false b e = cc
-
-pub guard : {A : Type 0} → (b : Bool) (x y : A) → (if b then Some x else None) ≡ Some y → (b ≡ true) × (x ≡ y)
-guard true x y e = (refl, cc)
-guard false x y e = cc
 
 pub guarded : {A : Type 0} → (b : Bool) (x : A) → b ≡ true → (if b then Some x else None) ≡ Some x
 guarded true x e = refl
@@ -22,7 +15,7 @@ same_text_begins : (a b : List Character) (name : List Character) → same_text 
 same_text_begins [] b name e = refl
 same_text_begins (c ∷ a) b [] e = e
 same_text_begins (c ∷ a) b (d ∷ name) e =
-    let h = both (same_character c d) (same_text (a ++ b) name) e in
+    let h = and_parts (same_character c d) (same_text (a ++ b) name) e in
     ap₂ (λ x y. x && y) h.0 (same_text_begins a b name h.1)
 
 any_step : (a : List Character) (b : List Character) (i : ℕ) (s : Shape) (ss : List Shape) (r : ℕ × List ℕ) → ((i : ℕ) → lookup i (a ++ b) ss ≡ Some r → any_begins a ss ≡ true) → (t : Bool) → same_text (a ++ b) (characters s.name) ≡ t → (if t then Some (i, s.fields) else lookup (suc i) (a ++ b) ss) ≡ Some r → any_begins a (s ∷ ss) ≡ true

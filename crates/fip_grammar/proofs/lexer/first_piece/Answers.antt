@@ -1,5 +1,4 @@
 use Rattle.std.proofs.Common.{rules, ◌≡◌, ◌==◌, false, ◌∷◌, refl, sym, ap, subst, ◌∙◌, take}
-use Rattle.std.specs.List.{prefix_len}
 use Rattle.fip_grammar.specs.Cut.{Blank, Comment, Cut}
 use Rattle.fip_grammar.specs.Claims.{IsFront}
 use Rattle.fip_grammar.specs.WordView as V

@@ -1,9 +1,10 @@
 use Rattle.std.proofs.Common.{rules, ◌≡◌, ◌++◌, [], ◌∷◌, length, ◌-◌, ◌<◌, ◌≤◌, take, drop, sym, ap, subst, ◌∙◌}
+use Rattle.std.proofs.lemmas.List.{map-append}
 use Rattle.fip_grammar.specs.Cut.{Cut, tokens_at}
 use Rattle.fip_grammar.specs.Claims.{IsRead}
 use Rattle.fip_grammar.specs.WordView as V
 use Rattle.fip_grammar.specs.declared.token.Token.{Token}
-use Rattle.fip_grammar.proofs.Fronts.{next_line_bound, next_col_bound, within_on_next, read_on, no_more, map_snoc, read_all, bad_at}
+use Rattle.fip_grammar.proofs.Fronts.{next_line_bound, next_col_bound, within_on_next, read_on, no_more, read_all, bad_at}
 use Rattle.fip_grammar.proofs.Unique.{cut_once, cut_or_bad}
 use Rattle.fip_grammar.proofs.lexer.lex.Goals as goal
 
@@ -34,7 +35,7 @@ loop-place-preserved c =
     let text = take (length source - p.at) (drop p.at source) in
     let x = Cut e.0 (V.word c.in-Token.word) in
     let t : Token = record { word = c.in-Token.word; place = p } in
-    let same : V.tokens c.push.new.self.items ≡ ts ++ tokens_at p x = ap V.tokens c.in_ok-push-in-Token.ensures.items ∙ map_snoc V.token c.loop-place.tokens.items t in
+    let same : V.tokens c.push.new.self.items ≡ ts ++ tokens_at p x = ap V.tokens c.in_ok-push-in-Token.ensures.items ∙ map-append V.token c.loop-place.tokens.items (t ∷ []) in
     record {
       line = next_line_bound text p next x i.line e.1;
       col = next_col_bound text p next x i.col e.1;

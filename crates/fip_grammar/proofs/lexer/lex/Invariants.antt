@@ -1,4 +1,4 @@
-use Rattle.std.proofs.Common.{length, ◌-◌, ◌≡◌, ℕ, ◌+◌, ◌≤◌, drop}
+use Rattle.std.proofs.Common.{length, ◌-◌, ◌+◌, ◌≤◌, drop}
 use Rattle.fip_grammar.specs.WordView.{tokens}
 use Rattle.fip_grammar.specs.Claims.{IsRead}
 use Rattle.fip_grammar.proofs.lexer.lex.Given as goal

@@ -1,9 +1,10 @@
 use Rattle.std.proofs.Common.{◌≡◌, ◌∙◌, ◌+◌, ◌<◌, sym, ap, subst, arith, drop, Some}
 use Rattle.std.specs.Prelude.{slice_get, slice_set, slice_index_or, option_and_then}
 use Rattle.std.proofs.lemmas.Option.{slice_get-get_or, same_Some}
+use Rattle.cell_store.proofs.Counts.{size_at_is}
 use Rattle.fip_language.specs.Store.{Cell}
 use Rattle.cell_code.specs.CellMachine as M
-use Rattle.fip_machine.proofs.Rows.{cell_there, size_at_is, write_next, some_or_none}
+use Rattle.fip_machine.proofs.Rows.{cell_there, write_next, some_or_none}
 use Rattle.fip_machine.proofs.engine.write_fields.Goals as goal
 
 pub field-requires : goal.field-requires

@@ -1,8 +1,9 @@
 use Rattle.std.proofs.Common.{arith, sym, ap, ◌∙◌, subst, ◌-◌, ◌<◌, ◌∷◌, length, List}
+use Rattle.cell_store.proofs.Counts.{size_at_is}
 use Rattle.value_text.specs.declared.print.Task.{Task}
 use Rattle.value_text.specs.declared.print.Task.TheVariants as T
 use Rattle.value_text.specs.Printing.{last_first}
-use Rattle.value_text.proofs.Printing.{size_there, size_is, last_room, fields_print}
+use Rattle.value_text.proofs.Printing.{size_is, last_room, fields_print}
 use Rattle.value_text.proofs.print.print_fields.Goals as goal
 
 pub overflow_sub-next : goal.overflow_sub-next
@@ -22,7 +23,7 @@ field-requires g c =
     let m = last_room r.0 cs c.args.types.now c.in-Some.k c.in-Some.rest.now c.args.place r.1 r.2 c.in-Some.ensures r.3 in
     let l = ap length c.in-Some.ensures in
     let lt : c.cell_size.result - length c.args.types.now < length (r.1).fields = omega (arith, n, m, l) in
-    subst (λ k. c.cell_size.result - length c.args.types.now < k) (sym (size_there cs c.args.place r.1 (r.3).there)) lt
+    subst (λ k. c.cell_size.result - length c.args.types.now < k) (sym (size_at_is cs c.args.place r.1 (r.3).there)) lt
 
 pub returns-in_ok-add-in-Some-2-clause-prints : goal.returns-in_ok-add-in-Some-2-clause-prints
 returns-in_ok-add-in-Some-2-clause-prints g c = λ tb x xs h rest pr.

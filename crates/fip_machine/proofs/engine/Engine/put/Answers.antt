@@ -1,10 +1,11 @@
 use Rattle.std.proofs.Common.{◌∙◌, ◌+◌, ◌/◌, ◌<◌, sym, ap, subst, length, map}
 use Rattle.std.specs.Prelude.{slice_set, slice_index_or}
 use Rattle.std.proofs.lemmas.Option.{get_or_from_slice_get, slice_get_within}
+use Rattle.cell_store.proofs.Counts.{size_at_is}
 use Rattle.cell_store.specs.Count.{size_at}
 use Rattle.cell_code.specs.InRange.{AllBelow}
 use Rattle.fip_machine.specs.View.{state_of}
-use Rattle.fip_machine.proofs.Rows.{makes, made_fields, read_below, size_at_is, with_cells}
+use Rattle.fip_machine.proofs.Rows.{makes, made_fields, read_below, with_cells}
 use Rattle.fip_machine.proofs.engine.Engine.put.Goals as goal
 
 pub read_words-requires-clause-there : goal.read_words-requires-clause-there

@@ -25,7 +25,8 @@ use Rattle.fip_machine.specs.MachineView.{end_of, Ran, AllHave, IsLevel}
 use Rattle.fip_machine.specs.declared.machine.Ended.{Ended}
 use Rattle.fip_machine.specs.declared.machine.Ended.TheVariants as E
 use Rattle.fip_machine.proofs.Runs.{same_live}
-use Rattle.fip_machine.proofs.Starts.{once_there, stand_lie, stand_types, lies_stands}
+use Rattle.cell_store.proofs.Standing.{stand_types}
+use Rattle.fip_machine.proofs.Starts.{once_there, stand_lie, lies_stands}
 use Rattle.fip_machine.proofs.Held.{held_cells, held_by_values}
 use Rattle.fip_driver.specs.LoopRun.{IsReady}
 

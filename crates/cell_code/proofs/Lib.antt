@@ -1,2 +1,1 @@
-pub mod FunctionReads
-pub mod Puts
+pub mod Following

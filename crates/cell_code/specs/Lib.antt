@@ -1,6 +1,1 @@
-pub mod Code
-pub mod Machine
-pub mod TreeMachine
-pub mod CellMachine
-pub mod InRange
-pub mod View
+pub mod Runnable

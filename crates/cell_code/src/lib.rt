@@ -1,8 +1,13 @@
-// Code for the machine: functions whose instructions work on numbered registers.
+// Code for the machine: functions whose instructions work on numbered registers, and what a verifier must know of each
+// register where instructions meet.
 #![tactic(auto)]
 
-mod instructions;
-mod register_list;
+mod code;
+mod kind;
+mod registers;
+mod runnable;
 
-pub use instructions::{Code, Function, Instr, code_registers, named};
-pub use register_list::Registers;
+pub use code::{Code, Function, Instr, code_registers, named};
+pub use kind::{Constructors, From, Kind, Label};
+pub use registers::Registers;
+pub use runnable::is_runnable;

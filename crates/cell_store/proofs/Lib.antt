@@ -1,3 +1,5 @@
-pub mod Counts
-pub mod Counted
-pub mod Standing
+pub mod Parsed
+pub mod Rowed
+pub mod Marked
+pub mod Freed
+pub mod Keeps

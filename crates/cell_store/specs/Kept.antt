@@ -1,11 +1,17 @@
--- What a store keeps to at every moment.
-use Rattle.std.specs.Prelude.{◌≡◌, ℕ, ◌≤◌, Bool, List, length, All, slice_index_or}
-use Rattle.fip_language.specs.Store.{Cell}
-use Rattle.cell_store.specs.Count.{size_of, count_live}
+-- What a store in flat words keeps to at every moment.
+use Rattle.std.specs.Prelude.{◌≡◌, ℕ, ◌+◌, ◌≤◌, List, length}
+use Rattle.cell_store.specs.Cells.{number}
+use Rattle.cell_store.specs.Flat.{Laid, IsCounted, parse, flags}
+use Rattle.cell_store.specs.Free.{Stack, AreFree}
+use Rattle.cell_store.specs.Marks.{IsMarked}
 
--- The cells, whether each is released, and the numbers of live cells by size.
-pub record IsCounted (cells : List Cell) (released : List Bool) (counts : List ℕ) : Type 0 where
-  pub flags : length released ≡ length cells
-  pub small : All (λ c. size_of c ≤ 16) cells
-  pub wide : length counts ≡ 17
-  pub exact : (k : ℕ) → k ≤ 16 → slice_index_or counts k 0 ≡ count_live k cells released
+-- Words, marks, the numbers of live cells by size, the stacks of released cells by size, the number of cells, the space for
+-- pushed words, and the words that are left.
+pub record IsKept (words marks counts : List ℕ) (stacks : List Stack) (cells space left : ℕ) : Type 0 where
+  pub laid : Laid 0 words
+  pub marked : IsMarked (parse 0 words) marks
+  pub counted : IsCounted (parse 0 words) (flags 0 words) counts
+  pub free : AreFree (parse 0 words) (flags 0 words) stacks
+  pub made : cells ≡ number (parse 0 words)
+  pub room : cells ≤ space
+  pub few : length words + left ≤ 16777216

@@ -1,3 +1,6 @@
-pub mod Count
-pub mod Stored
+pub mod Cells
+pub mod Flat
+pub mod Free
+pub mod Made
+pub mod Marks
 pub mod Kept

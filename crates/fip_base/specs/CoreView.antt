@@ -160,6 +160,7 @@ abbrev pub function : Function → C.Function
 function f =
     record {
       kind = f.kind;
+      credits = f.credits.items;
       name = f.name;
       place = f.place;
       statics = map static f.statics.items;

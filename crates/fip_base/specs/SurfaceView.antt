@@ -202,6 +202,7 @@ abbrev pub function : Function → S.Function
 function f =
     record {
       kind = f.kind;
+      credits = f.credits.items;
       name = f.name.items;
       place = f.place;
       statics = map static f.statics.items;

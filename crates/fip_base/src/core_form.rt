@@ -1,5 +1,5 @@
 // The core form of a program. The definition that it mirrors is fip_language's specs/Core.antt.
-use crate::plain::{FunKind, Name, Operator, Place};
+use crate::plain::{CreditMark, FunKind, Name, Operator, Place};
 
 /// A type as it is written.
 #[derive(Drop)]
@@ -157,6 +157,7 @@ pub struct Parameter {
 #[derive(Drop)]
 pub struct Function {
     pub kind: FunKind,
+    pub credits: Vec<CreditMark>,
     pub name: Name,
     pub place: Place,
     pub statics: Vec<Static>,

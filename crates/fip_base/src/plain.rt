@@ -2,7 +2,7 @@
 ghost use Rattle.std.specs.Prelude.{◌≡◌, ℕ, List, IfOk};
 ghost use Rattle.fip_base.specs.declared.plain.Param.{Param as a_param};
 
-pub use fip_language::{FunKind, Operator, Place, TrapKind};
+pub use fip_language::{CreditMark, FunKind, Operator, Place, TrapKind};
 use std::alloc::{AllocError, AllocFailed, Global};
 use std::marker::Model;
 use thiserror::Error;

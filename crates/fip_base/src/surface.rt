@@ -3,7 +3,7 @@
 //! Every list is a `Vec`, and trees nest only where the source has brackets, so at most 100 deep. An expression is
 //! a list of steps in postfix order.
 
-use fip_language::{FunKind, Operator, Place};
+use fip_language::{CreditMark, FunKind, Operator, Place};
 
 /// A type as it is written; a static argument is written as a type too.
 #[derive(Drop)]
@@ -173,6 +173,7 @@ pub struct Clause {
 #[derive(Drop)]
 pub struct Function {
     pub kind: FunKind,
+    pub credits: Vec<CreditMark>,
     pub name: Vec<u8>,
     pub place: Place,
     pub statics: Vec<Static>,

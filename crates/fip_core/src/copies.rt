@@ -6,7 +6,7 @@ ghost use Rattle.fip_base.specs.SurfaceView as surface;
 use fip_base::core_form::{
     Data, DataConstructor, ResultType, SignatureParameter, Static, TypeName, Written,
 };
-use fip_base::plain::{Name, NoMemory};
+use fip_base::plain::{CreditMark, Name, NoMemory};
 use fip_base::surface as tree;
 use std::alloc::Global;
 
@@ -17,6 +17,13 @@ pub fn copy_name(alloc: Global, bytes: &[u8]) -> Result<Name, NoMemory>
     let mut copied = Vec::new(alloc);
     copied.extend_from_slice(bytes)?;
     Ok(Name::new(copied))
+}
+
+/// The same marks of credits.
+pub fn copy_credits(alloc: Global, credits: &[CreditMark]) -> Result<Vec<CreditMark>, NoMemory>
+    ensures same { IfOk result (λ r. r.items ≡ credits.now) }
+{
+    Ok(credits.to_vec(alloc)?)
 }
 
 /// The same type.

@@ -12,8 +12,8 @@ ghost use Rattle.fip_base.specs.SurfaceView as surface;
 ghost use Rattle.fip_core.specs.Walk.{bindings, fresh, part_behind, waiting, top_argument, under_top, stepped, part_left, let_made, case_made, operands_of};
 
 use crate::copies::{
-    copy_all_written, copy_annotation, copy_data, copy_name, copy_result, copy_statics,
-    copy_written,
+    copy_all_written, copy_annotation, copy_credits, copy_data, copy_name, copy_result,
+    copy_statics, copy_written,
 };
 use crate::scope::Scope;
 use fip_base::core_form::{
@@ -69,6 +69,7 @@ fn core_function(alloc: Global, f: &tree::Function) -> Result<Function, NoMemory
     let body = walk.block(&f.body)?;
     Ok(Function {
         kind: f.kind,
+        credits: copy_credits(alloc, &f.credits)?,
         name: copy_name(alloc, &f.name)?,
         place: f.place,
         statics: copy_statics(alloc, &f.statics)?,

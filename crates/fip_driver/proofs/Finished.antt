@@ -10,12 +10,12 @@ use Rattle.fip_language.specs.Store.{Cell, Placed, value_of, Stands}
 use Rattle.fip_language.specs.PrintedText.{printed_lines}
 use Rattle.fip_language.specs.Meaning.{Peak}
 use Rattle.loop_form.specs.Loop.{Loop}
-use Rattle.cell_code.specs.Code.{Code}
-use Rattle.cell_code.specs.CellMachine.{State}
-use Rattle.fip_machine.specs.GaugeView.{Numbers}
-use Rattle.fip_machine.specs.MachineView.{IsLevel}
-use Rattle.fip_machine.specs.declared.machine.Ended.{Ended}
-use Rattle.fip_machine.specs.declared.machine.Ended.TheVariants as E
+use Rattle.loop_code.specs.Code.{Code}
+use Rattle.loop_code.specs.CellMachine.{State}
+use Rattle.loop_machine.specs.GaugeView.{Numbers}
+use Rattle.loop_machine.specs.MachineView.{IsLevel}
+use Rattle.loop_machine.specs.declared.machine.Ended.{Ended}
+use Rattle.loop_machine.specs.declared.machine.Ended.TheVariants as E
 use Rattle.fip_driver.specs.Reply.{gauge_lines}
 use Rattle.fip_driver.specs.LoopRun.{IsLoopRun, loop_text}
 use Rattle.fip_driver.specs.declared.failure.Failure.{Failure}

@@ -20,8 +20,8 @@ use Rattle.fip_language.proofs.OneReply.{Execs-unique}
 use Rattle.fip_grammar.proofs.Least.{misspelt_once, spelt_once, spelt_or_misspelt}
 use Rattle.fip_grammar.proofs.UpperNames.{spelt_upper_names}
 use Rattle.fip_base.specs.Files.{File, file_of}
-use Rattle.value_text.proofs.Tables.{is_table, types_alive}
-use Rattle.value_text.proofs.Exact.{accepts_text}
+use Rattle.loop_text.proofs.Tables.{is_table, types_alive}
+use Rattle.loop_text.proofs.Exact.{accepts_text}
 use Rattle.fip_driver.specs.Words.{Request, AsksFor, IsRequest, IsNumberIn, flag_text, command_app}
 use Rattle.fip_driver.specs.Answered.{source_spelling, plain_request, Replies}
 

@@ -7,27 +7,27 @@ use Rattle.std.proofs.lemmas.Option.{none-some, same_Some}
 use Rattle.fip_language.specs.Values.{Value, Values, End, More, cells_of_all}
 use Rattle.fip_language.specs.Table.{HasType}
 use Rattle.fip_language.specs.Store.{Cell, Placed, Parts, NoParts, MoreParts, value_of, values_of, word_of, words_of, Stands}
-use Rattle.cell_store.specs.Count.{sizes, count_live}
+use Rattle.loop_store.specs.Count.{sizes, count_live}
 use Rattle.loop_form.specs.Loop.{Loop}
 use Rattle.loop_form.specs.Meaning as N
 use Rattle.loop_form.specs.Fine.{IsFine}
-use Rattle.cell_code.specs.Code.{Code}
-use Rattle.cell_code.specs.Machine as M
-use Rattle.cell_code.specs.TreeMachine as T
-use Rattle.cell_code.specs.CellMachine.{State}
-use Rattle.cell_lower.specs.Lower.{owned, lowered, loop_function}
-use Rattle.cell_lower.specs.Correct as C
-use Rattle.cell_lower.proofs.Runs.{works}
-use Rattle.fip_machine.specs.Separation.{Lies, LieAll, Apart, StandFor}
-use Rattle.fip_machine.specs.Running.{Stand, IsWorking, EndsAlike, loaded, parameter_types}
-use Rattle.fip_machine.specs.GaugeView.{Numbers}
-use Rattle.fip_machine.specs.MachineView.{end_of, Ran, AllHave, IsLevel}
-use Rattle.fip_machine.specs.declared.machine.Ended.{Ended}
-use Rattle.fip_machine.specs.declared.machine.Ended.TheVariants as E
-use Rattle.fip_machine.proofs.Runs.{same_live}
-use Rattle.cell_store.proofs.Standing.{stand_types}
-use Rattle.fip_machine.proofs.Starts.{once_there, stand_lie, lies_stands}
-use Rattle.fip_machine.proofs.Held.{held_cells, held_by_values}
+use Rattle.loop_code.specs.Code.{Code}
+use Rattle.loop_code.specs.Machine as M
+use Rattle.loop_code.specs.TreeMachine as T
+use Rattle.loop_code.specs.CellMachine.{State}
+use Rattle.loop_lower.specs.Lower.{owned, lowered, loop_function}
+use Rattle.loop_lower.specs.Correct as C
+use Rattle.loop_lower.proofs.Runs.{works}
+use Rattle.loop_machine.specs.Separation.{Lies, LieAll, Apart, StandFor}
+use Rattle.loop_machine.specs.Running.{Stand, IsWorking, EndsAlike, loaded, parameter_types}
+use Rattle.loop_machine.specs.GaugeView.{Numbers}
+use Rattle.loop_machine.specs.MachineView.{end_of, Ran, AllHave, IsLevel}
+use Rattle.loop_machine.specs.declared.machine.Ended.{Ended}
+use Rattle.loop_machine.specs.declared.machine.Ended.TheVariants as E
+use Rattle.loop_machine.proofs.Runs.{same_live}
+use Rattle.loop_store.proofs.Standing.{stand_types}
+use Rattle.loop_machine.proofs.Starts.{once_there, stand_lie, lies_stands}
+use Rattle.loop_machine.proofs.Held.{held_cells, held_by_values}
 use Rattle.fip_driver.specs.LoopRun.{IsReady}
 
 -- the code that was lowered

@@ -6,9 +6,9 @@ use Rattle.std.proofs.lemmas.List.Elements.{All-nil, All-cons, All-append}
 use Rattle.fip_language.specs.Values.{Value, Int, Node, Values, End, More, words_needed, words_needed_by_all}
 use Rattle.fip_language.specs.Store.{Cell, values_of}
 use Rattle.fip_language.specs.Layout.{cells_at, all_cells, word_at, words_at}
-use Rattle.cell_store.specs.Count.{size_of}
+use Rattle.loop_store.specs.Count.{size_of}
 use Rattle.fip_language.specs.ValueText.{SpellsValues}
-use Rattle.value_text.specs.Loaded.{StandsApart}
+use Rattle.loop_text.specs.Loaded.{StandsApart}
 use Rattle.loop_form.specs.Loop.{Loop}
 use Rattle.fip_driver.specs.LoopRun.{IsReady}
 

@@ -29,7 +29,7 @@ use Rattle.fip_driver.specs.declared.failure.Failure.{Failure}
 use Rattle.fip_driver.specs.declared.failure.Failure.TheVariants as F
 use Rattle.fip_language.specs.Character.{characters}
 use Rattle.fip_language.proofs.LoopCells.{none_lent}
-use Rattle.value_text.proofs.Stand.{input_typed}
+use Rattle.loop_text.proofs.Stand.{input_typed}
 
 -- what was evaluated, with this peak
 abbrev done_with : Core → Function → Values → Value → M.Peak → Done

@@ -1,7 +1,7 @@
 -- What can come of fetching a source and of reading an input.
 use Rattle.std.specs.Prelude.{◌≡◌, ℕ, List, [], ◌⊎◌, Some, None, Option}
 use Rattle.fip_base.specs.declared.refusal.Refusal.{Refusal}
-use Rattle.fip_base.specs.declared.refusal.Rule.TheVariants.{E05, E09, E70}
+use Rattle.fip_language.specs.declared.rule.Rule.TheVariants.{E05, E09, E70}
 use Rattle.fip_base.specs.Faults.{Rose}
 use Rattle.fip_base.specs.Files.{File, HoldsLonger, IsMissing}
 use Rattle.fip_base.specs.Takes.{Takes}

@@ -7,10 +7,10 @@ use Rattle.fip_language.specs.Store.{Cell, Parts, values_of}
 use Rattle.fip_language.specs.Prefix.{IsPlace}
 use Rattle.fip_language.specs.ValueText.{SpellsValues}
 use Rattle.fip_language.specs.PrintedText.{printed_lines}
-use Rattle.cell_store.specs.Count.{size_of}
+use Rattle.loop_store.specs.Count.{size_of}
 use Rattle.loop_form.specs.Loop.{Loop}
 use Rattle.loop_form.specs.Meaning.{Gives, Out, loop_meaning}
-use Rattle.fip_machine.specs.Running.{Stand}
+use Rattle.loop_machine.specs.Running.{Stand}
 use Rattle.fip_driver.specs.Reply.{gauge_lines}
 use Rattle.fip_driver.specs.declared.failure.Failure.{Failure}
 use Rattle.fip_driver.specs.declared.failure.Failure.TheVariants as F

@@ -4,7 +4,7 @@ ghost use Rattle.fip_language.specs.Values.{End, More};
 ghost use Rattle.fip_language.specs.Store.{Placed, value_of, word_of, Stands};
 ghost use Rattle.fip_language.specs.SoundTable.{IsSoundTable, AreTypes};
 ghost use Rattle.fip_language.specs.PrintedText.{printed_lines};
-ghost use Rattle.value_text.specs.Loaded.{types_of};
+ghost use Rattle.loop_text.specs.Loaded.{types_of};
 ghost use Rattle.loop_form.specs.View.{loop_of};
 ghost use Rattle.loop_form.specs.Fine.{IsFine};
 ghost use Rattle.fip_driver.specs.Reply.{size_line, size_lines, gauge_lines};
@@ -13,14 +13,14 @@ ghost use Rattle.fip_driver.specs.declared.failure.Failure.{Failure};
 
 use crate::failure::Failure;
 use crate::texts;
-use cell_lower::lower;
-use cell_store::{Loader, Sealed};
 use fip_base::plain::{NoMemory, Param};
 use fip_base::table::TypeTable;
-use fip_machine::{Ended, Gauge, Machine};
 use loop_form::program::LoopProgram;
+use loop_lower::lower;
+use loop_machine::{Ended, Gauge, Machine};
+use loop_store::{Loader, Sealed};
+use loop_text::{LoadError, load_values, print_value};
 use std::alloc::Global;
-use value_text::{LoadError, load_values, print_value};
 
 // Owned parameters of these types.
 fn owned(alloc: Global, types: &[u32]) -> Result<Vec<Param>, NoMemory>

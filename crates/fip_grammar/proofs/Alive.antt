@@ -2,14 +2,15 @@
 use Rattle.std.proofs.Common.{ℕ, pos, neg_ℤ, Bool, true, false, List, [], ◌∷◌, ◌++◌, Option, Some, None, inl, inr, refl}
 use Rattle.fip_language.specs.declared.Place.{Place}
 use Rattle.fip_language.specs.declared.FunKind.{FunKind}
+use Rattle.fip_language.specs.declared.CreditMark.{CreditMark}
 use Rattle.fip_language.specs.Core.{Name, Written, WrittenInt, WrittenName, Writtens, NoWritten, MoreWritten, Result, OneResult, TupleResult, SignatureParameter, TypeParameter, TypeName, Data}
 use Rattle.fip_language.specs.Surface.{Bind, Pattern, Wildcard, LiteralPattern, ConstructorPattern, NoPatterns, MorePatterns, Expression, Variable, Literal, Call, Constructor, Bracket, Tuple, Match, If, NoExpressions, MoreExpressions, Block, Last, Let, Clauses, NoClauses, MoreClauses, Parameter, Declaration, DataDeclaration, FunctionDeclaration}
 use Rattle.fip_grammar.specs.declared.Sign.{Sign}
 use Rattle.fip_grammar.specs.declared.Sign.TheVariants as S
 use Rattle.fip_grammar.specs.Token.{Lower, Upper, Number, Mark, Token, token, value_of}
 use Rattle.fip_grammar.specs.Grammar.{Sees, Spelled}
-use Rattle.fip_grammar.specs.Machine.{Binding, FunctionHead, SignatureHead, ResultOwner, FunctionHeading, DataHeading, Pending, Waiting, Opener, OpenMatch, Use, Level, Body, Binds, BodyPosition, OpenType, TypePosition, TypeUse, OpenPattern, PatternPosition, State, OfSignature, OfFunction, FunctionKeyword, FunctionName, FunctionStart, StaticName, StaticStart, SignatureKeyword, SignatureOpen, SignatureFirst, SignatureNext, SignatureColon, ResultStart, StaticEnd, ParametersOpen, ParameterFirst, ParameterNext, ParameterName, ParameterColon, ResultColon, BodyOpen, DataStart, DataParameter, DataParameterEnd, DataOpen, ConstructorFirst, ConstructorNext, ConstructorStart, ConstructorEnd, MatchOpener, IfOpener, ForArguments, ForFields, ForParenthesis, ForTuple, ForClause, ForYes, ForNo, Bracketed, BindStart, BindNamed, LetEquals, LowerName, CallOpen, ArgumentFirst, UpperName, Minus, Parenthesis, AtOperator, ClauseNext, Else, ElseOpen, TypeNamed, TypeDone, ForField, ForSignatureParameter, ForParameter, ForResult, ForResultPart, ForAnnotation, ForStaticArgument, PatternMinus, PatternNamed, PatternDone, InFunction, InData, InType, InPattern, InBody, DataName, Alone, AtBlock, LetStart, AtOperand, ForBracket, TypeWanted, PatternWanted, Top, onto_types, onto_patterns, onto_expressions, onto_block, onto_clauses, with_static, with_parameter, with_signature_parameter, with_signature, with_type_name, with_constructor, bound_of, applied, all_applied, last_of, function_of}
-use Rattle.fip_grammar.proofs.Residual.{Declared, AtLeastTwo, EndBody, FromBrace, FromColon, more_parameters, more_statics, AfterParameter, FromParameters, FromParameter, FromOpen, AfterStatic, FromStatic, FromStart, AfterResult, FromResult, more_signature, SignatureColonFrom, AfterSignatureParameter, FromSignatureParameters, FromSignatureParameter, SignatureOpenFrom, FromStaticStart, new_head, FunctionNameFrom, InFunctionFrom, more_constructors, more_names, AfterConstructor, FromConstructor, FromDataBrace, AfterTypeName, FromTypeName, FromDataStart, new_data, FromDataName, new_constructor, InDataFrom, Compared, Grown, ElseOpenFrom, ElseFrom, LevelEnds, BlockEnds, ExpressionEnds, AfterOperand, below, AfterBlock, FromOperand, EqualsFrom, AfterBind, ArgumentsFrom, CallFrom, AfterPattern, InBodyFrom, AfterUse, AfterType, InTypeFrom, AfterPatterns, InPatternFrom, From}
+use Rattle.fip_grammar.specs.Machine.{Binding, FunctionHead, SignatureHead, ResultOwner, FunctionHeading, DataHeading, Pending, Waiting, Opener, OpenMatch, Use, Level, Body, Binds, BodyPosition, OpenType, TypePosition, TypeUse, OpenPattern, PatternPosition, State, OfSignature, OfFunction, FunctionKeyword, CreditSize, FunctionName, FunctionStart, StaticName, StaticStart, SignatureKeyword, SignatureOpen, SignatureFirst, SignatureNext, SignatureColon, ResultStart, StaticEnd, ParametersOpen, ParameterFirst, ParameterNext, ParameterName, ParameterColon, ResultColon, BodyOpen, DataStart, DataParameter, DataParameterEnd, DataOpen, ConstructorFirst, ConstructorNext, ConstructorStart, ConstructorEnd, MatchOpener, IfOpener, ForArguments, ForFields, ForParenthesis, ForTuple, ForClause, ForYes, ForNo, Bracketed, BindStart, BindNamed, LetEquals, LowerName, CallOpen, ArgumentFirst, UpperName, Minus, Parenthesis, AtOperator, ClauseNext, Else, ElseOpen, TypeNamed, TypeDone, ForField, ForSignatureParameter, ForParameter, ForResult, ForResultPart, ForAnnotation, ForStaticArgument, PatternMinus, PatternNamed, PatternDone, InFunction, InData, InType, InPattern, InBody, DataName, Alone, AtBlock, LetStart, AtOperand, ForBracket, TypeWanted, PatternWanted, Top, onto_types, onto_patterns, onto_expressions, onto_block, onto_clauses, credit, with_static, with_parameter, with_signature_parameter, with_signature, with_type_name, with_constructor, bound_of, applied, all_applied, last_of, function_of}
+use Rattle.fip_grammar.proofs.Residual.{Declared, AtLeastTwo, EndBody, FromBrace, FromColon, more_parameters, more_statics, AfterParameter, FromParameters, FromParameter, FromOpen, AfterStatic, FromStatic, FromStart, AfterResult, FromResult, more_signature, SignatureColonFrom, AfterSignatureParameter, FromSignatureParameters, FromSignatureParameter, SignatureOpenFrom, FromStaticStart, new_head, FunctionNameFrom, FromKeyword, FromCreditSize, InFunctionFrom, more_constructors, more_names, AfterConstructor, FromConstructor, FromDataBrace, AfterTypeName, FromTypeName, FromDataStart, new_data, FromDataName, new_constructor, InDataFrom, Compared, Grown, ElseOpenFrom, ElseFrom, LevelEnds, BlockEnds, ExpressionEnds, AfterOperand, below, AfterBlock, FromOperand, EqualsFrom, AfterBind, ArgumentsFrom, CallFrom, AfterPattern, InBodyFrom, AfterUse, AfterType, InTypeFrom, AfterPatterns, InPatternFrom, From}
 use Rattle.fip_grammar.proofs.Operators.{chain_none}
 
 abbrev here : Place
@@ -200,15 +201,26 @@ alive_parameter_name h =
     let colon = mark S.Colon ∷ t in
     (lower ∷ colon, k.1, (97 ∷ [], here, colon, t, int_type, k.0, refl, (here, refl), refl, k.2))
 
-alive_function_name : (f : FunKind) → Alive (FunctionNameFrom f)
-alive_function_name f = let k = alive_start (new_head f (97 ∷ []) here) in (lower ∷ k.0, k.1, (97 ∷ [], here, k.0, refl, k.2))
+alive_function_name : (f : FunKind) (cs : List CreditMark) → Alive (FunctionNameFrom f cs)
+alive_function_name f cs = let k = alive_start (new_head f cs (97 ∷ []) here) in (lower ∷ k.0, k.1, (97 ∷ [], here, k.0, refl, k.2))
+
+alive_keyword : (f : FunKind) (cs : List CreditMark) → Alive (FromKeyword f cs)
+alive_keyword f cs =
+    let k = alive_function_name f (cs ++ []) in
+    (mark S.Fun ∷ k.0, k.1, ([], mark S.Fun ∷ k.0, k.0, refl, (here, refl), k.2))
+
+alive_credit_size : (f : FunKind) (cs : List CreditMark) (p : Place) → Alive (FromCreditSize f cs p)
+alive_credit_size f cs p =
+    let k = alive_keyword f (cs ++ credit p here (48 ∷ []) ∷ []) in
+    (zero_token ∷ k.0, k.1, (48 ∷ [], here, k.0, refl, k.2))
 
 alive_static_start : (h : FunctionHead) (n : Name) (q : Place) → Alive (FromStaticStart h n q)
 alive_static_start h n q = let k = alive_static_end (with_static h (TypeParameter n q)) in (k.0, k.1, inl k.2)
 
 alive_function : (h : FunctionHeading) → Alive (InFunctionFrom h)
-alive_function (FunctionKeyword k) = before S.Fun (FunctionNameFrom k) (alive_function_name k)
-alive_function (FunctionName k) = alive_function_name k
+alive_function (FunctionKeyword k cs) = alive_keyword k cs
+alive_function (CreditSize k cs p) = alive_credit_size k cs p
+alive_function (FunctionName k cs) = alive_function_name k cs
 alive_function (FunctionStart h) = alive_start h
 alive_function (StaticName h) = alive_static h
 alive_function (StaticStart h n q) = alive_static_start h n q

@@ -2,14 +2,15 @@
 use Rattle.std.proofs.Common.{◌≡◌, ℕ, ℤ, suc, Bool, true, false, List, [], ◌∷◌, ◌++◌, Option, Some, None, ◌⊎◌, inl, inr, refl, sym, ap, subst, ◌∙◌, append-nil}
 use Rattle.fip_language.specs.declared.Place.{Place}
 use Rattle.fip_language.specs.declared.FunKind.{FunKind}
+use Rattle.fip_language.specs.declared.CreditMark.{CreditMark}
 use Rattle.fip_language.specs.declared.Operator.{Operator}
 use Rattle.fip_language.specs.Core.{Name, Written, WrittenInt, WrittenName, Writtens, NoWritten, MoreWritten, Result, OneResult, TupleResult, SignatureParameter, Static, TypeParameter, FunctionParameter, TypeName, DataConstructor, Data}
 use Rattle.fip_language.specs.Surface.{Bind, Pattern, Wildcard, VariablePattern, LiteralPattern, ConstructorPattern, Patterns, NoPatterns, MorePatterns, Expression, Variable, Literal, Call, Constructor, Bracket, Tuple, Match, If, Binary, Expressions, NoExpressions, MoreExpressions, Block, Last, Let, Clauses, NoClauses, MoreClauses, Parameter, Declaration, DataDeclaration, FunctionDeclaration}
 use Rattle.fip_grammar.specs.declared.Sign.{Sign}
 use Rattle.fip_grammar.specs.declared.Sign.TheVariants as S
 use Rattle.fip_grammar.specs.Token.{Lower, Operate, Token, token}
-use Rattle.fip_grammar.specs.Grammar.{Sees, MaySee, FurtherTypeList, IsLiteral, BindName, Annotation, FurtherBinds, Binder', tightness, left_tightness, Result', Lent, FurtherSignatureParameters, SignatureParameters, Static', FurtherStatics, Statics, Parameter', FurtherParameters, Parameters, Kind', FurtherTypeNames, TypeNames, FieldTypes, FurtherConstructors, Spells, Type', TypeArguments, FurtherTypes, Pattern', PatternFields, FurtherPatterns, Spelled, Arguments, Fields, Further, Block', FurtherClauses}
-use Rattle.fip_grammar.specs.Machine.{Binding, FunctionHead, FunctionHeading, DataHeading, Pending, Opener, OpenMatch, Use, Level, Body, Binds, BodyPosition, OpenType, TypePosition, TypeUse, OpenPattern, PatternPosition, State, OfSignature, OfFunction, FunctionKeyword, FunctionName, FunctionStart, StaticName, StaticStart, SignatureKeyword, SignatureOpen, SignatureFirst, SignatureNext, SignatureColon, ResultStart, StaticEnd, ParametersOpen, ParameterFirst, ParameterNext, ParameterName, ParameterColon, ResultColon, BodyOpen, DataStart, DataParameter, DataParameterEnd, DataOpen, ConstructorFirst, ConstructorNext, ConstructorStart, ConstructorEnd, MatchOpener, IfOpener, ForArguments, ForFields, ForParenthesis, ForTuple, ForClause, ForYes, ForNo, Bracketed, BindStart, BindNamed, LetEquals, LowerName, CallOpen, ArgumentFirst, UpperName, Minus, Parenthesis, AtOperator, ClauseNext, Else, ElseOpen, TypeNamed, TypeDone, ForField, ForSignatureParameter, ForParameter, ForResult, ForResultPart, ForAnnotation, ForStaticArgument, PatternMinus, PatternNamed, PatternDone, InFunction, InData, InType, InPattern, InBody, DataName, Alone, AtBlock, LetStart, AtOperand, ForBracket, TypeWanted, PatternWanted, Top, onto_block, with_constructor, applied, ended_in}
+use Rattle.fip_grammar.specs.Grammar.{Sees, MaySee, FurtherTypeList, IsLiteral, BindName, Annotation, FurtherBinds, Binder', tightness, left_tightness, Result', Lent, FurtherSignatureParameters, SignatureParameters, Static', FurtherStatics, Statics, Parameter', FurtherParameters, Parameters, Credits, Kind', FurtherTypeNames, TypeNames, FieldTypes, FurtherConstructors, Spells, Type', TypeArguments, FurtherTypes, Pattern', PatternFields, FurtherPatterns, Spelled, Arguments, Fields, Further, Block', FurtherClauses}
+use Rattle.fip_grammar.specs.Machine.{Binding, FunctionHead, FunctionHeading, DataHeading, Pending, Opener, OpenMatch, Use, Level, Body, Binds, BodyPosition, OpenType, TypePosition, TypeUse, OpenPattern, PatternPosition, State, OfSignature, OfFunction, FunctionKeyword, CreditSize, FunctionName, FunctionStart, StaticName, StaticStart, SignatureKeyword, SignatureOpen, SignatureFirst, SignatureNext, SignatureColon, ResultStart, StaticEnd, ParametersOpen, ParameterFirst, ParameterNext, ParameterName, ParameterColon, ResultColon, BodyOpen, DataStart, DataParameter, DataParameterEnd, DataOpen, ConstructorFirst, ConstructorNext, ConstructorStart, ConstructorEnd, MatchOpener, IfOpener, ForArguments, ForFields, ForParenthesis, ForTuple, ForClause, ForYes, ForNo, Bracketed, BindStart, BindNamed, LetEquals, LowerName, CallOpen, ArgumentFirst, UpperName, Minus, Parenthesis, AtOperator, ClauseNext, Else, ElseOpen, TypeNamed, TypeDone, ForField, ForSignatureParameter, ForParameter, ForResult, ForResultPart, ForAnnotation, ForStaticArgument, PatternMinus, PatternNamed, PatternDone, InFunction, InData, InType, InPattern, InBody, DataName, Alone, AtBlock, LetStart, AtOperand, ForBracket, TypeWanted, PatternWanted, Top, onto_block, with_constructor, applied, ended_in}
 use Rattle.fip_language.specs.declared.FunKind.TheVariants as K
 use Rattle.fip_grammar.proofs.Residual.{more_statics, FromOpen, FromStaticStart, InFunctionFrom, more_names, AfterConstructor, FromDataBrace, new_constructor, InDataFrom, Compared, Grown, LevelEnds, ExpressionEnds, AfterOperand, AfterBind, CallFrom, InBodyFrom, AfterUse, AfterType, InTypeFrom, AfterPatterns, InPatternFrom, From, Chain}
 use Rattle.fip_grammar.proofs.Operators.{peel}
@@ -127,9 +128,14 @@ no_further_parameters : (ps : List Parameter) (rest : List Token) → FurtherPar
 no_further_parameters [] rest c = none c.1
 no_further_parameters (q ∷ ps) rest c = none c.2.1
 
+no_keyword : (cs : List CreditMark) (keyword name : List Token) → Credits [] cs keyword → Sees S.Fun keyword name → ⊥
+no_keyword [] keyword name c s = none (c ∙ s.1)
+no_keyword (x ∷ cs) keyword name c s = none c.3
+
 no_function : (h : FunctionHeading) (ds : List Declaration) → InFunctionFrom h [] ds → ⊥
-no_function (FunctionKeyword k) ds c = none c.1.1
-no_function (FunctionName k) ds c = none c.3
+no_function (FunctionKeyword k cs) ds c = no_keyword c.0 c.1 c.2 c.3 c.4
+no_function (CreditSize k cs q) ds c = none c.3
+no_function (FunctionName k cs) ds c = none c.3
 no_function (FunctionStart h) ds c = no_start h c.0 c.1 ds c.2 c.3
 no_function (StaticName h) ds c = no_static c.0 c.1 c.2
 no_function (StaticStart h n q) ds c = no_static_start h n q ds c
@@ -312,16 +318,17 @@ no_in_pattern (PatternMinus q) o b m ds c = none c.3
 no_in_pattern (PatternNamed n q) o b m ds c = no_pattern_fields n q o b m c.0 c.1 ds c.2 c.3
 no_in_pattern (PatternDone x) o b m ds c = no_after_pattern o b m x ds c
 
-no_kind : (k : FunKind) (keyword name : List Token) → Kind' [] k keyword → Sees S.Fun keyword name → ⊥
-no_kind K.Fip keyword name c s = none c.1
-no_kind K.Fbip keyword name c s = none c.1
-no_kind K.Fun keyword name c s = none (c ∙ s.1)
+no_kind : (k : FunKind) (cs : List CreditMark) (keyword name : List Token) → Kind' [] k cs keyword → Sees S.Fun keyword name → ⊥
+no_kind K.Fip cs keyword name c s = none c.1.1
+no_kind K.Fbip cs keyword name c s = none c.1.1
+no_kind K.Fun [] keyword name c s = none (c ∙ s.1)
+no_kind K.Fun (x ∷ cs) keyword name c s = c
 
 -- Between declarations nothing is lacking.
 no_program : (ds : List Declaration) → Spells [] ds → ds ≡ []
 no_program [] c = refl
 no_program (DataDeclaration d ∷ ds) c = let k = c.1 in none k.4.1
-no_program (FunctionDeclaration f ∷ ds) c = let k = c.1 in absurd (no_kind f.kind k.0 k.1 k.3 k.4)
+no_program (FunctionDeclaration f ∷ ds) c = let k = c.1 in absurd (no_kind f.kind f.credits k.0 k.1 k.3 k.4)
 
 pub ends_in : (done : List Declaration) (s : State) (ds : List Declaration) → From s [] ds → ended_in done s ≡ Some (done ++ ds)
 ends_in done Top ds c = ap Some (sym (append-nil done) ∙ ap (λ l. done ++ l) (sym (no_program ds c)))

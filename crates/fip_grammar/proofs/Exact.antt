@@ -2,6 +2,7 @@
 use Rattle.std.proofs.Common.{◌≡◌, ℕ, suc, List, [], ◌∷◌, ◌++◌, Some, refl, sym, ap, subst, ◌∙◌, take, append-nil, append_assoc}
 use Rattle.fip_language.specs.declared.Place.{Place}
 use Rattle.fip_language.specs.declared.FunKind.{FunKind}
+use Rattle.fip_language.specs.declared.CreditMark.{CreditMark}
 use Rattle.fip_language.specs.Core.{DataConstructor, Data}
 use Rattle.fip_language.specs.Surface.{Function, Declaration, DataDeclaration, FunctionDeclaration, Program}
 use Rattle.fip_grammar.specs.declared.Sign.TheVariants as S
@@ -20,18 +21,19 @@ use Rattle.fip_grammar.proofs.Bodies.{take_body, give_body}
 use Rattle.fip_grammar.proofs.Ends.{ends_in}
 use Rattle.fip_grammar.proofs.Alive.{alive_state}
 
-take_kind : (k : FunKind) (w : Word) (p : Place) (ts keyword name : List Token) (ds : List Declaration) → Kind' (token w p ∷ ts) k keyword → Sees S.Fun keyword name → FunctionNameFrom k name ds → Fits (step_top w p) ts ds
-take_kind K.Fip w p ts keyword name ds c s n = head step_top ds c.1 (name, s, n)
-take_kind K.Fbip w p ts keyword name ds c s n = head step_top ds c.1 (name, s, n)
-take_kind K.Fun w p ts keyword name ds c s n = head step_top ds (c ∙ s.1) n
+take_kind : (k : FunKind) (cs : List CreditMark) (w : Word) (p : Place) (ts keyword name : List Token) (ds : List Declaration) → Kind' (token w p ∷ ts) k cs keyword → Sees S.Fun keyword name → FunctionNameFrom k cs name ds → Fits (step_top w p) ts ds
+take_kind K.Fip cs w p ts keyword name ds c s n = head step_top ds c.1.1 (cs, keyword, name, c.2, s, n)
+take_kind K.Fbip cs w p ts keyword name ds c s n = head step_top ds c.1.1 (cs, keyword, name, c.2, s, n)
+take_kind K.Fun [] w p ts keyword name ds c s n = head step_top ds (c ∙ s.1) n
+take_kind K.Fun (x ∷ cs) w p ts keyword name ds c s n = absurd c
 
-take_fun : (f : Function) (more : List Declaration) (k : FunKind) (w : Word) (p : Place) (ts keyword name after rest : List Token) → f.kind ≡ k → Kind' (token w p ∷ ts) k keyword → Sees S.Fun keyword name → name ≡ token (Lower f.name) f.place ∷ after → FunctionParts after f.statics f.parameters f.result f.body rest → Spells rest more → Fits (step_top w p) ts (FunctionDeclaration f ∷ more)
-take_fun f more k w p ts keyword name after rest same c s n q m =
-    let h = new_head f.kind f.name f.place in
+take_fun : (f : Function) (more : List Declaration) (w : Word) (p : Place) (ts keyword name after rest : List Token) → Kind' (token w p ∷ ts) f.kind f.credits keyword → Sees S.Fun keyword name → name ≡ token (Lower f.name) f.place ∷ after → FunctionParts after f.statics f.parameters f.result f.body rest → Spells rest more → Fits (step_top w p) ts (FunctionDeclaration f ∷ more)
+take_fun f more w p ts keyword name after rest c s n q m =
+    let h = new_head f.kind f.credits f.name f.place in
     let c0 = FunctionDeclaration f ∷ more in
     let parts : FromStart h after c0 = (f.statics, q.0, q.7, (q.1, q.8, (f.parameters, q.2, q.9, (q.3, f.result, q.4, q.10, q.11, (q.5, f.body, q.6, q.12, q.13, (rest, q.14, (more, refl, m))))))) in
-    let named : FunctionNameFrom f.kind name c0 = (f.name, f.place, after, n, parts) in
-    take_kind k w p ts keyword name c0 c s (subst (λ x. FunctionNameFrom x name c0) same named)
+    let named : FunctionNameFrom f.kind f.credits name c0 = (f.name, f.place, after, n, parts) in
+    take_kind f.kind f.credits w p ts keyword name c0 c s named
 
 from_constructors : (d : Data) (cs : List DataConstructor) (ts rest : List Token) (more : List Declaration) → d.constructors ≡ cs → DataConstructors ts cs rest → Spells rest more → FromConstructor (more_names (new_data d.name d.place) d.parameters) ts (DataDeclaration d ∷ more)
 from_constructors d [] ts rest more e c m = absurd c
@@ -44,9 +46,9 @@ take_top w p ts (DataDeclaration d ∷ more) c =
     head step_top (DataDeclaration d ∷ more) k.4.1 (d.name, d.place, k.1, k.5, (d.parameters, k.2, k.6, (k.3, k.7, from_constructors d d.constructors k.3 c.0 more refl k.8 c.2)))
 take_top w p ts (FunctionDeclaration f ∷ more) c =
     let k = c.1 in
-    take_fun f more f.kind w p ts k.0 k.1 k.2 c.0 refl k.3 k.4 k.5 k.6 c.2
+    take_fun f more w p ts k.0 k.1 k.2 c.0 k.3 k.4 k.5 k.6 c.2
 
-give_parts : (h : FunctionHead) (ts : List Token) (ds : List Declaration) → h.statics ≡ [] → h.parameters ≡ [] → FromStart h ts ds → (f : Function) × (more : List Declaration) × (rest : List Token) × (ds ≡ FunctionDeclaration f ∷ more) × (f.kind ≡ h.kind) × (f.name ≡ h.name) × (f.place ≡ h.place) × FunctionParts ts f.statics f.parameters f.result f.body rest × Spells rest more
+give_parts : (h : FunctionHead) (ts : List Token) (ds : List Declaration) → h.statics ≡ [] → h.parameters ≡ [] → FromStart h ts ds → (f : Function) × (more : List Declaration) × (rest : List Token) × (ds ≡ FunctionDeclaration f ∷ more) × (f.kind ≡ h.kind) × (f.credits ≡ h.credits) × (f.name ≡ h.name) × (f.place ≡ h.place) × FunctionParts ts f.statics f.parameters f.result f.body rest × Spells rest more
 give_parts h ts ds s0 p0 c =
     let o = c.3 in
     let q = o.2 in
@@ -58,15 +60,16 @@ give_parts h ts ds s0 p0 c =
     let ss : c.0 ≡ h.statics ++ c.0 = ap (λ l. l ++ c.0) (sym s0) in
     let ps : q.0 ≡ h.parameters ++ q.0 = ap (λ l. l ++ q.0) (sym p0) in
     let parts : FunctionParts ts c.0 q.0 r.1 b.1 e.0 = (c.1, o.0, q.1, r.0, r.2, b.0, b.2, c.2, o.1, q.2, r.3, r.4, b.3, b.4, e.1) in
-    (f, d.0, e.0, d.1, refl, refl, refl, subst (λ l. FunctionParts ts l (h.parameters ++ q.0) r.1 b.1 e.0) ss (subst (λ l. FunctionParts ts c.0 l r.1 b.1 e.0) ps parts), d.2)
+    (f, d.0, e.0, d.1, refl, refl, refl, refl, subst (λ l. FunctionParts ts l (h.parameters ++ q.0) r.1 b.1 e.0) ss (subst (λ l. FunctionParts ts c.0 l r.1 b.1 e.0) ps parts), d.2)
 
-give_fun : (k : FunKind) (ts keyword name : List Token) (ds : List Declaration) → Kind' ts k keyword → Sees S.Fun keyword name → FunctionNameFrom k name ds → Spells ts ds
-give_fun k ts keyword name ds c s n =
-    let h = new_head k n.0 n.1 in
+give_fun : (k : FunKind) (cs : List CreditMark) (ts keyword name : List Token) (ds : List Declaration) → Kind' ts k cs keyword → Sees S.Fun keyword name → FunctionNameFrom k cs name ds → Spells ts ds
+give_fun k cs ts keyword name ds c s n =
+    let h = new_head k cs n.0 n.1 in
     let g = give_parts h n.2 ds refl refl n.4 in
     let f = g.0 in
-    let named : name ≡ token (Lower f.name) f.place ∷ n.2 = n.3 ∙ ap (λ x. token (Lower x) n.1 ∷ n.2) (sym g.5) ∙ ap (λ x. token (Lower f.name) x ∷ n.2) (sym g.6) in
-    let whole : Spells ts (FunctionDeclaration f ∷ g.1) = (g.2, (keyword, name, n.2, subst (λ x. Kind' ts x keyword) (sym g.4) c, s, named, g.7), g.8) in
+    let kind : Kind' ts f.kind f.credits keyword = subst (λ x. Kind' ts x f.credits keyword) (sym g.4) (subst (λ x. Kind' ts k x keyword) (sym g.5) c) in
+    let named : name ≡ token (Lower f.name) f.place ∷ n.2 = n.3 ∙ ap (λ x. token (Lower x) n.1 ∷ n.2) (sym g.6) ∙ ap (λ x. token (Lower f.name) x ∷ n.2) (sym g.7) in
+    let whole : Spells ts (FunctionDeclaration f ∷ g.1) = (g.2, (keyword, name, n.2, kind, s, named, g.8), g.9) in
     subst (λ l. Spells ts l) (sym g.3) whole
 
 give_data_top : (p : Place) (ts : List Token) (ds : List Declaration) → FromDataName ts ds → Spells (token (Mark S.Data) p ∷ ts) ds
@@ -82,9 +85,9 @@ give_data_top p ts ds c =
 
 give_top : (w : Word) (p : Place) (ts : List Token) (ds : List Declaration) → Fits (step_top w p) ts ds → Spells (token w p ∷ ts) ds
 give_top (Mark S.Data) p ts ds c = give_data_top p ts ds c
-give_top (Mark S.Fip) p ts ds c = give_fun K.Fip (token (Mark S.Fip) p ∷ ts) ts c.0 ds (p, refl) c.1 c.2
-give_top (Mark S.Fbip) p ts ds c = give_fun K.Fbip (token (Mark S.Fbip) p ∷ ts) ts c.0 ds (p, refl) c.1 c.2
-give_top (Mark S.Fun) p ts ds c = give_fun K.Fun (token (Mark S.Fun) p ∷ ts) (token (Mark S.Fun) p ∷ ts) ts ds refl (p, refl) c
+give_top (Mark S.Fip) p ts ds c = give_fun K.Fip c.0 (token (Mark S.Fip) p ∷ ts) c.1 c.2 ds (ts, (p, refl), c.3) c.4 c.5
+give_top (Mark S.Fbip) p ts ds c = give_fun K.Fbip c.0 (token (Mark S.Fbip) p ∷ ts) c.1 c.2 ds (ts, (p, refl), c.3) c.4 c.5
+give_top (Mark S.Fun) p ts ds c = give_fun K.Fun [] (token (Mark S.Fun) p ∷ ts) (token (Mark S.Fun) p ∷ ts) ts ds refl (p, refl) c
 give_top _ p ts ds c = absurd c
 
 take_state : (s : State) (w : Word) (p : Place) (ts : List Token) (ds : List Declaration) → From s (token w p ∷ ts) ds → Fits (step s w p) ts ds

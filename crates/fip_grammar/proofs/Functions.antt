@@ -1,15 +1,17 @@
 -- One row after another: what completes a state begins with a token that leads on (take), and a token that leads on
 -- may come (give). Here: the heads of functions.
-use Rattle.std.proofs.Common.{◌≡◌, Bool, true, false, List, [], ◌∷◌, inl, inr, refl, subst, ◌∙◌}
+use Rattle.std.proofs.Common.{◌≡◌, ℕ, sym, ◌++◌, Bool, true, false, List, [], ◌∷◌, inl, inr, refl, ap, subst, ◌∙◌}
 use Rattle.fip_language.specs.declared.Place.{Place}
 use Rattle.fip_language.specs.declared.FunKind.{FunKind}
+use Rattle.fip_language.specs.declared.CreditMark.{CreditMark}
+use Rattle.fip_language.specs.declared.Operator.TheVariants as O
 use Rattle.fip_language.specs.Core.{Name, Written, WrittenInt, WrittenName, Result, OneResult, TupleResult, SignatureParameter, Static, TypeParameter, FunctionParameter}
 use Rattle.fip_language.specs.Surface.{Parameter, Declaration}
 use Rattle.fip_grammar.specs.declared.Sign.TheVariants as S
-use Rattle.fip_grammar.specs.Token.{Word, Lower, Mark, Token, token}
-use Rattle.fip_grammar.specs.Grammar.{Sees, FurtherTypeList, Result', Lent, SignatureParameters, Static', FurtherStatics, Statics, Parameters, Type'}
-use Rattle.fip_grammar.specs.Machine.{FunctionHead, SignatureHead, ResultOwner, FunctionHeading, OpenType, TypeUse, Next, FunctionKeyword, FunctionName, FunctionStart, StaticName, StaticStart, SignatureKeyword, SignatureOpen, SignatureFirst, SignatureNext, SignatureColon, ResultStart, StaticEnd, ParametersOpen, ParameterFirst, ParameterNext, ParameterName, ParameterColon, ResultColon, BodyOpen, ForSignatureParameter, ForResult, TypeWanted, with_static, with_parameter, with_signature_parameter, static_end, body_open, type_wanted, signature_next, parameter_name, parameter_next, step_function}
-use Rattle.fip_grammar.proofs.Residual.{AtLeastTwo, FromBrace, FromColon, more_parameters, more_statics, AfterParameter, FromParameters, FromParameter, FromOpen, AfterStatic, FromStatic, FromStart, AfterResult, FromResult, more_signature, SignatureColonFrom, AfterSignatureParameter, FromSignatureParameters, FromSignatureParameter, SignatureOpenFrom, SignatureKeywordFrom, FromStaticStart, FunctionNameFrom, InFunctionFrom, AfterType, InTypeFrom, Fits}
+use Rattle.fip_grammar.specs.Token.{Word, Lower, Number, Operate, Mark, Token, token, value_of}
+use Rattle.fip_grammar.specs.Grammar.{Sees, FurtherTypeList, Result', Lent, SignatureParameters, Static', FurtherStatics, Statics, Parameters, Credits, Type'}
+use Rattle.fip_grammar.specs.Machine.{FunctionHead, SignatureHead, ResultOwner, FunctionHeading, OpenType, TypeUse, Next, FunctionKeyword, CreditSize, FunctionName, FunctionStart, StaticName, StaticStart, SignatureKeyword, SignatureOpen, SignatureFirst, SignatureNext, SignatureColon, ResultStart, StaticEnd, ParametersOpen, ParameterFirst, ParameterNext, ParameterName, ParameterColon, ResultColon, BodyOpen, ForSignatureParameter, ForResult, TypeWanted, credit, with_static, with_parameter, with_signature_parameter, static_end, body_open, type_wanted, signature_next, parameter_name, parameter_next, step_function}
+use Rattle.fip_grammar.proofs.Residual.{AtLeastTwo, FromBrace, FromColon, more_parameters, more_statics, AfterParameter, FromParameters, FromParameter, FromOpen, AfterStatic, FromStatic, FromStart, AfterResult, FromResult, more_signature, SignatureColonFrom, AfterSignatureParameter, FromSignatureParameters, FromSignatureParameter, SignatureOpenFrom, SignatureKeywordFrom, FromStaticStart, FunctionNameFrom, FromKeyword, FromCreditSize, InFunctionFrom, AfterType, InTypeFrom, Fits}
 use Rattle.fip_grammar.proofs.Lists.{on, off, none_on, none_off}
 
 -- what the first token of an equation leads to
@@ -166,9 +168,21 @@ give_parameter_first h w p ts ds c =
     let m = k.3 in
     (k.0 ∷ m.0, m.1, (k.1, k.2, m.2), off (λ l. FromColon (record h { parameters = l }) m.1 ds) h.parameters k.0 m.0 m.3)
 
+-- a mark whose size is that of its digits
+abbrev marked : (x : CreditMark) (digits : List ℕ) → x.size ≡ value_of digits → credit x.place x.size_place digits ≡ x
+marked x digits e = ap (λ n. record { place = x.place; size_place = x.size_place; size = n }) (sym e)
+
+take_keyword : (k : FunKind) (cs more : List CreditMark) (w : Word) (p : Place) (ts keyword name : List Token) (ds : List Declaration) → Credits (token w p ∷ ts) more keyword → Sees S.Fun keyword name → FunctionNameFrom k (cs ++ more) name ds → Fits (step_function (FunctionKeyword k cs) w p) ts ds
+take_keyword k cs [] w p ts keyword name ds c s n = head (step_function (FunctionKeyword k cs)) ds (c ∙ s.1) (none_on (λ l. FunctionNameFrom k l name ds) cs n)
+take_keyword k cs (x ∷ more) w p ts keyword name ds c s n =
+    let rest : FromKeyword k (cs ++ x ∷ []) c.1 ds = (more, keyword, name, c.6, s, on (λ l. FunctionNameFrom k l name ds) cs x more n) in
+    let size : FromCreditSize k cs x.place c.0 ds = (c.2, x.size_place, c.1, c.4, subst (λ m. FromKeyword k (cs ++ m ∷ []) c.1 ds) (sym (marked x c.2 c.5)) rest) in
+    head (step_function (FunctionKeyword k cs)) ds c.3 size
+
 pub take_function : (h : FunctionHeading) (w : Word) (p : Place) (ts : List Token) (ds : List Declaration) → InFunctionFrom h (token w p ∷ ts) ds → Fits (step_function h w p) ts ds
-take_function (FunctionKeyword k) w p ts ds c = head (step_function (FunctionKeyword k)) ds c.1.1 c.2
-take_function (FunctionName k) w p ts ds c = head (step_function (FunctionName k)) ds c.3 c.4
+take_function (FunctionKeyword k cs) w p ts ds c = take_keyword k cs c.0 w p ts c.1 c.2 ds c.3 c.4 c.5
+take_function (CreditSize k cs q) w p ts ds c = head (step_function (CreditSize k cs q)) ds c.3 c.4
+take_function (FunctionName k cs) w p ts ds c = head (step_function (FunctionName k cs)) ds c.3 c.4
 take_function (FunctionStart h) w p ts ds c = take_start h c.0 w p ts c.1 ds c.2 c.3
 take_function (StaticName h) w p ts ds c = take_static h c.0 w p ts c.1 ds c.2 c.3
 take_function (StaticStart h n q) w p ts ds c = take_static_start h n q w p ts ds c
@@ -187,13 +201,21 @@ take_function (ParameterColon h lent n q) w p ts ds c = head (step_function (Par
 take_function (ResultColon h) w p ts ds c = head (step_function (ResultColon h)) ds c.3.1 (c.1, c.2, c.4, c.5)
 take_function (BodyOpen h r) w p ts ds c = take_body_open h r w p ts ds c
 
-give_keyword : (k : FunKind) (w : Word) (p : Place) (ts : List Token) (ds : List Declaration) → Fits (step_function (FunctionKeyword k) w p) ts ds → InFunctionFrom (FunctionKeyword k) (token w p ∷ ts) ds
-give_keyword k (Mark S.Fun) p ts ds c = (ts, (p, refl), c)
-give_keyword k _ p ts ds c = absurd c
+give_keyword : (k : FunKind) (cs : List CreditMark) (w : Word) (p : Place) (ts : List Token) (ds : List Declaration) → Fits (step_function (FunctionKeyword k cs) w p) ts ds → FromKeyword k cs (token w p ∷ ts) ds
+give_keyword k cs (Mark S.Fun) p ts ds c = ([], token (Mark S.Fun) p ∷ ts, ts, refl, (p, refl), none_off (λ l. FunctionNameFrom k l ts ds) cs c)
+give_keyword k cs (Operate O.Add) p ts ds c =
+    let x = credit p c.1 c.0 in
+    let r = c.4 in
+    (x ∷ r.0, r.1, r.2, (ts, c.2, c.0, refl, c.3, refl, r.3), r.4, off (λ l. FunctionNameFrom k l r.2 ds) cs x r.0 r.5)
+give_keyword k cs _ p ts ds c = absurd c
 
-give_name : (k : FunKind) (w : Word) (p : Place) (ts : List Token) (ds : List Declaration) → Fits (step_function (FunctionName k) w p) ts ds → FunctionNameFrom k (token w p ∷ ts) ds
-give_name k (Lower n) p ts ds c = (n, p, ts, refl, c)
-give_name k _ p ts ds c = absurd c
+give_credit_size : (k : FunKind) (cs : List CreditMark) (q : Place) (w : Word) (p : Place) (ts : List Token) (ds : List Declaration) → Fits (step_function (CreditSize k cs q) w p) ts ds → FromCreditSize k cs q (token w p ∷ ts) ds
+give_credit_size k cs q (Number digits) p ts ds c = (digits, p, ts, refl, c)
+give_credit_size k cs q _ p ts ds c = absurd c
+
+give_name : (k : FunKind) (cs : List CreditMark) (w : Word) (p : Place) (ts : List Token) (ds : List Declaration) → Fits (step_function (FunctionName k cs) w p) ts ds → FunctionNameFrom k cs (token w p ∷ ts) ds
+give_name k cs (Lower n) p ts ds c = (n, p, ts, refl, c)
+give_name k cs _ p ts ds c = absurd c
 
 give_signature_keyword : (h : FunctionHead) (g : SignatureHead) (w : Word) (p : Place) (ts : List Token) (ds : List Declaration) → Fits (step_function (SignatureKeyword h g) w p) ts ds → SignatureKeywordFrom h g (token w p ∷ ts) ds
 give_signature_keyword h g (Mark S.Fun) p ts ds c = (ts, (p, refl), c)
@@ -224,8 +246,9 @@ give_result_colon h (Mark S.Colon) p ts ds c = (ts, c.0, c.1, (p, refl), c.2, c.
 give_result_colon h _ p ts ds c = absurd c
 
 pub give_function : (h : FunctionHeading) (w : Word) (p : Place) (ts : List Token) (ds : List Declaration) → Fits (step_function h w p) ts ds → InFunctionFrom h (token w p ∷ ts) ds
-give_function (FunctionKeyword k) w p ts ds c = give_keyword k w p ts ds c
-give_function (FunctionName k) w p ts ds c = give_name k w p ts ds c
+give_function (FunctionKeyword k cs) w p ts ds c = give_keyword k cs w p ts ds c
+give_function (CreditSize k cs q) w p ts ds c = give_credit_size k cs q w p ts ds c
+give_function (FunctionName k cs) w p ts ds c = give_name k cs w p ts ds c
 give_function (FunctionStart h) w p ts ds c = give_start h w p ts ds c
 give_function (StaticName h) w p ts ds c = give_static_name h w p ts ds c
 give_function (StaticStart h n q) w p ts ds c = give_static_start h n q w p ts ds c

@@ -3,13 +3,14 @@
 use Rattle.std.proofs.Common.{◌≡◌, ℕ, pos, neg_ℤ, suc, true, List, [], ◌∷◌, ◌++◌, Option, Some, None, ◌⊎◌}
 use Rattle.fip_language.specs.declared.Place.{Place}
 use Rattle.fip_language.specs.declared.FunKind.{FunKind}
+use Rattle.fip_language.specs.declared.CreditMark.{CreditMark}
 use Rattle.fip_language.specs.declared.Operator.{Operator}
 use Rattle.fip_language.specs.Core.{Name, Written, WrittenName, Writtens, NoWritten, MoreWritten, Result, OneResult, TupleResult, SignatureParameter, Static, TypeParameter, TypeName, DataConstructor, Data}
 use Rattle.fip_language.specs.Surface.{Bind, Pattern, LiteralPattern, ConstructorPattern, Patterns, MorePatterns, Expression, Variable, Literal, Call, Constructor, Bracket, Tuple, Match, If, Binary, Expressions, MoreExpressions, Block, Last, Let, Clauses, NoClauses, MoreClauses, Parameter, Declaration, DataDeclaration, FunctionDeclaration}
 use Rattle.fip_grammar.specs.declared.Sign.TheVariants as S
 use Rattle.fip_grammar.specs.Token.{Lower, Number, Operate, Token, token, value_of}
-use Rattle.fip_grammar.specs.Grammar.{Sees, Type', TypeArguments, FurtherTypes, FurtherTypeList, Pattern', PatternFields, FurtherPatterns, Annotation, Bind', FurtherBinds, Binder', tightness, Spelled, Arguments, Fields, Further, Block', Clauses', FurtherClauses, Result', SignatureParameter', FurtherSignatureParameters, SignatureParameters, Static', FurtherStatics, Statics, Parameter', FurtherParameters, Parameters, FurtherTypeNames, TypeNames, FieldTypes, DataConstructor', FurtherConstructors, Spells}
-use Rattle.fip_grammar.specs.Machine.{Binding, onto_types, onto_patterns, onto_expressions, onto_block, onto_clauses, FunctionHead, SignatureHead, ResultOwner, OfSignature, OfFunction, FunctionHeading, FunctionKeyword, FunctionName, FunctionStart, StaticName, StaticStart, SignatureKeyword, SignatureOpen, SignatureFirst, SignatureNext, SignatureColon, ResultStart, StaticEnd, ParametersOpen, ParameterFirst, ParameterNext, ParameterName, ParameterColon, ResultColon, BodyOpen, DataHeading, DataName, DataStart, DataParameter, DataParameterEnd, DataOpen, ConstructorFirst, ConstructorNext, ConstructorStart, ConstructorEnd, Pending, Waiting, Opener, MatchOpener, IfOpener, OpenMatch, Use, ForArguments, ForFields, ForParenthesis, ForBracket, ForTuple, ForClause, ForYes, ForNo, Level, Body, Binds, Alone, Bracketed, BodyPosition, AtBlock, LetStart, BindStart, BindNamed, LetEquals, AtOperand, LowerName, CallOpen, ArgumentFirst, UpperName, Minus, Parenthesis, AtOperator, ClauseNext, Else, ElseOpen, OpenType, TypePosition, TypeWanted, TypeNamed, TypeDone, TypeUse, ForField, ForSignatureParameter, ForParameter, ForResult, ForResultPart, ForAnnotation, ForStaticArgument, OpenPattern, PatternPosition, PatternWanted, PatternMinus, PatternNamed, PatternDone, State, Top, InFunction, InData, InType, InPattern, InBody, Next, Refused, Stays, Declares, with_static, with_parameter, with_signature_parameter, with_signature, with_type_name, with_constructor, bound_of, applied, last_of, function_of}
+use Rattle.fip_grammar.specs.Grammar.{Sees, Type', TypeArguments, FurtherTypes, FurtherTypeList, Pattern', PatternFields, FurtherPatterns, Annotation, Bind', FurtherBinds, Binder', tightness, Spelled, Arguments, Fields, Further, Block', Clauses', FurtherClauses, Result', SignatureParameter', FurtherSignatureParameters, SignatureParameters, Static', FurtherStatics, Statics, Parameter', FurtherParameters, Parameters, Credits, FurtherTypeNames, TypeNames, FieldTypes, DataConstructor', FurtherConstructors, Spells}
+use Rattle.fip_grammar.specs.Machine.{Binding, onto_types, onto_patterns, onto_expressions, onto_block, onto_clauses, FunctionHead, SignatureHead, ResultOwner, OfSignature, OfFunction, FunctionHeading, FunctionKeyword, CreditSize, FunctionName, FunctionStart, StaticName, StaticStart, SignatureKeyword, SignatureOpen, SignatureFirst, SignatureNext, SignatureColon, ResultStart, StaticEnd, ParametersOpen, ParameterFirst, ParameterNext, ParameterName, ParameterColon, ResultColon, BodyOpen, DataHeading, DataName, DataStart, DataParameter, DataParameterEnd, DataOpen, ConstructorFirst, ConstructorNext, ConstructorStart, ConstructorEnd, Pending, Waiting, Opener, MatchOpener, IfOpener, OpenMatch, Use, ForArguments, ForFields, ForParenthesis, ForBracket, ForTuple, ForClause, ForYes, ForNo, Level, Body, Binds, Alone, Bracketed, BodyPosition, AtBlock, LetStart, BindStart, BindNamed, LetEquals, AtOperand, LowerName, CallOpen, ArgumentFirst, UpperName, Minus, Parenthesis, AtOperator, ClauseNext, Else, ElseOpen, OpenType, TypePosition, TypeWanted, TypeNamed, TypeDone, TypeUse, ForField, ForSignatureParameter, ForParameter, ForResult, ForResultPart, ForAnnotation, ForStaticArgument, OpenPattern, PatternPosition, PatternWanted, PatternMinus, PatternNamed, PatternDone, State, Top, InFunction, InData, InType, InPattern, InBody, Next, Refused, Stays, Declares, with_static, with_parameter, with_signature_parameter, with_signature, with_type_name, with_constructor, bound_of, credit, applied, last_of, function_of}
 
 abbrev pub Declared : Declaration → List Token → List Declaration → Type 0
 Declared d ts ds = (more : List Declaration) × (ds ≡ d ∷ more) × Spells ts more
@@ -91,15 +92,22 @@ new_signature n q = record { name = n; place = q; parameters = [] }
 abbrev pub FromStaticStart : FunctionHead → Name → Place → List Token → List Declaration → Type 0
 FromStaticStart h n q ts ds = AfterStatic (with_static h (TypeParameter n q)) ts ds ⊎ ((k : List Token) × Sees S.Colon ts k × SignatureKeywordFrom h (new_signature n q) k ds)
 
-abbrev pub new_head : FunKind → Name → Place → FunctionHead
-new_head k n p = record { kind = k; name = n; place = p; statics = []; parameters = [] }
+abbrev pub new_head : FunKind → List CreditMark → Name → Place → FunctionHead
+new_head k cs n p = record { kind = k; credits = cs; name = n; place = p; statics = []; parameters = [] }
 
-abbrev pub FunctionNameFrom : FunKind → List Token → List Declaration → Type 0
-FunctionNameFrom k ts ds = (n : Name) × (p : Place) × (after : List Token) × (ts ≡ token (Lower n) p ∷ after) × FromStart (new_head k n p) after ds
+abbrev pub FunctionNameFrom : FunKind → List CreditMark → List Token → List Declaration → Type 0
+FunctionNameFrom k cs ts ds = (n : Name) × (p : Place) × (after : List Token) × (ts ≡ token (Lower n) p ∷ after) × FromStart (new_head k cs n p) after ds
+
+abbrev pub FromKeyword : FunKind → List CreditMark → List Token → List Declaration → Type 0
+FromKeyword k cs ts ds = (more : List CreditMark) × (keyword : List Token) × (name : List Token) × Credits ts more keyword × Sees S.Fun keyword name × FunctionNameFrom k (cs ++ more) name ds
+
+abbrev pub FromCreditSize : FunKind → List CreditMark → Place → List Token → List Declaration → Type 0
+FromCreditSize k cs p ts ds = (digits : List ℕ) × (q : Place) × (after : List Token) × (ts ≡ token (Number digits) q ∷ after) × FromKeyword k (cs ++ credit p q digits ∷ []) after ds
 
 abbrev pub InFunctionFrom : FunctionHeading → List Token → List Declaration → Type 0
-InFunctionFrom (FunctionKeyword k) ts ds = (name : List Token) × Sees S.Fun ts name × FunctionNameFrom k name ds
-InFunctionFrom (FunctionName k) ts ds = FunctionNameFrom k ts ds
+InFunctionFrom (FunctionKeyword k cs) ts ds = FromKeyword k cs ts ds
+InFunctionFrom (CreditSize k cs p) ts ds = FromCreditSize k cs p ts ds
+InFunctionFrom (FunctionName k cs) ts ds = FunctionNameFrom k cs ts ds
 InFunctionFrom (FunctionStart h) ts ds = FromStart h ts ds
 InFunctionFrom (StaticName h) ts ds = FromStatic h ts ds
 InFunctionFrom (StaticStart h n q) ts ds = FromStaticStart h n q ts ds

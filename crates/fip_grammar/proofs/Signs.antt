@@ -9,7 +9,7 @@ use Rattle.fip_language.specs.Surface.{Bind, Pattern, ConstructorPattern, NoPatt
 use Rattle.fip_grammar.specs.declared.Sign.{Sign}
 use Rattle.fip_grammar.specs.declared.Sign.TheVariants as S
 use Rattle.fip_grammar.specs.Token.{Word, Lower, Upper, Number, Operate, Mark}
-use Rattle.fip_grammar.specs.Machine.{FunctionHead, SignatureHead, ResultOwner, OfSignature, OfFunction, FunctionHeading, FunctionKeyword, FunctionName, FunctionStart, StaticName, StaticStart, SignatureKeyword, SignatureOpen, SignatureFirst, SignatureNext, SignatureColon, ResultStart, StaticEnd, ParametersOpen, ParameterFirst, ParameterNext, ParameterName, ParameterColon, ResultColon, BodyOpen, DataHeading, DataName, DataStart, DataParameter, DataParameterEnd, DataOpen, ConstructorFirst, ConstructorNext, ConstructorStart, ConstructorEnd, Opener, MatchOpener, IfOpener, OpenMatch, Use, ForArguments, ForFields, ForParenthesis, ForBracket, ForTuple, ForClause, ForYes, ForNo, Level, Body, Binds, Alone, Bracketed, BodyPosition, AtBlock, LetStart, BindStart, BindNamed, LetEquals, AtOperand, LowerName, CallOpen, ArgumentFirst, UpperName, Minus, Parenthesis, AtOperator, ClauseNext, Else, ElseOpen, OpenType, TypePosition, TypeWanted, TypeNamed, TypeDone, TypeUse, ForField, ForSignatureParameter, ForParameter, ForResult, ForResultPart, ForAnnotation, ForStaticArgument, OpenPattern, PatternPosition, PatternWanted, PatternMinus, PatternNamed, PatternDone, State, Top, InFunction, InData, InType, InPattern, InBody, Next, Refused, Stays, Declares, step_top, with_static, with_signature, with_constructor, static_end, body_open, type_wanted, signature_next, parameter_name, parameter_next, step_function, constructor_first, constructor_end, step_data, let_equals, is_empty, refused_where, in_body, end_bind, bind_start, after_one_result, after_tuple_result, after_type, type_done, step_type, operand_start, tightness_of, Tightness, Comparison, Sum, Product, Pending, applied, all_applied, none_waits, onto_block, last_in, enter, compared, after_operator, end_level, end_last, end_bound, end_head, end_expression, after_operand, pattern_wanted, pattern_done, step_pattern, step_body, step}
+use Rattle.fip_grammar.specs.Machine.{FunctionHead, SignatureHead, ResultOwner, OfSignature, OfFunction, FunctionHeading, FunctionKeyword, CreditSize, FunctionName, FunctionStart, StaticName, StaticStart, SignatureKeyword, SignatureOpen, SignatureFirst, SignatureNext, SignatureColon, ResultStart, StaticEnd, ParametersOpen, ParameterFirst, ParameterNext, ParameterName, ParameterColon, ResultColon, BodyOpen, DataHeading, DataName, DataStart, DataParameter, DataParameterEnd, DataOpen, ConstructorFirst, ConstructorNext, ConstructorStart, ConstructorEnd, Opener, MatchOpener, IfOpener, OpenMatch, Use, ForArguments, ForFields, ForParenthesis, ForBracket, ForTuple, ForClause, ForYes, ForNo, Level, Body, Binds, Alone, Bracketed, BodyPosition, AtBlock, LetStart, BindStart, BindNamed, LetEquals, AtOperand, LowerName, CallOpen, ArgumentFirst, UpperName, Minus, Parenthesis, AtOperator, ClauseNext, Else, ElseOpen, OpenType, TypePosition, TypeWanted, TypeNamed, TypeDone, TypeUse, ForField, ForSignatureParameter, ForParameter, ForResult, ForResultPart, ForAnnotation, ForStaticArgument, OpenPattern, PatternPosition, PatternWanted, PatternMinus, PatternNamed, PatternDone, State, Top, InFunction, InData, InType, InPattern, InBody, Next, Refused, Stays, Declares, step_top, with_static, with_signature, with_constructor, static_end, body_open, type_wanted, signature_next, parameter_name, parameter_next, step_function, constructor_first, constructor_end, step_data, let_equals, is_empty, refused_where, in_body, end_bind, bind_start, after_one_result, after_tuple_result, after_type, type_done, step_type, operand_start, tightness_of, Tightness, Comparison, Sum, Product, Pending, applied, all_applied, none_waits, onto_block, last_in, enter, compared, after_operator, end_level, end_last, end_bound, end_head, end_expression, after_operand, pattern_wanted, pattern_done, step_pattern, step_body, step}
 use Rattle.fip_grammar.specs.Limits.{Seen, nothing_seen, behind, is_minus, limit}
 
 -- the literal behind a - that isn't binary comes next
@@ -112,10 +112,13 @@ know_parameter_first b h (Mark S.RoundClose) p = (refl, tt)
 know_parameter_first b h w p = know_parameter_next b h w p
 
 know_function : (b : Seen) (h : FunctionHeading) (w : Word) (p : Place) → Knows b w (step_function h w p)
-know_function b (FunctionKeyword k) (Mark S.Fun) p = (refl, tt)
-know_function b (FunctionKeyword k) _ p = tt
-know_function b (FunctionName k) (Lower n) p = (refl, tt)
-know_function b (FunctionName k) _ p = tt
+know_function b (FunctionKeyword k cs) (Mark S.Fun) p = (refl, tt)
+know_function b (FunctionKeyword k cs) (Operate O.Add) p = (refl, tt)
+know_function b (FunctionKeyword k cs) _ p = tt
+know_function b (CreditSize k cs q) (Number ds) p = (refl, tt)
+know_function b (CreditSize k cs q) _ p = tt
+know_function b (FunctionName k cs) (Lower n) p = (refl, tt)
+know_function b (FunctionName k cs) _ p = tt
 know_function b (FunctionStart h) (Mark S.SquareOpen) p = (refl, tt)
 know_function b (FunctionStart h) (Mark S.RoundOpen) p = (refl, tt)
 know_function b (FunctionStart h) _ p = tt

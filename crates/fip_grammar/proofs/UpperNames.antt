@@ -10,7 +10,7 @@ use Rattle.fip_language.specs.Surface.{Bind, Pattern, ConstructorPattern, NoPatt
 use Rattle.fip_grammar.specs.declared.Sign.{Sign}
 use Rattle.fip_grammar.specs.declared.Sign.TheVariants as S
 use Rattle.fip_grammar.specs.Token.{Token, Word, Lower, Upper, Number, Operate, Mark}
-use Rattle.fip_grammar.specs.Machine.{Machine, start, then_next, machine_step, machine_end, FunctionHead, SignatureHead, ResultOwner, OfSignature, OfFunction, FunctionHeading, FunctionKeyword, FunctionName, FunctionStart, StaticName, StaticStart, SignatureKeyword, SignatureOpen, SignatureFirst, SignatureNext, SignatureColon, ResultStart, StaticEnd, ParametersOpen, ParameterFirst, ParameterNext, ParameterName, ParameterColon, ResultColon, BodyOpen, DataHeading, DataName, DataStart, DataParameter, DataParameterEnd, DataOpen, ConstructorFirst, ConstructorNext, ConstructorStart, ConstructorEnd, Opener, MatchOpener, IfOpener, OpenMatch, Use, ForArguments, ForFields, ForParenthesis, ForBracket, ForTuple, ForClause, ForYes, ForNo, Level, Body, Binds, Alone, Bracketed, BodyPosition, AtBlock, LetStart, BindStart, BindNamed, LetEquals, AtOperand, LowerName, CallOpen, ArgumentFirst, UpperName, Minus, Parenthesis, AtOperator, ClauseNext, Else, ElseOpen, OpenType, TypePosition, TypeWanted, TypeNamed, TypeDone, TypeUse, ForField, ForSignatureParameter, ForParameter, ForResult, ForResultPart, ForAnnotation, ForStaticArgument, OpenPattern, PatternPosition, PatternWanted, PatternMinus, PatternNamed, PatternDone, State, Top, InFunction, InData, InType, InPattern, InBody, Next, Refused, Stays, Declares, step_top, with_static, with_signature, with_constructor, static_end, body_open, type_wanted, signature_next, parameter_name, parameter_next, step_function, constructor_first, constructor_end, step_data, let_equals, is_empty, refused_where, in_body, end_bind, bind_start, after_one_result, after_tuple_result, after_type, type_done, step_type, operand_start, tightness_of, Tightness, Comparison, Sum, Product, Pending, applied, all_applied, none_waits, onto_block, last_in, enter, compared, after_operator, end_level, end_last, end_bound, end_head, end_expression, after_operand, pattern_wanted, pattern_done, step_pattern, step_body, step}
+use Rattle.fip_grammar.specs.Machine.{Machine, start, then_next, machine_step, machine_end, FunctionHead, SignatureHead, ResultOwner, OfSignature, OfFunction, FunctionHeading, FunctionKeyword, CreditSize, FunctionName, FunctionStart, StaticName, StaticStart, SignatureKeyword, SignatureOpen, SignatureFirst, SignatureNext, SignatureColon, ResultStart, StaticEnd, ParametersOpen, ParameterFirst, ParameterNext, ParameterName, ParameterColon, ResultColon, BodyOpen, DataHeading, DataName, DataStart, DataParameter, DataParameterEnd, DataOpen, ConstructorFirst, ConstructorNext, ConstructorStart, ConstructorEnd, Opener, MatchOpener, IfOpener, OpenMatch, Use, ForArguments, ForFields, ForParenthesis, ForBracket, ForTuple, ForClause, ForYes, ForNo, Level, Body, Binds, Alone, Bracketed, BodyPosition, AtBlock, LetStart, BindStart, BindNamed, LetEquals, AtOperand, LowerName, CallOpen, ArgumentFirst, UpperName, Minus, Parenthesis, AtOperator, ClauseNext, Else, ElseOpen, OpenType, TypePosition, TypeWanted, TypeNamed, TypeDone, TypeUse, ForField, ForSignatureParameter, ForParameter, ForResult, ForResultPart, ForAnnotation, ForStaticArgument, OpenPattern, PatternPosition, PatternWanted, PatternMinus, PatternNamed, PatternDone, State, Top, InFunction, InData, InType, InPattern, InBody, Next, Refused, Stays, Declares, step_top, with_static, with_signature, with_constructor, static_end, body_open, type_wanted, signature_next, parameter_name, parameter_next, step_function, constructor_first, constructor_end, step_data, let_equals, is_empty, refused_where, in_body, end_bind, bind_start, after_one_result, after_tuple_result, after_type, type_done, step_type, operand_start, tightness_of, Tightness, Comparison, Sum, Product, Pending, applied, all_applied, none_waits, onto_block, last_in, enter, compared, after_operator, end_level, end_last, end_bound, end_head, end_expression, after_operand, pattern_wanted, pattern_done, step_pattern, step_body, step}
 use Rattle.fip_language.specs.Every.{Every}
 use Rattle.fip_language.specs.Character.{is_upper_name}
 use Rattle.fip_language.specs.CoreForm.{core_form}
@@ -99,10 +99,13 @@ led_parameter_first h (Mark S.RoundClose) p = tt
 led_parameter_first h w p = led_parameter_next h w p
 
 led_function : (h : FunctionHeading) (w : Word) (p : Place) → Led (step_function h w p)
-led_function (FunctionKeyword k) (Mark S.Fun) p = tt
-led_function (FunctionKeyword k) _ p = tt
-led_function (FunctionName k) (Lower n) p = tt
-led_function (FunctionName k) _ p = tt
+led_function (FunctionKeyword k cs) (Mark S.Fun) p = tt
+led_function (FunctionKeyword k cs) (Operate O.Add) p = tt
+led_function (FunctionKeyword k cs) _ p = tt
+led_function (CreditSize k cs q) (Number ds) p = tt
+led_function (CreditSize k cs q) _ p = tt
+led_function (FunctionName k cs) (Lower n) p = tt
+led_function (FunctionName k cs) _ p = tt
 led_function (FunctionStart h) (Mark S.SquareOpen) p = tt
 led_function (FunctionStart h) (Mark S.RoundOpen) p = tt
 led_function (FunctionStart h) _ p = tt

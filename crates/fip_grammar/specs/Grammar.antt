@@ -3,7 +3,7 @@
 --
 --   program = { decl }
 --   decl    = "data" lower [ "[" lower { "," lower } "]" ] "{" ctor { ";" ctor } [ ";" ] "}"
---           | [ "fip" | "fbip" ] "fun" lower [ "[" stat { "," stat } "]" ] "(" [ param { "," param } ] ")" ":" result "{" block "}"
+--           | [ ( "fip" | "fbip" ) { "+" INT } ] "fun" lower [ "[" stat { "," stat } "]" ] "(" [ param { "," param } ] ")" ":" result "{" block "}"
 --   ctor    = Upper [ "(" type { "," type } ")" ]
 --   type    = "int" | lower [ "[" type { "," type } "]" ]
 --   stat    = lower [ ":" "fun" "(" [ mtype { "," mtype } ] ")" ":" result ]
@@ -28,6 +28,7 @@ use Rattle.std.specs.Prelude.{◌≡◌, ℕ, ℤ, pos, neg_ℤ, suc, ◌≤◌,
 use Rattle.fip_language.specs.declared.Place.{Place}
 use Rattle.fip_language.specs.declared.FunKind.{FunKind}
 use Rattle.fip_language.specs.declared.FunKind.TheVariants as K
+use Rattle.fip_language.specs.declared.CreditMark.{CreditMark}
 use Rattle.fip_language.specs.declared.Operator.{Operator}
 use Rattle.fip_language.specs.declared.Operator.TheVariants as O
 use Rattle.fip_language.specs.Core.{Name, Written, WrittenInt, WrittenName, Writtens, NoWritten, MoreWritten, Result, OneResult, TupleResult, SignatureParameter, Static, TypeParameter, FunctionParameter, TypeName, DataConstructor, Data}
@@ -222,17 +223,24 @@ abbrev pub Parameters : List Token → List Parameter → List Token → Type 0
 Parameters ts [] rest = Sees S.RoundClose ts rest
 Parameters ts (p ∷ ps) rest = (after : List Token) × Parameter' ts p after × FurtherParameters after ps rest
 
-abbrev pub Kind' : List Token → FunKind → List Token → Type 0
-Kind' ts K.Fip rest = Sees S.Fip ts rest
-Kind' ts K.Fbip rest = Sees S.Fbip ts rest
-Kind' ts K.Fun rest = ts ≡ rest
+-- marks of credits: a + and a literal each
+abbrev pub Credits : List Token → List CreditMark → List Token → Type 0
+Credits ts [] rest = ts ≡ rest
+Credits ts (c ∷ cs) rest = (size : List Token) × (after : List Token) × (digits : List ℕ) × (ts ≡ token (Operate O.Add) c.place ∷ size) × (size ≡ token (Number digits) c.size_place ∷ after) × (c.size ≡ value_of digits) × Credits after cs rest
+
+-- fip or fbip and then marks of credits, or nothing
+abbrev pub Kind' : List Token → FunKind → List CreditMark → List Token → Type 0
+Kind' ts K.Fip cs rest = (after : List Token) × Sees S.Fip ts after × Credits after cs rest
+Kind' ts K.Fbip cs rest = (after : List Token) × Sees S.Fbip ts after × Credits after cs rest
+Kind' ts K.Fun [] rest = ts ≡ rest
+Kind' ts K.Fun (c ∷ cs) rest = ⊥
 
 -- a function from behind its name on
 abbrev pub FunctionParts : List Token → List Static → List Parameter → Result → Block → List Token → Type 0
 FunctionParts ts ss ps r b rest = (open' : List Token) × (inner : List Token) × (colon : List Token) × (type' : List Token) × (brace : List Token) × (body : List Token) × (close : List Token) × Statics ts ss open' × Sees S.RoundOpen open' inner × Parameters inner ps colon × Sees S.Colon colon type' × Result' type' r brace × Sees S.CurlyOpen brace body × Block' body b close × Sees S.CurlyClose close rest
 
 abbrev pub Function' : List Token → Function → List Token → Type 0
-Function' ts f rest = (keyword : List Token) × (name : List Token) × (after : List Token) × Kind' ts f.kind keyword × Sees S.Fun keyword name × (name ≡ token (Lower f.name) f.place ∷ after) × FunctionParts after f.statics f.parameters f.result f.body rest
+Function' ts f rest = (keyword : List Token) × (name : List Token) × (after : List Token) × Kind' ts f.kind f.credits keyword × Sees S.Fun keyword name × (name ≡ token (Lower f.name) f.place ∷ after) × FunctionParts after f.statics f.parameters f.result f.body rest
 
 abbrev pub FurtherTypeNames : List Token → List TypeName → List Token → Type 0
 FurtherTypeNames ts [] rest = Sees S.SquareClose ts rest

@@ -1,16 +1,17 @@
 -- The grammar as a machine that takes one token after another. A state is what was read so far of the declaration
 -- that is open. What stands in brackets is read on a level of its own; lists of what is open have the innermost first.
-use Rattle.std.specs.Prelude.{pos, neg_ℤ, Bool, true, false, List, [], ◌∷◌, ◌++◌, Option, Some, None}
+use Rattle.std.specs.Prelude.{ℕ, pos, neg_ℤ, Bool, true, false, List, [], ◌∷◌, ◌++◌, Option, Some, None}
 use Rattle.fip_language.specs.declared.Place.{Place}
 use Rattle.fip_language.specs.declared.FunKind.{FunKind}
 use Rattle.fip_language.specs.declared.FunKind.TheVariants as K
+use Rattle.fip_language.specs.declared.CreditMark.{CreditMark}
 use Rattle.fip_language.specs.declared.Operator.{Operator}
 use Rattle.fip_language.specs.declared.Operator.TheVariants as O
 use Rattle.fip_language.specs.Core.{Name, Written, WrittenInt, WrittenName, Writtens, NoWritten, MoreWritten, Result, OneResult, TupleResult, SignatureParameter, Static, TypeParameter, FunctionParameter, TypeName, DataConstructor, Data}
 use Rattle.fip_language.specs.Surface.{Bind, Pattern, Wildcard, VariablePattern, LiteralPattern, ConstructorPattern, Patterns, NoPatterns, MorePatterns, Expression, Variable, Literal, Call, Constructor, Bracket, Tuple, Match, If, Binary, Expressions, NoExpressions, MoreExpressions, Block, Last, Let, Clauses, NoClauses, MoreClauses, Parameter, Function, Declaration, DataDeclaration, FunctionDeclaration, Program}
 use Rattle.fip_grammar.specs.declared.Sign.{Sign}
 use Rattle.fip_grammar.specs.declared.Sign.TheVariants as S
-use Rattle.fip_grammar.specs.Token.{Word, Lower, Upper, Number, Operate, Mark, Token, token, value_of}
+use Rattle.fip_grammar.specs.Token.{Word, Lower, Upper, Number, Operate, Mark, Token, value_of}
 
 -- a let without what follows it
 pub record Binding : Type 0 where
@@ -44,6 +45,7 @@ onto_clauses (c ∷ cs) rest = MoreClauses c.pattern c.body (onto_clauses cs res
 
 pub record FunctionHead : Type 0 where
   pub kind : FunKind
+  pub credits : List CreditMark
   pub name : Name
   pub place : Place
   pub statics : List Static
@@ -60,8 +62,9 @@ pub data ResultOwner : Type 0 where
 
 -- a place in the head of a function, by what comes next
 pub data FunctionHeading : Type 0 where
-  FunctionKeyword : (kind : FunKind) → FunctionHeading
-  FunctionName : (kind : FunKind) → FunctionHeading
+  FunctionKeyword : (kind : FunKind) (credits : List CreditMark) → FunctionHeading
+  CreditSize : (kind : FunKind) (credits : List CreditMark) (plus : Place) → FunctionHeading
+  FunctionName : (kind : FunKind) (credits : List CreditMark) → FunctionHeading
   FunctionStart : (head : FunctionHead) → FunctionHeading
   StaticName : (head : FunctionHead) → FunctionHeading
   StaticStart : (head : FunctionHead) (name : Name) (place : Place) → FunctionHeading
@@ -244,9 +247,9 @@ with_signature h g r = with_static h (FunctionParameter g.name g.place g.paramet
 
 abbrev pub step_top : Word → Place → Next
 step_top (Mark S.Data) p = in_data DataName
-step_top (Mark S.Fip) p = in_function (FunctionKeyword K.Fip)
-step_top (Mark S.Fbip) p = in_function (FunctionKeyword K.Fbip)
-step_top (Mark S.Fun) p = in_function (FunctionName K.Fun)
+step_top (Mark S.Fip) p = in_function (FunctionKeyword K.Fip [])
+step_top (Mark S.Fbip) p = in_function (FunctionKeyword K.Fbip [])
+step_top (Mark S.Fun) p = in_function (FunctionName K.Fun [])
 step_top _ p = Refused
 
 abbrev pub static_end : FunctionHead → Word → Next
@@ -277,11 +280,18 @@ abbrev pub parameter_next : FunctionHead → Word → Place → Next
 parameter_next h (Mark S.Caret) p = in_function (ParameterName h)
 parameter_next h w p = parameter_name h false w p
 
+-- the mark of a credit, whose + and digits stand there
+abbrev pub credit : Place → Place → List ℕ → CreditMark
+credit p q digits = record { place = p; size_place = q; size = value_of digits }
+
 abbrev pub step_function : FunctionHeading → Word → Place → Next
-step_function (FunctionKeyword k) (Mark S.Fun) p = in_function (FunctionName k)
-step_function (FunctionKeyword k) _ p = Refused
-step_function (FunctionName k) (Lower n) p = in_function (FunctionStart (record { kind = k; name = n; place = p; statics = []; parameters = [] }))
-step_function (FunctionName k) _ p = Refused
+step_function (FunctionKeyword k cs) (Mark S.Fun) p = in_function (FunctionName k cs)
+step_function (FunctionKeyword k cs) (Operate O.Add) p = in_function (CreditSize k cs p)
+step_function (FunctionKeyword k cs) _ p = Refused
+step_function (CreditSize k cs q) (Number digits) p = in_function (FunctionKeyword k (cs ++ credit q p digits ∷ []))
+step_function (CreditSize k cs q) _ p = Refused
+step_function (FunctionName k cs) (Lower n) p = in_function (FunctionStart (record { kind = k; credits = cs; name = n; place = p; statics = []; parameters = [] }))
+step_function (FunctionName k cs) _ p = Refused
 step_function (FunctionStart h) (Mark S.SquareOpen) p = in_function (StaticName h)
 step_function (FunctionStart h) (Mark S.RoundOpen) p = in_function (ParameterFirst h)
 step_function (FunctionStart h) _ p = Refused
@@ -521,7 +531,7 @@ end_level b (ForNo q c one) e S.CurlyClose = in_body (AtOperator (If q c one e))
 end_level b (ForNo q c one) e _ = Refused
 
 abbrev pub function_of : FunctionHead → Result → Block → Function
-function_of h r b = record { kind = h.kind; name = h.name; place = h.place; statics = h.statics; parameters = h.parameters; result = r; body = b }
+function_of h r b = record { kind = h.kind; credits = h.credits; name = h.name; place = h.place; statics = h.statics; parameters = h.parameters; result = r; body = b }
 
 abbrev pub end_body : FunctionHead → Result → Block → Sign → Next
 end_body h r b S.CurlyClose = Declares (FunctionDeclaration (function_of h r b))

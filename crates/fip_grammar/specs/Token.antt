@@ -1,5 +1,5 @@
 -- Tokens: a name, a literal by its digits, an operator, or a keyword or other sign, each with its place.
-use Rattle.std.specs.Prelude.{◌≡◌, ℕ, ◌+◌, ◌-◌, ◌*◌, List, [], ◌∷◌}
+use Rattle.std.specs.Prelude.{ℕ, ◌+◌, ◌-◌, ◌*◌, List, [], ◌∷◌}
 use Rattle.fip_language.specs.declared.Place.{Place}
 use Rattle.fip_language.specs.declared.Operator.{Operator}
 use Rattle.fip_grammar.specs.declared.Sign.{Sign}

@@ -34,6 +34,7 @@ no_call_at_all = refl
 abbrev operation_of : Operator → Function
 operation_of o = record {
   kind = Fip;
+  credits = [];
   name = codes "f";
   place = here;
   statics = [];
@@ -87,6 +88,7 @@ plus line a b = Operation O.Add (at line 1) a b
 abbrev inc : Function
 inc = record {
   kind = Fbip;
+  credits = [];
   name = codes "inc";
   place = here;
   statics = [];
@@ -122,6 +124,7 @@ out_comes_before_deep = refl
 abbrev len : Function
 len = record {
   kind = Fip;
+  credits = [];
   name = codes "len";
   place = here;
   statics = [];
@@ -148,6 +151,7 @@ lent_cells_are_held = refl
 abbrev swap : Function
 swap = record {
   kind = Fip;
+  credits = [];
   name = codes "swap";
   place = here;
   statics = [];
@@ -164,6 +168,7 @@ a_tuple_gives_two_values = refl
 abbrev pick : Function
 pick = record {
   kind = Fip;
+  credits = [];
   name = codes "pick";
   place = here;
   statics = [];
@@ -209,6 +214,7 @@ list_of w = named (codes "list") (one_static w)
 abbrev next : Function
 next = record {
   kind = Fip;
+  credits = [];
   name = codes "next";
   place = here;
   statics = [];
@@ -223,6 +229,7 @@ next = record {
 abbrev map : Function
 map = record {
   kind = Fip;
+  credits = [];
   name = codes "map";
   place = here;
   statics = TypeParameter (codes "a") here ∷ TypeParameter (codes "b") here ∷ FunctionParameter (codes "f") here (record { lent = false; type = named (codes "a") NoWritten } ∷ []) (OneResult (named (codes "b") NoWritten)) ∷ [];
@@ -240,6 +247,7 @@ map = record {
 abbrev up : Function
 up = record {
   kind = Fip;
+  credits = [];
   name = codes "up";
   place = here;
   statics = [];

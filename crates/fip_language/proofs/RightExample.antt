@@ -11,7 +11,8 @@ use Rattle.fip_language.specs.LoopForm.{Returns, Calls, LoopClause, Loop, IsLoop
 use Rattle.fip_language.specs.Meaning.{meaning}
 use Rattle.fip_language.specs.Answer.{Request, Finished, Evaluates}
 use Rattle.fip_language.specs.Right.{data_name, constructor_names, parameter_name, nothing_in_scope, field_types, names_of_binders, taken_apart, occurrences_in_ending, clauses_of_number, Narrow, HasValue, AreRightTypes, IsRightClause, HasTypesOf, IsRightLoop, IsRight}
-use Rattle.fip_language.specs.Violations.{of_size, E56, E58, LoopBreaks, NeedsCredit, ClausesDiffer, parameter_scope, clause_scope}
+use Rattle.fip_language.specs.declared.rule.Rule.TheVariants.{E56, E58}
+use Rattle.fip_language.specs.Violations.{of_size, LoopBreaks, NeedsCredit, ClausesDiffer, parameter_scope, clause_scope}
 use Rattle.fip_language.specs.Scoped.{LoopLiteralsFit, IsNumbered, CoreLiteralsFit, IsNumberedCore}
 use Rattle.fip_language.proofs.LoopBody.{IsLoop-unique}
 use Rattle.fip_language.proofs.Words.{distinct_once}
@@ -38,6 +39,7 @@ rev_loop = loop_with one_more
 rev_is_loop : IsLoop rev rev_loop
 rev_is_loop = record {
   fip = refl;
+  no_credits = refl;
   no_statics = refl;
   plain_parameters = (record { owned = refl; plain = tt }, (record { owned = refl; plain = tt }, tt));
   plain_result = tt;

@@ -4,6 +4,7 @@
 use Rattle.std.specs.Prelude.{ℕ, ℤ, Bool, List, Option}
 use Rattle.fip_language.specs.declared.Place.{Place}
 use Rattle.fip_language.specs.declared.FunKind.{FunKind}
+use Rattle.fip_language.specs.declared.CreditMark.{CreditMark}
 use Rattle.fip_language.specs.declared.Operator.{Operator}
 
 -- the bytes of a name
@@ -91,6 +92,8 @@ pub record Parameter : Type 0 where
 
 pub record Function : Type 0 where
   pub kind : FunKind
+  -- the credits that a caller must hold, as they are marked
+  pub credits : List CreditMark
   pub name : Name
   pub place : Place
   pub statics : List Static

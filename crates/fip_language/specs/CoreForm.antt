@@ -288,6 +288,7 @@ function f =
     let ps = parameters 0 f.parameters in
     record {
       kind = f.kind;
+      credits = f.credits;
       name = f.name;
       place = f.place;
       statics = f.statics;

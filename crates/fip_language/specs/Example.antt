@@ -46,6 +46,7 @@ owned n name t = record { lent = false; binder = bound n name; type = t }
 abbrev pub rev : Function
 rev = record {
   kind = Fip;
+  credits = [];
   name = codes "rev";
   place = here;
   statics = [];

@@ -21,6 +21,8 @@ pub mod Every
 pub mod LoopForm
 pub mod Mentions
 pub mod Right
+pub mod RuleText
+pub mod RuleOrder
 pub mod Violations
 pub mod Scoped
 pub mod Stack

@@ -1,6 +1,7 @@
 -- The loop form, the part of the language that runs so far: data types without parameters and at most one function, a
--- fip one without static parameters, with owned parameters and one result, whose body is one match! on a variable. Its
--- clauses have a constructor with binders for its fields, and end in an argument or in a call:
+-- fip one without credits in its header and without static parameters, with owned parameters and one result, whose body
+-- is one match! on a variable. Its clauses have a constructor with binders for its fields, and end in an argument or in a
+-- call:
 -- fip fun rev(xs: ints, acc: ints): ints { match! xs { Nil -> acc; Cons(x, t) -> rev(t, Cons(x, acc)) } }
 -- No type is written with arguments.
 use Rattle.std.specs.Prelude.{◌≡◌, ℕ, true, false, List, [], ◌∷◌, Option}
@@ -68,6 +69,7 @@ pub record IsPlainData (d : Data) : Type 0 where
 -- this function is that loop
 pub record IsLoop (f : Function) (l : Loop) : Type 0 where
   pub fip : f.kind ≡ Fip
+  pub no_credits : f.credits ≡ []
   pub no_statics : f.statics ≡ []
   pub plain_parameters : Every IsPlainParameter f.parameters
   pub plain_result : OnePlain f.result

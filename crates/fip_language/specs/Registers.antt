@@ -1,7 +1,8 @@
--- The registers of a function: one for each parameter, each binder, and each constructor and literal that stands in its
--- body, in patterns and in expressions. A frame has two words more.
+-- The registers of a function: one for each parameter, each credit of its header, each binder, and each constructor and
+-- literal that stands in its body, in patterns and in expressions. A frame has two words more.
 -- rev(xs, acc) { match! xs { Nil -> acc; Cons(x, t) -> rev(t, Cons(x, acc)) } } has 2 parameters, 2 binders and 3
--- constructors, so 7 registers, and its frame has 9 words.
+-- constructors, so 7 registers, and its frame has 9 words. fip +2 fun push(x, xs) { Cons(x, xs) } has 2 parameters, a
+-- credit and a constructor, so 4 registers.
 use Rattle.std.specs.Prelude.{ℕ, suc, ◌+◌, length}
 use Rattle.fip_language.specs.Core.{Argument, Variable, Literal, Constructor, Arguments, NoArguments, MoreArguments, Pattern, BinderPattern, LiteralPattern, ConstructorPattern, Patterns, NoPatterns, MorePatterns, Expression, Give, Tuple, Operation, Call, Match, Nested, Block, Last, Let, Clauses, NoClauses, MoreClauses, Function}
 
@@ -43,7 +44,7 @@ abbrev mutual
   registers_of_clauses (MoreClauses pattern body rest) = registers_of_pattern pattern + (registers_of_block body + registers_of_clauses rest)
 
 abbrev pub registers : Function → ℕ
-registers f = length f.parameters + registers_of_block f.body
+registers f = length f.parameters + (length f.credits + registers_of_block f.body)
 
 abbrev pub frame_words : Function → ℕ
 frame_words f = registers f + 2

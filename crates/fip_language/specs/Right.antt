@@ -1,7 +1,7 @@
 -- Which programs of the loop form are right: none of the rules E10 to E60 is violated. Each fact has the rules that it
 -- keeps beside it. The rules that aren't named can't be violated in the loop form: it has no types with parameters, no
--- static parameters, no lent parameter, no let, no tuple and no call outside tail position, and one function alone, a fip
--- one.
+-- static parameters, no credits in a header, no lent parameter, no let, no tuple and no call outside tail position, and
+-- one function alone, a fip one.
 use Rattle.std.specs.Prelude.{◌≡◌, ℕ, suc, ◌+◌, ◌<◌, ◌≤◌, ◌⊎◌, Bool, true, false, List, [], ◌∷◌, map, length, Option, Some, None, is_some, ◌==◌, if◌then◌else◌, codes}
 use Rattle.fip_language.specs.Values.{Value, one_of_size}
 use Rattle.fip_language.specs.Table.{Shape, Table, constructors, is_scalar, HasType}

@@ -6,6 +6,7 @@
 use Rattle.std.specs.Prelude.{ℤ, Bool, List, Option}
 use Rattle.fip_language.specs.declared.Place.{Place}
 use Rattle.fip_language.specs.declared.FunKind.{FunKind}
+use Rattle.fip_language.specs.declared.CreditMark.{CreditMark}
 use Rattle.fip_language.specs.declared.Operator.{Operator}
 use Rattle.fip_language.specs.Core.{Name, Written, Writtens, Result, Static, Data}
 
@@ -68,6 +69,8 @@ pub record Parameter : Type 0 where
 -- The place of a function is its name's.
 pub record Function : Type 0 where
   pub kind : FunKind
+  -- the credits that a caller must hold, as they are marked
+  pub credits : List CreditMark
   pub name : Name
   pub place : Place
   pub statics : List Static

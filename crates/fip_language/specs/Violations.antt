@@ -5,6 +5,9 @@
 -- first in the text. The second x is no violation, as x is scalar.
 use Rattle.std.specs.Prelude.{◌≡◌, ◌≢◌, ◌⊎◌, ℕ, suc, ◌-◌, ◌<◌, ◌≤◌, max, false, List, [], ◌∷◌, ◌++◌, map, length, Option, Some, None, slice_get, codes, if◌then◌else◌}
 use Rattle.fip_language.specs.declared.Place.{Place}
+use Rattle.fip_language.specs.declared.rule.Rule.{Rule}
+use Rattle.fip_language.specs.declared.rule.Rule.TheVariants.{E10, E11, E13, E14, E15, E20, E21, E30, E31, E33, E40, E41, E42, E43, E50, E52, E56, E57, E58, E60}
+use Rattle.fip_language.specs.RuleOrder.{number, phase}
 use Rattle.fip_language.specs.Values.{one_of_size}
 use Rattle.fip_language.specs.Table.{Shape, constructors, is_scalar}
 use Rattle.fip_language.specs.Core.{Name, Binder, Argument, Variable, Literal, Constructor, Arguments, NoArguments, MoreArguments, Parameter, Function, DataConstructor, Data, Core}
@@ -14,28 +17,6 @@ use Rattle.fip_language.specs.Mentions.{Mention, mention, all_of, types_in_heade
 use Rattle.fip_language.specs.Registers.{registers}
 use Rattle.fip_language.specs.LoopForm.{Ending, Returns, Calls, LoopClause, Loop, IsLoop}
 use Rattle.fip_language.specs.Right.{HasValue, Scope, nothing_in_scope, parameters_in_scope, binders_in_scope, field_types, parameter_types, result_type, binder_type, arguments_count, needed_by_ending, is_blank, pattern_nodes, clauses_of_number, HasTypesOf}
-
-pub data Rule : Type 0 where
-  E10 : Rule
-  E11 : Rule
-  E13 : Rule
-  E14 : Rule
-  E15 : Rule
-  E20 : Rule
-  E21 : Rule
-  E30 : Rule
-  E31 : Rule
-  E33 : Rule
-  E40 : Rule
-  E41 : Rule
-  E42 : Rule
-  E43 : Rule
-  E50 : Rule
-  E52 : Rule
-  E56 : Rule
-  E57 : Rule
-  E58 : Rule
-  E60 : Rule
 
 -- a rule, where it is broken, the size of the cells that it speaks of (else 0), and what it names
 pub record Violation : Type 0 where
@@ -274,51 +255,6 @@ abbrev pub Violates : Core → Violation → Type 0
 Violates core v = TypesBreak core v ⊎ ((f : Function) × (l : Loop) × Among f core.functions × IsLoop f l × LoopBreaks core f l v)
 
 -- ---- the report
-
--- the phases, in which a program is checked
-abbrev pub phase : Rule → ℕ
-phase E10 = 1
-phase E11 = 1
-phase E13 = 1
-phase E14 = 1
-phase E15 = 1
-phase E20 = 2
-phase E21 = 2
-phase E30 = 3
-phase E31 = 3
-phase E33 = 3
-phase E42 = 4
-phase E43 = 4
-phase E40 = 5
-phase E41 = 5
-phase E50 = 6
-phase E52 = 6
-phase E56 = 7
-phase E57 = 7
-phase E58 = 7
-phase E60 = 8
-
-abbrev pub number : Rule → ℕ
-number E10 = 10
-number E11 = 11
-number E13 = 13
-number E14 = 14
-number E15 = 15
-number E20 = 20
-number E21 = 21
-number E30 = 30
-number E31 = 31
-number E33 = 33
-number E40 = 40
-number E41 = 41
-number E42 = 42
-number E43 = 43
-number E50 = 50
-number E52 = 52
-number E56 = 56
-number E57 = 57
-number E58 = 58
-number E60 = 60
 
 -- lexicographically smaller
 abbrev pub Smaller : List ℕ → List ℕ → Type 0

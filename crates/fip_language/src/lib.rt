@@ -2,6 +2,9 @@
 #![tactic(auto)]
 
 pub mod laws;
+mod rule;
+
+pub use rule::Rule;
 
 /// A place in a source: line and column, both from 1, the column in bytes; and the offset in bytes from 0.
 #[derive(Clone, Copy, Debug, PartialEq, Eq)]
@@ -9,6 +12,15 @@ pub struct Place {
     pub line: usize,
     pub col: usize,
     pub at: usize,
+}
+
+/// A mark in the header of a function, `+` and a size: its caller must hold a credit of that size. The first place is
+/// that of the `+`, the other that of the digits.
+#[derive(Clone, Copy, Debug, PartialEq, Eq)]
+pub struct CreditMark {
+    pub place: Place,
+    pub size_place: Place,
+    pub size: u64,
 }
 
 /// What a function promises: to work in the cells that it is given, to make none and free some, or nothing.

@@ -1,12 +1,3 @@
-pub mod Puts
-pub mod Trees
-pub mod Files
-pub mod Transfer
-pub mod Rows
-pub mod Runs
-pub mod Starts
-pub mod Gauges
-pub mod Loops
-pub mod Measures
-pub mod Steady
-pub mod Held
+pub mod Stacked
+pub mod Living
+pub mod Fitting

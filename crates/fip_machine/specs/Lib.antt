@@ -1,6 +1,5 @@
-pub mod Separation
-pub mod Room
-pub mod View
-pub mod Running
-pub mod GaugeView
-pub mod MachineView
+pub mod Bounding
+pub mod Placed
+pub mod Live
+pub mod Keeping
+pub mod Tasks

@@ -1,18 +1,14 @@
 // The gauge of a run.
-ghost use Rattle.std.specs.Prelude.{◌≡◌, ℕ, ◌<◌, ◌≤◌, Bool, false, List, [], ◌∷◌, ◌++◌, slice_index_or};
-ghost use Rattle.cell_store.specs.Count.{count_live};
-ghost use Rattle.cell_code.specs.CellMachine.{State, frames_held, words_held};
-ghost use Rattle.fip_machine.specs.GaugeView.{Numbers, Tells, lowered, raised};
+ghost use Rattle.std.specs.Prelude.{◌≡◌, ◌<◌, ◌≤◌};
 
-use cell_store::{Cells, Sealed};
-use std::marker::Model;
+use cell_store::Cells;
 
-// A number for each size from 0 to 16.
-const SIZES: usize = 17;
+/// The sizes of cells.
+pub const SIZES: usize = 16;
 
 /// The lowest and the highest number of held cells of each size, and the most frames and words, over the states that
 /// were seen. All are 0 before a state was seen.
-#[derive(Drop)]
+#[derive(Clone, Copy, Debug, PartialEq, Eq)]
 pub struct Gauge {
     seen: bool,
     lowest: [u64; SIZES],
@@ -21,39 +17,9 @@ pub struct Gauge {
     words: usize,
 }
 
-impl Model for Gauge {
-    ghost Value = { Numbers };
-
-    ghost view = { λ g. record { seen = g.seen; lowest = g.lowest; highest = g.highest; frames = g.frames; words = g.words } };
-}
-
-fn lower(seen: bool, old: u64, new: u64) -> u64
-    ensures number { result ≡ lowered seen old new }
-{
-    if seen && old < new { old } else { new }
-}
-
-fn lower_all(seen: bool, lowest: &mut [u64; SIZES], cells: &Sealed)
-    ensures lowered { (k : ℕ) → k ≤ 16 → slice_index_or lowest.new k 0 ≡ lowered seen (slice_index_or lowest.old k 0) (count_live k cells.now.cells cells.now.released) }
-{
-    for k in 0..SIZES {
-        lowest[k] = lower(seen, lowest[k], cells.count(k) as u64);
-    }
-}
-
-fn raise_all(highest: &mut [u64; SIZES], cells: &Sealed)
-    ensures raised { (k : ℕ) → k ≤ 16 → slice_index_or highest.new k 0 ≡ raised (slice_index_or highest.old k 0) (count_live k cells.now.cells cells.now.released) }
-{
-    for k in 0..SIZES {
-        highest[k] = highest[k].max(cells.count(k) as u64);
-    }
-}
-
 impl Gauge {
     /// A gauge that has seen no state.
-    pub fn new() -> Gauge
-        ensures none { Tells result [] }
-    {
+    pub fn new() -> Gauge {
         Gauge {
             seen: false,
             lowest: [0; SIZES],
@@ -63,43 +29,54 @@ impl Gauge {
         }
     }
 
-    /// The lowest number of held cells of size `k`, which is at most 16.
+    /// The lowest number of held cells of size `k`, from 1 to 16.
     pub fn lowest(&self, k: usize) -> u64
-        requires { k ≤ 16 }
-        ensures lowest { result ≡ slice_index_or self.now.lowest k 0 }
+        requires some { 1 ≤ k }
+        requires few { k ≤ 16 }
     {
-        self.lowest[k]
+        self.lowest[k - 1]
     }
 
-    /// The highest number of held cells of size `k`, which is at most 16.
+    /// The highest number of held cells of size `k`, from 1 to 16.
     pub fn highest(&self, k: usize) -> u64
-        requires { k ≤ 16 }
-        ensures highest { result ≡ slice_index_or self.now.highest k 0 }
+        requires some { 1 ≤ k }
+        requires few { k ≤ 16 }
     {
-        self.highest[k]
+        self.highest[k - 1]
     }
 
     /// The most frames beside the running one.
-    pub fn frames(&self) -> usize
-        ensures frames { result ≡ self.now.frames }
-    {
+    pub fn frames(&self) -> usize {
         self.frames
     }
 
     /// The most words of all frames.
-    pub fn words(&self) -> usize
-        ensures words { result ≡ self.now.words }
-    {
+    pub fn words(&self) -> usize {
         self.words
     }
 
-    pub(crate) fn see(&mut self, cells: &Sealed, frames: usize, words: usize)
-        ensures tells { (ss : List State) (s : State) → s.cells ≡ cells.now.cells → s.released ≡ cells.now.released → frames_held s ≡ frames → words_held s ≡ words → Tells self.old ss → Tells self.new (ss ++ s ∷ []) }
-    {
-        lower_all(self.seen, &mut self.lowest, cells);
-        raise_all(&mut self.highest, cells);
+    /// Takes in a state: the numbers of held cells of the sizes from 1 to 16, the frames beside the running one, and the
+    /// words of all frames.
+    pub fn see(&mut self, held: &[u64; SIZES], frames: usize, words: usize) {
+        for k in 0..SIZES {
+            self.lowest[k] = if self.seen {
+                self.lowest[k].min(held[k])
+            } else {
+                held[k]
+            };
+            self.highest[k] = self.highest[k].max(held[k]);
+        }
         self.frames = self.frames.max(frames);
         self.words = self.words.max(words);
         self.seen = true;
     }
+}
+
+/// The numbers of cells of the sizes from 1 to 16 that are not released.
+pub fn held<C: Cells>(cells: &C) -> [u64; SIZES] {
+    let mut held = [0; SIZES];
+    for k in 0..SIZES {
+        held[k] = cells.count(k + 1) as u64;
+    }
+    held
 }

@@ -1,11 +1,18 @@
-// The machine that runs code on the cells of a sealed store, in place.
+// The machine: the instructions of a verified code over a sealed store. All frames of a run lie in one list of words, and a
+// step takes no memory.
 #![tactic(auto)]
 
-mod engine;
+mod arithmetic;
+mod cursor;
+mod frame;
 mod gauge;
 mod machine;
-mod room;
+mod named;
+mod release;
+mod rows;
+mod stack;
 
-pub use engine::Stepped;
 pub use gauge::Gauge;
 pub use machine::{Ended, Machine};
+pub use rows::Stepped;
+pub use stack::TaskStack;

@@ -1,8 +1,8 @@
 -- What the parser's loop comes to: the machine that a reading stands for, and how a token stops it.
 use Rattle.std.specs.Prelude.{◌≡◌, ◌⊎◌, ◌≤◌, ℕ, zero, suc, Bool, true, List, [], map, Option, Some, None}
 use Rattle.fip_language.specs.declared.Place.{Place}
-use Rattle.fip_base.specs.declared.refusal.Rule.{Rule}
-use Rattle.fip_base.specs.declared.refusal.Rule.TheVariants as R
+use Rattle.fip_language.specs.declared.rule.Rule.{Rule}
+use Rattle.fip_language.specs.declared.rule.Rule.TheVariants as R
 use Rattle.fip_base.specs.declared.refusal.Refusal.{Refusal}
 use Rattle.fip_base.specs.declared.surface.Declaration.{Declaration}
 use Rattle.fip_base.specs.SurfaceView.{declaration}

@@ -28,7 +28,7 @@ pub fn step(alloc: Global, state: State, token: Token) -> Result<Next, AllocErro
     ensures next { Follows (view.negated state) token.entry result (machine.step (view.state state)) }
 {
     match state {
-        State::Top => step_top(token),
+        State::Top => step_top(alloc, token),
         State::Function { heading } => step_function(alloc, heading, token),
         State::Data { heading } => step_data(alloc, heading, token),
         State::Typing {
@@ -47,19 +47,22 @@ pub fn step(alloc: Global, state: State, token: Token) -> Result<Next, AllocErro
 }
 
 // Between two declarations.
-fn step_top(token: Token) -> Result<Next, AllocError>
+fn step_top(alloc: Global, token: Token) -> Result<Next, AllocError>
     ensures next { Follows false token.entry result (machine.step_top) }
 {
     match token.word {
         Word::Sign(Sign::Data) => stays_in_data(DataHeading::DataName),
         Word::Sign(Sign::Fip) => stays_in_function(FunctionHeading::FunctionKeyword {
             kind: FunKind::Fip,
+            credits: Vec::new(alloc),
         }),
         Word::Sign(Sign::Fbip) => stays_in_function(FunctionHeading::FunctionKeyword {
             kind: FunKind::Fbip,
+            credits: Vec::new(alloc),
         }),
         Word::Sign(Sign::Fun) => stays_in_function(FunctionHeading::FunctionName {
             kind: FunKind::Fun,
+            credits: Vec::new(alloc),
         }),
         _ => Ok(Next::Refused),
     }

@@ -7,6 +7,7 @@ use Rattle.fip_language.specs.Values.{one_of_size}
 use Rattle.fip_language.specs.Core.{Binder, Function, Core}
 use Rattle.fip_language.specs.Declarations.{Declared, constructor_of, table_of}
 use Rattle.fip_language.specs.Every.{Every, Once}
+use Rattle.fip_language.specs.declared.CreditMark.{CreditMark}
 use Rattle.fip_language.specs.LoopForm.{Ending, Returns, Calls, LoopClause, Loop, ending_expression, binder_patterns, loop_clauses, IsLoop}
 use Rattle.fip_language.specs.Registers.{registers_of_expression, registers_of_block, registers_of_clauses, registers}
 use Rattle.fip_language.specs.Right.{Scope, nothing_in_scope, parameters_in_scope, binders_in_scope, field_types, parameter_types, result_type, names_of_binders, IsRightClause, one_if_number, clauses_of_number, pattern_nodes, UsedOnce}
@@ -109,7 +110,9 @@ registers_are (c ∷ cs) =
 
 pub loop_registers : (f : Function) (l : Loop) → IsLoop f l → registers f ≡ length f.parameters + case_registers (cases_of (loop_clauses l.clauses))
 loop_registers f l loop =
-    ap (λ b. length f.parameters + registers_of_block b) loop.body
+    ap (λ (cs : List CreditMark). length f.parameters + (length cs + registers_of_block f.body)) loop.no_credits
+    ∙ ap (λ n. length f.parameters + n) (zero-add (registers_of_block f.body))
+    ∙ ap (λ b. length f.parameters + registers_of_block b) loop.body
     ∙ ap (λ n. length f.parameters + n) (zero-add (registers_of_clauses (loop_clauses l.clauses)) ∙ registers_are l.clauses)
 
 abbrev pub RightOnes : Core → Function → Loop → ℕ → List LoopClause → Type 0

@@ -40,8 +40,9 @@ header_right : (core : Core) (f : Function) (l : Loop) (t : ℕ) → IsLoop f l 
 header_right core f l t loop right numbered =
     let s = every_split (KnownType core) (types_in_parameters f.parameters) (types_in_result f.result) right.types_known in
     and_from _ _ (ap is_fip loop.fip)
+    (and_from _ _ (ap is_empty loop.no_credits)
     (and_from _ _ (ap is_empty loop.no_statics)
-    (and_from _ _ (known_result core f.result loop.plain_result s.1) (right_ones core 0 f.parameters loop.plain_parameters s.0 numbered)))
+    (and_from _ _ (known_result core f.result loop.plain_result s.1) (right_ones core 0 f.parameters loop.plain_parameters s.0 numbered))))
 
 parameters_stand : (core : Core) (f : Function) → ParametersFrom 0 f.parameters → Stand (parameters_in_scope core nothing_in_scope f.parameters) 0 (parameter_types core f)
 parameters_stand core f numbered i t e =

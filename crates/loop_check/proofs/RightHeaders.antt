@@ -56,6 +56,7 @@ numbers_mapped names (p ∷ ps) = ap (λ l. written_number names p.type ∷ l) (
 -- What a right header says.
 pub record IsRightHeader (core : Core) (f : Function) : Type 0 where
   pub fip : f.kind ≡ Fip
+  pub no_credits : f.credits ≡ []
   pub no_statics : f.statics ≡ []
   pub plain_parameters : Every IsPlainParameter f.parameters
   pub plain_result : OnePlain f.result
@@ -83,15 +84,17 @@ module _ (core : Core) (k : Known) (known : IsKnown k core.types) (f : Function)
 
   pub header_right : right_header k.types f ≡ true → IsRightHeader core f
   header_right h =
-      let q0 = and_parts (is_fip f.kind) (is_empty f.statics && (right_result k.types f.result && right_parameters k.types 0 f.parameters)) h in
-      let q1 = and_parts (is_empty f.statics) (right_result k.types f.result && right_parameters k.types 0 f.parameters) q0.1 in
-      let q2 = and_parts (right_result k.types f.result) (right_parameters k.types 0 f.parameters) q1.1 in
-      let ps = parameters_right k.types 0 f.parameters q2.1 in
+      let q0 = and_parts (is_fip f.kind) (is_empty f.credits && (is_empty f.statics && (right_result k.types f.result && right_parameters k.types 0 f.parameters))) h in
+      let q1 = and_parts (is_empty f.credits) (is_empty f.statics && (right_result k.types f.result && right_parameters k.types 0 f.parameters)) q0.1 in
+      let q2 = and_parts (is_empty f.statics) (right_result k.types f.result && right_parameters k.types 0 f.parameters) q1.1 in
+      let q3 = and_parts (right_result k.types f.result) (right_parameters k.types 0 f.parameters) q2.1 in
+      let ps = parameters_right k.types 0 f.parameters q3.1 in
       record {
         fip = fip_is f.kind q0.0;
-        no_statics = none_in f.statics q1.0;
+        no_credits = none_in f.credits q1.0;
+        no_statics = none_in f.statics q2.0;
         plain_parameters = parameters_plain k.types f.parameters ps;
-        plain_result = result_plain k.types f.result q2.0;
-        numbered = parameters_numbered k.types 0 f.parameters q2.1;
-        types_known = every_append (KnownType core) (types_in_parameters f.parameters) (types_in_result f.result) (parameters_known f.parameters ps) (result_known f.result q2.0);
+        plain_result = result_plain k.types f.result q3.0;
+        numbered = parameters_numbered k.types 0 f.parameters q3.1;
+        types_known = every_append (KnownType core) (types_in_parameters f.parameters) (types_in_result f.result) (parameters_known f.parameters ps) (result_known f.result q3.0);
       }

@@ -7,6 +7,7 @@ use Rattle.std.proofs.lemmas.Option.{slice_get_within}
 use Rattle.fip_language.specs.Core.{Binder, Function, Core, Block, ConstructorPattern}
 use Rattle.fip_language.specs.Declarations.{constructor_of, table_of}
 use Rattle.fip_language.specs.Every.{Every}
+use Rattle.fip_language.specs.declared.CreditMark.{CreditMark}
 use Rattle.fip_language.specs.LoopForm.{Ending, Returns, Calls, LoopClause, Loop, IsLoop, binder_patterns, ending_expression, loop_clauses}
 use Rattle.fip_language.specs.Mentions.{Mention, constructors_in_pattern, constructors_in_patterns, constructors_in_expression, constructors_in_clauses, constructors_in_block}
 use Rattle.fip_language.specs.Registers.{registers, registers_of_block, registers_of_clauses}
@@ -105,7 +106,7 @@ module _ (core : Core) (k : Known) (known : IsKnown k core.types) (f : Function)
   written = body.loop
 
   pub is_loop : IsLoop f written
-  is_loop = record { fip = header.fip; no_statics = header.no_statics; plain_parameters = header.plain_parameters; plain_result = header.plain_result; body = body.is }
+  is_loop = record { fip = header.fip; no_credits = header.no_credits; no_statics = header.no_statics; plain_parameters = header.plain_parameters; plain_result = header.plain_result; body = body.is }
 
   pub taken_type : binder_type (parameters_in_scope core nothing_in_scope f.parameters) written.scrutinee ≡ Some p.type
   taken_type =
@@ -126,8 +127,9 @@ module _ (core : Core) (k : Known) (known : IsKnown k core.types) (f : Function)
   same_registers =
       let cases : case_registers (p.found).cases ≡ registers_of_clauses (loop_clauses written.clauses) = ap case_registers body.cases ∙ clauses_registers written.clauses in
       let block : registers_of_block f.body ≡ 0 + registers_of_clauses (loop_clauses written.clauses) = ap registers_of_block body.is in
+      let none : length f.credits ≡ 0 = ap (λ (cs : List CreditMark). length cs) header.no_credits in
       let long = same_length in
-      omega (arith, cases, block, long)
+      omega (arith, cases, block, none, long)
 
   pub few_registers : registers f ≤ 4096
   few_registers = subst (λ n. n ≤ 4096) same_registers fits.registers

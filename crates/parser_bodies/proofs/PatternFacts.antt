@@ -19,6 +19,9 @@ pattern_constructor x p ps = ap pattern (sym (V.rolls-Constructor x p ps)) ∙ f
 pub pattern_variable : (x : Vec ℕ Global) (n : List ℕ) (p : Place) → x.items ≡ n → pattern (V.Variable x p) ≡ S.VariablePattern n p
 pattern_variable x n p e = ap pattern (sym (V.rolls-Variable x p)) ∙ fold-roll-Pattern S.Pattern pattern_step (P.Variable x p) ∙ ap (λ y. S.VariablePattern y p) e
 
+pub pattern_wildcard : (p : Place) → pattern (V.Wildcard p) ≡ S.Wildcard p
+pattern_wildcard p = ap pattern (sym (V.rolls-Wildcard p)) ∙ fold-roll-Pattern S.Pattern pattern_step (P.Wildcard p)
+
 pub pattern_literal : (i j : ℤ) (p : Place) → i ≡ j → pattern (V.Literal i p) ≡ S.LiteralPattern j p
 pattern_literal i j p e = ap pattern (sym (V.rolls-Literal i p)) ∙ fold-roll-Pattern S.Pattern pattern_step (P.Literal i p) ∙ ap (λ k. S.LiteralPattern k p) e
 

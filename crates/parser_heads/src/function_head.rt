@@ -8,22 +8,62 @@ ghost use Rattle.parser_state.specs.StateView.{Follows};
 use fip_base::surface::Static;
 use fip_grammar::Sign;
 use fip_grammar::token::{Token, Word};
-use fip_language::{FunKind, Place};
+use fip_language::{CreditMark, FunKind, Operator, Place};
+use parser_state::literal::magnitude;
 use parser_state::moves::{body_open, static_end, stays_in_function, type_wanted, wants_type};
 use parser_state::state::{FunctionHead, FunctionHeading, Next, ResultOwner, Signature, TypeUse};
 use std::alloc::{AllocError, Global};
 
-fn function_keyword(kind: FunKind, token: Token) -> Result<Next, AllocError>
-    ensures next { Follows false token.entry result (machine.step_function (machine.FunctionKeyword kind)) }
+fn function_keyword(
+    kind: FunKind,
+    credits: Vec<CreditMark>,
+    token: Token,
+) -> Result<Next, AllocError>
+    ensures next { Follows false token.entry result (machine.step_function (machine.FunctionKeyword kind credits.items)) }
 {
     match token.word {
-        Word::Sign(Sign::Fun) => stays_in_function(FunctionHeading::FunctionName { kind }),
+        Word::Sign(Sign::Fun) => stays_in_function(FunctionHeading::FunctionName { kind, credits }),
+        Word::Operator(Operator::Add) => stays_in_function(FunctionHeading::CreditSize {
+            kind,
+            credits,
+            plus: token.place,
+        }),
         _ => Ok(Next::Refused),
     }
 }
 
-fn function_name(alloc: Global, kind: FunKind, token: Token) -> Result<Next, AllocError>
-    ensures next { Follows false token.entry result (machine.step_function (machine.FunctionName kind)) }
+fn credit_size(
+    kind: FunKind,
+    credits: Vec<CreditMark>,
+    plus: Place,
+    token: Token,
+) -> Result<Next, AllocError>
+    ensures next { Follows false token.entry result (machine.step_function (machine.CreditSize kind credits.items plus)) }
+{
+    match token.word {
+        Word::Int(digits) => match magnitude(digits) {
+            Some(size) => {
+                let mut credits = credits;
+                credits.push(CreditMark {
+                    place: plus,
+                    size_place: token.place,
+                    size,
+                })?;
+                stays_in_function(FunctionHeading::FunctionKeyword { kind, credits })
+            }
+            None => Ok(Next::TooLarge),
+        },
+        _ => Ok(Next::Refused),
+    }
+}
+
+fn function_name(
+    alloc: Global,
+    kind: FunKind,
+    credits: Vec<CreditMark>,
+    token: Token,
+) -> Result<Next, AllocError>
+    ensures next { Follows false token.entry result (machine.step_function (machine.FunctionName kind credits.items)) }
 {
     match token.word {
         Word::Lower(text) => {
@@ -31,6 +71,7 @@ fn function_name(alloc: Global, kind: FunKind, token: Token) -> Result<Next, All
             stays_in_function(FunctionHeading::FunctionStart {
                 head: FunctionHead {
                     kind,
+                    credits,
                     name,
                     place: token.place,
                     statics: Vec::new(alloc),
@@ -291,8 +332,17 @@ pub fn step_function(
     ensures next { Follows false token.entry result (machine.step_function (view.function_heading heading)) }
 {
     match heading {
-        FunctionHeading::FunctionKeyword { kind } => function_keyword(kind, token),
-        FunctionHeading::FunctionName { kind } => function_name(alloc, kind, token),
+        FunctionHeading::FunctionKeyword { kind, credits } => function_keyword(
+            kind, credits, token,
+        ),
+        FunctionHeading::CreditSize {
+            kind,
+            credits,
+            plus,
+        } => credit_size(kind, credits, plus, token),
+        FunctionHeading::FunctionName { kind, credits } => function_name(
+            alloc, kind, credits, token,
+        ),
         FunctionHeading::FunctionStart { head } => function_start(head, token),
         FunctionHeading::StaticName { head } => static_name(alloc, head, token),
         FunctionHeading::StaticStart { head, name, place } => static_start(

@@ -104,6 +104,7 @@ fn end_body(
         Sign::CurlyClose => {
             let FunctionHead {
                 kind,
+                credits,
                 name,
                 place,
                 statics,
@@ -111,6 +112,7 @@ fn end_body(
             } = head;
             let function = Function {
                 kind,
+                credits,
                 name,
                 place,
                 statics,

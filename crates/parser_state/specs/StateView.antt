@@ -78,6 +78,7 @@ abbrev pub function_head : FunctionHead → M.FunctionHead
 function_head h =
     record {
       kind = h.kind;
+      credits = h.credits.items;
       name = h.name.items;
       place = h.place;
       statics = map static h.statics.items;
@@ -92,8 +93,9 @@ result_owner (R.Signature h g) = M.OfSignature (function_head h) (signature g)
 result_owner (R.Function h) = M.OfFunction (function_head h)
 
 abbrev pub function_heading : FunctionHeading → M.FunctionHeading
-function_heading (F.FunctionKeyword k) = M.FunctionKeyword k
-function_heading (F.FunctionName k) = M.FunctionName k
+function_heading (F.FunctionKeyword k cs) = M.FunctionKeyword k cs.items
+function_heading (F.CreditSize k cs p) = M.CreditSize k cs.items p
+function_heading (F.FunctionName k cs) = M.FunctionName k cs.items
 function_heading (F.FunctionStart h) = M.FunctionStart (function_head h)
 function_heading (F.StaticName h) = M.StaticName (function_head h)
 function_heading (F.StaticStart h n p) = M.StaticStart (function_head h) n.items p

@@ -4,7 +4,7 @@ use fip_base::surface::{
     Bind, Block, Clause, DataConstructor, Declaration, Expression, Let, Parameter, Pattern,
     ResultType, SignatureParameter, Static, Step, TypeName, Written,
 };
-use fip_language::{FunKind, Operator, Place};
+use fip_language::{CreditMark, FunKind, Operator, Place};
 
 /// The head of a data type, and its constructors so far.
 #[derive(Drop)]
@@ -19,6 +19,7 @@ pub struct DataHead {
 #[derive(Drop)]
 pub struct FunctionHead {
     pub kind: FunKind,
+    pub credits: Vec<CreditMark>,
     pub name: Vec<u8>,
     pub place: Place,
     pub statics: Vec<Static>,
@@ -48,13 +49,21 @@ pub enum ResultOwner {
 /// A place in the head of a function, by what comes next.
 #[derive(Drop)]
 pub enum FunctionHeading {
-    /// `fun`, behind `fip` or `fbip`.
+    /// `fun` or `+`, behind `fip`, `fbip` or a credit.
     FunctionKeyword {
         kind: FunKind,
+        credits: Vec<CreditMark>,
+    },
+    /// A credit's size, behind `+`.
+    CreditSize {
+        kind: FunKind,
+        credits: Vec<CreditMark>,
+        plus: Place,
     },
     /// A function's name.
     FunctionName {
         kind: FunKind,
+        credits: Vec<CreditMark>,
     },
     /// `[` or `(`, behind a function's name.
     FunctionStart {

@@ -1,5 +1,5 @@
 use Rattle.std.proofs.Common.{◌∙◌, ap}
-use Rattle.value_text.specs.Loaded.{types_of}
+use Rattle.loop_text.specs.Loaded.{types_of}
 use Rattle.loop_form.specs.View.{loop_of}
 use Rattle.fip_driver.proofs.Ready.{ready_of}
 use Rattle.fip_driver.proofs.run.loaded.Goals as goal

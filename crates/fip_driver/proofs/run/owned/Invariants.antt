@@ -1,5 +1,5 @@
 use Rattle.std.proofs.Common.{◌≡◌, ◌++◌, drop}
-use Rattle.value_text.specs.Loaded.{types_of}
+use Rattle.loop_text.specs.Loaded.{types_of}
 use Rattle.fip_driver.proofs.run.owned.Given as goal
 
 abbrev pub invariant-loop-ty : goal.invariant-loop-ty

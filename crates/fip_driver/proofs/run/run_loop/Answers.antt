@@ -2,8 +2,8 @@ use Rattle.std.proofs.Common.{refl, sym, subst}
 use Rattle.std.specs.Prelude.{Err}
 use Rattle.fip_language.specs.Store.{word_of}
 use Rattle.loop_form.specs.View.{loop_of}
-use Rattle.cell_code.specs.View.{code_of}
-use Rattle.fip_machine.specs.declared.machine.Ended.TheVariants as E
+use Rattle.loop_code.specs.View.{code_of}
+use Rattle.loop_machine.specs.declared.machine.Ended.TheVariants as E
 use Rattle.fip_driver.proofs.Outcome.{given, code_types, code_works, code_stands, started, outcome}
 use Rattle.fip_driver.proofs.Finished.{plain_text, gauged_text, first_is, some_word, result_stands, run_gave, run_out, run_kept}
 use Rattle.fip_driver.specs.LoopRun.{IsLoopRun}

@@ -1,0 +1,139 @@
+// Instructions, functions and codes.
+ghost use Rattle.std.specs.Prelude.{◌<◌, length};
+
+use crate::kind::Label;
+use crate::registers::Registers;
+use fip_base::plain::{FunKind, Name, Operator, Params, Types};
+use fip_base::table::TypeTable;
+
+/// An instruction. Registers, functions, instructions, constructors and fields are numbered from 0, types from 1 (0 is
+/// int). A frame has a word for each register. A target is the number of an instruction of the same function, greater
+/// than that of the instruction itself. A word of a data type is `2c` for constructor `c` without fields, and `2p + 1`
+/// for the cell at place `p`.
+#[derive(Drop)]
+pub enum Instr {
+    /// The destination gets an int.
+    Const {
+        destination: u16,
+        value: i64,
+    },
+    /// The destination gets a constructor without fields.
+    Atom {
+        destination: u16,
+        ty: u32,
+        constructor: u32,
+    },
+    /// The destination gets the word of the source.
+    Move {
+        destination: u16,
+        source: u16,
+    },
+    /// The destination gets the operator's result, or the run traps at the line and column (both from 1, in bytes).
+    Arith {
+        destination: u16,
+        operator: Operator,
+        left: u16,
+        right: u16,
+        line: u32,
+        col: u32,
+    },
+    /// Goes to the target where the register's constructor isn't this one.
+    Test {
+        register: u16,
+        constructor: u32,
+        target: u32,
+    },
+    /// Goes to the target where the register isn't this int.
+    TestInt {
+        register: u16,
+        value: i64,
+        target: u32,
+    },
+    /// The destination gets a field of the register's cell.
+    Peek {
+        destination: u16,
+        register: u16,
+        field: u8,
+    },
+    /// The field registers get the fields of the register's cell; the register keeps the cell as a credit.
+    Take {
+        register: u16,
+        fields: Registers,
+    },
+    /// The cell of the register, a credit, gets the constructor and the words of the field registers.
+    Put {
+        register: u16,
+        ty: u32,
+        constructor: u32,
+        fields: Registers,
+    },
+    /// All cells of the register's tree are released.
+    Drop {
+        register: u16,
+    },
+    /// The register's cell, a credit, is released.
+    Free {
+        register: u16,
+    },
+    /// A new frame, for the function, with these arguments and credits; on its return the destinations get the results.
+    Call {
+        function: u32,
+        arguments: Registers,
+        destinations: Registers,
+    },
+    /// The frame is replaced by one of the function, with these arguments and credits.
+    Tail {
+        function: u32,
+        arguments: Registers,
+    },
+    /// The function gives the words of these registers.
+    Ret {
+        results: Registers,
+    },
+    /// Goes to the target.
+    Jump {
+        target: u32,
+    },
+}
+
+/// A function: its kind (fip or fbip), its name (empty where it is no entry), parameters, the sizes of the credits that a
+/// caller hands over, results' types, the number of its registers (the parameters' and the credits' first), its
+/// instructions, and labels in rising order.
+#[derive(Drop)]
+pub struct Function {
+    pub kind: FunKind,
+    pub name: Name,
+    pub params: Params,
+    pub credits: Vec<u8>,
+    pub results: Types,
+    pub registers: u16,
+    pub instrs: Vec<Instr>,
+    pub labels: Vec<Label>,
+}
+
+/// A code: types, and functions that call one another by number.
+#[derive(Drop)]
+pub struct Code {
+    pub types: TypeTable,
+    pub functions: Vec<Function>,
+}
+
+/// The number of registers of function `f`.
+pub fn code_registers(code: &Code, f: usize) -> usize
+    requires there { f < length code.now.functions.items }
+{
+    code.functions[f].registers as usize
+}
+
+/// The number of the first function with this name; none where no function has it. The empty name names none.
+pub fn named(code: &Code, name: &[u8]) -> Option<usize> {
+    if name.is_empty() {
+        return None;
+    }
+    for (f, function) in code.functions.iter().enumerate() {
+        if function.name.as_slice() == name {
+            return Some(f);
+        }
+    }
+    None
+}

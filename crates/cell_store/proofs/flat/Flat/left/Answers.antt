@@ -1,0 +1,7 @@
+use Rattle.std.proofs.Common.{arith}
+use Rattle.cell_store.proofs.Parsed.{length_parse}
+use Rattle.cell_store.proofs.flat.Flat.left.Goals as goal
+
+pub returns-clause-few : goal.returns-clause-few
+returns-clause-few c =
+    rw (← c.self.view_is) (let l = length_parse 0 c.self.inside.words.items in let f = c.self.invariant.few in omega (arith, l, f))

@@ -1,0 +1,3 @@
+mod OptionValues
+mod Alone
+mod Understood

@@ -1,0 +1,15 @@
+// What a program declares, or the least violation of the rules on declarations: E10 to E15, and E63.
+#![tactic(auto)]
+
+mod bits;
+mod bodies;
+mod declared;
+mod headers;
+mod marking;
+mod names;
+mod order;
+mod types;
+mod valued;
+mod written;
+
+pub use declared::declare;

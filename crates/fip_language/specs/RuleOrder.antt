@@ -1,0 +1,109 @@
+-- The order of the rules. A program is checked phase by phase, and a phase has violations only where the earlier ones
+-- have none; within a phase the violations are ordered by place, and at one place by the numbers of their rules.
+use Rattle.std.specs.Prelude.{ℕ}
+use Rattle.fip_language.specs.declared.rule.Rule.{Rule}
+use Rattle.fip_language.specs.declared.rule.Rule.TheVariants as R
+
+-- the number in a rule's name
+abbrev pub number : Rule → ℕ
+number R.E01 = 1
+number R.E02 = 2
+number R.E03 = 3
+number R.E04 = 4
+number R.E05 = 5
+number R.E09 = 9
+number R.E10 = 10
+number R.E11 = 11
+number R.E12 = 12
+number R.E13 = 13
+number R.E14 = 14
+number R.E15 = 15
+number R.E20 = 20
+number R.E21 = 21
+number R.E22 = 22
+number R.E23 = 23
+number R.E30 = 30
+number R.E31 = 31
+number R.E32 = 32
+number R.E33 = 33
+number R.E34 = 34
+number R.E40 = 40
+number R.E41 = 41
+number R.E42 = 42
+number R.E43 = 43
+number R.E50 = 50
+number R.E51 = 51
+number R.E52 = 52
+number R.E53 = 53
+number R.E54 = 54
+number R.E55 = 55
+number R.E56 = 56
+number R.E57 = 57
+number R.E58 = 58
+number R.E59 = 59
+number R.E60 = 60
+number R.E61 = 61
+number R.E62 = 62
+number R.E63 = 63
+number R.E70 = 70
+number R.E71 = 71
+number R.E72 = 72
+number R.E73 = 73
+number R.E74 = 74
+number R.E75 = 75
+
+-- the phase in which a rule is asked, from 1
+abbrev pub phase : Rule → ℕ
+-- the source's length
+phase R.E05 = 1
+-- its bytes
+phase R.E01 = 2
+-- its tokens
+phase R.E02 = 3
+phase R.E03 = 3
+phase R.E04 = 3
+-- forms that don't run yet
+phase R.E09 = 4
+-- declarations
+phase R.E10 = 5
+phase R.E11 = 5
+phase R.E12 = 5
+phase R.E13 = 5
+phase R.E14 = 5
+phase R.E15 = 5
+phase R.E63 = 5
+-- static parameters
+phase R.E20 = 6
+phase R.E21 = 6
+phase R.E22 = 6
+phase R.E23 = 6
+-- types
+phase R.E30 = 7
+phase R.E31 = 7
+phase R.E32 = 7
+phase R.E33 = 7
+phase R.E34 = 7
+-- patterns
+phase R.E42 = 8
+phase R.E43 = 8
+-- coverage
+phase R.E40 = 9
+phase R.E41 = 9
+-- ownership
+phase R.E50 = 10
+phase R.E51 = 10
+phase R.E52 = 10
+phase R.E53 = 10
+phase R.E54 = 10
+phase R.E55 = 10
+-- credits
+phase R.E56 = 11
+phase R.E57 = 11
+phase R.E58 = 11
+phase R.E62 = 11
+-- calls outside tail position
+phase R.E59 = 12
+-- registers
+phase R.E60 = 13
+-- what is made of a program that breaks none of these: its entry, its code, its proofs and traces
+phase _ = 14

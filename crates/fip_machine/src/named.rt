@@ -1,0 +1,83 @@
+// The cells that words name. In a run of verified code each word names the cell that its register should: these tests, one
+// for each thing that is asked of a cell, never fail there. Where one did fail, the instruction would do nothing.
+ghost use Rattle.std.specs.Prelude.{◌≡◌, ◌≢◌, ℕ, ◌<◌, ◌≤◌, false, None, Some, IfSome, slice_get};
+ghost use Rattle.cell_store.specs.Cells.{cell_at, size_in};
+
+use cell_store::Cells;
+
+/// The place that a word names. A place has at most 24 bits.
+#[inline(always)]
+pub fn place_of(word: u64) -> u32 {
+    (word / 2 % 4_294_967_296) as u32
+}
+
+/// The place of the cell that a word names, where a cell begins there.
+#[inline(always)]
+pub fn cell_of<C: Cells>(cells: &C, word: u64) -> Option<u32>
+    ensures there { IfSome result (λ p. cell_at (C.cells cells.now) p ≢ None) }
+{
+    let place = place_of(word);
+    if cells.begins(place) {
+        Some(place)
+    } else {
+        None
+    }
+}
+
+/// The place of the cell that a word names, where it has so many fields.
+#[inline(always)]
+pub fn sized_cell_of<C: Cells>(cells: &C, word: u64, size: usize) -> Option<u32>
+    ensures there { IfSome result (λ p. cell_at (C.cells cells.now) p ≢ None) }
+    ensures size { IfSome result (λ p. size_in (cell_at (C.cells cells.now) p) ≡ size) }
+{
+    let place = cell_of(cells, word)?;
+    if cells.cell_size(place) == size {
+        Some(place)
+    } else {
+        None
+    }
+}
+
+/// The place of the cell that a word names, where it has a field of this number.
+#[inline(always)]
+pub fn field_cell_of<C: Cells>(cells: &C, word: u64, field: usize) -> Option<u32>
+    ensures field { IfSome result (λ p. field < size_in (cell_at (C.cells cells.now) p)) }
+{
+    let place = cell_of(cells, word)?;
+    if field < cells.cell_size(place) {
+        Some(place)
+    } else {
+        None
+    }
+}
+
+/// The place, where a cell begins there that isn't released.
+#[inline(always)]
+pub fn live_cell_at<C: Cells>(cells: &C, place: u32) -> Option<u32>
+    ensures there { IfSome result (λ p. cell_at (C.cells cells.now) p ≢ None) }
+    ensures live { IfSome result (λ p. slice_get (C.released cells.now) p ≡ Some false) }
+{
+    if cells.begins(place) && !cells.is_released(place) {
+        Some(place)
+    } else {
+        None
+    }
+}
+
+/// The place of the cell that a word names, where it isn't released.
+pub fn live_cell_of<C: Cells>(cells: &C, word: u64) -> Option<u32>
+    ensures there { IfSome result (λ p. cell_at (C.cells cells.now) p ≢ None) }
+    ensures live { IfSome result (λ p. slice_get (C.released cells.now) p ≡ Some false) }
+{
+    live_cell_at(cells, place_of(word))
+}
+
+/// The number of the constructor of the value that a word stands for: of a cell, or without fields.
+#[inline(always)]
+pub fn constructor_of<C: Cells>(cells: &C, word: u64) -> Option<u64> {
+    if word & 1 == 0 {
+        return Some(word / 2);
+    }
+    let place = cell_of(cells, word)?;
+    Some(u64::from(cells.cell_tag(place)))
+}

@@ -1,0 +1,795 @@
+// One function for each instruction, each inlined into `act`, and `act` into the loop of a run. What an instruction asks of
+// registers, targets, functions and room holds of a verified code, and isn't tested; what it asks of cells is tested in
+// `named`.
+ghost use Rattle.std.specs.Prelude.{◌≡◌, ◌≢◌, ℕ, ◌+◌, ◌-◌, ◌*◌, ◌<◌, ◌≤◌, ◌^◌, length, vec_len, Some, IfSome, slice_get};
+ghost use Rattle.cell_code.specs.Runnable.{AreBelow, CanCall, Covers, Row, IsSafe, IsRunnable, body_of};
+ghost use Rattle.fip_machine.specs.Bounding.{AreAtMost, Fits};
+ghost use Rattle.fip_machine.specs.Keeping.{Keeps};
+ghost use Rattle.fip_machine.specs.Placed.{IsPlaced, IsRoomy, Waiting, body_at, weight};
+
+use crate::arithmetic::result_of;
+use crate::cursor::{Bounds, Cursor};
+use crate::frame::{clear, give, pass, put, replace, take};
+use crate::gauge::SIZES;
+use crate::named::{constructor_of, field_cell_of, sized_cell_of};
+use crate::release::{release_cell, release_tree};
+use cell_code::{Function, Instr};
+use cell_store::Cells;
+use code_verify::Verified;
+use fip_base::plain::{Operator, TrapKind};
+
+/// What a step came to.
+#[derive(Clone, Copy, Debug, PartialEq, Eq)]
+pub enum Stepped {
+    /// An instruction that isn't a call was done.
+    Went,
+    /// A Call or Tail was done.
+    Entered,
+    /// The entry gave its results.
+    Value,
+    /// An operator has no value; its line and column count from 1, the column in bytes.
+    Trap {
+        kind: TrapKind,
+        line: usize,
+        col: usize,
+    },
+    /// A Call found no free frame.
+    Deep,
+}
+
+/// What a task has beside the words of its frames: room for the arguments of a tail call, the entry's results and how many
+/// they are, and how many cells of each size it released.
+#[derive(Drop)]
+pub struct Beside {
+    pub spare: Vec<u64>,
+    pub results: [u64; 8],
+    pub given: usize,
+    pub freed: [usize; SIZES],
+    ghost few: { given ≤ 8 },
+}
+
+/// The function with this number.
+#[inline(always)]
+pub fn function_at<'a>(verified: &'a Verified, f: usize) -> &'a Function
+    requires there { f < length verified.now.code.functions.items }
+    ensures is { slice_get verified.now.code.functions.items f ≡ Some result.now }
+    ensures runnable { IsRunnable verified.now.code.functions.items verified.now.stacks }
+{
+    &verified.code().functions[f]
+}
+
+// On to an instruction of the same function.
+#[inline(always)]
+fn go_to(verified: &Verified, bounds: Bounds, words: &[u64], cursor: &mut Cursor, target: usize)
+    requires placed { IsPlaced verified.now bounds (length words.now) cursor.old }
+    requires roomy { IsRoomy bounds (length words.now) cursor.old }
+    requires waiting { Waiting verified.now bounds words.now cursor.old.frames cursor.old.base }
+    requires forward { cursor.old.at < target }
+    requires safe { IsSafe (body_at verified.now cursor.old) target }
+    ensures placed { IsPlaced verified.now bounds (length words.now) cursor.new }
+    ensures roomy { IsRoomy bounds (length words.now) cursor.new }
+    ensures waiting { Waiting verified.now bounds words.now cursor.new.frames cursor.new.base }
+    ensures less { weight cursor.new < weight cursor.old }
+{
+    cursor.at = target;
+}
+
+// A register gets a word.
+#[inline(always)]
+fn write(
+    verified: &Verified,
+    bounds: Bounds,
+    words: &mut [u64],
+    cursor: &mut Cursor,
+    register: u16,
+    word: u64,
+) -> Stepped
+    requires placed { IsPlaced verified.now bounds (length words.old) cursor.old }
+    requires roomy { IsRoomy bounds (length words.old) cursor.old }
+    requires waiting { Waiting verified.now bounds words.old cursor.old.frames cursor.old.base }
+    requires below { register < cursor.old.registers }
+    requires next { IsSafe (body_at verified.now cursor.old) (cursor.old.at + 1) }
+    ensures placed { IsPlaced verified.now bounds (length words.new) cursor.new }
+    ensures roomy { IsRoomy bounds (length words.new) cursor.new }
+    ensures waiting { Waiting verified.now bounds words.new cursor.new.frames cursor.new.base }
+    ensures less { weight cursor.new < weight cursor.old }
+    ensures went { result ≡ Stepped.Went }
+{
+    words[cursor.base + register as usize] = word;
+    let next = cursor.at + 1;
+    go_to(verified, bounds, words, cursor, next);
+    Stepped::Went
+}
+
+// Goes on to the next instruction, or to the target.
+#[inline(always)]
+fn branch(
+    verified: &Verified,
+    bounds: Bounds,
+    words: &[u64],
+    cursor: &mut Cursor,
+    on: bool,
+    target: u32,
+) -> Stepped
+    requires placed { IsPlaced verified.now bounds (length words.now) cursor.old }
+    requires roomy { IsRoomy bounds (length words.now) cursor.old }
+    requires waiting { Waiting verified.now bounds words.now cursor.old.frames cursor.old.base }
+    requires next { IsSafe (body_at verified.now cursor.old) (cursor.old.at + 1) }
+    requires forward { cursor.old.at < target }
+    requires ahead { IsSafe (body_at verified.now cursor.old) target }
+    ensures placed { IsPlaced verified.now bounds (length words.now) cursor.new }
+    ensures roomy { IsRoomy bounds (length words.now) cursor.new }
+    ensures waiting { Waiting verified.now bounds words.now cursor.new.frames cursor.new.base }
+    ensures less { weight cursor.new < weight cursor.old }
+    ensures went { result ≡ Stepped.Went }
+{
+    if on {
+        let next = cursor.at + 1;
+        go_to(verified, bounds, words, cursor, next);
+    } else {
+        go_to(verified, bounds, words, cursor, target as usize);
+    }
+    Stepped::Went
+}
+
+// On to the next instruction.
+#[inline(always)]
+fn go_on(verified: &Verified, bounds: Bounds, words: &[u64], cursor: &mut Cursor) -> Stepped
+    requires placed { IsPlaced verified.now bounds (length words.now) cursor.old }
+    requires roomy { IsRoomy bounds (length words.now) cursor.old }
+    requires waiting { Waiting verified.now bounds words.now cursor.old.frames cursor.old.base }
+    requires next { IsSafe (body_at verified.now cursor.old) (cursor.old.at + 1) }
+    ensures placed { IsPlaced verified.now bounds (length words.now) cursor.new }
+    ensures roomy { IsRoomy bounds (length words.now) cursor.new }
+    ensures waiting { Waiting verified.now bounds words.now cursor.new.frames cursor.new.base }
+    ensures less { weight cursor.new < weight cursor.old }
+    ensures went { result ≡ Stepped.Went }
+{
+    let next = cursor.at + 1;
+    go_to(verified, bounds, words, cursor, next);
+    Stepped::Went
+}
+
+// The operands of an operator.
+#[derive(Clone, Copy)]
+struct Operation {
+    operator: Operator,
+    left: u16,
+    right: u16,
+    line: u32,
+    col: u32,
+}
+
+// A register gets an operator's result, or the run traps.
+#[inline(always)]
+fn calculate(
+    verified: &Verified,
+    bounds: Bounds,
+    words: &mut [u64],
+    cursor: &mut Cursor,
+    register: u16,
+    operation: Operation,
+) -> Stepped
+    requires placed { IsPlaced verified.now bounds (length words.old) cursor.old }
+    requires roomy { IsRoomy bounds (length words.old) cursor.old }
+    requires waiting { Waiting verified.now bounds words.old cursor.old.frames cursor.old.base }
+    requires register { register < cursor.old.registers }
+    requires left { operation.left < cursor.old.registers }
+    requires right { operation.right < cursor.old.registers }
+    requires next { IsSafe (body_at verified.now cursor.old) (cursor.old.at + 1) }
+    ensures placed { IsPlaced verified.now bounds (length words.new) cursor.new }
+    ensures roomy { IsRoomy bounds (length words.new) cursor.new }
+    ensures waiting { Waiting verified.now bounds words.new cursor.new.frames cursor.new.base }
+    ensures less { result ≡ Stepped.Went → weight cursor.new < weight cursor.old }
+    ensures entered { result ≢ Stepped.Entered }
+{
+    let left = words[cursor.base + operation.left as usize].cast_signed();
+    let right = words[cursor.base + operation.right as usize].cast_signed();
+    match result_of(operation.operator, left, right) {
+        Ok(word) => write(verified, bounds, words, cursor, register, word),
+        Err(kind) => Stepped::Trap {
+            kind,
+            line: operation.line as usize,
+            col: operation.col as usize,
+        },
+    }
+}
+
+// Goes on where the register has the constructor, else to the target.
+#[inline(always)]
+fn test<C: Cells>(
+    verified: &Verified,
+    bounds: Bounds,
+    cells: &C,
+    words: &[u64],
+    cursor: &mut Cursor,
+    register: u16,
+    constructor: u32,
+    target: u32,
+) -> Stepped
+    requires placed { IsPlaced verified.now bounds (length words.now) cursor.old }
+    requires roomy { IsRoomy bounds (length words.now) cursor.old }
+    requires waiting { Waiting verified.now bounds words.now cursor.old.frames cursor.old.base }
+    requires register { register < cursor.old.registers }
+    requires next { IsSafe (body_at verified.now cursor.old) (cursor.old.at + 1) }
+    requires forward { cursor.old.at < target }
+    requires ahead { IsSafe (body_at verified.now cursor.old) target }
+    ensures placed { IsPlaced verified.now bounds (length words.now) cursor.new }
+    ensures roomy { IsRoomy bounds (length words.now) cursor.new }
+    ensures waiting { Waiting verified.now bounds words.now cursor.new.frames cursor.new.base }
+    ensures less { weight cursor.new < weight cursor.old }
+    ensures went { result ≡ Stepped.Went }
+{
+    let found = constructor_of(cells, words[cursor.base + register as usize]);
+    let on = found == Some(u64::from(constructor));
+    branch(verified, bounds, words, cursor, on, target)
+}
+
+// A register gets a field of the cell of another.
+#[inline(always)]
+fn peek<C: Cells>(
+    verified: &Verified,
+    bounds: Bounds,
+    cells: &C,
+    words: &mut [u64],
+    cursor: &mut Cursor,
+    destination: u16,
+    register: u16,
+    field: u8,
+) -> Stepped
+    requires placed { IsPlaced verified.now bounds (length words.old) cursor.old }
+    requires roomy { IsRoomy bounds (length words.old) cursor.old }
+    requires waiting { Waiting verified.now bounds words.old cursor.old.frames cursor.old.base }
+    requires destination { destination < cursor.old.registers }
+    requires register { register < cursor.old.registers }
+    requires next { IsSafe (body_at verified.now cursor.old) (cursor.old.at + 1) }
+    ensures placed { IsPlaced verified.now bounds (length words.new) cursor.new }
+    ensures roomy { IsRoomy bounds (length words.new) cursor.new }
+    ensures waiting { Waiting verified.now bounds words.new cursor.new.frames cursor.new.base }
+    ensures less { weight cursor.new < weight cursor.old }
+    ensures went { result ≡ Stepped.Went }
+{
+    let field = field as usize;
+    match field_cell_of(cells, words[cursor.base + register as usize], field) {
+        Some(place) => {
+            let word = cells.field(place, field);
+            write(verified, bounds, words, cursor, destination, word)
+        }
+        None => go_on(verified, bounds, words, cursor),
+    }
+}
+
+// Registers of the frame at `base`, which has `own`, get the fields of the register's cell. A constructor without fields has
+// none.
+#[inline(always)]
+fn take_fields<C: Cells>(
+    cells: &C,
+    words: &mut [u64],
+    base: usize,
+    own: usize,
+    register: u16,
+    fields: &[u16],
+)
+    requires room { base + own ≤ length words.old }
+    requires register { register < own }
+    requires fields { AreBelow own fields.now }
+    ensures { Keeps base words.old words.new }
+{
+    if fields.is_empty() {
+        return;
+    }
+    let frame = &mut words[base..base + own];
+    match sized_cell_of(cells, frame[register as usize], fields.len()) {
+        Some(place) => take(cells, frame, place, fields),
+        None => {}
+    }
+}
+
+// Registers get the fields of the register's cell.
+#[inline(always)]
+fn take_cell<C: Cells>(
+    verified: &Verified,
+    bounds: Bounds,
+    cells: &C,
+    words: &mut [u64],
+    cursor: &mut Cursor,
+    register: u16,
+    fields: &[u16],
+) -> Stepped
+    requires placed { IsPlaced verified.now bounds (length words.old) cursor.old }
+    requires roomy { IsRoomy bounds (length words.old) cursor.old }
+    requires waiting { Waiting verified.now bounds words.old cursor.old.frames cursor.old.base }
+    requires register { register < cursor.old.registers }
+    requires fields { AreBelow cursor.old.registers fields.now }
+    requires next { IsSafe (body_at verified.now cursor.old) (cursor.old.at + 1) }
+    ensures placed { IsPlaced verified.now bounds (length words.new) cursor.new }
+    ensures roomy { IsRoomy bounds (length words.new) cursor.new }
+    ensures waiting { Waiting verified.now bounds words.new cursor.new.frames cursor.new.base }
+    ensures less { weight cursor.new < weight cursor.old }
+    ensures went { result ≡ Stepped.Went }
+{
+    take_fields(
+        cells,
+        words,
+        cursor.base,
+        cursor.registers,
+        register,
+        fields,
+    );
+    go_on(verified, bounds, words, cursor)
+}
+
+// The cell of the register gets the constructor and the words of registers.
+#[inline(always)]
+fn put_cell<C: Cells>(
+    verified: &Verified,
+    bounds: Bounds,
+    cells: &mut C,
+    words: &[u64],
+    cursor: &mut Cursor,
+    register: u16,
+    constructor: u32,
+    fields: &[u16],
+) -> Stepped
+    requires placed { IsPlaced verified.now bounds (length words.now) cursor.old }
+    requires roomy { IsRoomy bounds (length words.now) cursor.old }
+    requires waiting { Waiting verified.now bounds words.now cursor.old.frames cursor.old.base }
+    requires register { register < cursor.old.registers }
+    requires fields { AreBelow cursor.old.registers fields.now }
+    requires few { length fields.now ≤ 16 }
+    requires next { IsSafe (body_at verified.now cursor.old) (cursor.old.at + 1) }
+    ensures placed { IsPlaced verified.now bounds (length words.now) cursor.new }
+    ensures roomy { IsRoomy bounds (length words.now) cursor.new }
+    ensures waiting { Waiting verified.now bounds words.now cursor.new.frames cursor.new.base }
+    ensures less { weight cursor.new < weight cursor.old }
+    ensures went { result ≡ Stepped.Went }
+{
+    let frame = &words[cursor.base..cursor.base + cursor.registers];
+    if let Some(place) = sized_cell_of(cells, frame[register as usize], fields.len()) {
+        put(cells, frame, place, constructor, fields);
+    }
+    go_on(verified, bounds, words, cursor)
+}
+
+// At the start of a function, whose frame begins at `base`, with so many frames below it.
+#[inline(always)]
+fn enter<'a>(
+    verified: &'a Verified,
+    bounds: Bounds,
+    words: &[u64],
+    cursor: &mut Cursor<'a>,
+    function: usize,
+    base: usize,
+    frames: usize,
+)
+    requires there { function < length verified.now.code.functions.items }
+    requires most { AreAtMost verified.now bounds.largest }
+    requires frames { frames ≤ bounds.frames }
+    requires fits { Fits verified.now bounds function frames base }
+    requires room { (g : _) → slice_get verified.now.code.functions.items function ≡ Some g → base + g.registers ≤ length words.now }
+    ensures placed { IsPlaced verified.now bounds (length words.now) cursor.new }
+    ensures base { cursor.new.base ≡ base }
+    ensures frames { cursor.new.frames ≡ frames }
+{
+    let callee = function_at(verified, function);
+    cursor.instrs = callee.instrs.as_slice();
+    cursor.registers = callee.registers as usize;
+    cursor.function = function;
+    cursor.at = 0;
+    cursor.base = base;
+    cursor.frames = frames;
+}
+
+// Calls a function: its frame lies behind the running one, which waits, and the two words between them tell where.
+#[inline(always)]
+fn call<'a>(
+    verified: &'a Verified,
+    bounds: Bounds,
+    words: &mut [u64],
+    cursor: &mut Cursor<'a>,
+    function: u32,
+    arguments: &[u16],
+) -> Stepped
+    requires placed { IsPlaced verified.now bounds (length words.old) cursor.old }
+    requires roomy { IsRoomy bounds (length words.old) cursor.old }
+    requires waiting { Waiting verified.now bounds words.old cursor.old.frames cursor.old.base }
+    requires most { AreAtMost verified.now bounds.largest }
+    requires arguments { AreBelow cursor.old.registers arguments.now }
+    requires callee { CanCall verified.now.code.functions.items function (length arguments.now) }
+    requires covers { Covers verified.now.stacks cursor.old.function function (cursor.old.registers + 2) }
+    requires next { IsSafe (body_at verified.now cursor.old) (cursor.old.at + 1) }
+    ensures placed { IsPlaced verified.now bounds (length words.new) cursor.new }
+    ensures waiting { Waiting verified.now bounds words.new cursor.new.frames cursor.new.base }
+    ensures roomy { result ≢ Stepped.Entered → IsRoomy bounds (length words.new) cursor.new }
+    ensures went { result ≢ Stepped.Went }
+    ensures frames { cursor.new.frames ≤ cursor.old.frames + 1 }
+{
+    if cursor.frames >= bounds.frames {
+        return Stepped::Deep;
+    }
+    let registers = function_at(verified, function as usize).registers as usize;
+    let end = cursor.base + cursor.registers;
+    let above = end + 2;
+    words[end] = cursor.function as u64;
+    words[end + 1] = cursor.at as u64;
+    pass(words, cursor.base, cursor.registers, above, arguments);
+    clear(words, above + arguments.len(), above + registers);
+    let frames = cursor.frames + 1;
+    enter(
+        verified,
+        bounds,
+        words,
+        cursor,
+        function as usize,
+        above,
+        frames,
+    );
+    Stepped::Entered
+}
+
+// Calls a function whose frame takes the place of the running one.
+#[inline(always)]
+fn tail<'a>(
+    verified: &'a Verified,
+    bounds: Bounds,
+    words: &mut [u64],
+    spare: &mut [u64],
+    cursor: &mut Cursor<'a>,
+    function: u32,
+    arguments: &[u16],
+) -> Stepped
+    requires placed { IsPlaced verified.now bounds (length words.old) cursor.old }
+    requires roomy { IsRoomy bounds (length words.old) cursor.old }
+    requires waiting { Waiting verified.now bounds words.old cursor.old.frames cursor.old.base }
+    requires most { AreAtMost verified.now bounds.largest }
+    requires arguments { AreBelow cursor.old.registers arguments.now }
+    requires callee { CanCall verified.now.code.functions.items function (length arguments.now) }
+    requires covers { Covers verified.now.stacks cursor.old.function function 0 }
+    requires spare { bounds.largest ≤ length spare.old }
+    ensures placed { IsPlaced verified.now bounds (length words.new) cursor.new }
+    ensures waiting { Waiting verified.now bounds words.new cursor.new.frames cursor.new.base }
+    ensures entered { result ≡ Stepped.Entered }
+    ensures frames { cursor.new.frames ≡ cursor.old.frames }
+{
+    let registers = function_at(verified, function as usize).registers as usize;
+    let base = cursor.base;
+    replace(words, spare, base, cursor.registers, arguments);
+    clear(words, base + arguments.len(), base + registers);
+    let frames = cursor.frames;
+    enter(
+        verified,
+        bounds,
+        words,
+        cursor,
+        function as usize,
+        base,
+        frames,
+    );
+    Stepped::Entered
+}
+
+// A frame that waits: its function, the number of its call, and where it begins.
+#[derive(Clone, Copy)]
+struct Caller<'a> {
+    function: usize,
+    body: &'a Function,
+    at: usize,
+    base: usize,
+}
+
+// The frame that waits directly below the running one.
+#[inline(always)]
+fn caller_of<'a>(
+    verified: &'a Verified,
+    bounds: Bounds,
+    words: &[u64],
+    cursor: &Cursor,
+) -> Caller<'a>
+    requires waiting { Waiting verified.now bounds words.now cursor.now.frames cursor.now.base }
+    requires some { 0 < cursor.now.frames }
+    requires room { cursor.now.base ≤ length words.now }
+    ensures is { slice_get verified.now.code.functions.items result.function ≡ Some result.body.now }
+    ensures runnable { IsRunnable verified.now.code.functions.items verified.now.stacks }
+    ensures within { result.at < length result.body.now.instrs.items }
+    ensures below { (f : _) (ss : _) (ds : _) → slice_get result.body.now.instrs.items result.at ≡ Some (Instr.Call f ss ds) → AreBelow result.body.now.registers ds }
+    ensures next { IsSafe (body_of verified.now.code.functions.items verified.now.stacks result.function result.body.now) (result.at + 1) }
+    ensures base { result.base + (result.body.now.registers + 2) ≡ cursor.now.base }
+    ensures fits { Fits verified.now bounds result.function (cursor.now.frames - 1) result.base }
+    ensures waiting { Waiting verified.now bounds words.now (cursor.now.frames - 1) result.base }
+{
+    let function = words[cursor.base - 2] as usize;
+    let at = words[cursor.base - 1] as usize;
+    let body = function_at(verified, function);
+    Caller {
+        function,
+        body,
+        at,
+        base: cursor.base - 2 - body.registers as usize,
+    }
+}
+
+// The registers that get the results of the call at which a frame waits.
+#[inline(always)]
+fn destinations_of<'a>(caller: Caller<'a>) -> &'a [u16]
+    requires within { caller.at < length caller.body.now.instrs.items }
+    requires below { (f : _) (ss : _) (ds : _) → slice_get caller.body.now.instrs.items caller.at ≡ Some (Instr.Call f ss ds) → AreBelow caller.body.now.registers ds }
+    ensures below { AreBelow caller.entry.body.now.registers result.now }
+{
+    match &caller.body.instrs[caller.at] {
+        Instr::Call { destinations, .. } => destinations.as_slice(),
+        _ => &[],
+    }
+}
+
+// Keeps the results of the entry.
+fn keep_results(beside: &mut Beside, words: &[u64], base: usize, own: usize, results: &[u16])
+    requires own { base + own ≤ length words.now }
+    requires results { AreBelow own results.now }
+    requires few { length results.now ≤ 8 }
+    ensures spare { vec_len beside.new.spare ≡ vec_len beside.old.spare }
+{
+    for (i, register) in results.iter().enumerate() {
+        beside.results[i] = words[base + *register as usize];
+    }
+    beside.given = results.len();
+}
+
+// Back to the frame below, which gets the results. The entry's are kept.
+#[inline(always)]
+fn give_back<'a>(
+    verified: &'a Verified,
+    bounds: Bounds,
+    words: &mut [u64],
+    beside: &mut Beside,
+    cursor: &mut Cursor<'a>,
+    results: &[u16],
+) -> Stepped
+    requires placed { IsPlaced verified.now bounds (length words.old) cursor.old }
+    requires roomy { IsRoomy bounds (length words.old) cursor.old }
+    requires waiting { Waiting verified.now bounds words.old cursor.old.frames cursor.old.base }
+    requires most { AreAtMost verified.now bounds.largest }
+    requires results { AreBelow cursor.old.registers results.now }
+    requires few { length results.now ≤ 8 }
+    ensures placed { IsPlaced verified.now bounds (length words.new) cursor.new }
+    ensures roomy { IsRoomy bounds (length words.new) cursor.new }
+    ensures waiting { Waiting verified.now bounds words.new cursor.new.frames cursor.new.base }
+    ensures less { result ≡ Stepped.Went → weight cursor.new < weight cursor.old }
+    ensures entered { result ≢ Stepped.Entered }
+    ensures spare { vec_len beside.new.spare ≡ vec_len beside.old.spare }
+{
+    if cursor.frames == 0 {
+        keep_results(beside, words, cursor.base, cursor.registers, results);
+        return Stepped::Value;
+    }
+    let caller = caller_of(verified, bounds, words, cursor);
+    let registers = caller.body.registers as usize;
+    give(
+        words,
+        cursor.base,
+        cursor.registers,
+        results,
+        caller.base,
+        registers,
+        destinations_of(caller),
+    );
+    cursor.instrs = caller.body.instrs.as_slice();
+    cursor.registers = registers;
+    cursor.function = caller.function;
+    cursor.at = caller.at + 1;
+    cursor.base = caller.base;
+    cursor.frames -= 1;
+    Stepped::Went
+}
+
+// Releases the tree in a register. Which type it has is known of each Drop that a run reaches.
+#[inline(never)]
+fn drop_tree<C: Cells>(
+    verified: &Verified,
+    cells: &mut C,
+    beside: &mut Beside,
+    cursor: &Cursor,
+    word: u64,
+)
+    ensures spare { vec_len beside.new.spare ≡ vec_len beside.old.spare }
+{
+    if let Some(ty) = verified.drop_type(cursor.function, cursor.at) {
+        release_tree(&verified.code().types, cells, &mut beside.freed, ty, word);
+    }
+}
+
+// Does an instruction.
+#[inline(always)]
+fn act<'a, C: Cells>(
+    verified: &'a Verified,
+    bounds: Bounds,
+    cells: &mut C,
+    words: &mut [u64],
+    beside: &mut Beside,
+    cursor: &mut Cursor<'a>,
+    instr: &'a Instr,
+) -> Stepped
+    requires placed { IsPlaced verified.now bounds (length words.old) cursor.old }
+    requires roomy { IsRoomy bounds (length words.old) cursor.old }
+    requires waiting { Waiting verified.now bounds words.old cursor.old.frames cursor.old.base }
+    requires most { AreAtMost verified.now bounds.largest }
+    requires spare { bounds.largest ≤ vec_len beside.old.spare }
+    requires row { Row (body_at verified.now cursor.old) cursor.old.at (IsSafe (body_at verified.now cursor.old)) instr.now }
+    ensures placed { IsPlaced verified.now bounds (length words.new) cursor.new }
+    ensures roomy { result ≢ Stepped.Entered → IsRoomy bounds (length words.new) cursor.new }
+    ensures waiting { Waiting verified.now bounds words.new cursor.new.frames cursor.new.base }
+    ensures less { result ≡ Stepped.Went → weight cursor.new < weight cursor.old }
+    ensures frames { result ≡ Stepped.Entered → cursor.new.frames ≤ cursor.old.frames + 1 }
+    ensures spare { vec_len beside.new.spare ≡ vec_len beside.old.spare }
+{
+    match instr {
+        Instr::Const { destination, value } => {
+            let word = value.cast_unsigned();
+            write(verified, bounds, words, cursor, *destination, word)
+        }
+        Instr::Atom {
+            destination,
+            constructor,
+            ..
+        } => {
+            let word = 2 * u64::from(*constructor);
+            write(verified, bounds, words, cursor, *destination, word)
+        }
+        Instr::Move {
+            destination,
+            source,
+        } => {
+            let word = words[cursor.base + *source as usize];
+            write(verified, bounds, words, cursor, *destination, word)
+        }
+        Instr::Arith {
+            destination,
+            operator,
+            left,
+            right,
+            line,
+            col,
+        } => {
+            let operation = Operation {
+                operator: *operator,
+                left: *left,
+                right: *right,
+                line: *line,
+                col: *col,
+            };
+            calculate(verified, bounds, words, cursor, *destination, operation)
+        }
+        Instr::Test {
+            register,
+            constructor,
+            target,
+        } => test(
+            verified,
+            bounds,
+            cells,
+            words,
+            cursor,
+            *register,
+            *constructor,
+            *target,
+        ),
+        Instr::TestInt {
+            register,
+            value,
+            target,
+        } => {
+            let on = words[cursor.base + *register as usize] == value.cast_unsigned();
+            branch(verified, bounds, words, cursor, on, *target)
+        }
+        Instr::Peek {
+            destination,
+            register,
+            field,
+        } => peek(
+            verified,
+            bounds,
+            cells,
+            words,
+            cursor,
+            *destination,
+            *register,
+            *field,
+        ),
+        Instr::Take { register, fields } => take_cell(
+            verified,
+            bounds,
+            cells,
+            words,
+            cursor,
+            *register,
+            fields.as_slice(),
+        ),
+        Instr::Put {
+            register,
+            constructor,
+            fields,
+            ..
+        } => put_cell(
+            verified,
+            bounds,
+            cells,
+            words,
+            cursor,
+            *register,
+            *constructor,
+            fields.as_slice(),
+        ),
+        Instr::Drop { register } => {
+            let word = words[cursor.base + *register as usize];
+            drop_tree(verified, cells, beside, cursor, word);
+            go_on(verified, bounds, words, cursor)
+        }
+        Instr::Free { register } => {
+            let word = words[cursor.base + *register as usize];
+            release_cell(cells, &mut beside.freed, word);
+            go_on(verified, bounds, words, cursor)
+        }
+        Instr::Call {
+            function,
+            arguments,
+            ..
+        } => call(
+            verified,
+            bounds,
+            words,
+            cursor,
+            *function,
+            arguments.as_slice(),
+        ),
+        Instr::Tail {
+            function,
+            arguments,
+        } => tail(
+            verified,
+            bounds,
+            words,
+            beside.spare.as_mut_slice(),
+            cursor,
+            *function,
+            arguments.as_slice(),
+        ),
+        Instr::Ret { results } => give_back(
+            verified,
+            bounds,
+            words,
+            beside,
+            cursor,
+            results.as_slice(),
+        ),
+        Instr::Jump { target } => {
+            go_to(verified, bounds, words, cursor, *target as usize);
+            Stepped::Went
+        }
+    }
+}
+
+/// Does the instruction that is next.
+#[inline(always)]
+pub fn advance<'a, C: Cells>(
+    verified: &'a Verified,
+    bounds: Bounds,
+    cells: &mut C,
+    words: &mut [u64],
+    beside: &mut Beside,
+    cursor: &mut Cursor<'a>,
+) -> Stepped
+    requires placed { IsPlaced verified.now bounds (length words.old) cursor.old }
+    requires roomy { IsRoomy bounds (length words.old) cursor.old }
+    requires waiting { Waiting verified.now bounds words.old cursor.old.frames cursor.old.base }
+    requires most { AreAtMost verified.now bounds.largest }
+    requires spare { bounds.largest ≤ vec_len beside.old.spare }
+    ensures placed { IsPlaced verified.now bounds (length words.new) cursor.new }
+    ensures roomy { result ≢ Stepped.Entered → IsRoomy bounds (length words.new) cursor.new }
+    ensures waiting { Waiting verified.now bounds words.new cursor.new.frames cursor.new.base }
+    ensures less { result ≡ Stepped.Went → weight cursor.new < weight cursor.old }
+    ensures frames { result ≡ Stepped.Entered → cursor.new.frames ≤ cursor.old.frames + 1 }
+    ensures spare { vec_len beside.new.spare ≡ vec_len beside.old.spare }
+{
+    let instrs = cursor.instrs;
+    let instr = &instrs[cursor.at];
+    act(verified, bounds, cells, words, beside, cursor, instr)
+}

@@ -1,0 +1,335 @@
+// The frames of a task.
+ghost use Rattle.std.specs.Prelude.{◌≡◌, ◌≢◌, ℕ, ◌+◌, ◌*◌, ◌<◌, ◌≤◌, length, vec_len, IfOk, Some, slice_get};
+ghost use Rattle.std.specs.Vec.{vec_capacity};
+ghost use Rattle.fip_machine.specs.Bounding.{AreAtMost, Fits};
+ghost use Rattle.fip_machine.specs.Keeping.{Keeps};
+ghost use Rattle.fip_machine.specs.Placed.{IsPlaced, IsRoomy, Waiting};
+
+use crate::cursor::{Bounds, Cursor};
+use crate::gauge::SIZES;
+use crate::rows::{Beside, Stepped, advance, function_at};
+use cell_code::Instr;
+use cell_store::Cells;
+use code_verify::Verified;
+use fip_base::plain::NoMemory;
+use std::alloc::Global;
+use std::marker::Model;
+
+/// The frames of a task, which is stepped over any store of cells. All its memory is taken when it starts.
+#[derive(Drop)]
+pub struct TaskStack<'a> {
+    verified: &'a Verified,
+    bounds: Bounds,
+    words: Vec<u64>,
+    beside: Beside,
+    cursor: Cursor<'a>,
+    ended: Option<Stepped>,
+}
+
+impl<'a> Model for TaskStack<'a> {
+    ghost use Rattle.std.specs.Prelude.{ℕ, ◌+◌, vec_len};
+    ghost use Rattle.std.specs.Vec.{vec_capacity};
+    ghost use Rattle.fip_machine.specs.Placed.{weight};
+    ghost use Rattle.fip_machine.specs.Tasks.{Stand, IsTask};
+
+    ghost Value = { Stand };
+
+    ghost view = { λ t. record { frames = t.cursor.frames; words = t.cursor.base + t.cursor.registers + 2; weight = weight t.cursor } };
+
+    ghost invariant = { λ t. IsTask t.verified.now t.bounds t.words.items (vec_capacity t.words) (vec_len t.beside.spare) t.cursor t.ended };
+}
+
+// The words of the greatest frame of any function.
+fn largest_frame(verified: &Verified) -> usize
+    ensures most { AreAtMost verified.now result }
+    ensures few { result < 100000 }
+{
+    let mut largest = 2;
+    for function in &verified.code().functions {
+        largest = largest.max(function.registers as usize + 2);
+    }
+    largest
+}
+
+// The words that the frames of a run may have: what a fip entry needs, or room for as many of the greatest frames as may be
+// held.
+fn bounds_of(verified: &Verified, entry: usize, frames: usize) -> Bounds
+    requires frames { frames ≤ 1000000 }
+    ensures most { AreAtMost verified.now result.largest }
+    ensures frames { result.frames ≡ frames }
+    ensures fits { Fits verified.now result entry 0 0 }
+    ensures few { result.largest < 100000 }
+{
+    let largest = largest_frame(verified);
+    let words = match verified.code_stack(entry) {
+        Some(stack) => stack.words,
+        None => (frames + 1) * largest,
+    };
+    Bounds {
+        frames,
+        words,
+        largest,
+    }
+}
+
+// The words of a first frame, whose first registers get the words that are given. The memory of all frames is taken.
+fn taken(words: Vec<u64>, bounds: Bounds, registers: usize) -> Result<Vec<u64>, NoMemory>
+    requires own { registers + 2 ≤ bounds.words }
+    requires largest { registers + 2 ≤ bounds.largest }
+    requires few { bounds.largest < 100000 }
+    ensures room { IfOk result (λ v. registers ≤ length v.items) }
+    ensures taken { IfOk result (λ v. bounds.words ≤ vec_capacity v) }
+{
+    let mut stack = words;
+    stack.truncate(registers);
+    stack.reserve_exact(bounds.words)?;
+    stack.resize(bounds.words.min(4 * bounds.largest), 0)?;
+    Ok(stack)
+}
+
+// Lets the words reach as far as a call may need, within the memory that was taken.
+#[inline(always)]
+fn make_room(words: &mut Vec<u64>, bounds: Bounds, cursor: &Cursor)
+    requires taken { bounds.words ≤ vec_capacity words.old }
+    requires room { cursor.now.base + cursor.now.registers ≤ vec_len words.old }
+    requires few { bounds.largest < 100000 }
+    requires small { cursor.now.registers ≤ 4096 }
+    ensures roomy { IsRoomy bounds (length words.new.items) cursor.now }
+    ensures keeps { Keeps (length words.old.items) words.old.items words.new.items }
+    ensures more { length words.old.items ≤ length words.new.items }
+    ensures taken { vec_capacity words.old ≤ vec_capacity words.new }
+{
+    let least = cursor.base + cursor.registers + 2 + bounds.largest;
+    let len = words.len();
+    if len < bounds.words && len < least {
+        let wanted = least.max(len.saturating_add(len));
+        words.resize(bounds.words.min(wanted), 0).unwrap();
+    }
+}
+
+/// The most frames and words that were seen.
+#[derive(Clone, Copy)]
+pub struct Highest {
+    pub frames: usize,
+    pub words: usize,
+}
+
+// Why a run paused.
+#[derive(Clone, Copy)]
+enum Pause {
+    // The words must reach further.
+    Short,
+    // No call is left.
+    Spent,
+    // The run is over.
+    Over(Stepped),
+}
+
+// Runs until the words must reach further, no call is left, or the run is over. The parts of a task are in variables here,
+// so that the cursor, the calls that are left and the highest numbers are registers of the processor.
+#[inline(always)]
+fn burst<'a, C: Cells>(
+    verified: &'a Verified,
+    bounds: Bounds,
+    cells: &mut C,
+    words: &mut [u64],
+    beside: &mut Beside,
+    cursor: &mut Cursor<'a>,
+    left: &mut u64,
+    highest: &mut Highest,
+) -> Pause
+    requires placed { IsPlaced verified.now bounds (length words.old) cursor.old }
+    requires roomy { IsRoomy bounds (length words.old) cursor.old }
+    requires waiting { Waiting verified.now bounds words.old cursor.old.frames cursor.old.base }
+    requires most { AreAtMost verified.now bounds.largest }
+    requires few { bounds.largest < 100000 }
+    requires spare { bounds.largest ≤ vec_len beside.old.spare }
+    requires some { 0 < left.old }
+    ensures placed { IsPlaced verified.now bounds (length words.new) cursor.new }
+    ensures waiting { Waiting verified.now bounds words.new cursor.new.frames cursor.new.base }
+    ensures spare { vec_len beside.new.spare ≡ vec_len beside.old.spare }
+    ensures short { result ≡ Pause.Short → left.new < left.old }
+    ensures spent { result ≡ Pause.Spent → left.new ≡ 0 }
+    ensures over { (s : _) → result ≡ Pause.Over s → s ≢ Stepped.Went }
+{
+    let mut here = *cursor;
+    let mut calls = *left;
+    let mut frames = highest.frames;
+    let mut most = highest.words;
+    let reach = 2 * bounds.largest;
+    let limit = if words.len() < bounds.words {
+        words.len()
+    } else {
+        usize::MAX
+    };
+    let pause = 'steps: loop {
+        match advance(verified, bounds, cells, words, beside, &mut here) {
+            Stepped::Went => {}
+            Stepped::Entered => {
+                calls -= 1;
+                most = most.max(here.base + here.registers + 2);
+                frames = frames.max(here.frames);
+                if calls == 0 {
+                    break 'steps Pause::Spent;
+                }
+                if here.base + reach > limit {
+                    break 'steps Pause::Short;
+                }
+            }
+            over => break 'steps Pause::Over(over),
+        }
+    };
+    *cursor = here;
+    *left = calls;
+    highest.frames = frames;
+    highest.words = most;
+    pause
+}
+
+impl<'a> TaskStack<'a> {
+    /// The frames at the start of a function of the code, with the words of its arguments and then of its credits, and so
+    /// many free frames, at most 1,000,000; a fip function is given as many as it needs. The memory of the whole run is
+    /// taken. An error where it is not there.
+    pub fn start(
+        alloc: Global,
+        verified: &'a Verified,
+        entry: usize,
+        words: Vec<u64>,
+        frames: usize,
+    ) -> Result<TaskStack<'a>, NoMemory>
+        requires entry { entry < length verified.now.code.functions.items }
+        requires frames { frames ≤ 1000000 }
+        ensures frames { IfOk result (λ t. t.frames ≡ 0) }
+    {
+        let bounds = bounds_of(verified, entry, frames);
+        let function = function_at(verified, entry);
+        let cursor = Cursor {
+            instrs: function.instrs.as_slice(),
+            registers: function.registers as usize,
+            function: entry,
+            at: 0,
+            base: 0,
+            frames: 0,
+        };
+        let stack = taken(words, bounds, cursor.registers)?;
+        let beside = Beside {
+            spare: Vec::from_elem(alloc, 0, bounds.largest)?,
+            results: [0; 8],
+            given: 0,
+            freed: [0; SIZES],
+        };
+        Ok(TaskStack {
+            verified,
+            bounds,
+            words: stack,
+            beside,
+            cursor,
+            ended: None,
+        })
+    }
+
+    /// Does one instruction on the cells. Once the run is over, it answers the same again and changes nothing.
+    pub fn step<C: Cells>(&mut self, cells: &mut C) -> Stepped
+        ensures { result ≡ Stepped.Went → self.new.weight < self.old.weight }
+    {
+        if let Some(ended) = self.ended {
+            return ended;
+        }
+        make_room(&mut self.words, self.bounds, &self.cursor);
+        let stepped = advance(
+            self.verified,
+            self.bounds,
+            cells,
+            self.words.as_mut_slice(),
+            &mut self.beside,
+            &mut self.cursor,
+        );
+        match stepped {
+            Stepped::Went | Stepped::Entered => {}
+            _ => self.ended = Some(stepped),
+        }
+        stepped
+    }
+
+    // Runs to the end, or until a call would come and none of so many is left.
+    pub(crate) fn run<C: Cells>(
+        &mut self,
+        cells: &mut C,
+        calls: u64,
+        highest: &mut Highest,
+    ) -> Option<Stepped> {
+        if self.ended.is_some() {
+            return self.ended;
+        }
+        let mut left = calls;
+        while left > 0 {
+            make_room(&mut self.words, self.bounds, &self.cursor);
+            let pause = burst(
+                self.verified,
+                self.bounds,
+                cells,
+                self.words.as_mut_slice(),
+                &mut self.beside,
+                &mut self.cursor,
+                &mut left,
+                highest,
+            );
+            if let Pause::Over(stepped) = pause {
+                self.ended = Some(stepped);
+                return self.ended;
+            }
+        }
+        self.run_to_call(cells)
+    }
+
+    // Runs to the end, or to where a call would come.
+    fn run_to_call<C: Cells>(&mut self, cells: &mut C) -> Option<Stepped> {
+        while !self.at_call() {
+            match self.step(cells) {
+                Stepped::Went => {}
+                Stepped::Entered => return None,
+                over => return Some(over),
+            }
+        }
+        None
+    }
+
+    /// Whether the next instruction is a Call or Tail; false once the run is over.
+    pub fn at_call(&self) -> bool {
+        if self.ended.is_some() {
+            return false;
+        }
+        let instrs = self.cursor.instrs;
+        matches!(
+            &instrs[self.cursor.at],
+            Instr::Call { .. } | Instr::Tail { .. }
+        )
+    }
+
+    /// The words of the results, after Value.
+    pub fn results(&self) -> &[u64] {
+        &self.beside.results[..self.beside.given]
+    }
+
+    /// How many cells of size `k`, from 1 to 16, the steps released.
+    pub fn freed(&self, k: usize) -> usize
+        requires some { 1 ≤ k }
+        requires few { k ≤ 16 }
+    {
+        self.beside.freed[k - 1]
+    }
+
+    /// The frames beside the running one.
+    pub fn frames(&self) -> usize
+        ensures { result ≡ self.now.frames }
+    {
+        self.cursor.frames
+    }
+
+    /// The words of all frames.
+    pub fn words(&self) -> usize
+        ensures { result ≡ self.now.words }
+    {
+        self.cursor.base + self.cursor.registers + 2
+    }
+}

@@ -1,0 +1,173 @@
+// A list of variables, with the last place of each at hand.
+use fip_base::plain::NoMemory;
+use std::alloc::Global;
+
+// A variable's number, and the place before this one where it stands too.
+#[derive(Clone, Copy, Debug)]
+struct Step {
+    number: usize,
+    before: Option<usize>,
+}
+
+/// A list of variables by their numbers. Whether a variable stands in it, or in its end, is known at once.
+#[derive(Drop)]
+pub struct Log {
+    steps: Vec<Step>,
+    // For each number the last place where it stands.
+    last: Vec<Option<usize>>,
+}
+
+impl Log {
+    /// The empty list.
+    pub fn new(alloc: Global) -> Log {
+        Log {
+            steps: Vec::new(alloc),
+            last: Vec::new(alloc),
+        }
+    }
+
+    /// Its length.
+    pub fn len(&self) -> usize {
+        self.steps.len()
+    }
+
+    /// The last place where a variable stands.
+    pub fn last_place(&self, number: usize) -> Option<usize> {
+        place_at(&self.last, number)
+    }
+
+    /// Whether a variable stands in it.
+    pub fn has(&self, number: usize) -> bool {
+        self.last_place(number).is_some()
+    }
+
+    /// Whether a variable stands behind the first `kept` ones.
+    pub fn has_since(&self, kept: usize, number: usize) -> bool {
+        match self.last_place(number) {
+            Some(place) => kept <= place,
+            None => false,
+        }
+    }
+
+    /// One more. Where no memory is left, nothing changes.
+    pub fn push(&mut self, number: usize) -> Result<(), NoMemory> {
+        make_room(&mut self.last, number)?;
+        let place = self.steps.len();
+        let before = self.last_place(number);
+        self.steps.push(Step { number, before })?;
+        put_place(&mut self.last, number, Some(place));
+        Ok(())
+    }
+
+    /// Some more.
+    pub fn extend(&mut self, numbers: &[usize]) -> Result<(), NoMemory> {
+        for number in numbers {
+            self.push(*number)?;
+        }
+        Ok(())
+    }
+
+    /// The first `kept` ones stay.
+    pub fn leave(&mut self, kept: usize) {
+        for _ in kept..self.steps.len() {
+            self.leave_one();
+        }
+    }
+
+    /// All but the last one stay.
+    pub fn leave_one(&mut self) {
+        if let Some(step) = self.steps.pop() {
+            put_place(&mut self.last, step.number, step.before);
+        }
+    }
+
+    /// Puts those behind the first `kept` ones behind a list.
+    pub fn append_since(&self, kept: usize, out: &mut Vec<usize>) -> Result<(), NoMemory> {
+        for place in kept..self.steps.len() {
+            out.push(self.steps[place].number)?;
+        }
+        Ok(())
+    }
+
+    /// Those behind the first `kept` ones, each once.
+    pub fn distinct_since(&self, alloc: Global, kept: usize) -> Result<Vec<usize>, NoMemory> {
+        let mut out = Vec::new(alloc);
+        for place in kept..self.steps.len() {
+            let number = self.steps[place].number;
+            if self.last_place(number) == Some(place) {
+                out.push(number)?;
+            }
+        }
+        Ok(out)
+    }
+
+    /// Those of a list that stand behind the first `kept` ones.
+    pub fn common_since(
+        &self,
+        alloc: Global,
+        kept: usize,
+        numbers: &[usize],
+    ) -> Result<Vec<usize>, NoMemory> {
+        let mut out = Vec::new(alloc);
+        for number in numbers {
+            if self.has_since(kept, *number) {
+                out.push(*number)?;
+            }
+        }
+        Ok(out)
+    }
+}
+
+// The place that a table has for a number.
+fn place_at(table: &[Option<usize>], number: usize) -> Option<usize> {
+    if number < table.len() {
+        table[number]
+    } else {
+        None
+    }
+}
+
+// Makes a table long enough to have a place for a number.
+fn make_room(table: &mut Vec<Option<usize>>, number: usize) -> Result<(), NoMemory> {
+    for _ in table.len()..=number {
+        table.push(None)?;
+    }
+    Ok(())
+}
+
+// Writes the place of a number that the table has room for.
+fn put_place(table: &mut Vec<Option<usize>>, number: usize, place: Option<usize>) {
+    if number < table.len() {
+        table[number] = place;
+    }
+}
+
+#[cfg(test)]
+mod tests {
+    use super::*;
+    use std::test::Fail;
+
+    #[test]
+    fn what_leaves_uncovers_what_stood_before(rt: HostRuntime) -> Result<(), Fail> {
+        let alloc = rt.alloc();
+        let mut log = Log::new(alloc);
+        log.extend(&[4, 7, 4, 9])?;
+        let rows = [(4, 2, true), (7, 1, false), (9, 3, true)];
+        for (number, place, is_late) in rows {
+            assert_eq!(rt; log.last_place(number), Some(place));
+            assert_eq!(rt; log.has_since(2, number), is_late);
+        }
+        assert_eq!(rt;
+            log.distinct_since(alloc, 0)?.as_slice(),
+            [7, 4, 9].as_slice()
+        );
+        log.leave(2);
+        assert_eq!(rt; log.last_place(4), Some(0));
+        assert_eq!(rt; log.has(9), false);
+        assert_eq!(rt;
+            log.common_since(alloc, 1, &[4, 7, 9])?.as_slice(),
+            [7].as_slice()
+        );
+        Ok(())
+    }
+}

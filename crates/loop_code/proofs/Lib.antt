@@ -1,0 +1,2 @@
+pub mod FunctionReads
+pub mod Puts

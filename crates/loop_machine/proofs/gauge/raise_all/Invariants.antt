@@ -1,0 +1,11 @@
+use Rattle.std.proofs.Common.{◌≡◌, ◌<◌, ◌≤◌, ℕ}
+use Rattle.std.specs.Prelude.{slice_index_or}
+use Rattle.loop_store.specs.Count.{count_live}
+use Rattle.loop_machine.specs.GaugeView.{raised}
+use Rattle.loop_machine.proofs.gauge.raise_all.Given as goal
+
+abbrev pub invariant-loop-k : goal.invariant-loop-k
+invariant-loop-k l = record {
+  done : (j : ℕ) → j < l.k → slice_index_or l.highest j 0 ≡ raised (slice_index_or l.fn.highest j 0) (count_live j l.cells.cells l.cells.released);
+  rest : (j : ℕ) → l.k ≤ j → slice_index_or l.highest j 0 ≡ slice_index_or l.fn.highest j 0;
+}

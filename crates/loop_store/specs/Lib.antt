@@ -1,0 +1,3 @@
+pub mod Count
+pub mod Stored
+pub mod Kept

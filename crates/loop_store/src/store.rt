@@ -1,0 +1,268 @@
+// The store while it takes cells, and the store once it is sealed.
+ghost use Rattle.std.specs.Prelude.{◌≡◌, ℕ, ◌+◌, ◌*◌, ◌<◌, ◌≤◌, ◌↔◌, false, [], ◌∷◌, ◌++◌, List, length, map, vec_len, Err, IfOk, OnOk, OnErr};
+ghost use Rattle.std.specs.Vec.{vec_capacity};
+ghost use Rattle.fip_language.specs.Store.{Cell};
+ghost use Rattle.loop_store.specs.Stored.{Loading, Stored};
+ghost use Rattle.loop_store.specs.Kept.{IsCounted};
+
+use crate::access::Cells;
+use crate::row::Row;
+use std::alloc::{AllocError, Global};
+use std::marker::Model;
+use thiserror::Error;
+
+// A number for each size from 0 to 16.
+const SIZES: usize = 17;
+
+/// Why a cell was not made.
+#[derive(Clone, Copy, Debug, PartialEq, Eq, Error)]
+pub enum CellError {
+    /// Fewer words are left than the cell takes.
+    #[error("the store is full")]
+    Full,
+    /// There was no memory for the cell.
+    #[error("out of memory")]
+    NoMemory,
+}
+
+impl From<AllocError> for CellError {
+    ghost use Rattle.loop_store.specs.declared.store.CellError.TheVariants.{NoMemory};
+
+    ghost from_gives = { λ _ e. e ≡ NoMemory };
+
+    fn from(_: AllocError) -> CellError {
+        CellError::NoMemory
+    }
+}
+
+/// A store that takes cells, up to a number of words; a cell of k fields takes k + 1 words.
+#[derive(Drop)]
+pub struct Loader {
+    alloc: Global,
+    rows: Vec<Row>,
+    released: Vec<bool>,
+    pushed: Vec<u64>,
+    counts: [usize; SIZES],
+    left: usize,
+}
+
+impl Model for Loader {
+    ghost Value = { Loading };
+
+    ghost view = { λ l. record { cells = l.rows.items; left = l.left } };
+
+    ghost invariant = { λ l. record {
+      counted : IsCounted l.rows.items l.released.items l.counts;
+      unreleased : l.released.items ≡ map (λ c. false) l.rows.items;
+      unpushed : l.pushed.items ≡ [];
+      room : vec_len l.rows ≤ vec_capacity l.pushed;
+      few : 2 * vec_len l.rows + l.left ≤ 16777216;
+    } };
+}
+
+/// A store whose cells are all made.
+#[derive(Drop)]
+pub struct Sealed {
+    rows: Vec<Row>,
+    released: Vec<bool>,
+    pushed: Vec<u64>,
+    counts: [usize; SIZES],
+}
+
+impl Model for Sealed {
+    ghost Value = { Stored };
+
+    ghost view = { λ s. record { cells = s.rows.items; released = s.released.items; pushed = s.pushed.items } };
+
+    ghost invariant = { λ s. record {
+      counted : IsCounted s.rows.items s.released.items s.counts;
+      room : vec_len s.rows ≤ vec_capacity s.pushed;
+      few : 2 * vec_len s.rows ≤ 16777216;
+    } };
+}
+
+impl Loader {
+    /// A loader of so many words. Takes no memory.
+    pub fn new(alloc: Global, words: usize) -> Loader
+        requires { words ≤ 16777216 }
+        ensures cells { result.cells ≡ [] }
+        ensures left { result.left ≡ words }
+    {
+        Loader {
+            alloc,
+            rows: Vec::new(alloc),
+            released: Vec::new(alloc),
+            pushed: Vec::new(alloc),
+            counts: [0; SIZES],
+            left: words,
+        }
+    }
+
+    /// The words that are left for more cells.
+    pub fn left(&self) -> usize
+        ensures left { result ≡ self.now.left }
+        ensures few { 2 * length self.now.cells + self.now.left ≤ 16777216 }
+    {
+        self.left
+    }
+
+    /// Makes a cell of 1 to 16 fields and answers its place, the number of cells before it. `Full` exactly where fewer
+    /// words are left than one more than the fields; `NoMemory` where the cell's memory, or that of its room on the
+    /// stack of words, is wanting.
+    pub fn cell(&mut self, tag: u32, fields: &[u64]) -> Result<u32, CellError>
+        requires some { 0 < length fields.now }
+        requires few { length fields.now ≤ 16 }
+        ensures place { IfOk result (λ p. p ≡ length self.old.cells) }
+        ensures cells { OnOk result (self.new.cells ≡ self.old.cells ++ record { tag = tag; fields = fields.now } ∷ []) }
+        ensures left { OnOk result (self.new.left + (length fields.now + 1) ≡ self.old.left) }
+        ensures full { (result ≡ Err CellError.Full) ↔ (self.old.left < length fields.now + 1) }
+        ensures same { OnErr result (self.new ≡ self.old) }
+    {
+        let size = fields.len();
+        if self.left < size + 1 {
+            return Err(CellError::Full);
+        }
+        let place = self.rows.len();
+        let row = Row::new(self.alloc, tag, fields)?;
+        self.pushed.reserve(place + 1)?;
+        self.released.reserve(1)?;
+        self.rows.reserve(1)?;
+        self.rows.push(row).unwrap();
+        self.released.push(false).unwrap();
+        self.counts[size] += 1;
+        self.left -= size + 1;
+        Ok(place as u32)
+    }
+}
+
+/// The store of a loader's cells, none of them released, with no word on its stack. It takes no memory.
+pub fn seal(loader: Loader) -> Sealed
+    ensures cells { result.cells ≡ loader.cells }
+    ensures released { result.released ≡ map (λ c. false) loader.cells }
+    ensures pushed { result.pushed ≡ [] }
+    ensures few { 2 * length result.cells ≤ 16777216 }
+{
+    let counts = loader.counts;
+    Sealed {
+        rows: loader.rows,
+        released: loader.released,
+        pushed: loader.pushed,
+        counts,
+    }
+}
+
+impl Cells for Sealed {
+    ghost cells = { λ s. s.cells };
+
+    ghost released = { λ s. s.released };
+
+    ghost pushed = { λ s. s.pushed };
+
+    fn cell_tag(&self, p: u32) -> u32 {
+        self.rows[p as usize].tag()
+    }
+
+    fn cell_size(&self, p: u32) -> usize {
+        self.rows[p as usize].size()
+    }
+
+    fn field(&self, p: u32, i: usize) -> u64 {
+        self.rows[p as usize].field(i)
+    }
+
+    fn count(&self, k: usize) -> usize {
+        if k < SIZES { self.counts[k] } else { 0 }
+    }
+
+    fn overwrite(&mut self, p: u32, tag: u32, fields: &[u64]) {
+        self.rows[p as usize].rewrite(tag, fields);
+    }
+
+    fn release(&mut self, p: u32) {
+        let place = p as usize;
+        let size = self.rows[place].size();
+        self.released[place] = true;
+        self.counts[size] -= 1;
+    }
+
+    fn push(&mut self, word: u64) {
+        self.pushed.push(word).unwrap();
+    }
+
+    fn pop(&mut self) -> Option<u64> {
+        self.pushed.pop()
+    }
+}
+
+#[cfg(test)]
+mod tests {
+    use super::*;
+    use std::process::Abort;
+
+    // The cells Cons(1, Nil) and Cons(2, the first), Nil being constructor 0 and Cons constructor 1.
+    fn two_cells(rt: &impl Abort, alloc: Global) -> Sealed
+        ensures cells { result.cells ≡ record { tag = 1; fields = 1 ∷ 0 ∷ [] } ∷ record { tag = 1; fields = 2 ∷ 1 ∷ [] } ∷ [] }
+        ensures released { result.released ≡ false ∷ false ∷ [] }
+        ensures pushed { result.pushed ≡ [] }
+    {
+        let mut loader = Loader::new(alloc, 6);
+        let first = loader.cell(1, &[1, 0]).expect(rt, "a first cell");
+        let second = loader.cell(1, &[2, 1]).expect(rt, "a second cell");
+        assert_eq!(rt; (first, second), (0, 1));
+        assert_eq!(rt; loader.left(), 0);
+        seal(loader)
+    }
+
+    #[test]
+    fn cells_are_made_until_the_words_are_used_up(rt: HostRuntime) {
+        let mut loader = Loader::new(rt.alloc(), 5);
+        assert_eq!(rt; loader.cell(1, &[1, 0]), Ok(0));
+        assert_eq!(rt; loader.left(), 2);
+        assert_eq!(rt; loader.cell(1, &[2, 1]), Err(CellError::Full));
+        assert_eq!(rt; loader.cell(2, &[7]), Ok(1));
+        assert_eq!(rt; loader.left(), 0);
+    }
+
+    #[test]
+    fn a_cell_is_read_rewritten_and_released(rt: HostRuntime) {
+        let mut store = two_cells(&rt, rt.alloc());
+        assert_eq!(rt; (store.cell_tag(1), store.cell_size(1)), (1, 2));
+        assert_eq!(rt; (store.field(1, 0), store.field(1, 1)), (2, 1));
+        assert_eq!(rt; store.count(2), 2);
+        store.overwrite(1, 3, &[9, 4]);
+        store.release(0);
+        assert_eq!(rt;
+            (store.cell_tag(1), store.field(1, 0), store.field(1, 1)),
+            (3, 9, 4)
+        );
+        assert_eq!(rt;
+            (store.cell_tag(0), store.field(0, 0), store.field(0, 1)),
+            (1, 1, 0)
+        );
+        assert_eq!(rt;
+            (store.count(2), store.count(1), store.count(17)),
+            (1, 0, 0)
+        );
+    }
+
+    #[test]
+    fn words_come_back_last_first(rt: HostRuntime) {
+        let mut store = two_cells(&rt, rt.alloc());
+        store.push(5);
+        store.push(6);
+        assert_eq!(rt;
+            (store.pop(), store.pop(), store.pop()),
+            (Some(6), Some(5), None)
+        );
+    }
+
+    #[test]
+    fn a_million_cells_are_made_and_dropped(rt: HostRuntime) {
+        let mut loader = Loader::new(rt.alloc(), 2_000_000);
+        for word in 0..1_000_000 {
+            assert!(rt; loader.cell(0, &[word]).is_ok());
+        }
+        assert_eq!(rt; loader.left(), 0);
+        assert_eq!(rt; seal(loader).count(1), 1_000_000);
+    }
+}

@@ -1,0 +1,6 @@
+pub mod TreePicks
+pub mod TestedOnce
+pub mod TreeGrowth
+pub mod TreeSteps
+pub mod TreeExamples
+pub mod MissingSteps

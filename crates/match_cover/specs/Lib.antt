@@ -1,0 +1,5 @@
+pub mod DecisionTree
+pub mod TreeView
+pub mod Missing
+pub mod MissingView
+pub mod PatternView

@@ -1,0 +1,408 @@
+// The missing pattern of a match: of some values that no clause matches.
+//
+// Positions are walked from the root, then over the fields from left to right, each with its own fields before the
+// next. At a position where no clause has a constructor or a literal stands `_`. At another stands the least
+// constructor, or the least number from 0 upwards, such that some value that no clause matches agrees with all choices
+// so far and has it there.
+ghost use Rattle.std.specs.Prelude.{◌≡◌, ◌<◌, ◌^◌, ◌++◌, true, map, length, option_map, IfOk};
+ghost use Rattle.match_knowledge.specs.View.{row, known, knowns};
+ghost use Rattle.match_cover.specs.Missing.{is_test, is_tested, part_below, rows_below, open_fields, inside, placed};
+ghost use Rattle.match_cover.specs.MissingView.{lent_rows, level, levels};
+
+use fip_base::plain::NoMemory;
+use fip_base::table::{Constructor, TypeTable};
+use match_knowledge::{Head, Knowledge, Row, all_known, copy, left, open, same_head};
+use std::alloc::Global;
+
+// A node above a position: its head, and what is known of its fields before and behind the one that leads there.
+#[derive(Drop)]
+struct Frame {
+    head: Head,
+    before: Vec<Knowledge>,
+    behind: Vec<Knowledge>,
+}
+
+// A match at hand: the types, and the patterns of its clauses.
+#[derive(Clone, Copy)]
+struct Search<'a> {
+    alloc: Global,
+    types: &'a TypeTable,
+    rows: &'a [Row],
+}
+
+/// The text of the missing pattern of a match on this type, where its clauses don't match all values. An error where no
+/// memory is left.
+pub fn missing_text(
+    alloc: Global,
+    types: &TypeTable,
+    ty: u32,
+    rows: &[Row],
+) -> Result<Vec<u8>, NoMemory> {
+    let search = Search { alloc, types, rows };
+    let here = all_of(alloc, rows)?;
+    let mut at = Vec::new(alloc);
+    let pattern = search.missing_at(&mut at, ty, &here)?;
+    let mut text = Vec::new(alloc);
+    put_pattern(alloc, types, &pattern, &mut text)?;
+    Ok(text)
+}
+
+// A reference to each row.
+fn all_of<'a>(alloc: Global, rows: &'a [Row]) -> Result<Vec<&'a Row>, NoMemory> {
+    let mut here = Vec::new(alloc);
+    for row in rows {
+        here.push(row)?;
+    }
+    Ok(here)
+}
+
+impl<'a> Search<'a> {
+    // The pattern at the position below these nodes: of which type, and what the clauses have there.
+    #[cycle(missing)]
+    fn missing_at(&self, at: &mut Vec<Frame>, ty: u32, here: &[&Row]) -> Result<Row, NoMemory> {
+        if !is_tested(here) {
+            return Ok(Row::Any);
+        }
+        match self.least_head(at, ty)? {
+            None => Ok(Row::Any),
+            Some(head) => {
+                let parts = self.missing_fields(at, fields_of(self.types, ty, &head), head, here)?;
+                Ok(Row::Test { ty, head, parts })
+            }
+        }
+    }
+
+    // The patterns at the fields of the position's node.
+    #[cycle(missing)]
+    fn missing_fields(
+        &self,
+        at: &mut Vec<Frame>,
+        fields: &[u32],
+        head: Head,
+        here: &[&Row],
+    ) -> Result<Vec<Row>, NoMemory>
+        requires { is_tested (lent_rows here.now) ≡ true }
+    {
+        let mut parts = Vec::new(self.alloc);
+        for (j, field) in fields.iter().enumerate() {
+            let before = all_known(self.alloc, &parts)?;
+            let behind = open_fields(self.alloc, &fields[j + 1..])?;
+            at.push(Frame {
+                head,
+                before,
+                behind,
+            })?;
+            let below = rows_below(self.alloc, here, &head, j)?;
+            let part = self.missing_at(at, *field, &below)?;
+            at.pop();
+            parts.push(part)?;
+        }
+        Ok(parts)
+    }
+
+    // The least head that may stand at a position; none where none may.
+    fn least_head(&self, at: &[Frame], ty: u32) -> Result<Option<Head>, NoMemory> {
+        if ty == 0 {
+            self.least_number(at)
+        } else {
+            self.least_constructor(at, constructors_of(self.types, ty))
+        }
+    }
+
+    // The least number from 0 upwards that may stand at a position. One that no clause has there always may.
+    fn least_number(&self, at: &[Frame]) -> Result<Option<Head>, NoMemory> {
+        for n in 0..=i64::MAX {
+            let head = Head::Number(n);
+            if self.may_stand(at, head, &[])? {
+                return Ok(Some(head));
+            }
+        }
+        Ok(None)
+    }
+
+    // The least of these constructors that may stand at a position. One that no clause has there always may.
+    fn least_constructor(
+        &self,
+        at: &[Frame],
+        constructors: &[Constructor],
+    ) -> Result<Option<Head>, NoMemory>
+        requires { length constructors.now < 2 ^ 32 }
+    {
+        for (c, constructor) in constructors.iter().enumerate() {
+            let head = Head::Tag(c as u32);
+            if self.may_stand(at, head, constructor.fields())? {
+                return Ok(Some(head));
+            }
+        }
+        Ok(None)
+    }
+
+    // Whether some value that no clause matches agrees with all choices so far and has the head, with fields of these
+    // types, at the position.
+    fn may_stand(&self, at: &[Frame], head: Head, fields: &[u32]) -> Result<bool, NoMemory> {
+        let fields = open_fields(self.alloc, fields)?;
+        let k = placed(self.alloc, at, Knowledge::Is(head, fields))?;
+        left(self.alloc, self.types, self.rows, &k)
+    }
+}
+
+// The constructors of a type; none where there is no such type.
+fn constructors_of(types: &TypeTable, ty: u32) -> &[Constructor]
+    ensures { length result.now < 2 ^ 32 }
+{
+    if ty as usize <= types.len() {
+        types.constructors_of(ty)
+    } else {
+        &[]
+    }
+}
+
+// The types of the fields of a constructor; an int has none.
+fn fields_of<'a>(types: &'a TypeTable, ty: u32, head: &Head) -> &'a [u32] {
+    match head {
+        Head::Number(_) => &[],
+        Head::Tag(c) => match constructors_of(types, ty).get(*c as usize) {
+            None => &[],
+            Some(constructor) => constructor.fields(),
+        },
+    }
+}
+
+// Fields of these types of which nothing is known.
+fn open_fields(alloc: Global, types: &[u32]) -> Result<Vec<Knowledge>, NoMemory>
+    ensures { IfOk result (λ r. knowns r.items ≡ open_fields types.now) }
+{
+    let mut fields = Vec::new(alloc);
+    for _ty in types {
+        fields.push(open(alloc))?;
+    }
+    Ok(fields)
+}
+
+// Whether some clause has a constructor or a literal here.
+fn is_tested(here: &[&Row]) -> bool
+    ensures { result ≡ is_tested (lent_rows here.now) }
+{
+    for row in here {
+        if is_test(row) {
+            return true;
+        }
+    }
+    false
+}
+
+// Whether the pattern is a constructor or a literal.
+fn is_test(p: &Row) -> bool
+    ensures { result ≡ is_test (row p.now) }
+{
+    match p {
+        Row::Any => false,
+        Row::Test { .. } => true,
+    }
+}
+
+// What the clauses that have the head here have at its j-th field.
+fn rows_below<'a>(
+    alloc: Global,
+    here: &[&'a Row],
+    head: &Head,
+    j: usize,
+) -> Result<Vec<&'a Row>, NoMemory>
+    ensures { IfOk result (λ r. lent_rows r.items ≡ rows_below head.now j (lent_rows here.now)) }
+{
+    let mut below = Vec::new(alloc);
+    for row in here {
+        if let Some(part) = part_of(row, head, j) {
+            below.push(part)?;
+        }
+    }
+    Ok(below)
+}
+
+fn part_of<'a>(p: &'a Row, head: &Head, j: usize) -> Option<&'a Row>
+    ensures { option_map (λ r. row r.now) result ≡ part_below head.now j (row p.now) }
+{
+    match p {
+        Row::Any => None,
+        Row::Test {
+            head: g,
+            parts: ps,
+            ..
+        } => { if same_head(g, head) { ps.get(j) } else { None } }
+    }
+}
+
+// All choices so far, with k known at the position below these nodes.
+fn placed(alloc: Global, at: &[Frame], k: Knowledge) -> Result<Knowledge, NoMemory>
+    ensures { IfOk result (λ r. known r ≡ placed (levels at.now) (known k)) }
+{
+    let mut k = k;
+    let mut n = at.len();
+    while n > 0 {
+        n -= 1;
+        k = inside(alloc, &at[n], k)?;
+    }
+    Ok(k)
+}
+
+// Behind these, as much is known as of others.
+fn with_copies(
+    alloc: Global,
+    first: Vec<Knowledge>,
+    others: &[Knowledge],
+) -> Result<Vec<Knowledge>, NoMemory>
+    ensures { IfOk result (λ r. map known r.items ≡ map known first.items ++ map known others.now) }
+{
+    let mut all = first;
+    for k in others {
+        all.push(copy(alloc, k)?)?;
+    }
+    Ok(all)
+}
+
+// The node, with k known of the field that leads to the position.
+fn inside(alloc: Global, frame: &Frame, k: Knowledge) -> Result<Knowledge, NoMemory>
+    ensures { IfOk result (λ r. known r ≡ inside (level frame.now) (known k)) }
+{
+    let mut fields = with_copies(alloc, Vec::new(alloc), &frame.before)?;
+    fields.push(k)?;
+    let fields = with_copies(alloc, fields, &frame.behind)?;
+    Ok(Knowledge::Is(frame.head, fields))
+}
+
+// Puts the text of a pattern, which is that of a value with `_`.
+#[cycle(text)]
+fn put_pattern(
+    alloc: Global,
+    types: &TypeTable,
+    row: &Row,
+    text: &mut Vec<u8>,
+) -> Result<(), NoMemory> {
+    match row {
+        Row::Any => {
+            text.push(b'_')?;
+            Ok(())
+        }
+        Row::Test { ty, head, parts } => {
+            put_head(alloc, types, *ty, head, text)?;
+            if parts.is_empty() {
+                return Ok(());
+            }
+            text.push(b'(')?;
+            put_patterns(alloc, types, parts, text)?;
+            text.push(b')')?;
+            Ok(())
+        }
+    }
+}
+
+#[cycle(text)]
+fn put_patterns(
+    alloc: Global,
+    types: &TypeTable,
+    rows: &[Row],
+    text: &mut Vec<u8>,
+) -> Result<(), NoMemory> {
+    for (j, row) in rows.iter().enumerate() {
+        if j > 0 {
+            text.extend_from_slice(b", ")?;
+        }
+        put_pattern(alloc, types, row, text)?;
+    }
+    Ok(())
+}
+
+// Puts a number, or the name of a constructor.
+fn put_head(
+    alloc: Global,
+    types: &TypeTable,
+    ty: u32,
+    head: &Head,
+    text: &mut Vec<u8>,
+) -> Result<(), NoMemory> {
+    match head {
+        Head::Number(value) => {
+            let digits = format!(in alloc; "{value}")?;
+            text.extend_from_slice(digits.as_bytes())?;
+        }
+        Head::Tag(c) => text.extend_from_slice(name_of(types, ty, *c))?,
+    }
+    Ok(())
+}
+
+// The name of a constructor; empty where the type has none of this number.
+fn name_of(types: &TypeTable, ty: u32, c: u32) -> &[u8] {
+    match constructors_of(types, ty).get(c as usize) {
+        None => &[],
+        Some(constructor) => constructor.name(),
+    }
+}
+
+#[cfg(test)]
+mod tests {
+    use super::*;
+    use fip_base::plain::{Name, Types};
+    use fip_base::table::DataType;
+    use std::test::Fail;
+
+    // data ints { Nil; Cons(int, ints) }
+    fn ints(alloc: Global) -> Result<TypeTable, NoMemory> {
+        let nil = Name::new(vec![in alloc; b'N', b'i', b'l']?);
+        let cons = Name::new(vec![in alloc; b'C', b'o', b'n', b's']?);
+        let mut constructors = Vec::new(alloc);
+        constructors.push(Constructor::new(nil, Types::new(Vec::new(alloc))))?;
+        constructors.push(Constructor::new(cons, Types::new(vec![in alloc; 0, 1]?)))?;
+        let mut types = TypeTable::new(alloc);
+        types.push(DataType::new(constructors))?;
+        Ok(types)
+    }
+
+    fn nil(alloc: Global) -> Row {
+        Row::Test {
+            ty: 1,
+            head: Head::Tag(0),
+            parts: Vec::new(alloc),
+        }
+    }
+
+    fn cons(alloc: Global, item: Row, rest: Row) -> Result<Row, NoMemory> {
+        Ok(Row::Test {
+            ty: 1,
+            head: Head::Tag(1),
+            parts: vec![in alloc; item, rest]?,
+        })
+    }
+
+    fn number(alloc: Global, value: i64) -> Row {
+        Row::Test {
+            ty: 0,
+            head: Head::Number(value),
+            parts: Vec::new(alloc),
+        }
+    }
+
+    #[test]
+    fn the_least_of_each_position_is_missing(rt: HostRuntime) -> Result<(), Fail> {
+        let alloc = rt.alloc();
+        let types = ints(alloc)?;
+        let zero = cons(alloc, number(alloc, 0), Row::Any)?;
+        let below = cons(alloc, number(alloc, -1), Row::Any)?;
+        let one = cons(alloc, Row::Any, nil(alloc))?;
+        let cases = [
+            (vec![in alloc; nil(alloc)]?, b"Cons(_, _)".as_slice()),
+            (
+                vec![in alloc; zero, nil(alloc), below]?,
+                b"Cons(1, _)".as_slice(),
+            ),
+            (
+                vec![in alloc; one, nil(alloc)]?,
+                b"Cons(_, Cons(_, _))".as_slice(),
+            ),
+        ];
+        for (rows, want) in cases {
+            let text = missing_text(alloc, &types, 1, &rows)?;
+            assert_eq!(rt; text.as_slice(), want);
+        }
+        Ok(())
+    }
+}

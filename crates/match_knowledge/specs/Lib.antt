@@ -1,0 +1,5 @@
+pub mod ValueHeads
+pub mod Patterns
+pub mod Known
+pub mod Left
+pub mod View

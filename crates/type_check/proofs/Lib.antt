@@ -1,0 +1,4 @@
+pub mod Trail
+pub mod Scopes
+pub mod Steps
+pub mod Worlds

@@ -4,6 +4,15 @@ use crate::rows::{RowLoader, seal_rows};
 use std::process::Abort;
 use std::test::Fail;
 
+// The tag and the first field of the cell at `place`, where a cell with a field begins there.
+fn tag_and_field<C: Cells>(cells: &C, place: u32) -> Option<(u32, u64)> {
+    if cells.begins(place) && cells.cell_size(place) > 0 {
+        Some((cells.cell_tag(place), cells.field(place, 0)))
+    } else {
+        None
+    }
+}
+
 #[test]
 fn released_cells_are_taken_first(rt: HostRuntime) -> Result<(), Fail> {
     let mut loader = Loader::new(rt.alloc(), 8);
@@ -37,22 +46,55 @@ fn released_cells_are_taken_first(rt: HostRuntime) -> Result<(), Fail> {
     assert_eq!(rt; again.cell(4, &[9]), Ok(3));
     let store = seal(again);
     assert_eq!(rt;
-        (store.cell_tag(3), store.field(3, 0), store.count(1)),
-        (4, 9, 1)
+        (tag_and_field(&store, 3), store.count(1)),
+        (Some((4, 9)), 1)
     );
     Ok(())
 }
 
-// A list of 1,000 cells, each overwritten by one with other words; what is read back, and how many words were pushed.
+// The tag and both fields of the cell at `place`, where a cell of size 2 begins there.
+fn pair_at<C: Cells>(cells: &C, place: u32) -> Option<(u32, u64, u64)> {
+    if cells.begins(place) && cells.cell_size(place) == 2 {
+        Some((
+            cells.cell_tag(place),
+            cells.field(place, 0),
+            cells.field(place, 1),
+        ))
+    } else {
+        None
+    }
+}
+
+// Overwrites the cell at `place` where its size is 2.
+fn overwrite_pair<C: Cells>(cells: &mut C, place: u32, tag: u32, fields: &[u64; 2]) {
+    if cells.begins(place) && cells.cell_size(place) == 2 {
+        cells.overwrite(place, tag, fields);
+    }
+}
+
+// Whether a cell begins at `place` that isn't released.
+fn is_live<C: Cells>(cells: &C, place: u32) -> bool {
+    cells.begins(place) && !cells.is_released(place)
+}
+
+// Releases the cell at `place`, where one begins there that isn't released.
+fn release_live<C: Cells>(cells: &mut C, place: u32) {
+    if cells.begins(place) && !cells.is_released(place) {
+        cells.release(place);
+    }
+}
+
+// Overwrites 1,000 cells of size 2 that lie `step` places apart, each by words made of what it held; what all of them hold then.
 fn overwritten<C: Cells>(rt: &impl Abort, cells: &mut C, step: u32) -> u64 {
-    let mut sum = 0;
+    let mut sum: u64 = 0;
     for i in 0..1000 {
-        let place = i * step;
-        if cells.begins(place) && cells.cell_size(place) == 2 {
-            let fields = [u64::from(i) + 5, cells.field(place, 0)];
-            cells.overwrite(place, i, &fields);
-            let read = cells.field(place, 0).wrapping_mul(3) ^ cells.field(place, 1);
-            sum = read.wrapping_add(sum ^ u64::from(cells.cell_tag(place)));
+        let place: u32 = step.wrapping_mul(i);
+        if let Some((tag, first, second)) = pair_at(cells, place) {
+            overwrite_pair(cells, place, tag ^ i, &[second.wrapping_add(5), first]);
+        }
+        if let Some((tag, first, second)) = pair_at(cells, place) {
+            let read = first.wrapping_mul(3) ^ second;
+            sum = read.wrapping_add(sum.wrapping_mul(31) ^ u64::from(tag));
         }
         if cells.has_room() {
             cells.push(sum);
@@ -78,9 +120,10 @@ fn both_forms_keep_the_same_cells(rt: HostRuntime) -> Result<(), Fail> {
         overwritten(&rt, &mut rows, 1)
     );
     assert_eq!(rt; (flat.count(2), rows.count(2)), (1000, 1000));
-    rows.release(999);
-    flat.release(2997);
+    release_live(&mut rows, 999);
+    release_live(&mut flat, 2997);
     assert_eq!(rt; (flat.count(2), rows.count(2)), (999, 999));
-    assert!(rt; rows.is_released(999) && flat.is_released(2997));
+    assert_eq!(rt; (is_live(&rows, 999), is_live(&flat, 2997)), (false, false));
+    assert!(rt; is_live(&rows, 998) && is_live(&flat, 2994));
     Ok(())
 }

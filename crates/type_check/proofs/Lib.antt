@@ -2,3 +2,12 @@ pub mod Trail
 pub mod Scopes
 pub mod Steps
 pub mod Worlds
+pub mod Basics
+pub mod Sound
+pub mod Complete
+pub mod Once
+pub mod Exact
+pub mod Shared
+pub mod Halves
+pub mod Plains
+pub mod Examples

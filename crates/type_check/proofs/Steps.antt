@@ -1,6 +1,9 @@
 -- Steps of walks over lists.
 use Rattle.std.proofs.Common.{◌≡◌, ℕ, zero, suc, ◌+◌, ◌<◌, List, [], ◌∷◌, drop, length, map, slice_index_or, Option, Some, None, refl, sym, ap, ◌∙◌, arith, add-one}
-use Rattle.type_check.specs.Found.{first_type, others, unknowns}
+use Rattle.type_check.specs.declared.expected.Wants.{Wants}
+use Rattle.type_check.specs.declared.expected.Wants.TheVariants.{Nothing, Known, Partial}
+use Rattle.type_check.specs.Found.{first_type, others, unknowns, known, first_wanted}
+use Rattle.type_check.specs.Wanted.{expects, types_of}
 
 abbrev no_types : List (Option ℕ)
 no_types = []
@@ -23,3 +26,8 @@ pub first_known : (ts : List ℕ) (j : ℕ) → j < length ts → Some (slice_in
 first_known [] j h = absurd (omega arith)
 first_known (t ∷ ts) zero h = refl
 first_known (t ∷ ts) (suc j) h = first_known ts j (omega arith)
+
+pub known_wanted : (w : Wants) (j : ℕ) → known (first_wanted (expects w) (drop j (types_of w))) ≡ first_type (drop j (types_of w))
+known_wanted Nothing j = rw (drop_none j) refl
+known_wanted (Known ts) j = refl
+known_wanted (Partial ts) j = refl

@@ -23,9 +23,10 @@ abbrev pub known : Option (Option ℕ) → Option ℕ
 known None = None
 known (Some t) = t
 
--- the types expected, where they are as many as there are arguments
-abbrev pub usable : ℕ → List (Option ℕ) → List (Option ℕ)
-usable n ts = if n == length ts then ts else []
+-- the types expected, where types are expected and are as many as there are arguments
+abbrev pub usable : Bool → ℕ → List (Option ℕ) → List (Option ℕ)
+usable false n ts = []
+usable true n ts = if n == length ts then ts else []
 
 -- as many types, all hidden
 abbrev pub unknowns : List (Option ℕ) → List (Option ℕ)

@@ -4,3 +4,9 @@ pub mod Trail
 pub mod Binders
 pub mod Wanted
 pub mod World
+pub mod Plain
+pub mod Typing
+pub mod Faults
+pub mod Bound
+pub mod Parameters
+pub mod Answers

@@ -1,24 +1,43 @@
 -- What the numbers of a body mean: the types, the data types that declare them, and the headers of the instances.
-use Rattle.std.specs.Prelude.{ℕ, zero, suc, Bool, false, List}
-use Rattle.std.specs.Prelude.{[], map, length, Option, Some, None, slice_get, ◌==◌, if◌then◌else◌}
+use Rattle.std.specs.Prelude.{ℕ, zero, suc, ◌^◌, Bool, false, List, [], ◌∷◌, nat_lt, ◌==◌, if◌then◌else◌}
+use Rattle.std.specs.Prelude.{map, length, Option, Some, None, slice_get}
+use Rattle.fip_language.specs.declared.Operator.{Operator}
+use Rattle.fip_language.specs.declared.Operator.TheVariants as O
 use Rattle.fip_language.specs.Table.{Table, constructors}
+use Rattle.fip_base.specs.declared.plain.Param.{Param}
 use Rattle.fip_base.specs.TableView.{fields_at}
-use Rattle.type_check.specs.Found.{known}
+use Rattle.fip_trees.specs.Tree.{Instance, Program}
+use Rattle.type_check.specs.Found.{or_found}
 
 -- the types of an instance's parameters and results
 pub record Head : Type 0 where
   pub parameters : List ℕ
   pub results : List ℕ
 
--- The lists `declaring`, `arities` and `counts` are those of the program. `plain` has for each data type without
--- parameters its type, that of data type d at d.
+-- The lists `declaring`, `arities` and `counts` are those of the program.
 pub record World : Type 0 where
   pub types : Table
   pub declaring : List ℕ
   pub arities : List ℕ
   pub counts : List (List ℕ)
-  pub plain : List (Option ℕ)
   pub heads : List Head
+
+abbrev pub type_of : Param → ℕ
+type_of p = p.ty
+
+abbrev pub head_of : Instance → Head
+head_of d = record { parameters = map type_of d.params; results = d.results }
+
+-- the world of a program
+abbrev pub world : Program → World
+world p =
+    record {
+      types = p.types;
+      declaring = p.declaring;
+      arities = p.arities;
+      counts = p.field_counts;
+      heads = map head_of p.instances;
+    }
 
 -- what a list has for a number from 1
 abbrev pub numbered : List ℕ → ℕ → Option ℕ
@@ -33,9 +52,23 @@ is_number (Some e) d = e == d
 abbrev pub is_of : World → ℕ → ℕ → Bool
 is_of w t d = is_number (numbered w.declaring t) d
 
+-- a type's number has 32 bits
+abbrev pub narrow : ℕ → Option ℕ
+narrow n = if nat_lt n (2 ^ 32) then Some n else None
+
+-- The first type that a data type declares. The list has for each type, from the one with number n on, the data type
+-- that declares it.
+abbrev pub first_declared : List ℕ → ℕ → ℕ → Option ℕ
+first_declared [] n d = None
+first_declared (e ∷ es) n d = or_found (if e == d then narrow n else None) (first_declared es (suc n) d)
+
+-- the same of a data type without parameters, and none of any other
+abbrev pub plain_in : List ℕ → List ℕ → ℕ → ℕ → Option ℕ
+plain_in arities es n d = if is_number (numbered arities d) 0 then first_declared es n d else None
+
 -- the type of a data type without parameters
 abbrev pub plain_type : World → ℕ → Option ℕ
-plain_type w d = known (slice_get w.plain d)
+plain_type w d = plain_in w.arities w.declaring 1 d
 
 -- The type of a constructor of a data type: the one expected where that data type declares it, else that of the data
 -- type itself where it has no parameters.
@@ -78,3 +111,17 @@ head_or_none (Some h) = h
 -- the header of an instance
 abbrev pub head : World → ℕ → Head
 head w g = head_or_none (slice_get w.heads g)
+
+-- the type of an operator's result: int, or bool where it compares
+abbrev pub result_of : Operator → ℕ
+result_of O.Add = 0
+result_of O.Subtract = 0
+result_of O.Multiply = 0
+result_of O.Divide = 0
+result_of O.Remainder = 0
+result_of O.Equal = 1
+result_of O.NotEqual = 1
+result_of O.Less = 1
+result_of O.LessOrEqual = 1
+result_of O.Greater = 1
+result_of O.GreaterOrEqual = 1

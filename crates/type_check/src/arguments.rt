@@ -1,4 +1,13 @@
 // Arguments.
+ghost use Rattle.std.specs.Prelude.{◌≡◌, IfOk, OnOk};
+ghost use Rattle.fip_trees.specs.Least.{after};
+ghost use Rattle.fip_trees.specs.Tree as T;
+ghost use Rattle.fip_trees.specs.TreeView as V;
+ghost use Rattle.type_check.specs.Faults.{found_argument, fill_argument, fill_arguments, argument_faults};
+ghost use Rattle.type_check.specs.Faults.{arguments_faults, variable_faults, constructor_faults};
+ghost use Rattle.type_check.specs.Found as F;
+ghost use Rattle.type_check.specs.Wanted.{expects, types_of};
+
 use crate::expected::{Found, INT, Want, Wants, misfits, slot};
 use crate::scope::Scope;
 use crate::walk::Walk;
@@ -15,7 +24,13 @@ pub(crate) fn check_argument(
     want: Want,
     argument: &mut Argument,
     least: &mut Least,
-) -> Result<Found, NoMemory> {
+) -> Result<Found, NoMemory>
+    ensures tree { OnOk result (V.argument argument.new ≡
+        fill_argument walk.now.tables.now want (V.argument argument.old)) }
+    ensures found { IfOk result (λ t. t ≡ found_argument walk.now.tables.now scope.now want (V.argument argument.old)) }
+    ensures faults { OnOk result (least.new ≡ after least.old
+        (argument_faults walk.now.tables.now walk.now.instance scope.now want (V.argument argument.old))) }
+{
     match argument {
         Argument::Variable {
             binder,
@@ -37,13 +52,7 @@ pub(crate) fn check_argument(
             let found = walk.tables.chosen(want, *data);
             let count = walk.tables.field_count(found, *data, *number);
             note_constructor(walk, want, *data, name, *place, least)?;
-            walk.note_if(
-                arguments.len() != count,
-                Rule::E33,
-                *place,
-                name.as_slice(),
-                least,
-            )?;
+            walk.note_count(count_of(arguments), count, name, *place, least)?;
             let wants = walk.tables.wants(found, *number);
             check_arguments(walk, scope, wants, arguments, least)?;
             *ty = slot(found);
@@ -60,7 +69,13 @@ pub(crate) fn check_arguments(
     wants: Wants,
     arguments: &mut [Argument],
     least: &mut Least,
-) -> Result<(), NoMemory> {
+) -> Result<(), NoMemory>
+    ensures tree { OnOk result (V.arguments arguments.new ≡
+        fill_arguments walk.now.tables.now (expects wants.entry) (types_of wants.entry) (V.arguments arguments.old)) }
+    ensures faults { OnOk result (least.new ≡
+        after least.old (arguments_faults walk.now.tables.now walk.now.instance scope.now
+        (expects wants.entry) (types_of wants.entry) (V.arguments arguments.old))) }
+{
     let mut index = 0;
     for argument in arguments.iter_mut() {
         check_argument(walk, scope, wants.at(index), argument, least)?;
@@ -69,16 +84,28 @@ pub(crate) fn check_arguments(
     Ok(())
 }
 
-// Checks a variable of whose type something is known, or nothing where it isn't in scope; its type.
+/// How many arguments there are.
+#[tactic(auto, using(crate::proofs::Shared::counting))]
+pub(crate) fn count_of(arguments: &[Argument]) -> usize
+    ensures { result ≡ T.count (V.arguments arguments.now) }
+{
+    arguments.len()
+}
+
+// Checks a variable of whose type something is told, or nothing where it isn't in scope; its type.
 fn check_variable(
     walk: &Walk,
     want: Want,
-    known: Option<Found>,
+    told: Option<Found>,
     name: &Name,
     place: Place,
     least: &mut Least,
-) -> Result<Found, NoMemory> {
-    match known {
+) -> Result<Found, NoMemory>
+    ensures found { IfOk result (λ t. t ≡ F.known told) }
+    ensures faults { OnOk result (least.new ≡
+        after least.old (variable_faults walk.now.instance want told name.now place)) }
+{
+    match told {
         None => {
             walk.note(Rule::E31, place, name.as_slice(), least)?;
             Ok(None)
@@ -95,19 +122,22 @@ fn check_variable(
 pub(crate) fn note_constructor(
     walk: &Walk,
     want: Want,
-    data: u32,
+    data_type: u32,
     name: &Name,
     place: Place,
     least: &mut Least,
-) -> Result<(), NoMemory> {
+) -> Result<(), NoMemory>
+    ensures { OnOk result (least.new ≡ after least.old
+        (constructor_faults walk.now.tables.now walk.now.instance want data_type name.now place)) }
+{
     match want {
         None => {
-            let is_broken = walk.tables.plain_type(data).is_none();
+            let is_broken = walk.tables.plain_type(data_type).is_none();
             walk.note_if(is_broken, Rule::E32, place, name.as_slice(), least)
         }
         Some(None) => Ok(()),
         Some(Some(ty)) => {
-            let is_broken = !walk.tables.is_of(ty, data);
+            let is_broken = !walk.tables.is_of(ty, data_type);
             walk.note_if(is_broken, Rule::E30, place, b"", least)
         }
     }

@@ -1,4 +1,14 @@
 // Instances, and the program.
+ghost use Rattle.std.specs.Prelude.{◌≡◌, ◌++◌, None, map, drop, IfOk, IfErr, OnOk};
+ghost use Rattle.fip_trees.specs.Least.{after};
+ghost use Rattle.fip_trees.specs.TreeView as V;
+ghost use Rattle.type_check.specs.Faults.{fill_instance, fill_parameters, instance_faults, instances_faults};
+ghost use Rattle.type_check.specs.Faults.{header_faults, tuples_faults, type_faults, filled, or_place};
+ghost use Rattle.type_check.specs.Parameters.{fill_first, entry_first};
+ghost use Rattle.type_check.specs.Answers.{Says};
+ghost use Rattle.type_check.specs.Typing.{parameter_entries, IsTyped, IsFilled};
+ghost use Rattle.type_check.specs.World.{world};
+
 use crate::expected::Results;
 use crate::expressions::check_block;
 use crate::patterns::enter_binder;
@@ -6,7 +16,7 @@ use crate::results::all_known;
 use crate::scope::Scope;
 use crate::tables::{Tables, heads, plain_types};
 use crate::walk::Walk;
-use fip_base::plain::{NoMemory, Param};
+use fip_base::plain::{NoMemory, Param, Place};
 use fip_base::refusal::{PhaseError, Rule};
 use fip_trees::least::Least;
 use fip_trees::limits::MOST_RESULTS;
@@ -22,8 +32,13 @@ use std::alloc::Global;
 /// - E33: a call, a constructor or a pattern has the wrong number of parts;
 /// - E34: a tuple or a header has more than eight results, or there are more or fewer results than expected.
 ///
-/// An error also where no memory is left.
-pub fn check_types(alloc: Global, flat: Flat) -> Result<Typed, PhaseError> {
+/// Where it is not refused, all of it is typed, and the slots hold these types. An error also where no memory is left.
+pub fn check_types(alloc: Global, flat: Flat) -> Result<Typed, PhaseError>
+    ensures typed { IfOk result (λ t. IsTyped (V.program flat.program)) }
+    ensures tree { IfOk result (λ t. V.program t.program ≡ filled (V.program flat.program)) }
+    ensures slots { IfOk result (λ t. IsFilled (V.program t.program)) }
+    ensures least { IfErr result (λ e. Says (V.program flat.program) e) }
+{
     let mut least = Least::new(alloc);
     match check_program(alloc, flat.program, &mut least) {
         Err(NoMemory) => Err(PhaseError::NoMemory),
@@ -34,7 +49,11 @@ pub fn check_types(alloc: Global, flat: Flat) -> Result<Typed, PhaseError> {
     }
 }
 
-fn check_program(alloc: Global, program: Program, least: &mut Least) -> Result<Program, NoMemory> {
+// The program with its slots filled, whatever rules it breaks.
+fn check_program(alloc: Global, program: Program, least: &mut Least) -> Result<Program, NoMemory>
+    ensures tree { IfOk result (λ p. V.program p ≡ filled (V.program program)) }
+    ensures faults { OnOk result (least.new ≡ after least.old (type_faults (V.program program))) }
+{
     let Program {
         types,
         declaring,
@@ -67,7 +86,12 @@ fn check_instances(
     tables: &Tables,
     instances: &mut [Instance],
     least: &mut Least,
-) -> Result<(), NoMemory> {
+) -> Result<(), NoMemory>
+    ensures tree { OnOk result (map V.instance_of instances.new ≡
+        map (fill_instance tables.now) (map V.instance_of instances.old)) }
+    ensures faults { OnOk result (least.new ≡
+        after least.old (instances_faults tables.now 0 (map V.instance_of instances.old))) }
+{
     let mut number = 0;
     for instance in instances.iter_mut() {
         let walk = Walk {
@@ -81,7 +105,13 @@ fn check_instances(
     Ok(())
 }
 
-fn check_instance(walk: &Walk, instance: &mut Instance, least: &mut Least) -> Result<(), NoMemory> {
+#[tactic(auto, using(crate::proofs::Shared::noting))]
+fn check_instance(walk: &Walk, instance: &mut Instance, least: &mut Least) -> Result<(), NoMemory>
+    ensures tree { OnOk result (V.instance_of instance.new ≡
+        fill_instance walk.now.tables.now (V.instance_of instance.old)) }
+    ensures faults { OnOk result (least.new ≡ after least.old
+        (instance_faults walk.now.tables.now walk.now.instance (V.instance_of instance.old))) }
+{
     note_header(walk, instance, least)?;
     let mut scope = Scope::new(walk.alloc);
     enter_parameters(
@@ -99,22 +129,33 @@ fn check_instance(walk: &Walk, instance: &mut Instance, least: &mut Least) -> Re
 }
 
 // Notes where the header has a tuple of too many results.
-fn note_header(walk: &Walk, instance: &Instance, least: &mut Least) -> Result<(), NoMemory> {
-    let place = instance.results_place.unwrap_or(instance.place);
+#[tactic(auto, using(crate::proofs::Shared::noting))]
+fn note_header(walk: &Walk, instance: &Instance, least: &mut Least) -> Result<(), NoMemory>
+    ensures { OnOk result (least.new ≡ after least.old (header_faults walk.now.instance (V.instance_of instance.now))) }
+{
+    let place = results_place(instance.results_place, instance.place);
     let is_broken = MOST_RESULTS < instance.results.as_slice().len();
     walk.note_if(is_broken, Rule::E34, place, b"", least)?;
     note_tuples(walk, &instance.signature_tuples, least)
 }
 
-fn note_tuples(walk: &Walk, tuples: &[TupleResult], least: &mut Least) -> Result<(), NoMemory> {
+// The place of a header's results: its tuple's bracket, else the function's name.
+fn results_place(bracket: Option<Place>, name: Place) -> Place
+    ensures { result ≡ or_place bracket name }
+{
+    match bracket {
+        None => name,
+        Some(place) => place,
+    }
+}
+
+#[tactic(auto, using(crate::proofs::Shared::noting))]
+fn note_tuples(walk: &Walk, tuples: &[TupleResult], least: &mut Least) -> Result<(), NoMemory>
+    ensures { OnOk result (least.new ≡ after least.old (tuples_faults walk.now.instance tuples.now)) }
+{
     for tuple in tuples {
-        walk.note_if(
-            MOST_RESULTS < tuple.count,
-            Rule::E34,
-            tuple.place,
-            b"",
-            least,
-        )?;
+        let is_broken = MOST_RESULTS < tuple.count;
+        walk.note_if(is_broken, Rule::E34, tuple.place, b"", least)?;
     }
     Ok(())
 }
@@ -124,12 +165,30 @@ fn enter_parameters(
     params: &[Param],
     binders: &mut [Binder],
     scope: &mut Scope,
-) -> Result<(), NoMemory> {
+) -> Result<(), NoMemory>
+    ensures binders { OnOk result (binders.new ≡ fill_parameters params.now binders.old) }
+    ensures scope { OnOk result (scope.new ≡ scope.old ++ parameter_entries params.now binders.old) }
+{
     let mut index = 0;
     for binder in binders.iter_mut() {
-        let ty = params.get(index).map(|param| param.ty);
-        enter_binder(ty, binder, scope)?;
+        enter_parameter(params, index, binder, scope)?;
         index += 1;
+    }
+    Ok(())
+}
+
+// The same of one binder. One without a parameter stays as it is, and isn't in scope.
+fn enter_parameter(
+    params: &[Param],
+    index: usize,
+    binder: &mut Binder,
+    scope: &mut Scope,
+) -> Result<(), NoMemory>
+    ensures binder { OnOk result (binder.new ≡ fill_first (drop index params.now) binder.old) }
+    ensures scope { OnOk result (scope.new ≡ scope.old ++ entry_first (drop index params.now) binder.old) }
+{
+    if index < params.len() {
+        enter_binder(Some(params[index].ty), binder, scope)?;
     }
     Ok(())
 }

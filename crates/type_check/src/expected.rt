@@ -1,6 +1,6 @@
 // Types found, and types expected.
 ghost use Rattle.std.specs.Prelude.{◌≡◌, true, Some, map, drop, length};
-ghost use Rattle.type_check.specs.Found.{first_type, first_wanted, usable, slot, differ, misfits};
+ghost use Rattle.type_check.specs.Found.{first_type, first_wanted, usable, slot, or_found, differ, misfits};
 ghost use Rattle.type_check.specs.Wanted.{expects, types_of};
 
 /// The number of type int.
@@ -58,7 +58,7 @@ impl<'a> Results<'a> {
     /// What is expected of so many arguments that are the results.
     pub(crate) fn wants(&self, count: usize) -> Wants<'a>
         ensures expected { expects result ≡ self.now.expected }
-        ensures types { expects result ≡ true → types_of result ≡ usable count self.now.types.now }
+        ensures types { types_of result ≡ usable self.now.expected count self.now.types.now }
     {
         if !self.expected {
             Wants::Nothing
@@ -100,6 +100,16 @@ pub(crate) fn slot(found: Found) -> u32
     match found {
         None => INT,
         Some(ty) => ty,
+    }
+}
+
+/// The first type, or the second where the first isn't known.
+pub(crate) fn or_found(first: Found, second: Found) -> Found
+    ensures { result ≡ or_found first second }
+{
+    match first {
+        None => second,
+        Some(ty) => Some(ty),
     }
 }
 

@@ -1,9 +1,19 @@
 // Expressions and blocks.
-ghost use Rattle.std.specs.Prelude.{◌≡◌, true, OnOk};
+ghost use Rattle.std.specs.Prelude.{◌≡◌, ◌++◌, true, IfOk, OnOk};
+ghost use Rattle.fip_trees.specs.Least.{after};
+ghost use Rattle.fip_trees.specs.Tree as T;
+ghost use Rattle.fip_trees.specs.TreeView as V;
+ghost use Rattle.type_check.specs.Bound.{found_bound, fill_bound, entries_bound, bound_faults};
+ghost use Rattle.type_check.specs.Faults.{found_arguments, fill_arguments};
+ghost use Rattle.type_check.specs.Faults.{arguments_faults, fill_pattern, fill_binders};
+ghost use Rattle.type_check.specs.Faults.{pattern_faults, fill, fill_block};
+ghost use Rattle.type_check.specs.Faults.{fill_clauses, found, found_block, faults, block_faults, clauses_faults};
 ghost use Rattle.type_check.specs.Found.{wanted_next};
-ghost use Rattle.type_check.specs.Scope.{Keeps};
+ghost use Rattle.type_check.specs.Typing.{bound_by};
+ghost use Rattle.type_check.specs.Wanted.{expects, types_of};
+ghost use Rattle.type_check.specs.World as W;
 
-use crate::arguments::{check_argument, check_arguments};
+use crate::arguments::{check_argument, check_arguments, count_of};
 use crate::expected::{BOOL, Found, INT, Results, Wants, slot};
 use crate::lets::{all_annotated, annotations, enter_binders};
 use crate::patterns::check_pattern;
@@ -17,17 +27,27 @@ use fip_trees::limits::MOST_RESULTS;
 use fip_trees::program::{Argument, Binding, Block, Clause, Expression};
 
 // An argument as the whole of an expression.
+#[tactic(auto, using(crate::proofs::Shared::noting))]
 fn check_give(
     walk: &Walk,
     scope: &Scope,
     results: Results,
     argument: &mut Argument,
     least: &mut Least,
-) -> Result<Vec<Found>, NoMemory> {
+) -> Result<Vec<Found>, NoMemory>
+    ensures tree { OnOk result (T.Give (V.argument argument.new) ≡
+        fill walk.now.tables.now scope.now results.entry.expected results.entry.types.now
+        (T.Give (V.argument argument.old))) }
+    ensures found { IfOk result (λ v. v.items ≡
+        found walk.now.tables.now scope.now results.entry.expected results.entry.types.now
+        (T.Give (V.argument argument.old))) }
+    ensures faults { OnOk result (least.new ≡ after least.old (faults walk.now.tables.now walk.now.instance scope.now
+        results.entry.expected results.entry.types.now (T.Give (V.argument argument.old)))) }
+{
     walk.note_if(
-        results.count() != 1,
+        1 != results.count(),
         Rule::E34,
-        argument.place(),
+        place_of(argument),
         b"",
         least,
     )?;
@@ -37,6 +57,17 @@ fn check_give(
     as_expected(walk.alloc, types, results)
 }
 
+// The place of an argument's head.
+fn place_of(argument: &Argument) -> Place
+    ensures { result ≡ T.place_of (V.argument argument.now) }
+{
+    match argument {
+        Argument::Variable { place, .. } => *place,
+        Argument::Literal { place, .. } => *place,
+        Argument::Constructor { place, .. } => *place,
+    }
+}
+
 // The arguments of a tuple; their types.
 fn check_values(
     walk: &Walk,
@@ -44,7 +75,15 @@ fn check_values(
     wants: Wants,
     arguments: &mut [Argument],
     least: &mut Least,
-) -> Result<Vec<Found>, NoMemory> {
+) -> Result<Vec<Found>, NoMemory>
+    ensures tree { OnOk result (V.arguments arguments.new ≡
+        fill_arguments walk.now.tables.now (expects wants.entry) (types_of wants.entry) (V.arguments arguments.old)) }
+    ensures found { IfOk result (λ v. v.items ≡ found_arguments walk.now.tables.now scope.now
+        (expects wants.entry) (types_of wants.entry) (V.arguments arguments.old)) }
+    ensures faults { OnOk result (least.new ≡
+        after least.old (arguments_faults walk.now.tables.now walk.now.instance scope.now
+        (expects wants.entry) (types_of wants.entry) (V.arguments arguments.old))) }
+{
     let mut types = Vec::new(walk.alloc);
     let mut index = 0;
     for argument in arguments.iter_mut() {
@@ -54,6 +93,7 @@ fn check_values(
     Ok(types)
 }
 
+#[tactic(auto, using(crate::proofs::Shared::noting))]
 fn check_tuple(
     walk: &Walk,
     scope: &Scope,
@@ -61,8 +101,17 @@ fn check_tuple(
     place: Place,
     arguments: &mut [Argument],
     least: &mut Least,
-) -> Result<Vec<Found>, NoMemory> {
-    let count = arguments.len();
+) -> Result<Vec<Found>, NoMemory>
+    ensures tree { OnOk result (T.Tuple place (V.arguments arguments.new) ≡
+        fill walk.now.tables.now scope.now results.entry.expected results.entry.types.now
+        (T.Tuple place (V.arguments arguments.old))) }
+    ensures found { IfOk result (λ v. v.items ≡
+        found walk.now.tables.now scope.now results.entry.expected results.entry.types.now
+        (T.Tuple place (V.arguments arguments.old))) }
+    ensures faults { OnOk result (least.new ≡ after least.old (faults walk.now.tables.now walk.now.instance scope.now
+        results.entry.expected results.entry.types.now (T.Tuple place (V.arguments arguments.old)))) }
+{
+    let count = count_of(arguments);
     walk.note_if(MOST_RESULTS < count, Rule::E34, place, b"", least)?;
     walk.note_if(count != results.count(), Rule::E34, place, b"", least)?;
     let types = check_values(walk, scope, results.wants(count), arguments, least)?;
@@ -70,7 +119,9 @@ fn check_tuple(
 }
 
 // The type of an operator's result.
-fn result_of(operator: Operator) -> u32 {
+fn result_of(operator: Operator) -> u32
+    ensures { result ≡ W.result_of operator }
+{
     match operator {
         Operator::Add
         | Operator::Subtract
@@ -86,6 +137,7 @@ fn result_of(operator: Operator) -> u32 {
     }
 }
 
+#[tactic(auto, using(crate::proofs::Shared::noting))]
 fn check_operation(
     walk: &Walk,
     scope: &Scope,
@@ -95,7 +147,17 @@ fn check_operation(
     left: &mut Argument,
     right: &mut Argument,
     least: &mut Least,
-) -> Result<Vec<Found>, NoMemory> {
+) -> Result<Vec<Found>, NoMemory>
+    ensures tree { OnOk result (T.Operation operator place (V.argument left.new) (V.argument right.new) ≡
+        fill walk.now.tables.now scope.now results.entry.expected results.entry.types.now
+        (T.Operation operator place (V.argument left.old) (V.argument right.old))) }
+    ensures found { IfOk result (λ v. v.items ≡
+        found walk.now.tables.now scope.now results.entry.expected results.entry.types.now
+        (T.Operation operator place (V.argument left.old) (V.argument right.old))) }
+    ensures faults { OnOk result (least.new ≡ after least.old (faults walk.now.tables.now walk.now.instance scope.now
+        results.entry.expected results.entry.types.now (T.Operation operator place (V.argument left.old) (V.argument
+        right.old)))) }
+{
     check_argument(walk, scope, Some(Some(INT)), left, least)?;
     check_argument(walk, scope, Some(Some(INT)), right, least)?;
     let types = [result_of(operator)];
@@ -103,6 +165,7 @@ fn check_operation(
     as_expected(walk.alloc, all_known(walk.alloc, &types)?, results)
 }
 
+#[tactic(auto, using(crate::proofs::Shared::noting))]
 fn check_call(
     walk: &Walk,
     scope: &Scope,
@@ -112,10 +175,18 @@ fn check_call(
     place: Place,
     arguments: &mut [Argument],
     least: &mut Least,
-) -> Result<Vec<Found>, NoMemory> {
+) -> Result<Vec<Found>, NoMemory>
+    ensures tree { OnOk result (T.Call callee name.now place (V.arguments arguments.new) ≡
+        fill walk.now.tables.now scope.now results.entry.expected results.entry.types.now
+        (T.Call callee name.now place (V.arguments arguments.old))) }
+    ensures found { IfOk result (λ v. v.items ≡
+        found walk.now.tables.now scope.now results.entry.expected results.entry.types.now
+        (T.Call callee name.now place (V.arguments arguments.old))) }
+    ensures faults { OnOk result (least.new ≡ after least.old (faults walk.now.tables.now walk.now.instance scope.now
+        results.entry.expected results.entry.types.now (T.Call callee name.now place (V.arguments arguments.old)))) }
+{
     let parameters = walk.tables.parameters(callee);
-    let is_broken = arguments.len() != parameters.len();
-    walk.note_if(is_broken, Rule::E33, place, name.as_slice(), least)?;
+    walk.note_count(count_of(arguments), parameters.len(), name, place, least)?;
     check_arguments(walk, scope, Wants::Known(parameters), arguments, least)?;
     let types = walk.tables.results(callee);
     note_results(walk, results, types, place, least)?;
@@ -123,24 +194,19 @@ fn check_call(
 }
 
 // What is expected of the clauses behind the first: what is expected of the match, else the types of the first.
-fn results_behind<'a>(results: Results<'a>, first: &'a [Found]) -> Results<'a>
-    ensures expected { result.expected ≡ true }
-    ensures types { result.types.now ≡ wanted_next results.entry.expected results.entry.types.now first.now }
+fn types_behind<'a>(results: Results<'a>, first: &'a [Found]) -> &'a [Found]
+    ensures { result.now ≡ wanted_next results.entry.expected results.entry.types.now first.now }
 {
-    let types = if results.expected {
+    if results.expected {
         results.types
     } else {
         first
-    };
-    Results {
-        expected: true,
-        types,
     }
 }
 
 /// Checks an expression of which results are expected; as many types, those of the results.
 #[cycle(expression)]
-#[tactic(auto, using(crate::proofs::Scopes::keeping))]
+#[tactic(auto, using(crate::proofs::Shared::noting))]
 pub(crate) fn check_expression(
     walk: &Walk,
     scope: &mut Scope,
@@ -149,6 +215,14 @@ pub(crate) fn check_expression(
     least: &mut Least,
 ) -> Result<Vec<Found>, NoMemory>
     ensures scope { OnOk result (scope.new ≡ scope.old) }
+    ensures tree { OnOk result (V.expression expression.new ≡
+        fill walk.now.tables.now scope.old results.entry.expected results.entry.types.now
+        (V.expression expression.old)) }
+    ensures found { IfOk result (λ v. v.items ≡
+        found walk.now.tables.now scope.old results.entry.expected results.entry.types.now
+        (V.expression expression.old)) }
+    ensures faults { OnOk result (least.new ≡ after least.old (faults walk.now.tables.now walk.now.instance scope.old
+        results.entry.expected results.entry.types.now (V.expression expression.old))) }
 {
     match expression {
         Expression::Give(argument) => check_give(walk, scope, results, argument, least),
@@ -170,26 +244,52 @@ pub(crate) fn check_expression(
             walk, scope, results, *callee, name, *place, arguments, least,
         ),
         Expression::Match {
+            kind,
             ty,
+            place,
             scrutinee,
             first,
             others,
-            ..
         } => {
+            // They stay as they are; the proof knows of them what is read.
+            let _kept = (*kind, *place);
             let found = check_argument(walk, scope, None, scrutinee, least)?;
             *ty = slot(found);
             let types = check_clause(walk, scope, found, results, first, least)?;
-            let behind = results_behind(results, &types);
+            let behind = types_behind(results, &types);
             check_clauses(walk, scope, found, behind, others, least)?;
             Ok(types)
         }
-        Expression::Nested(block) => check_block(walk, scope, results, block, least),
+        Expression::Nested(block) => check_nested(walk, scope, results, block, least),
     }
+}
+
+// A block in brackets.
+#[cycle(expression)]
+fn check_nested(
+    walk: &Walk,
+    scope: &mut Scope,
+    results: Results,
+    block: &mut Box<Block>,
+    least: &mut Least,
+) -> Result<Vec<Found>, NoMemory>
+    ensures scope { OnOk result (scope.new ≡ scope.old) }
+    ensures tree { OnOk result (V.block block.new.value ≡
+        fill_block walk.now.tables.now scope.old results.entry.expected
+        results.entry.types.now (V.block block.old.value)) }
+    ensures found { IfOk result (λ v. v.items ≡ found_block walk.now.tables.now scope.old results.entry.expected
+        results.entry.types.now (V.block block.old.value)) }
+    ensures faults { OnOk result (least.new ≡
+        after least.old (block_faults walk.now.tables.now walk.now.instance scope.old
+        results.entry.expected results.entry.types.now (V.block block.old.value))) }
+{
+    let types = check_block(walk, scope, results, block, least)?;
+    Ok(types)
 }
 
 // A clause of a match on a scrutinee of a type; the types of its results.
 #[cycle(expression)]
-#[tactic(auto, using(crate::proofs::Scopes::keeping))]
+#[tactic(auto, using(crate::proofs::Shared::noting))]
 fn check_clause(
     walk: &Walk,
     scope: &mut Scope,
@@ -199,6 +299,19 @@ fn check_clause(
     least: &mut Least,
 ) -> Result<Vec<Found>, NoMemory>
     ensures scope { OnOk result (scope.new ≡ scope.old) }
+    ensures pattern { OnOk result ((V.clause clause.new).pattern ≡
+        fill_pattern walk.now.tables.now ty (V.clause clause.old).pattern) }
+    ensures body { OnOk result ((V.clause clause.new).body ≡ fill_block walk.now.tables.now
+        (scope.old ++ bound_by walk.now.tables.now ty (V.clause clause.old).pattern)
+        results.entry.expected results.entry.types.now (V.clause clause.old).body) }
+    ensures found { IfOk result (λ v. v.items ≡ found_block walk.now.tables.now
+        (scope.old ++ bound_by walk.now.tables.now ty (V.clause clause.old).pattern)
+        results.entry.expected results.entry.types.now (V.clause clause.old).body) }
+    ensures faults { OnOk result (least.new ≡ after least.old
+        (pattern_faults walk.now.tables.now walk.now.instance ty (V.clause clause.old).pattern ++
+        block_faults walk.now.tables.now walk.now.instance
+        (scope.old ++ bound_by walk.now.tables.now ty (V.clause clause.old).pattern)
+        results.entry.expected results.entry.types.now (V.clause clause.old).body)) }
 {
     let kept = scope.len();
     check_pattern(walk, ty, &mut clause.pattern, scope, least)?;
@@ -207,19 +320,28 @@ fn check_clause(
     Ok(types)
 }
 
-// The clauses behind the first.
+// The clauses behind the first, of which types are expected.
 #[cycle(expression)]
-#[tactic(auto, using(crate::proofs::Scopes::keeping))]
+#[tactic(auto, using(crate::proofs::Shared::noting))]
 fn check_clauses(
     walk: &Walk,
     scope: &mut Scope,
     ty: Found,
-    results: Results,
+    types: &[Found],
     clauses: &mut [Clause],
     least: &mut Least,
 ) -> Result<(), NoMemory>
     ensures scope { OnOk result (scope.new ≡ scope.old) }
+    ensures tree { OnOk result (V.clauses clauses.new ≡
+        fill_clauses walk.now.tables.now scope.old ty types.now (V.clauses clauses.old)) }
+    ensures faults { OnOk result (least.new ≡
+        after least.old (clauses_faults walk.now.tables.now walk.now.instance scope.old
+        ty types.now (V.clauses clauses.old))) }
 {
+    let results = Results {
+        expected: true,
+        types,
+    };
     for clause in clauses.iter_mut() {
         check_clause(walk, scope, ty, results, clause, least)?;
     }
@@ -228,14 +350,22 @@ fn check_clauses(
 
 // A let: its bound expression, and then its binders.
 #[cycle(expression)]
-#[tactic(auto, using(crate::proofs::Scopes::keeping))]
+#[tactic(auto, using(crate::proofs::Shared::noting))]
 fn check_binding(
     walk: &Walk,
     scope: &mut Scope,
     binding: &mut Binding,
     least: &mut Least,
 ) -> Result<(), NoMemory>
-    ensures scope { OnOk result (Keeps scope.old scope.new) }
+    ensures binders { OnOk result ((V.binding binding.new).binders ≡
+        fill_binders (found_bound walk.now.tables.now scope.old (V.binding binding.old)) (V.binding
+        binding.old).binders) }
+    ensures bound { OnOk result ((V.binding binding.new).bound ≡
+        fill_bound walk.now.tables.now scope.old (V.binding binding.old)) }
+    ensures scope { OnOk result (scope.new ≡ scope.old ++
+        entries_bound walk.now.tables.now scope.old (V.binding binding.old)) }
+    ensures faults { OnOk result (least.new ≡ after least.old
+        (bound_faults walk.now.tables.now walk.now.instance scope.old (V.binding binding.old))) }
 {
     let expected = all_annotated(&binding.binders);
     let types = annotations(walk.alloc, &binding.binders)?;
@@ -244,12 +374,13 @@ fn check_binding(
         types: &types,
     };
     let found = check_expression(walk, scope, results, &mut binding.bound, least)?;
-    enter_binders(walk, expected, &found, &mut binding.binders, scope, least)
+    enter_binders(walk, expected, &found, &mut binding.binders, scope, least)?;
+    Ok(())
 }
 
 /// Checks a block of which results are expected; as many types, those of the results.
 #[cycle(expression)]
-#[tactic(auto, using(crate::proofs::Scopes::keeping))]
+#[tactic(auto, using(crate::proofs::Shared::noting))]
 pub(crate) fn check_block(
     walk: &Walk,
     scope: &mut Scope,
@@ -258,6 +389,15 @@ pub(crate) fn check_block(
     least: &mut Least,
 ) -> Result<Vec<Found>, NoMemory>
     ensures scope { OnOk result (scope.new ≡ scope.old) }
+    ensures tree { OnOk result (V.block block.new ≡
+        fill_block walk.now.tables.now scope.old results.entry.expected results.entry.types.now
+        (V.block block.old)) }
+    ensures found { IfOk result (λ v. v.items ≡
+        found_block walk.now.tables.now scope.old results.entry.expected results.entry.types.now
+        (V.block block.old)) }
+    ensures faults { OnOk result (least.new ≡
+        after least.old (block_faults walk.now.tables.now walk.now.instance scope.old
+        results.entry.expected results.entry.types.now (V.block block.old))) }
 {
     let kept = scope.len();
     for binding in block.bindings.iter_mut() {

@@ -1,9 +1,11 @@
 // The binders of a let.
-ghost use Rattle.std.specs.Prelude.{◌≡◌, ◌++◌, IfOk, OnOk};
+ghost use Rattle.std.specs.Prelude.{◌≡◌, ◌++◌, ◌&&◌, not, IfOk, OnOk};
 ghost use Rattle.type_check.specs.Binders.{all_annotated, annotations, entries};
-ghost use Rattle.type_check.specs.Found.{or_found};
+ghost use Rattle.type_check.specs.Found.{differ};
+ghost use Rattle.type_check.specs.Faults.{binders_faults, fill_binders};
+ghost use Rattle.fip_trees.specs.Least.{after};
 
-use crate::expected::{Found, differ, found_at};
+use crate::expected::{Found, differ, found_at, or_found};
 use crate::patterns::enter_binder;
 use crate::scope::Scope;
 use crate::walk::Walk;
@@ -36,14 +38,11 @@ pub(crate) fn annotations(alloc: Global, binders: &[Binder]) -> Result<Vec<Found
     Ok(types)
 }
 
-// The type of a binder: that of its annotation, else the one found.
-fn binder_type(annotation: Option<u32>, found: Found) -> Found
-    ensures { result ≡ or_found annotation found }
+// Whether an annotation that wasn't expected isn't the type found.
+fn is_misfit(all: bool, annotation: Option<u32>, found: Found) -> bool
+    ensures { result ≡ (not all && differ annotation found) }
 {
-    match annotation {
-        None => found,
-        Some(ty) => Some(ty),
-    }
+    !all && differ(annotation, found)
 }
 
 /// Gives binders their types and enters their variables. It notes each annotation that isn't the type found, unless all
@@ -56,14 +55,17 @@ pub(crate) fn enter_binders(
     scope: &mut Scope,
     least: &mut Least,
 ) -> Result<(), NoMemory>
+    ensures binders { OnOk result (binders.new ≡ fill_binders found.now binders.old) }
     ensures scope { OnOk result (scope.new ≡ scope.old ++ entries binders.old found.now) }
+    ensures faults { OnOk result (least.new ≡
+        after least.old (binders_faults walk.now.instance all binders.old found.now)) }
 {
     let mut index = 0;
     for binder in binders.iter_mut() {
         let ty = found_at(found, index);
-        let is_broken = !all && differ(binder.annotation, ty);
+        let is_broken = is_misfit(all, binder.annotation, ty);
         walk.note_if(is_broken, Rule::E30, binder.place, b"", least)?;
-        enter_binder(binder_type(binder.annotation, ty), binder, scope)?;
+        enter_binder(or_found(binder.annotation, ty), binder, scope)?;
         index += 1;
     }
     Ok(())

@@ -8,6 +8,7 @@ mod arguments;
 mod check;
 mod expected;
 mod expressions;
+pub mod laws;
 mod lets;
 mod patterns;
 mod results;

@@ -1,5 +1,7 @@
 // Results: types found, and types that are expected of them.
-ghost use Rattle.std.specs.Prelude.{◌≡◌, None, Some, map, IfOk};
+ghost use Rattle.std.specs.Prelude.{◌≡◌, None, Some, map, IfOk, OnOk};
+ghost use Rattle.fip_trees.specs.Least.{after};
+ghost use Rattle.type_check.specs.Faults.{results_faults};
 ghost use Rattle.type_check.specs.Found.{as_many, unknowns, some_differ};
 
 use crate::expected::{Found, Results, differ, found_at};
@@ -68,15 +70,19 @@ fn some_differ(expected: &[Found], types: &[u32]) -> bool
 }
 
 /// Notes where there are more or fewer results of these types than expected, or one is of another type.
+#[tactic(auto, using(crate::proofs::Shared::noting))]
 pub(crate) fn note_results(
     walk: &Walk,
     results: Results,
     types: &[u32],
     place: Place,
     least: &mut Least,
-) -> Result<(), NoMemory> {
+) -> Result<(), NoMemory>
+    ensures { OnOk result (least.new ≡ after least.old (results_faults walk.now.instance place results.entry.expected
+        results.entry.types.now types.now)) }
+{
     let is_count = types.len() == results.count();
-    let differs = results.expected && is_count && some_differ(results.types, types);
+    let differs = results.expected && (is_count && some_differ(results.types, types));
     walk.note_if(!is_count, Rule::E34, place, b"", least)?;
     walk.note_if(differs, Rule::E30, place, b"", least)
 }

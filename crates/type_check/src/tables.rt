@@ -2,11 +2,13 @@
 ghost use Rattle.std.specs.Prelude.{◌≡◌, ℕ, ◌≤◌, true, List, map, None, Some, IfOk, MatchOption, slice_get};
 ghost use Rattle.type_check.specs.World as W;
 ghost use Rattle.type_check.specs.World.{numbered, is_of, plain_type, chosen, fields_of, field_types};
-ghost use Rattle.type_check.specs.World.{field_count, counts_of, head, or_zero};
+ghost use Rattle.type_check.specs.World.{field_count, counts_of, head, head_of, or_zero, type_of};
+ghost use Rattle.type_check.specs.Plain.{IsPlain, nothing, put_first, put_plain};
+ghost use Rattle.fip_trees.specs.TreeView.{instance_of};
 ghost use Rattle.type_check.specs.Wanted.{expects, types_of};
 
-use crate::expected::{Found, Want, Wants};
-use fip_base::plain::NoMemory;
+use crate::expected::{Found, Want, Wants, or_found};
+use fip_base::plain::{NoMemory, Param};
 use fip_base::table::TypeTable;
 use fip_trees::program::Instance;
 use std::alloc::Global;
@@ -45,9 +47,10 @@ impl Model for Tables {
       declaring = t.declaring.items;
       arities = t.arities.items;
       counts = map (λ r. r.items) t.field_counts.items;
-      plain = t.plain_types.items;
       heads = t.heads.items;
     } };
+
+    ghost invariant = { λ t. IsPlain t.arities.items t.declaring.items t.plain_types.items };
 }
 
 impl Tables {
@@ -196,31 +199,61 @@ pub(crate) fn plain_types(
     alloc: Global,
     declaring: &[u32],
     arities: &[u32],
-) -> Result<Vec<Found>, NoMemory> {
-    let mut found = Vec::new(alloc);
-    found.push(None)?;
-    for _ in arities {
-        found.push(None)?;
-    }
-    for (i, data_type) in declaring.iter().enumerate() {
-        if at_number(arities, *data_type) == Some(0) {
-            put_first(&mut found, *data_type, u32::try_from(i + 1).ok());
-        }
+) -> Result<Vec<Found>, NoMemory>
+    ensures { IfOk result (λ v. IsPlain arities.now declaring.now v.items) }
+{
+    let mut found = nothing_found(alloc, arities)?;
+    let mut number: usize = 0;
+    for data_type in declaring {
+        number += 1;
+        put_plain(arities, *data_type, number, &mut found);
     }
     Ok(found)
 }
 
+// No type for 0, and none for each data type.
+fn nothing_found(alloc: Global, arities: &[u32]) -> Result<Vec<Found>, NoMemory>
+    ensures { IfOk result (λ v. v.items ≡ nothing arities.now) }
+{
+    let mut found = Vec::new(alloc);
+    found.push(None)?;
+    for arity in arities {
+        found.push(not_found(*arity))?;
+    }
+    Ok(found)
+}
+
+// No type.
+fn not_found(_arity: u32) -> Found
+    ensures { result ≡ None }
+{
+    None
+}
+
+// Notes a type that a data type declares, where the data type has no parameters and no earlier type.
+fn put_plain(arities: &[u32], data_type: u32, number: usize, found: &mut Vec<Found>)
+    ensures { found.new.items ≡ put_plain arities.now data_type number found.old.items }
+{
+    if at_number(arities, data_type) == Some(0) {
+        put_first(found, data_type, u32::try_from(number).ok());
+    }
+}
+
 // Writes a type where there is none.
-fn put_first(found: &mut [Found], data_type: u32, ty: Found) {
-    if let Some(slot) = found.get_mut(data_type as usize) {
-        if slot.is_none() {
-            *slot = ty;
-        }
+#[tactic(auto, using(crate::proofs::Plains::put_here, crate::proofs::Plains::put_past))]
+fn put_first(found: &mut Vec<Found>, data_type: u32, ty: Found)
+    ensures { found.new.items ≡ put_first found.old.items data_type ty }
+{
+    let index = data_type as usize;
+    if index < found.len() {
+        found[index] = or_found(found[index], ty);
     }
 }
 
 /// The headers of the instances.
-pub(crate) fn heads(alloc: Global, instances: &[Instance]) -> Result<Vec<Head>, NoMemory> {
+pub(crate) fn heads(alloc: Global, instances: &[Instance]) -> Result<Vec<Head>, NoMemory>
+    ensures { IfOk result (λ v. v.items ≡ map head_of (map instance_of instances.now)) }
+{
     let mut heads = Vec::new(alloc);
     for instance in instances {
         heads.push(head_of(alloc, instance)?)?;
@@ -228,13 +261,21 @@ pub(crate) fn heads(alloc: Global, instances: &[Instance]) -> Result<Vec<Head>, 
     Ok(heads)
 }
 
-fn head_of(alloc: Global, instance: &Instance) -> Result<Head, NoMemory> {
-    let mut parameters = Vec::new(alloc);
-    for parameter in instance.params.as_slice() {
-        parameters.push(parameter.ty)?;
-    }
+fn head_of(alloc: Global, instance: &Instance) -> Result<Head, NoMemory>
+    ensures { IfOk result (λ h. h ≡ head_of (instance_of instance.now)) }
+{
     Ok(Head {
-        parameters,
+        parameters: types_of_params(alloc, instance.params.as_slice())?,
         results: instance.results.copy(alloc)?.into_vec(),
     })
+}
+
+fn types_of_params(alloc: Global, params: &[Param]) -> Result<Vec<u32>, NoMemory>
+    ensures { IfOk result (λ v. v.items ≡ map type_of params.now) }
+{
+    let mut types = Vec::new(alloc);
+    for param in params {
+        types.push(param.ty)?;
+    }
+    Ok(types)
 }

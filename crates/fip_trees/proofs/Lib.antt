@@ -1,0 +1,3 @@
+pub mod TreeViews
+pub mod RuleNames
+pub mod Leasts

@@ -4,3 +4,4 @@ pub mod TreeGrowth
 pub mod TreeSteps
 pub mod TreeExamples
 pub mod MissingSteps
+pub mod MatchSteps

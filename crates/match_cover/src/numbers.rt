@@ -1,4 +1,9 @@
 // The matches of a program by number.
+ghost use Rattle.std.specs.Prelude.{◌≡◌, ◌++◌, map, length, IfOk, OnOk};
+ghost use Rattle.std.specs.List.Sorted.{IsPermutation, IsNonDecreasingBy};
+ghost use Rattle.match_cover.specs.FoundView.{found_matches, found_offset};
+ghost use Rattle.match_cover.specs.Matches.{arm, below_arms, block_matches, expression_matches, IsDecisionOf};
+
 use crate::trees::{Tree, tree_of};
 use fip_base::plain::{NoMemory, Place};
 use fip_trees::program::{Block, Clause, Expression, Typed};
@@ -17,28 +22,40 @@ struct Found<'a> {
     others: &'a [Clause],
 }
 
-/// The decision tree of the match with this number, which is to be there, in a program that `cover` accepts; none
-/// exactly where it has more than 1,024 branches. An error where no memory is left.
-pub fn decision(alloc: Global, typed: &Typed, m: MatchId) -> Result<Option<Tree>, NoMemory> {
+/// The decision tree of the match with this number, in a program that `cover` accepts; none exactly where there is no
+/// such match, or its tree has more than 1,024 branches. An error where no memory is left.
+pub fn decision(alloc: Global, typed: &Typed, m: MatchId) -> Result<Option<Tree>, NoMemory>
+    ensures { IfOk result (IsDecisionOf typed.now.program.types typed.now.program.instances.items m.0) }
+{
     let mut number = m.0;
     for instance in &typed.program.instances {
         let mut found = Vec::new(alloc);
         find_in_block(&instance.body, &mut found)?;
         if number < found.len() {
-            found.sort_by_key(|f| f.place.at)?;
-            return match found.get(number) {
-                None => Ok(None),
-                Some(f) => tree_of(alloc, &typed.program, f.first, f.others),
-            };
+            sort(&mut found)?;
+            let f = &found[number];
+            return tree_of(alloc, &typed.program, f.first, f.others);
         }
         number -= found.len();
     }
     Ok(None)
 }
 
+// Puts matches into the order of the text.
+fn sort(found: &mut Vec<Found<'_>>) -> Result<(), NoMemory>
+    ensures same { IsPermutation found.old.items found.new.items }
+    ensures len { length found.new.items ≡ length found.old.items }
+    ensures sorted { OnOk result (IsNonDecreasingBy found_offset found.new.items) }
+{
+    found.sort_by_key(|f| f.place.at)?;
+    Ok(())
+}
+
 // Appends the matches of a block.
 #[cycle(find)]
-fn find_in_block<'a>(block: &'a Block, found: &mut Vec<Found<'a>>) -> Result<(), NoMemory> {
+fn find_in_block<'a>(block: &'a Block, found: &mut Vec<Found<'a>>) -> Result<(), NoMemory>
+    ensures { OnOk result (found_matches found.new.items ≡ found_matches found.old.items ++ block_matches block.now) }
+{
     for binding in &block.bindings {
         find_in_expression(&binding.bound, found)?;
     }
@@ -49,7 +66,10 @@ fn find_in_block<'a>(block: &'a Block, found: &mut Vec<Found<'a>>) -> Result<(),
 fn find_in_expression<'a>(
     expression: &'a Expression,
     found: &mut Vec<Found<'a>>,
-) -> Result<(), NoMemory> {
+) -> Result<(), NoMemory>
+    ensures { OnOk result (found_matches found.new.items ≡
+        found_matches found.old.items ++ expression_matches expression.now) }
+{
     match expression {
         Expression::Give(_) => Ok(()),
         Expression::Tuple { .. } => Ok(()),
@@ -74,7 +94,10 @@ fn find_in_expression<'a>(
 }
 
 #[cycle(find)]
-fn find_in_bodies<'a>(clauses: &'a [Clause], found: &mut Vec<Found<'a>>) -> Result<(), NoMemory> {
+fn find_in_bodies<'a>(clauses: &'a [Clause], found: &mut Vec<Found<'a>>) -> Result<(), NoMemory>
+    ensures { OnOk result (found_matches found.new.items ≡
+        found_matches found.old.items ++ below_arms (map arm clauses.now)) }
+{
     for clause in clauses {
         find_in_block(&clause.body, found)?;
     }

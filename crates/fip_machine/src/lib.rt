@@ -11,6 +11,7 @@ mod named;
 mod release;
 mod rows;
 mod stack;
+mod traced;
 
 pub use gauge::Gauge;
 pub use machine::{Ended, Machine};

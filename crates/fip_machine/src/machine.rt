@@ -26,6 +26,16 @@ pub enum Ended {
     Deep,
 }
 
+// How a run ended after its last step; none where a call would come and none is left.
+pub(crate) fn ended_of(over: Option<Stepped>) -> Ended {
+    match over {
+        Some(Stepped::Value) => Ended::Value,
+        Some(Stepped::Trap { kind, line, col }) => Ended::Trap { kind, line, col },
+        Some(Stepped::Deep) => Ended::Deep,
+        _ => Ended::Out,
+    }
+}
+
 /// A machine at a state of its run.
 #[derive(Drop)]
 pub struct Machine<'a> {
@@ -73,12 +83,17 @@ impl<'a> Machine<'a> {
         let mut highest = Highest { frames, words };
         let over = self.stack.run(&mut self.cells, calls - 1, &mut highest);
         gauge.see(&held(&self.cells), highest.frames, highest.words);
-        match over {
-            Some(Stepped::Value) => Ended::Value,
-            Some(Stepped::Trap { kind, line, col }) => Ended::Trap { kind, line, col },
-            Some(Stepped::Deep) => Ended::Deep,
-            _ => Ended::Out,
-        }
+        ended_of(over)
+    }
+
+    // The machine of these frames and cells.
+    pub(crate) fn of(stack: TaskStack<'a>, cells: Sealed) -> Machine<'a> {
+        Machine { stack, cells }
+    }
+
+    // Its frames and its cells.
+    pub(crate) fn into_parts(self) -> (TaskStack<'a>, Sealed) {
+        (self.stack, self.cells)
     }
 
     /// The words of the results, after Value.

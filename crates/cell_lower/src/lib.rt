@@ -1,0 +1,19 @@
+// From a typed program to code for the machine: each variable, pattern node and value has a register of its own, a match
+// is a tree of tests, and each clause's body stands once in the code.
+#![tactic(auto)]
+
+mod bodies;
+mod buffer;
+mod calls;
+mod choices;
+mod copies;
+mod frame;
+mod functions;
+mod limits;
+mod lowerer;
+mod matches;
+mod spots;
+mod values;
+mod weakening;
+
+pub use functions::lower;

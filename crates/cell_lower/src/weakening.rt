@@ -1,0 +1,165 @@
+// What is left over in an fbip function is given up: trees are dropped, cells of credits are freed.
+use crate::frame::{Frame, is_owned};
+use crate::lowerer::Lowerer;
+use cell_code::Instr;
+use fip_base::core_form::MatchKind;
+use fip_base::plain::NoMemory;
+use fip_trees::limits::MOST_FIELDS;
+use fip_trees::program::{Argument, Block, Clause, Expression};
+use fip_trees::sizes::Sizes;
+
+impl<'a> Lowerer<'a> {
+    /// Gives up all that is left when the function ends.
+    pub fn give_up_all(&mut self) -> Result<(), NoMemory> {
+        if !self.gives_up {
+            return Ok(());
+        }
+        for register in 0..self.next {
+            self.drop_tree(register)?;
+        }
+        for size in 1..=MOST_FIELDS {
+            self.free_past(size, 0)?;
+        }
+        Ok(())
+    }
+
+    /// Gives up what a clause leaves and another doesn't: trees that weren't there at the entry of its match or that a
+    /// clause may use up, and credits past those that are left where the match took what it needs. What the clause gives
+    /// is kept.
+    pub fn give_up_to(
+        &mut self,
+        entry: &Frame,
+        used: &[bool],
+        need: &Sizes,
+        given: &[u16],
+    ) -> Result<(), NoMemory> {
+        if !self.gives_up {
+            return Ok(());
+        }
+        for register in 0..self.next {
+            let stays = entry.is_owned(register) && !is_marked(used, register);
+            if !stays && !given.contains(&register) {
+                self.drop_tree(register)?;
+            }
+        }
+        for size in 1..=MOST_FIELDS {
+            let kept = entry.count(size).saturating_sub(need.of(size) as usize);
+            self.free_past(size, kept)?;
+        }
+        Ok(())
+    }
+
+    fn drop_tree(&mut self, register: u16) -> Result<(), NoMemory> {
+        if !self.frame.is_owned(register) {
+            return Ok(());
+        }
+        self.frame.use_up(register);
+        self.buffer.add(Instr::Drop { register })
+    }
+
+    // Frees all credits of a size but so many.
+    fn free_past(&mut self, size: usize, kept: usize) -> Result<(), NoMemory> {
+        for _ in kept..self.frame.count(size) {
+            if let Some(register) = self.frame.take_credit(size) {
+                self.buffer.add(Instr::Free { register })?;
+            }
+        }
+        Ok(())
+    }
+
+    /// Which registers hold a tree that a block may use up.
+    pub fn used_in(&self, marks: &mut Vec<bool>, block: &Block) {
+        self.mark_block(marks, block)
+    }
+
+    #[cycle(used)]
+    fn mark_block(&self, marks: &mut Vec<bool>, block: &Block) {
+        for binding in &block.bindings {
+            self.mark_expression(marks, &binding.bound);
+        }
+        self.mark_expression(marks, &block.last)
+    }
+
+    #[cycle(used)]
+    fn mark_expression(&self, marks: &mut Vec<bool>, expression: &Expression) {
+        match expression {
+            Expression::Give(argument) => self.mark(marks, argument),
+            Expression::Tuple { arguments, .. } => self.mark_all(marks, arguments),
+            // Operators are applied to ints, which nobody owns.
+            Expression::Operation { .. } => {}
+            Expression::Call {
+                callee,
+                arguments,
+                ..
+            } => self.mark_call(marks, *callee, arguments),
+            Expression::Match {
+                kind,
+                scrutinee,
+                first,
+                others,
+                ..
+            } => {
+                if *kind == MatchKind::Destructive {
+                    self.mark(marks, scrutinee);
+                }
+                self.mark_block(marks, &first.body);
+                self.mark_clauses(marks, others)
+            }
+            Expression::Nested(block) => self.mark_block(marks, block),
+        }
+    }
+
+    #[cycle(used)]
+    fn mark_clauses(&self, marks: &mut Vec<bool>, clauses: &[Clause]) {
+        for clause in clauses {
+            self.mark_block(marks, &clause.body);
+        }
+    }
+
+    fn mark_call(&self, marks: &mut Vec<bool>, callee: u32, arguments: &[Argument]) {
+        let Some(instance) = self.context.program.instance(callee) else {
+            return;
+        };
+        for (param, argument) in instance.params.as_slice().iter().zip(arguments.iter()) {
+            if !param.lent {
+                self.mark(marks, argument);
+            }
+        }
+    }
+
+    fn mark_all(&self, marks: &mut Vec<bool>, arguments: &[Argument]) {
+        for argument in arguments {
+            self.mark(marks, argument);
+        }
+    }
+
+    /// Marks the registers of the variables of an argument.
+    pub fn mark(&self, marks: &mut Vec<bool>, argument: &Argument) {
+        match argument {
+            Argument::Variable { binder, .. } => {
+                if let Some(register) = self.register_of(*binder) {
+                    set_mark(marks, register);
+                }
+            }
+            Argument::Literal { .. } => {}
+            Argument::Constructor { arguments, .. } => {
+                for part in arguments {
+                    self.mark(marks, part);
+                }
+            }
+        }
+    }
+}
+
+fn set_mark(marks: &mut Vec<bool>, register: u16) {
+    if let Some(place) = marks.get_mut(register as usize) {
+        *place = true;
+    }
+}
+
+fn is_marked(marks: &[bool], register: u16) -> bool {
+    match marks.get(register as usize) {
+        Some(mark) => *mark,
+        None => false,
+    }
+}

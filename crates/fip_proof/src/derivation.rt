@@ -1,0 +1,184 @@
+// What a derivation is: lines of nodes.
+use fip_base::plain::NoMemory;
+use std::alloc::Global;
+
+/// A rule of the calculus.
+#[derive(Clone, Copy, Debug, PartialEq, Eq)]
+pub enum RuleName {
+    Variable,
+    Scalar,
+    Tuple,
+    Atom,
+    Reuse,
+    Let,
+    Call,
+    /// A match that only reads its scrutinee.
+    Match,
+    /// A match that takes its scrutinee apart.
+    TakingMatch,
+    Weaken,
+}
+
+impl RuleName {
+    /// Its name in a text.
+    pub fn text(self) -> &'static [u8] {
+        match self {
+            RuleName::Variable => b"VAR",
+            RuleName::Scalar => b"SCALAR",
+            RuleName::Tuple => b"TUPLE",
+            RuleName::Atom => b"ATOM",
+            RuleName::Reuse => b"REUSE",
+            RuleName::Let => b"LET",
+            RuleName::Call => b"CALL",
+            RuleName::Match => b"MATCH",
+            RuleName::TakingMatch => b"MATCH!",
+            RuleName::Weaken => b"WEAKEN",
+        }
+    }
+}
+
+/// Credits of one size.
+#[derive(Clone, Copy, Debug, PartialEq, Eq)]
+pub struct Credit {
+    /// From 1 to 16.
+    pub size: u8,
+    /// At least 1.
+    pub count: u32,
+}
+
+/// A node of a derivation: a rule, and what it uses up. The variables are the function's parameters and then its
+/// binders in the order of the core form, a let's before those inside what it binds, all numbered from 0.
+#[derive(Debug, Drop)]
+pub struct Node {
+    pub rule: RuleName,
+    /// The owned variables' numbers, rising.
+    pub variables: Vec<u32>,
+    /// The credits, their sizes rising.
+    pub credits: Vec<Credit>,
+    /// The number of its parts.
+    pub parts: usize,
+    /// The number of the nodes of its tree, itself counted: the next node that isn't below it stands so many places
+    /// behind it.
+    pub span: usize,
+}
+
+/// The derivation of an instance: the nodes of a tree, each before its parts, its first part directly behind it.
+#[derive(Debug, Drop)]
+pub struct Line {
+    instance: u32,
+    nodes: Vec<Node>,
+}
+
+impl Line {
+    /// The derivation of the instance of this number; nodes that are open are closed.
+    pub fn new(instance: u32, builder: Builder) -> Line {
+        Line {
+            instance,
+            nodes: builder.into_nodes(),
+        }
+    }
+
+    /// The number of the instance.
+    pub fn instance(&self) -> u32 {
+        self.instance
+    }
+
+    /// Its nodes.
+    pub fn nodes(&self) -> &[Node] {
+        self.nodes.as_slice()
+    }
+}
+
+/// A derivation: lines for instances, their numbers rising.
+#[derive(Debug, Drop)]
+pub struct Derivation {
+    lines: Vec<Line>,
+}
+
+impl Derivation {
+    /// The derivation with these lines.
+    pub fn new(lines: Vec<Line>) -> Derivation {
+        Derivation { lines }
+    }
+
+    /// Its lines.
+    pub fn lines(&self) -> &[Line] {
+        self.lines.as_slice()
+    }
+}
+
+/// Nodes that come one after another, and which of them still wait for parts.
+#[derive(Drop)]
+pub struct Builder {
+    nodes: Vec<Node>,
+    open: Vec<usize>,
+}
+
+impl Builder {
+    /// No node.
+    pub fn new(alloc: Global) -> Builder {
+        Builder {
+            nodes: Vec::new(alloc),
+            open: Vec::new(alloc),
+        }
+    }
+
+    /// How many nodes are open.
+    pub fn depth(&self) -> usize {
+        self.open.len()
+    }
+
+    /// How many nodes there are.
+    pub fn len(&self) -> usize {
+        self.nodes.len()
+    }
+
+    /// The owned variables of a node; none where there are fewer nodes.
+    pub fn variables_at(&self, place: usize) -> &[u32] {
+        match self.nodes.get(place) {
+            Some(node) => node.variables.as_slice(),
+            None => &[],
+        }
+    }
+
+    /// One more part of the innermost open node, or the root. It is open.
+    pub fn open(
+        &mut self,
+        rule: RuleName,
+        variables: Vec<u32>,
+        credits: Vec<Credit>,
+    ) -> Result<(), NoMemory> {
+        if let Some(place) = self.open.last() {
+            if let Some(node) = self.nodes.get_mut(*place) {
+                node.parts = node.parts.checked_add(1).ok_or(NoMemory)?;
+            }
+        }
+        self.open.push(self.nodes.len())?;
+        self.nodes.push(Node {
+            rule,
+            variables,
+            credits,
+            parts: 0,
+            span: 1,
+        })?;
+        Ok(())
+    }
+
+    /// The innermost open node has all its parts.
+    pub fn close(&mut self) {
+        let end = self.nodes.len();
+        if let Some(place) = self.open.pop() {
+            if let Some(node) = self.nodes.get_mut(place) {
+                node.span = end.saturating_sub(place);
+            }
+        }
+    }
+
+    /// The nodes; those that are open are closed.
+    fn into_nodes(mut self) -> Vec<Node> {
+        for _ in 0..self.depth() {
+            self.close();
+        }
+        self.nodes
+    }
+}

@@ -1,0 +1,43 @@
+// A program with its proof file: what is made for one, and how one is judged.
+use crate::accept::check;
+use crate::error::{AuditError, TextError};
+use crate::make::line_of;
+use crate::read::read_derivation;
+use crate::write::Text;
+use fip_base::plain::FunKind;
+use fip_trees::limits::MOST_FILE_BYTES;
+use fip_trees::program::Typed;
+use fip_trees::scalars::Scalars;
+use std::alloc::Global;
+
+/// The text of the derivation of a typed program, which is asked to break no rule on ownership and credits. TooLong:
+/// it has more than `limit` bytes. NoMemory: no memory is left. It takes memory for one instance and for the limit.
+pub fn derivation_text(alloc: Global, typed: &Typed, limit: usize) -> Result<Vec<u8>, TextError> {
+    let program = &typed.program;
+    let scalars = Scalars::of(alloc, &program.types)?;
+    let mut text = Text::new(alloc, limit);
+    for (number, instance) in program.instances.iter().enumerate() {
+        if instance.kind != FunKind::Fun {
+            let room = text.room();
+            let line = line_of(alloc, program, &scalars, number, instance, room)?;
+            text.line(&line)?;
+        }
+    }
+    Ok(text.into_bytes())
+}
+
+/// Judges a proof file of a typed program. BadProof: its bytes are no derivation's text, or more than 16,777,216.
+/// NotDerived: it is no derivation of the program. NoMemory: no memory is left.
+pub fn audit(alloc: Global, typed: &Typed, bytes: &[u8]) -> Result<(), AuditError> {
+    if bytes.len() > MOST_FILE_BYTES {
+        return Err(AuditError::BadProof {
+            at: MOST_FILE_BYTES,
+        });
+    }
+    let derivation = read_derivation(alloc, bytes)?;
+    if check(typed, &derivation) {
+        Ok(())
+    } else {
+        Err(AuditError::NotDerived)
+    }
+}

@@ -1,0 +1,23 @@
+-- At which stage of a command a failure can come.
+use Rattle.command_outcome.specs.declared.failure.Failure.{Failure}
+use Rattle.command_outcome.specs.declared.failure.Failure.TheVariants as F
+
+-- what is said of a source, a code or a trace, before an input is read; or want of memory
+abbrev pub IsOfSource : Failure → Type 0
+IsOfSource (F.Refused r) = Unit {0}
+IsOfSource (F.BadCode at) = Unit {0}
+IsOfSource (F.Unsound function at rule) = Unit {0}
+IsOfSource (F.BadTrace at) = Unit {0}
+IsOfSource F.NoMemory = Unit {0}
+IsOfSource failure = ⊥
+
+-- what is said of an input and of a run on it; or want of memory
+abbrev pub IsOfRun : Failure → Type 0
+IsOfRun (F.BadInput at) = Unit {0}
+IsOfRun (F.BadTask line) = Unit {0}
+IsOfRun (F.TooSmall needed given) = Unit {0}
+IsOfRun (F.Trap kind line col) = Unit {0}
+IsOfRun (F.OutOfCalls given) = Unit {0}
+IsOfRun (F.OutOfFrames given) = Unit {0}
+IsOfRun F.NoMemory = Unit {0}
+IsOfRun failure = ⊥

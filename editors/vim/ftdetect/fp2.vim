@@ -1,0 +1,1 @@
+autocmd BufNewFile,BufRead *.fp setfiletype fp2

@@ -1,0 +1,116 @@
+// What a session knows beside the cells: the program, the room of each run, and what names hold.
+ghost use Rattle.std.specs.Prelude.{◌<◌, ◌≤◌, length, IfSome};
+
+use crate::entries::{Entries, frames_of};
+use crate::trees::{MOST_CELLS, Trees};
+use cell_code::Function;
+use cell_store::{Cells, Sealed};
+use code_verify::Verified;
+use fip_base::plain::NoMemory;
+use fip_base::table::TypeTable;
+use std::alloc::Global;
+use std::collections::BTreeMap;
+use value_text::print_value;
+
+/// What a name holds: a value, as its type and its word.
+#[derive(Clone, Copy, Debug, PartialEq, Eq)]
+pub struct Held {
+    pub ty: u32,
+    pub word: u64,
+}
+
+/// The program of a session, the calls and frames that each run is given, and what each name holds.
+#[derive(Drop)]
+pub struct Book<'a> {
+    pub alloc: Global,
+    pub table: &'a TypeTable,
+    pub verified: &'a Verified,
+    pub calls: u64,
+    pub frames: usize,
+    entries: Entries<'a>,
+    held: BTreeMap<Vec<u8>, Held>,
+}
+
+impl<'a> Book<'a> {
+    /// The book of a program, in which no name holds a value.
+    pub fn new(
+        alloc: Global,
+        table: &'a TypeTable,
+        verified: &'a Verified,
+        calls: u64,
+        frames: usize,
+    ) -> Result<Book<'a>, NoMemory> {
+        Ok(Book {
+            alloc,
+            table,
+            verified,
+            calls,
+            frames,
+            entries: Entries::of(alloc, verified)?,
+            held: BTreeMap::new(alloc),
+        })
+    }
+
+    /// The number of the entry with a name.
+    pub fn entry(&self, name: &[u8]) -> Option<usize> {
+        self.entries.find(name)
+    }
+
+    /// The function of a number.
+    pub fn function(&self, number: usize) -> Option<&'a Function>
+        ensures there { IfSome result (λ f. number < length self.now.verified.now.code.functions.items) }
+    {
+        let verified = self.verified;
+        verified.code().functions.get(number)
+    }
+
+    /// The frames that a run of an entry is given.
+    pub fn frames_for(&self, entry: usize) -> usize
+        ensures few { result ≤ 1000000 }
+    {
+        frames_of(self.verified, entry, self.frames)
+    }
+
+    /// Whether no value of a type has a cell.
+    pub fn is_scalar(&self, ty: u32) -> bool {
+        ty as usize > self.table.len() || self.table.is_scalar(ty)
+    }
+
+    /// What a name holds.
+    pub fn find(&self, name: &[u8]) -> Option<Held> {
+        self.held.get(name).copied()
+    }
+
+    /// The name holds this from now on.
+    pub fn hold(&mut self, name: &[u8], held: Held) -> Result<(), NoMemory> {
+        let name = Vec::from_slice(self.alloc, name)?;
+        self.held.insert(name, held)?;
+        Ok(())
+    }
+
+    /// The name holds nothing from now on; what it held.
+    pub fn forget(&mut self, name: &[u8]) -> Option<Held> {
+        self.held.remove(name)
+    }
+
+    /// The text of what is held.
+    pub fn text_of(&self, cells: &Sealed, held: Held) -> Result<Vec<u8>, NoMemory> {
+        print_value(self.alloc, self.table, cells, held.ty, held.word)
+    }
+
+    /// The trees of a value.
+    pub fn trees_of(&self, cells: &Sealed, held: Held) -> Result<Trees, NoMemory> {
+        let mut trees = Trees::none(self.alloc);
+        trees.add(self.table, cells, held.ty, held.word, MOST_CELLS)?;
+        Ok(trees)
+    }
+
+    /// The trees of all values that are held.
+    pub fn all_trees(&self, cells: &Sealed) -> Result<Trees, NoMemory> {
+        let mut trees = Trees::none(self.alloc);
+        for (_, held) in &self.held {
+            trees.add(self.table, cells, held.ty, held.word, MOST_CELLS)?;
+        }
+        Ok(trees)
+    }
+}

@@ -1,0 +1,109 @@
+// A session: a store whose values have names.
+ghost use Rattle.std.specs.Prelude.{◌≤◌};
+
+use crate::book::Book;
+use crate::call::call;
+use crate::line::{Line, line_of};
+use crate::reply::{Reply, reply_text};
+use cell_store::{Loader, Sealed, seal};
+use code_verify::Verified;
+use fip_base::plain::NoMemory;
+use fip_trees::program::Typed;
+use std::alloc::Global;
+
+/// A session over one store. Each name holds a value; the cells that aren't released are those of the held values. A
+/// line calls an entry and names its results, shows what a name holds, or gives it up:
+///
+///     a, b = split(Cons(1, xs), 0)
+///     ? a
+///     - b
+///
+/// A call uses up the names that it gives to parameters that aren't lent, unless their type is scalar. The values in
+/// a line come to life at the call, and those that are lent are given up behind it.
+#[derive(Drop)]
+pub struct Session<'a> {
+    book: Book<'a>,
+    cells: Sealed,
+}
+
+impl<'a> Session<'a> {
+    /// A session of a program and the code that it was lowered to, in which no name holds a value: over a store of so
+    /// many words, at most 16,777,216, with so many calls for each run, and so many frames, at most 1,000,000, for
+    /// each run of a function that isn't fip. An error where memory is wanting.
+    pub fn new(
+        alloc: Global,
+        typed: &'a Typed,
+        verified: &'a Verified,
+        words: usize,
+        calls: u64,
+        frames: usize,
+    ) -> Result<Session<'a>, NoMemory>
+        requires words { words ≤ 16777216 }
+        requires frames { frames ≤ 1000000 }
+    {
+        Ok(Session {
+            book: Book::new(alloc, &typed.program.types, verified, calls, frames)?,
+            cells: seal(Loader::new(alloc, words)),
+        })
+    }
+
+    /// Does a line, which has no LF, and answers the reply, without an LF. Where memory is wanting, the session is
+    /// given up.
+    ///
+    /// | Reply | Where |
+    /// |---|---|
+    /// | `bad line` | the line has none of the three forms |
+    /// | `no name X` | X isn't held |
+    /// | `no entry F` | no fip or fbip function without static parameters is named F |
+    /// | `wrong number` | F has another number of parameters, or of results |
+    /// | `bad argument I` | the Ith is no value of its parameter's type and no held name of it, or repeats a name |
+    /// | `bad result X` | X repeats a result's name, or is held and not used up by this call |
+    /// | `store too small: n needed, m left` | n is above m |
+    /// | `trap ..`, `out of calls: n`, `out of frames: n` | the run ends so; what it used up is gone |
+    /// | `ok` | the line was done |
+    ///
+    /// The first that holds is answered, and the least argument and result. Refusals down to the store's change
+    /// nothing.
+    pub fn line(self, bytes: &[u8]) -> Result<(Session<'a>, Vec<u8>), NoMemory> {
+        let Session { mut book, cells } = self;
+        let alloc = book.alloc;
+        let (cells, reply) = match line_of(alloc, bytes)? {
+            None => (cells, Reply::BadLine),
+            Some(Line::Show(name)) => {
+                let reply = show(&book, &cells, name)?;
+                (cells, reply)
+            }
+            Some(Line::Give(name)) => give(&mut book, cells, name)?,
+            Some(Line::Call(line)) => call(&mut book, bytes, &line, cells)?,
+        };
+        let text = reply_text(alloc, reply)?;
+        Ok((Session { book, cells }, text))
+    }
+
+    /// The cells, as they are between lines.
+    pub fn cells(&self) -> &Sealed {
+        &self.cells
+    }
+}
+
+// The text of what a name holds.
+fn show<'l>(book: &Book, cells: &Sealed, name: &'l [u8]) -> Result<Reply<'l>, NoMemory> {
+    match book.find(name) {
+        Some(held) => Ok(Reply::Text(book.text_of(cells, held)?)),
+        None => Ok(Reply::NoName(name)),
+    }
+}
+
+// Gives up what a name holds.
+fn give<'l>(
+    book: &mut Book,
+    cells: Sealed,
+    name: &'l [u8],
+) -> Result<(Sealed, Reply<'l>), NoMemory> {
+    let Some(held) = book.forget(name) else {
+        return Ok((cells, Reply::NoName(name)));
+    };
+    let mut cells = cells;
+    book.trees_of(&cells, held)?.release(&mut cells);
+    Ok((cells, Reply::Done))
+}

@@ -1,4 +1,6 @@
 -- At which stage of a command a failure can come.
+use Rattle.std.specs.Prelude.{◌≡◌}
+use Rattle.fip_language.specs.declared.rule.Rule.TheVariants.{E75}
 use Rattle.command_outcome.specs.declared.failure.Failure.{Failure}
 use Rattle.command_outcome.specs.declared.failure.Failure.TheVariants as F
 
@@ -21,3 +23,15 @@ IsOfRun (F.OutOfCalls given) = Unit {0}
 IsOfRun (F.OutOfFrames given) = Unit {0}
 IsOfRun F.NoMemory = Unit {0}
 IsOfRun failure = ⊥
+
+-- what is said of tasks that take turns, each of which ends in a line of its own; or want of memory
+abbrev pub IsOfTasks : Failure → Type 0
+IsOfTasks (F.BadTask line) = Unit {0}
+IsOfTasks (F.TooSmall needed given) = Unit {0}
+IsOfTasks F.NoMemory = Unit {0}
+IsOfTasks failure = ⊥
+
+-- what is said of an input, of a run on it, and of a trace that is too long; or want of memory
+abbrev pub IsOfTrace : Failure → Type 0
+IsOfTrace (F.Refused r) = r.rule ≡ E75
+IsOfTrace failure = IsOfRun failure

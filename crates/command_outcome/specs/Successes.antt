@@ -29,6 +29,10 @@ held_text (Some stack) = codes " stack " ++ (decimal stack.frames ++ (codes " fr
 abbrev pub function_text : List ℕ → FunKind → List ℕ → Option Stack → List ℕ
 function_text name kind credits stack = name ++ (codes " " ++ (kind_name kind ++ (credits_text credits ++ (held_text stack ++ line_end))))
 
+-- the line that a program is derived
+abbrev pub derived_text : List ℕ
+derived_text = codes "derived\n"
+
 -- the least and the greatest key
 abbrev pub end_text : Option Ends → List ℕ
 end_text None = codes "least none\ngreatest none\n"

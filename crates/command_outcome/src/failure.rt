@@ -107,8 +107,9 @@ impl From<NoMemory> for Failure {
 
 impl From<PhaseError> for Failure {
     ghost use Rattle.command_outcome.specs.Failures.{phase_failure};
+    ghost use Rattle.command_outcome.specs.Stages.{IsOfSource};
 
-    ghost from_gives = { λ error e. e ≡ phase_failure error };
+    ghost from_gives = { λ error e. (e ≡ phase_failure error) × IsOfSource e };
 
     fn from(error: PhaseError) -> Failure {
         match error {

@@ -7,4 +7,4 @@ mod success;
 
 pub use failure::{Failure, Object};
 pub use lines::{bound_line, cells_line, stack_line};
-pub use success::{Ends, put_function, tree_lines};
+pub use success::{Ends, derived_line, put_function, tree_lines};

@@ -1,6 +1,6 @@
 // The texts of commands that succeed.
 ghost use Rattle.std.specs.Prelude.{◌≡◌, ◌++◌, IfOk, OnOk, string_bytes};
-ghost use Rattle.command_outcome.specs.Successes.{kind_name, credit_text, credits_text, held_text, function_text, end_text, tree_text};
+ghost use Rattle.command_outcome.specs.Successes.{kind_name, credit_text, credits_text, held_text, function_text, derived_text, end_text, tree_text};
 
 use fip_base::plain::{FunKind, NoMemory, Stack};
 use std::alloc::{AllocError, Global};
@@ -48,8 +48,8 @@ fn put_stack(alloc: Global, text: &mut Vec<u8>, stack: Option<Stack>) -> Result<
     Ok(())
 }
 
-/// Puts the line of a function behind a text: its name, its kind, the sizes of its header's credits, and what a run of it
-/// holds of the stack at the most, where that is known.
+/// Puts the line of a function behind a text: its name, its kind, the sizes of its header's credits, and what a run
+/// of it holds of the stack at the most, where that is known.
 pub fn put_function(
     alloc: Global,
     text: &mut Vec<u8>,
@@ -69,6 +69,13 @@ pub fn put_function(
     Ok(())
 }
 
+/// The line that a derivation of a program was made, or accepted.
+pub fn derived_line() -> &'static str
+    ensures text { result.now ≡ derived_text }
+{
+    "derived\n"
+}
+
 /// The least and the greatest key of a tree.
 #[derive(Clone, Copy, Debug, PartialEq, Eq)]
 pub struct Ends {
@@ -76,8 +83,8 @@ pub struct Ends {
     pub greatest: i64,
 }
 
-/// The four lines of a tree that was made of so many keys: how many nodes it has, its least and its greatest key, none where
-/// it has no node.
+/// The four lines of a tree that was made of so many keys: how many nodes it has, its least and its greatest key,
+/// none where it has no node.
 pub fn tree_lines(
     alloc: Global,
     keys: u64,

@@ -12,7 +12,7 @@ use Rattle.fip_driver.specs.Reply.{err_text}
 use Rattle.fip_driver.specs.Fetched.{unknown_entry}
 use Rattle.loop_check.specs.Checked.{IsPassed}
 use Rattle.fip_driver.specs.Fronted.{HasEntry, EntryFails}
-use Rattle.fip_driver.specs.declared.failure.Failure.TheVariants as F
+use Rattle.command_outcome.specs.declared.failure.Failure.TheVariants as F
 
 -- no function of one has another name than its own
 not_found : (entry : List ℕ) (f : Function) → (f.name ≡ entry → ⊥) → function_in entry (f ∷ []) ≡ None

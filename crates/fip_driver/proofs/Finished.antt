@@ -18,8 +18,8 @@ use Rattle.loop_machine.specs.declared.machine.Ended.{Ended}
 use Rattle.loop_machine.specs.declared.machine.Ended.TheVariants as E
 use Rattle.fip_driver.specs.Reply.{gauge_lines}
 use Rattle.fip_driver.specs.LoopRun.{IsLoopRun, loop_text}
-use Rattle.fip_driver.specs.declared.failure.Failure.{Failure}
-use Rattle.fip_driver.specs.declared.failure.Failure.TheVariants as F
+use Rattle.command_outcome.specs.declared.failure.Failure.{Failure}
+use Rattle.command_outcome.specs.declared.failure.Failure.TheVariants as F
 use Rattle.fip_driver.proofs.Lines.{gauge_lines-same}
 use Rattle.fip_driver.proofs.Outcome.{Gave, Outcome, Started, given, all_have, lowest_is, highest_is}
 

@@ -6,12 +6,11 @@ use Rattle.fip_language.specs.declared.Place.{Place}
 use Rattle.fip_language.specs.Core.{Core}
 use Rattle.fip_language.specs.CoreForm.{core_form}
 use Rattle.fip_language.specs.Surface.{Program}
-use Rattle.fip_language.specs.Answer.{Misspelt, NotRight}
+use Rattle.fip_language.specs.Answer.{Misspelt}
 use Rattle.fip_language.specs.Right.{IsRight}
-use Rattle.fip_language.specs.SoundTable.{IsSoundTable, AreTypes}
 use Rattle.fip_language.specs.UpperNames.{HaveUpperNames}
 use Rattle.fip_base.specs.Refusal.{refusal_text, place_text}
-use Rattle.fip_driver.specs.Texts.{line_end}
+use Rattle.command_outcome.specs.Texts.{line_end}
 use Rattle.fip_base.specs.declared.refusal.Refusal.{Refusal}
 use Rattle.fip_grammar.specs.Limits.{IsSpelt, IsMisspelt}
 use Rattle.fip_grammar.proofs.UpperNames.{spelt_upper_names}
@@ -19,14 +18,15 @@ use Rattle.fip_parser.specs.Parsed.{syntax_refusal}
 use Rattle.loop_form.specs.Loop.{Loop}
 use Rattle.loop_form.specs.View.{loop_of}
 use Rattle.loop_form.specs.declared.program.LoopProgram.{LoopProgram}
-use Rattle.loop_form.specs.Fine.{IsFine}
 use Rattle.loop_check.specs.Checked.{IsPassed}
 use Rattle.fip_driver.specs.Reply.{err_text}
 use Rattle.fip_driver.specs.Answered.{source_spelling}
-use Rattle.fip_driver.specs.Fronted.{SpellingFails, CheckFails, FrontFails, IsFront}
-use Rattle.fip_driver.specs.Fetched.{no_right_program, unknown_entry}
-use Rattle.fip_driver.specs.declared.failure.Failure.{Failure}
-use Rattle.fip_driver.specs.declared.failure.Failure.TheVariants as F
+use Rattle.fip_driver.specs.Fronted.{SpellingFails, FrontFails, IsFront, IsOutside, IsSoundLoop, Takes}
+use Rattle.fip_driver.specs.Fetched.{unknown_entry}
+use Rattle.command_outcome.specs.declared.failure.Failure.{Failure}
+use Rattle.command_outcome.specs.declared.failure.Failure.TheVariants as F
+use Rattle.fip_driver.specs.declared.front.Path.{Path}
+use Rattle.fip_driver.specs.declared.front.Path.TheVariants as P
 use Rattle.fip_driver.proofs.Entering.{entry_found, entry_other, entry_none}
 
 -- ---- the spelling
@@ -60,10 +60,6 @@ rule_3 place = ap (λ d. codes "E0" ++ (d ++ (place_text (Some place) ++ line_en
 rule_4 : (place : Place) → refusal_text (syntax_refusal 4 place) ≡ err_text (Misspelt 4 place)
 rule_4 place = ap (λ d. codes "E0" ++ (d ++ (place_text (Some place) ++ line_end))) (sym four_digit)
 
-not_right_text : refusal_text no_right_program ≡ err_text NotRight
-unfolding digits
-not_right_text = refl
-
 least_text : (rule : ℕ) (place : Place) → (rule ≡ 2) ⊎ ((rule ≡ 3) ⊎ (rule ≡ 4)) → refusal_text (syntax_refusal rule place) ≡ err_text (Misspelt rule place)
 least_text rule place (inl e) = subst (λ n. refusal_text (syntax_refusal n place) ≡ err_text (Misspelt n place)) (sym e) (rule_2 place)
 least_text rule place (inr (inl e)) = subst (λ n. refusal_text (syntax_refusal n place) ≡ err_text (Misspelt n place)) (sym e) (rule_3 place)
@@ -96,31 +92,33 @@ passed_some c o l e h = subst (λ o. IsPassed c (option_map loop_of o)) e h
 pub passed_none : (c : Core) (o : Option LoopProgram) → o ≡ None → IsPassed c (option_map loop_of o) → IsPassed c None
 passed_none c o e h = subst (λ o. IsPassed c (option_map loop_of o)) e h
 
-pub refused : (source : List ℕ) (c : Core) (r : Refusal) → source_spelling.spells source c → ((p : Program) → c ≡ core_form p → IsRight c → ⊥) → r ≡ no_right_program → CheckFails c (F.Refused r)
-refused source c r h f e = (f h.0 h.2, ap refusal_text e ∙ not_right_text)
+-- what isn't right is outside the loop form
+pub outside : (source : List ℕ) (c : Core) → source_spelling.spells source c → ((p : Program) → c ≡ core_form p → IsRight c → ⊥) → IsOutside source_spelling source
+outside source c h f = (c, h, f h.0 h.2)
 
 -- ---- the parts together
 
 pub spelling_front : (source entry : List ℕ) (e : Failure) → SpellingFails source_spelling source e → FrontFails source_spelling source entry e
 spelling_front source entry e h = inl h
 
-pub check_front : (source entry : List ℕ) (c : Core) (e : Failure) → source_spelling.spells source c → CheckFails c e → FrontFails source_spelling source entry e
-check_front source entry c e spelt h = inr (c, spelt, inl h)
-
 pub other_front : (source entry : List ℕ) (c : Core) (l : Loop) (r : Refusal) → source_spelling.spells source c → IsPassed c (Some l) → (l.name ≡ entry → ⊥) → r ≡ unknown_entry entry → FrontFails source_spelling source entry (F.Refused r)
-other_front source entry c l r spelt h differ e = inr (c, spelt, inr (h.checked.right, entry_other c l entry r h differ e))
+other_front source entry c l r spelt h differ e = inr (c, spelt, h.checked.right, entry_other c l entry r h differ e)
 
 pub none_front : (source entry : List ℕ) (c : Core) (r : Refusal) → source_spelling.spells source c → IsPassed c None → r ≡ unknown_entry entry → FrontFails source_spelling source entry (F.Refused r)
-none_front source entry c r spelt h e = inr (c, spelt, inr (h.0, entry_none c entry r h e))
+none_front source entry c r spelt h e = inr (c, spelt, h.0, entry_none c entry r h e)
 
 pub found_front : (source entry : List ℕ) (c : Core) (l : Loop) → source_spelling.spells source c → IsPassed c (Some l) → l.name ≡ entry → IsFront source_spelling source entry l
 found_front source entry c l spelt h e = (c, spelt, entry_found c l entry h e)
 
-pub front_fine : (source entry : List ℕ) (l : Loop) → IsFront source_spelling source entry l → IsFine l
-front_fine source entry l h = h.2.ready.fine
+pub front_sound : (source entry : List ℕ) (l : Loop) → IsFront source_spelling source entry l → IsSoundLoop l
+front_sound source entry l h =
+    let ready = h.2.ready in
+    record { fine = ready.fine; sound = ready.sound (upper source h.0 h.1); known = ready.known }
 
-pub front_sound : (source entry : List ℕ) (l : Loop) → IsFront source_spelling source entry l → IsSoundTable l.types
-front_sound source entry l h = h.2.ready.sound (upper source h.0 h.1)
+-- ---- the path that is taken
 
-pub front_known : (source entry : List ℕ) (l : Loop) → IsFront source_spelling source entry l → AreTypes l.types l.parameters
-front_known source entry l h = h.2.ready.known
+pub loop_taken : (source entry : List ℕ) (p : Path) (l : LoopProgram) → p ≡ P.Loop l → Takes source_spelling source entry p → IsFront source_spelling source entry (loop_of l)
+loop_taken source entry p l e h = subst (λ p. Takes source_spelling source entry p) e h
+
+pub whole_taken : (source entry : List ℕ) (p : Path) → p ≡ P.Whole → Takes source_spelling source entry p → IsOutside source_spelling source
+whole_taken source entry p e h = subst (λ p. Takes source_spelling source entry p) e h

@@ -1,4 +1,3 @@
-mod OptionValues
 mod WholeAnswer
 mod Explaining
 mod Running

@@ -5,7 +5,7 @@ use Rattle.fip_language.specs.Values.{Value, Int, Node, Values, End, More}
 use Rattle.fip_language.specs.Table.{Table, shapes}
 use Rattle.fip_language.specs.PrintedText.{shape_at, printed, printed_fields, printed_more, printed_lines}
 use Rattle.fip_language.specs.Meaning.{Peak}
-use Rattle.fip_driver.specs.Texts.{cells_text, stack_text, bound_text}
+use Rattle.command_outcome.specs.Texts.{cells_text, stack_text, bound_text}
 use Rattle.fip_driver.specs.Reply.{size_line, size_lines, gauge_lines}
 
 mutual

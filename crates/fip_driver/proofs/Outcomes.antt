@@ -1,7 +1,7 @@
 -- What the parts of a command come to, and so the whole: each part's outcome is explained by the reply to what the objects
 -- told, or to something where they told nothing.
 use Rattle.std.proofs.Common.{◌≡◌, ◌∙◌, ◌<◌, ◌≤◌, ◌+◌, ℕ, List, [], ◌∷◌, ◌++◌, sym, ap, subst, refl, inl, inr, length, arith, append-nil, replicate}
-use Rattle.std.specs.Prelude.{Option, Some, None, Result, Err, IsSomeAnd, if◌then◌else◌}
+use Rattle.std.specs.Prelude.{◌⊎◌, Option, Some, None, Result, Err, IsSomeAnd, if◌then◌else◌}
 use Rattle.std.specs.Io.KnownBytes.{Consumes, IsAtEnd}
 use Rattle.std.specs.declared.vec.Vec.{Vec}
 use Rattle.std.specs.declared.alloc.Global.{Global}
@@ -9,23 +9,24 @@ use Rattle.std.proofs.lemmas.List.{length-replicate}
 use Rattle.std.proofs.lemmas.Slice.Eq.{bytes_eq-Decides}
 use Rattle.fip_language.specs.Core.{Core}
 use Rattle.fip_language.specs.Declarations.{function_of}
-use Rattle.fip_language.specs.Answer.{Answers, Runs, Reads}
+use Rattle.fip_language.specs.Answer.{Answers, Runs, Reads, NotRight}
 use Rattle.fip_language.proofs.LoopStack.{function_of-only}
 use Rattle.fip_base.specs.Faults.{Rose}
 use Rattle.fip_base.specs.Files.{File, file_of, HoldsFile, HoldsLonger}
 use Rattle.loop_form.specs.Loop.{Loop}
-use Rattle.fip_driver.specs.Words.{Request}
+use Rattle.command_line.specs.Words.{Request, Command}
 use Rattle.fip_driver.specs.LoopRun.{IsLoopRun}
 use Rattle.fip_driver.specs.Fetched.{FetchFails, ReadFails}
-use Rattle.fip_driver.specs.Fronted.{HasEntry, FrontFails, IsFront}
-use Rattle.fip_driver.specs.Answered.{source_spelling, IsTold, IsNoCommand, HasRightEntry, ComesToInput, Explained, Answered, plain_request}
+use Rattle.fip_driver.specs.Fronted.{HasEntry, FrontFails, IsFront, IsOutside}
+use Rattle.fip_driver.specs.Answered.{source_spelling, IsTold, IsNoCommand, HasRightEntry, ComesToInput, Explained, IsBeyond, Answered, plain_request}
 use Rattle.fip_driver.specs.Explained.{ExplainedBy}
-use Rattle.fip_driver.specs.ExecOutcome.{EntryOutcome, RequestOutcome, ExecOutcome}
-use Rattle.fip_driver.specs.declared.failure.Failure.{Failure}
-use Rattle.fip_driver.specs.declared.failure.Failure.TheVariants as F
-use Rattle.fip_driver.proofs.Explaining.{explained_up, explained_fault, explained, fetch_explained, file_reply, core_reply, function_reply, spelling_explained, check_explained, entry_explained, input_explained}
+use Rattle.fip_driver.specs.Outcome.{EntryOutcome, RequestOutcome, CommandOutcome, WordsOutcome}
+use Rattle.command_outcome.specs.declared.failure.Failure.{Failure}
+use Rattle.command_outcome.specs.declared.failure.Failure.TheVariants as F
+use Rattle.fip_driver.proofs.Explaining.{explained_up, explained_fault, explained, fetch_explained, file_reply, core_reply, function_reply, spelling_explained, not_right_reply, entry_explained, input_explained}
 use Rattle.fip_driver.proofs.Running.{run_explained}
-use Rattle.fip_driver.proofs.WholeAnswer.{whole_answer}
+use Rattle.fip_driver.specs.Commands.{IsOther}
+use Rattle.fip_driver.proofs.WholeAnswer.{whole_answer, beyond_answer}
 use Rattle.fip_driver.specs.Delivered.{Seen, Delivered}
 
 -- something is told, or else this may be
@@ -57,28 +58,23 @@ longer name limit =
 -- the same cause, of files that are told
 told_fetch : (files : Option (List File)) (name : List ℕ) (before now : ℕ) (f : Failure) → FetchFails files name before now f → (all : List File) × IsTold files all × FetchFails (Some all) name before now f
 told_fetch (Some all) name before now f h = (all, refl, h)
-told_fetch None name before now F.NotUnderstood h = absurd h
 told_fetch None name before now (F.Refused x) h = let l = longer name 1048576 in (l.0, tt, (h.0, l.1))
-told_fetch None name before now (F.BadInput at) h = absurd h
-told_fetch None name before now (F.TooSmall needed given) h = absurd h
-told_fetch None name before now (F.OutOfCalls given) h = absurd h
 told_fetch None name before now (F.Fault object) h = ([], tt, (h.0, elim h.1 [ inl up ↦ inl up | inr gone ↦ absurd gone ]))
 told_fetch None name before now F.NoMemory h = ([], tt, tt)
+told_fetch None name before now failure h = absurd h
 
 pub fetch_outcome : (r : Request) (files : Option (List File)) (left : Option (List ℕ)) (before now : ℕ) (rose : Type 0) (f : Failure) → FetchFails files r.file before now f → RequestOutcome r files left (Rose before now) rose (Err f)
 fetch_outcome r files left before now rose f h words asked =
     let t = told_fetch files r.file before now f h in
     let i = any_told left [] in
-    (t.0, i.0, t.1, i.1, fetch_explained source_spelling words t.0 i.0 rose before now r f asked t.2)
+    (t.0, i.0, t.1, i.1, inl (fetch_explained source_spelling words t.0 i.0 rose before now r f asked t.2))
 
 -- ---- the source
 
 front_answers : (r : Request) (source input : List ℕ) (rose : Type 0) (f : Failure) → length source ≤ 1048576 → FrontFails source_spelling source r.entry f → ExplainedBy (Answers source_spelling.spells source_spelling.misspells (plain_request r) source input) r.gauge rose (Err f)
 front_answers r source input rose f le (inl h) = spelling_explained source_spelling (plain_request r) source input r.gauge rose f le h
-front_answers r source input rose f le (inr (core, spelt, inl h)) =
-    explained_up (Runs (plain_request r) core input) _ r.gauge rose (core_reply source_spelling (plain_request r) source input core le spelt) (Err f) (check_explained (plain_request r) core input r.gauge rose f h)
-front_answers r source input rose f le (inr (core, spelt, inr h)) =
-    explained_up (Runs (plain_request r) core input) _ r.gauge rose (core_reply source_spelling (plain_request r) source input core le spelt) (Err f) (entry_explained (plain_request r) core input r.gauge rose f h.0 h.1)
+front_answers r source input rose f le (inr (core, spelt, right, h)) =
+    explained_up (Runs (plain_request r) core input) _ r.gauge rose (core_reply source_spelling (plain_request r) source input core le spelt) (Err f) (entry_explained (plain_request r) core input r.gauge rose f right h)
 
 entered : (core : Core) (l : Loop) (r : Request) (h : HasEntry core l r.entry) → function_of core r.entry ≡ Some h.ready.function
 entered core l r h = subst (λ name. function_of core name ≡ Some h.ready.function) h.named (function_of-only core h.ready.function h.ready.checked.only)
@@ -89,7 +85,7 @@ of_source r files left fr rose source o holds h words asked =
     let t = held files r.file source holds in
     let Is = Answers source_spelling.spells source_spelling.misspells (plain_request r) source h.0 in
     let comes : rose × HasRightEntry source_spelling source r.entry → rose × ComesToInput source_spelling words t.0 = λ k. (k.0, record { request = r; asked = asked; source = source; there = t.2; entry = k.1 }) in
-    (t.0, h.0, t.1, h.1, explained source_spelling words t.0 h.0 fr rose r o (explained_up Is _ r.gauge _ (file_reply source_spelling words t.0 h.0 source r asked t.2) o (explained_fault Is r.gauge _ _ comes o h.2)))
+    (t.0, h.0, t.1, h.1, inl (explained source_spelling words t.0 h.0 fr rose r o (explained_up Is _ r.gauge _ (file_reply source_spelling words t.0 h.0 source r asked t.2) o (explained_fault Is r.gauge _ _ comes o h.2))))
 
 pub source_outcome : (r : Request) (files : Option (List File)) (left : Option (List ℕ)) (folder_rose rose : Type 0) (source text : List ℕ) (f : Failure) → HoldsFile files r.file source → length source ≤ 1048576 → text ≡ source → FrontFails source_spelling text r.entry f → RequestOutcome r files left folder_rose rose (Err f)
 source_outcome r files left fr rose source text f holds le same h =
@@ -104,6 +100,16 @@ entry_outcome l r files left fr rose source text o holds le same fronts ends =
     let Is = Runs (plain_request r) front.0 e.0 in
     of_source r files left fr rose source o holds (e.0, e.1, explained_up Is _ r.gauge _ (core_reply source_spelling (plain_request r) source e.0 front.0 le front.1) o (explained_fault Is r.gauge rose _ (λ k. (k, right)) o e.2))
 
+-- a source outside the loop form
+pub outside_outcome : (r : Request) (files : Option (List File)) (left : Option (List ℕ)) (folder_rose rose : Type 0) (source text : List ℕ) (o : Result (Vec ℕ Global) Failure) → HoldsFile files r.file source → length source ≤ 1048576 → text ≡ source → IsOutside source_spelling text → RequestOutcome r files left folder_rose rose o
+outside_outcome r files left fr rose source text o holds le same h words asked =
+    let t = held files r.file source holds in
+    let i = any_told left [] in
+    let out = subst (λ x. IsOutside source_spelling x) same h in
+    let runs = not_right_reply (plain_request r) out.0 i.0 out.2 in
+    let answers = core_reply source_spelling (plain_request r) source i.0 out.0 le out.1 NotRight runs in
+    (t.0, i.0, t.1, i.1, inr (inr (r, file_reply source_spelling words t.0 i.0 source r asked t.2 NotRight answers)))
+
 -- ---- the input
 
 -- the replies to an input explain the entry's outcome
@@ -114,15 +120,12 @@ of_input l r rose o core h input e =
 -- the same cause, of an input that is told
 told_input : (before left : Option (List ℕ)) (old new : ℕ) (f : Failure) → ReadFails before left old new f → (input : List ℕ) × IsTold before input × ((rest : Option (List ℕ)) × ReadFails (Some input) rest old new f)
 told_input (Some input) left old new f h = (input, refl, (left, h))
-told_input None left old new F.NotUnderstood h = absurd h
-told_input None left old new (F.Refused x) h = absurd h
 told_input None left old new (F.BadInput at) h =
     let b = bytes_of 16777217 in
     (b.0, tt, (Some [], (h.0, (b.0, sym (append-nil b.0), b.1))))
-told_input None left old new (F.TooSmall needed given) h = absurd h
-told_input None left old new (F.OutOfCalls given) h = absurd h
 told_input None left old new (F.Fault object) h = ([], tt, (None, h))
 told_input None left old new F.NoMemory h = ([], tt, (None, tt))
+told_input None left old new failure h = absurd h
 
 pub read_outcome : (l : Loop) (r : Request) (before left : Option (List ℕ)) (old new : ℕ) (f : Failure) → ReadFails before left old new f → EntryOutcome l r before (Rose old new) (Err f)
 read_outcome l r before left old new f h core has =
@@ -137,35 +140,44 @@ whole_of (Some xs) (Some ys) read c end =
     let none : ys ≡ [] = end in
     c ∙ (ap (λ ys. read ++ ys) none ∙ append-nil read)
 
-pub run_outcome : (l : Loop) (r : Request) (before left : Option (List ℕ)) (rose : Type 0) (read bytes : List ℕ) (o : Result (Vec ℕ Global) Failure) → Consumes before left read → IsAtEnd left → length read ≤ 16777216 → bytes ≡ read → IsLoopRun l bytes r.words r.calls r.gauge o → EntryOutcome l r before rose o
+pub run_outcome : (l : Loop) (r : Request) (before left : Option (List ℕ)) (rose : Type 0) (read bytes : List ℕ) (o : Result (Vec ℕ Global) Failure) → Consumes before left read → IsAtEnd left → length read ≤ 16777216 → bytes ≡ read → IsLoopRun l bytes r.room.words r.room.calls r.gauge o → EntryOutcome l r before rose o
 run_outcome l r before left rose read bytes o c end le same h core has =
-    let runs = subst (λ x. IsLoopRun l x r.words r.calls r.gauge o) same h in
+    let runs = subst (λ x. IsLoopRun l x r.room.words r.room.calls r.gauge o) same h in
     (read, whole_of before left read c end, of_input l r rose o core has read (run_explained core has.ready.function l has.ready.checked (plain_request r) read le r.gauge rose o runs))
 
 -- ---- the words
 
-pub no_command_outcome : (words : List (List ℕ)) (files : Option (List File)) (left : Option (List ℕ)) (folder_rose rose : Type 0) → IsNoCommand words → ExecOutcome words files left folder_rose rose (Err F.NotUnderstood)
+pub no_command_outcome : (words : List (List ℕ)) (files : Option (List File)) (left : Option (List ℕ)) (folder_rose rose : Type 0) → IsNoCommand words → WordsOutcome words files left folder_rose rose (Err F.NotUnderstood)
 no_command_outcome words files left fr rose h =
     let t = any_told files [] in
     let i = any_told left [] in
-    (t.0, i.0, t.1, i.1, h)
+    (t.0, i.0, t.1, i.1, inl h)
 
-pub no_memory_outcome : (words : List (List ℕ)) (files : Option (List File)) (left : Option (List ℕ)) (folder_rose rose : Type 0) → ExecOutcome words files left folder_rose rose (Err F.NoMemory)
+pub no_memory_outcome : (words : List (List ℕ)) (files : Option (List File)) (left : Option (List ℕ)) (folder_rose rose : Type 0) → WordsOutcome words files left folder_rose rose (Err F.NoMemory)
 no_memory_outcome words files left fr rose =
     let t = any_told files [] in
     let i = any_told left [] in
-    (t.0, i.0, t.1, i.1, tt)
+    (t.0, i.0, t.1, i.1, inl tt)
+
+-- another command than `exec`
+pub other_outcome : (c : Command) (files : Option (List File)) (left : Option (List ℕ)) (folder_rose rose : Type 0) (o : Result (Vec ℕ Global) Failure) → IsOther c → CommandOutcome c files left folder_rose rose o
+other_outcome c files left fr rose o other words asked =
+    let t = any_told files [] in
+    let i = any_told left [] in
+    (t.0, i.0, t.1, i.1, inr (inl (c, asked, other)))
 
 -- ---- the whole
 
 module _ (words : List (List ℕ)) (files : List File) (input : List ℕ) (out out' err err' : Seen) where
-  told_whole : (folder_rose input_rose : Type 0) → (folder_rose → ⊥) → (input_rose → ⊥) → (Rose out.faults out'.faults → ⊥) → (Rose err.faults err'.faults → ⊥) → (o : Result (Vec ℕ Global) Failure) (s : ℕ) (fs : List File) (bytes : List ℕ) → files ≡ fs → input ≡ bytes → Explained source_spelling words fs bytes folder_rose input_rose o → Delivered out out' err err' o s → Answered source_spelling words files input out.written out'.written err.written err'.written s
-  told_whole fr ir no_f no_i no_out no_err o s fs bytes same_files same_input h d =
-      let told = subst (λ x. Explained source_spelling words x input fr ir o) (sym same_files) (subst (λ x. Explained source_spelling words fs x fr ir o) (sym same_input) h) in
-      whole_answer source_spelling words files input out out' err err' no_out no_err fr ir no_f no_i o s told d
+  abbrev Whole : List File → List ℕ → ℕ → Type 0
+  Whole fs bytes s = Answered source_spelling words fs bytes out.written out'.written err.written err'.written s
+
+  told_whole : (folder_rose input_rose : Type 0) → (folder_rose → ⊥) → (input_rose → ⊥) → (Rose out.faults out'.faults → ⊥) → (Rose err.faults err'.faults → ⊥) → (o : Result (Vec ℕ Global) Failure) (s : ℕ) (fs : List File) (bytes : List ℕ) → Explained source_spelling words fs bytes folder_rose input_rose o ⊎ IsBeyond source_spelling words fs bytes → Delivered out out' err err' o s → Whole fs bytes s
+  told_whole fr ir no_f no_i no_out no_err o s fs bytes (inl h) d = whole_answer source_spelling words fs bytes out out' err err' no_out no_err fr ir no_f no_i o s h d
+  told_whole fr ir no_f no_i no_out no_err o s fs bytes (inr h) d = beyond_answer source_spelling words fs bytes out out' err err' no_out no_err o s h d
 
   -- where no count of faults rose, and the folder and the input tell what they hold
-  pub whole_outcome : (folder : Option (List File)) (left : Option (List ℕ)) (folder_rose input_rose : Type 0) → folder ≡ Some files → left ≡ Some input → (folder_rose → ⊥) → (input_rose → ⊥) → (Rose out.faults out'.faults → ⊥) → (Rose err.faults err'.faults → ⊥) → (o : Result (Vec ℕ Global) Failure) (s : ℕ) → ExecOutcome words folder left folder_rose input_rose o → Delivered out out' err err' o s → Answered source_spelling words files input out.written out'.written err.written err'.written s
+  pub whole_outcome : (folder : Option (List File)) (left : Option (List ℕ)) (folder_rose input_rose : Type 0) → folder ≡ Some files → left ≡ Some input → (folder_rose → ⊥) → (input_rose → ⊥) → (Rose out.faults out'.faults → ⊥) → (Rose err.faults err'.faults → ⊥) → (o : Result (Vec ℕ Global) Failure) (s : ℕ) → WordsOutcome words folder left folder_rose input_rose o → Delivered out out' err err' o s → Whole files input s
   whole_outcome folder left fr ir of_folder of_left no_f no_i no_out no_err o s h d =
-      let k = subst (λ x. ExecOutcome words x (Some input) fr ir o) of_folder (subst (λ x. ExecOutcome words folder x fr ir o) of_left h) in
-      told_whole fr ir no_f no_i no_out no_err o s k.0 k.1 k.2 k.3 k.4 d
+      let k = subst (λ x. WordsOutcome words x (Some input) fr ir o) of_folder (subst (λ x. WordsOutcome words folder x fr ir o) of_left h) in
+      subst (λ fs. Whole fs input s) (sym k.2) (subst (λ bytes. Whole k.0 bytes s) (sym k.3) (told_whole fr ir no_f no_i no_out no_err o s k.0 k.1 k.4 d))

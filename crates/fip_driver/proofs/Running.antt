@@ -21,12 +21,12 @@ use Rattle.fip_language.proofs.LoopStack.{loop_frames, loop_words}
 use Rattle.loop_form.specs.Loop.{Loop}
 use Rattle.loop_form.specs.Meaning as L
 use Rattle.fip_driver.specs.Reply.{out_text, gauge_lines, gauge_text}
-use Rattle.fip_driver.specs.Texts.{too_small_text, out_of_calls_text}
+use Rattle.command_outcome.specs.Texts.{too_small_text, out_of_calls_text}
 use Rattle.fip_driver.specs.LoopRun.{loop_text, IsLoaded, IsTooMuch, IsLoopRun}
 use Rattle.loop_check.specs.Checked.{SameAnswer, IsChecked}
 use Rattle.fip_driver.specs.Explained.{PrintsAs, Fails, ExplainedBy}
-use Rattle.fip_driver.specs.declared.failure.Failure.{Failure}
-use Rattle.fip_driver.specs.declared.failure.Failure.TheVariants as F
+use Rattle.command_outcome.specs.declared.failure.Failure.{Failure}
+use Rattle.command_outcome.specs.declared.failure.Failure.TheVariants as F
 use Rattle.fip_language.specs.Character.{characters}
 use Rattle.fip_language.proofs.LoopCells.{none_lent}
 use Rattle.loop_text.proofs.Stand.{input_typed}
@@ -68,7 +68,7 @@ module _ (core : Core) (f : Function) (l : Loop) (c : IsChecked core f l) (q : A
       let means = subst (SameAnswer (M.meaning core f.name NoClosed vs q.calls 0).answer) e (c.means vs q.calls 0 (typed vs h)) in (
         OutOfCalls q.calls,
         fitting vs (OutOfCalls q.calls) h (evaluated vs (OutOfCalls q.calls) (out_ends vs _ _ (M.meaning core f.name NoClosed vs q.calls 0).peak means)),
-        record { same_status = refl; same_text = ap out_of_calls_text same; silent = refl },
+        record { written = tt; same_status = refl; same_text = ap out_of_calls_text same; silent = refl },
       )
 
   -- the gauge of a run in one frame, by trees and by the words of that frame
@@ -112,14 +112,14 @@ module _ (core : Core) (f : Function) (l : Loop) (c : IsChecked core f l) (q : A
   bad : (gauge : Bool) (at : ℕ) → IsPlace (SpellsValues l.types l.parameters) input at → Fails (Reads q core f input) gauge (F.BadInput at)
   bad gauge at h =
       let there = subst (λ ps. IsPlace (SpellsValues (table_of core) ps) input at) c.parameters (subst (λ tb. IsPlace (SpellsValues tb l.parameters) input at) c.types h) in
-      (BadInput at, inr (short, inl (at, there, refl)), record { same_status = refl; same_text = refl; silent = refl })
+      (BadInput at, inr (short, inl (at, there, refl)), record { written = tt; same_status = refl; same_text = refl; silent = refl })
 
   -- the input's values don't fit
   too_much : (gauge : Bool) (vs : Values) (needed given : ℕ) → IsTooMuch l input q.words vs → needed ≡ words_needed_by_all vs → given ≡ q.words → Fails (Reads q core f input) gauge (F.TooSmall needed given)
   too_much gauge vs needed given h n g = (
     TooSmall (words_needed_by_all vs) q.words,
     inr (short, inr (vs, spells vs h.spells, inl (h.exceeds, refl))),
-    record { same_status = refl; same_text = ap (λ k. too_small_text k given) n ∙ ap (too_small_text (words_needed_by_all vs)) g; silent = refl },
+    record { written = tt; same_status = refl; same_text = ap (λ k. too_small_text k given) n ∙ ap (too_small_text (words_needed_by_all vs)) g; silent = refl },
   )
 
   -- whatever the run answers
@@ -129,6 +129,4 @@ module _ (core : Core) (f : Function) (l : Loop) (c : IsChecked core f l) (q : A
   run_explained gauge rose (Err (F.TooSmall needed given)) h = too_much gauge h.0 needed given h.1 h.2 h.3
   run_explained gauge rose (Err (F.OutOfCalls given)) h = out gauge h.0 given h.1 h.2 h.3
   run_explained gauge rose (Err F.NoMemory) h = tt
-  run_explained gauge rose (Err F.NotUnderstood) h = absurd h
-  run_explained gauge rose (Err (F.Refused r)) h = absurd h
-  run_explained gauge rose (Err (F.Fault object)) h = absurd h
+  run_explained gauge rose (Err failure) h = absurd h

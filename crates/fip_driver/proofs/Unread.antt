@@ -1,76 +1,181 @@
 -- An object is left alone where the command ended before its turn.
-use Rattle.std.proofs.Common.{◌≡◌, ◌∙◌, ◌≤◌, ℕ, List, sym, arith, inl, inr}
-use Rattle.std.specs.Prelude.{◌⊎◌, Bool, Option, Result, Ok, Err}
-use Rattle.std.specs.declared.vec.Vec.{Vec}
-use Rattle.std.specs.declared.alloc.Global.{Global}
+use Rattle.std.proofs.Common.{◌≡◌, ◌∙◌, ◌≤◌, ℕ, List, sym, subst, refl, arith, inl, inr}
+use Rattle.std.specs.Prelude.{◌⊎◌, Bool, Option, Some, None, Ok, Err, IfErr, OnOk}
 use Rattle.loop_form.specs.Loop.{Loop}
-use Rattle.fip_driver.specs.Delivered.{Seen, Told, ToldFailure, Delivered}
 use Rattle.fip_base.specs.Files.{File}
+use Rattle.command_line.specs.Words.{Command, Exec, Run, Eval, Trace, Session, Tasks, Library, Gen, IsCommand}
+use Rattle.command_outcome.specs.Stages.{IsOfSource, IsOfRun, IsOfTasks, IsOfTrace}
+use Rattle.command_outcome.specs.Failures.{failure_status, failure_text}
+use Rattle.command_outcome.specs.Texts.{no_memory_text}
+use Rattle.fip_driver.specs.Delivered.{Seen, Told, ToldFailure, Delivered}
 use Rattle.fip_driver.specs.Answered.{Spelling}
-use Rattle.fip_driver.specs.Fetched.{FetchFails, ReadFails}
+use Rattle.fip_driver.specs.Commands.{ReadsInput, CallsNoFolder, stored_name}
+use Rattle.fip_driver.specs.Fetched.{FetchFails, ReadFails, IsEarlyFailure, IsLateFailure}
 use Rattle.fip_driver.specs.Fronted.{FrontFails}
 use Rattle.fip_driver.specs.LoopRun.{IsLoopRun}
-use Rattle.fip_driver.specs.Texts.{no_memory_text}
-use Rattle.fip_driver.specs.Unread.{IsBeforeSource, IsBeforeInput}
-use Rattle.fip_driver.specs.declared.failure.Failure.{Failure}
-use Rattle.fip_driver.specs.declared.failure.Failure.TheVariants as F
-use Rattle.fip_driver.specs.declared.failure.Object.TheVariants as O
+use Rattle.fip_driver.specs.Unread.{Outcome, IsBeforeSource, IsBeforeInput, IsBeforeInputOf, HadInput, HadFolder, LeavesInput, MayHaveStored, AreKept, HadStored, IsEarly, MayHaveRead, HasRead, HasCalled, HasStored}
+use Rattle.command_outcome.specs.declared.failure.Failure.{Failure}
+use Rattle.command_outcome.specs.declared.failure.Failure.TheVariants as F
+use Rattle.command_outcome.specs.declared.failure.Object.TheVariants as O
 
 -- what a run comes to has read its input
-pub run_reads : (l : Loop) (input : List ℕ) (words calls : ℕ) (gauge : Bool) (o : Result (Vec ℕ Global) Failure) → IsLoopRun l input words calls gauge o → IsBeforeInput o → ⊥
+pub run_reads : (l : Loop) (input : List ℕ) (words calls : ℕ) (gauge : Bool) (o : Outcome) → IsLoopRun l input words calls gauge o → IsBeforeInput o → ⊥
 run_reads l input words calls gauge (Ok text) h b = b
 run_reads l input words calls gauge (Err (F.BadInput at)) h b = b
 run_reads l input words calls gauge (Err (F.TooSmall needed given)) h b = b
 run_reads l input words calls gauge (Err (F.OutOfCalls given)) h b = b
 run_reads l input words calls gauge (Err F.NoMemory) h b = b
-run_reads l input words calls gauge (Err F.NotUnderstood) h b = h
-run_reads l input words calls gauge (Err (F.Refused r)) h b = h
-run_reads l input words calls gauge (Err (F.Fault object)) h b = h
+run_reads l input words calls gauge (Err failure) h b = h
 
 -- what keeps an input from being read isn't before it
 pub read_fails_late : (left left' : Option (List ℕ)) (before now : ℕ) (f : Failure) → ReadFails left left' before now f → IsBeforeInput (Err f) → ⊥
-read_fails_late left left' before now F.NotUnderstood h b = h
-read_fails_late left left' before now (F.Refused r) h b = h
 read_fails_late left left' before now (F.BadInput at) h b = b
-read_fails_late left left' before now (F.TooSmall needed given) h b = b
-read_fails_late left left' before now (F.OutOfCalls given) h b = b
 read_fails_late left left' before now (F.Fault O.Folder) h b = let same = h.0 in cc
 read_fails_late left left' before now (F.Fault O.Input) h b = b
 read_fails_late left left' before now (F.Fault O.Out) h b = b
 read_fails_late left left' before now (F.Fault O.Err) h b = b
 read_fails_late left left' before now F.NoMemory h b = b
+read_fails_late left left' before now failure h b = h
 
--- what keeps a source from running isn't the words
+-- what keeps a source or a code from running isn't the words
 pub fetch_understood : (files : Option (List File)) (name : List ℕ) (before now : ℕ) (f : Failure) → FetchFails files name before now f → IsBeforeSource (Err f) → ⊥
 fetch_understood files name before now F.NotUnderstood h b = h
-fetch_understood files name before now (F.Refused r) h b = b
-fetch_understood files name before now (F.BadInput at) h b = b
-fetch_understood files name before now (F.TooSmall needed given) h b = b
-fetch_understood files name before now (F.OutOfCalls given) h b = b
-fetch_understood files name before now (F.Fault object) h b = b
-fetch_understood files name before now F.NoMemory h b = b
+fetch_understood files name before now failure h b = b
 
 pub front_understood : (spelling : Spelling) (source entry : List ℕ) (f : Failure) → FrontFails spelling source entry f → IsBeforeSource (Err f) → ⊥
 front_understood spelling source entry F.NotUnderstood (inl h) b = h
-front_understood spelling source entry F.NotUnderstood (inr (core, spelt, inl h)) b = h
-front_understood spelling source entry F.NotUnderstood (inr (core, spelt, inr h)) b = h.1
-front_understood spelling source entry (F.Refused r) h b = b
-front_understood spelling source entry (F.BadInput at) h b = b
-front_understood spelling source entry (F.TooSmall needed given) h b = b
-front_understood spelling source entry (F.OutOfCalls given) h b = b
-front_understood spelling source entry (F.Fault object) h b = b
-front_understood spelling source entry F.NoMemory h b = b
+front_understood spelling source entry F.NotUnderstood (inr (core, spelt, right, h)) b = h
+front_understood spelling source entry failure h b = b
+
+pub source_understood : (f : Failure) → IsOfSource f → IsBeforeSource (Err f) → ⊥
+source_understood F.NotUnderstood h b = h
+source_understood failure h b = b
+
+pub early_understood : (f : Failure) → IsEarlyFailure f → IsBeforeSource (Err f) → ⊥
+early_understood F.NotUnderstood h b = h
+early_understood failure h b = b
+
+-- what comes of a result, or of what is said of a source, isn't the words
+pub sources_understood : (o : Outcome) → IfErr o IsOfSource → IsBeforeSource o → ⊥
+sources_understood (Ok text) h b = b
+sources_understood (Err f) h b = source_understood f h b
+
+-- a run's failure isn't before its input
+pub runs_late : (o : Outcome) → IfErr o IsOfRun → IsBeforeInput o → ⊥
+runs_late (Ok text) h b = b
+runs_late (Err F.NotUnderstood) h b = h
+runs_late (Err (F.Refused r)) h b = h
+runs_late (Err (F.BadCode at)) h b = h
+runs_late (Err (F.Unsound function at rule)) h b = h
+runs_late (Err (F.BadTrace at)) h b = h
+runs_late (Err (F.Fault object)) h b = h
+runs_late (Err failure) h b = b
+
+-- nor is a failure of tasks
+pub tasks_late : (o : Outcome) → IfErr o IsOfTasks → IsBeforeInput o → ⊥
+tasks_late (Ok text) h b = b
+tasks_late (Err F.NotUnderstood) h b = h
+tasks_late (Err (F.Refused r)) h b = h
+tasks_late (Err (F.BadCode at)) h b = h
+tasks_late (Err (F.Unsound function at rule)) h b = h
+tasks_late (Err (F.BadTrace at)) h b = h
+tasks_late (Err (F.Fault object)) h b = h
+tasks_late (Err failure) h b = b
+
+-- what keeps a run from its trace comes late
+pub trace_late : (f : Failure) → IsOfTrace f → IsLateFailure f
+trace_late (F.Fault O.Input) h = tt
+trace_late (F.Fault O.Folder) h = h
+trace_late (F.Fault O.Out) h = h
+trace_late (F.Fault O.Err) h = h
+trace_late failure h = h
+
+-- and so does what keeps its input from being read
+pub read_fails_untraced : (left left' : Option (List ℕ)) (before now : ℕ) (f : Failure) → ReadFails left left' before now f → IsLateFailure f
+read_fails_untraced left left' before now (F.BadInput at) h = tt
+read_fails_untraced left left' before now (F.Fault O.Input) h = tt
+read_fails_untraced left left' before now (F.Fault O.Folder) h = absurd (let same = h.0 in cc)
+read_fails_untraced left left' before now (F.Fault O.Out) h = absurd (let same = h.0 in cc)
+read_fails_untraced left left' before now (F.Fault O.Err) h = absurd (let same = h.0 in cc)
+read_fails_untraced left left' before now F.NoMemory h = tt
+read_fails_untraced left left' before now failure h = absurd h
+
+-- what comes late isn't the words
+pub late_understood : (f : Failure) → IsLateFailure f → IsBeforeSource (Err f) → ⊥
+late_understood F.NotUnderstood h b = h
+late_understood failure h b = b
 
 -- what waits for its input isn't before the source
-pub late_late : (o : Result (Vec ℕ Global) Failure) → (IsBeforeInput o → ⊥) → IsBeforeSource o → ⊥
+pub late_late : (o : Outcome) → (IsBeforeInput o → ⊥) → IsBeforeSource o → ⊥
 late_late (Ok text) h b = b
 late_late (Err F.NotUnderstood) h b = h b
-late_late (Err (F.Refused r)) h b = b
-late_late (Err (F.BadInput at)) h b = b
-late_late (Err (F.TooSmall needed given)) h b = b
-late_late (Err (F.OutOfCalls given)) h b = b
-late_late (Err (F.Fault object)) h b = b
-late_late (Err F.NoMemory) h b = b
+late_late (Err failure) h b = b
+
+-- ---- commands
+
+source_or_not : (o : Outcome) → IsBeforeSource o ⊎ (IsBeforeSource o → ⊥)
+source_or_not (Ok text) = inr (λ b. b)
+source_or_not (Err F.NotUnderstood) = inl tt
+source_or_not (Err failure) = inr (λ b. b)
+
+input_or_not : (o : Outcome) → IsBeforeInput o ⊎ (IsBeforeInput o → ⊥)
+input_or_not (Ok text) = inr (λ b. b)
+input_or_not (Err F.NotUnderstood) = inl tt
+input_or_not (Err (F.Refused r)) = inl tt
+input_or_not (Err (F.BadCode at)) = inl tt
+input_or_not (Err (F.Unsound function at rule)) = inl tt
+input_or_not (Err (F.BadTrace at)) = inl tt
+input_or_not (Err (F.Fault O.Folder)) = inl tt
+input_or_not (Err (F.Fault O.Input)) = inr (λ b. b)
+input_or_not (Err (F.Fault O.Out)) = inr (λ b. b)
+input_or_not (Err (F.Fault O.Err)) = inr (λ b. b)
+input_or_not (Err failure) = inr (λ b. b)
+
+before_or_not : (c : Command) (o : Outcome) → IsBeforeInputOf c o ⊎ (IsBeforeInputOf c o → ⊥)
+before_or_not (Trace file entry out room) o = source_or_not o
+before_or_not c o = input_or_not o
+
+reads_or_not : (c : Command) → ReadsInput c ⊎ (ReadsInput c → ⊥)
+reads_or_not (Exec r) = inl tt
+reads_or_not (Run r) = inl tt
+reads_or_not (Eval file entry calls frames) = inl tt
+reads_or_not (Trace file entry out room) = inl tt
+reads_or_not (Session file room) = inl tt
+reads_or_not (Tasks file seed turns room) = inl tt
+reads_or_not c = inr (λ b. b)
+
+calls_or_not : (c : Command) → CallsNoFolder c ⊎ (CallsNoFolder c → ⊥)
+calls_or_not (Library name) = inl tt
+calls_or_not (Gen seed count) = inl tt
+calls_or_not c = inr (λ b. b)
+
+module _ (words : List (List ℕ)) (c : Command) (asked : IsCommand words c) (o : Outcome) where
+  pub input_turn : (same : Type 0) → ((ReadsInput c → ⊥) → same) → (IsBeforeInputOf c o → same) → same ⊎ HadInput words o
+  input_turn same unread before = elim (reads_or_not c) [
+    | inl reads ↦ elim (before_or_not c o) [ inl b ↦ inl (before b) | inr late ↦ inr (c, asked, reads, late) ]
+    | inr never ↦ inl (unread never)
+  ]
+
+  pub folder_turn : (same : Type 0) → (CallsNoFolder c → same) → (IsBeforeSource o → same) → same ⊎ HadFolder words o
+  folder_turn same uncalled before = elim (calls_or_not c) [
+    | inl never ↦ inl (uncalled never)
+    | inr calls ↦ elim (source_or_not o) [ inl b ↦ inl (before b) | inr late ↦ inr (c, asked, calls, late) ]
+  ]
+
+  pub read_turn : (end : Type 0) → (ReadsInput c → end) → end ⊎ LeavesInput words
+  read_turn end read = elim (reads_or_not c) [ inl reads ↦ inl (read reads) | inr never ↦ inr (c, asked, never) ]
+
+  named_turn : (old new : Option (List File)) (stored : Option (List ℕ)) → stored_name c ≡ stored → AreKept stored old new o → (new ≡ old) ⊎ HadStored words old new o
+  named_turn old new None is kept = inl kept
+  named_turn old new (Some name) is (inl same) = inl same
+  named_turn old new (Some name) is (inr changed) = inr (c, name, asked, is, changed.0, changed.1)
+
+  pub store_turn : (old new : Option (List File)) → AreKept (stored_name c) old new o → (new ≡ old) ⊎ HadStored words old new o
+  store_turn old new kept = named_turn old new (stored_name c) refl kept
+
+pub on_ok : (o : Outcome) (A B : Type 0) → (A → B) → OnOk o A → OnOk o B
+on_ok (Ok text) A B up h = up h
+on_ok (Err failure) A B up h = tt
 
 -- ---- statuses
 
@@ -84,52 +189,87 @@ either_status : (old new : Seen) (status : ℕ) (text : List ℕ) (s : ℕ) → 
 either_status old new status text s (inl t) = elim (told_status old new status text s t) [ inl a ↦ inl a | inr a ↦ inr (inl a) ]
 either_status old new status text s (inr t) = elim (told_status old new 10 no_memory_text s t) [ inl a ↦ inr (inr a) | inr a ↦ inr (inl a) ]
 
-not_1 : (s status : ℕ) → (s ≡ status) ⊎ ((s ≡ 9) ⊎ (s ≡ 10)) → (status ≡ 1 → ⊥) → s ≡ 1 → ⊥
-not_1 s status (inl a) differ e = differ (sym a ∙ e)
-not_1 s status (inr (inl a)) differ e = omega (arith, a, e)
-not_1 s status (inr (inr a)) differ e = omega (arith, a, e)
+differs : (s status n : ℕ) → (s ≡ status) ⊎ ((s ≡ 9) ⊎ (s ≡ 10)) → (status ≡ n → ⊥) → n ≤ 8 → s ≡ n → ⊥
+differs s status n (inl a) differ le e = differ (sym a ∙ e)
+differs s status n (inr (inl a)) differ le e = omega (arith, a, e, le)
+differs s status n (inr (inr a)) differ le e = omega (arith, a, e, le)
 
-not_2 : (s status : ℕ) → (s ≡ status) ⊎ ((s ≡ 9) ⊎ (s ≡ 10)) → (status ≡ 2 → ⊥) → s ≡ 2 → ⊥
-not_2 s status (inl a) differ e = differ (sym a ∙ e)
-not_2 s status (inr (inl a)) differ e = omega (arith, a, e)
-not_2 s status (inr (inr a)) differ e = omega (arith, a, e)
+-- an early status
+early_below : (s : ℕ) → IsEarly s → (s ≡ 0 → ⊥) × ((s ≡ 9 → ⊥) × (s ≡ 10 → ⊥))
+early_below s (inl e) = (λ a. omega (arith, a, e), (λ a. omega (arith, a, e), λ a. omega (arith, a, e)))
+early_below s (inr (inl e)) = (λ a. omega (arith, a, e), (λ a. omega (arith, a, e), λ a. omega (arith, a, e)))
+early_below s (inr (inr e)) = (λ a. omega (arith, a, e), (λ a. omega (arith, a, e), λ a. omega (arith, a, e)))
 
-result_status : (s : ℕ) → (s ≡ 0) ⊎ (s ≡ 9) → (s ≡ 1) ⊎ (s ≡ 2) → ⊥
-result_status s (inl a) (inl e) = omega (arith, a, e)
-result_status s (inl a) (inr e) = omega (arith, a, e)
-result_status s (inr a) (inl e) = omega (arith, a, e)
-result_status s (inr a) (inr e) = omega (arith, a, e)
+not_early : (n : ℕ) → 3 ≤ n → n ≤ 7 → IsEarly n → ⊥
+not_early n low high (inl e) = omega (arith, low, e)
+not_early n low high (inr (inl e)) = omega (arith, low, e)
+not_early n low high (inr (inr e)) = omega (arith, high, e)
 
-late : (s status : ℕ) → (s ≡ status) ⊎ ((s ≡ 9) ⊎ (s ≡ 10)) → 3 ≤ status → (s ≡ 1) ⊎ (s ≡ 2) → ⊥
-late s status h le (inl e) = not_1 s status h (λ a. omega (arith, a, le)) e
-late s status h le (inr e) = not_2 s status h (λ a. omega (arith, a, le)) e
+late : (s status : ℕ) → (s ≡ status) ⊎ ((s ≡ 9) ⊎ (s ≡ 10)) → 3 ≤ status → status ≤ 7 → IsEarly s → ⊥
+late s status (inl a) low high e = not_early status low high (subst IsEarly a e)
+late s status (inr (inl a)) low high e = (early_below s e).1.0 a
+late s status (inr (inr a)) low high e = (early_below s e).1.1 a
 
-failure_early : (old new : Seen) (f : Failure) (s : ℕ) → ToldFailure old new f s → (s ≡ 1) ⊎ (s ≡ 2) → IsBeforeInput (Err f)
-failure_early old new (F.Fault object) s h e = absurd (result_status s (inr h.0) e)
-failure_early old new F.NoMemory s h e = absurd (late s 10 (either_status old new 10 no_memory_text s (inr h)) (omega arith) e)
+failure_early : (old new : Seen) (f : Failure) (s : ℕ) → ToldFailure old new f s → IsEarly s → IsBeforeInput (Err f)
 failure_early old new F.NotUnderstood s h e = tt
 failure_early old new (F.Refused r) s h e = tt
-failure_early old new (F.BadInput at) s h e = absurd (late s 5 (either_status old new 5 _ s h) (omega arith) e)
-failure_early old new (F.TooSmall needed given) s h e = absurd (late s 6 (either_status old new 6 _ s h) (omega arith) e)
-failure_early old new (F.OutOfCalls given) s h e = absurd (late s 4 (either_status old new 4 _ s h) (omega arith) e)
+failure_early old new (F.BadCode at) s h e = tt
+failure_early old new (F.Unsound function at rule) s h e = tt
+failure_early old new (F.BadTrace at) s h e = tt
+failure_early old new (F.Fault object) s h e = absurd ((early_below s e).1.0 h.0)
+failure_early old new F.NoMemory s h e = absurd (elim (either_status old new 10 no_memory_text s h) [ inl a ↦ (early_below s e).1.1 a | inr (inl a) ↦ (early_below s e).1.0 a | inr (inr a) ↦ (early_below s e).1.1 a ])
+failure_early old new f s h e = absurd (late s (failure_status f) (either_status old new (failure_status f) (failure_text f) s h) (omega arith) (omega arith) e)
 
--- status 1 or 2 comes before the input's turn
-pub early_status : (out out' err err' : Seen) (o : Result (Vec ℕ Global) Failure) (s : ℕ) → Delivered out out' err err' o s → (s ≡ 1) ⊎ (s ≡ 2) → IsBeforeInput o
-early_status out out' err err' (Ok text) s (inl d) e = absurd (result_status s (inl d.0) e)
-early_status out out' err err' (Ok text) s (inr d) e = absurd (result_status s (inr d.0) e)
+-- status 1, 2 or 8 comes before the input's turn
+early_status : (out out' err err' : Seen) (o : Outcome) (s : ℕ) → Delivered out out' err err' o s → IsEarly s → IsBeforeInput o
+early_status out out' err err' (Ok text) s (inl d) e = absurd ((early_below s e).0 d.0)
+early_status out out' err err' (Ok text) s (inr d) e = absurd ((early_below s e).1.0 d.0)
 early_status out out' err err' (Err f) s d e = failure_early err err' f s d.1 e
 
 failure_first : (old new : Seen) (f : Failure) (s : ℕ) → ToldFailure old new f s → s ≡ 2 → IsBeforeSource (Err f)
-failure_first old new (F.Fault object) s h e = absurd (result_status s (inr h.0) (inr e))
-failure_first old new F.NoMemory s h e = absurd (late s 10 (either_status old new 10 no_memory_text s (inr h)) (omega arith) (inr e))
 failure_first old new F.NotUnderstood s h e = tt
-failure_first old new (F.Refused r) s h e = absurd (not_2 s 1 (either_status old new 1 _ s h) (λ a. omega (arith, a)) e)
-failure_first old new (F.BadInput at) s h e = absurd (late s 5 (either_status old new 5 _ s h) (omega arith) (inr e))
-failure_first old new (F.TooSmall needed given) s h e = absurd (late s 6 (either_status old new 6 _ s h) (omega arith) (inr e))
-failure_first old new (F.OutOfCalls given) s h e = absurd (late s 4 (either_status old new 4 _ s h) (omega arith) (inr e))
+failure_first old new (F.Fault object) s h e = absurd (let nine = h.0 in omega (arith, nine, e))
+failure_first old new f s h e = absurd (differs s (failure_status f) 2 (either_status old new (failure_status f) (failure_text f) s h) (λ a. omega (arith, a)) (omega arith) e)
 
 -- status 2 comes before the source's turn
-pub first_status : (out out' err err' : Seen) (o : Result (Vec ℕ Global) Failure) (s : ℕ) → Delivered out out' err err' o s → s ≡ 2 → IsBeforeSource o
-first_status out out' err err' (Ok text) s (inl d) e = absurd (result_status s (inl d.0) (inr e))
-first_status out out' err err' (Ok text) s (inr d) e = absurd (result_status s (inr d.0) (inr e))
+first_status : (out out' err err' : Seen) (o : Outcome) (s : ℕ) → Delivered out out' err err' o s → s ≡ 2 → IsBeforeSource o
+first_status out out' err err' (Ok text) s (inl d) e = absurd (let zero = d.0 in omega (arith, zero, e))
+first_status out out' err err' (Ok text) s (inr d) e = absurd (let nine = d.0 in omega (arith, nine, e))
 first_status out out' err err' (Err f) s d e = failure_first err err' f s d.1 e
+
+failure_last : (old new : Seen) (f : Failure) (s : ℕ) → ToldFailure old new f s → s ≡ 0 → ⊥
+failure_last old new (F.Fault object) s h e = let nine = h.0 in omega (arith, nine, e)
+failure_last old new f s h e = differs s (failure_status f) 0 (either_status old new (failure_status f) (failure_text f) s h) (λ a. omega (arith, a)) (omega arith) e
+
+-- status 0 comes with a result
+pub last_status : (out out' err err' : Seen) (o : Outcome) (s : ℕ) (A : Type 0) → Delivered out out' err err' o s → OnOk o A → s ≡ 0 → A
+last_status out out' err err' (Ok text) s A d h e = h
+last_status out out' err err' (Err f) s A d h e = absurd (failure_last err err' f s d.1 e)
+
+stored_status : (out out' err err' : Seen) (o : Outcome) (s : ℕ) → Delivered out out' err err' o s → MayHaveStored o → (s ≡ 0) ⊎ (s ≡ 9)
+stored_status out out' err err' (Ok text) s (inl d) m = inl d.0
+stored_status out out' err err' (Ok text) s (inr d) m = inr d.0
+stored_status out out' err err' (Err (F.Fault O.Folder)) s d m = inr d.1.0
+stored_status out out' err err' (Err (F.Fault O.Input)) s d m = absurd m
+stored_status out out' err err' (Err (F.Fault O.Out)) s d m = absurd m
+stored_status out out' err err' (Err (F.Fault O.Err)) s d m = absurd m
+stored_status out out' err err' (Err failure) s d m = absurd m
+
+-- ---- the whole
+
+module _ (words : List (List ℕ)) (out out' err err' : Seen) (o : Outcome) (s : ℕ) (d : Delivered out out' err err' o s) where
+  may_have_read : (c : Command) → (IsBeforeInputOf c o → ⊥) → MayHaveRead c s
+  may_have_read (Trace file entry to room) late' = λ e. late' (first_status out out' err err' o s d e)
+  may_have_read c late' = λ e. late' (early_status out out' err err' o s d e)
+
+  pub input_read : (same : Type 0) → same ⊎ HadInput words o → same ⊎ HasRead words s
+  input_read same (inl e) = inl e
+  input_read same (inr h) = inr (h.0, h.1, h.2, may_have_read h.0 h.3)
+
+  pub folder_called : (same : Type 0) → same ⊎ HadFolder words o → same ⊎ HasCalled words s
+  folder_called same (inl e) = inl e
+  folder_called same (inr h) = inr (h.0, h.1, h.2, λ e. h.3 (first_status out out' err err' o s d e))
+
+  pub files_stored : (same : Type 0) (old new : Option (List File)) → same ⊎ HadStored words old new o → same ⊎ HasStored words old new s
+  files_stored same old new (inl e) = inl e
+  files_stored same old new (inr h) = inr (h.0, h.1, h.2, h.3, stored_status out out' err err' o s d h.4, h.5)

@@ -6,10 +6,10 @@ use Rattle.std.specs.declared.vec.Vec.{Vec}
 use Rattle.std.specs.declared.alloc.Global.{Global}
 use Rattle.fip_base.specs.Faults.{Rose}
 use Rattle.fip_base.specs.Takes.{WritesPrefix}
-use Rattle.fip_driver.specs.Failures.{failure_text, fault_text}
-use Rattle.fip_driver.specs.Texts.{no_memory_text, out_fault_text, err_fault_text}
-use Rattle.fip_driver.specs.declared.failure.Failure.{Failure}
-use Rattle.fip_driver.specs.declared.failure.Failure.TheVariants as F
+use Rattle.command_outcome.specs.Failures.{failure_status, failure_text, fault_text}
+use Rattle.command_outcome.specs.Texts.{no_memory_text, out_fault_text, err_fault_text}
+use Rattle.command_outcome.specs.declared.failure.Failure.{Failure}
+use Rattle.command_outcome.specs.declared.failure.Failure.TheVariants as F
 
 -- a sink: the bytes that were written, where they are told, and the count of faults
 pub record Seen : Type 0 where
@@ -37,12 +37,7 @@ Told old new status text s =
 -- a failure's own text; or that of want of memory, where there was none for the text
 abbrev pub ToldFailure : Seen → Seen → Failure → ℕ → Type 0
 ToldFailure old new (F.Fault object) s = (s ≡ 9) × Tried old new (fault_text object)
-ToldFailure old new F.NoMemory s = Told old new 10 no_memory_text s
-ToldFailure old new F.NotUnderstood s = Told old new 2 (failure_text F.NotUnderstood) s ⊎ Told old new 10 no_memory_text s
-ToldFailure old new (F.Refused r) s = Told old new 1 (failure_text (F.Refused r)) s ⊎ Told old new 10 no_memory_text s
-ToldFailure old new (F.BadInput at) s = Told old new 5 (failure_text (F.BadInput at)) s ⊎ Told old new 10 no_memory_text s
-ToldFailure old new (F.TooSmall needed given) s = Told old new 6 (failure_text (F.TooSmall needed given)) s ⊎ Told old new 10 no_memory_text s
-ToldFailure old new (F.OutOfCalls given) s = Told old new 4 (failure_text (F.OutOfCalls given)) s ⊎ Told old new 10 no_memory_text s
+ToldFailure old new failure s = Told old new (failure_status failure) (failure_text failure) s ⊎ Told old new 10 no_memory_text s
 
 -- A result stands on out; or out failed behind a front part of it, which was tried to be told on err.
 abbrev pub Delivered : Seen → Seen → Seen → Seen → Result (Vec ℕ Global) Failure → ℕ → Type 0

@@ -2,16 +2,22 @@
 use Rattle.std.specs.Prelude.{◌≡◌, ℕ, List, [], Bool, Result, Ok, Err}
 use Rattle.std.specs.declared.vec.Vec.{Vec}
 use Rattle.std.specs.declared.alloc.Global.{Global}
-use Rattle.fip_language.specs.Answer.{Reply, status}
+use Rattle.fip_language.specs.Answer.{Reply, NotRight, status}
 use Rattle.fip_driver.specs.Reply.{out_text, err_text}
-use Rattle.fip_driver.specs.Failures.{failure_text, failure_status}
-use Rattle.fip_driver.specs.declared.failure.Failure.{Failure}
-use Rattle.fip_driver.specs.declared.failure.Failure.TheVariants as F
-use Rattle.fip_driver.specs.declared.failure.Object.{Object}
-use Rattle.fip_driver.specs.declared.failure.Object.TheVariants as O
+use Rattle.command_outcome.specs.Failures.{failure_text, failure_status}
+use Rattle.command_outcome.specs.declared.failure.Failure.{Failure}
+use Rattle.command_outcome.specs.declared.failure.Failure.TheVariants as F
+use Rattle.command_outcome.specs.declared.failure.Object.{Object}
+use Rattle.command_outcome.specs.declared.failure.Object.TheVariants as O
+
+-- A reply that the definitions have: a program that isn't right has none yet.
+abbrev pub IsWritten : Reply → Type 0
+IsWritten NotRight = ⊥
+IsWritten reply = Unit {0}
 
 -- A failure has the status and the text of a reply that prints nothing on out.
 pub record FailsAs (failure : Failure) (gauge : Bool) (reply : Reply) : Type 0 where
+  pub written : IsWritten reply
   pub same_status : failure_status failure ≡ status reply
   pub same_text : failure_text failure ≡ err_text reply
   pub silent : out_text gauge reply ≡ []
@@ -35,9 +41,6 @@ FaultBy Is gauge rose O.Err = ⊥
 abbrev pub ExplainedBy : (Reply → Type 0) → Bool → Type 0 → Result (Vec ℕ Global) Failure → Type 0
 ExplainedBy Is gauge rose (Ok text) = (reply : Reply) × Is reply × PrintsAs text.items gauge reply
 ExplainedBy Is gauge rose (Err F.NotUnderstood) = ⊥
-ExplainedBy Is gauge rose (Err (F.Refused r)) = Fails Is gauge (F.Refused r)
-ExplainedBy Is gauge rose (Err (F.BadInput at)) = Fails Is gauge (F.BadInput at)
-ExplainedBy Is gauge rose (Err (F.TooSmall needed given)) = Fails Is gauge (F.TooSmall needed given)
-ExplainedBy Is gauge rose (Err (F.OutOfCalls given)) = Fails Is gauge (F.OutOfCalls given)
 ExplainedBy Is gauge rose (Err (F.Fault object)) = FaultBy Is gauge rose object
 ExplainedBy Is gauge rose (Err F.NoMemory) = Unit {0}
+ExplainedBy Is gauge rose (Err failure) = Fails Is gauge failure

@@ -1,21 +1,18 @@
 -- What can come of fetching a source and of reading an input.
-use Rattle.std.specs.Prelude.{◌≡◌, ℕ, List, [], ◌⊎◌, Some, None, Option}
+use Rattle.std.specs.Prelude.{◌≡◌, ℕ, List, [], ◌⊎◌, None, Option}
 use Rattle.fip_base.specs.declared.refusal.Refusal.{Refusal}
-use Rattle.fip_language.specs.declared.rule.Rule.TheVariants.{E05, E09, E70}
+use Rattle.fip_language.specs.declared.rule.Rule.TheVariants.{E05, E70}
 use Rattle.fip_base.specs.Faults.{Rose}
 use Rattle.fip_base.specs.Files.{File, HoldsLonger, IsMissing}
 use Rattle.fip_base.specs.Takes.{Takes}
-use Rattle.fip_driver.specs.declared.failure.Object.TheVariants as O
-use Rattle.fip_driver.specs.declared.failure.Failure.{Failure}
-use Rattle.fip_driver.specs.declared.failure.Failure.TheVariants as F
+use Rattle.command_outcome.specs.Stages.{IsOfSource, IsOfTrace}
+use Rattle.command_outcome.specs.declared.failure.Object.TheVariants as O
+use Rattle.command_outcome.specs.declared.failure.Failure.{Failure}
+use Rattle.command_outcome.specs.declared.failure.Failure.TheVariants as F
 
 -- the refusal of a source that is too long
 abbrev pub too_long : Refusal
 too_long = record { rule = E05; place = None; size = 0; detail = [] }
-
--- the refusal of a program that isn't right, or that has a form which doesn't run yet
-abbrev pub no_right_program : Refusal
-no_right_program = record { rule = E09; place = Some (record { line = 1; col = 1; at = 0 }); size = 0; detail = [] }
 
 -- the refusal of a name that no function has
 abbrev pub unknown_entry : List ℕ → Refusal
@@ -23,20 +20,26 @@ unknown_entry name = record { rule = E70; place = None; size = 0; detail = name 
 
 -- why a source wasn't fetched, by the folder's files and its count of faults before and after
 abbrev pub FetchFails : Option (List File) → List ℕ → ℕ → ℕ → Failure → Type 0
-FetchFails files name before now F.NotUnderstood = ⊥
 FetchFails files name before now (F.Refused r) = (r ≡ too_long) × HoldsLonger files name 1048576
-FetchFails files name before now (F.BadInput at) = ⊥
-FetchFails files name before now (F.TooSmall needed given) = ⊥
-FetchFails files name before now (F.OutOfCalls given) = ⊥
 FetchFails files name before now (F.Fault object) = (object ≡ O.Folder) × (Rose before now ⊎ IsMissing files name)
 FetchFails files name before now F.NoMemory = Unit {0}
+FetchFails files name before now failure = ⊥
 
 -- why an input wasn't read, by what was left of it before and after, and the count of faults before and after
 abbrev pub ReadFails : Option (List ℕ) → Option (List ℕ) → ℕ → ℕ → Failure → Type 0
-ReadFails left left' before now F.NotUnderstood = ⊥
-ReadFails left left' before now (F.Refused r) = ⊥
 ReadFails left left' before now (F.BadInput at) = (at ≡ 16777216) × Takes left left' 16777217
-ReadFails left left' before now (F.TooSmall needed given) = ⊥
-ReadFails left left' before now (F.OutOfCalls given) = ⊥
 ReadFails left left' before now (F.Fault object) = (object ≡ O.Input) × Rose before now
 ReadFails left left' before now F.NoMemory = Unit {0}
+ReadFails left left' before now failure = ⊥
+
+-- why a file wasn't fetched, or what it has isn't taken; or want of memory
+abbrev pub IsEarlyFailure : Failure → Type 0
+IsEarlyFailure (F.Fault O.Folder) = Unit {0}
+IsEarlyFailure (F.Fault object) = ⊥
+IsEarlyFailure failure = IsOfSource failure
+
+-- why an input wasn't read, or what is said of it, of a run on it and of a trace that is too long; or want of memory
+abbrev pub IsLateFailure : Failure → Type 0
+IsLateFailure (F.Fault O.Input) = Unit {0}
+IsLateFailure (F.Fault object) = ⊥
+IsLateFailure failure = IsOfTrace failure

@@ -12,8 +12,8 @@ use Rattle.loop_form.specs.Loop.{Loop}
 use Rattle.loop_form.specs.Meaning.{Gives, Out, loop_meaning}
 use Rattle.loop_machine.specs.Running.{Stand}
 use Rattle.fip_driver.specs.Reply.{gauge_lines}
-use Rattle.fip_driver.specs.declared.failure.Failure.{Failure}
-use Rattle.fip_driver.specs.declared.failure.Failure.TheVariants as F
+use Rattle.command_outcome.specs.declared.failure.Failure.{Failure}
+use Rattle.command_outcome.specs.declared.failure.Failure.TheVariants as F
 
 -- The text of the result, and behind it the gauge's lines where they are asked for: the cells of the arguments are those
 -- of the result, and no frame is held beside the running one.
@@ -48,6 +48,4 @@ IsLoopRun l input words calls gauge (Err (F.BadInput at)) = IsPlace (SpellsValue
 IsLoopRun l input words calls gauge (Err (F.TooSmall needed given)) = (vs : Values) × IsTooMuch l input words vs × (needed ≡ words_needed_by_all vs) × (given ≡ words)
 IsLoopRun l input words calls gauge (Err (F.OutOfCalls given)) = (vs : Values) × IsLoaded l input words vs × (loop_meaning l vs calls ≡ Out) × (given ≡ calls)
 IsLoopRun l input words calls gauge (Err F.NoMemory) = Unit {0}
-IsLoopRun l input words calls gauge (Err F.NotUnderstood) = ⊥
-IsLoopRun l input words calls gauge (Err (F.Refused r)) = ⊥
-IsLoopRun l input words calls gauge (Err (F.Fault object)) = ⊥
+IsLoopRun l input words calls gauge (Err failure) = ⊥

@@ -9,7 +9,7 @@ use Rattle.fip_language.specs.Meaning.{Peak}
 use Rattle.fip_language.specs.Gauge.{highest_by_trees, lowest_by_trees}
 use Rattle.fip_language.specs.Answer.{Reply, Done, NoFile, SourceTooLong, Misspelt, NotRight, NoEntry, BadInput, TooSmall, Trapped, OutOfCalls, OutOfFrames, Finished}
 use Rattle.fip_base.specs.Refusal.{place_text, detail_text}
-use Rattle.fip_driver.specs.Texts.{line_end, out_of_calls_text, bad_input_text, too_small_text, cells_text, stack_text, bound_text, folder_fault_text, trap_text, out_of_frames_text}
+use Rattle.command_outcome.specs.Texts.{line_end, out_of_calls_text, bad_input_text, too_small_text, cells_text, stack_text, bound_text, folder_fault_text, trap_text, out_of_frames_text}
 
 -- a line for a size of which there were cells
 abbrev pub size_line : ℕ → ℕ → ℕ → List ℕ
@@ -49,12 +49,12 @@ out_text gauge (Finished done) = value_text done ++ (if gauge then gauge_text do
 abbrev pub misspelt_text : ℕ → Place → List ℕ
 misspelt_text rule place = codes "E0" ++ (decimal rule ++ (place_text (Some place) ++ line_end))
 
--- what stands on err
+-- what stands on err; a program that isn't right has no text here
 abbrev pub err_text : Reply → List ℕ
 err_text NoFile = folder_fault_text
 err_text SourceTooLong = codes "E05\n"
 err_text (Misspelt rule place) = misspelt_text rule place
-err_text NotRight = codes "E09 at 1:1\n"
+err_text NotRight = []
 err_text (NoEntry name) = codes "E70" ++ (detail_text name ++ line_end)
 err_text (BadInput at) = bad_input_text at
 err_text (TooSmall needed given) = too_small_text needed given

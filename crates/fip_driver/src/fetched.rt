@@ -2,17 +2,27 @@
 ghost use Rattle.std.specs.Prelude.{◌≡◌, ◌≤◌, length, IfOk, OnOk, IfErr};
 ghost use Rattle.std.specs.Io.KnownBytes.{Consumes, IsAtEnd};
 ghost use Rattle.fip_base.specs.Files.{HoldsFile};
-ghost use Rattle.fip_driver.specs.Fetched.{FetchFails, ReadFails};
+ghost use Rattle.fip_driver.specs.Fetched.{FetchFails, ReadFails, IsEarlyFailure};
 
-use crate::failure::{Failure, Object};
+use command_outcome::{Failure, Object};
 use fip_base::all::{ReadError, read_all};
 use fip_base::outside::{FetchError, Folder, Source};
 use fip_base::plain::Detail;
 use fip_base::refusal::{Refusal, Rule};
+use fip_commands::bad_proof;
 use std::alloc::Global;
 
 // The most bytes of a source.
 const MOST_SOURCE: usize = 1_048_576;
+
+// The most bytes of a code file.
+const MOST_CODE: usize = 16_777_216;
+
+// The most bytes of a proof file.
+const MOST_PROOF: usize = 16_777_216;
+
+// The most bytes of a trace.
+const MOST_TRACE: usize = 16_777_216;
 
 // The most bytes of an input.
 const MOST_INPUT: usize = 16_777_216;
@@ -38,6 +48,48 @@ pub fn fetch_source<F: Folder>(
             size: 0,
             detail: Detail::new(Vec::new(alloc)),
         })),
+        Err(FetchError::Failed) => Err(Failure::Fault(Object::Folder)),
+        Err(FetchError::NoMemory) => Err(Failure::NoMemory),
+    }
+}
+
+/// The bytes of a code file, at most 16,777,216. Bad code at that offset where there are more; a fault of the folder where
+/// it failed or has no file of that name.
+pub fn fetch_code<F: Folder>(folder: &mut F, name: &str) -> Result<Vec<u8>, Failure>
+    ensures early { IfErr result IsEarlyFailure }
+    ensures same { F.files folder.new ≡ F.files folder.old }
+{
+    match folder.fetch(name, MOST_CODE) {
+        Ok(bytes) => Ok(bytes),
+        Err(FetchError::TooLong) => Err(Failure::BadCode { at: MOST_CODE }),
+        Err(FetchError::Failed) => Err(Failure::Fault(Object::Folder)),
+        Err(FetchError::NoMemory) => Err(Failure::NoMemory),
+    }
+}
+
+/// The bytes of a proof file, at most 16,777,216. E72 with that number where there are more; a fault of the folder where
+/// it failed or has no file of that name.
+pub fn fetch_proof<F: Folder>(alloc: Global, folder: &mut F, name: &str) -> Result<Vec<u8>, Failure>
+    ensures early { IfErr result IsEarlyFailure }
+    ensures same { F.files folder.new ≡ F.files folder.old }
+{
+    match folder.fetch(name, MOST_PROOF) {
+        Ok(bytes) => Ok(bytes),
+        Err(FetchError::TooLong) => Err(bad_proof(alloc, MOST_PROOF)),
+        Err(FetchError::Failed) => Err(Failure::Fault(Object::Folder)),
+        Err(FetchError::NoMemory) => Err(Failure::NoMemory),
+    }
+}
+
+/// The bytes of a trace's file, at most 16,777,216. A bad trace at that offset where there are more; a fault of the folder
+/// where it failed or has no file of that name.
+pub fn fetch_trace<F: Folder>(folder: &mut F, name: &str) -> Result<Vec<u8>, Failure>
+    ensures early { IfErr result IsEarlyFailure }
+    ensures same { F.files folder.new ≡ F.files folder.old }
+{
+    match folder.fetch(name, MOST_TRACE) {
+        Ok(bytes) => Ok(bytes),
+        Err(FetchError::TooLong) => Err(Failure::BadTrace { at: MOST_TRACE }),
         Err(FetchError::Failed) => Err(Failure::Fault(Object::Folder)),
         Err(FetchError::NoMemory) => Err(Failure::NoMemory),
     }

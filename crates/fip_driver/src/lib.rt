@@ -1,14 +1,18 @@
-// The program: reads its words, checks a source, runs it in its own cells and prints what it gives.
+// The program: reads its words, answers what they ask for over the objects of a host, and says how it ended.
 #![tactic(auto)]
 
+mod answer;
+mod commands;
 mod delivery;
-pub mod failure;
+mod derivations;
+mod exec;
 mod fetched;
 mod front;
 mod program;
 mod run;
-mod texts;
-pub mod words;
+mod sessions;
+mod stored;
+mod traces;
 
 pub use delivery::tell_no_memory;
 pub use program::fp2;

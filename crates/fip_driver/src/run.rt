@@ -9,10 +9,9 @@ ghost use Rattle.loop_form.specs.View.{loop_of};
 ghost use Rattle.loop_form.specs.Fine.{IsFine};
 ghost use Rattle.fip_driver.specs.Reply.{size_line, size_lines, gauge_lines};
 ghost use Rattle.fip_driver.specs.LoopRun.{IsReady, IsLoopRun};
-ghost use Rattle.fip_driver.specs.declared.failure.Failure.{Failure};
+ghost use Rattle.command_outcome.specs.declared.failure.Failure.{Failure};
 
-use crate::failure::Failure;
-use crate::texts;
+use command_outcome::{Failure, bound_line, cells_line, stack_line};
 use fip_base::plain::{NoMemory, Param};
 use fip_base::table::TypeTable;
 use loop_form::program::LoopProgram;
@@ -43,7 +42,7 @@ fn put_size(alloc: Global, text: &mut Vec<u8>, gauge: &Gauge, size: usize) -> Re
 {
     let high = gauge.highest(size);
     if high > 0 {
-        let line = texts::cells_line(alloc, size, gauge.lowest(size), high)?;
+        let line = cells_line(alloc, size, gauge.lowest(size), high)?;
         text.extend_from_slice(line.as_bytes())?;
     }
     Ok(())
@@ -64,10 +63,10 @@ fn put_gauge(alloc: Global, text: &mut Vec<u8>, gauge: &Gauge, bound: usize) -> 
     ensures lines { OnOk result (text.new.items ≡ text.old.items ++ gauge_lines (λ k. slice_index_or gauge.now.lowest k 0) (λ k. slice_index_or gauge.now.highest k 0) (record { frames = gauge.now.frames; words = gauge.now.words }) (record { frames = 0; words = bound })) }
 {
     put_sizes(alloc, text, gauge)?;
-    let stack = texts::stack_line(alloc, gauge.frames(), gauge.words())?;
+    let stack = stack_line(alloc, gauge.frames(), gauge.words())?;
     text.extend_from_slice(stack.as_bytes())?;
-    let bound_line = texts::bound_line(alloc, 0, bound)?;
-    text.extend_from_slice(bound_line.as_bytes())?;
+    let bound_text = bound_line(alloc, 0, bound)?;
+    text.extend_from_slice(bound_text.as_bytes())?;
     Ok(())
 }
 

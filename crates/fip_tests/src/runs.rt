@@ -16,6 +16,22 @@ const REV: &[&str] = &["exec", "a.fp", "rev"];
 
 const GAUGE: &[&str] = &["exec", "a.fp", "rev", "--gauge"];
 
+// Frees the cells that it counts.
+const LENGTH: &[u8] = b"data ints { Nil; Cons(int, ints) }
+fbip fun len(xs: ints, n: int): int {
+  match! xs { Nil -> n; Cons(_, t) -> len(t, n + 1) }
+}
+";
+
+// Holds a frame for each cell.
+const INCREMENT: &[u8] = b"data ints { Nil; Cons(int, ints) }
+fbip fun inc(xs: ints): ints {
+  match! xs { Nil -> Nil; Cons(x, t) -> Cons(x + 1, inc(t)) }
+}
+";
+
+const DIVISION: &[u8] = b"fip fun div(a: int, b: int): int { a / b }\n";
+
 const ROWS: &[Row<'static>] = &[
     Row {
         words: GAUGE,
@@ -176,14 +192,63 @@ const ROWS: &[Row<'static>] = &[
         source: b"fip fun f(): int { -9223372036854775808 }\n",
         input: THREE,
         status: 1,
-        text: b"E09 at 1:1\n",
+        text: b"E70: rev\n",
     },
     Row {
         words: &["exec", "a.fp", "nope"],
         source: b"data inf { Mk(inf) }\n",
         input: THREE,
         status: 1,
-        text: b"E09 at 1:1\n",
+        text: b"E13 at 1:6: inf\n",
+    },
+    Row {
+        words: &["exec", "a.fp", "len", "--gauge"],
+        source: LENGTH,
+        input: b"Cons(7, Cons(8, Cons(9, Nil)))\n0\n",
+        status: 0,
+        text: b"3\ncells of 2: 0 to 3\nstack: 0 frames, 10 words\n",
+    },
+    Row {
+        words: &["exec", "a.fp", "div"],
+        source: DIVISION,
+        input: b"1\n0\n",
+        status: 3,
+        text: b"trap DivideByZero at 1:38\n",
+    },
+    Row {
+        words: &["exec", "a.fp", "one"],
+        source: b"fun one(): int { 1 }\n",
+        input: b"",
+        status: 1,
+        text: b"E71: one\n",
+    },
+    Row {
+        words: &["exec", "a.fp", "inc", "--frames", "2"],
+        source: INCREMENT,
+        input: b"Cons(1, Cons(2, Cons(3, Nil)))\n",
+        status: 7,
+        text: b"out of frames: 2\n",
+    },
+    Row {
+        words: &["eval", "a.fp", "div"],
+        source: DIVISION,
+        input: b"7\n-2\n",
+        status: 0,
+        text: b"-3\n",
+    },
+    Row {
+        words: &["verify", "a.fp"],
+        source: b"FP2C",
+        input: b"",
+        status: 8,
+        text: b"bad code at 4\n",
+    },
+    Row {
+        words: &["check", "a.fp"],
+        source: LENGTH,
+        input: b"",
+        status: 0,
+        text: b"len fbip\n",
     },
 ];
 

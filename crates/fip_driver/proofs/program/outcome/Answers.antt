@@ -1,0 +1,23 @@
+use Rattle.std.proofs.Common.{ap, Err, map, string_bytes}
+use Rattle.command_line.specs.View.{command_of}
+use Rattle.fip_driver.proofs.Outcomes.{no_command_outcome, no_memory_outcome}
+use Rattle.fip_driver.proofs.Unread.{input_turn, folder_turn, read_turn, store_turn, on_ok}
+use Rattle.fip_driver.proofs.program.outcome.Goals as goal
+
+pub returns-in-Ok-clause-read : goal.returns-in-Ok-clause-read
+returns-in-Ok-clause-read g c = on_ok c.answer.result _ _ (read_turn (map string_bytes c.args.words.now) (command_of c.in-Ok.command) c.in-Ok.ensures.ok c.answer.result _) c.answer.ensures.read
+
+pub returns-in-Ok-clause-unread : goal.returns-in-Ok-clause-unread
+returns-in-Ok-clause-unread g c = input_turn (map string_bytes c.args.words.now) (command_of c.in-Ok.command) c.in-Ok.ensures.ok c.answer.result _ c.answer.ensures.unread c.answer.ensures.before
+
+pub returns-in-Ok-clause-unfetched : goal.returns-in-Ok-clause-unfetched
+returns-in-Ok-clause-unfetched g c = folder_turn (map string_bytes c.args.words.now) (command_of c.in-Ok.command) c.in-Ok.ensures.ok c.answer.result _ c.answer.ensures.uncalled c.answer.ensures.unfetched
+
+pub returns-in-Ok-clause-files : goal.returns-in-Ok-clause-files
+returns-in-Ok-clause-files g c = store_turn (map string_bytes c.args.words.now) (command_of c.in-Ok.command) c.in-Ok.ensures.ok c.answer.result _ _ c.answer.ensures.files
+
+pub returns-in-Err-NotUnderstood-clause-outcome : goal.returns-in-Err-NotUnderstood-clause-outcome
+returns-in-Err-NotUnderstood-clause-outcome g c = no_command_outcome (map string_bytes c.args.words.now) (g.F.Folder.files c.args.folder.now) (g.S.Source.left c.args.input.now) (Unit {0}) (Unit {0}) (c.in-Err-NotUnderstood.ensures.not_understood (ap Err c.in-Err-NotUnderstood.field-0-is))
+
+pub returns-in-Err-NoMemory-clause-outcome : goal.returns-in-Err-NoMemory-clause-outcome
+returns-in-Err-NoMemory-clause-outcome g c = no_memory_outcome (map string_bytes c.args.words.now) (g.F.Folder.files c.args.folder.now) (g.S.Source.left c.args.input.now) (Unit {0}) (Unit {0})

@@ -1,0 +1,69 @@
+// What a command comes to: one arm for each, which says in what order the objects of a host are called.
+ghost use Rattle.std.specs.Prelude.{◌≡◌, ℕ, List, OnOk};
+ghost use Rattle.std.specs.Io.KnownBytes.{IsAtEnd};
+ghost use Rattle.fip_base.specs.Faults.{Rose};
+ghost use Rattle.command_line.specs.Words.{IsCommand};
+ghost use Rattle.command_line.specs.View.{command_of};
+ghost use Rattle.fip_driver.specs.Commands.{ReadsInput, CallsNoFolder, stored_name};
+ghost use Rattle.fip_driver.specs.Outcome.{CommandOutcome};
+ghost use Rattle.fip_driver.specs.Unread.{IsBeforeSource, IsBeforeInputOf, AreKept};
+
+use crate::commands::{check, compile, eval, upgrade, verify};
+use crate::derivations::{audit, derive};
+use crate::exec::{exec, run};
+use crate::sessions::{session, tasks};
+use crate::traces::{replay, trace};
+use command_line::Command;
+use command_outcome::Failure;
+use fip_base::outside::{Folder, Source};
+use std::alloc::Global;
+
+/// What a command comes to.
+pub fn answer<F: Folder, S: Source>(
+    alloc: Global,
+    command: &Command<'_>,
+    folder: &mut F,
+    input: &mut S,
+) -> Result<Vec<u8>, Failure>
+    requires asked { (words : List (List ℕ)) × IsCommand words (command_of command.now) }
+    ensures outcome { CommandOutcome (command_of command.now) (F.files folder.old) (S.left input.old) (Rose (F.faults folder.old) (F.faults folder.new)) (Rose (S.faults input.old) (S.faults input.new)) result }
+    ensures read { OnOk result (ReadsInput (command_of command.now) → IsAtEnd (S.left input.new)) }
+    ensures unread { (ReadsInput (command_of command.now) → ⊥) → input.new ≡ input.old }
+    ensures before { IsBeforeInputOf (command_of command.now) result → input.new ≡ input.old }
+    ensures uncalled { CallsNoFolder (command_of command.now) → folder.new ≡ folder.old }
+    ensures unfetched { IsBeforeSource result → folder.new ≡ folder.old }
+    ensures files { AreKept (stored_name (command_of command.now)) (F.files folder.old) (F.files folder.new) result }
+{
+    match command {
+        Command::Check { file } => check(alloc, file, folder),
+        Command::Compile { file, out } => compile(alloc, file, out, folder),
+        Command::Verify { file } => verify(alloc, file, folder),
+        Command::Upgrade { file, out } => upgrade(alloc, file, out, folder),
+        Command::Exec { request } => exec(alloc, request, folder, input),
+        Command::Run { request } => run(alloc, request, folder, input),
+        Command::Eval {
+            file,
+            entry,
+            calls,
+            frames,
+        } => eval(alloc, file, entry, *calls, *frames, folder, input),
+        Command::Library { name } => fip_commands::library(alloc, name),
+        Command::Gen { seed, count } => fip_commands::generate(alloc, *seed, *count),
+        Command::Trace {
+            file,
+            entry,
+            out,
+            room,
+        } => trace(alloc, file, entry, out, *room, folder, input),
+        Command::Session { file, room } => session(alloc, file, *room, folder, input),
+        Command::Tasks {
+            file,
+            seed,
+            turns,
+            room,
+        } => tasks(alloc, file, *seed, *turns, *room, folder, input),
+        Command::Derive { file, out } => derive(alloc, file, out, folder),
+        Command::Audit { file, proof } => audit(alloc, file, proof, folder),
+        Command::Replay { trace, step } => replay(alloc, trace, *step, folder),
+    }
+}

@@ -1,0 +1,120 @@
+// What the commands come to that fetch one file: which object is called when.
+ghost use Rattle.std.specs.Prelude.{◌≡◌, ◌≤◌, OnOk, Some};
+ghost use Rattle.std.specs.Io.KnownBytes.{IsAtEnd};
+ghost use Rattle.fip_driver.specs.Unread.{AreKept, IsBeforeSource, IsBeforeInput};
+
+use crate::fetched::{fetch_code, fetch_source, read_input};
+use crate::stored::store;
+use command_outcome::Failure;
+use fip_base::outside::{Folder, Source};
+use fip_commands::Evaluable;
+use std::alloc::Global;
+
+/// The lines of a source that breaks no rule.
+pub fn check<F: Folder>(alloc: Global, file: &str, folder: &mut F) -> Result<Vec<u8>, Failure>
+    ensures understood { IsBeforeSource result → ⊥ }
+    ensures files { F.files folder.new ≡ F.files folder.old }
+{
+    match fetch_source(alloc, folder, file) {
+        Ok(bytes) => fip_commands::check(alloc, bytes.as_slice()),
+        Err(failure) => Err(failure),
+    }
+}
+
+/// Stores the code of a source that breaks no rule; its lines.
+pub fn compile<F: Folder>(
+    alloc: Global,
+    file: &str,
+    out: &str,
+    folder: &mut F,
+) -> Result<Vec<u8>, Failure>
+    ensures kept { AreKept (Some out.now) (F.files folder.old) (F.files folder.new) result }
+    ensures understood { IsBeforeSource result → ⊥ }
+{
+    match fetch_source(alloc, folder, file) {
+        Ok(bytes) => match fip_commands::compile(alloc, bytes.as_slice()) {
+            Ok(compiled) => store(folder, out, compiled),
+            Err(failure) => Err(failure),
+        },
+        Err(failure) => Err(failure),
+    }
+}
+
+/// The lines of a code file that is sound.
+pub fn verify<F: Folder>(alloc: Global, file: &str, folder: &mut F) -> Result<Vec<u8>, Failure>
+    ensures understood { IsBeforeSource result → ⊥ }
+    ensures files { F.files folder.new ≡ F.files folder.old }
+{
+    match fetch_code(folder, file) {
+        Ok(bytes) => fip_commands::verify_file(alloc, bytes.as_slice()),
+        Err(failure) => Err(failure),
+    }
+}
+
+/// Stores a sound code file in the second version; its lines.
+pub fn upgrade<F: Folder>(
+    alloc: Global,
+    file: &str,
+    out: &str,
+    folder: &mut F,
+) -> Result<Vec<u8>, Failure>
+    ensures kept { AreKept (Some out.now) (F.files folder.old) (F.files folder.new) result }
+    ensures understood { IsBeforeSource result → ⊥ }
+{
+    match fetch_code(folder, file) {
+        Ok(bytes) => match fip_commands::upgrade(alloc, bytes.as_slice()) {
+            Ok(compiled) => store(folder, out, compiled),
+            Err(failure) => Err(failure),
+        },
+        Err(failure) => Err(failure),
+    }
+}
+
+// Reads the input and evaluates the entry.
+fn evaluate<S: Source>(
+    alloc: Global,
+    program: Evaluable,
+    calls: u64,
+    frames: u64,
+    input: &mut S,
+) -> Result<Vec<u8>, Failure>
+    requires frames { frames ≤ 1000000 }
+    ensures read { OnOk result (IsAtEnd (S.left input.new)) }
+    ensures late { IsBeforeInput result → ⊥ }
+{
+    match read_input(alloc, input) {
+        Ok(bytes) => fip_commands::evaluate(
+            alloc,
+            program,
+            bytes.as_slice(),
+            calls,
+            frames as usize,
+        ),
+        Err(failure) => Err(failure),
+    }
+}
+
+/// What an evaluation of a source comes to, on rows that never change.
+pub fn eval<F: Folder, S: Source>(
+    alloc: Global,
+    file: &str,
+    entry: &str,
+    calls: u64,
+    frames: u64,
+    folder: &mut F,
+    input: &mut S,
+) -> Result<Vec<u8>, Failure>
+    requires frames { frames ≤ 1000000 }
+    ensures read { OnOk result (IsAtEnd (S.left input.new)) }
+    ensures before { IsBeforeInput result → input.new ≡ input.old }
+    ensures understood { IsBeforeSource result → ⊥ }
+    ensures files { F.files folder.new ≡ F.files folder.old }
+{
+    match fetch_source(alloc, folder, file) {
+        Ok(source) => match fip_commands::eval_entry(alloc, source.as_slice(), entry) {
+            Ok(program) => evaluate(alloc, program, calls, frames, input),
+            Err(failure) => Err(failure),
+        },
+        Err(failure) => Err(failure),
+    }
+}

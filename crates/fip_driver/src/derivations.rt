@@ -1,0 +1,65 @@
+// What the commands on derivations come to: which object is called when.
+ghost use Rattle.std.specs.Prelude.{◌≡◌, Some};
+ghost use Rattle.fip_driver.specs.Unread.{AreKept, IsBeforeSource};
+
+use crate::fetched::{fetch_proof, fetch_source};
+use crate::stored::store;
+use command_outcome::Failure;
+use fip_base::outside::Folder;
+use fip_trees::program::Typed;
+use std::alloc::Global;
+
+/// Stores the derivation of a source that breaks no rule; the line that it is derived.
+pub fn derive<F: Folder>(
+    alloc: Global,
+    file: &str,
+    out: &str,
+    folder: &mut F,
+) -> Result<Vec<u8>, Failure>
+    ensures kept { AreKept (Some out.now) (F.files folder.old) (F.files folder.new) result }
+    ensures understood { IsBeforeSource result → ⊥ }
+{
+    match fetch_source(alloc, folder, file) {
+        Ok(bytes) => match fip_commands::derive(alloc, bytes.as_slice()) {
+            Ok(derived) => store(folder, out, derived),
+            Err(failure) => Err(failure),
+        },
+        Err(failure) => Err(failure),
+    }
+}
+
+// Fetches the proof file of a program, and judges it.
+fn judge<F: Folder>(
+    alloc: Global,
+    typed: &Typed,
+    proof: &str,
+    folder: &mut F,
+) -> Result<Vec<u8>, Failure>
+    ensures understood { IsBeforeSource result → ⊥ }
+    ensures files { F.files folder.new ≡ F.files folder.old }
+{
+    match fetch_proof(alloc, folder, proof) {
+        Ok(bytes) => fip_commands::audit(alloc, typed, bytes.as_slice()),
+        Err(failure) => Err(failure),
+    }
+}
+
+/// Judges whether a proof file is a derivation of a source. It is fetched once the types and matches of the source are
+/// known to be right; the rules on ownership and on credits aren't asked, since a derivation shows that they are kept.
+pub fn audit<F: Folder>(
+    alloc: Global,
+    file: &str,
+    proof: &str,
+    folder: &mut F,
+) -> Result<Vec<u8>, Failure>
+    ensures understood { IsBeforeSource result → ⊥ }
+    ensures files { F.files folder.new ≡ F.files folder.old }
+{
+    match fetch_source(alloc, folder, file) {
+        Ok(source) => match fip_commands::typed_of(alloc, source.as_slice()) {
+            Ok(typed) => judge(alloc, &typed, proof, folder),
+            Err(failure) => Err(failure),
+        },
+        Err(failure) => Err(failure),
+    }
+}

@@ -1,0 +1,124 @@
+// What running an entry comes to: a source's on either path, and a code's.
+ghost use Rattle.std.specs.Prelude.{◌≡◌, ◌≤◌, OnOk};
+ghost use Rattle.std.specs.Io.KnownBytes.{IsAtEnd};
+ghost use Rattle.fip_base.specs.Faults.{Rose};
+ghost use Rattle.loop_form.specs.View.{loop_of};
+ghost use Rattle.command_line.specs.View.{request_of};
+ghost use Rattle.fip_driver.specs.Fronted.{IsSoundLoop};
+ghost use Rattle.fip_driver.specs.Outcome.{EntryOutcome, RequestOutcome};
+ghost use Rattle.fip_driver.specs.Unread.{IsBeforeSource, IsBeforeInput};
+
+use crate::fetched::{fetch_code, fetch_source, read_input};
+use crate::front::{Path, path_of};
+use crate::run::run_loop;
+use command_line::{Room, RunRequest};
+use command_outcome::Failure;
+use fip_base::outside::{Folder, Source};
+use fip_commands::Ready;
+use loop_form::program::LoopProgram;
+use std::alloc::Global;
+
+// Reads the input and runs the entry's loop program.
+fn exec_loop<S: Source>(
+    alloc: Global,
+    request: &RunRequest<'_>,
+    program: LoopProgram,
+    input: &mut S,
+) -> Result<Vec<u8>, Failure>
+    requires sound { IsSoundLoop (loop_of program) }
+    requires store { request.now.room.words ≤ 16777216 }
+    ensures outcome { EntryOutcome (loop_of program) (request_of request.now) (S.left input.old) (Rose (S.faults input.old) (S.faults input.new)) result }
+    ensures read { OnOk result (IsAtEnd (S.left input.new)) }
+    ensures late { IsBeforeInput result → ⊥ }
+{
+    match read_input(alloc, input) {
+        Ok(bytes) => run_loop(
+            alloc,
+            program,
+            bytes.as_slice(),
+            request.room.words as usize,
+            request.room.calls,
+            request.gauge,
+        ),
+        Err(failure) => Err(failure),
+    }
+}
+
+// Reads the input and runs the entry of a verified code.
+fn run_ready<S: Source>(
+    alloc: Global,
+    ready: Ready,
+    room: Room,
+    gauge: bool,
+    input: &mut S,
+) -> Result<Vec<u8>, Failure>
+    ensures read { OnOk result (IsAtEnd (S.left input.new)) }
+    ensures late { IsBeforeInput result → ⊥ }
+{
+    match read_input(alloc, input) {
+        Ok(bytes) => fip_commands::run(alloc, ready, bytes.as_slice(), room, gauge),
+        Err(failure) => Err(failure),
+    }
+}
+
+// Checks a source by the rules of the whole language, reads the input and runs the entry.
+fn exec_whole<S: Source>(
+    alloc: Global,
+    request: &RunRequest<'_>,
+    source: &[u8],
+    input: &mut S,
+) -> Result<Vec<u8>, Failure>
+    ensures read { OnOk result (IsAtEnd (S.left input.new)) }
+    ensures before { IsBeforeInput result → input.new ≡ input.old }
+    ensures understood { IsBeforeSource result → ⊥ }
+{
+    match fip_commands::exec_entry(alloc, source, request.entry) {
+        Ok(ready) => run_ready(alloc, ready, request.room, request.gauge, input),
+        Err(failure) => Err(failure),
+    }
+}
+
+/// What a run of a source comes to. The one place that chooses between the loop's path and that of the whole language.
+pub fn exec<F: Folder, S: Source>(
+    alloc: Global,
+    request: &RunRequest<'_>,
+    folder: &mut F,
+    input: &mut S,
+) -> Result<Vec<u8>, Failure>
+    requires store { request.now.room.words ≤ 16777216 }
+    ensures outcome { RequestOutcome (request_of request.now) (F.files folder.old) (S.left input.old) (Rose (F.faults folder.old) (F.faults folder.new)) (Rose (S.faults input.old) (S.faults input.new)) result }
+    ensures read { OnOk result (IsAtEnd (S.left input.new)) }
+    ensures before { IsBeforeInput result → input.new ≡ input.old }
+    ensures understood { IsBeforeSource result → ⊥ }
+    ensures files { F.files folder.new ≡ F.files folder.old }
+{
+    match fetch_source(alloc, folder, request.file) {
+        Ok(source) => match path_of(alloc, source.as_slice(), request.entry) {
+            Ok(Path::Loop(program)) => exec_loop(alloc, request, program, input),
+            Ok(Path::Whole) => exec_whole(alloc, request, source.as_slice(), input),
+            Err(failure) => Err(failure),
+        },
+        Err(failure) => Err(failure),
+    }
+}
+
+/// What a run of a code file comes to.
+pub fn run<F: Folder, S: Source>(
+    alloc: Global,
+    request: &RunRequest<'_>,
+    folder: &mut F,
+    input: &mut S,
+) -> Result<Vec<u8>, Failure>
+    ensures read { OnOk result (IsAtEnd (S.left input.new)) }
+    ensures before { IsBeforeInput result → input.new ≡ input.old }
+    ensures understood { IsBeforeSource result → ⊥ }
+    ensures files { F.files folder.new ≡ F.files folder.old }
+{
+    match fetch_code(folder, request.file) {
+        Ok(bytes) => match fip_commands::run_entry(alloc, bytes.as_slice(), request.entry) {
+            Ok(ready) => run_ready(alloc, ready, request.room, request.gauge, input),
+            Err(failure) => Err(failure),
+        },
+        Err(failure) => Err(failure),
+    }
+}

@@ -1,0 +1,91 @@
+// What sessions and tasks come to: which object is called when.
+ghost use Rattle.std.specs.Prelude.{◌≡◌, OnOk};
+ghost use Rattle.std.specs.Io.KnownBytes.{IsAtEnd};
+ghost use Rattle.fip_driver.specs.Unread.{IsBeforeSource, IsBeforeInput};
+
+use crate::fetched::{fetch_source, read_input};
+use command_line::Room;
+use command_outcome::Failure;
+use fip_base::outside::{Folder, Source};
+use fip_commands::Front;
+use std::alloc::Global;
+
+// Reads the input and answers its lines.
+fn talk<S: Source>(
+    alloc: Global,
+    front: &Front,
+    room: Room,
+    input: &mut S,
+) -> Result<Vec<u8>, Failure>
+    ensures read { OnOk result (IsAtEnd (S.left input.new)) }
+    ensures late { IsBeforeInput result → ⊥ }
+{
+    match read_input(alloc, input) {
+        Ok(bytes) => Ok(fip_commands::session(alloc, front, bytes.as_slice(), room)?),
+        Err(failure) => Err(failure),
+    }
+}
+
+/// The replies to the lines of the input, over one store in which names hold values.
+pub fn session<F: Folder, S: Source>(
+    alloc: Global,
+    file: &str,
+    room: Room,
+    folder: &mut F,
+    input: &mut S,
+) -> Result<Vec<u8>, Failure>
+    ensures read { OnOk result (IsAtEnd (S.left input.new)) }
+    ensures before { IsBeforeInput result → input.new ≡ input.old }
+    ensures understood { IsBeforeSource result → ⊥ }
+    ensures files { F.files folder.new ≡ F.files folder.old }
+{
+    match fetch_source(alloc, folder, file) {
+        Ok(source) => match fip_commands::front(alloc, source.as_slice()) {
+            Ok(front) => talk(alloc, &front, room, input),
+            Err(failure) => Err(failure),
+        },
+        Err(failure) => Err(failure),
+    }
+}
+
+// Reads the input and runs its tasks.
+fn take_turns<S: Source>(
+    alloc: Global,
+    front: &Front,
+    seed: u64,
+    turns: u64,
+    room: Room,
+    input: &mut S,
+) -> Result<Vec<u8>, Failure>
+    ensures read { OnOk result (IsAtEnd (S.left input.new)) }
+    ensures late { IsBeforeInput result → ⊥ }
+{
+    match read_input(alloc, input) {
+        Ok(bytes) => fip_commands::tasks(alloc, front, bytes.as_slice(), seed, turns, room),
+        Err(failure) => Err(failure),
+    }
+}
+
+/// What the tasks of the lines of the input come to, over one store and in turns that are drawn from a seed.
+pub fn tasks<F: Folder, S: Source>(
+    alloc: Global,
+    file: &str,
+    seed: u64,
+    turns: u64,
+    room: Room,
+    folder: &mut F,
+    input: &mut S,
+) -> Result<Vec<u8>, Failure>
+    ensures read { OnOk result (IsAtEnd (S.left input.new)) }
+    ensures before { IsBeforeInput result → input.new ≡ input.old }
+    ensures understood { IsBeforeSource result → ⊥ }
+    ensures files { F.files folder.new ≡ F.files folder.old }
+{
+    match fetch_source(alloc, folder, file) {
+        Ok(source) => match fip_commands::front(alloc, source.as_slice()) {
+            Ok(front) => take_turns(alloc, &front, seed, turns, room, input),
+            Err(failure) => Err(failure),
+        },
+        Err(failure) => Err(failure),
+    }
+}

@@ -1,0 +1,19 @@
+// Storing a file before the text of a command goes out.
+ghost use Rattle.std.specs.Prelude.{Some};
+ghost use Rattle.fip_driver.specs.Unread.{AreKept, IsBeforeSource};
+
+use command_outcome::{Failure, Object};
+use fip_base::outside::{Folder, StoreError};
+use fip_commands::Compiled;
+
+/// Stores a file under a name, and gives the text that is printed. A fault of the folder where it failed.
+pub fn store<F: Folder>(folder: &mut F, name: &str, compiled: Compiled) -> Result<Vec<u8>, Failure>
+    ensures kept { AreKept (Some name.now) (F.files folder.old) (F.files folder.new) result }
+    ensures understood { IsBeforeSource result → ⊥ }
+{
+    match folder.store(name, compiled.file.as_slice()) {
+        Ok(()) => Ok(compiled.text),
+        Err(StoreError::Failed) => Err(Failure::Fault(Object::Folder)),
+        Err(StoreError::NoMemory) => Err(Failure::NoMemory),
+    }
+}

@@ -1,0 +1,71 @@
+// What the commands on traces come to: which object is called when.
+ghost use Rattle.std.specs.Prelude.{◌≡◌, IfErr, OnOk, Some};
+ghost use Rattle.std.specs.Io.KnownBytes.{IsAtEnd};
+ghost use Rattle.fip_driver.specs.Fetched.{IsLateFailure};
+ghost use Rattle.fip_driver.specs.Unread.{AreKept, IsBeforeSource};
+
+use crate::fetched::{fetch_source, fetch_trace, read_input};
+use crate::stored::store;
+use command_line::Room;
+use command_outcome::Failure;
+use fip_base::outside::{Folder, Source};
+use fip_commands::{Compiled, Ready};
+use std::alloc::Global;
+
+// Reads the input, runs the entry and keeps what it writes.
+fn traced<S: Source>(
+    alloc: Global,
+    ready: Ready,
+    room: Room,
+    input: &mut S,
+) -> Result<Compiled, Failure>
+    ensures read { OnOk result (IsAtEnd (S.left input.new)) }
+    ensures fails { IfErr result IsLateFailure }
+{
+    match read_input(alloc, input) {
+        Ok(bytes) => fip_commands::trace(alloc, ready, bytes.as_slice(), room),
+        Err(failure) => Err(failure),
+    }
+}
+
+/// Runs the entry of a source and stores the trace of the run; the lines of its results.
+pub fn trace<F: Folder, S: Source>(
+    alloc: Global,
+    file: &str,
+    entry: &str,
+    out: &str,
+    room: Room,
+    folder: &mut F,
+    input: &mut S,
+) -> Result<Vec<u8>, Failure>
+    ensures read { OnOk result (IsAtEnd (S.left input.new)) }
+    ensures kept { AreKept (Some out.now) (F.files folder.old) (F.files folder.new) result }
+    ensures understood { IsBeforeSource result → ⊥ }
+{
+    match fetch_source(alloc, folder, file) {
+        Ok(source) => match fip_commands::exec_entry(alloc, source.as_slice(), entry) {
+            Ok(ready) => match traced(alloc, ready, room, input) {
+                Ok(compiled) => store(folder, out, compiled),
+                Err(failure) => Err(failure),
+            },
+            Err(failure) => Err(failure),
+        },
+        Err(failure) => Err(failure),
+    }
+}
+
+/// A line for each cell of a trace, as it is after so many steps.
+pub fn replay<F: Folder>(
+    alloc: Global,
+    name: &str,
+    step: u64,
+    folder: &mut F,
+) -> Result<Vec<u8>, Failure>
+    ensures understood { IsBeforeSource result → ⊥ }
+    ensures files { F.files folder.new ≡ F.files folder.old }
+{
+    match fetch_trace(folder, name) {
+        Ok(bytes) => fip_commands::replay(alloc, bytes.as_slice(), step),
+        Err(failure) => Err(failure),
+    }
+}

@@ -51,7 +51,7 @@ impl Ready {
     }
 
     /// The machine at the start of the function, with the words of its arguments and credits, and so many frames, at
-    /// most 1,000,000; a fip function is given as many as it needs.
+    /// most 1,000,000; a fip function gets as many as it needs in their place.
     pub(crate) fn start(
         &self,
         alloc: Global,
@@ -59,7 +59,10 @@ impl Ready {
         words: Vec<u64>,
         frames: u64,
     ) -> Result<Machine<'_>, NoMemory> {
-        let frames = frames.min(MOST_FRAMES as u64) as usize;
+        let frames = match self.bound() {
+            Some(bound) => bound.frames.min(MOST_FRAMES),
+            None => frames.min(MOST_FRAMES as u64) as usize,
+        };
         Machine::start(alloc, &self.verified, self.entry, loader, words, frames)
     }
 }

@@ -26,8 +26,8 @@ fn too_long(alloc: Global) -> Failure
     })
 }
 
-// What keeps a run that ended so, and has no trace, from one. A run that ended with a value has a trace, unless memory is
-// wanting.
+// What keeps a run that ended so, and has no trace, from one. A run that ended with a value has a trace, unless memory
+// is wanting.
 fn untraced(ended: Ended, room: Room) -> Failure
     ensures stage { IsOfRun result }
 {

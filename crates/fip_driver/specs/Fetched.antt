@@ -1,4 +1,4 @@
--- What can come of fetching a source and of reading an input.
+-- It serves the proof of `fp2`: what can come of fetching a source and of reading an input.
 use Rattle.std.specs.Prelude.{◌≡◌, ℕ, List, [], ◌⊎◌, None, Option}
 use Rattle.fip_base.specs.declared.refusal.Refusal.{Refusal}
 use Rattle.fip_language.specs.declared.rule.Rule.TheVariants.{E05, E70}

@@ -1,5 +1,5 @@
--- What can come of a source: its core form, the loop program of that whose function has the entry's name, or the path of
--- the whole language.
+-- It serves the proof of `fp2`: what can come of a source, which is its core form, the loop program of that whose function
+-- has the entry's name, or the path of the whole language.
 use Rattle.std.specs.Prelude.{◌≡◌, ◌⊎◌, ℕ, List, None}
 use Rattle.fip_language.specs.declared.Place.{Place}
 use Rattle.fip_language.specs.Core.{Core}

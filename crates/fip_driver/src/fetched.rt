@@ -67,8 +67,8 @@ pub fn fetch_code<F: Folder>(folder: &mut F, name: &str) -> Result<Vec<u8>, Fail
     }
 }
 
-/// The bytes of a proof file, at most 16,777,216. E72 with that number where there are more; a fault of the folder where
-/// it failed or has no file of that name.
+/// The bytes of a proof file, at most 16,777,216. E72 with that number where there are more; a fault of the folder
+/// where it failed or has no file of that name.
 pub fn fetch_proof<F: Folder>(alloc: Global, folder: &mut F, name: &str) -> Result<Vec<u8>, Failure>
     ensures early { IfErr result IsEarlyFailure }
     ensures same { F.files folder.new ≡ F.files folder.old }
@@ -81,8 +81,8 @@ pub fn fetch_proof<F: Folder>(alloc: Global, folder: &mut F, name: &str) -> Resu
     }
 }
 
-/// The bytes of a trace's file, at most 16,777,216. A bad trace at that offset where there are more; a fault of the folder
-/// where it failed or has no file of that name.
+/// The bytes of a trace's file, at most 16,777,216. A bad trace at that offset where there are more; a fault of the
+/// folder where it failed or has no file of that name.
 pub fn fetch_trace<F: Folder>(folder: &mut F, name: &str) -> Result<Vec<u8>, Failure>
     ensures early { IfErr result IsEarlyFailure }
     ensures same { F.files folder.new ≡ F.files folder.old }

@@ -3,8 +3,9 @@
 
     tools/examples.py [--program PATH] [FILE.md ..]
 
-Without files: README.md, docs/*.md and examples/README.md. The program is ./fp2 at the top unless another is given.
-Blocks of a document that are run, each document in a folder of its own that begins with a copy of examples/:
+Without files: README.md, docs/*.md and examples/README.md, and then each program and input of examples/ must have been
+used. The program is the one that `rt ci`, `rt run` and ./fp2 build, unless another is given.
+Each document is run in a folder of its own that begins with a copy of examples/. Its blocks:
 
     ```fp NAME            a source, stored under that name
     ```text NAME          an input or another text, stored under that name
@@ -12,18 +13,23 @@ Blocks of a document that are run, each document in a folder of its own that beg
     ```refused            a source, a line `--`, and what `fp2 check` prints of it
     ```change NAME        lines `- OLD` and `+ NEW` for a stored source, then what `fp2 check` prints of what comes out
     ```code NAME          a code file as hexadecimal digits, with comments from `#`; stored under that name
+    ```excerpt PATH       lines that stand in that file of the repository, whatever their indentation; `..` stands for
+                          lines that are left out
 
+A block without a word is no example, and has no line that begins with `$ `; another word is an error.
 The status is 0 exactly where nothing differs.
 """
 import argparse
 import os
 import pathlib
+import shlex
 import shutil
 import subprocess
 import sys
 import tempfile
 
 TOP = pathlib.Path(__file__).resolve().parent.parent
+PROGRAM = TOP / "crates" / "fip_cli" / "out" / "fip_cli"
 SECONDS = 60
 
 
@@ -32,7 +38,7 @@ def blocks(text):
     lines = text.splitlines()
     at = 0
     while at < len(lines):
-        if lines[at].startswith("```") and len(lines[at]) > 3:
+        if lines[at].startswith("```"):
             start = at
             words = lines[at][3:].split()
             at += 1
@@ -47,43 +53,53 @@ def blocks(text):
 
 
 class Document:
+    """A document that is run in a folder: how many of its examples were run, and how many differ."""
+
     def __init__(self, path, program, folder):
         self.path = path
-        self.program = program
         self.folder = pathlib.Path(folder)
-        self.commands = 0
+        self.run_count = 0
         self.differences = 0
+        self.used = set()
         shutil.copytree(TOP / "examples", self.folder / "examples")
-        bin_folder = self.folder / "bin"
-        bin_folder.mkdir()
-        script = bin_folder / "fp2"
-        script.write_text(f'#!/bin/sh\nexec {program} "$@"\n')
+        (self.folder / "bin").mkdir()
+        script = self.folder / "bin" / "fp2"
+        script.write_text(f'#!/bin/sh\nexec {shlex.quote(program)} "$@"\n')
         script.chmod(0o755)
-        self.environment = dict(os.environ, PATH=f"{bin_folder}:{os.environ['PATH']}")
+        (self.folder / "fp2").symlink_to(script)
+        self.environment = dict(os.environ, PATH=f"{self.folder / 'bin'}:{os.environ['PATH']}")
+
+    def fail(self, line, why):
+        raise SystemExit(f"{self.path}:{line}: {why}")
+
+    def differ(self, line, what, wanted, printed):
+        self.differences += 1
+        print(f"{self.path}:{line}: {what}")
+        print("  wanted:  " + "\n           ".join(wanted))
+        print("  printed: " + "\n           ".join(printed))
 
     def stored(self, name):
         path = self.folder / name
-        if path.is_file():
-            return path
-        return self.folder / "examples" / name
+        return path if path.is_file() else self.folder / "examples" / name
 
     def run(self, line, command, wanted):
-        done = subprocess.run(
-            ["sh", "-c", command],
-            cwd=self.folder,
-            env=self.environment,
-            stdin=subprocess.DEVNULL,
-            stdout=subprocess.PIPE,
-            stderr=subprocess.STDOUT,
-            timeout=SECONDS,
-        )
-        printed = done.stdout.decode("utf-8", "replace").splitlines()
-        self.commands += 1
+        self.run_count += 1
+        self.used.update(command.replace(";", " ").split())
+        try:
+            done = subprocess.run(
+                ["sh", "-c", command],
+                cwd=self.folder,
+                env=self.environment,
+                stdin=subprocess.DEVNULL,
+                stdout=subprocess.PIPE,
+                stderr=subprocess.STDOUT,
+                timeout=SECONDS,
+            )
+            printed = done.stdout.decode("utf-8", "replace").splitlines()
+        except subprocess.TimeoutExpired:
+            printed = [f"(nothing within {SECONDS} seconds)"]
         if printed != wanted:
-            self.differences += 1
-            print(f"{self.path}:{line}: {command}")
-            print("  wanted:  " + "\n           ".join(wanted))
-            print("  printed: " + "\n           ".join(printed))
+            self.differ(line, command, wanted, printed)
 
     def console(self, line, inside):
         command, first, wanted = None, line, []
@@ -93,11 +109,13 @@ class Document:
                     self.run(first, command, wanted)
                 command, first, wanted = text[2:], number, []
             elif command is None:
-                raise SystemExit(f"{self.path}:{number}: output before a command")
+                self.fail(number, "output before a command")
             else:
                 wanted.append(text)
 
     def refused(self, line, inside):
+        if "--" not in inside:
+            self.fail(line, "no line --")
         cut = inside.index("--")
         (self.folder / "refused.fp").write_text("\n".join(inside[:cut]) + "\n")
         self.run(line, "fp2 check refused.fp", inside[cut + 1 :])
@@ -108,7 +126,7 @@ class Document:
         wanted = [text for text in inside if not text.startswith(("- ", "+ "))]
         source = self.stored(name).read_text()
         if source.count(old) != 1:
-            raise SystemExit(f"{self.path}:{line}: `{old}` stands {source.count(old)} times in {name}")
+            self.fail(line, f"`{old}` stands {source.count(old)} times in {name}")
         (self.folder / "changed.fp").write_text(source.replace(old, new))
         self.run(line, "fp2 check changed.fp", wanted)
 
@@ -116,39 +134,72 @@ class Document:
         digits = "".join(text.split("#")[0] for text in inside)
         (self.folder / name).write_bytes(bytes.fromhex(digits))
 
+    def excerpt(self, line, name, inside):
+        self.run_count += 1
+        there = [text.strip() for text in (TOP / name).read_text().splitlines()]
+        at = 0
+        for part in "\n".join(text.strip() for text in inside).split("\n..\n"):
+            part = part.split("\n")
+            starts = [start for start in range(at, len(there)) if there[start : start + len(part)] == part]
+            if not starts:
+                return self.differ(line, f"an excerpt of {name}", part, [f"not there behind line {at}"])
+            at = starts[0] + len(part)
+
     def block(self, line, words, inside):
-        kind, name = words[0], words[1] if len(words) > 1 else None
-        if kind in ("fp", "text") and name:
-            (self.folder / name).write_text("".join(text + "\n" for text in inside))
+        kind, name = (words + [None, None])[:2]
+        if kind is None:
+            if any(text.startswith("$ ") for text in inside):
+                self.fail(line, "commands in a block that isn't run")
         elif kind == "console":
             self.console(line, inside)
         elif kind == "refused":
             self.refused(line, inside)
-        elif kind == "change" and name:
+        elif name is None:
+            self.fail(line, f"a block {kind} without a name")
+        elif kind in ("fp", "text"):
+            (self.folder / name).write_text("".join(text + "\n" for text in inside))
+        elif kind == "change":
             self.change(line, name, inside)
-        elif kind == "code" and name:
+        elif kind == "code":
             self.code(name, inside)
+        elif kind == "excerpt":
+            self.excerpt(line, name, inside)
+        else:
+            self.fail(line, f"a block {kind}")
+
+
+def run_document(path, program):
+    with tempfile.TemporaryDirectory() as folder:
+        document = Document(path, program, folder)
+        for line, words, inside in blocks(path.read_text()):
+            document.block(line, words, inside)
+        return document
+
+
+def unused(documents):
+    """The programs and inputs of examples/ that no command names."""
+    used = {word for document in documents for word in document.used}
+    names = [path.name for path in sorted((TOP / "examples").iterdir()) if path.suffix in (".fp", ".txt")]
+    return [name for name in names if f"examples/{name}" not in used]
 
 
 def main():
     parser = argparse.ArgumentParser()
-    parser.add_argument("--program", default=str(TOP / "fp2"))
-    parser.add_argument("files", nargs="*")
+    parser.add_argument("--program", default=str(PROGRAM))
+    parser.add_argument("files", nargs="*", type=pathlib.Path)
     words = parser.parse_args()
-    files = [pathlib.Path(name) for name in words.files]
-    if not files:
-        files = [TOP / "README.md", *sorted((TOP / "docs").glob("*.md")), TOP / "examples" / "README.md"]
-    commands = differences = 0
-    for path in files:
-        with tempfile.TemporaryDirectory() as folder:
-            document = Document(path, words.program, folder)
-            for line, kind, inside in blocks(path.read_text()):
-                document.block(line, kind, inside)
-            commands += document.commands
-            differences += document.differences
-    print(f"examples: {commands} commands run, {differences} differ")
-    if commands == 0 or differences != 0:
-        sys.exit(1)
+    if not os.access(words.program, os.X_OK):
+        sys.exit(f"examples: {words.program} isn't there: ./fp2 or rt ci builds it")
+    program = str(pathlib.Path(words.program).resolve())
+    every = [TOP / "README.md", *sorted((TOP / "docs").glob("*.md")), TOP / "examples" / "README.md"]
+    documents = [run_document(path, program) for path in words.files or every]
+    forgotten = [] if words.files else unused(documents)
+    for name in forgotten:
+        print(f"examples/{name}: no document uses it")
+    count = sum(document.run_count for document in documents)
+    differences = sum(document.differences for document in documents)
+    print(f"examples: {count} run, {differences} differ")
+    sys.exit(0 if count and not differences and not forgotten else 1)
 
 
 if __name__ == "__main__":

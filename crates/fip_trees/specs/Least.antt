@@ -44,6 +44,11 @@ pub record IsLeast (vs : List Violation) (v : Violation) : Type 0 where
   pub violated : In v vs
   pub least : (w : Violation) → In w vs → comes_before w v ≡ false
 
+-- the same of what a relation says
+pub record IsLeastOf (Violates : Violation → Type 0) (v : Violation) : Type 0 where
+  pub violated : Violates v
+  pub least : (w : Violation) → Violates w → comes_before w v ≡ false
+
 -- the refusal that names a violation
 abbrev pub refusal : Violation → Refusal
 refusal v = record { rule = v.rule; place = Some v.place; size = v.size; detail = v.detail }

@@ -1,3 +1,4 @@
 pub mod Least
+pub mod Names
 pub mod Tree
 pub mod TreeView

@@ -1,7 +1,11 @@
 // What a program declares: data types, constructors and functions, by name and by number.
+ghost use Rattle.std.specs.Prelude.{◌≡◌, [], not, IfOk, OnOk};
+ghost use Rattle.fip_trees.specs.Names.{is_among, meaning, names, with_meaning};
+
+use crate::meanings::Meanings;
 use fip_base::plain::NoMemory;
-use indexmap::IndexMap;
 use std::alloc::Global;
+use std::marker::Model;
 
 /// The type of a field, its names looked up.
 #[derive(Drop)]
@@ -47,62 +51,81 @@ pub struct ConstructorId {
 /// declared twice it means its first declaration.
 #[derive(Drop)]
 pub struct DeclaredNames<'a> {
-    types: IndexMap<&'a [u8], TypeHead>,
-    constructors: IndexMap<&'a [u8], ConstructorId>,
-    functions: IndexMap<&'a [u8], usize>,
+    types: Meanings<'a, TypeHead>,
+    constructors: Meanings<'a, ConstructorId>,
+    functions: Meanings<'a, usize>,
+}
+
+impl<'a> Model for DeclaredNames<'a> {
+    ghost use Rattle.fip_trees.specs.Names.{Names};
+
+    ghost Value = { Names };
+
+    ghost view = { λ d. record { types = d.types; constructors = d.constructors; functions = d.functions } };
 }
 
 impl<'a> DeclaredNames<'a> {
     /// No names.
-    pub fn new(alloc: Global) -> Self {
+    pub fn new(alloc: Global) -> Self
+        ensures empty { result ≡ record { types = []; constructors = []; functions = [] } }
+    {
         DeclaredNames {
-            types: IndexMap::new(alloc),
-            constructors: IndexMap::new(alloc),
-            functions: IndexMap::new(alloc),
+            types: Meanings::new(alloc),
+            constructors: Meanings::new(alloc),
+            functions: Meanings::new(alloc),
         }
     }
 
     /// Adds the name of a data type, and says whether it is new; one that is there keeps its meaning.
-    pub fn add_type(&mut self, name: &'a [u8], head: TypeHead) -> Result<bool, NoMemory> {
-        if self.types.contains_key(&name) {
-            return Ok(false);
-        }
-        self.types.insert(name, head)?;
-        Ok(true)
+    pub fn add_type(&mut self, name: &'a [u8], head: TypeHead) -> Result<bool, NoMemory>
+        ensures new { IfOk result (λ new. new ≡ not (is_among name.now (names self.old.types))) }
+        ensures added { OnOk result (self.new.types ≡ with_meaning self.old.types name.now head) }
+        ensures constructors { OnOk result (self.new.constructors ≡ self.old.constructors) }
+        ensures functions { OnOk result (self.new.functions ≡ self.old.functions) }
+    {
+        self.types.add(name, head)
     }
 
     /// Adds the name of a constructor, and says whether it is new; one that is there keeps its meaning.
-    pub fn add_constructor(&mut self, name: &'a [u8], id: ConstructorId) -> Result<bool, NoMemory> {
-        if self.constructors.contains_key(&name) {
-            return Ok(false);
-        }
-        self.constructors.insert(name, id)?;
-        Ok(true)
+    pub fn add_constructor(&mut self, name: &'a [u8], id: ConstructorId) -> Result<bool, NoMemory>
+        ensures new { IfOk result (λ new. new ≡ not (is_among name.now (names self.old.constructors))) }
+        ensures added { OnOk result (self.new.constructors ≡ with_meaning self.old.constructors name.now id) }
+        ensures types { OnOk result (self.new.types ≡ self.old.types) }
+        ensures functions { OnOk result (self.new.functions ≡ self.old.functions) }
+    {
+        self.constructors.add(name, id)
     }
 
     /// Adds the name of the function at a place of the core form, and says whether it is new; one that is there keeps
     /// its meaning.
-    pub fn add_function(&mut self, name: &'a [u8], place: usize) -> Result<bool, NoMemory> {
-        if self.functions.contains_key(&name) {
-            return Ok(false);
-        }
-        self.functions.insert(name, place)?;
-        Ok(true)
+    pub fn add_function(&mut self, name: &'a [u8], place: usize) -> Result<bool, NoMemory>
+        ensures new { IfOk result (λ new. new ≡ not (is_among name.now (names self.old.functions))) }
+        ensures added { OnOk result (self.new.functions ≡ with_meaning self.old.functions name.now place) }
+        ensures types { OnOk result (self.new.types ≡ self.old.types) }
+        ensures constructors { OnOk result (self.new.constructors ≡ self.old.constructors) }
+    {
+        self.functions.add(name, place)
     }
 
     /// The data type of a name; none where it is unknown.
-    pub fn find_type(&self, name: &[u8]) -> Option<TypeHead> {
-        self.types.get(&name).copied()
+    pub fn find_type(&self, name: &[u8]) -> Option<TypeHead>
+        ensures meaning { result ≡ meaning name.now self.now.types }
+    {
+        self.types.find(name)
     }
 
     /// The constructor of a name; none where it is unknown.
-    pub fn find_constructor(&self, name: &[u8]) -> Option<ConstructorId> {
-        self.constructors.get(&name).copied()
+    pub fn find_constructor(&self, name: &[u8]) -> Option<ConstructorId>
+        ensures meaning { result ≡ meaning name.now self.now.constructors }
+    {
+        self.constructors.find(name)
     }
 
     /// The place of the function of a name; none where it is unknown.
-    pub fn find_function(&self, name: &[u8]) -> Option<usize> {
-        self.functions.get(&name).copied()
+    pub fn find_function(&self, name: &[u8]) -> Option<usize>
+        ensures meaning { result ≡ meaning name.now self.now.functions }
+    {
+        self.functions.find(name)
     }
 }
 

@@ -6,6 +6,7 @@ pub mod decls;
 pub mod groups;
 pub mod least;
 pub mod limits;
+pub mod meanings;
 pub mod needs;
 pub mod program;
 pub mod scalars;

@@ -3,6 +3,10 @@
 // One family of trees serves before typing (`Flat`) and after it (`Typed`). A field named `ty` of a binder, a
 // constructor or a match is a slot: it says nothing in a `Flat`, and is the node's type in a `Typed`. No pass behind
 // these trees looks a name up; names stay for what a refusal names.
+ghost use Rattle.std.specs.Prelude.{◌≡◌};
+ghost use Rattle.fip_trees.specs.Tree.{pattern_place};
+ghost use Rattle.fip_trees.specs.TreeView as V;
+
 use fip_base::core_form::MatchKind;
 use fip_base::plain::{FunKind, Name, Operator, Params, Place, Types};
 use fip_base::table::{Constructor, TypeTable};
@@ -232,7 +236,9 @@ impl Argument {
 
 impl Pattern {
     /// The place of its first token.
-    pub fn place(&self) -> Place {
+    pub fn place(&self) -> Place
+        ensures place { result ≡ pattern_place (V.pattern self.now) }
+    {
         match self {
             Pattern::Binder(binder) => binder.place,
             Pattern::Literal { place, .. } => *place,

@@ -1,7 +1,11 @@
 // Which types are scalar, found once for all of them.
+ghost use Rattle.std.specs.Prelude.{◌≡◌, ℕ, ◌≤◌, Bool, List, true, get_or, IfOk};
+ghost use Rattle.fip_language.specs.Table.{is_scalar};
+
 use fip_base::plain::NoMemory;
 use fip_base::table::TypeTable;
 use std::alloc::Global;
+use std::marker::Model;
 
 /// Whether each type is scalar: int, or a type all of whose constructors have no field. A type's constructors are
 /// looked through once, and not at each question.
@@ -11,23 +15,32 @@ pub struct Scalars {
     flags: Vec<bool>,
 }
 
+impl Model for Scalars {
+    ghost Value = { List Bool };
+
+    ghost view = { λ s. s.flags.items };
+}
+
 impl Scalars {
-    /// Looks through the types; an error where no memory is left.
-    pub fn of(alloc: Global, types: &TypeTable) -> Result<Scalars, NoMemory> {
+    /// Looks through the types; an error where no memory is left, or there are too many types for their numbers.
+    pub fn of(alloc: Global, types: &TypeTable) -> Result<Scalars, NoMemory>
+        ensures exact { IfOk result (λ s. (t : ℕ) → get_or s t true ≡ is_scalar types.now t) }
+    {
         let mut flags = Vec::new(alloc);
-        for ty in 0..=types.len() {
-            let is_scalar = match u32::try_from(ty) {
-                Ok(number) => types.is_scalar(number),
-                // No tree names a type past the greatest number.
-                Err(_) => true,
-            };
-            flags.push(is_scalar)?;
+        flags.push(true)?;
+        for place in 0..types.len() {
+            match u32::try_from(place + 1) {
+                Ok(ty) => flags.push(types.is_scalar(ty))?,
+                Err(_) => return Err(NoMemory),
+            }
         }
         Ok(Scalars { flags })
     }
 
     /// Whether the type is scalar; so is a number that is no type's.
-    pub fn is_scalar(&self, ty: u32) -> bool {
+    pub fn is_scalar(&self, ty: u32) -> bool
+        ensures same { result ≡ get_or self.now ty true }
+    {
         match self.flags.get(ty as usize) {
             Some(flag) => *flag,
             None => true,

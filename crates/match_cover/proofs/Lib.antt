@@ -1,3 +1,4 @@
+pub mod Shared
 pub mod TreePicks
 pub mod TestedOnce
 pub mod TreeGrowth
@@ -5,3 +6,13 @@ pub mod TreeSteps
 pub mod TreeExamples
 pub mod MissingSteps
 pub mod MatchSteps
+pub mod ShapeSteps
+pub mod Gather
+pub mod OneMissing
+pub mod MissingValue
+pub mod Positions
+pub mod LeastHeads
+pub mod MissingWalk
+pub mod PatternTexts
+pub mod CoverExamples
+pub mod CoverSteps

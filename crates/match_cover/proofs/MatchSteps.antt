@@ -19,11 +19,11 @@ use Rattle.fip_base.specs.declared.plain.NoMemory.{NoMemory}
 use Rattle.fip_language.specs.Table.{Table}
 use Rattle.fip_trees.specs.declared.program.Instance.{Instance}
 use Rattle.match_cover.specs.declared.trees.Tree.{Tree}
-use Rattle.match_cover.specs.declared.numbers.Found.{Found}
+use Rattle.match_cover.specs.declared.matches.Found.{Found}
 use Rattle.match_cover.specs.FoundView.{found_match, found_matches, found_offset}
 use Rattle.match_cover.specs.TreeView.{AnswersTree}
-use Rattle.match_cover.specs.PatternView.{erased, clause_pattern, match_patterns}
-use Rattle.match_cover.specs.Matches.{Match, NoneBefore, Ascend, IsDecisionOf, Arm, arm, arm_pattern, below_arms, joined, expression_step, binding_step, block_step, clause_step, expression_matches, binding_matches, block_matches}
+use Rattle.match_cover.specs.PatternView.{joined, pattern_of, clause_patterns, match_patterns}
+use Rattle.match_cover.specs.Matches.{Match, NoneBefore, Ascend, IsDecisionOf, Arm, arm, arm_pattern, below_arms, expression_step, binding_step, block_step, clause_step, expression_matches, binding_matches, block_matches}
 
 pub block_is : (b : Block) → block_matches b ≡ joined (map binding_matches (out-Block b).bindings.items) ++ expression_matches (out-Block b).last
 block_is b = fold_out-Block (List Match) (List Match) (List Match) Arm expression_step binding_step block_step clause_step b
@@ -31,30 +31,36 @@ block_is b = fold_out-Block (List Match) (List Match) (List Match) Arm expressio
 pub binding_is : (b : Binding) → binding_matches b ≡ expression_matches (out-Binding b).bound
 binding_is b = fold_out-Binding (List Match) (List Match) (List Match) Arm expression_step binding_step block_step clause_step b
 
-pub arm_is : (c : Clause) → arm c ≡ record { pattern = erased (out-Clause c).pattern; below = block_matches (out-Clause c).body }
+pub arm_is : (c : Clause) → arm c ≡ record { pattern = pattern_of c; below = block_matches (out-Clause c).body }
 arm_is c = fold_out-Clause (List Match) (List Match) (List Match) Arm expression_step binding_step block_step clause_step c
 
 pub below_is : (c : Clause) → (arm c).below ≡ block_matches (out-Clause c).body
 below_is c = ap (λ (a : Arm). a.below) (arm_is c)
 
-arms_are : (cs : List Clause) → map arm_pattern (map arm cs) ≡ map clause_pattern cs
+arms_are : (cs : List Clause) → map arm_pattern (map arm cs) ≡ map pattern_of cs
 arms_are [] = refl
-arms_are (c ∷ cs) = ap (λ p. p ∷ map arm_pattern (map arm cs)) (ap (λ (a : Arm). a.pattern) (arm_is c)) ∙ ap (λ ps. clause_pattern c ∷ ps) (arms_are cs)
+arms_are (c ∷ cs) = ap (λ p. p ∷ map arm_pattern (map arm cs)) (ap (λ (a : Arm). a.pattern) (arm_is c)) ∙ ap (λ ps. pattern_of c ∷ ps) (arms_are cs)
 
-pub match_is : (k : MatchKind) (u : ℕ) (p : Place) (a : Argument) (c : Box Clause Global) (cs : Vec Clause Global) → expression_matches (EV.Match k u p a c cs) ≡ record { place = p; patterns = match_patterns c.value cs.items } ∷ block_matches (out-Clause c.value).body ++ below_arms (map arm cs.items)
+pub match_is : (k : MatchKind) (u : ℕ) (p : Place) (a : Argument) (c : Box Clause Global) (cs : Vec Clause Global) → expression_matches (EV.Match k u p a c cs) ≡ record { place = p; ty = u; clauses = clause_patterns c.value cs.items } ∷ block_matches (out-Clause c.value).body ++ below_arms (map arm cs.items)
 match_is k u p a c cs =
     ap expression_matches (sym (EV.rolls-Match k u p a c cs))
     ∙ fold-roll-Expression (List Match) (List Match) (List Match) Arm expression_step binding_step block_step clause_step (E.Match k u p a c cs)
-    ∙ ap (λ ps. record { place = p; patterns = ps } ∷ (arm c.value).below ++ below_arms (map arm cs.items)) (arms_are (c.value ∷ cs.items))
-    ∙ ap (λ ms. record { place = p; patterns = match_patterns c.value cs.items } ∷ ms ++ below_arms (map arm cs.items)) (below_is c.value)
+    ∙ ap (λ ps. record { place = p; ty = u; clauses = ps } ∷ (arm c.value).below ++ below_arms (map arm cs.items)) (arms_are (c.value ∷ cs.items))
+    ∙ ap (λ ms. record { place = p; ty = u; clauses = clause_patterns c.value cs.items } ∷ ms ++ below_arms (map arm cs.items)) (below_is c.value)
 
 pub nested_is : (b : Box Block Global) → expression_matches (EV.Nested b) ≡ block_matches b.value
 nested_is b = ap expression_matches (sym (EV.rolls-Nested b)) ∙ fold-roll-Expression (List Match) (List Match) (List Match) Arm expression_step binding_step block_step clause_step (E.Nested b)
 
-drop_first : {X : Type 0} (xs : List X) (i : ℕ) (x : X) → i < length xs → x ≡ get_or xs i x → drop i xs ≡ x ∷ drop (i + 1) xs
+pub drop_first : {X : Type 0} (xs : List X) (i : ℕ) (x : X) → i < length xs → x ≡ get_or xs i x → drop i xs ≡ x ∷ drop (i + 1) xs
 drop_first [] i x h e = absurd (omega arith)
 drop_first (y ∷ ys) zero x h e = ap (λ z. z ∷ ys) (sym e)
 drop_first (y ∷ ys) (suc i) x h e = drop_first ys i x (omega arith) e ∙ ap (λ z. x ∷ z) (let n : suc i + 1 ≡ suc (i + 1) = omega arith in sym (ap (λ z. drop z (y ∷ ys)) n))
+
+pub drop_end : {X : Type 0} (xs : List X) (n : ℕ) → length xs ≤ n → drop n xs ≡ []
+drop_end [] zero h = refl
+drop_end [] (suc n) h = refl
+drop_end (x ∷ xs) zero h = absurd (omega arith)
+drop_end (x ∷ xs) (suc n) h = drop_end xs n (omega arith)
 
 pub binding_step_is : (xs ys z : List Match) (bs : List Binding) (i : ℕ) (b : Binding) → i < length bs → b ≡ get_or bs i b → ys ≡ xs ++ expression_matches (out-Binding b).bound → xs ++ joined (map binding_matches (drop i bs)) ≡ z → ys ++ joined (map binding_matches (drop (i + 1) bs)) ≡ z
 binding_step_is xs ys z bs i b h g e v =
@@ -73,16 +79,17 @@ found_push [] f = refl
 found_push (g ∷ old) f = ap (λ ms. found_match g ∷ ms) (found_push old f)
 
 pub match_arm : (r : Result (Unit {0}) NoMemory) (old m1 m2 m3 : List Found) (f : Found) (e : Expression) (k : MatchKind) (u : ℕ) (p : Place) (a : Argument) (c : Box Clause Global) (cs : Vec Clause Global) (d : Clause) (ds : List Clause) →
-    e ≡ EV.Match k u p a c cs → f.place ≡ p → f.first.now ≡ c.value → f.others.now ≡ cs.items → d ≡ c.value → ds ≡ cs.items →
+    e ≡ EV.Match k u p a c cs → f.place ≡ p → f.ty ≡ u → f.first.now ≡ c.value → f.others.now ≡ cs.items → d ≡ c.value → ds ≡ cs.items →
     m1 ≡ old ++ f ∷ [] → found_matches m2 ≡ found_matches m1 ++ block_matches (out-Clause d).body → OnOk r (found_matches m3 ≡ found_matches m2 ++ below_arms (map arm ds)) → OnOk r (found_matches m3 ≡ found_matches old ++ expression_matches e)
-match_arm (Err z) old m1 m2 m3 f e k u p a c cs d ds h g1 g2 g3 g4 g5 i j l = tt
-match_arm (Ok z) old m1 m2 m3 f e k u p a c cs d ds h g1 g2 g3 g4 g5 i j l =
+match_arm (Err z) old m1 m2 m3 f e k u p a c cs d ds h g1 g0 g2 g3 g4 g5 i j l = tt
+match_arm (Ok z) old m1 m2 m3 f e k u p a c cs d ds h g1 g0 g2 g3 g4 g5 i j l =
     let body = block_matches (out-Clause c.value).body in
     let below = below_arms (map arm cs.items) in
-    let one : found_match f ≡ record { place = p; patterns = match_patterns c.value cs.items } =
-    ap (λ q. record { place = q; patterns = match_patterns f.first.now f.others.now }) g1
-    ∙ ap (λ x. record { place = p; patterns = match_patterns x f.others.now }) g2
-    ∙ ap (λ xs. record { place = p; patterns = match_patterns c.value xs }) g3 in
+    let one : found_match f ≡ record { place = p; ty = u; clauses = clause_patterns c.value cs.items } =
+    ap (λ q. record { place = q; ty = f.ty; clauses = clause_patterns f.first.now f.others.now }) g1
+    ∙ ap (λ t. record { place = p; ty = t; clauses = clause_patterns f.first.now f.others.now }) g0
+    ∙ ap (λ x. record { place = p; ty = u; clauses = clause_patterns x f.others.now }) g2
+    ∙ ap (λ xs. record { place = p; ty = u; clauses = clause_patterns c.value xs }) g3 in
     l ∙ ap (λ x. found_matches m2 ++ below_arms (map arm x)) g5
     ∙ ap (λ x. x ++ below) (j ∙ ap (λ x. found_matches m1 ++ block_matches (out-Clause x).body) g4)
     ∙ append_assoc (found_matches m1) body below

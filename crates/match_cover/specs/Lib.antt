@@ -1,7 +1,14 @@
+pub mod Matches
+pub mod Lets
+pub mod Shapes
+pub mod PatternView
+pub mod FoundView
 pub mod DecisionTree
 pub mod TreeView
 pub mod Missing
 pub mod MissingView
-pub mod PatternView
-pub mod Matches
-pub mod FoundView
+pub mod MissingSearch
+pub mod PatternText
+pub mod Coverage
+pub mod Answers
+pub mod Gathered

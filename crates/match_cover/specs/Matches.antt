@@ -1,6 +1,7 @@
 -- The matches of a program, and the decision tree of each.
 -- Rules: matches are numbered from 0 over the instances, and in a body as they stand in the text.
-use Rattle.std.specs.Prelude.{◌≡◌, ℕ, ◌-◌, ◌<◌, ◌≤◌, ◌⊎◌, List, [], ◌∷◌, ◌++◌, map, length, Option, Some, None, slice_get}
+use Rattle.std.specs.Prelude.{◌≡◌, ℕ, ◌-◌, ◌<◌, ◌≤◌, ◌⊎◌, List, [], ◌∷◌, ◌++◌, map, length, Option}
+use Rattle.std.specs.Prelude.{Some, None, slice_get}
 use Rattle.std.specs.List.Sorted.{IsPermutation}
 use Rattle.fip_language.specs.declared.Place.{Place}
 use Rattle.fip_language.specs.Table.{Table}
@@ -11,15 +12,21 @@ use Rattle.fip_trees.specs.declared.program.Block.{Block}
 use Rattle.fip_trees.specs.declared.program.Binding.{Binding}
 use Rattle.fip_trees.specs.declared.program.Clause.{Clause}
 use Rattle.fip_trees.specs.declared.program.Instance.{Instance}
+use Rattle.fip_trees.specs.declared.program.Pattern.{Pattern as Named}
 use Rattle.match_knowledge.specs.Patterns.{Pattern}
-use Rattle.match_cover.specs.PatternView.{erased}
+use Rattle.match_cover.specs.PatternView.{erased, joined}
 use Rattle.match_cover.specs.TreeView.{AnswersTree}
 use Rattle.match_cover.specs.declared.trees.Tree.{Tree}
 
--- where a match stands, and the patterns of its clauses without names
+-- where a match stands, the type of what is matched, and the patterns of its clauses
 pub record Match : Type 0 where
   pub place : Place
-  pub patterns : List Pattern
+  pub ty : ℕ
+  pub clauses : List Named
+
+-- the patterns without names
+abbrev pub rows_of : Match → List Pattern
+rows_of m = map erased m.clauses
 
 -- as they stand in the text: none stands behind a later one
 abbrev pub NoneBefore : Match → List Match → Type 0
@@ -32,19 +39,15 @@ Ascend (m ∷ ms) = NoneBefore m ms × Ascend ms
 
 -- the pattern of a clause, and the matches of its body
 pub record Arm : Type 0 where
-  pub pattern : Pattern
+  pub pattern : Named
   pub below : List Match
 
-abbrev pub arm_pattern : Arm → Pattern
+abbrev pub arm_pattern : Arm → Named
 arm_pattern a = a.pattern
 
 abbrev pub below_arms : List Arm → List Match
 below_arms [] = []
 below_arms (a ∷ rest) = a.below ++ below_arms rest
-
-abbrev pub joined : List (List Match) → List Match
-joined [] = []
-joined (ms ∷ rest) = ms ++ joined rest
 
 abbrev pub expression_step : E.Expression-F (List Match) (List Match) (List Match) Arm → List Match
 expression_step (E.Give a) = []
@@ -52,7 +55,8 @@ expression_step (E.Tuple p xs) = []
 expression_step (E.Operation o p l r) = []
 expression_step (E.Call g n p xs) = []
 expression_step (E.Match k u p a c cs) =
-    record { place = p; patterns = c.value.pattern ∷ map arm_pattern cs.items } ∷ c.value.below ++ below_arms cs.items
+    record { place = p; ty = u; clauses = c.value.pattern ∷ map arm_pattern cs.items }
+    ∷ c.value.below ++ below_arms cs.items
 expression_step (E.Nested b) = b.value
 
 abbrev pub binding_step : E.Binding-F (List Match) (List Match) (List Match) Arm → List Match
@@ -62,17 +66,20 @@ abbrev pub block_step : E.Block-F (List Match) (List Match) (List Match) Arm →
 block_step b = joined b.bindings.items ++ b.last
 
 abbrev pub clause_step : E.Clause-F (List Match) (List Match) (List Match) Arm → Arm
-clause_step c = record { pattern = erased c.pattern; below = c.body }
+clause_step c = record { pattern = c.pattern; below = c.body }
 
 -- all matches of an expression and so on; a match before those of its clauses' bodies
 abbrev pub expression_matches : Expression → List Match
-expression_matches = fold-Expression (List Match) (List Match) (List Match) Arm expression_step binding_step block_step clause_step
+expression_matches =
+    fold-Expression (List Match) (List Match) (List Match) Arm expression_step binding_step block_step clause_step
 
 abbrev pub binding_matches : Binding → List Match
-binding_matches = fold-Binding (List Match) (List Match) (List Match) Arm expression_step binding_step block_step clause_step
+binding_matches =
+    fold-Binding (List Match) (List Match) (List Match) Arm expression_step binding_step block_step clause_step
 
 abbrev pub block_matches : Block → List Match
-block_matches = fold-Block (List Match) (List Match) (List Match) Arm expression_step binding_step block_step clause_step
+block_matches =
+    fold-Block (List Match) (List Match) (List Match) Arm expression_step binding_step block_step clause_step
 
 abbrev pub arm : Clause → Arm
 arm = fold-Clause (List Match) (List Match) (List Match) Arm expression_step binding_step block_step clause_step
@@ -88,5 +95,6 @@ pub record IsNumbered (b : Block) (m : ℕ) (found : Match) : Type 0 where
 abbrev pub IsDecisionOf : Table → List Instance → ℕ → Option Tree → Type 0
 IsDecisionOf tb [] m o = o ≡ None
 IsDecisionOf tb (d ∷ ds) m o =
-    ((m < length (block_matches d.body)) × (found : Match) × IsNumbered d.body m found × AnswersTree tb found.patterns o)
+    ((m < length (block_matches d.body)) × (found : Match) × IsNumbered d.body m found
+    × AnswersTree tb (rows_of found) o)
     ⊎ ((length (block_matches d.body) ≤ m) × IsDecisionOf tb ds (m - length (block_matches d.body)) o)

@@ -3,6 +3,8 @@
 #![tactic(auto)]
 
 mod coverage;
+pub mod laws;
+mod matches;
 mod missing;
 mod numbers;
 mod patterns;

@@ -4,10 +4,18 @@
 // next. At a position where no clause has a constructor or a literal stands `_`. At another stands the least
 // constructor, or the least number from 0 upwards, such that some value that no clause matches agrees with all choices
 // so far and has it there.
-ghost use Rattle.std.specs.Prelude.{◌≡◌, ◌<◌, ◌^◌, ◌++◌, true, map, length, option_map, IfOk};
-ghost use Rattle.match_knowledge.specs.View.{row, known, knowns};
-ghost use Rattle.match_cover.specs.Missing.{is_test, is_tested, part_below, rows_below, open_fields, inside, placed};
-ghost use Rattle.match_cover.specs.MissingView.{lent_rows, level, levels};
+ghost use Rattle.std.specs.Prelude.{◌≡◌, ◌<◌, ◌≤◌, ◌^◌, ◌+◌, ◌++◌, true, drop, map, length, option_map, IfOk, OnOk};
+ghost use Rattle.fip_language.specs.PrintedText.{shape_at};
+ghost use Rattle.fip_language.specs.Table.{constructors};
+ghost use Rattle.match_knowledge.specs.Known.{Is};
+ghost use Rattle.match_knowledge.specs.Left.{AnswersLeft};
+ghost use Rattle.match_knowledge.specs.View.{row, rows, parts, known, knowns};
+ghost use Rattle.match_cover.specs.Missing.{is_test, is_tested, part_below, rows_below, fields_at, open_fields, inside};
+ghost use Rattle.match_cover.specs.Missing.{placed};
+ghost use Rattle.match_cover.specs.MissingSearch.{FindsFields, FindsHead, FindsMissing, LeastNumber, LeastTag};
+ghost use Rattle.match_cover.specs.MissingSearch.{head_fields};
+ghost use Rattle.match_cover.specs.MissingView.{SaysMissing, last_sign, lent_rows, level, levels, part_sign};
+ghost use Rattle.match_cover.specs.PatternText.{head_text, parts_text, pattern_text};
 
 use fip_base::plain::NoMemory;
 use fip_base::table::{Constructor, TypeTable};
@@ -36,10 +44,16 @@ pub fn missing_text(
     alloc: Global,
     types: &TypeTable,
     ty: u32,
-    rows: &[Row],
-) -> Result<Vec<u8>, NoMemory> {
-    let search = Search { alloc, types, rows };
-    let here = all_of(alloc, rows)?;
+    patterns: &[Row],
+) -> Result<Vec<u8>, NoMemory>
+    ensures { IfOk result (λ text. SaysMissing types.now ty (rows patterns.now) text.items) }
+{
+    let search = Search {
+        alloc,
+        types,
+        rows: patterns,
+    };
+    let here = all_of(alloc, patterns)?;
     let mut at = Vec::new(alloc);
     let pattern = search.missing_at(&mut at, ty, &here)?;
     let mut text = Vec::new(alloc);
@@ -47,11 +61,13 @@ pub fn missing_text(
     Ok(text)
 }
 
-// A reference to each row.
-fn all_of<'a>(alloc: Global, rows: &'a [Row]) -> Result<Vec<&'a Row>, NoMemory> {
+// A reference to each of these patterns.
+fn all_of<'a>(alloc: Global, patterns: &'a [Row]) -> Result<Vec<&'a Row>, NoMemory>
+    ensures { IfOk result (λ r. lent_rows r.items ≡ rows patterns.now) }
+{
     let mut here = Vec::new(alloc);
-    for row in rows {
-        here.push(row)?;
+    for pattern in patterns {
+        here.push(pattern)?;
     }
     Ok(here)
 }
@@ -59,11 +75,15 @@ fn all_of<'a>(alloc: Global, rows: &'a [Row]) -> Result<Vec<&'a Row>, NoMemory> 
 impl<'a> Search<'a> {
     // The pattern at the position below these nodes: of which type, and what the clauses have there.
     #[cycle(missing)]
-    fn missing_at(&self, at: &mut Vec<Frame>, ty: u32, here: &[&Row]) -> Result<Row, NoMemory> {
+    fn missing_at(&self, at: &mut Vec<Frame>, ty: u32, here: &[&Row]) -> Result<Row, NoMemory>
+        ensures kept { OnOk result (at.new.items ≡ at.old.items) }
+        ensures missing { IfOk result (λ m. FindsMissing self.now.types.now (rows self.now.rows.now)
+            (placed (levels at.old.items)) ty (lent_rows here.now) (row m)) }
+    {
         if !is_tested(here) {
             return Ok(Row::Any);
         }
-        match self.least_head(at, ty)? {
+        match self.least_head(at, ty, here.len() + 1)? {
             None => Ok(Row::Any),
             Some(head) => {
                 let parts = self.missing_fields(at, fields_of(self.types, ty, &head), head, here)?;
@@ -82,11 +102,15 @@ impl<'a> Search<'a> {
         here: &[&Row],
     ) -> Result<Vec<Row>, NoMemory>
         requires { is_tested (lent_rows here.now) ≡ true }
+        ensures kept { OnOk result (at.new.items ≡ at.old.items) }
+        ensures missing { IfOk result (λ ms. FindsFields self.now.types.now (rows self.now.rows.now)
+            (λ ks. placed (levels at.old.items) (Is head ks)) fields.now (fields_at head (lent_rows here.now))
+            (parts ms.items)) }
     {
         let mut parts = Vec::new(self.alloc);
         for (j, field) in fields.iter().enumerate() {
             let before = all_known(self.alloc, &parts)?;
-            let behind = open_fields(self.alloc, &fields[j + 1..])?;
+            let behind = open_fields(self.alloc, behind(fields, j))?;
             at.push(Frame {
                 head,
                 before,
@@ -100,19 +124,24 @@ impl<'a> Search<'a> {
         Ok(parts)
     }
 
-    // The least head that may stand at a position; none where none may.
-    fn least_head(&self, at: &[Frame], ty: u32) -> Result<Option<Head>, NoMemory> {
+    // The least head that may stand at a position: of the constructors, or of the numbers below an end.
+    fn least_head(&self, at: &[Frame], ty: u32, end: usize) -> Result<Option<Head>, NoMemory>
+        requires { end ≤ 2 ^ 63 }
+        ensures { IfOk result (FindsHead self.now.types.now (rows self.now.rows.now) (placed (levels at.now)) ty end) }
+    {
         if ty == 0 {
-            self.least_number(at)
-        } else {
-            self.least_constructor(at, constructors_of(self.types, ty))
+            return self.least_number(at, end);
         }
+        self.least_constructor(at, constructors_of(self.types, ty))
     }
 
-    // The least number from 0 upwards that may stand at a position. One that no clause has there always may.
-    fn least_number(&self, at: &[Frame]) -> Result<Option<Head>, NoMemory> {
-        for n in 0..=i64::MAX {
-            let head = Head::Number(n);
+    // The least number below an end that may stand at a position. One that no clause has there always may.
+    fn least_number(&self, at: &[Frame], end: usize) -> Result<Option<Head>, NoMemory>
+        requires { end ≤ 2 ^ 63 }
+        ensures { IfOk result (LeastNumber self.now.types.now (rows self.now.rows.now) (placed (levels at.now)) end) }
+    {
+        for n in 0..end {
+            let head = Head::Number(n as i64);
             if self.may_stand(at, head, &[])? {
                 return Ok(Some(head));
             }
@@ -120,13 +149,15 @@ impl<'a> Search<'a> {
         Ok(None)
     }
 
-    // The least of these constructors that may stand at a position. One that no clause has there always may.
+    // The least of these constructors that may stand at a position.
     fn least_constructor(
         &self,
         at: &[Frame],
         constructors: &[Constructor],
     ) -> Result<Option<Head>, NoMemory>
         requires { length constructors.now < 2 ^ 32 }
+        ensures { IfOk result (LeastTag self.now.types.now (rows self.now.rows.now) (placed (levels at.now))
+            constructors.now) }
     {
         for (c, constructor) in constructors.iter().enumerate() {
             let head = Head::Tag(c as u32);
@@ -139,7 +170,10 @@ impl<'a> Search<'a> {
 
     // Whether some value that no clause matches agrees with all choices so far and has the head, with fields of these
     // types, at the position.
-    fn may_stand(&self, at: &[Frame], head: Head, fields: &[u32]) -> Result<bool, NoMemory> {
+    fn may_stand(&self, at: &[Frame], head: Head, fields: &[u32]) -> Result<bool, NoMemory>
+        ensures { IfOk result (AnswersLeft self.now.types.now (rows self.now.rows.now)
+            (placed (levels at.now) (Is head (open_fields fields.now)))) }
+    {
         let fields = open_fields(self.alloc, fields)?;
         let k = placed(self.alloc, at, Knowledge::Is(head, fields))?;
         left(self.alloc, self.types, self.rows, &k)
@@ -147,8 +181,10 @@ impl<'a> Search<'a> {
 }
 
 // The constructors of a type; none where there is no such type.
+#[tactic(auto, using(crate::proofs::Shared::ends))]
 fn constructors_of(types: &TypeTable, ty: u32) -> &[Constructor]
-    ensures { length result.now < 2 ^ 32 }
+    ensures same { result.now ≡ constructors types.now ty }
+    ensures few { length result.now < 2 ^ 32 }
 {
     if ty as usize <= types.len() {
         types.constructors_of(ty)
@@ -158,7 +194,9 @@ fn constructors_of(types: &TypeTable, ty: u32) -> &[Constructor]
 }
 
 // The types of the fields of a constructor; an int has none.
-fn fields_of<'a>(types: &'a TypeTable, ty: u32, head: &Head) -> &'a [u32] {
+fn fields_of<'a>(types: &'a TypeTable, ty: u32, head: &Head) -> &'a [u32]
+    ensures { result.now ≡ head_fields types.now ty head.now }
+{
     match head {
         Head::Number(_) => &[],
         Head::Tag(c) => match constructors_of(types, ty).get(*c as usize) {
@@ -166,6 +204,14 @@ fn fields_of<'a>(types: &'a TypeTable, ty: u32, head: &Head) -> &'a [u32] {
             Some(constructor) => constructor.fields(),
         },
     }
+}
+
+// The types of the fields behind the j-th.
+fn behind(fields: &[u32], j: usize) -> &[u32]
+    requires { j < length fields.now }
+    ensures { result.now ≡ drop (j + 1) fields.now }
+{
+    &fields[j + 1..]
 }
 
 // Fields of these types of which nothing is known.
@@ -275,40 +321,64 @@ fn inside(alloc: Global, frame: &Frame, k: Knowledge) -> Result<Knowledge, NoMem
 fn put_pattern(
     alloc: Global,
     types: &TypeTable,
-    row: &Row,
+    pattern: &Row,
     text: &mut Vec<u8>,
-) -> Result<(), NoMemory> {
-    match row {
+) -> Result<(), NoMemory>
+    ensures { OnOk result (text.new.items ≡ text.old.items ++ pattern_text types.now (row pattern.now)) }
+{
+    match pattern {
         Row::Any => {
             text.push(b'_')?;
             Ok(())
         }
-        Row::Test { ty, head, parts } => {
+        Row::Test {
+            ty,
+            head,
+            parts: ps,
+        } => {
             put_head(alloc, types, *ty, head, text)?;
-            if parts.is_empty() {
-                return Ok(());
-            }
-            text.push(b'(')?;
-            put_patterns(alloc, types, parts, text)?;
-            text.push(b')')?;
-            Ok(())
+            put_parts(alloc, types, ps, text)
         }
     }
 }
 
+// Puts the parts of a pattern in brackets; nothing where there are none.
 #[cycle(text)]
-fn put_patterns(
+fn put_parts(
     alloc: Global,
     types: &TypeTable,
-    rows: &[Row],
+    ps: &[Row],
     text: &mut Vec<u8>,
-) -> Result<(), NoMemory> {
-    for (j, row) in rows.iter().enumerate() {
-        if j > 0 {
-            text.extend_from_slice(b", ")?;
-        }
-        put_pattern(alloc, types, row, text)?;
+) -> Result<(), NoMemory>
+    ensures { OnOk result (text.new.items ≡ text.old.items ++ parts_text types.now (parts ps.now)) }
+{
+    for (j, p) in ps.iter().enumerate() {
+        put_sign(j, text)?;
+        put_pattern(alloc, types, p, text)?;
     }
+    put_end(ps.len(), text)
+}
+
+// Puts what stands before the j-th part.
+fn put_sign(j: usize, text: &mut Vec<u8>) -> Result<(), NoMemory>
+    ensures { OnOk result (text.new.items ≡ text.old.items ++ part_sign j) }
+{
+    if j == 0 {
+        text.extend_from_slice(b"(")?;
+        return Ok(());
+    }
+    text.extend_from_slice(b", ")?;
+    Ok(())
+}
+
+// Puts what stands behind so many parts.
+fn put_end(count: usize, text: &mut Vec<u8>) -> Result<(), NoMemory>
+    ensures { OnOk result (text.new.items ≡ text.old.items ++ last_sign count) }
+{
+    if count == 0 {
+        return Ok(());
+    }
+    text.extend_from_slice(b")")?;
     Ok(())
 }
 
@@ -319,7 +389,9 @@ fn put_head(
     ty: u32,
     head: &Head,
     text: &mut Vec<u8>,
-) -> Result<(), NoMemory> {
+) -> Result<(), NoMemory>
+    ensures { OnOk result (text.new.items ≡ text.old.items ++ head_text types.now ty head.now) }
+{
     match head {
         Head::Number(value) => {
             let digits = format!(in alloc; "{value}")?;
@@ -331,7 +403,9 @@ fn put_head(
 }
 
 // The name of a constructor; empty where the type has none of this number.
-fn name_of(types: &TypeTable, ty: u32, c: u32) -> &[u8] {
+fn name_of(types: &TypeTable, ty: u32, c: u32) -> &[u8]
+    ensures { result.now ≡ (shape_at (constructors types.now ty) c).name }
+{
     match constructors_of(types, ty).get(c as usize) {
         None => &[],
         Some(constructor) => constructor.name(),

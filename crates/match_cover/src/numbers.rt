@@ -1,26 +1,19 @@
 // The matches of a program by number.
-ghost use Rattle.std.specs.Prelude.{◌≡◌, ◌++◌, map, length, IfOk, OnOk};
+ghost use Rattle.std.specs.Prelude.{◌≡◌, length, IfOk, OnOk};
 ghost use Rattle.std.specs.List.Sorted.{IsPermutation, IsNonDecreasingBy};
-ghost use Rattle.match_cover.specs.FoundView.{found_matches, found_offset};
-ghost use Rattle.match_cover.specs.Matches.{arm, below_arms, block_matches, expression_matches, IsDecisionOf};
+ghost use Rattle.match_cover.specs.FoundView.{found_offset};
+ghost use Rattle.match_cover.specs.Matches.{IsDecisionOf};
 
+use crate::matches::{Found, find_in_block};
 use crate::trees::{Tree, tree_of};
-use fip_base::plain::{NoMemory, Place};
-use fip_trees::program::{Block, Clause, Expression, Typed};
+use fip_base::plain::NoMemory;
+use fip_trees::program::Typed;
 use std::alloc::Global;
 
 /// The number of a match: matches are counted from 0 over the instances in their order, and in each body in the order
 /// of the text.
 #[derive(Clone, Copy, Debug, PartialEq, Eq)]
 pub struct MatchId(pub usize);
-
-// A match in a body.
-#[derive(Drop)]
-struct Found<'a> {
-    place: Place,
-    first: &'a Clause,
-    others: &'a [Clause],
-}
 
 /// The decision tree of the match with this number, in a program that `cover` accepts; none exactly where there is no
 /// such match, or its tree has more than 1,024 branches. An error where no memory is left.
@@ -48,58 +41,5 @@ fn sort(found: &mut Vec<Found<'_>>) -> Result<(), NoMemory>
     ensures sorted { OnOk result (IsNonDecreasingBy found_offset found.new.items) }
 {
     found.sort_by_key(|f| f.place.at)?;
-    Ok(())
-}
-
-// Appends the matches of a block.
-#[cycle(find)]
-fn find_in_block<'a>(block: &'a Block, found: &mut Vec<Found<'a>>) -> Result<(), NoMemory>
-    ensures { OnOk result (found_matches found.new.items ≡ found_matches found.old.items ++ block_matches block.now) }
-{
-    for binding in &block.bindings {
-        find_in_expression(&binding.bound, found)?;
-    }
-    find_in_expression(&block.last, found)
-}
-
-#[cycle(find)]
-fn find_in_expression<'a>(
-    expression: &'a Expression,
-    found: &mut Vec<Found<'a>>,
-) -> Result<(), NoMemory>
-    ensures { OnOk result (found_matches found.new.items ≡
-        found_matches found.old.items ++ expression_matches expression.now) }
-{
-    match expression {
-        Expression::Give(_) => Ok(()),
-        Expression::Tuple { .. } => Ok(()),
-        Expression::Operation { .. } => Ok(()),
-        Expression::Call { .. } => Ok(()),
-        Expression::Match {
-            place,
-            first,
-            others,
-            ..
-        } => {
-            found.push(Found {
-                place: *place,
-                first,
-                others,
-            })?;
-            find_in_block(&first.body, found)?;
-            find_in_bodies(others, found)
-        }
-        Expression::Nested(block) => find_in_block(block, found),
-    }
-}
-
-#[cycle(find)]
-fn find_in_bodies<'a>(clauses: &'a [Clause], found: &mut Vec<Found<'a>>) -> Result<(), NoMemory>
-    ensures { OnOk result (found_matches found.new.items ≡
-        found_matches found.old.items ++ below_arms (map arm clauses.now)) }
-{
-    for clause in clauses {
-        find_in_block(&clause.body, found)?;
-    }
     Ok(())
 }

@@ -1,9 +1,9 @@
 // The patterns of clauses without their names.
 ghost use Rattle.std.specs.Prelude.{◌≡◌, map, IfOk};
 ghost use Rattle.match_knowledge.specs.View.{row, rows};
-ghost use Rattle.match_cover.specs.PatternView.{erased, match_patterns};
+ghost use Rattle.match_cover.specs.PatternView.{erased, match_patterns, pattern_place};
 
-use fip_base::plain::NoMemory;
+use fip_base::plain::{NoMemory, Place};
 use fip_trees::program::{Clause, Pattern};
 use match_knowledge::{Head, Row};
 use std::alloc::Global;
@@ -59,4 +59,15 @@ pub fn clause_rows(alloc: Global, first: &Clause, others: &[Clause]) -> Result<V
         made.push(row_of(alloc, &clause.pattern)?)?;
     }
     Ok(made)
+}
+
+/// The place of a pattern's first token.
+pub fn place_of(pattern: &Pattern) -> Place
+    ensures { result ≡ pattern_place pattern.now }
+{
+    match pattern {
+        Pattern::Binder(binder) => binder.place,
+        Pattern::Literal { place, .. } => *place,
+        Pattern::Constructor { place, .. } => *place,
+    }
 }

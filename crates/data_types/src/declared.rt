@@ -1,9 +1,24 @@
 // The declarations of a program, or their least violation.
-use crate::bodies::Scope;
-use crate::headers::{check_header, type_parameters};
+ghost use Rattle.std.specs.Prelude.{◌≡◌, map, IfOk, IfErr, OnOk};
+ghost use Rattle.fip_language.specs.Declarations.{data_types};
+ghost use Rattle.fip_base.specs.CoreView as V;
+ghost use Rattle.fip_trees.specs.Least.{after};
+ghost use Rattle.fip_trees.specs.declared.least.Violation.{Violation};
+ghost use Rattle.data_types.specs.Answers.{IsWalked, Says, Violates, declared_row_names, value_faults};
+ghost use Rattle.data_types.specs.Declarations.{declarations, declared_names, row_names, written_names};
+ghost use Rattle.data_types.specs.Faults.{all_function_faults, function_faults};
+ghost use Rattle.data_types.specs.View as v;
+
+use crate::bits::is_true;
+use crate::bodies::check_block;
+use crate::headers::{
+    check_credits, check_header, check_parameter_names, check_static_names, type_parameters,
+};
 use crate::names::names_of;
+use crate::notes::note_if;
 use crate::types::types_of;
 use crate::valued::are_valued;
+use crate::written::Scope;
 use fip_base::core_form::{Core, Data, Function};
 use fip_base::plain::NoMemory;
 use fip_base::refusal::{PhaseError, Rule};
@@ -11,9 +26,28 @@ use fip_trees::decls::{DeclaredNames, DeclaredType, Decls};
 use fip_trees::least::Least;
 use std::alloc::Global;
 
-/// What a program declares. The least violation of E10 to E15 and E63 where there is one; want of memory also where the
-/// search for types without a value (E13) would keep more than a program needs that isn't made to fill memory.
-pub fn declare<'a>(alloc: Global, core: &'a Core) -> Result<Decls<'a>, PhaseError> {
+/// What a program declares: its names, and its data types with bool before them. It is refused by the least violation of
+/// these rules:
+///
+/// - E10: a second data type, constructor or function of a name, or a second type parameter, static parameter or
+///   parameter of a name in one header;
+/// - E11: a type that is written has an unknown name;
+/// - E12: it has more or fewer arguments than type parameters;
+/// - E13: a data type has no finite value;
+/// - E14: a constructor has more than 16 fields;
+/// - E15: an expression or a pattern names an unknown constructor;
+/// - E63: a header has a credit of a size that no cell has, or more than 16 credits.
+///
+/// An error also where no memory is left, and where the search for types without a value (E13) would keep more than
+/// `MOST_KEPT`, which a program needs only where it is made to fill memory.
+pub fn declare<'a>(alloc: Global, core: &'a Core) -> Result<Decls<'a>, PhaseError>
+    ensures accepted { IfOk result (λ d. (w : Violation) → Violates (V.core core.now) w → ⊥) }
+    ensures names { IfOk result (λ d. d.names ≡ written_names (V.core core.now)) }
+    ensures types { IfOk result (λ d. v.declarations d.types.items ≡ declarations (V.core core.now)) }
+    ensures constructors { IfOk result (λ d. map declared_row_names d.types.items ≡
+        map row_names (data_types (V.core core.now))) }
+    ensures least { IfErr result (λ e. Says (V.core core.now) e) }
+{
     let mut least = Least::new(alloc);
     match declarations(alloc, core, &mut least) {
         Err(NoMemory) => Err(PhaseError::NoMemory),
@@ -25,47 +59,76 @@ pub fn declare<'a>(alloc: Global, core: &'a Core) -> Result<Decls<'a>, PhaseErro
 }
 
 // The declarations, in which a name that is declared twice means its first one; notes all violations.
-fn declarations<'a>(
-    alloc: Global,
-    core: &'a Core,
-    least: &mut Least,
-) -> Result<Decls<'a>, NoMemory> {
+#[tactic(auto, using(crate::proofs::Shared::noting))]
+fn declarations<'a>(alloc: Global, core: &'a Core, least: &mut Least) -> Result<Decls<'a>, NoMemory>
+    ensures names { IfOk result (λ d. d.names ≡ declared_names (V.core core.now)) }
+    ensures types { IfOk result (λ d. v.declarations d.types.items ≡ declarations (V.core core.now)) }
+    ensures constructors { IfOk result (λ d. map declared_row_names d.types.items ≡
+        map row_names (data_types (V.core core.now))) }
+    ensures faults { OnOk result (IsWalked (V.core core.now) least.old least.new) }
+{
     let names = names_of(alloc, core, least)?;
     let types = types_of(alloc, &names, &core.types, least)?;
-    check_values(alloc, &core.types, &types, least)?;
-    for function in &core.functions {
-        check_function(alloc, &names, function, least)?;
-    }
+    check_functions(alloc, &names, &core.functions, least)?;
+    let valued = are_valued(alloc, &types)?;
+    note_unvalued(&core.types, &valued, least)?;
     Ok(Decls { names, types })
 }
 
-// A data type without a finite value is E13. The first of the types is bool.
-fn check_values(
-    alloc: Global,
-    declared: &[Data],
-    types: &[DeclaredType<'_>],
-    least: &mut Least,
-) -> Result<(), NoMemory> {
-    let valued = are_valued(alloc, types)?;
-    for (data, is_valued) in declared.iter().zip(valued.iter().skip(1)) {
-        if !*is_valued {
-            least.note(Rule::E13, data.place, 0, 0, data.name.as_slice())?;
-        }
+// A data type without a finite value is E13. The first of the flags is that of bool.
+fn note_unvalued(declared: &[Data], valued: &[bool], least: &mut Least) -> Result<(), NoMemory>
+    ensures { OnOk result (least.new ≡
+        after least.old (value_faults 1 valued.now (map V.data_type declared.now))) }
+{
+    let mut place = 1;
+    for data in declared {
+        let is_broken = !is_true(valued, place);
+        note_if(
+            least,
+            is_broken,
+            Rule::E13,
+            data.place,
+            data.name.as_slice(),
+        )?;
+        place += 1;
     }
     Ok(())
 }
 
-fn check_function<'a>(
+#[tactic(auto, using(crate::proofs::Shared::noting))]
+fn check_functions(
     alloc: Global,
-    names: &DeclaredNames<'a>,
-    function: &'a Function,
+    names: &DeclaredNames<'_>,
+    functions: &[Function],
     least: &mut Least,
-) -> Result<(), NoMemory> {
+) -> Result<(), NoMemory>
+    ensures { OnOk result (least.new ≡
+        after least.old (all_function_faults names.now (map V.function functions.now))) }
+{
+    for function in functions {
+        check_function(alloc, names, function, least)?;
+    }
+    Ok(())
+}
+
+#[tactic(auto, using(crate::proofs::Shared::noting))]
+fn check_function(
+    alloc: Global,
+    names: &DeclaredNames<'_>,
+    function: &Function,
+    least: &mut Least,
+) -> Result<(), NoMemory>
+    ensures { OnOk result (least.new ≡ after least.old (function_faults names.now (V.function function.now))) }
+{
+    check_credits(&function.credits, least)?;
+    check_static_names(alloc, &function.statics, least)?;
+    check_parameter_names(alloc, &function.parameters, least)?;
     let parameters = type_parameters(alloc, &function.statics)?;
-    check_header(alloc, names, &parameters, function, least)?;
     let scope = Scope {
         names,
         parameters: &parameters,
     };
-    scope.check_block(alloc, &function.body, least)
+    check_header(alloc, &scope, function, least)?;
+    check_block(alloc, &scope, &function.body, least)?;
+    Ok(())
 }

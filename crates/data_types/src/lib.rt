@@ -7,6 +7,7 @@ mod declared;
 mod headers;
 mod marking;
 mod names;
+mod notes;
 mod order;
 mod types;
 mod valued;

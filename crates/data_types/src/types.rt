@@ -1,29 +1,56 @@
 // The data types of a program, the names in their fields looked up.
-use crate::names::{note_twice, number_at};
-use crate::written::{TypeParameters, look_up_all};
-use fip_base::core_form::{Data, TypeName};
+ghost use Rattle.std.specs.Prelude.{◌≡◌, [], ◌∷◌, length, map, IfOk, OnOk};
+ghost use Rattle.fip_language.specs.Declarations.{bool_type};
+ghost use Rattle.fip_base.specs.CoreView as V;
+ghost use Rattle.fip_trees.specs.Least.{after};
+ghost use Rattle.fip_trees.specs.Names.{with_meanings};
+ghost use Rattle.data_types.specs.Answers.{declared_row_names};
+ghost use Rattle.data_types.specs.Declarations.{constructor_fields, constructor_name, data_declared};
+ghost use Rattle.data_types.specs.Declarations.{parameter_meanings, row_names};
+ghost use Rattle.data_types.specs.Faults.{data_faults, field_faults, repeats, size_faults, type_name_mentions};
+ghost use Rattle.data_types.specs.Faults.{all_data_faults};
+ghost use Rattle.data_types.specs.Types.{NoTys};
+ghost use Rattle.data_types.specs.View as v;
+
+use crate::names::next;
+use crate::notes::note_if;
+use crate::written::{Scope, TypeParameters};
+use fip_base::core_form::{Data, DataConstructor, TypeName};
 use fip_base::plain::NoMemory;
+use fip_base::refusal::Rule;
 use fip_trees::decls::{DeclaredConstructor, DeclaredNames, DeclaredType};
 use fip_trees::least::Least;
-use indexmap::IndexMap;
+use fip_trees::limits::MOST_FIELDS;
+use fip_trees::meanings::Meanings;
 use std::alloc::Global;
 
-/// Bool, and behind it the data types of a program in text order; notes their violations of E10, E11 and E12.
+/// Bool, and behind it the data types of a program in text order; notes their violations of E10 to E12 and E14.
+#[tactic(auto, using(crate::proofs::Shared::noting))]
 pub fn types_of<'a>(
     alloc: Global,
     names: &DeclaredNames<'a>,
     declared: &'a [Data],
     least: &mut Least,
-) -> Result<Vec<DeclaredType<'a>>, NoMemory> {
+) -> Result<Vec<DeclaredType<'a>>, NoMemory>
+    ensures types { IfOk result (λ ts. v.declarations ts.items ≡
+        map (data_declared names.now) (bool_type ∷ map V.data_type declared.now)) }
+    ensures names { IfOk result (λ ts. map declared_row_names ts.items ≡
+        map row_names (bool_type ∷ map V.data_type declared.now)) }
+    ensures faults { OnOk result (least.new ≡
+        after least.old (all_data_faults names.now (map V.data_type declared.now))) }
+{
     let mut types = Vec::new(alloc);
-    types.push(bool_type(alloc)?)?;
+    types.push(declared_bool(alloc)?)?;
     for data in declared {
         types.push(type_of(alloc, names, data, least)?)?;
     }
     Ok(types)
 }
 
-fn bool_type<'a>(alloc: Global) -> Result<DeclaredType<'a>, NoMemory> {
+fn declared_bool<'a>(alloc: Global) -> Result<DeclaredType<'a>, NoMemory>
+    ensures declared { IfOk result (λ t. v.declared t ≡ record { arity = 0; constructors = NoTys ∷ NoTys ∷ [] }) }
+    ensures names { IfOk result (λ t. declared_row_names t ≡ row_names bool_type) }
+{
     let mut constructors = Vec::new(alloc);
     constructors.push(DeclaredConstructor {
         name: b"False",
@@ -44,37 +71,97 @@ fn parameters_of<'a>(
     alloc: Global,
     list: &'a [TypeName],
     least: &mut Least,
-) -> Result<TypeParameters<'a>, NoMemory> {
-    let mut parameters = IndexMap::new(alloc);
-    for (i, parameter) in list.iter().enumerate() {
+) -> Result<TypeParameters<'a>, NoMemory>
+    ensures parameters { IfOk result (λ ps. ps ≡
+        with_meanings [] (parameter_meanings 0 (map V.type_name list.now))) }
+    ensures faults { OnOk result (least.new ≡
+        after least.old (repeats [] (type_name_mentions (map V.type_name list.now)))) }
+{
+    let mut parameters = Meanings::new(alloc);
+    let mut number = 0;
+    for parameter in list {
         let name = parameter.name.as_slice();
-        let is_new = !parameters.contains_key(&name);
-        if is_new {
-            parameters.insert(name, number_at(i)?)?;
-        }
-        note_twice(least, is_new, name, parameter.place)?;
+        let is_new = parameters.add(name, number)?;
+        note_if(least, !is_new, Rule::E10, parameter.place, name)?;
+        number = next(number)?;
     }
     Ok(parameters)
 }
 
+#[tactic(auto, using(crate::proofs::Shared::noting))]
 fn type_of<'a>(
     alloc: Global,
     names: &DeclaredNames<'a>,
-    data: &'a Data,
+    written: &'a Data,
     least: &mut Least,
-) -> Result<DeclaredType<'a>, NoMemory> {
-    let arity = number_at(data.parameters.len())?;
-    let parameters = parameters_of(alloc, &data.parameters, least)?;
+) -> Result<DeclaredType<'a>, NoMemory>
+    ensures declared { IfOk result (λ t. v.declared t ≡ data_declared names.now (V.data_type written.now)) }
+    ensures names { IfOk result (λ t. declared_row_names t ≡ row_names (V.data_type written.now)) }
+    ensures faults { OnOk result (least.new ≡ after least.old (data_faults names.now (V.data_type written.now))) }
+{
+    let parameters = parameters_of(alloc, &written.parameters, least)?;
+    let scope = Scope {
+        names,
+        parameters: &parameters,
+    };
+    let constructors = constructors_of(alloc, &scope, &written.constructors, least)?;
+    note_sizes(&written.constructors, least)?;
+    Ok(DeclaredType {
+        arity: arity_of(&written.parameters)?,
+        constructors,
+    })
+}
+
+// How many type parameters there are; never more than memory holds.
+fn arity_of(parameters: &[TypeName]) -> Result<u32, NoMemory>
+    ensures { IfOk result (λ n. n ≡ length parameters.now) }
+{
+    match u32::try_from(parameters.len()) {
+        Ok(arity) => Ok(arity),
+        Err(_) => Err(NoMemory),
+    }
+}
+
+#[tactic(auto, using(crate::proofs::Shared::noting))]
+fn constructors_of<'a>(
+    alloc: Global,
+    scope: &Scope<'_, 'a>,
+    list: &'a [DataConstructor],
+    least: &mut Least,
+) -> Result<Vec<DeclaredConstructor<'a>>, NoMemory>
+    ensures fields { IfOk result (λ ks. map v.fields ks.items ≡
+        map (constructor_fields scope.now) (map V.data_constructor list.now)) }
+    ensures names { IfOk result (λ ks. map (λ k. k.name.now) ks.items ≡
+        map constructor_name (map V.data_constructor list.now)) }
+    ensures faults { OnOk result (least.new ≡
+        after least.old (field_faults scope.now (map V.data_constructor list.now))) }
+{
     let mut constructors = Vec::new(alloc);
-    for constructor in &data.constructors {
-        let fields = look_up_all(alloc, names, &parameters, &constructor.fields, least)?;
+    for constructor in list {
+        let fields = scope.look_up_all(alloc, &constructor.fields, least)?;
         constructors.push(DeclaredConstructor {
             name: constructor.name.as_slice(),
             fields,
         })?;
     }
-    Ok(DeclaredType {
-        arity,
-        constructors,
-    })
+    Ok(constructors)
+}
+
+// A constructor with more fields than a cell has is E14.
+#[tactic(auto, using(crate::proofs::Shared::noting))]
+fn note_sizes(constructors: &[DataConstructor], least: &mut Least) -> Result<(), NoMemory>
+    ensures { OnOk result (least.new ≡
+        after least.old (size_faults (map V.data_constructor constructors.now))) }
+{
+    for constructor in constructors {
+        let is_broken = MOST_FIELDS < constructor.fields.len();
+        note_if(
+            least,
+            is_broken,
+            Rule::E14,
+            constructor.place,
+            constructor.name.as_slice(),
+        )?;
+    }
+    Ok(())
 }

@@ -1,94 +1,148 @@
 // Types as they are written, their names looked up.
+ghost use Rattle.std.specs.Prelude.{◌≡◌, None, Some, IfOk, OnOk};
+ghost use Rattle.fip_base.specs.CoreView as V;
+ghost use Rattle.fip_trees.specs.Least.{after};
+ghost use Rattle.fip_trees.specs.Names.{meaning};
+ghost use Rattle.data_types.specs.Declarations.{all_looked_up, count_tys, looked_up, meant};
+ghost use Rattle.data_types.specs.Faults.{use_faults, written_faults, writtens_faults};
+ghost use Rattle.data_types.specs.View as v;
+
+use crate::notes::note;
 use fip_base::core_form::Written;
 use fip_base::plain::{NoMemory, Place};
 use fip_base::refusal::Rule;
-use fip_trees::decls::{DeclaredNames, FieldType};
+use fip_trees::decls::{DeclaredNames, FieldType, TypeHead};
 use fip_trees::least::Least;
-use indexmap::IndexMap;
+use fip_trees::meanings::Meanings;
 use std::alloc::Global;
+use std::marker::Model;
 
 /// The type parameters that are in scope, each with its number.
-pub type TypeParameters<'a> = IndexMap<&'a [u8], u32>;
+pub type TypeParameters<'a> = Meanings<'a, u32>;
 
-/// A type, its names looked up; notes its violations of E11 and E12. A part that breaks one counts as int, so that a
-/// rule on values asks nothing of it.
-#[cycle(written)]
-pub fn look_up<'a>(
-    alloc: Global,
-    names: &DeclaredNames<'a>,
-    parameters: &TypeParameters<'a>,
-    written: &Written,
-    least: &mut Least,
-) -> Result<FieldType, NoMemory> {
-    match written {
-        Written::Int(_) => Ok(FieldType::Int),
-        Written::Named {
-            name,
-            place,
-            arguments,
-        } => {
-            let found = look_up_all(alloc, names, parameters, arguments, least)?;
-            let name = name.as_slice();
-            match number_of(parameters, name) {
-                Some(number) => parameter(number, name, *place, found, least),
-                None => data_type(names, name, *place, found, least),
+/// What may be mentioned at a place: the names of the program, and the type parameters around.
+#[derive(Drop)]
+pub struct Scope<'s, 'a> {
+    pub names: &'s DeclaredNames<'a>,
+    pub parameters: &'s TypeParameters<'a>,
+}
+
+impl<'s, 'a> Model for Scope<'s, 'a> {
+    ghost use Rattle.data_types.specs.Declarations as d;
+
+    ghost Value = { d.Scope };
+
+    ghost view = { λ s. record { names = s.names.now; parameters = s.parameters.now } };
+}
+
+impl<'s, 'a> Scope<'s, 'a> {
+    /// A type, its names looked up; notes its violations of E11 and E12. A part that breaks one counts as int, so that a
+    /// rule on values asks nothing of it.
+    #[cycle(written)]
+    #[tactic(auto, using(crate::proofs::Shared::noting, crate::proofs::Shared::counting))]
+    pub fn look_up(
+        &self,
+        alloc: Global,
+        written: &Written,
+        least: &mut Least,
+    ) -> Result<FieldType, NoMemory>
+        ensures found { IfOk result (λ ty. v.ty ty ≡ looked_up self.now (V.written written.now)) }
+        ensures faults { OnOk result (least.new ≡ after least.old (written_faults self.now (V.written written.now))) }
+    {
+        match written {
+            Written::Int(_) => Ok(FieldType::Int),
+            Written::Named {
+                name,
+                place,
+                arguments,
+            } => {
+                let found = self.look_up_all(alloc, arguments, least)?;
+                self.meant(name.as_slice(), *place, found, least)
             }
+        }
+    }
+
+    /// The same of each type of a list.
+    #[cycle(written)]
+    #[tactic(auto, using(crate::proofs::Shared::noting))]
+    pub fn look_up_all(
+        &self,
+        alloc: Global,
+        list: &[Written],
+        least: &mut Least,
+    ) -> Result<Vec<FieldType>, NoMemory>
+        ensures found { IfOk result (λ tys. v.tys tys.items ≡ all_looked_up self.now (V.writtens list.now)) }
+        ensures faults { OnOk result (least.new ≡ after least.old (writtens_faults self.now (V.writtens list.now))) }
+    {
+        let mut found = Vec::new(alloc);
+        for written in list {
+            found.push(self.look_up(alloc, written, least)?)?;
+        }
+        Ok(found)
+    }
+
+    // What a name with arguments means.
+    fn meant(
+        &self,
+        name: &[u8],
+        place: Place,
+        arguments: Vec<FieldType>,
+        least: &mut Least,
+    ) -> Result<FieldType, NoMemory>
+        ensures found { IfOk result (λ ty. v.ty ty ≡ meant (meaning name.now self.now.parameters)
+            (meaning name.now self.now.names.types) (v.tys arguments.items)) }
+        ensures faults { OnOk result (least.new ≡ after least.old (use_faults (meaning name.now self.now.parameters)
+            (meaning name.now self.now.names.types) name.now place (count_tys (v.tys arguments.items)))) }
+    {
+        match self.parameters.find(name) {
+            Some(number) => parameter(number, name, place, &arguments, least),
+            None => match self.names.find_type(name) {
+                Some(head) => applied(head, name, place, arguments, least),
+                None => {
+                    note(least, Rule::E11, place, name)?;
+                    Ok(FieldType::Int)
+                }
+            },
         }
     }
 }
 
-/// The same of each type of a list.
-#[cycle(written)]
-pub fn look_up_all<'a>(
-    alloc: Global,
-    names: &DeclaredNames<'a>,
-    parameters: &TypeParameters<'a>,
-    list: &[Written],
-    least: &mut Least,
-) -> Result<Vec<FieldType>, NoMemory> {
-    let mut found = Vec::new(alloc);
-    for written in list {
-        found.push(look_up(alloc, names, parameters, written, least)?)?;
-    }
-    Ok(found)
-}
-
-// The number of the type parameter of a name; none where no type parameter has it.
-fn number_of(parameters: &TypeParameters<'_>, name: &[u8]) -> Option<u32> {
-    parameters.get(&name).copied()
-}
-
 // A type parameter has no arguments.
+#[tactic(auto, using(crate::proofs::Shared::counting))]
 fn parameter(
     number: u32,
     name: &[u8],
     place: Place,
-    arguments: Vec<FieldType>,
+    arguments: &[FieldType],
     least: &mut Least,
-) -> Result<FieldType, NoMemory> {
+) -> Result<FieldType, NoMemory>
+    ensures found { IfOk result (λ ty. v.ty ty ≡ meant (Some number) None (v.tys arguments.now)) }
+    ensures faults { OnOk result (least.new ≡
+        after least.old (use_faults (Some number) None name.now place (count_tys (v.tys arguments.now)))) }
+{
     if arguments.is_empty() {
         return Ok(FieldType::Parameter(number));
     }
-    least.note(Rule::E12, place, 0, 0, name)?;
+    note(least, Rule::E12, place, name)?;
     Ok(FieldType::Int)
 }
 
 // A data type has as many arguments as type parameters.
-fn data_type(
-    names: &DeclaredNames<'_>,
+#[tactic(auto, using(crate::proofs::Shared::counting))]
+fn applied(
+    head: TypeHead,
     name: &[u8],
     place: Place,
     arguments: Vec<FieldType>,
     least: &mut Least,
-) -> Result<FieldType, NoMemory> {
-    match names.find_type(name) {
-        None => least.note(Rule::E11, place, 0, 0, name)?,
-        Some(head) => {
-            if head.arity == arguments.len() {
-                return Ok(FieldType::Applied(head.number, arguments));
-            }
-            least.note(Rule::E12, place, 0, 0, name)?;
-        }
+) -> Result<FieldType, NoMemory>
+    ensures found { IfOk result (λ ty. v.ty ty ≡ meant None (Some head) (v.tys arguments.items)) }
+    ensures faults { OnOk result (least.new ≡
+        after least.old (use_faults None (Some head) name.now place (count_tys (v.tys arguments.items)))) }
+{
+    if head.arity == arguments.len() {
+        return Ok(FieldType::Applied(head.number, arguments));
     }
+    note(least, Rule::E12, place, name)?;
     Ok(FieldType::Int)
 }

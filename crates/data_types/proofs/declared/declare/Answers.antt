@@ -1,0 +1,14 @@
+use Rattle.std.proofs.Common.{◌∙◌, sym, subst}
+use Rattle.fip_base.specs.CoreView.{core}
+use Rattle.data_types.specs.Answers.{IsWalked}
+use Rattle.data_types.proofs.Exact.{refused, accepted, accepted_names}
+use Rattle.data_types.proofs.declared.declare.Goals as goal
+
+pub returns-in-Some-clause-least : goal.returns-in-Some-clause-least
+returns-in-Some-clause-least c = refused (core c.args.core.now) c.declarations.new.least c.in-Some.refusal (subst (λ o. IsWalked (core c.args.core.now) o c.declarations.new.least) c.new-least.ensures.none c.in-Ok.ensures.faults) (sym c.into_refusal.ensures.least ∙ c.in-Some.is)
+
+pub returns-clause-accepted : goal.returns-clause-accepted
+returns-clause-accepted c = accepted (core c.args.core.now) c.declarations.new.least (subst (λ o. IsWalked (core c.args.core.now) o c.declarations.new.least) c.new-least.ensures.none c.in-Ok.ensures.faults) (sym c.into_refusal.ensures.least ∙ c.in-None.is)
+
+pub returns-clause-names : goal.returns-clause-names
+returns-clause-names c = c.in-Ok.ensures.names ∙ accepted_names (core c.args.core.now) c.declarations.new.least (subst (λ o. IsWalked (core c.args.core.now) o c.declarations.new.least) c.new-least.ensures.none c.in-Ok.ensures.faults) (sym c.into_refusal.ensures.least ∙ c.in-None.is)

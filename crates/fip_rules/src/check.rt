@@ -1,5 +1,16 @@
 // The rules on ownership, over all instances.
-use crate::scope::Mark;
+ghost use Rattle.std.specs.Prelude.{◌≡◌, None, map, drop, IfOk, IfErr, OnOk};
+ghost use Rattle.fip_trees.specs.Least.{after};
+ghost use Rattle.fip_trees.specs.TreeView as V;
+ghost use Rattle.fip_trees.specs.declared.least.Violation.{Violation};
+ghost use Rattle.fip_rules.specs.Checks.{Violates, Says};
+ghost use Rattle.fip_rules.specs.Marks.{told};
+ghost use Rattle.fip_rules.specs.Noted.{instance_notes, all_notes, program_notes, first_parameter};
+ghost use Rattle.fip_rules.specs.Shapes.{parameters};
+ghost use Rattle.fip_rules.specs.Stands.{entered_all};
+ghost use Rattle.fip_rules.specs.Views.{flag, world_of};
+ghost use Rattle.fip_rules.specs.World as W;
+
 use crate::state::State;
 use crate::walk::block;
 use crate::world::World;
@@ -14,7 +25,7 @@ use std::alloc::Global;
 /// A path takes one clause at each match. An argument in a borrowed position and the scrutinee of a `match` are lent,
 /// each other occurrence of a variable uses it up.
 ///
-/// Refused, for the least violation by place, rule and instance:
+/// Refused exactly where one of these rules is broken, for the least violation by place, rule, instance and name:
 /// - E50: an owned variable is used up with an earlier use on a path through both.
 /// - E51: it is lent with an earlier use on a path through both.
 /// - E52: in a fip instance, some path through its scope doesn't use it up.
@@ -24,7 +35,10 @@ use std::alloc::Global;
 /// - E55: a call of a weaker kind.
 ///
 /// NoMemory: no memory is left.
-pub fn check_owned(alloc: Global, typed: &Typed) -> Result<(), PhaseError> {
+pub fn check_owned(alloc: Global, typed: &Typed) -> Result<(), PhaseError>
+    ensures owned { IfOk result (λ _. (v : Violation) → Violates (V.program typed.now.program) v → ⊥) }
+    ensures least { IfErr result (λ e. Says (V.program typed.now.program) e) }
+{
     match check_all(alloc, &typed.program) {
         Err(NoMemory) => Err(PhaseError::NoMemory),
         Ok(least) => match least.into_refusal() {
@@ -35,16 +49,34 @@ pub fn check_owned(alloc: Global, typed: &Typed) -> Result<(), PhaseError> {
 }
 
 // The least violation.
-fn check_all(alloc: Global, program: &Program) -> Result<Least, NoMemory> {
+fn check_all(alloc: Global, program: &Program) -> Result<Least, NoMemory>
+    ensures { IfOk result (λ l. l ≡ after None (map told (program_notes (V.program program.now)))) }
+{
     let scalars = Scalars::of(alloc, &program.types)?;
+    let least = check_instances(alloc, &scalars, &program.instances)?;
+    Ok(least)
+}
+
+// The least violation in some instances, whose scalar types are these.
+#[tactic(auto, using(crate::proofs::Shared::noting))]
+fn check_instances(
+    alloc: Global,
+    scalars: &Scalars,
+    instances: &[Instance],
+) -> Result<Least, NoMemory>
+    ensures { IfOk result (λ l. l ≡ after None (map told
+        (all_notes (flag scalars.now) (V.instances instances.now) 0 (V.instances instances.now)))) }
+{
     let mut least = Least::new(alloc);
-    for (number, instance) in program.instances.iter().enumerate() {
+    let mut number = 0;
+    for instance in instances {
         let world = World {
-            instances: program.instances.as_slice(),
-            scalars: &scalars,
+            instances,
+            scalars,
             kind: instance.kind,
         };
         least = check_instance(alloc, &world, number, instance, least)?;
+        number += 1;
     }
     Ok(least)
 }
@@ -56,36 +88,78 @@ fn check_instance(
     number: usize,
     instance: &Instance,
     least: Least,
-) -> Result<Least, NoMemory> {
-    if instance.kind == FunKind::Fun {
+) -> Result<Least, NoMemory>
+    requires { world.now.kind ≡ instance.now.kind }
+    ensures { IfOk result (λ l. l ≡
+        after least (map told (instance_notes (world_of world.now) number (V.instance_of instance.now)))) }
+{
+    if !is_ruled(instance.kind) {
         return Ok(least);
     }
-    let mut state = State::new(alloc, number, instance.kind == FunKind::Fip, least);
+    let mut state = State::new(alloc, number, is_fip(instance.kind), least);
     bind_parameters(
         &mut state,
         world,
-        &instance.binders,
         instance.params.as_slice(),
+        &instance.binders,
     )?;
     block(&mut state, world, &instance.body)?;
     state.leave(0)?;
     Ok(state.into_least())
 }
 
+fn is_fip(kind: FunKind) -> bool
+    ensures { result ≡ W.is_fip kind }
+{
+    match kind {
+        FunKind::Fip => true,
+        FunKind::Fbip => false,
+        FunKind::Fun => false,
+    }
+}
+
+// Whether the rules speak of instances of a kind.
+fn is_ruled(kind: FunKind) -> bool
+    ensures { result ≡ W.is_ruled kind }
+{
+    match kind {
+        FunKind::Fip => true,
+        FunKind::Fbip => true,
+        FunKind::Fun => false,
+    }
+}
+
 // The parameters come into scope.
 fn bind_parameters<'a>(
     state: &mut State<'a>,
     world: &World<'_>,
-    binders: &'a [Binder],
     params: &[Param],
-) -> Result<(), NoMemory> {
-    for (binder, param) in binders.iter().zip(params.iter()) {
-        let mark = Mark {
-            number: binder.number,
-            place: binder.place,
-            name: binder.name.as_slice(),
-        };
-        state.enter(world.ownership(!param.lent, param.ty), mark)?;
+    binders: &'a [Binder],
+) -> Result<(), NoMemory>
+    ensures { OnOk result (state.new ≡ entered_all state.old (parameters (world_of world.now) params.now binders.now)) }
+{
+    let mut place = 0;
+    for binder in binders {
+        bind_parameter(state, world, params, place, binder)?;
+        place += 1;
+    }
+    Ok(())
+}
+
+// The binder of the parameter in this place comes into scope, if there is one.
+fn bind_parameter<'a>(
+    state: &mut State<'a>,
+    world: &World<'_>,
+    params: &[Param],
+    place: usize,
+    binder: &'a Binder,
+) -> Result<(), NoMemory>
+    ensures { OnOk result (state.new ≡
+        entered_all state.old (first_parameter (world_of world.now) (drop place params.now) binder.now)) }
+{
+    if place < params.len() {
+        let param = params[place];
+        state.enter(world.ownership(!param.lent, param.ty), binder)?;
     }
     Ok(())
 }

@@ -1,37 +1,41 @@
 // One walk over the body of an instance, in the order of the core form: what is bound before what follows, arguments
 // from left to right.
-use crate::scope::Mark;
+ghost use Rattle.std.specs.Prelude.{◌≡◌, true, not, OnOk, IfOk};
+ghost use Rattle.fip_trees.specs.TreeView as V;
+ghost use Rattle.fip_rules.specs.Shape as S;
+ghost use Rattle.fip_rules.specs.Shapes.{owning, owning_all, lending, passing, passing_all, called, taking, binders};
+ghost use Rattle.fip_rules.specs.Shapes.{binders_all, clause_shape, shape, shape_block};
+ghost use Rattle.fip_rules.specs.Stands.{marks, names, go, went, entered_all, others};
+ghost use Rattle.fip_rules.specs.Views.{world_of};
+
 use crate::state::{Kept, State, Ways};
 use crate::world::World;
-use fip_base::core_form::MatchKind;
 use fip_base::plain::{NoMemory, Place};
 use fip_base::refusal::Rule;
 use fip_trees::program::{Argument, Binder, Binding, Block, Clause, Expression, Pattern};
 
 // An argument in an owned position.
-fn own<'a>(state: &mut State<'a>, argument: &'a Argument) -> Result<(), NoMemory> {
+#[cycle(argument)]
+#[tactic(auto, using(crate::proofs::Laws::going))]
+fn own<'a>(state: &mut State<'a>, argument: &'a Argument) -> Result<(), NoMemory>
+    ensures { OnOk result (state.new ≡ go state.old (owning (marks state.old) (V.argument argument.now))) }
+{
     match argument {
         Argument::Variable {
-            binder: Some(number),
+            binder,
             name,
             place,
-        } => state.own(&Mark {
-            number: *number,
-            place: *place,
-            name: name.as_slice(),
-        }),
-        Argument::Variable { binder: None, .. } => Ok(()),
+        } => state.own(*binder, *place, name.as_slice()),
         Argument::Literal { .. } => Ok(()),
-        Argument::Constructor { arguments, .. } => {
-            for part in arguments {
-                own(state, part)?;
-            }
-            Ok(())
-        }
+        Argument::Constructor { arguments, .. } => own_all(state, arguments),
     }
 }
 
-fn own_all<'a>(state: &mut State<'a>, arguments: &'a [Argument]) -> Result<(), NoMemory> {
+#[cycle(argument)]
+#[tactic(auto, using(crate::proofs::Laws::going))]
+fn own_all<'a>(state: &mut State<'a>, arguments: &'a [Argument]) -> Result<(), NoMemory>
+    ensures { OnOk result (state.new ≡ go state.old (owning_all (marks state.old) (V.arguments arguments.now))) }
+{
     for argument in arguments {
         own(state, argument)?;
     }
@@ -39,22 +43,21 @@ fn own_all<'a>(state: &mut State<'a>, arguments: &'a [Argument]) -> Result<(), N
 }
 
 // An argument in a borrowed position. E54: it is a constructor of a type that isn't scalar.
+#[tactic(auto, using(crate::proofs::Laws::going))]
 fn lend<'a>(
     state: &mut State<'a>,
     world: &World<'_>,
     argument: &'a Argument,
-) -> Result<(), NoMemory> {
+) -> Result<(), NoMemory>
+    ensures { OnOk result (state.new ≡
+        go state.old (lending (world_of world.now) (marks state.old) (V.argument argument.now))) }
+{
     match argument {
         Argument::Variable {
-            binder: Some(number),
+            binder,
             name,
             place,
-        } => state.lend(&Mark {
-            number: *number,
-            place: *place,
-            name: name.as_slice(),
-        }),
-        Argument::Variable { binder: None, .. } => Ok(()),
+        } => state.lend(*binder, *place, name.as_slice()),
         Argument::Literal { .. } => Ok(()),
         Argument::Constructor {
             ty,
@@ -67,7 +70,8 @@ fn lend<'a>(
                 return Ok(());
             }
             state.fault(Rule::E54, *place, name.as_slice())?;
-            own_all(state, arguments)
+            own_all(state, arguments)?;
+            Ok(())
         }
     }
 }
@@ -78,7 +82,10 @@ fn pass<'a>(
     world: &World<'_>,
     is_lent: bool,
     argument: &'a Argument,
-) -> Result<(), NoMemory> {
+) -> Result<(), NoMemory>
+    ensures { OnOk result (state.new ≡
+        go state.old (passing (world_of world.now) (marks state.old) is_lent (V.argument argument.now))) }
+{
     if is_lent {
         lend(state, world, argument)
     } else {
@@ -87,19 +94,41 @@ fn pass<'a>(
 }
 
 // The arguments of a call.
+#[tactic(auto, using(crate::proofs::Laws::going))]
 fn pass_all<'a>(
     state: &mut State<'a>,
     world: &World<'_>,
     callee: u32,
     arguments: &'a [Argument],
-) -> Result<(), NoMemory> {
-    for (place, argument) in arguments.iter().enumerate() {
+) -> Result<(), NoMemory>
+    ensures { OnOk result (state.new ≡
+        go state.old (passing_all (world_of world.now) (marks state.old) callee 0 (V.arguments arguments.now))) }
+{
+    let mut place = 0;
+    for argument in arguments {
         pass(state, world, world.lends(callee, place), argument)?;
+        place += 1;
     }
     Ok(())
 }
 
-// A call. E55: the callee is of a weaker kind.
+// The callee of a call. E55: it is of a weaker kind.
+#[tactic(auto, using(crate::proofs::Laws::going))]
+fn note_callee(
+    state: &mut State<'_>,
+    world: &World<'_>,
+    callee: u32,
+    place: Place,
+    name: &[u8],
+) -> Result<(), NoMemory>
+    ensures { OnOk result (state.new ≡ go state.old (called (world_of world.now) callee place name.now)) }
+{
+    if world.is_weaker(callee) {
+        state.fault(Rule::E55, place, name)?;
+    }
+    Ok(())
+}
+
 fn call<'a>(
     state: &mut State<'a>,
     world: &World<'_>,
@@ -107,73 +136,86 @@ fn call<'a>(
     place: Place,
     name: &[u8],
     arguments: &'a [Argument],
-) -> Result<(), NoMemory> {
-    if world.is_weaker(callee) {
-        state.fault(Rule::E55, place, name)?;
-    }
-    pass_all(state, world, callee, arguments)
+) -> Result<(), NoMemory>
+    ensures { OnOk result (state.new ≡ go state.old (S.Then (called (world_of world.now) callee place name.now)
+        (passing_all (world_of world.now) (marks state.old) callee 0 (V.arguments arguments.now)))) }
+{
+    note_callee(state, world, callee, place, name)?;
+    pass_all(state, world, callee, arguments)?;
+    Ok(())
 }
 
 fn operation<'a>(
     state: &mut State<'a>,
     left: &'a Argument,
     right: &'a Argument,
-) -> Result<(), NoMemory> {
+) -> Result<(), NoMemory>
+    ensures { OnOk result (state.new ≡ go state.old (S.Then (owning (marks state.old) (V.argument left.now))
+        (owning (marks state.old) (V.argument right.now)))) }
+{
     own(state, left)?;
-    own(state, right)
+    own(state, right)?;
+    Ok(())
 }
 
-// A binder comes into scope.
-fn bind<'a>(
-    state: &mut State<'a>,
-    world: &World<'_>,
-    is_taken: bool,
-    binder: &'a Binder,
-) -> Result<(), NoMemory> {
-    let mark = Mark {
-        number: binder.number,
-        place: binder.place,
-        name: binder.name.as_slice(),
-    };
-    state.enter(world.ownership(is_taken, binder.ty), mark)
-}
-
+// The binders of a let come into scope.
 fn bind_all<'a>(
     state: &mut State<'a>,
     world: &World<'_>,
     binders: &'a [Binder],
-) -> Result<(), NoMemory> {
+) -> Result<(), NoMemory>
+    ensures { OnOk result (state.new ≡ entered_all state.old (taking (world_of world.now) true binders.now)) }
+{
     for binder in binders {
-        bind(state, world, true, binder)?;
+        state.enter(world.ownership(true, binder.ty), binder)?;
     }
     Ok(())
 }
 
 // The binders of a pattern come into scope.
+#[cycle(pattern)]
 fn bind_pattern<'a>(
     state: &mut State<'a>,
     world: &World<'_>,
     is_taken: bool,
     pattern: &'a Pattern,
-) -> Result<(), NoMemory> {
+) -> Result<(), NoMemory>
+    ensures { OnOk result (state.new ≡
+        entered_all state.old (taking (world_of world.now) is_taken (binders (V.pattern pattern.now)))) }
+{
     match pattern {
-        Pattern::Binder(binder) => bind(state, world, is_taken, binder),
+        Pattern::Binder(binder) => state.enter(world.ownership(is_taken, binder.ty), binder),
         Pattern::Literal { .. } => Ok(()),
-        Pattern::Constructor { patterns, .. } => {
-            for part in patterns {
-                bind_pattern(state, world, is_taken, part)?;
-            }
-            Ok(())
-        }
+        Pattern::Constructor { patterns, .. } => bind_patterns(state, world, is_taken, patterns),
     }
 }
 
+#[cycle(pattern)]
+fn bind_patterns<'a>(
+    state: &mut State<'a>,
+    world: &World<'_>,
+    is_taken: bool,
+    patterns: &'a [Pattern],
+) -> Result<(), NoMemory>
+    ensures { OnOk result (state.new ≡
+        entered_all state.old (taking (world_of world.now) is_taken (binders_all (V.patterns patterns.now)))) }
+{
+    for pattern in patterns {
+        bind_pattern(state, world, is_taken, pattern)?;
+    }
+    Ok(())
+}
+
 #[cycle(block)]
+#[tactic(auto, using(crate::proofs::Laws::going))]
 fn expression<'a>(
     state: &mut State<'a>,
     world: &World<'_>,
     expression: &'a Expression,
-) -> Result<(), NoMemory> {
+) -> Result<(), NoMemory>
+    ensures { OnOk result (state.new ≡
+        go state.old (shape (world_of world.now) (names state.old) (V.expression expression.now))) }
+{
     match expression {
         Expression::Give(argument) => own(state, argument),
         Expression::Tuple { arguments, .. } => own_all(state, arguments),
@@ -192,13 +234,16 @@ fn expression<'a>(
             others,
             ..
         } => {
-            let is_taken = *kind == MatchKind::Destructive && !world.is_scalar(*ty);
+            let is_taken = world.takes(*kind, *ty);
             pass(state, world, !is_taken, scrutinee)?;
             let kept = state.kept();
             clause(state, world, is_taken, first)?;
-            let mut ways = state.first_way(kept)?;
-            other_clauses(state, world, is_taken, kept, &mut ways, others)?;
-            state.join(&ways)
+            if others.is_empty() {
+                return Ok(());
+            }
+            let ways = state.first_way(kept)?;
+            other_clauses(state, world, is_taken, kept, ways, others)?;
+            Ok(())
         }
         Expression::Nested(nested) => block(state, world, nested),
     }
@@ -210,11 +255,16 @@ fn clause<'a>(
     world: &World<'_>,
     is_taken: bool,
     clause: &'a Clause,
-) -> Result<(), NoMemory> {
+) -> Result<(), NoMemory>
+    ensures { OnOk result (state.new ≡
+        went state.old (taking (world_of world.now) is_taken (binders (V.clause clause.now).pattern))
+        (λ c. shape_block (world_of world.now) c (V.clause clause.now).body)) }
+{
     let kept = state.in_scope();
     bind_pattern(state, world, is_taken, &clause.pattern)?;
     block(state, world, &clause.body)?;
-    state.leave(kept)
+    state.leave(kept)?;
+    Ok(())
 }
 
 // The clauses behind the first one, with what those before them use up.
@@ -224,14 +274,18 @@ fn other_clauses<'a>(
     world: &World<'_>,
     is_taken: bool,
     kept: Kept,
-    ways: &mut Ways,
+    ways: Ways,
     clauses: &'a [Clause],
-) -> Result<(), NoMemory> {
+) -> Result<(), NoMemory>
+    ensures { OnOk result (state.new ≡ others (world_of world.now) is_taken kept.used kept.always state.old
+        ways.used.items ways.always.items (V.clauses clauses.now)) }
+{
+    let mut ways = ways;
     for next in clauses {
         clause(state, world, is_taken, next)?;
-        state.further_way(kept, ways)?;
+        ways = state.further_way(kept, ways)?;
     }
-    Ok(())
+    state.join(&ways)
 }
 
 #[cycle(block)]
@@ -239,11 +293,15 @@ fn bound<'a>(
     state: &mut State<'a>,
     world: &World<'_>,
     bound: &'a Expression,
-) -> Result<(), NoMemory> {
+) -> Result<(), NoMemory>
+    ensures { OnOk result (state.new ≡
+        go state.old (S.Bound (shape (world_of world.now) (names state.old) (V.expression bound.now)))) }
+{
     let kept = state.kept();
     state.deepen()?;
     expression(state, world, bound)?;
-    state.surface(kept)
+    state.surface(kept)?;
+    Ok(())
 }
 
 #[cycle(block)]
@@ -251,22 +309,26 @@ fn binding<'a>(
     state: &mut State<'a>,
     world: &World<'_>,
     binding: &'a Binding,
-) -> Result<(), NoMemory> {
+) -> Result<(), NoMemory>
+    ensures { OnOk result (state.new ≡ entered_all
+        (go state.old (S.Bound (shape (world_of world.now) (names state.old) (V.binding binding.now).bound)))
+        (taking (world_of world.now) true (V.binding binding.now).binders)) }
+{
     bound(state, world, &binding.bound)?;
     bind_all(state, world, &binding.binders)
 }
 
 /// A block: what its bindings bind, and its last expression. Its variables are in scope up to its end.
 #[cycle(block)]
-pub fn block<'a>(
-    state: &mut State<'a>,
-    world: &World<'_>,
-    block: &'a Block,
-) -> Result<(), NoMemory> {
+pub fn block<'a>(state: &mut State<'a>, world: &World<'_>, block: &'a Block) -> Result<(), NoMemory>
+    ensures walked { OnOk result (state.new ≡
+        go state.old (shape_block (world_of world.now) (names state.old) (V.block block.now))) }
+{
     let kept = state.in_scope();
     for next in &block.bindings {
         binding(state, world, next)?;
     }
     expression(state, world, &block.last)?;
-    state.leave(kept)
+    state.leave(kept)?;
+    Ok(())
 }

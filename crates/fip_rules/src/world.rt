@@ -1,5 +1,12 @@
 // What the rules ask of types and of the instances that are called.
+ghost use Rattle.std.specs.Prelude.{◌≡◌};
+ghost use Rattle.fip_trees.specs.TreeView as V;
+ghost use Rattle.fip_rules.specs.Shapes.{takes};
+ghost use Rattle.fip_rules.specs.World as W;
+ghost use Rattle.fip_rules.specs.Views.{world_of};
+
 use crate::scope::Ownership;
+use fip_base::core_form::MatchKind;
 use fip_base::plain::FunKind;
 use fip_trees::program::Instance;
 use fip_trees::scalars::Scalars;
@@ -15,13 +22,27 @@ pub struct World<'a> {
 
 impl World<'_> {
     /// Whether a type is scalar.
-    pub fn is_scalar(&self, ty: u32) -> bool {
+    pub fn is_scalar(&self, ty: u32) -> bool
+        ensures scalar { result ≡ (world_of self.now).scalar ty }
+    {
         self.scalars.is_scalar(ty)
+    }
+
+    /// Whether a match uses up its scrutinee, of this type.
+    pub fn takes(&self, kind: MatchKind, ty: u32) -> bool
+        ensures taken { result ≡ takes (world_of self.now) (V.is_destructive kind) ty }
+    {
+        match kind {
+            MatchKind::Borrowing => false,
+            MatchKind::Destructive => !self.is_scalar(ty),
+        }
     }
 
     /// Whether the argument in this place of a call, from 0, stands in a borrowed position: the parameter is lent, and
     /// of a type that isn't scalar.
-    pub fn lends(&self, callee: u32, place: usize) -> bool {
+    pub fn lends(&self, callee: u32, place: usize) -> bool
+        ensures lends { result ≡ W.lends (world_of self.now) callee place }
+    {
         match self.instances.get(callee as usize) {
             None => false,
             Some(instance) => match instance.params.as_slice().get(place) {
@@ -32,7 +53,9 @@ impl World<'_> {
     }
 
     /// Whether the callee's kind is weaker than the instance's.
-    pub fn is_weaker(&self, callee: u32) -> bool {
+    pub fn is_weaker(&self, callee: u32) -> bool
+        ensures weaker { result ≡ W.weaker (world_of self.now) callee }
+    {
         match self.instances.get(callee as usize) {
             None => false,
             Some(instance) => is_weaker_kind(self.kind, instance.kind),
@@ -40,7 +63,9 @@ impl World<'_> {
     }
 
     /// How a variable of a type is bound where its value is taken, or only lent.
-    pub fn ownership(&self, is_taken: bool, ty: u32) -> Ownership {
+    pub fn ownership(&self, is_taken: bool, ty: u32) -> Ownership
+        ensures bound { result ≡ W.ownership (world_of self.now) is_taken ty }
+    {
         if self.is_scalar(ty) {
             Ownership::Scalar
         } else if is_taken {
@@ -52,10 +77,16 @@ impl World<'_> {
 }
 
 // Whether the other kind is weaker. The strongest is fip, then come fbip and plain.
-fn is_weaker_kind(own: FunKind, other: FunKind) -> bool {
-    match own {
-        FunKind::Fip => other != FunKind::Fip,
-        FunKind::Fbip => other == FunKind::Fun,
-        FunKind::Fun => false,
+fn is_weaker_kind(own: FunKind, other: FunKind) -> bool
+    ensures { result ≡ W.is_weaker own other }
+{
+    match (own, other) {
+        (FunKind::Fip, FunKind::Fip) => false,
+        (FunKind::Fip, FunKind::Fbip) => true,
+        (FunKind::Fip, FunKind::Fun) => true,
+        (FunKind::Fbip, FunKind::Fip) => false,
+        (FunKind::Fbip, FunKind::Fbip) => false,
+        (FunKind::Fbip, FunKind::Fun) => true,
+        (FunKind::Fun, _) => false,
     }
 }

@@ -1,0 +1,11 @@
+pub mod Shared
+pub mod Lists
+pub mod LogTables
+pub mod Scopes
+pub mod Agree
+pub mod Orders
+pub mod Laws
+pub mod Steps
+pub mod Waits
+pub mod Views
+pub mod Whole

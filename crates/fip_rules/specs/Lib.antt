@@ -1,0 +1,11 @@
+pub mod Marks
+pub mod Shape
+pub mod Rules
+pub mod World
+pub mod Shapes
+pub mod Checks
+pub mod Notes
+pub mod Noted
+pub mod Stands
+pub mod Logs
+pub mod Views

@@ -1,0 +1,19 @@
+// Each command over objects in memory, with every status that it can end with.
+#![tactic(auto)]
+
+#[cfg(test)]
+mod causes;
+#[cfg(test)]
+mod codes;
+#[cfg(test)]
+mod faults;
+#[cfg(test)]
+mod library;
+#[cfg(test)]
+mod loops;
+#[cfg(test)]
+mod programs;
+#[cfg(test)]
+mod runs;
+#[cfg(test)]
+mod words;

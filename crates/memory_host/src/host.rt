@@ -1,0 +1,151 @@
+// What a host hands in, and what it finds afterwards.
+
+use fip_base::memory::{MemFolder, MemSink, MemSource};
+use fip_driver::fp2;
+use std::alloc::{AllocError, Global};
+
+/// Pieces of one byte each.
+pub const SINGLE: &[usize] = &[1; 2000];
+
+// A file that no command is told of.
+const OTHER: &[u8] = b"as it was\n";
+
+/// What a host hands in: its folder has a file `a.fp` and one that no command is told of, and its err has room for
+/// 1,000 bytes.
+#[derive(Clone, Copy)]
+pub struct Host<'a> {
+    /// The bytes of the file `a.fp`, a source or a code.
+    pub file: &'a [u8],
+    /// The bytes of the input.
+    pub input: &'a [u8],
+    /// The most bytes that the first, the second and so on call of each stream moves; past its end a call moves all.
+    pub pieces: &'a [usize],
+    /// The bytes that out has room for.
+    pub room: usize,
+    /// The numbers, from 1, of the folder's calls that fail, fetches and stores numbered together.
+    pub folder_fails: &'a [u64],
+    /// The numbers of the input's calls that fail.
+    pub input_fails: &'a [u64],
+    /// The numbers of out's calls that fail.
+    pub out_fails: &'a [u64],
+    /// The numbers of err's calls that fail.
+    pub err_fails: &'a [u64],
+}
+
+/// A host of which no call fails, whose out has room for 1,000,000 bytes.
+pub fn host_of<'a>(file: &'a [u8], input: &'a [u8]) -> Host<'a> {
+    Host {
+        file,
+        input,
+        pieces: &[],
+        room: 1_000_000,
+        folder_fails: &[],
+        input_fails: &[],
+        out_fails: &[],
+        err_fails: &[],
+    }
+}
+
+/// What a host finds.
+#[derive(Drop)]
+pub struct Seen {
+    /// The status that the run ended with.
+    pub status: u8,
+    /// What out holds.
+    pub out: Vec<u8>,
+    /// What err holds.
+    pub err: Vec<u8>,
+    /// How many bytes of the input are left.
+    pub left: usize,
+    /// The bytes of the file `b.fpc`, which wasn't there before.
+    pub stored: Option<Vec<u8>>,
+    /// Whether the files that were there before are as they were.
+    pub same_files: bool,
+}
+
+// The words of the command line: the program's name, and these, which are parted by one blank each.
+fn all_words(alloc: Global, words: &str) -> Result<Vec<String>, AllocError> {
+    let mut all = Vec::new(alloc);
+    all.push(String::from_str(alloc, "fp2")?)?;
+    for word in words.split(' ') {
+        all.push(String::from_str(alloc, word)?)?;
+    }
+    Ok(all)
+}
+
+// A file of this name with these bytes.
+fn file_of(alloc: Global, name: &str, bytes: &[u8]) -> Result<(String, Vec<u8>), AllocError> {
+    let name = String::from_str(alloc, name)?;
+    let bytes = Vec::from_slice(alloc, bytes)?;
+    Ok((name, bytes))
+}
+
+fn folder_of(alloc: Global, host: &Host<'_>) -> Result<MemFolder, AllocError> {
+    let mut files = Vec::new(alloc);
+    files.push(file_of(alloc, "a.fp", host.file)?)?;
+    files.push(file_of(alloc, "other", OTHER)?)?;
+    let fails = Vec::from_slice(alloc, host.folder_fails)?;
+    Ok(MemFolder::new(alloc, files, fails))
+}
+
+fn input_of(alloc: Global, host: &Host<'_>) -> Result<MemSource, AllocError> {
+    let bytes = Vec::from_slice(alloc, host.input)?;
+    let pieces = Vec::from_slice(alloc, host.pieces)?;
+    let fails = Vec::from_slice(alloc, host.input_fails)?;
+    Ok(MemSource::new(bytes, pieces, fails))
+}
+
+fn sink_of(
+    alloc: Global,
+    room: usize,
+    pieces: &[usize],
+    fails: &[u64],
+) -> Result<MemSink, AllocError> {
+    let pieces = Vec::from_slice(alloc, pieces)?;
+    let fails = Vec::from_slice(alloc, fails)?;
+    MemSink::new(alloc, room, pieces, fails)
+}
+
+// Whether the folder has a file of this name with these bytes.
+fn has_file(folder: &MemFolder, name: &str, bytes: &[u8]) -> bool {
+    match folder.file(name) {
+        Some(held) => held == bytes,
+        None => false,
+    }
+}
+
+// The bytes of the file `b.fpc`.
+fn stored_in(alloc: Global, folder: &MemFolder) -> Result<Option<Vec<u8>>, AllocError> {
+    match folder.file("b.fpc") {
+        Some(bytes) => Ok(Some(Vec::from_slice(alloc, bytes)?)),
+        None => Ok(None),
+    }
+}
+
+/// Runs the program with these words behind its name, which are parted by one blank each. Want of memory for the host's
+/// objects is the one error.
+pub fn run(alloc: Global, words: &str, host: Host<'_>) -> Result<Seen, AllocError> {
+    let words = all_words(alloc, words)?;
+    let mut folder = folder_of(alloc, &host)?;
+    let mut input = input_of(alloc, &host)?;
+    let mut out = sink_of(alloc, host.room, host.pieces, host.out_fails)?;
+    let mut err = sink_of(alloc, 1000, host.pieces, host.err_fails)?;
+    let status = fp2(
+        alloc,
+        words.as_slice(),
+        &mut folder,
+        &mut input,
+        &mut out,
+        &mut err,
+    );
+    let out = Vec::from_slice(alloc, out.bytes())?;
+    let err = Vec::from_slice(alloc, err.bytes())?;
+    Ok(Seen {
+        status: status.0,
+        out,
+        err,
+        left: input.bytes().len(),
+        stored: stored_in(alloc, &folder)?,
+        same_files: has_file(&folder, "a.fp", host.file) && has_file(&folder, "other", OTHER),
+    })
+}

@@ -12,7 +12,7 @@ use credit_check::check_credits;
 use data_types::declare;
 use fip_base::core_form::Core;
 use fip_base::plain::Detail;
-use fip_base::refusal::{Refusal, Rule};
+use fip_base::refusal::{PhaseError, Refusal, Rule};
 use fip_parser::parser::ParseError;
 use fip_rules::check_owned;
 use fip_syntax::{core_of, parse};
@@ -58,8 +58,17 @@ pub fn typed_of(alloc: Global, source: &[u8]) -> Result<Typed, Failure>
     let decls = declare(alloc, &core)?;
     let flat = specialise(alloc, &core, &decls)?;
     let typed = check_types(alloc, flat)?;
-    cover(alloc, &typed)?;
-    Ok(typed)
+    match cover(alloc, &typed) {
+        Ok(()) => Ok(typed),
+        Err(error) => Err(failure_of(error)),
+    }
+}
+
+// What a phase's error is.
+fn failure_of(error: PhaseError) -> Failure
+    ensures stage { IsOfSource result }
+{
+    error.into()
 }
 
 /// What is known of a source that breaks no rule. Beyond what `typed_of` refuses: E50 to E55 on ownership, E56 to E58

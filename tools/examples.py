@@ -188,6 +188,8 @@ def main():
     parser.add_argument("--program", default=str(PROGRAM))
     parser.add_argument("files", nargs="*", type=pathlib.Path)
     words = parser.parse_args()
+    if words.program == str(PROGRAM) and PROGRAM.is_file():
+        PROGRAM.chmod(0o755)
     if not os.access(words.program, os.X_OK):
         sys.exit(f"examples: {words.program} isn't there: ./fp2 or rt ci builds it")
     program = str(pathlib.Path(words.program).resolve())

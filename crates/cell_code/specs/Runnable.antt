@@ -1,14 +1,14 @@
--- What a run relies on: from the first instruction of each function on, whatever way is taken, registers, targets, functions
--- and lists are in range, and what a fip function needs of the stack covers what it calls. So a run tests none of them.
--- A code that the verifier accepts is runnable. Instructions that no way reaches may be anything.
+-- What a run relies on: from the first instruction of each function on, whatever way is taken, registers, targets,
+-- functions and lists are in range, and what a fip function needs of the stack covers what it calls. So a run tests
+-- none of them. A code that the verifier accepts is runnable. Instructions that no way reaches may be anything.
 use Rattle.std.specs.Prelude.{◌≡◌, ℕ, zero, suc, ◌+◌, ◌<◌, ◌≤◌, List, Option, length, All, Some, slice_get}
 use Rattle.fip_base.specs.declared.plain.Stack.{Stack}
 use Rattle.cell_code.specs.declared.code.Instr.{Instr}
 use Rattle.cell_code.specs.declared.code.Instr.TheVariants as I
 use Rattle.cell_code.specs.declared.code.Function.{Function}
 
--- a function's number, registers and instructions, among all functions and the stacks that they need, one for each function
--- that is fip
+-- a function's number, registers and instructions, among all functions and the stacks that they need, one for each
+-- function that is fip
 pub record Body : Type 0 where
   pub functions : List Function
   pub stacks : List (Option Stack)
@@ -17,7 +17,14 @@ pub record Body : Type 0 where
   pub instrs : List Instr
 
 abbrev pub body_of : List Function → List (Option Stack) → ℕ → Function → Body
-body_of fs ss f g = record { functions = fs; stacks = ss; function = f; registers = g.registers; instrs = g.instrs.items }
+body_of fs ss f g = record {
+  functions = fs;
+  stacks = ss;
+  function = f;
+  registers = g.registers;
+  instrs =
+      g.instrs.items;
+}
 
 -- registers below n
 abbrev pub AreBelow : ℕ → List ℕ → Type 0
@@ -29,7 +36,8 @@ CanCall fs f k = (g : Function) × (slice_get fs f ≡ Some g) × (k ≤ g.regis
 
 -- Where function f needs a stack that is known, so does function g, and with n words beside it that is no more.
 abbrev pub Covers : List (Option Stack) → ℕ → ℕ → ℕ → Type 0
-Covers ss f g n = (s : Stack) → slice_get ss f ≡ Some (Some s) → (t : Stack) × (slice_get ss g ≡ Some (Some t)) × (n + t.words ≤ s.words)
+Covers ss f g n = (s : Stack) → slice_get ss f ≡ Some (Some s) → (t : Stack) × (slice_get ss g ≡ Some (Some t))
+    × (n + t.words ≤ s.words)
 
 -- Instruction i does what it does in range, and P holds of each instruction that may be next in the function.
 abbrev pub Row : Body → ℕ → (ℕ → Type 0) → Instr → Type 0
@@ -44,7 +52,8 @@ Row b i P (I.Take r ds) = (r < b.registers) × AreBelow b.registers ds × (lengt
 Row b i P (I.Put d t c ss) = (d < b.registers) × AreBelow b.registers ss × (length ss ≤ 16) × P (i + 1)
 Row b i P (I.Drop r) = (r < b.registers) × P (i + 1)
 Row b i P (I.Free r) = (r < b.registers) × P (i + 1)
-Row b i P (I.Call f ss ds) = AreBelow b.registers ss × AreBelow b.registers ds × CanCall b.functions f (length ss) × Covers b.stacks b.function f (b.registers + 2) × P (i + 1)
+Row b i P (I.Call f ss ds) = AreBelow b.registers ss × AreBelow b.registers ds × CanCall b.functions f (length ss)
+    × Covers b.stacks b.function f (b.registers + 2) × P (i + 1)
 Row b i P (I.Tail f ss) = AreBelow b.registers ss × CanCall b.functions f (length ss) × Covers b.stacks b.function f 0
 Row b i P (I.Ret rs) = AreBelow b.registers rs × (length rs ≤ 8)
 Row b i P (I.Jump target) = (i < target) × P target

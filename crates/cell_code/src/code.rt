@@ -96,8 +96,8 @@ pub enum Instr {
     },
 }
 
-/// A function: its kind (fip or fbip), its name (empty where it is no entry), parameters, the sizes of the credits that a
-/// caller hands over, results' types, the number of its registers (the parameters' and the credits' first), its
+/// A function: its kind (fip or fbip), its name (empty where it is no entry), parameters, the sizes of the credits that
+/// a caller hands over, results' types, the number of its registers (the parameters' and the credits' first), its
 /// instructions, and labels in rising order.
 #[derive(Drop)]
 pub struct Function {

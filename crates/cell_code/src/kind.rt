@@ -78,8 +78,8 @@ pub enum Kind {
     },
 }
 
-/// A place in a function where instructions meet: the number of the instruction, and what is known of each register there,
-/// on whatever way it is reached.
+/// A place in a function where instructions meet: the number of the instruction, and what is known of each register
+/// there, on whatever way it is reached.
 #[derive(Debug, Drop)]
 pub struct Label {
     pub at: u32,

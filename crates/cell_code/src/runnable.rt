@@ -157,7 +157,8 @@ fn is_row(
     instr: &Instr,
 ) -> bool
     requires within { at < length function.now.instrs.items }
-    ensures row { IsTrue result → Row (body_of functions.now stacks.now f function.now) at (λ j. slice_get safe.now j ≡ Some true) instr.now }
+    ensures row { IsTrue result → Row (body_of functions.now stacks.now f function.now) at
+        (λ j. slice_get safe.now j ≡ Some true) instr.now }
 {
     let n = function.registers as usize;
     let next = is_safe(safe, at + 1);
@@ -221,7 +222,8 @@ fn safe_instrs(
     f: usize,
     function: &Function,
 ) -> Result<Vec<bool>, NoMemory>
-    ensures safe { IfOk result (λ v. (j : ℕ) → slice_get v.items j ≡ Some true → IsSafe (body_of functions.now stacks.now f function.now) j) }
+    ensures safe { IfOk result (λ v. (j : ℕ) → slice_get v.items j ≡ Some true →
+        IsSafe (body_of functions.now stacks.now f function.now) j) }
 {
     let instrs = function.instrs.as_slice();
     let mut safe = Vec::from_elem(alloc, false, instrs.len())?;

@@ -1,7 +1,7 @@
 // The tests by which the first clause that matches is chosen.
 //
-// The first clause that isn't ruled out is looked at. Where it asks for nothing more, what it binds is taken out and the
-// code goes to its body. Else its first open test is made; where no value fails it, it isn't written. Once the
+// The first clause that isn't ruled out is looked at. Where it asks for nothing more, what it binds is taken out and
+// the code goes to its body. Else its first open test is made; where no value fails it, it isn't written. Once the
 // constructor at a position is known, all its fields are read, so that a position below it is in its register.
 use crate::buffer::OpenJump;
 use crate::frame::{Frame, Held};

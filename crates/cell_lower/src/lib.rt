@@ -1,5 +1,5 @@
-// From a typed program to code for the machine: each variable, pattern node and value has a register of its own, a match
-// is a tree of tests, and each clause's body stands once in the code.
+// From a typed program to code for the machine: each variable, pattern node and value has a register of its own, a
+// match is a tree of tests, and each clause's body stands once in the code.
 #![tactic(auto)]
 
 mod bodies;

@@ -43,8 +43,8 @@ impl<'a> Lowerer<'a> {
         Ok(destination)
     }
 
-    // A constructor of these fields. One with fields is put into the cell of the last credit of its size, which is there
-    // since no body needs more than it has.
+    // A constructor of these fields. One with fields is put into the cell of the last credit of its size, which is
+    // there since no body needs more than it has.
     fn construct(&mut self, ty: u32, constructor: u32, fields: &[u16]) -> Result<u16, NoMemory> {
         if fields.is_empty() {
             return self.atom(ty, constructor);

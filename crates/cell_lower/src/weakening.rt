@@ -24,8 +24,8 @@ impl<'a> Lowerer<'a> {
     }
 
     /// Gives up what a clause leaves and another doesn't: trees that weren't there at the entry of its match or that a
-    /// clause may use up, and credits past those that are left where the match took what it needs. What the clause gives
-    /// is kept.
+    /// clause may use up, and credits past those that are left where the match took what it needs. What the clause
+    /// gives is kept.
     pub fn give_up_to(
         &mut self,
         entry: &Frame,

@@ -1,7 +1,8 @@
 -- The cells of a store, by place. A place is a number; at some numbers no cell begins.
--- In flat words with Cons(1, Nil) at 0, Nil being constructor 0 and Cons constructor 1, a cell begins at 0 and none at 1
--- and 2, where its fields lie.
-use Rattle.std.specs.Prelude.{ℕ, zero, suc, ◌+◌, ◌<◌, Bool, true, false, List, [], ◌∷◌, Option, Some, None, length, map, nat_eq, if◌then◌else◌}
+-- In flat words with Cons(1, Nil) at 0, Nil being constructor 0 and Cons constructor 1, a cell begins at 0 and none at
+-- 1 and 2, where its fields lie.
+use Rattle.std.specs.Prelude.{ℕ, zero, suc, ◌+◌, ◌<◌, Bool, true, false, List, [], ◌∷◌, Option, Some, None, length, map}
+use Rattle.std.specs.Prelude.{nat_eq, if◌then◌else◌}
 use Rattle.fip_language.specs.Store.{Cell}
 
 -- what begins at each number: a cell, or none

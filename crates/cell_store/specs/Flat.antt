@@ -1,6 +1,7 @@
--- Cells in one list of words: a header, then the fields. The header is 64 * tag + 2 * size, and 1 more where the cell is
--- released.
-use Rattle.std.specs.Prelude.{◌≡◌, ℕ, zero, suc, ◌+◌, ◌*◌, ◌/◌, ◌%◌, ◌<◌, ◌≤◌, ◌^◌, Bool, false, List, [], ◌∷◌, Some, None, length, take, nat_eq, slice_index_or}
+-- Cells in one list of words: a header, then the fields. The header is 64 * tag + 2 * size, and 1 more where the cell
+-- is released.
+use Rattle.std.specs.Prelude.{◌≡◌, ℕ, zero, suc, ◌+◌, ◌*◌, ◌/◌, ◌%◌, ◌<◌, ◌≤◌, ◌^◌, Bool, false, List, [], ◌∷◌, Some}
+use Rattle.std.specs.Prelude.{None, length, take, nat_eq, slice_index_or}
 use Rattle.cell_store.specs.Cells.{Cells, count_live}
 
 abbrev pub size : ℕ → ℕ

@@ -5,8 +5,8 @@ use Rattle.cell_store.specs.Flat.{Laid, IsCounted, parse, flags}
 use Rattle.cell_store.specs.Free.{Stack, AreFree}
 use Rattle.cell_store.specs.Marks.{IsMarked}
 
--- Words, marks, the numbers of live cells by size, the stacks of released cells by size, the number of cells, the space for
--- pushed words, and the words that are left.
+-- Words, marks, the numbers of live cells by size, the stacks of released cells by size, the number of cells, the space
+-- for pushed words, and the words that are left.
 pub record IsKept (words marks counts : List ℕ) (stacks : List Stack) (cells space left : ℕ) : Type 0 where
   pub laid : Laid 0 words
   pub marked : IsMarked (parse 0 words) marks

@@ -1,5 +1,6 @@
 -- What a loader does where it makes a cell, and what callers see of stores.
-use Rattle.std.specs.Prelude.{◌≡◌, ℕ, ◌+◌, Bool, true, false, List, ◌∷◌, ◌++◌, Some, None, length, replicate, option_map, slice_get, slice_set}
+use Rattle.std.specs.Prelude.{◌≡◌, ℕ, ◌+◌, Bool, true, false, List, ◌∷◌, ◌++◌, Some, None, length, replicate}
+use Rattle.std.specs.Prelude.{option_map, slice_get, slice_set}
 use Rattle.fip_language.specs.Store.{Cell}
 use Rattle.cell_store.specs.Cells.{Cells, cell_at, size_of}
 

@@ -1,5 +1,6 @@
 // What a sealed store answers and does, whatever it keeps the cells in.
-ghost use Rattle.std.specs.Prelude.{◌≡◌, ◌≢◌, ℕ, ◌<◌, ◌≤◌, ◌↔◌, Bool, false, true, List, [], ◌∷◌, ◌++◌, length, None, Some, IsTrue, MatchOption, option_map, option_and_then, slice_get, slice_set};
+ghost use Rattle.std.specs.Prelude.{◌≡◌, ◌≢◌, ℕ, ◌<◌, ◌≤◌, ◌↔◌, Bool, false, true, List, [], ◌∷◌, ◌++◌, length, None};
+ghost use Rattle.std.specs.Prelude.{Some, IsTrue, MatchOption, option_map, option_and_then, slice_get, slice_set};
 ghost use Rattle.fip_language.specs.Store.{Cell};
 ghost use Rattle.cell_store.specs.Cells.{cell_at, size_in, size_of, sizes, number, count_live};
 ghost use Rattle.cell_store.specs.Cells as S;
@@ -50,7 +51,8 @@ pub trait Cells {
     fn overwrite(&mut self, p: u32, tag: u32, fields: &[u64])
         requires there { cell_at (cells self.old) p ≢ None }
         requires size { length fields.now ≡ size_in (cell_at (cells self.old) p) }
-        ensures cells { cells self.new ≡ slice_set (cells self.old) p (Some (record { tag = tag; fields = fields.now })) }
+        ensures cells { cells self.new ≡ slice_set (cells self.old) p
+            (Some (record { tag = tag; fields = fields.now })) }
         ensures sizes { sizes (cells self.new) ≡ sizes (cells self.old) }
         ensures released { released self.new ≡ released self.old }
         ensures pushed { pushed self.new ≡ pushed self.old };
@@ -78,5 +80,6 @@ pub trait Cells {
     fn pop(&mut self) -> Option<u64>
         ensures cells { cells self.new ≡ cells self.old }
         ensures released { released self.new ≡ released self.old }
-        ensures pushed { MatchOption result ((pushed self.old ≡ []) × (pushed self.new ≡ [])) (λ word. pushed self.old ≡ pushed self.new ++ word ∷ []) };
+        ensures pushed { MatchOption result ((pushed self.old ≡ []) × (pushed self.new ≡ []))
+            (λ word. pushed self.old ≡ pushed self.new ++ word ∷ []) };
 }

@@ -1,6 +1,8 @@
-// The store in one list of words. A cell of k fields at place p is the header at p, 64 * tag + 2 * k, and 1 more where the
-// cell is released, and the fields behind it.
-ghost use Rattle.std.specs.Prelude.{◌≡◌, ◌≢◌, ℕ, ◌+◌, ◌*◌, ◌<◌, ◌≤◌, ◌^◌, ◌↔◌, Bool, false, true, [], ◌∷◌, ◌++◌, None, Some, Err, IsTrue, IfOk, OnOk, OnErr, IfSome, IfNone, MatchOption, length, vec_len, replicate, option_map, option_and_then, slice_get, slice_set};
+// The store in one list of words. A cell of k fields at place p is the header at p, 64 * tag + 2 * k, and 1 more where
+// the cell is released, and the fields behind it.
+ghost use Rattle.std.specs.Prelude.{◌≡◌, ◌≢◌, ℕ, ◌+◌, ◌*◌, ◌<◌, ◌≤◌, ◌^◌, ◌↔◌, Bool, false, true, [], ◌∷◌, ◌++◌, None};
+ghost use Rattle.std.specs.Prelude.{Some, Err, IsTrue, IfOk, OnOk, OnErr, IfSome, IfNone, MatchOption, length, vec_len};
+ghost use Rattle.std.specs.Prelude.{replicate, option_map, option_and_then, slice_get, slice_set};
 ghost use Rattle.std.specs.Vec.{vec_capacity};
 ghost use Rattle.fip_language.specs.Store.{Cell};
 ghost use Rattle.cell_store.specs.Cells.{IsBehind, cell_at, size_in, size_of, sizes, number, count_live, count_free};
@@ -22,8 +24,8 @@ pub const SIZES: usize = 17;
 /// The most words of a store.
 pub const WORDS: usize = 16_777_216;
 
-/// Words, bits that mark where cells begin, the stack of pushed words, the number of live cells of each size, the places of
-/// the released ones of each size, the number of all cells, and the words that are left.
+/// Words, bits that mark where cells begin, the stack of pushed words, the number of live cells of each size, the
+/// places of the released ones of each size, the number of all cells, and the words that are left.
 #[derive(Drop)]
 pub struct Flat {
     alloc: Global,
@@ -39,9 +41,16 @@ pub struct Flat {
 impl Model for Flat {
     ghost Value = { Stored };
 
-    ghost view = { λ s. record { cells = parse 0 s.words.items; released = flags 0 s.words.items; pushed = s.pushed.items; left = s.left } };
+    ghost view = { λ s. record {
+      cells = parse 0 s.words.items;
+      released = flags 0 s.words.items;
+      pushed =
+          s.pushed.items;
+      left = s.left;
+    } };
 
-    ghost invariant = { λ s. IsKept s.words.items s.marks.items s.counts s.free.items s.made (vec_capacity s.pushed) s.left };
+    ghost invariant = { λ s. IsKept s.words.items s.marks.items s.counts s.free.items s.made (vec_capacity s.pushed)
+        s.left };
 }
 
 fn write_words(words: &mut Vec<u64>, start: usize, new: &[u64])
@@ -54,8 +63,8 @@ fn write_words(words: &mut Vec<u64>, start: usize, new: &[u64])
     }
 }
 
-// Takes the memory that a further cell needs beside its words: bits up to a number of places, room to push as many words
-// as there will be cells, and room for places of released cells of its size.
+// Takes the memory that a further cell needs beside its words: bits up to a number of places, room to push as many
+// words as there will be cells, and room for places of released cells of its size.
 fn take_room(
     alloc: Global,
     marks: &mut Vec<u64>,
@@ -75,7 +84,8 @@ fn take_room(
     ensures pushed_room { vec_capacity pushed.old ≤ vec_capacity pushed.new }
     ensures pushed_more { OnOk result (cells ≤ vec_capacity pushed.new) }
     ensures free { KeepsPlaces free.old.items free.new.items }
-    ensures free_more { OnOk result (length (stack_at free.new.items size).places + more ≤ (stack_at free.new.items size).room) }
+    ensures free_more { OnOk result (length (stack_at free.new.items size).places + more ≤ (stack_at free.new.items
+        size).room) }
 {
     reach(marks, places)?;
     pushed.reserve(cells)?;
@@ -234,7 +244,8 @@ impl Flat {
     pub fn pop(&mut self) -> Option<u64>
         ensures cells { self.new.cells ≡ self.old.cells }
         ensures released { self.new.released ≡ self.old.released }
-        ensures pushed { MatchOption result ((self.old.pushed ≡ []) × (self.new.pushed ≡ [])) (λ word. self.old.pushed ≡ self.new.pushed ++ word ∷ []) }
+        ensures pushed { MatchOption result ((self.old.pushed ≡ []) × (self.new.pushed ≡ []))
+            (λ word. self.old.pushed ≡ self.new.pushed ++ word ∷ []) }
         ensures left { self.new.left ≡ self.old.left }
     {
         self.pushed.pop()
@@ -280,9 +291,11 @@ impl Flat {
     // Gives a released cell of the size this constructor and these words. `None` where there is no such cell.
     fn retake(&mut self, tag: u32, fields: &[u64]) -> Option<u32>
         requires few { length fields.now ≤ 16 }
-        ensures none { IfNone result ((count_free (length fields.now) self.old.cells self.old.released ≡ 0) × (self.new ≡ self.old)) }
+        ensures none { IfNone result ((count_free (length fields.now) self.old.cells self.old.released ≡ 0)
+            × (self.new ≡ self.old)) }
         ensures some { IfSome result (λ p. 0 < count_free (length fields.now) self.old.cells self.old.released) }
-        ensures made { IfSome result (λ p. IsRetaken (loading self.old) (loading self.new) p (record { tag = tag; fields = fields.now })) }
+        ensures made { IfSome result (λ p. IsRetaken (loading self.old) (loading self.new) p
+            (record { tag = tag; fields = fields.now })) }
         ensures pushed { self.new.pushed ≡ self.old.pushed }
     {
         let size = fields.len();
@@ -303,7 +316,8 @@ impl Flat {
         requires some { 0 < length fields.now }
         requires few { length fields.now ≤ 16 }
         ensures full { (result ≡ Err CellError.Full) ↔ (self.old.left < length fields.now + 1) }
-        ensures made { IfOk result (λ p. IsAppended (loading self.old) (loading self.new) p (record { tag = tag; fields = fields.now })) }
+        ensures made { IfOk result (λ p. IsAppended (loading self.old) (loading self.new) p
+            (record { tag = tag; fields = fields.now })) }
         ensures pushed { self.new.pushed ≡ self.old.pushed }
         ensures same { OnErr result (self.new ≡ self.old) }
     {
@@ -332,13 +346,19 @@ impl Flat {
         Ok(place as u32)
     }
 
-    /// Makes a cell of 1 to 16 fields and answers its place: a released cell of that size, or else one behind the others.
+    /// Makes a cell of 1 to 16 fields and answers its place: a released cell of that size, or else one behind the
+    /// others.
     pub fn cell(&mut self, tag: u32, fields: &[u64]) -> Result<u32, CellError>
         requires some { 0 < length fields.now }
         requires few { length fields.now ≤ 16 }
-        ensures retaken { 0 < count_free (length fields.now) self.old.cells self.old.released → IfOk result (λ p. IsRetaken (loading self.old) (loading self.new) p (record { tag = tag; fields = fields.now })) }
-        ensures appended { count_free (length fields.now) self.old.cells self.old.released ≡ 0 → IfOk result (λ p. IsAppended (loading self.old) (loading self.new) p (record { tag = tag; fields = fields.now })) }
-        ensures full { (result ≡ Err CellError.Full) ↔ ((count_free (length fields.now) self.old.cells self.old.released ≡ 0) × (self.old.left < length fields.now + 1)) }
+        ensures retaken { 0 < count_free (length fields.now) self.old.cells self.old.released →
+            IfOk result (λ p. IsRetaken (loading self.old) (loading self.new) p
+            (record { tag = tag; fields = fields.now })) }
+        ensures appended { count_free (length fields.now) self.old.cells self.old.released ≡ 0 →
+            IfOk result (λ p. IsAppended (loading self.old) (loading self.new) p
+            (record { tag = tag; fields = fields.now })) }
+        ensures full { (result ≡ Err CellError.Full) ↔ ((count_free (length fields.now) self.old.cells self.old.released
+            ≡ 0) × (self.old.left < length fields.now + 1)) }
         ensures pushed { self.new.pushed ≡ self.old.pushed }
         ensures same { OnErr result (self.new ≡ self.old) }
     {

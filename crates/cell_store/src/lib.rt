@@ -1,5 +1,5 @@
-// The store of cells: a loader makes the cells, then the store is sealed, and from then on a cell is only rewritten in its
-// place, or released. A sealed store is opened again to make more cells, released ones first.
+// The store of cells: a loader makes the cells, then the store is sealed, and from then on a cell is only rewritten in
+// its place, or released. A sealed store is opened again to make more cells, released ones first.
 #![tactic(auto)]
 
 mod access;

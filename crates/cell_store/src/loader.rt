@@ -1,5 +1,6 @@
 // A store that takes cells.
-ghost use Rattle.std.specs.Prelude.{◌≡◌, ℕ, ◌+◌, ◌*◌, ◌<◌, ◌≤◌, ◌↔◌, [], ◌∷◌, ◌++◌, false, None, Some, Err, IfOk, OnOk, OnErr, length, replicate};
+ghost use Rattle.std.specs.Prelude.{◌≡◌, ℕ, ◌+◌, ◌*◌, ◌<◌, ◌≤◌, ◌↔◌, [], ◌∷◌, ◌++◌, false, None, Some, Err, IfOk, OnOk};
+ghost use Rattle.std.specs.Prelude.{OnErr, length, replicate};
 ghost use Rattle.fip_language.specs.Store.{Cell};
 ghost use Rattle.cell_store.specs.Cells.{count_free};
 ghost use Rattle.cell_store.specs.Made.{Loading, IsRetaken, IsAppended, loading};
@@ -84,8 +85,8 @@ impl Loader {
         self.flat.spare(k)
     }
 
-    /// Takes memory for cells of so many more words, so that `cell` takes none while the cells that it makes need no more
-    /// than these. An error where the memory is not there; the cells stay as they are in any case.
+    /// Takes memory for cells of so many more words, so that `cell` takes none while the cells that it makes need no
+    /// more than these. An error where the memory is not there; the cells stay as they are in any case.
     pub fn reserve(&mut self, words: usize) -> Result<(), NoMemory>
         requires { words ≤ 16777216 }
         ensures same { self.new ≡ self.old }
@@ -95,14 +96,17 @@ impl Loader {
     }
 
     /// Makes a cell of 1 to 16 fields and answers its place: a released cell of that size where there is one, else one
-    /// behind all others. `Full` exactly where no cell of that size is released and fewer words are left than one more than
-    /// the fields; `NoMemory` where the memory for a further cell is wanting, which a released one never needs.
+    /// behind all others. `Full` exactly where no cell of that size is released and fewer words are left than one more
+    /// than the fields; `NoMemory` where the memory for a further cell is wanting, which a released one never needs.
     pub fn cell(&mut self, tag: u32, fields: &[u64]) -> Result<u32, CellError>
         requires some { 0 < length fields.now }
         requires few { length fields.now ≤ 16 }
-        ensures retaken { 0 < count_free (length fields.now) self.old.cells self.old.released → IfOk result (λ p. IsRetaken self.old self.new p (record { tag = tag; fields = fields.now })) }
-        ensures appended { count_free (length fields.now) self.old.cells self.old.released ≡ 0 → IfOk result (λ p. IsAppended self.old self.new p (record { tag = tag; fields = fields.now })) }
-        ensures full { (result ≡ Err CellError.Full) ↔ ((count_free (length fields.now) self.old.cells self.old.released ≡ 0) × (self.old.left < length fields.now + 1)) }
+        ensures retaken { 0 < count_free (length fields.now) self.old.cells self.old.released →
+            IfOk result (λ p. IsRetaken self.old self.new p (record { tag = tag; fields = fields.now })) }
+        ensures appended { count_free (length fields.now) self.old.cells self.old.released ≡ 0 →
+            IfOk result (λ p. IsAppended self.old self.new p (record { tag = tag; fields = fields.now })) }
+        ensures full { (result ≡ Err CellError.Full) ↔ ((count_free (length fields.now) self.old.cells self.old.released
+            ≡ 0) × (self.old.left < length fields.now + 1)) }
         ensures same { OnErr result (self.new ≡ self.old) }
     {
         self.flat.cell(tag, fields)

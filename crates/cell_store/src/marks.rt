@@ -1,5 +1,6 @@
 // A bit for each place: 1 where a cell begins.
-ghost use Rattle.std.specs.Prelude.{◌≡◌, ℕ, ◌+◌, ◌*◌, ◌/◌, ◌<◌, ◌≤◌, true, nat_eq, length, vec_len, OnOk, if◌then◌else◌};
+ghost use Rattle.std.specs.Prelude.{◌≡◌, ℕ, ◌+◌, ◌*◌, ◌/◌, ◌<◌, ◌≤◌, true, nat_eq, length, vec_len, OnOk};
+ghost use Rattle.std.specs.Prelude.{if◌then◌else◌};
 ghost use Rattle.cell_store.specs.Marks.{is_marked};
 
 use std::alloc::AllocError;
@@ -16,7 +17,8 @@ pub fn has_mark(bits: &[u64], place: usize) -> bool
 /// Marks one more place.
 pub fn mark(bits: &mut Vec<u64>, place: usize)
     requires { place / 64 < vec_len bits.old }
-    ensures marked { (q : ℕ) → is_marked bits.new.items q ≡ (if nat_eq q place then true else is_marked bits.old.items q) }
+    ensures marked { (q : ℕ) → is_marked bits.new.items q
+        ≡ (if nat_eq q place then true else is_marked bits.old.items q) }
     ensures same { length bits.new.items ≡ length bits.old.items }
 {
     bits[place / 64] |= 1 << (place % 64);

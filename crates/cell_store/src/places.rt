@@ -82,7 +82,8 @@ pub fn put(stacks: &mut Vec<Places>, size: usize, place: u32)
 
 /// Takes the top place off the stack of a size. `None` where no place is there.
 pub fn take(stacks: &mut Vec<Places>, size: usize) -> Option<u32>
-    ensures places { MatchOption result ((stack_at stacks.old.items size).places ≡ []) (λ p. (stack_at stacks.old.items size).places ≡ (stack_at stacks.new.items size).places ++ p ∷ []) }
+    ensures places { MatchOption result ((stack_at stacks.old.items size).places ≡ [])
+        (λ p. (stack_at stacks.old.items size).places ≡ (stack_at stacks.new.items size).places ++ p ∷ []) }
     ensures same { (stack_at stacks.old.items size).places ≡ [] → (stack_at stacks.new.items size).places ≡ [] }
     ensures room { (stack_at stacks.new.items size).room ≡ (stack_at stacks.old.items size).room }
     ensures others { (k : ℕ) → k ≢ size → stack_at stacks.new.items k ≡ stack_at stacks.old.items k }
@@ -105,7 +106,8 @@ pub fn reserve(
 ) -> Result<(), AllocError>
     requires { size < 64 }
     ensures kept { KeepsPlaces stacks.old.items stacks.new.items }
-    ensures more { OnOk result (length (stack_at stacks.new.items size).places + more ≤ (stack_at stacks.new.items size).room) }
+    ensures more { OnOk result (length (stack_at stacks.new.items size).places + more ≤ (stack_at stacks.new.items
+        size).room) }
 {
     for _ in stacks.len()..size + 1 {
         stacks.push(Places::new(alloc))?;

@@ -1,5 +1,6 @@
 // A store that keeps each cell by itself: the place of a cell is the number of the cells before it.
-ghost use Rattle.std.specs.Prelude.{◌≡◌, ◌≢◌, ℕ, ◌+◌, ◌*◌, ◌<◌, ◌≤◌, ◌↔◌, Bool, false, [], ◌∷◌, ◌++◌, None, Some, Err, All, IfOk, OnOk, OnErr, length, map, vec_len};
+ghost use Rattle.std.specs.Prelude.{◌≡◌, ◌≢◌, ℕ, ◌+◌, ◌*◌, ◌<◌, ◌≤◌, ◌↔◌, Bool, false, [], ◌∷◌, ◌++◌, None, Some, Err};
+ghost use Rattle.std.specs.Prelude.{All, IfOk, OnOk, OnErr, length, map, vec_len};
 ghost use Rattle.std.specs.Vec.{vec_capacity};
 ghost use Rattle.fip_language.specs.Store.{Cell};
 ghost use Rattle.cell_store.specs.Cells.{size_of, number};
@@ -26,7 +27,13 @@ pub struct RowSealed {
 impl Model for RowSealed {
     ghost Value = { Stored };
 
-    ghost view = { λ s. record { cells = map (λ c. Some c) s.rows.items; released = s.released.items; pushed = s.pushed.items; left = s.left } };
+    ghost view = { λ s. record {
+      cells = map (λ c. Some c) s.rows.items;
+      released = s.released.items;
+      pushed =
+          s.pushed.items;
+      left = s.left;
+    } };
 
     ghost invariant = { λ s. record {
       flags : length s.released.items ≡ length s.rows.items;
@@ -91,7 +98,8 @@ impl Cells for RowSealed {
     }
 }
 
-/// A store of cells, each by itself, that takes more of them, up to a number of words; a cell of k fields takes k + 1 words.
+/// A store of cells, each by itself, that takes more of them, up to a number of words; a cell of k fields takes k + 1
+/// words.
 #[derive(Drop)]
 pub struct RowLoader {
     alloc: Global,
@@ -148,7 +156,8 @@ impl RowLoader {
         requires some { 0 < length fields.now }
         requires few { length fields.now ≤ 16 }
         ensures place { IfOk result (λ p. p ≡ length self.old.cells) }
-        ensures cells { OnOk result (self.new.cells ≡ self.old.cells ++ Some (record { tag = tag; fields = fields.now }) ∷ []) }
+        ensures cells { OnOk result (self.new.cells ≡ self.old.cells ++ Some (record { tag = tag; fields = fields.now })
+            ∷ []) }
         ensures released { OnOk result (self.new.released ≡ self.old.released ++ false ∷ []) }
         ensures left { OnOk result (self.new.left + (length fields.now + 1) ≡ self.old.left) }
         ensures full { (result ≡ Err CellError.Full) ↔ (self.old.left < length fields.now + 1) }

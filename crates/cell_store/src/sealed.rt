@@ -28,8 +28,8 @@ impl Sealed {
         Sealed { flat }
     }
 
-    /// The loader of these cells, with the same released ones and the same words left; what was pushed is gone. It takes no
-    /// memory.
+    /// The loader of these cells, with the same released ones and the same words left; what was pushed is gone. It
+    /// takes no memory.
     pub fn reopen(self) -> Loader
         ensures cells { result.cells ≡ self.cells }
         ensures released { result.released ≡ self.released }

@@ -84,7 +84,8 @@ fn release_live<C: Cells>(cells: &mut C, place: u32) {
     }
 }
 
-// Overwrites 1,000 cells of size 2 that lie `step` places apart, each by words made of what it held; what all of them hold then.
+// Overwrites 1,000 cells of size 2 that lie `step` places apart, each by words made of what it held; what all of them
+// hold then.
 fn overwritten<C: Cells>(rt: &impl Abort, cells: &mut C, step: u32) -> u64 {
     let mut sum: u64 = 0;
     for i in 0..1000 {

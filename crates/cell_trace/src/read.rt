@@ -8,8 +8,8 @@ use std::alloc::Global;
 // The most fields of a cell.
 const MOST_FIELDS: u8 = 16;
 
-/// The trace that the bytes spell. BadTrace with the least place at which they go wrong, as it says. Memory grows with the
-/// bytes that are read.
+/// The trace that the bytes spell. BadTrace with the least place at which they go wrong, as it says. Memory grows with
+/// the bytes that are read.
 pub fn read_trace(alloc: Global, bytes: &[u8]) -> Result<Trace, ReadTraceError> {
     let mut reader = Reader::new(bytes);
     reader.exactly(HEAD)?;

@@ -13,8 +13,8 @@ use std::marker::Model;
 // The most fields of a cell.
 const MOST_FIELDS: usize = 16;
 
-/// A sealed store with what was written to it, step by step. It is a store as the one in it, and calls on it do the same.
-/// What can't be kept is noted and told at the end, so that a run goes on as without it.
+/// A sealed store with what was written to it, step by step. It is a store as the one in it, and calls on it do the
+/// same. What can't be kept is noted and told at the end, so that a run goes on as without it.
 #[derive(Drop)]
 pub struct Recorder {
     alloc: Global,
@@ -36,8 +36,8 @@ impl Model for Recorder {
 }
 
 impl Recorder {
-    /// The store before the first step, and the most bytes that the file of its trace may have. An error where no memory is
-    /// left.
+    /// The store before the first step, and the most bytes that the file of its trace may have. An error where no
+    /// memory is left.
     pub fn new(alloc: Global, cells: Sealed, limit: usize) -> Result<Recorder, TraceError> {
         let mut recorder = Recorder {
             alloc,
@@ -166,8 +166,8 @@ impl Recorder {
         &self.cells
     }
 
-    /// The store as it is now, and the trace. TooLong where it is longer than it may be, NoMemory where no memory was left
-    /// for it.
+    /// The store as it is now, and the trace. TooLong where it is longer than it may be, NoMemory where no memory was
+    /// left for it.
     pub fn finish(self) -> (Sealed, Result<Trace, TraceError>) {
         let Recorder {
             cells,

@@ -5,7 +5,8 @@ use fip_base::plain::NoMemory;
 use itoa::Buffer;
 use std::alloc::Global;
 
-/// A line for each cell in order of place, as it is after so many steps, or after the last: `cell 0: tag 1 fields 2 0`, or
+/// A line for each cell in order of place, as it is after so many steps, or after the last: `cell 0: tag 1 fields 2 0`,
+/// or
 /// `free 0` where it is released. Words are unsigned decimals. An error where no memory is left.
 pub fn cells_after(alloc: Global, trace: &Trace, step: u64) -> Result<Vec<u8>, NoMemory> {
     let last = last_events(alloc, trace, step)?;

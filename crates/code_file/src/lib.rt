@@ -16,9 +16,9 @@
 //     set      = count:u16 constructor:u32*
 //
 // The module `tags` has what a kind of function, a mark, an operator and an op stand for; the operands of each op stand
-// in the order in which `Reader::instr` reads them. A constructor's name is an upper-case name, a function's a lower-case
-// name that is no keyword, or empty. A root or a from of ffff is none, and then the field is 0. A code has one spelling
-// in each version at most.
+// in the order in which `Reader::instr` reads them. A constructor's name is an upper-case name, a function's a
+// lower-case name that is no keyword, or empty. A root or a from of ffff is none, and then the field is 0. A code has
+// one spelling in each version at most.
 #![tactic(auto)]
 
 mod error;

@@ -46,8 +46,8 @@ impl<T: Drop> From<AllocFailed<T>> for VerifyError {
     }
 }
 
-/// Accepts a code exactly where it is sound. It takes time and memory in proportion to the code, and no stack. Unsound: it
-/// isn't.
+/// Accepts a code exactly where it is sound. It takes time and memory in proportion to the code, and no stack. Unsound:
+/// it isn't.
 pub fn verify(alloc: Global, code: Code) -> Result<Verified, VerifyError> {
     let facts = examine(alloc, &code)?;
     match Verified::of(alloc, code, facts.stacks, facts.drops)? {

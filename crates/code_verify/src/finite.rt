@@ -1,7 +1,7 @@
-// Which types have a finite value: the least set with int and each type that has a constructor all of whose fields' types
-// are in it. Each field is looked at once, when its type is found to have a value. (The algorithm is that of W. F. Dowling
-// and J. H. Gallier, Linear-time algorithms for testing the satisfiability of propositional Horn formulae, Journal of
-// Logic Programming 1, 1984.)
+// Which types have a finite value: the least set with int and each type that has a constructor all of whose fields'
+// types are in it. Each field is looked at once, when its type is found to have a value. (The algorithm is that of W.
+// F. Dowling and J. H. Gallier, Linear-time algorithms for testing the satisfiability of propositional Horn formulae,
+// Journal of Logic Programming 1, 1984.)
 use fip_base::plain::NoMemory;
 use fip_base::table::{Constructor, TypeTable};
 use std::alloc::Global;

@@ -9,8 +9,8 @@ pub struct Violation {
     pub rule: SoundRule,
 }
 
-/// The least of the violations that were noted: by function, then instruction, then rule. So the order in which they are
-/// noted doesn't matter.
+/// The least of the violations that were noted: by function, then instruction, then rule. So the order in which they
+/// are noted doesn't matter.
 #[derive(Clone, Copy, Debug)]
 pub struct Least {
     first: Option<Violation>,

@@ -1,5 +1,5 @@
-// Code from anywhere is checked before it runs. What is accepted never goes wrong on a machine: each register has what an
-// instruction asks of it, no cell is used twice or forgotten, and a fip function's stack is known.
+// Code from anywhere is checked before it runs. What is accepted never goes wrong on a machine: each register has what
+// an instruction asks of it, no cell is used twice or forgotten, and a fip function's stack is known.
 //
 // The rules are named S0 to S9. A violation has a function and an instruction; the one that is named is the least by
 // function, instruction and rule. Without S0, each function is checked for S9, and without that its instructions, in

@@ -18,7 +18,8 @@ struct Asked {
 }
 
 impl<'a> Walk<'a> {
-    /// The row of an instruction that doesn't break S1, where the kinds before it are known. Whether those behind it are.
+    /// The row of an instruction that doesn't break S1, where the kinds before it are known. Whether those behind it
+    /// are.
     pub fn row(&mut self, at: usize, instr: &'a Instr) -> Result<bool, NoMemory> {
         match instr {
             Instr::Const { destination, .. } => self.const_(at, *destination),
@@ -392,8 +393,8 @@ impl<'a> Walk<'a> {
         )
     }
 
-    // Uses up registers as values of these types. Whether there is one for each type and each was of it: a scalar, or owned
-    // and not used up before.
+    // Uses up registers as values of these types. Whether there is one for each type and each was of it: a scalar, or
+    // owned and not used up before.
     fn give_all(&mut self, registers: &[u16], types: &[u32]) -> Result<bool, NoMemory> {
         if registers.len() != types.len() {
             return Ok(false);

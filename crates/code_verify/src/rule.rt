@@ -5,11 +5,11 @@ use std::fmt;
 #[derive(Clone, Copy, Debug, PartialEq, Eq, PartialOrd, Ord)]
 pub enum SoundRule {
     /// Of function 0, instruction 0: type 1 isn't bool with False and True; more than 4,096 types or functions; a type
-    /// without constructors or without a finite value; a type's number that isn't there in the table; more than 16 fields;
-    /// two constructors of one name in a type; two functions of one name that isn't empty.
+    /// without constructors or without a finite value; a type's number that isn't there in the table; more than 16
+    /// fields; two constructors of one name in a type; two functions of one name that isn't empty.
     S0,
-    /// A register, a type, a constructor or a function that isn't there; a target that isn't behind the instruction, isn't
-    /// in the function, or has no label.
+    /// A register, a type, a constructor or a function that isn't there; a target that isn't behind the instruction,
+    /// isn't in the function, or has no label.
     S1,
     /// A source, a field's number, the arguments or a tail call's results aren't as the instruction asks.
     S2,
@@ -25,12 +25,12 @@ pub enum SoundRule {
     S7,
     /// A fip function calls one of its own group outside tail position.
     S8,
-    /// Of instruction 0: no instruction; registers fewer than parameters and credits together, or more than 4,096; a number
-    /// of results other than 1 to 8; a header with a type that isn't there, with more than 16 credits, or with one of a
-    /// size other than 1 to 16; labels whose numbers don't rise, are 0 or past the end, that don't speak of exactly each
-    /// register, or that have a number that isn't there, an empty set, a set that doesn't rise, a lent register whose root
-    /// isn't owned there, or a from that names the register itself, or a register that isn't owned or lent with the same
-    /// root and one constructor, which has that field.
+    /// Of instruction 0: no instruction; registers fewer than parameters and credits together, or more than 4,096; a
+    /// number of results other than 1 to 8; a header with a type that isn't there, with more than 16 credits, or with
+    /// one of a size other than 1 to 16; labels whose numbers don't rise, are 0 or past the end, that don't speak of
+    /// exactly each register, or that have a number that isn't there, an empty set, a set that doesn't rise, a lent
+    /// register whose root isn't owned there, or a from that names the register itself, or a register that isn't owned
+    /// or lent with the same root and one constructor, which has that field.
     S9,
 }
 

@@ -26,8 +26,9 @@ impl Model for Verified {
 }
 
 impl Verified {
-    /// The code with what was found of its functions: for each what it needs of the stack, where it is fip, and the types at
-    /// its Drops in rising order of their instructions. None where a run can't rely on the code, which no sound one is.
+    /// The code with what was found of its functions: for each what it needs of the stack, where it is fip, and the
+    /// types at its Drops in rising order of their instructions. None where a run can't rely on the code, which no
+    /// sound one is.
     pub fn of(
         alloc: Global,
         code: Code,
@@ -55,8 +56,8 @@ impl Verified {
     }
 
     /// What a run of a function holds of the stack at the most: frames beside its own, and words in all frames, a frame
-    /// being the function's registers and two words more. None for a function that isn't fip, and where there is none of
-    /// this number.
+    /// being the function's registers and two words more. None for a function that isn't fip, and where there is none
+    /// of this number.
     pub fn code_stack(&self, function: usize) -> Option<Stack>
         ensures known { (s : _) → result ≡ Some s → slice_get self.now.stacks function ≡ Some (Some s) }
     {

@@ -188,8 +188,8 @@ impl<'a> Walk<'a> {
         }
     }
 
-    // From an instruction the run arrives at the label of a number. Where a violation is known that comes before, this one
-    // needn't be looked for.
+    // From an instruction the run arrives at the label of a number. Where a violation is known that comes before, this
+    // one needn't be looked for.
     fn arrive(&mut self, at: usize, number: usize, tested: Option<Tested>) {
         let violation = Violation {
             function: self.number,

@@ -2,7 +2,8 @@
 -- fp2 exec FILE ENTRY [--calls N] [--frames N] [--words N] [--gauge], and fourteen further commands.
 use Rattle.std.specs.Prelude.{◌≡◌, ◌⊎◌, ℕ, ◌^◌, ◌<◌, ◌≤◌, List, [], ◌∷◌, Some, Bool, true, false, codes}
 use Rattle.std.specs.Str.Parse.{IsNumeral, digits_value, without_leading_plus}
-use Rattle.clap.specs.Words.{App, Row, Rule, Text, fault_of, first_of, one_of, subcommand_of, new_rule, with_rule, with_subcommand}
+use Rattle.clap.specs.Words.{App, Row, Rule, Text, fault_of, first_of, one_of, subcommand_of, new_rule, with_rule}
+use Rattle.clap.specs.Words.{with_subcommand}
 use Rattle.clap.specs.Simple.{new_shape}
 use Rattle.clap.specs.declared.builder.action.ArgAction.TheVariants.{SetTrue}
 use Rattle.clap.specs.declared.builder.value_parser.ValueParser.TheVariants as vp
@@ -99,7 +100,8 @@ abbrev pub library_app : App
 library_app = one_word (codes "library") (codes "NAME")
 
 abbrev pub gen_app : App
-gen_app = with_rule (with_rule (bare (codes "gen")) (number_word (codes "SEED") 0 most_seed)) (number_word (codes "COUNT") 1 most_count)
+gen_app = with_rule (with_rule (bare (codes "gen")) (number_word (codes "SEED") 0 most_seed))
+    (number_word (codes "COUNT") 1 most_count)
 
 abbrev pub upgrade_app : App
 upgrade_app = two_words (codes "upgrade") (codes "FILE") (codes "OUT")
@@ -108,7 +110,8 @@ abbrev pub session_app : App
 session_app = with_room (one_word (codes "session") (codes "FILE"))
 
 abbrev pub tasks_words_app : App
-tasks_words_app = with_rule (with_rule (one_word (codes "tasks") (codes "FILE")) (number_word (codes "SEED") 0 most_seed)) (number_word (codes "TURNS") 0 most_turns)
+tasks_words_app = with_rule (with_rule (one_word (codes "tasks") (codes "FILE"))
+    (number_word (codes "SEED") 0 most_seed)) (number_word (codes "TURNS") 0 most_turns)
 
 abbrev pub tasks_app : App
 tasks_app = with_room tasks_words_app
@@ -127,7 +130,12 @@ replay_app = with_rule (one_word (codes "replay") (codes "TRACE")) (number_word 
 
 abbrev pub top_app : App
 top_app = record {
-  top = record (new_shape (codes "fp2")) { disable_help_flag = true; disable_help_subcommand = true; subcommand_required = true };
+  top = record (new_shape (codes "fp2")) {
+    disable_help_flag = true;
+    disable_help_subcommand =
+        true;
+    subcommand_required = true;
+  };
   subs = [];
 }
 

@@ -2,8 +2,13 @@
 ghost use Rattle.std.specs.Prelude.{◌≡◌, IfOk, false};
 ghost use Rattle.clap.specs.Words.{app_of, rule_of, with_rule, with_subcommand};
 ghost use Rattle.clap.specs.declared.builder.command.Command.TheViews.{out-Command};
-ghost use Rattle.command_line.specs.Words.{word, number_word, number_option, flag, bare, one_word, two_words, with_calls, with_frames, with_words, with_room, with_gauge};
-ghost use Rattle.command_line.specs.Words.{check_app, compile_app, verify_app, exec_app, run_app, eval_app, library_app, gen_app, upgrade_app, session_app, tasks_words_app, tasks_app, derive_app, audit_app, trace_app, replay_app, top_app, check_commands, file_commands, machine_commands, run_commands, line_commands, proof_commands, paper_commands, command_app};
+ghost use Rattle.command_line.specs.Words.{word, number_word, number_option, flag, bare, one_word, two_words};
+ghost use Rattle.command_line.specs.Words.{with_calls, with_frames, with_words, with_room, with_gauge};
+ghost use Rattle.command_line.specs.Words.{check_app, compile_app, verify_app, exec_app, run_app, eval_app};
+ghost use Rattle.command_line.specs.Words.{library_app, gen_app, upgrade_app, session_app, tasks_words_app, tasks_app};
+ghost use Rattle.command_line.specs.Words.{derive_app, audit_app, trace_app, replay_app, top_app, check_commands};
+ghost use Rattle.command_line.specs.Words.{file_commands, machine_commands, run_commands, line_commands};
+ghost use Rattle.command_line.specs.Words.{proof_commands, paper_commands, command_app};
 
 use clap::builder::ValueParser;
 use clap::{Arg, ArgAction, Command};
@@ -109,7 +114,8 @@ fn with_option<'a>(
     preset: &'a str,
 ) -> Result<Command<'a>, AllocError>
     requires local { (out-Command base).has_globals ≡ false }
-    ensures shape { IfOk result (λ c. app_of c ≡ with_rule (app_of base.entry) (number_option id.entry.now most preset.entry.now)) }
+    ensures shape { IfOk result (λ c. app_of c ≡ with_rule (app_of base.entry)
+        (number_option id.entry.now most preset.entry.now)) }
     ensures local { IfOk result (λ c. (out-Command c).has_globals ≡ false) }
 {
     base.arg(option_arg(alloc, id, most, preset))

@@ -1,5 +1,6 @@
 // What words ask for.
-ghost use Rattle.std.specs.Prelude.{◌≡◌, ◌↔◌, IsTrue, ℕ, IfOk, IfSome, IsNone, Some, Err, map, string_bytes, option_map, Bool, codes};
+ghost use Rattle.std.specs.Prelude.{◌≡◌, ◌↔◌, IsTrue, ℕ, IfOk, IfSome, IsNone, Some, Err, map, string_bytes};
+ghost use Rattle.std.specs.Prelude.{option_map, Bool, codes};
 ghost use Rattle.clap.specs.Words.{found_of, rows_of, first_of, one_of, Row};
 ghost use Rattle.command_line.specs.Words as W;
 ghost use Rattle.command_line.specs.Words.{IsNumberIn, flag_text, IsRoom, AsksToRun, IsAsked, IsTextName, IsCommand};
@@ -139,7 +140,8 @@ fn number_of(matches: &ArgMatches<'_>, id: &str, least: u64, most: u64) -> Optio
 // Whether a flag stands there.
 fn flag_of(matches: &ArgMatches<'_>, id: &str) -> Option<bool>
     ensures some { IfSome result (λ b. one_of id.now (rows_of (found_of matches.now)) ≡ Some (flag_text b)) }
-    ensures none { IsNone result → (b : Bool) → one_of id.now (rows_of (found_of matches.now)) ≡ Some (flag_text b) → ⊥ }
+    ensures none { IsNone result → (b : Bool) → one_of id.now (rows_of (found_of matches.now)) ≡ Some (flag_text b) →
+        ⊥ }
 {
     matches.get_one::<bool>(id)
 }
@@ -389,7 +391,8 @@ fn asked<'a>(name: &str, matches: &ArgMatches<'a>) -> Option<Command<'a>>
 /// NotUnderstood comes exactly where they are no command.
 pub fn read_words<'a>(alloc: Global, words: &'a [String]) -> Result<Command<'a>, WordsError>
     ensures ok { IfOk result (λ c. IsCommand (map string_bytes words.now) (command_of c)) }
-    ensures not_understood { result ≡ Err WordsError.NotUnderstood → (c : W.Command) → IsCommand (map string_bytes words.now) c → ⊥ }
+    ensures not_understood { result ≡ Err WordsError.NotUnderstood → (c : W.Command) →
+        IsCommand (map string_bytes words.now) c → ⊥ }
 {
     let Ok(command) = command(alloc) else {
         return Err(WordsError::NoMemory);

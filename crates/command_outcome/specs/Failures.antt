@@ -7,8 +7,10 @@ use Rattle.command_outcome.specs.declared.failure.Object.{Object}
 use Rattle.command_outcome.specs.declared.failure.Object.TheVariants as O
 use Rattle.command_outcome.specs.declared.failure.Failure.{Failure}
 use Rattle.command_outcome.specs.declared.failure.Failure.TheVariants as F
-use Rattle.command_outcome.specs.Texts.{not_understood_text, bad_code_text, unsound_text, sound_rule_name, bad_trace_text, bad_input_text, bad_task_text}
-use Rattle.command_outcome.specs.Texts.{too_small_text, trap_text, out_of_calls_text, out_of_frames_text, no_memory_text}
+use Rattle.command_outcome.specs.Texts.{not_understood_text, bad_code_text, unsound_text, sound_rule_name}
+use Rattle.command_outcome.specs.Texts.{bad_trace_text, bad_input_text, bad_task_text}
+use Rattle.command_outcome.specs.Texts.{too_small_text, trap_text, out_of_calls_text, out_of_frames_text}
+use Rattle.command_outcome.specs.Texts.{no_memory_text}
 use Rattle.command_outcome.specs.Texts.{folder_fault_text, input_fault_text, out_fault_text, err_fault_text}
 
 abbrev pub fault_text : Object → List ℕ

@@ -20,14 +20,16 @@ abbrev pub bad_input_text : ℕ → List ℕ
 bad_input_text at = codes "bad input at " ++ (decimal at ++ line_end)
 
 abbrev pub too_small_text : ℕ → ℕ → List ℕ
-too_small_text needed given = codes "store too small: " ++ (decimal needed ++ (codes " needed, " ++ (decimal given ++ codes " given\n")))
+too_small_text needed given = codes "store too small: "
+    ++ (decimal needed ++ (codes " needed, " ++ (decimal given ++ codes " given\n")))
 
 abbrev pub trap_name : TrapKind → List ℕ
 trap_name Overflow = codes "Overflow"
 trap_name DivideByZero = codes "DivideByZero"
 
 abbrev pub trap_text : TrapKind → ℕ → ℕ → List ℕ
-trap_text kind line col = codes "trap " ++ (trap_name kind ++ (codes " at " ++ (decimal line ++ (codes ":" ++ (decimal col ++ line_end)))))
+trap_text kind line col = codes "trap " ++ (trap_name kind
+    ++ (codes " at " ++ (decimal line ++ (codes ":" ++ (decimal col ++ line_end)))))
 
 abbrev pub out_of_frames_text : ℕ → List ℕ
 out_of_frames_text frames = codes "out of frames: " ++ (decimal frames ++ line_end)
@@ -54,20 +56,24 @@ sound_rule_name S8 = codes "S8"
 sound_rule_name S9 = codes "S9"
 
 abbrev pub unsound_text : ℕ → ℕ → List ℕ → List ℕ
-unsound_text function at rule = codes "unsound function " ++ (decimal function ++ (codes " instruction " ++ (decimal at ++ (codes " rule " ++ (rule ++ line_end)))))
+unsound_text function at rule = codes "unsound function "
+    ++ (decimal function ++ (codes " instruction " ++ (decimal at ++ (codes " rule " ++ (rule ++ line_end)))))
 
 abbrev pub no_memory_text : List ℕ
 no_memory_text = codes "out of memory\n"
 
 -- a line of the gauge: the lowest and highest number of cells of a size
 abbrev pub cells_text : ℕ → ℕ → ℕ → List ℕ
-cells_text size low high = codes "cells of " ++ (decimal size ++ (codes ": " ++ (decimal low ++ (codes " to " ++ (decimal high ++ line_end)))))
+cells_text size low high = codes "cells of "
+    ++ (decimal size ++ (codes ": " ++ (decimal low ++ (codes " to " ++ (decimal high ++ line_end)))))
 
 abbrev pub stack_text : ℕ → ℕ → List ℕ
-stack_text frames words = codes "stack: " ++ (decimal frames ++ (codes " frames, " ++ (decimal words ++ codes " words\n")))
+stack_text frames words = codes "stack: " ++ (decimal frames
+    ++ (codes " frames, " ++ (decimal words ++ codes " words\n")))
 
 abbrev pub bound_text : ℕ → ℕ → List ℕ
-bound_text frames words = codes "bound: " ++ (decimal frames ++ (codes " frames, " ++ (decimal words ++ codes " words\n")))
+bound_text frames words = codes "bound: " ++ (decimal frames
+    ++ (codes " frames, " ++ (decimal words ++ codes " words\n")))
 
 abbrev pub folder_fault_text : List ℕ
 folder_fault_text = codes "fault: folder\n"

@@ -1,6 +1,8 @@
 // The texts of the statuses and the lines that a command prints.
 ghost use Rattle.std.specs.Prelude.{◌≡◌, IfOk, string_bytes};
-ghost use Rattle.command_outcome.specs.Texts.{out_of_calls_text, out_of_frames_text, bad_input_text, bad_code_text, bad_trace_text, bad_task_text, sound_rule_name, unsound_text, trap_name, trap_text, too_small_text, cells_text, stack_text, bound_text};
+ghost use Rattle.command_outcome.specs.Texts.{out_of_calls_text, out_of_frames_text, bad_input_text, bad_code_text};
+ghost use Rattle.command_outcome.specs.Texts.{bad_trace_text, bad_task_text, sound_rule_name, unsound_text, trap_name};
+ghost use Rattle.command_outcome.specs.Texts.{trap_text, too_small_text, cells_text, stack_text, bound_text};
 
 use code_verify::SoundRule;
 use fip_base::plain::TrapKind;

@@ -1,6 +1,7 @@
 // The texts of commands that succeed.
 ghost use Rattle.std.specs.Prelude.{◌≡◌, ◌++◌, IfOk, OnOk, string_bytes};
-ghost use Rattle.command_outcome.specs.Successes.{kind_name, credit_text, credits_text, held_text, function_text, derived_text, end_text, tree_text};
+ghost use Rattle.command_outcome.specs.Successes.{kind_name, credit_text, credits_text, held_text, function_text};
+ghost use Rattle.command_outcome.specs.Successes.{derived_text, end_text, tree_text};
 
 use fip_base::plain::{FunKind, NoMemory, Stack};
 use std::alloc::{AllocError, Global};

@@ -2,9 +2,11 @@
 -- declared twice it means its first declaration.
 -- In `data list[a] { Nil; Cons(a, list[a]) }` list is data type 2 with one parameter, Nil is its constructor 0 and Cons
 -- its constructor 1, with the fields Parameter 0 and list at Parameter 0. Data type 1 is bool.
-use Rattle.std.specs.Prelude.{◌≡◌, ℕ, suc, ◌-◌, ◌==◌, List, [], ◌∷◌, ◌++◌, map, length, Option, Some, None, if◌then◌else◌}
+use Rattle.std.specs.Prelude.{◌≡◌, ℕ, suc, ◌-◌, ◌==◌, List, [], ◌∷◌, ◌++◌, map, length, Option, Some, None}
+use Rattle.std.specs.Prelude.{if◌then◌else◌}
 use Rattle.fip_language.specs.Core.{Name, Written, WrittenInt, WrittenName, Writtens, NoWritten, MoreWritten}
-use Rattle.fip_language.specs.Core.{Static, TypeParameter, FunctionParameter, TypeName, DataConstructor, Data, Function, Core}
+use Rattle.fip_language.specs.Core.{Static, TypeParameter, FunctionParameter, TypeName, DataConstructor, Data, Function}
+use Rattle.fip_language.specs.Core.{Core}
 use Rattle.fip_language.specs.Declarations.{bool_type, data_types}
 use Rattle.fip_base.specs.CoreView.{writtens_of}
 use Rattle.fip_trees.specs.Names.{Names, meaning, with_meanings}

@@ -1,7 +1,8 @@
 -- What breaks the rules on declarations, as one list in the order of a walk; of E13 see Answers.
 -- In `data a { X }` / `data b { Y; X }` the second X breaks E10; in `data list[a] { Nil; Cons(a, list) }` the list in
 -- Cons breaks E12; `data a { X(nat) }` breaks E11 at nat, and no E13. Brackets at a type parameter break E12.
-use Rattle.std.specs.Prelude.{ℕ, suc, Bool, true, false, not, ◌||◌, List, [], ◌∷◌, ◌++◌, length, Option, Some, None, slice_get}
+use Rattle.std.specs.Prelude.{ℕ, suc, Bool, true, false, not, ◌||◌, List, [], ◌∷◌, ◌++◌, length, Option, Some, None}
+use Rattle.std.specs.Prelude.{slice_get}
 use Rattle.std.specs.Prelude.{◌==◌, nat_lt, is_none, codes, if◌then◌else◌}
 use Rattle.fip_language.specs.declared.Place.{Place}
 use Rattle.fip_language.specs.declared.CreditMark.{CreditMark}
@@ -173,7 +174,8 @@ abbrev mutual
 
 -- E63: a mark of a size that no cell has
 abbrev pub mark_faults : List CreditMark → List Violation
-mark_faults ms = all_of (λ (m : CreditMark). when (m.size == 0 || nat_lt MOST_FIELDS m.size) (broken E63 m.size_place [])) ms
+mark_faults ms = all_of (λ (m : CreditMark). when (m.size == 0 || nat_lt MOST_FIELDS m.size)
+    (broken E63 m.size_place [])) ms
 
 abbrev pub place_faults : Option CreditMark → List Violation
 place_faults None = []

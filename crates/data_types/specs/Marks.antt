@@ -1,6 +1,8 @@
 -- Marks on pairs of a data type and which of its arguments have a value. Just the pairs that were asked for are listed.
-use Rattle.std.specs.Prelude.{◌≡◌, ◌⊎◌, ℕ, zero, suc, ◌+◌, ◌-◌, ◌*◌, ◌<◌, Bool, true, false, ◌&&◌, nat_eq, List, [], ◌∷◌, ◌++◌, length, Option, Some, None, slice_get, slice_set, if◌then◌else◌}
-use Rattle.data_types.specs.Types.{Ty, Tys, Given, Parameter, Applied, NoTys, MoreTys, Declarations, arity, constructors, pick, HasValue}
+use Rattle.std.specs.Prelude.{◌≡◌, ◌⊎◌, ℕ, zero, suc, ◌+◌, ◌-◌, ◌*◌, ◌<◌, Bool, true, false, ◌&&◌, nat_eq, List, []}
+use Rattle.std.specs.Prelude.{◌∷◌, ◌++◌, length, Option, Some, None, slice_get, slice_set, if◌then◌else◌}
+use Rattle.data_types.specs.Types.{Ty, Tys, Given, Parameter, Applied, NoTys, MoreTys, Declarations, arity}
+use Rattle.data_types.specs.Types.{constructors, pick, HasValue}
 
 pub record Pair : Type 0 where
   pub type : ℕ
@@ -103,7 +105,8 @@ Agrees ds bs as' = (k : ℕ) → bit bs k ≡ true → HasValue ds (pick as' k)
 
 -- a marked pair's type has a value at all arguments that have values where the pair says so
 abbrev pub IsSound : Declarations → State → Type 0
-IsSound ds s = (t : ℕ) (bs : List Bool) → is_marked s (pair t bs) ≡ true → (as' : Tys) → Agrees ds bs as' → HasValue ds (Applied t as')
+IsSound ds s = (t : ℕ) (bs : List Bool) → is_marked s (pair t bs) ≡ true → (as' : Tys) → Agrees ds bs as' →
+    HasValue ds (Applied t as')
 
 abbrev pub trues : ℕ → List Bool
 trues zero = []

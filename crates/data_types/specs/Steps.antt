@@ -1,7 +1,8 @@
 -- What the steps of the search do to its state.
 use Rattle.std.specs.Prelude.{◌≡◌, ℕ, ◌+◌, ◌<◌, ◌≤◌, Bool, true, false, List, length, Some, slice_get}
 use Rattle.data_types.specs.Types.{Ty, Tys, Declarations, IsValued}
-use Rattle.data_types.specs.Marks.{Pair, State, is_marked, IsListed, is_valued, valued_bits, are_valued, IsAsked, AreAsked, IsBlocked, IsSound, room, left, with_mark, root}
+use Rattle.data_types.specs.Marks.{Pair, State, is_marked, IsListed, is_valued, valued_bits, are_valued, IsAsked}
+use Rattle.data_types.specs.Marks.{AreAsked, IsBlocked, IsSound, room, left, with_mark, root}
 
 -- pairs were listed, and nothing else happened
 pub record Extends (old new : State) : Type 0 where

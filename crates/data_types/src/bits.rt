@@ -46,7 +46,8 @@ pub fn fields_of<'s>(
     ty: usize,
     number: usize,
 ) -> Option<&'s [FieldType]>
-    ensures { MatchOption result (slice_get (t.constructors (v.declarations declared.now) ty) number ≡ None) (λ fs. slice_get (t.constructors (v.declarations declared.now) ty) number ≡ Some (v.tys fs.now)) }
+    ensures { MatchOption result (slice_get (t.constructors (v.declarations declared.now) ty) number ≡ None)
+        (λ fs. slice_get (t.constructors (v.declarations declared.now) ty) number ≡ Some (v.tys fs.now)) }
 {
     if ty >= declared.len() {
         return None;

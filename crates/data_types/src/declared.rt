@@ -26,8 +26,8 @@ use fip_trees::decls::{DeclaredNames, DeclaredType, Decls};
 use fip_trees::least::Least;
 use std::alloc::Global;
 
-/// What a program declares: its names, and its data types with bool before them. It is refused by the least violation of
-/// these rules:
+/// What a program declares: its names, and its data types with bool before them. It is refused by the least violation
+/// of these rules:
 ///
 /// - E10: a second data type, constructor or function of a name, or a second type parameter, static parameter or
 ///   parameter of a name in one header;

@@ -21,8 +21,8 @@ use fip_trees::limits::{MOST_CREDITS, MOST_FIELDS};
 use fip_trees::meanings::Meanings;
 use std::alloc::Global;
 
-/// The type parameters of a function's header, each numbered by its place among the static parameters. They are in scope
-/// in the whole header and the body.
+/// The type parameters of a function's header, each numbered by its place among the static parameters. They are in
+/// scope in the whole header and the body.
 pub fn type_parameters<'a>(
     alloc: Global,
     statics: &'a [Static],

@@ -1,7 +1,9 @@
-// The search for pairs of a data type and its arguments' bits that have a value. A constructor of a listed pair that has
-// a field without a mark waits for the pairs that this field leads to; what waits for a pair is looked at again once that
-// is marked. What waits only makes the search fast: that it is complete stands on a last pass in which nothing changes.
-ghost use Rattle.std.specs.Prelude.{◌≡◌, ◌<◌, ◌≤◌, ◌⊎◌, ℕ, length, true, false, Some, None, [], ◌++◌, ◌∷◌, slice_get, OnOk, IfOk, IfSome, MatchOption};
+// The search for pairs of a data type and its arguments' bits that have a value. A constructor of a listed pair that
+// has a field without a mark waits for the pairs that this field leads to; what waits for a pair is looked at again
+// once that is marked. What waits only makes the search fast: that it is complete stands on a last pass in which
+// nothing changes.
+ghost use Rattle.std.specs.Prelude.{◌≡◌, ◌<◌, ◌≤◌, ◌⊎◌, ℕ, length, true, false, Some, None, [], ◌++◌, ◌∷◌, slice_get};
+ghost use Rattle.std.specs.Prelude.{OnOk, IfOk, IfSome, MatchOption};
 ghost use Rattle.data_types.specs.Marks as m;
 ghost use Rattle.data_types.specs.Steps as s;
 ghost use Rattle.data_types.specs.View as v;
@@ -200,7 +202,8 @@ impl Marking {
 
     // A copy of the pair at a place.
     fn pair_at(&self, place: usize) -> Result<Option<Pair>, NoMemory>
-        ensures { IfOk result (λ o. MatchOption o (slice_get self.now.pairs place ≡ None) (λ q. slice_get self.now.pairs place ≡ Some (p.pair q))) }
+        ensures { IfOk result (λ o. MatchOption o (slice_get self.now.pairs place ≡ None)
+            (λ q. slice_get self.now.pairs place ≡ Some (p.pair q))) }
     {
         match self.pairs.get_index(place) {
             Some(pair) => {
@@ -242,7 +245,8 @@ impl Marking {
         waiter: Waiter,
     ) -> Result<bool, NoMemory>
         ensures step { IfOk result (λ b. s.IsStep (v.declarations declared.now) self.old self.new b) }
-        ensures done { IfOk result (λ b. b ≡ false → m.IsDone (v.declarations declared.now) self.new waiter.place waiter.number) }
+        ensures done { IfOk result (λ b. b ≡ false → m.IsDone (v.declarations declared.now)
+            self.new waiter.place waiter.number) }
     {
         let place = waiter.place as usize;
         if self.is_marked_at(place) {
@@ -278,7 +282,8 @@ impl Marking {
         place: u32,
     ) -> Result<bool, NoMemory>
         ensures step { IfOk result (λ b. s.IsStep (v.declarations declared.now) self.old self.new b) }
-        ensures done { IfOk result (λ b. b ≡ false → (c : ℕ) → m.IsDone (v.declarations declared.now) self.new place c) }
+        ensures done { IfOk result (λ b. b ≡ false → (c : ℕ) →
+            m.IsDone (v.declarations declared.now) self.new place c) }
     {
         let pair = match self.pair_at(place as usize)? {
             Some(pair) => pair,
@@ -295,7 +300,9 @@ impl Marking {
 
     // The place of a marked pair for which something may wait.
     fn next(&mut self) -> Option<u32>
-        ensures { MatchOption result (self.new ≡ self.old) (λ i. self.old ≡ record { pairs = self.new.pairs; marks = self.new.marks; todo = self.new.todo ++ i ∷ [] }) }
+        ensures { MatchOption result (self.new ≡ self.old)
+            (λ i. self.old
+            ≡ record { pairs = self.new.pairs; marks = self.new.marks; todo = self.new.todo ++ i ∷ [] }) }
     {
         self.todo.pop()
     }
@@ -350,7 +357,8 @@ impl Marking {
         place: u32,
     ) -> Result<bool, NoMemory>
         ensures step { IfOk result (λ b. s.IsStep (v.declarations declared.now) self.old self.new b) }
-        ensures done { IfOk result (λ b. b ≡ false → (c : ℕ) → m.IsDone (v.declarations declared.now) self.new place c) }
+        ensures done { IfOk result (λ b. b ≡ false → (c : ℕ) →
+            m.IsDone (v.declarations declared.now) self.new place c) }
     {
         let changed = self.visit_pair(alloc, declared, place)?;
         if !changed {

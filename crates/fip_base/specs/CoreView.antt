@@ -17,7 +17,8 @@ use Rattle.fip_base.specs.declared.core_form.MatchKind.{MatchKind}
 use Rattle.fip_base.specs.declared.core_form.MatchKind.TheVariants as K
 use Rattle.fip_base.specs.declared.core_form.Expression.{Expression}
 use Rattle.fip_base.specs.declared.core_form.Expression.TheOpen as E
-use Rattle.fip_base.specs.declared.core_form.Expression.TheFolds.{fold-Expression, fold-Block, fold-Binding, fold-Clause}
+use Rattle.fip_base.specs.declared.core_form.Expression.TheFolds.{fold-Expression, fold-Block, fold-Binding}
+use Rattle.fip_base.specs.declared.core_form.Expression.TheFolds.{fold-Clause}
 use Rattle.fip_base.specs.declared.core_form.Block.{Block}
 use Rattle.fip_base.specs.declared.core_form.Binding.{Binding}
 use Rattle.fip_base.specs.declared.core_form.Clause.{Clause}

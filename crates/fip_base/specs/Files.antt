@@ -1,6 +1,7 @@
--- The files of a folder: a finite map from names to bytes. What a folder tells of them is `Some` list, or `None` where it
--- tells nothing; then nothing is claimed either.
-use Rattle.std.specs.Prelude.{◌≡◌, ℕ, ◌<◌, Bool, List, [], ◌∷◌, length, Option, Some, None, ⊤, bytes_eq, if◌then◌else◌, IsSomeAnd}
+-- The files of a folder: a finite map from names to bytes. What a folder tells of them is `Some` list, or `None` where
+-- it tells nothing; then nothing is claimed either.
+use Rattle.std.specs.Prelude.{◌≡◌, ℕ, ◌<◌, Bool, List, [], ◌∷◌, length, Option, Some, None, ⊤, bytes_eq, if◌then◌else◌}
+use Rattle.std.specs.Prelude.{IsSomeAnd}
 
 -- A name and bytes, each a list of bytes.
 pub record File : Type 0 where
@@ -20,7 +21,8 @@ file_of name (file ∷ files) = if has_name name file then Some file.bytes else 
 -- The files with these bytes under a name: in place of the first ones of that name, else as the last file.
 abbrev pub put_file : List ℕ → List ℕ → List File → List File
 put_file name bytes [] = record { name = name; bytes = bytes } ∷ []
-put_file name bytes (file ∷ files) = if has_name name file then record file { bytes = bytes } ∷ files else file ∷ put_file name bytes files
+put_file name bytes (file ∷ files) = if has_name name file then record file { bytes = bytes } ∷ files else file
+    ∷ put_file name bytes files
 
 -- Where files are told, the name has these bytes.
 abbrev pub HoldsFile : Option (List File) → List ℕ → List ℕ → Type 0
@@ -41,4 +43,5 @@ IsMissing (Some files) name = file_of name files ≡ None
 abbrev pub KeepsOthers : Option (List File) → Option (List File) → List ℕ → Type 0
 KeepsOthers None after name = ⊤
 KeepsOthers (Some before) None name = ⊥
-KeepsOthers (Some before) (Some after) name = (other : List ℕ) → (other ≡ name → ⊥) → file_of other after ≡ file_of other before
+KeepsOthers (Some before) (Some after) name = (other : List ℕ) → (other ≡ name → ⊥) →
+    file_of other after ≡ file_of other before

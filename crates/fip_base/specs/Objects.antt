@@ -1,5 +1,6 @@
 -- The objects in memory: how they count their calls, which calls fail, and how many bytes a call moves.
-use Rattle.std.specs.Prelude.{◌≡◌, ℕ, ◌-◌, ◌≤◌, min, max, List, [], ◌++◌, length, drop, Option, Some, None, Contains, slice_get}
+use Rattle.std.specs.Prelude.{◌≡◌, ℕ, ◌-◌, ◌≤◌, min, max, List, [], ◌++◌, length, drop, Option, Some, None, Contains}
+use Rattle.std.specs.Prelude.{slice_get}
 use Rattle.fip_base.specs.Faults.{one_more}
 use Rattle.fip_base.specs.Files.{File, put_file}
 
@@ -30,7 +31,8 @@ counted log = record log { made = next_call log }
 abbrev pub failed : CallLog → CallLog
 failed log = record log { made = next_call log; faults = one_more log.faults }
 
--- How many bytes a call moves where a piece is given for it or not, and so many could be moved. A piece of 0 counts as 1.
+-- How many bytes a call moves where a piece is given for it or not, and so many could be moved. A piece of 0 counts as
+-- 1.
 abbrev pub within_piece : Option ℕ → ℕ → ℕ
 within_piece None room = room
 within_piece (Some piece) room = min room (max piece 1)

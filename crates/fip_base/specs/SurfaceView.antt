@@ -171,7 +171,8 @@ abbrev pub block : Block → S.Block
 block = fold-Block Action S.Block Case S.Expression LetPart step_action block_step clause_step expression_step let_step
 
 abbrev pub clause : Clause → Case
-clause = fold-Clause Action S.Block Case S.Expression LetPart step_action block_step clause_step expression_step let_step
+clause = fold-Clause Action S.Block Case S.Expression LetPart step_action block_step clause_step expression_step
+    let_step
 
 abbrev pub expression : Expression → S.Expression
 expression =

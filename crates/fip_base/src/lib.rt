@@ -1,5 +1,5 @@
-// What all parts share: the plain types, the trees of the core form, the table of types, the text of a refusal; and what
-// lies outside: sources, sinks and folders, in memory and for real.
+// What all parts share: the plain types, the trees of the core form, the table of types, the text of a refusal; and
+// what lies outside: sources, sinks and folders, in memory and for real.
 #![tactic(auto)]
 
 pub mod all;

@@ -1,11 +1,14 @@
 // A source, a sink and a folder in memory, which move bytes in given pieces and fail at given calls.
-ghost use Rattle.std.specs.Prelude.{◌≡◌, ◌<◌, ◌≤◌, ◌⊎◌, ◌↔◌, Option, Some, None, Ok, Err, length, take, IfOk, IfSome, IsErr, OnOk, OnErr, MatchOption, position, string_bytes, bytes_eq};
+ghost use Rattle.std.specs.Prelude.{◌≡◌, ◌<◌, ◌≤◌, ◌⊎◌, ◌↔◌, Option, Some, None, Ok, Err, length, take, IfOk, IfSome};
+ghost use Rattle.std.specs.Prelude.{IsErr, OnOk, OnErr, MatchOption, position, string_bytes, bytes_eq};
 ghost use Rattle.std.specs.Io.{ReadsAtMost, WritesAtMost};
 ghost use Rattle.std.specs.Io.KnownBytes.{ReadConsumes, WriteAppends};
 ghost use Rattle.fip_base.specs.Faults.{Rose, one_more};
 ghost use Rattle.fip_base.specs.Files.{file_of, put_file, HoldsFile, HoldsLonger, IsMissing, KeepsOthers, has_name};
 ghost use Rattle.fip_base.specs.Entries.{file_in, files_in};
-ghost use Rattle.fip_base.specs.Objects.{no_calls, next_call, IsToFail, counted, failed, moved, new_source, given, after_read, after_failed_read, new_sink, IsFullFor, taken, after_write, after_failed_write, new_folder, after_call, after_failed_call, after_store};
+ghost use Rattle.fip_base.specs.Objects.{no_calls, next_call, IsToFail, counted, failed, moved, new_source, given};
+ghost use Rattle.fip_base.specs.Objects.{after_read, after_failed_read, new_sink, IsFullFor, taken, after_write};
+ghost use Rattle.fip_base.specs.Objects.{after_failed_write, new_folder, after_call, after_failed_call, after_store};
 
 use crate::outside::{Failed, FetchError, Folder, Sink, Source, StoreError};
 use std::alloc::{AllocError, Global};
@@ -268,7 +271,8 @@ impl MemFolder {
 
     /// The bytes of a file, None exactly where there is none of this name.
     pub fn file(&self, name: &str) -> Option<&[u8]>
-        ensures { MatchOption result (file_of name.now self.now.files ≡ None) (λ bytes. file_of name.now self.now.files ≡ Some bytes.now) }
+        ensures { MatchOption result (file_of name.now self.now.files ≡ None)
+            (λ bytes. file_of name.now self.now.files ≡ Some bytes.now) }
     {
         match index_of(&self.files, name) {
             Some(index) => Some(self.files[index].1.as_slice()),
@@ -300,13 +304,15 @@ impl Folder for MemFolder {
 
     /// Failed exactly where the call's number is listed, or the name is missing, which raises no count.
     fn fetch(&mut self, name: &str, limit: usize) -> Result<Vec<u8>, FetchError>
-        ensures refused { result ≡ Err FetchError.Failed ↔ (IsToFail self.old.calls ⊎ (file_of name.now self.old.files ≡ None)) }
+        ensures refused { result ≡ Err FetchError.Failed ↔ (IsToFail self.old.calls
+            ⊎ (file_of name.now self.old.files ≡ None)) }
         ensures listed { IsToFail self.old.calls → self.new ≡ after_failed_call self.old }
         ensures unlisted { (IsToFail self.old.calls → ⊥) → self.new ≡ after_call self.old }
         ensures found { IfOk result (λ bytes. HoldsFile (Some self.old.files) name.now bytes.items) }
         ensures within { IfOk result (λ bytes. length bytes.items ≤ limit) }
         ensures long { result ≡ Err FetchError.TooLong → HoldsLonger (Some self.old.files) name.now limit }
-        ensures failed { result ≡ Err FetchError.Failed → Rose self.old.calls.faults self.new.calls.faults ⊎ IsMissing (Some self.old.files) name.now }
+        ensures failed { result ≡ Err FetchError.Failed → Rose self.old.calls.faults self.new.calls.faults
+            ⊎ IsMissing (Some self.old.files) name.now }
         ensures memory { result ≡ Err FetchError.NoMemory → self.new.calls.faults ≡ self.old.calls.faults }
         ensures same { Some self.new.files ≡ Some self.old.files }
         ensures later { self.old.calls.faults ≤ self.new.calls.faults }

@@ -108,7 +108,8 @@ pub trait Folder {
         ensures found { IfOk result (λ bytes. HoldsFile (files self.old) name.now bytes.items) }
         ensures within { IfOk result (λ bytes. length bytes.items ≤ limit) }
         ensures long { result ≡ Err FetchError.TooLong → HoldsLonger (files self.old) name.now limit }
-        ensures failed { result ≡ Err FetchError.Failed → Rose (faults self.old) (faults self.new) ⊎ IsMissing (files self.old) name.now }
+        ensures failed { result ≡ Err FetchError.Failed → Rose (faults self.old) (faults self.new)
+            ⊎ IsMissing (files self.old) name.now }
         ensures memory { result ≡ Err FetchError.NoMemory → faults self.new ≡ faults self.old }
         ensures same { files self.new ≡ files self.old }
         ensures later { faults self.old ≤ faults self.new };

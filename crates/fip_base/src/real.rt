@@ -101,7 +101,8 @@ impl<'a, F: Files> FileFolder<'a, F> {
 
 // All that a reader has, of which there may be `limit` bytes.
 fn all_of<R: Read + Drop>(alloc: Global, file: R, limit: usize) -> Result<Vec<u8>, ReadError>
-    ensures read { IfOk result (λ v. (rest : R) × Consumes (R.remaining file) (R.remaining rest) v.items × IsAtEnd (R.remaining rest)) }
+    ensures read { IfOk result (λ v. (rest : R) × Consumes (R.remaining file) (R.remaining rest) v.items
+        × IsAtEnd (R.remaining rest)) }
     ensures within { IfOk result (λ v. length v.items ≤ limit) }
 {
     let mut source = StdSource::new(file);
@@ -124,9 +125,11 @@ impl<F: Files> Folder for FileFolder<'_, F> {
     /// The bytes are all that an opened file gave.
     fn fetch(&mut self, name: &str, limit: usize) -> Result<Vec<u8>, FetchError>
         ensures found { IfOk result (λ bytes. HoldsFile None name.now bytes.items) }
-        ensures read { IfOk result (λ bytes. (file rest : F.File) × Consumes (F.File.remaining file) (F.File.remaining rest) bytes.items × IsAtEnd (F.File.remaining rest)) }
+        ensures read { IfOk result (λ bytes. (file rest : F.File)
+            × Consumes (F.File.remaining file) (F.File.remaining rest) bytes.items × IsAtEnd (F.File.remaining rest)) }
         ensures within { IfOk result (λ bytes. length bytes.items ≤ limit) }
-        ensures failed { result ≡ Err FetchError.Failed → Rose self.old.faults self.new.faults ⊎ IsMissing None name.now }
+        ensures failed { result ≡ Err FetchError.Failed → Rose self.old.faults self.new.faults
+            ⊎ IsMissing None name.now }
         ensures memory { result ≡ Err FetchError.NoMemory → self.new.faults ≡ self.old.faults }
         ensures later { self.old.faults ≤ self.new.faults }
     {
@@ -148,7 +151,8 @@ impl<F: Files> Folder for FileFolder<'_, F> {
     /// All bytes were written to an opened file.
     fn store(&mut self, name: &str, bytes: &[u8]) -> Result<(), StoreError>
         ensures stored { OnOk result (HoldsFile None name.now bytes.now) }
-        ensures written { OnOk result ((file filled : F.File) × Appends (F.File.contents file) (F.File.contents filled) bytes.now) }
+        ensures written { OnOk result ((file filled : F.File)
+            × Appends (F.File.contents file) (F.File.contents filled) bytes.now) }
         ensures failed { result ≡ Err StoreError.Failed → Rose self.old.faults self.new.faults }
         ensures memory { result ≡ Err StoreError.NoMemory → self.new.faults ≡ self.old.faults }
         ensures later { self.old.faults ≤ self.new.faults }

@@ -1,5 +1,6 @@
 // The table of types: type 0 is int, the others are data types, numbered from 1.
-ghost use Rattle.std.specs.Prelude.{◌≡◌, ◌≢◌, ℕ, ◌<◌, ◌≤◌, ◌^◌, List, [], ◌∷◌, ◌++◌, length, None, IfSome, OnOk, OnErr, IfNone, slice_get, slice_index};
+ghost use Rattle.std.specs.Prelude.{◌≡◌, ◌≢◌, ℕ, ◌<◌, ◌≤◌, ◌^◌, List, [], ◌∷◌, ◌++◌, length, None, IfSome, OnOk, OnErr};
+ghost use Rattle.std.specs.Prelude.{IfNone, slice_get, slice_index};
 ghost use Rattle.fip_language.specs.Table.{Shape, Table, constructors, is_scalar, all_bare};
 ghost use Rattle.fip_base.specs.TableView.{IsNamed, fields_at};
 

@@ -38,8 +38,8 @@ pub fn session(
 
 /// Runs the tasks of the lines of an input over one store: so many turns of tasks that are drawn from a seed, and then
 /// each to its end. A line for each task: its number, and its results or the text of its end. A bad task where a line
-/// is none, or is one more than 1,000; else too small where the cells of all values and credits need more words than the
-/// room has.
+/// is none, or is one more than 1,000; else too small where the cells of all values and credits need more words than
+/// the room has.
 pub fn tasks(
     alloc: Global,
     front: &Front,

@@ -5,7 +5,8 @@ use Rattle.fip_language.specs.declared.Place.{Place}
 use Rattle.fip_language.specs.Core as C
 use Rattle.fip_language.specs.Core.{Name}
 use Rattle.fip_language.specs.Surface as S
-use Rattle.fip_language.specs.CoreForm.{Scope, Binding, Part, Parts, whole, contents, cases, pattern, bound, part_from, as_part, as_block, variable_from, if_match, binders, with_binders}
+use Rattle.fip_language.specs.CoreForm.{Scope, Binding, Part, Parts, whole, contents, cases, pattern, bound, part_from}
+use Rattle.fip_language.specs.CoreForm.{as_part, as_block, variable_from, if_match, binders, with_binders}
 use Rattle.fip_base.specs.declared.core_form.Argument.{Argument}
 use Rattle.fip_base.specs.declared.core_form.Binding as B
 use Rattle.fip_base.specs.CoreView as core

@@ -92,7 +92,8 @@ fn copy_signature(
     alloc: Global,
     ps: &[tree::SignatureParameter],
 ) -> Result<Vec<SignatureParameter>, NoMemory>
-    ensures same { IfOk result (λ r. map core_view.signature_parameter r.items ≡ map surface.signature_parameter ps.now) }
+    ensures same { IfOk result (λ r. map core_view.signature_parameter r.items
+        ≡ map surface.signature_parameter ps.now) }
 {
     let mut copied = Vec::new(alloc);
     for p in ps {

@@ -9,7 +9,8 @@ ghost use Rattle.fip_language.specs.Surface as S;
 ghost use Rattle.fip_language.specs.CoreForm as form;
 ghost use Rattle.fip_base.specs.CoreView as core_view;
 ghost use Rattle.fip_base.specs.SurfaceView as surface;
-ghost use Rattle.fip_core.specs.Walk.{bindings, fresh, part_behind, waiting, top_argument, under_top, stepped, part_left, let_made, case_made, operands_of};
+ghost use Rattle.fip_core.specs.Walk.{bindings, fresh, part_behind, waiting, top_argument, under_top, stepped};
+ghost use Rattle.fip_core.specs.Walk.{part_left, let_made, case_made, operands_of};
 
 use crate::copies::{
     copy_all_written, copy_annotation, copy_credits, copy_data, copy_name, copy_result,
@@ -98,7 +99,8 @@ fn pop_operand(stack: &mut Vec<Argument>) -> Argument
 
 // An operator's two operands are those on the top of the stack, the right one last.
 fn operation(operator: Operator, place: Place, stack: &mut Vec<Argument>) -> Expression
-    ensures same { core_view.expression result ≡ C.Operation operator place (top_argument (under_top (waiting stack.old.items))) (top_argument (waiting stack.old.items)) }
+    ensures same { core_view.expression result ≡ C.Operation operator place
+        (top_argument (under_top (waiting stack.old.items))) (top_argument (waiting stack.old.items)) }
     ensures rest { waiting stack.new.items ≡ under_top (under_top (waiting stack.old.items)) }
 {
     let right = pop_operand(stack);
@@ -117,7 +119,8 @@ fn match_of(
     scrutinee: Argument,
     clauses: Vec<Clause>,
 ) -> Expression
-    ensures same { core_view.expression result ≡ C.Match destructive place (core_view.argument scrutinee) (core_view.clauses clauses.items) }
+    ensures same { core_view.expression result ≡ C.Match destructive place (core_view.argument scrutinee)
+        (core_view.clauses clauses.items) }
 {
     let kind = if destructive {
         MatchKind::Destructive
@@ -138,7 +141,8 @@ fn constructor(
     place: Place,
     arguments: Vec<Argument>,
 ) -> Result<Expression, NoMemory>
-    ensures same { IfOk result (λ r. core_view.expression r ≡ C.Give (C.Constructor name.now place (core_view.arguments arguments.items))) }
+    ensures same { IfOk result (λ r. core_view.expression r
+        ≡ C.Give (C.Constructor name.now place (core_view.arguments arguments.items))) }
 {
     Ok(Expression::Give(Argument::Constructor {
         name: copy_name(alloc, name)?,
@@ -185,7 +189,8 @@ fn place_of(e: &Expression) -> Place
 
 // One more let.
 fn put(out: &mut Vec<Binding>, binders: Vec<Binder>, bound: Expression) -> Result<(), NoMemory>
-    ensures lets { OnOk result (bindings out.new.items ≡ bindings out.old.items ++ record { binders = core_view.binders binders.items; bound = core_view.expression bound } ∷ []) }
+    ensures lets { OnOk result (bindings out.new.items ≡ bindings out.old.items
+        ++ record { binders = core_view.binders binders.items; bound = core_view.expression bound } ∷ []) }
 {
     out.push(Binding { binders, bound })?;
     Ok(())
@@ -206,7 +211,8 @@ impl<'a> Walk<'a> {
     // A new binder of a name, which is in scope from here on.
     fn binder(&mut self, name: &'a [u8], place: Place) -> Result<Binder, NoMemory>
         ensures given { IfOk result (λ b. core_view.binder b ≡ fresh self.old.next name.now place) }
-        ensures scope { OnOk result (self.new.scope ≡ form.with_binder self.old.scope (fresh self.old.next name.now place)) }
+        ensures scope { OnOk result (self.new.scope ≡ form.with_binder self.old.scope
+            (fresh self.old.next name.now place)) }
         ensures next { OnOk result (self.new.next ≡ self.old.next + 1) }
     {
         let number = self.number()?;
@@ -221,7 +227,8 @@ impl<'a> Walk<'a> {
 
     // A variable, as what its name has in scope.
     fn occurrence(&self, name: &'a [u8], place: Place) -> Result<Argument, NoMemory>
-        ensures same { IfOk result (λ a. core_view.argument a ≡ C.Variable (form.lookup self.now.scope name.now) name.now place) }
+        ensures same { IfOk result (λ a. core_view.argument a ≡ C.Variable (form.lookup self.now.scope name.now)
+            name.now place) }
     {
         Ok(Argument::Variable {
             binder: self.scope.find(name),
@@ -243,7 +250,8 @@ impl<'a> Walk<'a> {
     }
 
     fn parameters(&mut self, ps: &'a [tree::Parameter]) -> Result<Vec<Parameter>, NoMemory>
-        ensures given { IfOk result (λ r. map core_view.parameter r.items ≡ form.parameters self.old.next (map surface.parameter ps.now)) }
+        ensures given { IfOk result (λ r. map core_view.parameter r.items
+            ≡ form.parameters self.old.next (map surface.parameter ps.now)) }
         ensures scope { let made = form.parameters self.old.next (map surface.parameter ps.now) in
             OnOk result (self.new.scope ≡ form.with_binders self.old.scope (map (λ p. p.binder) made)) }
         ensures next { OnOk result (self.new.next ≡ self.old.next + length ps.now) }
@@ -263,8 +271,10 @@ impl<'a> Walk<'a> {
 
     // The name _ at a place, bound to an expression by a let of its own.
     fn bind(&mut self, bound: Expression, out: &mut Vec<Binding>) -> Result<Argument, NoMemory>
-        ensures given { IfOk result (λ a. core_view.argument a ≡ (form.bound (bindings out.old.items) (core_view.expression bound) self.old.next).argument) }
-        ensures lets { OnOk result (bindings out.new.items ≡ (form.bound (bindings out.old.items) (core_view.expression bound) self.old.next).lets) }
+        ensures given { IfOk result (λ a. core_view.argument a
+            ≡ (form.bound (bindings out.old.items) (core_view.expression bound) self.old.next).argument) }
+        ensures lets { OnOk result (bindings out.new.items
+            ≡ (form.bound (bindings out.old.items) (core_view.expression bound) self.old.next).lets) }
         ensures next { OnOk result (self.new.next ≡ self.old.next + 1) }
         ensures scope { self.new.scope ≡ self.old.scope }
     {
@@ -293,9 +303,12 @@ impl<'a> Walk<'a> {
         is_free: bool,
         out: &mut Vec<Binding>,
     ) -> Result<Argument, NoMemory>
-        ensures given { IfOk result (λ a. core_view.argument a ≡ (part_behind is_free (bindings out.old.items) (core_view.expression e) self.old.next).argument) }
-        ensures lets { OnOk result (bindings out.new.items ≡ (part_behind is_free (bindings out.old.items) (core_view.expression e) self.old.next).lets) }
-        ensures next { OnOk result (self.new.next ≡ (part_behind is_free (bindings out.old.items) (core_view.expression e) self.old.next).next) }
+        ensures given { IfOk result (λ a. core_view.argument a
+            ≡ (part_behind is_free (bindings out.old.items) (core_view.expression e) self.old.next).argument) }
+        ensures lets { OnOk result (bindings out.new.items
+            ≡ (part_behind is_free (bindings out.old.items) (core_view.expression e) self.old.next).lets) }
+        ensures next { OnOk result (self.new.next ≡ (part_behind is_free (bindings out.old.items)
+            (core_view.expression e) self.old.next).next) }
         ensures scope { self.new.scope ≡ self.old.scope }
     {
         match e {
@@ -316,9 +329,12 @@ impl<'a> Walk<'a> {
         argument: Argument,
         out: &mut Vec<Binding>,
     ) -> Result<Argument, NoMemory>
-        ensures given { IfOk result (λ a. core_view.argument a ≡ (form.variable_from (bindings out.old.items) (core_view.argument argument) self.old.next).argument) }
-        ensures lets { OnOk result (bindings out.new.items ≡ (form.variable_from (bindings out.old.items) (core_view.argument argument) self.old.next).lets) }
-        ensures next { OnOk result (self.new.next ≡ (form.variable_from (bindings out.old.items) (core_view.argument argument) self.old.next).next) }
+        ensures given { IfOk result (λ a. core_view.argument a
+            ≡ (form.variable_from (bindings out.old.items) (core_view.argument argument) self.old.next).argument) }
+        ensures lets { OnOk result (bindings out.new.items
+            ≡ (form.variable_from (bindings out.old.items) (core_view.argument argument) self.old.next).lets) }
+        ensures next { OnOk result (self.new.next ≡ (form.variable_from (bindings out.old.items)
+            (core_view.argument argument) self.old.next).next) }
         ensures scope { self.new.scope ≡ self.old.scope }
     {
         match argument {
@@ -337,9 +353,12 @@ impl<'a> Walk<'a> {
 
     // An expression as the last one of a block: an operation is bound, and the lets of a block go before it.
     fn as_last(&mut self, e: Expression, out: &mut Vec<Binding>) -> Result<Expression, NoMemory>
-        ensures given { IfOk result (λ r. core_view.expression r ≡ (form.last_from (bindings out.old.items) (core_view.expression e) self.old.next).expression) }
-        ensures lets { OnOk result (bindings out.new.items ≡ (form.last_from (bindings out.old.items) (core_view.expression e) self.old.next).lets) }
-        ensures next { OnOk result (self.new.next ≡ (form.last_from (bindings out.old.items) (core_view.expression e) self.old.next).next) }
+        ensures given { IfOk result (λ r. core_view.expression r
+            ≡ (form.last_from (bindings out.old.items) (core_view.expression e) self.old.next).expression) }
+        ensures lets { OnOk result (bindings out.new.items
+            ≡ (form.last_from (bindings out.old.items) (core_view.expression e) self.old.next).lets) }
+        ensures next { OnOk result (self.new.next ≡ (form.last_from (bindings out.old.items) (core_view.expression e)
+            self.old.next).next) }
         ensures scope { self.new.scope ≡ self.old.scope }
     {
         match e {
@@ -373,9 +392,12 @@ impl<'a> Walk<'a> {
         e: &'a tree::Expression,
         out: &mut Vec<Binding>,
     ) -> Result<Expression, NoMemory>
-        ensures given { IfOk result (λ r. core_view.expression r ≡ (form.whole self.old.scope self.old.next (surface.expression e.now)).expression) }
-        ensures lets { OnOk result (bindings out.new.items ≡ bindings out.old.items ++ (form.whole self.old.scope self.old.next (surface.expression e.now)).lets) }
-        ensures next { OnOk result (self.new.next ≡ (form.whole self.old.scope self.old.next (surface.expression e.now)).next) }
+        ensures given { IfOk result (λ r. core_view.expression r
+            ≡ (form.whole self.old.scope self.old.next (surface.expression e.now)).expression) }
+        ensures lets { OnOk result (bindings out.new.items ≡ bindings out.old.items
+            ++ (form.whole self.old.scope self.old.next (surface.expression e.now)).lets) }
+        ensures next { OnOk result (self.new.next ≡ (form.whole self.old.scope self.old.next
+            (surface.expression e.now)).next) }
         ensures scope { OnOk result (self.new.scope ≡ self.old.scope) }
     {
         let Some((last, before)) = e.steps.split_last() else {
@@ -402,9 +424,12 @@ impl<'a> Walk<'a> {
         e: &'a tree::Expression,
         out: &mut Vec<Binding>,
     ) -> Result<Argument, NoMemory>
-        ensures given { IfOk result (λ r. core_view.argument r ≡ (form.as_part (form.whole self.old.scope self.old.next (surface.expression e.now))).argument) }
-        ensures lets { OnOk result (bindings out.new.items ≡ bindings out.old.items ++ (form.as_part (form.whole self.old.scope self.old.next (surface.expression e.now))).lets) }
-        ensures next { OnOk result (self.new.next ≡ (form.as_part (form.whole self.old.scope self.old.next (surface.expression e.now))).next) }
+        ensures given { IfOk result (λ r. core_view.argument r
+            ≡ (form.as_part (form.whole self.old.scope self.old.next (surface.expression e.now))).argument) }
+        ensures lets { OnOk result (bindings out.new.items ≡ bindings out.old.items
+            ++ (form.as_part (form.whole self.old.scope self.old.next (surface.expression e.now))).lets) }
+        ensures next { OnOk result (self.new.next ≡ (form.as_part
+            (form.whole self.old.scope self.old.next (surface.expression e.now))).next) }
         ensures scope { OnOk result (self.new.scope ≡ self.old.scope) }
     {
         let lets = out.len();
@@ -421,9 +446,14 @@ impl<'a> Walk<'a> {
         stack: &mut Vec<Argument>,
         out: &mut Vec<Binding>,
     ) -> Result<(), NoMemory>
-        ensures given { OnOk result (waiting stack.new.items ≡ (part_left (stepped self.old.scope self.old.next (surface.action step.now) (waiting stack.old.items))).arguments) }
-        ensures lets { OnOk result (bindings out.new.items ≡ bindings out.old.items ++ (part_left (stepped self.old.scope self.old.next (surface.action step.now) (waiting stack.old.items))).lets) }
-        ensures next { OnOk result (self.new.next ≡ (part_left (stepped self.old.scope self.old.next (surface.action step.now) (waiting stack.old.items))).next) }
+        ensures given { OnOk result (waiting stack.new.items
+            ≡ (part_left (stepped self.old.scope self.old.next (surface.action step.now)
+            (waiting stack.old.items))).arguments) }
+        ensures lets { OnOk result (bindings out.new.items ≡ bindings out.old.items
+            ++ (part_left (stepped self.old.scope self.old.next (surface.action step.now)
+            (waiting stack.old.items))).lets) }
+        ensures next { OnOk result (self.new.next ≡ (part_left
+            (stepped self.old.scope self.old.next (surface.action step.now) (waiting stack.old.items))).next) }
         ensures scope { OnOk result (self.new.scope ≡ self.old.scope) }
     {
         let lets = out.len();
@@ -442,10 +472,14 @@ impl<'a> Walk<'a> {
         stack: &mut Vec<Argument>,
         out: &mut Vec<Binding>,
     ) -> Result<Expression, NoMemory>
-        ensures given { IfOk result (λ r. core_view.expression r ≡ (stepped self.old.scope self.old.next (surface.action step.now) (waiting stack.old.items)).expression) }
-        ensures lets { OnOk result (bindings out.new.items ≡ bindings out.old.items ++ (stepped self.old.scope self.old.next (surface.action step.now) (waiting stack.old.items)).lets) }
-        ensures stack { OnOk result (waiting stack.new.items ≡ (stepped self.old.scope self.old.next (surface.action step.now) (waiting stack.old.items)).stack) }
-        ensures next { OnOk result (self.new.next ≡ (stepped self.old.scope self.old.next (surface.action step.now) (waiting stack.old.items)).next) }
+        ensures given { IfOk result (λ r. core_view.expression r
+            ≡ (stepped self.old.scope self.old.next (surface.action step.now) (waiting stack.old.items)).expression) }
+        ensures lets { OnOk result (bindings out.new.items ≡ bindings out.old.items
+            ++ (stepped self.old.scope self.old.next (surface.action step.now) (waiting stack.old.items)).lets) }
+        ensures stack { OnOk result (waiting stack.new.items
+            ≡ (stepped self.old.scope self.old.next (surface.action step.now) (waiting stack.old.items)).stack) }
+        ensures next { OnOk result (self.new.next ≡ (stepped self.old.scope self.old.next (surface.action step.now)
+            (waiting stack.old.items)).next) }
         ensures scope { OnOk result (self.new.scope ≡ self.old.scope) }
     {
         match step {
@@ -499,7 +533,8 @@ impl<'a> Walk<'a> {
         met: Block,
         unmet: Block,
     ) -> Result<Expression, NoMemory>
-        ensures same { IfOk result (λ r. core_view.expression r ≡ form.if_match place (core_view.argument scrutinee) (core_view.block met) (core_view.block unmet)) }
+        ensures same { IfOk result (λ r. core_view.expression r ≡ form.if_match place (core_view.argument scrutinee)
+            (core_view.block met) (core_view.block unmet)) }
     {
         let mut clauses = Vec::new(self.alloc);
         clauses.push(Clause {
@@ -525,9 +560,12 @@ impl<'a> Walk<'a> {
         es: &'a [tree::Expression],
         out: &mut Vec<Binding>,
     ) -> Result<Vec<Argument>, NoMemory>
-        ensures given { IfOk result (λ r. map core_view.argument r.items ≡ (form.parts self.old.scope self.old.next (surface.expressions es.now)).arguments) }
-        ensures lets { OnOk result (bindings out.new.items ≡ bindings out.old.items ++ (form.parts self.old.scope self.old.next (surface.expressions es.now)).lets) }
-        ensures next { OnOk result (self.new.next ≡ (form.parts self.old.scope self.old.next (surface.expressions es.now)).next) }
+        ensures given { IfOk result (λ r. map core_view.argument r.items
+            ≡ (form.parts self.old.scope self.old.next (surface.expressions es.now)).arguments) }
+        ensures lets { OnOk result (bindings out.new.items ≡ bindings out.old.items
+            ++ (form.parts self.old.scope self.old.next (surface.expressions es.now)).lets) }
+        ensures next { OnOk result (self.new.next ≡ (form.parts self.old.scope self.old.next
+            (surface.expressions es.now)).next) }
         ensures scope { OnOk result (self.new.scope ≡ self.old.scope) }
     {
         let mut arguments = Vec::new(self.alloc);
@@ -544,9 +582,12 @@ impl<'a> Walk<'a> {
         block: &'a tree::Block,
         out: &mut Vec<Binding>,
     ) -> Result<Expression, NoMemory>
-        ensures given { IfOk result (λ r. core_view.expression r ≡ (form.whole self.old.scope self.old.next (S.Bracket (surface.block block.now))).expression) }
-        ensures lets { OnOk result (bindings out.new.items ≡ bindings out.old.items ++ (form.whole self.old.scope self.old.next (S.Bracket (surface.block block.now))).lets) }
-        ensures next { OnOk result (self.new.next ≡ (form.whole self.old.scope self.old.next (S.Bracket (surface.block block.now))).next) }
+        ensures given { IfOk result (λ r. core_view.expression r
+            ≡ (form.whole self.old.scope self.old.next (S.Bracket (surface.block block.now))).expression) }
+        ensures lets { OnOk result (bindings out.new.items ≡ bindings out.old.items
+            ++ (form.whole self.old.scope self.old.next (S.Bracket (surface.block block.now))).lets) }
+        ensures next { OnOk result (self.new.next ≡ (form.whole self.old.scope self.old.next
+            (S.Bracket (surface.block block.now))).next) }
         ensures scope { OnOk result (self.new.scope ≡ self.old.scope) }
     {
         if block.lets.is_empty() {
@@ -558,8 +599,10 @@ impl<'a> Walk<'a> {
 
     #[cycle(walk)]
     fn block(&mut self, block: &'a tree::Block) -> Result<Block, NoMemory>
-        ensures given { IfOk result (λ r. core_view.block r ≡ (form.as_block (form.contents self.old.scope self.old.next (surface.block block.now))).block) }
-        ensures next { OnOk result (self.new.next ≡ (form.as_block (form.contents self.old.scope self.old.next (surface.block block.now))).next) }
+        ensures given { IfOk result (λ r. core_view.block r
+            ≡ (form.as_block (form.contents self.old.scope self.old.next (surface.block block.now))).block) }
+        ensures next { OnOk result (self.new.next ≡ (form.as_block
+            (form.contents self.old.scope self.old.next (surface.block block.now))).next) }
         ensures scope { OnOk result (self.new.scope ≡ self.old.scope) }
     {
         let kept = self.scope.len();
@@ -576,9 +619,12 @@ impl<'a> Walk<'a> {
     // A let: its bound expression, and then its binders, which are in scope from here on.
     #[cycle(walk)]
     fn binding(&mut self, l: &'a tree::Let, out: &mut Vec<Binding>) -> Result<(), NoMemory>
-        ensures lets { OnOk result (bindings out.new.items ≡ bindings out.old.items ++ (let_made self.old.scope self.old.next (surface.let_part l.now)).lets) }
-        ensures scope { OnOk result (self.new.scope ≡ (let_made self.old.scope self.old.next (surface.let_part l.now)).scope) }
-        ensures next { OnOk result (self.new.next ≡ (let_made self.old.scope self.old.next (surface.let_part l.now)).next) }
+        ensures lets { OnOk result (bindings out.new.items ≡ bindings out.old.items
+            ++ (let_made self.old.scope self.old.next (surface.let_part l.now)).lets) }
+        ensures scope { OnOk result (self.new.scope ≡ (let_made self.old.scope self.old.next
+            (surface.let_part l.now)).scope) }
+        ensures next { OnOk result (self.new.next ≡ (let_made self.old.scope self.old.next
+            (surface.let_part l.now)).next) }
     {
         let bound = self.whole(&l.bound, out)?;
         let binders = self.binders(&l.binds)?;
@@ -586,7 +632,8 @@ impl<'a> Walk<'a> {
     }
 
     fn binders(&mut self, binds: &'a [tree::Bind]) -> Result<Vec<Binder>, NoMemory>
-        ensures given { IfOk result (λ r. core_view.binders r.items ≡ form.binders self.old.next (map surface.bind binds.now)) }
+        ensures given { IfOk result (λ r. core_view.binders r.items
+            ≡ form.binders self.old.next (map surface.bind binds.now)) }
         ensures scope { let made = form.binders self.old.next (map surface.bind binds.now) in
             OnOk result (self.new.scope ≡ form.with_binders self.old.scope made) }
         ensures next { OnOk result (self.new.next ≡ self.old.next + length binds.now) }
@@ -602,8 +649,10 @@ impl<'a> Walk<'a> {
 
     #[cycle(walk)]
     fn clauses(&mut self, cs: &'a [tree::Clause]) -> Result<Vec<Clause>, NoMemory>
-        ensures given { IfOk result (λ r. core_view.clauses r.items ≡ (form.cases self.old.scope self.old.next (surface.clauses cs.now)).clauses) }
-        ensures next { OnOk result (self.new.next ≡ (form.cases self.old.scope self.old.next (surface.clauses cs.now)).next) }
+        ensures given { IfOk result (λ r. core_view.clauses r.items
+            ≡ (form.cases self.old.scope self.old.next (surface.clauses cs.now)).clauses) }
+        ensures next { OnOk result (self.new.next ≡ (form.cases self.old.scope self.old.next
+            (surface.clauses cs.now)).next) }
         ensures scope { OnOk result (self.new.scope ≡ self.old.scope) }
     {
         let mut clauses = Vec::new(self.alloc);
@@ -616,8 +665,10 @@ impl<'a> Walk<'a> {
     // A clause. The binders of its pattern are in scope in its body alone.
     #[cycle(walk)]
     fn clause(&mut self, c: &'a tree::Clause) -> Result<Clause, NoMemory>
-        ensures given { IfOk result (λ r. core_view.clause r ≡ (case_made self.old.scope self.old.next (surface.clause c.now)).case) }
-        ensures next { OnOk result (self.new.next ≡ (case_made self.old.scope self.old.next (surface.clause c.now)).next) }
+        ensures given { IfOk result (λ r. core_view.clause r
+            ≡ (case_made self.old.scope self.old.next (surface.clause c.now)).case) }
+        ensures next { OnOk result (self.new.next ≡ (case_made self.old.scope self.old.next
+            (surface.clause c.now)).next) }
         ensures scope { OnOk result (self.new.scope ≡ self.old.scope) }
     {
         let kept = self.scope.len();
@@ -629,9 +680,12 @@ impl<'a> Walk<'a> {
 
     // A pattern, whose binders are in scope from here on.
     fn pattern(&mut self, p: &'a tree::Pattern) -> Result<Pattern, NoMemory>
-        ensures given { IfOk result (λ r. core_view.pattern r ≡ (form.pattern self.old.scope self.old.next (surface.pattern p.now)).pattern) }
-        ensures scope { OnOk result (self.new.scope ≡ (form.pattern self.old.scope self.old.next (surface.pattern p.now)).scope) }
-        ensures next { OnOk result (self.new.next ≡ (form.pattern self.old.scope self.old.next (surface.pattern p.now)).next) }
+        ensures given { IfOk result (λ r. core_view.pattern r
+            ≡ (form.pattern self.old.scope self.old.next (surface.pattern p.now)).pattern) }
+        ensures scope { OnOk result (self.new.scope ≡ (form.pattern self.old.scope self.old.next
+            (surface.pattern p.now)).scope) }
+        ensures next { OnOk result (self.new.next ≡ (form.pattern self.old.scope self.old.next
+            (surface.pattern p.now)).next) }
     {
         match p {
             tree::Pattern::Wildcard { place } => Ok(Pattern::Binder(self.binder(b"_", *place)?)),

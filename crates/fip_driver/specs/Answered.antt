@@ -1,6 +1,6 @@
 -- What the program answers, where the folder tells its files and the input its bytes.
--- The definitions of the language say so far what `exec` answers for a source that is no program, and for a right program
--- of the loop form. Of every other request the table of statuses and texts is all that is said.
+-- The definitions of the language say so far what `exec` answers for a source that is no program, and for a right
+-- program of the loop form. Of every other request the table of statuses and texts is all that is said.
 use Rattle.std.specs.Prelude.{◌≡◌, ◌≤◌, ℕ, List, length, ◌⊎◌, Option, Some, None, Result, Ok, Err}
 use Rattle.std.specs.Io.KnownBytes.{Appends}
 use Rattle.std.specs.declared.vec.Vec.{Vec}
@@ -31,8 +31,8 @@ pub record Spelling : Type 1 where
   pub spells : List ℕ → Core → Type 0
   pub misspells : List ℕ → ℕ → Place → Type 0
 
--- How the sources of the language are spelt: their tokens are those of a program, whose core form it is; or they break one
--- of the rules E01 to E04.
+-- How the sources of the language are spelt: their tokens are those of a program, whose core form it is; or they break
+-- one of the rules E01 to E04.
 abbrev pub source_spelling : Spelling
 source_spelling = record {
   spells = λ source core. (p : Program) × IsSpelt source p × (core ≡ core_form p);
@@ -53,7 +53,8 @@ abbrev pub IsRequest : List (List ℕ) → Request → Type 0
 IsRequest words r = IsCommand words (Exec r)
 
 -- The words ask to run this, and this is the reply.
-pub record Replies (spelling : Spelling) (words : List (List ℕ)) (files : List File) (input : List ℕ) (r : Request) (reply : Reply) : Type 0 where
+pub record Replies (spelling : Spelling) (words : List (List ℕ)) (files : List File) (input : List ℕ) (r : Request)
+    (reply : Reply) : Type 0 where
   pub asked : IsRequest words r
   pub execs : Execs spelling.spells spelling.misspells (plain_request r) (λ name. file_of name files) input reply
 
@@ -61,8 +62,8 @@ pub record Replies (spelling : Spelling) (words : List (List ℕ)) (files : List
 abbrev pub IsOtherCommand : List (List ℕ) → Type 0
 IsOtherCommand words = (c : Command) × IsCommand words c × IsOther c
 
--- Of what the words ask for no definition says yet what the answer is: it is another command than `exec`, or the source is
--- spelt and is no right program of the loop form.
+-- Of what the words ask for no definition says yet what the answer is: it is another command than `exec`, or the source
+-- is spelt and is no right program of the loop form.
 abbrev pub IsBeyond : Spelling → List (List ℕ) → List File → List ℕ → Type 0
 IsBeyond spelling words files input =
     IsOtherCommand words
@@ -90,15 +91,18 @@ IsOfTable out out' err err' s =
     ⊎ ((out' ≡ out) × ((failure : Failure) × (s ≡ failure_status failure) × Appends err err' (failure_text failure)))
 
 -- The whole answer: the status, and what out and err hold more. Status 10 is want of memory.
-abbrev pub Answered : Spelling → List (List ℕ) → List File → List ℕ → Option (List ℕ) → Option (List ℕ) → Option (List ℕ) → Option (List ℕ) → ℕ → Type 0
+abbrev pub Answered : Spelling → List (List ℕ) → List File → List ℕ → Option (List ℕ) → Option (List ℕ) →
+    Option (List ℕ) → Option (List ℕ) → ℕ → Type 0
 Answered spelling words files input out out' err err' s =
     ((s ≡ 10) × (out' ≡ out) × Appends err err' no_memory_text)
     ⊎ (IsNoCommand words × (s ≡ 2) × (out' ≡ out) × Appends err err' not_understood_text)
-    ⊎ ((r : Request) × (reply : Reply) × Replies spelling words files input r reply × IsWritten reply × (s ≡ status reply) × Appends out out' (out_text r.gauge reply) × Appends err err' (err_text reply))
+    ⊎ ((r : Request) × (reply : Reply) × Replies spelling words files input r reply × IsWritten reply
+    × (s ≡ status reply) × Appends out out' (out_text r.gauge reply) × Appends err err' (err_text reply))
     ⊎ (IsBeyond spelling words files input × IsOfTable out out' err err' s)
 
 abbrev pub HasFailed : Spelling → List (List ℕ) → List File → List ℕ → Failure → Type 0
-HasFailed spelling words files input failure = (r : Request) × (reply : Reply) × Replies spelling words files input r reply × FailsAs failure r.gauge reply
+HasFailed spelling words files input failure = (r : Request) × (reply : Reply)
+    × Replies spelling words files input r reply × FailsAs failure r.gauge reply
 
 -- The words ask to run an entry, so its file is fetched.
 abbrev pub AsksToRun : List (List ℕ) → Type 0
@@ -121,19 +125,24 @@ pub record ComesToInput (spelling : Spelling) (words : List (List ℕ)) (files :
   pub there : file_of request.file files ≡ Some source
   pub entry : HasRightEntry spelling source request.entry
 
--- A fault of the folder was counted when the file was fetched, or the file is missing; a fault of the input was counted when
--- its turn had come.
+-- A fault of the folder was counted when the file was fetched, or the file is missing; a fault of the input was counted
+-- when its turn had come.
 abbrev pub FaultExplained : Spelling → List (List ℕ) → List File → List ℕ → Type 0 → Type 0 → Object → Type 0
-FaultExplained spelling words files input folder_rose input_rose O.Folder = (folder_rose × AsksToRun words) ⊎ HasFailed spelling words files input (F.Fault O.Folder)
-FaultExplained spelling words files input folder_rose input_rose O.Input = input_rose × ComesToInput spelling words files
+FaultExplained spelling words files input folder_rose input_rose O.Folder = (folder_rose × AsksToRun words)
+    ⊎ HasFailed spelling words files input (F.Fault O.Folder)
+FaultExplained spelling words files input folder_rose input_rose O.Input = input_rose
+    × ComesToInput spelling words files
 FaultExplained spelling words files input folder_rose input_rose O.Out = ⊥
 FaultExplained spelling words files input folder_rose input_rose O.Err = ⊥
 
 -- A result is that of a reply, and what kept a command from one is a reply too, or want of memory, or a fault that was
 -- counted in its turn.
-abbrev pub Explained : Spelling → List (List ℕ) → List File → List ℕ → Type 0 → Type 0 → Result (Vec ℕ Global) Failure → Type 0
-Explained spelling words files input folder_rose input_rose (Ok text) = (r : Request) × (reply : Reply) × Replies spelling words files input r reply × PrintsAs text.items r.gauge reply
+abbrev pub Explained : Spelling → List (List ℕ) → List File → List ℕ → Type 0 → Type 0 → Result (Vec ℕ Global) Failure →
+    Type 0
+Explained spelling words files input folder_rose input_rose (Ok text) = (r : Request) × (reply : Reply)
+    × Replies spelling words files input r reply × PrintsAs text.items r.gauge reply
 Explained spelling words files input folder_rose input_rose (Err F.NotUnderstood) = IsNoCommand words
-Explained spelling words files input folder_rose input_rose (Err (F.Fault object)) = FaultExplained spelling words files input folder_rose input_rose object
+Explained spelling words files input folder_rose input_rose (Err (F.Fault object)) =
+    FaultExplained spelling words files input folder_rose input_rose object
 Explained spelling words files input folder_rose input_rose (Err F.NoMemory) = Unit {0}
 Explained spelling words files input folder_rose input_rose (Err failure) = HasFailed spelling words files input failure

@@ -1,6 +1,7 @@
 -- What each command asks of a host: which read the input, which fetch a file, and which store one.
 use Rattle.std.specs.Prelude.{ℕ, List, Option, Some, None}
-use Rattle.command_line.specs.Words.{Command, Compile, Upgrade, Exec, Run, Eval, Trace, Session, Tasks, Derive, Library, Gen}
+use Rattle.command_line.specs.Words.{Command, Compile, Upgrade, Exec, Run, Eval, Trace, Session, Tasks, Derive, Library}
+use Rattle.command_line.specs.Words.{Gen}
 
 -- another command than `exec`
 abbrev pub IsOther : Command → Type 0

@@ -25,23 +25,27 @@ NotRisen before now = Rose before now → ⊥
 
 -- A text was tried once: it stands on the sink, or the sink failed behind a front part of it.
 abbrev pub Tried : Seen → Seen → List ℕ → Type 0
-Tried old new text = Appends old.written new.written text ⊎ (Rose old.faults new.faults × WritesPrefix old.written new.written text)
+Tried old new text = Appends old.written new.written text
+    ⊎ (Rose old.faults new.faults × WritesPrefix old.written new.written text)
 
--- The text stands on a sink, and the status is this one; or the sink failed behind a front part of it, its own fault was
--- then tried to be told once, and the status is 9.
+-- The text stands on a sink, and the status is this one; or the sink failed behind a front part of it, its own fault
+-- was then tried to be told once, and the status is 9.
 abbrev pub Told : Seen → Seen → ℕ → List ℕ → ℕ → Type 0
 Told old new status text s =
     ((s ≡ status) × Appends old.written new.written text)
-    ⊎ ((s ≡ 9) × Rose old.faults new.faults × ((between : Seen) × Rose old.faults between.faults × WritesPrefix old.written between.written text × Tried between new err_fault_text))
+    ⊎ ((s ≡ 9) × Rose old.faults new.faults × ((between : Seen) × Rose old.faults between.faults
+    × WritesPrefix old.written between.written text × Tried between new err_fault_text))
 
 -- a failure's own text; or that of want of memory, where there was none for the text
 abbrev pub ToldFailure : Seen → Seen → Failure → ℕ → Type 0
 ToldFailure old new (F.Fault object) s = (s ≡ 9) × Tried old new (fault_text object)
-ToldFailure old new failure s = Told old new (failure_status failure) (failure_text failure) s ⊎ Told old new 10 no_memory_text s
+ToldFailure old new failure s = Told old new (failure_status failure) (failure_text failure) s
+    ⊎ Told old new 10 no_memory_text s
 
 -- A result stands on out; or out failed behind a front part of it, which was tried to be told on err.
 abbrev pub Delivered : Seen → Seen → Seen → Seen → Result (Vec ℕ Global) Failure → ℕ → Type 0
 Delivered out out' err err' (Ok text) s =
     ((s ≡ 0) × Appends out.written out'.written text.items × (err' ≡ err))
-    ⊎ ((s ≡ 9) × Rose out.faults out'.faults × WritesPrefix out.written out'.written text.items × Tried err err' out_fault_text)
+    ⊎ ((s ≡ 9) × Rose out.faults out'.faults × WritesPrefix out.written out'.written text.items
+    × Tried err err' out_fault_text)
 Delivered out out' err err' (Err failure) s = (out' ≡ out) × ToldFailure err err' failure s

@@ -1,5 +1,5 @@
--- It serves the proof of `fp2`: what can come of a source, which is its core form, the loop program of that whose function
--- has the entry's name, or the path of the whole language.
+-- It serves the proof of `fp2`: what can come of a source, which is its core form, the loop program of that whose
+-- function has the entry's name, or the path of the whole language.
 use Rattle.std.specs.Prelude.{◌≡◌, ◌⊎◌, ℕ, List, None}
 use Rattle.fip_language.specs.declared.Place.{Place}
 use Rattle.fip_language.specs.Core.{Core}
@@ -21,7 +21,8 @@ use Rattle.fip_driver.specs.declared.front.Path.TheVariants as P
 
 -- why a source has no core form
 abbrev pub SpellingFails : Spelling → List ℕ → Failure → Type 0
-SpellingFails spelling source (F.Refused r) = (rule : ℕ) × (place : Place) × spelling.misspells source rule place × (refusal_text r ≡ err_text (Misspelt rule place))
+SpellingFails spelling source (F.Refused r) = (rule : ℕ) × (place : Place) × spelling.misspells source rule place
+    × (refusal_text r ≡ err_text (Misspelt rule place))
 SpellingFails spelling source F.NoMemory = Unit {0}
 SpellingFails spelling source failure = ⊥
 
@@ -36,7 +37,8 @@ EntryFails core entry (F.Refused r) = (function_of core entry ≡ None) × (refu
 EntryFails core entry F.NoMemory = Unit {0}
 EntryFails core entry failure = ⊥
 
--- Why a source has no path: its spelling breaks a rule, or it is a right loop program and no function has the entry's name.
+-- Why a source has no path: its spelling breaks a rule, or it is a right loop program and no function has the entry's
+-- name.
 abbrev pub FrontFails : Spelling → List ℕ → List ℕ → Failure → Type 0
 FrontFails spelling source entry e =
     SpellingFails spelling source e

@@ -7,9 +7,11 @@ use Rattle.fip_language.specs.Declarations.{table_of}
 use Rattle.fip_language.specs.Right.{result_type}
 use Rattle.fip_language.specs.Meaning.{Peak}
 use Rattle.fip_language.specs.Gauge.{highest_by_trees, lowest_by_trees}
-use Rattle.fip_language.specs.Answer.{Reply, Done, NoFile, SourceTooLong, Misspelt, NotRight, NoEntry, BadInput, TooSmall, Trapped, OutOfCalls, OutOfFrames, Finished}
+use Rattle.fip_language.specs.Answer.{Reply, Done, NoFile, SourceTooLong, Misspelt, NotRight, NoEntry, BadInput}
+use Rattle.fip_language.specs.Answer.{TooSmall, Trapped, OutOfCalls, OutOfFrames, Finished}
 use Rattle.fip_base.specs.Refusal.{place_text, detail_text}
-use Rattle.command_outcome.specs.Texts.{line_end, out_of_calls_text, bad_input_text, too_small_text, cells_text, stack_text, bound_text, folder_fault_text, trap_text, out_of_frames_text}
+use Rattle.command_outcome.specs.Texts.{line_end, out_of_calls_text, bad_input_text, too_small_text, cells_text}
+use Rattle.command_outcome.specs.Texts.{stack_text, bound_text, folder_fault_text, trap_text, out_of_frames_text}
 
 -- a line for a size of which there were cells
 abbrev pub size_line : ℕ → ℕ → ℕ → List ℕ
@@ -23,10 +25,12 @@ size_lines low high (suc n) = size_line (16 - n) (low (16 - n)) (high (16 - n)) 
 
 -- the gauge's lines: the sizes from 1 to 16, the stack and its bound
 abbrev pub gauge_lines : (ℕ → ℕ) → (ℕ → ℕ) → Peak → Peak → List ℕ
-gauge_lines low high stack bound = size_lines low high 16 ++ (stack_text stack.frames stack.words ++ bound_text bound.frames bound.words)
+gauge_lines low high stack bound = size_lines low high 16
+    ++ (stack_text stack.frames stack.words ++ bound_text bound.frames bound.words)
 
 abbrev pub gauge_text : Done → List ℕ
-gauge_text done = gauge_lines (λ k. lowest_by_trees k done.function.parameters done.arguments done.results) (λ k. highest_by_trees k done.arguments) done.stack done.bound
+gauge_text done = gauge_lines (λ k. lowest_by_trees k done.function.parameters done.arguments done.results)
+    (λ k. highest_by_trees k done.arguments) done.stack done.bound
 
 abbrev pub value_text : Done → List ℕ
 value_text done = printed_lines (table_of done.core) (result_type done.core done.function.result ∷ []) done.results

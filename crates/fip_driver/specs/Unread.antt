@@ -1,5 +1,5 @@
--- Whose turn it is: the words are read first, then a file is fetched and its source or code is checked, and then the input
--- is read. What keeps a command from its result before the turn of an object comes leaves that object as it was.
+-- Whose turn it is: the words are read first, then a file is fetched and its source or code is checked, and then the
+-- input is read. What keeps a command from its result before the turn of an object comes leaves that object as it was.
 -- A program that breaks a rule is refused while its input still waits: a host can correct the source and call again.
 use Rattle.std.specs.Prelude.{◌≡◌, ◌⊎◌, ℕ, List, Option, Some, None, Result, Ok, Err}
 use Rattle.std.specs.declared.vec.Vec.{Vec}
@@ -60,7 +60,8 @@ AreKept None old new o = new ≡ old
 AreKept (Some name) old new o = (new ≡ old) ⊎ (MayHaveStored o × KeepsOthers old new name)
 
 abbrev pub HadStored : List (List ℕ) → Option (List File) → Option (List File) → Outcome → Type 0
-HadStored words old new o = (c : Command) × (name : List ℕ) × IsCommand words c × (stored_name c ≡ Some name) × MayHaveStored o × KeepsOthers old new name
+HadStored words old new o = (c : Command) × (name : List ℕ) × IsCommand words c × (stored_name c ≡ Some name)
+    × MayHaveStored o × KeepsOthers old new name
 
 -- ---- by the status
 
@@ -82,4 +83,5 @@ HasCalled words s = (c : Command) × IsCommand words c × (CallsNoFolder c → �
 
 -- The words ask to store under a name; the status is 0, or 9 after a fault, and each other file is as it was.
 abbrev pub HasStored : List (List ℕ) → Option (List File) → Option (List File) → ℕ → Type 0
-HasStored words old new s = (c : Command) × (name : List ℕ) × IsCommand words c × (stored_name c ≡ Some name) × ((s ≡ 0) ⊎ (s ≡ 9)) × KeepsOthers old new name
+HasStored words old new s = (c : Command) × (name : List ℕ) × IsCommand words c × (stored_name c ≡ Some name)
+    × ((s ≡ 0) ⊎ (s ≡ 9)) × KeepsOthers old new name

@@ -26,7 +26,8 @@ pub fn answer<F: Folder, S: Source>(
     input: &mut S,
 ) -> Result<Vec<u8>, Failure>
     requires asked { (words : List (List ℕ)) × IsCommand words (command_of command.now) }
-    ensures outcome { CommandOutcome (command_of command.now) (F.files folder.old) (S.left input.old) (Rose (F.faults folder.old) (F.faults folder.new)) (Rose (S.faults input.old) (S.faults input.new)) result }
+    ensures outcome { CommandOutcome (command_of command.now) (F.files folder.old) (S.left input.old)
+        (Rose (F.faults folder.old) (F.faults folder.new)) (Rose (S.faults input.old) (S.faults input.new)) result }
     ensures read { OnOk result (ReadsInput (command_of command.now) → IsAtEnd (S.left input.new)) }
     ensures unread { (ReadsInput (command_of command.now) → ⊥) → input.new ≡ input.old }
     ensures before { IsBeforeInputOf (command_of command.now) result → input.new ≡ input.old }

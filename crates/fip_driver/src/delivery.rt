@@ -13,7 +13,8 @@ use std::alloc::Global;
 
 // Tries once to say that an object failed; what becomes of it changes nothing.
 fn try_to_tell<E: Sink>(err: &mut E, text: &[u8])
-    ensures tried { Tried (seen (E.written err.old) (E.faults err.old)) (seen (E.written err.new) (E.faults err.new)) text.now }
+    ensures tried { Tried (seen (E.written err.old) (E.faults err.old)) (seen (E.written err.new) (E.faults err.new))
+        text.now }
     ensures later { E.faults err.old ≤ E.faults err.new }
 {
     match write_all(err, text) {
@@ -24,7 +25,8 @@ fn try_to_tell<E: Sink>(err: &mut E, text: &[u8])
 
 // Writes the text of a status; where that fails, tries once to say so.
 fn tell<E: Sink>(err: &mut E, status: Status, text: &[u8]) -> Status
-    ensures told { Told (seen (E.written err.old) (E.faults err.old)) (seen (E.written err.new) (E.faults err.new)) status.0 text.now result.0 }
+    ensures told { Told (seen (E.written err.old) (E.faults err.old)) (seen (E.written err.new) (E.faults err.new))
+        status.0 text.now result.0 }
     ensures later { E.faults err.old ≤ E.faults err.new }
 {
     match write_all(err, text) {
@@ -36,10 +38,11 @@ fn tell<E: Sink>(err: &mut E, status: Status, text: &[u8]) -> Status
     }
 }
 
-/// Says that memory is wanting, for a host that had none for the words. The status is 10; or 9 where `err` failed, whose
-/// fault is then tried to be told once.
+/// Says that memory is wanting, for a host that had none for the words. The status is 10; or 9 where `err` failed,
+/// whose fault is then tried to be told once.
 pub fn tell_no_memory<E: Sink>(err: &mut E) -> Status
-    ensures told { Told (seen (E.written err.old) (E.faults err.old)) (seen (E.written err.new) (E.faults err.new)) 10 no_memory_text result.0 }
+    ensures told { Told (seen (E.written err.old) (E.faults err.old)) (seen (E.written err.new) (E.faults err.new))
+        10 no_memory_text result.0 }
     ensures later { E.faults err.old ≤ E.faults err.new }
 {
     tell(err, Status(10), b"out of memory\n")
@@ -47,7 +50,8 @@ pub fn tell_no_memory<E: Sink>(err: &mut E) -> Status
 
 // Says what kept a command from its result. After a fault its text is tried once.
 fn tell_failure<E: Sink>(alloc: Global, err: &mut E, failure: &Failure) -> Status
-    ensures told { ToldFailure (seen (E.written err.old) (E.faults err.old)) (seen (E.written err.new) (E.faults err.new)) failure.now result.0 }
+    ensures told { ToldFailure (seen (E.written err.old) (E.faults err.old))
+        (seen (E.written err.new) (E.faults err.new)) failure.now result.0 }
     ensures later { E.faults err.old ≤ E.faults err.new }
 {
     match failure {
@@ -70,7 +74,9 @@ pub fn deliver<O: Sink, E: Sink>(
     out: &mut O,
     err: &mut E,
 ) -> Status
-    ensures delivered { Delivered (seen (O.written out.old) (O.faults out.old)) (seen (O.written out.new) (O.faults out.new)) (seen (E.written err.old) (E.faults err.old)) (seen (E.written err.new) (E.faults err.new)) outcome result.0 }
+    ensures delivered { Delivered (seen (O.written out.old) (O.faults out.old))
+        (seen (O.written out.new) (O.faults out.new)) (seen (E.written err.old) (E.faults err.old))
+        (seen (E.written err.new) (E.faults err.new)) outcome result.0 }
     ensures later_out { O.faults out.old ≤ O.faults out.new }
     ensures later_err { E.faults err.old ≤ E.faults err.new }
 {

@@ -27,7 +27,8 @@ fn exec_loop<S: Source>(
 ) -> Result<Vec<u8>, Failure>
     requires sound { IsSoundLoop (loop_of program) }
     requires store { request.now.room.words ≤ 16777216 }
-    ensures outcome { EntryOutcome (loop_of program) (request_of request.now) (S.left input.old) (Rose (S.faults input.old) (S.faults input.new)) result }
+    ensures outcome { EntryOutcome (loop_of program) (request_of request.now) (S.left input.old)
+        (Rose (S.faults input.old) (S.faults input.new)) result }
     ensures read { OnOk result (IsAtEnd (S.left input.new)) }
     ensures late { IsBeforeInput result → ⊥ }
 {
@@ -86,7 +87,8 @@ pub fn exec<F: Folder, S: Source>(
     input: &mut S,
 ) -> Result<Vec<u8>, Failure>
     requires store { request.now.room.words ≤ 16777216 }
-    ensures outcome { RequestOutcome (request_of request.now) (F.files folder.old) (S.left input.old) (Rose (F.faults folder.old) (F.faults folder.new)) (Rose (S.faults input.old) (S.faults input.new)) result }
+    ensures outcome { RequestOutcome (request_of request.now) (F.files folder.old) (S.left input.old)
+        (Rose (F.faults folder.old) (F.faults folder.new)) (Rose (S.faults input.old) (S.faults input.new)) result }
     ensures read { OnOk result (IsAtEnd (S.left input.new)) }
     ensures before { IsBeforeInput result → input.new ≡ input.old }
     ensures understood { IsBeforeSource result → ⊥ }

@@ -27,8 +27,8 @@ const MOST_TRACE: usize = 16_777_216;
 // The most bytes of an input.
 const MOST_INPUT: usize = 16_777_216;
 
-/// The bytes of the source's file, at most 1,048,576. E05 where there are more; a fault of the folder where it failed or
-/// has no file of that name.
+/// The bytes of the source's file, at most 1,048,576. E05 where there are more; a fault of the folder where it failed
+/// or has no file of that name.
 pub fn fetch_source<F: Folder>(
     alloc: Global,
     folder: &mut F,
@@ -36,7 +36,8 @@ pub fn fetch_source<F: Folder>(
 ) -> Result<Vec<u8>, Failure>
     ensures found { IfOk result (λ v. HoldsFile (F.files folder.old) name.now v.items) }
     ensures within { IfOk result (λ v. length v.items ≤ 1048576) }
-    ensures fails { IfErr result (λ e. FetchFails (F.files folder.old) name.now (F.faults folder.old) (F.faults folder.new) e) }
+    ensures fails { IfErr result (λ e. FetchFails (F.files folder.old) name.now (F.faults folder.old)
+        (F.faults folder.new) e) }
     ensures same { F.files folder.new ≡ F.files folder.old }
     ensures later { F.faults folder.old ≤ F.faults folder.new }
 {
@@ -53,8 +54,8 @@ pub fn fetch_source<F: Folder>(
     }
 }
 
-/// The bytes of a code file, at most 16,777,216. Bad code at that offset where there are more; a fault of the folder where
-/// it failed or has no file of that name.
+/// The bytes of a code file, at most 16,777,216. Bad code at that offset where there are more; a fault of the folder
+/// where it failed or has no file of that name.
 pub fn fetch_code<F: Folder>(folder: &mut F, name: &str) -> Result<Vec<u8>, Failure>
     ensures early { IfErr result IsEarlyFailure }
     ensures same { F.files folder.new ≡ F.files folder.old }
@@ -95,13 +96,14 @@ pub fn fetch_trace<F: Folder>(folder: &mut F, name: &str) -> Result<Vec<u8>, Fai
     }
 }
 
-/// The bytes of the input up to its end, at most 16,777,216. A bad input at that offset where there are more; a fault of
-/// the input where it failed.
+/// The bytes of the input up to its end, at most 16,777,216. A bad input at that offset where there are more; a fault
+/// of the input where it failed.
 pub fn read_input<S: Source>(alloc: Global, input: &mut S) -> Result<Vec<u8>, Failure>
     ensures all { IfOk result (λ v. Consumes (S.left input.old) (S.left input.new) v.items) }
     ensures end { OnOk result (IsAtEnd (S.left input.new)) }
     ensures within { IfOk result (λ v. length v.items ≤ 16777216) }
-    ensures fails { IfErr result (λ e. ReadFails (S.left input.old) (S.left input.new) (S.faults input.old) (S.faults input.new) e) }
+    ensures fails { IfErr result (λ e. ReadFails (S.left input.old) (S.left input.new) (S.faults input.old)
+        (S.faults input.new) e) }
     ensures later { S.faults input.old ≤ S.faults input.new }
 {
     match read_all(alloc, input, MOST_INPUT) {

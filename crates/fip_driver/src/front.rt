@@ -75,9 +75,9 @@ pub enum Path {
     Whole,
 }
 
-/// The path of a source: that of the loop form where it is a right loop program whose function has the entry's name, that of
-/// the whole language where it is another program. E01 to E04 where the source is no program, E70 where it is a right loop
-/// program and no function has the entry's name.
+/// The path of a source: that of the loop form where it is a right loop program whose function has the entry's name,
+/// that of the whole language where it is another program. E01 to E04 where the source is no program, E70 where it is a
+/// right loop program and no function has the entry's name.
 #[tactic(auto, using(crate::proofs::Fronts::spelling_front, crate::proofs::Fronts::other_front, crate::proofs::Fronts::none_front))]
 pub fn path_of(alloc: Global, source: &[u8], entry: &str) -> Result<Path, Failure>
     ensures sound { IfOk result IsSoundPath }

@@ -26,11 +26,13 @@ fn outcome<F: Folder, S: Source>(
     folder: &mut F,
     input: &mut S,
 ) -> Result<Vec<u8>, Failure>
-    ensures outcome { WordsOutcome (map string_bytes words.now) (F.files folder.old) (S.left input.old) (Rose (F.faults folder.old) (F.faults folder.new)) (Rose (S.faults input.old) (S.faults input.new)) result }
+    ensures outcome { WordsOutcome (map string_bytes words.now) (F.files folder.old) (S.left input.old)
+        (Rose (F.faults folder.old) (F.faults folder.new)) (Rose (S.faults input.old) (S.faults input.new)) result }
     ensures read { OnOk result (IsAtEnd (S.left input.new) ⊎ LeavesInput (map string_bytes words.now)) }
     ensures unread { (input.new ≡ input.old) ⊎ HadInput (map string_bytes words.now) result }
     ensures unfetched { (folder.new ≡ folder.old) ⊎ HadFolder (map string_bytes words.now) result }
-    ensures files { (F.files folder.new ≡ F.files folder.old) ⊎ HadStored (map string_bytes words.now) (F.files folder.old) (F.files folder.new) result }
+    ensures files { (F.files folder.new ≡ F.files folder.old)
+        ⊎ HadStored (map string_bytes words.now) (F.files folder.old) (F.files folder.new) result }
 {
     match read_words(alloc, words) {
         Ok(command) => answer(alloc, &command, folder, input),
@@ -41,9 +43,9 @@ fn outcome<F: Folder, S: Source>(
 
 /// Answers the words of a command line; the first is the program's name.
 ///
-/// A source, a code or a trace comes from the folder, and the arguments' text from `input`. What a command stores goes to
-/// the folder, then its result to `out`, and the text of every status but 0 to `err`. All text is built before the first
-/// write or store.
+/// A source, a code or a trace comes from the folder, and the arguments' text from `input`. What a command stores goes
+/// to the folder, then its result to `out`, and the text of every status but 0 to `err`. All text is built before the
+/// first write or store.
 pub fn fp2<F: Folder, S: Source, O: Sink, E: Sink>(
     alloc: Global,
     words: &[String],
@@ -54,14 +56,27 @@ pub fn fp2<F: Folder, S: Source, O: Sink, E: Sink>(
 ) -> Status
     // What the words come to, and that just this is delivered to the sinks; where it ended before the input's turn, the
     // input is as it was.
-    ensures answer { (o : Result (a_vec ℕ an_allocator) a_failure) × ((input.new ≡ input.old) ⊎ HadInput (map string_bytes words.now) o) × WordsOutcome (map string_bytes words.now) (F.files folder.old) (S.left input.old) (Rose (F.faults folder.old) (F.faults folder.new)) (Rose (S.faults input.old) (S.faults input.new)) o × Delivered (seen (O.written out.old) (O.faults out.old)) (seen (O.written out.new) (O.faults out.new)) (seen (E.written err.old) (E.faults err.old)) (seen (E.written err.new) (E.faults err.new)) o result.0 }
+    ensures answer { (o : Result (a_vec ℕ an_allocator) a_failure)
+        × ((input.new ≡ input.old) ⊎ HadInput (map string_bytes words.now) o)
+        × WordsOutcome (map string_bytes words.now) (F.files folder.old) (S.left input.old)
+        (Rose (F.faults folder.old) (F.faults folder.new)) (Rose (S.faults input.old) (S.faults input.new)) o
+        × Delivered (seen (O.written out.old) (O.faults out.old)) (seen (O.written out.new) (O.faults out.new))
+        (seen (E.written err.old) (E.faults err.old)) (seen (E.written err.new) (E.faults err.new)) o result.0 }
     // No file changes but the one under the name that the words ask to store.
-    ensures files { (F.files folder.new ≡ F.files folder.old) ⊎ HasStored (map string_bytes words.now) (F.files folder.old) (F.files folder.new) result.0 }
-    // Where no count of faults rose, and the folder and the input tell what they hold: the whole answer is the written one,
-    // or want of memory; and one of the table where no definition says it yet.
-    ensures whole { (files : List File) (bytes : List ℕ) → F.files folder.old ≡ Some files → S.left input.old ≡ Some bytes → NotRisen (F.faults folder.old) (F.faults folder.new) → NotRisen (S.faults input.old) (S.faults input.new) → NotRisen (O.faults out.old) (O.faults out.new) → NotRisen (E.faults err.old) (E.faults err.new) → Answered source_spelling (map string_bytes words.now) files bytes (O.written out.old) (O.written out.new) (E.written err.old) (E.written err.new) result.0 }
+    ensures files { (F.files folder.new ≡ F.files folder.old)
+        ⊎ HasStored (map string_bytes words.now) (F.files folder.old) (F.files folder.new) result.0 }
+    // Where no count of faults rose, and the folder and the input tell what they hold: the whole answer is the written
+    // one, or want of memory; and one of the table where no definition says it yet.
+    ensures whole { (files : List File) (bytes : List ℕ) → F.files folder.old ≡ Some files →
+        S.left input.old ≡ Some bytes → NotRisen (F.faults folder.old) (F.faults folder.new) →
+        NotRisen (S.faults input.old) (S.faults input.new) → NotRisen (O.faults out.old) (O.faults out.new) →
+        NotRisen (E.faults err.old) (E.faults err.new) →
+        Answered source_spelling (map string_bytes words.now) files bytes (O.written out.old) (O.written out.new)
+        (E.written err.old) (E.written err.new) result.0 }
     // There is one written answer.
-    ensures one { (files : List File) (bytes : List ℕ) (a b : Answer) → IsAnswered source_spelling (map string_bytes words.now) files bytes a → IsAnswered source_spelling (map string_bytes words.now) files bytes b → a ≡ b }
+    ensures one { (files : List File) (bytes : List ℕ) (a b : Answer) →
+        IsAnswered source_spelling (map string_bytes words.now) files bytes a →
+        IsAnswered source_spelling (map string_bytes words.now) files bytes b → a ≡ b }
     // Where the words, the source or the code are refused, or the command doesn't read it, the input waits untouched.
     ensures unread { (input.new ≡ input.old) ⊎ HasRead (map string_bytes words.now) result.0 }
     // Where the words are refused, or the command doesn't call it, the folder does.

@@ -1,5 +1,6 @@
 // The run of a loop program on the text of its arguments.
-ghost use Rattle.std.specs.Prelude.{◌≡◌, ℕ, ◌<◌, ◌≤◌, ◌^◌, Bool, [], ◌∷◌, ◌++◌, Err, IfOk, OnOk, length, slice_index_or};
+ghost use Rattle.std.specs.Prelude.{◌≡◌, ℕ, ◌<◌, ◌≤◌, ◌^◌, Bool, [], ◌∷◌, ◌++◌, Err, IfOk, OnOk, length};
+ghost use Rattle.std.specs.Prelude.{slice_index_or};
 ghost use Rattle.fip_language.specs.Values.{End, More};
 ghost use Rattle.fip_language.specs.Store.{Placed, value_of, word_of, Stands};
 ghost use Rattle.fip_language.specs.SoundTable.{IsSoundTable, AreTypes};
@@ -38,7 +39,8 @@ fn owned(alloc: Global, types: &[u32]) -> Result<Vec<Param>, NoMemory>
 // The gauge's line of a size, where there was a cell of that size.
 fn put_size(alloc: Global, text: &mut Vec<u8>, gauge: &Gauge, size: usize) -> Result<(), NoMemory>
     requires { size ≤ 16 }
-    ensures line { OnOk result (text.new.items ≡ text.old.items ++ size_line size (slice_index_or gauge.now.lowest size 0) (slice_index_or gauge.now.highest size 0)) }
+    ensures line { OnOk result (text.new.items ≡ text.old.items
+        ++ size_line size (slice_index_or gauge.now.lowest size 0) (slice_index_or gauge.now.highest size 0)) }
 {
     let high = gauge.highest(size);
     if high > 0 {
@@ -50,7 +52,8 @@ fn put_size(alloc: Global, text: &mut Vec<u8>, gauge: &Gauge, size: usize) -> Re
 
 // The gauge's lines of all sizes.
 fn put_sizes(alloc: Global, text: &mut Vec<u8>, gauge: &Gauge) -> Result<(), NoMemory>
-    ensures lines { OnOk result (text.new.items ≡ text.old.items ++ size_lines (λ k. slice_index_or gauge.now.lowest k 0) (λ k. slice_index_or gauge.now.highest k 0) 16) }
+    ensures lines { OnOk result (text.new.items ≡ text.old.items
+        ++ size_lines (λ k. slice_index_or gauge.now.lowest k 0) (λ k. slice_index_or gauge.now.highest k 0) 16) }
 {
     for size in 1..17 {
         put_size(alloc, text, gauge, size)?;
@@ -60,7 +63,9 @@ fn put_sizes(alloc: Global, text: &mut Vec<u8>, gauge: &Gauge) -> Result<(), NoM
 
 // The gauge's lines; the bound is that of a run in one frame.
 fn put_gauge(alloc: Global, text: &mut Vec<u8>, gauge: &Gauge, bound: usize) -> Result<(), NoMemory>
-    ensures lines { OnOk result (text.new.items ≡ text.old.items ++ gauge_lines (λ k. slice_index_or gauge.now.lowest k 0) (λ k. slice_index_or gauge.now.highest k 0) (record { frames = gauge.now.frames; words = gauge.now.words }) (record { frames = 0; words = bound })) }
+    ensures lines { OnOk result (text.new.items ≡ text.old.items
+        ++ gauge_lines (λ k. slice_index_or gauge.now.lowest k 0) (λ k. slice_index_or gauge.now.highest k 0)
+        (record { frames = gauge.now.frames; words = gauge.now.words }) (record { frames = 0; words = bound })) }
 {
     put_sizes(alloc, text, gauge)?;
     let stack = stack_line(alloc, gauge.frames(), gauge.words())?;
@@ -81,7 +86,8 @@ fn value_line(
     requires sound { IsSoundTable table.now }
     requires few { length cells.now.cells < 2 ^ 32 }
     requires stands { (x : Placed) × Stands table.now cells.now.cells ty x × (word_of x ≡ word) }
-    ensures line { (x : Placed) → Stands table.now cells.now.cells ty x → word_of x ≡ word → IfOk result (λ text. text.items ≡ printed_lines table.now (ty ∷ []) (More (value_of x) End)) }
+    ensures line { (x : Placed) → Stands table.now cells.now.cells ty x → word_of x ≡ word →
+        IfOk result (λ text. text.items ≡ printed_lines table.now (ty ∷ []) (More (value_of x) End)) }
 {
     let mut text = print_value(alloc, table, cells, ty, word)?;
     text.push(b'\n')?;
@@ -99,7 +105,8 @@ fn loaded(
     requires known { AreTypes (loop_of program.now).types (loop_of program.now).parameters }
     requires store { words ≤ 16777216 }
     ensures ready { IfOk result (λ r. IsReady (loop_of program.now) input.now words r.0.cells r.1.items) }
-    ensures kept { (e : Failure) → result ≡ Err e → (calls : ℕ) (gauge : Bool) → IsLoopRun (loop_of program.now) input.now words calls gauge (Err e) }
+    ensures kept { (e : Failure) → result ≡ Err e → (calls : ℕ) (gauge : Bool) →
+        IsLoopRun (loop_of program.now) input.now words calls gauge (Err e) }
 {
     let params = owned(alloc, program.parameters.as_slice())?;
     let loader = Loader::new(alloc, words);

@@ -7,7 +7,8 @@ use Rattle.fip_grammar.specs.declared.lexer.LexError.{LexError}
 use Rattle.fip_grammar.specs.declared.lexer.LexError.TheVariants as L
 use Rattle.fip_grammar.specs.declared.token.Word.{Word}
 use Rattle.fip_grammar.specs.Token as T
-use Rattle.fip_grammar.specs.Cut.{IsFirst, BeginsNone, Piece, Cut, piece_text, behind, behind_all, BeginsWith, Pieces, tokens_at, tokens_of, first_place, is_gap, double_sign, IsBadByte}
+use Rattle.fip_grammar.specs.Cut.{IsFirst, BeginsNone, Piece, Cut, piece_text, behind, behind_all, BeginsWith, Pieces}
+use Rattle.fip_grammar.specs.Cut.{tokens_at, tokens_of, first_place, is_gap, double_sign, IsBadByte}
 use Rattle.fip_grammar.specs.WordView.{word}
 
 -- A text begins with this piece, behind which the place is this.
@@ -32,7 +33,8 @@ IsFirstOf text (Some r) = IsFirst text r.1 r.0
 
 -- The source up to rest was cut into these tokens, and rest begins at this place.
 abbrev pub IsRead : List ℕ → List ℕ → Place → List T.Token → Type 0
-IsRead source rest p ts = (xs : List Piece) × Pieces xs source rest × (ts ≡ tokens_of first_place xs) × (p ≡ behind_all first_place xs)
+IsRead source rest p ts = (xs : List Piece) × Pieces xs source rest × (ts ≡ tokens_of first_place xs)
+    × (p ≡ behind_all first_place xs)
 
 -- the sign that two bytes at the start of a text are
 abbrev pub double_start : ℕ → List ℕ → Option T.Word

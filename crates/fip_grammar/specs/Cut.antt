@@ -1,5 +1,6 @@
 -- How a source is cut into tokens: blanks and comments lie between them, and at each place the longest token is taken.
-use Rattle.std.specs.Prelude.{◌≡◌, ◌≢◌, ℕ, ◌+◌, ◌<◌, ◌≤◌, Bool, true, false, ◌==◌, ◌&&◌, ◌||◌, if◌then◌else◌, nat_le, codes, List, [], ◌∷◌, ◌++◌, length, take, Option, Some, None}
+use Rattle.std.specs.Prelude.{◌≡◌, ◌≢◌, ℕ, ◌+◌, ◌<◌, ◌≤◌, Bool, true, false, ◌==◌, ◌&&◌, ◌||◌, if◌then◌else◌, nat_le}
+use Rattle.std.specs.Prelude.{codes, List, [], ◌∷◌, ◌++◌, length, take, Option, Some, None}
 use Rattle.std.specs.List.{list_all}
 use Rattle.std.specs.Str.{bytes_eq}
 use Rattle.fip_language.specs.declared.Place.{Place}
@@ -159,7 +160,8 @@ BeginsWith (Cut bs w) text rest = (is_gap text ≡ false) × IsFirst text (lengt
 -- A text is these pieces, and then rest.
 abbrev pub Pieces : List Piece → List ℕ → List ℕ → Type 0
 Pieces [] text rest = text ≡ rest
-Pieces (x ∷ xs) text rest = (after : List ℕ) × (text ≡ piece_text x ++ after) × BeginsWith x text after × Pieces xs after rest
+Pieces (x ∷ xs) text rest = (after : List ℕ) × (text ≡ piece_text x ++ after) × BeginsWith x text after
+    × Pieces xs after rest
 
 abbrev pub tokens_at : Place → Piece → List Token
 tokens_at p (Blank b) = []
@@ -173,8 +175,10 @@ tokens_of p (x ∷ xs) = tokens_at p x ++ tokens_of (behind p x) xs
 
 -- These are the tokens of a source, and the place of its end.
 abbrev pub IsCut : List ℕ → List Token → Place → Type 0
-IsCut source ts end = (xs : List Piece) × Pieces xs source [] × (ts ≡ tokens_of first_place xs) × (end ≡ behind_all first_place xs)
+IsCut source ts end = (xs : List Piece) × Pieces xs source [] × (ts ≡ tokens_of first_place xs)
+    × (end ≡ behind_all first_place xs)
 
 -- At this place stands the first byte of a source that begins no token, no blank and no comment.
 abbrev pub IsBadByte : List ℕ → Place → Type 0
-IsBadByte source p = (xs : List Piece) × (rest : List ℕ) × Pieces xs source rest × (p ≡ behind_all first_place xs) × (rest ≢ []) × (is_gap rest ≡ false) × BeginsNone rest
+IsBadByte source p = (xs : List Piece) × (rest : List ℕ) × Pieces xs source rest × (p ≡ behind_all first_place xs)
+    × (rest ≢ []) × (is_gap rest ≡ false) × BeginsNone rest

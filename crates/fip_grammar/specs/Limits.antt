@@ -1,10 +1,12 @@
--- What a source may break beside the grammar: more than 100 brackets are open at once (E03), or a literal hasn't 64 bits
--- (E04). Both are asked of the tokens alone, also where the grammar is broken. And which fault of a source is named.
+-- What a source may break beside the grammar: more than 100 brackets are open at once (E03), or a literal hasn't 64
+-- bits (E04). Both are asked of the tokens alone, also where the grammar is broken. And which fault of a source is
+-- named.
 --
--- A literal may be 2^63 directly behind a - that isn't binary, elsewhere 2^63 - 1. A - is binary where the token before it
--- is a literal, a name, ) or }: in 1 - 9223372036854775808 it is binary, so the literal is too large; in
+-- A literal may be 2^63 directly behind a - that isn't binary, elsewhere 2^63 - 1. A - is binary where the token before
+-- it is a literal, a name, ) or }: in 1 - 9223372036854775808 it is binary, so the literal is too large; in
 -- f(- 9223372036854775808) it isn't.
-use Rattle.std.specs.Prelude.{◌≡◌, ◌⊎◌, ℕ, ◌+◌, ◌-◌, ◌^◌, ◌<◌, ◌≤◌, Bool, true, false, ◌&&◌, not, if◌then◌else◌, List, [], ◌∷◌, take, Option, Some, None, slice_get}
+use Rattle.std.specs.Prelude.{◌≡◌, ◌⊎◌, ℕ, ◌+◌, ◌-◌, ◌^◌, ◌<◌, ◌≤◌, Bool, true, false, ◌&&◌, not, if◌then◌else◌, List}
+use Rattle.std.specs.Prelude.{[], ◌∷◌, take, Option, Some, None, slice_get}
 use Rattle.fip_language.specs.declared.Place.{Place}
 use Rattle.fip_language.specs.declared.Operator.TheVariants as O
 use Rattle.fip_language.specs.Prefix.{IsPlace}
@@ -39,8 +41,8 @@ abbrev pub is_minus : Word → Bool
 is_minus (Operate O.Subtract) = true
 is_minus _ = false
 
--- What some tokens are like: how many brackets are open behind them, whether the last one ends an operand, and whether it
--- is a - that isn't binary.
+-- What some tokens are like: how many brackets are open behind them, whether the last one ends an operand, and whether
+-- it is a - that isn't binary.
 pub record Seen : Type 0 where
   pub open' : ℕ
   pub ends_operand : Bool
@@ -79,7 +81,8 @@ limit is_sign = if is_sign then 2 ^ 63 else 2 ^ 63 - 1
 
 -- E04: token t is a literal that is too large.
 abbrev pub IsTooLarge : List Token → ℕ → Type 0
-IsTooLarge ts t = (x : Token) × (ds : List ℕ) × (slice_get ts t ≡ Some x) × (x.word ≡ Number ds) × (limit (seen ts t).is_sign < value_of ds)
+IsTooLarge ts t = (x : Token) × (ds : List ℕ) × (slice_get ts t ≡ Some x) × (x.word ≡ Number ds)
+    × (limit (seen ts t).is_sign < value_of ds)
 
 -- The rule E02, E03 or E04, by its number, is broken at token t; the end is a token.
 abbrev pub Breaks : List Token → ℕ → ℕ → Type 0
@@ -100,11 +103,13 @@ place_at ts end t = place_or end (slice_get ts t)
 
 -- The source is that of this program, and breaks none of the rules E01 to E04.
 abbrev pub IsSpelt : List ℕ → Program → Type 0
-IsSpelt source p = (ts : List Token) × (end : Place) × IsCut source ts end × Spells ts p × ((r t : ℕ) → Breaks ts r t → ⊥)
+IsSpelt source p = (ts : List Token) × (end : Place) × IsCut source ts end × Spells ts p
+    × ((r t : ℕ) → Breaks ts r t → ⊥)
 
--- The source breaks this rule at this place: a byte that begins no token is named before all else (E01), then the least of
--- the others.
+-- The source breaks this rule at this place: a byte that begins no token is named before all else (E01), then the least
+-- of the others.
 abbrev pub IsMisspelt : List ℕ → ℕ → Place → Type 0
 IsMisspelt source rule place =
     ((rule ≡ 1) × IsBadByte source place)
-    ⊎ ((ts : List Token) × (end : Place) × (t : ℕ) × IsCut source ts end × IsLeastBroken ts rule t × (place ≡ place_at ts end t))
+    ⊎ ((ts : List Token) × (end : Place) × (t : ℕ) × IsCut source ts end × IsLeastBroken ts rule t
+    × (place ≡ place_at ts end t))

@@ -7,8 +7,14 @@ use Rattle.fip_language.specs.declared.FunKind.TheVariants as K
 use Rattle.fip_language.specs.declared.CreditMark.{CreditMark}
 use Rattle.fip_language.specs.declared.Operator.{Operator}
 use Rattle.fip_language.specs.declared.Operator.TheVariants as O
-use Rattle.fip_language.specs.Core.{Name, Written, WrittenInt, WrittenName, Writtens, NoWritten, MoreWritten, Result, OneResult, TupleResult, SignatureParameter, Static, TypeParameter, FunctionParameter, TypeName, DataConstructor, Data}
-use Rattle.fip_language.specs.Surface.{Bind, Pattern, Wildcard, VariablePattern, LiteralPattern, ConstructorPattern, Patterns, NoPatterns, MorePatterns, Expression, Variable, Literal, Call, Constructor, Bracket, Tuple, Match, If, Binary, Expressions, NoExpressions, MoreExpressions, Block, Last, Let, Clauses, NoClauses, MoreClauses, Parameter, Function, Declaration, DataDeclaration, FunctionDeclaration, Program}
+use Rattle.fip_language.specs.Core.{Name, Written, WrittenInt, WrittenName, Writtens, NoWritten, MoreWritten, Result}
+use Rattle.fip_language.specs.Core.{OneResult, TupleResult, SignatureParameter, Static, TypeParameter}
+use Rattle.fip_language.specs.Core.{FunctionParameter, TypeName, DataConstructor, Data}
+use Rattle.fip_language.specs.Surface.{Bind, Pattern, Wildcard, VariablePattern, LiteralPattern, ConstructorPattern}
+use Rattle.fip_language.specs.Surface.{Patterns, NoPatterns, MorePatterns, Expression, Variable, Literal, Call}
+use Rattle.fip_language.specs.Surface.{Constructor, Bracket, Tuple, Match, If, Binary, Expressions, NoExpressions}
+use Rattle.fip_language.specs.Surface.{MoreExpressions, Block, Last, Let, Clauses, NoClauses, MoreClauses, Parameter}
+use Rattle.fip_language.specs.Surface.{Function, Declaration, DataDeclaration, FunctionDeclaration, Program}
 use Rattle.fip_grammar.specs.declared.Sign.{Sign}
 use Rattle.fip_grammar.specs.declared.Sign.TheVariants as S
 use Rattle.fip_grammar.specs.Token.{Word, Lower, Upper, Number, Operate, Mark, Token, value_of}
@@ -290,14 +296,16 @@ step_function (FunctionKeyword k cs) (Operate O.Add) p = in_function (CreditSize
 step_function (FunctionKeyword k cs) _ p = Refused
 step_function (CreditSize k cs q) (Number digits) p = in_function (FunctionKeyword k (cs ++ credit q p digits ∷ []))
 step_function (CreditSize k cs q) _ p = Refused
-step_function (FunctionName k cs) (Lower n) p = in_function (FunctionStart (record { kind = k; credits = cs; name = n; place = p; statics = []; parameters = [] }))
+step_function (FunctionName k cs) (Lower n) p =
+    in_function (FunctionStart (record { kind = k; credits = cs; name = n; place = p; statics = []; parameters = [] }))
 step_function (FunctionName k cs) _ p = Refused
 step_function (FunctionStart h) (Mark S.SquareOpen) p = in_function (StaticName h)
 step_function (FunctionStart h) (Mark S.RoundOpen) p = in_function (ParameterFirst h)
 step_function (FunctionStart h) _ p = Refused
 step_function (StaticName h) (Lower n) p = in_function (StaticStart h n p)
 step_function (StaticName h) _ p = Refused
-step_function (StaticStart h n q) (Mark S.Colon) p = in_function (SignatureKeyword h (record { name = n; place = q; parameters = [] }))
+step_function (StaticStart h n q) (Mark S.Colon) p =
+    in_function (SignatureKeyword h (record { name = n; place = q; parameters = [] }))
 step_function (StaticStart h n q) w p = static_end (with_static h (TypeParameter n q)) w
 step_function (SignatureKeyword h g) (Mark S.Fun) p = in_function (SignatureOpen h g)
 step_function (SignatureKeyword h g) _ p = Refused
@@ -341,7 +349,8 @@ constructor_end d (Mark S.CurlyClose) = Declares (DataDeclaration d)
 constructor_end d _ = Refused
 
 abbrev pub step_data : DataHeading → Word → Place → Next
-step_data DataName (Lower n) p = in_data (DataStart (record { name = n; place = p; parameters = []; constructors = [] }))
+step_data DataName (Lower n) p = in_data (DataStart
+    (record { name = n; place = p; parameters = []; constructors = [] }))
 step_data DataName _ p = Refused
 step_data (DataStart d) (Mark S.SquareOpen) p = in_data (DataParameter d)
 step_data (DataStart d) (Mark S.CurlyOpen) p = in_data (ConstructorFirst d)
@@ -357,14 +366,23 @@ step_data (ConstructorFirst d) w p = constructor_first d w p
 step_data (ConstructorNext d) (Mark S.CurlyClose) p = Declares (DataDeclaration d)
 step_data (ConstructorNext d) w p = constructor_first d w p
 step_data (ConstructorStart d n q) (Mark S.RoundOpen) p = wants_type (ForField d n q [])
-step_data (ConstructorStart d n q) w p = constructor_end (with_constructor d (record { name = n; place = q; fields = [] })) w
+step_data (ConstructorStart d n q) w p = constructor_end
+    (with_constructor d (record { name = n; place = q; fields = [] })) w
 step_data (ConstructorEnd d) w p = constructor_end d w
 
 -- Lets.
 
 -- a let's bound expression comes next
 abbrev pub bound_of : Body → List Bind → Body
-bound_of b bs = record b { partial = record { lets = b.partial.lets; binds = Some bs; openers = []; waiting = none_waits } }
+bound_of b bs = record b {
+  partial = record {
+    lets = b.partial.lets;
+    binds = Some bs;
+    openers = [];
+    waiting =
+        none_waits;
+  };
+}
 
 -- a block's last expression comes next
 abbrev pub last_in : Body → Body
@@ -385,7 +403,8 @@ refused_where false n = n
 abbrev pub end_bind : Body → Binds → Bind → Word → Next
 end_bind b Alone x w = let_equals (x ∷ []) b w
 end_bind b (Bracketed done) x (Mark S.Comma) = in_body (BindStart (done ++ x ∷ [])) b
-end_bind b (Bracketed done) x (Mark S.RoundClose) = refused_where (is_empty done) (in_body (LetEquals (done ++ x ∷ [])) b)
+end_bind b (Bracketed done) x (Mark S.RoundClose) =
+    refused_where (is_empty done) (in_body (LetEquals (done ++ x ∷ [])) b)
 end_bind b (Bracketed done) x _ = Refused
 
 abbrev pub bind_start : Binds → Body → Word → Place → Next
@@ -405,17 +424,23 @@ after_tuple_result (OfSignature h g) r = in_function (StaticEnd (with_signature 
 
 abbrev pub after_type : TypeUse → Written → Word → Next
 after_type (ForField d n q fs) t (Mark S.Comma) = wants_type (ForField d n q (fs ++ t ∷ []))
-after_type (ForField d n q fs) t (Mark S.RoundClose) = in_data (ConstructorEnd (with_constructor d (record { name = n; place = q; fields = fs ++ t ∷ [] })))
+after_type (ForField d n q fs) t (Mark S.RoundClose) =
+    in_data (ConstructorEnd (with_constructor d (record { name = n; place = q; fields = fs ++ t ∷ [] })))
 after_type (ForField d n q fs) t _ = Refused
-after_type (ForSignatureParameter h g lent) t (Mark S.Comma) = in_function (SignatureNext h (with_signature_parameter g (record { lent = lent; type = t })))
-after_type (ForSignatureParameter h g lent) t (Mark S.RoundClose) = in_function (SignatureColon h (with_signature_parameter g (record { lent = lent; type = t })))
+after_type (ForSignatureParameter h g lent) t (Mark S.Comma) =
+    in_function (SignatureNext h (with_signature_parameter g (record { lent = lent; type = t })))
+after_type (ForSignatureParameter h g lent) t (Mark S.RoundClose) =
+    in_function (SignatureColon h (with_signature_parameter g (record { lent = lent; type = t })))
 after_type (ForSignatureParameter h g lent) t _ = Refused
-after_type (ForParameter h lent n q) t (Mark S.Comma) = in_function (ParameterNext (with_parameter h (record { lent = lent; name = n; place = q; type = t })))
-after_type (ForParameter h lent n q) t (Mark S.RoundClose) = in_function (ResultColon (with_parameter h (record { lent = lent; name = n; place = q; type = t })))
+after_type (ForParameter h lent n q) t (Mark S.Comma) =
+    in_function (ParameterNext (with_parameter h (record { lent = lent; name = n; place = q; type = t })))
+after_type (ForParameter h lent n q) t (Mark S.RoundClose) =
+    in_function (ResultColon (with_parameter h (record { lent = lent; name = n; place = q; type = t })))
 after_type (ForParameter h lent n q) t _ = Refused
 after_type (ForResult o) t w = after_one_result o (OneResult t) w
 after_type (ForResultPart o q ts) t (Mark S.Comma) = wants_type (ForResultPart o q (ts ++ t ∷ []))
-after_type (ForResultPart o q ts) t (Mark S.RoundClose) = refused_where (is_empty ts) (after_tuple_result o (TupleResult q (ts ++ t ∷ [])))
+after_type (ForResultPart o q ts) t (Mark S.RoundClose) =
+    refused_where (is_empty ts) (after_tuple_result o (TupleResult q (ts ++ t ∷ [])))
 after_type (ForResultPart o q ts) t _ = Refused
 after_type (ForAnnotation b bs n q) t w = end_bind b bs (record { name = n; place = q; annotation = Some t }) w
 after_type (ForStaticArgument b n q ts) t (Mark S.Comma) = wants_type (ForStaticArgument b n q (ts ++ t ∷ []))
@@ -425,12 +450,14 @@ after_type (ForStaticArgument b n q ts) t _ = Refused
 abbrev pub type_done : List OpenType → TypeUse → Written → Word → Next
 type_done [] u t w = after_type u t w
 type_done (o ∷ os) u t (Mark S.Comma) = Stays (InType TypeWanted (record o { done = o.done ++ t ∷ [] } ∷ os) u)
-type_done (o ∷ os) u t (Mark S.SquareClose) = Stays (InType (TypeDone (WrittenName o.name o.place (onto_types (o.done ++ t ∷ []) NoWritten))) os u)
+type_done (o ∷ os) u t (Mark S.SquareClose) =
+    Stays (InType (TypeDone (WrittenName o.name o.place (onto_types (o.done ++ t ∷ []) NoWritten))) os u)
 type_done (o ∷ os) u t _ = Refused
 
 abbrev pub step_type : TypePosition → List OpenType → TypeUse → Word → Place → Next
 step_type TypeWanted o u w p = type_wanted o u w p
-step_type (TypeNamed n q) o u (Mark S.SquareOpen) p = Stays (InType TypeWanted (record { name = n; place = q; done = [] } ∷ o) u)
+step_type (TypeNamed n q) o u (Mark S.SquareOpen) p =
+    Stays (InType TypeWanted (record { name = n; place = q; done = [] } ∷ o) u)
 step_type (TypeNamed n q) o u w p = type_done o u (WrittenName n q NoWritten) w
 step_type (TypeDone t) o u w p = type_done o u t w
 
@@ -482,12 +509,20 @@ tightness_of _ = Comparison
 
 abbrev pub compared : Option Pending → Body → Expression → Operator → Place → Next
 compared (Some c) b v op p = Refused
-compared None b v op p = in_body AtOperand (with_waiting b (record { comparison = waits v op p; sum = None; product = None }))
+compared None b v op p = in_body AtOperand
+    (with_waiting b (record { comparison = waits v op p; sum = None; product = None }))
 
 abbrev pub after_operator : Tightness → Body → Expression → Operator → Place → Next
-after_operator Product b v op p = in_body AtOperand (with_waiting b (record b.partial.waiting { product = waits (applied b.partial.waiting.product v) op p }))
-after_operator Sum b v op p = in_body AtOperand (with_waiting b (record b.partial.waiting { sum = waits (applied b.partial.waiting.sum (applied b.partial.waiting.product v)) op p; product = None }))
-after_operator Comparison b v op p = compared b.partial.waiting.comparison b (applied b.partial.waiting.sum (applied b.partial.waiting.product v)) op p
+after_operator Product b v op p = in_body AtOperand
+    (with_waiting b (record b.partial.waiting { product = waits (applied b.partial.waiting.product v) op p }))
+after_operator Sum b v op p = in_body AtOperand
+    (with_waiting b (record b.partial.waiting {
+      sum =
+          waits (applied b.partial.waiting.sum (applied b.partial.waiting.product v)) op p;
+      product = None;
+    }))
+after_operator Comparison b v op p = compared b.partial.waiting.comparison b
+    (applied b.partial.waiting.sum (applied b.partial.waiting.product v)) op p
 
 -- all that waits is done
 abbrev pub all_applied : Waiting → Expression → Expression
@@ -509,10 +544,12 @@ with_clause m q b = record m { clauses = m.clauses ++ record { pattern = q; body
 -- the end of what stands in a bracket, or of a part of it
 abbrev pub end_level : Body → Use → Block → Sign → Next
 end_level b (ForArguments n q ts done) e S.Comma = in_body AtOperand (enter b (ForArguments n q ts (part e done)))
-end_level b (ForArguments n q ts done) e S.RoundClose = in_body (AtOperator (Call n q (onto_types ts NoWritten) (onto_expressions (part e done) NoExpressions))) b
+end_level b (ForArguments n q ts done) e S.RoundClose =
+    in_body (AtOperator (Call n q (onto_types ts NoWritten) (onto_expressions (part e done) NoExpressions))) b
 end_level b (ForArguments n q ts done) e _ = Refused
 end_level b (ForFields n q done) e S.Comma = in_body AtOperand (enter b (ForFields n q (part e done)))
-end_level b (ForFields n q done) e S.RoundClose = in_body (AtOperator (Constructor n q (onto_expressions (part e done) NoExpressions))) b
+end_level b (ForFields n q done) e S.RoundClose =
+    in_body (AtOperator (Constructor n q (onto_expressions (part e done) NoExpressions))) b
 end_level b (ForFields n q done) e _ = Refused
 end_level b (ForParenthesis q) e S.RoundClose = in_body (AtOperator (Bracket e)) b
 end_level b (ForParenthesis q) e S.Comma = in_body AtOperand (enter b (ForTuple q (part e [])))
@@ -520,7 +557,8 @@ end_level b (ForParenthesis q) e _ = Refused
 end_level b ForBracket e S.RoundClose = in_body (AtOperator (Bracket e)) b
 end_level b ForBracket e _ = Refused
 end_level b (ForTuple q done) e S.Comma = in_body AtOperand (enter b (ForTuple q (part e done)))
-end_level b (ForTuple q done) e S.RoundClose = in_body (AtOperator (Tuple q (onto_expressions (part e done) NoExpressions))) b
+end_level b (ForTuple q done) e S.RoundClose =
+    in_body (AtOperator (Tuple q (onto_expressions (part e done) NoExpressions))) b
 end_level b (ForTuple q done) e _ = Refused
 end_level b (ForClause m q) e S.Semicolon = in_body (ClauseNext (with_clause m q e)) b
 end_level b (ForClause m q) e S.CurlyClose = close_match (with_clause m q e) b
@@ -531,7 +569,17 @@ end_level b (ForNo q c one) e S.CurlyClose = in_body (AtOperator (If q c one e))
 end_level b (ForNo q c one) e _ = Refused
 
 abbrev pub function_of : FunctionHead → Result → Block → Function
-function_of h r b = record { kind = h.kind; credits = h.credits; name = h.name; place = h.place; statics = h.statics; parameters = h.parameters; result = r; body = b }
+function_of h r b = record {
+  kind = h.kind;
+  credits = h.credits;
+  name = h.name;
+  place = h.place;
+  statics =
+      h.statics;
+  parameters = h.parameters;
+  result = r;
+  body = b;
+}
 
 abbrev pub end_body : FunctionHead → Result → Block → Sign → Next
 end_body h r b S.CurlyClose = Declares (FunctionDeclaration (function_of h r b))
@@ -544,17 +592,29 @@ end_last h r (l ∷ ls) b s = end_level (record { head = h; gives = r; levels = 
 
 -- the end of a let's bound expression
 abbrev pub end_bound : Body → List Bind → Expression → Sign → Next
-end_bound b bs e S.Semicolon = in_body AtBlock (record b { partial = record { lets = b.partial.lets ++ record { binds = bs; bound = e } ∷ []; binds = None; openers = []; waiting = none_waits } })
+end_bound b bs e S.Semicolon = in_body AtBlock
+    (record b {
+      partial = record {
+        lets = b.partial.lets ++ record { binds = bs; bound = e } ∷ [];
+        binds = None;
+        openers =
+            [];
+        waiting = none_waits;
+      };
+    })
 end_bound b bs e _ = Refused
 
 -- the end of a scrutinee or a condition
 abbrev pub end_head : Body → Opener → Expression → Sign → Next
-end_head b (MatchOpener w d q) e S.CurlyOpen = Stays (InPattern PatternWanted [] (with_waiting b w) (record { destructive = d; place = q; scrutinee = e; clauses = [] }))
+end_head b (MatchOpener w d q) e S.CurlyOpen =
+    Stays (InPattern PatternWanted [] (with_waiting b w)
+    (record { destructive = d; place = q; scrutinee = e; clauses = [] }))
 end_head b (IfOpener w q) e S.CurlyOpen = in_body AtBlock (enter (with_waiting b w) (ForYes q e))
 end_head b o e _ = Refused
 
 abbrev pub end_expression : Body → List Opener → Option (List Bind) → Expression → Sign → Next
-end_expression b (o ∷ os) bs e s = end_head (record b { partial = record b.partial { openers = os; waiting = none_waits } }) o e s
+end_expression b (o ∷ os) bs e s = end_head
+    (record b { partial = record b.partial { openers = os; waiting = none_waits } }) o e s
 end_expression b [] (Some bs) e s = end_bound b bs e s
 end_expression b [] None e s = end_last b.head b.gives b.levels (onto_block b.partial.lets (Last e)) s
 
@@ -580,14 +640,17 @@ abbrev pub pattern_done : Pattern → List OpenPattern → Body → OpenMatch �
 pattern_done q [] b m (Mark S.Arrow) = in_body AtBlock (enter b (ForClause m q))
 pattern_done q [] b m _ = Refused
 pattern_done q (o ∷ os) b m (Mark S.Comma) = in_pattern PatternWanted (record o { done = o.done ++ q ∷ [] } ∷ os) b m
-pattern_done q (o ∷ os) b m (Mark S.RoundClose) = in_pattern (PatternDone (ConstructorPattern o.name o.place (onto_patterns (o.done ++ q ∷ []) NoPatterns))) os b m
+pattern_done q (o ∷ os) b m (Mark S.RoundClose) =
+    in_pattern (PatternDone (ConstructorPattern o.name o.place (onto_patterns (o.done ++ q ∷ []) NoPatterns))) os b m
 pattern_done q (o ∷ os) b m _ = Refused
 
 abbrev pub step_pattern : PatternPosition → List OpenPattern → Body → OpenMatch → Word → Place → Next
 step_pattern PatternWanted o b m w p = pattern_wanted o b m w p
-step_pattern (PatternMinus q) o b m (Number ds) p = in_pattern (PatternDone (LiteralPattern (neg_ℤ (pos (value_of ds))) q)) o b m
+step_pattern (PatternMinus q) o b m (Number ds) p =
+    in_pattern (PatternDone (LiteralPattern (neg_ℤ (pos (value_of ds))) q)) o b m
 step_pattern (PatternMinus q) o b m _ p = Refused
-step_pattern (PatternNamed n q) o b m (Mark S.RoundOpen) p = in_pattern PatternWanted (record { name = n; place = q; done = [] } ∷ o) b m
+step_pattern (PatternNamed n q) o b m (Mark S.RoundOpen) p =
+    in_pattern PatternWanted (record { name = n; place = q; done = [] } ∷ o) b m
 step_pattern (PatternNamed n q) o b m w p = pattern_done (ConstructorPattern n q NoPatterns) o b m w
 step_pattern (PatternDone x) o b m w p = pattern_done x o b m w
 
@@ -606,7 +669,8 @@ step_body (LowerName n q) b (Mark S.RoundOpen) p = in_body (ArgumentFirst n q []
 step_body (LowerName n q) b w p = after_operand b (Variable n q) w p
 step_body (CallOpen n q ts) b (Mark S.RoundOpen) p = in_body (ArgumentFirst n q ts) b
 step_body (CallOpen n q ts) b _ p = Refused
-step_body (ArgumentFirst n q ts) b (Mark S.RoundClose) p = in_body (AtOperator (Call n q (onto_types ts NoWritten) NoExpressions)) b
+step_body (ArgumentFirst n q ts) b (Mark S.RoundClose) p =
+    in_body (AtOperator (Call n q (onto_types ts NoWritten) NoExpressions)) b
 step_body (ArgumentFirst n q ts) b w p = operand_start (enter b (ForArguments n q ts [])) w p
 step_body (UpperName n q) b (Mark S.RoundOpen) p = in_body AtOperand (enter b (ForFields n q []))
 step_body (UpperName n q) b w p = after_operand b (Constructor n q NoExpressions) w p

@@ -1,6 +1,7 @@
 //! Cutting a source into tokens.
 
-ghost use Rattle.std.specs.Prelude.{false, ◌≡◌, ℕ, ◌+◌, ◌^◌, ◌<◌, ◌≤◌, length, IfSome, IfOk, IfErr, MatchOption, MatchResult, map, Option, Some, option_map, List, [], ◌∷◌, take, codes};
+ghost use Rattle.std.specs.Prelude.{false, ◌≡◌, ℕ, ◌+◌, ◌^◌, ◌<◌, ◌≤◌, length, IfSome, IfOk, IfErr, MatchOption};
+ghost use Rattle.std.specs.Prelude.{MatchResult, map, Option, Some, option_map, List, [], ◌∷◌, take, codes};
 ghost use Rattle.std.specs.List.{prefix_len};
 ghost use Rattle.std.specs.Str.{bytes_eq};
 ghost use Rattle.fip_language.specs.declared.Place.{Place};
@@ -350,7 +351,8 @@ pub fn lex<'a>(alloc: Global, source: &'a [u8]) -> Result<Tokens<'a>, LexError>
     // Else, unless memory ran out, its first byte that begins nothing is at the place of the error.
     ensures bad { IfErr result (λ e. Bad source.now e) }
     // A source that can be cut is cut so, unless memory runs out.
-    ensures only { (ts : List Pure.Token) (end : Place) → C.IsCut source.now ts end → MatchResult result (λ t. (V.tokens t.tokens.items ≡ ts) × (t.end ≡ end)) (λ e. e ≡ LexError.Memory) }
+    ensures only { (ts : List Pure.Token) (end : Place) → C.IsCut source.now ts end →
+        MatchResult result (λ t. (V.tokens t.tokens.items ≡ ts) × (t.end ≡ end)) (λ e. e ≡ LexError.Memory) }
 {
     let mut tokens = Vec::new(alloc);
     let mut place = Place {

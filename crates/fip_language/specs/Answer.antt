@@ -1,7 +1,7 @@
--- What `exec` answers, as a relation between a request, the files and the input's bytes on one side and the reply on the
--- other. The causes come in this order: the file is missing, the source has too many bytes, it is misspelt, it is no right
--- program, the entry isn't there, the input has too many bytes or is no text of the parameters' types, it doesn't fit the
--- store, and then how the evaluation ends.
+-- What `exec` answers, as a relation between a request, the files and the input's bytes on one side and the reply on
+-- the other. The causes come in this order: the file is missing, the source has too many bytes, it is misspelt, it is
+-- no right program, the entry isn't there, the input has too many bytes or is no text of the parameters' types, it
+-- doesn't fit the store, and then how the evaluation ends.
 -- While the language grows, every program outside the loop form, and every violation in it, has the one reply NotRight.
 use Rattle.std.specs.Prelude.{ℕ, ◌<◌, ◌≤◌, ◌⊎◌, ◌≡◌, List, length, Option, Some, None}
 use Rattle.fip_language.specs.declared.Place.{Place}
@@ -75,7 +75,16 @@ status (Finished done) = 0
 
 -- how an evaluation is replied to
 abbrev pub EndsAs : Request → Core → Function → Values → Peak → Answer → Peak → Reply → Type 0
-EndsAs request core f vs bound (Gives results left) peak reply = reply ≡ Finished (record { core = core; function = f; arguments = vs; results = results; stack = peak; bound = bound })
+EndsAs request core f vs bound (Gives results left) peak reply =
+    reply ≡ Finished (record {
+      core = core;
+      function = f;
+      arguments = vs;
+      results = results;
+      stack = peak;
+      bound =
+          bound;
+    })
 EndsAs request core f vs bound (Trap kind line col) peak reply = reply ≡ Trapped kind line col
 EndsAs request core f vs bound Out peak reply = reply ≡ OutOfCalls request.calls
 EndsAs request core f vs bound Deep peak reply = reply ≡ OutOfFrames bound.frames
@@ -86,7 +95,8 @@ pub record Evaluates (request : Request) (core : Core) (f : Function) (vs : Valu
   pub bound : Peak
   pub frames : AreFrames core (ClosedName f.name NoClosed) bound.frames
   pub words : AreWords core (ClosedName f.name NoClosed) bound.words
-  pub ends : EndsAs request core f vs bound (meaning core f.name NoClosed vs request.calls bound.frames).answer (meaning core f.name NoClosed vs request.calls bound.frames).peak reply
+  pub ends : EndsAs request core f vs bound (meaning core f.name NoClosed vs request.calls bound.frames).answer
+      (meaning core f.name NoClosed vs request.calls bound.frames).peak reply
 
 -- the values that were read, against the store
 abbrev pub Fits : Request → Core → Function → Values → Reply → Type 0
@@ -113,16 +123,18 @@ Runs request core input reply =
     ⊎ (IsRight core × Enters request core input (function_of core request.entry) reply)
 
 -- Spells source core: the bytes are those of a program with this core form, and none of E01 to E04 is violated.
--- Misspells source rule place: they aren't. A byte that begins no token is named before all else (E01), then the least of
--- E02 to E04 by place and rule.
-abbrev pub Answers : (List ℕ → Core → Type 0) → (List ℕ → ℕ → Place → Type 0) → Request → List ℕ → List ℕ → Reply → Type 0
+-- Misspells source rule place: they aren't. A byte that begins no token is named before all else (E01), then the least
+-- of E02 to E04 by place and rule.
+abbrev pub Answers : (List ℕ → Core → Type 0) → (List ℕ → ℕ → Place → Type 0) → Request → List ℕ → List ℕ → Reply →
+    Type 0
 Answers Spells Misspells request source input reply =
     ((most_source < length source) × (reply ≡ SourceTooLong))
     ⊎ ((length source ≤ most_source) × (
     ((rule : ℕ) × (place : Place) × Misspells source rule place × (reply ≡ Misspelt rule place))
     ⊎ ((core : Core) × Spells source core × Runs request core input reply)))
 
-abbrev pub AnswersFile : (List ℕ → Core → Type 0) → (List ℕ → ℕ → Place → Type 0) → Request → Option (List ℕ) → List ℕ → Reply → Type 0
+abbrev pub AnswersFile : (List ℕ → Core → Type 0) → (List ℕ → ℕ → Place → Type 0) → Request → Option (List ℕ) → List ℕ →
+    Reply → Type 0
 AnswersFile Spells Misspells request None input reply = reply ≡ NoFile
 AnswersFile Spells Misspells request (Some source) input reply = Answers Spells Misspells request source input reply
 

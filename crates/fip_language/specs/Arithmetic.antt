@@ -1,7 +1,8 @@
--- What an operator gives. Ints have 64 bits: a sum, difference, product or quotient that doesn't fit is an Overflow, and
--- a divisor 0 a DivideByZero. A quotient is rounded toward zero and a remainder has the dividend's sign: -7 / 2 is -3
--- and -7 % 2 is -1. The least int divided by -1 is an Overflow, but its remainder by -1 is 0.
-use Rattle.std.specs.Prelude.{◌^◌, ℤ, pos, negsuc, ◌+ℤ◌, ◌-ℤ◌, ◌*ℤ◌, Bool, not, nat_lt, int_lt, int_le, int_div, int_rem, if◌then◌else◌}
+-- What an operator gives. Ints have 64 bits: a sum, difference, product or quotient that doesn't fit is an Overflow,
+-- and a divisor 0 a DivideByZero. A quotient is rounded toward zero and a remainder has the dividend's sign: -7 / 2 is
+-- -3 and -7 % 2 is -1. The least int divided by -1 is an Overflow, but its remainder by -1 is 0.
+use Rattle.std.specs.Prelude.{◌^◌, ℤ, pos, negsuc, ◌+ℤ◌, ◌-ℤ◌, ◌*ℤ◌, Bool, not, nat_lt, int_lt, int_le, int_div}
+use Rattle.std.specs.Prelude.{int_rem, if◌then◌else◌}
 use Rattle.fip_language.specs.declared.Operator.{Operator}
 use Rattle.fip_language.specs.declared.Operator.TheVariants as O
 use Rattle.fip_language.specs.declared.TrapKind.{TrapKind}

@@ -167,11 +167,17 @@ as_block w = let l = as_last w in record { block = block_of l.lets l.expression;
 -- brackets round an expression without lets vanish
 abbrev pub in_brackets : S.Block → Whole → Whole
 in_brackets (S.Last e) w = w
-in_brackets (S.Let bs e rest) w = let b = as_block w in record { lets = []; expression = C.Nested b.block; next = b.next }
+in_brackets (S.Let bs e rest) w = let b = as_block w in record {
+  lets = [];
+  expression = C.Nested b.block;
+  next =
+      b.next;
+}
 
 abbrev pub binders : ℕ → List S.Bind → List C.Binder
 binders n [] = []
-binders n (b ∷ bs) = record { number = n; name = b.name; place = b.place; annotation = b.annotation } ∷ binders (n + 1) bs
+binders n (b ∷ bs) = record { number = n; name = b.name; place = b.place; annotation = b.annotation }
+    ∷ binders (n + 1) bs
 
 -- patterns
 

@@ -19,7 +19,8 @@ bool_type = record {
   name = codes "bool";
   place = beforehand;
   parameters = [];
-  constructors = record { name = codes "False"; place = beforehand; fields = [] } ∷ record { name = codes "True"; place = beforehand; fields = [] } ∷ [];
+  constructors = record { name = codes "False"; place = beforehand; fields = [] }
+      ∷ record { name = codes "True"; place = beforehand; fields = [] } ∷ [];
 }
 
 -- the data types, bool before all others
@@ -39,7 +40,8 @@ pub record Declared : Type 0 where
 -- among the constructors of type t from number c on
 abbrev pub constructor_among : Name → ℕ → ℕ → List DataConstructor → Option Declared
 constructor_among name t c [] = None
-constructor_among name t c (k ∷ ks) = if same_name name k.name then Some (record { type = t; number = c; fields = k.fields }) else constructor_among name t (suc c) ks
+constructor_among name t c (k ∷ ks) = if same_name name k.name then Some
+    (record { type = t; number = c; fields = k.fields }) else constructor_among name t (suc c) ks
 
 -- among the types from number t on
 abbrev pub constructor_in : Name → ℕ → List Data → Option Declared
@@ -65,8 +67,8 @@ function_in name (f ∷ fs) = if same_name name f.name then Some f else function
 abbrev pub function_of : Core → Name → Option Function
 function_of core name = function_in name core.functions
 
--- The table of a program whose types have no parameters: all declared types, also those that no function uses. A name that
--- is unknown is taken as int there.
+-- The table of a program whose types have no parameters: all declared types, also those that no function uses. A name
+-- that is unknown is taken as int there.
 abbrev pub number_or_int : Option ℕ → ℕ
 number_or_int None = 0
 number_or_int (Some t) = t

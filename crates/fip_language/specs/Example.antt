@@ -6,7 +6,10 @@ use Rattle.std.specs.Prelude.{ℕ, ℤ, pos, true, false, [], ◌∷◌, Some, N
 use Rattle.fip_language.specs.declared.Place.{Place}
 use Rattle.fip_language.specs.declared.FunKind.TheVariants.{Fip}
 use Rattle.fip_language.specs.Values.{Value, Int, Node, Values, End, More}
-use Rattle.fip_language.specs.Core.{Name, Written, WrittenInt, WrittenName, NoWritten, OneResult, Binder, Argument, Variable, Constructor, Arguments, NoArguments, MoreArguments, BinderPattern, ConstructorPattern, NoPatterns, MorePatterns, Give, Call, Match, Last, NoClauses, MoreClauses, Parameter, Function, Data, Core}
+use Rattle.fip_language.specs.Core.{Name, Written, WrittenInt, WrittenName, NoWritten, OneResult, Binder, Argument}
+use Rattle.fip_language.specs.Core.{Variable, Constructor, Arguments, NoArguments, MoreArguments, BinderPattern}
+use Rattle.fip_language.specs.Core.{ConstructorPattern, NoPatterns, MorePatterns, Give, Call, Match, Last, NoClauses}
+use Rattle.fip_language.specs.Core.{MoreClauses, Parameter, Function, Data, Core}
 
 abbrev pub at : ℕ → ℕ → Place
 at line col = record { line = line; col = col; at = 0 }
@@ -31,7 +34,12 @@ int_list = record {
   name = codes "ints";
   place = here;
   parameters = [];
-  constructors = record { name = codes "Nil"; place = here; fields = [] } ∷ record { name = codes "Cons"; place = here; fields = WrittenInt here ∷ ints ∷ [] } ∷ [];
+  constructors = record { name = codes "Nil"; place = here; fields = [] } ∷ record {
+    name = codes "Cons";
+    place =
+        here;
+    fields = WrittenInt here ∷ ints ∷ [];
+  } ∷ [];
 }
 
 abbrev pub nil : Argument
@@ -54,8 +62,11 @@ rev = record {
   result = OneResult ints;
   body = Last (Match true here (var 0 (codes "xs"))
       (MoreClauses (ConstructorPattern (codes "Nil") here NoPatterns) (Last (Give (var 1 (codes "acc"))))
-      (MoreClauses (ConstructorPattern (codes "Cons") here (MorePatterns (BinderPattern (bound 2 (codes "x"))) (MorePatterns (BinderPattern (bound 3 (codes "t"))) NoPatterns)))
-      (Last (Call (codes "rev") here NoWritten (two (var 3 (codes "t")) (cons (var 2 (codes "x")) (var 1 (codes "acc"))))))
+      (MoreClauses (ConstructorPattern (codes "Cons") here
+      (MorePatterns (BinderPattern (bound 2 (codes "x")))
+      (MorePatterns (BinderPattern (bound 3 (codes "t"))) NoPatterns)))
+      (Last (Call (codes "rev") here NoWritten
+      (two (var 3 (codes "t")) (cons (var 2 (codes "x")) (var 1 (codes "acc"))))))
       NoClauses)));
 }
 

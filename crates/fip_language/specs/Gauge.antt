@@ -1,6 +1,6 @@
--- The gauge of a run: over all states from the first to the last the lowest and the highest number of held cells of each
--- size (those of live trees and of credits), the most frames and the most words of stack. All are 0 where no state was
--- seen.
+-- The gauge of a run: over all states from the first to the last the lowest and the highest number of held cells of
+-- each size (those of live trees and of credits), the most frames and the most words of stack. All are 0 where no state
+-- was seen.
 -- Of a run that gives values the same is said by trees: the highest number is that of all arguments' cells, the lowest
 -- that of the results' cells and the lent arguments'. rev of Cons(1, Cons(2, Nil)) and Nil holds 2 cells of size 2 all
 -- the time.
@@ -42,4 +42,5 @@ abbrev pub highest_by_trees : ℕ → Values → ℕ
 highest_by_trees k arguments = cells_of_all k arguments
 
 abbrev pub lowest_by_trees : ℕ → List Parameter → Values → Values → ℕ
-lowest_by_trees k parameters arguments results = cells_of_all k results + cells_of_all k (lent_values parameters arguments)
+lowest_by_trees k parameters arguments results =
+    cells_of_all k results + cells_of_all k (lent_values parameters arguments)

@@ -44,4 +44,7 @@ pub record IsDecided (Spells : List ℕ → Core → Type 0) (Misspells : List �
 -- A text for the parameters of a function of a right program is that of one list of values. The program is one that a
 -- source spells, since only then are the names of its constructors those of value text.
 abbrev pub OneText : (List ℕ → Core → Type 0) → Type 0
-OneText Spells = (source : List ℕ) (core : Core) (entry : Name) (f : Function) (text : List ℕ) (vs ws : Values) → Spells source core → IsRight core → function_of core entry ≡ Some f → SpellsValues (table_of core) (parameter_types core f) text vs → SpellsValues (table_of core) (parameter_types core f) text ws → vs ≡ ws
+OneText Spells = (source : List ℕ) (core : Core) (entry : Name) (f : Function) (text : List ℕ) (vs ws : Values) →
+    Spells source core → IsRight core → function_of core entry ≡ Some f →
+    SpellsValues (table_of core) (parameter_types core f) text vs →
+    SpellsValues (table_of core) (parameter_types core f) text ws → vs ≡ ws

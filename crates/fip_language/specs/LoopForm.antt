@@ -1,13 +1,17 @@
 -- The loop form, the part of the language that runs so far: data types without parameters and at most one function, a
 -- fip one without credits in its header and without static parameters, with owned parameters and one result, whose body
--- is one match! on a variable. Its clauses have a constructor with binders for its fields, and end in an argument or in a
--- call:
+-- is one match! on a variable. Its clauses have a constructor with binders for its fields, and end in an argument or in
+-- a call:
 -- fip fun rev(xs: ints, acc: ints): ints { match! xs { Nil -> acc; Cons(x, t) -> rev(t, Cons(x, acc)) } }
 -- No type is written with arguments.
 use Rattle.std.specs.Prelude.{◌≡◌, ℕ, true, false, List, [], ◌∷◌, Option}
 use Rattle.fip_language.specs.declared.Place.{Place}
 use Rattle.fip_language.specs.declared.FunKind.TheVariants.{Fip}
-use Rattle.fip_language.specs.Core.{Name, Written, WrittenInt, WrittenName, NoWritten, MoreWritten, Result, OneResult, TupleResult, Binder, Argument, Variable, Arguments, Patterns, BinderPattern, ConstructorPattern, NoPatterns, MorePatterns, Expression, Give, Call, Match, Block, Last, Clauses, NoClauses, MoreClauses, Parameter, Function, DataConstructor, Data, Core}
+use Rattle.fip_language.specs.Core.{Name, Written, WrittenInt, WrittenName, NoWritten, MoreWritten, Result, OneResult}
+use Rattle.fip_language.specs.Core.{TupleResult, Binder, Argument, Variable, Arguments, Patterns, BinderPattern}
+use Rattle.fip_language.specs.Core.{ConstructorPattern, NoPatterns, MorePatterns, Expression, Give, Call, Match, Block}
+use Rattle.fip_language.specs.Core.{Last, Clauses, NoClauses, MoreClauses, Parameter, Function, DataConstructor, Data}
+use Rattle.fip_language.specs.Core.{Core}
 use Rattle.fip_language.specs.Every.{Every}
 
 -- how a clause ends
@@ -40,10 +44,12 @@ binder_patterns (b ∷ bs) = MorePatterns (BinderPattern b) (binder_patterns bs)
 
 abbrev pub loop_clauses : List LoopClause → Clauses
 loop_clauses [] = NoClauses
-loop_clauses (c ∷ cs) = MoreClauses (ConstructorPattern c.constructor c.place (binder_patterns c.binders)) (Last (ending_expression c.ending)) (loop_clauses cs)
+loop_clauses (c ∷ cs) = MoreClauses (ConstructorPattern c.constructor c.place (binder_patterns c.binders))
+    (Last (ending_expression c.ending)) (loop_clauses cs)
 
 abbrev pub loop_body : Loop → Block
-loop_body l = Last (Match true l.place (Variable l.scrutinee l.scrutinee_name l.scrutinee_place) (loop_clauses l.clauses))
+loop_body l = Last (Match true l.place (Variable l.scrutinee l.scrutinee_name l.scrutinee_place)
+    (loop_clauses l.clauses))
 
 -- a type that is written without arguments
 abbrev pub IsPlain : Written → Type 0

@@ -1,10 +1,12 @@
 -- When a value matches a pattern, and what the pattern's binders then are.
--- A binder matches every value, a literal the int that it is, a constructor the nodes of that constructor whose children
--- match its patterns. Cons(x, Cons(_, t)) matches Cons(1, Cons(2, Nil)), with x bound to 1, the binder of _ to 2 and t
--- to Nil; it doesn't match Cons(1, Nil).
-use Rattle.std.specs.Prelude.{ℕ, ℤ, pos, negsuc, Bool, false, List, [], ◌∷◌, ◌++◌, Option, Some, None, ◌==◌, if◌then◌else◌}
+-- A binder matches every value, a literal the int that it is, a constructor the nodes of that constructor whose
+-- children match its patterns. Cons(x, Cons(_, t)) matches Cons(1, Cons(2, Nil)), with x bound to 1, the binder of _ to
+-- 2 and t to Nil; it doesn't match Cons(1, Nil).
+use Rattle.std.specs.Prelude.{ℕ, ℤ, pos, negsuc, Bool, false, List, [], ◌∷◌, ◌++◌, Option, Some, None, ◌==◌}
+use Rattle.std.specs.Prelude.{if◌then◌else◌}
 use Rattle.fip_language.specs.Values.{Value, Int, Node, Values, End, More}
-use Rattle.fip_language.specs.Core.{Binder, Pattern, BinderPattern, LiteralPattern, ConstructorPattern, Patterns, NoPatterns, MorePatterns, Core}
+use Rattle.fip_language.specs.Core.{Binder, Pattern, BinderPattern, LiteralPattern, ConstructorPattern, Patterns}
+use Rattle.fip_language.specs.Core.{NoPatterns, MorePatterns, Core}
 use Rattle.fip_language.specs.Declarations.{Declared, constructor_of}
 
 -- a binder's number and the value that it stands for
@@ -38,7 +40,8 @@ abbrev mutual
   matching core (LiteralPattern i p) (Int j) = if same_int i j then Some [] else None
   matching core (LiteralPattern i p) (Node c vs) = None
   matching core (ConstructorPattern name p ps) (Int j) = None
-  matching core (ConstructorPattern name p ps) (Node c vs) = if is_constructor (constructor_of core name) c then matching_all core ps vs else None
+  matching core (ConstructorPattern name p ps) (Node c vs) =
+      if is_constructor (constructor_of core name) c then matching_all core ps vs else None
 
   pub matching_all : Core → Patterns → Values → Option (List Binding)
   matching_all core NoPatterns End = Some []

@@ -6,12 +6,15 @@
 -- rev(Cons(1, Nil), Nil) with 5 calls gives Cons(1, Nil) and leaves 3: one was for the entry and one for the call.
 -- Beside the answer stands the peak: the most frames held and the most words of stack over all entries that were
 -- reached, whatever the answer is. Stuck is what a program gives that isn't well formed.
-use Rattle.std.specs.Prelude.{ℕ, zero, suc, ◌+◌, max, Bool, true, false, List, [], ◌∷◌, Option, Some, None, ◌==◌, if◌then◌else◌}
+use Rattle.std.specs.Prelude.{ℕ, zero, suc, ◌+◌, max, Bool, true, false, List, [], ◌∷◌, Option, Some, None, ◌==◌}
+use Rattle.std.specs.Prelude.{if◌then◌else◌}
 use Rattle.fip_language.specs.declared.Place.{Place}
 use Rattle.fip_language.specs.declared.Operator.{Operator}
 use Rattle.fip_language.specs.declared.TrapKind.{TrapKind}
 use Rattle.fip_language.specs.Values.{Value, Int, Node, Values, End, More}
-use Rattle.fip_language.specs.Core.{Name, Binder, Argument, Variable, Literal, Constructor, Arguments, NoArguments, MoreArguments, Expression, Give, Tuple, Operation, Call, Match, Nested, Block, Last, Let, Clauses, NoClauses, MoreClauses, Parameter, Function, Core}
+use Rattle.fip_language.specs.Core.{Name, Binder, Argument, Variable, Literal, Constructor, Arguments, NoArguments}
+use Rattle.fip_language.specs.Core.{MoreArguments, Expression, Give, Tuple, Operation, Call, Match, Nested, Block, Last}
+use Rattle.fip_language.specs.Core.{Let, Clauses, NoClauses, MoreClauses, Parameter, Function, Core}
 use Rattle.fip_language.specs.Declarations.{Declared, constructor_of, function_of}
 use Rattle.fip_language.specs.Matching.{Binding, matching}
 use Rattle.fip_language.specs.Arithmetic.{Operated, Is, Fails, operate}
@@ -155,8 +158,8 @@ if_matches (Some bs) go other = go bs
 abbrev pub Calls : Type 0
 Calls = ℕ → Closed → Values → ℕ → Run
 
--- the evaluation of an expression in an instance, over what calls give: the flag tells tail position, d is the number of
--- free frames and k that of the calls left
+-- the evaluation of an expression in an instance, over what calls give: the flag tells tail position, d is the number
+-- of free frames and k that of the calls left
 abbrev mutual
   pub eval : Core → Calls → Instance → Expression → Bool → ℕ → Environment → ℕ → Run
   eval core calls here (Give a) tail d env k = with_value (argument_value core env a) (λ v. ends (Gives (More v End) k))
@@ -164,7 +167,9 @@ abbrev mutual
   eval core calls here (Operation o p a b) tail d env k =
       with_value (argument_value core env a) (λ v. with_value (argument_value core env b) (λ w. operation o p k v w))
   eval core calls here (Call name p statics as') tail d env k =
-      with_values (argument_values core env as') (λ vs. counted k (λ left. in_frame tail (frame_words here.function) d (λ free. calls free (callee core here name statics) vs left)))
+      with_values (argument_values core env as')
+      (λ vs. counted k (λ left. in_frame tail (frame_words here.function) d
+      (λ free. calls free (callee core here name statics) vs left)))
   eval core calls here (Match destructive p x clauses) tail d env k =
       with_value (argument_value core env x) (λ v. eval_clauses core calls here clauses v tail d env k)
   eval core calls here (Nested block) tail d env k = eval_block core calls here block tail d env k
@@ -172,18 +177,21 @@ abbrev mutual
   pub eval_block : Core → Calls → Instance → Block → Bool → ℕ → Environment → ℕ → Run
   eval_block core calls here (Last e) tail d env k = eval core calls here e tail d env k
   eval_block core calls here (Let binders e rest) tail d env k =
-      then_with (eval core calls here e false d env k) (λ vs left. eval_block core calls here rest tail d (bind_binders env binders vs) left)
+      then_with (eval core calls here e false d env k)
+      (λ vs left. eval_block core calls here rest tail d (bind_binders env binders vs) left)
 
   pub eval_clauses : Core → Calls → Instance → Clauses → Value → Bool → ℕ → Environment → ℕ → Run
   eval_clauses core calls here NoClauses v tail d env k = ends Stuck
   eval_clauses core calls here (MoreClauses pattern body rest) v tail d env k =
-      if_matches (matching core pattern v) (λ bs. eval_block core calls here body tail d (bind_matched env bs) k) (eval_clauses core calls here rest v tail d env k)
+      if_matches (matching core pattern v) (λ bs. eval_block core calls here body tail d (bind_matched env bs) k)
+      (eval_clauses core calls here rest v tail d env k)
 
 -- the body of a function on these values, over what calls give
 abbrev pub body_run : Core → Calls → ℕ → Option Function → Closeds → Values → ℕ → Run
 body_run core calls d None given vs k = ends Stuck
 body_run core calls d (Some f) given vs k =
-    entered (frame_words f) (eval_block core calls (record { function = f; given = given }) f.body true d (bind_parameters nothing_bound f.parameters vs) k)
+    entered (frame_words f) (eval_block core calls (record { function = f; given = given }) f.body true d
+    (bind_parameters nothing_bound f.parameters vs) k)
 
 abbrev pub function_run : Core → Calls → ℕ → Closed → Values → ℕ → Run
 function_run core calls d ClosedInt vs k = ends Stuck

@@ -2,7 +2,12 @@
 -- results of functions, the constructors that expressions and patterns name, and the functions that are called.
 use Rattle.std.specs.Prelude.{List, [], ◌∷◌, ◌++◌}
 use Rattle.fip_language.specs.declared.Place.{Place}
-use Rattle.fip_language.specs.Core.{Name, Written, Writtens, WrittenInt, WrittenName, NoWritten, MoreWritten, Result, OneResult, TupleResult, Argument, Variable, Literal, Constructor, Arguments, NoArguments, MoreArguments, Pattern, BinderPattern, LiteralPattern, ConstructorPattern, Patterns, NoPatterns, MorePatterns, Expression, Give, Tuple, Operation, Call, Match, Nested, Block, Last, Let, Clauses, NoClauses, MoreClauses, Parameter, Function, DataConstructor, Data}
+use Rattle.fip_language.specs.Core.{Name, Written, Writtens, WrittenInt, WrittenName, NoWritten, MoreWritten, Result}
+use Rattle.fip_language.specs.Core.{OneResult, TupleResult, Argument, Variable, Literal, Constructor, Arguments}
+use Rattle.fip_language.specs.Core.{NoArguments, MoreArguments, Pattern, BinderPattern, LiteralPattern}
+use Rattle.fip_language.specs.Core.{ConstructorPattern, Patterns, NoPatterns, MorePatterns, Expression, Give, Tuple}
+use Rattle.fip_language.specs.Core.{Operation, Call, Match, Nested, Block, Last, Let, Clauses, NoClauses, MoreClauses}
+use Rattle.fip_language.specs.Core.{Parameter, Function, DataConstructor, Data}
 
 pub record Mention : Type 0 where
   pub name : Name
@@ -64,7 +69,8 @@ abbrev mutual
   constructors_in_expression (Tuple p as') = constructors_in_arguments as'
   constructors_in_expression (Operation o p a b) = constructors_in_argument a ++ constructors_in_argument b
   constructors_in_expression (Call n p statics as') = constructors_in_arguments as'
-  constructors_in_expression (Match destructive p x clauses) = constructors_in_argument x ++ constructors_in_clauses clauses
+  constructors_in_expression (Match destructive p x clauses) =
+      constructors_in_argument x ++ constructors_in_clauses clauses
   constructors_in_expression (Nested block) = constructors_in_block block
 
   pub constructors_in_block : Block → List Mention
@@ -73,7 +79,8 @@ abbrev mutual
 
   pub constructors_in_clauses : Clauses → List Mention
   constructors_in_clauses NoClauses = []
-  constructors_in_clauses (MoreClauses pattern body rest) = constructors_in_pattern pattern ++ (constructors_in_block body ++ constructors_in_clauses rest)
+  constructors_in_clauses (MoreClauses pattern body rest) =
+      constructors_in_pattern pattern ++ (constructors_in_block body ++ constructors_in_clauses rest)
 
 abbrev mutual
   pub calls_in_expression : Expression → List Mention

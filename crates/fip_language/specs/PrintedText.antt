@@ -18,7 +18,8 @@ abbrev mutual
   printed tb zero (Int i) rest = signed_decimal i ++ rest
   printed tb zero (Node c vs) rest = rest
   printed tb (suc t) (Int i) rest = rest
-  printed tb (suc t) (Node c vs) rest = (shape_at (shapes tb t) c).name ++ printed_fields tb (shape_at (shapes tb t) c).fields vs rest
+  printed tb (suc t) (Node c vs) rest = (shape_at (shapes tb t) c).name
+      ++ printed_fields tb (shape_at (shapes tb t) c).fields vs rest
 
   -- the fields behind a constructor's name: 40 is (
   pub printed_fields : Table → List ℕ → Values → List ℕ → List ℕ

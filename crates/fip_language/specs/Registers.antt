@@ -4,7 +4,10 @@
 -- constructors, so 7 registers, and its frame has 9 words. fip +2 fun push(x, xs) { Cons(x, xs) } has 2 parameters, a
 -- credit and a constructor, so 4 registers.
 use Rattle.std.specs.Prelude.{ℕ, suc, ◌+◌, length}
-use Rattle.fip_language.specs.Core.{Argument, Variable, Literal, Constructor, Arguments, NoArguments, MoreArguments, Pattern, BinderPattern, LiteralPattern, ConstructorPattern, Patterns, NoPatterns, MorePatterns, Expression, Give, Tuple, Operation, Call, Match, Nested, Block, Last, Let, Clauses, NoClauses, MoreClauses, Function}
+use Rattle.fip_language.specs.Core.{Argument, Variable, Literal, Constructor, Arguments, NoArguments, MoreArguments}
+use Rattle.fip_language.specs.Core.{Pattern, BinderPattern, LiteralPattern, ConstructorPattern, Patterns, NoPatterns}
+use Rattle.fip_language.specs.Core.{MorePatterns, Expression, Give, Tuple, Operation, Call, Match, Nested, Block, Last}
+use Rattle.fip_language.specs.Core.{Let, Clauses, NoClauses, MoreClauses, Function}
 
 abbrev mutual
   pub registers_of_argument : Argument → ℕ
@@ -41,7 +44,8 @@ abbrev mutual
 
   pub registers_of_clauses : Clauses → ℕ
   registers_of_clauses NoClauses = 0
-  registers_of_clauses (MoreClauses pattern body rest) = registers_of_pattern pattern + (registers_of_block body + registers_of_clauses rest)
+  registers_of_clauses (MoreClauses pattern body rest) =
+      registers_of_pattern pattern + (registers_of_block body + registers_of_clauses rest)
 
 abbrev pub registers : Function → ℕ
 registers f = length f.parameters + (length f.credits + registers_of_block f.body)

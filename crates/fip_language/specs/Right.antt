@@ -2,11 +2,15 @@
 -- keeps beside it. The rules that aren't named can't be violated in the loop form: it has no types with parameters, no
 -- static parameters, no credits in a header, no lent parameter, no let, no tuple and no call outside tail position, and
 -- one function alone, a fip one.
-use Rattle.std.specs.Prelude.{◌≡◌, ℕ, suc, ◌+◌, ◌<◌, ◌≤◌, ◌⊎◌, Bool, true, false, List, [], ◌∷◌, map, length, Option, Some, None, is_some, ◌==◌, if◌then◌else◌, codes}
+use Rattle.std.specs.Prelude.{◌≡◌, ℕ, suc, ◌+◌, ◌<◌, ◌≤◌, ◌⊎◌, Bool, true, false, List, [], ◌∷◌, map, length, Option}
+use Rattle.std.specs.Prelude.{Some, None, is_some, ◌==◌, if◌then◌else◌, codes}
 use Rattle.fip_language.specs.Values.{Value, one_of_size}
 use Rattle.fip_language.specs.Table.{Shape, Table, constructors, is_scalar, HasType}
-use Rattle.fip_language.specs.Core.{Name, Result, OneResult, TupleResult, Binder, Argument, Variable, Literal, Constructor, Arguments, NoArguments, MoreArguments, Parameter, Function, DataConstructor, Data, Core}
-use Rattle.fip_language.specs.Declarations.{same_name, data_types, Declared, constructor_of, type_of_name, function_of, type_number, table_of}
+use Rattle.fip_language.specs.Core.{Name, Result, OneResult, TupleResult, Binder, Argument, Variable, Literal}
+use Rattle.fip_language.specs.Core.{Constructor, Arguments, NoArguments, MoreArguments, Parameter, Function}
+use Rattle.fip_language.specs.Core.{DataConstructor, Data, Core}
+use Rattle.fip_language.specs.Declarations.{same_name, data_types, Declared, constructor_of, type_of_name, function_of}
+use Rattle.fip_language.specs.Declarations.{type_number, table_of}
 use Rattle.fip_language.specs.Every.{Every, Once}
 use Rattle.fip_language.specs.LoopForm.{Ending, Returns, Calls, LoopClause, Loop, IsLoop, IsPlainData}
 use Rattle.fip_language.specs.Mentions.{Mention, all_of, types_in_header, types_in_data, constructors_in_block}
@@ -63,7 +67,8 @@ in_scope scope x t y = if x == y then Some t else scope y
 
 abbrev pub parameters_in_scope : Core → Scope → List Parameter → Scope
 parameters_in_scope core scope [] = scope
-parameters_in_scope core scope (p ∷ ps) = parameters_in_scope core (in_scope scope p.binder.number (type_number core p.type)) ps
+parameters_in_scope core scope (p ∷ ps) = parameters_in_scope core
+    (in_scope scope p.binder.number (type_number core p.type)) ps
 
 abbrev pub binders_in_scope : Scope → List Binder → List ℕ → Scope
 binders_in_scope scope [] ts = scope
@@ -92,7 +97,8 @@ abbrev mutual
   pub IsOfType : Core → Scope → ℕ → Argument → Type 0
   IsOfType core scope t (Variable x name p) = binder_type scope x ≡ Some t
   IsOfType core scope t (Literal i p) = t ≡ 0
-  IsOfType core scope t (Constructor name p as') = (c : Declared) × (constructor_of core name ≡ Some c) × (c.type ≡ t) × AreOfTypes core scope (field_types core c) as'
+  IsOfType core scope t (Constructor name p as') = (c : Declared) × (constructor_of core name ≡ Some c) × (c.type ≡ t)
+      × AreOfTypes core scope (field_types core c) as'
 
   pub AreOfTypes : Core → Scope → List ℕ → Arguments → Type 0
   AreOfTypes core scope [] NoArguments = Unit {0}
@@ -103,7 +109,8 @@ abbrev mutual
 -- An ending of a type; a call's function is known. E20, E30, E31, E33
 abbrev pub EndsWith : Core → Scope → ℕ → Ending → Type 0
 EndsWith core scope t (Returns a) = IsOfType core scope t a
-EndsWith core scope t (Calls name p as') = (g : Function) × (function_of core name ≡ Some g) × (result_type core g.result ≡ t) × AreOfTypes core scope (parameter_types core g) as'
+EndsWith core scope t (Calls name p as') = (g : Function) × (function_of core name ≡ Some g)
+    × (result_type core g.result ≡ t) × AreOfTypes core scope (parameter_types core g) as'
 
 -- ---- ownership and credits
 
@@ -155,7 +162,8 @@ Narrow tb scope = (x t : ℕ) → scope x ≡ Some t → is_scalar tb t ≡ fals
 
 -- each owned variable is used up exactly once, the scrutinee by the match!
 abbrev pub UsedOnce : Table → Scope → Option ℕ → Ending → Type 0
-UsedOnce tb scope scrutinee e = (x t : ℕ) → scope x ≡ Some t → is_scalar tb t ≡ false → taken_apart x scrutinee + occurrences_in_ending x e ≡ 1
+UsedOnce tb scope scrutinee e = (x t : ℕ) → scope x ≡ Some t → is_scalar tb t ≡ false →
+    taken_apart x scrutinee + occurrences_in_ending x e ≡ 1
 
 abbrev pub is_blank : Name → Bool
 is_blank name = same_name name (codes "_")
@@ -172,15 +180,18 @@ pub record IsRightClause (core : Core) (f : Function) (l : Loop) (t : ℕ) (c : 
   -- E33
   pub as_many : length c.binders ≡ length d.fields
   -- E20, E30, E31, E33
-  pub typed : EndsWith core (binders_in_scope (parameters_in_scope core nothing_in_scope f.parameters) c.binders (field_types core d)) (result_type core f.result) c.ending
+  pub typed : EndsWith core (binders_in_scope (parameters_in_scope core nothing_in_scope f.parameters) c.binders
+      (field_types core d)) (result_type core f.result) c.ending
   -- E42
   pub names_once : Once (names_of_binders c.binders)
   -- E50, E52
-  pub used_once : UsedOnce (table_of core) (binders_in_scope (parameters_in_scope core nothing_in_scope f.parameters) c.binders (field_types core d)) l.scrutinee c.ending
+  pub used_once : UsedOnce (table_of core) (binders_in_scope (parameters_in_scope core nothing_in_scope f.parameters)
+      c.binders (field_types core d)) l.scrutinee c.ending
   -- E56, E57, E58: the clause needs the credits that its pattern gives
   pub paid : (k : ℕ) → needed_by_ending k c.ending ≡ one_of_size k (length c.binders)
   -- E60
-  pub narrow : Narrow (table_of core) (binders_in_scope (parameters_in_scope core nothing_in_scope f.parameters) c.binders (field_types core d))
+  pub narrow : Narrow (table_of core) (binders_in_scope (parameters_in_scope core nothing_in_scope f.parameters)
+      c.binders (field_types core d))
 
 -- ---- loops
 
@@ -213,7 +224,8 @@ pub record HasTypesOf (core : Core) (f : Function) (ts : List ℕ) : Type 0 wher
   pub bool_type : IsAmong ts 1
   pub parameters : Every (IsAmong ts) (parameter_types core f)
   pub result : IsAmong ts (result_type core f.result)
-  pub named : Every (λ (m : Mention). IsAmong ts (constructor_type (constructor_of core m.name))) (constructors_in_block f.body)
+  pub named : Every (λ (m : Mention). IsAmong ts (constructor_type (constructor_of core m.name)))
+      (constructors_in_block f.body)
   pub fields : Every (λ t. Every (λ (s : Shape). Every (IsAmong ts) s.fields) (constructors (table_of core) t)) ts
 
 -- Right, where t is the scrutinee's type.

@@ -1,9 +1,11 @@
--- What the core form of every source has. A match has a clause; a variable that has a binder's number is in the scope of
--- that binder (in a loop these are the parameters and, in a clause, its binders); literals have 64 bits; and binders are
--- numbered from 0: the parameters first, then the binders of the clauses in order.
-use Rattle.std.specs.Prelude.{◌≡◌, ℕ, zero, suc, ◌<◌, ◌≤◌, List, [], ◌∷◌, ◌++◌, map, length, Option, Some, None, FitsSigned}
+-- What the core form of every source has. A match has a clause; a variable that has a binder's number is in the scope
+-- of that binder (in a loop these are the parameters and, in a clause, its binders); literals have 64 bits; and binders
+-- are numbered from 0: the parameters first, then the binders of the clauses in order.
+use Rattle.std.specs.Prelude.{◌≡◌, ℕ, zero, suc, ◌<◌, ◌≤◌, List, [], ◌∷◌, ◌++◌, map, length, Option, Some, None}
+use Rattle.std.specs.Prelude.{FitsSigned}
 use Rattle.std.specs.Int.{w64}
-use Rattle.fip_language.specs.Core.{Binder, Argument, Variable, Literal, Constructor, Arguments, NoArguments, MoreArguments, Parameter, Function, Core}
+use Rattle.fip_language.specs.Core.{Binder, Argument, Variable, Literal, Constructor, Arguments, NoArguments}
+use Rattle.fip_language.specs.Core.{MoreArguments, Parameter, Function, Core}
 use Rattle.fip_language.specs.Store.{count}
 use Rattle.fip_language.specs.Every.{Every, Among}
 use Rattle.fip_language.specs.Mentions.{all_of}

@@ -13,7 +13,8 @@ AreTypes tb (k ∷ ks) = (k ≤ length tb) × AreTypes tb ks
 
 pub record IsSoundTable (tb : Table) : Type 0 where
   pub names : (t c : ℕ) (s : Shape) → slice_get (shapes tb t) c ≡ Some s → is_upper_name s.name ≡ true
-  pub unlike : (t c d : ℕ) (s r : Shape) → slice_get (shapes tb t) c ≡ Some s → slice_get (shapes tb t) d ≡ Some r → s.name ≡ r.name → c ≡ d
+  pub unlike : (t c d : ℕ) (s r : Shape) → slice_get (shapes tb t) c ≡ Some s → slice_get (shapes tb t) d ≡ Some r →
+      s.name ≡ r.name → c ≡ d
   pub known : (t c : ℕ) (s : Shape) → slice_get (shapes tb t) c ≡ Some s → AreTypes tb s.fields
   pub narrow : (t c : ℕ) (s : Shape) → slice_get (shapes tb t) c ≡ Some s → length s.fields ≤ 16
   pub inhabited : (t : ℕ) → t < length tb → (v : Value) × HasType tb (suc t) v

@@ -1,9 +1,10 @@
 -- What a function needs of the stack, and the groups of functions that call each other.
--- A call is in tail position where nothing is left to do after it: the body of a function is in tail position, and where
--- an expression is, so are its clauses' bodies and the last expression of its block. A bound expression never is.
+-- A call is in tail position where nothing is left to do after it: the body of a function is in tail position, and
+-- where an expression is, so are its clauses' bodies and the last expression of its block. A bound expression never is.
 use Rattle.std.specs.Prelude.{◌≡◌, ℕ, ◌+◌, ◌≤◌, Bool, true, false, List, [], ◌∷◌, ◌++◌, Option, Some, None}
 use Rattle.fip_language.specs.declared.Place.{Place}
-use Rattle.fip_language.specs.Core.{Name, Writtens, Expression, Give, Tuple, Operation, Call, Match, Nested, Block, Last, Let, Clauses, NoClauses, MoreClauses, Function, Core}
+use Rattle.fip_language.specs.Core.{Name, Writtens, Expression, Give, Tuple, Operation, Call, Match, Nested, Block}
+use Rattle.fip_language.specs.Core.{Last, Let, Clauses, NoClauses, MoreClauses, Function, Core}
 use Rattle.fip_language.specs.Declarations.{function_of}
 use Rattle.fip_language.specs.Every.{Among}
 use Rattle.fip_language.specs.Statics.{Closed, ClosedInt, ClosedName, Closeds, Instance, callee}
@@ -22,7 +23,8 @@ abbrev mutual
   sites_in_expression tail (Give a) = []
   sites_in_expression tail (Tuple p as') = []
   sites_in_expression tail (Operation o p a b) = []
-  sites_in_expression tail (Call name p statics as') = record { tail = tail; name = name; place = p; statics = statics } ∷ []
+  sites_in_expression tail (Call name p statics as') =
+      record { tail = tail; name = name; place = p; statics = statics } ∷ []
   sites_in_expression tail (Match destructive p x clauses) = sites_in_clauses tail clauses
   sites_in_expression tail (Nested block) = sites_in_block tail block
 
@@ -68,12 +70,15 @@ held_by false n = n
 
 -- These numbers are enough for the frames that f and all that it reaches hold.
 pub record HoldFrames (core : Core) (f : Closed) (frames : Closed → ℕ) : Type 0 where
-  pub calls : (g h : Closed) (here : Instance) (site : CallSite) → Reaches core f g → CallsAt core g here site h → held_by site.tail 1 + frames h ≤ frames g
+  pub calls : (g h : Closed) (here : Instance) (site : CallSite) → Reaches core f g → CallsAt core g here site h →
+      held_by site.tail 1 + frames h ≤ frames g
 
 -- These numbers are enough for the words of their stack.
 pub record HoldWords (core : Core) (f : Closed) (words : Closed → ℕ) : Type 0 where
-  pub frame : (g : Closed) (here : Instance) → Reaches core f g → instance_of core g ≡ Some here → frame_words here.function ≤ words g
-  pub calls : (g h : Closed) (here : Instance) (site : CallSite) → Reaches core f g → CallsAt core g here site h → held_by site.tail (frame_words here.function) + words h ≤ words g
+  pub frame : (g : Closed) (here : Instance) → Reaches core f g → instance_of core g ≡ Some here →
+      frame_words here.function ≤ words g
+  pub calls : (g h : Closed) (here : Instance) (site : CallSite) → Reaches core f g → CallsAt core g here site h →
+      held_by site.tail (frame_words here.function) + words h ≤ words g
 
 -- The frames of f, and the words of its stack: the least numbers that are enough.
 pub record AreFrames (core : Core) (f : Closed) (n : ℕ) : Type 0 where

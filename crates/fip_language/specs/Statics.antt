@@ -2,7 +2,8 @@
 -- that nothing is specialised. Where map[a, b, f] calls f, it calls what was given for f; where it calls map[a, b, f],
 -- that call is given what it was given itself.
 use Rattle.std.specs.Prelude.{List, [], ◌∷◌, Option, Some, None, if◌then◌else◌}
-use Rattle.fip_language.specs.Core.{Name, Written, Writtens, WrittenInt, WrittenName, NoWritten, MoreWritten, Static, TypeParameter, FunctionParameter, Function, Core}
+use Rattle.fip_language.specs.Core.{Name, Written, Writtens, WrittenInt, WrittenName, NoWritten, MoreWritten, Static}
+use Rattle.fip_language.specs.Core.{TypeParameter, FunctionParameter, Function, Core}
 use Rattle.fip_language.specs.Declarations.{same_name, function_of}
 
 mutual
@@ -31,7 +32,8 @@ abbrev pub function_among : Name → List Static → Closeds → Option Closed
 function_among name [] cs = None
 function_among name (s ∷ ss) NoClosed = None
 function_among name (TypeParameter n p ∷ ss) (MoreClosed c cs) = function_among name ss cs
-function_among name (FunctionParameter n p ps r ∷ ss) (MoreClosed c cs) = if same_name name n then Some c else function_among name ss cs
+function_among name (FunctionParameter n p ps r ∷ ss) (MoreClosed c cs) =
+    if same_name name n then Some c else function_among name ss cs
 
 abbrev pub given_type : Instance → Name → Option Closed
 given_type here name = type_among name here.function.statics here.given
@@ -64,14 +66,18 @@ statics_of core name = statics_or_none (function_of core name)
 abbrev mutual
   pub closed_function : Core → Instance → Written → Closed
   closed_function core here (WrittenInt p) = ClosedInt
-  closed_function core here (WrittenName name p ws) = given_or (given_function here name) (ClosedName name (closed_statics core here (statics_of core name) ws))
+  closed_function core here (WrittenName name p ws) =
+      given_or (given_function here name) (ClosedName name (closed_statics core here (statics_of core name) ws))
 
   pub closed_statics : Core → Instance → List Static → Writtens → Closeds
   closed_statics core here [] ws = NoClosed
   closed_statics core here (s ∷ ss) NoWritten = NoClosed
-  closed_statics core here (TypeParameter n p ∷ ss) (MoreWritten w ws) = MoreClosed (closed_type here w) (closed_statics core here ss ws)
-  closed_statics core here (FunctionParameter n p ps r ∷ ss) (MoreWritten w ws) = MoreClosed (closed_function core here w) (closed_statics core here ss ws)
+  closed_statics core here (TypeParameter n p ∷ ss) (MoreWritten w ws) =
+      MoreClosed (closed_type here w) (closed_statics core here ss ws)
+  closed_statics core here (FunctionParameter n p ps r ∷ ss) (MoreWritten w ws) =
+      MoreClosed (closed_function core here w) (closed_statics core here ss ws)
 
 -- the function that is called where an instance calls a name with these static arguments
 abbrev pub callee : Core → Instance → Name → Writtens → Closed
-callee core here name ws = given_or (given_function here name) (ClosedName name (closed_statics core here (statics_of core name) ws))
+callee core here name ws = given_or (given_function here name)
+    (ClosedName name (closed_statics core here (statics_of core name) ws))

@@ -3,7 +3,8 @@
 -- 64 bits. So it is a field's type that decides how its word is read.
 -- With Cons(1, Nil) in cell 0, where Nil is constructor 0 and Cons constructor 1, the cell has tag 1 and the words
 -- 1 (the int) and 0 (Nil), and the list's word is 1.
-use Rattle.std.specs.Prelude.{◌≡◌, ℕ, zero, suc, ◌+◌, ◌*◌, ◌-◌, ◌^◌, ℤ, pos, negsuc, List, [], ◌∷◌, ◌++◌, Some, slice_get, nat_eq, if◌then◌else◌, FitsSigned}
+use Rattle.std.specs.Prelude.{◌≡◌, ℕ, zero, suc, ◌+◌, ◌*◌, ◌-◌, ◌^◌, ℤ, pos, negsuc, List, [], ◌∷◌, ◌++◌, Some}
+use Rattle.std.specs.Prelude.{slice_get, nat_eq, if◌then◌else◌, FitsSigned}
 use Rattle.std.specs.Int.{w64}
 use Rattle.fip_language.specs.Values.{Value, Int, Node, Values, End, More}
 use Rattle.fip_language.specs.Table.{Shape, Table, shapes}
@@ -89,7 +90,8 @@ abbrev mutual
   Stands tb cs zero (At p c xs) = ⊥
   Stands tb cs (suc t) (PlacedInt i) = ⊥
   Stands tb cs (suc t) (Bare c) = (s : Shape) × (slice_get (shapes tb t) c ≡ Some s) × (s.fields ≡ [])
-  Stands tb cs (suc t) (At p c xs) = (slice_get cs p ≡ Some (record { tag = c; fields = words_of xs })) × (s : Shape) × (slice_get (shapes tb t) c ≡ Some s) × StandAll tb cs s.fields xs
+  Stands tb cs (suc t) (At p c xs) = (slice_get cs p ≡ Some (record { tag = c; fields = words_of xs })) × (s : Shape)
+      × (slice_get (shapes tb t) c ≡ Some s) × StandAll tb cs s.fields xs
 
   pub StandAll : Table → List Cell → List ℕ → Parts → Type 0
   StandAll tb cs [] NoParts = Unit {0}

@@ -2,7 +2,8 @@
 -- binder has a number. The place of each name, literal, operator, keyword and tuple's bracket that a refusal or a
 -- trap may name is in it.
 --
--- a - b * c is Binary Subtract _ a (Binary Multiply _ b c), and a - b - c is Binary Subtract _ (Binary Subtract _ a b) c.
+-- a - b * c is Binary Subtract _ a (Binary Multiply _ b c), and a - b - c is Binary Subtract _ (Binary Subtract _ a b)
+-- c.
 use Rattle.std.specs.Prelude.{ℤ, Bool, List, Option}
 use Rattle.fip_language.specs.declared.Place.{Place}
 use Rattle.fip_language.specs.declared.FunKind.{FunKind}

@@ -5,7 +5,8 @@
 -- parameters takes blanks and LFs alone.
 -- So for two parameters, a list and an int, `Cons(1 ,Nil)`, LF, `-007` is a text, and `Cons(1,Nil)  -7` is none.
 -- A relation `XText .. cs x rest` says: the characters cs are the text of x, and then rest.
-use Rattle.std.specs.Prelude.{◌≡◌, ℕ, zero, suc, ◌+◌, ◌-◌, ◌*◌, ◌^◌, ◌≤◌, Bool, true, false, ℤ, pos, neg_ℤ, List, [], ◌∷◌, Some, slice_get}
+use Rattle.std.specs.Prelude.{◌≡◌, ℕ, zero, suc, ◌+◌, ◌-◌, ◌*◌, ◌^◌, ◌≤◌, Bool, true, false, ℤ, pos, neg_ℤ, List, []}
+use Rattle.std.specs.Prelude.{◌∷◌, Some, slice_get}
 use Rattle.fip_language.specs.Values.{Value, Int, Node, Values, End, More}
 use Rattle.fip_language.specs.Table.{Shape, Table, shapes}
 use Rattle.fip_language.specs.Character.{Character, Blank, Line, Open, Close, Comma, Minus, Digit, Letter, characters}
@@ -65,21 +66,24 @@ abbrev mutual
   ValueText tb zero cs (Int i) rest = IntText (skip cs) i rest
   ValueText tb zero cs (Node c vs) rest = ⊥
   ValueText tb (suc t) cs (Int i) rest = ⊥
-  ValueText tb (suc t) cs (Node c vs) rest = (s : Shape) × (slice_get (shapes tb t) c ≡ Some s) × (name_of (skip cs) ≡ characters s.name) × FieldsText tb s.fields (after_name (skip cs)) vs rest
+  ValueText tb (suc t) cs (Node c vs) rest = (s : Shape) × (slice_get (shapes tb t) c ≡ Some s)
+      × (name_of (skip cs) ≡ characters s.name) × FieldsText tb s.fields (after_name (skip cs)) vs rest
 
   -- the fields behind a constructor's name
   pub FieldsText : Table → List ℕ → List Character → Values → List Character → Type 0
   FieldsText tb [] cs End rest = cs ≡ rest
   FieldsText tb [] cs (More v vs) rest = ⊥
   FieldsText tb (k ∷ ks) cs End rest = ⊥
-  FieldsText tb (k ∷ ks) cs (More v vs) rest = (inner : List Character) × (after : List Character) × (skip cs ≡ Open ∷ inner) × ValueText tb k inner v after × MoreText tb ks after vs rest
+  FieldsText tb (k ∷ ks) cs (More v vs) rest = (inner : List Character) × (after : List Character)
+      × (skip cs ≡ Open ∷ inner) × ValueText tb k inner v after × MoreText tb ks after vs rest
 
   -- the fields behind a field
   pub MoreText : Table → List ℕ → List Character → Values → List Character → Type 0
   MoreText tb [] cs End rest = skip cs ≡ Close ∷ rest
   MoreText tb [] cs (More v vs) rest = ⊥
   MoreText tb (k ∷ ks) cs End rest = ⊥
-  MoreText tb (k ∷ ks) cs (More v vs) rest = (next : List Character) × (after : List Character) × (skip cs ≡ Comma ∷ next) × ValueText tb k next v after × MoreText tb ks after vs rest
+  MoreText tb (k ∷ ks) cs (More v vs) rest = (next : List Character) × (after : List Character)
+      × (skip cs ≡ Comma ∷ next) × ValueText tb k next v after × MoreText tb ks after vs rest
 
 -- only blanks and ends of lines
 abbrev pub AllBlank : List Character → Type 0
@@ -93,7 +97,8 @@ abbrev pub LinesText : Table → List ℕ → List Character → Values → Type
 LinesText tb [] cs End = AllBlank cs
 LinesText tb [] cs (More v vs) = ⊥
 LinesText tb (k ∷ ks) cs End = ⊥
-LinesText tb (k ∷ ks) cs (More v vs) = (next : List Character) × (after : List Character) × (skip cs ≡ Line ∷ next) × ValueText tb k next v after × LinesText tb ks after vs
+LinesText tb (k ∷ ks) cs (More v vs) = (next : List Character) × (after : List Character) × (skip cs ≡ Line ∷ next)
+    × ValueText tb k next v after × LinesText tb ks after vs
 
 -- the whole text
 abbrev pub InputText : Table → List ℕ → List Character → Values → Type 0

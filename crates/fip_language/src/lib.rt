@@ -1,4 +1,5 @@
-// The plain types of the language that take no memory. The language itself is defined in specs/; its laws are in `laws`.
+// The plain types of the language that take no memory. The language itself is defined in specs/; its laws are in
+// `laws`.
 #![tactic(auto)]
 
 pub mod laws;

@@ -5,10 +5,12 @@ use Rattle.cell_code.specs.declared.code.Function.{Function}
 use Rattle.code_verify.specs.Checked.{Checked}
 use Rattle.fip_machine.specs.declared.cursor.Bounds.{Bounds}
 
--- A frame of function f that begins at `base` has room, and all that it calls, with so many frames below it: by what the
--- function needs of the stack, where it is fip, or since there is room for as many of the greatest frames as may be held.
+-- A frame of function f that begins at `base` has room, and all that it calls, with so many frames below it: by what
+-- the function needs of the stack, where it is fip, or since there is room for as many of the greatest frames as may be
+-- held.
 abbrev pub Fits : Checked → Bounds → ℕ → ℕ → ℕ → Type 0
-Fits v b f frames base = ((s : Stack) × (slice_get v.stacks f ≡ Some (Some s)) × (base + s.words ≤ b.words)) ⊎ ((base ≤ frames * b.largest) × ((b.frames + 1) * b.largest ≤ b.words))
+Fits v b f frames base = ((s : Stack) × (slice_get v.stacks f ≡ Some (Some s)) × (base + s.words ≤ b.words))
+    ⊎ ((base ≤ frames * b.largest) × ((b.frames + 1) * b.largest ≤ b.words))
 
 -- each function's frame is at most the greatest
 abbrev pub AreAtMost : Checked → ℕ → Type 0

@@ -13,11 +13,19 @@ use Rattle.fip_machine.specs.declared.cursor.Cursor.{Cursor}
 use Rattle.fip_machine.specs.Bounding.{Fits}
 
 abbrev pub body_at : Checked → Cursor → Body
-body_at v c = record { functions = v.code.functions.items; stacks = v.stacks; function = c.function; registers = c.registers; instrs = c.instrs.now }
+body_at v c = record {
+  functions = v.code.functions.items;
+  stacks = v.stacks;
+  function = c.function;
+  registers =
+      c.registers;
+  instrs = c.instrs.now;
+}
 
 -- The next instruction is safe, and the running frame lies among so many words.
 pub record IsPlaced (v : Checked) (b : Bounds) (n : ℕ) (c : Cursor) : Type 0 where
-  pub is : (g : Function) × (slice_get v.code.functions.items c.function ≡ Some g) × (g.registers ≡ c.registers) × (g.instrs.items ≡ c.instrs.now)
+  pub is : (g : Function) × (slice_get v.code.functions.items c.function ≡ Some g) × (g.registers ≡ c.registers)
+      × (g.instrs.items ≡ c.instrs.now)
   pub safe : IsSafe (body_at v c) c.at
   pub within : c.at < length c.instrs.now
   pub few : length c.instrs.now < 4294967296
@@ -37,14 +45,17 @@ pub record IsWaiting (v : Checked) (b : Bounds) (ws : List ℕ) (frames base : �
   pub low : g.registers + 2 ≤ base
   pub is : slice_get v.code.functions.items (slice_index_or ws (base - 2) 0) ≡ Some g
   pub within : slice_index_or ws (base - 1) 0 < length g.instrs.items
-  pub below : (f : ℕ) (ss ds : List ℕ) → slice_get g.instrs.items (slice_index_or ws (base - 1) 0) ≡ Some (I.Call f ss ds) → AreBelow g.registers ds
-  pub next : IsSafe (body_of v.code.functions.items v.stacks (slice_index_or ws (base - 2) 0) g) (slice_index_or ws (base - 1) 0 + 1)
+  pub below : (f : ℕ) (ss ds : List ℕ) → slice_get g.instrs.items (slice_index_or ws (base - 1) 0)
+      ≡ Some (I.Call f ss ds) → AreBelow g.registers ds
+  pub next : IsSafe (body_of v.code.functions.items v.stacks (slice_index_or ws (base - 2) 0) g)
+      (slice_index_or ws (base - 1) 0 + 1)
   pub fits : Fits v b (slice_index_or ws (base - 2) 0) frames (base - (g.registers + 2))
 
 -- All frames below `base`.
 abbrev pub Waiting : Checked → Bounds → List ℕ → ℕ → ℕ → Type 0
 Waiting v b ws zero base = base ≡ 0
-Waiting v b ws (suc frames) base = (g : Function) × IsWaiting v b ws frames base g × Waiting v b ws frames (base - (g.registers + 2))
+Waiting v b ws (suc frames) base = (g : Function) × IsWaiting v b ws frames base g
+    × Waiting v b ws frames (base - (g.registers + 2))
 
 -- what the running function and those below it can still do at the most
 abbrev pub weight : Cursor → ℕ

@@ -8,8 +8,10 @@ use Rattle.fip_machine.specs.declared.rows.Stepped.TheVariants.{Went}
 use Rattle.fip_machine.specs.Bounding.{AreAtMost}
 use Rattle.fip_machine.specs.Placed.{IsPlaced, Waiting}
 
--- The words of all frames, how many the memory that was taken can hold, how many words are spare, and how the run ended.
-pub record IsTask (v : Checked) (b : Bounds) (words : List ℕ) (capacity spare : ℕ) (c : Cursor) (ended : Option Stepped) : Type 0 where
+-- The words of all frames, how many the memory that was taken can hold, how many words are spare, and how the run
+-- ended.
+pub record IsTask (v : Checked) (b : Bounds) (words : List ℕ) (capacity spare : ℕ) (c : Cursor)
+    (ended : Option Stepped) : Type 0 where
   pub placed : IsPlaced v b (length words) c
   pub waiting : Waiting v b words c.frames c.base
   pub most : AreAtMost v b.largest

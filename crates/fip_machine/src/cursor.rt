@@ -1,9 +1,9 @@
 // Where a run is.
 use cell_code::Instr;
 
-/// The function that runs: its number, its registers and instructions, the number of the next one, where its frame begins
-/// among the words of all frames, and how many frames wait below it. It is `Copy`: a loop that holds it in a variable keeps
-/// it in registers of the processor.
+/// The function that runs: its number, its registers and instructions, the number of the next one, where its frame
+/// begins among the words of all frames, and how many frames wait below it. It is `Copy`: a loop that holds it in a
+/// variable keeps it in registers of the processor.
 #[derive(Clone, Copy)]
 pub struct Cursor<'a> {
     pub instrs: &'a [Instr],

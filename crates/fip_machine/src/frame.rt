@@ -1,5 +1,5 @@
-// What instructions do to the words of frames. Lists of at most four registers are matched, so that each length is straight
-// code: a list is read first and then written, since the store and the frames may not be known to lie apart.
+// What instructions do to the words of frames. Lists of at most four registers are matched, so that each length is
+// straight code: a list is read first and then written, since the store and the frames may not be known to lie apart.
 ghost use Rattle.std.specs.Prelude.{◌≡◌, ◌≢◌, ℕ, ◌+◌, ◌<◌, ◌≤◌, None, length};
 ghost use Rattle.cell_code.specs.Runnable.{AreBelow};
 ghost use Rattle.cell_store.specs.Cells.{cell_at, size_in};
@@ -235,8 +235,8 @@ fn give_all(
     }
 }
 
-/// The destinations, of the frame at `to`, which has `n` registers, get the words of the results, of the frame at `from`,
-/// which has `own`.
+/// The destinations, of the frame at `to`, which has `n` registers, get the words of the results, of the frame at
+/// `from`, which has `own`.
 #[inline(always)]
 pub fn give(
     words: &mut [u64],

@@ -55,8 +55,8 @@ impl Gauge {
         self.words
     }
 
-    /// Takes in a state: the numbers of held cells of the sizes from 1 to 16, the frames beside the running one, and the
-    /// words of all frames.
+    /// Takes in a state: the numbers of held cells of the sizes from 1 to 16, the frames beside the running one, and
+    /// the words of all frames.
     pub fn see(&mut self, held: &[u64; SIZES], frames: usize, words: usize) {
         for k in 0..SIZES {
             self.lowest[k] = if self.seen {

@@ -1,5 +1,5 @@
-// The machine: the instructions of a verified code over a sealed store. All frames of a run lie in one list of words, and a
-// step takes no memory.
+// The machine: the instructions of a verified code over a sealed store. All frames of a run lie in one list of words,
+// and a step takes no memory.
 #![tactic(auto)]
 
 mod arithmetic;

@@ -44,9 +44,9 @@ pub struct Machine<'a> {
 }
 
 impl<'a> Machine<'a> {
-    /// The machine at the start of a function of the code, with the words of its arguments and then of its credits, and so
-    /// many free frames, at most 1,000,000; a fip function is given as many as it needs. The loader is sealed. The memory of
-    /// the whole run is taken: no later call takes any. An error where it is not there.
+    /// The machine at the start of a function of the code, with the words of its arguments and then of its credits, and
+    /// so many free frames, at most 1,000,000; a fip function is given as many as it needs. The loader is sealed. The
+    /// memory of the whole run is taken: no later call takes any. An error where it is not there.
     pub fn start(
         alloc: Global,
         verified: &'a Verified,
@@ -70,9 +70,9 @@ impl<'a> Machine<'a> {
         self.stack.step(&mut self.cells)
     }
 
-    /// Runs to the end, with so many calls: the entry takes one, and each Call and Tail one. Asks a machine that was just
-    /// started, and a gauge that has seen no state; it sees each state of the run. Cells are only released in a run, so the
-    /// first state has the highest numbers of them and the last one the lowest.
+    /// Runs to the end, with so many calls: the entry takes one, and each Call and Tail one. Asks a machine that was
+    /// just started, and a gauge that has seen no state; it sees each state of the run. Cells are only released in a
+    /// run, so the first state has the highest numbers of them and the last one the lowest.
     pub fn run(&mut self, calls: u64, gauge: &mut Gauge) -> Ended {
         let frames = self.stack.frames();
         let words = self.stack.words();

@@ -1,5 +1,5 @@
-// The cells that words name. In a run of verified code each word names the cell that its register should: these tests, one
-// for each thing that is asked of a cell, never fail there. Where one did fail, the instruction would do nothing.
+// The cells that words name. In a run of verified code each word names the cell that its register should: these tests,
+// one for each thing that is asked of a cell, never fail there. Where one did fail, the instruction would do nothing.
 ghost use Rattle.std.specs.Prelude.{◌≡◌, ◌≢◌, ℕ, ◌<◌, ◌≤◌, false, None, Some, IfSome, slice_get};
 ghost use Rattle.cell_store.specs.Cells.{cell_at, size_in};
 

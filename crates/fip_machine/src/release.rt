@@ -8,8 +8,8 @@ use crate::named::{live_cell_at, live_cell_of, place_of};
 use cell_store::Cells;
 use fip_base::table::TypeTable;
 
-// A tree that is still to be released: its type and its root's place. It stands as one word on the store's stack, which has
-// room for one word a cell.
+// A tree that is still to be released: its type and its root's place. It stands as one word on the store's stack, which
+// has room for one word a cell.
 #[derive(Clone, Copy)]
 struct Tree {
     ty: u32,
@@ -88,7 +88,8 @@ fn push_fields<C: Cells>(cells: &mut C, place: u32, types: &[u32])
 
 // Releases a tree's root, and puts the trees of its fields on the stack.
 fn release_root<C: Cells>(types: &TypeTable, cells: &mut C, freed: &mut [usize; SIZES], tree: Tree)
-    ensures { work (C.cells cells.new) (C.released cells.new) (C.pushed cells.new) ≤ work (C.cells cells.old) (C.released cells.old) (C.pushed cells.old) }
+    ensures { work (C.cells cells.new) (C.released cells.new) (C.pushed cells.new) ≤ work (C.cells cells.old)
+        (C.released cells.old) (C.pushed cells.old) }
 {
     if let Some(place) = live_cell_at(cells, tree.place) {
         count_one(freed, cells.cell_size(place));
@@ -101,8 +102,8 @@ fn release_root<C: Cells>(types: &TypeTable, cells: &mut C, freed: &mut [usize; 
     }
 }
 
-/// Releases all cells of the tree that a word of this type stands for: the root first, then those of its fields from left
-/// to right, each field's whole tree before the next.
+/// Releases all cells of the tree that a word of this type stands for: the root first, then those of its fields from
+/// left to right, each field's whole tree before the next.
 pub fn release_tree<C: Cells>(
     types: &TypeTable,
     cells: &mut C,

@@ -1,7 +1,9 @@
-// One function for each instruction, each inlined into `act`, and `act` into the loop of a run. What an instruction asks of
-// registers, targets, functions and room holds of a verified code, and isn't tested; what it asks of cells is tested in
+// One function for each instruction, each inlined into `act`, and `act` into the loop of a run. What an instruction
+// asks of registers, targets, functions and room holds of a verified code, and isn't tested; what it asks of cells is
+// tested in
 // `named`.
-ghost use Rattle.std.specs.Prelude.{◌≡◌, ◌≢◌, ℕ, ◌+◌, ◌-◌, ◌*◌, ◌<◌, ◌≤◌, ◌^◌, length, vec_len, Some, IfSome, slice_get};
+ghost use Rattle.std.specs.Prelude.{◌≡◌, ◌≢◌, ℕ, ◌+◌, ◌-◌, ◌*◌, ◌<◌, ◌≤◌, ◌^◌, length, vec_len, Some, IfSome};
+ghost use Rattle.std.specs.Prelude.{slice_get};
 ghost use Rattle.cell_code.specs.Runnable.{AreBelow, CanCall, Covers, Row, IsSafe, IsRunnable, body_of};
 ghost use Rattle.fip_machine.specs.Bounding.{AreAtMost, Fits};
 ghost use Rattle.fip_machine.specs.Keeping.{Keeps};
@@ -37,8 +39,8 @@ pub enum Stepped {
     Deep,
 }
 
-/// What a task has beside the words of its frames: room for the arguments of a tail call, the entry's results and how many
-/// they are, and how many cells of each size it released.
+/// What a task has beside the words of its frames: room for the arguments of a tail call, the entry's results and how
+/// many they are, and how many cells of each size it released.
 #[derive(Drop)]
 pub struct Beside {
     pub spare: Vec<u64>,
@@ -259,8 +261,8 @@ fn peek<C: Cells>(
     }
 }
 
-// Registers of the frame at `base`, which has `own`, get the fields of the register's cell. A constructor without fields has
-// none.
+// Registers of the frame at `base`, which has `own`, get the fields of the register's cell. A constructor without
+// fields has none.
 #[inline(always)]
 fn take_fields<C: Cells>(
     cells: &C,
@@ -366,7 +368,8 @@ fn enter<'a>(
     requires most { AreAtMost verified.now bounds.largest }
     requires frames { frames ≤ bounds.frames }
     requires fits { Fits verified.now bounds function frames base }
-    requires room { (g : _) → slice_get verified.now.code.functions.items function ≡ Some g → base + g.registers ≤ length words.now }
+    requires room { (g : _) → slice_get verified.now.code.functions.items function ≡ Some g →
+        base + g.registers ≤ length words.now }
     ensures placed { IsPlaced verified.now bounds (length words.now) cursor.new }
     ensures base { cursor.new.base ≡ base }
     ensures frames { cursor.new.frames ≡ frames }
@@ -491,8 +494,10 @@ fn caller_of<'a>(
     ensures is { slice_get verified.now.code.functions.items result.function ≡ Some result.body.now }
     ensures runnable { IsRunnable verified.now.code.functions.items verified.now.stacks }
     ensures within { result.at < length result.body.now.instrs.items }
-    ensures below { (f : _) (ss : _) (ds : _) → slice_get result.body.now.instrs.items result.at ≡ Some (Instr.Call f ss ds) → AreBelow result.body.now.registers ds }
-    ensures next { IsSafe (body_of verified.now.code.functions.items verified.now.stacks result.function result.body.now) (result.at + 1) }
+    ensures below { (f : _) (ss : _) (ds : _) → slice_get result.body.now.instrs.items result.at
+        ≡ Some (Instr.Call f ss ds) → AreBelow result.body.now.registers ds }
+    ensures next { IsSafe (body_of verified.now.code.functions.items verified.now.stacks result.function
+        result.body.now) (result.at + 1) }
     ensures base { result.base + (result.body.now.registers + 2) ≡ cursor.now.base }
     ensures fits { Fits verified.now bounds result.function (cursor.now.frames - 1) result.base }
     ensures waiting { Waiting verified.now bounds words.now (cursor.now.frames - 1) result.base }
@@ -512,7 +517,8 @@ fn caller_of<'a>(
 #[inline(always)]
 fn destinations_of<'a>(caller: Caller<'a>) -> &'a [u16]
     requires within { caller.at < length caller.body.now.instrs.items }
-    requires below { (f : _) (ss : _) (ds : _) → slice_get caller.body.now.instrs.items caller.at ≡ Some (Instr.Call f ss ds) → AreBelow caller.body.now.registers ds }
+    requires below { (f : _) (ss : _) (ds : _) → slice_get caller.body.now.instrs.items caller.at
+        ≡ Some (Instr.Call f ss ds) → AreBelow caller.body.now.registers ds }
     ensures below { AreBelow caller.entry.body.now.registers result.now }
 {
     match &caller.body.instrs[caller.at] {
@@ -613,7 +619,8 @@ fn act<'a, C: Cells>(
     requires waiting { Waiting verified.now bounds words.old cursor.old.frames cursor.old.base }
     requires most { AreAtMost verified.now bounds.largest }
     requires spare { bounds.largest ≤ vec_len beside.old.spare }
-    requires row { Row (body_at verified.now cursor.old) cursor.old.at (IsSafe (body_at verified.now cursor.old)) instr.now }
+    requires row { Row (body_at verified.now cursor.old) cursor.old.at (IsSafe (body_at verified.now cursor.old))
+        instr.now }
     ensures placed { IsPlaced verified.now bounds (length words.new) cursor.new }
     ensures roomy { result ≢ Stepped.Entered → IsRoomy bounds (length words.new) cursor.new }
     ensures waiting { Waiting verified.now bounds words.new cursor.new.frames cursor.new.base }

@@ -34,9 +34,15 @@ impl<'a> Model for TaskStack<'a> {
 
     ghost Value = { Stand };
 
-    ghost view = { λ t. record { frames = t.cursor.frames; words = t.cursor.base + t.cursor.registers + 2; weight = weight t.cursor } };
+    ghost view = { λ t. record {
+      frames = t.cursor.frames;
+      words = t.cursor.base + t.cursor.registers + 2;
+      weight =
+          weight t.cursor;
+    } };
 
-    ghost invariant = { λ t. IsTask t.verified.now t.bounds t.words.items (vec_capacity t.words) (vec_len t.beside.spare) t.cursor t.ended };
+    ghost invariant = { λ t. IsTask t.verified.now t.bounds t.words.items (vec_capacity t.words)
+        (vec_len t.beside.spare) t.cursor t.ended };
 }
 
 // The words of the greatest frame of any function.
@@ -51,8 +57,8 @@ fn largest_frame(verified: &Verified) -> usize
     largest
 }
 
-// The words that the frames of a run may have: what a fip entry needs, or room for as many of the greatest frames as may be
-// held.
+// The words that the frames of a run may have: what a fip entry needs, or room for as many of the greatest frames as
+// may be held.
 fn bounds_of(verified: &Verified, entry: usize, frames: usize) -> Bounds
     requires frames { frames ≤ 1000000 }
     ensures most { AreAtMost verified.now result.largest }
@@ -125,8 +131,8 @@ enum Pause {
     Over(Stepped),
 }
 
-// Runs until the words must reach further, no call is left, or the run is over. The parts of a task are in variables here,
-// so that the cursor, the calls that are left and the highest numbers are registers of the processor.
+// Runs until the words must reach further, no call is left, or the run is over. The parts of a task are in variables
+// here, so that the cursor, the calls that are left and the highest numbers are registers of the processor.
 #[inline(always)]
 fn burst<'a, C: Cells>(
     verified: &'a Verified,
@@ -187,9 +193,9 @@ fn burst<'a, C: Cells>(
 }
 
 impl<'a> TaskStack<'a> {
-    /// The frames at the start of a function of the code, with the words of its arguments and then of its credits, and so
-    /// many free frames, at most 1,000,000; a fip function is given as many as it needs. The memory of the whole run is
-    /// taken. An error where it is not there.
+    /// The frames at the start of a function of the code, with the words of its arguments and then of its credits, and
+    /// so many free frames, at most 1,000,000; a fip function is given as many as it needs. The memory of the whole run
+    /// is taken. An error where it is not there.
     pub fn start(
         alloc: Global,
         verified: &'a Verified,

@@ -9,12 +9,12 @@ use cell_trace::{Recorder, Trace, TraceError};
 use std::alloc::Global;
 
 impl<'a> Machine<'a> {
-    /// Runs as `run` does, and keeps what each step writes to the cells. Asks a machine that was just started, whose cells
-    /// aren't released, and a gauge that has seen no state.
+    /// Runs as `run` does, and keeps what each step writes to the cells. Asks a machine that was just started, whose
+    /// cells aren't released, and a gauge that has seen no state.
     ///
-    /// The trace is there exactly where the run gives a value. TooLong where it gives one and the file of its trace has more
-    /// than `limit` bytes, or there are more than 4,294,967,295 events or more steps than 64 bits count; NoMemory where no
-    /// memory is left. Both give the machine up.
+    /// The trace is there exactly where the run gives a value. TooLong where it gives one and the file of its trace has
+    /// more than `limit` bytes, or there are more than 4,294,967,295 events or more steps than 64 bits count; NoMemory
+    /// where no memory is left. Both give the machine up.
     pub fn run_traced(
         self,
         alloc: Global,

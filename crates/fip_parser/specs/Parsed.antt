@@ -70,13 +70,15 @@ reading_of r = record { machine = machine_of r.declarations.items r.state; seen 
 
 -- the token fits, and breaks no rule
 abbrev pub Goes : Read → Read → T.Token → Type 0
-Goes old new t = (machine_step old.machine t ≡ Some new.machine) × (new.seen ≡ behind old.seen t.word) × IsWithin old.seen t.word
+Goes old new t = (machine_step old.machine t ≡ Some new.machine) × (new.seen ≡ behind old.seen t.word)
+    × IsWithin old.seen t.word
 
 -- A token breaks this rule: it doesn't fit, or it breaks another.
 abbrev pub Broken : Bool → Read → T.Token → ℕ → Type 0
 Broken negated r t rule =
     ((rule ≡ 2) × (machine_step r.machine t ≡ None))
-    ⊎ (((m : Machine) × (machine_step r.machine t ≡ Some m)) × (Stops r.seen t.word rule ⊎ ((rule ≡ 4) × IsAbove negated t.word)))
+    ⊎ (((m : Machine) × (machine_step r.machine t ≡ Some m))
+    × (Stops r.seen t.word rule ⊎ ((rule ≡ 4) × IsAbove negated t.word)))
 
 abbrev pub Fails : Bool → Read → T.Token → ParseError → Type 0
 Fails negated r t E.NoMemory = Unit {0}
@@ -88,8 +90,10 @@ IsSpeltBy ts p = Spells ts p × ((r t : ℕ) → Breaks ts r t → ⊥)
 
 abbrev pub IsMisspeltBy : List T.Token → Place → ParseError → Type 0
 IsMisspeltBy ts end E.NoMemory = Unit {0}
-IsMisspeltBy ts end (E.Refused x) = (rule : ℕ) × (t : ℕ) × IsLeastBroken ts rule t × (x ≡ syntax_refusal rule (place_at ts end t))
+IsMisspeltBy ts end (E.Refused x) = (rule : ℕ) × (t : ℕ) × IsLeastBroken ts rule t
+    × (x ≡ syntax_refusal rule (place_at ts end t))
 
 abbrev pub IsRefused : List ℕ → ParseError → Type 0
 IsRefused source E.NoMemory = Unit {0}
-IsRefused source (E.Refused x) = (rule : ℕ) × (place : Place) × IsMisspelt source rule place × (x ≡ syntax_refusal rule place)
+IsRefused source (E.Refused x) = (rule : ℕ) × (place : Place) × IsMisspelt source rule place
+    × (x ≡ syntax_refusal rule place)

@@ -11,7 +11,8 @@ ghost use Rattle.fip_grammar.specs.Limits.{IsSpelt, IsMisspelt};
 ghost use Rattle.fip_grammar.specs.Machine as machine;
 ghost use Rattle.parser_state.specs.StateView as view;
 ghost use Rattle.parser_state.specs.StateView.{IsAbove};
-ghost use Rattle.fip_parser.specs.Parsed.{seen_of, machine_of, Takes, Stops, IsWithin, refusal_of, syntax_refusal, fault_rule, reading_of, Goes, Fails, IsSpeltBy, IsMisspeltBy, IsRefused};
+ghost use Rattle.fip_parser.specs.Parsed.{seen_of, machine_of, Takes, Stops, IsWithin, refusal_of, syntax_refusal};
+ghost use Rattle.fip_parser.specs.Parsed.{fault_rule, reading_of, Goes, Fails, IsSpeltBy, IsMisspeltBy, IsRefused};
 
 use crate::step::step;
 use fip_base::plain::Detail;
@@ -127,7 +128,8 @@ fn is_too_large(is_sign: bool, word: Word) -> bool
 fn open_behind(count: usize, word: Word) -> Result<usize, Fault>
     ensures count { IfOk result (λ n. n ≡ limits.open_behind count (tokens_view.word word.entry)) }
     ensures within { IfOk result (λ n. limits.is_opening (tokens_view.word word.entry) ≡ true → 100 ≤ count → ⊥) }
-    ensures deep { IfErr result (λ f. (fault_rule f ≡ 3) × (limits.is_opening (tokens_view.word word.entry) ≡ true) × (100 ≤ count)) }
+    ensures deep { IfErr result (λ f. (fault_rule f ≡ 3) × (limits.is_opening (tokens_view.word word.entry) ≡ true)
+        × (100 ≤ count)) }
 {
     if opens(word) {
         if count >= MAX_OPEN {
@@ -167,7 +169,8 @@ fn take(
     token: Token,
 ) -> Result<Taken, AllocError>
     requires well { view.IsWell state }
-    ensures takes { IfOk result (λ k. Takes (view.negated state) (tokens_view.token token.entry) k (machine.machine_step (machine_of declarations.items state) (tokens_view.token token.entry))) }
+    ensures takes { IfOk result (λ k. Takes (view.negated state) (tokens_view.token token.entry) k
+        (machine.machine_step (machine_of declarations.items state) (tokens_view.token token.entry))) }
 {
     match step(alloc, state, token)? {
         Next::Refused => Ok(Taken::Refused),
@@ -204,7 +207,8 @@ fn advance(alloc: Global, reading: Reading, token: Token) -> Result<Reading, Par
     requires well { view.IsWell reading.state }
     ensures goes { IfOk result (λ r. Goes (reading_of reading) (reading_of r) (tokens_view.token token.entry)) }
     ensures well { IfOk result (λ r. view.IsWell r.state) }
-    ensures fails { IfErr result (λ e. Fails (view.negated reading.state) (reading_of reading) (tokens_view.token token.entry) e) }
+    ensures fails { IfErr result (λ e. Fails (view.negated reading.state) (reading_of reading)
+        (tokens_view.token token.entry) e) }
 {
     let Reading {
         declarations,
@@ -278,8 +282,10 @@ fn parse_source(alloc: Global, source: &[u8]) -> Result<Program, ParseError>
 /// The program of a source. Where it breaks a rule from E01 to E04, the one that is named, at its place.
 pub fn parse(alloc: Global, source: &[u8]) -> Result<Program, ParseError>
     ensures spelt { IfOk result (λ p. IsSpelt source.now (surface.program p)) }
-    ensures misspelt { (r : Refusal) → result ≡ Err (ParseError.Refused r) → (rule : ℕ) × (place : Place) × IsMisspelt source.now rule place × (r ≡ syntax_refusal rule place) }
-    ensures only { (p : Surface.Program) → IsSpelt source.now p → MatchResult result (λ q. surface.program q ≡ p) (λ e. e ≡ ParseError.NoMemory) }
+    ensures misspelt { (r : Refusal) → result ≡ Err (ParseError.Refused r) → (rule : ℕ) × (place : Place)
+        × IsMisspelt source.now rule place × (r ≡ syntax_refusal rule place) }
+    ensures only { (p : Surface.Program) → IsSpelt source.now p →
+        MatchResult result (λ q. surface.program q ≡ p) (λ e. e ≡ ParseError.NoMemory) }
 {
     parse_source(alloc, source)
 }

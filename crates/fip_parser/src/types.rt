@@ -28,7 +28,8 @@ pub fn step_type(
     token: Token,
 ) -> Result<Next, AllocError>
     requires well { view.IsWellUse purpose }
-    ensures next { Follows false token.entry result (machine.step_type (view.type_position position) (view.open_types «open».items) (view.type_use purpose)) }
+    ensures next { Follows false token.entry result (machine.step_type (view.type_position position)
+        (view.open_types «open».items) (view.type_use purpose)) }
 {
     match position {
         TypePosition::Wanted => type_wanted(alloc, open, purpose, token),
@@ -46,7 +47,8 @@ fn type_named(
     token: Token,
 ) -> Result<Next, AllocError>
     requires well { view.IsWellUse purpose }
-    ensures next { Follows false token.entry result (machine.step_type (machine.TypeNamed name.items place) (view.open_types «open».items) (view.type_use purpose)) }
+    ensures next { Follows false token.entry result (machine.step_type (machine.TypeNamed name.items place)
+        (view.open_types «open».items) (view.type_use purpose)) }
 {
     match token.word {
         Word::Sign(Sign::SquareOpen) => {
@@ -80,7 +82,8 @@ fn type_done(
     token: Token,
 ) -> Result<Next, AllocError>
     requires well { view.IsWellUse purpose }
-    ensures next { Follows false token.entry result (λ w p. machine.type_done (view.open_types «open».items) (view.type_use purpose) (written_view written) w) }
+    ensures next { Follows false token.entry result (λ w p. machine.type_done (view.open_types «open».items)
+        (view.type_use purpose) (written_view written) w) }
 {
     let mut open = open;
     match open.pop() {
@@ -97,7 +100,8 @@ fn after_type(
     token: Token,
 ) -> Result<Next, AllocError>
     requires well { view.IsWellUse purpose }
-    ensures next { Follows false token.entry result (λ w p. machine.after_type (view.type_use purpose) (written_view written) w) }
+    ensures next { Follows false token.entry result (λ w p. machine.after_type (view.type_use purpose)
+        (written_view written) w) }
 {
     match purpose {
         TypeUse::Field {
@@ -148,7 +152,8 @@ fn after_annotation(
     token: Token,
 ) -> Result<Next, AllocError>
     requires well { view.IsWellBody body }
-    ensures next { Follows false token.entry result (λ w p. machine.after_type (machine.ForAnnotation (view.body body) (view.binds binds) name.items place) (written_view written) w) }
+    ensures next { Follows false token.entry result (λ w p. machine.after_type
+        (machine.ForAnnotation (view.body body) (view.binds binds) name.items place) (written_view written) w) }
 {
     let bind = Bind {
         name,

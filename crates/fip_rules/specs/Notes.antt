@@ -1,6 +1,6 @@
 -- For the proofs alone: what one walk notes. It knows the scope, how many bound expressions are around, and as lists
--- which variables were used on some path to here, which on every path, and which lending occurrences wait for the end of
--- the bound expression around them.
+-- which variables were used on some path to here, which on every path, and which lending occurrences wait for the end
+-- of the bound expression around them.
 use Rattle.std.specs.Prelude.{ℕ, suc, List, [], ◌∷◌, ◌++◌, filter, Option, Some, None, ◌==◌, ◌≡◌, ◌⊎◌}
 use Rattle.std.specs.Prelude.{Bool, true, false, not, ◌&&◌, if◌then◌else◌}
 use Rattle.std.specs.List.{list_any}

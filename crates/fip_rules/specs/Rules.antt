@@ -1,8 +1,9 @@
 -- The rules on ownership, each said of a variable and its scope. A path takes one of two alternatives; what comes first
 -- in Then comes earlier. `i` is the number of the instance.
 --
--- In let y = f(x); g(x, y), where f and g own what they are given, the second x breaks E50: the first one stands earlier
--- on a path through both. In match! b { True -> f(x); False -> g(x) } no path goes through both, so nothing is broken.
+-- In let y = f(x); g(x, y), where f and g own what they are given, the second x breaks E50: the first one stands
+-- earlier on a path through both. In match! b { True -> f(x); False -> g(x) } no path goes through both, so nothing is
+-- broken.
 use Rattle.std.specs.Prelude.{◌≡◌, ℕ, suc, ◌<◌, ◌≤◌, ◌⊎◌, Bool, true, false, ◌==◌, ◌||◌}
 use Rattle.fip_language.specs.declared.rule.Rule.{Rule}
 use Rattle.fip_language.specs.declared.rule.Rule.TheVariants.{E50, E51, E52, E53, E54}

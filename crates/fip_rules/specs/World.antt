@@ -24,8 +24,8 @@ abbrev pub lends_to : World → Option Instance → ℕ → Bool
 lends_to w None j = false
 lends_to w (Some d) j = lends_parameter w (slice_get d.params j)
 
--- Whether the argument of a call at place j, from 0, stands in a borrowed position: the parameter is lent, and of a type
--- that isn't scalar.
+-- Whether the argument of a call at place j, from 0, stands in a borrowed position: the parameter is lent, and of a
+-- type that isn't scalar.
 abbrev pub lends : World → ℕ → ℕ → Bool
 lends w g j = lends_to w (slice_get w.instances g) j
 

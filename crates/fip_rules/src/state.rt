@@ -9,7 +9,8 @@ ghost use Rattle.fip_rules.specs.Notes.{Walked, nothing, distinct, look, when, i
 ghost use Rattle.fip_rules.specs.Rules.{broken};
 ghost use Rattle.fip_rules.specs.Shape as S;
 ghost use Rattle.fip_rules.specs.Shapes.{Bind, known, used_at, used_by, lent_at, lent_by, token};
-ghost use Rattle.fip_rules.specs.Stands.{Stand, Rises, marks, noted, kept_use, awaiting, go, entered, left_to, deepened, surfaced, aside, back, still};
+ghost use Rattle.fip_rules.specs.Stands.{Stand, Rises, marks, noted, kept_use, awaiting, go, entered, left_to};
+ghost use Rattle.fip_rules.specs.Stands.{deepened, surfaced, aside, back, still};
 ghost use Rattle.fip_rules.specs.Views.{mark_of, entry_of};
 
 use crate::log::Log;

@@ -9,8 +9,8 @@ use fip_base::refusal::{Refusal, Rule};
 use std::alloc::Global;
 use std::marker::Model;
 
-/// A rule that is broken: where, in which instance (0 where there are none yet), the size of the cells that it speaks of
-/// (0 where it speaks of none), and what it names (empty where it names nothing).
+/// A rule that is broken: where, in which instance (0 where there are none yet), the size of the cells that it speaks
+/// of (0 where it speaks of none), and what it names (empty where it names nothing).
 #[derive(Debug, Drop)]
 pub struct Violation {
     pub rule: Rule,
@@ -20,8 +20,8 @@ pub struct Violation {
     pub detail: Name,
 }
 
-/// The least of the violations that were noted: by place, then rule, then instance, then size, then detail. So the order
-/// in which they are noted doesn't matter.
+/// The least of the violations that were noted: by place, then rule, then instance, then size, then detail. So the
+/// order in which they are noted doesn't matter.
 #[derive(Debug, Drop)]
 pub struct Least {
     alloc: Global,

@@ -1,5 +1,6 @@
-// The trees behind the core form: what a program declares, and programs without static parameters, before and after they
-// are typed; and what every walk over them shares: the least violation, numbers by size, the limits of the language.
+// The trees behind the core form: what a program declares, and programs without static parameters, before and after
+// they are typed; and what every walk over them shares: the least violation, numbers by size, the limits of the
+// language.
 #![tactic(auto)]
 
 pub mod decls;

@@ -34,9 +34,11 @@ pub record IsChecked (core : Core) (f : Function) (l : Loop) : Type 0 where
   pub result : l.result ≡ result_type core f.result
   pub registers : l.registers ≡ registers f
   -- on values of the parameters' types
-  pub means : (vs : Values) (n d : ℕ) → HaveTypes l.types l.parameters vs → SameAnswer (M.meaning core f.name NoClosed vs n d).answer (L.loop_meaning l vs n)
+  pub means : (vs : Values) (n d : ℕ) → HaveTypes l.types l.parameters vs →
+      SameAnswer (M.meaning core f.name NoClosed vs n d).answer (L.loop_meaning l vs n)
   -- where a call is given, no frame is held beside the function's own
-  pub peak : (vs : Values) (n d : ℕ) → HaveTypes l.types l.parameters vs → (M.meaning core f.name NoClosed vs (suc n) d).peak ≡ record { frames = 0; words = frame_words f }
+  pub peak : (vs : Values) (n d : ℕ) → HaveTypes l.types l.parameters vs →
+      (M.meaning core f.name NoClosed vs (suc n) d).peak ≡ record { frames = 0; words = frame_words f }
 
 -- A loop program that can be run: it is that of a right core program, and fine. Where the names of the constructors
 -- begin with upper-case letters, as in each source, its table of types is sound.

@@ -1,6 +1,9 @@
 -- Whether a clause is right, as a test, and the clause with numbers for its names.
-use Rattle.std.specs.Prelude.{ℕ, zero, suc, ◌+◌, min, Bool, true, false, ◌&&◌, ◌||◌, List, [], ◌∷◌, ◌++◌, length, Option, Some, None, is_some, ◌==◌, nat_le, if◌then◌else◌}
-use Rattle.fip_language.specs.Core.{Name, Pattern, BinderPattern, LiteralPattern, ConstructorPattern, Patterns, NoPatterns, MorePatterns, Expression, Give, Tuple, Operation, Call, Match, Nested, Block, Last, Let}
+use Rattle.std.specs.Prelude.{ℕ, zero, suc, ◌+◌, min, Bool, true, false, ◌&&◌, ◌||◌, List, [], ◌∷◌, ◌++◌, length}
+use Rattle.std.specs.Prelude.{Option, Some, None, is_some, ◌==◌, nat_le, if◌then◌else◌}
+use Rattle.fip_language.specs.Core.{Name, Pattern, BinderPattern, LiteralPattern, ConstructorPattern, Patterns}
+use Rattle.fip_language.specs.Core.{NoPatterns, MorePatterns, Expression, Give, Tuple, Operation, Call, Match, Nested}
+use Rattle.fip_language.specs.Core.{Block, Last, Let}
 use Rattle.fip_language.specs.Declarations.{same_name}
 use Rattle.fip_language.specs.Registers.{registers_of_argument, registers_of_arguments}
 use Rattle.fip_language.specs.Right.{occurrences, occurrences_in_all, is_blank}
@@ -15,8 +18,8 @@ use Rattle.loop_check.specs.Types.{no_writtens}
 use Rattle.loop_check.specs.Lookup.{found, id_fields, marked_scalar, are_narrow}
 use Rattle.loop_check.specs.Typing.{has_type, have_types, term_in, terms_in, weight, weight_of_all}
 
--- what the clauses are checked against: the function's name, its parameters' types and its result's, the parameter that is
--- taken apart, and the type of that
+-- what the clauses are checked against: the function's name, its parameters' types and its result's, the parameter that
+-- is taken apart, and the type of that
 pub record Signature : Type 0 where
   pub name : Name
   pub parameters : List ℕ
@@ -25,7 +28,14 @@ pub record Signature : Type 0 where
   pub ty : ℕ
 
 abbrev pub signature : Head → Signature
-signature h = record { name = h.name.now; parameters = h.parameters.now; given = h.given; scrutinee = h.scrutinee; ty = h.ty }
+signature h = record {
+  name = h.name.now;
+  parameters = h.parameters.now;
+  given = h.given;
+  scrutinee = h.scrutinee;
+  ty =
+      h.ty;
+}
 
 -- a clause's constructor, its patterns and its ending
 pub record Parts : Type 0 where
@@ -85,7 +95,8 @@ abbrev pub ends_right : Known → (ℕ → Option ℕ) → Signature → Express
 ends_right k scope h (Give a) = has_type k scope h.given a
 ends_right k scope h (Tuple p as') = false
 ends_right k scope h (Operation o p a b) = false
-ends_right k scope h (Call name p statics as') = (no_writtens statics && same_name name h.name) && have_types k scope h.parameters as'
+ends_right k scope h (Call name p statics as') =
+    (no_writtens statics && same_name name h.name) && have_types k scope h.parameters as'
 ends_right k scope h (Match d p x cs) = false
 ends_right k scope h (Nested b) = false
 
@@ -153,7 +164,8 @@ right_parts k h first (Some q) = right_found k h first q (found k q.name)
 -- the first number behind the clauses' binders; none where a clause isn't right
 abbrev pub right_clauses : Known → Signature → ℕ → List Case → Option ℕ
 right_clauses k h first [] = Some first
-right_clauses k h first (c ∷ cs) = if right_parts k h first (case_parts c) then right_clauses k h (first + arity (case_parts c)) cs else None
+right_clauses k h first (c ∷ cs) = if right_parts k h first (case_parts c) then right_clauses k h
+    (first + arity (case_parts c)) cs else None
 
 -- ---- with numbers for names
 
@@ -170,7 +182,13 @@ id_number None = 0
 id_number (Some id) = id.number
 
 abbrev pub numbered_clause : Known → ℕ → Parts → L.Clause
-numbered_clause k first q = record { constructor = id_number (found k q.name); first_binder = first; fields = pattern_count q.patterns; ending = numbered_ending k q.ending }
+numbered_clause k first q = record {
+  constructor = id_number (found k q.name);
+  first_binder = first;
+  fields =
+      pattern_count q.patterns;
+  ending = numbered_ending k q.ending;
+}
 
 abbrev pub numbered_parts : Known → ℕ → Option Parts → L.Clause
 numbered_parts k first None = record { constructor = 0; first_binder = first; fields = 0; ending = L.Again L.NoTerms }
@@ -178,7 +196,8 @@ numbered_parts k first (Some q) = numbered_clause k first q
 
 abbrev pub numbered_clauses : Known → ℕ → List Case → List L.Clause
 numbered_clauses k first [] = []
-numbered_clauses k first (c ∷ cs) = numbered_parts k first (case_parts c) ∷ numbered_clauses k (first + arity (case_parts c)) cs
+numbered_clauses k first (c ∷ cs) = numbered_parts k first (case_parts c)
+    ∷ numbered_clauses k (first + arity (case_parts c)) cs
 
 -- ---- registers
 

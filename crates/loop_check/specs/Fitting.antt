@@ -14,7 +14,8 @@ pub record AreFitting (k : Known) (name : Name) (ps : List ℕ) (r : ℕ) (m : T
   pub clauses : right_clauses k (signature_of name ps r m t) (length ps) m.cases ≡ Some n
   pub registers : length ps + case_registers m.cases ≤ 4096
   pub nodes : length m.cases + (n - length ps) ≤ 256
-  pub covered : (c : ℕ) → c < length (constructors k.table t) → count_by (λ (q : L.Clause). q.constructor == c) (numbered_clauses k (length ps) m.cases) ≡ 1
+  pub covered : (c : ℕ) → c < length (constructors k.table t) →
+      count_by (λ (q : L.Clause). q.constructor == c) (numbered_clauses k (length ps) m.cases) ≡ 1
 
 pub record IsFitting (k : Known) (f : Function) : Type 0 where
   pub header : HeaderPasses k f
@@ -25,4 +26,5 @@ pub record IsFitting (k : Known) (f : Function) : Type 0 where
   pub body : taken f.body ≡ Some found
   pub scrutinee : slice_get (parameter_numbers k.types f.parameters) found.scrutinee ≡ Some type
   pub data_type : 1 ≤ type
-  pub fits : AreFitting k f.name (parameter_numbers k.types f.parameters) (result_number k.types f.result) found type next
+  pub fits : AreFitting k f.name (parameter_numbers k.types f.parameters) (result_number k.types f.result)
+      found type next

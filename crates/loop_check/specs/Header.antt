@@ -23,7 +23,8 @@ right_parameters names n [] = true
 right_parameters names n (p ∷ ps) = right_parameter names n p && right_parameters names (n + 1) ps
 
 abbrev pub right_header : List Name → Function → Bool
-right_header names f = is_fip f.kind && (is_empty f.credits && (is_empty f.statics && (right_result names f.result && right_parameters names 0 f.parameters)))
+right_header names f = is_fip f.kind && (is_empty f.credits
+    && (is_empty f.statics && (right_result names f.result && right_parameters names 0 f.parameters)))
 
 abbrev pub result_number : List Name → Result → ℕ
 result_number names (OneResult t) = written_number names t

@@ -1,5 +1,6 @@
 -- What is looked up among known declarations.
-use Rattle.std.specs.Prelude.{ℕ, zero, suc, Bool, true, ◌||◌, ◌&&◌, List, [], ◌∷◌, length, Option, Some, None, position, slice_get, nat_le}
+use Rattle.std.specs.Prelude.{ℕ, zero, suc, Bool, true, ◌||◌, ◌&&◌, List, [], ◌∷◌, length, Option, Some, None, position}
+use Rattle.std.specs.Prelude.{slice_get, nat_le}
 use Rattle.fip_language.specs.Core.{Name}
 use Rattle.fip_language.specs.Declarations.{same_name}
 use Rattle.fip_language.specs.Table.{constructors}

@@ -1,8 +1,10 @@
 -- When a function passes the check, where the declarations are known, and the loop program that it becomes.
-use Rattle.std.specs.Prelude.{◌≡◌, ℕ, ◌+◌, ◌-◌, ◌<◌, ◌≤◌, true, List, [], ◌∷◌, map, length, Option, Some, None, is_some, ◌==◌, count_by, slice_get, if◌then◌else◌, codes}
+use Rattle.std.specs.Prelude.{◌≡◌, ℕ, ◌+◌, ◌-◌, ◌<◌, ◌≤◌, true, List, [], ◌∷◌, map, length, Option, Some, None, is_some}
+use Rattle.std.specs.Prelude.{◌==◌, count_by, slice_get, if◌then◌else◌, codes}
 use Rattle.fip_language.specs.Table.{Shape, Table, constructors, all_bare}
 use Rattle.fip_language.specs.Declarations.{bool_type}
-use Rattle.fip_language.specs.Core.{Name, Argument, Variable, Literal, Constructor, Expression, Give, Tuple, Operation, Call, Match, Nested, Block, Clauses, NoClauses, MoreClauses, Function, Data, Core}
+use Rattle.fip_language.specs.Core.{Name, Argument, Variable, Literal, Constructor, Expression, Give, Tuple, Operation}
+use Rattle.fip_language.specs.Core.{Call, Match, Nested, Block, Clauses, NoClauses, MoreClauses, Function, Data, Core}
 use Rattle.fip_language.specs.Every.{Every}
 use Rattle.fip_language.specs.Right.{HasValue, IsAmong, parameter_name}
 use Rattle.fip_language.specs.Scoped.{LiteralsFit, AllLiteralsFit}
@@ -13,7 +15,8 @@ use Rattle.loop_check.specs.Names.{with_names}
 use Rattle.loop_check.specs.Header.{right_header, result_number, parameter_numbers}
 use Rattle.loop_check.specs.Lookup.{are_narrow}
 use Rattle.loop_check.specs.Types.{data_names, declared_names, right_types, type_ids, numbered_table}
-use Rattle.loop_check.specs.Clauses.{Signature, Parts, case_parts, last_in, right_clauses, numbered_clauses, case_registers}
+use Rattle.loop_check.specs.Clauses.{Signature, Parts, case_parts, last_in, right_clauses, numbered_clauses}
+use Rattle.loop_check.specs.Clauses.{case_registers}
 
 -- a match! on a variable: its binder, and the clauses
 pub record Taken : Type 0 where
@@ -94,9 +97,10 @@ CaseLiteralsFit c = PartsLiteralsFit (case_parts c)
 abbrev pub signature_of : Name → List ℕ → ℕ → Taken → ℕ → Signature
 signature_of name ps r m t = record { name = name; parameters = ps; given = r; scrutinee = m.scrutinee; ty = t }
 
--- A function with these parameters' types and this result's takes this variable, of type t, apart in right clauses, which
--- are these with numbers for their names; its first number behind all binders is n.
-pub record Fits (k : Known) (name : Name) (ps : List ℕ) (r : ℕ) (m : Taken) (t n : ℕ) (ks : List L.Clause) : Type 0 where
+-- A function with these parameters' types and this result's takes this variable, of type t, apart in right clauses,
+-- which are these with numbers for their names; its first number behind all binders is n.
+pub record Fits (k : Known) (name : Name) (ps : List ℕ) (r : ℕ) (m : Taken) (t n : ℕ)
+    (ks : List L.Clause) : Type 0 where
   pub scrutinee : slice_get ps m.scrutinee ≡ Some t
   pub data_type : 1 ≤ t
   pub few_clauses : length m.cases ≤ 64
@@ -128,8 +132,10 @@ pub record Passes (k : Known) (f : Function) (l : L.Loop) : Type 0 where
   pub next : ℕ
   pub body : taken f.body ≡ Some found
   pub few_types : AreFewTypes k.table (parameter_numbers k.types f.parameters) (result_number k.types f.result)
-  pub fits : Fits k f.name (parameter_numbers k.types f.parameters) (result_number k.types f.result) found type next l.clauses
-  pub loop : l ≡ resolved k f.name (parameter_numbers k.types f.parameters) (result_number k.types f.result) found next l.clauses
+  pub fits : Fits k f.name (parameter_numbers k.types f.parameters) (result_number k.types f.result)
+      found type next l.clauses
+  pub loop : l ≡ resolved k f.name (parameter_numbers k.types f.parameters) (result_number k.types f.result)
+      found next l.clauses
 
 pub record PassesAll (core : Core) (l : L.Loop) : Type 0 where
   pub known : Known

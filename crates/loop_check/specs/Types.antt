@@ -1,7 +1,9 @@
--- Types and constructors by number, where the types' names are given: the number of a type is one more than the place of
--- its name, and int is 0.
-use Rattle.std.specs.Prelude.{ℕ, ◌+◌, Bool, true, false, ◌&&◌, List, [], ◌∷◌, ◌++◌, map, length, Option, Some, None, is_some, position, nat_le}
-use Rattle.fip_language.specs.Core.{Name, Written, Writtens, WrittenInt, WrittenName, NoWritten, MoreWritten, DataConstructor, Data}
+-- Types and constructors by number, where the types' names are given: the number of a type is one more than the place
+-- of its name, and int is 0.
+use Rattle.std.specs.Prelude.{ℕ, ◌+◌, Bool, true, false, ◌&&◌, List, [], ◌∷◌, ◌++◌, map, length, Option, Some, None}
+use Rattle.std.specs.Prelude.{is_some, position, nat_le}
+use Rattle.fip_language.specs.Core.{Name, Written, Writtens, WrittenInt, WrittenName, NoWritten, MoreWritten}
+use Rattle.fip_language.specs.Core.{DataConstructor, Data}
 use Rattle.fip_language.specs.Declarations.{same_name, bool_type}
 use Rattle.fip_language.specs.Table.{Shape, Table}
 use Rattle.loop_check.specs.declared.table.ConstructorId.{ConstructorId}
@@ -33,7 +35,8 @@ are_known names (w ∷ ws) = is_known names w && are_known names ws
 
 abbrev pub right_constructors : List Name → List DataConstructor → Bool
 right_constructors names [] = true
-right_constructors names (k ∷ ks) = (nat_le (length k.fields) 16 && are_known names k.fields) && right_constructors names ks
+right_constructors names (k ∷ ks) = (nat_le (length k.fields) 16 && are_known names k.fields)
+    && right_constructors names ks
 
 abbrev pub right_types : List Name → List Data → Bool
 right_types names [] = true

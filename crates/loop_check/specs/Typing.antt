@@ -1,5 +1,6 @@
 -- Whether an argument has a type, as a test, and its term.
-use Rattle.std.specs.Prelude.{ℕ, zero, suc, ◌+◌, Bool, true, false, ◌&&◌, List, [], ◌∷◌, Option, Some, None, ◌==◌, nat_le, if◌then◌else◌}
+use Rattle.std.specs.Prelude.{ℕ, zero, suc, ◌+◌, Bool, true, false, ◌&&◌, List, [], ◌∷◌, Option, Some, None, ◌==◌}
+use Rattle.std.specs.Prelude.{nat_le, if◌then◌else◌}
 use Rattle.fip_language.specs.Core.{Argument, Variable, Literal, Constructor, Arguments, NoArguments, MoreArguments}
 use Rattle.loop_form.specs.Loop as L
 use Rattle.loop_check.specs.declared.table.ConstructorId.{ConstructorId}
@@ -26,7 +27,8 @@ abbrev mutual
   pub has_type : Known → (ℕ → Option ℕ) → ℕ → Argument → Bool
   has_type k scope t (Variable x name p) = binder_has scope x t
   has_type k scope t (Literal i p) = t == 0
-  has_type k scope t (Constructor name p as') = id_has (found k name) t && have_types k scope (found_fields k (found k name)) as'
+  has_type k scope t (Constructor name p as') =
+      id_has (found k name) t && have_types k scope (found_fields k (found k name)) as'
 
   pub have_types : Known → (ℕ → Option ℕ) → List ℕ → Arguments → Bool
   have_types k scope [] NoArguments = true

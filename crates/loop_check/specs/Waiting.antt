@@ -1,6 +1,8 @@
--- How the types that have a value are found. A constructor waits for a type of its fields that isn't marked. Where all its
--- fields' types are marked, its own type is marked, and the constructors that wait for that type are looked at again.
-use Rattle.std.specs.Prelude.{◌≡◌, ℕ, zero, suc, ◌-◌, Bool, true, false, List, [], ◌∷◌, ◌++◌, Option, Some, None, slice_get, slice_set, replicate, if◌then◌else◌}
+-- How the types that have a value are found. A constructor waits for a type of its fields that isn't marked. Where all
+-- its fields' types are marked, its own type is marked, and the constructors that wait for that type are looked at
+-- again.
+use Rattle.std.specs.Prelude.{◌≡◌, ℕ, zero, suc, ◌-◌, Bool, true, false, List, [], ◌∷◌, ◌++◌, Option, Some, None}
+use Rattle.std.specs.Prelude.{slice_get, slice_set, replicate, if◌then◌else◌}
 use Rattle.fip_language.specs.Table.{Shape, Table, shapes, constructors}
 use Rattle.fip_language.specs.Every.{Among}
 use Rattle.loop_check.specs.declared.table.ConstructorId.{ConstructorId}
@@ -67,4 +69,5 @@ taken g t = record { marks = g.marks; waiting = empty_at g.waiting t; todo = g.t
 
 -- Each constructor of the table is among these.
 abbrev pub HaveAll : Table → List ConstructorId → Type 0
-HaveAll tb is = (t c : ℕ) (s : Shape) → slice_get (shapes tb t) c ≡ Some s → Among (record { ty = suc t; number = c }) is
+HaveAll tb is = (t c : ℕ) (s : Shape) → slice_get (shapes tb t) c ≡ Some s →
+    Among (record { ty = suc t; number = c }) is

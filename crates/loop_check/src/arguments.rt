@@ -36,7 +36,8 @@ fn type_of(scope: &Scope<'_>, x: usize) -> Option<u32>
 }
 
 fn binder_has(scope: &Scope<'_>, binder: Option<usize>, ty: u32) -> bool
-    ensures { result ≡ t.binder_has (in_clause scope.now.parameters.now scope.now.first scope.now.fields.now) binder ty }
+    ensures { result ≡ t.binder_has (in_clause scope.now.parameters.now scope.now.first scope.now.fields.now)
+        binder ty }
 {
     match binder {
         Some(x) => match type_of(scope, x) {
@@ -50,7 +51,8 @@ fn binder_has(scope: &Scope<'_>, binder: Option<usize>, ty: u32) -> bool
 /// Whether an argument has a type.
 #[cycle(has_type)]
 pub fn has_type(known: &Known<'_>, scope: &Scope<'_>, ty: u32, a: &Argument) -> bool
-    ensures { result ≡ t.has_type known.now (in_clause scope.now.parameters.now scope.now.first scope.now.fields.now) ty (argument a.now) }
+    ensures { result ≡ t.has_type known.now (in_clause scope.now.parameters.now scope.now.first scope.now.fields.now) ty
+        (argument a.now) }
 {
     match a {
         Argument::Variable { binder, .. } => binder_has(scope, *binder, ty),
@@ -71,7 +73,8 @@ pub fn has_type(known: &Known<'_>, scope: &Scope<'_>, ty: u32, a: &Argument) -> 
 /// Whether there is an argument for each type, and has it.
 #[cycle(has_type)]
 pub fn have_types(known: &Known<'_>, scope: &Scope<'_>, types: &[u32], parts: &[Argument]) -> bool
-    ensures { result ≡ t.have_types known.now (in_clause scope.now.parameters.now scope.now.first scope.now.fields.now) types.now (arguments parts.now) }
+    ensures { result ≡ t.have_types known.now (in_clause scope.now.parameters.now scope.now.first scope.now.fields.now)
+        types.now (arguments parts.now) }
 {
     for (i, a) in parts.iter().enumerate() {
         if i >= types.len() || !has_type(known, scope, types[i], a) {

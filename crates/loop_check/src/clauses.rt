@@ -1,5 +1,7 @@
 // The clauses of a loop.
-ghost use Rattle.std.specs.Prelude.{◌≡◌, ◌&&◌, ℕ, ◌+◌, ◌<◌, ◌≤◌, ◌==◌, min, true, false, Some, None, [], map, length, count_by, is_some, nat_le, IfOk, IfSome, MatchOption, IsTrue, ◌↔◌, ◌-◌, if◌then◌else◌};
+ghost use Rattle.std.specs.Prelude.{◌≡◌, ◌&&◌, ℕ, ◌+◌, ◌<◌, ◌≤◌, ◌==◌, min, true, false, Some, None, [], map, length};
+ghost use Rattle.std.specs.Prelude.{count_by, is_some, nat_le, IfOk, IfSome, MatchOption, IsTrue, ◌↔◌, ◌-◌};
+ghost use Rattle.std.specs.Prelude.{if◌then◌else◌};
 ghost use Rattle.fip_base.specs.CoreView.{block, clause, expression, pattern, patterns, writtens};
 ghost use Rattle.fip_language.specs.Declarations.{same_name};
 ghost use Rattle.fip_language.specs.Every.{Every};
@@ -47,7 +49,8 @@ pub struct Head<'a> {
 
 /// The expression that a block without bindings is.
 pub fn last_of(body: &Block) -> Option<&Expression>
-    ensures { MatchOption result (s.last_in (block body.now) ≡ None) (λ e. s.last_in (block body.now) ≡ Some (expression e.now)) }
+    ensures { MatchOption result (s.last_in (block body.now) ≡ None)
+        (λ e. s.last_in (block body.now) ≡ Some (expression e.now)) }
 {
     if body.bindings.as_slice().is_empty() {
         Some(&body.last)
@@ -97,7 +100,8 @@ fn are_distinct(alloc: Global, ps: &[Pattern]) -> Result<bool, NoMemory>
 
 // Adds a binder's name if it isn't _, and says whether it is new.
 fn add_pattern<'a>(names: &mut NameSet<'a>, p: &'a Pattern) -> Result<bool, NoMemory>
-    ensures { IfOk result (λ all. with_names names.old (s.pattern_name (pattern p.now)) ≡ (if all then Some names.new else None)) }
+    ensures { IfOk result (λ all. with_names names.old (s.pattern_name (pattern p.now))
+        ≡ (if all then Some names.new else None)) }
 {
     match p {
         Pattern::Binder(binder) => add_binder(names, binder.name.as_slice()),
@@ -107,7 +111,8 @@ fn add_pattern<'a>(names: &mut NameSet<'a>, p: &'a Pattern) -> Result<bool, NoMe
 }
 
 fn add_binder<'a>(names: &mut NameSet<'a>, name: &'a [u8]) -> Result<bool, NoMemory>
-    ensures { IfOk result (λ all. with_names names.old (s.unless_blank name.now) ≡ (if all then Some names.new else None)) }
+    ensures { IfOk result (λ all. with_names names.old (s.unless_blank name.now)
+        ≡ (if all then Some names.new else None)) }
 {
     if name == b"_".as_slice() {
         Ok(true)
@@ -127,7 +132,8 @@ fn calls_right(head: &Head<'_>, name: &[u8], statics: &[Written]) -> bool
 // Whether an ending is an argument of the result's type, or a call of the function with arguments of its parameters'
 // types.
 fn ends_right(known: &Known<'_>, scope: &Scope<'_>, head: &Head<'_>, ending: &Expression) -> bool
-    ensures { result ≡ s.ends_right known.now (in_clause scope.now.parameters.now scope.now.first scope.now.fields.now) (s.signature head.now) (expression ending.now) }
+    ensures { result ≡ s.ends_right known.now (in_clause scope.now.parameters.now scope.now.first scope.now.fields.now)
+        (s.signature head.now) (expression ending.now) }
 {
     match ending {
         Expression::Give(a) => has_type(known, scope, head.given, a),
@@ -221,7 +227,9 @@ fn are_used_once(
 /// The constructor that a clause's pattern names, its patterns and the clause's ending; none where the clause has
 /// another form.
 pub fn parts_of(c: &Clause) -> Option<(&[u8], &[Pattern], &Expression)>
-    ensures { MatchOption result (s.case_parts (clause c.now) ≡ None) (λ q. s.case_parts (clause c.now) ≡ Some (record { name = q.0.now; patterns = patterns q.1.now; ending = expression q.2.now })) }
+    ensures { MatchOption result (s.case_parts (clause c.now) ≡ None)
+        (λ q. s.case_parts (clause c.now) ≡ Some
+        (record { name = q.0.now; patterns = patterns q.1.now; ending = expression q.2.now })) }
 {
     match &c.pattern {
         Pattern::Constructor { name, patterns, .. } => match last_of(&c.body) {
@@ -284,7 +292,8 @@ fn is_right_for(
 ) -> Result<bool, NoMemory>
     requires first { first ≤ 4096 }
     requires parameters { length head.now.parameters.now ≤ 4096 }
-    ensures { IfOk result (λ b. b ≡ s.right_fields known.now (s.signature head.now) first fields.now (patterns ps.now) (expression ending.now)) }
+    ensures { IfOk result (λ b. b ≡ s.right_fields known.now (s.signature head.now) first fields.now (patterns ps.now)
+        (expression ending.now)) }
 {
     let right = ps.len() == fields.len()
         && fits(first, fields.len())
@@ -308,7 +317,8 @@ fn is_right(
 ) -> Result<bool, NoMemory>
     requires first { first ≤ 4096 }
     requires parameters { length head.now.parameters.now ≤ 4096 }
-    ensures { IfOk result (λ b. b ≡ s.right_parts known.now (s.signature head.now) first (s.case_parts (clause c.now))) }
+    ensures { IfOk result (λ b. b ≡ s.right_parts known.now (s.signature head.now) first
+        (s.case_parts (clause c.now))) }
 {
     match parts_of(c) {
         Some((name, ps, ending)) => match known.find(name) {
@@ -400,8 +410,11 @@ pub fn resolved_clauses(
 ) -> Result<Option<(Vec<LoopClause>, usize)>, NoMemory>
     requires first { first ≤ 4096 }
     requires parameters { length head.now.parameters.now ≤ 4096 }
-    ensures right { IfOk result (λ o. MatchOption o (s.right_clauses known.now (s.signature head.now) first (map clause cs.now) ≡ None) (λ r. s.right_clauses known.now (s.signature head.now) first (map clause cs.now) ≡ Some r.1)) }
-    ensures numbered { IfOk result (λ o. IfSome o (λ r. map clause_view r.0.items ≡ s.numbered_clauses known.now first (map clause cs.now))) }
+    ensures right { IfOk result (λ o. MatchOption o (s.right_clauses known.now (s.signature head.now) first
+        (map clause cs.now) ≡ None) (λ r. s.right_clauses known.now (s.signature head.now) first (map clause cs.now)
+        ≡ Some r.1)) }
+    ensures numbered { IfOk result (λ o. IfSome o (λ r. map clause_view r.0.items
+        ≡ s.numbered_clauses known.now first (map clause cs.now))) }
     ensures literals { IfOk result (λ o. IfSome o (λ r. Every CaseLiteralsFit (map clause cs.now))) }
     ensures bound { IfOk result (λ o. IfSome o (λ r. r.1 ≤ 4096)) }
 {
@@ -454,8 +467,10 @@ fn clauses_with(clauses: &[LoopClause], constructor: usize) -> usize
 
 /// Whether each constructor of a type with so many has one clause.
 pub fn are_covered(clauses: &[LoopClause], count: usize) -> bool
-    ensures all { result ≡ true → (n : ℕ) → n < count → count_by (λ k. k.constructor == n) (map clause_view clauses.now) ≡ 1 }
-    ensures not_all { result ≡ false → (n : ℕ) × (n < count) × (count_by (λ k. k.constructor == n) (map clause_view clauses.now) ≡ 1 → ⊥) }
+    ensures all { result ≡ true → (n : ℕ) → n < count → count_by (λ k. k.constructor == n) (map clause_view clauses.now)
+        ≡ 1 }
+    ensures not_all { result ≡ false → (n : ℕ) × (n < count)
+        × (count_by (λ k. k.constructor == n) (map clause_view clauses.now) ≡ 1 → ⊥) }
 {
     for n in 0..count {
         if clauses_with(clauses, n) != 1 {
@@ -482,16 +497,23 @@ pub fn checked_clauses(
     cs: &[Clause],
 ) -> Result<Option<Resolved>, NoMemory>
     requires { length head.now.parameters.now ≤ 4096 }
-    ensures right { IfOk result (λ o. IfSome o (λ r. s.right_clauses known.now (s.signature head.now) (length head.now.parameters.now) (map clause cs.now) ≡ Some r.binders)) }
-    ensures numbered { IfOk result (λ o. IfSome o (λ r. map clause_view r.clauses.items ≡ s.numbered_clauses known.now (length head.now.parameters.now) (map clause cs.now))) }
+    ensures right { IfOk result (λ o. IfSome o (λ r. s.right_clauses known.now (s.signature head.now)
+        (length head.now.parameters.now) (map clause cs.now) ≡ Some r.binders)) }
+    ensures numbered { IfOk result (λ o. IfSome o (λ r. map clause_view r.clauses.items
+        ≡ s.numbered_clauses known.now (length head.now.parameters.now) (map clause cs.now))) }
     ensures literals { IfOk result (λ o. IfSome o (λ r. Every CaseLiteralsFit (map clause cs.now))) }
-    ensures registers { IfOk result (λ o. IfSome o (λ r. r.registers ≡ length head.now.parameters.now + s.case_registers (map clause cs.now))) }
+    ensures registers { IfOk result (λ o. IfSome o (λ r. r.registers ≡ length head.now.parameters.now + s.case_registers
+        (map clause cs.now))) }
     ensures few_registers { IfOk result (λ o. IfSome o (λ r. r.registers ≤ 4096)) }
     ensures bound { IfOk result (λ o. IfSome o (λ r. r.binders ≤ 4096)) }
     ensures few { IfOk result (λ o. IfSome o (λ r. length cs.now ≤ 64)) }
-    ensures nodes { IfOk result (λ o. IfSome o (λ r. length cs.now + (r.binders - length head.now.parameters.now) ≤ 256)) }
-    ensures covered { IfOk result (λ o. IfSome o (λ r. (n : ℕ) → n < length (constructors known.now.table head.now.ty) → count_by (λ k. k.constructor == n) (map clause_view r.clauses.items) ≡ 1)) }
-    ensures refused { IfOk result (λ o. o ≡ None → (n : ℕ) → AreFitting known.now head.now.name.now head.now.parameters.now head.now.given (record { scrutinee = head.now.scrutinee; cases = map clause cs.now }) head.now.ty n → ⊥) }
+    ensures nodes { IfOk result (λ o. IfSome o (λ r. length
+        cs.now + (r.binders - length head.now.parameters.now) ≤ 256)) }
+    ensures covered { IfOk result (λ o. IfSome o (λ r. (n : ℕ) → n < length (constructors known.now.table head.now.ty) →
+        count_by (λ k. k.constructor == n) (map clause_view r.clauses.items) ≡ 1)) }
+    ensures refused { IfOk result (λ o. o ≡ None → (n : ℕ) →
+        AreFitting known.now head.now.name.now head.now.parameters.now head.now.given
+        (record { scrutinee = head.now.scrutinee; cases = map clause cs.now }) head.now.ty n → ⊥) }
 {
     let count = head.parameters.len();
     if cs.len() > MOST_CLAUSES {

@@ -124,8 +124,8 @@ fn is_right_result(types: &NameSet<'_>, given: &ResultType) -> bool
     }
 }
 
-/// Whether the function is a fip one without credits in its header and without static parameters, and its parameters are
-/// owned, numbered from 0 and of known types.
+/// Whether the function is a fip one without credits in its header and without static parameters, and its parameters
+/// are owned, numbered from 0 and of known types.
 pub fn is_right_header(types: &NameSet<'_>, f: &Function) -> bool
     ensures { result ≡ h.right_header types.now (function f.now) }
 {

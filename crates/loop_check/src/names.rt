@@ -1,5 +1,6 @@
 // Sets of names, numbered in the order in which they were added.
-ghost use Rattle.std.specs.Prelude.{◌≡◌, ℕ, ◌+◌, ◌++◌, ◌<◌, ◌^◌, List, [], ◌∷◌, map, length, position, IfOk, IfSome, not, if◌then◌else◌};
+ghost use Rattle.std.specs.Prelude.{◌≡◌, ℕ, ◌+◌, ◌++◌, ◌<◌, ◌^◌, List, [], ◌∷◌, map, length, position, IfOk, IfSome};
+ghost use Rattle.std.specs.Prelude.{not, if◌then◌else◌};
 ghost use Rattle.fip_language.specs.Declarations.{same_name};
 ghost use Rattle.loop_check.specs.Names.{is_among};
 

@@ -1,6 +1,8 @@
 // The check of a program.
-ghost use Rattle.std.specs.Prelude.{◌≡◌, ℕ, ◌≤◌, true, false, [], None, Some, map, length, slice_get, IfOk, IfSome, MatchOption, option_map};
-ghost use Rattle.fip_base.specs.CoreView.{argument, block, clause, core, data_type, expression, function, parameter, is_destructive};
+ghost use Rattle.std.specs.Prelude.{◌≡◌, ℕ, ◌≤◌, true, false, [], None, Some, map, length, slice_get, IfOk, IfSome};
+ghost use Rattle.std.specs.Prelude.{MatchOption, option_map};
+ghost use Rattle.fip_base.specs.CoreView.{argument, block, clause, core, data_type, expression, function, parameter};
+ghost use Rattle.fip_base.specs.CoreView.{is_destructive};
 ghost use Rattle.loop_check.specs.Header.{parameter_numbers};
 ghost use Rattle.loop_form.specs.View.{loop_of as loop_view, clause_of as clause_view};
 ghost use Rattle.fip_language.specs.Core.{Core as CoreForm};
@@ -51,7 +53,8 @@ impl From<NoMemory> for CheckError {
 /// Checks a program, and resolves its function; `None` where a right program has no function.
 pub fn check(alloc: Global, program: &Core) -> Result<Option<LoopProgram>, CheckError>
     ensures passes { IfOk result (λ o. IsPassed (core program.now) (option_map loop_view o)) }
-    ensures refused { result ≡ Err CheckError.Refused → (source : Program) → core program.now ≡ core_form source → IsRight (core program.now) → ⊥ }
+    ensures refused { result ≡ Err CheckError.Refused → (source : Program) → core program.now ≡ core_form source →
+        IsRight (core program.now) → ⊥ }
 {
     match known_of(alloc, program.types.as_slice())? {
         Some(known) => match program.functions.as_slice() {
@@ -69,7 +72,8 @@ pub fn check(alloc: Global, program: &Core) -> Result<Option<LoopProgram>, Check
 // The declarations of right types; none where a rule is broken.
 fn known_of<'a>(alloc: Global, types: &'a [Data]) -> Result<Option<Known<'a>>, NoMemory>
     ensures known { IfOk result (λ o. IfSome o (λ k. p.IsKnown k (map data_type types.now))) }
-    ensures refused { IfOk result (λ o. o ≡ None → (program : CoreForm) → program.types ≡ map data_type types.now → Every IsPlainData program.types → AreRightTypes program → ⊥) }
+    ensures refused { IfOk result (λ o. o ≡ None → (program : CoreForm) → program.types ≡ map data_type types.now →
+        Every IsPlainData program.types → AreRightTypes program → ⊥) }
 {
     let Some(names) = type_names(alloc, types)? else {
         return Ok(None);
@@ -111,7 +115,8 @@ fn scrutinee_of(scrutinee: &Argument) -> Option<usize>
 
 // The variable that the function takes apart, and the clauses; none where it isn't so formed.
 fn taken_of(body: &Block) -> Option<(usize, &[Clause])>
-    ensures { MatchOption result (p.taken (block body.now) ≡ None) (λ r. p.taken (block body.now) ≡ Some (record { scrutinee = r.0; cases = map clause r.1.now })) }
+    ensures { MatchOption result (p.taken (block body.now) ≡ None)
+        (λ r. p.taken (block body.now) ≡ Some (record { scrutinee = r.0; cases = map clause r.1.now })) }
 {
     match last_of(body) {
         Some(e) => taken_in(e),
@@ -121,7 +126,8 @@ fn taken_of(body: &Block) -> Option<(usize, &[Clause])>
 
 #[tactic(auto, using(crate::proofs::ProgramViews::cases_of_clauses))]
 fn taken_in(e: &Expression) -> Option<(usize, &[Clause])>
-    ensures { MatchOption result (p.taken_in (expression e.now) ≡ None) (λ r. p.taken_in (expression e.now) ≡ Some (record { scrutinee = r.0; cases = map clause r.1.now })) }
+    ensures { MatchOption result (p.taken_in (expression e.now) ≡ None)
+        (λ r. p.taken_in (expression e.now) ≡ Some (record { scrutinee = r.0; cases = map clause r.1.now })) }
 {
     match e {
         Expression::Match {
@@ -167,7 +173,8 @@ fn is_right_signature(
     ensures right { IfOk result (λ b. b ≡ true → p.HeaderPasses known.now (function f.now)) }
     ensures few { IfOk result (λ b. b ≡ true → length parameters.now ≤ 4096) }
     ensures few_types { IfOk result (λ b. b ≡ true → p.AreFewTypes known.now.table parameters.now given) }
-    ensures refused { IfOk result (λ b. b ≡ false → p.HeaderPasses known.now (function f.now) → p.AreFewTypes known.now.table parameters.now given → length parameters.now ≤ 4096 → ⊥) }
+    ensures refused { IfOk result (λ b. b ≡ false → p.HeaderPasses known.now (function f.now) →
+        p.AreFewTypes known.now.table parameters.now given → length parameters.now ≤ 4096 → ⊥) }
 {
     if !is_right_header(&known.types, f)
         || !known.are_narrow(parameters)
@@ -230,9 +237,16 @@ fn resolve(
     requires few { length parameters ≤ 4096 }
     requires scrutinee { slice_get parameters found.scrutinee ≡ Some found.ty }
     requires data_type { 1 ≤ found.ty }
-    ensures fits { IfOk result (λ o. IfSome o (λ l. p.Fits known.entry (function f.now).name parameters given (record { scrutinee = found.scrutinee; cases = map clause clauses.now }) found.ty l.binders (map clause_view l.clauses.items))) }
-    ensures resolved { IfOk result (λ o. IfSome o (λ l. loop_view l ≡ p.resolved known.entry (function f.now).name parameters given (record { scrutinee = found.scrutinee; cases = map clause clauses.now }) l.binders (map clause_view l.clauses.items))) }
-    ensures refused { IfOk result (λ o. o ≡ None → (n : ℕ) → AreFitting known.entry (function f.now).name parameters given (record { scrutinee = found.scrutinee; cases = map clause clauses.now }) found.ty n → ⊥) }
+    ensures fits { IfOk result (λ o. IfSome o (λ l. p.Fits known.entry (function f.now).name parameters given
+        (record { scrutinee = found.scrutinee; cases = map clause clauses.now }) found.ty l.binders
+        (map clause_view l.clauses.items))) }
+    ensures resolved { IfOk result (λ o. IfSome o (λ l. loop_view l
+        ≡ p.resolved known.entry (function f.now).name parameters given
+        (record { scrutinee = found.scrutinee; cases = map clause clauses.now }) l.binders
+        (map clause_view l.clauses.items))) }
+    ensures refused { IfOk result (λ o. o ≡ None → (n : ℕ) →
+        AreFitting known.entry (function f.now).name parameters given
+        (record { scrutinee = found.scrutinee; cases = map clause clauses.now }) found.ty n → ⊥) }
 {
     let head = Head {
         name: f.name.as_slice(),

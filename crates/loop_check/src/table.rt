@@ -41,7 +41,8 @@ pub fn constructor_names<'a>(
     alloc: Global,
     types: &'a [Data],
 ) -> Result<Option<NameSet<'a>>, NoMemory>
-    ensures names { IfOk result (λ o. o ≡ with_names (codes "False" ∷ codes "True" ∷ []) (t.declared_names (map data_type types.now))) }
+    ensures names { IfOk result (λ o. o ≡ with_names (codes "False" ∷ codes "True" ∷ [])
+        (t.declared_names (map data_type types.now))) }
 {
     let mut names = NameSet::new(alloc);
     names.insert(b"False")?;
@@ -59,7 +60,8 @@ fn add_constructors<'a>(
     names: &mut NameSet<'a>,
     constructors: &'a [DataConstructor],
 ) -> Result<bool, NoMemory>
-    ensures added { IfOk result (λ all. with_names names.old (t.row_names (map data_constructor constructors.now)) ≡ (if all then Some names.new else None)) }
+    ensures added { IfOk result (λ all. with_names names.old (t.row_names (map data_constructor constructors.now))
+        ≡ (if all then Some names.new else None)) }
 {
     for k in constructors {
         if !names.insert(k.name.as_slice())? {
@@ -94,7 +96,8 @@ fn add_ids(
     ty: u32,
     constructors: &[DataConstructor],
 ) -> Result<(), NoMemory>
-    ensures added { OnOk result (ids.new.items ≡ ids.old.items ++ t.row_ids ty 0 (map data_constructor constructors.now)) }
+    ensures added { OnOk result (ids.new.items ≡ ids.old.items
+        ++ t.row_ids ty 0 (map data_constructor constructors.now)) }
 {
     let mut number: u32 = 0;
     for _ in constructors {

@@ -1,5 +1,6 @@
 // Which types have a value.
-ghost use Rattle.std.specs.Prelude.{◌≡◌, ℕ, ◌+◌, ◌++◌, ◌<◌, ◌≤◌, [], ◌∷◌, true, false, None, Some, length, slice_get, IfOk, IfSome, OnOk, MatchOption};
+ghost use Rattle.std.specs.Prelude.{◌≡◌, ℕ, ◌+◌, ◌++◌, ◌<◌, ◌≤◌, [], ◌∷◌, true, false, None, Some, length, slice_get};
+ghost use Rattle.std.specs.Prelude.{IfOk, IfSome, OnOk, MatchOption};
 ghost use Rattle.fip_language.specs.Table.{Shape, constructors};
 ghost use Rattle.fip_language.specs.Right.{HasValue};
 ghost use Rattle.loop_check.specs.Marks as m;
@@ -41,7 +42,8 @@ fn first_unmarked(marks: &[bool], fields: &[u32]) -> Option<u32>
 
 // The types of a constructor's fields; none where the table has no such constructor.
 fn fields_of(table: &TypeTable, id: ConstructorId) -> Option<&[u32]>
-    ensures fields { MatchOption result (slice_get (constructors table.now id.ty) id.number ≡ None) (λ fs. (s : Shape) × (slice_get (constructors table.now id.ty) id.number ≡ Some s) × (s.fields ≡ fs.now)) }
+    ensures fields { MatchOption result (slice_get (constructors table.now id.ty) id.number ≡ None) (λ fs. (s : Shape)
+        × (slice_get (constructors table.now id.ty) id.number ≡ Some s) × (s.fields ≡ fs.now)) }
     ensures data_type { IfSome result (λ _. 1 ≤ id.ty) }
 {
     if id.ty == 0 {
@@ -74,7 +76,12 @@ impl Model for Marking {
 
     ghost Value = { Progress };
 
-    ghost view = { λ m. record { marks = m.marks.items; waiting = map (λ l. l.items) m.waiting.items; todo = m.todo.items } };
+    ghost view = { λ m. record {
+      marks = m.marks.items;
+      waiting = map (λ l. l.items) m.waiting.items;
+      todo =
+          m.todo.items;
+    } };
 }
 
 impl Marking {
@@ -145,7 +152,9 @@ impl Marking {
 
     // A marked type whose constructors are to be looked at again.
     fn next(&mut self) -> Option<u32>
-        ensures next { MatchOption result ((self.new ≡ self.old) × (self.old.todo ≡ [])) (λ t. (self.new.marks ≡ self.old.marks) × (self.new.waiting ≡ self.old.waiting) × (self.old.todo ≡ self.new.todo ++ t ∷ [])) }
+        ensures next { MatchOption result ((self.new ≡ self.old) × (self.old.todo ≡ []))
+            (λ t. (self.new.marks ≡ self.old.marks) × (self.new.waiting ≡ self.old.waiting)
+            × (self.old.todo ≡ self.new.todo ++ t ∷ [])) }
     {
         self.todo.pop()
     }
@@ -166,7 +175,8 @@ impl Marking {
 
     fn are_all_marked(&self) -> bool
         ensures all { result ≡ true → (t : ℕ) → t < length self.now.marks → m.is_marked self.now.marks (t + 1) ≡ true }
-        ensures not_all { result ≡ false → (t : ℕ) × (t < length self.now.marks) × (m.is_marked self.now.marks (t + 1) ≡ false) }
+        ensures not_all { result ≡ false → (t : ℕ) × (t < length self.now.marks)
+            × (m.is_marked self.now.marks (t + 1) ≡ false) }
     {
         all_marked(self.marks.as_slice())
     }

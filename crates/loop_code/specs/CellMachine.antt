@@ -2,7 +2,9 @@
 -- does to words and cells. No instruction makes a cell or changes a cell's size.
 -- With Cons(1, Nil) in cell 0, Take 0 [2, 3] where register 0 has the word 1 (cell 0): 2 has then the word 1 (the int)
 -- and 3 the word 0 (Nil); 0 keeps its word.
-use Rattle.std.specs.Prelude.{ℕ, ◌+◌, ◌*◌, ◌-◌, ◌/◌, ◌%◌, Bool, List, [], ◌∷◌, ◌++◌, Option, Some, None, slice_get, slice_set, option_and_then, option_map, length, map, sum, nat_eq, nat_lt, if◌then◌else◌, replicate}
+use Rattle.std.specs.Prelude.{ℕ, ◌+◌, ◌*◌, ◌-◌, ◌/◌, ◌%◌, Bool, List, [], ◌∷◌, ◌++◌, Option, Some, None, slice_get}
+use Rattle.std.specs.Prelude.{slice_set, option_and_then, option_map, length, map, sum, nat_eq, nat_lt, if◌then◌else◌}
+use Rattle.std.specs.Prelude.{replicate}
 use Rattle.fip_language.specs.Store.{Cell, int_word}
 use Rattle.loop_code.specs.Code.{Instruction, Const, Atom, Move, Test, Take, Put, Tail, Ret, Function, Code}
 use Rattle.loop_code.specs.Machine.{Next, Went, Entered, Returned, Stuck}
@@ -77,7 +79,8 @@ went_with s (Some cs) = Went (at_with s (s.frame.at + 1) cs s.frame.words)
 
 abbrev pub go_to : State → ℕ → ℕ → Option ℕ → CellNext
 go_to s c target None = Stuck
-go_to s c target (Some b) = if nat_eq b c then Went (at_with s (s.frame.at + 1) s.cells s.frame.words) else Went (at_with s target s.cells s.frame.words)
+go_to s c target (Some b) = if nat_eq b c then Went (at_with s (s.frame.at + 1) s.cells s.frame.words) else Went
+    (at_with s target s.cells s.frame.words)
 
 -- the entry's frame gives the run's value
 abbrev pub return_to : List Frame → Option (List ℕ) → CellNext
@@ -87,7 +90,10 @@ return_to (w ∷ waiting) (Some ws) = Stuck
 
 abbrev pub entered : State → ℕ → Option Function → List ℕ → CellNext
 entered s f None ws = Stuck
-entered s f (Some g) ws = Entered (record s { frame = record { function = f; at = 0; words = frame_words g.registers ws } })
+entered s f (Some g) ws = Entered (record s {
+  frame =
+      record { function = f; at = 0; words = frame_words g.registers ws };
+})
 
 -- what each instruction does
 
@@ -101,10 +107,13 @@ abbrev pub tested : State → ℕ → ℕ → ℕ → CellNext
 tested s r c target = go_to s c target (option_and_then (constructor_at s.cells) (slice_get s.frame.words r))
 
 abbrev pub taken : State → ℕ → List ℕ → CellNext
-taken s r ds = went s (option_and_then (write_all s.frame.words ds) (option_and_then (fields_at s.cells) (slice_get s.frame.words r)))
+taken s r ds = went s (option_and_then (write_all s.frame.words ds)
+    (option_and_then (fields_at s.cells) (slice_get s.frame.words r)))
 
 abbrev pub put : State → ℕ → ℕ → List ℕ → CellNext
-put s d c ss = went_with s (option_and_then (λ w. option_and_then (λ vs. overwrite s.cells w (record { tag = c; fields = vs })) (read_all s.frame.words ss)) (slice_get s.frame.words d))
+put s d c ss = went_with s (option_and_then
+    (λ w. option_and_then (λ vs. overwrite s.cells w (record { tag = c; fields = vs })) (read_all s.frame.words ss))
+    (slice_get s.frame.words d))
 
 abbrev pub called : State → ℕ → Option Function → Option (List ℕ) → CellNext
 called s f g None = Stuck

@@ -6,8 +6,8 @@ abbrev pub AllBelow : ℕ → List ℕ → Type 0
 AllBelow n [] = Unit {0}
 AllBelow n (r ∷ rs) = (r < n) × AllBelow n rs
 
--- Instruction i of a function with n registers: its registers are there, it goes forward (that its target is there isn't
--- asked, nor that its types and constructors are: they say nothing to the machine), and a call is of a function
+-- Instruction i of a function with n registers: its registers are there, it goes forward (that its target is there
+-- isn't asked, nor that its types and constructors are: they say nothing to the machine), and a call is of a function
 -- of the code, with an argument for each parameter.
 abbrev pub IsInRange : List Function → ℕ → ℕ → Instruction → Type 0
 IsInRange fs n i (Const d v) = d < n
@@ -16,7 +16,8 @@ IsInRange fs n i (Move d s) = (d < n) × (s < n)
 IsInRange fs n i (Test r c target) = (r < n) × (i < target)
 IsInRange fs n i (Take r ds) = (r < n) × AllBelow n ds
 IsInRange fs n i (Put d t c ss) = (d < n) × AllBelow n ss
-IsInRange fs n i (Tail f ss) = AllBelow n ss × (g : Function) × (slice_get fs f ≡ Some g) × (length ss ≡ length g.parameters)
+IsInRange fs n i (Tail f ss) = AllBelow n ss × (g : Function) × (slice_get fs f ≡ Some g)
+    × (length ss ≡ length g.parameters)
 IsInRange fs n i (Ret ss) = AllBelow n ss
 
 pub record IsFunction (fs : List Function) (f : Function) : Type 0 where

@@ -4,7 +4,8 @@
 -- took apart, and Put uses a credit of the size of the node that it makes. A register that holds a tree with cells, or
 -- a credit, is never written over, and none is left where a frame ends.
 -- Take 0 [2, 3] where register 0 holds Cons(1, Nil): 0 has then a credit of size 2, 2 has 1 and 3 has Nil.
-use Rattle.std.specs.Prelude.{ℕ, zero, suc, ◌+◌, Bool, true, false, ◌&&◌, not, List, [], ◌∷◌, Option, Some, None, slice_get, option_and_then, nat_eq, eqb, cond, if◌then◌else◌}
+use Rattle.std.specs.Prelude.{ℕ, zero, suc, ◌+◌, Bool, true, false, ◌&&◌, not, List, [], ◌∷◌, Option, Some, None}
+use Rattle.std.specs.Prelude.{slice_get, option_and_then, nat_eq, eqb, cond, if◌then◌else◌}
 use Rattle.fip_language.specs.Values.{Value, Int, Node, Values, End, More, count_of}
 use Rattle.loop_code.specs.Code.{Instruction, Const, Atom, Move, Test, Take, Put, Tail, Ret, Function, Code}
 use Rattle.loop_code.specs.Machine.{Next, Went, Entered, Returned, Stuck}
@@ -109,7 +110,8 @@ moved regs d r (Credit k) = write (put regs r Empty) d (Credit k)
 
 abbrev pub tested : State → ℕ → ℕ → Value → TreeNext
 tested s c target (Int i) = Stuck
-tested s c target (Node b vs) = if nat_eq b c then Went (at_with s (s.frame.at + 1) s.frame.registers) else Went (at_with s target s.frame.registers)
+tested s c target (Node b vs) = if nat_eq b c then Went (at_with s (s.frame.at + 1) s.frame.registers) else Went
+    (at_with s target s.frame.registers)
 
 abbrev pub test_content : State → ℕ → ℕ → Content → TreeNext
 test_content s c target Empty = Stuck
@@ -170,4 +172,9 @@ next code s = act_in s (slice_get code.functions s.frame.function)
 
 -- the loaded state of an entry with these values
 abbrev pub loaded : ℕ → Values → ℕ → State
-loaded f vs free = record { frame = record { function = f; at = 0; registers = arguments vs }; waiting = []; free = free }
+loaded f vs free = record {
+  frame = record { function = f; at = 0; registers = arguments vs };
+  waiting = [];
+  free =
+      free;
+}

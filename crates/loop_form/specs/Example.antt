@@ -23,7 +23,8 @@ nil_clause = record { constructor = 0; first_binder = 2; fields = 0; ending = Gi
 
 -- Cons(x, t) -> rev(t, Cons(x, acc))
 abbrev pub cons_ending : Terms
-cons_ending = MoreTerms (Register 3) (MoreTerms (ANode 2 1 (MoreTerms (Register 2) (MoreTerms (Register 1) NoTerms))) NoTerms)
+cons_ending = MoreTerms (Register 3) (MoreTerms (ANode 2 1 (MoreTerms (Register 2) (MoreTerms (Register 1) NoTerms)))
+    NoTerms)
 
 abbrev pub cons_clause : Clause
 cons_clause = record { constructor = 1; first_binder = 2; fields = 2; ending = Again cons_ending }
@@ -47,7 +48,8 @@ abbrev pub cons : ℕ → Value → Value
 cons n v = Node 1 (More (Int (pos n)) (More v End))
 
 -- three items take four calls
-pub rev-gives : loop_meaning rev (More (cons 1 (cons 2 (cons 3 nil))) (More nil End)) 4 ≡ Gives (cons 3 (cons 2 (cons 1 nil))) 0
+pub rev-gives : loop_meaning rev (More (cons 1 (cons 2 (cons 3 nil))) (More nil End)) 4
+    ≡ Gives (cons 3 (cons 2 (cons 1 nil))) 0
 rev-gives = refl
 
 pub rev-calls_left : loop_meaning rev (More nil (More nil End)) 6 ≡ Gives nil 5

@@ -2,7 +2,8 @@
 -- Each entry costs a call, also the first one: where none is left the answer is Out. The body chooses the first
 -- clause with the constructor of the scrutinee's root.
 -- rev on Cons(1, Nil) and Nil with 3 calls gives Cons(1, Nil) and leaves 1 call; with 1 call it is Out.
-use Rattle.std.specs.Prelude.{ℕ, zero, suc, ◌-◌, List, [], ◌∷◌, length, Option, Some, None, slice_get, nat_eq, nat_lt, if◌then◌else◌}
+use Rattle.std.specs.Prelude.{ℕ, zero, suc, ◌-◌, List, [], ◌∷◌, length, Option, Some, None, slice_get, nat_eq, nat_lt}
+use Rattle.std.specs.Prelude.{if◌then◌else◌}
 use Rattle.fip_language.specs.Values.{Value, Int, Node, Values, End, More}
 use Rattle.loop_form.specs.Loop as L
 
@@ -21,7 +22,8 @@ list_of (More v vs) = v ∷ list_of vs
 -- constructor stand from its first binder on.
 abbrev pub in_clause : {A : Type 0} → List A → ℕ → List A → ℕ → Option A
 in_clause parameters first fields r =
-    if nat_lt r (length parameters) then slice_get parameters r else if nat_lt r first then None else slice_get fields (r - first)
+    if nat_lt r (length parameters) then slice_get parameters r else if nat_lt r first then None else slice_get fields
+    (r - first)
 
 abbrev pub node_of : ℕ → Option Values → Option Value
 node_of c None = None

@@ -30,7 +30,13 @@ ending_of (E.Give t) = L.Give (term_of t)
 ending_of (E.Again ts) = L.Again (terms_of ts.items)
 
 abbrev pub clause_of : LoopClause → L.Clause
-clause_of c = record { constructor = c.constructor; first_binder = c.first_binder; fields = c.fields; ending = ending_of c.ending }
+clause_of c = record {
+  constructor = c.constructor;
+  first_binder = c.first_binder;
+  fields = c.fields;
+  ending =
+      ending_of c.ending;
+}
 
 abbrev pub loop_of : LoopProgram → L.Loop
 loop_of p = record {

@@ -5,7 +5,8 @@
 -- credit, and moved to its own.
 -- The second clause of rev(xs, acc), Cons(x, t) -> rev(t, Cons(x, acc)), with x in register 2 and t in 3, is
 -- Take 0 [2, 3], Put 0 2 1 [2, 1], Move 4 0, Tail 0 [3, 4], where ints is type 2.
-use Rattle.std.specs.Prelude.{ℕ, zero, suc, ◌+◌, ◌≤◌, ◌==◌, Bool, true, false, List, [], ◌∷◌, ◌++◌, length, map, slice_index}
+use Rattle.std.specs.Prelude.{ℕ, zero, suc, ◌+◌, ◌≤◌, ◌==◌, Bool, true, false, List, [], ◌∷◌, ◌++◌, length, map}
+use Rattle.std.specs.Prelude.{slice_index}
 use Rattle.fip_language.specs.declared.FunKind.TheVariants.{Fip}
 use Rattle.fip_language.specs.Table.{is_scalar}
 use Rattle.loop_form.specs.Loop as L
@@ -52,7 +53,8 @@ abbrev mutual
 
   pub terms_code : ℕ → ℕ → L.Terms → TermsCode
   terms_code credit n L.NoTerms = record { code = []; registers = []; next = n }
-  terms_code credit n (L.MoreTerms t ts) = more_code (term_code credit n t) (terms_code credit (term_code credit n t).next ts)
+  terms_code credit n (L.MoreTerms t ts) = more_code (term_code credit n t)
+      (terms_code credit (term_code credit n t).next ts)
 
 abbrev pub give_code : TermCode → List Instruction
 give_code t = t.code ++ Ret (t.register ∷ []) ∷ []
@@ -74,7 +76,8 @@ abbrev pub take_code : Bool → ℕ → L.Clause → List Instruction
 take_code true s k = []
 take_code false s k = Take s (numbers_from k.first_binder k.fields) ∷ []
 
--- a clause without its Test: the scrutinee's register and whether its type is scalar, the first new register, the clause
+-- a clause without its Test: the scrutinee's register and whether its type is scalar, the first new register, the
+-- clause
 abbrev pub clause_code : Bool → ℕ → ℕ → L.Clause → List Instruction
 clause_code scalar s n k = take_code scalar s k ++ ending_code s n k.ending
 
@@ -85,13 +88,15 @@ ClauseFits n k = (k.first_binder + k.fields ≤ 4096) × (n + L.ending_made k.en
 -- A clause at this place; where another follows, a Test goes on to it, which stands behind this one.
 abbrev pub placed_clause : Bool → ℕ → ℕ → ℕ → Bool → L.Clause → List Instruction
 placed_clause scalar s n at true k = clause_code scalar s n k
-placed_clause scalar s n at false k = Test s k.constructor (at + 1 + length (clause_code scalar s n k)) ∷ clause_code scalar s n k
+placed_clause scalar s n at false k = Test s k.constructor (at + 1 + length (clause_code scalar s n k))
+    ∷ clause_code scalar s n k
 
 -- the clauses, from this place on
 abbrev pub clauses_code : Bool → ℕ → ℕ → ℕ → List L.Clause → List Instruction
 clauses_code scalar s n at [] = []
 clauses_code scalar s n at (k ∷ ks) =
-    placed_clause scalar s n at (length ks == 0) k ++ clauses_code scalar s n (at + length (placed_clause scalar s n at (length ks == 0) k)) ks
+    placed_clause scalar s n at (length ks == 0) k
+    ++ clauses_code scalar s n (at + length (placed_clause scalar s n at (length ks == 0) k)) ks
 
 abbrev pub has_scalar_scrutinee : L.Loop → Bool
 has_scalar_scrutinee p = is_scalar p.types (slice_index p.parameters p.scrutinee)

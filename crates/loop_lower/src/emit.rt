@@ -1,11 +1,13 @@
 // The code of terms and clauses, written instruction by instruction.
 
-ghost use Rattle.std.specs.Prelude.{◌≡◌, ℕ, suc, ◌+◌, ◌<◌, ◌≤◌, ◌^◌, false, [], ◌∷◌, ◌++◌, length, map, slice_get, slice_set, Some, IfOk, OnOk};
+ghost use Rattle.std.specs.Prelude.{◌≡◌, ℕ, suc, ◌+◌, ◌<◌, ◌≤◌, ◌^◌, false, [], ◌∷◌, ◌++◌, length, map, slice_get};
+ghost use Rattle.std.specs.Prelude.{slice_set, Some, IfOk, OnOk};
 ghost use Rattle.loop_form.specs.Loop.{made, made_in_all, ending_made};
 ghost use Rattle.loop_form.specs.View.{term_of, terms_of, ending_of, clause_of};
 ghost use Rattle.loop_code.specs.View.{instruction_of};
 ghost use Rattle.loop_form.specs.declared.program.LoopClause.{LoopClause};
-ghost use Rattle.loop_lower.specs.Lower.{ops, term_code, terms_code, node_code, ending_code, take_code, clause_code, placed_clause, clauses_code, numbers_from, ClauseFits};
+ghost use Rattle.loop_lower.specs.Lower.{ops, term_code, terms_code, node_code, ending_code, take_code, clause_code};
+ghost use Rattle.loop_lower.specs.Lower.{placed_clause, clauses_code, numbers_from, ClauseFits};
 
 use fip_base::plain::NoMemory;
 use loop_code::{Instr, Registers};
@@ -76,7 +78,8 @@ fn emit_term(
     t: &Term,
 ) -> Result<u32, NoMemory>
     requires room { next.old + made (term_of t.now) < 2 ^ 32 }
-    ensures code { OnOk result (ops code.new.items ≡ ops code.old.items ++ (term_code credit next.old (term_of t.now)).code) }
+    ensures code { OnOk result (ops code.new.items ≡ ops code.old.items
+        ++ (term_code credit next.old (term_of t.now)).code) }
     ensures register { IfOk result (λ r. r ≡ (term_code credit next.old (term_of t.now)).register) }
     ensures next { OnOk result (next.new ≡ (term_code credit next.old (term_of t.now)).next) }
     ensures count { OnOk result (next.new ≡ next.old + made (term_of t.now)) }
@@ -128,7 +131,8 @@ fn emit_node(
     fields: Vec<u32>,
 ) -> Result<u32, NoMemory>
     requires room { next.old + 1 < 2 ^ 32 }
-    ensures code { OnOk result (ops code.new.items ≡ (node_code credit ty constructor (record { code = ops code.old.items; registers = fields.items; next = next.old })).code) }
+    ensures code { OnOk result (ops code.new.items ≡ (node_code credit ty constructor
+        (record { code = ops code.old.items; registers = fields.items; next = next.old })).code) }
     ensures register { IfOk result (λ r. r ≡ next.old) }
     ensures next { OnOk result (next.new ≡ suc next.old) }
 {
@@ -163,8 +167,10 @@ fn emit_terms(
     registers: &mut Vec<u32>,
 ) -> Result<(), NoMemory>
     requires room { next.old + made_in_all (terms_of ts.now) < 2 ^ 32 }
-    ensures code { OnOk result (ops code.new.items ≡ ops code.old.items ++ (terms_code credit next.old (terms_of ts.now)).code) }
-    ensures registers { OnOk result (registers.new.items ≡ registers.old.items ++ (terms_code credit next.old (terms_of ts.now)).registers) }
+    ensures code { OnOk result (ops code.new.items ≡ ops code.old.items
+        ++ (terms_code credit next.old (terms_of ts.now)).code) }
+    ensures registers { OnOk result (registers.new.items ≡ registers.old.items
+        ++ (terms_code credit next.old (terms_of ts.now)).registers) }
     ensures next { OnOk result (next.new ≡ (terms_code credit next.old (terms_of ts.now)).next) }
     ensures count { OnOk result (next.new ≡ next.old + made_in_all (terms_of ts.now)) }
 {
@@ -184,7 +190,8 @@ fn emit_ending(
     ending: &Ending,
 ) -> Result<(), NoMemory>
     requires room { first + ending_made (ending_of ending.now) < 2 ^ 32 }
-    ensures code { OnOk result (ops code.new.items ≡ ops code.old.items ++ ending_code credit first (ending_of ending.now)) }
+    ensures code { OnOk result (ops code.new.items ≡ ops code.old.items ++ ending_code credit first
+        (ending_of ending.now)) }
 {
     let mut next = first;
     let mut registers = Vec::new(alloc);
@@ -218,7 +225,8 @@ fn emit_take(
     clause: &LoopClause,
 ) -> Result<(), NoMemory>
     requires room { clause.now.first_binder + clause.now.fields < 2 ^ 32 }
-    ensures code { OnOk result (ops code.new.items ≡ ops code.old.items ++ take_code scalar scrutinee (clause_of clause.now)) }
+    ensures code { OnOk result (ops code.new.items ≡ ops code.old.items ++ take_code scalar scrutinee
+        (clause_of clause.now)) }
 {
     if scalar {
         return Ok(());
@@ -244,7 +252,8 @@ fn emit_clause(
 ) -> Result<(), NoMemory>
     requires binders { clause.now.first_binder + clause.now.fields < 2 ^ 32 }
     requires room { first + ending_made (ending_of clause.now.ending) < 2 ^ 32 }
-    ensures code { OnOk result (ops code.new.items ≡ ops code.old.items ++ clause_code scalar scrutinee first (clause_of clause.now)) }
+    ensures code { OnOk result (ops code.new.items ≡ ops code.old.items ++ clause_code scalar scrutinee first
+        (clause_of clause.now)) }
 {
     emit_take(alloc, code, scalar, scrutinee, clause)?;
     emit_ending(alloc, code, scrutinee, first, &clause.ending)
@@ -261,8 +270,10 @@ fn emit_tested(
 ) -> Result<(), NoMemory>
     requires binders { clause.now.first_binder + clause.now.fields < 2 ^ 32 }
     requires room { first + ending_made (ending_of clause.now.ending) < 2 ^ 32 }
-    requires short { length (ops code.old.items) + 1 + length (clause_code scalar scrutinee first (clause_of clause.now)) < 2 ^ 32 }
-    ensures code { OnOk result (ops code.new.items ≡ ops code.old.items ++ placed_clause scalar scrutinee first (length (ops code.old.items)) false (clause_of clause.now)) }
+    requires short { length (ops code.old.items) + 1 + length
+        (clause_code scalar scrutinee first (clause_of clause.now)) < 2 ^ 32 }
+    ensures code { OnOk result (ops code.new.items ≡ ops code.old.items ++ placed_clause scalar scrutinee first
+        (length (ops code.old.items)) false (clause_of clause.now)) }
 {
     let start = size(code);
     let constructor = clause.constructor;
@@ -301,7 +312,8 @@ fn emit_placed(
 ) -> Result<(), NoMemory>
     requires fits { ClauseFits first (clause_of clause.now) }
     requires short { length (ops code.old.items) + 8200 < 2 ^ 32 }
-    ensures code { OnOk result (ops code.new.items ≡ ops code.old.items ++ placed_clause scalar scrutinee first (length (ops code.old.items)) last (clause_of clause.now)) }
+    ensures code { OnOk result (ops code.new.items ≡ ops code.old.items ++ placed_clause scalar scrutinee first
+        (length (ops code.old.items)) last (clause_of clause.now)) }
     ensures short { OnOk result (length (ops code.new.items) ≤ length (ops code.old.items) + 8200) }
 {
     if last {
@@ -324,7 +336,8 @@ pub fn emit_clauses(
     requires fit { (i : ℕ) (k : LoopClause) → slice_get clauses.now i ≡ Some k → ClauseFits first (clause_of k) }
     requires few { length clauses.now ≤ 64 }
     requires empty { ops code.old.items ≡ [] }
-    ensures code { OnOk result (ops code.new.items ≡ clauses_code scalar scrutinee first 0 (map clause_of clauses.now)) }
+    ensures code { OnOk result (ops code.new.items ≡ clauses_code scalar scrutinee first 0
+        (map clause_of clauses.now)) }
 {
     for (i, clause) in clauses.iter().enumerate() {
         let last = clauses[i + 1..].is_empty();

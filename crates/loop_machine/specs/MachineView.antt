@@ -40,7 +40,8 @@ end_of E.Deep ws left = Deep
 -- A run with so many calls from this state ends so, with these cells, and the gauge tells of its states. It ends as
 -- each run on trees does that starts in a state for which this one stands. For each call it takes at most as many steps
 -- as the longest function has instructions.
-pub record Ran (code : Code) (s : State) (calls : ℕ) (ended : Ended) (results : List ℕ) (cells : List Cell) (g : Numbers) : Type 0 where
+pub record Ran (code : Code) (s : State) (calls : ℕ) (ended : Ended) (results : List ℕ) (cells : List Cell)
+    (g : Numbers) : Type 0 where
   pub steps : ℕ
   pub left : ℕ
   pub few : steps ≤ calls * longest code.functions
@@ -50,7 +51,8 @@ pub record Ran (code : Code) (s : State) (calls : ℕ) (ended : Ended) (results 
   pub last : State
   pub is_last : states (next code) steps calls s ≡ before ++ last ∷ []
   pub same_cells : cells ≡ last.cells
-  pub alike : (t : T.State) (m : ℕ) (e : End Values) → Apart code s t → run (T.next code) m calls (Entered t) ≡ Some e → EndsAlike cells (end_of ended results left) e
+  pub alike : (t : T.State) (m : ℕ) (e : End Values) → Apart code s t → run (T.next code) m calls (Entered t) ≡ Some e →
+      EndsAlike cells (end_of ended results left) e
 
 -- each function of the code has so many registers
 abbrev pub AllHave : Code → ℕ → Type 0

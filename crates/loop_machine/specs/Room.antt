@@ -16,7 +16,8 @@ words_read (Ret ss) = length ss
 
 pub record HasRoom (code : Code) (n : ℕ) : Type 0 where
   pub registers : (f : ℕ) (g : Function) → slice_get code.functions f ≡ Some g → g.registers ≤ n
-  pub reads : (f : ℕ) (g : Function) (i : ℕ) (x : Instruction) → slice_get code.functions f ≡ Some g → slice_get g.instructions i ≡ Some x → words_read x ≤ n
+  pub reads : (f : ℕ) (g : Function) (i : ℕ) (x : Instruction) → slice_get code.functions f ≡ Some g →
+      slice_get g.instructions i ≡ Some x → words_read x ≤ n
 
 -- a step leaves room for as many words as there was
 pub record HasWords (n : ℕ) (e : Engine) : Type 0 where
@@ -29,4 +30,5 @@ KeepsRoom old new = (n : ℕ) → HasWords n old → HasWords n new
 
 -- room for what an instruction reads, and for each frame of the code
 abbrev pub HasRoomFor : Code → Instruction → Engine → Type 0
-HasRoomFor code x e = (n : ℕ) × HasWords n e × (words_read x ≤ n) × ((f : ℕ) (g : Function) → slice_get code.functions f ≡ Some g → g.registers ≤ n)
+HasRoomFor code x e = (n : ℕ) × HasWords n e × (words_read x ≤ n)
+    × ((f : ℕ) (g : Function) → slice_get code.functions f ≡ Some g → g.registers ≤ n)

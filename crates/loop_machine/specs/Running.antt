@@ -30,7 +30,8 @@ pub record Stand (tb : Table) (cs : List Cell) (ts ws : List ℕ) (xs : Parts) :
 -- The function works: on trees, from any values of its parameters' types, its run ends, whatever the number of calls
 -- is.
 abbrev pub IsWorking : Code → ℕ → Type 0
-IsWorking code f = (vs : Values) → HaveTypes code.types (parameter_types code f) vs → (free n : ℕ) → (m : ℕ) × (e : End Values) × (run (T.next code) m n (Entered (T.loaded f vs free)) ≡ Some e)
+IsWorking code f = (vs : Values) → HaveTypes code.types (parameter_types code f) vs → (free n : ℕ) → (m : ℕ)
+    × (e : End Values) × (run (T.next code) m n (Entered (T.loaded f vs free)) ≡ Some e)
 
 -- the state on cells in which the entry begins
 abbrev pub loaded : Code → ℕ → List Cell → List ℕ → ℕ → M.State
@@ -44,7 +45,8 @@ loaded code f cs ws free = record {
 
 -- The state stands for one on trees from which the run ends, whatever the number of calls is.
 abbrev pub Lives : Code → M.State → Type 0
-Lives code s = (t : T.State) × Apart code s t × ((left : ℕ) → (m : ℕ) × (e : End Values) × (run (T.next code) m left (Went t) ≡ Some e))
+Lives code s = (t : T.State) × Apart code s t
+    × ((left : ℕ) → (m : ℕ) × (e : End Values) × (run (T.next code) m left (Went t) ≡ Some e))
 
 -- A run on cells ends as one on trees: in the same way, and the words that it gives stand for the values.
 abbrev pub EndsAlike : List Cell → End (List ℕ) → End Values → Type 0

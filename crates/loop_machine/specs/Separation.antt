@@ -4,9 +4,11 @@
 -- stands in one.
 -- With Cons(1, Nil) in cell 0: after Take 0 [2, 3] register 0 has the cell 0 of size 2 to spare, 2 and 3 have the trees
 -- 1 and Nil, which have no cell.
-use Rattle.std.specs.Prelude.{◌≡◌, ℕ, zero, suc, ◌+◌, ◌*◌, ◌<◌, List, [], Option, Some, slice_get, length, nat_lt, if◌then◌else◌}
+use Rattle.std.specs.Prelude.{◌≡◌, ℕ, zero, suc, ◌+◌, ◌*◌, ◌<◌, List, [], Option, Some, slice_get, length, nat_lt}
+use Rattle.std.specs.Prelude.{if◌then◌else◌}
 use Rattle.fip_language.specs.Values.{Values}
-use Rattle.fip_language.specs.Store.{Cell, Placed, PlacedInt, Bare, At, Parts, NoParts, MoreParts, value_of, values_of, word_of, words_of, uses, uses_of_all, one_at}
+use Rattle.fip_language.specs.Store.{Cell, Placed, PlacedInt, Bare, At, Parts, NoParts, MoreParts, value_of, values_of}
+use Rattle.fip_language.specs.Store.{word_of, words_of, uses, uses_of_all, one_at}
 use Rattle.loop_code.specs.Code.{Function, Code}
 use Rattle.loop_code.specs.TreeMachine as T
 use Rattle.loop_code.specs.CellMachine as M
@@ -52,7 +54,8 @@ content_of (Spare p k) = T.Credit k
 abbrev pub Fits : List Cell → Slot → Option ℕ → Type 0
 Fits cs Vacant w = Unit {0}
 Fits cs (Full x) w = (w ≡ Some (word_of x)) × Lies cs x
-Fits cs (Spare p k) w = (w ≡ Some (2 * p + 1)) × (0 < k) × (c : Cell) × (slice_get cs p ≡ Some c) × (length c.fields ≡ k)
+Fits cs (Spare p k) w = (w ≡ Some (2 * p + 1)) × (0 < k) × (c : Cell) × (slice_get cs p ≡ Some c)
+    × (length c.fields ≡ k)
 
 -- n registers: their trees, their words, and how often they have each place
 pub record File (cs : List Cell) (n : ℕ) (regs : T.Registers) (ws : List ℕ) (u : ℕ → ℕ) : Type 0 where

@@ -1,6 +1,7 @@
 // The running frame beside the cells, and what each instruction does to them. Whoever calls shows that the instruction
 // can be done.
-ghost use Rattle.std.specs.Prelude.{◌≡◌, ◌≢◌, ℕ, ◌+◌, ◌*◌, ◌/◌, ◌%◌, ◌<◌, ◌≤◌, ◌^◌, List, None, Some, length, map, slice_get, slice_index_or, vec_len};
+ghost use Rattle.std.specs.Prelude.{◌≡◌, ◌≢◌, ℕ, ◌+◌, ◌*◌, ◌/◌, ◌%◌, ◌<◌, ◌≤◌, ◌^◌, List, None, Some, length, map};
+ghost use Rattle.std.specs.Prelude.{slice_get, slice_index_or, vec_len};
 ghost use Rattle.std.specs.Vec.{vec_capacity};
 ghost use Rattle.fip_language.specs.Store.{Cell, int_word};
 ghost use Rattle.loop_code.specs.Machine.{Next, Went, Entered, Returned, Stuck};
@@ -63,8 +64,10 @@ fn read_words(target: &mut Vec<u64>, words: &[u64], sources: &[u32])
 /// Puts the fields of a cell into registers, one for each.
 fn write_fields(words: &mut Vec<u64>, cells: &Sealed, place: u32, registers: &[u32])
     requires there { place < length cells.now.cells }
-    requires goes { (c : Cell) → slice_get cells.now.cells place ≡ Some c → M.write_all words.old.items registers.now c.fields ≢ None }
-    ensures written { (c : Cell) → slice_get cells.now.cells place ≡ Some c → M.write_all words.old.items registers.now c.fields ≡ Some words.new.items }
+    requires goes { (c : Cell) → slice_get cells.now.cells place ≡ Some c →
+        M.write_all words.old.items registers.now c.fields ≢ None }
+    ensures written { (c : Cell) → slice_get cells.now.cells place ≡ Some c →
+        M.write_all words.old.items registers.now c.fields ≡ Some words.new.items }
     ensures room { vec_capacity words.old ≤ vec_capacity words.new }
 {
     for (i, register) in registers.iter().enumerate() {
@@ -76,8 +79,10 @@ fn write_fields(words: &mut Vec<u64>, cells: &Sealed, place: u32, registers: &[u
 fn take_fields(words: &mut Vec<u64>, cells: &Sealed, word: u64, registers: &[u32])
     requires few { 2 * length cells.now.cells ≤ 16777216 }
     requires there { word % 2 ≡ 1 → word / 2 < length cells.now.cells }
-    requires goes { (fields : List ℕ) → M.fields_at cells.now.cells word ≡ Some fields → M.write_all words.old.items registers.now fields ≢ None }
-    ensures written { (fields : List ℕ) → M.fields_at cells.now.cells word ≡ Some fields → M.write_all words.old.items registers.now fields ≡ Some words.new.items }
+    requires goes { (fields : List ℕ) → M.fields_at cells.now.cells word ≡ Some fields →
+        M.write_all words.old.items registers.now fields ≢ None }
+    ensures written { (fields : List ℕ) → M.fields_at cells.now.cells word ≡ Some fields →
+        M.write_all words.old.items registers.now fields ≡ Some words.new.items }
     ensures room { vec_capacity words.old ≤ vec_capacity words.new }
 {
     if word % 2 == 0 {
@@ -157,7 +162,8 @@ impl Engine {
         requires there { AllBelow (length self.old.words.items) arguments.now }
         requires fit { length arguments.now ≤ function.now.registers }
         requires room { function.now.registers ≤ vec_capacity self.old.spare }
-        ensures entered { M.called (state_of self.old) number (Some (function_of function.now)) (M.read_all self.old.words.items arguments.now) ≡ Entered (state_of self.new) }
+        ensures entered { M.called (state_of self.old) number (Some (function_of function.now))
+            (M.read_all self.old.words.items arguments.now) ≡ Entered (state_of self.new) }
         ensures room { KeepsRoom self.old self.new }
     {
         read_words(&mut self.spare, &self.words, arguments);
@@ -179,12 +185,14 @@ impl Engine {
 
     fn act(&mut self, code: &Code, instruction: &Instr) -> Stepped
         requires code { IsCode (code_of code.now) }
-        requires in_range { IsInRange (code_of code.now).functions (length self.old.words.items) self.old.at (instruction_of instruction.now) }
+        requires in_range { IsInRange (code_of code.now).functions (length self.old.words.items) self.old.at
+            (instruction_of instruction.now) }
         requires goes { M.act (code_of code.now) (state_of self.old) (instruction_of instruction.now) ≢ Stuck }
         requires few { 2 * length self.old.cells.cells ≤ 16777216 }
         requires inside { self.old.at + 1 < 2 ^ 64 }
         requires room { HasRoomFor (code_of code.now) (instruction_of instruction.now) self.old }
-        ensures next { M.act (code_of code.now) (state_of self.old) (instruction_of instruction.now) ≡ comes result (state_of self.new) self.new.results.items }
+        ensures next { M.act (code_of code.now) (state_of self.old) (instruction_of instruction.now)
+            ≡ comes result (state_of self.new) self.new.results.items }
         ensures stays { result ≡ Stepped.Value → state_of self.new ≡ state_of self.old }
         ensures room { KeepsRoom self.old self.new }
     {
@@ -232,11 +240,13 @@ impl Engine {
     /// Does the instruction that is next. Once the run is over, it answers the same again and changes nothing.
     pub(crate) fn step(&mut self, code: &Code) -> Stepped
         requires code { IsCode (code_of code.now) }
-        requires long { (g : C.Function) → slice_get (code_of code.now).functions self.old.function ≡ Some g → length self.old.words.items ≡ g.registers }
+        requires long { (g : C.Function) → slice_get (code_of code.now).functions self.old.function ≡ Some g →
+            length self.old.words.items ≡ g.registers }
         requires goes { M.next (code_of code.now) (state_of self.old) ≢ Stuck }
         requires few { 2 * length self.old.cells.cells ≤ 16777216 }
         requires room { (n : ℕ) × HasRoom (code_of code.now) n × HasWords n self.old }
-        ensures next { M.next (code_of code.now) (state_of self.old) ≡ comes result (state_of self.new) self.new.results.items }
+        ensures next { M.next (code_of code.now) (state_of self.old)
+            ≡ comes result (state_of self.new) self.new.results.items }
         ensures stays { result ≡ Stepped.Value → state_of self.new ≡ state_of self.old }
         ensures room { KeepsRoom self.old self.new }
     {

@@ -24,7 +24,14 @@ pub struct Gauge {
 impl Model for Gauge {
     ghost Value = { Numbers };
 
-    ghost view = { λ g. record { seen = g.seen; lowest = g.lowest; highest = g.highest; frames = g.frames; words = g.words } };
+    ghost view = { λ g. record {
+      seen = g.seen;
+      lowest = g.lowest;
+      highest = g.highest;
+      frames = g.frames;
+      words =
+          g.words;
+    } };
 }
 
 fn lower(seen: bool, old: u64, new: u64) -> u64
@@ -34,7 +41,8 @@ fn lower(seen: bool, old: u64, new: u64) -> u64
 }
 
 fn lower_all(seen: bool, lowest: &mut [u64; SIZES], cells: &Sealed)
-    ensures lowered { (k : ℕ) → k ≤ 16 → slice_index_or lowest.new k 0 ≡ lowered seen (slice_index_or lowest.old k 0) (count_live k cells.now.cells cells.now.released) }
+    ensures lowered { (k : ℕ) → k ≤ 16 → slice_index_or lowest.new k 0
+        ≡ lowered seen (slice_index_or lowest.old k 0) (count_live k cells.now.cells cells.now.released) }
 {
     for k in 0..SIZES {
         lowest[k] = lower(seen, lowest[k], cells.count(k) as u64);
@@ -42,7 +50,8 @@ fn lower_all(seen: bool, lowest: &mut [u64; SIZES], cells: &Sealed)
 }
 
 fn raise_all(highest: &mut [u64; SIZES], cells: &Sealed)
-    ensures raised { (k : ℕ) → k ≤ 16 → slice_index_or highest.new k 0 ≡ raised (slice_index_or highest.old k 0) (count_live k cells.now.cells cells.now.released) }
+    ensures raised { (k : ℕ) → k ≤ 16 → slice_index_or highest.new k 0
+        ≡ raised (slice_index_or highest.old k 0) (count_live k cells.now.cells cells.now.released) }
 {
     for k in 0..SIZES {
         highest[k] = highest[k].max(cells.count(k) as u64);
@@ -94,7 +103,8 @@ impl Gauge {
     }
 
     pub(crate) fn see(&mut self, cells: &Sealed, frames: usize, words: usize)
-        ensures tells { (ss : List State) (s : State) → s.cells ≡ cells.now.cells → s.released ≡ cells.now.released → frames_held s ≡ frames → words_held s ≡ words → Tells self.old ss → Tells self.new (ss ++ s ∷ []) }
+        ensures tells { (ss : List State) (s : State) → s.cells ≡ cells.now.cells → s.released ≡ cells.now.released →
+            frames_held s ≡ frames → words_held s ≡ words → Tells self.old ss → Tells self.new (ss ++ s ∷ []) }
     {
         lower_all(self.seen, &mut self.lowest, cells);
         raise_all(&mut self.highest, cells);

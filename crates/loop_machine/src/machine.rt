@@ -1,5 +1,6 @@
 // The machine.
-ghost use Rattle.std.specs.Prelude.{◌≡◌, ◌≢◌, ℕ, ◌+◌, ◌*◌, ◌<◌, ◌≤◌, List, [], ◌∷◌, ◌++◌, All, IfOk, length, map, slice_get, slice_index_or};
+ghost use Rattle.std.specs.Prelude.{◌≡◌, ◌≢◌, ℕ, ◌+◌, ◌*◌, ◌<◌, ◌≤◌, List, [], ◌∷◌, ◌++◌, All, IfOk, length, map};
+ghost use Rattle.std.specs.Prelude.{slice_get, slice_index_or};
 ghost use Rattle.fip_language.specs.Values.{Values, cells_of_all};
 ghost use Rattle.fip_language.specs.Store.{Cell, Parts, values_of};
 ghost use Rattle.loop_store.specs.Count.{sizes, size_of, count_live};
@@ -54,7 +55,12 @@ impl<'a> Model for Machine<'a> {
 
     ghost Value = { Seen };
 
-    ghost view = { λ m. record { code = code_of m.code.now; state = state_of m.engine; results = m.engine.results.items } };
+    ghost view = { λ m. record {
+      code = code_of m.code.now;
+      state = state_of m.engine;
+      results =
+          m.engine.results.items;
+    } };
 
     ghost invariant = { λ m. IsRunning (code_of m.code.now) m.engine };
 }
@@ -75,12 +81,17 @@ impl<'a> Machine<'a> {
         requires code { IsCode (code_of code.now) }
         requires entry { entry < length code.now.functions.items }
         requires works { IsWorking (code_of code.now) entry }
-        requires arguments { (xs : Parts) × Stand code.now.types loader.cells (parameter_types (code_of code.now) entry) words.items xs }
+        requires arguments { (xs : Parts) × Stand code.now.types loader.cells (parameter_types (code_of code.now) entry)
+            words.items xs }
         requires fields { All (λ c. 0 < size_of c) loader.cells }
         ensures code { IfOk result (λ m. m.code ≡ code_of code.now) }
         ensures state { IfOk result (λ m. m.state ≡ loaded (code_of code.now) entry loader.cells words.items frames) }
-        ensures held { IfOk result (λ m. (xs : Parts) → Stand code.now.types loader.cells (parameter_types (code_of code.now) entry) words.items xs → (k : ℕ) → count_live k m.state.cells m.state.released ≡ cells_of_all k (values_of xs)) }
-        ensures apart { IfOk result (λ m. (xs : Parts) → Stand code.now.types loader.cells (parameter_types (code_of code.now) entry) words.items xs → Apart m.code m.state (T.loaded entry (values_of xs) frames)) }
+        ensures held { IfOk result (λ m. (xs : Parts) → Stand code.now.types loader.cells
+            (parameter_types (code_of code.now) entry) words.items xs → (k : ℕ) →
+            count_live k m.state.cells m.state.released ≡ cells_of_all k (values_of xs)) }
+        ensures apart { IfOk result (λ m. (xs : Parts) → Stand code.now.types loader.cells
+            (parameter_types (code_of code.now) entry) words.items xs →
+            Apart m.code m.state (T.loaded entry (values_of xs) frames)) }
     {
         let room = room_of(code);
         let mut stack = words;

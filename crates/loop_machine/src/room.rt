@@ -21,7 +21,8 @@ fn words_read(instruction: &Instr) -> usize
 
 /// The most words that one of the instructions reads at once.
 fn most_read(instructions: &[Instr]) -> usize
-    ensures most { (i : ℕ) (x : C.Instruction) → slice_get (map instruction_of instructions.now) i ≡ Some x → words_read x ≤ result }
+    ensures most { (i : ℕ) (x : C.Instruction) → slice_get (map instruction_of instructions.now) i ≡ Some x →
+        words_read x ≤ result }
 {
     let mut most = 0;
     for instruction in instructions {

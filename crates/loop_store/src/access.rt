@@ -1,5 +1,6 @@
 // What a sealed store answers and does, whatever it keeps the cells in.
-ghost use Rattle.std.specs.Prelude.{◌≡◌, ℕ, ◌<◌, Bool, false, true, List, [], ◌∷◌, ◌++◌, length, Some, MatchOption, option_map, option_and_then, slice_get, slice_set};
+ghost use Rattle.std.specs.Prelude.{◌≡◌, ℕ, ◌<◌, Bool, false, true, List, [], ◌∷◌, ◌++◌, length, Some, MatchOption};
+ghost use Rattle.std.specs.Prelude.{option_map, option_and_then, slice_get, slice_set};
 ghost use Rattle.fip_language.specs.Store.{Cell};
 ghost use Rattle.loop_store.specs.Count.{size_of, sizes, size_at, count_live};
 
@@ -62,5 +63,6 @@ pub trait Cells {
     fn pop(&mut self) -> Option<u64>
         ensures cells { cells self.new ≡ cells self.old }
         ensures released { released self.new ≡ released self.old }
-        ensures pushed { MatchOption result ((pushed self.old ≡ []) × (pushed self.new ≡ [])) (λ word. pushed self.old ≡ pushed self.new ++ word ∷ []) };
+        ensures pushed { MatchOption result ((pushed self.old ≡ []) × (pushed self.new ≡ []))
+            (λ word. pushed self.old ≡ pushed self.new ++ word ∷ []) };
 }

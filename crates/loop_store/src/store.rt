@@ -1,5 +1,6 @@
 // The store while it takes cells, and the store once it is sealed.
-ghost use Rattle.std.specs.Prelude.{◌≡◌, ℕ, ◌+◌, ◌*◌, ◌<◌, ◌≤◌, ◌↔◌, false, [], ◌∷◌, ◌++◌, List, length, map, vec_len, Err, IfOk, OnOk, OnErr};
+ghost use Rattle.std.specs.Prelude.{◌≡◌, ℕ, ◌+◌, ◌*◌, ◌<◌, ◌≤◌, ◌↔◌, false, [], ◌∷◌, ◌++◌, List, length, map, vec_len};
+ghost use Rattle.std.specs.Prelude.{Err, IfOk, OnOk, OnErr};
 ghost use Rattle.std.specs.Vec.{vec_capacity};
 ghost use Rattle.fip_language.specs.Store.{Cell};
 ghost use Rattle.loop_store.specs.Stored.{Loading, Stored};
@@ -113,7 +114,8 @@ impl Loader {
         requires some { 0 < length fields.now }
         requires few { length fields.now ≤ 16 }
         ensures place { IfOk result (λ p. p ≡ length self.old.cells) }
-        ensures cells { OnOk result (self.new.cells ≡ self.old.cells ++ record { tag = tag; fields = fields.now } ∷ []) }
+        ensures cells { OnOk result (self.new.cells ≡ self.old.cells ++ record { tag = tag; fields = fields.now }
+            ∷ []) }
         ensures left { OnOk result (self.new.left + (length fields.now + 1) ≡ self.old.left) }
         ensures full { (result ≡ Err CellError.Full) ↔ (self.old.left < length fields.now + 1) }
         ensures same { OnErr result (self.new ≡ self.old) }
@@ -201,7 +203,8 @@ mod tests {
 
     // The cells Cons(1, Nil) and Cons(2, the first), Nil being constructor 0 and Cons constructor 1.
     fn two_cells(rt: &impl Abort, alloc: Global) -> Sealed
-        ensures cells { result.cells ≡ record { tag = 1; fields = 1 ∷ 0 ∷ [] } ∷ record { tag = 1; fields = 2 ∷ 1 ∷ [] } ∷ [] }
+        ensures cells { result.cells ≡ record { tag = 1; fields = 1 ∷ 0 ∷ [] } ∷ record { tag = 1; fields = 2 ∷ 1 ∷ [] }
+            ∷ [] }
         ensures released { result.released ≡ false ∷ false ∷ [] }
         ensures pushed { result.pushed ≡ [] }
     {

@@ -21,8 +21,10 @@ pub record AreLast (tb : Table) (cs : List Cell) (types : List ℕ) (p : ℕ) (c
 -- behind them.
 abbrev pub Prints : Table → List Cell → List Task → List ℕ → Type 0
 Prints tb cs [] text = text ≡ []
-Prints tb cs (T.Whole ty w ∷ ts) text = (x : Placed) × Stands tb cs ty x × (word_of x ≡ w) × (rest : List ℕ) × (text ≡ printed tb ty (value_of x) rest) × Prints tb cs ts rest
-Prints tb cs (T.Fields types p ∷ ts) text = (c : Cell) × (xs : Parts) × AreLast tb cs types.now p c xs × (rest : List ℕ) × (text ≡ printed_more tb types.now (values_of xs) rest) × Prints tb cs ts rest
+Prints tb cs (T.Whole ty w ∷ ts) text = (x : Placed) × Stands tb cs ty x × (word_of x ≡ w) × (rest : List ℕ)
+    × (text ≡ printed tb ty (value_of x) rest) × Prints tb cs ts rest
+Prints tb cs (T.Fields types p ∷ ts) text = (c : Cell) × (xs : Parts) × AreLast tb cs types.now p c xs × (rest : List ℕ)
+    × (text ≡ printed_more tb types.now (values_of xs) rest) × Prints tb cs ts rest
 
 -- these tasks and what is printed make up the text
 abbrev pub Printing : Table → List Cell → List Task → List ℕ → List ℕ → Type 0

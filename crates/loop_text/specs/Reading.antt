@@ -1,7 +1,8 @@
 -- How far the reader of a whole text is, in the machine's words. No public clause speaks of it.
 -- The reader keeps the open constructors and the types that are still to come; the values before are known to the
 -- machine alone. It goes in steps from spot to spot: a spot lies before a value or behind one.
-use Rattle.std.specs.Prelude.{◌≡◌, ℕ, suc, ◌+◌, ◌-◌, ◌*◌, ◌<◌, ◌≤◌, List, [], ◌∷◌, ◌++◌, length, take, drop, Option, Some, None, Result, Ok, Err}
+use Rattle.std.specs.Prelude.{◌≡◌, ℕ, suc, ◌+◌, ◌-◌, ◌*◌, ◌<◌, ◌≤◌, List, [], ◌∷◌, ◌++◌, length, take, drop, Option}
+use Rattle.std.specs.Prelude.{Some, None, Result, Ok, Err}
 use Rattle.fip_language.specs.Prefix.{Accepted, Stopped}
 use Rattle.fip_language.specs.Values.{Value, Int, Node, Values, End, count_of, words_needed, words_needed_by_all}
 use Rattle.fip_language.specs.Table.{Table}
@@ -74,7 +75,8 @@ state_at Nowhere = Over End
 
 abbrev pub rows_of : Around → List Pending
 rows_of (Lines done rest) = []
-rows_of (Field c done rest around) = record { c = c; rest = rest; size = suc (count_of done) + length rest } ∷ rows_of around
+rows_of (Field c done rest around) = record { c = c; rest = rest; size = suc (count_of done) + length rest }
+    ∷ rows_of around
 
 abbrev pub lines_of : Around → List ℕ
 lines_of (Lines done rest) = rest
@@ -89,10 +91,14 @@ outline_at Nowhere = record { next = None; frames = []; lines = [] }
 abbrev pub Moves : Event → Spot → Spot → Type 0
 Moves (Number i) s s' = (a : Around) × (s ≡ Before 0 a) × (s' ≡ Behind a (Int i))
 Moves (Bare c) s s' = (t : ℕ) × (a : Around) × (s ≡ Before (suc t) a) × (s' ≡ Behind a (Node c End))
-Moves Opened s s' = (t : ℕ) × (a : Around) × (c k : ℕ) × (ks : List ℕ) × (s ≡ Before (suc t) a) × (s' ≡ Before k (Field c End ks a))
-Moves Comma s s' = (c : ℕ) × (done : Values) × (v : Value) × (k : ℕ) × (ks : List ℕ) × (a : Around) × (s ≡ Behind (Field c done (k ∷ ks) a) v) × (s' ≡ Before k (Field c (snoc done v) ks a))
-Moves (Closed c n) s s' = (done : Values) × (v : Value) × (a : Around) × (s ≡ Behind (Field c done [] a) v) × (s' ≡ Behind a (Node c (snoc done v))) × (n ≡ suc (count_of done))
-Moves Line s s' = (done : Values) × (v : Value) × (k : ℕ) × (ks : List ℕ) × (s ≡ Behind (Lines done (k ∷ ks)) v) × (s' ≡ Before k (Lines (snoc done v) ks))
+Moves Opened s s' = (t : ℕ) × (a : Around) × (c k : ℕ) × (ks : List ℕ) × (s ≡ Before (suc t) a)
+    × (s' ≡ Before k (Field c End ks a))
+Moves Comma s s' = (c : ℕ) × (done : Values) × (v : Value) × (k : ℕ) × (ks : List ℕ) × (a : Around)
+    × (s ≡ Behind (Field c done (k ∷ ks) a) v) × (s' ≡ Before k (Field c (snoc done v) ks a))
+Moves (Closed c n) s s' = (done : Values) × (v : Value) × (a : Around) × (s ≡ Behind (Field c done [] a) v)
+    × (s' ≡ Behind a (Node c (snoc done v))) × (n ≡ suc (count_of done))
+Moves Line s s' = (done : Values) × (v : Value) × (k : ℕ) × (ks : List ℕ) × (s ≡ Behind (Lines done (k ∷ ks)) v)
+    × (s' ≡ Before k (Lines (snoc done v) ks))
 
 -- behind the last of these values
 abbrev pub IsLast : Spot → Values → Type 0
@@ -111,7 +117,8 @@ cost_of Line = 0
 
 -- a step from this spot and this place gives this
 abbrev pub Stepped : Table → List ℕ → Spot → ℕ → Result (Option Event) Refused → Outline → ℕ → Type 0
-Stepped tb bytes s at (Ok (Some e)) o' at' = (s' : Spot) × Moves e s s' × (o' ≡ outline_at s') × (runs tb bytes (state_at s) at ≡ runs tb bytes (state_at s') at')
+Stepped tb bytes s at (Ok (Some e)) o' at' = (s' : Spot) × Moves e s s' × (o' ≡ outline_at s')
+    × (runs tb bytes (state_at s) at ≡ runs tb bytes (state_at s') at')
 Stepped tb bytes s at (Ok None) o' at' = (vs : Values) × IsLast s vs × (runs tb bytes (state_at s) at ≡ Accepted vs)
 Stepped tb bytes s at (Err (BadValue k)) o' at' = runs tb bytes (state_at s) at ≡ Stopped k
 Stepped tb bytes s at (Err NoMemory) o' at' = Unit {0}
@@ -180,7 +187,8 @@ pub record IsCounting (tb : Table) (types bytes : List ℕ) (o : Outline) (at ne
   pub few : needed ≤ at
 
 abbrev pub IsCounted : Table → List ℕ → List ℕ → Result ℕ LoadError → Type 0
-IsCounted tb types bytes (Ok n) = (vs : Values) × (runs tb bytes (start types) 0 ≡ Accepted vs) × (n ≡ words_needed_by_all vs)
+IsCounted tb types bytes (Ok n) = (vs : Values) × (runs tb bytes (start types) 0 ≡ Accepted vs)
+    × (n ≡ words_needed_by_all vs)
 IsCounted tb types bytes (Err (L.BadValue k)) = runs tb bytes (start types) 0 ≡ Stopped k
 IsCounted tb types bytes (Err (L.Full needed words)) = ⊥
 IsCounted tb types bytes (Err L.NoMemory) = Unit {0}
@@ -206,7 +214,8 @@ CanPlace (Closed c n) ws left = (0 < n) × (n ≤ 16) × (n ≤ length ws) × (n
 CanPlace _ ws left = Unit {0}
 
 -- the cells so far, and the words that wait
-pub record IsBuilding (tb : Table) (types bytes : List ℕ) (total : ℕ) (o : Outline) (at : ℕ) (ws : List ℕ) (cs : List Cell) (left : ℕ) : Type 0 where
+pub record IsBuilding (tb : Table) (types bytes : List ℕ) (total : ℕ) (o : Outline) (at : ℕ) (ws : List ℕ)
+    (cs : List Cell) (left : ℕ) : Type 0 where
   pub spot : Spot
   pub reading : IsReading tb types bytes o at spot
   pub words : ws ≡ words_to spot
@@ -220,7 +229,9 @@ pub record IsLoaded (l : Loading) (ws : List ℕ) (given : ℕ) (vs : Values) : 
   pub rest : l.left + words_needed_by_all vs ≡ given
 
 abbrev pub IsBuilt : Table → List ℕ → List ℕ → ℕ → Result (Loading × Vec ℕ Global) LoadError → Type 0
-IsBuilt tb types bytes left (Ok r) = (vs : Values) × (runs tb bytes (start types) 0 ≡ Accepted vs) × IsLoaded r.0 (r.1).items left vs
+IsBuilt tb types bytes left (Ok r) = (vs : Values) × (runs tb bytes (start types) 0 ≡ Accepted vs)
+    × IsLoaded r.0 (r.1).items left vs
 IsBuilt tb types bytes left (Err (L.BadValue k)) = runs tb bytes (start types) 0 ≡ Stopped k
-IsBuilt tb types bytes left (Err (L.Full needed words)) = (vs : Values) × (runs tb bytes (start types) 0 ≡ Accepted vs) × (needed ≡ words_needed_by_all vs) × (words ≡ left) × (words < needed)
+IsBuilt tb types bytes left (Err (L.Full needed words)) = (vs : Values) × (runs tb bytes (start types) 0 ≡ Accepted vs)
+    × (needed ≡ words_needed_by_all vs) × (words ≡ left) × (words < needed)
 IsBuilt tb types bytes left (Err L.NoMemory) = Unit {0}

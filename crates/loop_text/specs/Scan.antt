@@ -1,5 +1,6 @@
 -- What the reader of single tokens gives, in the machine's words. No public clause speaks of it.
-use Rattle.std.specs.Prelude.{◌≡◌, ◌⊎◌, ℕ, suc, ◌<◌, ◌≤◌, Bool, true, false, ◌||◌, ◌&&◌, nat_eq, List, [], ◌∷◌, length, take, drop}
+use Rattle.std.specs.Prelude.{◌≡◌, ◌⊎◌, ℕ, suc, ◌<◌, ◌≤◌, Bool, true, false, ◌||◌, ◌&&◌, nat_eq, List, [], ◌∷◌, length}
+use Rattle.std.specs.Prelude.{take, drop}
 use Rattle.fip_language.specs.Prefix.{Outcome, run}
 use Rattle.fip_language.specs.Values.{Values}
 use Rattle.fip_language.specs.Table.{Shape, Table}

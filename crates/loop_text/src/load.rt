@@ -50,8 +50,10 @@ fn close(tag: u32, size: usize, loader: &mut Loader, words: &mut Vec<u64>) -> Re
     requires narrow { size ≤ 16 }
     requires there { size ≤ length words.old.items }
     requires room { size + 1 ≤ loader.old.left }
-    ensures words { OnOk result (words.new.items ≡ placed_words (Event.Closed tag size) words.old.items loader.old.cells) }
-    ensures cells { OnOk result (loader.new.cells ≡ placed_cells (Event.Closed tag size) words.old.items loader.old.cells) }
+    ensures words { OnOk result (words.new.items ≡ placed_words (Event.Closed tag size)
+        words.old.items loader.old.cells) }
+    ensures cells { OnOk result (loader.new.cells ≡ placed_cells (Event.Closed tag size)
+        words.old.items loader.old.cells) }
     ensures left { OnOk result (loader.new.left + (size + 1) ≡ loader.old.left) }
 {
     let start = words.len() - size;
@@ -123,7 +125,8 @@ fn build(
     requires sound { IsSoundTable table.now }
     requires params { AreTypes table.now (types_of params.now) }
     requires new { loader.cells ≡ [] }
-    requires room { (vs : Values) × (runs table.now bytes.now (start (types_of params.now)) 0 ≡ Accepted vs) × (words_needed_by_all vs ≤ loader.left) }
+    requires room { (vs : Values) × (runs table.now bytes.now (start (types_of params.now)) 0 ≡ Accepted vs)
+        × (words_needed_by_all vs ≤ loader.left) }
     ensures { IsBuilt table.now (types_of params.now) bytes.now loader.left result }
 {
     let mut cursor = read::begin(alloc, params);
@@ -181,19 +184,28 @@ pub fn load_values(
     requires params { AreTypes table.now (types_of params.now) }
     requires new { loader.cells ≡ [] }
     // What is loaded is what the text spells, each cell in its place, and each value's word.
-    ensures loads { IfOk result (λ r. (vs : Values) × SpellsValues table.now (types_of params.now) bytes.now vs × (r.0.cells ≡ all_cells 0 vs) × (r.1.items ≡ words_at 0 vs) × (r.0.left + words_needed_by_all vs ≡ loader.left)) }
+    ensures loads { IfOk result (λ r. (vs : Values) × SpellsValues table.now (types_of params.now) bytes.now vs
+        × (r.0.cells ≡ all_cells 0 vs) × (r.1.items ≡ words_at 0 vs)
+        × (r.0.left + words_needed_by_all vs ≡ loader.left)) }
     // The words stand for the values, and the values share no cell and leave none out.
     ensures stands { IfOk result (λ r. StandsApart table.now (types_of params.now) bytes.now r.0.cells r.1.items) }
     // What the text spells is loaded, where the words suffice and memory does.
-    ensures complete { (vs : Values) → SpellsValues table.now (types_of params.now) bytes.now vs → words_needed_by_all vs ≤ loader.left → MatchResult result (λ r. ℕ) (λ e. e ≡ LoadError.NoMemory) }
+    ensures complete { (vs : Values) → SpellsValues table.now (types_of params.now) bytes.now vs →
+        words_needed_by_all vs ≤ loader.left → MatchResult result (λ r. ℕ) (λ e. e ≡ LoadError.NoMemory) }
     // A store that is too small is told with both numbers,
-    ensures full { (needed words : ℕ) → result ≡ Err (LoadError.Full needed words) → (vs : Values) × SpellsValues table.now (types_of params.now) bytes.now vs × (needed ≡ words_needed_by_all vs) × (words ≡ loader.left) × (words < needed) }
+    ensures full { (needed words : ℕ) → result ≡ Err (LoadError.Full needed words) → (vs : Values)
+        × SpellsValues table.now (types_of params.now) bytes.now vs × (needed ≡ words_needed_by_all vs)
+        × (words ≡ loader.left) × (words < needed) }
     // wherever it is too small.
-    ensures too_small { (vs : Values) → SpellsValues table.now (types_of params.now) bytes.now vs → loader.left < words_needed_by_all vs → MatchResult result (λ r. ⊥) (λ e. (e ≡ LoadError.Full (words_needed_by_all vs) loader.left) ⊎ (e ≡ LoadError.NoMemory)) }
+    ensures too_small { (vs : Values) → SpellsValues table.now (types_of params.now) bytes.now vs →
+        loader.left < words_needed_by_all vs → MatchResult result (λ r. ⊥)
+        (λ e. (e ≡ LoadError.Full (words_needed_by_all vs) loader.left) ⊎ (e ≡ LoadError.NoMemory)) }
     // A bad value is told at the least offset with which no text of the types begins,
-    ensures place { (at : ℕ) → result ≡ Err (LoadError.BadValue at) → IsPlace (SpellsValues table.now (types_of params.now)) bytes.now at }
+    ensures place { (at : ℕ) → result ≡ Err (LoadError.BadValue at) →
+        IsPlace (SpellsValues table.now (types_of params.now)) bytes.now at }
     // wherever the bytes are no text.
-    ensures outside { ((vs : Values) → SpellsValues table.now (types_of params.now) bytes.now vs → ⊥) → MatchResult result (λ r. ⊥) (λ e. ((at : ℕ) × (e ≡ LoadError.BadValue at)) ⊎ (e ≡ LoadError.NoMemory)) }
+    ensures outside { ((vs : Values) → SpellsValues table.now (types_of params.now) bytes.now vs → ⊥) →
+        MatchResult result (λ r. ⊥) (λ e. ((at : ℕ) × (e ≡ LoadError.BadValue at)) ⊎ (e ≡ LoadError.NoMemory)) }
 {
     load_all(alloc, table, params, bytes, loader)
 }

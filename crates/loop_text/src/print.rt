@@ -1,11 +1,13 @@
 // A value printed, without recursion: what is still to be printed is a list.
-ghost use Rattle.std.specs.Prelude.{◌≡◌, ℕ, ℤ, ◌+◌, ◌*◌, ◌<◌, ◌≤◌, ◌^◌, List, [], ◌∷◌, ◌++◌, drop, length, Some, None, IfOk, OnOk, FitsSigned, slice_get};
+ghost use Rattle.std.specs.Prelude.{◌≡◌, ℕ, ℤ, ◌+◌, ◌*◌, ◌<◌, ◌≤◌, ◌^◌, List, [], ◌∷◌, ◌++◌, drop, length, Some, None};
+ghost use Rattle.std.specs.Prelude.{IfOk, OnOk, FitsSigned, slice_get};
 ghost use Rattle.std.specs.Int.{w64};
 ghost use Rattle.std.specs.Fmt.{signed_decimal};
 ghost use Rattle.fip_language.specs.Values.{End, More};
 ghost use Rattle.fip_language.specs.Table.{Table, constructors};
 ghost use Rattle.fip_language.specs.SoundTable.{IsSoundTable};
-ghost use Rattle.fip_language.specs.Store.{Cell, Placed, At, Parts, int_word, value_of, values_of, word_of, words_of, Stands, StandAll};
+ghost use Rattle.fip_language.specs.Store.{Cell, Placed, At, Parts, int_word, value_of, values_of, word_of, words_of};
+ghost use Rattle.fip_language.specs.Store.{Stands, StandAll};
 ghost use Rattle.fip_language.specs.PrintedText.{shape_at, printed, printed_more};
 ghost use Rattle.fip_language.specs.ValueText.{SpellsValues};
 ghost use Rattle.loop_text.specs.Printing.{last_first, AreLast, Prints, Printing};
@@ -40,7 +42,8 @@ fn int_of_bits(word: u64) -> i64
 
 fn print_int(word: u64, out: &mut Vec<u8>) -> Result<(), AllocError>
     ensures grows { OnOk result (length out.old.items < length out.new.items) }
-    ensures text { OnOk result ((i : ℤ) → FitsSigned w64 i → int_word i ≡ word → out.new.items ≡ out.old.items ++ signed_decimal i) }
+    ensures text { OnOk result ((i : ℤ) → FitsSigned w64 i → int_word i ≡ word →
+        out.new.items ≡ out.old.items ++ signed_decimal i) }
 {
     let mut buffer = Buffer::new();
     let i = int_of_bits(word);
@@ -64,7 +67,11 @@ fn print_fields<'a, C: Cells>(
     tasks: &mut Vec<Task<'a>>,
 ) -> Result<(), AllocError>
     requires { (tb : Table) × (c : Cell) × (xs : Parts) × AreLast tb (C.cells cells.now) types.now place c xs }
-    ensures prints { OnOk result ((tb : Table) (c : Cell) (xs : Parts) → AreLast tb (C.cells cells.now) types.now place c xs → (rest : List ℕ) → Prints tb (C.cells cells.now) (last_first tasks.old.items) rest → Printing tb (C.cells cells.now) (last_first tasks.new.items) out.new.items (out.old.items ++ printed_more tb types.now (values_of xs) rest)) }
+    ensures prints { OnOk result ((tb : Table) (c : Cell) (xs : Parts) →
+        AreLast tb (C.cells cells.now) types.now place c xs → (rest : List ℕ) →
+        Prints tb (C.cells cells.now) (last_first tasks.old.items) rest →
+        Printing tb (C.cells cells.now) (last_first tasks.new.items) out.new.items
+        (out.old.items ++ printed_more tb types.now (values_of xs) rest)) }
     ensures grows { OnOk result (length out.old.items < length out.new.items) }
 {
     match split(types) {
@@ -94,7 +101,10 @@ fn print_cell<'a, C: Cells>(
     requires sound { IsSoundTable table.now }
     requires of_table { ty ≤ length table.now }
     requires stands { (c : ℕ) × (xs : Parts) × Stands table.now (C.cells cells.now) ty (At place c xs) }
-    ensures prints { OnOk result ((c : ℕ) (xs : Parts) → Stands table.now (C.cells cells.now) ty (At place c xs) → (rest : List ℕ) → Prints table.now (C.cells cells.now) (last_first tasks.old.items) rest → Printing table.now (C.cells cells.now) (last_first tasks.new.items) out.new.items (out.old.items ++ printed table.now ty (value_of (At place c xs)) rest)) }
+    ensures prints { OnOk result ((c : ℕ) (xs : Parts) → Stands table.now (C.cells cells.now) ty (At place c xs) →
+        (rest : List ℕ) → Prints table.now (C.cells cells.now) (last_first tasks.old.items) rest →
+        Printing table.now (C.cells cells.now) (last_first tasks.new.items) out.new.items
+        (out.old.items ++ printed table.now ty (value_of (At place c xs)) rest)) }
     ensures grows { OnOk result (length out.old.items < length out.new.items) }
 {
     let tag = cells.cell_tag(place);
@@ -123,7 +133,10 @@ fn print_whole<'a, C: Cells>(
     requires of_table { ty ≤ length table.now }
     requires few { length (C.cells cells.now) < 2 ^ 32 }
     requires stands { (x : Placed) × Stands table.now (C.cells cells.now) ty x × (word_of x ≡ word) }
-    ensures prints { OnOk result ((x : Placed) → Stands table.now (C.cells cells.now) ty x → word_of x ≡ word → (rest : List ℕ) → Prints table.now (C.cells cells.now) (last_first tasks.old.items) rest → Printing table.now (C.cells cells.now) (last_first tasks.new.items) out.new.items (out.old.items ++ printed table.now ty (value_of x) rest)) }
+    ensures prints { OnOk result ((x : Placed) → Stands table.now (C.cells cells.now) ty x → word_of x ≡ word →
+        (rest : List ℕ) → Prints table.now (C.cells cells.now) (last_first tasks.old.items) rest →
+        Printing table.now (C.cells cells.now) (last_first tasks.new.items) out.new.items
+        (out.old.items ++ printed table.now ty (value_of x) rest)) }
     ensures grows { OnOk result (length out.old.items < length out.new.items) }
 {
     if ty == 0 {
@@ -148,7 +161,9 @@ fn print_task<'a, C: Cells>(
     requires sound { IsSoundTable table.now }
     requires few { length (C.cells cells.now) < 2 ^ 32 }
     requires stands { (text : List ℕ) × Prints table.now (C.cells cells.now) (task ∷ last_first tasks.old.items) text }
-    ensures prints { OnOk result ((whole : List ℕ) → Printing table.now (C.cells cells.now) (task.entry ∷ last_first tasks.old.items) out.old.items whole → Printing table.now (C.cells cells.now) (last_first tasks.new.items) out.new.items whole) }
+    ensures prints { OnOk result ((whole : List ℕ) → Printing table.now (C.cells cells.now)
+        (task.entry ∷ last_first tasks.old.items) out.old.items whole →
+        Printing table.now (C.cells cells.now) (last_first tasks.new.items) out.new.items whole) }
     ensures grows { OnOk result (length out.old.items < length out.new.items) }
 {
     match task {
@@ -168,7 +183,8 @@ fn print_tasks<C: Cells>(
     requires sound { IsSoundTable table.now }
     requires few { length (C.cells cells.now) < 2 ^ 32 }
     requires stands { (x : Placed) × Stands table.now (C.cells cells.now) ty x × (word_of x ≡ word) }
-    ensures { (x : Placed) → Stands table.now (C.cells cells.now) ty x → word_of x ≡ word → IfOk result (λ text. text.items ≡ printed table.now ty (value_of x) []) }
+    ensures { (x : Placed) → Stands table.now (C.cells cells.now) ty x → word_of x ≡ word →
+        IfOk result (λ text. text.items ≡ printed table.now ty (value_of x) []) }
 {
     let mut out = Vec::new(alloc);
     let mut tasks = Vec::new(alloc);
@@ -195,9 +211,11 @@ pub fn print_value<C: Cells>(
     requires few { length (C.cells cells.now) < 2 ^ 32 }
     requires stands { (x : Placed) × Stands table.now (C.cells cells.now) ty x × (word_of x ≡ word) }
     // The text of the value of each tree that the word stands for; there is one.
-    ensures canonical { (x : Placed) → Stands table.now (C.cells cells.now) ty x → word_of x ≡ word → IfOk result (λ text. text.items ≡ printed table.now ty (value_of x) []) }
+    ensures canonical { (x : Placed) → Stands table.now (C.cells cells.now) ty x → word_of x ≡ word →
+        IfOk result (λ text. text.items ≡ printed table.now ty (value_of x) []) }
     // With an end of line it is read as that value again.
-    ensures read_again { (x : Placed) → Stands table.now (C.cells cells.now) ty x → word_of x ≡ word → IfOk result (λ text. SpellsValues table.now (ty ∷ []) (text.items ++ 10 ∷ []) (More (value_of x) End)) }
+    ensures read_again { (x : Placed) → Stands table.now (C.cells cells.now) ty x → word_of x ≡ word →
+        IfOk result (λ text. SpellsValues table.now (ty ∷ []) (text.items ++ 10 ∷ []) (More (value_of x) End)) }
 {
     Ok(print_tasks(alloc, table, cells, ty, word)?)
 }

@@ -1,12 +1,14 @@
 // A text of values, read in steps: a leaf, an opened or closed constructor, a comma or an end of a line each.
 // Open constructors are a list, so that nesting costs no stack.
-ghost use Rattle.std.specs.Prelude.{◌≡◌, ℕ, ◌+◌, ◌<◌, ◌≤◌, length, [], ◌∷◌, Some, None, IfOk, OnOk, MatchOption, MatchResult, slice_get};
+ghost use Rattle.std.specs.Prelude.{◌≡◌, ℕ, ◌+◌, ◌<◌, ◌≤◌, length, [], ◌∷◌, Some, None, IfOk, OnOk, MatchOption};
+ghost use Rattle.std.specs.Prelude.{MatchResult, slice_get};
 ghost use Rattle.fip_language.specs.Values.{Values};
 ghost use Rattle.fip_language.specs.Table.{Table, Shape, constructors};
 ghost use Rattle.fip_language.specs.SoundTable.{IsSoundTable, AreTypes};
 ghost use Rattle.loop_text.specs.Loaded.{types_of};
 ghost use Rattle.loop_text.specs.Scan.{runs};
-ghost use Rattle.loop_text.specs.Reading.{pending, outline, outline_at, state_at, IsKnown, Spot, Stepped, cost_of, spot_of, IsNarrow};
+ghost use Rattle.loop_text.specs.Reading.{pending, outline, outline_at, state_at, IsKnown, Spot, Stepped, cost_of};
+ghost use Rattle.loop_text.specs.Reading.{spot_of, IsNarrow};
 
 use crate::scan;
 use fip_base::plain::Param;
@@ -98,7 +100,10 @@ pub fn cost(event: Event) -> usize
 
 // A frame becomes the innermost.
 fn push_frame<'a>(cursor: &mut Cursor<'a>, frame: Frame<'a>) -> Result<(), AllocError>
-    ensures frames { OnOk result (outline cursor.new ≡ record (outline cursor.old) { frames = pending frame.entry ∷ (outline cursor.old).frames }) }
+    ensures frames { OnOk result (outline cursor.new ≡ record (outline cursor.old) {
+      frames =
+          pending frame.entry ∷ (outline cursor.old).frames;
+    }) }
 {
     cursor.frames.push(frame)?;
     Ok(())
@@ -108,10 +113,13 @@ fn push_frame<'a>(cursor: &mut Cursor<'a>, frame: Frame<'a>) -> Result<(), Alloc
 fn read_int<'a>(bytes: &[u8], cursor: &mut Cursor<'a>) -> Result<Option<Event>, Refused>
     requires place { cursor.old.at ≤ length bytes.now }
     requires next { cursor.old.next ≡ Some 0 }
-    ensures reads { (tb : Table) (s : Spot) → outline cursor.old ≡ outline_at s → Stepped tb bytes.now s cursor.old.at result (outline cursor.new) cursor.new.at }
-    ensures place { IfOk result (λ e. MatchOption e ℕ (λ e. (cursor.old.at < cursor.new.at) × (cursor.old.at + cost_of e ≤ cursor.new.at) × (cursor.new.at ≤ length bytes.now))) }
+    ensures reads { (tb : Table) (s : Spot) → outline cursor.old ≡ outline_at s →
+        Stepped tb bytes.now s cursor.old.at result (outline cursor.new) cursor.new.at }
+    ensures place { IfOk result (λ e. MatchOption e ℕ (λ e. (cursor.old.at < cursor.new.at)
+        × (cursor.old.at + cost_of e ≤ cursor.new.at) × (cursor.new.at ≤ length bytes.now))) }
     ensures narrow { IfOk result (λ e. MatchOption e ℕ IsNarrow) }
-    ensures known { (tb : Table) → IsKnown tb (outline cursor.old) → IfOk result (λ e. IsKnown tb (outline cursor.new)) }
+    ensures known { (tb : Table) → IsKnown tb (outline cursor.old) →
+        IfOk result (λ e. IsKnown tb (outline cursor.new)) }
 {
     match scan::int(bytes, cursor.at) {
         Ok((i, at)) => {
@@ -135,8 +143,10 @@ fn read_node<'a>(
     requires next { cursor.old.next ≡ Some ty }
     requires data { 0 < ty }
     requires known { IsKnown table.now (outline cursor.old) }
-    ensures reads { (s : Spot) → outline cursor.old ≡ outline_at s → Stepped table.now bytes.now s cursor.old.at result (outline cursor.new) cursor.new.at }
-    ensures place { IfOk result (λ e. MatchOption e ℕ (λ e. (cursor.old.at < cursor.new.at) × (cursor.old.at + cost_of e ≤ cursor.new.at) × (cursor.new.at ≤ length bytes.now))) }
+    ensures reads { (s : Spot) → outline cursor.old ≡ outline_at s →
+        Stepped table.now bytes.now s cursor.old.at result (outline cursor.new) cursor.new.at }
+    ensures place { IfOk result (λ e. MatchOption e ℕ (λ e. (cursor.old.at < cursor.new.at)
+        × (cursor.old.at + cost_of e ≤ cursor.new.at) × (cursor.new.at ≤ length bytes.now))) }
     ensures narrow { IfOk result (λ e. MatchOption e ℕ IsNarrow) }
     ensures known { IfOk result (λ e. IsKnown table.now (outline cursor.new)) }
 {
@@ -169,10 +179,13 @@ fn read_line<'a>(bytes: &[u8], cursor: &mut Cursor<'a>) -> Result<Option<Event>,
     requires place { cursor.old.at ≤ length bytes.now }
     requires next { cursor.old.next ≡ None }
     requires frames { (outline cursor.old).frames ≡ [] }
-    ensures reads { (tb : Table) (s : Spot) → outline cursor.old ≡ outline_at s → Stepped tb bytes.now s cursor.old.at result (outline cursor.new) cursor.new.at }
-    ensures place { IfOk result (λ e. MatchOption e ℕ (λ e. (cursor.old.at < cursor.new.at) × (cursor.old.at + cost_of e ≤ cursor.new.at) × (cursor.new.at ≤ length bytes.now))) }
+    ensures reads { (tb : Table) (s : Spot) → outline cursor.old ≡ outline_at s →
+        Stepped tb bytes.now s cursor.old.at result (outline cursor.new) cursor.new.at }
+    ensures place { IfOk result (λ e. MatchOption e ℕ (λ e. (cursor.old.at < cursor.new.at)
+        × (cursor.old.at + cost_of e ≤ cursor.new.at) × (cursor.new.at ≤ length bytes.now))) }
     ensures narrow { IfOk result (λ e. MatchOption e ℕ IsNarrow) }
-    ensures known { (tb : Table) → IsKnown tb (outline cursor.old) → IfOk result (λ e. IsKnown tb (outline cursor.new)) }
+    ensures known { (tb : Table) → IsKnown tb (outline cursor.old) →
+        IfOk result (λ e. IsKnown tb (outline cursor.new)) }
 {
     match split_lines(cursor.lines) {
         None => match scan::end_of_text(bytes, cursor.at) {
@@ -199,10 +212,16 @@ fn read_field<'a>(
 ) -> Result<Option<Event>, Refused>
     requires place { cursor.old.at ≤ length bytes.now }
     requires next { cursor.old.next ≡ None }
-    ensures reads { (tb : Table) (s : Spot) → record (outline cursor.old) { frames = pending frame.entry ∷ (outline cursor.old).frames } ≡ outline_at s → Stepped tb bytes.now s cursor.old.at result (outline cursor.new) cursor.new.at }
-    ensures place { IfOk result (λ e. MatchOption e ℕ (λ e. (cursor.old.at < cursor.new.at) × (cursor.old.at + cost_of e ≤ cursor.new.at) × (cursor.new.at ≤ length bytes.now))) }
+    ensures reads { (tb : Table) (s : Spot) → record (outline cursor.old) {
+      frames =
+          pending frame.entry ∷ (outline cursor.old).frames;
+    } ≡ outline_at s →
+        Stepped tb bytes.now s cursor.old.at result (outline cursor.new) cursor.new.at }
+    ensures place { IfOk result (λ e. MatchOption e ℕ (λ e. (cursor.old.at < cursor.new.at)
+        × (cursor.old.at + cost_of e ≤ cursor.new.at) × (cursor.new.at ≤ length bytes.now))) }
     ensures narrow { (pending frame.entry).size ≤ 16 → IfOk result (λ e. MatchOption e ℕ IsNarrow) }
-    ensures known { (tb : Table) → AreTypes tb (pending frame.entry).rest → (pending frame.entry).size ≤ 16 → IsKnown tb (outline cursor.old) → IfOk result (λ e. IsKnown tb (outline cursor.new)) }
+    ensures known { (tb : Table) → AreTypes tb (pending frame.entry).rest → (pending frame.entry).size ≤ 16 →
+        IsKnown tb (outline cursor.old) → IfOk result (λ e. IsKnown tb (outline cursor.new)) }
 {
     match split(frame.rest) {
         None => match scan::sign(bytes, cursor.at, b')') {
@@ -236,8 +255,10 @@ pub fn step<'a>(
     requires sound { IsSoundTable table.now }
     requires place { cursor.old.at ≤ length bytes.now }
     requires known { IsKnown table.now (outline cursor.old) }
-    ensures reads { (s : Spot) → outline cursor.old ≡ outline_at s → Stepped table.now bytes.now s cursor.old.at result (outline cursor.new) cursor.new.at }
-    ensures place { IfOk result (λ e. MatchOption e ℕ (λ e. (cursor.old.at < cursor.new.at) × (cursor.old.at + cost_of e ≤ cursor.new.at) × (cursor.new.at ≤ length bytes.now))) }
+    ensures reads { (s : Spot) → outline cursor.old ≡ outline_at s →
+        Stepped table.now bytes.now s cursor.old.at result (outline cursor.new) cursor.new.at }
+    ensures place { IfOk result (λ e. MatchOption e ℕ (λ e. (cursor.old.at < cursor.new.at)
+        × (cursor.old.at + cost_of e ≤ cursor.new.at) × (cursor.new.at ≤ length bytes.now))) }
     ensures narrow { IfOk result (λ e. MatchOption e ℕ IsNarrow) }
     ensures known { IfOk result (λ e. IsKnown table.now (outline cursor.new)) }
 {

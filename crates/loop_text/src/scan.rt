@@ -1,14 +1,18 @@
 // The tokens of a text of values. Each function begins at a place in the bytes and gives the place behind its token,
 // or the place of the first byte that doesn't fit, where the end counts as one.
-ghost use Rattle.std.specs.Prelude.{◌≡◌, ◌↔◌, ℕ, suc, ◌+◌, ◌*◌, ◌-◌, ◌<◌, ◌≤◌, ◌||◌, Bool, true, false, IsTrue, MatchOption, MatchResult, Some, None, length, take, drop, slice_get, slice_index_or, nat_le, nat_eq, max, FitsSigned, [], List};
+ghost use Rattle.std.specs.Prelude.{◌≡◌, ◌↔◌, ℕ, suc, ◌+◌, ◌*◌, ◌-◌, ◌<◌, ◌≤◌, ◌||◌, Bool, true, false, IsTrue};
+ghost use Rattle.std.specs.Prelude.{MatchOption, MatchResult, Some, None, length, take, drop, slice_get};
+ghost use Rattle.std.specs.Prelude.{slice_index_or, nat_le, nat_eq, max, FitsSigned, [], List};
 ghost use Rattle.std.specs.Int.{w64};
 ghost use Rattle.fip_language.specs.Prefix.{Accepted, Stopped};
 ghost use Rattle.fip_language.specs.Values.{Int, Values};
 ghost use Rattle.fip_language.specs.Table.{Table, Shape, constructors};
-ghost use Rattle.fip_language.specs.Character.{Blank, is_blank, is_digit, is_letter, are_name_bytes, character, characters};
+ghost use Rattle.fip_language.specs.Character.{Blank, is_blank, is_digit, is_letter, are_name_bytes, character};
+ghost use Rattle.fip_language.specs.Character.{characters};
 ghost use Rattle.fip_language.specs.ValueText.{bound, int_of};
 ghost use Rattle.fip_language.specs.SoundTable.{IsSoundTable};
-ghost use Rattle.loop_text.specs.Machine.{Around, State, Want, Number, Await, Over, filled, named, act, is_sign, begins, any_begins};
+ghost use Rattle.loop_text.specs.Machine.{Around, State, Want, Number, Await, Over, filled, named, act, is_sign};
+ghost use Rattle.loop_text.specs.Machine.{begins, any_begins};
 ghost use Rattle.loop_text.specs.Scan.{runs, is_name_byte, before_digits, begins_bytes, IsLongest};
 
 use fip_base::table::{Constructor, TypeTable};
@@ -42,7 +46,8 @@ fn skip_blanks(bytes: &[u8], at: usize) -> usize
     requires { at ≤ length bytes.now }
     ensures from { at ≤ result }
     ensures within { result ≤ length bytes.now }
-    ensures skips { (tb : Table) (s : State) → act tb s Blank ≡ Some s → runs tb bytes.now s at ≡ runs tb bytes.now s result }
+    ensures skips { (tb : Table) (s : State) → act tb s Blank ≡ Some s →
+        runs tb bytes.now s at ≡ runs tb bytes.now s result }
     ensures behind { result < length bytes.now → is_blank (slice_index_or bytes.now result 0) ≡ false }
 {
     for i in at..bytes.len() {
@@ -58,7 +63,9 @@ pub fn sign(bytes: &[u8], at: usize, byte: u8) -> Result<usize, usize>
     requires place { at ≤ length bytes.now }
     requires sign { is_sign (character byte) (character byte) ≡ true }
     ensures within { MatchResult result (λ next. (at < next) × (next ≤ length bytes.now)) (λ k. ℕ) }
-    ensures reads { (tb : Table) (s : State) → MatchResult result (λ next. runs tb bytes.now (Await (character byte) s) at ≡ runs tb bytes.now s next) (λ k. runs tb bytes.now (Await (character byte) s) at ≡ Stopped k) }
+    ensures reads { (tb : Table) (s : State) → MatchResult result
+        (λ next. runs tb bytes.now (Await (character byte) s) at ≡ runs tb bytes.now s next)
+        (λ k. runs tb bytes.now (Await (character byte) s) at ≡ Stopped k) }
 {
     let i = skip_blanks(bytes, at);
     if i >= bytes.len() {
@@ -70,7 +77,8 @@ pub fn sign(bytes: &[u8], at: usize, byte: u8) -> Result<usize, usize>
 // Only blanks and ends of lines come.
 pub fn end_of_text(bytes: &[u8], at: usize) -> Result<(), usize>
     requires { at ≤ length bytes.now }
-    ensures { (tb : Table) (vs : Values) → MatchResult result (λ u. runs tb bytes.now (Over vs) at ≡ Accepted vs) (λ k. runs tb bytes.now (Over vs) at ≡ Stopped k) }
+    ensures { (tb : Table) (vs : Values) → MatchResult result (λ u. runs tb bytes.now (Over vs) at ≡ Accepted vs)
+        (λ k. runs tb bytes.now (Over vs) at ≡ Stopped k) }
 {
     for i in at..bytes.len() {
         if !blank_or_line(bytes[i]) {
@@ -97,7 +105,8 @@ fn int_from(negative: bool, n: u64) -> i64
 fn with_digit(negative: bool, n: u64, byte: u8) -> Option<u64>
     requires range { n ≤ bound negative }
     requires digit { is_digit byte ≡ true }
-    ensures { MatchOption result (nat_le (10 * n + (byte - 48)) (bound negative) ≡ false) (λ m. (m ≡ 10 * n + (byte - 48)) × (m ≤ bound negative)) }
+    ensures { MatchOption result (nat_le (10 * n + (byte - 48)) (bound negative) ≡ false)
+        (λ m. (m ≡ 10 * n + (byte - 48)) × (m ≤ bound negative)) }
 {
     let most = if negative {
         9223372036854775808
@@ -115,7 +124,9 @@ fn digits(bytes: &[u8], at: usize, negative: bool) -> Result<(i64, usize), usize
     requires minus { negative ≡ false → at < length bytes.now → nat_eq (slice_index_or bytes.now at 0) 45 ≡ false }
     ensures within { MatchResult result (λ r. (at < r.1) × (r.1 ≤ length bytes.now)) (λ k. ℕ) }
     ensures fits { MatchResult result (λ r. FitsSigned w64 r.0) (λ k. ℕ) }
-    ensures reads { (tb : Table) (around : Around) → MatchResult result (λ r. runs tb bytes.now (before_digits negative around) at ≡ runs tb bytes.now (filled around (Int r.0)) r.1) (λ k. runs tb bytes.now (before_digits negative around) at ≡ Stopped k) }
+    ensures reads { (tb : Table) (around : Around) → MatchResult result
+        (λ r. runs tb bytes.now (before_digits negative around) at ≡ runs tb bytes.now (filled around (Int r.0)) r.1)
+        (λ k. runs tb bytes.now (before_digits negative around) at ≡ Stopped k) }
 {
     if at >= bytes.len() {
         return Err(at);
@@ -141,7 +152,9 @@ pub fn int(bytes: &[u8], at: usize) -> Result<(i64, usize), usize>
     requires { at ≤ length bytes.now }
     ensures within { MatchResult result (λ r. (at < r.1) × (r.1 ≤ length bytes.now)) (λ k. ℕ) }
     ensures fits { MatchResult result (λ r. FitsSigned w64 r.0) (λ k. ℕ) }
-    ensures reads { (tb : Table) (around : Around) → MatchResult result (λ r. runs tb bytes.now (Want 0 around) at ≡ runs tb bytes.now (filled around (Int r.0)) r.1) (λ k. runs tb bytes.now (Want 0 around) at ≡ Stopped k) }
+    ensures reads { (tb : Table) (around : Around) → MatchResult result
+        (λ r. runs tb bytes.now (Want 0 around) at ≡ runs tb bytes.now (filled around (Int r.0)) r.1)
+        (λ k. runs tb bytes.now (Want 0 around) at ≡ Stopped k) }
 {
     let start = skip_blanks(bytes, at);
     if start >= bytes.len() {
@@ -211,7 +224,10 @@ pub fn name(table: &TypeTable, ty: u32, bytes: &[u8], at: usize) -> Result<(u32,
     requires data { 0 < ty }
     requires place { at ≤ length bytes.now }
     ensures within { MatchResult result (λ r. (at < r.1) × (r.1 ≤ length bytes.now)) (λ k. ℕ) }
-    ensures reads { MatchResult result (λ r. (s : Shape) × (slice_get (constructors table.now ty) r.0 ≡ Some s) × ((around : Around) → runs table.now bytes.now (Want ty around) at ≡ runs table.now bytes.now (named r.0 s.fields around) r.1)) (λ k. (around : Around) → runs table.now bytes.now (Want ty around) at ≡ Stopped k) }
+    ensures reads { MatchResult result (λ r. (s : Shape) × (slice_get (constructors table.now ty) r.0 ≡ Some s)
+        × ((around : Around) → runs table.now bytes.now (Want ty around) at
+        ≡ runs table.now bytes.now (named r.0 s.fields around) r.1)) (λ k. (around : Around) →
+        runs table.now bytes.now (Want ty around) at ≡ Stopped k) }
 {
     let start = skip_blanks(bytes, at);
     let end = name_end(bytes, start);

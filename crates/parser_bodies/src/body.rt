@@ -83,7 +83,8 @@ pub fn bind_named(
     token: Token,
 ) -> Result<Next, AllocError>
     requires well { view.IsWellBody body }
-    ensures next { Follows false token.entry result (machine.step_body (machine.BindNamed (view.binds binds) name.items place) (view.body body)) }
+    ensures next { Follows false token.entry result (machine.step_body
+        (machine.BindNamed (view.binds binds) name.items place) (view.body body)) }
 {
     match token.word {
         Word::Sign(Sign::Colon) => wants_type(
@@ -118,7 +119,8 @@ pub fn end_bind(
     token: Token,
 ) -> Result<Next, AllocError>
     requires well { view.IsWellBody body }
-    ensures next { Follows false token.entry result (λ w p. machine.end_bind (view.body body) (view.binds binds) (bind_view bind) w) }
+    ensures next { Follows false token.entry result (λ w p. machine.end_bind (view.body body) (view.binds binds)
+        (bind_view bind) w) }
 {
     match binds {
         Binds::Alone => {
@@ -137,7 +139,8 @@ fn end_bracketed_bind(
     token: Token,
 ) -> Result<Next, AllocError>
     requires well { view.IsWellBody body }
-    ensures next { Follows false token.entry result (λ w p. machine.end_bind (view.body body) (machine.Bracketed (map bind_view done.items)) (bind_view bind) w) }
+    ensures next { Follows false token.entry result (λ w p. machine.end_bind (view.body body)
+        (machine.Bracketed (map bind_view done.items)) (bind_view bind) w) }
 {
     let is_first = done.is_empty();
     let mut done = done;
@@ -162,7 +165,8 @@ pub fn let_equals(
     token: Token,
 ) -> Result<Next, AllocError>
     requires well { view.IsWellBody body }
-    ensures next { Follows false token.entry result (λ w p. machine.let_equals (map bind_view binds.items) (view.body body) w) }
+    ensures next { Follows false token.entry result (λ w p. machine.let_equals (map bind_view binds.items)
+        (view.body body) w) }
 {
     match token.word {
         Word::Sign(Sign::Equals) => {
@@ -227,7 +231,9 @@ fn operand_sign(sign: Sign, place: Place, body: Body) -> Result<Next, AllocError
 
 fn open_match(destructive: bool, place: Place, body: Body) -> Result<Next, AllocError>
     requires well { view.IsWellBody body }
-    ensures next { Leads result (machine.in_body machine.AtOperand (machine.with_opener (view.body body) (machine.MatchOpener (view.body body).partial.waiting destructive place))) }
+    ensures next { Leads result (machine.in_body machine.AtOperand
+        (machine.with_opener (view.body body)
+        (machine.MatchOpener (view.body body).partial.waiting destructive place))) }
 {
     let mut body = body;
     let waiting = body.partial.waiting;
@@ -249,7 +255,8 @@ pub fn call_open(
     token: Token,
 ) -> Result<Next, AllocError>
     requires well { view.IsWellBody body }
-    ensures next { Follows false token.entry result (machine.step_body (machine.CallOpen name.items place (map written statics.items)) (view.body body)) }
+    ensures next { Follows false token.entry result (machine.step_body
+        (machine.CallOpen name.items place (map written statics.items)) (view.body body)) }
 {
     match token.word {
         Word::Sign(Sign::RoundOpen) => stays_in_body(
@@ -274,7 +281,8 @@ pub fn argument_first(
     token: Token,
 ) -> Result<Next, AllocError>
     requires well { view.IsWellBody body }
-    ensures next { Follows false token.entry result (machine.step_body (machine.ArgumentFirst name.items place (map written statics.items)) (view.body body)) }
+    ensures next { Follows false token.entry result (machine.step_body
+        (machine.ArgumentFirst name.items place (map written statics.items)) (view.body body)) }
 {
     match token.word {
         Word::Sign(Sign::RoundClose) => operand(
@@ -347,7 +355,8 @@ pub fn clause_next(
     token: Token,
 ) -> Result<Next, AllocError>
     requires well { view.IsWellUnder body }
-    ensures next { Follows false token.entry result (machine.step_body (machine.ClauseNext (view.open_match clauses (view.operand body))) (view.under_operand body)) }
+    ensures next { Follows false token.entry result (machine.step_body
+        (machine.ClauseNext (view.open_match clauses (view.operand body))) (view.under_operand body)) }
 {
     match token.word {
         Word::Sign(Sign::CurlyClose) => close_match(clauses, body),
@@ -358,7 +367,8 @@ pub fn clause_next(
 /// Behind the first block of an if.
 pub fn else_keyword(place: Place, yes: Block, body: Body, token: Token) -> Result<Next, AllocError>
     requires well { view.IsWellUnder body }
-    ensures next { Follows false token.entry result (machine.step_body (machine.Else place (view.operand body) (block_view yes)) (view.under_operand body)) }
+    ensures next { Follows false token.entry result (machine.step_body
+        (machine.Else place (view.operand body) (block_view yes)) (view.under_operand body)) }
 {
     match token.word {
         Word::Sign(Sign::Else) => stays_in_body(BodyPosition::ElseOpen { place, yes }, body),
@@ -375,7 +385,8 @@ pub fn else_open(
     token: Token,
 ) -> Result<Next, AllocError>
     requires well { view.IsWellUnder body }
-    ensures next { Follows false token.entry result (machine.step_body (machine.ElseOpen place (view.operand body) (block_view yes)) (view.under_operand body)) }
+    ensures next { Follows false token.entry result (machine.step_body
+        (machine.ElseOpen place (view.operand body) (block_view yes)) (view.under_operand body)) }
 {
     match token.word {
         Word::Sign(Sign::CurlyOpen) => stays_in_body(

@@ -23,7 +23,8 @@ fn pattern_read(
     clauses: OpenMatch,
 ) -> Result<Next, AllocError>
     requires well { view.IsWellUnder body }
-    ensures next { Leads result (machine.in_pattern (machine.PatternDone (pattern_view pattern)) (view.open_patterns «open».items) (view.under_operand body) (view.open_match clauses (view.operand body))) }
+    ensures next { Leads result (machine.in_pattern (machine.PatternDone (pattern_view pattern))
+        (view.open_patterns «open».items) (view.under_operand body) (view.open_match clauses (view.operand body))) }
 {
     stays_in_pattern(PatternPosition::Done { pattern }, open, body, clauses)
 }
@@ -38,7 +39,9 @@ pub fn step_pattern(
     token: Token,
 ) -> Result<Next, AllocError>
     requires well { view.IsWellUnder body }
-    ensures next { Follows (view.is_negated_pattern position) token.entry result (machine.step_pattern (view.pattern_position position) (view.open_patterns «open».items) (view.under_operand body) (view.open_match clauses (view.operand body))) }
+    ensures next { Follows (view.is_negated_pattern position) token.entry result
+        (machine.step_pattern (view.pattern_position position) (view.open_patterns «open».items)
+        (view.under_operand body) (view.open_match clauses (view.operand body))) }
 {
     match position {
         PatternPosition::Wanted => pattern_wanted(alloc, open, body, clauses, token),
@@ -61,7 +64,8 @@ pub fn pattern_wanted(
     token: Token,
 ) -> Result<Next, AllocError>
     requires well { view.IsWellUnder body }
-    ensures next { Follows false token.entry result (machine.pattern_wanted (view.open_patterns «open».items) (view.under_operand body) (view.open_match clauses (view.operand body))) }
+    ensures next { Follows false token.entry result (machine.pattern_wanted (view.open_patterns «open».items)
+        (view.under_operand body) (view.open_match clauses (view.operand body))) }
 {
     let place = token.place;
     match token.word {
@@ -95,7 +99,8 @@ fn pattern_minus(
     token: Token,
 ) -> Result<Next, AllocError>
     requires well { view.IsWellUnder body }
-    ensures next { Follows true token.entry result (machine.step_pattern (machine.PatternMinus place) (view.open_patterns «open».items) (view.under_operand body) (view.open_match clauses (view.operand body))) }
+    ensures next { Follows true token.entry result (machine.step_pattern (machine.PatternMinus place)
+        (view.open_patterns «open».items) (view.under_operand body) (view.open_match clauses (view.operand body))) }
 {
     match token.word {
         Word::Int(digits) => match negated_literal(digits) {
@@ -116,7 +121,8 @@ fn pattern_named(
     token: Token,
 ) -> Result<Next, AllocError>
     requires well { view.IsWellUnder body }
-    ensures next { Follows false token.entry result (machine.step_pattern (machine.PatternNamed name.items place) (view.open_patterns «open».items) (view.under_operand body) (view.open_match clauses (view.operand body))) }
+    ensures next { Follows false token.entry result (machine.step_pattern (machine.PatternNamed name.items place)
+        (view.open_patterns «open».items) (view.under_operand body) (view.open_match clauses (view.operand body))) }
 {
     match token.word {
         Word::Sign(Sign::RoundOpen) => {
@@ -152,7 +158,8 @@ fn pattern_done(
     token: Token,
 ) -> Result<Next, AllocError>
     requires well { view.IsWellUnder body }
-    ensures next { Follows false token.entry result (λ w p. machine.pattern_done (pattern_view pattern) (view.open_patterns «open».items) (view.under_operand body) (view.open_match clauses (view.operand body)) w) }
+    ensures next { Follows false token.entry result (λ w p. machine.pattern_done (pattern_view pattern)
+        (view.open_patterns «open».items) (view.under_operand body) (view.open_match clauses (view.operand body)) w) }
 {
     let mut open = open;
     match open.pop() {
@@ -170,7 +177,9 @@ fn pattern_part(
     token: Token,
 ) -> Result<Next, AllocError>
     requires well { view.IsWellUnder body }
-    ensures next { Follows false token.entry result (λ w p. machine.pattern_done (pattern_view pattern) (view.open_pattern around ∷ (view.open_patterns «open».items)) (view.under_operand body) (view.open_match clauses (view.operand body)) w) }
+    ensures next { Follows false token.entry result (λ w p. machine.pattern_done (pattern_view pattern)
+        (view.open_pattern around ∷ (view.open_patterns «open».items)) (view.under_operand body)
+        (view.open_match clauses (view.operand body)) w) }
 {
     let mut open = open;
     let OpenPattern { name, place, done } = around;
@@ -204,7 +213,8 @@ fn after_pattern(
     token: Token,
 ) -> Result<Next, AllocError>
     requires well { view.IsWellUnder body }
-    ensures next { Follows false token.entry result (λ w p. machine.pattern_done (pattern_view pattern) [] (view.under_operand body) (view.open_match clauses (view.operand body)) w) }
+    ensures next { Follows false token.entry result (λ w p. machine.pattern_done (pattern_view pattern) []
+        (view.under_operand body) (view.open_match clauses (view.operand body)) w) }
 {
     match token.word {
         Word::Sign(Sign::Arrow) => stays_in_body(

@@ -43,7 +43,8 @@ fn data_start(data: DataHead, token: Token) -> Result<Next, AllocError>
 }
 
 fn data_parameter(alloc: Global, data: DataHead, token: Token) -> Result<Next, AllocError>
-    ensures next { Follows false token.entry result (machine.step_data (machine.DataParameter (view.data_head «data»))) }
+    ensures next { Follows false token.entry result (machine.step_data
+        (machine.DataParameter (view.data_head «data»))) }
 {
     match token.word {
         Word::Lower(text) => {
@@ -60,7 +61,8 @@ fn data_parameter(alloc: Global, data: DataHead, token: Token) -> Result<Next, A
 }
 
 fn data_parameter_end(data: DataHead, token: Token) -> Result<Next, AllocError>
-    ensures next { Follows false token.entry result (machine.step_data (machine.DataParameterEnd (view.data_head «data»))) }
+    ensures next { Follows false token.entry result (machine.step_data
+        (machine.DataParameterEnd (view.data_head «data»))) }
 {
     match token.word {
         Word::Sign(Sign::Comma) => stays_in_data(DataHeading::DataParameter { data }),
@@ -113,7 +115,8 @@ fn data_close(data: DataHead) -> Result<Next, AllocError>
 }
 
 fn constructor_next(alloc: Global, data: DataHead, token: Token) -> Result<Next, AllocError>
-    ensures next { Follows false token.entry result (machine.step_data (machine.ConstructorNext (view.data_head «data»))) }
+    ensures next { Follows false token.entry result (machine.step_data
+        (machine.ConstructorNext (view.data_head «data»))) }
 {
     match token.word {
         Word::Sign(Sign::CurlyClose) => data_close(data),
@@ -138,7 +141,8 @@ fn constructor_start(
     place: Place,
     token: Token,
 ) -> Result<Next, AllocError>
-    ensures next { Follows false token.entry result (machine.step_data (machine.ConstructorStart (view.data_head «data») name.items place)) }
+    ensures next { Follows false token.entry result (machine.step_data
+        (machine.ConstructorStart (view.data_head «data») name.items place)) }
 {
     match token.word {
         Word::Sign(Sign::RoundOpen) => wants_type(

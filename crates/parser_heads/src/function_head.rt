@@ -19,7 +19,8 @@ fn function_keyword(
     credits: Vec<CreditMark>,
     token: Token,
 ) -> Result<Next, AllocError>
-    ensures next { Follows false token.entry result (machine.step_function (machine.FunctionKeyword kind credits.items)) }
+    ensures next { Follows false token.entry result (machine.step_function
+        (machine.FunctionKeyword kind credits.items)) }
 {
     match token.word {
         Word::Sign(Sign::Fun) => stays_in_function(FunctionHeading::FunctionName { kind, credits }),
@@ -38,7 +39,8 @@ fn credit_size(
     plus: Place,
     token: Token,
 ) -> Result<Next, AllocError>
-    ensures next { Follows false token.entry result (machine.step_function (machine.CreditSize kind credits.items plus)) }
+    ensures next { Follows false token.entry result (machine.step_function
+        (machine.CreditSize kind credits.items plus)) }
 {
     match token.word {
         Word::Int(digits) => match magnitude(digits) {
@@ -84,7 +86,8 @@ fn function_name(
 }
 
 fn function_start(head: FunctionHead, token: Token) -> Result<Next, AllocError>
-    ensures next { Follows false token.entry result (machine.step_function (machine.FunctionStart (view.function_head head))) }
+    ensures next { Follows false token.entry result (machine.step_function
+        (machine.FunctionStart (view.function_head head))) }
 {
     match token.word {
         Word::Sign(Sign::SquareOpen) => stays_in_function(FunctionHeading::StaticName { head }),
@@ -94,7 +97,8 @@ fn function_start(head: FunctionHead, token: Token) -> Result<Next, AllocError>
 }
 
 fn static_name(alloc: Global, head: FunctionHead, token: Token) -> Result<Next, AllocError>
-    ensures next { Follows false token.entry result (machine.step_function (machine.StaticName (view.function_head head))) }
+    ensures next { Follows false token.entry result (machine.step_function
+        (machine.StaticName (view.function_head head))) }
 {
     match token.word {
         Word::Lower(text) => stays_in_function(FunctionHeading::StaticStart {
@@ -113,7 +117,8 @@ fn static_start(
     place: Place,
     token: Token,
 ) -> Result<Next, AllocError>
-    ensures next { Follows false token.entry result (machine.step_function (machine.StaticStart (view.function_head head) name.items place)) }
+    ensures next { Follows false token.entry result (machine.step_function
+        (machine.StaticStart (view.function_head head) name.items place)) }
 {
     match token.word {
         Word::Sign(Sign::Colon) => {
@@ -137,7 +142,8 @@ fn signature_keyword(
     signature: Signature,
     token: Token,
 ) -> Result<Next, AllocError>
-    ensures next { Follows false token.entry result (machine.step_function (machine.SignatureKeyword (view.function_head head) (view.signature signature))) }
+    ensures next { Follows false token.entry result (machine.step_function
+        (machine.SignatureKeyword (view.function_head head) (view.signature signature))) }
 {
     match token.word {
         Word::Sign(Sign::Fun) => stays_in_function(FunctionHeading::SignatureOpen {
@@ -153,7 +159,8 @@ fn signature_open(
     signature: Signature,
     token: Token,
 ) -> Result<Next, AllocError>
-    ensures next { Follows false token.entry result (machine.step_function (machine.SignatureOpen (view.function_head head) (view.signature signature))) }
+    ensures next { Follows false token.entry result (machine.step_function
+        (machine.SignatureOpen (view.function_head head) (view.signature signature))) }
 {
     match token.word {
         Word::Sign(Sign::RoundOpen) => stays_in_function(FunctionHeading::SignatureFirst {
@@ -170,7 +177,8 @@ fn signature_next(
     signature: Signature,
     token: Token,
 ) -> Result<Next, AllocError>
-    ensures next { Follows false token.entry result (machine.signature_next (view.function_head head) (view.signature signature)) }
+    ensures next { Follows false token.entry result (machine.signature_next (view.function_head head)
+        (view.signature signature)) }
 {
     match token.word {
         Word::Sign(Sign::Caret) => wants_type(
@@ -200,7 +208,8 @@ fn signature_first(
     signature: Signature,
     token: Token,
 ) -> Result<Next, AllocError>
-    ensures next { Follows false token.entry result (machine.step_function (machine.SignatureFirst (view.function_head head) (view.signature signature))) }
+    ensures next { Follows false token.entry result (machine.step_function
+        (machine.SignatureFirst (view.function_head head) (view.signature signature))) }
 {
     match token.word {
         Word::Sign(Sign::RoundClose) => stays_in_function(FunctionHeading::SignatureColon {
@@ -216,7 +225,8 @@ fn signature_colon(
     signature: Signature,
     token: Token,
 ) -> Result<Next, AllocError>
-    ensures next { Follows false token.entry result (machine.step_function (machine.SignatureColon (view.function_head head) (view.signature signature))) }
+    ensures next { Follows false token.entry result (machine.step_function
+        (machine.SignatureColon (view.function_head head) (view.signature signature))) }
 {
     match token.word {
         Word::Sign(Sign::Colon) => stays_in_function(FunctionHeading::ResultStart {
@@ -227,7 +237,8 @@ fn signature_colon(
 }
 
 fn result_start(alloc: Global, owner: ResultOwner, token: Token) -> Result<Next, AllocError>
-    ensures next { Follows false token.entry result (machine.step_function (machine.ResultStart (view.result_owner owner))) }
+    ensures next { Follows false token.entry result (machine.step_function
+        (machine.ResultStart (view.result_owner owner))) }
 {
     match token.word {
         Word::Sign(Sign::RoundOpen) => wants_type(
@@ -243,7 +254,8 @@ fn result_start(alloc: Global, owner: ResultOwner, token: Token) -> Result<Next,
 }
 
 fn parameters_open(head: FunctionHead, token: Token) -> Result<Next, AllocError>
-    ensures next { Follows false token.entry result (machine.step_function (machine.ParametersOpen (view.function_head head))) }
+    ensures next { Follows false token.entry result (machine.step_function
+        (machine.ParametersOpen (view.function_head head))) }
 {
     match token.word {
         Word::Sign(Sign::RoundOpen) => stays_in_function(FunctionHeading::ParameterFirst { head }),
@@ -280,7 +292,8 @@ fn parameter_next(alloc: Global, head: FunctionHead, token: Token) -> Result<Nex
 }
 
 fn parameter_first(alloc: Global, head: FunctionHead, token: Token) -> Result<Next, AllocError>
-    ensures next { Follows false token.entry result (machine.step_function (machine.ParameterFirst (view.function_head head))) }
+    ensures next { Follows false token.entry result (machine.step_function
+        (machine.ParameterFirst (view.function_head head))) }
 {
     match token.word {
         Word::Sign(Sign::RoundClose) => stays_in_function(FunctionHeading::ResultColon { head }),
@@ -296,7 +309,8 @@ fn parameter_colon(
     place: Place,
     token: Token,
 ) -> Result<Next, AllocError>
-    ensures next { Follows false token.entry result (machine.step_function (machine.ParameterColon (view.function_head head) lent name.items place)) }
+    ensures next { Follows false token.entry result (machine.step_function
+        (machine.ParameterColon (view.function_head head) lent name.items place)) }
 {
     match token.word {
         Word::Sign(Sign::Colon) => wants_type(
@@ -313,7 +327,8 @@ fn parameter_colon(
 }
 
 fn result_colon(head: FunctionHead, token: Token) -> Result<Next, AllocError>
-    ensures next { Follows false token.entry result (machine.step_function (machine.ResultColon (view.function_head head))) }
+    ensures next { Follows false token.entry result (machine.step_function
+        (machine.ResultColon (view.function_head head))) }
 {
     match token.word {
         Word::Sign(Sign::Colon) => stays_in_function(FunctionHeading::ResultStart {

@@ -3,7 +3,8 @@
 ghost use Rattle.std.specs.Prelude.{◌≡◌, [], map, IfOk};
 ghost use Rattle.std.specs.List.{All};
 ghost use Rattle.fip_language.specs.Surface as Surface;
-ghost use Rattle.fip_base.specs.SurfaceView.{bind as bind_view, block as block_view, pattern as pattern_view, expression, written, result_type, below};
+ghost use Rattle.fip_base.specs.SurfaceView.{bind as bind_view, block as block_view, pattern as pattern_view};
+ghost use Rattle.fip_base.specs.SurfaceView.{expression, written, result_type, below};
 ghost use Rattle.fip_grammar.specs.Machine as machine;
 ghost use Rattle.parser_state.specs.StateView as view;
 ghost use Rattle.parser_state.specs.StateView.{Leads};
@@ -27,7 +28,8 @@ pub fn end_bound(
 ) -> Result<Next, AllocError>
     requires levels { All view.IsWellLevel body.levels.items }
     requires whole { below (view.operands body) ≡ [] }
-    ensures next { Leads result (machine.end_bound (view.body body) (map bind_view binds.items) (view.operand body) sign) }
+    ensures next { Leads result (machine.end_bound (view.body body) (map bind_view binds.items) (view.operand body)
+        sign) }
 {
     match sign {
         Sign::Semicolon => {
@@ -47,7 +49,9 @@ pub fn end_bound(
 pub fn end_block(alloc: Global, body: Body, sign: Sign) -> Result<Next, AllocError>
     requires levels { All view.IsWellLevel body.levels.items }
     requires whole { below (view.operands body) ≡ [] }
-    ensures next { Leads result (machine.end_last (view.function_head body.head) (result_type body.gives) (view.levels body.levels.items) (machine.onto_block (view.bindings body.partial.lets.items) (Surface.Last (view.operand body))) sign) }
+    ensures next { Leads result (machine.end_last (view.function_head body.head) (result_type body.gives)
+        (view.levels body.levels.items) (machine.onto_block (view.bindings body.partial.lets.items)
+        (Surface.Last (view.operand body))) sign) }
 {
     let Body {
         head,
@@ -74,7 +78,8 @@ fn end_last(
     sign: Sign,
 ) -> Result<Next, AllocError>
     requires levels { All view.IsWellLevel levels.items }
-    ensures next { Leads result (machine.end_last (view.function_head head) (result_type gives) (view.levels levels.items) (block_view block) sign) }
+    ensures next { Leads result (machine.end_last (view.function_head head) (result_type gives)
+        (view.levels levels.items) (block_view block) sign) }
 {
     let mut levels = levels;
     match levels.pop() {
@@ -98,7 +103,8 @@ fn end_body(
     body: Block,
     sign: Sign,
 ) -> Result<Next, AllocError>
-    ensures next { Leads result (machine.end_body (view.function_head head) (result_type gives) (block_view body) sign) }
+    ensures next { Leads result (machine.end_body (view.function_head head) (result_type gives) (block_view body)
+        sign) }
 {
     match sign {
         Sign::CurlyClose => {
@@ -137,7 +143,9 @@ fn end_level(
     sign: Sign,
 ) -> Result<Next, AllocError>
     requires well { view.IsWellWith body (view.behind_purpose purpose (view.operands body)) }
-    ensures next { Leads result (machine.end_level (view.body_with body (view.behind_purpose purpose (view.operands body))) (view.purpose purpose (view.operands body)) (block_view block) sign) }
+    ensures next { Leads result (machine.end_level (view.body_with body
+        (view.behind_purpose purpose (view.operands body))) (view.purpose purpose (view.operands body))
+        (block_view block) sign) }
 {
     match purpose {
         Use::Arguments {
@@ -158,7 +166,8 @@ fn end_level(
 
 // One part more. What stands in no block has no lets.
 fn with_part(done: Vec<Expression>, block: Block) -> Result<Vec<Expression>, AllocError>
-    ensures { IfOk result (λ es. map expression es.items ≡ machine.part (block_view block) (map expression done.items)) }
+    ensures { IfOk result (λ es. map expression es.items
+        ≡ machine.part (block_view block) (map expression done.items)) }
 {
     let Block { lets: _, last } = block;
     let mut done = done;
@@ -177,7 +186,9 @@ fn end_argument(
     sign: Sign,
 ) -> Result<Next, AllocError>
     requires well { view.IsWellBody body }
-    ensures next { Leads result (machine.end_level (view.body body) (machine.ForArguments name.items place (map written statics.items) (map expression done.items)) (block_view block) sign) }
+    ensures next { Leads result (machine.end_level (view.body body)
+        (machine.ForArguments name.items place (map written statics.items) (map expression done.items))
+        (block_view block) sign) }
 {
     let done = with_part(done, block)?;
     match sign {
@@ -217,7 +228,8 @@ fn end_field(
     sign: Sign,
 ) -> Result<Next, AllocError>
     requires well { view.IsWellBody body }
-    ensures next { Leads result (machine.end_level (view.body body) (machine.ForFields name.items place (map expression done.items)) (block_view block) sign) }
+    ensures next { Leads result (machine.end_level (view.body body)
+        (machine.ForFields name.items place (map expression done.items)) (block_view block) sign) }
 {
     let done = with_part(done, block)?;
     match sign {
@@ -245,7 +257,8 @@ fn end_parenthesis(
     sign: Sign,
 ) -> Result<Next, AllocError>
     requires well { view.IsWellBody body }
-    ensures next { Leads result (machine.end_level (view.body body) (machine.ForParenthesis place) (block_view block) sign) }
+    ensures next { Leads result (machine.end_level (view.body body) (machine.ForParenthesis place) (block_view block)
+        sign) }
 {
     match sign {
         Sign::RoundClose => operand(Step::Bracket { block }, body),
@@ -272,7 +285,8 @@ fn end_bracket(body: Body, block: Block, sign: Sign) -> Result<Next, AllocError>
 
 fn end_yes(body: Body, place: Place, block: Block, sign: Sign) -> Result<Next, AllocError>
     requires well { view.IsWellUnder body }
-    ensures next { Leads result (machine.end_level (view.under_operand body) (machine.ForYes place (view.operand body)) (block_view block) sign) }
+    ensures next { Leads result (machine.end_level (view.under_operand body) (machine.ForYes place (view.operand body))
+        (block_view block) sign) }
 {
     match sign {
         Sign::CurlyClose => stays_in_body(BodyPosition::Else { place, yes: block }, body),
@@ -288,7 +302,8 @@ fn end_no(
     sign: Sign,
 ) -> Result<Next, AllocError>
     requires well { view.IsWellUnder body }
-    ensures next { Leads result (machine.end_level (view.under_operand body) (machine.ForNo place (view.operand body) (block_view yes)) (block_view block) sign) }
+    ensures next { Leads result (machine.end_level (view.under_operand body)
+        (machine.ForNo place (view.operand body) (block_view yes)) (block_view block) sign) }
 {
     match sign {
         Sign::CurlyClose => operand(
@@ -312,7 +327,8 @@ fn end_part(
     sign: Sign,
 ) -> Result<Next, AllocError>
     requires well { view.IsWellBody body }
-    ensures next { Leads result (machine.end_level (view.body body) (machine.ForTuple place (map expression done.items)) (block_view block) sign) }
+    ensures next { Leads result (machine.end_level (view.body body) (machine.ForTuple place (map expression done.items))
+        (block_view block) sign) }
 {
     let done = with_part(done, block)?;
     match sign {
@@ -333,7 +349,9 @@ fn end_clause(
     sign: Sign,
 ) -> Result<Next, AllocError>
     requires well { view.IsWellUnder body }
-    ensures next { Leads result (machine.end_level (view.under_operand body) (machine.ForClause (view.open_match clauses (view.operand body)) (pattern_view pattern)) (block_view block) sign) }
+    ensures next { Leads result (machine.end_level (view.under_operand body)
+        (machine.ForClause (view.open_match clauses (view.operand body)) (pattern_view pattern)) (block_view block)
+        sign) }
 {
     let mut open = clauses;
     open.clauses.push(Clause {

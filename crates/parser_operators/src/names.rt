@@ -23,7 +23,8 @@ pub fn lower_name(
     token: Token,
 ) -> Result<Next, AllocError>
     requires well { view.IsWellBody body }
-    ensures next { Follows false token.entry result (machine.step_body (machine.LowerName name.items place) (view.body body)) }
+    ensures next { Follows false token.entry result (machine.step_body (machine.LowerName name.items place)
+        (view.body body)) }
 {
     match token.word {
         Word::Sign(Sign::SquareOpen) => wants_type(
@@ -60,7 +61,8 @@ pub fn upper_name(
     token: Token,
 ) -> Result<Next, AllocError>
     requires well { view.IsWellBody body }
-    ensures next { Follows false token.entry result (machine.step_body (machine.UpperName name.items place) (view.body body)) }
+    ensures next { Follows false token.entry result (machine.step_body (machine.UpperName name.items place)
+        (view.body body)) }
 {
     match token.word {
         Word::Sign(Sign::RoundOpen) => {

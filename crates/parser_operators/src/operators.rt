@@ -42,8 +42,11 @@ pub fn tightness_of(operator: Operator) -> Tightness
 
 // The operation of an operator that waited is done.
 fn apply(steps: &mut Vec<Step>, pending: Option<Pending>) -> Result<(), AllocError>
-    ensures top { OnOk result (top (view.left steps.new.items) ≡ machine.applied (view.pending pending (below (view.left steps.old.items))) (top (view.left steps.old.items))) }
-    ensures below { OnOk result (below (view.left steps.new.items) ≡ view.behind_pending pending (below (view.left steps.old.items))) }
+    ensures top { OnOk result (top (view.left steps.new.items)
+        ≡ machine.applied (view.pending pending (below (view.left steps.old.items)))
+        (top (view.left steps.old.items))) }
+    ensures below { OnOk result (below (view.left steps.new.items)
+        ≡ view.behind_pending pending (below (view.left steps.old.items))) }
 {
     match pending {
         None => Ok(()),
@@ -59,8 +62,11 @@ fn apply(steps: &mut Vec<Step>, pending: Option<Pending>) -> Result<(), AllocErr
 
 // The operations of all operators that waited are done.
 fn apply_all(steps: &mut Vec<Step>, waiting: Waiting) -> Result<(), AllocError>
-    ensures top { OnOk result (top (view.left steps.new.items) ≡ machine.all_applied (view.waiting waiting (below (view.left steps.old.items))) (top (view.left steps.old.items))) }
-    ensures below { OnOk result (below (view.left steps.new.items) ≡ view.behind_waiting waiting (below (view.left steps.old.items))) }
+    ensures top { OnOk result (top (view.left steps.new.items)
+        ≡ machine.all_applied (view.waiting waiting (below (view.left steps.old.items)))
+        (top (view.left steps.old.items))) }
+    ensures below { OnOk result (below (view.left steps.new.items)
+        ≡ view.behind_waiting waiting (below (view.left steps.old.items))) }
 {
     apply(steps, waiting.product)?;
     apply(steps, waiting.sum)?;
@@ -70,7 +76,8 @@ fn apply_all(steps: &mut Vec<Step>, waiting: Waiting) -> Result<(), AllocError>
 /// Behind an operand.
 pub fn after_operand(alloc: Global, body: Body, token: Token) -> Result<Next, AllocError>
     requires well { view.IsWellUnder body }
-    ensures next { Follows false token.entry result (machine.after_operand (view.under_operand body) (view.operand body)) }
+    ensures next { Follows false token.entry result (machine.after_operand (view.under_operand body)
+        (view.operand body)) }
 {
     match token.word {
         Word::Operator(operator) => after_operator(body, operator, token.place),
@@ -82,7 +89,8 @@ pub fn after_operand(alloc: Global, body: Body, token: Token) -> Result<Next, Al
 // An operator behind an operand: by how tightly it binds.
 fn after_operator(body: Body, operator: Operator, place: Place) -> Result<Next, AllocError>
     requires well { view.IsWellUnder body }
-    ensures next { Leads result (machine.after_operator (machine.tightness_of operator) (view.under_operand body) (view.operand body) operator place) }
+    ensures next { Leads result (machine.after_operator (machine.tightness_of operator) (view.under_operand body)
+        (view.operand body) operator place) }
 {
     let pending = Pending { operator, place };
     match tightness_of(operator) {
@@ -95,7 +103,8 @@ fn after_operator(body: Body, operator: Operator, place: Place) -> Result<Next, 
 // The factors so far are one operand of this operator.
 fn after_product(body: Body, pending: Pending) -> Result<Next, AllocError>
     requires well { view.IsWellUnder body }
-    ensures next { Leads result (machine.after_operator machine.Product (view.under_operand body) (view.operand body) pending.operator pending.place) }
+    ensures next { Leads result (machine.after_operator machine.Product (view.under_operand body) (view.operand body)
+        pending.operator pending.place) }
 {
     let mut body = body;
     let waiting = body.partial.waiting;
@@ -107,7 +116,8 @@ fn after_product(body: Body, pending: Pending) -> Result<Next, AllocError>
 // The summands so far are one operand of this operator.
 fn after_sum(body: Body, pending: Pending) -> Result<Next, AllocError>
     requires well { view.IsWellUnder body }
-    ensures next { Leads result (machine.after_operator machine.Sum (view.under_operand body) (view.operand body) pending.operator pending.place) }
+    ensures next { Leads result (machine.after_operator machine.Sum (view.under_operand body) (view.operand body)
+        pending.operator pending.place) }
 {
     let mut body = body;
     let waiting = body.partial.waiting;
@@ -121,7 +131,8 @@ fn after_sum(body: Body, pending: Pending) -> Result<Next, AllocError>
 // One comparison at most stands between two brackets.
 fn after_comparison(body: Body, pending: Pending) -> Result<Next, AllocError>
     requires well { view.IsWellUnder body }
-    ensures next { Leads result (machine.after_operator machine.Comparison (view.under_operand body) (view.operand body) pending.operator pending.place) }
+    ensures next { Leads result (machine.after_operator machine.Comparison (view.under_operand body) (view.operand body)
+        pending.operator pending.place) }
 {
     let mut body = body;
     let waiting = body.partial.waiting;
@@ -154,7 +165,8 @@ fn end_expression(alloc: Global, body: Body, sign: Sign) -> Result<Next, AllocEr
 // The end of a scrutinee or a condition.
 fn end_head(alloc: Global, body: Body, opener: Opener, sign: Sign) -> Result<Next, AllocError>
     requires well { view.IsWellUnder (view.inside body opener) }
-    ensures next { Leads result (machine.end_head (view.under_operand (view.inside body opener)) (view.opener opener (below (view.operands body))) (view.operand body) sign) }
+    ensures next { Leads result (machine.end_head (view.under_operand (view.inside body opener))
+        (view.opener opener (below (view.operands body))) (view.operand body) sign) }
 {
     let mut body = body;
     match sign {

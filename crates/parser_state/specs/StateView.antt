@@ -1,14 +1,15 @@
 -- The state of the token machine that a state of the parser stands for.
 --
 -- The two differ in one thing. The parser keeps an expression as steps in postfix order, and an operator, a match or an
--- if that waits doesn't hold its operand: the operand is one of the expressions that the steps leave, the last one first.
--- In the machine it stands beside what waits for it. So what waits takes its operand here from what the steps left: first
--- what an ended operand or a bracket takes, then the product, the sum and the comparison, then the openers from the
--- innermost outwards. Nothing is over behind them: that is IsWell.
+-- if that waits doesn't hold its operand: the operand is one of the expressions that the steps leave, the last one
+-- first. In the machine it stands beside what waits for it. So what waits takes its operand here from what the steps
+-- left: first what an ended operand or a bracket takes, then the product, the sum and the comparison, then the openers
+-- from the innermost outwards. Nothing is over behind them: that is IsWell.
 --
--- Each function that takes a token says that its result Follows a row of the machine, at that token. A function that takes
--- none says to what it Leads, whatever the token was.
-use Rattle.std.specs.Prelude.{◌≡◌, ◌<◌, ℕ, Bool, true, false, List, [], ◌∷◌, map, reverse, Option, Some, None, option_map}
+-- Each function that takes a token says that its result Follows a row of the machine, at that token. A function that
+-- takes none says to what it Leads, whatever the token was.
+use Rattle.std.specs.Prelude.{◌≡◌, ◌<◌, ℕ, Bool, true, false, List, [], ◌∷◌, map, reverse, Option, Some, None}
+use Rattle.std.specs.Prelude.{option_map}
 use Rattle.std.specs.List.{All}
 use Rattle.std.specs.Prelude.{Vec, Result, IfOk}
 use Rattle.std.specs.declared.alloc.AllocError.{AllocError}
@@ -16,7 +17,9 @@ use Rattle.std.specs.Global.{Global}
 use Rattle.fip_base.specs.declared.surface.Bind.{Bind}
 use Rattle.fip_language.specs.Core as C
 use Rattle.fip_language.specs.Surface as S
-use Rattle.fip_base.specs.SurfaceView.{written, result_type, bind, pattern, LetPart, Case, top, below, left_by, action, block, clause, expression, let_part, signature_parameter, static, parameter, type_name, data_constructor, declaration}
+use Rattle.fip_base.specs.SurfaceView.{written, result_type, bind, pattern, LetPart, Case, top, below, left_by, action}
+use Rattle.fip_base.specs.SurfaceView.{block, clause, expression, let_part, signature_parameter, static, parameter}
+use Rattle.fip_base.specs.SurfaceView.{type_name, data_constructor, declaration}
 use Rattle.fip_base.specs.declared.surface.Step.{Step}
 use Rattle.fip_base.specs.declared.surface.Let.{Let}
 use Rattle.fip_base.specs.declared.surface.Clause.{Clause}
@@ -205,7 +208,13 @@ abbrev pub IsWellPartial : Partial → List S.Expression → Type 0
 IsWellPartial p es = behind_openers (reverse p.openers.items) (behind_waiting p.waiting es) ≡ []
 
 abbrev pub open_match : OpenMatch → S.Expression → M.OpenMatch
-open_match m e = record { destructive = m.destructive; place = m.place; scrutinee = e; clauses = clauses m.clauses.items }
+open_match m e = record {
+  destructive = m.destructive;
+  place = m.place;
+  scrutinee = e;
+  clauses =
+      clauses m.clauses.items;
+}
 
 -- What a bracket is for, where the expressions before it are these: a match takes its scrutinee, an if its condition.
 abbrev pub purpose : Use → List S.Expression → M.Use
@@ -367,7 +376,8 @@ state V.Top = M.Top
 state (V.Function h) = M.InFunction (function_heading h)
 state (V.Data h) = M.InData (data_heading h)
 state (V.Typing q os u) = M.InType (type_position q) (open_types os.items) (type_use u)
-state (V.Matching q os b m) = M.InPattern (pattern_position q) (open_patterns os.items) (under_operand b) (open_match m (operand b))
+state (V.Matching q os b m) = M.InPattern (pattern_position q) (open_patterns os.items) (under_operand b)
+    (open_match m (operand b))
 state (V.Body q b) = in_body q b
 
 abbrev pub IsWell : State → Type 0

@@ -68,7 +68,8 @@ pub fn stays_in_type(
     purpose: TypeUse,
 ) -> Result<Next, AllocError>
     requires well { view.IsWellUse purpose }
-    ensures next { Leads result (machine.Stays (machine.InType (view.type_position position) (view.open_types «open».items) (view.type_use purpose))) }
+    ensures next { Leads result (machine.Stays (machine.InType (view.type_position position)
+        (view.open_types «open».items) (view.type_use purpose))) }
 {
     Ok(Next::Stays {
         state: State::Typing {
@@ -111,7 +112,8 @@ pub fn stays_in_pattern(
     clauses: OpenMatch,
 ) -> Result<Next, AllocError>
     requires well { view.IsWellUnder body }
-    ensures next { Leads result (machine.in_pattern (view.pattern_position position) (view.open_patterns «open».items) (view.under_operand body) (view.open_match clauses (view.operand body))) }
+    ensures next { Leads result (machine.in_pattern (view.pattern_position position) (view.open_patterns «open».items)
+        (view.under_operand body) (view.open_match clauses (view.operand body))) }
 {
     Ok(Next::Stays {
         state: State::Matching {
@@ -126,7 +128,9 @@ pub fn stays_in_pattern(
 /// A bracket is opened.
 pub fn enter(alloc: Global, body: Body, purpose: Use) -> Result<Body, AllocError>
     requires well { view.IsWellWith body (view.behind_purpose purpose (view.operands body)) }
-    ensures inner { IfOk result (λ b. view.body b ≡ machine.enter (view.body_with body (view.behind_purpose purpose (view.operands body))) (view.purpose purpose (view.operands body))) }
+    ensures inner { IfOk result (λ b. view.body b ≡ machine.enter
+        (view.body_with body (view.behind_purpose purpose (view.operands body)))
+        (view.purpose purpose (view.operands body))) }
     ensures well { IfOk result (λ b. view.IsWellBody b) }
 {
     let Body {
@@ -185,7 +189,8 @@ pub fn start_expression(alloc: Global, body: Body, binds: Option<Vec<Bind>>) -> 
 /// Behind an operand, which is this step.
 pub fn operand(step: Step, body: Body) -> Result<Next, AllocError>
     requires well { view.IsWellWith body (kept (action step) (view.operands body)) }
-    ensures next { Leads result (machine.in_body (machine.AtOperator (acted (action step) (view.operands body))) (view.body_with body (kept (action step) (view.operands body)))) }
+    ensures next { Leads result (machine.in_body (machine.AtOperator (acted (action step) (view.operands body)))
+        (view.body_with body (kept (action step) (view.operands body)))) }
 {
     let mut body = body;
     body.partial.steps.push(step)?;
@@ -195,7 +200,8 @@ pub fn operand(step: Step, body: Body) -> Result<Next, AllocError>
 /// The end of a match.
 pub fn close_match(clauses: OpenMatch, body: Body) -> Result<Next, AllocError>
     requires well { view.IsWellUnder body }
-    ensures next { Leads result (machine.close_match (view.open_match clauses (view.operand body)) (view.under_operand body)) }
+    ensures next { Leads result (machine.close_match (view.open_match clauses (view.operand body))
+        (view.under_operand body)) }
 {
     let OpenMatch {
         destructive,
@@ -232,7 +238,8 @@ pub fn body_open(
     gives: ResultType,
     token: Token,
 ) -> Result<Next, AllocError>
-    ensures next { Follows false token.entry result (λ w p. machine.body_open (view.function_head head) (result_type gives) w) }
+    ensures next { Follows false token.entry result (λ w p. machine.body_open (view.function_head head)
+        (result_type gives) w) }
 {
     match token.word {
         Word::Sign(Sign::CurlyOpen) => {
@@ -256,7 +263,8 @@ pub fn type_wanted(
     token: Token,
 ) -> Result<Next, AllocError>
     requires well { view.IsWellUse purpose }
-    ensures next { Follows false token.entry result (machine.type_wanted (view.open_types «open».items) (view.type_use purpose)) }
+    ensures next { Follows false token.entry result (machine.type_wanted (view.open_types «open».items)
+        (view.type_use purpose)) }
 {
     match token.word {
         Word::Sign(Sign::Int) => stays_in_type(

@@ -32,7 +32,8 @@ pub fn type_argument(
     token: Token,
 ) -> Result<Next, AllocError>
     requires well { view.IsWellUse purpose }
-    ensures next { Follows false token.entry result (λ w p. machine.type_done (view.open_type around ∷ (view.open_types «open».items)) (view.type_use purpose) (written_view written) w) }
+    ensures next { Follows false token.entry result (λ w p. machine.type_done
+        (view.open_type around ∷ (view.open_types «open».items)) (view.type_use purpose) (written_view written) w) }
 {
     let mut open = open;
     let OpenType { name, place, done } = around;
@@ -68,7 +69,9 @@ pub fn after_field(
     written: Written,
     token: Token,
 ) -> Result<Next, AllocError>
-    ensures next { Follows false token.entry result (λ w p. machine.after_type (machine.ForField (view.data_head «data») name.items place (map written_view fields.items)) (written_view written) w) }
+    ensures next { Follows false token.entry result (λ w p. machine.after_type
+        (machine.ForField (view.data_head «data») name.items place (map written_view fields.items))
+        (written_view written) w) }
 {
     let mut fields = fields;
     fields.push(written)?;
@@ -103,7 +106,9 @@ pub fn after_signature_parameter(
     written: Written,
     token: Token,
 ) -> Result<Next, AllocError>
-    ensures next { Follows false token.entry result (λ w p. machine.after_type (machine.ForSignatureParameter (view.function_head head) (view.signature signature) lent) (written_view written) w) }
+    ensures next { Follows false token.entry result (λ w p. machine.after_type
+        (machine.ForSignatureParameter (view.function_head head) (view.signature signature) lent) (written_view written)
+        w) }
 {
     let mut signature = signature;
     signature
@@ -131,7 +136,8 @@ pub fn after_parameter(
     written: Written,
     token: Token,
 ) -> Result<Next, AllocError>
-    ensures next { Follows false token.entry result (λ w p. machine.after_type (machine.ForParameter (view.function_head head) lent name.items place) (written_view written) w) }
+    ensures next { Follows false token.entry result (λ w p. machine.after_type
+        (machine.ForParameter (view.function_head head) lent name.items place) (written_view written) w) }
 {
     let mut head = head;
     head.parameters.push(Parameter {
@@ -153,7 +159,8 @@ fn with_signature(
     signature: Signature,
     gives: ResultType,
 ) -> Result<FunctionHead, AllocError>
-    ensures with { IfOk result (λ h. view.function_head h ≡ machine.with_signature (view.function_head head) (view.signature signature) (result_type gives)) }
+    ensures with { IfOk result (λ h. view.function_head h ≡ machine.with_signature (view.function_head head)
+        (view.signature signature) (result_type gives)) }
 {
     let Signature {
         name,
@@ -177,7 +184,8 @@ pub fn after_one_result(
     written: Written,
     token: Token,
 ) -> Result<Next, AllocError>
-    ensures next { Follows false token.entry result (λ w p. machine.after_one_result (view.result_owner owner) (C.OneResult (written_view written)) w) }
+    ensures next { Follows false token.entry result (λ w p. machine.after_one_result (view.result_owner owner)
+        (C.OneResult (written_view written)) w) }
 {
     let gives = ResultType::One { written };
     match owner {
@@ -215,7 +223,9 @@ pub fn after_result_part(
     written: Written,
     token: Token,
 ) -> Result<Next, AllocError>
-    ensures next { Follows false token.entry result (λ w p. machine.after_type (machine.ForResultPart (view.result_owner owner) place (map written_view parts.items)) (written_view written) w) }
+    ensures next { Follows false token.entry result (λ w p. machine.after_type
+        (machine.ForResultPart (view.result_owner owner) place (map written_view parts.items))
+        (written_view written) w) }
 {
     let is_first = parts.is_empty();
     let mut parts = parts;
@@ -250,7 +260,9 @@ pub fn after_static_argument(
     token: Token,
 ) -> Result<Next, AllocError>
     requires well { view.IsWellBody body }
-    ensures next { Follows false token.entry result (λ w p. machine.after_type (machine.ForStaticArgument (view.body body) name.items place (map written_view statics.items)) (written_view written) w) }
+    ensures next { Follows false token.entry result (λ w p. machine.after_type
+        (machine.ForStaticArgument (view.body body) name.items place (map written_view statics.items))
+        (written_view written) w) }
 {
     let mut statics = statics;
     statics.push(written)?;

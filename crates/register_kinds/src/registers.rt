@@ -9,10 +9,10 @@ use std::mem;
 
 /// What is known of each register of a function.
 ///
-/// Each register has a tree's number of its own, which is that of its tree while it owns one; a register that becomes the
-/// owner of another's tree changes numbers with it. A lent register *hangs* on the register whose field its word is known
-/// to be, and where no chain of such froms leads to the owner of its tree, on that owner. So what ends with an owner hangs
-/// on it, directly or not.
+/// Each register has a tree's number of its own, which is that of its tree while it owns one; a register that becomes
+/// the owner of another's tree changes numbers with it. A lent register *hangs* on the register whose field its word is
+/// known to be, and where no chain of such froms leads to the owner of its tree, on that owner. So what ends with an
+/// owner hangs on it, directly or not.
 #[derive(Drop)]
 pub struct Registers<'a> {
     pub(crate) alloc: Global,
@@ -159,8 +159,8 @@ impl<'a> Registers<'a> {
         }
     }
 
-    /// A register that may be overwritten is written, or a credit is gone: another thing is known of it, and no from names
-    /// it any more.
+    /// A register that may be overwritten is written, or a credit is gone: another thing is known of it, and no from
+    /// names it any more.
     pub fn write(&mut self, register: u16, known: Known<'a>) -> Result<(), NoMemory> {
         for other in self.unhang(register) {
             if self.known(other).came_from(register) {
@@ -192,7 +192,8 @@ impl<'a> Registers<'a> {
         self.put(register, Known::Gone)
     }
 
-    // All that hangs on a register, directly or not, is gone, but some that hang on it directly, and what hangs on these.
+    // All that hangs on a register, directly or not, is gone, but some that hang on it directly, and what hangs on
+    // these.
     pub(crate) fn cut(&mut self, register: u16, kept: &[u16]) -> Result<(), NoMemory> {
         let mut ended = Vec::new(self.alloc);
         self.cut_from(register, kept, &mut ended)?;

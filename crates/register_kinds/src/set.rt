@@ -31,8 +31,8 @@ impl<'a> Set<'a> {
         }
     }
 
-    /// Whether all of them, but `without` where it is there, are among others, which are constructors in rising order of
-    /// a type with so many.
+    /// Whether all of them, but `without` where it is there, are among others, which are constructors in rising order
+    /// of a type with so many.
     pub fn is_within(self, count: usize, without: Option<u32>, others: &[u32]) -> bool {
         match self {
             Set::All => others.len() == count || lacks_one(count, without, others),

@@ -3,8 +3,8 @@ use fip_base::plain::NoMemory;
 use fip_base::table::{Constructor, TypeTable};
 use std::alloc::Global;
 
-/// The types of a code, with those that are scalar marked. Each read is total: a type that the table doesn't have has no
-/// constructors and isn't scalar, and a constructor that a type doesn't have has no fields.
+/// The types of a code, with those that are scalar marked. Each read is total: a type that the table doesn't have has
+/// no constructors and isn't scalar, and a constructor that a type doesn't have has no fields.
 #[derive(Drop)]
 pub struct Table<'a> {
     types: &'a TypeTable,

@@ -5,9 +5,9 @@ use crate::table::Table;
 use fip_base::plain::NoMemory;
 
 impl<'a> Registers<'a> {
-    /// The cell of a register, which owns it, is taken apart into these registers, whose types are those of the fields. A
-    /// register that was known to read the field that it gets owns it from now on, with the constructors that it was known
-    /// to have, and what was read through it goes on to be read. All else that was read of the tree is gone.
+    /// The cell of a register, which owns it, is taken apart into these registers, whose types are those of the fields.
+    /// A register that was known to read the field that it gets owns it from now on, with the constructors that it was
+    /// known to have, and what was read through it goes on to be read. All else that was read of the tree is gone.
     pub fn take(
         &mut self,
         table: &Table<'a>,

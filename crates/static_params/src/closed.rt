@@ -1,5 +1,5 @@
-// Closed types and functions: those without parameters, as trees that share their parts. A tree of arguments may have far
-// more nodes than memory holds bytes; its parts are few.
+// Closed types and functions: those without parameters, as trees that share their parts. A tree of arguments may have
+// far more nodes than memory holds bytes; its parts are few.
 use fip_base::plain::NoMemory;
 use indexmap::{IndexMap, IndexSet};
 use std::alloc::Global;
@@ -18,8 +18,8 @@ pub struct Closed {
     pub arguments: Vec<u32>,
 }
 
-/// A closed function in the place of a function parameter. What is given for the type parameters beside it stands in the
-/// tree at `there`, in which the functions are left out.
+/// A closed function in the place of a function parameter. What is given for the type parameters beside it stands in
+/// the tree at `there`, in which the functions are left out.
 #[derive(Clone, Copy, Debug, PartialEq, Eq, Hash)]
 pub struct Passing {
     pub there: u32,

@@ -6,8 +6,8 @@ use fip_base::plain::NoMemory;
 use fip_trees::least::Least;
 use std::alloc::Global;
 
-/// The instances: at the start the functions without static parameters, in text order; each leads to those that it calls,
-/// in the text order of their names.
+/// The instances: at the start the functions without static parameters, in text order; each leads to those that it
+/// calls, in the text order of their names.
 #[derive(Clone, Copy)]
 pub struct Instances<'r, 's, 'a> {
     pub source: &'r Source<'s, 'a>,

@@ -1,5 +1,5 @@
-// Numbers for what is reached: first what is there at the start, and then, in order of number, what each leads to that has
-// no number yet.
+// Numbers for what is reached: first what is there at the start, and then, in order of number, what each leads to that
+// has no number yet.
 use crate::closed::Shared;
 use fip_base::plain::NoMemory;
 use fip_trees::least::Least;

@@ -35,8 +35,8 @@ impl From<NoMemory> for Stop {
     }
 }
 
-/// The program without static parameters, where these are its declarations. The least violation of E11 and E12 in static
-/// arguments and of E20 to E23 where there is one.
+/// The program without static parameters, where these are its declarations. The least violation of E11 and E12 in
+/// static arguments and of E20 to E23 where there is one.
 pub fn specialise(alloc: Global, core: &Core, decls: &Decls<'_>) -> Result<Flat, PhaseError> {
     let mut least = Least::new(alloc);
     match specialised(alloc, core, decls, &mut least) {

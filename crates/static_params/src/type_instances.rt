@@ -8,10 +8,10 @@ use fip_trees::decls::FieldType;
 use fip_trees::least::Least;
 use std::alloc::Global;
 
-/// The types but int: at the start bool, and what instances mention; each leads to its arguments and to the types of its
-/// constructors' fields. Instances mention the types in their headers, signatures included, in annotations and among
-/// their static arguments, also of functions that are passed, and the types without parameters whose constructors they
-/// name.
+/// The types but int: at the start bool, and what instances mention; each leads to its arguments and to the types of
+/// its constructors' fields. Instances mention the types in their headers, signatures included, in annotations and
+/// among their static arguments, also of functions that are passed, and the types without parameters whose constructors
+/// they name.
 #[derive(Clone, Copy)]
 pub struct TypeInstances<'r, 's, 'a> {
     pub source: &'r Source<'s, 'a>,

@@ -79,8 +79,8 @@ impl<'s, 'a> Source<'s, 'a> {
         Ok(place.unwrap_or(0))
     }
 
-    /// The place of a function that is called or passed, by its name and its static arguments. None where the use breaks
-    /// E11, E12, E20, E22 or E23; each violation is noted.
+    /// The place of a function that is called or passed, by its name and its static arguments. None where the use
+    /// breaks E11, E12, E20, E22 or E23; each violation is noted.
     #[cycle(uses)]
     pub fn closed_use(
         &self,
@@ -167,8 +167,8 @@ impl<'s, 'a> Source<'s, 'a> {
         }
     }
 
-    // Whether the functions that are passed fit their signatures; one that doesn't is E22. That isn't asked where a type
-    // argument beside them breaks a rule.
+    // Whether the functions that are passed fit their signatures; one that doesn't is E22. That isn't asked where a
+    // type argument beside them breaks a rule.
     fn check_passed(
         &self,
         shared: &mut Shared,
@@ -229,8 +229,8 @@ impl<'s, 'a> Source<'s, 'a> {
         Ok(fits)
     }
 
-    // Whether a function states no credit and has the parameters, the marks on those that aren't scalar, and the results
-    // of a signature.
+    // Whether a function states no credit and has the parameters, the marks on those that aren't scalar, and the
+    // results of a signature.
     fn fits(
         &self,
         shared: &mut Shared,
@@ -324,7 +324,8 @@ fn all_of(alloc: Global, arguments: &[Option<u32>]) -> Result<Option<Vec<u32>>, 
     Ok(Some(places))
 }
 
-// The places of those arguments that are types, with int for those that are functions; none where one of them is missing.
+// The places of those arguments that are types, with int for those that are functions; none where one of them is
+// missing.
 fn types_of(
     alloc: Global,
     parameters: &[Static],

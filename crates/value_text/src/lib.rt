@@ -1,9 +1,9 @@
 // Values as text: read into the cells of any loader, and printed from any store.
 //
-// A value of a data type is the name of its constructor and, where it has fields, their values in brackets; an int is its
-// digits, with a `-` directly before them where it is negative. Blanks (space, tab, CR) may stand between tokens. An input
-// has one line for each parameter; an LF ends a line and may be left out behind the last; behind that only blanks and LFs
-// may follow. For example `Cons(1, Cons(-2, Nil))`.
+// A value of a data type is the name of its constructor and, where it has fields, their values in brackets; an int is
+// its digits, with a `-` directly before them where it is negative. Blanks (space, tab, CR) may stand between tokens.
+// An input has one line for each parameter; an LF ends a line and may be left out behind the last; behind that only
+// blanks and LFs may follow. For example `Cons(1, Cons(-2, Nil))`.
 #![tactic(auto)]
 
 mod builder;

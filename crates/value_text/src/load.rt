@@ -114,10 +114,10 @@ fn make_credits(loader: &mut Loader, credits: &[u8], words: &mut Vec<u64>) -> Re
     Ok(())
 }
 
-/// Reads the values of the parameters, one line each, into the cells of a loader, and then makes a cell for each credit,
-/// of that size (from 1 to 16), its tag and fields 0. Gives the loader, and the words of the values and of the credits'
-/// cells. BadValue where the bytes are no text of the types; else Full where the cells that no released cell serves need
-/// more words than are left. Nesting costs no stack of the program.
+/// Reads the values of the parameters, one line each, into the cells of a loader, and then makes a cell for each
+/// credit, of that size (from 1 to 16), its tag and fields 0. Gives the loader, and the words of the values and of the
+/// credits' cells. BadValue where the bytes are no text of the types; else Full where the cells that no released cell
+/// serves need more words than are left. Nesting costs no stack of the program.
 pub fn load_values(
     alloc: Global,
     table: &TypeTable,
@@ -177,8 +177,8 @@ fn make_all(
     Ok((making.loader, words))
 }
 
-/// Reads one value of a type from a place on: the place behind it, and how many cells of each size it has. BadValue where
-/// none stands there.
+/// Reads one value of a type from a place on: the place behind it, and how many cells of each size it has. BadValue
+/// where none stands there.
 pub fn read_value(
     alloc: Global,
     table: &TypeTable,
@@ -194,8 +194,8 @@ pub fn read_value(
     Ok((reader.at(), counting.counts))
 }
 
-/// Makes the cells of the value of a type that stands at a place, for which the loader has room, and gives the loader and
-/// the value's word. BadValue where none stands there.
+/// Makes the cells of the value of a type that stands at a place, for which the loader has room, and gives the loader
+/// and the value's word. BadValue where none stands there.
 pub fn make_value(
     alloc: Global,
     table: &TypeTable,

@@ -167,8 +167,8 @@ impl<'a> Reader<'a> {
         Ok(word)
     }
 
-    /// The word of the value of a type that comes next. Each step reads a byte at least, so that there are at most as many
-    /// as bytes.
+    /// The word of the value of a type that comes next. Each step reads a byte at least, so that there are at most as
+    /// many as bytes.
     pub fn value<B: Builder>(
         &mut self,
         bytes: &[u8],

@@ -94,8 +94,8 @@ fn name_end(bytes: &[u8], at: usize) -> usize {
     at.max(bytes.len())
 }
 
-// The first place at which the bytes from `at` to `end` are the front of no constructor's name; `end` where they are the
-// front of one.
+// The first place at which the bytes from `at` to `end` are the front of no constructor's name; `end` where they are
+// the front of one.
 fn bad_name(constructors: &[Constructor], bytes: &[u8], at: usize, end: usize) -> usize {
     if at <= end && end <= bytes.len() {
         for i in at..end {

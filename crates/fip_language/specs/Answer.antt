@@ -43,7 +43,7 @@ pub data Reply : Type 0 where
   SourceTooLong : Reply
   -- rules E01 to E04: the rule's number and its place
   Misspelt : (rule : ℕ) (place : Place) → Reply
-  -- rule E09 at 1:1
+  -- a program that isn't a right one of the loop form
   NotRight : Reply
   -- rule E70
   NoEntry : (name : Name) → Reply

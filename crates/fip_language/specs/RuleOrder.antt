@@ -11,7 +11,6 @@ number R.E02 = 2
 number R.E03 = 3
 number R.E04 = 4
 number R.E05 = 5
-number R.E09 = 9
 number R.E10 = 10
 number R.E11 = 11
 number R.E12 = 12
@@ -62,48 +61,46 @@ phase R.E01 = 2
 phase R.E02 = 3
 phase R.E03 = 3
 phase R.E04 = 3
--- forms that don't run yet
-phase R.E09 = 4
 -- declarations
-phase R.E10 = 5
-phase R.E11 = 5
-phase R.E12 = 5
-phase R.E13 = 5
-phase R.E14 = 5
-phase R.E15 = 5
-phase R.E63 = 5
+phase R.E10 = 4
+phase R.E11 = 4
+phase R.E12 = 4
+phase R.E13 = 4
+phase R.E14 = 4
+phase R.E15 = 4
+phase R.E63 = 4
 -- static parameters
-phase R.E20 = 6
-phase R.E21 = 6
-phase R.E22 = 6
-phase R.E23 = 6
+phase R.E20 = 5
+phase R.E21 = 5
+phase R.E22 = 5
+phase R.E23 = 5
 -- types
-phase R.E30 = 7
-phase R.E31 = 7
-phase R.E32 = 7
-phase R.E33 = 7
-phase R.E34 = 7
+phase R.E30 = 6
+phase R.E31 = 6
+phase R.E32 = 6
+phase R.E33 = 6
+phase R.E34 = 6
 -- patterns
-phase R.E42 = 8
-phase R.E43 = 8
+phase R.E42 = 7
+phase R.E43 = 7
 -- coverage
-phase R.E40 = 9
-phase R.E41 = 9
+phase R.E40 = 8
+phase R.E41 = 8
 -- ownership
-phase R.E50 = 10
-phase R.E51 = 10
-phase R.E52 = 10
-phase R.E53 = 10
-phase R.E54 = 10
-phase R.E55 = 10
+phase R.E50 = 9
+phase R.E51 = 9
+phase R.E52 = 9
+phase R.E53 = 9
+phase R.E54 = 9
+phase R.E55 = 9
 -- credits
-phase R.E56 = 11
-phase R.E57 = 11
-phase R.E58 = 11
-phase R.E62 = 11
+phase R.E56 = 10
+phase R.E57 = 10
+phase R.E58 = 10
+phase R.E62 = 10
 -- calls outside tail position
-phase R.E59 = 12
+phase R.E59 = 11
 -- registers
-phase R.E60 = 13
+phase R.E60 = 12
 -- what is made of a program that breaks none of these: its entry, its code, its proofs and traces
-phase _ = 14
+phase _ = 13

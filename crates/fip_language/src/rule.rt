@@ -17,8 +17,6 @@ pub enum Rule {
     E04,
     /// The source is too long.
     E05,
-    /// A form that isn't supported yet.
-    E09,
     /// A name is declared twice.
     E10,
     /// A type name is unknown.
@@ -110,7 +108,6 @@ impl Rule {
             Rule::E03 => "E03",
             Rule::E04 => "E04",
             Rule::E05 => "E05",
-            Rule::E09 => "E09",
             Rule::E10 => "E10",
             Rule::E11 => "E11",
             Rule::E12 => "E12",

@@ -22,7 +22,6 @@ digits R.E02 = record { tens = 0; ones = 2; sum = refl; below = omega arith; is 
 digits R.E03 = record { tens = 0; ones = 3; sum = refl; below = omega arith; is = refl }
 digits R.E04 = record { tens = 0; ones = 4; sum = refl; below = omega arith; is = refl }
 digits R.E05 = record { tens = 0; ones = 5; sum = refl; below = omega arith; is = refl }
-digits R.E09 = record { tens = 0; ones = 9; sum = refl; below = omega arith; is = refl }
 digits R.E10 = record { tens = 1; ones = 0; sum = refl; below = omega arith; is = refl }
 digits R.E11 = record { tens = 1; ones = 1; sum = refl; below = omega arith; is = refl }
 digits R.E12 = record { tens = 1; ones = 2; sum = refl; below = omega arith; is = refl }

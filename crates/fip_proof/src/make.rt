@@ -257,11 +257,12 @@ impl Walk<'_> {
             } => {
                 let takes = *kind == MatchKind::Destructive && !self.program.is_scalar(*ty);
                 let asked = self.enter();
+                let need = asked.need;
                 let (rule, taken) = self.head(takes, scrutinee);
                 let opened = self.open_asked(rule, owned, asked)?;
                 let node = self.nodes.len().saturating_sub(1);
-                self.clause(node, taken, asked.need, first)?;
-                self.clauses(node, taken, asked.need, others)?;
+                self.clause(node, taken, need, first)?;
+                self.clauses(node, taken, need, others)?;
                 self.close(opened);
                 Ok(())
             }

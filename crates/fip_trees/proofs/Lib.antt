@@ -2,4 +2,6 @@ pub mod TreeViews
 pub mod RuleNames
 pub mod Leasts
 pub mod ScalarTables
+pub mod SizeLists
+pub mod NeedsLists
 pub mod MeaningLists

@@ -1,5 +1,10 @@
 // The call groups of a program, and what its instances hold of the stack.
+ghost use Rattle.std.specs.Prelude.{◌≡◌, List, None, Some, MatchOption, option_map, option_and_then, slice_get};
+ghost use Rattle.fip_trees.specs.Groups.{together};
+ghost use Rattle.fip_trees.specs.declared.groups.Member.{Member as a_member};
+
 use fip_base::plain::Stack;
+use std::marker::Model;
 
 /// What is known of an instance: the number of its group, its registers, and what a run of it holds of the stack.
 #[derive(Clone, Copy, Debug, PartialEq, Eq)]
@@ -18,19 +23,32 @@ pub struct Groups {
     members: Vec<Member>,
 }
 
+impl Model for Groups {
+    ghost Value = { List a_member };
+
+    ghost view = { λ g. g.members.items };
+}
+
 impl Groups {
     /// The groups of these instances, in order of their numbers.
-    pub fn new(members: Vec<Member>) -> Groups {
+    pub fn new(members: Vec<Member>) -> Groups
+        ensures same { result ≡ members.items }
+    {
         Groups { members }
     }
 
     /// What is known of an instance; none where there are fewer.
-    pub fn member(&self, instance: usize) -> Option<&Member> {
+    pub fn member(&self, instance: usize) -> Option<&Member>
+        ensures held { MatchOption result (slice_get self.now instance ≡ None)
+            (λ m. slice_get self.now instance ≡ Some m.now) }
+    {
         self.members.get(instance)
     }
 
     /// What a run of an instance holds of the stack at the most; none exactly where it isn't fip, or there are fewer.
-    pub fn stack_of(&self, instance: usize) -> Option<Stack> {
+    pub fn stack_of(&self, instance: usize) -> Option<Stack>
+        ensures held { result ≡ option_and_then (λ m. m.stack) (slice_get self.now instance) }
+    {
         match self.members.get(instance) {
             Some(member) => member.stack,
             None => None,
@@ -38,7 +56,9 @@ impl Groups {
     }
 
     /// The registers of an instance; none where there are fewer instances.
-    pub fn registers_of(&self, instance: usize) -> Option<usize> {
+    pub fn registers_of(&self, instance: usize) -> Option<usize>
+        ensures held { result ≡ option_map (λ m. m.registers) (slice_get self.now instance) }
+    {
         match self.members.get(instance) {
             Some(member) => Some(member.registers),
             None => None,
@@ -46,7 +66,9 @@ impl Groups {
     }
 
     /// Whether two instances are of one group; not so where there are fewer instances.
-    pub fn are_together(&self, one: usize, other: usize) -> bool {
+    pub fn are_together(&self, one: usize, other: usize) -> bool
+        ensures same { result ≡ together (slice_get self.now one) (slice_get self.now other) }
+    {
         match (self.members.get(one), self.members.get(other)) {
             (Some(first), Some(second)) => first.group == second.group,
             _ => false,

@@ -1,4 +1,4 @@
-use Rattle.std.proofs.Common.{◌≡◌, ◌∙◌, sym, ap, not, true, false}
+use Rattle.std.proofs.Common.{◌∙◌, sym, ap, not}
 use Rattle.fip_trees.specs.Names.{is_among, names, with_meaning}
 use Rattle.fip_trees.proofs.MeaningLists.{among_seen, added_new, added_old, none_seen}
 use Rattle.indexmap.proofs.CallerLemmas.{insert_entry-new}

@@ -1,0 +1,7 @@
+use Rattle.std.proofs.Common.{◌≡◌}
+use Rattle.fip_trees.specs.Sizes.{greater}
+use Rattle.fip_trees.proofs.SizeLists.{half}
+use Rattle.fip_trees.proofs.sizes.Sizes.at_least.Given as goal
+
+abbrev pub invariant-loop-k : goal.invariant-loop-k
+invariant-loop-k l = l.self-inside.numbers ≡ half greater l.k l.initial.self-inside.numbers l.other-inside.numbers

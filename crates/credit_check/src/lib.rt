@@ -1,7 +1,10 @@
 // The rules on credits: what the expressions of a program need of each size, and what patterns and headers give.
 #![tactic(auto)]
 
+mod check;
+mod context;
 mod needs;
+mod notes;
 mod walk;
 
-pub use walk::check_credits;
+pub use check::check_credits;

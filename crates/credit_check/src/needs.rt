@@ -1,50 +1,95 @@
 // What arguments need and patterns give, of cells of each size.
-use fip_trees::program::{Argument, Pattern};
+ghost use Rattle.std.specs.Prelude.{◌≡◌, slice_get, IfOk, OnOk};
+ghost use Rattle.fip_trees.specs.Sizes.{no_sizes};
+ghost use Rattle.fip_trees.specs.TreeView as V;
+ghost use Rattle.credit_check.specs.Tallies as L;
+
+use fip_base::plain::NoMemory;
+use fip_trees::program::{Argument, Instance, Pattern};
 use fip_trees::sizes::Sizes;
 
 /// Adds what an argument needs: a credit for each constructor with fields.
-pub fn add_argument(sizes: &mut Sizes, argument: &Argument) {
-    if let Argument::Constructor { arguments, .. } = argument {
-        sizes.add_one(arguments.len());
-        for part in arguments {
-            add_argument(sizes, part);
+#[cycle(argument)]
+pub fn add_argument(sizes: &mut Sizes, argument: &Argument) -> Result<(), NoMemory>
+    ensures added { OnOk result (sizes.new ≡ L.made_from sizes.old (V.argument argument.now)) }
+{
+    match argument {
+        Argument::Variable { .. } => Ok(()),
+        Argument::Literal { .. } => Ok(()),
+        Argument::Constructor { arguments, .. } => {
+            sizes.try_add_one(arguments.len())?;
+            add_arguments(sizes, arguments)?;
+            Ok(())
         }
     }
 }
 
-/// Adds what a pattern gives: a credit for each constructor with fields.
-pub fn add_pattern(sizes: &mut Sizes, pattern: &Pattern) {
-    if let Pattern::Constructor { patterns, .. } = pattern {
-        sizes.add_one(patterns.len());
-        for part in patterns {
-            add_pattern(sizes, part);
-        }
-    }
-}
-
-/// What some arguments need.
-pub fn needed(arguments: &[Argument]) -> Sizes {
-    let mut sizes = Sizes::none();
+/// Adds what some arguments need.
+#[cycle(argument)]
+pub fn add_arguments(sizes: &mut Sizes, arguments: &[Argument]) -> Result<(), NoMemory>
+    ensures added { OnOk result (sizes.new ≡ L.made_all_from sizes.old (V.arguments arguments.now)) }
+{
     for argument in arguments {
-        add_argument(&mut sizes, argument);
+        add_argument(sizes, argument)?;
     }
-    sizes
+    Ok(())
+}
+
+// Adds what a pattern gives: a credit for each constructor with fields.
+#[cycle(pattern)]
+fn add_pattern(sizes: &mut Sizes, pattern: &Pattern) -> Result<(), NoMemory>
+    ensures added { OnOk result (sizes.new ≡ L.nodes_from sizes.old (V.pattern pattern.now)) }
+{
+    match pattern {
+        Pattern::Binder(_) => Ok(()),
+        Pattern::Literal { .. } => Ok(()),
+        Pattern::Constructor { patterns, .. } => {
+            sizes.try_add_one(patterns.len())?;
+            add_patterns(sizes, patterns)?;
+            Ok(())
+        }
+    }
+}
+
+#[cycle(pattern)]
+fn add_patterns(sizes: &mut Sizes, patterns: &[Pattern]) -> Result<(), NoMemory>
+    ensures added { OnOk result (sizes.new ≡ L.nodes_all_from sizes.old (V.patterns patterns.now)) }
+{
+    for pattern in patterns {
+        add_pattern(sizes, pattern)?;
+    }
+    Ok(())
 }
 
 /// What a pattern gives where its match takes the scrutinee apart.
-pub fn given(takes: bool, pattern: &Pattern) -> Sizes {
+pub fn given(is_taken: bool, pattern: &Pattern) -> Result<Sizes, NoMemory>
+    ensures given { IfOk result (λ s. s ≡ L.given_sizes is_taken (V.pattern pattern.now)) }
+{
     let mut sizes = Sizes::none();
-    if takes {
-        add_pattern(&mut sizes, pattern);
+    if is_taken {
+        add_pattern(&mut sizes, pattern)?;
     }
-    sizes
+    Ok(sizes)
 }
 
 /// What the header that marks these credits gives its body, and asks of a call.
-pub fn marked(credits: &[u8]) -> Sizes {
+pub fn marked(credits: &[u8]) -> Result<Sizes, NoMemory>
+    ensures marked { IfOk result (λ s. s ≡ L.marked_from no_sizes credits.now) }
+{
     let mut sizes = Sizes::none();
     for size in credits {
-        sizes.add_one(*size as usize);
+        sizes.try_add_one(*size as usize)?;
     }
-    sizes
+    Ok(sizes)
+}
+
+/// Adds what the header of a callee asks; nothing where there is none.
+pub fn add_asked(sizes: &mut Sizes, instances: &[Instance], callee: u32) -> Result<(), NoMemory>
+    ensures added { OnOk result (sizes.new ≡
+        L.asked_from sizes.old (slice_get (V.instances instances.now) callee)) }
+{
+    match instances.get(callee as usize) {
+        None => Ok(()),
+        Some(instance) => sizes.try_add(&marked(&instance.credits)?),
+    }
 }

@@ -1,0 +1,4 @@
+pub mod Needs
+pub mod Credits
+pub mod Held
+pub mod Tallies

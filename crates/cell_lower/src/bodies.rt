@@ -71,15 +71,15 @@ impl<'a> Lowerer<'a> {
                 others,
                 ..
             } => {
+                let need = self.enter();
                 let written = Written {
                     takes: *kind == MatchKind::Destructive && !self.is_scalar(*ty),
                     ty: *ty,
                     scrutinee,
                     first,
                     others: others.as_slice(),
-                    need: self.enter(),
                 };
-                let mut matching = self.start_match(written, target)?;
+                let mut matching = self.start_match(written, need, target)?;
                 self.clause(&mut matching, first, target)?;
                 self.clauses(&mut matching, others, target)?;
                 self.end_match(matching)

@@ -1,4 +1,10 @@
 // The code of a program.
+ghost use Rattle.std.specs.Prelude.{◌≡◌, IfOk, IfErr};
+ghost use Rattle.fip_base.specs.declared.refusal.PhaseError.TheVariants as PhaseError;
+ghost use Rattle.fip_trees.specs.TreeView as V;
+ghost use Rattle.fip_trees.specs.declared.least.Violation.{Violation};
+ghost use Rattle.cell_lower.specs.Limits.{Breaks, Says};
+
 use crate::copies::table_of;
 use crate::limits::note_limits;
 use crate::lowerer::{Context, Lowerer, Target};
@@ -15,23 +21,32 @@ use std::alloc::Global;
 /// registers as the groups tell. The program is asked to have kept all rules up to E59, and `needs` and `groups` to be
 /// its own.
 ///
-/// Refused: E60, an instance that isn't plain needs more than 4,096 registers, or has a match and a variable or a
-/// pattern node of a type with cells that has more than 65,535 constructors. NoMemory: no memory is left.
+/// Refused exactly where E60 is broken, for the least violation by place and instance: an instance that isn't plain has
+/// more than 4,096 registers, or has a match and a parameter, a binder or a pattern node of a type with cells that has
+/// more than 65,535 constructors. NoMemory: no memory is left.
 pub fn lower(
     alloc: Global,
     typed: &Typed,
     needs: &Needs,
     groups: &Groups,
-) -> Result<Code, PhaseError> {
+) -> Result<Code, PhaseError>
+    ensures within { IfOk result (λ _. (v : Violation) → Breaks (V.program typed.now.program) groups.now v → ⊥) }
+    ensures least { IfErr result (λ e. Says (V.program typed.now.program) groups.now e) }
+{
     match note_limits(alloc, &typed.program, groups) {
-        Err(NoMemory) => return Err(PhaseError::NoMemory),
-        Ok(least) => {
-            if let Some(refusal) = least.into_refusal() {
-                return Err(PhaseError::Refused(refusal));
-            }
-        }
+        Err(NoMemory) => Err(PhaseError::NoMemory),
+        Ok(least) => match least.into_refusal() {
+            None => in_phase(code_of(alloc, &typed.program, needs, groups)),
+            Some(refusal) => Err(PhaseError::Refused(refusal)),
+        },
     }
-    match code_of(alloc, &typed.program, needs, groups) {
+}
+
+// What was made, or want of memory as the phase's error.
+fn in_phase(made: Result<Code, NoMemory>) -> Result<Code, PhaseError>
+    ensures memory { IfErr result (λ e. e ≡ PhaseError.NoMemory) }
+{
+    match made {
         Err(NoMemory) => Err(PhaseError::NoMemory),
         Ok(code) => Ok(code),
     }

@@ -28,7 +28,7 @@ pub struct Matching {
     joined: Option<Frame>,
 }
 
-/// A match as it is written: what it does with its scrutinee, and what it takes from around it.
+/// A match as it is written.
 #[derive(Clone, Copy)]
 pub struct Written<'t> {
     pub takes: bool,
@@ -36,14 +36,14 @@ pub struct Written<'t> {
     pub scrutinee: &'t Argument,
     pub first: &'t Clause,
     pub others: &'t [Clause],
-    pub need: Sizes,
 }
 
 impl<'a> Lowerer<'a> {
-    /// Writes the tests of a match.
+    /// Writes the tests of a match that needs so many credits.
     pub fn start_match(
         &mut self,
         written: Written<'_>,
+        need: Sizes,
         target: Target<'_>,
     ) -> Result<Matching, NoMemory> {
         let alloc = self.context.alloc;
@@ -60,7 +60,7 @@ impl<'a> Lowerer<'a> {
             leaves,
             entry,
             used,
-            need: written.need,
+            need,
             clause: 0,
             ends: Vec::new(alloc),
             joined: None,

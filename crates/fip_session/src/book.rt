@@ -1,5 +1,8 @@
 // What a session knows beside the cells: the program, the room of each run, and what names hold.
-ghost use Rattle.std.specs.Prelude.{◌<◌, ◌≤◌, length, IfSome};
+ghost use Rattle.std.specs.Prelude.{◌≡◌, ◌<◌, ◌≤◌, length, IfSome};
+ghost use Rattle.std.specs.BTreeMap.{get_by};
+ghost use Rattle.std.specs.Cmp.Lexicographic.{slice_cmp};
+ghost use Rattle.std.specs.Ordering.{nat_cmp};
 
 use crate::entries::{Entries, frames_of};
 use crate::trees::{MOST_CELLS, Trees};
@@ -77,7 +80,9 @@ impl<'a> Book<'a> {
     }
 
     /// What a name holds.
-    pub fn find(&self, name: &[u8]) -> Option<Held> {
+    pub fn find(&self, name: &[u8]) -> Option<Held>
+        ensures held { result ≡ get_by (λ k. slice_cmp nat_cmp name.now k.items) self.now.held }
+    {
         self.held.get(name).copied()
     }
 

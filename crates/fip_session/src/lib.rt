@@ -18,6 +18,7 @@ mod task_line;
 mod tasks;
 mod trees;
 
+pub use book::Held;
 pub use commands::{Room, TasksError, session_reply, tasks_reply};
 pub use session::Session;
 pub use task::{Start, Turned};

@@ -1,7 +1,10 @@
 // A session: a store whose values have names.
-ghost use Rattle.std.specs.Prelude.{◌≤◌};
+ghost use Rattle.std.specs.Prelude.{◌≡◌, ◌≤◌};
+ghost use Rattle.std.specs.BTreeMap.{get_by};
+ghost use Rattle.std.specs.Cmp.Lexicographic.{slice_cmp};
+ghost use Rattle.std.specs.Ordering.{nat_cmp};
 
-use crate::book::Book;
+use crate::book::{Book, Held};
 use crate::call::call;
 use crate::line::{Line, line_of};
 use crate::reply::{Reply, reply_text};
@@ -78,6 +81,13 @@ impl<'a> Session<'a> {
         };
         let text = reply_text(alloc, reply)?;
         Ok((Session { book, cells }, text))
+    }
+
+    /// What a name holds; none where it isn't held.
+    pub fn held(&self, name: &[u8]) -> Option<Held>
+        ensures same { result ≡ get_by (λ k. slice_cmp nat_cmp name.now k.items) self.now.book.held }
+    {
+        self.book.find(name)
     }
 
     /// The cells, as they are between lines.

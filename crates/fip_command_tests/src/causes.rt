@@ -1,6 +1,6 @@
 // Which cause is named where several stand together, and what isn't read or stored then.
 
-use crate::programs::{LISTS, NEW_REVERSE};
+use memory_host::programs::{LISTS, NEW_REVERSE};
 use memory_host::{Host, Seen, bytes_of, host_of, repeated, run};
 use std::alloc::{AllocError, Global};
 use std::test::Fail;

@@ -4,15 +4,7 @@
 #[cfg(test)]
 mod causes;
 #[cfg(test)]
-mod codes;
-#[cfg(test)]
-mod faults;
-#[cfg(test)]
 mod library;
-#[cfg(test)]
-mod loops;
-#[cfg(test)]
-mod programs;
 #[cfg(test)]
 mod runs;
 #[cfg(test)]

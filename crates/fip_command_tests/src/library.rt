@@ -1,6 +1,6 @@
 // The texts of `library`: each is a right program, whose functions give what they should.
 
-use crate::programs::{LIST, REVERSED};
+use memory_host::programs::{LIST, REVERSED};
 use memory_host::{Host, Row, first_wrong_run, host_of, run};
 use std::alloc::{AllocError, Global};
 use std::test::Fail;

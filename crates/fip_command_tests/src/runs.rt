@@ -1,6 +1,6 @@
 // What `exec`, `run` and `eval` end with, one table for all where they end alike.
 
-use crate::programs::{ARGUMENTS, LIST, LISTS, MAPS, NOT_UNDERSTOOD, REVERSED};
+use memory_host::programs::{ARGUMENTS, LIST, LISTS, MAPS, NOT_UNDERSTOOD, REVERSED};
 use memory_host::{Row, first_wrong_run, host_of, run};
 use std::alloc::{AllocError, Global};
 use std::test::Fail;

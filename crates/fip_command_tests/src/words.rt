@@ -1,6 +1,6 @@
 // Command lines: what is one, and what each command does with the words of its own.
 
-use crate::programs::{ARGUMENTS, FUNCTIONS, LISTS, MISSING};
+use memory_host::programs::{ARGUMENTS, FUNCTIONS, LISTS, MISSING};
 use memory_host::{Row, first_understood, first_wrong_run};
 use std::test::Fail;
 

@@ -19,11 +19,12 @@ fn fault_line(object: Object) -> &'static str {
     }
 }
 
-// A host whose streams move one byte a call, and of one of whose objects these calls fail.
-fn failing<'a>(file: &'a [u8], input: &'a [u8], object: Object, fails: &'a [u64]) -> Host<'a> {
+// The host with this input, streams that move one byte a call, and an object of which these calls fail.
+fn failing<'a>(host: Host<'a>, input: &'a [u8], object: Object, fails: &'a [u64]) -> Host<'a> {
     let host = Host {
+        input,
         pieces: SINGLE,
-        ..host_of(file, input)
+        ..host
     };
     match object {
         Object::Folder => Host {
@@ -55,12 +56,13 @@ fn is_told(err: &[u8], text: &[u8], line: &str) -> bool {
     err.strip_prefix(text) == Some(line.as_bytes())
 }
 
-// Whether the input is as it must be where a call of an object failed, after so many that didn't.
+// Whether the input is as it must be where a call of an object failed, after so many that didn't: the folder's first
+// call fetches, before the input's turn.
 fn is_left_rightly(seen: &Seen, row: Row<'_>, object: Object, before: usize) -> bool {
     match object {
-        Object::Folder => seen.left == row.1.len(),
+        Object::Folder if before == 0 => seen.left == row.1.len(),
         Object::Input => seen.left == row.1.len().saturating_sub(before),
-        Object::Out | Object::Err => is_read_rightly(seen, row),
+        Object::Folder | Object::Out | Object::Err => is_read_rightly(seen, row),
     }
 }
 
@@ -94,7 +96,7 @@ fn is_kept(seen: &Seen, row: Row<'_>, object: Object) -> bool {
 // of them ends otherwise.
 fn faulted_runs(
     alloc: Global,
-    file: &[u8],
+    host: Host<'_>,
     row: Row<'_>,
     object: Object,
 ) -> Result<Option<usize>, AllocError> {
@@ -103,7 +105,7 @@ fn faulted_runs(
         let seen = run(
             alloc,
             row.0,
-            failing(file, row.1.as_bytes(), object, &fails),
+            failing(host, row.1.as_bytes(), object, &fails),
         )?;
         if is_right(&seen, row) {
             return Ok(Some(before));
@@ -122,28 +124,29 @@ pub type FaultRow<'a> = (Row<'a>, [usize; 4]);
 // Whether the runs in which each call of each object fails in turn end as they must.
 fn are_faults_right(
     alloc: Global,
-    file: &[u8],
+    host: Host<'_>,
     row: Row<'_>,
     counts: [usize; 4],
 ) -> Result<bool, AllocError> {
     let [folder, input, out, err] = counts;
     Ok(
-        faulted_runs(alloc, file, row, Object::Folder)? == Some(folder)
-            && faulted_runs(alloc, file, row, Object::Input)? == Some(input)
-            && faulted_runs(alloc, file, row, Object::Out)? == Some(out)
-            && faulted_runs(alloc, file, row, Object::Err)? == Some(err),
+        faulted_runs(alloc, host, row, Object::Folder)? == Some(folder)
+            && faulted_runs(alloc, host, row, Object::Input)? == Some(input)
+            && faulted_runs(alloc, host, row, Object::Out)? == Some(out)
+            && faulted_runs(alloc, host, row, Object::Err)? == Some(err),
     )
 }
 
-/// The words of the first row of which a run in which a call of an object fails doesn't end as it must: with status 9
-/// and the object's line on err, behind what was written of the row's text before. Want of memory is the one error.
+/// The words of the first row of which a run over a host's files, in which a call of an object fails, doesn't end as it
+/// must: with status 9 and the object's line on err, behind what was written of the row's text before. Want of memory
+/// is the one error.
 pub fn first_wrong_faults<'a>(
     alloc: Global,
-    file: &[u8],
+    host: Host<'_>,
     rows: &[FaultRow<'a>],
 ) -> Result<Option<&'a str>, AllocError> {
     for (row, counts) in rows {
-        if !are_faults_right(alloc, file, *row, *counts)? {
+        if !are_faults_right(alloc, host, *row, *counts)? {
             return Ok(Some(row.0));
         }
     }
@@ -172,7 +175,7 @@ pub fn untold_runs(
         let fails = [before as u64 + 1];
         let host = Host {
             err_fails: &fails,
-            ..failing(file, row.1.as_bytes(), object, &[1])
+            ..failing(host_of(file, b""), row.1.as_bytes(), object, &[1])
         };
         let seen = run(alloc, row.0, host)?;
         if !is_untold(&seen, object, before) {

@@ -7,15 +7,16 @@ use std::alloc::{AllocError, Global};
 /// Pieces of one byte each.
 pub const SINGLE: &[usize] = &[1; 2000];
 
-// A file that no command is told of.
+// What the file `other` holds where no command is told of it.
 const OTHER: &[u8] = b"as it was\n";
 
-/// What a host hands in: its folder has a file `a.fp` and one that no command is told of, and its err has room for
-/// 1,000 bytes.
+/// What a host hands in: its folder has the files `a.fp` and `other`, and its err has room for 1,000 bytes.
 #[derive(Clone, Copy)]
 pub struct Host<'a> {
-    /// The bytes of the file `a.fp`, a source or a code.
+    /// The bytes of the file `a.fp`, a source, a code or a trace.
     pub file: &'a [u8],
+    /// The bytes of the file `other`, a proof where a command is told of it.
+    pub other: &'a [u8],
     /// The bytes of the input.
     pub input: &'a [u8],
     /// The most bytes that the first, the second and so on call of each stream moves; past its end a call moves all.
@@ -36,6 +37,7 @@ pub struct Host<'a> {
 pub fn host_of<'a>(file: &'a [u8], input: &'a [u8]) -> Host<'a> {
     Host {
         file,
+        other: OTHER,
         input,
         pieces: &[],
         room: 1_000_000,
@@ -83,7 +85,7 @@ fn file_of(alloc: Global, name: &str, bytes: &[u8]) -> Result<(String, Vec<u8>),
 fn folder_of(alloc: Global, host: &Host<'_>) -> Result<MemFolder, AllocError> {
     let mut files = Vec::new(alloc);
     files.push(file_of(alloc, "a.fp", host.file)?)?;
-    files.push(file_of(alloc, "other", OTHER)?)?;
+    files.push(file_of(alloc, "other", host.other)?)?;
     let fails = Vec::from_slice(alloc, host.folder_fails)?;
     Ok(MemFolder::new(alloc, files, fails))
 }
@@ -146,6 +148,6 @@ pub fn run(alloc: Global, words: &str, host: Host<'_>) -> Result<Seen, AllocErro
         err,
         left: input.bytes().len(),
         stored: stored_in(alloc, &folder)?,
-        same_files: has_file(&folder, "a.fp", host.file) && has_file(&folder, "other", OTHER),
+        same_files: has_file(&folder, "a.fp", host.file) && has_file(&folder, "other", host.other),
     })
 }

@@ -4,6 +4,7 @@
 
 mod faults;
 mod host;
+pub mod programs;
 mod rows;
 mod texts;
 

@@ -8,20 +8,26 @@ use std::alloc::{AllocError, Global};
 /// must end with. The text is out's after status 0, and err's after another.
 pub type Row<'a> = (&'a str, &'a str, u8, &'a str);
 
-// Whether a command reads the input.
-fn reads_input(words: &str) -> bool {
-    words.starts_with("exec ") || words.starts_with("run ") || words.starts_with("eval ")
-}
+// The commands that read the input.
+const READERS: &[&str] = &["exec ", "run ", "eval ", "trace ", "session ", "tasks "];
 
-// Whether a command stores a file.
-fn stores(words: &str) -> bool {
-    words.starts_with("compile ") || words.starts_with("upgrade ")
+// The commands that store a file.
+const STORERS: &[&str] = &["compile ", "upgrade ", "derive ", "trace "];
+
+// Whether a command line begins with one of these.
+fn is_one_of(words: &str, commands: &[&str]) -> bool {
+    for command in commands {
+        if words.starts_with(command) {
+            return true;
+        }
+    }
+    false
 }
 
 /// Whether the input was read to its end where the row's command reads it and the words, the file and the entry are
 /// right, and is untouched elsewhere.
 pub(crate) fn is_read_rightly(seen: &Seen, row: Row<'_>) -> bool {
-    if reads_input(row.0) && !matches!(row.2, 1 | 2 | 8 | 9) {
+    if is_one_of(row.0, READERS) && !matches!(row.2, 1 | 2 | 8 | 9) {
         seen.left == 0
     } else {
         seen.left == row.1.len()
@@ -30,7 +36,7 @@ pub(crate) fn is_read_rightly(seen: &Seen, row: Row<'_>) -> bool {
 
 /// Whether a file was stored where the row's command stores one, and none elsewhere.
 pub(crate) fn is_stored_rightly(seen: &Seen, row: Row<'_>) -> bool {
-    seen.stored.is_some() == (row.2 == 0 && stores(row.0))
+    seen.stored.is_some() == (row.2 == 0 && is_one_of(row.0, STORERS))
 }
 
 // Whether out and err hold what the row says.

@@ -1,7 +1,7 @@
 // `exec` on the path of the loop form.
 
-use crate::programs::{ARGUMENTS, NOT_UNDERSTOOD, REVERSED};
 use command_outcome::Object;
+use memory_host::programs::{ARGUMENTS, NOT_UNDERSTOOD, REVERSED};
 use memory_host::{
     FaultRow, Host, Row, first_wrong_faults, first_wrong_run, host_of, run, untold_runs,
 };

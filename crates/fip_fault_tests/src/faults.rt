@@ -1,9 +1,9 @@
 // Each call of each object of a host fails in turn, the streams moving one byte a call, until a run ends without a
 // fault.
 
-use crate::programs::{ARGUMENTS, FUNCTIONS, LIST, LISTS, NEW_REVERSE, NOT_UNDERSTOOD};
 use command_outcome::Object;
-use memory_host::{FaultRow, bytes_of, first_wrong_faults, untold_runs};
+use memory_host::programs::{ARGUMENTS, FUNCTIONS, LIST, LISTS, NEW_REVERSE, NOT_UNDERSTOOD};
+use memory_host::{FaultRow, bytes_of, first_wrong_faults, host_of, untold_runs};
 use std::test::Fail;
 
 // Over `LISTS`. The counts are those of the folder, the input, out and err.
@@ -117,7 +117,7 @@ bound: 0 frames, 9 words
 #[test]
 fn each_fault_of_a_command_over_a_source_is_told(rt: HostRuntime) -> Result<(), Fail> {
     assert_eq!(rt;
-        first_wrong_faults(rt.alloc(), LISTS.as_bytes(), ON_SOURCES)?,
+        first_wrong_faults(rt.alloc(), host_of(LISTS.as_bytes(), b""), ON_SOURCES)?,
         None
     );
     Ok(())
@@ -125,7 +125,10 @@ fn each_fault_of_a_command_over_a_source_is_told(rt: HostRuntime) -> Result<(), 
 
 #[test]
 fn each_fault_of_a_command_without_a_file_is_told(rt: HostRuntime) -> Result<(), Fail> {
-    assert_eq!(rt; first_wrong_faults(rt.alloc(), b"", ON_NO_FILE)?, None);
+    assert_eq!(rt;
+        first_wrong_faults(rt.alloc(), host_of(b"", b""), ON_NO_FILE)?,
+        None
+    );
     Ok(())
 }
 
@@ -133,7 +136,10 @@ fn each_fault_of_a_command_without_a_file_is_told(rt: HostRuntime) -> Result<(),
 fn each_fault_of_a_command_over_a_code_is_told(rt: HostRuntime) -> Result<(), Fail> {
     let alloc = rt.alloc();
     let code = bytes_of(alloc, NEW_REVERSE)?;
-    assert_eq!(rt; first_wrong_faults(alloc, code.as_slice(), ON_CODES)?, None);
+    assert_eq!(rt;
+        first_wrong_faults(alloc, host_of(code.as_slice(), b""), ON_CODES)?,
+        None
+    );
     Ok(())
 }
 

@@ -1,6 +1,8 @@
 // Code files from anywhere: each rule of sound code is broken, each part of a file; and `upgrade`.
 
-use crate::programs::{ARGUMENTS, CODED_FUNCTIONS, LISTS, NEW_REVERSE, OLD_REVERSE, REVERSED};
+use memory_host::programs::{
+    ARGUMENTS, CODED_FUNCTIONS, LISTS, NEW_REVERSE, OLD_REVERSE, REVERSED,
+};
 use memory_host::{Row, bytes_of, first_wrong_code, first_wrong_run, host_of, repeated, run};
 use std::alloc::{AllocError, Global};
 use std::test::Fail;

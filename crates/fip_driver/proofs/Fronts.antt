@@ -122,3 +122,5 @@ loop_taken source entry p l e h = subst (λ p. Takes source_spelling source entr
 
 pub whole_taken : (source entry : List ℕ) (p : Path) → p ≡ P.Whole → Takes source_spelling source entry p → IsOutside source_spelling source
 whole_taken source entry p e h = subst (λ p. Takes source_spelling source entry p) e h
+
+pub ruleset fronts = (spelling_front, other_front, none_front)

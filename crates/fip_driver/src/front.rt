@@ -78,7 +78,7 @@ pub enum Path {
 /// The path of a source: that of the loop form where it is a right loop program whose function has the entry's name,
 /// that of the whole language where it is another program. E01 to E04 where the source is no program, E70 where it is a
 /// right loop program and no function has the entry's name.
-#[tactic(auto, using(crate::proofs::Fronts::spelling_front, crate::proofs::Fronts::other_front, crate::proofs::Fronts::none_front))]
+#[tactic(auto, using(crate::proofs::Fronts::fronts))]
 pub fn path_of(alloc: Global, source: &[u8], entry: &str) -> Result<Path, Failure>
     ensures sound { IfOk result IsSoundPath }
     ensures path { IfOk result (λ p. Takes source_spelling source.now entry.now p) }

@@ -98,14 +98,48 @@ pub fn put<C: Cells>(cells: &mut C, frame: &[u64], place: u32, tag: u32, registe
     }
 }
 
+#[inline(never)]
+fn clear_all(words: &mut [u64], from: usize, to: usize)
+    requires { to ≤ length words.old }
+    ensures { Keeps from words.old words.new }
+{
+    for i in from..to {
+        words[i] = 0;
+    }
+}
+
 /// The words from `from` up to `to` become 0.
 #[inline(always)]
 pub fn clear(words: &mut [u64], from: usize, to: usize)
     requires { to ≤ length words.old }
     ensures { Keeps from words.old words.new }
 {
-    for i in from..to {
-        words[i] = 0;
+    match to.saturating_sub(from) {
+        0 => {}
+        1 => words[from] = 0,
+        2 => {
+            words[from] = 0;
+            words[from + 1] = 0;
+        }
+        3 => {
+            words[from] = 0;
+            words[from + 1] = 0;
+            words[from + 2] = 0;
+        }
+        4 => {
+            words[from] = 0;
+            words[from + 1] = 0;
+            words[from + 2] = 0;
+            words[from + 3] = 0;
+        }
+        5 => {
+            words[from] = 0;
+            words[from + 1] = 0;
+            words[from + 2] = 0;
+            words[from + 3] = 0;
+            words[from + 4] = 0;
+        }
+        _ => clear_all(words, from, to),
     }
 }
 

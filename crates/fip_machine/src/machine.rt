@@ -45,8 +45,8 @@ pub struct Machine<'a> {
 
 impl<'a> Machine<'a> {
     /// The machine at the start of a function of the code, with the words of its arguments and then of its credits, and
-    /// so many free frames, at most 1,000,000; a fip function is given as many as it needs. The loader is sealed. The
-    /// memory of the whole run is taken: no later call takes any. An error where it is not there.
+    /// so many free frames, at most 1,000,000; the caller gives a fip function as many as it needs. The loader is
+    /// sealed. The memory of the whole run is taken: no later call takes any. An error where it is not there.
     pub fn start(
         alloc: Global,
         verified: &'a Verified,

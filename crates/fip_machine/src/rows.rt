@@ -605,7 +605,7 @@ fn drop_tree<C: Cells>(
 
 // Does an instruction.
 #[inline(always)]
-fn act<'a, C: Cells>(
+fn act<'a, C: Cells, const IN_LOOP: bool>(
     verified: &'a Verified,
     bounds: Bounds,
     cells: &mut C,
@@ -774,9 +774,10 @@ fn act<'a, C: Cells>(
     }
 }
 
-/// Does the instruction that is next.
+/// Does the instruction that is next. The loop of a run and a single step have each a copy of it, so that each copy has
+/// one caller and is inlined there: in the loop the cursor is then registers of the processor.
 #[inline(always)]
-pub fn advance<'a, C: Cells>(
+pub fn advance<'a, C: Cells, const IN_LOOP: bool>(
     verified: &'a Verified,
     bounds: Bounds,
     cells: &mut C,
@@ -798,5 +799,5 @@ pub fn advance<'a, C: Cells>(
 {
     let instrs = cursor.instrs;
     let instr = &instrs[cursor.at];
-    act(verified, bounds, cells, words, beside, cursor, instr)
+    act::<C, IN_LOOP>(verified, bounds, cells, words, beside, cursor, instr)
 }

@@ -169,7 +169,7 @@ fn burst<'a, C: Cells>(
         usize::MAX
     };
     let pause = 'steps: loop {
-        match advance(verified, bounds, cells, words, beside, &mut here) {
+        match advance::<C, true>(verified, bounds, cells, words, beside, &mut here) {
             Stepped::Went => {}
             Stepped::Entered => {
                 calls -= 1;
@@ -194,8 +194,8 @@ fn burst<'a, C: Cells>(
 
 impl<'a> TaskStack<'a> {
     /// The frames at the start of a function of the code, with the words of its arguments and then of its credits, and
-    /// so many free frames, at most 1,000,000; a fip function is given as many as it needs. The memory of the whole run
-    /// is taken. An error where it is not there.
+    /// so many free frames, at most 1,000,000; the caller gives a fip function as many as it needs. The memory of the
+    /// whole run is taken. An error where it is not there.
     pub fn start(
         alloc: Global,
         verified: &'a Verified,
@@ -242,7 +242,7 @@ impl<'a> TaskStack<'a> {
             return ended;
         }
         make_room(&mut self.words, self.bounds, &self.cursor);
-        let stepped = advance(
+        let stepped = advance::<C, false>(
             self.verified,
             self.bounds,
             cells,

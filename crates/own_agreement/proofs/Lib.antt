@@ -1,0 +1,11 @@
+pub mod Quiet
+pub mod Basics
+pub mod Owning
+pub mod Always
+pub mod Bridge
+pub mod Binders
+pub mod Whole
+pub mod Amounts
+pub mod Evens
+pub mod Parameters
+pub mod Instances

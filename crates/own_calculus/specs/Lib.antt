@@ -1,0 +1,5 @@
+pub mod Terms
+pub mod Rules
+pub mod ByCases
+pub mod Clean
+pub mod Functions

@@ -1,1 +1,12 @@
+mod Ends
+mod Joins
+mod Leaves
+mod Lists
+mod Meets
+mod Paths
+mod Pieces
+mod Solutions
+mod Steps
+mod Tops
 mod Unmet
+mod Whole

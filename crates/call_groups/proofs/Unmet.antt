@@ -15,10 +15,7 @@ unmet_met [] f s h e = absurd (none-some New h)
 unmet_met (t ∷ ss) zero s h e = let one : one_if_new t ≡ 1 = is_one t h in omega arith
 unmet_met (t ∷ ss) (suc f) s h e = let less : unmet (set ss f s) < unmet ss = unmet_met ss f s h e in omega arith
 
-unmet_put : (ss : List Standing) (f : ℕ) (s : Standing) → one_if_new s ≡ 0 → unmet (set ss f s) ≤ unmet ss
+pub unmet_put : (ss : List Standing) (f : ℕ) (s : Standing) → one_if_new s ≡ 0 → unmet (set ss f s) ≤ unmet ss
 unmet_put [] f s e = omega arith
 unmet_put (t ∷ ss) zero s e = omega arith
 unmet_put (t ∷ ss) (suc f) s e = let less : unmet (set ss f s) ≤ unmet ss = unmet_put ss f s e in omega arith
-
-pub unmet_grouped : (ss : List Standing) (f g n : ℕ) → unmet ss ≤ n → unmet (set ss f (Grouped g)) ≤ n
-unmet_grouped ss f g n h = let less : unmet (set ss f (Grouped g)) ≤ unmet ss = unmet_put ss f (Grouped g) refl in omega arith

@@ -1,1 +1,4 @@
+pub mod CallGraph
+pub mod Stacks
 pub mod Search
+pub mod Raises

@@ -2,8 +2,13 @@
 // began stand on a path, which is cut into pieces whose functions reach each other. A call back into the path joins
 // the pieces from there on. Where all calls of the last piece were followed, it is a group. (H. N. Gabow, Path-based
 // depth-first search for strong and biconnected components, Information Processing Letters 74, 2000.)
-ghost use Rattle.std.specs.Prelude.{◌≡◌, ◌↔◌, ◌+◌, ◌<◌, ◌≤◌, length, set, IsTrue, IfSome, OnOk};
-ghost use Rattle.call_groups.specs.Search.{unmet, left, IsNew};
+ghost use Rattle.std.specs.Prelude.{◌≡◌, ◌↔◌, ◌+◌, ◌<◌, ◌≤◌, [], ◌∷◌, ◌++◌, length, set, slice_get, replicate};
+ghost use Rattle.std.specs.Prelude.{IsTrue, IfOk, OnOk, MatchOption};
+ghost use Rattle.call_groups.specs.CallGraph.{rows, IsPartition, group_number};
+ghost use Rattle.call_groups.specs.CallGraph as G;
+ghost use Rattle.call_groups.specs.Search.{unmet, left, IsNew, Further, Rises, Joined, Cuts, IsSound, IsIdle, Meets};
+ghost use Rattle.call_groups.specs.Search.{KeepsRest, Groups, Leaves, IsDone, IsCalling, Settled, EndsIn, CallsAt};
+ghost use Rattle.call_groups.specs.declared.search.Standing.TheVariants.{New};
 
 use fip_base::plain::NoMemory;
 use std::alloc::Global;
@@ -37,7 +42,9 @@ pub struct Partition {
 impl Partition {
     /// The number of a function's group. A call never leads to a group of a greater number. A function that isn't there
     /// is a group of its own, whose number is the function's.
-    pub fn group_of(&self, function: usize) -> usize {
+    pub fn group_of(&self, function: usize) -> usize
+        ensures { result ≡ group_number self.now function }
+    {
         match self.standings.get(function) {
             Some(Standing::Grouped(group)) => *group,
             _ => function,
@@ -46,17 +53,21 @@ impl Partition {
 
     /// The functions, group by group, the groups in order of their numbers. The number of a group is the place of its
     /// first function.
-    pub fn order(&self) -> &[usize] {
+    pub fn order(&self) -> &[usize]
+        ensures { result.now ≡ self.now.order.items }
+    {
         self.order.as_slice()
     }
 }
 
 /// The groups of the functions that these are the calls of. A call of a function that isn't there leads nowhere. Each
 /// call is followed once, without recursion. NoMemory: no memory is left.
-pub fn partition_of(alloc: Global, calls: &[Vec<Call>]) -> Result<Partition, NoMemory> {
+pub fn partition_of(alloc: Global, calls: &[Vec<Call>]) -> Result<Partition, NoMemory>
+    ensures groups { IfOk result (λ p. IsPartition (rows calls.now) p) }
+{
     let mut search = Search::new(alloc, calls)?;
     for function in 0..calls.len() {
-        search.from(function)?;
+        search.from(calls, function)?;
     }
     Ok(Partition {
         standings: search.standings,
@@ -74,8 +85,7 @@ struct Visit {
 
 // Where the search stands.
 #[derive(Drop)]
-struct Search<'a> {
-    calls: &'a [Vec<Call>],
+struct Search {
     standings: Vec<Standing>,
     path: Vec<usize>,
     // Where the pieces of the path begin.
@@ -86,13 +96,19 @@ struct Search<'a> {
     order: Vec<usize>,
 }
 
-impl<'a> Search<'a> {
-    fn new(alloc: Global, calls: &'a [Vec<Call>]) -> Result<Search<'a>, NoMemory> {
-        let mut standings = Vec::new(alloc);
-        standings.resize(calls.len(), Standing::New)?;
+// A call of a new function: the function, and the number of the call behind it.
+#[derive(Clone, Copy, Debug)]
+struct Step {
+    callee: usize,
+    next: usize,
+}
+
+impl Search {
+    fn new(alloc: Global, calls: &[Vec<Call>]) -> Result<Search, NoMemory>
+        ensures { IfOk result (λ s. IsIdle (rows calls.now) s) }
+    {
         Ok(Search {
-            calls,
-            standings,
+            standings: all_new(alloc, calls.len())?,
             path: Vec::new(alloc),
             pieces: Vec::new(alloc),
             visits: Vec::new(alloc),
@@ -111,12 +127,18 @@ impl<'a> Search<'a> {
     }
 
     // Searches from a function, if it wasn't met yet.
-    fn from(&mut self, function: usize) -> Result<(), NoMemory> {
-        if self.is_new(function) {
-            self.meet(function)?;
+    fn from(&mut self, calls: &[Vec<Call>], function: usize) -> Result<(), NoMemory>
+        requires { IsIdle (rows calls.now) self.old }
+        ensures idle { OnOk result (IsIdle (rows calls.now) self.new) }
+        ensures met { OnOk result (IsNew self.new.standings.items function → ⊥) }
+        ensures further { OnOk result (Further self.old.standings.items self.new.standings.items) }
+    {
+        if !self.is_new(function) {
+            return Ok(());
         }
+        self.meet(function)?;
         while let Some(visit) = self.visits.pop() {
-            self.advance(visit)?;
+            self.advance(calls, visit)?;
         }
         Ok(())
     }
@@ -124,6 +146,7 @@ impl<'a> Search<'a> {
     // A new function becomes the last one of the path, in a piece of its own.
     fn meet(&mut self, function: usize) -> Result<(), NoMemory>
         requires { IsNew self.old.standings.items function }
+        ensures meets { OnOk result (Meets self.old self.new function) }
         ensures met { OnOk result (unmet self.new.standings.items < unmet self.old.standings.items) }
         ensures visits { OnOk result (length self.new.visits.items ≡ length self.old.visits.items + 1) }
     {
@@ -140,12 +163,14 @@ impl<'a> Search<'a> {
     }
 
     // Follows a function's calls up to one of a new function, or to the end.
-    fn advance(&mut self, visit: Visit) -> Result<(), NoMemory>
+    fn advance(&mut self, calls: &[Vec<Call>], visit: Visit) -> Result<(), NoMemory>
+        requires { IsSound (rows calls.now) self.old (self.old.visits.items ++ visit ∷ []) }
+        ensures sound { OnOk result (IsSound (rows calls.now) self.new self.new.visits.items) }
+        ensures further { OnOk result (Further self.old.standings.items self.new.standings.items) }
         ensures less { OnOk result (left self.new.standings.items self.new.visits.items
             ≤ left self.old.standings.items self.old.visits.items) }
     {
-        let calls = calls_of(self.calls, visit.function);
-        match next_new(calls, visit.next, &self.standings, &mut self.pieces) {
+        match self.follow(calls, visit) {
             Some(step) => {
                 self.visits.push(Visit {
                     function: visit.function,
@@ -158,20 +183,73 @@ impl<'a> Search<'a> {
         }
     }
 
+    // The first call that wasn't followed yet and is one of a new function. Those before it that lead into the path
+    // join its pieces.
+    fn follow(&mut self, calls: &[Vec<Call>], visit: Visit) -> Option<Step>
+        requires { IsSound (rows calls.now) self.old (self.old.visits.items ++ visit ∷ []) }
+        ensures found { MatchOption result
+            (IsDone (rows calls.now) self.new visit.function visit.place)
+            (λ s. IsCalling (rows calls.now) self.new visit.function visit.place s.callee s.next) }
+        ensures same { KeepsRest self.old self.new }
+    {
+        let row = calls_of(calls, visit.function);
+        for at in visit.next..row.len() {
+            let callee = callee_at(row, at);
+            if self.is_new(callee) {
+                return Some(Step {
+                    callee,
+                    next: at + 1,
+                });
+            }
+            self.settle(callee);
+        }
+        None
+    }
+
+    // Follows a call of a function that isn't new.
+    fn settle(&mut self, callee: usize)
+        requires { Rises self.old.pieces.items }
+        ensures settled { Settled self.old self.new callee }
+        ensures same { KeepsRest self.old self.new }
+    {
+        match self.standings.get(callee) {
+            Some(Standing::OnPath(place)) => join(&mut self.pieces, *place),
+            Some(Standing::New) => {}
+            Some(Standing::Grouped(_)) => {}
+            None => {}
+        }
+    }
+
     // All calls of the function in this place were followed. Where it began the last piece, that is a group.
     fn leave(&mut self, place: usize) -> Result<(), NoMemory>
+        ensures leaves { OnOk result (Leaves self.old self.new place) }
         ensures met { OnOk result (unmet self.new.standings.items ≤ unmet self.old.standings.items) }
         ensures visits { OnOk result (self.new.visits.items ≡ self.old.visits.items) }
     {
-        if self.pieces.last() == Some(&place) {
+        if self.ends_at(place) {
             self.pieces.pop();
-            self.group_from(place)?;
+            self.group_from(place)
+        } else {
+            Ok(())
         }
-        Ok(())
+    }
+
+    // Whether the last piece begins in this place.
+    #[tactic(auto, using(crate::proofs::Ends::ends_by, crate::proofs::Ends::ends_none))]
+    fn ends_at(&self, place: usize) -> bool
+        ensures { EndsIn result self.now.pieces.items place }
+    {
+        let count = self.pieces.len();
+        if count == 0 {
+            return false;
+        }
+        self.pieces[count - 1] == place
     }
 
     // The functions from a place of the path on become a group.
     fn group_from(&mut self, place: usize) -> Result<(), NoMemory>
+        ensures groups { OnOk result (Groups self.old self.new place) }
+        ensures pieces { OnOk result (self.new.pieces.items ≡ self.old.pieces.items) }
         ensures met { OnOk result (unmet self.new.standings.items ≤ unmet self.old.standings.items) }
         ensures visits { OnOk result (self.new.visits.items ≡ self.old.visits.items) }
     {
@@ -186,6 +264,23 @@ impl<'a> Search<'a> {
     }
 }
 
+// The function that the call in this place of a row calls.
+fn callee_at(row: &[Call], at: usize) -> usize
+    requires { at < length row.now }
+    ensures { CallsAt row.now at result }
+{
+    row[at].callee
+}
+
+// None of so many functions was met yet.
+fn all_new(alloc: Global, count: usize) -> Result<Vec<Standing>, NoMemory>
+    ensures { IfOk result (λ v. v.items ≡ replicate count New) }
+{
+    let mut standings = Vec::new(alloc);
+    standings.resize(count, Standing::New)?;
+    Ok(standings)
+}
+
 // Writes how far the search is with a function.
 fn put(standings: &mut Vec<Standing>, function: usize, standing: Standing)
     ensures { standings.new.items ≡ set standings.old.items function standing }
@@ -195,56 +290,36 @@ fn put(standings: &mut Vec<Standing>, function: usize, standing: Standing)
     }
 }
 
-// A function's calls; none where there is no such function.
-fn calls_of<'a>(calls: &'a [Vec<Call>], function: usize) -> &'a [Call] {
+/// A function's calls; none where there is no such function.
+pub fn calls_of<'a>(calls: &'a [Vec<Call>], function: usize) -> &'a [Call]
+    ensures { result.now ≡ G.calls_of (rows calls.now) function }
+{
     match calls.get(function) {
         Some(found) => found.as_slice(),
         None => &[],
     }
 }
 
-// A call of a new function: the function, and the number of the call behind it.
-#[derive(Clone, Copy, Debug)]
-struct Step {
-    callee: usize,
-    next: usize,
-}
-
-// The first call, from this number on, of a function that wasn't met yet. Those before it that lead into the path join
-// its pieces.
-fn next_new(
-    calls: &[Call],
-    from: usize,
-    standings: &[Standing],
-    pieces: &mut Vec<usize>,
-) -> Option<Step>
-    ensures { IfSome result (λ s. IsNew standings.now s.callee) }
-{
-    for at in from..calls.len() {
-        let callee = calls[at].callee;
-        match standings.get(callee) {
-            Some(Standing::New) => {
-                return Some(Step {
-                    callee,
-                    next: at + 1,
-                });
-            }
-            Some(Standing::OnPath(place)) => join(pieces, *place),
-            Some(Standing::Grouped(_)) => {}
-            None => {}
-        }
-    }
-    None
-}
-
 // The pieces from the one with this place of the path on become one.
-fn join(pieces: &mut Vec<usize>, place: usize) {
-    let mut kept = pieces.len();
-    for at in (0..pieces.len()).rev() {
-        if pieces[at] <= place {
-            break;
-        }
-        kept = at;
-    }
+fn join(pieces: &mut Vec<usize>, place: usize)
+    requires { Rises pieces.old.items }
+    ensures { Joined pieces.old.items pieces.new.items place }
+{
+    let kept = kept_to(pieces, place);
     pieces.truncate(kept);
+}
+
+// How many pieces begin at or before a place.
+fn kept_to(pieces: &[usize], place: usize) -> usize
+    requires { Rises pieces.now }
+    ensures { Cuts pieces.now place result }
+{
+    let mut kept = pieces.len();
+    while kept > 0 {
+        if pieces[kept - 1] <= place {
+            return kept;
+        }
+        kept -= 1;
+    }
+    kept
 }

@@ -1,12 +1,20 @@
 // The calls of an instance, in text order, and which of them stand in tail position: the body does, a block's last
 // expression and a clause's body do where the whole does, and what a binding binds never does.
+ghost use Rattle.std.specs.Prelude.{◌≡◌, ◌++◌, map, OnOk, true};
+ghost use Rattle.fip_trees.specs.TreeView as V;
+ghost use Rattle.tail_groups.specs.Sites.{called, sites, block_sites, clauses_sites};
+
 use call_groups::Call;
 use fip_base::plain::NoMemory;
 use fip_trees::program::{Block, Clause, Expression};
 
 /// Puts the calls of a block behind others.
 #[cycle(block)]
-pub fn add_block(calls: &mut Vec<Call>, is_tail: bool, block: &Block) -> Result<(), NoMemory> {
+#[tactic(auto, using(crate::proofs::Shared::calling))]
+pub fn add_block(calls: &mut Vec<Call>, is_tail: bool, block: &Block) -> Result<(), NoMemory>
+    ensures added { OnOk result (calls.new.items ≡
+        calls.old.items ++ map called (block_sites is_tail (V.block block.now))) }
+{
     for binding in &block.bindings {
         add_expression(calls, false, &binding.bound)?;
     }
@@ -14,11 +22,15 @@ pub fn add_block(calls: &mut Vec<Call>, is_tail: bool, block: &Block) -> Result<
 }
 
 #[cycle(block)]
+#[tactic(auto, using(crate::proofs::Shared::calling))]
 fn add_expression(
     calls: &mut Vec<Call>,
     is_tail: bool,
     expression: &Expression,
-) -> Result<(), NoMemory> {
+) -> Result<(), NoMemory>
+    ensures added { OnOk result (calls.new.items ≡
+        calls.old.items ++ map called (sites is_tail (V.expression expression.now))) }
+{
     match expression {
         Expression::Give(_) => Ok(()),
         Expression::Tuple { .. } => Ok(()),
@@ -39,9 +51,13 @@ fn add_expression(
 }
 
 #[cycle(block)]
-fn add_clauses(calls: &mut Vec<Call>, is_tail: bool, clauses: &[Clause]) -> Result<(), NoMemory> {
-    for clause in clauses {
-        add_block(calls, is_tail, &clause.body)?;
+#[tactic(auto, using(crate::proofs::Shared::calling))]
+fn add_clauses(calls: &mut Vec<Call>, is_tail: bool, clauses: &[Clause]) -> Result<(), NoMemory>
+    ensures added { OnOk result (calls.new.items ≡
+        calls.old.items ++ map called (clauses_sites is_tail (V.clauses clauses.now))) }
+{
+    for next in clauses {
+        add_block(calls, is_tail, &next.body)?;
     }
     Ok(())
 }

@@ -1,7 +1,15 @@
 // Groups of instances, the rule on calls within a group, and what instances hold of the stack.
+ghost use Rattle.std.specs.Prelude.{◌≡◌, IfOk, IfErr};
+ghost use Rattle.call_groups.specs.CallGraph.{rows};
+ghost use Rattle.fip_trees.specs.TreeView as V;
+ghost use Rattle.fip_trees.specs.declared.least.Violation.{Violation};
+ghost use Rattle.tail_groups.specs.Notes.{IsNoted};
+ghost use Rattle.tail_groups.specs.Rules.{Violates, Says};
+ghost use Rattle.tail_groups.specs.Sites.{call_rows};
+
 use crate::calls::add_block;
 use crate::count::registers;
-use crate::notes::note_all;
+use crate::notes::{is_fip, note_all};
 use call_groups::{Call, Partition, partition_of, stacks};
 use fip_base::plain::{FunKind, NoMemory, Stack};
 use fip_base::refusal::PhaseError;
@@ -14,8 +22,12 @@ use std::alloc::Global;
 /// The call groups of a program, with the registers of each instance, and what a run of each fip instance holds of the
 /// stack at the most. The program is asked to break no rule on ownership, so that fip instances call fip ones alone.
 ///
-/// Refused: E59, a fip instance calls one of its own group outside tail position. NoMemory: no memory is left.
-pub fn groups(alloc: Global, typed: &Typed) -> Result<Groups, PhaseError> {
+/// Refused exactly where E59 is broken, for the least violation by place, instance and name: a fip instance calls one
+/// of its own group outside tail position. NoMemory: no memory is left.
+pub fn groups(alloc: Global, typed: &Typed) -> Result<Groups, PhaseError>
+    ensures tail { IfOk result (λ _. (v : Violation) → Violates (V.program typed.now.program) v → ⊥) }
+    ensures least { IfErr result (λ e. Says (V.program typed.now.program) e) }
+{
     let instances = typed.program.instances.as_slice();
     match found(alloc, instances) {
         Err(NoMemory) => Err(PhaseError::NoMemory),
@@ -32,7 +44,9 @@ pub fn stack_of(groups: &Groups, f: usize) -> Option<Stack> {
 }
 
 // The groups, and the least violation.
-fn found(alloc: Global, instances: &[Instance]) -> Result<(Groups, Least), NoMemory> {
+fn found(alloc: Global, instances: &[Instance]) -> Result<(Groups, Least), NoMemory>
+    ensures { IfOk result (λ f. IsNoted (V.instances instances.now) f.1) }
+{
     let calls = calls_of(alloc, instances)?;
     let partition = partition_of(alloc, &calls)?;
     let least = note_all(alloc, instances, &partition)?;
@@ -44,7 +58,10 @@ fn found(alloc: Global, instances: &[Instance]) -> Result<(Groups, Least), NoMem
 }
 
 // The calls of each instance.
-fn calls_of(alloc: Global, instances: &[Instance]) -> Result<Vec<Vec<Call>>, NoMemory> {
+#[tactic(auto, using(crate::proofs::Shared::calling))]
+fn calls_of(alloc: Global, instances: &[Instance]) -> Result<Vec<Vec<Call>>, NoMemory>
+    ensures { IfOk result (λ calls. rows calls.items ≡ call_rows (V.instances instances.now)) }
+{
     let mut all = Vec::new(alloc);
     for instance in instances {
         let mut calls = Vec::new(alloc);
@@ -77,7 +94,7 @@ fn frames_of(
 }
 
 fn frame_of(kind: FunKind, registers: usize) -> Result<Option<usize>, NoMemory> {
-    if kind != FunKind::Fip {
+    if !is_fip(kind) {
         return Ok(None);
     }
     let words = registers.checked_add(FRAME_WORDS).ok_or(NoMemory)?;

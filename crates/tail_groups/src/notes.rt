@@ -1,4 +1,12 @@
 // The calls within a group outside tail position.
+ghost use Rattle.std.specs.Prelude.{◌≡◌, None, true, IfOk, OnOk};
+ghost use Rattle.fip_trees.specs.Least.{after};
+ghost use Rattle.fip_trees.specs.TreeView as V;
+ghost use Rattle.tail_groups.specs.Notes.{site_notes, expression_notes, block_notes, clauses_notes};
+ghost use Rattle.tail_groups.specs.Notes.{instance_notes, all_notes};
+ghost use Rattle.tail_groups.specs.Rules as R;
+ghost use Rattle.tail_groups.specs.Sites.{site};
+
 use call_groups::Partition;
 use fip_base::plain::{FunKind, NoMemory, Place};
 use fip_base::refusal::Rule;
@@ -7,81 +15,144 @@ use fip_trees::program::{Block, Clause, Expression, Instance};
 use std::alloc::Global;
 
 /// The least violation of E59: a fip instance calls one of its own group outside tail position.
+#[tactic(auto, using(crate::proofs::Shared::noting))]
 pub fn note_all(
     alloc: Global,
     instances: &[Instance],
     groups: &Partition,
-) -> Result<Least, NoMemory> {
-    let mut notes = Notes {
-        groups,
-        instance: 0,
-        least: Least::new(alloc),
-    };
-    for (number, instance) in instances.iter().enumerate() {
-        if instance.kind == FunKind::Fip {
-            notes.instance = number;
-            notes.block(true, &instance.body)?;
-        }
+) -> Result<Least, NoMemory>
+    ensures noted { IfOk result (λ l. l ≡ after None (all_notes groups.now 0 (V.instances instances.now))) }
+{
+    let mut least = Least::new(alloc);
+    let mut number = 0;
+    for instance in instances {
+        note_instance(&mut least, groups, number, instance)?;
+        number += 1;
     }
-    Ok(notes.least)
+    Ok(least)
 }
 
-// In which instance the walk stands, and the least violation so far.
-#[derive(Drop)]
-struct Notes<'a> {
+// Those of one instance.
+fn note_instance(
+    least: &mut Least,
+    groups: &Partition,
+    number: usize,
+    instance: &Instance,
+) -> Result<(), NoMemory>
+    ensures { OnOk result (least.new ≡ after least.old (instance_notes groups.now number (V.instance_of instance.now))) }
+{
+    if !is_fip(instance.kind) {
+        return Ok(());
+    }
+    let caller = Caller { groups, number };
+    note_block(least, &caller, true, &instance.body)
+}
+
+/// Whether instances of this kind are fip.
+pub fn is_fip(kind: FunKind) -> bool
+    ensures { result ≡ R.is_fip kind }
+{
+    match kind {
+        FunKind::Fip => true,
+        FunKind::Fbip => false,
+        FunKind::Fun => false,
+    }
+}
+
+// The instance whose calls are looked at, and the groups.
+#[derive(Clone, Copy)]
+struct Caller<'a> {
     groups: &'a Partition,
-    instance: usize,
-    least: Least,
+    number: usize,
 }
 
-impl Notes<'_> {
-    #[cycle(block)]
-    fn block(&mut self, is_tail: bool, block: &Block) -> Result<(), NoMemory> {
-        for binding in &block.bindings {
-            self.expression(false, &binding.bound)?;
-        }
-        self.expression(is_tail, &block.last)
+#[cycle(block)]
+#[tactic(auto, using(crate::proofs::Shared::noting))]
+fn note_block(
+    least: &mut Least,
+    caller: &Caller<'_>,
+    is_tail: bool,
+    block: &Block,
+) -> Result<(), NoMemory>
+    ensures noted { OnOk result (least.new ≡ after least.old
+        (block_notes caller.now.groups.now caller.now.number is_tail (V.block block.now))) }
+{
+    for binding in &block.bindings {
+        note_expression(least, caller, false, &binding.bound)?;
     }
+    note_expression(least, caller, is_tail, &block.last)
+}
 
-    #[cycle(block)]
-    fn expression(&mut self, is_tail: bool, expression: &Expression) -> Result<(), NoMemory> {
-        match expression {
-            Expression::Give(_) => Ok(()),
-            Expression::Tuple { .. } => Ok(()),
-            Expression::Operation { .. } => Ok(()),
-            Expression::Call {
-                callee,
-                name,
-                place,
-                ..
-            } => self.call(is_tail, *callee as usize, name.as_slice(), *place),
-            Expression::Match { first, others, .. } => {
-                self.block(is_tail, &first.body)?;
-                self.clauses(is_tail, others)
-            }
-            Expression::Nested(block) => self.block(is_tail, block),
+#[cycle(block)]
+#[tactic(auto, using(crate::proofs::Shared::noting))]
+fn note_expression(
+    least: &mut Least,
+    caller: &Caller<'_>,
+    is_tail: bool,
+    expression: &Expression,
+) -> Result<(), NoMemory>
+    ensures noted { OnOk result (least.new ≡ after least.old
+        (expression_notes caller.now.groups.now caller.now.number is_tail (V.expression expression.now))) }
+{
+    match expression {
+        Expression::Give(_) => Ok(()),
+        Expression::Tuple { .. } => Ok(()),
+        Expression::Operation { .. } => Ok(()),
+        Expression::Call {
+            callee,
+            name,
+            place,
+            ..
+        } => note_call(
+            least,
+            caller,
+            is_tail,
+            *callee as usize,
+            name.as_slice(),
+            *place,
+        ),
+        Expression::Match { first, others, .. } => {
+            note_block(least, caller, is_tail, &first.body)?;
+            note_clauses(least, caller, is_tail, others)
         }
+        Expression::Nested(block) => note_block(least, caller, is_tail, block),
     }
+}
 
-    #[cycle(block)]
-    fn clauses(&mut self, is_tail: bool, clauses: &[Clause]) -> Result<(), NoMemory> {
-        for clause in clauses {
-            self.block(is_tail, &clause.body)?;
-        }
-        Ok(())
+#[cycle(block)]
+#[tactic(auto, using(crate::proofs::Shared::noting))]
+fn note_clauses(
+    least: &mut Least,
+    caller: &Caller<'_>,
+    is_tail: bool,
+    clauses: &[Clause],
+) -> Result<(), NoMemory>
+    ensures noted { OnOk result (least.new ≡ after least.old
+        (clauses_notes caller.now.groups.now caller.now.number is_tail (V.clauses clauses.now))) }
+{
+    for next in clauses {
+        note_block(least, caller, is_tail, &next.body)?;
     }
+    Ok(())
+}
 
-    fn call(
-        &mut self,
-        is_tail: bool,
-        callee: usize,
-        name: &[u8],
-        place: Place,
-    ) -> Result<(), NoMemory> {
-        let own = self.groups.group_of(self.instance);
-        if !is_tail && self.groups.group_of(callee) == own {
-            self.least.note(Rule::E59, place, self.instance, 0, name)?;
-        }
-        Ok(())
+// A call of this instance, named so in this place.
+fn note_call(
+    least: &mut Least,
+    caller: &Caller<'_>,
+    is_tail: bool,
+    callee: usize,
+    name: &[u8],
+    place: Place,
+) -> Result<(), NoMemory>
+    ensures { OnOk result (least.new ≡ after least.old
+        (site_notes caller.now.groups.now caller.now.number (site callee name.now place is_tail))) }
+{
+    if is_tail {
+        return Ok(());
     }
+    if caller.groups.group_of(callee) == caller.groups.group_of(caller.number) {
+        least.note(Rule::E59, place, caller.number, 0, name)?;
+    }
+    Ok(())
 }

@@ -1,0 +1,3 @@
+mod Shared
+mod Steps
+mod Whole

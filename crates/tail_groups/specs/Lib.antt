@@ -1,0 +1,4 @@
+pub mod Sites
+pub mod Rules
+pub mod Registers
+pub mod Notes

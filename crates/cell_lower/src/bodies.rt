@@ -12,10 +12,31 @@ impl<'a> Lowerer<'a> {
     pub fn block(&mut self, block: &Block, target: Target<'_>) -> Result<(), NoMemory> {
         self.enter();
         for binding in &block.bindings {
-            let registers = self.bind_all(binding)?;
-            self.expression(&binding.bound, Target::Into(registers.as_slice()))?;
+            match &binding.bound {
+                Expression::Give(argument) => {
+                    self.enter();
+                    let register = self.value(argument)?;
+                    self.name_all(binding, &[register]);
+                }
+                Expression::Tuple { arguments, .. } => {
+                    self.enter();
+                    let registers = self.values(arguments.as_slice())?;
+                    self.name_all(binding, registers.as_slice());
+                }
+                bound => {
+                    let registers = self.bind_all(binding)?;
+                    self.expression(bound, Target::Into(registers.as_slice()))?;
+                }
+            }
         }
         self.expression(&block.last, target)
+    }
+
+    // The variables of a let are other names of values that are in registers.
+    fn name_all(&mut self, binding: &Binding, registers: &[u16]) {
+        for (binder, register) in binding.binders.iter().zip(registers.iter()) {
+            self.bind(binder.number, *register);
+        }
     }
 
     // The variables of a let get registers.
@@ -79,7 +100,7 @@ impl<'a> Lowerer<'a> {
                     first,
                     others: others.as_slice(),
                 };
-                let mut matching = self.start_match(written, need, target)?;
+                let mut matching = self.start_match(&written, need, target)?;
                 self.clause(&mut matching, first, target)?;
                 self.clauses(&mut matching, others, target)?;
                 self.end_match(matching)
@@ -91,7 +112,7 @@ impl<'a> Lowerer<'a> {
     #[cycle(block)]
     fn clause(
         &mut self,
-        matching: &mut Matching,
+        matching: &mut Matching<'_>,
         clause: &Clause,
         target: Target<'_>,
     ) -> Result<(), NoMemory> {
@@ -103,7 +124,7 @@ impl<'a> Lowerer<'a> {
     #[cycle(block)]
     fn clauses(
         &mut self,
-        matching: &mut Matching,
+        matching: &mut Matching<'_>,
         clauses: &[Clause],
         target: Target<'_>,
     ) -> Result<(), NoMemory> {

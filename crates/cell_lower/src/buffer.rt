@@ -57,9 +57,18 @@ impl Buffer {
         Ok(())
     }
 
-    /// The next instruction has a label with these kinds.
+    /// The next instruction has a label with these kinds, in the place of one that it had with narrower ones. The first
+    /// instruction of a function needs none, since no other goes there.
     pub fn add_label(&mut self, kinds: Vec<Kind>) -> Result<(), NoMemory> {
         let at = self.here()?;
+        if at == 0 {
+            return Ok(());
+        }
+        if let Some(last) = self.labels.last()
+            && last.at == at
+        {
+            self.labels.pop();
+        }
         self.labels.push(Label { at, kinds })?;
         Ok(())
     }

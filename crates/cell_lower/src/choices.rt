@@ -1,8 +1,13 @@
 // The tests by which the first clause that matches is chosen.
 //
-// The first clause that isn't ruled out is looked at. Where it asks for nothing more, what it binds is taken out and
-// the code goes to its body. Else its first open test is made; where no value fails it, it isn't written. Once the
-// constructor at a position is known, all its fields are read, so that a position below it is in its register.
+// The first clause that isn't ruled out is looked at. Where it asks for nothing more, it is chosen. Else its first open
+// test is made; where no value fails it, it isn't written. A position below the scrutinee is read into its register
+// before the first test of it. A chosen clause that takes its cells apart gets their fields with them, so that a field
+// that isn't tested is read once; one that lends reads what it names.
+//
+// The tests are written as far as the clauses ask for them: those that choose the next clause, and then its body, to
+// which the last of them goes on. In `match! xs { Nil -> a; Cons(x, t) -> b }` the test of Nil stands first, then a,
+// then what fails the test, and b.
 use crate::buffer::OpenJump;
 use crate::frame::{Frame, Held};
 use crate::lowerer::Lowerer;
@@ -10,7 +15,7 @@ use crate::spots::Spot;
 use cell_code::{Constructors, From, Instr, Kind, Registers};
 use fip_base::plain::NoMemory;
 use fip_trees::limits::MOST_PATTERN_NODES;
-use fip_trees::program::{Pattern, Program};
+use fip_trees::program::{Binder, Pattern, Program};
 use match_knowledge::{
     Head, Knowledge, Row, compare, is_asks, is_fits, is_last, open, same_head, side,
 };
@@ -23,16 +28,29 @@ pub struct Leaf {
     pub jump: OpenJump,
 }
 
+// Where tests aren't written yet: what is known of the values that come there, the registers that were read on the way,
+// and the test that these values fail; none where all values come there.
+#[derive(Drop)]
+struct Side {
+    known: Knowledge,
+    read: Vec<u16>,
+    test: Option<OpenJump>,
+}
+
 /// A match, as far as its tests go.
 #[derive(Drop)]
 pub struct Choice<'c> {
     /// The clauses' patterns, and the same without names.
-    pub patterns: Vec<&'c Pattern>,
-    pub rows: Vec<Row>,
+    patterns: Vec<&'c Pattern>,
+    rows: Vec<Row>,
     /// The scrutinee: its position, type, and whether its cells are taken apart.
     pub root: Spot,
-    pub ty: u32,
+    ty: u32,
     pub takes: bool,
+    /// Where tests aren't written yet; the last one is next.
+    sides: Vec<Side>,
+    /// The jumps to the clauses' bodies.
+    pub leaves: Vec<Leaf>,
 }
 
 // The first clause that isn't ruled out: it matches all values, or it asks.
@@ -42,12 +60,18 @@ enum First<'r> {
     Asks(&'r Row),
 }
 
-// What a pattern asks for first: the position, its type, and the head.
+// What a pattern asks for first: the register of the position, and the head.
 #[derive(Clone, Copy)]
-struct Asked<'s> {
-    spot: &'s Spot,
-    ty: u32,
+struct Asked {
+    register: u16,
     head: Head,
+}
+
+// What the words below a scrutinee are lent of, and the registers into which they were read.
+#[derive(Clone, Copy)]
+struct Overlay<'r> {
+    root: Option<u16>,
+    read: &'r [u16],
 }
 
 // How the words below a scrutinee are held: as what it is itself, or lent of a root.
@@ -57,50 +81,136 @@ struct Below {
     from: Option<From>,
 }
 
-impl<'a> Lowerer<'a> {
-    /// Writes the tests of a match; the jumps to the clauses' bodies.
-    pub fn choose(&mut self, choice: &Choice<'_>) -> Result<Vec<Leaf>, NoMemory> {
-        let mut leaves = Vec::new(self.context.alloc);
-        let known = open(self.context.alloc);
-        // Each step settles a pattern node, and no match that keeps the rules has more.
-        self.choose_from(MOST_PATTERN_NODES + 1, choice, &known, &mut leaves)?;
-        Ok(leaves)
+impl<'c> Choice<'c> {
+    /// A match without clauses yet.
+    pub fn new(alloc: Global, root: u16, ty: u32, takes: bool) -> Result<Choice<'c>, NoMemory> {
+        let mut sides = Vec::new(alloc);
+        sides.push(Side {
+            known: open(alloc),
+            read: Vec::new(alloc),
+            test: None,
+        })?;
+        Ok(Choice {
+            patterns: Vec::new(alloc),
+            rows: Vec::new(alloc),
+            root: Spot::new(alloc, root),
+            ty,
+            takes,
+            sides,
+            leaves: Vec::new(alloc),
+        })
     }
 
-    fn choose_from(
-        &mut self,
-        depth: usize,
-        choice: &Choice<'_>,
-        known: &Knowledge,
-        leaves: &mut Vec<Leaf>,
-    ) -> Result<(), NoMemory> {
-        if depth == 0 {
-            return Err(NoMemory);
-        }
-        // The clauses cover all values, so one isn't ruled out.
-        let row = match first_of(choice.rows.as_slice(), known).ok_or(NoMemory)? {
-            First::Chosen(clause) => return self.leaf(choice, clause, leaves),
-            First::Asks(row) => row,
+    /// Adds a clause: its pattern, and the same without names.
+    pub fn add(&mut self, pattern: &'c Pattern, row: Row) -> Result<(), NoMemory> {
+        self.patterns.push(pattern)?;
+        self.rows.push(row)?;
+        Ok(())
+    }
+
+    /// How many clauses it has.
+    pub fn len(&self) -> usize {
+        self.rows.len()
+    }
+
+    // Whether a clause may be chosen where tests aren't written yet.
+    fn may_choose(&self, clause: usize) -> bool {
+        let Some(row) = self.rows.get(clause) else {
+            return false;
         };
-        let alloc = self.context.alloc;
-        let found = open_test(MOST_PATTERN_NODES, row, known, &choice.root).ok_or(NoMemory)?;
-        let yes = side(alloc, true, row, known)?;
-        if is_last(&self.context.program.types, row, known) {
-            self.look(found)?;
-            return self.choose_from(depth - 1, choice, &yes, leaves);
+        for next in &self.sides {
+            let verdict = compare(row, &next.known);
+            if is_fits(verdict) || is_asks(verdict) {
+                return true;
+            }
         }
-        let test = self.test(found)?;
-        self.look(found)?;
-        self.choose_from(depth - 1, choice, &yes, leaves)?;
-        let no = side(alloc, false, row, known)?;
-        self.label_failed(choice, &no, test)?;
-        self.choose_from(depth - 1, choice, &no, leaves)
+        false
     }
 
-    // A test; where it fails, the code goes to a place that is settled later.
-    fn test(&mut self, asked: Asked<'_>) -> Result<OpenJump, NoMemory> {
-        let register = asked.spot.register;
-        let instr = match asked.head {
+    // Whether the tests are written that choose a clause; for the last clause all.
+    fn is_written(&self, clause: usize) -> bool {
+        if clause >= self.rows.len().saturating_sub(1) {
+            self.sides.is_empty()
+        } else {
+            !self.may_choose(clause)
+        }
+    }
+}
+
+impl<'a> Lowerer<'a> {
+    /// Writes the tests of a match until all that choose this clause are there. Where the last of them chooses it, the
+    /// code goes on to the next instruction, else there are jumps alone.
+    pub fn choose(&mut self, choice: &mut Choice<'_>, clause: usize) -> Result<(), NoMemory> {
+        // Each turn but the last writes a jump, and code has fewer instructions than this.
+        for _ in 0..u32::MAX {
+            if choice.is_written(clause) {
+                return Ok(());
+            }
+            let Some(next) = choice.sides.pop() else {
+                return Ok(());
+            };
+            let chosen = self.follow(choice, next)?;
+            if chosen == clause && choice.is_written(clause) {
+                return Ok(());
+            }
+            let jump = self.buffer.add_jump()?;
+            choice.leaves.push(Leaf {
+                clause: chosen,
+                jump,
+            })?;
+        }
+        Err(NoMemory)
+    }
+
+    // Writes the tests from a side on, up to the clause that is chosen where all hold.
+    fn follow(&mut self, choice: &mut Choice<'_>, from: Side) -> Result<usize, NoMemory> {
+        let alloc = self.context.alloc;
+        let Side {
+            mut known,
+            mut read,
+            test,
+        } = from;
+        if let Some(test) = test {
+            self.label_failed(choice, &known, read.as_slice(), test)?;
+        }
+        // Each step settles a pattern node, and no match that keeps the rules has more.
+        for _ in 0..=MOST_PATTERN_NODES {
+            // The clauses cover all values, so one isn't ruled out.
+            match first_of(choice.rows.as_slice(), &known).ok_or(NoMemory)? {
+                First::Chosen(clause) => {
+                    self.settle(choice, clause, &mut read)?;
+                    return Ok(clause);
+                }
+                First::Asks(row) => {
+                    let yes = side(alloc, true, row, &known)?;
+                    if !is_last(&self.context.program.types, row, &known) {
+                        let failed = self.test(choice, row, &known, &mut read)?;
+                        choice.sides.push(failed)?;
+                    }
+                    known = yes;
+                }
+            }
+        }
+        Err(NoMemory)
+    }
+
+    // A test; the side where it fails.
+    fn test(
+        &mut self,
+        choice: &Choice<'_>,
+        row: &Row,
+        known: &Knowledge,
+        read: &mut Vec<u16>,
+    ) -> Result<Side, NoMemory> {
+        let alloc = self.context.alloc;
+        let Asked { register, head } = self.read_asked(
+            MOST_PATTERN_NODES,
+            row,
+            known,
+            &choice.root,
+            read,
+        )?;
+        let instr = match head {
             Head::Tag(constructor) => Instr::Test {
                 register,
                 constructor,
@@ -112,21 +222,102 @@ impl<'a> Lowerer<'a> {
                 target: 0,
             },
         };
-        self.buffer.add_open(instr)
+        let test = self.buffer.add_open(instr)?;
+        let mut seen = Vec::new(alloc);
+        seen.extend_from_slice(read.as_slice())?;
+        Ok(Side {
+            known: side(alloc, false, row, known)?,
+            read: seen,
+            test: Some(test),
+        })
     }
 
-    // Reads the fields at a position whose constructor is known.
-    fn look(&mut self, asked: Asked<'_>) -> Result<(), NoMemory> {
-        let Head::Tag(constructor) = asked.head else {
+    // Reads the position that a pattern asks for first, and those above it; an error where it is deeper than that, or
+    // the pattern asks for nothing.
+    fn read_asked(
+        &mut self,
+        depth: usize,
+        row: &Row,
+        known: &Knowledge,
+        spot: &Spot,
+        read: &mut Vec<u16>,
+    ) -> Result<Asked, NoMemory> {
+        if depth == 0 {
+            return Err(NoMemory);
+        }
+        let Row::Test { head, parts, .. } = row else {
+            return Err(NoMemory);
+        };
+        match known {
+            Knowledge::Open(_) => Ok(Asked {
+                register: spot.register,
+                head: *head,
+            }),
+            Knowledge::Is(_, knowns) => {
+                let field = first_asking(parts.as_slice(), knowns.as_slice()).ok_or(NoMemory)?;
+                let part = parts.get(field).ok_or(NoMemory)?;
+                let part_known = knowns.get(field).ok_or(NoMemory)?;
+                let part_spot = spot.fields.get(field).ok_or(NoMemory)?;
+                self.read(spot.register, field, part_spot.register, read)?;
+                self.read_asked(depth - 1, part, part_known, part_spot, read)
+            }
+        }
+    }
+
+    // Reads a field of a register's cell, where this isn't done yet.
+    fn read(
+        &mut self,
+        register: u16,
+        field: usize,
+        destination: u16,
+        read: &mut Vec<u16>,
+    ) -> Result<(), NoMemory> {
+        if read.contains(&destination) {
+            return Ok(());
+        }
+        read.push(destination)?;
+        self.buffer.add(Instr::Peek {
+            destination,
+            register,
+            field: u8::try_from(field).map_err(|_| NoMemory)?,
+        })
+    }
+
+    // A clause is chosen: its cells are taken apart, or what it names is read.
+    fn settle(
+        &mut self,
+        choice: &Choice<'_>,
+        clause: usize,
+        read: &mut Vec<u16>,
+    ) -> Result<(), NoMemory> {
+        let pattern: &Pattern = match choice.patterns.get(clause) {
+            Some(pattern) => *pattern,
+            None => return Err(NoMemory),
+        };
+        if choice.takes {
+            self.take_apart(pattern, &choice.root)
+        } else {
+            self.read_named(pattern, &choice.root, read)
+        }
+    }
+
+    // Reads what a pattern names below a position.
+    fn read_named(
+        &mut self,
+        pattern: &Pattern,
+        spot: &Spot,
+        read: &mut Vec<u16>,
+    ) -> Result<(), NoMemory> {
+        let Pattern::Constructor { patterns, .. } = pattern else {
             return Ok(());
         };
-        let count = self.context.program.fields(asked.ty, constructor).len();
-        for (field, spot) in asked.spot.fields.iter().take(count).enumerate() {
-            self.buffer.add(Instr::Peek {
-                destination: spot.register,
-                register: asked.spot.register,
-                field: u8::try_from(field).map_err(|_| NoMemory)?,
-            })?;
+        let mut number: usize = 0;
+        for (part, field) in patterns.iter().zip(spot.fields.iter()) {
+            if names_any(part) {
+                self.read(spot.register, number, field.register, read)?;
+                self.read_named(part, field, read)?;
+            }
+            number = number.saturating_add(1);
         }
         Ok(())
     }
@@ -136,12 +327,17 @@ impl<'a> Lowerer<'a> {
         &mut self,
         choice: &Choice<'_>,
         known: &Knowledge,
+        read: &[u16],
         test: OpenJump,
     ) -> Result<(), NoMemory> {
         self.buffer.settle(test)?;
         let mut kinds = self.frame.kinds(self.context.alloc, self.context.program)?;
         let below = self.overlay_root(&mut kinds, choice, known)?;
-        self.overlay_fields(&mut kinds, &choice.root, choice.ty, known, below.root)?;
+        let overlay = Overlay {
+            root: below.root,
+            read,
+        };
+        self.overlay_fields(&mut kinds, &choice.root, choice.ty, known, overlay)?;
         self.buffer.add_label(kinds)
     }
 
@@ -183,7 +379,7 @@ impl<'a> Lowerer<'a> {
         spot: &Spot,
         ty: u32,
         known: &Knowledge,
-        root: Option<u16>,
+        overlay: Overlay<'_>,
     ) -> Result<(), NoMemory> {
         match known {
             Knowledge::Open(_) => Ok(()),
@@ -191,7 +387,7 @@ impl<'a> Lowerer<'a> {
                 Head::Number(_) => Ok(()),
                 Head::Tag(constructor) => {
                     let types = self.context.program.fields(ty, *constructor);
-                    self.overlay_all(kinds, spot, types, parts, root)
+                    self.overlay_all(kinds, spot, types, parts, overlay)
                 }
             },
         }
@@ -204,21 +400,23 @@ impl<'a> Lowerer<'a> {
         spot: &Spot,
         types: &[u32],
         parts: &[Knowledge],
-        root: Option<u16>,
+        overlay: Overlay<'_>,
     ) -> Result<(), NoMemory> {
         let mut field: usize = 0;
         for part in parts {
-            if let (Some(ty), Some(child)) = (types.get(field), spot.fields.get(field)) {
+            if let (Some(ty), Some(child)) = (types.get(field), spot.fields.get(field))
+                && overlay.read.contains(&child.register)
+            {
                 let from = From {
                     register: spot.register,
                     field: u8::try_from(field).map_err(|_| NoMemory)?,
                 };
                 let below = Below {
-                    root,
+                    root: overlay.root,
                     from: Some(from),
                 };
                 self.overlay_field(kinds, child.register, *ty, part, below)?;
-                self.overlay_fields(kinds, child, *ty, part, root)?;
+                self.overlay_fields(kinds, child, *ty, part, overlay)?;
             }
             field = field.saturating_add(1);
         }
@@ -239,25 +437,6 @@ impl<'a> Lowerer<'a> {
             lent(self.context.alloc, self.context.program, ty, known, below)?
         };
         set_kind(kinds, register, kind);
-        Ok(())
-    }
-
-    // A clause is chosen: its cells are taken apart, and its body follows.
-    fn leaf(
-        &mut self,
-        choice: &Choice<'_>,
-        clause: usize,
-        leaves: &mut Vec<Leaf>,
-    ) -> Result<(), NoMemory> {
-        let pattern: &Pattern = match choice.patterns.get(clause) {
-            Some(pattern) => *pattern,
-            None => return Err(NoMemory),
-        };
-        if choice.takes {
-            self.take_apart(pattern, &choice.root)?;
-        }
-        let jump = self.buffer.add_jump()?;
-        leaves.push(Leaf { clause, jump })?;
         Ok(())
     }
 
@@ -298,28 +477,25 @@ fn first_of<'r>(rows: &'r [Row], known: &Knowledge) -> Option<First<'r>> {
     None
 }
 
-// What a pattern asks for first; none where it is deeper than that, or asks for nothing.
-fn open_test<'s>(depth: usize, row: &Row, known: &Knowledge, spot: &'s Spot) -> Option<Asked<'s>> {
-    if depth == 0 {
-        return None;
-    }
-    let Row::Test { ty, head, parts } = row else {
-        return None;
-    };
-    match known {
-        Knowledge::Open(_) => Some(Asked {
-            spot,
-            ty: *ty,
-            head: *head,
-        }),
-        Knowledge::Is(_, knowns) => {
-            let field = first_asking(parts.as_slice(), knowns.as_slice())?;
-            let part = parts.get(field)?;
-            let part_known = knowns.get(field)?;
-            let part_spot = spot.fields.get(field)?;
-            open_test(depth - 1, part, part_known, part_spot)
+// Whether a pattern names a variable, or a part of it does.
+fn names_any(pattern: &Pattern) -> bool {
+    match pattern {
+        Pattern::Binder(binder) => is_named(binder),
+        Pattern::Literal { .. } => false,
+        Pattern::Constructor { patterns, .. } => {
+            for part in patterns {
+                if names_any(part) {
+                    return true;
+                }
+            }
+            false
         }
     }
+}
+
+/// Whether a variable can be named.
+pub fn is_named(binder: &Binder) -> bool {
+    binder.name.as_slice() != b"_".as_slice()
 }
 
 // The first of the fields whose pattern asks.

@@ -1,6 +1,6 @@
-// Matches: the tests, then the clauses' bodies, then the place where they meet.
+// Matches: for each clause the tests that choose it and its body, then the place where the clauses meet.
 use crate::buffer::OpenJump;
-use crate::choices::{Choice, Leaf};
+use crate::choices::{Choice, is_named};
 use crate::frame::{Frame, Held};
 use crate::lowerer::{Lowerer, Target};
 use crate::spots::{Spot, add_spots};
@@ -10,12 +10,10 @@ use fip_trees::sizes::Sizes;
 use match_knowledge::{Head, Row};
 use std::alloc::Global;
 
-/// A match whose tests are written.
+/// A match that is being written.
 #[derive(Drop)]
-pub struct Matching {
-    takes: bool,
-    root: Spot,
-    leaves: Vec<Leaf>,
+pub struct Matching<'c> {
+    choice: Choice<'c>,
     /// What is known at its start.
     entry: Frame,
     /// The registers of trees that a clause may use up.
@@ -39,25 +37,21 @@ pub struct Written<'t> {
 }
 
 impl<'a> Lowerer<'a> {
-    /// Writes the tests of a match that needs so many credits.
-    pub fn start_match(
+    /// Begins a match that needs so many credits.
+    pub fn start_match<'t>(
         &mut self,
-        written: Written<'_>,
+        written: &Written<'t>,
         need: Sizes,
         target: Target<'_>,
-    ) -> Result<Matching, NoMemory> {
+    ) -> Result<Matching<'t>, NoMemory> {
         let alloc = self.context.alloc;
         let register = self.value(written.scrutinee)?;
         self.forget_built(register)?;
         let entry = self.frame.copy(alloc)?;
-        let used = self.used_by(&written, target)?;
-        let choice = self.choice_of(&written, register)?;
-        let leaves = self.choose(&choice)?;
-        let Choice { root, takes, .. } = choice;
+        let used = self.used_by(written, target)?;
+        let choice = self.choice_of(written, register)?;
         Ok(Matching {
-            takes,
-            root,
-            leaves,
+            choice,
             entry,
             used,
             need,
@@ -70,8 +64,6 @@ impl<'a> Lowerer<'a> {
     // A tree that was just built has one constructor; tests ask for others too, so a label stands before them.
     fn forget_built(&mut self, register: u16) -> Result<(), NoMemory> {
         if let Held::Owned { built: Some(_), .. } = self.frame.at(register) {
-            let jump = self.buffer.add_jump()?;
-            self.buffer.settle(jump)?;
             self.label()?;
         }
         Ok(())
@@ -104,14 +96,7 @@ impl<'a> Lowerer<'a> {
         written: &Written<'t>,
         register: u16,
     ) -> Result<Choice<'t>, NoMemory> {
-        let alloc = self.context.alloc;
-        let mut choice = Choice {
-            patterns: Vec::new(alloc),
-            rows: Vec::new(alloc),
-            root: Spot::new(alloc, register),
-            ty: written.ty,
-            takes: written.takes,
-        };
+        let mut choice = Choice::new(self.context.alloc, register, written.ty, written.takes)?;
         self.add_pattern(&mut choice, &written.first.pattern)?;
         for clause in written.others {
             self.add_pattern(&mut choice, &clause.pattern)?;
@@ -124,28 +109,23 @@ impl<'a> Lowerer<'a> {
         choice: &mut Choice<'t>,
         pattern: &'t Pattern,
     ) -> Result<(), NoMemory> {
-        add_spots(
-            self.context.alloc,
-            pattern,
-            &mut choice.root,
-            &mut self.next,
-        )?;
-        choice.rows.push(row_of(self.context.alloc, pattern)?)?;
-        choice.patterns.push(pattern)?;
-        Ok(())
+        let alloc = self.context.alloc;
+        add_spots(alloc, pattern, &mut choice.root, &mut self.next)?;
+        choice.add(pattern, row_of(alloc, pattern)?)
     }
 
-    /// Begins the body of the next clause, with its variables and credits.
+    /// Writes the tests that choose the next clause, and begins its body, with its variables and credits.
     pub fn start_clause(
         &mut self,
-        matching: &mut Matching,
+        matching: &mut Matching<'_>,
         clause: &Clause,
     ) -> Result<(), NoMemory> {
         let number = matching.clause;
         matching.clause = number.saturating_add(1);
         self.frame = matching.entry.copy(self.context.alloc)?;
-        self.open_root(matching, &clause.pattern)?;
-        for leaf in &matching.leaves {
+        self.choose(&mut matching.choice, number)?;
+        self.open_root(&matching.choice, &clause.pattern)?;
+        for leaf in &matching.choice.leaves {
             if leaf.clause == number {
                 self.buffer.settle(leaf.jump)?;
             }
@@ -154,8 +134,8 @@ impl<'a> Lowerer<'a> {
     }
 
     // What a clause knows of the scrutinee. A variable is another name of it.
-    fn open_root(&mut self, matching: &Matching, pattern: &Pattern) -> Result<(), NoMemory> {
-        let register = matching.root.register;
+    fn open_root(&mut self, choice: &Choice<'_>, pattern: &Pattern) -> Result<(), NoMemory> {
+        let register = choice.root.register;
         match pattern {
             Pattern::Binder(binder) => {
                 self.bind(binder.number, register);
@@ -168,10 +148,10 @@ impl<'a> Lowerer<'a> {
                     Held::Lent { root, .. } => root,
                     _ => None,
                 };
-                if matching.takes {
+                if choice.takes {
                     self.frame.use_up(register);
                 }
-                self.open_part(matching.takes, root, pattern, &matching.root)
+                self.open_part(choice.takes, root, pattern, &choice.root)
             }
         }
     }
@@ -186,6 +166,9 @@ impl<'a> Lowerer<'a> {
     ) -> Result<(), NoMemory> {
         match pattern {
             Pattern::Binder(binder) => {
+                if !takes && !is_named(binder) {
+                    return Ok(());
+                }
                 self.bind(binder.number, spot.register);
                 let held = if takes || self.is_scalar(binder.ty) {
                     self.given(binder.ty)
@@ -211,10 +194,11 @@ impl<'a> Lowerer<'a> {
         }
     }
 
-    /// Ends the body of a clause: where the match gives its value to what follows, the code goes there.
+    /// Ends the body of a clause: where the match gives its value to what follows, the code goes there, which stands
+    /// behind the last clause.
     pub fn end_clause(
         &mut self,
-        matching: &mut Matching,
+        matching: &mut Matching<'_>,
         target: Target<'_>,
     ) -> Result<(), NoMemory> {
         let Target::Into(given) = target else {
@@ -227,8 +211,10 @@ impl<'a> Lowerer<'a> {
             given,
         )?;
         self.frame.widen();
-        let jump = self.buffer.add_jump()?;
-        matching.ends.push(jump)?;
+        if matching.clause < matching.choice.len() {
+            let jump = self.buffer.add_jump()?;
+            matching.ends.push(jump)?;
+        }
         match &mut matching.joined {
             Some(joined) => joined.meet(&self.frame),
             None => matching.joined = Some(self.frame.copy(self.context.alloc)?),
@@ -237,7 +223,7 @@ impl<'a> Lowerer<'a> {
     }
 
     /// The place where the clauses meet.
-    pub fn end_match(&mut self, matching: Matching) -> Result<(), NoMemory> {
+    pub fn end_match(&mut self, matching: Matching<'_>) -> Result<(), NoMemory> {
         let Matching { ends, joined, .. } = matching;
         match joined {
             None => Ok(()),

@@ -112,7 +112,10 @@ const FAULTS: &[FaultRow<'static>] = &[
 fn each_fault_is_told(rt: HostRuntime) -> Result<(), Fail> {
     let alloc = rt.alloc();
     let source = REVERSE.as_bytes();
-    assert_eq!(rt; first_wrong_faults(alloc, source, FAULTS)?, None);
+    assert_eq!(rt;
+        first_wrong_faults(alloc, host_of(source, b""), FAULTS)?,
+        None
+    );
     let row = ("exec a.fp rev", ARGUMENTS, 0, REVERSED);
     assert_eq!(rt; untold_runs(alloc, source, row, Object::Folder)?, Some(14));
     assert_eq!(rt; untold_runs(alloc, source, row, Object::Input)?, Some(13));

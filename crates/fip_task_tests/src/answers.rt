@@ -138,8 +138,12 @@ fn ends(
     text: &str,
 ) -> Result<bool, AllocError> {
     let seen = run(alloc, words, host)?;
-    let printed = if status == 0 { &seen.out } else { &seen.err };
-    Ok(seen.status == status && printed.as_slice() == text.as_bytes() && seen.same_files)
+    let is_printed = if status == 0 {
+        seen.out.as_slice() == text.as_bytes()
+    } else {
+        seen.err.as_slice() == text.as_bytes()
+    };
+    Ok(seen.status == status && is_printed && seen.same_files)
 }
 
 // The file that a command stores over `LISTS`; no bytes where it stores none.

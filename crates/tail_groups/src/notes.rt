@@ -39,7 +39,8 @@ fn note_instance(
     number: usize,
     instance: &Instance,
 ) -> Result<(), NoMemory>
-    ensures { OnOk result (least.new ≡ after least.old (instance_notes groups.now number (V.instance_of instance.now))) }
+    ensures { OnOk result (least.new ≡ after least.old
+        (instance_notes groups.now number (V.instance_of instance.now))) }
 {
     if !is_fip(instance.kind) {
         return Ok(());

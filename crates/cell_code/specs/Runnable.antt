@@ -2,6 +2,7 @@
 -- functions and lists are in range, and what a fip function needs of the stack covers what it calls. So a run tests
 -- none of them. A code that the verifier accepts is runnable. Instructions that no way reaches may be anything.
 use Rattle.std.specs.Prelude.{◌≡◌, ℕ, zero, suc, ◌+◌, ◌<◌, ◌≤◌, List, Option, length, All, Some, slice_get}
+use Rattle.fip_language.specs.declared.limits.TheConstants.{MOST_FIELDS, MOST_REGISTERS, MOST_RESULTS}
 use Rattle.fip_base.specs.declared.plain.Stack.{Stack}
 use Rattle.cell_code.specs.declared.code.Instr.{Instr}
 use Rattle.cell_code.specs.declared.code.Instr.TheVariants as I
@@ -48,14 +49,14 @@ Row b i P (I.Arith d op x y line col) = (d < b.registers) × (x < b.registers) �
 Row b i P (I.Test r c target) = (r < b.registers) × P (i + 1) × (i < target) × P target
 Row b i P (I.TestInt r v target) = (r < b.registers) × P (i + 1) × (i < target) × P target
 Row b i P (I.Peek d r k) = (d < b.registers) × (r < b.registers) × P (i + 1)
-Row b i P (I.Take r ds) = (r < b.registers) × AreBelow b.registers ds × (length ds ≤ 16) × P (i + 1)
-Row b i P (I.Put d t c ss) = (d < b.registers) × AreBelow b.registers ss × (length ss ≤ 16) × P (i + 1)
+Row b i P (I.Take r ds) = (r < b.registers) × AreBelow b.registers ds × (length ds ≤ MOST_FIELDS) × P (i + 1)
+Row b i P (I.Put d t c ss) = (d < b.registers) × AreBelow b.registers ss × (length ss ≤ MOST_FIELDS) × P (i + 1)
 Row b i P (I.Drop r) = (r < b.registers) × P (i + 1)
 Row b i P (I.Free r) = (r < b.registers) × P (i + 1)
 Row b i P (I.Call f ss ds) = AreBelow b.registers ss × AreBelow b.registers ds × CanCall b.functions f (length ss)
     × Covers b.stacks b.function f (b.registers + 2) × P (i + 1)
 Row b i P (I.Tail f ss) = AreBelow b.registers ss × CanCall b.functions f (length ss) × Covers b.stacks b.function f 0
-Row b i P (I.Ret rs) = AreBelow b.registers rs × (length rs ≤ 8)
+Row b i P (I.Ret rs) = AreBelow b.registers rs × (length rs ≤ MOST_RESULTS)
 Row b i P (I.Jump target) = (i < target) × P target
 
 -- Instruction i, and after it on every way at most k steps long.
@@ -70,7 +71,7 @@ IsSafe b i = (k : ℕ) × Follows b k i
 pub record IsFunction (fs : List Function) (ss : List (Option Stack)) (f : ℕ) (g : Function) : Type 0 where
   pub start : IsSafe (body_of fs ss f g) 0
   pub few : length g.instrs.items < 4294967296
-  pub small : g.registers ≤ 4096
+  pub small : g.registers ≤ MOST_REGISTERS
   pub own : (s : Stack) → slice_get ss f ≡ Some (Some s) → g.registers + 2 ≤ s.words
 
 pub record IsRunnable (fs : List Function) (ss : List (Option Stack)) : Type 0 where

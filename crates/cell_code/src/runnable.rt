@@ -5,6 +5,7 @@ ghost use Rattle.cell_code.specs.Runnable.{AreBelow, CanCall, Covers, Row, IsSaf
 use crate::code::{Code, Function, Instr};
 use crate::registers::Registers;
 use fip_base::plain::{NoMemory, Stack};
+use fip_language::limits::{MOST_FIELDS, MOST_REGISTERS, MOST_RESULTS};
 use std::alloc::Global;
 
 // Whether all registers are below `n`.
@@ -191,13 +192,13 @@ fn is_row(
             ..
         } => is_below(n, *destination) && is_below(n, *register) && next,
         Instr::Take { register, fields } => {
-            is_below(n, *register) && are_few_below(n, fields.as_slice(), 16) && next
+            is_below(n, *register) && are_few_below(n, fields.as_slice(), MOST_FIELDS) && next
         }
         Instr::Put {
             register,
             fields,
             ..
-        } => is_below(n, *register) && are_few_below(n, fields.as_slice(), 16) && next,
+        } => is_below(n, *register) && are_few_below(n, fields.as_slice(), MOST_FIELDS) && next,
         Instr::Drop { register } => is_below(n, *register) && next,
         Instr::Free { register } => is_below(n, *register) && next,
         Instr::Call {
@@ -209,7 +210,7 @@ fn is_row(
             function: callee,
             arguments,
         } => calls_last(functions, stacks, f, n, *callee, arguments),
-        Instr::Ret { results } => are_few_below(n, results.as_slice(), 8),
+        Instr::Ret { results } => are_few_below(n, results.as_slice(), MOST_RESULTS),
         Instr::Jump { target } => is_ahead(safe, at, *target),
     }
 }
@@ -262,7 +263,7 @@ fn is_function(
     ensures function { IfOk result (λ b. IsTrue b → IsFunction functions.now stacks.now f function.now) }
 {
     let n = function.registers as usize;
-    if n > 4096 || function.instrs.len() > u32::MAX as usize {
+    if n > MOST_REGISTERS || function.instrs.len() > u32::MAX as usize {
         return Ok(false);
     }
     let safe = safe_instrs(alloc, functions, stacks, f, function)?;

@@ -1,6 +1,7 @@
 -- Types past the end of the table, and the violations of E60 as a list.
 use Rattle.std.proofs.Common.{arith, ap, ◌≡◌, refl, sym, subst, ◌⊎◌, inl, inr, ℕ, zero, suc, ◌<◌, ◌≤◌, Bool, true, false, List, [], ◌∷◌, length, Option, Some, None, Result, Ok, Err, IfOk}
 use Rattle.std.specs.Prelude.{option_map, nat_lt, not, ◌&&◌}
+use Rattle.fip_language.specs.declared.limits.TheConstants.{MOST_MATCHED_CONSTRUCTORS}
 use Rattle.fip_language.specs.declared.rule.Rule.TheVariants.{E60}
 use Rattle.fip_language.specs.Table.{Table, shapes, constructors, is_scalar}
 use Rattle.fip_base.specs.declared.refusal.Refusal.{Refusal}
@@ -9,7 +10,7 @@ use Rattle.fip_trees.specs.declared.least.Violation.{Violation}
 use Rattle.fip_trees.specs.Tree.{Instance, Program}
 use Rattle.fip_trees.specs.Least.{In, after, IsLeastOf, refusal, violation}
 use Rattle.fip_trees.proofs.Leasts.{after-append, least_of, none_of, in_left, in_right, in_either}
-use Rattle.cell_lower.specs.Limits.{BreaksFrom, Breaks, exceeds, registers, is_wide, most_constructors}
+use Rattle.cell_lower.specs.Limits.{BreaksFrom, Breaks, exceeds, registers, is_wide}
 use Rattle.cell_lower.specs.LimitNotes.{when, instance_notes, notes_from}
 
 pub ruleset noting = (after-append)
@@ -24,7 +25,7 @@ past_the_end tb zero h = absurd (omega (arith, h))
 past_the_end tb (suc t) h = none_there tb t (omega (arith, h))
 
 pub wide_past : (tb : Table) (t : ℕ) → length tb < t → false ≡ is_wide tb t
-wide_past tb t h = sym (ap (λ cs. nat_lt most_constructors (length cs) && not (is_scalar tb t)) (past_the_end tb t h))
+wide_past tb t h = sym (ap (λ cs. nat_lt MOST_MATCHED_CONSTRUCTORS (length cs) && not (is_scalar tb t)) (past_the_end tb t h))
 
 if_noted : (b : Bool) (u v : Violation) → In v (when b u) → (b ≡ true) × (v ≡ u)
 if_noted true u v (inl e) = (refl, e)

@@ -6,6 +6,7 @@
 -- `wide` has at most 65,535 constructors, or none with fields.
 use Rattle.std.specs.Prelude.{◌≡◌, ◌⊎◌, ℕ, suc, Bool, true, false, ◌||◌, ◌&&◌, not, nat_lt, List, [], ◌∷◌, length}
 use Rattle.std.specs.Prelude.{Option, Some, None, slice_get}
+use Rattle.fip_language.specs.declared.limits.TheConstants.{MOST_MATCHED_CONSTRUCTORS, MOST_REGISTERS}
 use Rattle.fip_language.specs.declared.FunKind.{FunKind}
 use Rattle.fip_language.specs.declared.FunKind.TheVariants.{Fip, Fbip, Fun}
 use Rattle.fip_language.specs.declared.rule.Rule.TheVariants.{E60}
@@ -23,15 +24,9 @@ use Rattle.fip_trees.specs.Tree.{Last, Let}
 use Rattle.fip_trees.specs.TreeView.{Case}
 use Rattle.fip_trees.specs.Tree.{Clauses, NoClauses, MoreClauses, Instance, Program}
 
-abbrev pub most_registers : ℕ
-most_registers = 4096
-
-abbrev pub most_constructors : ℕ
-most_constructors = 65535
-
 -- a type with cells that has too many constructors
 abbrev pub is_wide : Table → ℕ → Bool
-is_wide tb t = nat_lt most_constructors (length (constructors tb t)) && not (is_scalar tb t)
+is_wide tb t = nat_lt MOST_MATCHED_CONSTRUCTORS (length (constructors tb t)) && not (is_scalar tb t)
 
 abbrev pub any_wide : Table → List Binder → Bool
 any_wide tb [] = false
@@ -106,7 +101,7 @@ matches_wide tb d = matches_block d.body && (any_wide_param tb d.params || wide_
 
 -- the rule is broken in an instance with n registers
 abbrev pub exceeds : Table → ℕ → Instance → Bool
-exceeds tb n d = is_ruled d.kind && (nat_lt most_registers n || matches_wide tb d)
+exceeds tb n d = is_ruled d.kind && (nat_lt MOST_REGISTERS n || matches_wide tb d)
 
 -- the violations of some instances, numbered from i on
 abbrev pub BreaksFrom : Table → List Member → ℕ → List Instance → Violation → Type 0

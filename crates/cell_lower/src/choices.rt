@@ -14,7 +14,7 @@ use crate::lowerer::Lowerer;
 use crate::spots::Spot;
 use cell_code::{Constructors, From, Instr, Kind, Registers};
 use fip_base::plain::NoMemory;
-use fip_trees::limits::MOST_PATTERN_NODES;
+use fip_language::limits::MOST_PATTERN_NODES;
 use fip_trees::program::{Binder, Pattern, Program};
 use match_knowledge::{
     Head, Knowledge, Row, compare, is_asks, is_fits, is_last, open, same_head, side,

@@ -8,9 +8,9 @@ ghost use Rattle.cell_lower.specs.LimitNotes.{instance_notes, notes_from};
 use fip_base::plain::{FunKind, NoMemory, Param};
 use fip_base::refusal::Rule;
 use fip_base::table::TypeTable;
+use fip_language::limits::{MOST_MATCHED_CONSTRUCTORS, MOST_REGISTERS};
 use fip_trees::groups::Groups;
 use fip_trees::least::Least;
-use fip_trees::limits::{MOST_MATCHED_CONSTRUCTORS, MOST_REGISTERS};
 use fip_trees::program::{Binder, Block, Clause, Expression, Instance, Pattern, Program};
 use std::alloc::Global;
 

@@ -4,7 +4,7 @@ use crate::lowerer::Lowerer;
 use cell_code::Instr;
 use fip_base::core_form::MatchKind;
 use fip_base::plain::NoMemory;
-use fip_trees::limits::MOST_FIELDS;
+use fip_language::limits::MOST_FIELDS;
 use fip_trees::program::{Argument, Block, Clause, Expression};
 use fip_trees::sizes::Sizes;
 

@@ -2,6 +2,7 @@
 -- is released.
 use Rattle.std.specs.Prelude.{◌≡◌, ℕ, zero, suc, ◌+◌, ◌*◌, ◌/◌, ◌%◌, ◌<◌, ◌≤◌, ◌^◌, Bool, false, List, [], ◌∷◌, Some}
 use Rattle.std.specs.Prelude.{None, length, take, nat_eq, slice_index_or}
+use Rattle.fip_language.specs.declared.limits.TheConstants.{MOST_FIELDS}
 use Rattle.cell_store.specs.Cells.{Cells, count_live}
 
 abbrev pub size : ℕ → ℕ
@@ -25,7 +26,7 @@ flags (suc n) (w ∷ ws) = false ∷ flags n ws
 abbrev pub Laid : ℕ → List ℕ → Type 0
 Laid zero [] = Unit {0}
 Laid (suc n) [] = ⊥
-Laid zero (h ∷ ws) = (0 < size h) × (size h ≤ 16) × (h < 2 ^ 38) × (size h ≤ length ws) × Laid (size h) ws
+Laid zero (h ∷ ws) = (0 < size h) × (size h ≤ MOST_FIELDS) × (h < 2 ^ 38) × (size h ≤ length ws) × Laid (size h) ws
 Laid (suc n) (w ∷ ws) = Laid n ws
 
 -- words with others from a place on
@@ -42,4 +43,4 @@ over_at (w ∷ ws) (suc p) fs = w ∷ over_at ws p fs
 -- the numbers of live cells by size
 pub record IsCounted (cells : Cells) (released : List Bool) (counts : List ℕ) : Type 0 where
   pub wide : length counts ≡ 17
-  pub exact : (k : ℕ) → k ≤ 16 → slice_index_or counts k 0 ≡ count_live k cells released
+  pub exact : (k : ℕ) → k ≤ MOST_FIELDS → slice_index_or counts k 0 ≡ count_live k cells released

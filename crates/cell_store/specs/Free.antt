@@ -1,5 +1,6 @@
 -- Stacks of the places of released cells, one for each size.
 use Rattle.std.specs.Prelude.{◌≡◌, ℕ, ◌+◌, ◌≤◌, Bool, Option, List, [], Some, None, length, slice_get, slice_index_or}
+use Rattle.fip_language.specs.declared.limits.TheConstants.{MOST_FIELDS}
 use Rattle.fip_language.specs.Store.{Cell, count}
 use Rattle.cell_store.specs.Cells.{Cells, cell_at, one_free, count_live, count_free}
 
@@ -27,7 +28,7 @@ pub record IsFree (cells : Cells) (released : List Bool) (k : ℕ) (stack : Stac
   pub room : count_live k cells released + count_free k cells released ≤ stack.room
 
 abbrev pub AreFree : Cells → List Bool → List Stack → Type 0
-AreFree cells released stacks = (k : ℕ) → k ≤ 16 → IsFree cells released k (stack_at stacks k)
+AreFree cells released stacks = (k : ℕ) → k ≤ MOST_FIELDS → IsFree cells released k (stack_at stacks k)
 
 -- The same places, and no less room.
 pub record KeepsPlaces (old new : List Stack) : Type 0 where

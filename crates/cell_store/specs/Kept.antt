@@ -1,5 +1,6 @@
 -- What a store in flat words keeps to at every moment.
 use Rattle.std.specs.Prelude.{◌≡◌, ℕ, ◌+◌, ◌≤◌, List, length}
+use Rattle.fip_language.specs.declared.limits.TheConstants.{MOST_STORE_WORDS}
 use Rattle.cell_store.specs.Cells.{number}
 use Rattle.cell_store.specs.Flat.{Laid, IsCounted, parse, flags}
 use Rattle.cell_store.specs.Free.{Stack, AreFree}
@@ -14,4 +15,4 @@ pub record IsKept (words marks counts : List ℕ) (stacks : List Stack) (cells s
   pub free : AreFree (parse 0 words) (flags 0 words) stacks
   pub made : cells ≡ number (parse 0 words)
   pub room : cells ≤ space
-  pub few : length words + left ≤ 16777216
+  pub few : length words + left ≤ MOST_STORE_WORDS

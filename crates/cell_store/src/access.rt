@@ -1,6 +1,7 @@
 // What a sealed store answers and does, whatever it keeps the cells in.
 ghost use Rattle.std.specs.Prelude.{◌≡◌, ◌≢◌, ℕ, ◌<◌, ◌≤◌, ◌↔◌, Bool, false, true, List, [], ◌∷◌, ◌++◌, length, None};
 ghost use Rattle.std.specs.Prelude.{Some, IsTrue, MatchOption, option_map, option_and_then, slice_get, slice_set};
+ghost use Rattle.fip_language.specs.declared.limits.TheConstants.{MOST_FIELDS};
 ghost use Rattle.fip_language.specs.Store.{Cell};
 ghost use Rattle.cell_store.specs.Cells.{cell_at, size_in, size_of, sizes, number, count_live};
 ghost use Rattle.cell_store.specs.Cells as S;
@@ -36,7 +37,7 @@ pub trait Cells {
     fn cell_size(&self, p: u32) -> usize
         requires { cell_at (cells self.now) p ≢ None }
         ensures size { option_map size_of (cell_at (cells self.now) p) ≡ Some result }
-        ensures few { result ≤ 16 };
+        ensures few { result ≤ MOST_FIELDS };
 
     /// The word of field `i`, from 0, of the cell at place `p`.
     fn field(&self, p: u32, i: usize) -> u64

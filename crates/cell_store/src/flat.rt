@@ -4,6 +4,7 @@ ghost use Rattle.std.specs.Prelude.{◌≡◌, ◌≢◌, ℕ, ◌+◌, ◌*◌,
 ghost use Rattle.std.specs.Prelude.{Some, Err, IsTrue, IfOk, OnOk, OnErr, IfSome, IfNone, MatchOption, length, vec_len};
 ghost use Rattle.std.specs.Prelude.{replicate, option_map, option_and_then, slice_get, slice_set};
 ghost use Rattle.std.specs.Vec.{vec_capacity};
+ghost use Rattle.fip_language.specs.declared.limits.TheConstants.{MOST_FIELDS, MOST_STORE_WORDS};
 ghost use Rattle.fip_language.specs.Store.{Cell};
 ghost use Rattle.cell_store.specs.Cells.{IsBehind, cell_at, size_in, size_of, sizes, number, count_live, count_free};
 ghost use Rattle.cell_store.specs.Flat.{parse, flags, over_at};
@@ -15,14 +16,12 @@ ghost use Rattle.cell_store.specs.Marks.{is_marked};
 use crate::loader::CellError;
 use crate::marks::{has_mark, mark, reach};
 use crate::places::{Places, count_of, put, reserve, take};
+use fip_language::limits::MOST_FIELDS;
 use std::alloc::{AllocError, Global};
 use std::marker::Model;
 
 /// A number for each size from 0 to 16.
-pub const SIZES: usize = 17;
-
-/// The most words of a store.
-pub const WORDS: usize = 16_777_216;
+pub const SIZES: usize = MOST_FIELDS + 1;
 
 /// Words, bits that mark where cells begin, the stack of pushed words, the number of live cells of each size, the
 /// places of the released ones of each size, the number of all cells, and the words that are left.
@@ -95,7 +94,7 @@ fn take_room(
 impl Flat {
     /// A store without a cell, of so many words. Takes no memory.
     pub fn new(alloc: Global, words: usize) -> Flat
-        requires { words ≤ 16777216 }
+        requires { words ≤ MOST_STORE_WORDS }
         ensures cells { result.cells ≡ [] }
         ensures released { result.released ≡ [] }
         ensures pushed { result.pushed ≡ [] }
@@ -117,7 +116,8 @@ impl Flat {
     #[inline(always)]
     pub fn left(&self) -> usize
         ensures left { result ≡ self.now.left }
-        ensures few { length self.now.cells + self.now.left ≤ 16777216 }
+        ensures few { length self.now.cells + self.now.left ≤ MOST_STORE_WORDS }
+        ensures flags { length self.now.released ≡ length self.now.cells }
     {
         self.left
     }
@@ -173,7 +173,7 @@ impl Flat {
     pub fn cell_size(&self, p: u32) -> usize
         requires { cell_at self.now.cells p ≢ None }
         ensures size { option_map size_of (cell_at self.now.cells p) ≡ Some result }
-        ensures few { result ≤ 16 }
+        ensures few { result ≤ MOST_FIELDS }
     {
         (self.words[p as usize] / 2 % 32) as usize
     }
@@ -290,7 +290,7 @@ impl Flat {
 
     // Gives a released cell of the size this constructor and these words. `None` where there is no such cell.
     fn retake(&mut self, tag: u32, fields: &[u64]) -> Option<u32>
-        requires few { length fields.now ≤ 16 }
+        requires few { length fields.now ≤ MOST_FIELDS }
         ensures none { IfNone result ((count_free (length fields.now) self.old.cells self.old.released ≡ 0)
             × (self.new ≡ self.old)) }
         ensures some { IfSome result (λ p. 0 < count_free (length fields.now) self.old.cells self.old.released) }
@@ -314,7 +314,7 @@ impl Flat {
     // Makes a cell behind the others.
     fn append(&mut self, tag: u32, fields: &[u64]) -> Result<u32, CellError>
         requires some { 0 < length fields.now }
-        requires few { length fields.now ≤ 16 }
+        requires few { length fields.now ≤ MOST_FIELDS }
         ensures full { (result ≡ Err CellError.Full) ↔ (self.old.left < length fields.now + 1) }
         ensures made { IfOk result (λ p. IsAppended (loading self.old) (loading self.new) p
             (record { tag = tag; fields = fields.now })) }
@@ -350,7 +350,7 @@ impl Flat {
     /// others.
     pub fn cell(&mut self, tag: u32, fields: &[u64]) -> Result<u32, CellError>
         requires some { 0 < length fields.now }
-        requires few { length fields.now ≤ 16 }
+        requires few { length fields.now ≤ MOST_FIELDS }
         ensures retaken { 0 < count_free (length fields.now) self.old.cells self.old.released →
             IfOk result (λ p. IsRetaken (loading self.old) (loading self.new) p
             (record { tag = tag; fields = fields.now })) }
@@ -370,7 +370,7 @@ impl Flat {
 
     /// Takes memory for cells of so many more words.
     pub fn reserve(&mut self, words: usize) -> Result<(), AllocError>
-        requires { words ≤ 16777216 }
+        requires { words ≤ MOST_STORE_WORDS }
         ensures same { self.new ≡ self.old }
     {
         self.words.reserve(words)?;

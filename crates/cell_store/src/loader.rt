@@ -1,6 +1,7 @@
 // A store that takes cells.
 ghost use Rattle.std.specs.Prelude.{◌≡◌, ℕ, ◌+◌, ◌*◌, ◌<◌, ◌≤◌, ◌↔◌, [], ◌∷◌, ◌++◌, false, None, Some, Err, IfOk, OnOk};
 ghost use Rattle.std.specs.Prelude.{OnErr, length, replicate};
+ghost use Rattle.fip_language.specs.declared.limits.TheConstants.{MOST_FIELDS, MOST_STORE_WORDS};
 ghost use Rattle.fip_language.specs.Store.{Cell};
 ghost use Rattle.cell_store.specs.Cells.{count_free};
 ghost use Rattle.cell_store.specs.Made.{Loading, IsRetaken, IsAppended, loading};
@@ -50,7 +51,7 @@ impl Model for Loader {
 impl Loader {
     /// A loader of so many words. Takes no memory.
     pub fn new(alloc: Global, words: usize) -> Loader
-        requires { words ≤ 16777216 }
+        requires { words ≤ MOST_STORE_WORDS }
         ensures cells { result.cells ≡ [] }
         ensures released { result.released ≡ [] }
         ensures left { result.left ≡ words }
@@ -72,7 +73,8 @@ impl Loader {
     #[inline(always)]
     pub fn left(&self) -> usize
         ensures left { result ≡ self.now.left }
-        ensures few { length self.now.cells + self.now.left ≤ 16777216 }
+        ensures few { length self.now.cells + self.now.left ≤ MOST_STORE_WORDS }
+        ensures flags { length self.now.released ≡ length self.now.cells }
     {
         self.flat.left()
     }
@@ -88,7 +90,7 @@ impl Loader {
     /// Takes memory for cells of so many more words, so that `cell` takes none while the cells that it makes need no
     /// more than these. An error where the memory is not there; the cells stay as they are in any case.
     pub fn reserve(&mut self, words: usize) -> Result<(), NoMemory>
-        requires { words ≤ 16777216 }
+        requires { words ≤ MOST_STORE_WORDS }
         ensures same { self.new ≡ self.old }
     {
         self.flat.reserve(words)?;
@@ -100,7 +102,7 @@ impl Loader {
     /// than the fields; `NoMemory` where the memory for a further cell is wanting, which a released one never needs.
     pub fn cell(&mut self, tag: u32, fields: &[u64]) -> Result<u32, CellError>
         requires some { 0 < length fields.now }
-        requires few { length fields.now ≤ 16 }
+        requires few { length fields.now ≤ MOST_FIELDS }
         ensures retaken { 0 < count_free (length fields.now) self.old.cells self.old.released →
             IfOk result (λ p. IsRetaken self.old self.new p (record { tag = tag; fields = fields.now })) }
         ensures appended { count_free (length fields.now) self.old.cells self.old.released ≡ 0 →

@@ -2,6 +2,7 @@
 ghost use Rattle.std.specs.Prelude.{◌≡◌, ◌≢◌, ℕ, ◌+◌, ◌*◌, ◌<◌, ◌≤◌, ◌↔◌, Bool, false, [], ◌∷◌, ◌++◌, None, Some, Err};
 ghost use Rattle.std.specs.Prelude.{All, IfOk, OnOk, OnErr, length, map, vec_len};
 ghost use Rattle.std.specs.Vec.{vec_capacity};
+ghost use Rattle.fip_language.specs.declared.limits.TheConstants.{MOST_FIELDS, MOST_STORE_WORDS};
 ghost use Rattle.fip_language.specs.Store.{Cell};
 ghost use Rattle.cell_store.specs.Cells.{size_of, number};
 ghost use Rattle.cell_store.specs.Flat.{IsCounted};
@@ -37,7 +38,7 @@ impl Model for RowSealed {
 
     ghost invariant = { λ s. record {
       flags : length s.released.items ≡ length s.rows.items;
-      small : All (λ c. size_of c ≤ 16) s.rows.items;
+      small : All (λ c. size_of c ≤ MOST_FIELDS) s.rows.items;
       counted : IsCounted (map (λ c. Some c) s.rows.items) s.released.items s.counts;
       room : number (map (λ c. Some c) s.rows.items) ≤ vec_capacity s.pushed;
     } };
@@ -117,18 +118,18 @@ impl Model for RowLoader {
 
     ghost invariant = { λ l. record {
       unreleased : l.released.items ≡ map (λ c. false) l.rows.items;
-      small : All (λ c. size_of c ≤ 16) l.rows.items;
+      small : All (λ c. size_of c ≤ MOST_FIELDS) l.rows.items;
       counted : IsCounted (map (λ c. Some c) l.rows.items) l.released.items l.counts;
       room : number (map (λ c. Some c) l.rows.items) ≤ vec_capacity l.pushed;
       unpushed : l.pushed.items ≡ [];
-      few : 2 * vec_len l.rows + l.left ≤ 16777216;
+      few : 2 * vec_len l.rows + l.left ≤ MOST_STORE_WORDS;
     } };
 }
 
 impl RowLoader {
     /// A loader of so many words. Takes no memory.
     pub fn new(alloc: Global, words: usize) -> RowLoader
-        requires { words ≤ 16777216 }
+        requires { words ≤ MOST_STORE_WORDS }
         ensures cells { result.cells ≡ [] }
         ensures released { result.released ≡ [] }
         ensures left { result.left ≡ words }
@@ -154,7 +155,7 @@ impl RowLoader {
     /// words are left than one more than the fields; `NoMemory` where the memory for the cell is wanting.
     pub fn cell(&mut self, tag: u32, fields: &[u64]) -> Result<u32, CellError>
         requires some { 0 < length fields.now }
-        requires few { length fields.now ≤ 16 }
+        requires few { length fields.now ≤ MOST_FIELDS }
         ensures place { IfOk result (λ p. p ≡ length self.old.cells) }
         ensures cells { OnOk result (self.new.cells ≡ self.old.cells ++ Some (record { tag = tag; fields = fields.now })
             ∷ []) }

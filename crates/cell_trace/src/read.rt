@@ -3,10 +3,8 @@ use crate::error::ReadTraceError;
 use crate::reader::Reader;
 use crate::trace::{Event, LoadedCell, Trace};
 use crate::write::{HEAD, PUT, RELEASE};
+use fip_language::limits::MOST_FIELDS;
 use std::alloc::Global;
-
-// The most fields of a cell.
-const MOST_FIELDS: u8 = 16;
 
 /// The trace that the bytes spell. BadTrace with the least place at which they go wrong, as it says. Memory grows with
 /// the bytes that are read.
@@ -53,7 +51,7 @@ fn read_cell(alloc: Global, reader: &mut Reader, least: u64) -> Result<LoadedCel
     }
     let tag = reader.u32()?;
     let size = reader.byte()?;
-    if size == 0 || MOST_FIELDS < size {
+    if size == 0 || MOST_FIELDS < size as usize {
         return Err(ReadTraceError::BadTrace { at });
     }
     let fields = reader.words(alloc, size as usize)?;

@@ -7,11 +7,9 @@ use crate::error::TraceError;
 use crate::trace::{Event, LoadedCell, Trace};
 use crate::write::{CELL_BYTES, FIELD_BYTES, LEAST_BYTES, MOST_EVENTS, PUT_BYTES, RELEASE_BYTES};
 use cell_store::{Cells, Sealed};
+use fip_language::limits::MOST_FIELDS;
 use std::alloc::Global;
 use std::marker::Model;
-
-// The most fields of a cell.
-const MOST_FIELDS: usize = 16;
 
 /// A sealed store with what was written to it, step by step. It is a store as the one in it, and calls on it do the
 /// same. What can't be kept is noted and told at the end, so that a run goes on as without it.

@@ -8,7 +8,7 @@ use crate::walk::{DropType, Found, Waiting, Walk, is_fip};
 use call_groups::{Call, Partition, partition_of, stacks};
 use cell_code::{Code, Function};
 use fip_base::plain::{NoMemory, Stack};
-use fip_trees::limits::FRAME_WORDS;
+use fip_language::limits::FRAME_WORDS;
 use register_kinds::Table;
 use std::alloc::{AllocError, AllocFailed, Global};
 use thiserror::Error;

@@ -2,7 +2,7 @@
 use crate::types::are_types;
 use cell_code::{From, Function, Kind, Label};
 use fip_base::plain::Param;
-use fip_trees::limits::{MOST_CREDITS, MOST_FIELDS, MOST_REGISTERS, MOST_RESULTS};
+use fip_language::limits::{MOST_CREDITS, MOST_FIELDS, MOST_REGISTERS, MOST_RESULTS};
 use register_kinds::Table;
 
 /// Whether a function doesn't break S9.

@@ -3,7 +3,7 @@ use crate::finite::have_values;
 use cell_code::{Code, Function};
 use fip_base::plain::NoMemory;
 use fip_base::table::Constructor;
-use fip_trees::limits::{MOST_FIELDS, MOST_INSTANCES};
+use fip_language::limits::{MOST_FIELDS, MOST_INSTANCES};
 use register_kinds::Table;
 use std::alloc::Global;
 use std::collections::BTreeSet;

@@ -2,6 +2,7 @@
 -- fp2 exec FILE ENTRY [--calls N] [--frames N] [--words N] [--gauge], and fourteen further commands.
 use Rattle.std.specs.Prelude.{◌≡◌, ◌⊎◌, ℕ, ◌^◌, ◌<◌, ◌≤◌, List, [], ◌∷◌, Some, Bool, true, false, codes}
 use Rattle.std.specs.Str.Parse.{IsNumeral, digits_value, without_leading_plus}
+use Rattle.fip_language.specs.declared.limits.TheConstants.{MOST_CALLS, MOST_FRAMES, MOST_STORE_WORDS}
 use Rattle.clap.specs.Words.{App, Row, Rule, Text, fault_of, first_of, one_of, subcommand_of, new_rule, with_rule}
 use Rattle.clap.specs.Words.{with_subcommand}
 use Rattle.clap.specs.Simple.{new_shape}
@@ -34,13 +35,13 @@ abbrev pub bare : Text → App
 bare name = record { top = record (new_shape name) { disable_help_flag = true }; subs = [] }
 
 abbrev pub most_calls : ℕ
-most_calls = 1000000000000
+most_calls = MOST_CALLS
 
 abbrev pub most_frames : ℕ
-most_frames = 1000000
+most_frames = MOST_FRAMES
 
 abbrev pub most_words : ℕ
-most_words = 16777216
+most_words = MOST_STORE_WORDS
 
 abbrev pub most_seed : ℕ
 most_seed = 2147483647

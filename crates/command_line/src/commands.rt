@@ -12,16 +12,17 @@ ghost use Rattle.command_line.specs.Words.{proof_commands, paper_commands, comma
 
 use clap::builder::ValueParser;
 use clap::{Arg, ArgAction, Command};
+use fip_language::limits;
 use std::alloc::{AllocError, Global};
 
 /// The most calls that a run is given.
-pub const MOST_CALLS: u64 = 1_000_000_000_000;
+pub const MOST_CALLS: u64 = limits::MOST_CALLS;
 
-/// The most frames beside the entry's that a run is given.
-pub const MOST_FRAMES: u64 = 1_000_000;
+/// The most frames beside the entry's that a run is given, as numbers of the command line are.
+pub const MOST_FRAMES: u64 = limits::MOST_FRAMES as u64;
 
-/// The most words of a store.
-pub const MOST_WORDS: u64 = 16_777_216;
+/// The most words of a store, as numbers of the command line are.
+pub const MOST_WORDS: u64 = limits::MOST_STORE_WORDS as u64;
 
 /// The greatest seed.
 pub const MOST_SEED: u64 = 2_147_483_647;

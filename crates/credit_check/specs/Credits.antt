@@ -3,6 +3,7 @@ use Rattle.std.specs.Prelude.{◌≡◌, ◌<◌, ◌⊎◌, ℕ, suc, Bool, Lis
 use Rattle.fip_language.specs.declared.FunKind.{FunKind}
 use Rattle.fip_language.specs.declared.FunKind.TheVariants.{Fip, Fbip, Fun}
 use Rattle.fip_language.specs.declared.Place.{Place}
+use Rattle.fip_language.specs.declared.limits.TheConstants.{MOST_FIELDS}
 use Rattle.fip_language.specs.declared.rule.Rule.{Rule}
 use Rattle.fip_language.specs.declared.rule.Rule.TheVariants.{E56, E57, E58, E62}
 use Rattle.fip_base.specs.declared.refusal.PhaseError.{PhaseError}
@@ -15,7 +16,7 @@ use Rattle.credit_check.specs.Needs.{marked, takes, given, need_block, need_clau
 
 -- Of some size, from 1 to 16, f is less than g: v says so by this rule, at this place of the instance of number i.
 abbrev pub Less : Rule → Place → ℕ → (ℕ → ℕ) → (ℕ → ℕ) → Violation → Type 0
-Less r q i f g v = (k : ℕ) × (0 < k) × (k < 17) × (f k < g k) × (v ≡ violation r q i k [])
+Less r q i f g v = (k : ℕ) × (0 < k) × (k < suc MOST_FIELDS) × (f k < g k) × (v ≡ violation r q i k [])
 
 -- E57: a clause needs less than its pattern gives
 abbrev pub Unused : Program → ℕ → Bool → Pattern → Block → Violation → Type 0

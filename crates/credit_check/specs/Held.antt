@@ -6,6 +6,7 @@
 use Rattle.std.specs.Prelude.{◌≡◌, ◌<◌, ℕ, suc, List, [], ◌∷◌, ◌++◌, length}
 use Rattle.fip_language.specs.declared.FunKind.{FunKind}
 use Rattle.fip_language.specs.declared.FunKind.TheVariants.{Fip, Fbip, Fun}
+use Rattle.fip_language.specs.declared.limits.TheConstants.{MOST_FIELDS}
 use Rattle.fip_trees.specs.declared.needs.Need.{Need}
 use Rattle.fip_trees.specs.Sizes.{number}
 use Rattle.fip_trees.specs.Tree.{Expression, Give, Tuple, Operation, Call, Match, Nested, Block, Last, Let}
@@ -50,7 +51,7 @@ instance_rows p Fun d = []
 
 -- the same of each size from 1 to 16, and the same span
 pub record IsRow (n : Need) (r : Row) : Type 0 where
-  pub sizes : (k : ℕ) → 0 < k → k < 17 → number n.sizes k ≡ r.need k
+  pub sizes : (k : ℕ) → 0 < k → k < suc MOST_FIELDS → number n.sizes k ≡ r.need k
   pub span : n.span ≡ r.span
 
 abbrev pub AreRows : List Need → List Row → Type 0

@@ -1,6 +1,7 @@
 -- For the proofs alone: the same as lists, in the order of the walk.
 use Rattle.std.specs.Prelude.{ℕ, zero, suc, Bool, true, false, List, [], ◌∷◌, ◌++◌, length, Option, Some, None}
 use Rattle.std.specs.Prelude.{slice_get, nat_lt, if◌then◌else◌}
+use Rattle.fip_language.specs.declared.limits.TheConstants.{MOST_FIELDS}
 use Rattle.fip_language.specs.declared.FunKind.{FunKind}
 use Rattle.fip_language.specs.declared.FunKind.TheVariants.{Fip, Fbip, Fun}
 use Rattle.fip_language.specs.declared.Place.{Place}
@@ -118,7 +119,7 @@ below_from r q i xs ys k (suc n) =
 
 -- of which sizes the first list has fewer
 abbrev pub below : Rule → Place → ℕ → List ℕ → List ℕ → List Violation
-below r q i xs ys = below_from r q i xs ys 1 16
+below r q i xs ys = below_from r q i xs ys 1 MOST_FIELDS
 
 abbrev pub if_fip : Bool → List Violation → List Violation
 if_fip true vs = vs

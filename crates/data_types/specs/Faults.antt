@@ -19,7 +19,7 @@ use Rattle.fip_language.specs.Mentions.{Mention, mention, all_of}
 use Rattle.fip_base.specs.CoreView.{writtens_of}
 use Rattle.fip_trees.specs.Names.{Names, meaning, is_among}
 use Rattle.fip_trees.specs.declared.decls.TypeHead.{TypeHead}
-use Rattle.fip_trees.specs.declared.limits.TheConstants.{MOST_FIELDS, MOST_CREDITS}
+use Rattle.fip_language.specs.declared.limits.TheConstants.{MOST_FIELDS, MOST_CREDITS}
 use Rattle.fip_trees.specs.declared.least.Violation.{Violation}
 use Rattle.data_types.specs.Declarations.{Scope, data_scope, function_scope, declared_names}
 

@@ -3,7 +3,7 @@ ghost use Rattle.std.specs.Prelude.{◌≡◌, [], ◌∷◌, map, slice_get, If
 ghost use Rattle.fip_base.specs.CoreView as V;
 ghost use Rattle.fip_trees.specs.Least.{after};
 ghost use Rattle.fip_trees.specs.Names.{with_meanings};
-ghost use Rattle.fip_trees.specs.declared.limits.TheConstants.{MOST_CREDITS};
+ghost use Rattle.fip_language.specs.declared.limits.TheConstants.{MOST_CREDITS};
 ghost use Rattle.data_types.specs.Declarations.{static_meanings};
 ghost use Rattle.data_types.specs.Faults.{credit_faults, header_faults, mark_faults, parameter_mentions};
 ghost use Rattle.data_types.specs.Faults.{parameters_faults, repeats, result_faults, signature_faults};
@@ -16,8 +16,8 @@ use crate::written::{Scope, TypeParameters};
 use fip_base::core_form::{Function, Parameter, ResultType, SignatureParameter, Static};
 use fip_base::plain::{CreditMark, NoMemory, Place};
 use fip_base::refusal::Rule;
+use fip_language::limits::{MOST_CREDITS, MOST_FIELDS};
 use fip_trees::least::Least;
-use fip_trees::limits::{MOST_CREDITS, MOST_FIELDS};
 use fip_trees::meanings::Meanings;
 use std::alloc::Global;
 

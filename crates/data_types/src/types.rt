@@ -18,9 +18,9 @@ use crate::written::{Scope, TypeParameters};
 use fip_base::core_form::{Data, DataConstructor, TypeName};
 use fip_base::plain::NoMemory;
 use fip_base::refusal::Rule;
+use fip_language::limits::MOST_FIELDS;
 use fip_trees::decls::{DeclaredConstructor, DeclaredNames, DeclaredType};
 use fip_trees::least::Least;
-use fip_trees::limits::MOST_FIELDS;
 use fip_trees::meanings::Meanings;
 use std::alloc::Global;
 

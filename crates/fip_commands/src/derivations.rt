@@ -7,8 +7,8 @@ use crate::phases::{bare_refusal, front};
 use command_outcome::{Failure, derived_line};
 use fip_base::plain::{Detail, NoMemory};
 use fip_base::refusal::{Refusal, Rule};
+use fip_language::limits::MOST_FILE_BYTES;
 use fip_proof::{AuditError, TextError, derivation_text};
-use fip_trees::limits::MOST_FILE_BYTES;
 use fip_trees::program::Typed;
 use std::alloc::Global;
 

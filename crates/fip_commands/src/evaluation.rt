@@ -6,7 +6,7 @@ use crate::entry::Evaluable;
 use crate::running::loaded;
 use cell_store::seal;
 use command_outcome::Failure;
-use fip_trees::limits::MOST_STORE_WORDS;
+use fip_language::limits::MOST_STORE_WORDS;
 use plain_eval::{PlainEnded, Rows, eval, print_rows};
 use std::alloc::Global;
 

@@ -8,7 +8,7 @@ use code_file::{WriteError, write_code};
 use code_verify::Verified;
 use command_outcome::Failure;
 use fip_base::refusal::Rule;
-use fip_trees::limits::MOST_FILE_BYTES;
+use fip_language::limits::MOST_FILE_BYTES;
 use std::alloc::Global;
 
 /// A file to be stored, and the text that is printed behind it.

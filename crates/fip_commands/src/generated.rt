@@ -5,6 +5,7 @@ use cell_store::Cells;
 use command_line::Room;
 use command_outcome::{Ends, Failure, tree_lines};
 use fip_base::plain::NoMemory;
+use fip_language::limits::MOST_STORE_WORDS;
 use fip_library::text;
 use fip_machine::Gauge;
 use std::alloc::Global;
@@ -14,7 +15,7 @@ const CALLS: u64 = 1_000_000_000;
 
 const FRAMES: u64 = 10_000;
 
-const WORDS: u64 = 16_777_216;
+const WORDS: u64 = MOST_STORE_WORDS as u64;
 
 /// The text of a library program; not understood where the library has none of that name.
 pub fn library(alloc: Global, name: &str) -> Result<Vec<u8>, Failure> {

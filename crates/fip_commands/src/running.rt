@@ -1,5 +1,6 @@
 // A run on the machine.
 ghost use Rattle.std.specs.Prelude.{◌≤◌, IfErr, IfSome};
+ghost use Rattle.fip_language.specs.declared.limits.TheConstants.{MOST_FIELDS};
 ghost use Rattle.command_outcome.specs.Stages.{IsOfRun};
 
 use crate::entry::Ready;
@@ -8,8 +9,8 @@ use command_line::Room;
 use command_outcome::{Failure, bound_line, cells_line, stack_line};
 use fip_base::plain::{NoMemory, Param, Stack};
 use fip_base::table::TypeTable;
+use fip_language::limits::{MOST_FIELDS, MOST_STORE_WORDS};
 use fip_machine::{Ended, Gauge, Machine};
-use fip_trees::limits::{MOST_FIELDS, MOST_STORE_WORDS};
 use std::alloc::Global;
 use value_text::{LoadError, load_values, print_value};
 
@@ -74,7 +75,7 @@ pub(crate) fn values_text<C: Cells>(
 // The gauge's line of a size, where there was a cell of that size.
 fn put_size(alloc: Global, text: &mut Vec<u8>, gauge: &Gauge, size: usize) -> Result<(), NoMemory>
     requires some { 1 ≤ size }
-    requires few { size ≤ 16 }
+    requires few { size ≤ MOST_FIELDS }
 {
     let high = gauge.highest(size);
     if high > 0 {

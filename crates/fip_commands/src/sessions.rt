@@ -1,13 +1,14 @@
 // Sessions, in which names hold values from one line to the next, and tasks, which take turns over one store.
 ghost use Rattle.std.specs.Prelude.{◌≤◌, IfErr};
+ghost use Rattle.fip_language.specs.declared.limits.TheConstants.{MOST_FRAMES, MOST_STORE_WORDS};
 ghost use Rattle.command_outcome.specs.Stages.{IsOfTasks};
 
 use crate::known::Front;
 use command_line::Room;
 use command_outcome::Failure;
 use fip_base::plain::NoMemory;
+use fip_language::limits::{MOST_FRAMES, MOST_STORE_WORDS};
 use fip_session::{TasksError, session_reply, tasks_reply};
-use fip_trees::limits::{MOST_FRAMES, MOST_STORE_WORDS};
 use std::alloc::Global;
 
 // The seeds: the sequence that draws the tasks has the same numbers for two that differ by a multiple of this.
@@ -15,8 +16,8 @@ const SEEDS: u64 = 2_147_483_648;
 
 // The room of the runs, with a store of at most 16,777,216 words and at most 1,000,000 frames.
 fn runs_room(room: Room) -> fip_session::Room
-    ensures words { result.words ≤ 16777216 }
-    ensures frames { result.frames ≤ 1000000 }
+    ensures words { result.words ≤ MOST_STORE_WORDS }
+    ensures frames { result.frames ≤ MOST_FRAMES }
 {
     fip_session::Room {
         words: room.words.min(MOST_STORE_WORDS as u64) as usize,

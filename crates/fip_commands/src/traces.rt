@@ -10,8 +10,8 @@ use command_line::Room;
 use command_outcome::Failure;
 use fip_base::plain::{Detail, NoMemory};
 use fip_base::refusal::{Refusal, Rule};
+use fip_language::limits::MOST_FILE_BYTES;
 use fip_machine::{Ended, Gauge, Machine};
-use fip_trees::limits::MOST_FILE_BYTES;
 use std::alloc::Global;
 
 // The refusal of a trace that is too long.

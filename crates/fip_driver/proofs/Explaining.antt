@@ -4,6 +4,7 @@ use Rattle.std.specs.Prelude.{Option, Some, None, Result, Ok, Err, Bool, IsSomeA
 use Rattle.std.specs.declared.vec.Vec.{Vec}
 use Rattle.std.specs.declared.alloc.Global.{Global}
 use Rattle.fip_language.specs.declared.Place.{Place}
+use Rattle.fip_language.specs.declared.rule.Rule.{Rule}
 use Rattle.fip_language.specs.Core.{Core, Function}
 use Rattle.fip_language.specs.Declarations.{function_of}
 use Rattle.fip_language.specs.Answer as A
@@ -93,7 +94,7 @@ file_reply spelling words files input source r asked e reply h = record { asked 
 -- ---- the source
 
 -- a source whose spelling breaks a rule
-pub misspelt_explained : (spelling : Spelling) (q : A.Request) (source input : List ℕ) (gauge : Bool) (x y : Refusal) (rule : ℕ) (place : Place) → length source ≤ 1048576 → spelling.misspells source rule place → x ≡ y → refusal_text y ≡ err_text (Misspelt rule place) → Fails (Answers spelling.spells spelling.misspells q source input) gauge (F.Refused x)
+pub misspelt_explained : (spelling : Spelling) (q : A.Request) (source input : List ℕ) (gauge : Bool) (x y : Refusal) (rule : Rule) (place : Place) → length source ≤ 1048576 → spelling.misspells source rule place → x ≡ y → refusal_text y ≡ err_text (Misspelt rule place) → Fails (Answers spelling.spells spelling.misspells q source input) gauge (F.Refused x)
 misspelt_explained spelling q source input gauge x y rule place le h same text =
     (Misspelt rule place, inr (le, inl (rule, place, h, refl)), refused_as x y gauge (Misspelt rule place) tt same text refl refl)
 

@@ -1,20 +1,19 @@
 -- From the parts of a source's front, the parser, the core form and the check, to what can come of the source.
 use Rattle.std.proofs.Common.{◌≡◌, ◌∙◌, ℕ, List, sym, ap, subst, refl, inl, inr}
-use Rattle.std.specs.Prelude.{◌⊎◌, Option, Some, None, codes, ◌++◌, option_map}
-use Rattle.std.specs.Fmt.{digits, decimal}
+use Rattle.std.specs.Prelude.{◌⊎◌, Option, Some, None, option_map}
 use Rattle.fip_language.specs.declared.Place.{Place}
+use Rattle.fip_language.specs.declared.rule.Rule.{Rule}
 use Rattle.fip_language.specs.Core.{Core}
 use Rattle.fip_language.specs.CoreForm.{core_form}
 use Rattle.fip_language.specs.Surface.{Program}
 use Rattle.fip_language.specs.Answer.{Misspelt}
 use Rattle.fip_language.specs.Right.{IsRight}
 use Rattle.fip_language.specs.UpperNames.{HaveUpperNames}
-use Rattle.fip_base.specs.Refusal.{refusal_text, place_text}
-use Rattle.command_outcome.specs.Texts.{line_end}
+use Rattle.fip_base.specs.Refusal.{refusal_text}
 use Rattle.fip_base.specs.declared.refusal.Refusal.{Refusal}
 use Rattle.fip_grammar.specs.Limits.{IsSpelt, IsMisspelt}
 use Rattle.fip_grammar.proofs.UpperNames.{spelt_upper_names}
-use Rattle.fip_parser.specs.Parsed.{syntax_refusal}
+use Rattle.fip_parser.specs.Parsed.{refusal_of}
 use Rattle.loop_form.specs.Loop.{Loop}
 use Rattle.loop_form.specs.View.{loop_of}
 use Rattle.loop_form.specs.declared.program.LoopProgram.{LoopProgram}
@@ -31,50 +30,11 @@ use Rattle.fip_driver.proofs.Entering.{entry_found, entry_other, entry_none}
 
 -- ---- the spelling
 
--- the numbers of the rules in text
-one_digit : decimal 1 ≡ codes "1"
-unfolding digits
-one_digit = refl
+misspelt_text : (rule : Rule) (place : Place) → refusal_text (refusal_of rule place) ≡ err_text (Misspelt rule place)
+misspelt_text rule place = refl
 
-two_digit : decimal 2 ≡ codes "2"
-unfolding digits
-two_digit = refl
-
-three_digit : decimal 3 ≡ codes "3"
-unfolding digits
-three_digit = refl
-
-four_digit : decimal 4 ≡ codes "4"
-unfolding digits
-four_digit = refl
-
-rule_1 : (place : Place) → refusal_text (syntax_refusal 1 place) ≡ err_text (Misspelt 1 place)
-rule_1 place = ap (λ d. codes "E0" ++ (d ++ (place_text (Some place) ++ line_end))) (sym one_digit)
-
-rule_2 : (place : Place) → refusal_text (syntax_refusal 2 place) ≡ err_text (Misspelt 2 place)
-rule_2 place = ap (λ d. codes "E0" ++ (d ++ (place_text (Some place) ++ line_end))) (sym two_digit)
-
-rule_3 : (place : Place) → refusal_text (syntax_refusal 3 place) ≡ err_text (Misspelt 3 place)
-rule_3 place = ap (λ d. codes "E0" ++ (d ++ (place_text (Some place) ++ line_end))) (sym three_digit)
-
-rule_4 : (place : Place) → refusal_text (syntax_refusal 4 place) ≡ err_text (Misspelt 4 place)
-rule_4 place = ap (λ d. codes "E0" ++ (d ++ (place_text (Some place) ++ line_end))) (sym four_digit)
-
-least_text : (rule : ℕ) (place : Place) → (rule ≡ 2) ⊎ ((rule ≡ 3) ⊎ (rule ≡ 4)) → refusal_text (syntax_refusal rule place) ≡ err_text (Misspelt rule place)
-least_text rule place (inl e) = subst (λ n. refusal_text (syntax_refusal n place) ≡ err_text (Misspelt n place)) (sym e) (rule_2 place)
-least_text rule place (inr (inl e)) = subst (λ n. refusal_text (syntax_refusal n place) ≡ err_text (Misspelt n place)) (sym e) (rule_3 place)
-least_text rule place (inr (inr e)) = subst (λ n. refusal_text (syntax_refusal n place) ≡ err_text (Misspelt n place)) (sym e) (rule_4 place)
-
-misspelt_text : (source : List ℕ) (rule : ℕ) (place : Place) → IsMisspelt source rule place → refusal_text (syntax_refusal rule place) ≡ err_text (Misspelt rule place)
-misspelt_text source rule place (inl h) = subst (λ n. refusal_text (syntax_refusal n place) ≡ err_text (Misspelt n place)) (sym h.0) (rule_1 place)
-misspelt_text source rule place (inr h) = least_text rule place (elim h.4.broken [
-  | inl b ↦ inl b.0
-  | inr (inl b) ↦ inr (inl b.0)
-  | inr (inr b) ↦ inr (inr b.0)
-])
-
-pub spelling_refused : (source : List ℕ) (r : Refusal) → (rule : ℕ) × (place : Place) × IsMisspelt source rule place × (r ≡ syntax_refusal rule place) → SpellingFails source_spelling source (F.Refused r)
-spelling_refused source r h = (h.0, h.1, h.2, ap refusal_text h.3 ∙ misspelt_text source h.0 h.1 h.2)
+pub spelling_refused : (source : List ℕ) (r : Refusal) → (rule : Rule) × (place : Place) × IsMisspelt source rule place × (r ≡ refusal_of rule place) → SpellingFails source_spelling source (F.Refused r)
+spelling_refused source r h = (h.0, h.1, h.2, ap refusal_text h.3 ∙ misspelt_text h.0 h.1)
 
 -- ---- the core form
 

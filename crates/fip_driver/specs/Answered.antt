@@ -6,6 +6,8 @@ use Rattle.std.specs.Io.KnownBytes.{Appends}
 use Rattle.std.specs.declared.vec.Vec.{Vec}
 use Rattle.std.specs.declared.alloc.Global.{Global}
 use Rattle.fip_language.specs.declared.Place.{Place}
+use Rattle.fip_language.specs.declared.limits.TheConstants.{MOST_SOURCE_BYTES}
+use Rattle.fip_language.specs.declared.rule.Rule.{Rule}
 use Rattle.fip_language.specs.Core.{Function, Core}
 use Rattle.fip_language.specs.Declarations.{function_of}
 use Rattle.fip_language.specs.Right.{IsRight}
@@ -29,7 +31,7 @@ use Rattle.command_outcome.specs.declared.failure.Object.TheVariants as O
 -- how a source is spelt: with a core form, or with a rule of its spelling broken at a place
 pub record Spelling : Type 1 where
   pub spells : List ℕ → Core → Type 0
-  pub misspells : List ℕ → ℕ → Place → Type 0
+  pub misspells : List ℕ → Rule → Place → Type 0
 
 -- How the sources of the language are spelt: their tokens are those of a program, whose core form it is; or they break
 -- one of the rules E01 to E04.
@@ -110,7 +112,7 @@ AsksToRun words = (r : Request) × IsRequest words r
 
 -- A source of a right program that has a function of this name.
 pub record HasRightEntry (spelling : Spelling) (source : List ℕ) (entry : List ℕ) : Type 0 where
-  pub within : length source ≤ 1048576
+  pub within : length source ≤ MOST_SOURCE_BYTES
   pub core : Core
   pub spelt : spelling.spells source core
   pub right : IsRight core

@@ -1,5 +1,6 @@
 -- It serves the proof of `fp2`: what can come of fetching a source and of reading an input.
-use Rattle.std.specs.Prelude.{◌≡◌, ℕ, List, [], ◌⊎◌, None, Option}
+use Rattle.std.specs.Prelude.{◌≡◌, ℕ, suc, List, [], ◌⊎◌, None, Option}
+use Rattle.fip_language.specs.declared.limits.TheConstants.{MOST_SOURCE_BYTES, MOST_FILE_BYTES}
 use Rattle.fip_base.specs.declared.refusal.Refusal.{Refusal}
 use Rattle.fip_language.specs.declared.rule.Rule.TheVariants.{E05, E70}
 use Rattle.fip_base.specs.Faults.{Rose}
@@ -20,14 +21,14 @@ unknown_entry name = record { rule = E70; place = None; size = 0; detail = name 
 
 -- why a source wasn't fetched, by the folder's files and its count of faults before and after
 abbrev pub FetchFails : Option (List File) → List ℕ → ℕ → ℕ → Failure → Type 0
-FetchFails files name before now (F.Refused r) = (r ≡ too_long) × HoldsLonger files name 1048576
+FetchFails files name before now (F.Refused r) = (r ≡ too_long) × HoldsLonger files name MOST_SOURCE_BYTES
 FetchFails files name before now (F.Fault object) = (object ≡ O.Folder) × (Rose before now ⊎ IsMissing files name)
 FetchFails files name before now F.NoMemory = Unit {0}
 FetchFails files name before now failure = ⊥
 
 -- why an input wasn't read, by what was left of it before and after, and the count of faults before and after
 abbrev pub ReadFails : Option (List ℕ) → Option (List ℕ) → ℕ → ℕ → Failure → Type 0
-ReadFails left left' before now (F.BadInput at) = (at ≡ 16777216) × Takes left left' 16777217
+ReadFails left left' before now (F.BadInput at) = (at ≡ MOST_FILE_BYTES) × Takes left left' (suc MOST_FILE_BYTES)
 ReadFails left left' before now (F.Fault object) = (object ≡ O.Input) × Rose before now
 ReadFails left left' before now F.NoMemory = Unit {0}
 ReadFails left left' before now failure = ⊥

@@ -2,6 +2,7 @@
 -- function has the entry's name, or the path of the whole language.
 use Rattle.std.specs.Prelude.{◌≡◌, ◌⊎◌, ℕ, List, None}
 use Rattle.fip_language.specs.declared.Place.{Place}
+use Rattle.fip_language.specs.declared.rule.Rule.{Rule}
 use Rattle.fip_language.specs.Core.{Core}
 use Rattle.fip_language.specs.Declarations.{function_of}
 use Rattle.fip_language.specs.Right.{IsRight}
@@ -21,7 +22,7 @@ use Rattle.fip_driver.specs.declared.front.Path.TheVariants as P
 
 -- why a source has no core form
 abbrev pub SpellingFails : Spelling → List ℕ → Failure → Type 0
-SpellingFails spelling source (F.Refused r) = (rule : ℕ) × (place : Place) × spelling.misspells source rule place
+SpellingFails spelling source (F.Refused r) = (rule : Rule) × (place : Place) × spelling.misspells source rule place
     × (refusal_text r ≡ err_text (Misspelt rule place))
 SpellingFails spelling source F.NoMemory = Unit {0}
 SpellingFails spelling source failure = ⊥

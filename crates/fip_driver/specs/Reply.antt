@@ -1,7 +1,9 @@
 -- The bytes of a reply: what stands on out and on err.
 use Rattle.std.specs.Prelude.{ℕ, zero, suc, ◌-◌, Bool, List, [], ◌∷◌, ◌++◌, Some, codes, if◌then◌else◌}
-use Rattle.std.specs.Fmt.{decimal}
 use Rattle.fip_language.specs.declared.Place.{Place}
+use Rattle.fip_language.specs.declared.limits.TheConstants.{MOST_FIELDS}
+use Rattle.fip_language.specs.declared.rule.Rule.{Rule}
+use Rattle.fip_language.specs.RuleText.{rule_text}
 use Rattle.fip_language.specs.PrintedText.{printed_lines}
 use Rattle.fip_language.specs.Declarations.{table_of}
 use Rattle.fip_language.specs.Right.{result_type}
@@ -21,11 +23,12 @@ size_line k low (suc high) = cells_text k low (suc high)
 -- the lines of n sizes, the last of them 16, by the lowest and the highest number of cells of each size
 abbrev pub size_lines : (ℕ → ℕ) → (ℕ → ℕ) → ℕ → List ℕ
 size_lines low high zero = []
-size_lines low high (suc n) = size_line (16 - n) (low (16 - n)) (high (16 - n)) ++ size_lines low high n
+size_lines low high (suc n) = size_line (MOST_FIELDS - n) (low (MOST_FIELDS - n)) (high (MOST_FIELDS - n))
+    ++ size_lines low high n
 
 -- the gauge's lines: the sizes from 1 to 16, the stack and its bound
 abbrev pub gauge_lines : (ℕ → ℕ) → (ℕ → ℕ) → Peak → Peak → List ℕ
-gauge_lines low high stack bound = size_lines low high 16
+gauge_lines low high stack bound = size_lines low high MOST_FIELDS
     ++ (stack_text stack.frames stack.words ++ bound_text bound.frames bound.words)
 
 abbrev pub gauge_text : Done → List ℕ
@@ -49,9 +52,8 @@ out_text gauge (OutOfCalls given) = []
 out_text gauge (OutOfFrames given) = []
 out_text gauge (Finished done) = value_text done ++ (if gauge then gauge_text done else [])
 
--- the rules are E01 to E04: one digit behind the 0
-abbrev pub misspelt_text : ℕ → Place → List ℕ
-misspelt_text rule place = codes "E0" ++ (decimal rule ++ (place_text (Some place) ++ line_end))
+abbrev pub misspelt_text : Rule → Place → List ℕ
+misspelt_text rule place = rule_text rule ++ (place_text (Some place) ++ line_end)
 
 -- what stands on err; a program that isn't right has no text here
 abbrev pub err_text : Reply → List ℕ

@@ -1,6 +1,7 @@
 // What the commands come to that fetch one file: which object is called when.
 ghost use Rattle.std.specs.Prelude.{◌≡◌, ◌≤◌, OnOk, Some};
 ghost use Rattle.std.specs.Io.KnownBytes.{IsAtEnd};
+ghost use Rattle.fip_language.specs.declared.limits.TheConstants.{MOST_FRAMES};
 ghost use Rattle.fip_driver.specs.Unread.{AreKept, IsBeforeSource, IsBeforeInput};
 
 use crate::fetched::{fetch_code, fetch_source, read_input};
@@ -78,7 +79,7 @@ fn evaluate<S: Source>(
     frames: u64,
     input: &mut S,
 ) -> Result<Vec<u8>, Failure>
-    requires frames { frames ≤ 1000000 }
+    requires frames { frames ≤ MOST_FRAMES }
     ensures read { OnOk result (IsAtEnd (S.left input.new)) }
     ensures late { IsBeforeInput result → ⊥ }
 {
@@ -104,7 +105,7 @@ pub fn eval<F: Folder, S: Source>(
     folder: &mut F,
     input: &mut S,
 ) -> Result<Vec<u8>, Failure>
-    requires frames { frames ≤ 1000000 }
+    requires frames { frames ≤ MOST_FRAMES }
     ensures read { OnOk result (IsAtEnd (S.left input.new)) }
     ensures before { IsBeforeInput result → input.new ≡ input.old }
     ensures understood { IsBeforeSource result → ⊥ }

@@ -1,6 +1,7 @@
 // What running an entry comes to: a source's on either path, and a code's.
 ghost use Rattle.std.specs.Prelude.{◌≡◌, ◌≤◌, OnOk};
 ghost use Rattle.std.specs.Io.KnownBytes.{IsAtEnd};
+ghost use Rattle.fip_language.specs.declared.limits.TheConstants.{MOST_STORE_WORDS};
 ghost use Rattle.fip_base.specs.Faults.{Rose};
 ghost use Rattle.loop_form.specs.View.{loop_of};
 ghost use Rattle.command_line.specs.View.{request_of};
@@ -26,7 +27,7 @@ fn exec_loop<S: Source>(
     input: &mut S,
 ) -> Result<Vec<u8>, Failure>
     requires sound { IsSoundLoop (loop_of program) }
-    requires store { request.now.room.words ≤ 16777216 }
+    requires store { request.now.room.words ≤ MOST_STORE_WORDS }
     ensures outcome { EntryOutcome (loop_of program) (request_of request.now) (S.left input.old)
         (Rose (S.faults input.old) (S.faults input.new)) result }
     ensures read { OnOk result (IsAtEnd (S.left input.new)) }
@@ -86,7 +87,7 @@ pub fn exec<F: Folder, S: Source>(
     folder: &mut F,
     input: &mut S,
 ) -> Result<Vec<u8>, Failure>
-    requires store { request.now.room.words ≤ 16777216 }
+    requires store { request.now.room.words ≤ MOST_STORE_WORDS }
     ensures outcome { RequestOutcome (request_of request.now) (F.files folder.old) (S.left input.old)
         (Rose (F.faults folder.old) (F.faults folder.new)) (Rose (S.faults input.old) (S.faults input.new)) result }
     ensures read { OnOk result (IsAtEnd (S.left input.new)) }

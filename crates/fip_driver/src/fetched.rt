@@ -1,6 +1,7 @@
 // What comes from a host: the source's bytes and the input's.
 ghost use Rattle.std.specs.Prelude.{◌≡◌, ◌≤◌, length, IfOk, OnOk, IfErr};
 ghost use Rattle.std.specs.Io.KnownBytes.{Consumes, IsAtEnd};
+ghost use Rattle.fip_language.specs.declared.limits.TheConstants.{MOST_FILE_BYTES, MOST_SOURCE_BYTES};
 ghost use Rattle.fip_base.specs.Files.{HoldsFile};
 ghost use Rattle.fip_driver.specs.Fetched.{FetchFails, ReadFails, IsEarlyFailure};
 
@@ -10,22 +11,8 @@ use fip_base::outside::{FetchError, Folder, Source};
 use fip_base::plain::Detail;
 use fip_base::refusal::{Refusal, Rule};
 use fip_commands::bad_proof;
+use fip_language::limits::{MOST_FILE_BYTES, MOST_SOURCE_BYTES};
 use std::alloc::Global;
-
-// The most bytes of a source.
-const MOST_SOURCE: usize = 1_048_576;
-
-// The most bytes of a code file.
-const MOST_CODE: usize = 16_777_216;
-
-// The most bytes of a proof file.
-const MOST_PROOF: usize = 16_777_216;
-
-// The most bytes of a trace.
-const MOST_TRACE: usize = 16_777_216;
-
-// The most bytes of an input.
-const MOST_INPUT: usize = 16_777_216;
 
 /// The bytes of the source's file, at most 1,048,576. E05 where there are more; a fault of the folder where it failed
 /// or has no file of that name.
@@ -35,13 +22,13 @@ pub fn fetch_source<F: Folder>(
     name: &str,
 ) -> Result<Vec<u8>, Failure>
     ensures found { IfOk result (λ v. HoldsFile (F.files folder.old) name.now v.items) }
-    ensures within { IfOk result (λ v. length v.items ≤ 1048576) }
+    ensures within { IfOk result (λ v. length v.items ≤ MOST_SOURCE_BYTES) }
     ensures fails { IfErr result (λ e. FetchFails (F.files folder.old) name.now (F.faults folder.old)
         (F.faults folder.new) e) }
     ensures same { F.files folder.new ≡ F.files folder.old }
     ensures later { F.faults folder.old ≤ F.faults folder.new }
 {
-    match folder.fetch(name, MOST_SOURCE) {
+    match folder.fetch(name, MOST_SOURCE_BYTES) {
         Ok(bytes) => Ok(bytes),
         Err(FetchError::TooLong) => Err(Failure::Refused(Refusal {
             rule: Rule::E05,
@@ -60,9 +47,11 @@ pub fn fetch_code<F: Folder>(folder: &mut F, name: &str) -> Result<Vec<u8>, Fail
     ensures early { IfErr result IsEarlyFailure }
     ensures same { F.files folder.new ≡ F.files folder.old }
 {
-    match folder.fetch(name, MOST_CODE) {
+    match folder.fetch(name, MOST_FILE_BYTES) {
         Ok(bytes) => Ok(bytes),
-        Err(FetchError::TooLong) => Err(Failure::BadCode { at: MOST_CODE }),
+        Err(FetchError::TooLong) => Err(Failure::BadCode {
+            at: MOST_FILE_BYTES,
+        }),
         Err(FetchError::Failed) => Err(Failure::Fault(Object::Folder)),
         Err(FetchError::NoMemory) => Err(Failure::NoMemory),
     }
@@ -74,9 +63,9 @@ pub fn fetch_proof<F: Folder>(alloc: Global, folder: &mut F, name: &str) -> Resu
     ensures early { IfErr result IsEarlyFailure }
     ensures same { F.files folder.new ≡ F.files folder.old }
 {
-    match folder.fetch(name, MOST_PROOF) {
+    match folder.fetch(name, MOST_FILE_BYTES) {
         Ok(bytes) => Ok(bytes),
-        Err(FetchError::TooLong) => Err(bad_proof(alloc, MOST_PROOF)),
+        Err(FetchError::TooLong) => Err(bad_proof(alloc, MOST_FILE_BYTES)),
         Err(FetchError::Failed) => Err(Failure::Fault(Object::Folder)),
         Err(FetchError::NoMemory) => Err(Failure::NoMemory),
     }
@@ -88,9 +77,11 @@ pub fn fetch_trace<F: Folder>(folder: &mut F, name: &str) -> Result<Vec<u8>, Fai
     ensures early { IfErr result IsEarlyFailure }
     ensures same { F.files folder.new ≡ F.files folder.old }
 {
-    match folder.fetch(name, MOST_TRACE) {
+    match folder.fetch(name, MOST_FILE_BYTES) {
         Ok(bytes) => Ok(bytes),
-        Err(FetchError::TooLong) => Err(Failure::BadTrace { at: MOST_TRACE }),
+        Err(FetchError::TooLong) => Err(Failure::BadTrace {
+            at: MOST_FILE_BYTES,
+        }),
         Err(FetchError::Failed) => Err(Failure::Fault(Object::Folder)),
         Err(FetchError::NoMemory) => Err(Failure::NoMemory),
     }
@@ -101,14 +92,16 @@ pub fn fetch_trace<F: Folder>(folder: &mut F, name: &str) -> Result<Vec<u8>, Fai
 pub fn read_input<S: Source>(alloc: Global, input: &mut S) -> Result<Vec<u8>, Failure>
     ensures all { IfOk result (λ v. Consumes (S.left input.old) (S.left input.new) v.items) }
     ensures end { OnOk result (IsAtEnd (S.left input.new)) }
-    ensures within { IfOk result (λ v. length v.items ≤ 16777216) }
+    ensures within { IfOk result (λ v. length v.items ≤ MOST_FILE_BYTES) }
     ensures fails { IfErr result (λ e. ReadFails (S.left input.old) (S.left input.new) (S.faults input.old)
         (S.faults input.new) e) }
     ensures later { S.faults input.old ≤ S.faults input.new }
 {
-    match read_all(alloc, input, MOST_INPUT) {
+    match read_all(alloc, input, MOST_FILE_BYTES) {
         Ok(bytes) => Ok(bytes),
-        Err(ReadError::TooLong) => Err(Failure::BadInput { at: MOST_INPUT }),
+        Err(ReadError::TooLong) => Err(Failure::BadInput {
+            at: MOST_FILE_BYTES,
+        }),
         Err(ReadError::Fault) => Err(Failure::Fault(Object::Input)),
         Err(ReadError::NoMemory) => Err(Failure::NoMemory),
     }

@@ -1,6 +1,7 @@
 // The run of a loop program on the text of its arguments.
 ghost use Rattle.std.specs.Prelude.{◌≡◌, ℕ, ◌<◌, ◌≤◌, ◌^◌, Bool, [], ◌∷◌, ◌++◌, Err, IfOk, OnOk, length};
 ghost use Rattle.std.specs.Prelude.{slice_index_or};
+ghost use Rattle.fip_language.specs.declared.limits.TheConstants.{MOST_FIELDS, MOST_STORE_WORDS};
 ghost use Rattle.fip_language.specs.Values.{End, More};
 ghost use Rattle.fip_language.specs.Store.{Placed, value_of, word_of, Stands};
 ghost use Rattle.fip_language.specs.SoundTable.{IsSoundTable, AreTypes};
@@ -38,7 +39,7 @@ fn owned(alloc: Global, types: &[u32]) -> Result<Vec<Param>, NoMemory>
 
 // The gauge's line of a size, where there was a cell of that size.
 fn put_size(alloc: Global, text: &mut Vec<u8>, gauge: &Gauge, size: usize) -> Result<(), NoMemory>
-    requires { size ≤ 16 }
+    requires { size ≤ MOST_FIELDS }
     ensures line { OnOk result (text.new.items ≡ text.old.items
         ++ size_line size (slice_index_or gauge.now.lowest size 0) (slice_index_or gauge.now.highest size 0)) }
 {
@@ -53,7 +54,8 @@ fn put_size(alloc: Global, text: &mut Vec<u8>, gauge: &Gauge, size: usize) -> Re
 // The gauge's lines of all sizes.
 fn put_sizes(alloc: Global, text: &mut Vec<u8>, gauge: &Gauge) -> Result<(), NoMemory>
     ensures lines { OnOk result (text.new.items ≡ text.old.items
-        ++ size_lines (λ k. slice_index_or gauge.now.lowest k 0) (λ k. slice_index_or gauge.now.highest k 0) 16) }
+        ++ size_lines (λ k. slice_index_or gauge.now.lowest k 0) (λ k. slice_index_or gauge.now.highest k 0)
+        MOST_FIELDS) }
 {
     for size in 1..17 {
         put_size(alloc, text, gauge, size)?;
@@ -103,7 +105,7 @@ fn loaded(
 ) -> Result<(Loader, Vec<u64>), Failure>
     requires sound { IsSoundTable (loop_of program.now).types }
     requires known { AreTypes (loop_of program.now).types (loop_of program.now).parameters }
-    requires store { words ≤ 16777216 }
+    requires store { words ≤ MOST_STORE_WORDS }
     ensures ready { IfOk result (λ r. IsReady (loop_of program.now) input.now words r.0.cells r.1.items) }
     ensures kept { (e : Failure) → result ≡ Err e → (calls : ℕ) (gauge : Bool) →
         IsLoopRun (loop_of program.now) input.now words calls gauge (Err e) }
@@ -136,7 +138,7 @@ pub fn run_loop(
     requires fine { IsFine (loop_of program) }
     requires sound { IsSoundTable (loop_of program).types }
     requires known { AreTypes (loop_of program).types (loop_of program).parameters }
-    requires store { words ≤ 16777216 }
+    requires store { words ≤ MOST_STORE_WORDS }
     ensures runs { IsLoopRun (loop_of program) input.now words calls with_gauge result }
 {
     let (loader, arguments) = loaded(alloc, &program, input, words)?;

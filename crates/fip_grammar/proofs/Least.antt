@@ -6,6 +6,9 @@ use Rattle.std.specs.List.{slice_get}
 use Rattle.std.proofs.lemmas.Option.{slice_get_within, same_Some}
 use Rattle.std.proofs.Math.Seq.{drop-length}
 use Rattle.fip_language.specs.declared.Place.{Place}
+use Rattle.fip_language.specs.declared.rule.Rule.{Rule}
+use Rattle.fip_language.specs.declared.rule.Rule.TheVariants as R
+use Rattle.fip_language.specs.RuleOrder.{number}
 use Rattle.fip_language.specs.Prefix.{IsPlace, Outcome, Accepted, Stopped, end_outcome, or_stop, run}
 use Rattle.fip_language.specs.Surface.{Declaration, Program}
 use Rattle.fip_language.proofs.OnePlace.{IsPlace-unique, IsPlace-not_spelt}
@@ -65,7 +68,7 @@ pub record Reads (ts : List Token) (i : ℕ) (m : Machine) (b : Seen) : Type 0 w
   pub runs : run machine_step machine_end start ts 0 ≡ run machine_step machine_end m (drop i ts) i
   pub counted : b ≡ seen ts i
   pub agrees : Agrees m.state b
-  pub unbroken : (r u : ℕ) → u < i → Breaks ts r u → ⊥
+  pub unbroken : (r : Rule) (u : ℕ) → u < i → Breaks ts r u → ⊥
 
 pub reads_start : (ts : List Token) → Reads ts 0 start nothing_seen
 reads_start ts = record {
@@ -86,22 +89,22 @@ taken_no_place ts i m m' b t u h at e c =
     omega arith
 
 -- what is broken, is broken at i or later
-not_below : (ts : List Token) (i : ℕ) (m : Machine) (b : Seen) (r u : ℕ) → Reads ts i m b → Breaks ts r u → (i < u) ⊎ (i ≡ u)
+not_below : (ts : List Token) (i : ℕ) (m : Machine) (b : Seen) (r : Rule) (u : ℕ) → Reads ts i m b → Breaks ts r u → (i < u) ⊎ (i ≡ u)
 not_below ts i m b r u h c = elim (three_ways i u) as (λ _. (i < u) ⊎ (i ≡ u)) [
   | inl lt ↦ inl lt
   | inr e ↦ elim e as (λ _. (i < u) ⊎ (i ≡ u)) [ inl e ↦ inr e | inr gt ↦ absurd (h.unbroken r u gt c) ]
 ]
 
-at_least_two : (ts : List Token) (r u : ℕ) → Breaks ts r u → 2 ≤ r
-at_least_two ts r u (inl c) = omega (arith, c.0)
-at_least_two ts r u (inr (inl c)) = omega (arith, c.0)
-at_least_two ts r u (inr (inr c)) = omega (arith, c.0)
+at_least_two : (ts : List Token) (r : Rule) (u : ℕ) → Breaks ts r u → 2 ≤ number r
+at_least_two ts r u (inl c) = let k = ap number c.0 in omega arith
+at_least_two ts r u (inr (inl c)) = let k = ap number c.0 in omega arith
+at_least_two ts r u (inr (inr c)) = let k = ap number c.0 in omega arith
 
 -- a fault of the grammar at i is the least
-least_place : (ts : List Token) (i : ℕ) (m : Machine) (b : Seen) → Reads ts i m b → IsPlace Spells ts i → IsLeastBroken ts 2 i
+least_place : (ts : List Token) (i : ℕ) (m : Machine) (b : Seen) → Reads ts i m b → IsPlace Spells ts i → IsLeastBroken ts R.E02 i
 least_place ts i m b h c = record {
   broken = inl (refl, c);
-  least = λ r u k. elim (not_below ts i m b r u h k) as (λ _. (i < u) ⊎ ((i ≡ u) × (2 ≤ r))) [
+  least = λ r u k. elim (not_below ts i m b r u h k) as (λ _. (i < u) ⊎ ((i ≡ u) × (2 ≤ number r))) [
     | inl lt ↦ inl lt
     | inr e ↦ inr (e, at_least_two ts r u k)
   ];
@@ -112,44 +115,44 @@ pub reads_limit : (ts : List Token) (i : ℕ) (m : Machine) (b : Seen) → Reads
 reads_limit ts i m b h = literal_limit m.state b h.agrees
 
 -- the machine takes no such token
-pub reads_refused : (ts : List Token) (i : ℕ) (m : Machine) (b : Seen) (t : Token) → Reads ts i m b → slice_get ts i ≡ Some t → machine_step m t ≡ None → IsLeastBroken ts 2 i
+pub reads_refused : (ts : List Token) (i : ℕ) (m : Machine) (b : Seen) (t : Token) → Reads ts i m b → slice_get ts i ≡ Some t → machine_step m t ≡ None → IsLeastBroken ts R.E02 i
 reads_refused ts i m b t h at none = least_place ts i m b h (stopped_is_place ts i (reads_here ts i m b t None h at none))
 
 not_taken : (i u : ℕ) → i < u → i ≡ u → ⊥
 not_taken i u lt e = omega arith
 
-three_at_least : (ts : List Token) (i u r : ℕ) → i ≡ u → (IsPlace Spells ts u → ⊥) → Breaks ts r u → (i < u) ⊎ ((i ≡ u) × (3 ≤ r))
+three_at_least : (ts : List Token) (i u : ℕ) (r : Rule) → i ≡ u → (IsPlace Spells ts u → ⊥) → Breaks ts r u → (i < u) ⊎ ((i ≡ u) × (3 ≤ number r))
 three_at_least ts i u r e none (inl c) = absurd (none c.1)
-three_at_least ts i u r e none (inr (inl c)) = inr (e, omega (arith, c.0))
-three_at_least ts i u r e none (inr (inr c)) = inr (e, omega (arith, c.0))
+three_at_least ts i u r e none (inr (inl c)) = let k = ap number c.0 in inr (e, omega arith)
+three_at_least ts i u r e none (inr (inr c)) = let k = ap number c.0 in inr (e, omega arith)
 
 -- a literal is no bracket
 number_opens_none : (w : Word) (ds : List ℕ) → w ≡ Number ds → is_opening w ≡ true → ⊥
 number_opens_none w ds e o = let h : false ≡ true = sym (ap is_opening e) ∙ o in cc
 
-four_at_least : (ts : List Token) (i u r : ℕ) (t : Token) (ds : List ℕ) → i ≡ u → slice_get ts i ≡ Some t → t.word ≡ Number ds → (IsPlace Spells ts u → ⊥) → Breaks ts r u → (i < u) ⊎ ((i ≡ u) × (4 ≤ r))
+four_at_least : (ts : List Token) (i u : ℕ) (r : Rule) (t : Token) (ds : List ℕ) → i ≡ u → slice_get ts i ≡ Some t → t.word ≡ Number ds → (IsPlace Spells ts u → ⊥) → Breaks ts r u → (i < u) ⊎ ((i ≡ u) × (4 ≤ number r))
 four_at_least ts i u r t ds e at w none (inl c) = absurd (none c.1)
 four_at_least ts i u r t ds e at w none (inr (inl c)) =
     let k = c.1 in
     let same : t ≡ k.0 = same_Some t k.0 (sym at ∙ ap (slice_get ts) e ∙ k.1) in
     absurd (number_opens_none k.0.word ds (ap (λ x. x.word) (sym same) ∙ w) k.2)
-four_at_least ts i u r t ds e at w none (inr (inr c)) = inr (e, omega (arith, c.0))
+four_at_least ts i u r t ds e at w none (inr (inr c)) = let k = ap number c.0 in inr (e, omega arith)
 
 -- it takes it, but the token is a bracket too many
-pub reads_too_deep : (ts : List Token) (i : ℕ) (m m' : Machine) (b : Seen) (t : Token) → Reads ts i m b → slice_get ts i ≡ Some t → machine_step m t ≡ Some m' → is_opening t.word ≡ true → 100 ≤ b.open' → IsLeastBroken ts 3 i
+pub reads_too_deep : (ts : List Token) (i : ℕ) (m m' : Machine) (b : Seen) (t : Token) → Reads ts i m b → slice_get ts i ≡ Some t → machine_step m t ≡ Some m' → is_opening t.word ≡ true → 100 ≤ b.open' → IsLeastBroken ts R.E03 i
 reads_too_deep ts i m m' b t h at e o deep = record {
   broken = inr (inl (refl, (t, at, o, subst (λ s. 100 ≤ s.open') h.counted deep)));
-  least = λ r u k. elim (not_below ts i m b r u h k) as (λ _. (i < u) ⊎ ((i ≡ u) × (3 ≤ r))) [
+  least = λ r u k. elim (not_below ts i m b r u h k) as (λ _. (i < u) ⊎ ((i ≡ u) × (3 ≤ number r))) [
     | inl lt ↦ inl lt
     | inr same ↦ three_at_least ts i u r same (λ c. not_taken i u (taken_no_place ts i m m' b t u h at e c) same) k
   ];
 }
 
 -- it takes it, but the token is a literal that is too large
-pub reads_too_large : (ts : List Token) (i : ℕ) (m m' : Machine) (b : Seen) (t : Token) (ds : List ℕ) → Reads ts i m b → slice_get ts i ≡ Some t → machine_step m t ≡ Some m' → t.word ≡ Number ds → limit b.is_sign < value_of ds → IsLeastBroken ts 4 i
+pub reads_too_large : (ts : List Token) (i : ℕ) (m m' : Machine) (b : Seen) (t : Token) (ds : List ℕ) → Reads ts i m b → slice_get ts i ≡ Some t → machine_step m t ≡ Some m' → t.word ≡ Number ds → limit b.is_sign < value_of ds → IsLeastBroken ts R.E04 i
 reads_too_large ts i m m' b t ds h at e w large = record {
   broken = inr (inr (refl, (t, ds, at, w, subst (λ s. limit s.is_sign < value_of ds) h.counted large)));
-  least = λ r u k. elim (not_below ts i m b r u h k) as (λ _. (i < u) ⊎ ((i ≡ u) × (4 ≤ r))) [
+  least = λ r u k. elim (not_below ts i m b r u h k) as (λ _. (i < u) ⊎ ((i ≡ u) × (4 ≤ number r))) [
     | inl lt ↦ inl lt
     | inr same ↦ four_at_least ts i u r t ds same at w (λ c. not_taken i u (taken_no_place ts i m m' b t u h at e c) same) k
   ];
@@ -166,7 +169,7 @@ agrees_machine s b t (Declares d) done m' a e k =
     subst (λ m. Agrees m.state (behind b t.word)) same (agrees_declared s b t.word t.place d a e)
 
 -- the token at i breaks nothing
-unbroken_here : (ts : List Token) (i : ℕ) (b : Seen) (t : Token) (r u : ℕ) → b ≡ seen ts i → slice_get ts i ≡ Some t → (IsPlace Spells ts u → ⊥) → (is_opening t.word ≡ true → 100 ≤ b.open' → ⊥) → ((ds : List ℕ) → t.word ≡ Number ds → limit b.is_sign < value_of ds → ⊥) → i ≡ u → Breaks ts r u → ⊥
+unbroken_here : (ts : List Token) (i : ℕ) (b : Seen) (t : Token) (r : Rule) (u : ℕ) → b ≡ seen ts i → slice_get ts i ≡ Some t → (IsPlace Spells ts u → ⊥) → (is_opening t.word ≡ true → 100 ≤ b.open' → ⊥) → ((ds : List ℕ) → t.word ≡ Number ds → limit b.is_sign < value_of ds → ⊥) → i ≡ u → Breaks ts r u → ⊥
 unbroken_here ts i b t r u like at none deep large e (inl c) = none c.1
 unbroken_here ts i b t r u like at none deep large e (inr (inl c)) =
     let k = c.1 in
@@ -179,7 +182,7 @@ unbroken_here ts i b t r u like at none deep large e (inr (inr c)) =
     let count : seen ts u ≡ b = ap (seen ts) (sym e) ∙ sym like in
     large k.1 (subst (λ x. x.word ≡ Number k.1) same k.3) (subst (λ s. limit s.is_sign < value_of k.1) count k.4)
 
-unbroken_more : (ts : List Token) (i : ℕ) (m m' : Machine) (b : Seen) (t : Token) (r u : ℕ) → Reads ts i m b → slice_get ts i ≡ Some t → machine_step m t ≡ Some m' → (is_opening t.word ≡ true → 100 ≤ b.open' → ⊥) → ((ds : List ℕ) → t.word ≡ Number ds → limit b.is_sign < value_of ds → ⊥) → u < i + 1 → Breaks ts r u → ⊥
+unbroken_more : (ts : List Token) (i : ℕ) (m m' : Machine) (b : Seen) (t : Token) (r : Rule) (u : ℕ) → Reads ts i m b → slice_get ts i ≡ Some t → machine_step m t ≡ Some m' → (is_opening t.word ≡ true → 100 ≤ b.open' → ⊥) → ((ds : List ℕ) → t.word ≡ Number ds → limit b.is_sign < value_of ds → ⊥) → u < i + 1 → Breaks ts r u → ⊥
 unbroken_more ts i m m' b t r u h at e deep large lt c = elim (not_below ts i m b r u h c) as (λ _. ⊥) [
   | inl more ↦ omega arith
   | inr same ↦ unbroken_here ts i b t r u h.counted at (λ k. not_taken i u (taken_no_place ts i m m' b t u h at e k) same) deep large same c
@@ -204,18 +207,18 @@ reads_end ts i m b o h end e =
     h.runs ∙ ap (λ l. run machine_step machine_end m l i) nothing ∙ ap (λ o. end_outcome o i) e
 
 -- behind the last token only the grammar may be broken
-broken_past : (ts : List Token) (r u : ℕ) → (IsPlace Spells ts u → ⊥) → length ts ≤ u → Breaks ts r u → ⊥
+broken_past : (ts : List Token) (r : Rule) (u : ℕ) → (IsPlace Spells ts u → ⊥) → length ts ≤ u → Breaks ts r u → ⊥
 broken_past ts r u none le (inl c) = none c.1
 broken_past ts r u none le (inr (inl c)) = let k = c.1 in let lt = slice_get_within ts u k.0 k.1 in omega arith
 broken_past ts r u none le (inr (inr c)) = let k = c.1 in let lt = slice_get_within ts u k.0 k.2 in omega arith
 
 -- all tokens are read, but the last declaration hasn't ended
-pub reads_unended : (ts : List Token) (i : ℕ) (m : Machine) (b : Seen) → Reads ts i m b → i ≡ length ts → machine_end m ≡ None → IsLeastBroken ts 2 i
+pub reads_unended : (ts : List Token) (i : ℕ) (m : Machine) (b : Seen) → Reads ts i m b → i ≡ length ts → machine_end m ≡ None → IsLeastBroken ts R.E02 i
 reads_unended ts i m b h end none =
     least_place ts i m b h (stopped_is_place ts i (reads_end ts i m b None h end none))
 
 -- all tokens are read, and they are a program's
-pub reads_ended : (ts : List Token) (i : ℕ) (m : Machine) (b : Seen) (x : Program) → Reads ts i m b → i ≡ length ts → machine_end m ≡ Some x → Spells ts x × ((r t : ℕ) → Breaks ts r t → ⊥)
+pub reads_ended : (ts : List Token) (i : ℕ) (m : Machine) (b : Seen) (x : Program) → Reads ts i m b → i ≡ length ts → machine_end m ≡ Some x → Spells ts x × ((r : Rule) (t : ℕ) → Breaks ts r t → ⊥)
 reads_ended ts i m b x h end e =
     let c = accepted_is_spelled ts x (reads_end ts i m b (Some x) h end e) in (
       c,
@@ -225,20 +228,42 @@ reads_ended ts i m b x h end e =
       ],
     )
 
-once : (r r' t t' : ℕ) → (t < t') ⊎ ((t ≡ t') × (r ≤ r')) → (t' < t) ⊎ ((t' ≡ t) × (r' ≤ r)) → (r ≡ r') × (t ≡ t')
-once r r' t t' (inl x) (inl y) = absurd (omega arith)
-once r r' t t' (inl x) (inr y) = absurd (omega (arith, y.0))
-once r r' t t' (inr x) (inl y) = absurd (omega (arith, x.0))
-once r r' t t' (inr x) (inr y) = (omega (arith, x.1, y.1), x.0)
+two_three : (n m : ℕ) → n ≡ m → n ≡ 2 → m ≡ 3 → ⊥
+two_three n m e a b = omega arith
+
+two_four : (n m : ℕ) → n ≡ m → n ≡ 2 → m ≡ 4 → ⊥
+two_four n m e a b = omega arith
+
+three_four : (n m : ℕ) → n ≡ m → n ≡ 3 → m ≡ 4 → ⊥
+three_four n m e a b = omega arith
+
+-- a number is that of one of these rules alone
+one_of_number : (ts : List Token) (r r' : Rule) (u u' : ℕ) → Breaks ts r u → Breaks ts r' u' → number r ≡ number r' → r ≡ r'
+one_of_number ts r r' u u' (inl c) (inl d) e = c.0 ∙ sym d.0
+one_of_number ts r r' u u' (inl c) (inr (inl d)) e = absurd (two_three (number r) (number r') e (ap number c.0) (ap number d.0))
+one_of_number ts r r' u u' (inl c) (inr (inr d)) e = absurd (two_four (number r) (number r') e (ap number c.0) (ap number d.0))
+one_of_number ts r r' u u' (inr (inl c)) (inl d) e = absurd (two_three (number r') (number r) (sym e) (ap number d.0) (ap number c.0))
+one_of_number ts r r' u u' (inr (inl c)) (inr (inl d)) e = c.0 ∙ sym d.0
+one_of_number ts r r' u u' (inr (inl c)) (inr (inr d)) e = absurd (three_four (number r) (number r') e (ap number c.0) (ap number d.0))
+one_of_number ts r r' u u' (inr (inr c)) (inl d) e = absurd (two_four (number r') (number r) (sym e) (ap number d.0) (ap number c.0))
+one_of_number ts r r' u u' (inr (inr c)) (inr (inl d)) e = absurd (three_four (number r') (number r) (sym e) (ap number d.0) (ap number c.0))
+one_of_number ts r r' u u' (inr (inr c)) (inr (inr d)) e = c.0 ∙ sym d.0
+
+once : (n n' t t' : ℕ) → (t < t') ⊎ ((t ≡ t') × (n ≤ n')) → (t' < t) ⊎ ((t' ≡ t) × (n' ≤ n)) → (n ≡ n') × (t ≡ t')
+once n n' t t' (inl x) (inl y) = absurd (omega arith)
+once n n' t t' (inl x) (inr y) = absurd (omega (arith, y.0))
+once n n' t t' (inr x) (inl y) = absurd (omega (arith, x.0))
+once n n' t t' (inr x) (inr y) = (omega (arith, x.1, y.1), x.0)
 
 -- one rule at one token
-pub least_once : (ts : List Token) (r r' t t' : ℕ) → IsLeastBroken ts r t → IsLeastBroken ts r' t' → (r ≡ r') × (t ≡ t')
+pub least_once : (ts : List Token) (r r' : Rule) (t t' : ℕ) → IsLeastBroken ts r t → IsLeastBroken ts r' t' → (r ≡ r') × (t ≡ t')
 least_once ts r r' t t' a b =
     let x = a.least r' t' b.broken in
     let y = b.least r t a.broken in
-    once r r' t t' x y
+    let k = once (number r) (number r') t t' x y in
+    (one_of_number ts r r' t t' a.broken b.broken k.0, k.1)
 
-pub misspelt_once : (source : List ℕ) (r r' : ℕ) (p p' : Place) → IsMisspelt source r p → IsMisspelt source r' p' → (r ≡ r') × (p ≡ p')
+pub misspelt_once : (source : List ℕ) (r r' : Rule) (p p' : Place) → IsMisspelt source r p → IsMisspelt source r' p' → (r ≡ r') × (p ≡ p')
 misspelt_once source r r' p p' (inl a) (inl b) = (a.0 ∙ sym b.0, bad_once source p p' a.1 b.1)
 misspelt_once source r r' p p' (inl a) (inr b) = cut_or_bad source b.0 b.1 p b.3 a.1
 misspelt_once source r r' p p' (inr a) (inl b) = cut_or_bad source a.0 a.1 p' a.3 b.1
@@ -255,7 +280,7 @@ spelt_once source p q a b =
     let cut = cut_once source a.0 b.0 a.1 b.1 a.2 b.2 in
     accepted_same p q (sym (spelled_is_accepted b.0 p (subst (λ ts. Spells ts p) cut.0 a.3)) ∙ spelled_is_accepted b.0 q b.3)
 
-pub spelt_or_misspelt : (source : List ℕ) (x : Program) (r : ℕ) (p : Place) → IsSpelt source x → IsMisspelt source r p → ⊥
+pub spelt_or_misspelt : (source : List ℕ) (x : Program) (r : Rule) (p : Place) → IsSpelt source x → IsMisspelt source r p → ⊥
 spelt_or_misspelt source x r p a (inl b) = cut_or_bad source a.0 a.1 p a.2 b.1
 spelt_or_misspelt source x r p a (inr b) =
     let cut = cut_once source a.0 b.0 a.1 b.1 a.2 b.3 in

@@ -9,7 +9,11 @@ use Rattle.std.specs.Prelude.{◌≡◌, ◌⊎◌, ℕ, ◌+◌, ◌-◌, ◌^�
 use Rattle.std.specs.Prelude.{[], ◌∷◌, take, Option, Some, None, slice_get}
 use Rattle.fip_language.specs.declared.Place.{Place}
 use Rattle.fip_language.specs.declared.Operator.TheVariants as O
+use Rattle.fip_language.specs.declared.limits.TheConstants.{MOST_BRACKETS}
+use Rattle.fip_language.specs.declared.rule.Rule.{Rule}
+use Rattle.fip_language.specs.declared.rule.Rule.TheVariants as R
 use Rattle.fip_language.specs.Prefix.{IsPlace}
+use Rattle.fip_language.specs.RuleOrder.{number}
 use Rattle.fip_language.specs.Surface.{Program}
 use Rattle.fip_grammar.specs.declared.Sign.TheVariants as S
 use Rattle.fip_grammar.specs.Token.{Word, Lower, Upper, Number, Operate, Mark, Token, value_of}
@@ -73,7 +77,8 @@ seen ts t = seen_from nothing_seen (take t ts)
 
 -- E03: token t is a bracket with which more than 100 are open.
 abbrev pub IsTooDeep : List Token → ℕ → Type 0
-IsTooDeep ts t = (x : Token) × (slice_get ts t ≡ Some x) × (is_opening x.word ≡ true) × (100 ≤ (seen ts t).open')
+IsTooDeep ts t = (x : Token) × (slice_get ts t ≡ Some x) × (is_opening x.word ≡ true)
+    × (MOST_BRACKETS ≤ (seen ts t).open')
 
 -- the greatest literal
 abbrev pub limit : Bool → ℕ
@@ -84,14 +89,16 @@ abbrev pub IsTooLarge : List Token → ℕ → Type 0
 IsTooLarge ts t = (x : Token) × (ds : List ℕ) × (slice_get ts t ≡ Some x) × (x.word ≡ Number ds)
     × (limit (seen ts t).is_sign < value_of ds)
 
--- The rule E02, E03 or E04, by its number, is broken at token t; the end is a token.
-abbrev pub Breaks : List Token → ℕ → ℕ → Type 0
-Breaks ts rule t = ((rule ≡ 2) × IsPlace Spells ts t) ⊎ (((rule ≡ 3) × IsTooDeep ts t) ⊎ ((rule ≡ 4) × IsTooLarge ts t))
+-- The rule E02, E03 or E04 is broken at token t; the end is a token.
+abbrev pub Breaks : List Token → Rule → ℕ → Type 0
+Breaks ts rule t =
+    ((rule ≡ R.E02) × IsPlace Spells ts t)
+    ⊎ (((rule ≡ R.E03) × IsTooDeep ts t) ⊎ ((rule ≡ R.E04) × IsTooLarge ts t))
 
--- It is broken there, and no rule is broken at an earlier token, and no lesser one at the same token.
-pub record IsLeastBroken (ts : List Token) (rule t : ℕ) : Type 0 where
+-- It is broken there, and no rule is broken at an earlier token, and none of a lesser number at the same token.
+pub record IsLeastBroken (ts : List Token) (rule : Rule) (t : ℕ) : Type 0 where
   pub broken : Breaks ts rule t
-  pub least : (r u : ℕ) → Breaks ts r u → (t < u) ⊎ ((t ≡ u) × (rule ≤ r))
+  pub least : (r : Rule) (u : ℕ) → Breaks ts r u → (t < u) ⊎ ((t ≡ u) × (number rule ≤ number r))
 
 -- the place of a token; that of the end behind the last one
 abbrev pub place_or : Place → Option Token → Place
@@ -104,12 +111,12 @@ place_at ts end t = place_or end (slice_get ts t)
 -- The source is that of this program, and breaks none of the rules E01 to E04.
 abbrev pub IsSpelt : List ℕ → Program → Type 0
 IsSpelt source p = (ts : List Token) × (end : Place) × IsCut source ts end × Spells ts p
-    × ((r t : ℕ) → Breaks ts r t → ⊥)
+    × ((r : Rule) (t : ℕ) → Breaks ts r t → ⊥)
 
 -- The source breaks this rule at this place: a byte that begins no token is named before all else (E01), then the least
 -- of the others.
-abbrev pub IsMisspelt : List ℕ → ℕ → Place → Type 0
+abbrev pub IsMisspelt : List ℕ → Rule → Place → Type 0
 IsMisspelt source rule place =
-    ((rule ≡ 1) × IsBadByte source place)
+    ((rule ≡ R.E01) × IsBadByte source place)
     ⊎ ((ts : List Token) × (end : Place) × (t : ℕ) × IsCut source ts end × IsLeastBroken ts rule t
     × (place ≡ place_at ts end t))

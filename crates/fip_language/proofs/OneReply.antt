@@ -2,6 +2,7 @@
 -- program one list of values.
 use Rattle.std.proofs.Common.{◌≡◌, inl, inr, ℕ, List, Option, Some, None, refl, sym, ap, ◌∙◌, subst, arith}
 use Rattle.fip_language.specs.declared.Place.{Place}
+use Rattle.fip_language.specs.declared.rule.Rule.{Rule}
 use Rattle.fip_language.specs.Values.{Values}
 use Rattle.fip_language.specs.Core.{Function, Core}
 use Rattle.fip_language.specs.Declarations.{function_of, table_of}
@@ -45,7 +46,7 @@ runs_one request core input one r s (inl a) (inr b) = absurd (a.0 b.0)
 runs_one request core input one r s (inr a) (inl b) = absurd (b.0 a.0)
 runs_one request core input one r s (inr a) (inr b) = enters_one request core input (function_of core request.entry) (one a.0) r s a.1 b.1
 
-module _ (Spells : List ℕ → Core → Type 0) (Misspells : List ℕ → ℕ → Place → Type 0) (decided : IsDecided Spells Misspells) (one : OneText Spells) where
+module _ (Spells : List ℕ → Core → Type 0) (Misspells : List ℕ → Rule → Place → Type 0) (decided : IsDecided Spells Misspells) (one : OneText Spells) where
   answers_one : (request : Request) (source input : List ℕ) (r s : Reply) → Answers Spells Misspells request source input r → Answers Spells Misspells request source input s → r ≡ s
   answers_one request source input r s (inl a) (inl b) = a.1 ∙ sym b.1
   answers_one request source input r s (inl a) (inr b) = let lt = a.0 in let le = b.0 in absurd (omega arith)

@@ -6,6 +6,8 @@
 use Rattle.std.specs.Prelude.{ℕ, ◌<◌, ◌≤◌, ◌⊎◌, ◌≡◌, List, length, Option, Some, None}
 use Rattle.fip_language.specs.declared.Place.{Place}
 use Rattle.fip_language.specs.declared.TrapKind.{TrapKind}
+use Rattle.fip_language.specs.declared.limits.TheConstants.{MOST_SOURCE_BYTES, MOST_FILE_BYTES}
+use Rattle.fip_language.specs.declared.rule.Rule.{Rule}
 use Rattle.fip_language.specs.Values.{Values, words_needed_by_all}
 use Rattle.fip_language.specs.Core.{Name, Function, Core}
 use Rattle.fip_language.specs.Declarations.{function_of, table_of}
@@ -41,8 +43,8 @@ pub data Reply : Type 0 where
   NoFile : Reply
   -- rule E05
   SourceTooLong : Reply
-  -- rules E01 to E04: the rule's number and its place
-  Misspelt : (rule : ℕ) (place : Place) → Reply
+  -- one of the rules E01 to E04 and its place
+  Misspelt : (rule : Rule) (place : Place) → Reply
   -- a program that isn't a right one of the loop form
   NotRight : Reply
   -- rule E70
@@ -55,10 +57,10 @@ pub data Reply : Type 0 where
   Finished : (done : Done) → Reply
 
 abbrev pub most_source : ℕ
-most_source = 1048576
+most_source = MOST_SOURCE_BYTES
 
 abbrev pub most_input : ℕ
-most_input = 16777216
+most_input = MOST_FILE_BYTES
 
 abbrev pub status : Reply → ℕ
 status NoFile = 9
@@ -125,19 +127,20 @@ Runs request core input reply =
 -- Spells source core: the bytes are those of a program with this core form, and none of E01 to E04 is violated.
 -- Misspells source rule place: they aren't. A byte that begins no token is named before all else (E01), then the least
 -- of E02 to E04 by place and rule.
-abbrev pub Answers : (List ℕ → Core → Type 0) → (List ℕ → ℕ → Place → Type 0) → Request → List ℕ → List ℕ → Reply →
+abbrev pub Answers : (List ℕ → Core → Type 0) → (List ℕ → Rule → Place → Type 0) → Request → List ℕ → List ℕ → Reply →
     Type 0
 Answers Spells Misspells request source input reply =
     ((most_source < length source) × (reply ≡ SourceTooLong))
     ⊎ ((length source ≤ most_source) × (
-    ((rule : ℕ) × (place : Place) × Misspells source rule place × (reply ≡ Misspelt rule place))
+    ((rule : Rule) × (place : Place) × Misspells source rule place × (reply ≡ Misspelt rule place))
     ⊎ ((core : Core) × Spells source core × Runs request core input reply)))
 
-abbrev pub AnswersFile : (List ℕ → Core → Type 0) → (List ℕ → ℕ → Place → Type 0) → Request → Option (List ℕ) → List ℕ →
-    Reply → Type 0
+abbrev pub AnswersFile : (List ℕ → Core → Type 0) → (List ℕ → Rule → Place → Type 0) → Request → Option (List ℕ) →
+    List ℕ → Reply → Type 0
 AnswersFile Spells Misspells request None input reply = reply ≡ NoFile
 AnswersFile Spells Misspells request (Some source) input reply = Answers Spells Misspells request source input reply
 
 -- The reply to a request over these files and this input.
-abbrev pub Execs : (List ℕ → Core → Type 0) → (List ℕ → ℕ → Place → Type 0) → Request → Files → List ℕ → Reply → Type 0
+abbrev pub Execs : (List ℕ → Core → Type 0) → (List ℕ → Rule → Place → Type 0) → Request → Files → List ℕ → Reply →
+    Type 0
 Execs Spells Misspells request files input reply = AnswersFile Spells Misspells request (files request.file) input reply

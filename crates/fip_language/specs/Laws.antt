@@ -2,6 +2,7 @@
 -- For instance: an evaluation with 5 calls that gives a value leaves at most 5 of them, AtMost 5.
 use Rattle.std.specs.Prelude.{◌≡◌, ℕ, ◌≤◌, List, [], ◌∷◌, Some}
 use Rattle.fip_language.specs.declared.Place.{Place}
+use Rattle.fip_language.specs.declared.rule.Rule.{Rule}
 use Rattle.fip_language.specs.Values.{Values, cells_of_all}
 use Rattle.fip_language.specs.Table.{Table, HaveTypes}
 use Rattle.fip_language.specs.Core.{Name, Function, Core}
@@ -35,11 +36,11 @@ KeepsCells k n Deep = Unit {0}
 KeepsCells k n Stuck = Unit {0}
 
 -- How sources are spelt: with one core form, or with one fault.
-pub record IsDecided (Spells : List ℕ → Core → Type 0) (Misspells : List ℕ → ℕ → Place → Type 0) : Type 0 where
+pub record IsDecided (Spells : List ℕ → Core → Type 0) (Misspells : List ℕ → Rule → Place → Type 0) : Type 0 where
   pub one_core : (source : List ℕ) (c d : Core) → Spells source c → Spells source d → c ≡ d
-  pub one_rule : (source : List ℕ) (r s : ℕ) (p q : Place) → Misspells source r p → Misspells source s q → r ≡ s
-  pub one_place : (source : List ℕ) (r s : ℕ) (p q : Place) → Misspells source r p → Misspells source s q → p ≡ q
-  pub not_both : (source : List ℕ) (c : Core) (r : ℕ) (p : Place) → Spells source c → Misspells source r p → ⊥
+  pub one_rule : (source : List ℕ) (r s : Rule) (p q : Place) → Misspells source r p → Misspells source s q → r ≡ s
+  pub one_place : (source : List ℕ) (r s : Rule) (p q : Place) → Misspells source r p → Misspells source s q → p ≡ q
+  pub not_both : (source : List ℕ) (c : Core) (r : Rule) (p : Place) → Spells source c → Misspells source r p → ⊥
 
 -- A text for the parameters of a function of a right program is that of one list of values. The program is one that a
 -- source spells, since only then are the names of its constructors those of value text.

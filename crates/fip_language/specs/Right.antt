@@ -4,6 +4,9 @@
 -- one function alone, a fip one.
 use Rattle.std.specs.Prelude.{◌≡◌, ℕ, suc, ◌+◌, ◌<◌, ◌≤◌, ◌⊎◌, Bool, true, false, List, [], ◌∷◌, map, length, Option}
 use Rattle.std.specs.Prelude.{Some, None, is_some, ◌==◌, if◌then◌else◌, codes}
+use Rattle.fip_language.specs.declared.limits.TheConstants.{MOST_INSTANCES, MOST_CLAUSES, MOST_PATTERN_NODES}
+use Rattle.fip_language.specs.declared.limits.TheConstants.{MOST_REGISTERS}
+use Rattle.fip_language.specs.declared.limits.TheConstants.{MOST_FIELDS, MOST_MATCHED_CONSTRUCTORS}
 use Rattle.fip_language.specs.Values.{Value, one_of_size}
 use Rattle.fip_language.specs.Table.{Shape, Table, constructors, is_scalar, HasType}
 use Rattle.fip_language.specs.Core.{Name, Result, OneResult, TupleResult, Binder, Argument, Variable, Literal}
@@ -37,7 +40,7 @@ abbrev pub KnownConstructor : Core → Mention → Type 0
 KnownConstructor core m = is_some (constructor_of core m.name) ≡ true
 
 abbrev pub FewFields : DataConstructor → Type 0
-FewFields k = length k.fields ≤ 16
+FewFields k = length k.fields ≤ MOST_FIELDS
 
 abbrev pub HasValue : Table → ℕ → Type 0
 HasValue tb t = (v : Value) × HasType tb t v
@@ -158,7 +161,8 @@ needed_by_ending k (Calls name p as') = needed_by_all k as'
 
 -- no binder in scope has a type with more than 65,535 constructors, scalar types apart
 abbrev pub Narrow : Table → Scope → Type 0
-Narrow tb scope = (x t : ℕ) → scope x ≡ Some t → is_scalar tb t ≡ false → length (constructors tb t) ≤ 65535
+Narrow tb scope = (x t : ℕ) → scope x ≡ Some t → is_scalar tb t ≡ false →
+    length (constructors tb t) ≤ MOST_MATCHED_CONSTRUCTORS
 
 -- each owned variable is used up exactly once, the scrutinee by the match!
 abbrev pub UsedOnce : Table → Scope → Option ℕ → Ending → Type 0
@@ -237,7 +241,7 @@ pub record IsRightLoop (core : Core) (f : Function) (l : Loop) (t : ℕ) : Type 
   -- E15
   pub constructors_known : Every (KnownConstructor core) (constructors_in_block f.body)
   -- E21
-  pub few_types : (ts : List ℕ) × (length ts ≤ 4096) × HasTypesOf core f ts
+  pub few_types : (ts : List ℕ) × (length ts ≤ MOST_INSTANCES) × HasTypesOf core f ts
   -- E31
   pub scrutinee : binder_type (parameters_in_scope core nothing_in_scope f.parameters) l.scrutinee ≡ Some t
   -- E30
@@ -246,10 +250,10 @@ pub record IsRightLoop (core : Core) (f : Function) (l : Loop) (t : ℕ) : Type 
   -- E40, E41: each constructor of the type has one clause
   pub covered : (n : ℕ) → n < length (constructors (table_of core) t) → clauses_of_number core n l.clauses ≡ 1
   -- E43
-  pub few_clauses : length l.clauses ≤ 64
-  pub few_nodes : pattern_nodes l.clauses ≤ 256
+  pub few_clauses : length l.clauses ≤ MOST_CLAUSES
+  pub few_nodes : pattern_nodes l.clauses ≤ MOST_PATTERN_NODES
   -- E60
-  pub few_registers : registers f ≤ 4096
+  pub few_registers : registers f ≤ MOST_REGISTERS
   pub narrow : Narrow (table_of core) (parameters_in_scope core nothing_in_scope f.parameters)
 
 abbrev pub AtMostOneRightLoop : Core → List Function → Type 0

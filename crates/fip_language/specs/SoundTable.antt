@@ -2,6 +2,7 @@
 -- Constructors have upper-case names, no two of a type are alike, a constructor has at most 16 fields, the types of
 -- the fields are there, and every type has a value.
 use Rattle.std.specs.Prelude.{◌≡◌, ℕ, suc, ◌<◌, ◌≤◌, true, List, [], ◌∷◌, length, Some, slice_get}
+use Rattle.fip_language.specs.declared.limits.TheConstants.{MOST_FIELDS}
 use Rattle.fip_language.specs.Values.{Value}
 use Rattle.fip_language.specs.Table.{Shape, Table, shapes, HasType}
 use Rattle.fip_language.specs.Character.{is_upper_name}
@@ -16,5 +17,5 @@ pub record IsSoundTable (tb : Table) : Type 0 where
   pub unlike : (t c d : ℕ) (s r : Shape) → slice_get (shapes tb t) c ≡ Some s → slice_get (shapes tb t) d ≡ Some r →
       s.name ≡ r.name → c ≡ d
   pub known : (t c : ℕ) (s : Shape) → slice_get (shapes tb t) c ≡ Some s → AreTypes tb s.fields
-  pub narrow : (t c : ℕ) (s : Shape) → slice_get (shapes tb t) c ≡ Some s → length s.fields ≤ 16
+  pub narrow : (t c : ℕ) (s : Shape) → slice_get (shapes tb t) c ≡ Some s → length s.fields ≤ MOST_FIELDS
   pub inhabited : (t : ℕ) → t < length tb → (v : Value) × HasType tb (suc t) v

@@ -6,6 +6,8 @@
 use Rattle.std.specs.Prelude.{◌≡◌, ◌≢◌, ◌⊎◌, ℕ, suc, ◌-◌, ◌<◌, ◌≤◌, max, false, List, [], ◌∷◌, ◌++◌, map, length}
 use Rattle.std.specs.Prelude.{Option, Some, None, slice_get, codes, if◌then◌else◌}
 use Rattle.fip_language.specs.declared.Place.{Place}
+use Rattle.fip_language.specs.declared.limits.TheConstants.{MOST_FIELDS, MOST_MATCHED_CONSTRUCTORS, MOST_INSTANCES}
+use Rattle.fip_language.specs.declared.limits.TheConstants.{MOST_CLAUSES, MOST_PATTERN_NODES, MOST_REGISTERS}
 use Rattle.fip_language.specs.declared.rule.Rule.{Rule}
 use Rattle.fip_language.specs.declared.rule.Rule.TheVariants.{E10, E11, E13, E14, E15, E20, E21, E30, E31, E33, E40}
 use Rattle.fip_language.specs.declared.rule.Rule.TheVariants.{E41, E42, E43, E50, E52, E56, E57, E58, E60}
@@ -77,8 +79,8 @@ pub data TypesBreak (core : Core) : Violation → Type 0 where
   NoValue : (n : ℕ) (d : Data) → slice_get core.types n ≡ Some d → (HasValue (table_of core) (suc (suc n)) → ⊥) →
       TypesBreak core (names E13 (type_mention d))
   -- a constructor has more than 16 fields
-  ManyFields : (d : Data) (k : DataConstructor) → Among d core.types → Among k d.constructors → 16 < length k.fields →
-      TypesBreak core (names E14 (constructor_mention k))
+  ManyFields : (d : Data) (k : DataConstructor) → Among d core.types → Among k d.constructors →
+      MOST_FIELDS < length k.fields → TypesBreak core (names E14 (constructor_mention k))
 
 -- ---- types
 
@@ -235,7 +237,7 @@ clause_scope core f c d = binders_in_scope (parameter_scope core f) c.binders (f
 
 abbrev pub IsWide : Core → Scope → Type 0
 IsWide core scope = (x : ℕ) × (t : ℕ) × (scope x ≡ Some t) × (is_scalar (table_of core) t ≡ false)
-    × (65535 < length (constructors (table_of core) t))
+    × (MOST_MATCHED_CONSTRUCTORS < length (constructors (table_of core) t))
 
 -- a clause of the loop and what its constructor means
 pub record IsClause (core : Core) (l : Loop) (c : LoopClause) (d : Declared) : Type 0 where
@@ -251,7 +253,7 @@ pub data LoopBreaks (core : Core) (f : Function) (l : Loop) : Violation → Type
       LoopBreaks core f l (names E15 m)
   UnknownFunction : (m : Mention) → Among m (calls_in_block f.body) → function_of core m.name ≡ None →
       LoopBreaks core f l (names E20 m)
-  ManyTypes : ((ts : List ℕ) → length ts ≤ 4096 → HasTypesOf core f ts → ⊥) →
+  ManyTypes : ((ts : List ℕ) → length ts ≤ MOST_INSTANCES → HasTypesOf core f ts → ⊥) →
       LoopBreaks core f l (names E21 (mention (codes "types") start))
   -- a pattern of another type than the scrutinee's
   PatternMisfit : (c : LoopClause) (d : Declared) (t : ℕ) → IsClause core l c d →
@@ -274,8 +276,8 @@ pub data LoopBreaks (core : Core) (f : Function) (l : Loop) : Violation → Type
   Unreached : (m : Mention) → IsRepeated (map clause_mention l.clauses) m → LoopBreaks core f l (at_place E41 m.place)
   SecondBinder : (c : LoopClause) (m : Mention) → Among c l.clauses → IsRepeated (binder_mentions c.binders) m →
       LoopBreaks core f l (names E42 m)
-  ManyClauses : 64 < length l.clauses → LoopBreaks core f l (at_place E43 l.place)
-  ManyNodes : 256 < pattern_nodes l.clauses → LoopBreaks core f l (at_place E43 l.place)
+  ManyClauses : MOST_CLAUSES < length l.clauses → LoopBreaks core f l (at_place E43 l.place)
+  ManyNodes : MOST_PATTERN_NODES < pattern_nodes l.clauses → LoopBreaks core f l (at_place E43 l.place)
   UsedTwice : (c : LoopClause) (d : Declared) (u : Use) → IsClause core l c d →
       IsOwned core (clause_scope core f c d) u.binder → IsUsedAgain (uses_of_clause l c) u →
       LoopBreaks core f l (names E50 u.mention)
@@ -290,7 +292,7 @@ pub data LoopBreaks (core : Core) (f : Function) (l : Loop) : Violation → Type
       needed_by_ending k c.ending < one_of_size k (length c.binders) → LoopBreaks core f l (of_size E57 c.place k)
   ClausesDiffer : (b c : LoopClause) (k : ℕ) → Among b l.clauses → Among c l.clauses → excess k b ≢ excess k c →
       LoopBreaks core f l (of_size E58 l.place k)
-  ManyRegisters : 4096 < registers f → LoopBreaks core f l (names E60 (mention f.name f.place))
+  ManyRegisters : MOST_REGISTERS < registers f → LoopBreaks core f l (names E60 (mention f.name f.place))
   WideParameter : IsWide core (parameter_scope core f) → LoopBreaks core f l (names E60 (mention f.name f.place))
   WideBinder : (c : LoopClause) (d : Declared) → IsClause core l c d → IsWide core (clause_scope core f c d) →
       LoopBreaks core f l (names E60 (mention f.name f.place))

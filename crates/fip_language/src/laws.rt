@@ -1,6 +1,7 @@
 // The laws of the definitions. Each is the contract of a function that does nothing.
 ghost use Rattle.std.specs.Prelude.{◌≡◌, ◌≢◌, ℕ, suc, ◌+◌, ◌≤◌, List, Some};
 ghost use Rattle.fip_language.specs.declared.Place.{Place};
+ghost use Rattle.fip_language.specs.declared.rule.Rule.{Rule};
 ghost use Rattle.fip_language.specs.Values.{Values, End, More, cells_of_all};
 ghost use Rattle.fip_language.specs.Table.{HaveTypes};
 ghost use Rattle.fip_language.specs.Core.{Name, Function, Core};
@@ -188,11 +189,11 @@ pub fn a_text_goes_wrong_at_one_place<G: Grammar>()
     ensures none { (text : List G.Item) (t : ℕ) (x : G.Meant) → IsPlace G.spells text t → G.spells text x → ⊥ }
 {}
 
-/// How sources are spelt: with a core form, or with the number of a rule of spelling that they break and its place.
+/// How sources are spelt: with a core form, or with a rule of spelling that they break and its place.
 pub trait Spelling {
     ghost spells: { List ℕ → Core → Type 0 };
 
-    ghost misspells: { List ℕ → ℕ → Place → Type 0 };
+    ghost misspells: { List ℕ → Rule → Place → Type 0 };
 }
 
 /// A request has one reply at most, where each source has one core form or one fault, and each text for the entry of a

@@ -1,8 +1,9 @@
-// The plain types of the language that take no memory. The language itself is defined in specs/; its laws are in
-// `laws`.
+// The plain types of the language that take no memory. Its limits are in `limits`. The language itself is defined in
+// specs/; its laws are in `laws`.
 #![tactic(auto)]
 
 pub mod laws;
+pub mod limits;
 mod rule;
 
 pub use rule::Rule;

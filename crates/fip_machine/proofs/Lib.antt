@@ -1,3 +1,4 @@
 pub mod Stacked
 pub mod Living
 pub mod Fitting
+pub mod Starting

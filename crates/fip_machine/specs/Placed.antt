@@ -3,6 +3,7 @@
 -- With a function f of 3 registers that calls g of 2 at its instruction 4, the words of both frames are
 -- r0 r1 r2 f 4 | s0 s1, and g's frame begins at 5.
 use Rattle.std.specs.Prelude.{◌≡◌, ℕ, zero, suc, ◌+◌, ◌-◌, ◌*◌, ◌<◌, ◌≤◌, List, length, Some, slice_get, slice_index_or}
+use Rattle.fip_language.specs.declared.limits.TheConstants.{MOST_REGISTERS}
 use Rattle.fip_base.specs.declared.plain.Stack.{Stack}
 use Rattle.cell_code.specs.declared.code.Instr.TheVariants as I
 use Rattle.cell_code.specs.declared.code.Function.{Function}
@@ -29,7 +30,7 @@ pub record IsPlaced (v : Checked) (b : Bounds) (n : ℕ) (c : Cursor) : Type 0 w
   pub safe : IsSafe (body_at v c) c.at
   pub within : c.at < length c.instrs.now
   pub few : length c.instrs.now < 4294967296
-  pub small : c.registers ≤ 4096
+  pub small : c.registers ≤ MOST_REGISTERS
   pub largest : c.registers + 2 ≤ b.largest
   pub own : (s : Stack) → slice_get v.stacks c.function ≡ Some (Some s) → c.registers + 2 ≤ s.words
   pub frames : c.frames ≤ b.frames

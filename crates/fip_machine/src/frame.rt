@@ -1,11 +1,13 @@
 // What instructions do to the words of frames. Lists of at most four registers are matched, so that each length is
 // straight code: a list is read first and then written, since the store and the frames may not be known to lie apart.
 ghost use Rattle.std.specs.Prelude.{◌≡◌, ◌≢◌, ℕ, ◌+◌, ◌<◌, ◌≤◌, None, length};
+ghost use Rattle.fip_language.specs.declared.limits.TheConstants.{MOST_FIELDS};
 ghost use Rattle.cell_code.specs.Runnable.{AreBelow};
 ghost use Rattle.cell_store.specs.Cells.{cell_at, size_in};
 ghost use Rattle.fip_machine.specs.Keeping.{Keeps};
 
 use cell_store::Cells;
+use fip_language::limits::{MOST_FIELDS, MOST_RESULTS};
 
 #[inline(never)]
 fn take_all<C: Cells>(cells: &C, frame: &mut [u64], place: u32, registers: &[u16])
@@ -58,10 +60,10 @@ pub fn take<C: Cells>(cells: &C, frame: &mut [u64], place: u32, registers: &[u16
 fn put_all<C: Cells>(cells: &mut C, frame: &[u64], place: u32, tag: u32, registers: &[u16])
     requires there { cell_at (C.cells cells.old) place ≢ None }
     requires size { size_in (cell_at (C.cells cells.old) place) ≡ length registers.now }
-    requires few { length registers.now ≤ 16 }
+    requires few { length registers.now ≤ MOST_FIELDS }
     requires below { AreBelow (length frame.now) registers.now }
 {
-    let mut fields = [0; 16];
+    let mut fields = [0; MOST_FIELDS];
     for (i, register) in registers.iter().enumerate() {
         fields[i] = frame[*register as usize];
     }
@@ -73,7 +75,7 @@ fn put_all<C: Cells>(cells: &mut C, frame: &[u64], place: u32, tag: u32, registe
 pub fn put<C: Cells>(cells: &mut C, frame: &[u64], place: u32, tag: u32, registers: &[u16])
     requires there { cell_at (C.cells cells.old) place ≢ None }
     requires size { size_in (cell_at (C.cells cells.old) place) ≡ length registers.now }
-    requires few { length registers.now ≤ 16 }
+    requires few { length registers.now ≤ MOST_FIELDS }
     requires below { AreBelow (length frame.now) registers.now }
 {
     match registers {
@@ -256,14 +258,14 @@ fn give_all(
     requires to { to + n ≤ length words.old }
     ensures { Keeps to words.old words.new }
 {
-    let mut given = [0; 8];
+    let mut given = [0; MOST_RESULTS];
     for (i, register) in results.iter().enumerate() {
-        if i < 8 {
+        if i < MOST_RESULTS {
             given[i] = words[from + *register as usize];
         }
     }
     for (i, register) in destinations.iter().enumerate() {
-        if i < 8 {
+        if i < MOST_RESULTS {
             words[to + *register as usize] = given[i];
         }
     }

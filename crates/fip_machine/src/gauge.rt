@@ -1,10 +1,12 @@
 // The gauge of a run.
+ghost use Rattle.fip_language.specs.declared.limits.TheConstants.{MOST_FIELDS};
 ghost use Rattle.std.specs.Prelude.{◌≡◌, ◌<◌, ◌≤◌};
 
 use cell_store::Cells;
+use fip_language::limits::MOST_FIELDS;
 
 /// The sizes of cells.
-pub const SIZES: usize = 16;
+pub const SIZES: usize = MOST_FIELDS;
 
 /// The lowest and the highest number of held cells of each size, and the most frames and words, over the states that
 /// were seen. All are 0 before a state was seen.
@@ -32,7 +34,7 @@ impl Gauge {
     /// The lowest number of held cells of size `k`, from 1 to 16.
     pub fn lowest(&self, k: usize) -> u64
         requires some { 1 ≤ k }
-        requires few { k ≤ 16 }
+        requires few { k ≤ MOST_FIELDS }
     {
         self.lowest[k - 1]
     }
@@ -40,7 +42,7 @@ impl Gauge {
     /// The highest number of held cells of size `k`, from 1 to 16.
     pub fn highest(&self, k: usize) -> u64
         requires some { 1 ≤ k }
-        requires few { k ≤ 16 }
+        requires few { k ≤ MOST_FIELDS }
     {
         self.highest[k - 1]
     }

@@ -1,9 +1,10 @@
 // A machine: a task with a store of its own.
+ghost use Rattle.fip_language.specs.declared.limits.TheConstants.{MOST_FRAMES};
 ghost use Rattle.std.specs.Prelude.{◌≡◌, ◌<◌, ◌≤◌, length};
 
 use crate::gauge::{Gauge, held};
 use crate::rows::Stepped;
-use crate::stack::{Highest, TaskStack};
+use crate::stack::TaskStack;
 use cell_store::{Loader, Sealed, seal};
 use code_verify::Verified;
 use fip_base::plain::{NoMemory, TrapKind};
@@ -56,7 +57,7 @@ impl<'a> Machine<'a> {
         frames: usize,
     ) -> Result<Machine<'a>, NoMemory>
         requires entry { entry < length verified.now.code.functions.items }
-        requires frames { frames ≤ 1000000 }
+        requires frames { frames ≤ MOST_FRAMES }
     {
         let stack = TaskStack::start(alloc, verified, entry, words, frames)?;
         Ok(Machine {
@@ -80,8 +81,8 @@ impl<'a> Machine<'a> {
         if calls == 0 {
             return Ended::Out;
         }
-        let mut highest = Highest { frames, words };
-        let over = self.stack.run(&mut self.cells, calls - 1, &mut highest);
+        let over = self.stack.run(&mut self.cells, calls - 1);
+        let highest = self.stack.highest();
         gauge.see(&held(&self.cells), highest.frames, highest.words);
         ended_of(over)
     }

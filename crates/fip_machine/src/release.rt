@@ -1,5 +1,6 @@
 // Releasing cells: one, or those of a whole tree.
 ghost use Rattle.std.specs.Prelude.{◌≡◌, ◌≢◌, ℕ, ◌+◌, ◌*◌, ◌<◌, ◌≤◌, false, None, Some, length, slice_get};
+ghost use Rattle.fip_language.specs.declared.limits.TheConstants.{MOST_FIELDS};
 ghost use Rattle.cell_store.specs.Cells.{cell_at, size_in};
 ghost use Rattle.fip_machine.specs.Live.{work};
 
@@ -73,7 +74,7 @@ fn push_fields<C: Cells>(cells: &mut C, place: u32, types: &[u32])
     requires there { cell_at (C.cells cells.old) place ≢ None }
     ensures cells { C.cells cells.new ≡ C.cells cells.old }
     ensures released { C.released cells.new ≡ C.released cells.old }
-    ensures few { length (C.pushed cells.new) ≤ length (C.pushed cells.old) + 16 }
+    ensures few { length (C.pushed cells.new) ≤ length (C.pushed cells.old) + MOST_FIELDS }
 {
     let size = cells.cell_size(place);
     for i in (0..size).rev() {

@@ -4,6 +4,7 @@
 // `named`.
 ghost use Rattle.std.specs.Prelude.{◌≡◌, ◌≢◌, ℕ, ◌+◌, ◌-◌, ◌*◌, ◌<◌, ◌≤◌, ◌^◌, length, vec_len, Some, IfSome};
 ghost use Rattle.std.specs.Prelude.{slice_get};
+ghost use Rattle.fip_language.specs.declared.limits.TheConstants.{MOST_FIELDS, MOST_RESULTS};
 ghost use Rattle.cell_code.specs.Runnable.{AreBelow, CanCall, Covers, Row, IsSafe, IsRunnable, body_of};
 ghost use Rattle.fip_machine.specs.Bounding.{AreAtMost, Fits};
 ghost use Rattle.fip_machine.specs.Keeping.{Keeps};
@@ -19,6 +20,7 @@ use cell_code::{Function, Instr};
 use cell_store::Cells;
 use code_verify::Verified;
 use fip_base::plain::{Operator, TrapKind};
+use fip_language::limits::MOST_RESULTS;
 
 /// What a step came to.
 #[derive(Clone, Copy, Debug, PartialEq, Eq)]
@@ -44,10 +46,10 @@ pub enum Stepped {
 #[derive(Drop)]
 pub struct Beside {
     pub spare: Vec<u64>,
-    pub results: [u64; 8],
+    pub results: [u64; MOST_RESULTS],
     pub given: usize,
     pub freed: [usize; SIZES],
-    ghost few: { given ≤ 8 },
+    ghost few: { given ≤ MOST_RESULTS },
 }
 
 /// The function with this number.
@@ -338,7 +340,7 @@ fn put_cell<C: Cells>(
     requires waiting { Waiting verified.now bounds words.now cursor.old.frames cursor.old.base }
     requires register { register < cursor.old.registers }
     requires fields { AreBelow cursor.old.registers fields.now }
-    requires few { length fields.now ≤ 16 }
+    requires few { length fields.now ≤ MOST_FIELDS }
     requires next { IsSafe (body_at verified.now cursor.old) (cursor.old.at + 1) }
     ensures placed { IsPlaced verified.now bounds (length words.now) cursor.new }
     ensures roomy { IsRoomy bounds (length words.now) cursor.new }
@@ -381,6 +383,37 @@ fn enter<'a>(
     cursor.at = 0;
     cursor.base = base;
     cursor.frames = frames;
+    cursor.highest.frames = cursor.highest.frames.max(frames);
+    cursor.highest.words = cursor.highest.words.max(base + cursor.registers + 2);
+}
+
+// Enters the running function again, whose frame stays where it is.
+#[inline(always)]
+fn enter_again(
+    verified: &Verified,
+    bounds: Bounds,
+    words: &mut [u64],
+    spare: &mut [u64],
+    cursor: &mut Cursor,
+    arguments: &[u16],
+) -> Stepped
+    requires runnable { IsRunnable verified.now.code.functions.items verified.now.stacks }
+    requires placed { IsPlaced verified.now bounds (length words.old) cursor.old }
+    requires waiting { Waiting verified.now bounds words.old cursor.old.frames cursor.old.base }
+    requires arguments { AreBelow cursor.old.registers arguments.now }
+    requires few { length arguments.now ≤ cursor.old.registers }
+    requires spare { bounds.largest ≤ length spare.old }
+    ensures placed { IsPlaced verified.now bounds (length words.new) cursor.new }
+    ensures waiting { Waiting verified.now bounds words.new cursor.new.frames cursor.new.base }
+    ensures entered { result ≡ Stepped.Entered }
+    ensures frames { cursor.new.frames ≡ cursor.old.frames }
+{
+    let base = cursor.base;
+    let end = base + cursor.registers;
+    replace(words, spare, base, cursor.registers, arguments);
+    clear(words, base + arguments.len(), end);
+    cursor.at = 0;
+    Stepped::Entered
 }
 
 // Calls a function: its frame lies behind the running one, which waits, and the two words between them tell where.
@@ -430,9 +463,9 @@ fn call<'a>(
     Stepped::Entered
 }
 
-// Calls a function whose frame takes the place of the running one.
+// Enters a function whose frame takes the place of the running one.
 #[inline(always)]
-fn tail<'a>(
+fn enter_instead<'a>(
     verified: &'a Verified,
     bounds: Bounds,
     words: &mut [u64],
@@ -469,6 +502,39 @@ fn tail<'a>(
         frames,
     );
     Stepped::Entered
+}
+
+// Calls a function whose frame takes the place of the running one. A function that calls itself stays where it is.
+#[inline(always)]
+fn tail<'a>(
+    verified: &'a Verified,
+    bounds: Bounds,
+    words: &mut [u64],
+    spare: &mut [u64],
+    cursor: &mut Cursor<'a>,
+    function: u32,
+    arguments: &[u16],
+) -> Stepped
+    requires placed { IsPlaced verified.now bounds (length words.old) cursor.old }
+    requires roomy { IsRoomy bounds (length words.old) cursor.old }
+    requires waiting { Waiting verified.now bounds words.old cursor.old.frames cursor.old.base }
+    requires most { AreAtMost verified.now bounds.largest }
+    requires arguments { AreBelow cursor.old.registers arguments.now }
+    requires callee { CanCall verified.now.code.functions.items function (length arguments.now) }
+    requires covers { Covers verified.now.stacks cursor.old.function function 0 }
+    requires spare { bounds.largest ≤ length spare.old }
+    ensures placed { IsPlaced verified.now bounds (length words.new) cursor.new }
+    ensures waiting { Waiting verified.now bounds words.new cursor.new.frames cursor.new.base }
+    ensures entered { result ≡ Stepped.Entered }
+    ensures frames { cursor.new.frames ≡ cursor.old.frames }
+{
+    let number = function as usize;
+    let _ = function_at(verified, number);
+    if number == cursor.function {
+        enter_again(verified, bounds, words, spare, cursor, arguments)
+    } else {
+        enter_instead(verified, bounds, words, spare, cursor, function, arguments)
+    }
 }
 
 // A frame that waits: its function, the number of its call, and where it begins.
@@ -531,7 +597,7 @@ fn destinations_of<'a>(caller: Caller<'a>) -> &'a [u16]
 fn keep_results(beside: &mut Beside, words: &[u64], base: usize, own: usize, results: &[u16])
     requires own { base + own ≤ length words.now }
     requires results { AreBelow own results.now }
-    requires few { length results.now ≤ 8 }
+    requires few { length results.now ≤ MOST_RESULTS }
     ensures spare { vec_len beside.new.spare ≡ vec_len beside.old.spare }
 {
     for (i, register) in results.iter().enumerate() {
@@ -555,7 +621,7 @@ fn give_back<'a>(
     requires waiting { Waiting verified.now bounds words.old cursor.old.frames cursor.old.base }
     requires most { AreAtMost verified.now bounds.largest }
     requires results { AreBelow cursor.old.registers results.now }
-    requires few { length results.now ≤ 8 }
+    requires few { length results.now ≤ MOST_RESULTS }
     ensures placed { IsPlaced verified.now bounds (length words.new) cursor.new }
     ensures roomy { IsRoomy bounds (length words.new) cursor.new }
     ensures waiting { Waiting verified.now bounds words.new cursor.new.frames cursor.new.base }

@@ -1,17 +1,19 @@
 // The frames of a task.
 ghost use Rattle.std.specs.Prelude.{◌≡◌, ◌≢◌, ℕ, ◌+◌, ◌*◌, ◌<◌, ◌≤◌, length, vec_len, IfOk, Some, slice_get};
 ghost use Rattle.std.specs.Vec.{vec_capacity};
+ghost use Rattle.fip_language.specs.declared.limits.TheConstants.{MOST_FIELDS, MOST_FRAMES, MOST_REGISTERS};
 ghost use Rattle.fip_machine.specs.Bounding.{AreAtMost, Fits};
 ghost use Rattle.fip_machine.specs.Keeping.{Keeps};
 ghost use Rattle.fip_machine.specs.Placed.{IsPlaced, IsRoomy, Waiting};
 
-use crate::cursor::{Bounds, Cursor};
+use crate::cursor::{Bounds, Cursor, Highest};
 use crate::gauge::SIZES;
 use crate::rows::{Beside, Stepped, advance, function_at};
 use cell_code::Instr;
 use cell_store::Cells;
 use code_verify::Verified;
 use fip_base::plain::NoMemory;
+use fip_language::limits::MOST_RESULTS;
 use std::alloc::Global;
 use std::marker::Model;
 
@@ -60,7 +62,7 @@ fn largest_frame(verified: &Verified) -> usize
 // The words that the frames of a run may have: what a fip entry needs, or room for as many of the greatest frames as
 // may be held.
 fn bounds_of(verified: &Verified, entry: usize, frames: usize) -> Bounds
-    requires frames { frames ≤ 1000000 }
+    requires frames { frames ≤ MOST_FRAMES }
     ensures most { AreAtMost verified.now result.largest }
     ensures frames { result.frames ≡ frames }
     ensures fits { Fits verified.now result entry 0 0 }
@@ -99,7 +101,7 @@ fn make_room(words: &mut Vec<u64>, bounds: Bounds, cursor: &Cursor)
     requires taken { bounds.words ≤ vec_capacity words.old }
     requires room { cursor.now.base + cursor.now.registers ≤ vec_len words.old }
     requires few { bounds.largest < 100000 }
-    requires small { cursor.now.registers ≤ 4096 }
+    requires small { cursor.now.registers ≤ MOST_REGISTERS }
     ensures roomy { IsRoomy bounds (length words.new.items) cursor.now }
     ensures keeps { Keeps (length words.old.items) words.old.items words.new.items }
     ensures more { length words.old.items ≤ length words.new.items }
@@ -111,13 +113,6 @@ fn make_room(words: &mut Vec<u64>, bounds: Bounds, cursor: &Cursor)
         let wanted = least.max(len.saturating_add(len));
         words.resize(bounds.words.min(wanted), 0).unwrap();
     }
-}
-
-/// The most frames and words that were seen.
-#[derive(Clone, Copy)]
-pub struct Highest {
-    pub frames: usize,
-    pub words: usize,
 }
 
 // Why a run paused.
@@ -132,7 +127,7 @@ enum Pause {
 }
 
 // Runs until the words must reach further, no call is left, or the run is over. The parts of a task are in variables
-// here, so that the cursor, the calls that are left and the highest numbers are registers of the processor.
+// here, so that the cursor and the calls that are left are registers of the processor.
 #[inline(always)]
 fn burst<'a, C: Cells>(
     verified: &'a Verified,
@@ -142,7 +137,6 @@ fn burst<'a, C: Cells>(
     beside: &mut Beside,
     cursor: &mut Cursor<'a>,
     left: &mut u64,
-    highest: &mut Highest,
 ) -> Pause
     requires placed { IsPlaced verified.now bounds (length words.old) cursor.old }
     requires roomy { IsRoomy bounds (length words.old) cursor.old }
@@ -160,8 +154,6 @@ fn burst<'a, C: Cells>(
 {
     let mut here = *cursor;
     let mut calls = *left;
-    let mut frames = highest.frames;
-    let mut most = highest.words;
     let reach = 2 * bounds.largest;
     let limit = if words.len() < bounds.words {
         words.len()
@@ -173,8 +165,6 @@ fn burst<'a, C: Cells>(
             Stepped::Went => {}
             Stepped::Entered => {
                 calls -= 1;
-                most = most.max(here.base + here.registers + 2);
-                frames = frames.max(here.frames);
                 if calls == 0 {
                     break 'steps Pause::Spent;
                 }
@@ -187,8 +177,6 @@ fn burst<'a, C: Cells>(
     };
     *cursor = here;
     *left = calls;
-    highest.frames = frames;
-    highest.words = most;
     pause
 }
 
@@ -204,7 +192,7 @@ impl<'a> TaskStack<'a> {
         frames: usize,
     ) -> Result<TaskStack<'a>, NoMemory>
         requires entry { entry < length verified.now.code.functions.items }
-        requires frames { frames ≤ 1000000 }
+        requires frames { frames ≤ MOST_FRAMES }
         ensures frames { IfOk result (λ t. t.frames ≡ 0) }
     {
         let bounds = bounds_of(verified, entry, frames);
@@ -216,11 +204,15 @@ impl<'a> TaskStack<'a> {
             at: 0,
             base: 0,
             frames: 0,
+            highest: Highest {
+                frames: 0,
+                words: function.registers as usize + 2,
+            },
         };
         let stack = taken(words, bounds, cursor.registers)?;
         let beside = Beside {
             spare: Vec::from_elem(alloc, 0, bounds.largest)?,
-            results: [0; 8],
+            results: [0; MOST_RESULTS],
             given: 0,
             freed: [0; SIZES],
         };
@@ -258,12 +250,7 @@ impl<'a> TaskStack<'a> {
     }
 
     // Runs to the end, or until a call would come and none of so many is left.
-    pub(crate) fn run<C: Cells>(
-        &mut self,
-        cells: &mut C,
-        calls: u64,
-        highest: &mut Highest,
-    ) -> Option<Stepped> {
+    pub(crate) fn run<C: Cells>(&mut self, cells: &mut C, calls: u64) -> Option<Stepped> {
         if self.ended.is_some() {
             return self.ended;
         }
@@ -278,7 +265,6 @@ impl<'a> TaskStack<'a> {
                 &mut self.beside,
                 &mut self.cursor,
                 &mut left,
-                highest,
             );
             if let Pause::Over(stepped) = pause {
                 self.ended = Some(stepped);
@@ -320,7 +306,7 @@ impl<'a> TaskStack<'a> {
     /// How many cells of size `k`, from 1 to 16, the steps released.
     pub fn freed(&self, k: usize) -> usize
         requires some { 1 ≤ k }
-        requires few { k ≤ 16 }
+        requires few { k ≤ MOST_FIELDS }
     {
         self.beside.freed[k - 1]
     }
@@ -330,6 +316,11 @@ impl<'a> TaskStack<'a> {
         ensures { result ≡ self.now.frames }
     {
         self.cursor.frames
+    }
+
+    // The most frames beside the running one, and the most words of all frames, since the start.
+    pub(crate) fn highest(&self) -> Highest {
+        self.cursor.highest
     }
 
     /// The words of all frames.

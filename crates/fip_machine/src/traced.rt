@@ -4,7 +4,7 @@ ghost use Rattle.std.specs.Prelude.{◌≡◌, ◌<◌};
 use crate::gauge::{Gauge, held};
 use crate::machine::{Ended, Machine, ended_of};
 use crate::rows::Stepped;
-use crate::stack::{Highest, TaskStack};
+use crate::stack::TaskStack;
 use cell_trace::{Recorder, Trace, TraceError};
 use std::alloc::Global;
 
@@ -24,12 +24,9 @@ impl<'a> Machine<'a> {
     ) -> Result<(Machine<'a>, Ended, Option<Trace>), TraceError> {
         let (mut stack, cells) = self.into_parts();
         let mut recorder = Recorder::new(alloc, cells, limit)?;
-        let mut highest = Highest {
-            frames: stack.frames(),
-            words: stack.words(),
-        };
-        gauge.see(&held(&recorder), highest.frames, highest.words);
-        let ended = run_recorded(&mut stack, &mut recorder, calls, &mut highest);
+        gauge.see(&held(&recorder), stack.frames(), stack.words());
+        let ended = run_recorded(&mut stack, &mut recorder, calls);
+        let highest = stack.highest();
         gauge.see(&held(&recorder), highest.frames, highest.words);
         let (cells, trace) = recorder.finish();
         let machine = Machine::of(stack, cells);
@@ -41,31 +38,22 @@ impl<'a> Machine<'a> {
 }
 
 // Runs to the end, with so many calls.
-fn run_recorded(
-    stack: &mut TaskStack,
-    recorder: &mut Recorder,
-    calls: u64,
-    highest: &mut Highest,
-) -> Ended {
+fn run_recorded(stack: &mut TaskStack, recorder: &mut Recorder, calls: u64) -> Ended {
     if calls == 0 {
         return Ended::Out;
     }
     for _ in 0..calls - 1 {
-        if let Some(over) = run_to_entry(stack, recorder, highest) {
+        if let Some(over) = run_to_entry(stack, recorder) {
             return ended_of(Some(over));
         }
     }
-    ended_of(run_to_call(stack, recorder, highest))
+    ended_of(run_to_call(stack, recorder))
 }
 
 // Runs until a function is entered, or to the end.
-fn run_to_entry(
-    stack: &mut TaskStack,
-    recorder: &mut Recorder,
-    highest: &mut Highest,
-) -> Option<Stepped> {
+fn run_to_entry(stack: &mut TaskStack, recorder: &mut Recorder) -> Option<Stepped> {
     loop {
-        match step(stack, recorder, highest) {
+        match step(stack, recorder) {
             Stepped::Went => {}
             Stepped::Entered => return None,
             over => return Some(over),
@@ -74,13 +62,9 @@ fn run_to_entry(
 }
 
 // Runs to where a call would come, or to the end.
-fn run_to_call(
-    stack: &mut TaskStack,
-    recorder: &mut Recorder,
-    highest: &mut Highest,
-) -> Option<Stepped> {
+fn run_to_call(stack: &mut TaskStack, recorder: &mut Recorder) -> Option<Stepped> {
     while !stack.at_call() {
-        match step(stack, recorder, highest) {
+        match step(stack, recorder) {
             Stepped::Went => {}
             Stepped::Entered => return None,
             over => return Some(over),
@@ -89,13 +73,10 @@ fn run_to_call(
     None
 }
 
-// One step, and what the stack holds after it.
-fn step(stack: &mut TaskStack, recorder: &mut Recorder, highest: &mut Highest) -> Stepped
+// One step.
+fn step(stack: &mut TaskStack, recorder: &mut Recorder) -> Stepped
     ensures { result ≡ Stepped.Went → stack.new.weight < stack.old.weight }
 {
     recorder.next_step();
-    let stepped = stack.step(recorder);
-    highest.frames = highest.frames.max(stack.frames());
-    highest.words = highest.words.max(stack.words());
-    stepped
+    stack.step(recorder)
 }

@@ -7,6 +7,8 @@ use Rattle.std.proofs.lemmas.Option.{slice_get-map, slice_get-get_or, slice_get_
 use Rattle.fip_grammar.specs.declared.token.Token as code
 use Rattle.fip_grammar.specs.WordView.{token, tokens}
 use Rattle.fip_language.specs.declared.Place.{Place}
+use Rattle.fip_language.specs.declared.rule.Rule.{Rule}
+use Rattle.fip_language.specs.declared.rule.Rule.TheVariants as R
 use Rattle.fip_language.specs.Surface.{Declaration, Program}
 use Rattle.fip_base.specs.declared.surface.Program as tree
 use Rattle.fip_base.specs.declared.refusal.Refusal.{Refusal}
@@ -27,7 +29,7 @@ use Rattle.parser_state.specs.declared.state.PatternPosition.TheVariants as P
 use Rattle.fip_parser.specs.declared.parser.ParseError.{ParseError}
 use Rattle.fip_parser.specs.declared.parser.ParseError.TheVariants as E
 use Rattle.parser_state.specs.StateView as view
-use Rattle.fip_parser.specs.Parsed.{Read, Goes, Broken, Fails, IsSpeltBy, IsMisspeltBy, IsRefused, syntax_refusal}
+use Rattle.fip_parser.specs.Parsed.{Read, Goes, Broken, Fails, IsSpeltBy, IsMisspeltBy, IsRefused, refusal_of}
 
 pub state_negates : (s : State) → view.negated s ≡ negates (view.state s)
 state_negates (V.Body (B.Minus p) b) = refl
@@ -43,7 +45,7 @@ unended (V.Body B.Block b) ds k = refl
 unended (V.Body q b) ds k = refl
 unended s ds k = refl
 
-broken_least : (ts : List Token) (i : ℕ) (r : Read) (t : Token) (negated : Bool) (rule : ℕ) → Reads ts i r.machine r.seen → negated ≡ negates r.machine.state → slice_get ts i ≡ Some t → Broken negated r t rule → IsLeastBroken ts rule i
+broken_least : (ts : List Token) (i : ℕ) (r : Read) (t : Token) (negated : Bool) (rule : Rule) → Reads ts i r.machine r.seen → negated ≡ negates r.machine.state → slice_get ts i ≡ Some t → Broken negated r t rule → IsLeastBroken ts rule i
 broken_least ts i r t negated rule h n at (inl (k, none)) = subst (λ z. IsLeastBroken ts z i) (sym k) (reads_refused ts i r.machine r.seen t h at none)
 broken_least ts i r t negated rule h n at (inr ((m, e), inl (inl (k, o, d)))) = subst (λ z. IsLeastBroken ts z i) (sym k) (reads_too_deep ts i r.machine m r.seen t h at e o d)
 broken_least ts i r t negated rule h n at (inr ((m, e), inl (inr (k, (ds, w, l))))) = subst (λ z. IsLeastBroken ts z i) (sym k) (reads_too_large ts i r.machine m r.seen t ds h at e w l)
@@ -53,7 +55,7 @@ broken_least ts i r t negated rule h n at (inr ((m, e), inr (k, (ds, w, l)))) =
 
 pub fails_least : (ts : List Token) (end : Place) (i : ℕ) (r : Read) (t : Token) (negated : Bool) (e : ParseError) → Reads ts i r.machine r.seen → negated ≡ negates r.machine.state → slice_get ts i ≡ Some t → Fails negated r t e → IsMisspeltBy ts end e
 fails_least ts end i r t negated E.NoMemory h n at f = tt
-fails_least ts end i r t negated (E.Refused x) h n at f = (f.0, i, broken_least ts i r t negated f.0 h n at f.1, f.2 ∙ ap (syntax_refusal f.0) (ap (place_or end) (sym at)))
+fails_least ts end i r t negated (E.Refused x) h n at f = (f.0, i, broken_least ts i r t negated f.0 h n at f.1, f.2 ∙ ap (refusal_of f.0) (ap (place_or end) (sym at)))
 
 pub goes_on : (ts : List Token) (i : ℕ) (old new : Read) (t : Token) → Reads ts i old.machine old.seen → slice_get ts i ≡ Some t → Goes old new t → Reads ts (i + 1) new.machine new.seen
 goes_on ts i old new t h at g =
@@ -80,7 +82,7 @@ only_one source p (Ok q) a b h = spelt_once source (surface.program q) p a h
 only_one source p (Err E.NoMemory) a b h = refl
 only_one source p (Err (E.Refused x)) a b h = absurd (spelt_or_misspelt source p b.0 b.1 h b.2)
 
-pub refused_so : (source : List ℕ) (r : Result tree.Program ParseError) (x : Refusal) → IfErr r (λ e. IsRefused source e) → r ≡ Err (E.Refused x) → (rule : ℕ) × (place : Place) × IsMisspelt source rule place × (x ≡ syntax_refusal rule place)
+pub refused_so : (source : List ℕ) (r : Result tree.Program ParseError) (x : Refusal) → IfErr r (λ e. IsRefused source e) → r ≡ Err (E.Refused x) → (rule : Rule) × (place : Place) × IsMisspelt source rule place × (x ≡ refusal_of rule place)
 refused_so source r x h e = subst (λ z. IfErr z (λ y. IsRefused source y)) e h
 
 -- Where the loop stands among the tokens.
@@ -96,5 +98,5 @@ at_end xs ys i e l h = let k = ap length e in let n = length-map xs token in ome
 pub place_of_end : (ts : List Token) (end : Place) (i : ℕ) → i ≡ length ts → end ≡ place_at ts end i
 place_of_end ts end i h = ap (place_or end) (sym (slice_get_past ts i (omega arith)))
 
-pub bad_byte : (source : List ℕ) (e : LexError) (p : Place) (x : ParseError) → e ≡ L.BadByte p → Bad source e → x ≡ E.Refused (syntax_refusal 1 p) → IsRefused source x
-bad_byte source e p x h b k = subst (IsRefused source) (sym k) (1, p, inl (refl, subst (Bad source) h b), refl)
+pub bad_byte : (source : List ℕ) (e : LexError) (p : Place) (x : ParseError) → e ≡ L.BadByte p → Bad source e → x ≡ E.Refused (refusal_of R.E01 p) → IsRefused source x
+bad_byte source e p x h b k = subst (IsRefused source) (sym k) (R.E01, p, inl (refl, subst (Bad source) h b), refl)

@@ -1,6 +1,7 @@
 -- What the parser's loop comes to: the machine that a reading stands for, and how a token stops it.
-use Rattle.std.specs.Prelude.{◌≡◌, ◌⊎◌, ◌≤◌, ℕ, zero, suc, Bool, true, List, [], map, Option, Some, None}
+use Rattle.std.specs.Prelude.{◌≡◌, ◌⊎◌, ◌≤◌, ℕ, Bool, true, List, [], map, Option, Some, None}
 use Rattle.fip_language.specs.declared.Place.{Place}
+use Rattle.fip_language.specs.declared.limits.TheConstants.{MOST_BRACKETS}
 use Rattle.fip_language.specs.declared.rule.Rule.{Rule}
 use Rattle.fip_language.specs.declared.rule.Rule.TheVariants as R
 use Rattle.fip_base.specs.declared.refusal.Refusal.{Refusal}
@@ -22,23 +23,13 @@ use Rattle.fip_parser.specs.declared.parser.Taken.TheVariants as K
 use Rattle.parser_state.specs.declared.state.State.{State}
 use Rattle.parser_state.specs.StateView.{state, IsWell, IsAbove}
 
--- the rule of this number
-abbrev pub rule_of : ℕ → Rule
-rule_of (suc zero) = R.E01
-rule_of (suc (suc zero)) = R.E02
-rule_of (suc (suc (suc zero))) = R.E03
-rule_of _ = R.E04
-
+-- the refusal of a source that breaks this rule at a place
 abbrev pub refusal_of : Rule → Place → Refusal
 refusal_of rule place = record { rule = rule; place = Some place; size = 0; detail = [] }
 
--- the refusal of a source that breaks the rule of this number at a place
-abbrev pub syntax_refusal : ℕ → Place → Refusal
-syntax_refusal rule place = refusal_of (rule_of rule) place
-
-abbrev pub fault_rule : Fault → ℕ
-fault_rule F.TooDeep = 3
-fault_rule F.TooLarge = 4
+abbrev pub fault_rule : Fault → Rule
+fault_rule F.TooDeep = R.E03
+fault_rule F.TooLarge = R.E04
 
 abbrev pub seen_of : Before → Seen
 seen_of b = record { open' = b.brackets; ends_operand = b.ends_operand; is_sign = b.is_sign }
@@ -48,11 +39,13 @@ machine_of ds s = record { done = map declaration ds; state = state s }
 
 -- The token breaks neither of the rules that are asked of tokens alone.
 abbrev pub IsWithin : Seen → T.Word → Type 0
-IsWithin b w = (is_opening w ≡ true → 100 ≤ b.open' → ⊥) × (IsAbove b.is_sign w → ⊥)
+IsWithin b w = (is_opening w ≡ true → MOST_BRACKETS ≤ b.open' → ⊥) × (IsAbove b.is_sign w → ⊥)
 
 -- it breaks this one
-abbrev pub Stops : Seen → T.Word → ℕ → Type 0
-Stops b w rule = ((rule ≡ 3) × (is_opening w ≡ true) × (100 ≤ b.open')) ⊎ ((rule ≡ 4) × IsAbove b.is_sign w)
+abbrev pub Stops : Seen → T.Word → Rule → Type 0
+Stops b w rule =
+    ((rule ≡ R.E03) × (is_opening w ≡ true) × (MOST_BRACKETS ≤ b.open'))
+    ⊎ ((rule ≡ R.E04) × IsAbove b.is_sign w)
 
 -- what a token does, where the machine's next state is this
 abbrev pub Takes : Bool → T.Token → Taken → Option Machine → Type 0
@@ -74,26 +67,26 @@ Goes old new t = (machine_step old.machine t ≡ Some new.machine) × (new.seen 
     × IsWithin old.seen t.word
 
 -- A token breaks this rule: it doesn't fit, or it breaks another.
-abbrev pub Broken : Bool → Read → T.Token → ℕ → Type 0
+abbrev pub Broken : Bool → Read → T.Token → Rule → Type 0
 Broken negated r t rule =
-    ((rule ≡ 2) × (machine_step r.machine t ≡ None))
+    ((rule ≡ R.E02) × (machine_step r.machine t ≡ None))
     ⊎ (((m : Machine) × (machine_step r.machine t ≡ Some m))
-    × (Stops r.seen t.word rule ⊎ ((rule ≡ 4) × IsAbove negated t.word)))
+    × (Stops r.seen t.word rule ⊎ ((rule ≡ R.E04) × IsAbove negated t.word)))
 
 abbrev pub Fails : Bool → Read → T.Token → ParseError → Type 0
 Fails negated r t E.NoMemory = Unit {0}
-Fails negated r t (E.Refused x) = (rule : ℕ) × Broken negated r t rule × (x ≡ syntax_refusal rule t.place)
+Fails negated r t (E.Refused x) = (rule : Rule) × Broken negated r t rule × (x ≡ refusal_of rule t.place)
 
 -- These tokens are the program's, and break no rule.
 abbrev pub IsSpeltBy : List T.Token → Program → Type 0
-IsSpeltBy ts p = Spells ts p × ((r t : ℕ) → Breaks ts r t → ⊥)
+IsSpeltBy ts p = Spells ts p × ((r : Rule) (t : ℕ) → Breaks ts r t → ⊥)
 
 abbrev pub IsMisspeltBy : List T.Token → Place → ParseError → Type 0
 IsMisspeltBy ts end E.NoMemory = Unit {0}
-IsMisspeltBy ts end (E.Refused x) = (rule : ℕ) × (t : ℕ) × IsLeastBroken ts rule t
-    × (x ≡ syntax_refusal rule (place_at ts end t))
+IsMisspeltBy ts end (E.Refused x) = (rule : Rule) × (t : ℕ) × IsLeastBroken ts rule t
+    × (x ≡ refusal_of rule (place_at ts end t))
 
 abbrev pub IsRefused : List ℕ → ParseError → Type 0
 IsRefused source E.NoMemory = Unit {0}
-IsRefused source (E.Refused x) = (rule : ℕ) × (place : Place) × IsMisspelt source rule place
-    × (x ≡ syntax_refusal rule place)
+IsRefused source (E.Refused x) = (rule : Rule) × (place : Place) × IsMisspelt source rule place
+    × (x ≡ refusal_of rule place)

@@ -1,7 +1,9 @@
 //! From a source to a program.
 
 ghost use Rattle.std.specs.Prelude.{◌≡◌, ℕ, ◌≤◌, true, false, Err, IfOk, IfErr, MatchResult};
+ghost use Rattle.fip_language.specs.declared.limits.TheConstants.{MOST_BRACKETS};
 ghost use Rattle.fip_language.specs.declared.Place.{Place};
+ghost use Rattle.fip_language.specs.declared.rule.Rule.{Rule};
 ghost use Rattle.fip_language.specs.Surface as Surface;
 ghost use Rattle.fip_base.specs.SurfaceView as surface;
 ghost use Rattle.fip_base.specs.declared.refusal.Refusal.{Refusal};
@@ -11,7 +13,7 @@ ghost use Rattle.fip_grammar.specs.Limits.{IsSpelt, IsMisspelt};
 ghost use Rattle.fip_grammar.specs.Machine as machine;
 ghost use Rattle.parser_state.specs.StateView as view;
 ghost use Rattle.parser_state.specs.StateView.{IsAbove};
-ghost use Rattle.fip_parser.specs.Parsed.{seen_of, machine_of, Takes, Stops, IsWithin, refusal_of, syntax_refusal};
+ghost use Rattle.fip_parser.specs.Parsed.{seen_of, machine_of, Takes, Stops, IsWithin, refusal_of};
 ghost use Rattle.fip_parser.specs.Parsed.{fault_rule, reading_of, Goes, Fails, IsSpeltBy, IsMisspeltBy, IsRefused};
 
 use crate::step::step;
@@ -21,6 +23,7 @@ use fip_base::surface::{Declaration, Program};
 use fip_grammar::Sign;
 use fip_grammar::lexer::{LexError, lex};
 use fip_grammar::token::{Token, Tokens, Word};
+use fip_language::limits::MOST_BRACKETS;
 use fip_language::{Operator, Place};
 use parser_state::literal::magnitude;
 use parser_state::state::{Next, State};
@@ -34,9 +37,6 @@ pub enum ParseError {
     /// A rule from E01 to E04 is broken at a place.
     Refused(Refusal),
 }
-
-/// How many brackets may be open at once.
-pub const MAX_OPEN: usize = 100;
 
 // A rule that a token breaks although it fits.
 #[derive(Clone, Copy, Debug, PartialEq, Eq)]
@@ -127,12 +127,13 @@ fn is_too_large(is_sign: bool, word: Word) -> bool
 // How many brackets are open behind this token.
 fn open_behind(count: usize, word: Word) -> Result<usize, Fault>
     ensures count { IfOk result (λ n. n ≡ limits.open_behind count (tokens_view.word word.entry)) }
-    ensures within { IfOk result (λ n. limits.is_opening (tokens_view.word word.entry) ≡ true → 100 ≤ count → ⊥) }
-    ensures deep { IfErr result (λ f. (fault_rule f ≡ 3) × (limits.is_opening (tokens_view.word word.entry) ≡ true)
-        × (100 ≤ count)) }
+    ensures within { IfOk result (λ n. limits.is_opening (tokens_view.word word.entry) ≡ true →
+        MOST_BRACKETS ≤ count → ⊥) }
+    ensures deep { IfErr result (λ f. (fault_rule f ≡ Rule.E03)
+        × (limits.is_opening (tokens_view.word word.entry) ≡ true) × (MOST_BRACKETS ≤ count)) }
 {
     if opens(word) {
-        if count >= MAX_OPEN {
+        if count >= MOST_BRACKETS {
             return Err(Fault::TooDeep);
         }
         return Ok(count + 1);
@@ -282,8 +283,8 @@ fn parse_source(alloc: Global, source: &[u8]) -> Result<Program, ParseError>
 /// The program of a source. Where it breaks a rule from E01 to E04, the one that is named, at its place.
 pub fn parse(alloc: Global, source: &[u8]) -> Result<Program, ParseError>
     ensures spelt { IfOk result (λ p. IsSpelt source.now (surface.program p)) }
-    ensures misspelt { (r : Refusal) → result ≡ Err (ParseError.Refused r) → (rule : ℕ) × (place : Place)
-        × IsMisspelt source.now rule place × (r ≡ syntax_refusal rule place) }
+    ensures misspelt { (r : Refusal) → result ≡ Err (ParseError.Refused r) → (rule : Rule) × (place : Place)
+        × IsMisspelt source.now rule place × (r ≡ refusal_of rule place) }
     ensures only { (p : Surface.Program) → IsSpelt source.now p →
         MatchResult result (λ q. surface.program q ≡ p) (λ e. e ≡ ParseError.NoMemory) }
 {

@@ -1,6 +1,6 @@
 // Credits counted by their sizes, and taken away one after another.
 use crate::derivation::Credit;
-use fip_trees::limits::MOST_FIELDS;
+use fip_language::limits::MOST_FIELDS;
 use fip_trees::program::Pattern;
 
 /// What a program and a derivation of it don't agree in.

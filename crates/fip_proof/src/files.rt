@@ -5,7 +5,7 @@ use crate::make::line_of;
 use crate::read::read_derivation;
 use crate::write::Text;
 use fip_base::plain::FunKind;
-use fip_trees::limits::MOST_FILE_BYTES;
+use fip_language::limits::MOST_FILE_BYTES;
 use fip_trees::program::Typed;
 use fip_trees::scalars::Scalars;
 use std::alloc::Global;

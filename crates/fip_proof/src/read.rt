@@ -10,7 +10,7 @@
 // rising, each with a count from 1. A num is below 2^32 and has no leading zero. Nodes nest at most 10,000 deep.
 use crate::derivation::{Builder, Credit, Derivation, Line, RuleName};
 use crate::error::ProofError;
-use fip_trees::limits::MOST_FIELDS;
+use fip_language::limits::MOST_FIELDS;
 use std::alloc::Global;
 
 /// How deep nodes nest in a text at the most.

@@ -1,5 +1,5 @@
 // Which types are scalar, found once and kept without memory.
-use fip_trees::limits::MOST_INSTANCES;
+use fip_language::limits::MOST_INSTANCES;
 use fip_trees::program::Program;
 
 /// Whether each type of a program is scalar. A type's constructors are looked through once, and not at each question;

@@ -3,7 +3,7 @@
 use crate::derivation::Credit;
 use fip_base::core_form::MatchKind;
 use fip_base::plain::NoMemory;
-use fip_trees::limits::MOST_FIELDS;
+use fip_language::limits::MOST_FIELDS;
 use fip_trees::program::{Argument, Binder, Block, Clause, Expression, Instance, Pattern, Program};
 use fip_trees::scalars::Scalars;
 use fip_trees::sizes::Sizes;

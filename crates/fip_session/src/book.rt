@@ -1,4 +1,5 @@
 // What a session knows beside the cells: the program, the room of each run, and what names hold.
+ghost use Rattle.fip_language.specs.declared.limits.TheConstants.{MOST_FRAMES};
 ghost use Rattle.std.specs.Prelude.{◌≡◌, ◌<◌, ◌≤◌, length, IfSome};
 ghost use Rattle.std.specs.BTreeMap.{get_by};
 ghost use Rattle.std.specs.Cmp.Lexicographic.{slice_cmp};
@@ -69,7 +70,7 @@ impl<'a> Book<'a> {
 
     /// The frames that a run of an entry is given.
     pub fn frames_for(&self, entry: usize) -> usize
-        ensures few { result ≤ 1000000 }
+        ensures few { result ≤ MOST_FRAMES }
     {
         frames_of(self.verified, entry, self.frames)
     }

@@ -1,5 +1,6 @@
 // Whole inputs: all lines of a session, and a list of tasks that take turns.
 ghost use Rattle.std.specs.Prelude.{◌≡◌, ◌≤◌, ◌<◌, length, IfOk, All};
+ghost use Rattle.fip_language.specs.declared.limits.TheConstants.{MOST_FRAMES, MOST_STORE_WORDS};
 ghost use Rattle.fip_session.specs.Turns.{CanStart};
 
 use crate::entries::{Entries, frames_of};
@@ -11,6 +12,7 @@ use crate::tasks::Tasks;
 use cell_store::Loader;
 use code_verify::Verified;
 use fip_base::plain::NoMemory;
+use fip_language::limits::MOST_FIELDS;
 use fip_machine::Ended;
 use fip_trees::program::Typed;
 use std::alloc::{AllocError, AllocFailed, Global};
@@ -61,9 +63,6 @@ impl<T: Drop> From<AllocFailed<T>> for TasksError {
 // The most tasks of an input.
 const MOST_TASKS: usize = 1000;
 
-// The greatest size of a cell.
-const MOST_FIELDS: usize = 16;
-
 // The line that begins at a place, without its LF, and the place behind that. An LF ends a line, and may be left out
 // behind the last one.
 fn line_at(input: &[u8], at: usize) -> (&[u8], usize)
@@ -86,8 +85,8 @@ pub fn session_reply(
     room: Room,
     input: &[u8],
 ) -> Result<Vec<u8>, NoMemory>
-    requires words { room.words ≤ 16777216 }
-    requires frames { room.frames ≤ 1000000 }
+    requires words { room.words ≤ MOST_STORE_WORDS }
+    requires frames { room.frames ≤ MOST_FRAMES }
 {
     let mut session = Session::new(alloc, typed, verified, room.words, room.calls, room.frames)?;
     let mut out = Vec::new(alloc);
@@ -268,8 +267,8 @@ pub fn tasks_reply(
     room: Room,
 ) -> Result<Vec<u8>, TasksError>
     requires seed { seed < 2147483648 }
-    requires words { room.words ≤ 16777216 }
-    requires frames { room.frames ≤ 1000000 }
+    requires words { room.words ≤ MOST_STORE_WORDS }
+    requires frames { room.frames ≤ MOST_FRAMES }
 {
     let mut counts = Counts::none();
     let lines = read_tasks(alloc, verified, input, &mut counts)?;

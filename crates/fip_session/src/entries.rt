@@ -1,13 +1,12 @@
 // The entries of a code, by name.
+ghost use Rattle.fip_language.specs.declared.limits.TheConstants.{MOST_FRAMES};
 ghost use Rattle.std.specs.Prelude.{◌≤◌};
 
 use code_verify::Verified;
 use fip_base::plain::NoMemory;
+use fip_language::limits::MOST_FRAMES;
 use std::alloc::Global;
 use std::collections::BTreeMap;
-
-/// The most frames that a run may be given.
-pub const MOST_FRAMES: usize = 1_000_000;
 
 /// The functions of a code that have a name: fip and fbip functions without static parameters.
 #[derive(Drop)]
@@ -37,7 +36,7 @@ impl<'a> Entries<'a> {
 /// The frames that a run of a function gets beside the entry's: as many as it needs where it is fip, else as many as
 /// are given.
 pub fn frames_of(verified: &Verified, entry: usize, given: usize) -> usize
-    ensures few { result ≤ 1000000 }
+    ensures few { result ≤ MOST_FRAMES }
 {
     match verified.code_stack(entry) {
         Some(stack) => stack.frames.min(MOST_FRAMES),

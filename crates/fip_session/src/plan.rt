@@ -8,12 +8,10 @@ use crate::scan::Span;
 use cell_code::Function;
 use cell_store::Loader;
 use fip_base::plain::{NoMemory, Param};
+use fip_language::limits::MOST_FIELDS;
 use std::alloc::Global;
 use std::collections::BTreeMap;
 use value_text::{Counts, ReadError, read_value};
-
-/// The greatest size of a cell.
-pub const MOST_FIELDS: usize = 16;
 
 /// The arguments of a call, once they are right.
 #[derive(Drop)]

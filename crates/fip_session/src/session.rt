@@ -1,4 +1,5 @@
 // A session: a store whose values have names.
+ghost use Rattle.fip_language.specs.declared.limits.TheConstants.{MOST_FRAMES, MOST_STORE_WORDS};
 ghost use Rattle.std.specs.Prelude.{◌≡◌, ◌≤◌};
 ghost use Rattle.std.specs.BTreeMap.{get_by};
 ghost use Rattle.std.specs.Cmp.Lexicographic.{slice_cmp};
@@ -41,8 +42,8 @@ impl<'a> Session<'a> {
         calls: u64,
         frames: usize,
     ) -> Result<Session<'a>, NoMemory>
-        requires words { words ≤ 16777216 }
-        requires frames { frames ≤ 1000000 }
+        requires words { words ≤ MOST_STORE_WORDS }
+        requires frames { frames ≤ MOST_FRAMES }
     {
         Ok(Session {
             book: Book::new(alloc, &typed.program.types, verified, calls, frames)?,

@@ -7,11 +7,12 @@ use cell_store::{Cells, Sealed};
 use code_verify::Verified;
 use fip_base::plain::{FunKind, NoMemory, TrapKind, Words};
 use fip_base::table::TypeTable;
+use fip_language::limits::MOST_FIELDS;
 use fip_machine::{Ended, Gauge, Stepped, TaskStack};
 use std::alloc::Global;
 
 // The sizes of cells.
-const SIZES: usize = 16;
+const SIZES: usize = MOST_FIELDS;
 
 /// How a task is started: the number of its function, the words of its arguments and then of its credits, the frames
 /// beside its first one, and the calls that it may take, its own included.

@@ -8,11 +8,9 @@ use cell_store::{CellError, Loader};
 use code_verify::Verified;
 use fip_base::plain::{NoMemory, Words};
 use fip_base::table::TypeTable;
+use fip_language::limits::MOST_FIELDS;
 use std::alloc::Global;
 use value_text::{Counts, ReadError, make_value, read_value};
-
-// The greatest size of a cell.
-const MOST_FIELDS: usize = 16;
 
 /// A task that was read: its line, the number of its function, and where the value of each parameter begins.
 #[derive(Drop)]

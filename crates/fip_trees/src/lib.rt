@@ -1,12 +1,10 @@
 // The trees behind the core form: what a program declares, and programs without static parameters, before and after
-// they are typed; and what every walk over them shares: the least violation, numbers by size, the limits of the
-// language.
+// they are typed; and what every walk over them shares: the least violation, numbers by size.
 #![tactic(auto)]
 
 pub mod decls;
 pub mod groups;
 pub mod least;
-pub mod limits;
 pub mod meanings;
 pub mod needs;
 pub mod program;

@@ -18,6 +18,7 @@ use Rattle.loop_check.specs.declared.header.Known.{Known}
 use Rattle.loop_check.specs.Types.{is_empty, data_names}
 use Rattle.loop_check.specs.Header.{is_fip, right_header, result_number, parameter_numbers}
 use Rattle.loop_check.specs.Lookup.{are_narrow}
+use Rattle.fip_language.specs.Registers.{registers}
 use Rattle.loop_check.specs.Clauses.{case_registers}
 use Rattle.loop_check.specs.Program.{Taken, cases_of, taken, taken_by, IsKnown, HeaderPasses, AreFewTypes, signature_of}
 use Rattle.loop_check.specs.Fitting.{AreFitting, IsFitting}
@@ -81,7 +82,7 @@ taken_loop f l x loop e = ap taken loop.body ∙ ap (λ o. taken_by o (cases_of 
 fitting : (core : Core) (k : Known) (f : Function) (l : Loop) (t x : ℕ) → Finds core k → IsLoop f l → IsRightLoop core f l t → IsHead core f l t (signature_of f.name (parameter_types core f) (result_type core f.result) (record { scrutinee = x; cases = cases_of (loop_clauses l.clauses) }) t) → ClausesFrom (length f.parameters) l.clauses → length (parameter_types core f) ≡ length f.parameters → AreFitting k f.name (parameter_types core f) (result_type core f.result) (record { scrutinee = x; cases = cases_of (loop_clauses l.clauses) }) t (end_of (length (parameter_types core f)) l.clauses)
 fitting core k f l t x finds loop right head numbered many =
     let regs = loop_registers f l loop in
-    let few = right.few_registers in
+    let few : registers f ≤ 4096 = right.few_registers in
     let nodes = nodes_are (length (parameter_types core f)) l.clauses in
     let few_nodes = right.few_nodes in
     let count = count_cases l.clauses in

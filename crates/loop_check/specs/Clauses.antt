@@ -1,6 +1,7 @@
 -- Whether a clause is right, as a test, and the clause with numbers for its names.
 use Rattle.std.specs.Prelude.{ℕ, zero, suc, ◌+◌, min, Bool, true, false, ◌&&◌, ◌||◌, List, [], ◌∷◌, ◌++◌, length}
 use Rattle.std.specs.Prelude.{Option, Some, None, is_some, ◌==◌, nat_le, if◌then◌else◌}
+use Rattle.fip_language.specs.declared.limits.TheConstants.{MOST_REGISTERS}
 use Rattle.fip_language.specs.Core.{Name, Pattern, BinderPattern, LiteralPattern, ConstructorPattern, Patterns}
 use Rattle.fip_language.specs.Core.{NoPatterns, MorePatterns, Expression, Give, Tuple, Operation, Call, Match, Nested}
 use Rattle.fip_language.specs.Core.{Block, Last, Let}
@@ -148,7 +149,7 @@ right_ending k h first fields e =
 abbrev pub right_fields : Known → Signature → ℕ → List ℕ → Patterns → Expression → Bool
 right_fields k h first fields ps e =
     (pattern_count ps == length fields)
-    && (nat_le (first + length fields) 4096
+    && (nat_le (first + length fields) MOST_REGISTERS
     && (are_binders first ps
     && (are_narrow k fields
     && (right_ending k h first fields e && is_some (with_names [] (pattern_names ps))))))

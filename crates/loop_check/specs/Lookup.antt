@@ -1,6 +1,7 @@
 -- What is looked up among known declarations.
 use Rattle.std.specs.Prelude.{ℕ, zero, suc, Bool, true, ◌||◌, ◌&&◌, List, [], ◌∷◌, length, Option, Some, None, position}
 use Rattle.std.specs.Prelude.{slice_get, nat_le}
+use Rattle.fip_language.specs.declared.limits.TheConstants.{MOST_MATCHED_CONSTRUCTORS}
 use Rattle.fip_language.specs.Core.{Name}
 use Rattle.fip_language.specs.Declarations.{same_name}
 use Rattle.fip_language.specs.Table.{constructors}
@@ -29,7 +30,7 @@ marked_scalar k zero = true
 marked_scalar k (suc t) = true_or (slice_get k.scalars.items t)
 
 abbrev pub is_narrow : Known → ℕ → Bool
-is_narrow k t = marked_scalar k t || nat_le (length (constructors k.table t)) 65535
+is_narrow k t = marked_scalar k t || nat_le (length (constructors k.table t)) MOST_MATCHED_CONSTRUCTORS
 
 abbrev pub are_narrow : Known → List ℕ → Bool
 are_narrow k [] = true

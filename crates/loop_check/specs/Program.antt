@@ -1,6 +1,8 @@
 -- When a function passes the check, where the declarations are known, and the loop program that it becomes.
 use Rattle.std.specs.Prelude.{◌≡◌, ℕ, ◌+◌, ◌-◌, ◌<◌, ◌≤◌, true, List, [], ◌∷◌, map, length, Option, Some, None, is_some}
 use Rattle.std.specs.Prelude.{◌==◌, count_by, slice_get, if◌then◌else◌, codes}
+use Rattle.fip_language.specs.declared.limits.TheConstants.{MOST_CLAUSES, MOST_INSTANCES, MOST_PATTERN_NODES}
+use Rattle.fip_language.specs.declared.limits.TheConstants.{MOST_REGISTERS}
 use Rattle.fip_language.specs.Table.{Shape, Table, constructors, all_bare}
 use Rattle.fip_language.specs.Declarations.{bool_type}
 use Rattle.fip_language.specs.Core.{Name, Argument, Variable, Literal, Constructor, Expression, Give, Tuple, Operation}
@@ -76,7 +78,7 @@ pub record HasReached (tb : Table) (ps : List ℕ) (r : ℕ) (ts : List ℕ) : T
 
 -- At most 4,096 types are reached from these.
 abbrev pub AreFewTypes : Table → List ℕ → ℕ → Type 0
-AreFewTypes tb ps r = (ts : List ℕ) × (length ts ≤ 4096) × HasReached tb ps r ts
+AreFewTypes tb ps r = (ts : List ℕ) × (length ts ≤ MOST_INSTANCES) × HasReached tb ps r ts
 
 -- the literals of an ending have 64 bits
 abbrev pub EndingLiteralsFit : Expression → Type 0
@@ -103,11 +105,11 @@ pub record Fits (k : Known) (name : Name) (ps : List ℕ) (r : ℕ) (m : Taken) 
     (ks : List L.Clause) : Type 0 where
   pub scrutinee : slice_get ps m.scrutinee ≡ Some t
   pub data_type : 1 ≤ t
-  pub few_clauses : length m.cases ≤ 64
+  pub few_clauses : length m.cases ≤ MOST_CLAUSES
   pub clauses : right_clauses k (signature_of name ps r m t) (length ps) m.cases ≡ Some n
   pub numbered : ks ≡ numbered_clauses k (length ps) m.cases
-  pub registers : length ps + case_registers m.cases ≤ 4096
-  pub nodes : length m.cases + (n - length ps) ≤ 256
+  pub registers : length ps + case_registers m.cases ≤ MOST_REGISTERS
+  pub nodes : length m.cases + (n - length ps) ≤ MOST_PATTERN_NODES
   pub covered : (c : ℕ) → c < length (constructors k.table t) → count_by (λ (q : L.Clause). q.constructor == c) ks ≡ 1
   pub literals : Every CaseLiteralsFit m.cases
 

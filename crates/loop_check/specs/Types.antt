@@ -2,6 +2,7 @@
 -- of its name, and int is 0.
 use Rattle.std.specs.Prelude.{ℕ, ◌+◌, Bool, true, false, ◌&&◌, List, [], ◌∷◌, ◌++◌, map, length, Option, Some, None}
 use Rattle.std.specs.Prelude.{is_some, position, nat_le}
+use Rattle.fip_language.specs.declared.limits.TheConstants.{MOST_FIELDS}
 use Rattle.fip_language.specs.Core.{Name, Written, Writtens, WrittenInt, WrittenName, NoWritten, MoreWritten}
 use Rattle.fip_language.specs.Core.{DataConstructor, Data}
 use Rattle.fip_language.specs.Declarations.{same_name, bool_type}
@@ -35,7 +36,7 @@ are_known names (w ∷ ws) = is_known names w && are_known names ws
 
 abbrev pub right_constructors : List Name → List DataConstructor → Bool
 right_constructors names [] = true
-right_constructors names (k ∷ ks) = (nat_le (length k.fields) 16 && are_known names k.fields)
+right_constructors names (k ∷ ks) = (nat_le (length k.fields) MOST_FIELDS && are_known names k.fields)
     && right_constructors names ks
 
 abbrev pub right_types : List Name → List Data → Bool

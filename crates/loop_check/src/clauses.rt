@@ -2,6 +2,7 @@
 ghost use Rattle.std.specs.Prelude.{◌≡◌, ◌&&◌, ℕ, ◌+◌, ◌<◌, ◌≤◌, ◌==◌, min, true, false, Some, None, [], map, length};
 ghost use Rattle.std.specs.Prelude.{count_by, is_some, nat_le, IfOk, IfSome, MatchOption, IsTrue, ◌↔◌, ◌-◌};
 ghost use Rattle.std.specs.Prelude.{if◌then◌else◌};
+ghost use Rattle.fip_language.specs.declared.limits.TheConstants.{MOST_CLAUSES, MOST_PATTERN_NODES, MOST_REGISTERS};
 ghost use Rattle.fip_base.specs.CoreView.{block, clause, expression, pattern, patterns, writtens};
 ghost use Rattle.fip_language.specs.Declarations.{same_name};
 ghost use Rattle.fip_language.specs.Every.{Every};
@@ -16,22 +17,17 @@ ghost use Rattle.loop_check.specs.Fitting.{AreFitting};
 
 use crate::arguments::{Scope, has_type, have_types, term_of, terms_of};
 use crate::counts::{
-    MOST_REGISTERS, cells, cells_in_all, more_registers, occurrences, occurrences_in_all,
-    registers, registers_of_all,
+    cells, cells_in_all, more_registers, occurrences, occurrences_in_all, registers,
+    registers_of_all,
 };
 use crate::header::Known;
 use crate::names::NameSet;
 use crate::table::ConstructorId;
 use fip_base::core_form::{Block, Clause, Expression, Pattern, Written};
 use fip_base::plain::NoMemory;
+use fip_language::limits::{MOST_CLAUSES, MOST_PATTERN_NODES, MOST_REGISTERS};
 use loop_form::program::{Ending, LoopClause};
 use std::alloc::Global;
-
-/// The most clauses of a match.
-pub const MOST_CLAUSES: usize = 64;
-
-/// The most nodes of all patterns of a match: their constructors and their binders.
-pub const MOST_NODES: usize = 256;
 
 /// What the clauses of a loop are checked against.
 #[derive(Clone, Copy)]
@@ -72,7 +68,7 @@ fn is_binder(p: &Pattern, number: usize) -> bool
 
 // Whether the patterns are binders, numbered from a number on.
 fn are_binders(ps: &[Pattern], first: usize) -> bool
-    requires { first + length ps.now ≤ 4096 }
+    requires { first + length ps.now ≤ MOST_REGISTERS }
     ensures { result ≡ s.are_binders first (patterns ps.now) }
 {
     let mut number = first;
@@ -211,7 +207,7 @@ fn are_used_once(
     types: &[u32],
     ending: &Expression,
 ) -> bool
-    requires { first + length types.now ≤ 4096 }
+    requires { first + length types.now ≤ MOST_REGISTERS }
     ensures { result ≡ s.used_once known.now (s.signature head.now) first types.now (expression ending.now) }
 {
     let mut x = first;
@@ -243,9 +239,9 @@ pub fn parts_of(c: &Clause) -> Option<(&[u8], &[Pattern], &Expression)>
 
 // Whether there is room for so many numbers behind a number.
 fn fits(first: usize, count: usize) -> bool
-    requires { first ≤ 4096 }
-    ensures fits { result ≡ nat_le (first + count) 4096 }
-    ensures bound { result ≡ true → first + count ≤ 4096 }
+    requires { first ≤ MOST_REGISTERS }
+    ensures fits { result ≡ nat_le (first + count) MOST_REGISTERS }
+    ensures bound { result ≡ true → first + count ≤ MOST_REGISTERS }
 {
     count <= MOST_REGISTERS - first
 }
@@ -258,8 +254,8 @@ fn is_right_ending(
     fields: &[u32],
     ending: &Expression,
 ) -> bool
-    requires fields { first + length fields.now ≤ 4096 }
-    requires parameters { length head.now.parameters.now ≤ 4096 }
+    requires fields { first + length fields.now ≤ MOST_REGISTERS }
+    requires parameters { length head.now.parameters.now ≤ MOST_REGISTERS }
     ensures { result ≡ s.right_ending known.now (s.signature head.now) first fields.now (expression ending.now) }
 {
     let scope = Scope {
@@ -290,8 +286,8 @@ fn is_right_for(
     ps: &[Pattern],
     ending: &Expression,
 ) -> Result<bool, NoMemory>
-    requires first { first ≤ 4096 }
-    requires parameters { length head.now.parameters.now ≤ 4096 }
+    requires first { first ≤ MOST_REGISTERS }
+    requires parameters { length head.now.parameters.now ≤ MOST_REGISTERS }
     ensures { IfOk result (λ b. b ≡ s.right_fields known.now (s.signature head.now) first fields.now (patterns ps.now)
         (expression ending.now)) }
 {
@@ -315,8 +311,8 @@ fn is_right(
     first: usize,
     c: &Clause,
 ) -> Result<bool, NoMemory>
-    requires first { first ≤ 4096 }
-    requires parameters { length head.now.parameters.now ≤ 4096 }
+    requires first { first ≤ MOST_REGISTERS }
+    requires parameters { length head.now.parameters.now ≤ MOST_REGISTERS }
     ensures { IfOk result (λ b. b ≡ s.right_parts known.now (s.signature head.now) first
         (s.case_parts (clause c.now))) }
 {
@@ -379,7 +375,7 @@ fn resolved_clause(
     first: usize,
     c: &Clause,
 ) -> Result<LoopClause, NoMemory>
-    requires { first + s.arity (s.case_parts (clause c.now)) ≤ 4096 }
+    requires { first + s.arity (s.case_parts (clause c.now)) ≤ MOST_REGISTERS }
     ensures clause { IfOk result (λ l. clause_view l ≡ s.numbered_parts known.now first (s.case_parts (clause c.now))) }
     ensures literals { IfOk result (λ l. CaseLiteralsFit (clause c.now)) }
 {
@@ -408,15 +404,15 @@ pub fn resolved_clauses(
     first: usize,
     cs: &[Clause],
 ) -> Result<Option<(Vec<LoopClause>, usize)>, NoMemory>
-    requires first { first ≤ 4096 }
-    requires parameters { length head.now.parameters.now ≤ 4096 }
+    requires first { first ≤ MOST_REGISTERS }
+    requires parameters { length head.now.parameters.now ≤ MOST_REGISTERS }
     ensures right { IfOk result (λ o. MatchOption o (s.right_clauses known.now (s.signature head.now) first
         (map clause cs.now) ≡ None) (λ r. s.right_clauses known.now (s.signature head.now) first (map clause cs.now)
         ≡ Some r.1)) }
     ensures numbered { IfOk result (λ o. IfSome o (λ r. map clause_view r.0.items
         ≡ s.numbered_clauses known.now first (map clause cs.now))) }
     ensures literals { IfOk result (λ o. IfSome o (λ r. Every CaseLiteralsFit (map clause cs.now))) }
-    ensures bound { IfOk result (λ o. IfSome o (λ r. r.1 ≤ 4096)) }
+    ensures bound { IfOk result (λ o. IfSome o (λ r. r.1 ≤ MOST_REGISTERS)) }
 {
     let mut resolved = Vec::new(alloc);
     let mut next = first;
@@ -496,7 +492,7 @@ pub fn checked_clauses(
     head: &Head<'_>,
     cs: &[Clause],
 ) -> Result<Option<Resolved>, NoMemory>
-    requires { length head.now.parameters.now ≤ 4096 }
+    requires { length head.now.parameters.now ≤ MOST_REGISTERS }
     ensures right { IfOk result (λ o. IfSome o (λ r. s.right_clauses known.now (s.signature head.now)
         (length head.now.parameters.now) (map clause cs.now) ≡ Some r.binders)) }
     ensures numbered { IfOk result (λ o. IfSome o (λ r. map clause_view r.clauses.items
@@ -504,11 +500,11 @@ pub fn checked_clauses(
     ensures literals { IfOk result (λ o. IfSome o (λ r. Every CaseLiteralsFit (map clause cs.now))) }
     ensures registers { IfOk result (λ o. IfSome o (λ r. r.registers ≡ length head.now.parameters.now + s.case_registers
         (map clause cs.now))) }
-    ensures few_registers { IfOk result (λ o. IfSome o (λ r. r.registers ≤ 4096)) }
-    ensures bound { IfOk result (λ o. IfSome o (λ r. r.binders ≤ 4096)) }
-    ensures few { IfOk result (λ o. IfSome o (λ r. length cs.now ≤ 64)) }
+    ensures few_registers { IfOk result (λ o. IfSome o (λ r. r.registers ≤ MOST_REGISTERS)) }
+    ensures bound { IfOk result (λ o. IfSome o (λ r. r.binders ≤ MOST_REGISTERS)) }
+    ensures few { IfOk result (λ o. IfSome o (λ r. length cs.now ≤ MOST_CLAUSES)) }
     ensures nodes { IfOk result (λ o. IfSome o (λ r. length
-        cs.now + (r.binders - length head.now.parameters.now) ≤ 256)) }
+        cs.now + (r.binders - length head.now.parameters.now) ≤ MOST_PATTERN_NODES)) }
     ensures covered { IfOk result (λ o. IfSome o (λ r. (n : ℕ) → n < length (constructors known.now.table head.now.ty) →
         count_by (λ k. k.constructor == n) (map clause_view r.clauses.items) ≡ 1)) }
     ensures refused { IfOk result (λ o. o ≡ None → (n : ℕ) →
@@ -540,8 +536,8 @@ pub fn checked_clauses(
 
 // Whether so many constructors and the binders between two numbers are few enough.
 fn have_few_nodes(clauses: usize, first: usize, next: usize) -> bool
-    requires { clauses ≤ 64 }
-    ensures { IsTrue result ↔ (clauses + (next - first) ≤ 256) }
+    requires { clauses ≤ MOST_CLAUSES }
+    ensures { IsTrue result ↔ (clauses + (next - first) ≤ MOST_PATTERN_NODES) }
 {
-    next <= first || next - first <= MOST_NODES - clauses
+    next <= first || next - first <= MOST_PATTERN_NODES - clauses
 }

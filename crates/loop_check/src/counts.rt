@@ -6,9 +6,7 @@ ghost use Rattle.fip_language.specs.Right as right;
 ghost use Rattle.loop_check.specs.Typing.{weight, weight_of_all, weight_of};
 
 use fip_base::core_form::Argument;
-
-/// The most registers of a function.
-pub const MOST_REGISTERS: usize = 4096;
+use fip_language::limits::MOST_REGISTERS;
 
 /// What was found before and one register for each literal and constructor; 4,097 stands for all greater numbers.
 #[cycle(registers)]

@@ -12,10 +12,8 @@ use crate::table::{ConstructorId, is_known, number_of};
 use fip_base::core_form::{Function, Parameter, ResultType};
 use fip_base::plain::{FunKind, NoMemory, Types};
 use fip_base::table::TypeTable;
+use fip_language::limits::MOST_MATCHED_CONSTRUCTORS;
 use std::alloc::Global;
-
-/// The most constructors of a type that isn't scalar.
-pub const MOST_CONSTRUCTORS: usize = 65535;
 
 /// The declarations of a program.
 #[derive(Drop)]
@@ -89,7 +87,7 @@ impl<'a> Known<'a> {
     pub fn is_narrow(&self, ty: u32) -> bool
         ensures { result ≡ k.is_narrow self.now ty }
     {
-        self.is_scalar(ty) || self.count(ty) <= MOST_CONSTRUCTORS
+        self.is_scalar(ty) || self.count(ty) <= MOST_MATCHED_CONSTRUCTORS
     }
 
     /// The same of each type of a list.

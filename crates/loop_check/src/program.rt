@@ -1,6 +1,7 @@
 // The check of a program.
 ghost use Rattle.std.specs.Prelude.{◌≡◌, ℕ, ◌≤◌, true, false, [], None, Some, map, length, slice_get, IfOk, IfSome};
 ghost use Rattle.std.specs.Prelude.{MatchOption, option_map};
+ghost use Rattle.fip_language.specs.declared.limits.TheConstants.{MOST_REGISTERS};
 ghost use Rattle.fip_base.specs.CoreView.{argument, block, clause, core, data_type, expression, function, parameter};
 ghost use Rattle.fip_base.specs.CoreView.{is_destructive};
 ghost use Rattle.loop_check.specs.Header.{parameter_numbers};
@@ -16,7 +17,6 @@ ghost use Rattle.loop_check.specs.Program as p;
 ghost use Rattle.loop_check.specs.Fitting.{IsFitting, AreFitting};
 
 use crate::clauses::{Head, checked_clauses, last_of};
-use crate::counts::MOST_REGISTERS;
 use crate::header::{Known, are_distinct, at, is_right_header, parameter_numbers, result_number};
 use crate::reached::are_few;
 use crate::table::{
@@ -25,6 +25,7 @@ use crate::table::{
 use crate::valued::are_valued;
 use fip_base::core_form::{Argument, Block, Clause, Core, Data, Expression, Function, MatchKind};
 use fip_base::plain::{NoMemory, Types};
+use fip_language::limits::MOST_REGISTERS;
 use loop_form::program::LoopProgram;
 use std::alloc::Global;
 use thiserror::Error;
@@ -171,10 +172,10 @@ fn is_right_signature(
 ) -> Result<bool, NoMemory>
     requires { parameters.now ≡ parameter_numbers known.now.types (map parameter f.now.parameters.items) }
     ensures right { IfOk result (λ b. b ≡ true → p.HeaderPasses known.now (function f.now)) }
-    ensures few { IfOk result (λ b. b ≡ true → length parameters.now ≤ 4096) }
+    ensures few { IfOk result (λ b. b ≡ true → length parameters.now ≤ MOST_REGISTERS) }
     ensures few_types { IfOk result (λ b. b ≡ true → p.AreFewTypes known.now.table parameters.now given) }
     ensures refused { IfOk result (λ b. b ≡ false → p.HeaderPasses known.now (function f.now) →
-        p.AreFewTypes known.now.table parameters.now given → length parameters.now ≤ 4096 → ⊥) }
+        p.AreFewTypes known.now.table parameters.now given → length parameters.now ≤ MOST_REGISTERS → ⊥) }
 {
     if !is_right_header(&known.types, f)
         || !known.are_narrow(parameters)
@@ -234,7 +235,7 @@ fn resolve(
     found: Found,
     clauses: &[Clause],
 ) -> Result<Option<LoopProgram>, NoMemory>
-    requires few { length parameters ≤ 4096 }
+    requires few { length parameters ≤ MOST_REGISTERS }
     requires scrutinee { slice_get parameters found.scrutinee ≡ Some found.ty }
     requires data_type { 1 ≤ found.ty }
     ensures fits { IfOk result (λ o. IfSome o (λ l. p.Fits known.entry (function f.now).name parameters given

@@ -6,12 +6,10 @@ ghost use Rattle.loop_check.specs.Reached.{with_type, with_types, with_fields};
 
 use fip_base::plain::NoMemory;
 use fip_base::table::{Constructor, TypeTable};
+use fip_language::limits::MOST_INSTANCES;
 use indexmap::IndexSet;
 use std::alloc::Global;
 use std::marker::Model;
-
-/// The most types that a function may use.
-pub const MOST_TYPES: usize = 4096;
 
 // Types but int, each once, in the order in which they were reached.
 #[derive(Drop)]
@@ -100,11 +98,11 @@ pub fn are_few(
     reached.reach(1)?;
     reached.reach(given)?;
     reach_all(&mut reached, parameters)?;
-    for i in 0..MOST_TYPES {
+    for i in 0..MOST_INSTANCES {
         match reached.at(i) {
             Some(ty) => reach_fields(&mut reached, table, ty)?,
             None => return Ok(true),
         }
     }
-    Ok(reached.len() <= MOST_TYPES)
+    Ok(reached.len() <= MOST_INSTANCES)
 }

@@ -10,10 +10,8 @@ use crate::names::NameSet;
 use fip_base::core_form::{Data, DataConstructor, Written};
 use fip_base::plain::{Name, NoMemory, Types};
 use fip_base::table::{Constructor, DataType, TypeTable};
+use fip_language::limits::MOST_FIELDS;
 use std::alloc::Global;
-
-/// The most fields of a constructor.
-pub const MOST_FIELDS: usize = 16;
 
 /// The number of a constructor: that of its type, and its own in the type.
 #[derive(Clone, Copy)]

@@ -2,6 +2,7 @@
 use Rattle.std.specs.Prelude.{◌≡◌, ℕ, zero, suc, ◌+◌, ◌<◌, ◌≤◌, List, [], ◌∷◌, length, Option, Some, false, FitsSigned}
 use Rattle.std.specs.Prelude.{slice_get}
 use Rattle.std.specs.Int.{w64}
+use Rattle.fip_language.specs.declared.limits.TheConstants.{MOST_CLAUSES, MOST_REGISTERS}
 use Rattle.fip_language.specs.Table.{Table, Shape, shapes, constructors, is_scalar}
 use Rattle.loop_form.specs.Loop as L
 use Rattle.loop_form.specs.Meaning.{in_clause}
@@ -54,11 +55,11 @@ pub record IsFine (p : L.Loop) : Type 0 where
   -- the scrutinee is a parameter of a data type
   pub scrutinee : (t : ℕ) × (slice_get p.parameters p.scrutinee ≡ Some (suc t))
   pub some : 0 < length p.clauses
-  pub few : length p.clauses ≤ 64
+  pub few : length p.clauses ≤ MOST_CLAUSES
   -- each clause is of a constructor of that type
   pub clauses : (k : ℕ) (c : L.Clause) → slice_get p.clauses k ≡ Some c → (s : Shape)
       × (slice_get (shapes p.types scrutinee.0) c.constructor ≡ Some s) × IsFineClause p s.fields c
   -- and each constructor has a clause
   pub covered : (c : ℕ) → c < length (shapes p.types scrutinee.0) → (k : ℕ) × (e : L.Clause)
       × (slice_get p.clauses k ≡ Some e) × (e.constructor ≡ c)
-  pub registers : p.registers ≤ 4096
+  pub registers : p.registers ≤ MOST_REGISTERS

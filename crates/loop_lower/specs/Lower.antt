@@ -7,6 +7,7 @@
 -- Take 0 [2, 3], Put 0 2 1 [2, 1], Move 4 0, Tail 0 [3, 4], where ints is type 2.
 use Rattle.std.specs.Prelude.{ℕ, zero, suc, ◌+◌, ◌≤◌, ◌==◌, Bool, true, false, List, [], ◌∷◌, ◌++◌, length, map}
 use Rattle.std.specs.Prelude.{slice_index}
+use Rattle.fip_language.specs.declared.limits.TheConstants.{MOST_REGISTERS}
 use Rattle.fip_language.specs.declared.FunKind.TheVariants.{Fip}
 use Rattle.fip_language.specs.Table.{is_scalar}
 use Rattle.loop_form.specs.Loop as L
@@ -83,7 +84,7 @@ clause_code scalar s n k = take_code scalar s k ++ ending_code s n k.ending
 
 -- a clause's registers, where those from n on are new
 abbrev pub ClauseFits : ℕ → L.Clause → Type 0
-ClauseFits n k = (k.first_binder + k.fields ≤ 4096) × (n + L.ending_made k.ending ≤ 4096)
+ClauseFits n k = (k.first_binder + k.fields ≤ MOST_REGISTERS) × (n + L.ending_made k.ending ≤ MOST_REGISTERS)
 
 -- A clause at this place; where another follows, a Test goes on to it, which stands behind this one.
 abbrev pub placed_clause : Bool → ℕ → ℕ → ℕ → Bool → L.Clause → List Instruction

@@ -2,6 +2,7 @@
 
 ghost use Rattle.std.specs.Prelude.{◌≡◌, ℕ, suc, ◌+◌, ◌<◌, ◌≤◌, ◌^◌, false, [], ◌∷◌, ◌++◌, length, map, slice_get};
 ghost use Rattle.std.specs.Prelude.{slice_set, Some, IfOk, OnOk};
+ghost use Rattle.fip_language.specs.declared.limits.TheConstants.{MOST_CLAUSES};
 ghost use Rattle.loop_form.specs.Loop.{made, made_in_all, ending_made};
 ghost use Rattle.loop_form.specs.View.{term_of, terms_of, ending_of, clause_of};
 ghost use Rattle.loop_code.specs.View.{instruction_of};
@@ -334,7 +335,7 @@ pub fn emit_clauses(
     clauses: &[LoopClause],
 ) -> Result<(), NoMemory>
     requires fit { (i : ℕ) (k : LoopClause) → slice_get clauses.now i ≡ Some k → ClauseFits first (clause_of k) }
-    requires few { length clauses.now ≤ 64 }
+    requires few { length clauses.now ≤ MOST_CLAUSES }
     requires empty { ops code.old.items ≡ [] }
     ensures code { OnOk result (ops code.new.items ≡ clauses_code scalar scrutinee first 0
         (map clause_of clauses.now)) }

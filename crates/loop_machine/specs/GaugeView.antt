@@ -1,5 +1,6 @@
 -- What a gauge has seen.
 use Rattle.std.specs.Prelude.{◌≡◌, ℕ, ◌≤◌, min, max, Bool, true, false, List, [], ◌∷◌, map, slice_index_or}
+use Rattle.fip_language.specs.declared.limits.TheConstants.{MOST_FIELDS}
 use Rattle.fip_language.specs.Gauge.{Seen, lowest, highest, highest_frames, highest_words}
 use Rattle.loop_store.specs.Count.{count_live}
 use Rattle.loop_code.specs.CellMachine.{State, frames_held, words_held}
@@ -23,8 +24,8 @@ is_any (s ∷ ss) = true
 -- The gauge tells of these states.
 pub record Tells (g : Numbers) (ss : List State) : Type 0 where
   pub seen : g.seen ≡ is_any ss
-  pub lowest : (k : ℕ) → k ≤ 16 → slice_index_or g.lowest k 0 ≡ lowest k (map seen_of ss)
-  pub highest : (k : ℕ) → k ≤ 16 → slice_index_or g.highest k 0 ≡ highest k (map seen_of ss)
+  pub lowest : (k : ℕ) → k ≤ MOST_FIELDS → slice_index_or g.lowest k 0 ≡ lowest k (map seen_of ss)
+  pub highest : (k : ℕ) → k ≤ MOST_FIELDS → slice_index_or g.highest k 0 ≡ highest k (map seen_of ss)
   pub frames : g.frames ≡ highest_frames (map seen_of ss)
   pub words : g.words ≡ highest_words (map seen_of ss)
 

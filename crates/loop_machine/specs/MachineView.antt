@@ -1,5 +1,6 @@
 -- What callers see of a machine, and what holds of it at every moment.
 use Rattle.std.specs.Prelude.{◌≡◌, ℕ, ◌*◌, ◌≤◌, List, [], ◌∷◌, ◌+◌, ◌++◌, Some, length, slice_get, slice_index_or}
+use Rattle.fip_language.specs.declared.limits.TheConstants.{MOST_FIELDS, MOST_STORE_WORDS}
 use Rattle.loop_store.specs.Count.{count_live}
 use Rattle.fip_language.specs.Values.{Values}
 use Rattle.fip_language.specs.Store.{Cell}
@@ -27,7 +28,7 @@ pub record Seen : Type 0 where
 pub record IsRunning (code : Code) (e : Engine) : Type 0 where
   pub in_range : IsCode code
   pub lives : Lives code (state_of e)
-  pub few : 2 * length e.cells.cells ≤ 16777216
+  pub few : 2 * length e.cells.cells ≤ MOST_STORE_WORDS
   pub room : (n : ℕ) × HasRoom code n × HasWords n e
 
 -- the end that an answer tells of, with the words that were given and the calls that are left
@@ -61,7 +62,7 @@ AllHave code n = (f : ℕ) (g : Function) → slice_get code.functions f ≡ Som
 -- The gauge of a run from this state: the cells that are held are as many as at the start, no frame is above another,
 -- and where all functions have n registers the stack has n + 2 words.
 pub record IsLevel (code : Code) (s : State) (g : Numbers) : Type 0 where
-  pub lowest : (k : ℕ) → k ≤ 16 → slice_index_or g.lowest k 0 ≡ count_live k s.cells s.released
-  pub highest : (k : ℕ) → k ≤ 16 → slice_index_or g.highest k 0 ≡ count_live k s.cells s.released
+  pub lowest : (k : ℕ) → k ≤ MOST_FIELDS → slice_index_or g.lowest k 0 ≡ count_live k s.cells s.released
+  pub highest : (k : ℕ) → k ≤ MOST_FIELDS → slice_index_or g.highest k 0 ≡ count_live k s.cells s.released
   pub frames : g.frames ≡ 0
   pub words : (n : ℕ) → AllHave code n → g.words ≡ n + 2

@@ -3,6 +3,7 @@
 ghost use Rattle.std.specs.Prelude.{◌≡◌, ◌≢◌, ℕ, ◌+◌, ◌*◌, ◌/◌, ◌%◌, ◌<◌, ◌≤◌, ◌^◌, List, None, Some, length, map};
 ghost use Rattle.std.specs.Prelude.{slice_get, slice_index_or, vec_len};
 ghost use Rattle.std.specs.Vec.{vec_capacity};
+ghost use Rattle.fip_language.specs.declared.limits.TheConstants.{MOST_STORE_WORDS};
 ghost use Rattle.fip_language.specs.Store.{Cell, int_word};
 ghost use Rattle.loop_code.specs.Machine.{Next, Went, Entered, Returned, Stuck};
 ghost use Rattle.loop_code.specs.Code as C;
@@ -77,7 +78,7 @@ fn write_fields(words: &mut Vec<u64>, cells: &Sealed, place: u32, registers: &[u
 
 /// Puts the fields of what a word names into registers, one for each: those of a cell, or none.
 fn take_fields(words: &mut Vec<u64>, cells: &Sealed, word: u64, registers: &[u32])
-    requires few { 2 * length cells.now.cells ≤ 16777216 }
+    requires few { 2 * length cells.now.cells ≤ MOST_STORE_WORDS }
     requires there { word % 2 ≡ 1 → word / 2 < length cells.now.cells }
     requires goes { (fields : List ℕ) → M.fields_at cells.now.cells word ≡ Some fields →
         M.write_all words.old.items registers.now fields ≢ None }
@@ -114,7 +115,7 @@ impl Engine {
 
     fn test(&mut self, register: u32, constructor: u32, target: u32)
         requires goes { M.tested (state_of self.old) register constructor target ≢ Stuck }
-        requires few { 2 * length self.old.cells.cells ≤ 16777216 }
+        requires few { 2 * length self.old.cells.cells ≤ MOST_STORE_WORDS }
         requires inside { self.old.at + 1 < 2 ^ 64 }
         ensures went { M.tested (state_of self.old) register constructor target ≡ Went (state_of self.new) }
         ensures room { KeepsRoom self.old self.new }
@@ -134,7 +135,7 @@ impl Engine {
 
     fn take(&mut self, register: u32, fields: &[u32])
         requires goes { M.taken (state_of self.old) register fields.now ≢ Stuck }
-        requires few { 2 * length self.old.cells.cells ≤ 16777216 }
+        requires few { 2 * length self.old.cells.cells ≤ MOST_STORE_WORDS }
         requires inside { self.old.at + 1 < 2 ^ 64 }
         ensures went { M.taken (state_of self.old) register fields.now ≡ Went (state_of self.new) }
         ensures room { KeepsRoom self.old self.new }
@@ -146,7 +147,7 @@ impl Engine {
 
     fn put(&mut self, d: u32, constructor: u32, fields: &[u32])
         requires goes { M.put (state_of self.old) d constructor fields.now ≢ Stuck }
-        requires few { 2 * length self.old.cells.cells ≤ 16777216 }
+        requires few { 2 * length self.old.cells.cells ≤ MOST_STORE_WORDS }
         requires inside { self.old.at + 1 < 2 ^ 64 }
         requires room { length fields.now ≤ vec_capacity self.old.spare }
         ensures went { M.put (state_of self.old) d constructor fields.now ≡ Went (state_of self.new) }
@@ -188,7 +189,7 @@ impl Engine {
         requires in_range { IsInRange (code_of code.now).functions (length self.old.words.items) self.old.at
             (instruction_of instruction.now) }
         requires goes { M.act (code_of code.now) (state_of self.old) (instruction_of instruction.now) ≢ Stuck }
-        requires few { 2 * length self.old.cells.cells ≤ 16777216 }
+        requires few { 2 * length self.old.cells.cells ≤ MOST_STORE_WORDS }
         requires inside { self.old.at + 1 < 2 ^ 64 }
         requires room { HasRoomFor (code_of code.now) (instruction_of instruction.now) self.old }
         ensures next { M.act (code_of code.now) (state_of self.old) (instruction_of instruction.now)
@@ -243,7 +244,7 @@ impl Engine {
         requires long { (g : C.Function) → slice_get (code_of code.now).functions self.old.function ≡ Some g →
             length self.old.words.items ≡ g.registers }
         requires goes { M.next (code_of code.now) (state_of self.old) ≢ Stuck }
-        requires few { 2 * length self.old.cells.cells ≤ 16777216 }
+        requires few { 2 * length self.old.cells.cells ≤ MOST_STORE_WORDS }
         requires room { (n : ℕ) × HasRoom (code_of code.now) n × HasWords n self.old }
         ensures next { M.next (code_of code.now) (state_of self.old)
             ≡ comes result (state_of self.new) self.new.results.items }

@@ -1,14 +1,16 @@
 // The gauge of a run.
 ghost use Rattle.std.specs.Prelude.{◌≡◌, ℕ, ◌<◌, ◌≤◌, Bool, false, List, [], ◌∷◌, ◌++◌, slice_index_or};
+ghost use Rattle.fip_language.specs.declared.limits.TheConstants.{MOST_FIELDS};
 ghost use Rattle.loop_store.specs.Count.{count_live};
 ghost use Rattle.loop_code.specs.CellMachine.{State, frames_held, words_held};
 ghost use Rattle.loop_machine.specs.GaugeView.{Numbers, Tells, lowered, raised};
 
+use fip_language::limits::MOST_FIELDS;
 use loop_store::{Cells, Sealed};
 use std::marker::Model;
 
 // A number for each size from 0 to 16.
-const SIZES: usize = 17;
+const SIZES: usize = MOST_FIELDS + 1;
 
 /// The lowest and the highest number of held cells of each size, and the most frames and words, over the states that
 /// were seen. All are 0 before a state was seen.
@@ -41,7 +43,7 @@ fn lower(seen: bool, old: u64, new: u64) -> u64
 }
 
 fn lower_all(seen: bool, lowest: &mut [u64; SIZES], cells: &Sealed)
-    ensures lowered { (k : ℕ) → k ≤ 16 → slice_index_or lowest.new k 0
+    ensures lowered { (k : ℕ) → k ≤ MOST_FIELDS → slice_index_or lowest.new k 0
         ≡ lowered seen (slice_index_or lowest.old k 0) (count_live k cells.now.cells cells.now.released) }
 {
     for k in 0..SIZES {
@@ -50,7 +52,7 @@ fn lower_all(seen: bool, lowest: &mut [u64; SIZES], cells: &Sealed)
 }
 
 fn raise_all(highest: &mut [u64; SIZES], cells: &Sealed)
-    ensures raised { (k : ℕ) → k ≤ 16 → slice_index_or highest.new k 0
+    ensures raised { (k : ℕ) → k ≤ MOST_FIELDS → slice_index_or highest.new k 0
         ≡ raised (slice_index_or highest.old k 0) (count_live k cells.now.cells cells.now.released) }
 {
     for k in 0..SIZES {
@@ -74,7 +76,7 @@ impl Gauge {
 
     /// The lowest number of held cells of size `k`, which is at most 16.
     pub fn lowest(&self, k: usize) -> u64
-        requires { k ≤ 16 }
+        requires { k ≤ MOST_FIELDS }
         ensures lowest { result ≡ slice_index_or self.now.lowest k 0 }
     {
         self.lowest[k]
@@ -82,7 +84,7 @@ impl Gauge {
 
     /// The highest number of held cells of size `k`, which is at most 16.
     pub fn highest(&self, k: usize) -> u64
-        requires { k ≤ 16 }
+        requires { k ≤ MOST_FIELDS }
         ensures highest { result ≡ slice_index_or self.now.highest k 0 }
     {
         self.highest[k]

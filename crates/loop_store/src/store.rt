@@ -2,18 +2,20 @@
 ghost use Rattle.std.specs.Prelude.{◌≡◌, ℕ, ◌+◌, ◌*◌, ◌<◌, ◌≤◌, ◌↔◌, false, [], ◌∷◌, ◌++◌, List, length, map, vec_len};
 ghost use Rattle.std.specs.Prelude.{Err, IfOk, OnOk, OnErr};
 ghost use Rattle.std.specs.Vec.{vec_capacity};
+ghost use Rattle.fip_language.specs.declared.limits.TheConstants.{MOST_FIELDS, MOST_STORE_WORDS};
 ghost use Rattle.fip_language.specs.Store.{Cell};
 ghost use Rattle.loop_store.specs.Stored.{Loading, Stored};
 ghost use Rattle.loop_store.specs.Kept.{IsCounted};
 
 use crate::access::Cells;
 use crate::row::Row;
+use fip_language::limits::MOST_FIELDS;
 use std::alloc::{AllocError, Global};
 use std::marker::Model;
 use thiserror::Error;
 
 // A number for each size from 0 to 16.
-const SIZES: usize = 17;
+const SIZES: usize = MOST_FIELDS + 1;
 
 /// Why a cell was not made.
 #[derive(Clone, Copy, Debug, PartialEq, Eq, Error)]
@@ -57,7 +59,7 @@ impl Model for Loader {
       unreleased : l.released.items ≡ map (λ c. false) l.rows.items;
       unpushed : l.pushed.items ≡ [];
       room : vec_len l.rows ≤ vec_capacity l.pushed;
-      few : 2 * vec_len l.rows + l.left ≤ 16777216;
+      few : 2 * vec_len l.rows + l.left ≤ MOST_STORE_WORDS;
     } };
 }
 
@@ -78,14 +80,14 @@ impl Model for Sealed {
     ghost invariant = { λ s. record {
       counted : IsCounted s.rows.items s.released.items s.counts;
       room : vec_len s.rows ≤ vec_capacity s.pushed;
-      few : 2 * vec_len s.rows ≤ 16777216;
+      few : 2 * vec_len s.rows ≤ MOST_STORE_WORDS;
     } };
 }
 
 impl Loader {
     /// A loader of so many words. Takes no memory.
     pub fn new(alloc: Global, words: usize) -> Loader
-        requires { words ≤ 16777216 }
+        requires { words ≤ MOST_STORE_WORDS }
         ensures cells { result.cells ≡ [] }
         ensures left { result.left ≡ words }
     {
@@ -102,7 +104,7 @@ impl Loader {
     /// The words that are left for more cells.
     pub fn left(&self) -> usize
         ensures left { result ≡ self.now.left }
-        ensures few { 2 * length self.now.cells + self.now.left ≤ 16777216 }
+        ensures few { 2 * length self.now.cells + self.now.left ≤ MOST_STORE_WORDS }
     {
         self.left
     }
@@ -112,7 +114,7 @@ impl Loader {
     /// stack of words, is wanting.
     pub fn cell(&mut self, tag: u32, fields: &[u64]) -> Result<u32, CellError>
         requires some { 0 < length fields.now }
-        requires few { length fields.now ≤ 16 }
+        requires few { length fields.now ≤ MOST_FIELDS }
         ensures place { IfOk result (λ p. p ≡ length self.old.cells) }
         ensures cells { OnOk result (self.new.cells ≡ self.old.cells ++ record { tag = tag; fields = fields.now }
             ∷ []) }
@@ -142,7 +144,7 @@ pub fn seal(loader: Loader) -> Sealed
     ensures cells { result.cells ≡ loader.cells }
     ensures released { result.released ≡ map (λ c. false) loader.cells }
     ensures pushed { result.pushed ≡ [] }
-    ensures few { 2 * length result.cells ≤ 16777216 }
+    ensures few { 2 * length result.cells ≤ MOST_STORE_WORDS }
 {
     let counts = loader.counts;
     Sealed {

@@ -3,6 +3,7 @@
 -- machine alone. It goes in steps from spot to spot: a spot lies before a value or behind one.
 use Rattle.std.specs.Prelude.{◌≡◌, ℕ, suc, ◌+◌, ◌-◌, ◌*◌, ◌<◌, ◌≤◌, List, [], ◌∷◌, ◌++◌, length, take, drop, Option}
 use Rattle.std.specs.Prelude.{Some, None, Result, Ok, Err}
+use Rattle.fip_language.specs.declared.limits.TheConstants.{MOST_FIELDS}
 use Rattle.fip_language.specs.Prefix.{Accepted, Stopped}
 use Rattle.fip_language.specs.Values.{Value, Int, Node, Values, End, count_of, words_needed, words_needed_by_all}
 use Rattle.fip_language.specs.Table.{Table}
@@ -51,7 +52,7 @@ outline r = record { next = r.next; frames = pending_rows r.frames.items; lines 
 -- all types that it speaks of are there, and no constructor has more than 16 fields
 abbrev pub KnownRows : Table → List Pending → Type 0
 KnownRows tb [] = Unit {0}
-KnownRows tb (p ∷ ps) = AreTypes tb p.rest × ((p.size ≤ 16) × KnownRows tb ps)
+KnownRows tb (p ∷ ps) = AreTypes tb p.rest × ((p.size ≤ MOST_FIELDS) × KnownRows tb ps)
 
 abbrev pub KnownNext : Table → Option ℕ → Type 0
 KnownNext tb None = Unit {0}
@@ -169,7 +170,7 @@ spot_of (k ∷ ks) = Before k (Lines End ks)
 
 -- a cell has at most 16 fields
 abbrev pub IsNarrow : Event → Type 0
-IsNarrow (Closed c n) = n ≤ 16
+IsNarrow (Closed c n) = n ≤ MOST_FIELDS
 IsNarrow _ = Unit {0}
 
 -- what is read is all read so far, from the start of the text
@@ -210,7 +211,7 @@ made_by _ = 0
 
 -- a cell that can be made: it has fields, its words are there, and there is room for it
 abbrev pub CanPlace : Event → List ℕ → ℕ → Type 0
-CanPlace (Closed c n) ws left = (0 < n) × (n ≤ 16) × (n ≤ length ws) × (n + 1 ≤ left)
+CanPlace (Closed c n) ws left = (0 < n) × (n ≤ MOST_FIELDS) × (n ≤ length ws) × (n + 1 ≤ left)
 CanPlace _ ws left = Unit {0}
 
 -- the cells so far, and the words that wait

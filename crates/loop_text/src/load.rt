@@ -1,6 +1,7 @@
 // Values loaded from text into the cells of a store. The text is read twice: first it is checked, and the words that
 // its cells need are counted; then the cells are made.
 ghost use Rattle.std.specs.Prelude.{◌≡◌, ◌⊎◌, ℕ, ◌+◌, ◌*◌, ◌<◌, ◌≤◌, List, [], length, Err, IfOk, OnOk, MatchResult};
+ghost use Rattle.fip_language.specs.declared.limits.TheConstants.{MOST_FIELDS};
 ghost use Rattle.fip_language.specs.Prefix.{Accepted, IsPlace};
 ghost use Rattle.fip_language.specs.ValueText.{SpellsValues};
 ghost use Rattle.fip_language.specs.Layout.{all_cells, words_at};
@@ -47,7 +48,7 @@ fn int_bits(i: i64) -> u64
 // The cell of the last words, and its word in their place.
 fn close(tag: u32, size: usize, loader: &mut Loader, words: &mut Vec<u64>) -> Result<(), AllocError>
     requires some { 0 < size }
-    requires narrow { size ≤ 16 }
+    requires narrow { size ≤ MOST_FIELDS }
     requires there { size ≤ length words.old.items }
     requires room { size + 1 ≤ loader.old.left }
     ensures words { OnOk result (words.new.items ≡ placed_words (Event.Closed tag size)

@@ -2,6 +2,7 @@
 // Open constructors are a list, so that nesting costs no stack.
 ghost use Rattle.std.specs.Prelude.{◌≡◌, ℕ, ◌+◌, ◌<◌, ◌≤◌, length, [], ◌∷◌, Some, None, IfOk, OnOk, MatchOption};
 ghost use Rattle.std.specs.Prelude.{MatchResult, slice_get};
+ghost use Rattle.fip_language.specs.declared.limits.TheConstants.{MOST_FIELDS};
 ghost use Rattle.fip_language.specs.Values.{Values};
 ghost use Rattle.fip_language.specs.Table.{Table, Shape, constructors};
 ghost use Rattle.fip_language.specs.SoundTable.{IsSoundTable, AreTypes};
@@ -219,8 +220,8 @@ fn read_field<'a>(
         Stepped tb bytes.now s cursor.old.at result (outline cursor.new) cursor.new.at }
     ensures place { IfOk result (λ e. MatchOption e ℕ (λ e. (cursor.old.at < cursor.new.at)
         × (cursor.old.at + cost_of e ≤ cursor.new.at) × (cursor.new.at ≤ length bytes.now))) }
-    ensures narrow { (pending frame.entry).size ≤ 16 → IfOk result (λ e. MatchOption e ℕ IsNarrow) }
-    ensures known { (tb : Table) → AreTypes tb (pending frame.entry).rest → (pending frame.entry).size ≤ 16 →
+    ensures narrow { (pending frame.entry).size ≤ MOST_FIELDS → IfOk result (λ e. MatchOption e ℕ IsNarrow) }
+    ensures known { (tb : Table) → AreTypes tb (pending frame.entry).rest → (pending frame.entry).size ≤ MOST_FIELDS →
         IsKnown tb (outline cursor.old) → IfOk result (λ e. IsKnown tb (outline cursor.new)) }
 {
     match split(frame.rest) {

@@ -11,7 +11,7 @@ use Rattle.fip_trees.specs.declared.program.Clause.{Clause}
 use Rattle.fip_trees.specs.declared.program.Instance.{Instance}
 use Rattle.fip_trees.specs.declared.program.Pattern.{Pattern as Named}
 use Rattle.fip_base.specs.declared.refusal.Refusal.{Refusal}
-use Rattle.fip_trees.specs.declared.limits.TheConstants.{MOST_CLAUSES}
+use Rattle.fip_language.specs.declared.limits.TheConstants.{MOST_CLAUSES}
 use Rattle.fip_trees.specs.Least.{violation, better, after, refusal, IsLeast}
 use Rattle.fip_trees.proofs.Leasts.{none_of, least_of}
 use Rattle.match_knowledge.specs.ValueHeads.{IsTidy}

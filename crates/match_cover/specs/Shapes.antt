@@ -5,7 +5,7 @@ use Rattle.std.specs.Prelude.{ℕ, suc, ◌+◌, ◌||◌, Bool, false, nat_lt, 
 use Rattle.std.specs.List.{list_any}
 use Rattle.fip_language.specs.declared.rule.Rule.TheVariants.{E42, E43}
 use Rattle.fip_language.specs.Declarations.{same_name}
-use Rattle.fip_trees.specs.declared.limits.TheConstants.{MOST_CLAUSES, MOST_PATTERN_NODES}
+use Rattle.fip_language.specs.declared.limits.TheConstants.{MOST_CLAUSES, MOST_PATTERN_NODES}
 use Rattle.fip_trees.specs.declared.least.Violation.{Violation}
 use Rattle.fip_trees.specs.declared.program.Binder.{Binder}
 use Rattle.fip_trees.specs.declared.program.Block.{Block}

@@ -1,5 +1,6 @@
 -- The trees of the code.
 use Rattle.std.specs.Prelude.{◌≡◌, ℕ, suc, if◌then◌else◌, ◌+◌, ◌<◌, ◌≤◌, List, [], ◌∷◌, Option, Some, None, slice_get}
+use Rattle.fip_language.specs.declared.limits.TheConstants.{MOST_BRANCHES}
 use Rattle.match_knowledge.specs.declared.verdicts.Verdict.TheVariants.{Asks}
 use Rattle.fip_language.specs.Values.{Value}
 use Rattle.fip_language.specs.Table.{Table, HasType}
@@ -59,13 +60,13 @@ asking (MorePatterns p ps) (MoreKnowns k ks) = if is_asks (compare p k) then 0 e
 -- first clause that matches, and no path tests a position twice against the same question.
 pub record IsTree (tb : Table) (t : ℕ) (rows : List Pattern) (d : Decision) : Type 0 where
   pub written : d ≡ tree_at tb rows (Open [])
-  pub few : branches d ≤ 1024
+  pub few : branches d ≤ MOST_BRANCHES
   pub picks : (v : Value) → HasType tb t v → pick d v ≡ chosen 0 rows v
   pub once : TestsOnce [] d
 
 -- there is none exactly where the tree that the rules give has more than 1,024 branches
 abbrev pub IsDecision : Table → ℕ → List Pattern → Option Tree → Type 0
-IsDecision tb t rows None = 1024 < branches (tree_at tb rows (Open []))
+IsDecision tb t rows None = MOST_BRANCHES < branches (tree_at tb rows (Open []))
 IsDecision tb t rows (Some d) = IsTree tb t rows (tree_view d)
 
 -- the answer for the match with these rows

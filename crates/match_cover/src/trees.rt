@@ -14,7 +14,7 @@ ghost use Rattle.match_cover.specs.TreeView.{asking, IsFirst, IsGrown, IsSplitTr
 use crate::patterns::clause_rows;
 use fip_base::plain::NoMemory;
 use fip_base::table::TypeTable;
-use fip_trees::limits::MOST_BRANCHES;
+use fip_language::limits::MOST_BRANCHES;
 use fip_trees::program::{Clause, Program};
 use match_knowledge::{Head, Knowledge, Row, compare, is_asks, is_fits, is_last, open, side};
 use std::alloc::Global;

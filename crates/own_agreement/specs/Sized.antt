@@ -1,7 +1,8 @@
 -- What the theorem asks of a program; each typed program keeps to it. Scrutinees are variables, a constructor of a
 -- scalar type has no field, no constructor has more than 16, and the credits of headers have sizes from 1 to 16.
-use Rattle.std.specs.Prelude.{◌≡◌, ◌<◌, ℕ, true, List, [], ◌∷◌, Option, Some, None, slice_get}
+use Rattle.std.specs.Prelude.{◌≡◌, ◌<◌, ℕ, suc, true, List, [], ◌∷◌, Option, Some, None, slice_get}
 use Rattle.fip_language.specs.Table.{is_scalar}
+use Rattle.fip_language.specs.declared.limits.TheConstants.{MOST_FIELDS}
 use Rattle.fip_trees.specs.Tree.{Argument, Variable, Literal, Constructor, Arguments, NoArguments, MoreArguments, count}
 use Rattle.fip_trees.specs.Tree.{Pattern, BinderPattern, LiteralPattern, ConstructorPattern}
 use Rattle.fip_trees.specs.Tree.{Patterns, NoPatterns, MorePatterns, count_patterns, Instance, Program}
@@ -10,7 +11,7 @@ use Rattle.fip_trees.specs.Tree.{Clauses, NoClauses, MoreClauses}
 
 abbrev pub AreSizes : List ℕ → Type 0
 AreSizes [] = Unit {0}
-AreSizes (k ∷ ks) = (0 < k) × (k < 17) × AreSizes ks
+AreSizes (k ∷ ks) = (0 < k) × (k < suc MOST_FIELDS) × AreSizes ks
 
 abbrev pub SizedHeader : Option Instance → Type 0
 SizedHeader None = Unit {0}
@@ -26,7 +27,7 @@ abbrev mutual
   SizedArgument p (Variable x n q) = Unit {0}
   SizedArgument p (Literal i q) = Unit {0}
   SizedArgument p (Constructor t d c n q as') =
-      (count as' < 17) × (is_scalar p.types t ≡ true → as' ≡ NoArguments) × SizedArguments p as'
+      (count as' < suc MOST_FIELDS) × (is_scalar p.types t ≡ true → as' ≡ NoArguments) × SizedArguments p as'
 
   pub SizedArguments : Program → Arguments → Type 0
   SizedArguments p NoArguments = Unit {0}
@@ -36,7 +37,7 @@ abbrev mutual
   pub SizedPattern : Pattern → Type 0
   SizedPattern (BinderPattern b) = Unit {0}
   SizedPattern (LiteralPattern i q) = Unit {0}
-  SizedPattern (ConstructorPattern t d c n q ps) = (count_patterns ps < 17) × SizedPatterns ps
+  SizedPattern (ConstructorPattern t d c n q ps) = (count_patterns ps < suc MOST_FIELDS) × SizedPatterns ps
 
   pub SizedPatterns : Patterns → Type 0
   SizedPatterns NoPatterns = Unit {0}

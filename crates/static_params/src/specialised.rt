@@ -9,9 +9,9 @@ use crate::type_instances::TypeInstances;
 use fip_base::core_form::{Core, Parameter, ResultType, Static};
 use fip_base::plain::{CreditMark, NoMemory, Param, Params, Place};
 use fip_base::refusal::{PhaseError, Rule};
+use fip_language::limits::MOST_INSTANCES;
 use fip_trees::decls::{DeclaredType, Decls};
 use fip_trees::least::Least;
-use fip_trees::limits::MOST_INSTANCES;
 use fip_trees::program::{Binder, Flat, Instance, Program, TupleResult};
 use std::alloc::Global;
 

@@ -9,7 +9,7 @@ use Rattle.fip_language.specs.declared.Place.{Place}
 use Rattle.fip_language.specs.declared.rule.Rule.{Rule}
 use Rattle.fip_language.specs.declared.rule.Rule.TheVariants.{E30, E31, E32, E33, E34}
 use Rattle.fip_base.specs.declared.plain.Param.{Param}
-use Rattle.fip_trees.specs.declared.limits.TheConstants.{MOST_RESULTS}
+use Rattle.fip_language.specs.declared.limits.TheConstants.{MOST_RESULTS}
 use Rattle.fip_trees.specs.declared.least.Violation.{Violation}
 use Rattle.fip_trees.specs.declared.program.Binder.{Binder}
 use Rattle.fip_trees.specs.declared.program.TupleResult.{TupleResult}

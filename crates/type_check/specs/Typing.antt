@@ -9,7 +9,7 @@
 -- typed by the types in its slots.
 use Rattle.std.specs.Prelude.{◌≡◌, ◌≤◌, ℕ, Bool, true, false, List, [], ◌∷◌, ◌++◌, map, length, Option, Some, None}
 use Rattle.fip_base.specs.declared.plain.Param.{Param}
-use Rattle.fip_trees.specs.declared.limits.TheConstants.{MOST_RESULTS}
+use Rattle.fip_language.specs.declared.limits.TheConstants.{MOST_RESULTS}
 use Rattle.fip_trees.specs.declared.program.Binder.{Binder}
 use Rattle.fip_trees.specs.declared.program.TupleResult.{TupleResult}
 use Rattle.fip_trees.specs.Tree.{Argument, Variable, Literal, Constructor, Arguments, NoArguments, MoreArguments, count}

@@ -18,8 +18,8 @@ use crate::tables::{Tables, heads, plain_types};
 use crate::walk::Walk;
 use fip_base::plain::{NoMemory, Param, Place};
 use fip_base::refusal::{PhaseError, Rule};
+use fip_language::limits::MOST_RESULTS;
 use fip_trees::least::Least;
-use fip_trees::limits::MOST_RESULTS;
 use fip_trees::program::{Binder, Flat, Instance, Program, TupleResult, Typed};
 use std::alloc::Global;
 

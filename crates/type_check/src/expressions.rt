@@ -22,8 +22,8 @@ use crate::scope::Scope;
 use crate::walk::Walk;
 use fip_base::plain::{Name, NoMemory, Operator, Place};
 use fip_base::refusal::Rule;
+use fip_language::limits::MOST_RESULTS;
 use fip_trees::least::Least;
-use fip_trees::limits::MOST_RESULTS;
 use fip_trees::program::{Argument, Binding, Block, Clause, Expression};
 
 // An argument as the whole of an expression.

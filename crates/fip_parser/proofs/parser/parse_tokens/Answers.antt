@@ -1,10 +1,11 @@
 use Rattle.std.proofs.Common.{map, sym, ap, subst}
+use Rattle.fip_language.specs.declared.rule.Rule.TheVariants as R
 use Rattle.fip_base.specs.SurfaceView as surface
 use Rattle.fip_grammar.specs.WordView.{tokens}
 use Rattle.fip_grammar.specs.Machine as machine
 use Rattle.fip_grammar.proofs.Least.{reads_ended, reads_unended}
 use Rattle.parser_state.specs.StateView as view
-use Rattle.fip_parser.specs.Parsed.{reading_of, IsMisspeltBy, syntax_refusal}
+use Rattle.fip_parser.specs.Parsed.{reading_of, IsMisspeltBy, refusal_of}
 use Rattle.fip_parser.proofs.Reading.{state_negates, unended, fails_least, goes_on, at_token, at_end, place_of_end}
 use Rattle.fip_parser.proofs.parser.parse_tokens.Goals as goal
 
@@ -55,5 +56,5 @@ returns-in_default c =
       spelt = tt;
       misspelt =
           subst (IsMisspeltBy (tokens xs) end) (sym c.refused.ensures)
-          (2, i, reads_unended (tokens xs) i (reading_of r).machine (reading_of r).seen h e (unended r.state ds c.in_default.not-Top), ap (syntax_refusal 2) (place_of_end (tokens xs) end i e));
+          (R.E02, i, reads_unended (tokens xs) i (reading_of r).machine (reading_of r).seen h e (unended r.state ds c.in_default.not-Top), ap (refusal_of R.E02) (place_of_end (tokens xs) end i e));
     }

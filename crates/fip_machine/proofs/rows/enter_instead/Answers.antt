@@ -1,7 +1,7 @@
 use Rattle.std.proofs.Common.{◌+◌, sym, subst, arith, length}
 use Rattle.fip_machine.specs.Placed.{Waiting}
 use Rattle.fip_machine.proofs.Stacked.{keeps_both, keeps_less, waiting_keeps}
-use Rattle.fip_machine.proofs.rows.tail.Goals as goal
+use Rattle.fip_machine.proofs.rows.enter_instead.Goals as goal
 
 pub returns-clause-waiting : goal.returns-clause-waiting
 returns-clause-waiting c =

@@ -9,6 +9,9 @@ pub const MOST_FILE_BYTES: usize = 16_777_216;
 /// The most words of a store.
 pub const MOST_STORE_WORDS: usize = 16_777_216;
 
+/// The most brackets that are open at once.
+pub const MOST_BRACKETS: usize = 100;
+
 /// The most fields of a constructor, and so the greatest size of a cell.
 pub const MOST_FIELDS: usize = 16;
 

@@ -425,3 +425,8 @@ stacks_least rs p frames ss e a = record {
       (λ f w h. ap words_or_none (get_or_from_slice_get frames f (Some w) None h)) (λ f w h. ap words_or_none (get_or_from_slice_get frames f (Some w) None h)) ss e
       (λ f h. ap words_or_none h);
 }
+
+-- one entry for each frame
+pub entries_length : (p : Partition) (found : List (Option Stack)) (n : ℕ) (fr : List (Option ℕ)) → length (entries p found n fr) ≡ length fr
+entries_length p found n [] = refl
+entries_length p found n (x ∷ fr) = ap suc (entries_length p found (suc n) fr)

@@ -14,7 +14,7 @@ use std::alloc::Global;
 /// What a run of each function holds of the stack at the most, given the words of its frame; none for a function
 /// without a frame. These are the least numbers such that a function holds its frame, and what each of its calls holds,
 /// together with its frame where that waits. `groups` are those of these calls; a function with a frame is asked to
-/// call such ones alone, and to wait for none of its group. NoMemory: no memory is left, or a number can't be held.
+/// call such ones alone, and to wait for none of its group. There is one entry for each entry of `frames`. NoMemory: no memory is left, or a number can't be held.
 pub fn stacks(
     alloc: Global,
     calls: &[Vec<Call>],
@@ -23,6 +23,7 @@ pub fn stacks(
 ) -> Result<Vec<Option<Stack>>, NoMemory>
     ensures stacks { IfOk result (λ ss. AreAsked (rows calls.now) groups.now frames.now
         → AreStacks (rows calls.now) frames.now ss.items) }
+    ensures size { IfOk result (λ ss. length ss.items ≡ length frames.now) }
 {
     let of_groups = stacks_of_groups(alloc, calls, groups, frames)?;
     stacks_of_functions(alloc, &of_groups, groups, frames)

@@ -1,3 +1,4 @@
 mod Shared
 mod Steps
 mod Whole
+mod Founds

@@ -17,33 +17,42 @@ pub enum ReadCodeError {
     NoMemory,
 }
 
-impl From<NoMemory> for ReadCodeError {
-    ghost use Rattle.code_file.specs.declared.error.ReadCodeError.TheVariants.{NoMemory as read_no_memory};
+/// Why reading stopped.
+#[derive(Clone, Copy, Debug, PartialEq, Eq)]
+pub enum ReadStop {
+    /// No code file goes on with the next byte, or the end; so many bytes were left, that one among them.
+    Left(usize),
+    /// No memory was left.
+    NoMemory,
+}
+
+impl From<NoMemory> for ReadStop {
+    ghost use Rattle.code_file.specs.declared.error.ReadStop.TheVariants.{NoMemory as read_no_memory};
 
     ghost from_gives = { λ _ e. e ≡ read_no_memory };
 
-    fn from(_: NoMemory) -> ReadCodeError {
-        ReadCodeError::NoMemory
+    fn from(_: NoMemory) -> ReadStop {
+        ReadStop::NoMemory
     }
 }
 
-impl From<AllocError> for ReadCodeError {
-    ghost use Rattle.code_file.specs.declared.error.ReadCodeError.TheVariants.{NoMemory as read_no_memory};
+impl From<AllocError> for ReadStop {
+    ghost use Rattle.code_file.specs.declared.error.ReadStop.TheVariants.{NoMemory as read_no_memory};
 
     ghost from_gives = { λ _ e. e ≡ read_no_memory };
 
-    fn from(_: AllocError) -> ReadCodeError {
-        ReadCodeError::NoMemory
+    fn from(_: AllocError) -> ReadStop {
+        ReadStop::NoMemory
     }
 }
 
-impl<T: Drop> From<AllocFailed<T>> for ReadCodeError {
-    ghost use Rattle.code_file.specs.declared.error.ReadCodeError.TheVariants.{NoMemory as read_no_memory};
+impl<T: Drop> From<AllocFailed<T>> for ReadStop {
+    ghost use Rattle.code_file.specs.declared.error.ReadStop.TheVariants.{NoMemory as read_no_memory};
 
     ghost from_gives = { λ _ e. e ≡ read_no_memory };
 
-    fn from(_: AllocFailed<T>) -> ReadCodeError {
-        ReadCodeError::NoMemory
+    fn from(_: AllocFailed<T>) -> ReadStop {
+        ReadStop::NoMemory
     }
 }
 

@@ -1,16 +1,25 @@
 // Instructions.
-use crate::error::ReadCodeError;
+ghost use Rattle.std.specs.Prelude.{◌≡◌};
+ghost use Rattle.code_file.specs.Reading.{Reads, read, same, instr_reader, operator_reader};
+ghost use Rattle.code_file.specs.Reading.{const_reader, atom_reader, move_reader, arith_reader, test_reader};
+ghost use Rattle.code_file.specs.Reading.{test_int_reader, peek_reader, take_reader, put_reader, drop_reader};
+ghost use Rattle.code_file.specs.Reading.{free_reader, call_reader, tail_reader, ret_reader, jump_reader};
+
+use crate::error::ReadStop;
 use crate::reader::Reader;
 use crate::tags::{
     ARITH, ATOM, CALL, CONST, DROP, FREE, JUMP, MOVE, PEEK, PUT, RET, TAIL, TAKE, TEST, TEST_INT,
-    operator_of,
+    operator_at,
 };
 use cell_code::Instr;
 use fip_base::plain::Operator;
 
 impl<'a> Reader<'a> {
     /// An instruction.
-    pub fn instr(&mut self) -> Result<Instr, ReadCodeError> {
+    #[tactic(auto, using(crate::proofs::Got::of_instr))]
+    pub fn instr(&mut self) -> Result<Instr, ReadStop>
+        ensures { Reads same result self.new (read instr_reader self.old) }
+    {
         match self.byte_in(CONST, JUMP)? {
             CONST => self.const_(),
             ATOM => self.atom(),
@@ -30,14 +39,20 @@ impl<'a> Reader<'a> {
         }
     }
 
-    fn const_(&mut self) -> Result<Instr, ReadCodeError> {
+    #[tactic(auto, using(crate::proofs::Got::of_const))]
+    fn const_(&mut self) -> Result<Instr, ReadStop>
+        ensures { Reads same result self.new (read const_reader self.old) }
+    {
         Ok(Instr::Const {
             destination: self.u16()?,
             value: self.i64()?,
         })
     }
 
-    fn atom(&mut self) -> Result<Instr, ReadCodeError> {
+    #[tactic(auto, using(crate::proofs::Got::of_atom))]
+    fn atom(&mut self) -> Result<Instr, ReadStop>
+        ensures { Reads same result self.new (read atom_reader self.old) }
+    {
         Ok(Instr::Atom {
             destination: self.u16()?,
             ty: self.ty()?,
@@ -45,14 +60,20 @@ impl<'a> Reader<'a> {
         })
     }
 
-    fn move_(&mut self) -> Result<Instr, ReadCodeError> {
+    #[tactic(auto, using(crate::proofs::Got::of_move))]
+    fn move_(&mut self) -> Result<Instr, ReadStop>
+        ensures { Reads same result self.new (read move_reader self.old) }
+    {
         Ok(Instr::Move {
             destination: self.u16()?,
             source: self.u16()?,
         })
     }
 
-    fn arith(&mut self) -> Result<Instr, ReadCodeError> {
+    #[tactic(auto, using(crate::proofs::Got::of_arith))]
+    fn arith(&mut self) -> Result<Instr, ReadStop>
+        ensures { Reads same result self.new (read arith_reader self.old) }
+    {
         Ok(Instr::Arith {
             destination: self.u16()?,
             operator: self.operator()?,
@@ -63,12 +84,18 @@ impl<'a> Reader<'a> {
         })
     }
 
-    fn operator(&mut self) -> Result<Operator, ReadCodeError> {
-        let number = self.byte()?;
-        operator_of(number).ok_or(self.bad_last())
+    #[tactic(auto, using(crate::proofs::Got::of_operator))]
+    fn operator(&mut self) -> Result<Operator, ReadStop>
+        ensures { Reads same result self.new (read operator_reader self.old) }
+    {
+        let number = self.byte_in(0, 10)?;
+        Ok(operator_at(number))
     }
 
-    fn test(&mut self) -> Result<Instr, ReadCodeError> {
+    #[tactic(auto, using(crate::proofs::Got::of_test))]
+    fn test(&mut self) -> Result<Instr, ReadStop>
+        ensures { Reads same result self.new (read test_reader self.old) }
+    {
         Ok(Instr::Test {
             register: self.u16()?,
             constructor: self.u32()?,
@@ -76,7 +103,10 @@ impl<'a> Reader<'a> {
         })
     }
 
-    fn test_int(&mut self) -> Result<Instr, ReadCodeError> {
+    #[tactic(auto, using(crate::proofs::Got::of_test_int))]
+    fn test_int(&mut self) -> Result<Instr, ReadStop>
+        ensures { Reads same result self.new (read test_int_reader self.old) }
+    {
         Ok(Instr::TestInt {
             register: self.u16()?,
             value: self.i64()?,
@@ -84,7 +114,10 @@ impl<'a> Reader<'a> {
         })
     }
 
-    fn peek(&mut self) -> Result<Instr, ReadCodeError> {
+    #[tactic(auto, using(crate::proofs::Got::of_peek))]
+    fn peek(&mut self) -> Result<Instr, ReadStop>
+        ensures { Reads same result self.new (read peek_reader self.old) }
+    {
         Ok(Instr::Peek {
             destination: self.u16()?,
             register: self.u16()?,
@@ -92,14 +125,20 @@ impl<'a> Reader<'a> {
         })
     }
 
-    fn take(&mut self) -> Result<Instr, ReadCodeError> {
+    #[tactic(auto, using(crate::proofs::Got::of_take))]
+    fn take(&mut self) -> Result<Instr, ReadStop>
+        ensures { Reads same result self.new (read take_reader self.old) }
+    {
         Ok(Instr::Take {
             register: self.u16()?,
             fields: self.list()?,
         })
     }
 
-    fn put(&mut self) -> Result<Instr, ReadCodeError> {
+    #[tactic(auto, using(crate::proofs::Got::of_put))]
+    fn put(&mut self) -> Result<Instr, ReadStop>
+        ensures { Reads same result self.new (read put_reader self.old) }
+    {
         Ok(Instr::Put {
             register: self.u16()?,
             ty: self.ty()?,
@@ -108,19 +147,28 @@ impl<'a> Reader<'a> {
         })
     }
 
-    fn drop_(&mut self) -> Result<Instr, ReadCodeError> {
+    #[tactic(auto, using(crate::proofs::Got::of_drop))]
+    fn drop_(&mut self) -> Result<Instr, ReadStop>
+        ensures { Reads same result self.new (read drop_reader self.old) }
+    {
         Ok(Instr::Drop {
             register: self.u16()?,
         })
     }
 
-    fn free(&mut self) -> Result<Instr, ReadCodeError> {
+    #[tactic(auto, using(crate::proofs::Got::of_free))]
+    fn free(&mut self) -> Result<Instr, ReadStop>
+        ensures { Reads same result self.new (read free_reader self.old) }
+    {
         Ok(Instr::Free {
             register: self.u16()?,
         })
     }
 
-    fn call(&mut self) -> Result<Instr, ReadCodeError> {
+    #[tactic(auto, using(crate::proofs::Got::of_call))]
+    fn call(&mut self) -> Result<Instr, ReadStop>
+        ensures { Reads same result self.new (read call_reader self.old) }
+    {
         Ok(Instr::Call {
             function: self.u32()?,
             arguments: self.arguments()?,
@@ -128,20 +176,29 @@ impl<'a> Reader<'a> {
         })
     }
 
-    fn tail(&mut self) -> Result<Instr, ReadCodeError> {
+    #[tactic(auto, using(crate::proofs::Got::of_tail))]
+    fn tail(&mut self) -> Result<Instr, ReadStop>
+        ensures { Reads same result self.new (read tail_reader self.old) }
+    {
         Ok(Instr::Tail {
             function: self.u32()?,
             arguments: self.arguments()?,
         })
     }
 
-    fn ret(&mut self) -> Result<Instr, ReadCodeError> {
+    #[tactic(auto, using(crate::proofs::Got::of_ret))]
+    fn ret(&mut self) -> Result<Instr, ReadStop>
+        ensures { Reads same result self.new (read ret_reader self.old) }
+    {
         Ok(Instr::Ret {
             results: self.list()?,
         })
     }
 
-    fn jump(&mut self) -> Result<Instr, ReadCodeError> {
+    #[tactic(auto, using(crate::proofs::Got::of_jump))]
+    fn jump(&mut self) -> Result<Instr, ReadStop>
+        ensures { Reads same result self.new (read jump_reader self.old) }
+    {
         Ok(Instr::Jump {
             target: self.u32()?,
         })

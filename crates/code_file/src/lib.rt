@@ -24,13 +24,17 @@
 mod error;
 mod instructions;
 mod kinds;
+pub mod laws;
 mod names;
 mod read;
 mod reader;
 mod tags;
 mod write;
+mod write_instructions;
+mod write_kinds;
 mod writer;
 
 pub use error::{ReadCodeError, WriteError};
 pub use read::read_code;
+pub use tags::Version;
 pub use write::write_code;

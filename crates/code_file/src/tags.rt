@@ -1,14 +1,26 @@
-//! What the tags of a code file stand for.
-use cell_code::Instr;
-use fip_base::plain::{FunKind, Operator};
+// What the tags of a code file stand for.
+ghost use Rattle.std.specs.Prelude.{◌≡◌};
+ghost use Rattle.code_file.specs.CodeText.{operator_number};
+ghost use Rattle.code_file.specs.Reading.{operator_at as operator_of_number};
+
+use fip_base::plain::Operator;
 
 /// The first bytes of a code file.
 pub const MAGIC: &[u8] = b"FP2C";
 
-/// A version of the format that has no credits.
+/// A version of the format.
+#[derive(Clone, Copy, Debug, PartialEq, Eq)]
+pub enum Version {
+    /// The first one, in which no function states a credit.
+    First,
+    /// The one that is written.
+    Second,
+}
+
+/// The number of the version that has no credits.
 pub const VERSION_1: u8 = 1;
 
-/// The version of the format that is written.
+/// The number of the version that is written.
 pub const VERSION_2: u8 = 2;
 
 /// A function that is fip.
@@ -72,29 +84,10 @@ pub const RET: u8 = 0x0e;
 
 pub const JUMP: u8 = 0x0f;
 
-/// The op of an instruction.
-pub fn op_of(instr: &Instr) -> u8 {
-    match instr {
-        Instr::Const { .. } => CONST,
-        Instr::Atom { .. } => ATOM,
-        Instr::Move { .. } => MOVE,
-        Instr::Arith { .. } => ARITH,
-        Instr::Test { .. } => TEST,
-        Instr::TestInt { .. } => TEST_INT,
-        Instr::Peek { .. } => PEEK,
-        Instr::Take { .. } => TAKE,
-        Instr::Put { .. } => PUT,
-        Instr::Drop { .. } => DROP,
-        Instr::Free { .. } => FREE,
-        Instr::Call { .. } => CALL,
-        Instr::Tail { .. } => TAIL,
-        Instr::Ret { .. } => RET,
-        Instr::Jump { .. } => JUMP,
-    }
-}
-
 /// The number of an operator.
-pub fn operator_number(operator: Operator) -> u8 {
+pub fn number_of(operator: Operator) -> u8
+    ensures { result ≡ operator_number operator }
+{
     match operator {
         Operator::Add => 0,
         Operator::Subtract => 1,
@@ -110,29 +103,22 @@ pub fn operator_number(operator: Operator) -> u8 {
     }
 }
 
-/// The operator of a number; none where there is none.
-pub fn operator_of(number: u8) -> Option<Operator> {
+/// The operator of a number, at most 10.
+#[tactic(auto, using(crate::proofs::Steps::operator_last))]
+pub fn operator_at(number: u8) -> Operator
+    ensures { result ≡ operator_of_number number }
+{
     match number {
-        0 => Some(Operator::Add),
-        1 => Some(Operator::Subtract),
-        2 => Some(Operator::Multiply),
-        3 => Some(Operator::Divide),
-        4 => Some(Operator::Remainder),
-        5 => Some(Operator::Equal),
-        6 => Some(Operator::NotEqual),
-        7 => Some(Operator::Less),
-        8 => Some(Operator::LessOrEqual),
-        9 => Some(Operator::Greater),
-        10 => Some(Operator::GreaterOrEqual),
-        _ => None,
-    }
-}
-
-/// The number of a kind of function; none for a plain function, which has no code.
-pub fn kind_number(kind: FunKind) -> Option<u8> {
-    match kind {
-        FunKind::Fip => Some(FIP),
-        FunKind::Fbip => Some(FBIP),
-        FunKind::Fun => None,
+        0 => Operator::Add,
+        1 => Operator::Subtract,
+        2 => Operator::Multiply,
+        3 => Operator::Divide,
+        4 => Operator::Remainder,
+        5 => Operator::Equal,
+        6 => Operator::NotEqual,
+        7 => Operator::Less,
+        8 => Operator::LessOrEqual,
+        9 => Operator::Greater,
+        _ => Operator::GreaterOrEqual,
     }
 }

@@ -1,266 +1,243 @@
-// Writing a code file.
+// Writing a code file: types, functions, the whole.
+ghost use Rattle.std.specs.Prelude.{◌≡◌, ◌<◌, ◌≤◌, ℕ, List, length, map, Some, Err, IfOk};
+ghost use Rattle.code_file.specs.declared.tags.Version.TheVariants.{Second};
+ghost use Rattle.code_file.specs.declared.error.WriteError.TheVariants.{NotSpelled};
+ghost use Rattle.code_file.specs.Plain.{plain_code, plain_function, plain_label};
+ghost use Rattle.code_file.specs.Spelling.{each};
+ghost use Rattle.code_file.specs.CodeText.{CodeText, shape_text, type_text, types_text, table_text, fun_kind_text};
+ghost use Rattle.code_file.specs.CodeText.{param_text, params_text, credit_count_text, size_text, credits_text};
+ghost use Rattle.code_file.specs.CodeText.{function_text, functions_text, instr_text, instrs_text, label_text};
+ghost use Rattle.code_file.specs.CodeText.{labels_text, code_text};
+ghost use Rattle.code_file.specs.Written.{Writes, after, second_text, label_in};
+
 use crate::error::WriteError;
-use crate::tags::{
-    CREDIT, GONE, LENT, LENT_PARAM, MAGIC, OWNED, OWNED_PARAM, SCALAR, VERSION_2, kind_number,
-    op_of, operator_number,
-};
+use crate::tags::{FBIP, FIP, LENT_PARAM, MAGIC, OWNED_PARAM, VERSION_2};
 use crate::writer::Writer;
-use cell_code::{Code, From, Function, Instr, Kind, Label};
-use fip_base::plain::Param;
+use cell_code::{Code, Function, Instr, Label};
+use fip_base::plain::{FunKind, Param};
 use fip_base::table::{Constructor, TypeTable};
-use fip_trees::limits::{MOST_CREDITS, MOST_FIELDS};
+use fip_language::limits::{MOST_CREDITS, MOST_FIELDS};
 use std::alloc::Global;
 
-/// The code file of version 2 that spells the code, where it has at most `limit` bytes. NotSpelled: there is none.
-pub fn write_code(alloc: Global, code: &Code, limit: usize) -> Result<Vec<u8>, WriteError> {
+/// The code file of version 2 that spells the code, where it has at most `limit` bytes.
+#[tactic(auto, using(crate::proofs::Writing::ends))]
+pub fn write_code(alloc: Global, code: &Code, limit: usize) -> Result<Vec<u8>, WriteError>
+    // What is written spells the code.
+    ensures text { IfOk result (λ v. CodeText v.items Second (plain_code code.now)) }
+    ensures short { IfOk result (λ v. length v.items ≤ limit) }
+    // It refuses only a code that no file spells, or too long a one.
+    ensures refused { result ≡ Err NotSpelled → (bytes : List ℕ) → CodeText bytes Second (plain_code code.now) →
+        limit < length bytes }
+{
     let mut writer = Writer::new(alloc, limit);
-    writer.bytes(MAGIC)?;
-    writer.u16(u16::from(VERSION_2))?;
-    writer.type_table(&code.types)?;
-    writer.functions(&code.functions)?;
-    Ok(writer.into_bytes())
+    match writer.code(code) {
+        Ok(()) => Ok(writer.into_bytes()),
+        Err(e) => Err(e),
+    }
 }
 
 impl Writer {
-    fn type_table(&mut self, types: &TypeTable) -> Result<(), WriteError> {
-        self.count16(types.len())?;
-        for i in 0..types.len() {
-            match u32::try_from(i + 1) {
-                Ok(ty) => self.data_type(types.constructors_of(ty))?,
-                Err(_) => return Err(WriteError::NotSpelled),
+    #[tactic(auto, unfolding(crate::specs::CodeText::code_text), using(crate::proofs::Writing::joins))]
+    fn code(&mut self, code: &Code) -> Result<(), WriteError>
+        ensures { Writes result self.new (after self.old (code_text Second (plain_code code.now))) }
+    {
+        self.bytes(MAGIC)?;
+        self.bytes(&[0, VERSION_2])?;
+        self.type_table(&code.types)?;
+        self.functions(&code.functions)
+    }
+
+    #[tactic(auto, unfolding(crate::specs::CodeText::table_text), using(crate::proofs::Writing::joins))]
+    fn type_table(&mut self, types: &TypeTable) -> Result<(), WriteError>
+        ensures { Writes result self.new (after self.old (table_text types.now)) }
+    {
+        match u16::try_from(types.len()) {
+            Ok(count) => {
+                self.u16(count)?;
+                self.data_types(types, count)
             }
+            Err(_) => Err(WriteError::NotSpelled),
+        }
+    }
+
+    // All data types, as many as given.
+    fn data_types(&mut self, types: &TypeTable, count: u16) -> Result<(), WriteError>
+        requires all { count ≡ length types.now }
+        ensures { Writes result self.new (after self.old (each type_text types.now)) }
+    {
+        for i in 0..count {
+            self.data_type(types.constructors_of(u32::from(i) + 1))?;
         }
         Ok(())
     }
 
-    fn data_type(&mut self, constructors: &[Constructor]) -> Result<(), WriteError> {
+    #[tactic(auto, unfolding(crate::specs::CodeText::type_text), using(crate::proofs::Writing::joins))]
+    fn data_type(&mut self, constructors: &[Constructor]) -> Result<(), WriteError>
+        ensures { Writes result self.new (after self.old (type_text constructors.now)) }
+    {
         self.count32(constructors.len())?;
+        self.constructors(constructors)
+    }
+
+    fn constructors(&mut self, constructors: &[Constructor]) -> Result<(), WriteError>
+        ensures { Writes result self.new (after self.old (each shape_text constructors.now)) }
+    {
         for constructor in constructors {
-            self.upper_name(constructor.name())?;
-            self.count8(constructor.fields().len())?;
-            self.types(constructor.fields())?;
+            self.constructor(constructor)?;
         }
         Ok(())
     }
 
-    fn functions(&mut self, functions: &[Function]) -> Result<(), WriteError> {
+    #[tactic(auto, unfolding(crate::specs::CodeText::shape_text), using(crate::proofs::Writing::joins))]
+    fn constructor(&mut self, constructor: &Constructor) -> Result<(), WriteError>
+        ensures { Writes result self.new (after self.old (shape_text constructor.now)) }
+    {
+        self.upper_name(constructor.name())?;
+        self.types(constructor.fields())
+    }
+
+    #[tactic(auto, using(crate::proofs::Writing::functions_are, crate::proofs::Writing::joins))]
+    fn functions(&mut self, functions: &[Function]) -> Result<(), WriteError>
+        ensures { Writes result self.new (after self.old (functions_text Second (map plain_function functions.now))) }
+    {
         self.count16(functions.len())?;
+        self.each_function(functions)
+    }
+
+    fn each_function(&mut self, functions: &[Function]) -> Result<(), WriteError>
+        ensures { Writes result self.new (after self.old (each second_text functions.now)) }
+    {
         for function in functions {
-            self.header(function)?;
-            self.count32(function.instrs.len())?;
-            for instr in &function.instrs {
-                self.byte(op_of(instr))?;
-                self.operands(instr)?;
-            }
-            self.count32(function.labels.len())?;
-            for label in &function.labels {
-                self.label(label, function.registers)?;
-            }
+            self.function(function)?;
         }
         Ok(())
     }
 
-    // What stands before a function's instructions.
-    fn header(&mut self, function: &Function) -> Result<(), WriteError> {
-        match kind_number(function.kind) {
-            Some(kind) => self.byte(kind)?,
-            None => return Err(WriteError::NotSpelled),
-        }
+    #[tactic(auto, unfolding(crate::specs::CodeText::function_text), using(crate::proofs::Writing::joins))]
+    fn function(&mut self, function: &Function) -> Result<(), WriteError>
+        ensures { Writes result self.new (after self.old (function_text Second (plain_function function.now))) }
+    {
+        self.fun_kind(function.kind)?;
         self.function_name(function.name.as_slice())?;
         self.params(function.params.as_slice())?;
         self.credits(&function.credits)?;
-        self.count8(function.results.as_slice().len())?;
         self.types(function.results.as_slice())?;
-        self.u16(function.registers)
+        self.u16(function.registers)?;
+        self.instrs(&function.instrs)?;
+        self.labels(&function.labels, function.registers)
     }
 
-    fn params(&mut self, params: &[Param]) -> Result<(), WriteError> {
+    #[tactic(auto, using(crate::proofs::Writing::after_missing))]
+    fn fun_kind(&mut self, kind: FunKind) -> Result<(), WriteError>
+        ensures { Writes result self.new (after self.old (fun_kind_text kind)) }
+    {
+        match kind {
+            FunKind::Fip => self.byte(FIP),
+            FunKind::Fbip => self.byte(FBIP),
+            FunKind::Fun => Err(WriteError::NotSpelled),
+        }
+    }
+
+    #[tactic(auto, unfolding(crate::specs::CodeText::params_text), using(crate::proofs::Writing::joins))]
+    fn params(&mut self, params: &[Param]) -> Result<(), WriteError>
+        ensures { Writes result self.new (after self.old (params_text params.now)) }
+    {
         self.count16(params.len())?;
+        self.each_param(params)
+    }
+
+    fn each_param(&mut self, params: &[Param]) -> Result<(), WriteError>
+        ensures { Writes result self.new (after self.old (each param_text params.now)) }
+    {
         for param in params {
-            self.byte(if param.lent { LENT_PARAM } else { OWNED_PARAM })?;
-            self.ty(param.ty)?;
+            self.param(*param)?;
         }
         Ok(())
+    }
+
+    #[tactic(auto, unfolding(crate::specs::CodeText::param_text), using(crate::proofs::Writing::joins))]
+    fn param(&mut self, param: Param) -> Result<(), WriteError>
+        ensures { Writes result self.new (after self.old (param_text param)) }
+    {
+        if param.lent {
+            self.byte(LENT_PARAM)?;
+        } else {
+            self.byte(OWNED_PARAM)?;
+        }
+        self.ty(param.ty)
     }
 
     // The sizes of a header's credits.
-    fn credits(&mut self, sizes: &[u8]) -> Result<(), WriteError> {
-        if sizes.len() > MOST_CREDITS {
+    #[tactic(auto, unfolding(crate::specs::CodeText::credits_text), using(crate::proofs::Writing::joins))]
+    fn credits(&mut self, sizes: &[u8]) -> Result<(), WriteError>
+        ensures { Writes result self.new (after self.old (credits_text Second sizes.now)) }
+    {
+        self.credit_count(sizes.len())?;
+        self.each_size(sizes)
+    }
+
+    #[tactic(auto, unfolding(crate::specs::CodeText::credit_count_text), using(crate::proofs::Writing::after_missing))]
+    fn credit_count(&mut self, count: usize) -> Result<(), WriteError>
+        ensures { Writes result self.new (after self.old (credit_count_text count)) }
+    {
+        if count > MOST_CREDITS {
             return Err(WriteError::NotSpelled);
         }
-        self.count8(sizes.len())?;
+        self.byte(count as u8)
+    }
+
+    fn each_size(&mut self, sizes: &[u8]) -> Result<(), WriteError>
+        ensures { Writes result self.new (after self.old (each size_text sizes.now)) }
+    {
         for size in sizes {
-            if *size == 0 || *size as usize > MOST_FIELDS {
-                return Err(WriteError::NotSpelled);
-            }
-            self.byte(*size)?;
+            self.size(*size)?;
         }
         Ok(())
     }
 
-    fn operands(&mut self, instr: &Instr) -> Result<(), WriteError> {
-        match instr {
-            Instr::Const { destination, value } => {
-                self.u16(*destination)?;
-                self.i64(*value)
-            }
-            Instr::Atom {
-                destination,
-                ty,
-                constructor,
-            } => {
-                self.u16(*destination)?;
-                self.ty(*ty)?;
-                self.u32(*constructor)
-            }
-            Instr::Move {
-                destination,
-                source,
-            } => {
-                self.u16(*destination)?;
-                self.u16(*source)
-            }
-            Instr::Arith {
-                destination,
-                operator,
-                left,
-                right,
-                line,
-                col,
-            } => {
-                self.u16(*destination)?;
-                self.byte(operator_number(*operator))?;
-                self.u16(*left)?;
-                self.u16(*right)?;
-                self.u32(*line)?;
-                self.u32(*col)
-            }
-            Instr::Test {
-                register,
-                constructor,
-                target,
-            } => {
-                self.u16(*register)?;
-                self.u32(*constructor)?;
-                self.u32(*target)
-            }
-            Instr::TestInt {
-                register,
-                value,
-                target,
-            } => {
-                self.u16(*register)?;
-                self.i64(*value)?;
-                self.u32(*target)
-            }
-            Instr::Peek {
-                destination,
-                register,
-                field,
-            } => {
-                self.u16(*destination)?;
-                self.u16(*register)?;
-                self.byte(*field)
-            }
-            Instr::Take { register, fields } => {
-                self.u16(*register)?;
-                self.list(fields.as_slice())
-            }
-            Instr::Put {
-                register,
-                ty,
-                constructor,
-                fields,
-            } => {
-                self.u16(*register)?;
-                self.ty(*ty)?;
-                self.u32(*constructor)?;
-                self.list(fields.as_slice())
-            }
-            Instr::Drop { register } => self.u16(*register),
-            Instr::Free { register } => self.u16(*register),
-            Instr::Call {
-                function,
-                arguments,
-                destinations,
-            } => {
-                self.u32(*function)?;
-                self.arguments(arguments.as_slice())?;
-                self.list(destinations.as_slice())
-            }
-            Instr::Tail {
-                function,
-                arguments,
-            } => {
-                self.u32(*function)?;
-                self.arguments(arguments.as_slice())
-            }
-            Instr::Ret { results } => self.list(results.as_slice()),
-            Instr::Jump { target } => self.u32(*target),
-        }
-    }
-
-    // A label of a function with so many registers, for each of which it says something.
-    fn label(&mut self, label: &Label, registers: u16) -> Result<(), WriteError> {
-        if label.kinds.len() != registers as usize {
+    #[tactic(auto, unfolding(crate::specs::CodeText::size_text), using(crate::proofs::Writing::after_missing))]
+    fn size(&mut self, size: u8) -> Result<(), WriteError>
+        ensures { Writes result self.new (after self.old (size_text size)) }
+    {
+        if size == 0 {
             return Err(WriteError::NotSpelled);
         }
-        self.u32(label.at)?;
-        for kind in &label.kinds {
-            self.kind(kind)?;
+        if size as usize > MOST_FIELDS {
+            return Err(WriteError::NotSpelled);
+        }
+        self.byte(size)
+    }
+
+    #[tactic(auto, unfolding(crate::specs::CodeText::instrs_text), using(crate::proofs::Writing::joins))]
+    fn instrs(&mut self, instrs: &[Instr]) -> Result<(), WriteError>
+        ensures { Writes result self.new (after self.old (instrs_text instrs.now)) }
+    {
+        self.count32(instrs.len())?;
+        self.each_instr(instrs)
+    }
+
+    fn each_instr(&mut self, instrs: &[Instr]) -> Result<(), WriteError>
+        ensures { Writes result self.new (after self.old (each instr_text instrs.now)) }
+    {
+        for instr in instrs {
+            self.instr(instr)?;
         }
         Ok(())
     }
 
-    fn kind(&mut self, kind: &Kind) -> Result<(), WriteError> {
-        match kind {
-            Kind::Gone => self.byte(GONE),
-            Kind::Scalar { ty } => {
-                self.byte(SCALAR)?;
-                self.ty(*ty)
-            }
-            Kind::Owned { ty, constructors } => {
-                self.byte(OWNED)?;
-                self.ty(*ty)?;
-                self.constructors(constructors.as_slice())
-            }
-            Kind::Lent {
-                ty,
-                constructors,
-                root,
-                from,
-            } => {
-                self.byte(LENT)?;
-                self.ty(*ty)?;
-                self.constructors(constructors.as_slice())?;
-                self.register_or_none(*root)?;
-                self.from(*from)
-            }
-            Kind::Credit { size } => {
-                self.byte(CREDIT)?;
-                self.byte(*size)
-            }
-        }
+    #[tactic(auto, using(crate::proofs::Writing::labels_are, crate::proofs::Writing::joins))]
+    fn labels(&mut self, labels: &[Label], registers: u16) -> Result<(), WriteError>
+        ensures { Writes result self.new (after self.old (labels_text registers (map plain_label labels.now))) }
+    {
+        self.count32(labels.len())?;
+        self.each_label(labels, registers)
     }
 
-    // Where a lent word came from. Behind none stands the field 0.
-    fn from(&mut self, from: Option<From>) -> Result<(), WriteError> {
-        match from {
-            None => {
-                self.register_or_none(None)?;
-                self.byte(0)
-            }
-            Some(from) => {
-                self.register_or_none(Some(from.register))?;
-                self.byte(from.field)
-            }
-        }
-    }
-
-    fn constructors(&mut self, numbers: &[u32]) -> Result<(), WriteError> {
-        self.count16(numbers.len())?;
-        for number in numbers {
-            self.u32(*number)?;
+    fn each_label(&mut self, labels: &[Label], registers: u16) -> Result<(), WriteError>
+        ensures { Writes result self.new (after self.old (each (label_in registers) labels.now)) }
+    {
+        for label in labels {
+            self.label(label, registers)?;
         }
         Ok(())
     }

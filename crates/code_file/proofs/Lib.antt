@@ -1,0 +1,11 @@
+pub mod InstrTexts
+pub mod Numbers
+pub mod Writing
+pub mod Readers
+pub mod Fields
+pub mod NameFields
+pub mod Items
+pub mod Whole
+pub mod Steps
+pub mod Parts
+pub mod Got

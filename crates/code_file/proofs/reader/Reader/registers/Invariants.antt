@@ -1,0 +1,6 @@
+use Rattle.std.proofs.Common.{◌≡◌, ◌-◌}
+use Rattle.code_file.specs.Reading.{with_front, read, times, two_reader}
+use Rattle.code_file.proofs.reader.Reader.registers.Given as goal
+
+abbrev pub invariant-loop-i : goal.invariant-loop-i
+invariant-loop-i l = with_front l.registers (read (times (l.count - l.i) two_reader) l.self) ≡ read (times l.count two_reader) l.fn.self

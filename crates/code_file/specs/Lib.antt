@@ -1,0 +1,5 @@
+pub mod Plain
+pub mod Spelling
+pub mod CodeText
+pub mod Written
+pub mod Reading

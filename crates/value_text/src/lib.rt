@@ -6,12 +6,15 @@
 // blanks and LFs may follow. For example `Cons(1, Cons(-2, Nil))`.
 #![tactic(auto)]
 
-mod builder;
+mod build;
+mod counts;
 mod load;
 mod print;
-mod reader;
+mod read;
 mod scan;
+mod single;
 
-pub use builder::Counts;
-pub use load::{LoadError, ReadError, load_values, make_value, read_value};
+pub use counts::Counts;
+pub use load::{LoadError, load_values};
 pub use print::print_value;
+pub use single::{MakeError, ReadError, make_value, read_value};

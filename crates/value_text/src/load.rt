@@ -1,11 +1,26 @@
-// Values are read from text: a first pass tests the text and counts its cells, a second one makes them.
-use crate::builder::{Builder, Counting, Counts, Making, make_cell};
-use crate::reader::{Reader, Refused};
-use crate::scan::{behind_blanks, is_blank};
+// Values are loaded from text: a first pass tests the text and counts its cells, a second one makes them.
+ghost use Rattle.std.specs.Prelude.{◌≡◌, ◌⊎◌, ℕ, ◌+◌, ◌*◌, ◌-◌, ◌<◌, ◌≤◌, ◌^◌, List, length, Ok, Err, IfOk};
+ghost use Rattle.std.specs.Prelude.{OnOk, MatchResult};
+ghost use Rattle.fip_language.specs.Prefix.{IsPlace};
+ghost use Rattle.fip_language.specs.SoundTable.{IsSoundTable, AreTypes};
+ghost use Rattle.fip_language.specs.ValueText.{SpellsValues};
+ghost use Rattle.fip_language.specs.Values.{Values};
+ghost use Rattle.cell_store.specs.Made.{Loading};
+ghost use Rattle.fip_language.specs.Store.{count as cells_in};
+ghost use Rattle.fip_language.specs.Table.{Table};
+ghost use Rattle.value_text.specs.Loaded.{types_of, AreSizes, AreCredits, IsGiven, IsLoaded, needed, wanted};
+ghost use Rattle.value_text.specs.Loaded.{words_up_to, free_in};
+ghost use Rattle.value_text.specs.Building.{IsBuilt};
+ghost use Rattle.value_text.specs.Counting.{IsCounted, count_at};
+ghost use Rattle.value_text.specs.Answered.{CanLoad, AllBuilt, IsAnswer};
+
+use crate::build::{Stopped, add_credits, build};
+use crate::counts::Counts;
+use crate::read::{self, Refused};
 use cell_store::Loader;
-use fip_base::plain::{NoMemory, Param};
+use fip_base::plain::Param;
 use fip_base::table::TypeTable;
-use std::alloc::{AllocError, Global};
+use std::alloc::Global;
 
 /// Why values weren't loaded. A loader that is handed back is as it was.
 #[derive(Drop)]
@@ -25,128 +40,115 @@ pub enum LoadError {
     NoMemory,
 }
 
-impl From<NoMemory> for LoadError {
-    fn from(_: NoMemory) -> LoadError {
-        LoadError::NoMemory
-    }
-}
-
-impl From<AllocError> for LoadError {
-    fn from(_: AllocError) -> LoadError {
-        LoadError::NoMemory
-    }
-}
-
-/// Why a value wasn't read.
-#[derive(Clone, Copy, Debug, PartialEq, Eq)]
-pub enum ReadError {
-    /// The first offset with which no value of the type goes on.
-    BadValue { at: usize },
-    /// No memory is left.
-    NoMemory,
-}
-
-impl From<Refused> for ReadError {
-    fn from(refused: Refused) -> ReadError {
-        match refused {
-            Refused::BadValue(at) => ReadError::BadValue { at },
-            Refused::NoMemory => ReadError::NoMemory,
-        }
-    }
-}
-
-// The end of a line behind its value: the place behind its LF, or the end of the bytes.
-fn line_end(bytes: &[u8], at: usize) -> Result<usize, Refused> {
-    let end = behind_blanks(bytes, at);
-    match bytes.get(end) {
-        None => Ok(end),
-        Some(b'\n') => Ok(end.saturating_add(1)),
-        Some(_) => Err(Refused::BadValue(end)),
-    }
-}
-
-// Behind the last line stand only blanks and LFs.
-fn text_end(bytes: &[u8], at: usize) -> Result<(), Refused> {
-    for i in at..bytes.len() {
-        if !is_blank(bytes[i]) && bytes[i] != b'\n' {
-            return Err(Refused::BadValue(i));
-        }
-    }
-    Ok(())
-}
-
-// The words of the values of all lines.
-fn read_lines<B: Builder>(
+// How many cells of each size the values of a text have.
+fn count(
     alloc: Global,
     table: &TypeTable,
     params: &[Param],
     bytes: &[u8],
-    builder: &mut B,
-) -> Result<Vec<u64>, Refused> {
-    let mut words = Vec::new(alloc);
-    let mut at = 0;
-    for param in params {
-        let mut reader = Reader::new(alloc, table, at);
-        words.push(reader.value(bytes, builder, param.ty)?)?;
-        at = line_end(bytes, reader.at())?;
+) -> Result<Counts, Refused>
+    ensures { IsSoundTable table.now → AreTypes table.now (types_of params.now) → length bytes.now ≤ 2 ^ 63 →
+        IsCounted table.now (types_of params.now) bytes.now result }
+{
+    let mut cursor = read::begin(alloc, params);
+    let mut counts = Counts::none();
+    loop {
+        match read::step(table, bytes, &mut cursor) {
+            Ok(Some(event)) => counts.add_closed(event),
+            Ok(None) => return Ok(counts),
+            Err(e) => return Err(e),
+        }
     }
-    text_end(bytes, at)?;
-    Ok(words)
 }
 
-// The words of the store that so many cells need, of which released cells serve some.
-fn words_needed(loader: &Loader, counts: &Counts) -> usize {
+// The credits' cells are counted too.
+fn add_sizes(counts: &mut Counts, credits: &[u8])
+    ensures { AreSizes credits.now → ((k : ℕ) → k ≤ 16 → count_at counts.old k + length credits.now < 2 ^ 64) →
+        (k : ℕ) → k ≤ 16 → count_at counts.new k ≡ count_at counts.old k + cells_in k credits.now }
+{
+    for size in credits {
+        counts.add_one(*size as usize);
+    }
+}
+
+// The words of the cells that no released cell serves.
+fn words_needed(loader: &Loader, counts: &Counts) -> usize
+    ensures { words_up_to 16 (count_at counts.now) (λ _. 0) < 2 ^ 64 →
+        result ≡ words_up_to 16 (count_at counts.now) (free_in loader.now) }
+{
     let mut needed = 0usize;
     for k in 1..17 {
         let fresh = counts.of(k).saturating_sub(loader.spare(k));
-        needed = needed.saturating_add(fresh.saturating_mul(k + 1));
+        needed = needed.saturating_add((k + 1).saturating_mul(fresh));
     }
     needed
 }
 
-// A cell of each credit's size, its fields 0.
-fn make_credits(loader: &mut Loader, credits: &[u8], words: &mut Vec<u64>) -> Result<(), NoMemory> {
-    let zeros = [0; 16];
-    for size in credits {
-        let k = (*size as usize).min(16);
-        words.push(make_cell(loader, 0, &zeros[..k])?)?;
+// The words of the values, and behind them those of the credits' cells.
+fn with_credits(words: Vec<u64>, credits: &[u8], loader: &mut Loader) -> Result<Vec<u64>, Stopped>
+    ensures { AreCredits credits.now → (first : Loading) (vs : Values) → needed first credits.now vs ≤ first.left →
+        IsBuilt (wanted credits.now vs) first loader.old vs words.items →
+        AllBuilt credits.now first loader.new vs result }
+{
+    let mut words = words;
+    match add_credits(credits, loader, &mut words) {
+        Ok(()) => Ok(words),
+        Err(e) => Err(e),
     }
-    Ok(())
 }
 
-/// Reads the values of the parameters, one line each, into the cells of a loader, and then makes a cell for each
-/// credit, of that size (from 1 to 16), its tag and fields 0. Gives the loader, and the words of the values and of the
-/// credits' cells. BadValue where the bytes are no text of the types; else Full where the cells that no released cell
-/// serves need more words than are left. Nesting costs no stack of the program.
-pub fn load_values(
+// The words of the values and of the credits' cells, which are made.
+fn build_all(
     alloc: Global,
     table: &TypeTable,
     params: &[Param],
     credits: &[u8],
     bytes: &[u8],
+    loader: &mut Loader,
+) -> Result<Vec<u64>, Stopped>
+    ensures { IsGiven table.now (types_of params.now) credits.now bytes.now → (vs : Values) →
+        CanLoad table.now (types_of params.now) credits.now bytes.now loader.old vs →
+        AllBuilt credits.now loader.old loader.new vs result }
+{
+    match build(alloc, table, params, bytes, loader) {
+        Ok(words) => with_credits(words, credits, loader),
+        Err(e) => Err(e),
+    }
+}
+
+// Why nothing was built, with the loader.
+fn error_of(stopped: Stopped, needed: usize, loader: Loader) -> LoadError
+    ensures { ((k : ℕ) → stopped ≡ Stopped.BadValue k → ⊥) → (stopped ≡ Stopped.Full → ⊥) →
+        result ≡ LoadError.NoMemory }
+{
+    match stopped {
+        Stopped::BadValue(at) => LoadError::BadValue { at, loader },
+        Stopped::Full => {
+            let words = loader.left();
+            LoadError::Full {
+                needed,
+                words,
+                loader,
+            }
+        }
+        Stopped::NoMemory => LoadError::NoMemory,
+    }
+}
+
+// What was built, with the loader.
+fn answer_of(
+    built: Result<Vec<u64>, Stopped>,
+    needed: usize,
     loader: Loader,
-) -> Result<(Loader, Vec<u64>), LoadError> {
-    let mut counting = Counting {
-        counts: Counts::none(),
-    };
-    match read_lines(alloc, table, params, bytes, &mut counting) {
-        Ok(_) => {}
-        Err(Refused::BadValue(at)) => return Err(LoadError::BadValue { at, loader }),
-        Err(Refused::NoMemory) => return Err(LoadError::NoMemory),
+) -> Result<(Loader, Vec<u64>), LoadError>
+    ensures { (tb : Table) (types credits bytes : List ℕ) (first : Loading) (vs : Values) →
+        CanLoad tb types credits bytes first vs → AllBuilt credits first loader vs built →
+        IsAnswer tb types credits bytes first result }
+{
+    match built {
+        Ok(words) => Ok((loader, words)),
+        Err(e) => Err(error_of(e, needed, loader)),
     }
-    for size in credits {
-        counting.counts.add_one(*size as usize);
-    }
-    let needed = words_needed(&loader, &counting.counts);
-    let left = loader.left();
-    if needed > left {
-        return Err(LoadError::Full {
-            needed,
-            words: left,
-            loader,
-        });
-    }
-    make_all(alloc, table, params, credits, bytes, loader, needed)
 }
 
 // Makes the cells of a text that was tested and that fits.
@@ -158,54 +160,109 @@ fn make_all(
     bytes: &[u8],
     loader: Loader,
     needed: usize,
-) -> Result<(Loader, Vec<u64>), LoadError> {
-    let mut making = Making { loader };
-    if needed <= 16_777_216 {
-        making.loader.reserve(needed)?;
-    }
-    let mut words = match read_lines(alloc, table, params, bytes, &mut making) {
-        Ok(words) => words,
-        Err(Refused::BadValue(at)) => {
-            return Err(LoadError::BadValue {
-                at,
-                loader: making.loader,
-            });
+) -> Result<(Loader, Vec<u64>), LoadError>
+    requires { needed ≤ 16777216 }
+    ensures { IsGiven table.now (types_of params.now) credits.now bytes.now → (vs : Values) →
+        CanLoad table.now (types_of params.now) credits.now bytes.now loader vs →
+        IsAnswer table.now (types_of params.now) credits.now bytes.now loader result }
+{
+    let mut loader = loader;
+    match loader.reserve(needed) {
+        Ok(()) => {
+            let built = build_all(alloc, table, params, credits, bytes, &mut loader);
+            answer_of(built, needed, loader)
         }
-        Err(Refused::NoMemory) => return Err(LoadError::NoMemory),
-    };
-    make_credits(&mut making.loader, credits, &mut words)?;
-    Ok((making.loader, words))
+        Err(_) => Err(LoadError::NoMemory),
+    }
 }
 
-/// Reads one value of a type from a place on: the place behind it, and how many cells of each size it has. BadValue
-/// where none stands there.
-pub fn read_value(
+// The cells of a text that was tested are made, where they fit.
+fn load_counted(
     alloc: Global,
     table: &TypeTable,
-    ty: u32,
+    params: &[Param],
+    credits: &[u8],
     bytes: &[u8],
-    at: usize,
-) -> Result<(usize, Counts), ReadError> {
-    let mut counting = Counting {
-        counts: Counts::none(),
-    };
-    let mut reader = Reader::new(alloc, table, at);
-    reader.value(bytes, &mut counting, ty)?;
-    Ok((reader.at(), counting.counts))
-}
-
-/// Makes the cells of the value of a type that stands at a place, for which the loader has room, and gives the loader
-/// and the value's word. BadValue where none stands there.
-pub fn make_value(
-    alloc: Global,
-    table: &TypeTable,
-    ty: u32,
-    bytes: &[u8],
-    at: usize,
+    counts: Counts,
     loader: Loader,
-) -> Result<(Loader, u64), ReadError> {
-    let mut making = Making { loader };
-    let mut reader = Reader::new(alloc, table, at);
-    let word = reader.value(bytes, &mut making, ty)?;
-    Ok((making.loader, word))
+) -> Result<(Loader, Vec<u64>), LoadError>
+    ensures { IsGiven table.now (types_of params.now) credits.now bytes.now →
+        IsCounted table.now (types_of params.now) bytes.now (Ok counts) →
+        IsAnswer table.now (types_of params.now) credits.now bytes.now loader result }
+{
+    let mut all = counts;
+    add_sizes(&mut all, credits);
+    let needed = words_needed(&loader, &all);
+    let words = loader.left();
+    if needed > words {
+        return Err(LoadError::Full {
+            needed,
+            words,
+            loader,
+        });
+    }
+    make_all(alloc, table, params, credits, bytes, loader, needed)
+}
+
+// Counted first, then made.
+fn load_all(
+    alloc: Global,
+    table: &TypeTable,
+    params: &[Param],
+    credits: &[u8],
+    bytes: &[u8],
+    loader: Loader,
+) -> Result<(Loader, Vec<u64>), LoadError>
+    ensures { IsGiven table.now (types_of params.now) credits.now bytes.now →
+        IsAnswer table.now (types_of params.now) credits.now bytes.now loader result }
+{
+    match count(alloc, table, params, bytes) {
+        Ok(counts) => load_counted(alloc, table, params, credits, bytes, counts, loader),
+        Err(Refused::BadValue(at)) => Err(LoadError::BadValue { at, loader }),
+        Err(Refused::NoMemory) => Err(LoadError::NoMemory),
+    }
+}
+
+/// Reads the values of the parameters, one line each, into the cells of a loader, and then makes a cell for each
+/// credit, of that size, its tag and fields 0. Gives the loader, and the words of the values and of the credits' cells.
+/// `BadValue` where the bytes are no text of the types; else `Full` where the cells that no released cell serves need
+/// more words than are left; both hand back the loader as it was. `NoMemory` where memory is wanting. Nesting costs no
+/// stack of the program.
+///
+/// The clauses speak of a sound table, of parameters of its types, and of at most 16 credits of sizes from 1 to 16.
+pub fn load_values(
+    alloc: Global,
+    table: &TypeTable,
+    params: &[Param],
+    credits: &[u8],
+    bytes: &[u8],
+    loader: Loader,
+) -> Result<(Loader, Vec<u64>), LoadError>
+    // The words stand for the values that the text spells, and then name the credits' cells, all apart; the cells that
+    // were live stay.
+    ensures loads { IsGiven table.now (types_of params.now) credits.now bytes.now → IfOk result (λ r.
+        IsLoaded table.now (types_of params.now) credits.now bytes.now loader r.0 r.1.items) }
+    // What the text spells is loaded, where the words suffice and memory does.
+    ensures complete { IsGiven table.now (types_of params.now) credits.now bytes.now → (vs : Values) →
+        SpellsValues table.now (types_of params.now) bytes.now vs → needed loader credits.now vs ≤ loader.left →
+        MatchResult result (λ r. ℕ) (λ e. e ≡ LoadError.NoMemory) }
+    // A store that is too small is told with both numbers, and handed back,
+    ensures full { IsGiven table.now (types_of params.now) credits.now bytes.now → (n words : ℕ) (l : Loading) →
+        result ≡ Err (LoadError.Full n words l) → (l ≡ loader) × (words ≡ loader.left) × (words < n) × (vs : Values)
+        × SpellsValues table.now (types_of params.now) bytes.now vs × (n ≡ needed loader credits.now vs) }
+    // wherever it is too small.
+    ensures too_small { IsGiven table.now (types_of params.now) credits.now bytes.now → (vs : Values) →
+        SpellsValues table.now (types_of params.now) bytes.now vs → loader.left < needed loader credits.now vs →
+        MatchResult result (λ r. ⊥) (λ e. (e ≡ LoadError.Full (needed loader credits.now vs) loader.left loader)
+        ⊎ (e ≡ LoadError.NoMemory)) }
+    // A bad value is told at the least offset with which no text of the types begins, and the loader handed back,
+    ensures place { IsGiven table.now (types_of params.now) credits.now bytes.now → (at : ℕ) (l : Loading) →
+        result ≡ Err (LoadError.BadValue at l) → (l ≡ loader)
+        × IsPlace (SpellsValues table.now (types_of params.now)) bytes.now at }
+    // wherever the bytes are no text.
+    ensures outside { IsGiven table.now (types_of params.now) credits.now bytes.now →
+        ((vs : Values) → SpellsValues table.now (types_of params.now) bytes.now vs → ⊥) →
+        MatchResult result (λ r. ⊥) (λ e. ((at : ℕ) × (e ≡ LoadError.BadValue at loader)) ⊎ (e ≡ LoadError.NoMemory)) }
+{
+    load_all(alloc, table, params, credits, bytes, loader)
 }

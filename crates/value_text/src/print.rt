@@ -1,184 +1,283 @@
-// Values are printed from cells.
-ghost use Rattle.std.specs.Prelude.{◌≢◌, None, IfSome};
+// A value printed, without recursion: what is still to be printed is a list.
+ghost use Rattle.std.specs.Prelude.{◌≡◌, ◌≢◌, ℕ, ℤ, ◌+◌, ◌-◌, ◌*◌, ◌<◌, ◌≤◌, ◌^◌, List, [], ◌∷◌, ◌++◌, length};
+ghost use Rattle.std.specs.Prelude.{Some, None, IfOk, OnOk, IfSome, IfNone, FitsSigned, slice_get, vec_len};
+ghost use Rattle.std.specs.Int.{w64};
+ghost use Rattle.std.specs.Fmt.{signed_decimal};
+ghost use Rattle.fip_language.specs.Values.{End, More};
+ghost use Rattle.fip_language.specs.Table.{Shape, Table, constructors};
+ghost use Rattle.fip_language.specs.SoundTable.{IsSoundTable};
+ghost use Rattle.fip_language.specs.Store.{Cell, Placed, At, Parts, int_word, value_of, values_of, word_of};
+ghost use Rattle.fip_language.specs.PrintedText.{printed, printed_more};
+ghost use Rattle.fip_language.specs.ValueText.{SpellsValues};
 ghost use Rattle.cell_store.specs.Cells.{cell_at};
+ghost use Rattle.value_text.specs.Standing.{Stands};
+ghost use Rattle.value_text.specs.Printing.{last_first, printed_tail, AreLast, Prints, Printing};
 
+use crate::read::split;
 use cell_store::Cells;
 use fip_base::plain::NoMemory;
-use fip_base::table::TypeTable;
-use std::alloc::Global;
+use fip_base::table::{Constructor, TypeTable};
+use itoa::Buffer;
+use std::alloc::{AllocError, Global};
 
-// What is still to be printed.
+/// What is to be printed: a value, or the last fields of a cell.
 #[derive(Clone, Copy)]
-enum Task {
-    // The value of a type that a word stands for.
-    Value {
-        ty: u32,
-        word: u64,
-    },
-    // Field `i` of the cell at a place, of a constructor of a type.
-    Field {
-        ty: u32,
-        tag: u32,
-        place: u32,
-        i: usize,
-    },
+pub enum Task<'a> {
+    // the value's type and word
+    Whole(u32, u64),
+    // the fields' types, and the cell's place
+    Fields(&'a [u32], u32),
 }
 
-// The place of the cell that a word names, if one begins there.
-fn cell_of<C: Cells>(cells: &C, word: u64) -> Option<u32>
-    ensures cell { IfSome result (λ p. cell_at (C.cells cells.now) p ≢ None) }
+// The int of these 64 bits.
+fn int_of_bits(word: u64) -> i64
+    ensures bits { int_word result ≡ word }
+    ensures fits { FitsSigned w64 result }
 {
-    if word % 2 == 0 || word / 2 > u32::MAX as u64 {
+    if word <= 9223372036854775807 {
+        word as i64
+    } else {
+        -((u64::MAX - word) as i64) - 1
+    }
+}
+
+fn print_int(word: u64, out: &mut Vec<u8>) -> Result<(), AllocError>
+    ensures text { OnOk result ((i : ℤ) → FitsSigned w64 i → int_word i ≡ word →
+        out.new.items ≡ out.old.items ++ signed_decimal i) }
+    ensures more { OnOk result (vec_len out.old ≤ vec_len out.new) }
+{
+    let mut buffer = Buffer::new();
+    let i = int_of_bits(word);
+    out.extend_from_slice(buffer.format(i).as_bytes())?;
+    Ok(())
+}
+
+fn add<'a>(tasks: &mut Vec<Task<'a>>, task: Task<'a>) -> Result<(), AllocError>
+    ensures added { OnOk result (last_first tasks.new.items ≡ task.entry ∷ last_first tasks.old.items) }
+    ensures one { OnOk result (vec_len tasks.new ≡ vec_len tasks.old + 1) }
+{
+    tasks.push(task)?;
+    Ok(())
+}
+
+// The constructor of this number, where the type has one.
+fn constructor_at(table: &TypeTable, ty: u32, tag: u64) -> Option<&Constructor>
+    ensures some { IfSome result (λ r. slice_get (constructors table.now ty) tag ≡ Some r.now) }
+    ensures none { IfNone result (slice_get (constructors table.now ty) tag ≡ None) }
+{
+    if ty as usize > table.len() {
         return None;
     }
-    let place = (word / 2) as u32;
-    if cells.begins(place) {
-        Some(place)
+    let constructors = table.constructors_of(ty);
+    if tag < constructors.len() as u64 {
+        Some(&constructors[tag as usize])
     } else {
         None
     }
 }
 
-// The name of a constructor.
-fn put_name(table: &TypeTable, text: &mut Vec<u8>, ty: u32, tag: u32) -> Result<(), NoMemory> {
-    if ty as usize <= table.len() {
-        if let Some(constructor) = table.constructors_of(ty).get(tag as usize) {
-            text.extend_from_slice(constructor.name())?;
-        }
+// The word of the first of the last `left` fields of a cell.
+fn field_from_end<C: Cells>(cells: &C, place: u32, left: usize) -> Option<u64>
+    requires { cell_at (C.cells cells.now) place ≢ None }
+    ensures { (c : Cell) → cell_at (C.cells cells.now) place ≡ Some c → 0 < left → left ≤ length c.fields →
+        result ≡ slice_get c.fields (length c.fields - left) }
+{
+    let size = cells.cell_size(place);
+    if left == 0 || left > size {
+        return None;
     }
-    Ok(())
+    Some(cells.field(place, size - left))
 }
 
-// The type of field `i` of a constructor.
-fn field_type(table: &TypeTable, ty: u32, tag: u32, i: usize) -> u32 {
-    if ty as usize > table.len() {
-        return 0;
-    }
-    match table.constructors_of(ty).get(tag as usize) {
-        Some(constructor) => match constructor.fields().get(i) {
-            Some(field) => *field,
-            None => 0,
-        },
-        None => 0,
-    }
-}
-
-// An int.
-fn put_int(alloc: Global, text: &mut Vec<u8>, word: u64) -> Result<(), NoMemory> {
-    let number = word.cast_signed();
-    let digits = format!(in alloc; "{number}")?;
-    text.extend_from_slice(digits.as_bytes())?;
-    Ok(())
-}
-
-// A constructor without fields; or the name of one with fields, the first of which comes next.
-fn put_node<C: Cells>(
-    table: &TypeTable,
+// The first of the last fields of a cell, and the others behind it.
+fn add_fields<'a, C: Cells>(
     cells: &C,
-    text: &mut Vec<u8>,
-    tasks: &mut Vec<Task>,
+    types: &'a [u32],
+    place: u32,
+    tasks: &mut Vec<Task<'a>>,
+) -> Result<(), AllocError>
+    requires { cell_at (C.cells cells.now) place ≢ None }
+    ensures prints { OnOk result ((tb : Table) (c : Cell) (xs : Parts) → 0 < length types.now →
+        AreLast tb (C.cells cells.now) types.now place c xs → (rest : List ℕ) →
+        Prints tb (C.cells cells.now) (last_first tasks.old.items) rest →
+        Prints tb (C.cells cells.now) (last_first tasks.new.items) (printed_tail tb types.now (values_of xs) rest)) }
+    ensures few { OnOk result (vec_len tasks.new ≤ vec_len tasks.old + 2) }
+{
+    match split(types) {
+        None => Ok(()),
+        Some((ty, rest)) => match field_from_end(cells, place, types.len()) {
+            None => Ok(()),
+            Some(word) => {
+                add(tasks, Task::Fields(rest, place))?;
+                add(tasks, Task::Whole(ty, word))?;
+                Ok(())
+            }
+        },
+    }
+}
+
+// The last fields of a cell, or the ) behind them.
+fn print_fields<'a, C: Cells>(
+    cells: &C,
+    types: &'a [u32],
+    place: u32,
+    out: &mut Vec<u8>,
+    tasks: &mut Vec<Task<'a>>,
+) -> Result<(), AllocError>
+    ensures prints { OnOk result ((tb : Table) (c : Cell) (xs : Parts) →
+        AreLast tb (C.cells cells.now) types.now place c xs → (rest : List ℕ) →
+        Prints tb (C.cells cells.now) (last_first tasks.old.items) rest →
+        Printing tb (C.cells cells.now) (last_first tasks.new.items) out.new.items
+        (out.old.items ++ printed_more tb types.now (values_of xs) rest)) }
+    ensures steps { OnOk result (vec_len tasks.new + 3 * vec_len out.old ≤ vec_len tasks.old + 3 * vec_len out.new) }
+{
+    if types.is_empty() {
+        out.push(b')')?;
+        return Ok(());
+    }
+    if !cells.begins(place) {
+        return Ok(());
+    }
+    out.extend_from_slice(b", ")?;
+    add_fields(cells, types, place, tasks)
+}
+
+// A value with a cell: its name, and its fields as tasks.
+fn print_cell<'a, C: Cells>(
+    table: &'a TypeTable,
+    cells: &C,
     ty: u32,
-    word: u64,
-) -> Result<(), NoMemory> {
-    match cell_of(cells, word) {
-        None => put_name(table, text, ty, (word / 2 & 0xffff_ffff) as u32),
-        Some(place) => {
-            let tag = cells.cell_tag(place);
-            put_name(table, text, ty, tag)?;
-            text.push(b'(')?;
-            tasks.push(Task::Field {
-                ty,
-                tag,
-                place,
-                i: 0,
-            })?;
+    place: u32,
+    out: &mut Vec<u8>,
+    tasks: &mut Vec<Task<'a>>,
+) -> Result<(), AllocError>
+    requires { cell_at (C.cells cells.now) place ≢ None }
+    ensures prints { OnOk result ((c : ℕ) (xs : Parts) → Stands table.now (C.cells cells.now) ty (At place c xs) →
+        (rest : List ℕ) → Prints table.now (C.cells cells.now) (last_first tasks.old.items) rest →
+        Printing table.now (C.cells cells.now) (last_first tasks.new.items) out.new.items
+        (out.old.items ++ printed table.now ty (value_of (At place c xs)) rest)) }
+    ensures steps { OnOk result (vec_len tasks.new + 3 * vec_len out.old ≤ vec_len tasks.old + 3 * vec_len out.new) }
+{
+    let tag = cells.cell_tag(place);
+    let Some(constructor) = constructor_at(table, ty, tag as u64) else {
+        return Ok(());
+    };
+    out.extend_from_slice(constructor.name())?;
+    let types = constructor.fields();
+    if types.is_empty() {
+        return Ok(());
+    }
+    out.push(b'(')?;
+    add_fields(cells, types, place, tasks)
+}
+
+// A constructor without fields.
+fn print_bare(table: &TypeTable, ty: u32, tag: u64, out: &mut Vec<u8>) -> Result<(), AllocError>
+    ensures text { OnOk result ((s : Shape) → slice_get (constructors table.now ty) tag ≡ Some s →
+        out.new.items ≡ out.old.items ++ s.name) }
+    ensures more { OnOk result (vec_len out.old ≤ vec_len out.new) }
+{
+    match constructor_at(table, ty, tag) {
+        None => Ok(()),
+        Some(constructor) => {
+            out.extend_from_slice(constructor.name())?;
             Ok(())
         }
     }
 }
 
-// The word of field `i` of the cell at a place; none past its last field.
-fn field_of<C: Cells>(cells: &C, place: u32, i: usize) -> Option<u64> {
-    if cells.begins(place) && i < cells.cell_size(place) {
-        Some(cells.field(place, i))
-    } else {
-        None
-    }
-}
-
-// A field, with a comma before it unless it is the first; or the end of a constructor.
-fn put_field<C: Cells>(
-    table: &TypeTable,
+// A value.
+fn print_whole<'a, C: Cells>(
+    table: &'a TypeTable,
     cells: &C,
-    text: &mut Vec<u8>,
-    tasks: &mut Vec<Task>,
     ty: u32,
-    tag: u32,
-    place: u32,
-    i: usize,
-) -> Result<(), NoMemory> {
-    let Some(word) = field_of(cells, place, i) else {
-        text.push(b')')?;
-        return Ok(());
-    };
-    if i > 0 {
-        text.extend_from_slice(b", ")?;
+    word: u64,
+    out: &mut Vec<u8>,
+    tasks: &mut Vec<Task<'a>>,
+) -> Result<(), AllocError>
+    ensures prints { OnOk result (length (C.cells cells.now) ≤ 2 ^ 32 → (x : Placed) →
+        Stands table.now (C.cells cells.now) ty x → word_of x ≡ word → (rest : List ℕ) →
+        Prints table.now (C.cells cells.now) (last_first tasks.old.items) rest →
+        Printing table.now (C.cells cells.now) (last_first tasks.new.items) out.new.items
+        (out.old.items ++ printed table.now ty (value_of x) rest)) }
+    ensures steps { OnOk result (vec_len tasks.new + 3 * vec_len out.old ≤ vec_len tasks.old + 3 * vec_len out.new) }
+{
+    if ty == 0 {
+        return print_int(word, out);
     }
-    let next = i.saturating_add(1);
-    tasks.push(Task::Field {
-        ty,
-        tag,
-        place,
-        i: next,
-    })?;
-    let field = field_type(table, ty, tag, i);
-    tasks.push(Task::Value { ty: field, word })?;
-    Ok(())
+    if word % 2 == 0 {
+        return print_bare(table, ty, word / 2, out);
+    }
+    if word / 2 > u32::MAX as u64 {
+        return Ok(());
+    }
+    let place = (word / 2) as u32;
+    if cells.begins(place) {
+        print_cell(table, cells, ty, place, out, tasks)
+    } else {
+        Ok(())
+    }
 }
 
-// One task.
-fn put_task<C: Cells>(
+// The next task.
+fn print_task<'a, C: Cells>(
+    table: &'a TypeTable,
+    cells: &C,
+    task: Task<'a>,
+    out: &mut Vec<u8>,
+    tasks: &mut Vec<Task<'a>>,
+) -> Result<(), AllocError>
+    ensures prints { OnOk result (length (C.cells cells.now) ≤ 2 ^ 32 → (whole : List ℕ) →
+        Printing table.now (C.cells cells.now) (task.entry ∷ last_first tasks.old.items) out.old.items whole →
+        Printing table.now (C.cells cells.now) (last_first tasks.new.items) out.new.items whole) }
+    ensures steps { OnOk result (vec_len tasks.new + 3 * vec_len out.old ≤ vec_len tasks.old + 3 * vec_len out.new) }
+{
+    match task {
+        Task::Whole(ty, word) => print_whole(table, cells, ty, word, out, tasks),
+        Task::Fields(types, place) => print_fields(cells, types, place, out, tasks),
+    }
+}
+
+// The tasks, one after another. A task that puts further ones behind itself prints a byte, so there is an end to them.
+fn print_tasks<C: Cells>(
     alloc: Global,
     table: &TypeTable,
     cells: &C,
-    text: &mut Vec<u8>,
-    tasks: &mut Vec<Task>,
-    task: Task,
-) -> Result<(), NoMemory> {
-    match task {
-        Task::Value { ty, word } => {
-            if ty == 0 {
-                put_int(alloc, text, word)
-            } else {
-                put_node(table, cells, text, tasks, ty, word)
-            }
-        }
-        Task::Field { ty, tag, place, i } => {
-            put_field(table, cells, text, tasks, ty, tag, place, i)
-        }
+    ty: u32,
+    word: u64,
+) -> Result<Vec<u8>, AllocError>
+    ensures { length (C.cells cells.now) ≤ 2 ^ 32 → (x : Placed) → Stands table.now (C.cells cells.now) ty x →
+        word_of x ≡ word → IfOk result (λ text. text.items ≡ printed table.now ty (value_of x) []) }
+{
+    let mut out = Vec::new(alloc);
+    let mut tasks = Vec::new(alloc);
+    add(&mut tasks, Task::Whole(ty, word))?;
+    while let Some(task) = tasks.pop() {
+        print_task(table, cells, task, &mut out, &mut tasks)?;
     }
+    Ok(out)
 }
 
-// A value has fewer tokens than four for each word of the greatest store.
-const MOST_TASKS: usize = 67_108_864;
-
-/// The text of the value of a type that a word stands for: one space behind each comma, ints without leading zeros, no
-/// other blank.
+/// The canonical text of the value of a type that a word stands for in the cells: constructors and ints without
+/// blanks but one space behind each comma, ints without leading zeros, and no end of line. An error where memory is
+/// wanting. Nesting costs no stack of the program.
+///
+/// The clauses speak of stores of at most 2^32 places, and of words that stand for a value of the type.
 pub fn print_value<C: Cells>(
     alloc: Global,
     table: &TypeTable,
     cells: &C,
     ty: u32,
     word: u64,
-) -> Result<Vec<u8>, NoMemory> {
-    let mut text = Vec::new(alloc);
-    let mut tasks = Vec::new(alloc);
-    tasks.push(Task::Value { ty, word })?;
-    for _ in 0..MOST_TASKS {
-        match tasks.pop() {
-            None => return Ok(text),
-            Some(task) => put_task(alloc, table, cells, &mut text, &mut tasks, task)?,
-        }
-    }
-    Ok(text)
+) -> Result<Vec<u8>, NoMemory>
+    // The text of the value of each tree that the word stands for; there is one at the most.
+    ensures canonical { length (C.cells cells.now) ≤ 2 ^ 32 → (x : Placed) →
+        Stands table.now (C.cells cells.now) ty x → word_of x ≡ word →
+        IfOk result (λ text. text.items ≡ printed table.now ty (value_of x) []) }
+    // With an end of line it is read as that value again.
+    ensures read_again { IsSoundTable table.now → length (C.cells cells.now) ≤ 2 ^ 32 → (x : Placed) →
+        Stands table.now (C.cells cells.now) ty x → word_of x ≡ word →
+        IfOk result (λ text. SpellsValues table.now (ty ∷ []) (text.items ++ 10 ∷ []) (More (value_of x) End)) }
+{
+    Ok(print_tasks(alloc, table, cells, ty, word)?)
 }

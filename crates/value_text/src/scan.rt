@@ -1,120 +1,240 @@
-// Blanks, ints and names.
-use fip_base::table::Constructor;
+// The tokens of a text of values. Each function begins at a place in the bytes and gives the place behind its token,
+// or the place of the first byte that doesn't fit, where the end counts as one.
+ghost use Rattle.std.specs.Prelude.{◌≡◌, ◌↔◌, ℕ, suc, ◌+◌, ◌*◌, ◌-◌, ◌<◌, ◌≤◌, ◌||◌, Bool, true, false, IsTrue};
+ghost use Rattle.std.specs.Prelude.{MatchOption, MatchResult, Some, None, length, take, drop, slice_get};
+ghost use Rattle.std.specs.Prelude.{slice_index_or, nat_le, nat_eq, max, FitsSigned, [], List};
+ghost use Rattle.std.specs.Int.{w64};
+ghost use Rattle.fip_language.specs.Prefix.{Accepted, Stopped};
+ghost use Rattle.fip_language.specs.Values.{Int, Values};
+ghost use Rattle.fip_language.specs.Table.{Table, Shape, constructors};
+ghost use Rattle.fip_language.specs.Character.{Blank, is_blank, is_digit, is_letter, are_name_bytes, character};
+ghost use Rattle.fip_language.specs.Character.{characters};
+ghost use Rattle.fip_language.specs.ValueText.{bound, int_of};
+ghost use Rattle.fip_language.specs.SoundTable.{IsSoundTable};
+ghost use Rattle.value_text.specs.Machine.{Around, State, Want, Number, Await, Over, filled, named, act, is_sign};
+ghost use Rattle.value_text.specs.Machine.{begins, any_begins};
+ghost use Rattle.value_text.specs.Scan.{runs, is_name_byte, before_digits, begins_bytes, IsLongest};
 
-/// Whether the byte is a space, a tab or a CR.
-pub fn is_blank(byte: u8) -> bool {
-    byte == b' ' || byte == b'\t' || byte == b'\r'
+use fip_base::table::{Constructor, TypeTable};
+
+fn blank(b: u8) -> bool
+    ensures { result ≡ is_blank b }
+{
+    b == b' ' || b == b'\t' || b == b'\r'
 }
 
-// The digit that the byte stands for.
-fn digit_of(byte: u8) -> Option<u8> {
-    match byte.checked_sub(b'0') {
-        Some(digit) if digit <= 9 => Some(digit),
-        _ => None,
-    }
+fn blank_or_line(b: u8) -> bool
+    ensures { result ≡ (is_blank b || nat_eq b 10) }
+{
+    blank(b) || b == b'\n'
 }
 
-// Whether a name goes on with the byte.
-fn is_name_byte(byte: u8) -> bool {
-    byte.is_ascii_alphanumeric() || byte == b'_'
+fn digit(b: u8) -> bool
+    ensures { result ≡ is_digit b }
+{
+    48 <= b && b <= 57
 }
 
-/// The first place from `at` on, at most the end, where no blank stands.
-pub fn behind_blanks(bytes: &[u8], at: usize) -> usize {
+fn name_byte(b: u8) -> bool
+    ensures { result ≡ is_name_byte b }
+{
+    digit(b) || 65 <= b && b <= 90 || 97 <= b && b <= 122 || b == b'_'
+}
+
+// The place behind the blanks.
+fn skip_blanks(bytes: &[u8], at: usize) -> usize
+    requires { at ≤ length bytes.now }
+    ensures from { at ≤ result }
+    ensures within { result ≤ length bytes.now }
+    ensures skips { (tb : Table) (s : State) → act tb s Blank ≡ Some s →
+        runs tb bytes.now s at ≡ runs tb bytes.now s result }
+    ensures behind { result < length bytes.now → is_blank (slice_index_or bytes.now result 0) ≡ false }
+{
     for i in at..bytes.len() {
-        if !is_blank(bytes[i]) {
+        if !blank(bytes[i]) {
             return i;
         }
     }
-    at.max(bytes.len())
+    bytes.len()
 }
 
-// The number with one more digit, of the sign, where it is an int of 64 bits.
-fn with_digit(number: i64, digit: u8, is_negative: bool) -> Option<i64> {
-    let tenfold = number.checked_mul(10)?;
-    if is_negative {
-        tenfold.checked_sub(digit as i64)
+// The place behind blanks and this sign: an LF or one of ( ) and comma.
+pub fn sign(bytes: &[u8], at: usize, byte: u8) -> Result<usize, usize>
+    requires place { at ≤ length bytes.now }
+    requires sign { is_sign (character byte) (character byte) ≡ true }
+    ensures within { MatchResult result (λ next. (at < next) × (next ≤ length bytes.now)) (λ k. ℕ) }
+    ensures reads { (tb : Table) (s : State) → MatchResult result
+        (λ next. runs tb bytes.now (Await (character byte) s) at ≡ runs tb bytes.now s next)
+        (λ k. runs tb bytes.now (Await (character byte) s) at ≡ Stopped k) }
+{
+    let i = skip_blanks(bytes, at);
+    if i >= bytes.len() {
+        return Err(i);
+    }
+    if bytes[i] == byte { Ok(i + 1) } else { Err(i) }
+}
+
+// Only blanks and ends of lines come.
+pub fn end_of_text(bytes: &[u8], at: usize) -> Result<(), usize>
+    requires { at ≤ length bytes.now }
+    ensures { (tb : Table) (vs : Values) → MatchResult result (λ u. runs tb bytes.now (Over vs) at ≡ Accepted vs)
+        (λ k. runs tb bytes.now (Over vs) at ≡ Stopped k) }
+{
+    for i in at..bytes.len() {
+        if !blank_or_line(bytes[i]) {
+            return Err(i);
+        }
+    }
+    Ok(())
+}
+
+fn int_from(negative: bool, n: u64) -> i64
+    requires { n ≤ bound negative }
+    ensures { result ≡ int_of negative n }
+{
+    if !negative {
+        n as i64
+    } else if n == 9223372036854775808 {
+        i64::MIN
     } else {
-        tenfold.checked_add(digit as i64)
+        -(n as i64)
     }
 }
 
-/// The int that begins at `at`, and the place behind it. Else the first place with which no int goes on.
-pub fn int(bytes: &[u8], at: usize) -> Result<(i64, usize), usize> {
-    let is_negative = bytes.get(at).copied() == Some(b'-');
-    let start = if is_negative {
-        at.saturating_add(1)
+// The number with one digit more, unless it leaves the range of an int.
+fn with_digit(negative: bool, n: u64, byte: u8) -> Option<u64>
+    requires range { n ≤ bound negative }
+    requires digit { is_digit byte ≡ true }
+    ensures { MatchOption result (nat_le (10 * n + (byte - 48)) (bound negative) ≡ false)
+        (λ m. (m ≡ 10 * n + (byte - 48)) × (m ≤ bound negative)) }
+{
+    let most = if negative {
+        9223372036854775808
     } else {
-        at
+        9223372036854775807
     };
-    let mut number = 0;
-    for i in start..bytes.len() {
-        let Some(digit) = digit_of(bytes[i]) else {
-            return if i == start { Err(i) } else { Ok((number, i)) };
-        };
-        number = match with_digit(number, digit, is_negative) {
-            Some(more) => more,
+    let m = 10 * n as u128 + (byte - 48) as u128;
+    if m <= most { Some(m as u64) } else { None }
+}
+
+// A number, its sign read.
+fn digits(bytes: &[u8], at: usize, negative: bool) -> Result<(i64, usize), usize>
+    requires place { at ≤ length bytes.now }
+    requires blank { negative ≡ false → at < length bytes.now → is_blank (slice_index_or bytes.now at 0) ≡ false }
+    requires minus { negative ≡ false → at < length bytes.now → nat_eq (slice_index_or bytes.now at 0) 45 ≡ false }
+    ensures within { MatchResult result (λ r. (at < r.1) × (r.1 ≤ length bytes.now)) (λ k. ℕ) }
+    ensures fits { MatchResult result (λ r. FitsSigned w64 r.0) (λ k. ℕ) }
+    ensures reads { (tb : Table) (around : Around) → MatchResult result
+        (λ r. runs tb bytes.now (before_digits negative around) at ≡ runs tb bytes.now (filled around (Int r.0)) r.1)
+        (λ k. runs tb bytes.now (before_digits negative around) at ≡ Stopped k) }
+{
+    if at >= bytes.len() {
+        return Err(at);
+    }
+    if !digit(bytes[at]) {
+        return Err(at);
+    }
+    let mut n = (bytes[at] - 48) as u64;
+    for i in at + 1..bytes.len() {
+        if !digit(bytes[i]) {
+            return Ok((int_from(negative, n), i));
+        }
+        match with_digit(negative, n, bytes[i]) {
+            Some(m) => n = m,
             None => return Err(i),
-        };
+        }
     }
-    if start < bytes.len() {
-        Ok((number, bytes.len()))
+    Ok((int_from(negative, n), bytes.len()))
+}
+
+// An int behind blanks, and the place behind it.
+pub fn int(bytes: &[u8], at: usize) -> Result<(i64, usize), usize>
+    requires { at ≤ length bytes.now }
+    ensures within { MatchResult result (λ r. (at < r.1) × (r.1 ≤ length bytes.now)) (λ k. ℕ) }
+    ensures fits { MatchResult result (λ r. FitsSigned w64 r.0) (λ k. ℕ) }
+    ensures reads { (tb : Table) (around : Around) → MatchResult result
+        (λ r. runs tb bytes.now (Want 0 around) at ≡ runs tb bytes.now (filled around (Int r.0)) r.1)
+        (λ k. runs tb bytes.now (Want 0 around) at ≡ Stopped k) }
+{
+    let start = skip_blanks(bytes, at);
+    if start >= bytes.len() {
+        return Err(start);
+    }
+    if bytes[start] == b'-' {
+        digits(bytes, start + 1, true)
     } else {
-        Err(start.min(bytes.len()))
+        digits(bytes, start, false)
     }
 }
 
-// Whether some constructor's name begins with these bytes.
-fn begins_one(constructors: &[Constructor], front: &[u8]) -> bool {
-    for constructor in constructors {
-        if constructor.name().starts_with(front) {
-            return true;
-        }
-    }
-    false
-}
-
-// The number of the constructor of this name.
-fn number_of(constructors: &[Constructor], name: &[u8]) -> Option<u32> {
-    for (number, constructor) in constructors.iter().enumerate() {
-        if constructor.name() == name {
-            return u32::try_from(number).ok();
-        }
-    }
-    None
-}
-
-// The end of the name that begins at `at`.
-fn name_end(bytes: &[u8], at: usize) -> usize {
+// The place behind the name that begins here.
+fn name_end(bytes: &[u8], at: usize) -> usize
+    requires { at ≤ length bytes.now }
+    ensures from { at ≤ result }
+    ensures within { result ≤ length bytes.now }
+    ensures name { are_name_bytes (take (result - at) (drop at bytes.now)) ≡ true }
+    ensures behind { result < length bytes.now → is_name_byte (slice_index_or bytes.now result 0) ≡ false }
+{
     for i in at..bytes.len() {
-        if !is_name_byte(bytes[i]) {
+        if !name_byte(bytes[i]) {
             return i;
         }
     }
-    at.max(bytes.len())
+    bytes.len()
 }
 
-// The first place at which the bytes from `at` to `end` are the front of no constructor's name; `end` where they are
-// the front of one.
-fn bad_name(constructors: &[Constructor], bytes: &[u8], at: usize, end: usize) -> usize {
-    if at <= end && end <= bytes.len() {
-        for i in at..end {
-            if !begins_one(constructors, &bytes[at..i + 1]) {
-                return i;
-            }
+// How many bytes of a text another text begins with.
+fn common(text: &[u8], other: &[u8]) -> usize
+    ensures within { result ≤ length text.now }
+    ensures begun { begins_bytes (take result text.now) other.now ≡ true }
+    ensures longest { result < length text.now → begins_bytes (take (suc result) text.now) other.now ≡ false }
+{
+    for i in 0..text.len() {
+        if i >= other.len() {
+            return i;
+        }
+        if text[i] != other[i] {
+            return i;
         }
     }
-    end
+    text.len()
 }
 
-/// The number of the constructor whose name begins at `at`, and the place behind it. Else the first place with which no
-/// name of these constructors goes on.
-pub fn name(constructors: &[Constructor], bytes: &[u8], at: usize) -> Result<(u32, usize), usize> {
-    let end = name_end(bytes, at);
-    if at < end && end <= bytes.len() {
-        if let Some(number) = number_of(constructors, &bytes[at..end]) {
-            return Ok((number, end));
-        }
+fn larger(a: usize, b: usize) -> usize
+    ensures { result ≡ max a b }
+{
+    if a < b { b } else { a }
+}
+
+// The length of the longest front of a text with which the name of a constructor begins.
+fn longest_front(constructors: &[Constructor], text: &[u8]) -> usize
+    ensures { IsLongest text.now constructors.now result }
+{
+    let mut longest = 0;
+    for c in constructors {
+        longest = larger(longest, common(text, c.name()));
     }
-    Err(bad_name(constructors, bytes, at, end))
+    longest
+}
+
+// The constructor whose name comes behind blanks, and the place behind the name.
+pub fn name(table: &TypeTable, ty: u32, bytes: &[u8], at: usize) -> Result<(u32, usize), usize>
+    requires known { ty ≤ length table.now }
+    requires data { 0 < ty }
+    requires place { at ≤ length bytes.now }
+    ensures within { MatchResult result (λ r. (at < r.1) × (r.1 ≤ length bytes.now)) (λ k. ℕ) }
+    ensures there { MatchResult result (λ r. (s : Shape) × (slice_get (constructors table.now ty) r.0 ≡ Some s))
+        (λ k. ℕ) }
+    ensures reads { IsSoundTable table.now → MatchResult result (λ r. (s : Shape)
+        × (slice_get (constructors table.now ty) r.0 ≡ Some s) × ((around : Around) →
+        runs table.now bytes.now (Want ty around) at ≡ runs table.now bytes.now (named r.0 s.fields around) r.1))
+        (λ k. (around : Around) → runs table.now bytes.now (Want ty around) at ≡ Stopped k) }
+{
+    let start = skip_blanks(bytes, at);
+    let end = name_end(bytes, start);
+    let name = &bytes[start..end];
+    match table.find(ty, name) {
+        Some(c) => Ok((c, end)),
+        None => Err(start + longest_front(table.constructors_of(ty), name)),
+    }
 }

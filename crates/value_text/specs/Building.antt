@@ -1,0 +1,92 @@
+-- How values are built while their text is read, in the machine's words. No public clause speaks of it.
+use Rattle.std.specs.Prelude.{◌≡◌, ◌⊎◌, ℕ, ◌+◌, ◌-◌, ◌*◌, ◌<◌, ◌≤◌, List, [], ◌∷◌, ◌++◌, length, take, drop}
+use Rattle.std.specs.Prelude.{Result, Ok, Err}
+use Rattle.std.specs.declared.vec.Vec.{Vec}
+use Rattle.std.specs.declared.alloc.Global.{Global}
+use Rattle.fip_language.specs.Prefix.{Accepted}
+use Rattle.fip_language.specs.Values.{Values, cells_of_all}
+use Rattle.fip_language.specs.Table.{Table}
+use Rattle.fip_language.specs.Store.{Cell, Parts, int_word, values_of, words_of, count, uses_of_all}
+use Rattle.cell_store.specs.Cells.{cell_at, size_of}
+use Rattle.cell_store.specs.Made.{Loading, IsRetaken, IsAppended}
+use Rattle.value_text.specs.Machine.{start}
+use Rattle.value_text.specs.Scan.{runs}
+use Rattle.value_text.specs.declared.read.Event.{Event}
+use Rattle.value_text.specs.declared.read.Event.TheVariants.{Number, Bare, Closed}
+use Rattle.value_text.specs.Counting.{values_to}
+use Rattle.value_text.specs.declared.build.Stopped.{Stopped}
+use Rattle.value_text.specs.declared.build.Stopped.TheVariants as S
+use Rattle.value_text.specs.Loaded.{live, words_up_to, free_in, cell_words, wanted, AreZero}
+use Rattle.value_text.specs.Reading.{Outline, Spot, IsReading}
+use Rattle.value_text.specs.Standing.{HoldAll}
+
+-- A cell was made at place p: a released one where there is one of its size.
+abbrev pub IsMade : Loading → Loading → ℕ → Cell → Type 0
+IsMade old new p c = ((0 < free_in old (size_of c)) × IsRetaken old new p c)
+    ⊎ ((free_in old (size_of c) ≡ 0) × IsAppended old new p c)
+
+-- what an event does to the words that wait and to the store
+abbrev pub Puts : Event → List ℕ → Loading → List ℕ → Loading → Type 0
+Puts (Number i) ws old ws' new = (ws' ≡ ws ++ int_word i ∷ []) × (new ≡ old)
+Puts (Bare c) ws old ws' new = (ws' ≡ ws ++ (2 * c) ∷ []) × (new ≡ old)
+Puts (Closed c n) ws old ws' new = (n ≤ length ws) × (0 < n) × (p : ℕ)
+    × (ws' ≡ take (length ws - n) ws ++ (2 * p + 1) ∷ [])
+    × IsMade old new p (record { tag = c; fields = drop (length ws - n) ws })
+Puts _ ws old ws' new = (ws' ≡ ws) × (new ≡ old)
+
+-- a cell that can be made: it has 1 to 16 fields, their words are there, and there is a released cell or room for it
+abbrev pub CanPut : Event → List ℕ → Loading → Type 0
+CanPut (Closed c n) ws l = (0 < n) × (n ≤ 16) × (n ≤ length ws) × (free_in l n ≡ 0 → n + 1 ≤ l.left)
+CanPut _ ws l = Unit {0}
+
+-- What was made or taken since the first store: so many cells at each place and of each size, of so many that are
+-- wanted. The cells that were live before stay, and each cell that no released one served took its words.
+pub record IsTaken (want done uses : ℕ → ℕ) (first now : Loading) : Type 0 where
+  pub once : (p : ℕ) → live first p + uses p ≡ live now p
+  pub kept : (p : ℕ) → live first p ≡ 1 → cell_at now.cells p ≡ cell_at first.cells p
+  pub flags : length now.released ≡ length now.cells
+  pub left : now.left + words_up_to 16 want (free_in first)
+      ≡ first.left + words_up_to 16 (λ k. want k - done k) (free_in now)
+
+-- trees with these values and words, whose cells are just those that were made or taken
+pub record IsBuilt (want : ℕ → ℕ) (first now : Loading) (vs : Values) (ws : List ℕ) : Type 0 where
+  pub trees : Parts
+  pub values : values_of trees ≡ vs
+  pub words : ws ≡ words_of trees
+  pub held : HoldAll now.cells trees
+  pub taken : IsTaken want (λ k. cells_of_all k vs) (λ p. uses_of_all p trees) first now
+
+-- where the reader is, and what was built of the values before
+pub record IsBuilding (tb : Table) (types bytes : List ℕ) (want : ℕ → ℕ) (first now : Loading) (o : Outline) (at : ℕ)
+    (ws : List ℕ) : Type 0 where
+  pub spot : Spot
+  pub reading : IsReading tb types bytes o at spot
+  pub built : IsBuilt want first now (values_to spot) ws
+
+-- the values, and behind them the cells of so many credits
+pub record IsCrediting (credits : List ℕ) (want : ℕ → ℕ) (first now : Loading) (vs : Values) (ws : List ℕ) :
+    Type 0 where
+  pub trees : Parts
+  pub places : List ℕ
+  pub values : values_of trees ≡ vs
+  pub words : ws ≡ words_of trees ++ cell_words places
+  pub held : HoldAll now.cells trees
+  pub zero : AreZero now.cells places credits
+  pub taken : IsTaken want (wanted credits vs) (λ p. uses_of_all p trees + count p places) first now
+
+-- there is room for all that is wanted, of which the values are a part
+pub record HasRoom (tb : Table) (types bytes : List ℕ) (want : ℕ → ℕ) (first : Loading) (vs : Values) : Type 0 where
+  pub reads : runs tb bytes (start types) 0 ≡ Accepted vs
+  pub wanted : (k : ℕ) → cells_of_all k vs ≤ want k
+  pub fits : words_up_to 16 want (free_in first) ≤ first.left
+  pub flags : length first.released ≡ length first.cells
+
+-- what the builder of a whole text gives
+abbrev pub Built : Table → List ℕ → List ℕ → Loading → Loading → Result (Vec ℕ Global) Stopped → Type 0
+Built tb types bytes first now (Ok ws) = (want : ℕ → ℕ) → (vs : Values) → HasRoom tb types bytes want first vs →
+    IsBuilt want first now vs ws.items
+Built tb types bytes first now (Err (S.BadValue k)) = (want : ℕ → ℕ) → (vs : Values) →
+    HasRoom tb types bytes want first vs → ⊥
+Built tb types bytes first now (Err S.Full) = (want : ℕ → ℕ) → (vs : Values) →
+    HasRoom tb types bytes want first vs → ⊥
+Built tb types bytes first now (Err S.NoMemory) = Unit {0}

@@ -1,0 +1,9 @@
+pub mod Standing
+pub mod Loaded
+pub mod Machine
+pub mod Scan
+pub mod Reading
+pub mod Counting
+pub mod Building
+pub mod Answered
+pub mod Printing

@@ -1,0 +1,40 @@
+-- What is still to be printed, in the words of the private functions of the printer. No public clause speaks of it.
+use Rattle.std.specs.Prelude.{◌≡◌, ℕ, List, [], ◌∷◌, ◌++◌, ◌-◌, length, drop, Some}
+use Rattle.fip_language.specs.Values.{Values, End, More}
+use Rattle.fip_language.specs.Table.{Table}
+use Rattle.fip_language.specs.Store.{Cell, Placed, Parts, value_of, values_of, word_of, words_of}
+use Rattle.fip_language.specs.PrintedText.{printed, printed_more}
+use Rattle.cell_store.specs.Cells.{Cells, cell_at}
+use Rattle.value_text.specs.Standing.{Stands, StandAll}
+use Rattle.value_text.specs.declared.print.Task.{Task}
+use Rattle.value_text.specs.declared.print.Task.TheVariants as T
+
+-- the last first
+unfoldable pub last_first : List Task → List Task
+last_first [] = []
+last_first (t ∷ ts) = last_first ts ++ t ∷ []
+
+-- fields, without the bracket or the comma before them
+abbrev pub printed_tail : Table → List ℕ → Values → List ℕ → List ℕ
+printed_tail tb [] vs rest = rest
+printed_tail tb (k ∷ ks) End rest = rest
+printed_tail tb (k ∷ ks) (More v vs) rest = printed tb k v (printed_more tb ks vs rest)
+
+-- the last fields of a cell are of these types, and stand for these trees
+pub record AreLast (tb : Table) (cs : Cells) (types : List ℕ) (p : ℕ) (c : Cell) (xs : Parts) : Type 0 where
+  pub there : cell_at cs p ≡ Some c
+  pub stand : StandAll tb cs types xs
+  pub words : drop (length c.fields - length types) c.fields ≡ words_of xs
+
+-- The tasks, the next first, print this text: a value, or the last fields of a cell with what stands before and
+-- behind them.
+abbrev pub Prints : Table → Cells → List Task → List ℕ → Type 0
+Prints tb cs [] text = text ≡ []
+Prints tb cs (T.Whole ty w ∷ ts) text = (x : Placed) × Stands tb cs ty x × (word_of x ≡ w) × (rest : List ℕ)
+    × (text ≡ printed tb ty (value_of x) rest) × Prints tb cs ts rest
+Prints tb cs (T.Fields types p ∷ ts) text = (c : Cell) × (xs : Parts) × AreLast tb cs types.now p c xs × (rest : List ℕ)
+    × (text ≡ printed_more tb types.now (values_of xs) rest) × Prints tb cs ts rest
+
+-- these tasks and what is printed make up the text
+abbrev pub Printing : Table → Cells → List Task → List ℕ → List ℕ → Type 0
+Printing tb cs ts out whole = (text : List ℕ) × Prints tb cs ts text × (out ++ text ≡ whole)

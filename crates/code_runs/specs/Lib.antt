@@ -1,0 +1,14 @@
+pub mod Limits
+pub mod Codes
+pub mod Words
+pub mod Cells
+pub mod Trees
+pub mod States
+pub mod Rows
+pub mod Steps
+pub mod Runs
+pub mod Gauges
+pub mod Apart
+pub mod Kept
+pub mod Traces
+pub mod Example

@@ -1,0 +1,9 @@
+pub mod Once
+pub mod Order
+pub mod Numbers
+pub mod Walks
+pub mod Known
+pub mod Found
+pub mod ExampleTables
+pub mod Examples
+pub mod ExampleStack

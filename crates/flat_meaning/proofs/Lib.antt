@@ -1,0 +1,7 @@
+pub mod Left
+pub mod Bound
+pub mod Equations
+pub mod More
+pub mod Frames
+pub mod Peak
+pub mod Examples

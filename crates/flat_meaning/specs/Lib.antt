@@ -1,0 +1,4 @@
+pub mod Registers
+pub mod Matching
+pub mod Meaning
+pub mod Example

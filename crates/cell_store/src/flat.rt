@@ -122,6 +122,15 @@ impl Flat {
         self.left
     }
 
+    /// Whether it is as a new store, without a cell.
+    #[inline(always)]
+    pub fn is_new(&self) -> bool
+        ensures cells { IsTrue result → self.now.cells ≡ [] }
+        ensures released { IsTrue result → self.now.released ≡ [] }
+    {
+        self.words.is_empty()
+    }
+
     /// The number of released cells of size k.
     #[inline(always)]
     pub fn spare(&self, k: usize) -> usize

@@ -1,6 +1,6 @@
 // A store that takes cells.
 ghost use Rattle.std.specs.Prelude.{◌≡◌, ℕ, ◌+◌, ◌*◌, ◌<◌, ◌≤◌, ◌↔◌, [], ◌∷◌, ◌++◌, false, None, Some, Err, IfOk, OnOk};
-ghost use Rattle.std.specs.Prelude.{OnErr, length, replicate};
+ghost use Rattle.std.specs.Prelude.{IsTrue, OnErr, length, replicate};
 ghost use Rattle.fip_language.specs.declared.limits.TheConstants.{MOST_FIELDS, MOST_STORE_WORDS};
 ghost use Rattle.fip_language.specs.Store.{Cell};
 ghost use Rattle.cell_store.specs.Cells.{count_free};
@@ -77,6 +77,15 @@ impl Loader {
         ensures flags { length self.now.released ≡ length self.now.cells }
     {
         self.flat.left()
+    }
+
+    /// Whether it is as a new loader, without a cell.
+    #[inline(always)]
+    pub fn is_new(&self) -> bool
+        ensures cells { IsTrue result → self.now.cells ≡ [] }
+        ensures released { IsTrue result → self.now.released ≡ [] }
+    {
+        self.flat.is_new()
     }
 
     /// The number of released cells with `k` fields.

@@ -85,7 +85,7 @@ crediting_starts want first now vs ws h = record {
 }
 
 -- credit number i
-module _ (ks : List ℕ) (i s : ℕ) (lt : i < length ks) (is : s ≡ get_or ks i 0) (sizes : AreSizes ks) (first now : Loading) (vs : Values) (ws : List ℕ) (fits : words_up_to 16 (wanted ks vs) (free_in first) ≤ first.left) (h : IsCrediting (take i ks) (wanted ks vs) first now vs ws) where
+module _ (ks : List ℕ) (i s : ℕ) (lt : i < length ks) (is : s ≡ get_or ks i 0) (sizes : AreSizes ks) (first now : Loading) (vs : Values) (ws : List ℕ) (h : IsCrediting (take i ks) (wanted ks vs) first now vs ws) where
   range : (0 < s) × (s ≤ 16)
   range = subst (λ s. (0 < s) × (s ≤ 16)) (sym is) (sizes_at ks i sizes lt)
 
@@ -101,8 +101,8 @@ module _ (ks : List ℕ) (i s : ℕ) (lt : i < length ks) (is : s ≡ get_or ks 
   pub credit_on : (new : Loading) (ws' : List ℕ) → (p : ℕ) × (ws' ≡ ws ++ (2 * p + 1) ∷ []) × IsMade now new p (record { tag = 0; fields = replicate s 0 }) → IsCrediting (take (i + 1) ks) (wanted ks vs) first new vs ws'
   credit_on new ws' m = subst (λ ks'. IsCrediting ks' (wanted ks vs) first new vs ws') (sym next) (crediting_on (take i ks) s (wanted ks vs) first now new vs ws ws' m.0 h range.0 range.1 in_want m.1 m.2)
 
-  pub credit_fits : (0 < s → s ≤ 16 → (free_in now s ≡ 0) × (now.left < s + 1)) → ⊥
-  credit_fits full =
+  pub credit_fits : words_up_to 16 (wanted ks vs) (free_in first) ≤ first.left → (0 < s → s ≤ 16 → (free_in now s ≡ 0) × (now.left < s + 1)) → ⊥
+  credit_fits fits full =
       let f = full range.0 range.1 in
       let a = in_want in
       let b = count_append s (take i ks) (s ∷ []) in

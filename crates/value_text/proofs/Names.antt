@@ -305,6 +305,11 @@ not_found tb sound t text n h = by_lookup (lookup 0 (characters text) (shapes tb
       let k : f.s.name ≡ text = sym (same_bytes text f.s.name n (upper_bytes f.s.name u) f.same) in
       absurd (h (λ e. not_empty f.s u e k) f.c (f.s, f.there, k))
 
+-- the name of a constructor has bytes of names alone
+pub name_bytes : (tb : Table) → IsSoundTable tb → (ty c : ℕ) (text : List ℕ) → 0 < ty → (s : Shape) × (slice_get (constructors tb ty) c ≡ Some s) × (s.name ≡ text) → are_name_bytes text ≡ true
+name_bytes tb sound zero c text z h = absurd (omega (arith, z))
+name_bytes tb sound (suc t) c text z h = ap are_name_bytes (sym h.2) ∙ upper_bytes (h.0).name (sound.names t c h.0 h.1)
+
 -- what the reader of a name gives, where it found the name and where not
 module _ (tb : Table) (sound : IsSoundTable tb) (bytes : List ℕ) (at start end : ℕ) (text : List ℕ) (from : start ≤ end) (within : end ≤ length bytes) (is : text ≡ take (end - start) (drop start bytes)) (name : are_name_bytes (take (end - start) (drop start bytes)) ≡ true) (behind : end < length bytes → is_name_byte (get_or bytes end 0) ≡ false) (skips : (s : State) → act tb s Blank ≡ Some s → runs tb bytes s at ≡ runs tb bytes s start) (first : start < length bytes → is_blank (get_or bytes start 0) ≡ false) where
   n : ℕ

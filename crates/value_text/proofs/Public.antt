@@ -22,7 +22,7 @@ use Rattle.value_text.specs.declared.load.LoadError.TheVariants as L
 use Rattle.value_text.specs.Loaded.{IsGiven, IsLoaded, needed, wanted, words_up_to, free_in}
 use Rattle.value_text.specs.Standing.{Stands, StandAll, Holds, HoldAll}
 use Rattle.value_text.specs.Answered.{IsAnswer}
-use Rattle.value_text.proofs.Taken.{words_zero, words_suc}
+use Rattle.value_text.proofs.Whole.{nothing_left, accepted_same}
 
 -- a tree that is held has the type of its value
 no_fields_left : (tb : Table) (ks : List ℕ) → HaveTypes tb ks End → ks ≡ []
@@ -43,16 +43,6 @@ mutual
   held_stand_all tb cs [] (MoreParts x xs) h t = absurd t
   held_stand_all tb cs (k ∷ ks) NoParts h t = absurd t
   held_stand_all tb cs (k ∷ ks) (MoreParts x xs) h t = (held_stands tb cs k x h.0 t.0, held_stand_all tb cs ks xs h.1 t.1)
-
-nothing_left : (n : ℕ) (want free : ℕ → ℕ) → words_up_to n (λ k. want k - want k) free ≡ 0
-nothing_left zero want free = words_zero (λ k. want k - want k) free
-nothing_left (suc n) want free =
-    let h = nothing_left n want free in
-    let d : (suc n + 1) * (want (suc n) - want (suc n) - free (suc n)) ≡ 0 = ap (λ x. (suc n + 1) * x) (let z : want (suc n) - want (suc n) - free (suc n) ≡ 0 = omega arith in z) ∙ mul-zero (suc n + 1) in
-    words_suc n (λ k. want k - want k) free ∙ ap₂ (λ a x. a + x) h d
-
-accepted_same : (a b : Values) → Accepted a ≡ Accepted b → a ≡ b
-accepted_same a b e = cc
 
 module _ (tb : Table) (types credits bytes : List ℕ) (given : IsGiven tb types credits bytes) (first : Loading) where
   abbrev Answer : Type 0

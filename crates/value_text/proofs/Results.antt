@@ -21,7 +21,7 @@ credit_result size old new ws ws' w fs (Err a) z m e = tt
 
 -- an event is put down, where there is room
 pub put_fails : (tb : Table) (types bytes : List ℕ) (first now : Loading) (e : B.Stopped) → ((k : ℕ) → e ≡ S.BadValue k → ⊥) → (e ≡ S.Full → (want : ℕ → ℕ) (vs : Values) → HasRoom tb types bytes want first vs → ⊥) → Built tb types bytes first now (Err e)
-put_fails tb types bytes first now (S.BadValue k) v f = λ want vs room. v k refl
+put_fails tb types bytes first now (S.BadValue k) v f = absurd (v k refl)
 put_fails tb types bytes first now S.Full v f = λ want vs room. f refl want vs room
 put_fails tb types bytes first now S.NoMemory v f = tt
 

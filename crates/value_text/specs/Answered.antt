@@ -21,6 +21,22 @@ pub record CanLoad (tb : Table) (types credits bytes : List ℕ) (first : Loadin
   pub fits : needed first credits vs ≤ first.left
   pub flags : length first.released ≡ length first.cells
 
+-- what comes of credits behind values that were built
+abbrev pub Credited : List ℕ → Loading → Loading → Values → Result (Vec ℕ Global) B.Stopped → Type 0
+Credited credits first now vs (Ok ws) = IsCrediting credits (wanted credits vs) first now vs ws.items
+Credited credits first now vs (Err (S.BadValue k)) = ⊥
+Credited credits first now vs (Err S.Full) = needed first credits vs ≤ first.left → ⊥
+Credited credits first now vs (Err S.NoMemory) = Unit {0}
+
+-- what comes of a whole text and credits, whatever the room
+abbrev pub WholeBuilt : Table → List ℕ → List ℕ → List ℕ → Loading → Loading → Result (Vec ℕ Global) B.Stopped → Type 0
+WholeBuilt tb types credits bytes first now (Ok ws) = (vs : Values) × (runs tb bytes (start types) 0 ≡ Accepted vs)
+    × IsCrediting credits (wanted credits vs) first now vs ws.items
+WholeBuilt tb types credits bytes first now (Err (S.BadValue k)) = runs tb bytes (start types) 0 ≡ Stopped k
+WholeBuilt tb types credits bytes first now (Err S.Full) = (vs : Values) → CanLoad tb types credits bytes first vs → ⊥
+WholeBuilt tb types credits bytes first now (Err S.NoMemory) = Unit {0}
+
+-- what comes of a text and credits that have room
 abbrev pub AllBuilt : List ℕ → Loading → Loading → Values → Result (Vec ℕ Global) B.Stopped → Type 0
 AllBuilt credits first now vs (Ok ws) = IsCrediting credits (wanted credits vs) first now vs ws.items
 AllBuilt credits first now vs (Err (S.BadValue k)) = ⊥
@@ -34,3 +50,10 @@ IsAnswer tb types credits bytes first (Err (L.BadValue k l)) = (l ≡ first) × 
 IsAnswer tb types credits bytes first (Err (L.Full n words l)) = (l ≡ first) × (words ≡ first.left) × (words < n)
     × (vs : Values) × (runs tb bytes (start types) 0 ≡ Accepted vs) × (n ≡ needed first credits vs)
 IsAnswer tb types credits bytes first (Err L.NoMemory) = Unit {0}
+
+-- what one reading of a text into a new loader tells
+abbrev pub IsTried : Table → List ℕ → List ℕ → List ℕ → Loading → Result (Loading × Vec ℕ Global) B.Stopped → Type 0
+IsTried tb types credits bytes first (Ok r) = IsAnswer tb types credits bytes first (Ok r)
+IsTried tb types credits bytes first (Err (S.BadValue k)) = runs tb bytes (start types) 0 ≡ Stopped k
+IsTried tb types credits bytes first (Err S.Full) = Unit {0}
+IsTried tb types credits bytes first (Err S.NoMemory) = Unit {0}

@@ -3,7 +3,7 @@ use Rattle.std.specs.Prelude.{◌≡◌, ◌⊎◌, ℕ, ◌+◌, ◌-◌, ◌*�
 use Rattle.std.specs.Prelude.{Result, Ok, Err}
 use Rattle.std.specs.declared.vec.Vec.{Vec}
 use Rattle.std.specs.declared.alloc.Global.{Global}
-use Rattle.fip_language.specs.Prefix.{Accepted}
+use Rattle.fip_language.specs.Prefix.{Accepted, Stopped as Halted}
 use Rattle.fip_language.specs.Values.{Values, cells_of_all}
 use Rattle.fip_language.specs.Table.{Table}
 use Rattle.fip_language.specs.Store.{Cell, Parts, int_word, values_of, words_of, count, uses_of_all}
@@ -74,6 +74,12 @@ pub record IsCrediting (credits : List ℕ) (want : ℕ → ℕ) (first now : Lo
   pub zero : AreZero now.cells places credits
   pub taken : IsTaken want (wanted credits vs) (λ p. uses_of_all p trees + count p places) first now
 
+-- the text is of these values, which are a part of what is wanted
+pub record IsRead (tb : Table) (types bytes : List ℕ) (want : ℕ → ℕ) (first : Loading) (vs : Values) : Type 0 where
+  pub reads : runs tb bytes (start types) 0 ≡ Accepted vs
+  pub wanted : (k : ℕ) → cells_of_all k vs ≤ want k
+  pub flags : length first.released ≡ length first.cells
+
 -- there is room for all that is wanted, of which the values are a part
 pub record HasRoom (tb : Table) (types bytes : List ℕ) (want : ℕ → ℕ) (first : Loading) (vs : Values) : Type 0 where
   pub reads : runs tb bytes (start types) 0 ≡ Accepted vs
@@ -83,10 +89,9 @@ pub record HasRoom (tb : Table) (types bytes : List ℕ) (want : ℕ → ℕ) (f
 
 -- what the builder of a whole text gives
 abbrev pub Built : Table → List ℕ → List ℕ → Loading → Loading → Result (Vec ℕ Global) Stopped → Type 0
-Built tb types bytes first now (Ok ws) = (want : ℕ → ℕ) → (vs : Values) → HasRoom tb types bytes want first vs →
-    IsBuilt want first now vs ws.items
-Built tb types bytes first now (Err (S.BadValue k)) = (want : ℕ → ℕ) → (vs : Values) →
-    HasRoom tb types bytes want first vs → ⊥
+Built tb types bytes first now (Ok ws) = (vs : Values) × (runs tb bytes (start types) 0 ≡ Accepted vs)
+    × ((want : ℕ → ℕ) → IsRead tb types bytes want first vs → IsBuilt want first now vs ws.items)
+Built tb types bytes first now (Err (S.BadValue k)) = runs tb bytes (start types) 0 ≡ Halted k
 Built tb types bytes first now (Err S.Full) = (want : ℕ → ℕ) → (vs : Values) →
     HasRoom tb types bytes want first vs → ⊥
 Built tb types bytes first now (Err S.NoMemory) = Unit {0}

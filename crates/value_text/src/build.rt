@@ -28,6 +28,7 @@ pub enum Stopped {
 }
 
 // The 64 bits of an int.
+#[inline(always)]
 fn int_bits(i: i64) -> u64
     ensures { result ≡ int_word i }
 {
@@ -39,6 +40,7 @@ fn int_bits(i: i64) -> u64
 }
 
 // The word of a new cell, twice its place and 1, is put behind the others.
+#[inline(always)]
 fn push_cell(tag: u32, fields: &[u64], loader: &mut Loader) -> Result<u64, Stopped>
     requires some { 0 < length fields.now }
     requires few { length fields.now ≤ 16 }
@@ -56,6 +58,7 @@ fn push_cell(tag: u32, fields: &[u64], loader: &mut Loader) -> Result<u64, Stopp
 }
 
 // The cell of the last words, and its word in their place.
+#[inline(always)]
 fn close(tag: u32, size: usize, loader: &mut Loader, words: &mut Vec<u64>) -> Result<(), Stopped>
     ensures puts { OnOk result (Puts (Event.Closed tag size) words.old.items loader.old words.new.items loader.new) }
     ensures full { result ≡ Err Stopped.Full → CanPut (Event.Closed tag size) words.old.items loader.old → ⊥ }
@@ -78,6 +81,7 @@ fn close(tag: u32, size: usize, loader: &mut Loader, words: &mut Vec<u64>) -> Re
 }
 
 // A word is put behind the others.
+#[inline(always)]
 fn push_word(words: &mut Vec<u64>, word: u64) -> Result<(), Stopped>
     ensures words { OnOk result (words.new.items ≡ words.old.items ++ word ∷ []) }
     ensures memory { OnErr result (result ≡ Err Stopped.NoMemory) }
@@ -89,6 +93,7 @@ fn push_word(words: &mut Vec<u64>, word: u64) -> Result<(), Stopped>
 }
 
 /// What an event leaves in the store, and among the words that wait for their cells.
+#[inline(always)]
 pub fn put(event: Event, loader: &mut Loader, words: &mut Vec<u64>) -> Result<(), Stopped>
     ensures puts { OnOk result (Puts event words.old.items loader.old words.new.items loader.new) }
     ensures full { result ≡ Err Stopped.Full → CanPut event words.old.items loader.old → ⊥ }
@@ -152,7 +157,6 @@ fn add_credit(size: u8, loader: &mut Loader, words: &mut Vec<u64>) -> Result<(),
 /// A cell for each credit, behind the words of the values.
 pub fn add_credits(credits: &[u8], loader: &mut Loader, words: &mut Vec<u64>) -> Result<(), Stopped>
     ensures made { AreCredits credits.now → OnOk result ((first : Loading) (vs : Values) →
-        words_up_to 16 (wanted credits.now vs) (free_in first) ≤ first.left →
         IsBuilt (wanted credits.now vs) first loader.old vs words.old.items →
         IsCrediting credits.now (wanted credits.now vs) first loader.new vs words.new.items) }
     ensures full { AreCredits credits.now → result ≡ Err Stopped.Full → (first : Loading) (vs : Values) →

@@ -1,5 +1,6 @@
-// Values are loaded from text: a first pass tests the text and counts its cells, a second one makes them.
-ghost use Rattle.std.specs.Prelude.{◌≡◌, ◌⊎◌, ℕ, ◌+◌, ◌*◌, ◌-◌, ◌<◌, ◌≤◌, ◌^◌, List, length, Ok, Err, IfOk};
+// Values are loaded from text. Into a loader without a cell they are read once, and their cells made. Where they don't
+// fit, and where the loader has cells, a first pass tests the text and counts its cells, and a second one makes them.
+ghost use Rattle.std.specs.Prelude.{◌≡◌, ◌⊎◌, ℕ, ◌+◌, ◌*◌, ◌-◌, ◌<◌, ◌≤◌, ◌^◌, List, [], length, Ok, Err, IfOk};
 ghost use Rattle.std.specs.Prelude.{OnOk, MatchResult};
 ghost use Rattle.fip_language.specs.Prefix.{IsPlace};
 ghost use Rattle.fip_language.specs.SoundTable.{IsSoundTable, AreTypes};
@@ -12,7 +13,7 @@ ghost use Rattle.value_text.specs.Loaded.{types_of, AreSizes, AreCredits, IsGive
 ghost use Rattle.value_text.specs.Loaded.{words_up_to, free_in};
 ghost use Rattle.value_text.specs.Building.{IsBuilt};
 ghost use Rattle.value_text.specs.Counting.{IsCounted, count_at};
-ghost use Rattle.value_text.specs.Answered.{CanLoad, AllBuilt, IsAnswer};
+ghost use Rattle.value_text.specs.Answered.{CanLoad, Credited, WholeBuilt, AllBuilt, IsAnswer, IsTried};
 
 use crate::build::{Stopped, add_credits, build};
 use crate::counts::Counts;
@@ -86,9 +87,9 @@ fn words_needed(loader: &Loader, counts: &Counts) -> usize
 
 // The words of the values, and behind them those of the credits' cells.
 fn with_credits(words: Vec<u64>, credits: &[u8], loader: &mut Loader) -> Result<Vec<u64>, Stopped>
-    ensures { AreCredits credits.now → (first : Loading) (vs : Values) → needed first credits.now vs ≤ first.left →
+    ensures { AreCredits credits.now → (first : Loading) (vs : Values) →
         IsBuilt (wanted credits.now vs) first loader.old vs words.items →
-        AllBuilt credits.now first loader.new vs result }
+        Credited credits.now first loader.new vs result }
 {
     let mut words = words;
     match add_credits(credits, loader, &mut words) {
@@ -106,9 +107,9 @@ fn build_all(
     bytes: &[u8],
     loader: &mut Loader,
 ) -> Result<Vec<u64>, Stopped>
-    ensures { IsGiven table.now (types_of params.now) credits.now bytes.now → (vs : Values) →
-        CanLoad table.now (types_of params.now) credits.now bytes.now loader.old vs →
-        AllBuilt credits.now loader.old loader.new vs result }
+    ensures { IsGiven table.now (types_of params.now) credits.now bytes.now →
+        length loader.old.released ≡ length loader.old.cells →
+        WholeBuilt table.now (types_of params.now) credits.now bytes.now loader.old loader.new result }
 {
     match build(alloc, table, params, bytes, loader) {
         Ok(words) => with_credits(words, credits, loader),
@@ -205,7 +206,7 @@ fn load_counted(
 }
 
 // Counted first, then made.
-fn load_all(
+fn load_counting(
     alloc: Global,
     table: &TypeTable,
     params: &[Param],
@@ -220,6 +221,93 @@ fn load_all(
         Ok(counts) => load_counted(alloc, table, params, credits, bytes, counts, loader),
         Err(Refused::BadValue(at)) => Err(LoadError::BadValue { at, loader }),
         Err(Refused::NoMemory) => Err(LoadError::NoMemory),
+    }
+}
+
+// The words that the cells of the values have where the bytes are a text: one for each cell and one for each field,
+// and so two for each ( and one for each comma.
+fn words_of_text(bytes: &[u8]) -> usize {
+    let mut words = 0usize;
+    for chunk in bytes.chunks(64) {
+        words = words.wrapping_add(words_of_chunk(chunk) as usize);
+    }
+    words
+}
+
+// The same of so few bytes that a byte holds it.
+fn words_of_chunk(chunk: &[u8]) -> u8 {
+    let mut words = 0u8;
+    for b in chunk {
+        let opened = if *b == b'(' { 2 } else { 0 };
+        let comma = if *b == b',' { 1 } else { 0 };
+        words = words.wrapping_add(opened).wrapping_add(comma);
+    }
+    words
+}
+
+// Read once, into a loader of its own.
+fn load_new(
+    alloc: Global,
+    table: &TypeTable,
+    params: &[Param],
+    credits: &[u8],
+    bytes: &[u8],
+    words: usize,
+) -> Result<(Loader, Vec<u64>), Stopped>
+    requires { words ≤ 16777216 }
+    ensures { IsGiven table.now (types_of params.now) credits.now bytes.now → (first : Loading) → first.cells ≡ [] →
+        first.released ≡ [] → first.left ≡ words →
+        IsTried table.now (types_of params.now) credits.now bytes.now first result }
+{
+    let mut loader = Loader::new(alloc, words);
+    match loader.reserve(words_of_text(bytes).min(words)) {
+        Ok(()) => match build_all(alloc, table, params, credits, bytes, &mut loader) {
+            Ok(words) => Ok((loader, words)),
+            Err(e) => Err(e),
+        },
+        Err(_) => Err(Stopped::NoMemory),
+    }
+}
+
+// Into a loader without a cell a text is read once; only where it doesn't fit are its cells counted.
+fn load_once(
+    alloc: Global,
+    table: &TypeTable,
+    params: &[Param],
+    credits: &[u8],
+    bytes: &[u8],
+    loader: Loader,
+) -> Result<(Loader, Vec<u64>), LoadError>
+    requires cells { loader.cells ≡ [] }
+    requires released { loader.released ≡ [] }
+    ensures { IsGiven table.now (types_of params.now) credits.now bytes.now →
+        IsAnswer table.now (types_of params.now) credits.now bytes.now loader result }
+{
+    let words = loader.left();
+    match load_new(alloc, table, params, credits, bytes, words) {
+        Ok(loaded) => Ok(loaded),
+        Err(Stopped::BadValue(at)) => Err(LoadError::BadValue { at, loader }),
+        Err(Stopped::Full) => load_counting(alloc, table, params, credits, bytes, loader),
+        Err(Stopped::NoMemory) => Err(LoadError::NoMemory),
+    }
+}
+
+// Once or twice, as the loader has cells or not.
+fn load_all(
+    alloc: Global,
+    table: &TypeTable,
+    params: &[Param],
+    credits: &[u8],
+    bytes: &[u8],
+    loader: Loader,
+) -> Result<(Loader, Vec<u64>), LoadError>
+    ensures { IsGiven table.now (types_of params.now) credits.now bytes.now →
+        IsAnswer table.now (types_of params.now) credits.now bytes.now loader result }
+{
+    if loader.is_new() {
+        load_once(alloc, table, params, credits, bytes, loader)
+    } else {
+        load_counting(alloc, table, params, credits, bytes, loader)
     }
 }
 

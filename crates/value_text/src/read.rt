@@ -65,6 +65,7 @@ impl From<AllocError> for Refused {
 }
 
 // The first of a row of types, and the rest.
+#[inline(always)]
 pub fn split(types: &[u32]) -> Option<(u32, &[u32])>
     ensures { MatchOption result (types.now ≡ []) (λ r. types.now ≡ r.0 ∷ r.1.now) }
 {
@@ -99,6 +100,7 @@ pub fn cost(event: Event) -> usize
 }
 
 // A frame becomes the innermost.
+#[inline(always)]
 fn push_frame<'a>(cursor: &mut Cursor<'a>, frame: Frame<'a>) -> Result<(), AllocError>
     ensures frames { OnOk result (outline cursor.new ≡ record (outline cursor.old) {
       frames =
@@ -110,6 +112,7 @@ fn push_frame<'a>(cursor: &mut Cursor<'a>, frame: Frame<'a>) -> Result<(), Alloc
 }
 
 // Before an int.
+#[inline(always)]
 fn read_int<'a>(bytes: &[u8], cursor: &mut Cursor<'a>) -> Result<Option<Event>, Refused>
     requires place { cursor.old.at ≤ length bytes.now }
     requires next { cursor.old.next ≡ Some 0 }
@@ -132,6 +135,7 @@ fn read_int<'a>(bytes: &[u8], cursor: &mut Cursor<'a>) -> Result<Option<Event>, 
 }
 
 // Before a value of a data type.
+#[inline(always)]
 fn read_node<'a>(
     table: &'a TypeTable,
     ty: u32,
@@ -205,6 +209,7 @@ fn read_line<'a>(bytes: &[u8], cursor: &mut Cursor<'a>) -> Result<Option<Event>,
 }
 
 // Behind a field of the innermost open constructor, whose frame was taken off.
+#[inline(always)]
 fn read_field<'a>(
     bytes: &[u8],
     cursor: &mut Cursor<'a>,
@@ -247,6 +252,7 @@ fn read_field<'a>(
 }
 
 /// One step; none behind the last value, where only blanks and ends of lines come.
+#[inline(always)]
 pub fn step<'a>(
     table: &'a TypeTable,
     bytes: &[u8],

@@ -2,7 +2,8 @@
 // or the place of the first byte that doesn't fit, where the end counts as one.
 ghost use Rattle.std.specs.Prelude.{◌≡◌, ◌↔◌, ℕ, suc, ◌+◌, ◌*◌, ◌-◌, ◌<◌, ◌≤◌, ◌||◌, Bool, true, false, IsTrue};
 ghost use Rattle.std.specs.Prelude.{MatchOption, MatchResult, Some, None, length, take, drop, slice_get};
-ghost use Rattle.std.specs.Prelude.{slice_index_or, nat_le, nat_eq, max, FitsSigned, [], List};
+ghost use Rattle.std.specs.Prelude.{slice_index_or, nat_le, nat_eq, max, FitsSigned, [], List, IfSome, ◌^◌};
+ghost use Rattle.fip_base.specs.TableView.{IsNamed};
 ghost use Rattle.std.specs.Int.{w64};
 ghost use Rattle.fip_language.specs.Prefix.{Accepted, Stopped};
 ghost use Rattle.fip_language.specs.Values.{Int, Values};
@@ -17,6 +18,7 @@ ghost use Rattle.value_text.specs.Scan.{runs, is_name_byte, before_digits, begin
 
 use fip_base::table::{Constructor, TypeTable};
 
+#[inline(always)]
 fn blank(b: u8) -> bool
     ensures { result ≡ is_blank b }
 {
@@ -29,12 +31,14 @@ fn blank_or_line(b: u8) -> bool
     blank(b) || b == b'\n'
 }
 
+#[inline(always)]
 fn digit(b: u8) -> bool
     ensures { result ≡ is_digit b }
 {
     48 <= b && b <= 57
 }
 
+#[inline(always)]
 fn name_byte(b: u8) -> bool
     ensures { result ≡ is_name_byte b }
 {
@@ -42,6 +46,7 @@ fn name_byte(b: u8) -> bool
 }
 
 // The place behind the blanks.
+#[inline(always)]
 fn skip_blanks(bytes: &[u8], at: usize) -> usize
     requires { at ≤ length bytes.now }
     ensures from { at ≤ result }
@@ -59,6 +64,7 @@ fn skip_blanks(bytes: &[u8], at: usize) -> usize
 }
 
 // The place behind blanks and this sign: an LF or one of ( ) and comma.
+#[inline(always)]
 pub fn sign(bytes: &[u8], at: usize, byte: u8) -> Result<usize, usize>
     requires place { at ≤ length bytes.now }
     requires sign { is_sign (character byte) (character byte) ≡ true }
@@ -88,6 +94,7 @@ pub fn end_of_text(bytes: &[u8], at: usize) -> Result<(), usize>
     Ok(())
 }
 
+#[inline(always)]
 fn int_from(negative: bool, n: u64) -> i64
     requires { n ≤ bound negative }
     ensures { result ≡ int_of negative n }
@@ -102,7 +109,22 @@ fn int_from(negative: bool, n: u64) -> i64
 }
 
 // The number with one digit more, unless it leaves the range of an int.
+#[inline(always)]
 fn with_digit(negative: bool, n: u64, byte: u8) -> Option<u64>
+    requires range { n ≤ bound negative }
+    requires digit { is_digit byte ≡ true }
+    ensures { MatchOption result (nat_le (10 * n + (byte - 48)) (bound negative) ≡ false)
+        (λ m. (m ≡ 10 * n + (byte - 48)) × (m ≤ bound negative)) }
+{
+    if n < 922337203685477580 {
+        return Some(10 * n + (byte - 48) as u64);
+    }
+    with_last_digit(negative, n, byte)
+}
+
+// The same of a number with which a further digit may leave the range.
+#[inline(never)]
+fn with_last_digit(negative: bool, n: u64, byte: u8) -> Option<u64>
     requires range { n ≤ bound negative }
     requires digit { is_digit byte ≡ true }
     ensures { MatchOption result (nat_le (10 * n + (byte - 48)) (bound negative) ≡ false)
@@ -118,6 +140,7 @@ fn with_digit(negative: bool, n: u64, byte: u8) -> Option<u64>
 }
 
 // A number, its sign read.
+#[inline(always)]
 fn digits(bytes: &[u8], at: usize, negative: bool) -> Result<(i64, usize), usize>
     requires place { at ≤ length bytes.now }
     requires blank { negative ≡ false → at < length bytes.now → is_blank (slice_index_or bytes.now at 0) ≡ false }
@@ -148,6 +171,7 @@ fn digits(bytes: &[u8], at: usize, negative: bool) -> Result<(i64, usize), usize
 }
 
 // An int behind blanks, and the place behind it.
+#[inline(always)]
 pub fn int(bytes: &[u8], at: usize) -> Result<(i64, usize), usize>
     requires { at ≤ length bytes.now }
     ensures within { MatchResult result (λ r. (at < r.1) × (r.1 ≤ length bytes.now)) (λ k. ℕ) }
@@ -217,8 +241,81 @@ fn longest_front(constructors: &[Constructor], text: &[u8]) -> usize
     longest
 }
 
+// Whether two texts of the same length are alike.
+#[inline(always)]
+fn alike(text: &[u8], other: &[u8]) -> bool
+    requires { length text.now ≡ length other.now }
+    ensures { IsTrue result → text.now ≡ other.now }
+{
+    for i in 0..text.len() {
+        if text[i] != other[i] {
+            return false;
+        }
+    }
+    true
+}
+
+// Whether this name stands at a place, and no further byte of a name behind it.
+#[inline(always)]
+fn stands(name: &[u8], bytes: &[u8], at: usize) -> bool
+    requires { at ≤ length bytes.now }
+    ensures some { IsTrue result → 0 < length name.now }
+    ensures within { IsTrue result → at + length name.now ≤ length bytes.now }
+    ensures same { IsTrue result → name.now ≡ take (length name.now) (drop at bytes.now) }
+    ensures behind { IsTrue result → at + length name.now < length bytes.now →
+        is_name_byte (slice_index_or bytes.now (at + length name.now) 0) ≡ false }
+{
+    let size = name.len();
+    if size == 0 || size > bytes.len() - at {
+        return false;
+    }
+    let end = at + size;
+    alike(name, &bytes[at..end]) && (end == bytes.len() || !name_byte(bytes[end]))
+}
+
+// The constructor whose name stands at a place, and the place behind the name.
+#[inline(always)]
+fn constructor_here(constructors: &[Constructor], bytes: &[u8], at: usize) -> Option<(u32, usize)>
+    requires place { at ≤ length bytes.now }
+    requires few { length constructors.now < 2 ^ 32 }
+    ensures within { IfSome result (λ r. (at < r.1) × (r.1 ≤ length bytes.now)) }
+    ensures named { IfSome result (λ r. IsNamed constructors.now (take (r.1 - at) (drop at bytes.now)) r.0) }
+    ensures behind { IfSome result (λ r. r.1 < length bytes.now →
+        is_name_byte (slice_index_or bytes.now r.1 0) ≡ false) }
+{
+    for i in 0..constructors.len() {
+        let name = constructors[i].name();
+        if stands(name, bytes, at) {
+            return Some((i as u32, at + name.len()));
+        }
+    }
+    None
+}
+
 // The constructor whose name comes behind blanks, and the place behind the name.
+#[inline(always)]
 pub fn name(table: &TypeTable, ty: u32, bytes: &[u8], at: usize) -> Result<(u32, usize), usize>
+    requires known { ty ≤ length table.now }
+    requires data { 0 < ty }
+    requires place { at ≤ length bytes.now }
+    ensures within { MatchResult result (λ r. (at < r.1) × (r.1 ≤ length bytes.now)) (λ k. ℕ) }
+    ensures there { MatchResult result (λ r. (s : Shape) × (slice_get (constructors table.now ty) r.0 ≡ Some s))
+        (λ k. ℕ) }
+    ensures reads { IsSoundTable table.now → MatchResult result (λ r. (s : Shape)
+        × (slice_get (constructors table.now ty) r.0 ≡ Some s) × ((around : Around) →
+        runs table.now bytes.now (Want ty around) at ≡ runs table.now bytes.now (named r.0 s.fields around) r.1))
+        (λ k. (around : Around) → runs table.now bytes.now (Want ty around) at ≡ Stopped k) }
+{
+    let start = skip_blanks(bytes, at);
+    match constructor_here(table.constructors_of(ty), bytes, start) {
+        Some(found) => Ok(found),
+        None => name_or_place(table, ty, bytes, at),
+    }
+}
+
+// The same by the longest name that comes, and where no constructor has it, the place that tells so.
+#[inline(never)]
+fn name_or_place(table: &TypeTable, ty: u32, bytes: &[u8], at: usize) -> Result<(u32, usize), usize>
     requires known { ty ≤ length table.now }
     requires data { 0 < ty }
     requires place { at ≤ length bytes.now }

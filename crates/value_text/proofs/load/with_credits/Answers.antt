@@ -4,7 +4,7 @@ use Rattle.value_text.proofs.Whole.{not_credited}
 use Rattle.value_text.proofs.load.with_credits.Goals as goal
 
 pub returns-in-Ok : goal.returns-in-Ok
-returns-in-Ok c = λ a first vs f b. c.in-Ok.ensures.made a first vs f b
+returns-in-Ok c = λ a first vs b. c.in-Ok.ensures.made a first vs b
 
 pub returns-in-Err : goal.returns-in-Err
-returns-in-Err c = λ a first vs f b. not_credited c.args.credits.now first c.add_credits.new.loader vs c.in-Err.e (λ k e. c.in-Err.ensures.value k (ap Err e)) (λ e. c.in-Err.ensures.full a (ap Err e) first vs f b)
+returns-in-Err c = λ a first vs b. not_credited c.args.credits.now first c.add_credits.new.loader vs c.in-Err.e (λ k e. c.in-Err.ensures.value k (ap Err e)) (λ e f. c.in-Err.ensures.full a (ap Err e) first vs f b)

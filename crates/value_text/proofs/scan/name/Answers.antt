@@ -1,6 +1,7 @@
-use Rattle.std.proofs.Common.{arith, refl, subst, ◌-◌, take, drop}
-use Rattle.value_text.specs.Scan.{IsLongest}
-use Rattle.value_text.proofs.Names.{name_found, name_lost}
+use Rattle.std.proofs.Common.{◌<◌, ◌≤◌, List, arith, refl, subst, ◌-◌, take, drop}
+use Rattle.fip_language.specs.Table.{Shape}
+use Rattle.fip_base.specs.TableView.{IsNamed}
+use Rattle.value_text.proofs.Names.{name_bytes, name_found}
 use Rattle.value_text.proofs.scan.name.Goals as goal
 
 pub returns-in-Some-clause-reads : goal.returns-in-Some-clause-reads
@@ -8,15 +9,10 @@ returns-in-Some-clause-reads c = λ sound.
     let tb = c.args.table.now in
     let bytes = c.args.bytes.now in
     let s = c.skip_blanks-start.ensures in
-    let text = take (c.name_end-end.result - c.skip_blanks-start.result) (drop c.skip_blanks-start.result bytes) in
-    let e = c.name_end-end.ensures in
-    name_found tb sound bytes c.args.at c.skip_blanks-start.result c.name_end-end.result text e.from e.within refl e.name e.behind (s.skips tb) s.behind c.args.ty c.in-Some.c (let h = c.requires.data in omega (arith, h)) c.in-Some.ensures.found
-
-pub returns-in-None-clause-reads : goal.returns-in-None-clause-reads
-returns-in-None-clause-reads c = λ sound.
-    let tb = c.args.table.now in
-    let bytes = c.args.bytes.now in
-    let s = c.skip_blanks-start.ensures in
-    let text = take (c.name_end-end.result - c.skip_blanks-start.result) (drop c.skip_blanks-start.result bytes) in
-    let e = c.name_end-end.ensures in
-    name_lost tb sound bytes c.args.at c.skip_blanks-start.result c.name_end-end.result text e.from e.within refl e.name e.behind (s.skips tb) s.behind c.args.ty c.longest_front.result (let h = c.requires.data in omega (arith, h)) c.in-None.ensures.none (subst (λ ss. IsLongest text ss c.longest_front.result) c.constructors_of.ensures.same c.longest_front.ensures)
+    let start = c.skip_blanks-start.result in
+    let end = c.in-Some.found.1 in
+    let text = take (end - start) (drop start bytes) in
+    let e = c.in-Some.ensures in
+    let named = subst (λ (ss : List Shape). IsNamed ss text c.in-Some.found.0) c.constructors_of.ensures.same e.named in
+    let from : start ≤ end = let w = e.within.0 in omega (arith, w) in
+    name_found tb sound bytes c.args.at start end text from e.within.1 refl (name_bytes tb sound c.args.ty c.in-Some.found.0 text c.requires.data named) e.behind (s.skips tb) s.behind c.args.ty c.in-Some.found.0 c.requires.data named

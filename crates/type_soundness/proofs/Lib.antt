@@ -1,0 +1,6 @@
+pub mod FilledSlots
+pub mod Arithmetic
+pub mod Scopes
+pub mod WellTyped
+pub mod Covering
+pub mod Examples

@@ -1,0 +1,9 @@
+pub mod CellLaw
+pub mod NamesGrow
+pub mod Tracking
+pub mod Binding
+pub mod Patterns
+pub mod Owned
+pub mod Arguments
+pub mod Counting
+pub mod Keeping

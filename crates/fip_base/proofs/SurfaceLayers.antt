@@ -3,9 +3,10 @@ use Rattle.std.proofs.Common.{Vec, Global, ◌≡◌, ℕ, ℤ, Bool, List, [], 
 use Rattle.fip_language.specs.declared.Place.{Place}
 use Rattle.fip_language.specs.declared.Operator.{Operator}
 use Rattle.fip_language.specs.Surface as S
+use Rattle.fip_base.specs.CoreView as core
 use Rattle.fip_base.specs.SurfaceView as surface
 use Rattle.fip_base.specs.SurfaceView.{Action, action, acted, kept, left_by}
-use Rattle.fip_base.specs.declared.surface.Written.{Written}
+use Rattle.fip_base.specs.declared.core_form.Written.{Written}
 use Rattle.fip_base.specs.declared.surface.Step.TheOpen as O
 use Rattle.fip_base.specs.declared.surface.Step.TheVariants as V
 use Rattle.fip_base.specs.declared.surface.Step.TheFolds.{fold-roll-Step, fold_out-Expression, fold_out-Block}
@@ -23,7 +24,7 @@ block_view b =
     fold_out-Block surface.Action S.Block surface.Case S.Expression surface.LetPart surface.step_action surface.block_step surface.clause_step
     surface.expression_step surface.let_step b
 
-pub action_variable : (x : Vec ℕ Global) (p : Place) → action (V.Variable x p) ≡ surface.Leaves (S.Variable x.items p)
+pub action_variable : (x : List ℕ) (p : Place) → action (V.Variable x p) ≡ surface.Leaves (S.Variable x p)
 action_variable x p =
     ap surface.action (sym (V.rolls-Variable x p))
     ∙ fold-roll-Step surface.Action S.Block surface.Case S.Expression surface.LetPart surface.step_action surface.block_step surface.clause_step
@@ -35,13 +36,13 @@ action_literal i p =
     ∙ fold-roll-Step surface.Action S.Block surface.Case S.Expression surface.LetPart surface.step_action surface.block_step surface.clause_step
     surface.expression_step surface.let_step (O.Literal i p)
 
-pub action_call : (x : Vec ℕ Global) (p : Place) (ts : Vec Written Global) (es : Vec Expression Global) → action (V.Call x p ts es) ≡ surface.Leaves (S.Call x.items p (surface.writtens ts.items) (surface.expressions es.items))
+pub action_call : (x : List ℕ) (p : Place) (ts : Vec Written Global) (es : Vec Expression Global) → action (V.Call x p ts es) ≡ surface.Leaves (S.Call x p (core.writtens ts.items) (surface.expressions es.items))
 action_call x p ts es =
     ap surface.action (sym (V.rolls-Call x p ts es))
     ∙ fold-roll-Step surface.Action S.Block surface.Case S.Expression surface.LetPart surface.step_action surface.block_step surface.clause_step
     surface.expression_step surface.let_step (O.Call x p ts es)
 
-pub action_constructor : (x : Vec ℕ Global) (p : Place) (es : Vec Expression Global) → action (V.Constructor x p es) ≡ surface.Leaves (S.Constructor x.items p (surface.expressions es.items))
+pub action_constructor : (x : List ℕ) (p : Place) (es : Vec Expression Global) → action (V.Constructor x p es) ≡ surface.Leaves (S.Constructor x p (surface.expressions es.items))
 action_constructor x p es =
     ap surface.action (sym (V.rolls-Constructor x p es))
     ∙ fold-roll-Step surface.Action S.Block surface.Case S.Expression surface.LetPart surface.step_action surface.block_step surface.clause_step

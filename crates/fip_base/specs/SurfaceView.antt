@@ -7,14 +7,8 @@
 use Rattle.std.specs.Prelude.{pos, Bool, List, [], ◌∷◌, map, reverse, option_map}
 use Rattle.fip_language.specs.declared.Place.{Place}
 use Rattle.fip_language.specs.declared.Operator.{Operator}
-use Rattle.fip_language.specs.Core as C
 use Rattle.fip_language.specs.Surface as S
-use Rattle.fip_base.specs.CoreView.{writtens_of}
-use Rattle.fip_base.specs.declared.surface.Written.{Written}
-use Rattle.fip_base.specs.declared.surface.Written.TheOpen as W
-use Rattle.fip_base.specs.declared.surface.Written.TheFolds.{fold-Written}
-use Rattle.fip_base.specs.declared.surface.ResultType.{ResultType}
-use Rattle.fip_base.specs.declared.surface.ResultType.TheVariants as R
+use Rattle.fip_base.specs.CoreView.{written, writtens, result_type, static, data_type}
 use Rattle.fip_base.specs.declared.surface.Bind.{Bind}
 use Rattle.fip_base.specs.declared.surface.Pattern.{Pattern}
 use Rattle.fip_base.specs.declared.surface.Pattern.TheOpen as P
@@ -26,38 +20,16 @@ use Rattle.fip_base.specs.declared.surface.Expression.{Expression}
 use Rattle.fip_base.specs.declared.surface.Block.{Block}
 use Rattle.fip_base.specs.declared.surface.Let.{Let}
 use Rattle.fip_base.specs.declared.surface.Clause.{Clause}
-use Rattle.fip_base.specs.declared.surface.SignatureParameter.{SignatureParameter}
-use Rattle.fip_base.specs.declared.surface.Static.{Static}
-use Rattle.fip_base.specs.declared.surface.Static.TheVariants as T
 use Rattle.fip_base.specs.declared.surface.Parameter.{Parameter}
 use Rattle.fip_base.specs.declared.surface.Function.{Function}
-use Rattle.fip_base.specs.declared.surface.TypeName.{TypeName}
-use Rattle.fip_base.specs.declared.surface.DataConstructor.{DataConstructor}
-use Rattle.fip_base.specs.declared.surface.Data.{Data}
 use Rattle.fip_base.specs.declared.surface.Declaration.{Declaration}
 use Rattle.fip_base.specs.declared.surface.Declaration.TheVariants as D
 use Rattle.fip_base.specs.declared.surface.Program.{Program}
 
--- types
-
-abbrev pub written_step : W.Written-F C.Written → C.Written
-written_step (W.Int p) = C.WrittenInt p
-written_step (W.Name x p ts) = C.WrittenName x.items p (writtens_of ts.items)
-
-abbrev pub written : Written → C.Written
-written = fold-Written C.Written written_step
-
-abbrev pub writtens : List Written → C.Writtens
-writtens ts = writtens_of (map written ts)
-
-abbrev pub result_type : ResultType → C.Result
-result_type (R.One t) = C.OneResult (written t)
-result_type (R.Tuple p ts) = C.TupleResult p (map written ts.items)
-
 -- patterns and what a let binds
 
 abbrev pub bind : Bind → S.Bind
-bind b = record { name = b.name.items; place = b.place; annotation = option_map written b.annotation }
+bind b = record { name = b.name; place = b.place; annotation = option_map written b.annotation }
 
 abbrev pub patterns_of : List S.Pattern → S.Patterns
 patterns_of [] = S.NoPatterns
@@ -65,9 +37,9 @@ patterns_of (p ∷ ps) = S.MorePatterns p (patterns_of ps)
 
 abbrev pub pattern_step : P.Pattern-F S.Pattern → S.Pattern
 pattern_step (P.Wildcard p) = S.Wildcard p
-pattern_step (P.Variable x p) = S.VariablePattern x.items p
+pattern_step (P.Variable x p) = S.VariablePattern x p
 pattern_step (P.Literal i p) = S.LiteralPattern i p
-pattern_step (P.Constructor x p ps) = S.ConstructorPattern x.items p (patterns_of ps.items)
+pattern_step (P.Constructor x p ps) = S.ConstructorPattern x p (patterns_of ps.items)
 
 abbrev pub pattern : Pattern → S.Pattern
 pattern = fold-Pattern S.Pattern pattern_step
@@ -142,10 +114,10 @@ one_of (e ∷ []) = e
 one_of (e ∷ f ∷ es) = S.Tuple origin (expressions_of (reverse (e ∷ f ∷ es)))
 
 abbrev pub step_action : E.Step-F Action S.Block Case S.Expression LetPart → Action
-step_action (E.Variable x p) = Leaves (S.Variable x.items p)
+step_action (E.Variable x p) = Leaves (S.Variable x p)
 step_action (E.Literal i p) = Leaves (S.Literal i p)
-step_action (E.Call x p ts es) = Leaves (S.Call x.items p (writtens ts.items) (expressions_of es.items))
-step_action (E.Constructor x p es) = Leaves (S.Constructor x.items p (expressions_of es.items))
+step_action (E.Call x p ts es) = Leaves (S.Call x p (writtens ts.items) (expressions_of es.items))
+step_action (E.Constructor x p es) = Leaves (S.Constructor x p (expressions_of es.items))
 step_action (E.Bracket b) = Leaves (S.Bracket b)
 step_action (E.Tuple p es) = Leaves (S.Tuple p (expressions_of es.items))
 step_action (E.Binary o p) = Operates o p
@@ -189,42 +161,20 @@ clauses cs = clauses_of (map clause cs)
 
 -- declarations
 
-abbrev pub signature_parameter : SignatureParameter → C.SignatureParameter
-signature_parameter p = record { lent = p.lent; type = written p.written }
-
-abbrev pub static : Static → C.Static
-static (T.Type x p) = C.TypeParameter x.items p
-static (T.Function x p ps r) = C.FunctionParameter x.items p (map signature_parameter ps.items) (result_type r)
-
 abbrev pub parameter : Parameter → S.Parameter
-parameter p = record { lent = p.lent; name = p.name.items; place = p.place; type = written p.written }
+parameter p = record { lent = p.lent; name = p.name; place = p.place; type = written p.ty }
 
 abbrev pub function : Function → S.Function
 function f =
     record {
       kind = f.kind;
       credits = f.credits.items;
-      name = f.name.items;
+      name = f.name;
       place = f.place;
       statics = map static f.statics.items;
       parameters = map parameter f.parameters.items;
-      result = result_type f.gives;
+      result = result_type f.result;
       body = block f.body;
-    }
-
-abbrev pub type_name : TypeName → C.TypeName
-type_name t = record { name = t.name.items; place = t.place }
-
-abbrev pub data_constructor : DataConstructor → C.DataConstructor
-data_constructor c = record { name = c.name.items; place = c.place; fields = map written c.fields.items }
-
-abbrev pub data_type : Data → C.Data
-data_type d =
-    record {
-      name = d.name.items;
-      place = d.place;
-      parameters = map type_name d.parameters.items;
-      constructors = map data_constructor d.constructors.items;
     }
 
 abbrev pub declaration : Declaration → S.Declaration

@@ -1,7 +1,7 @@
 // The core form of a program. The definition that it mirrors is fip_language's specs/Core.antt.
 use crate::plain::{CreditMark, FunKind, Name, Operator, Place};
 
-/// A type as it is written.
+/// A type as it is written; a static argument is written as a type too.
 #[derive(Drop)]
 pub enum Written {
     Int(Place),

@@ -1,65 +1,27 @@
 //! The tree of a source text.
 //!
 //! Every list is a `Vec`, and trees nest only where the source has brackets, so at most 100 deep. An expression is
-//! a list of steps in postfix order.
+//! a list of steps in postfix order. What the core form takes over as it is written, types, static parameters and data
+//! types, is the core form's own, so that it moves from one tree into the other.
 
-use fip_language::{CreditMark, FunKind, Operator, Place};
-
-/// A type as it is written; a static argument is written as a type too.
-#[derive(Drop)]
-pub enum Written {
-    Int {
-        place: Place,
-    },
-    Name {
-        name: Vec<u8>,
-        place: Place,
-        arguments: Vec<Written>,
-    },
-}
-
-/// What a function gives: one value or a tuple, whose place is its bracket.
-#[derive(Drop)]
-pub enum ResultType {
-    One { written: Written },
-    Tuple { place: Place, parts: Vec<Written> },
-}
-
-/// A parameter of a signature.
-#[derive(Drop)]
-pub struct SignatureParameter {
-    pub lent: bool,
-    pub written: Written,
-}
-
-/// A static parameter: a type, or a function with a signature.
-#[derive(Drop)]
-pub enum Static {
-    Type {
-        name: Vec<u8>,
-        place: Place,
-    },
-    Function {
-        name: Vec<u8>,
-        place: Place,
-        parameters: Vec<SignatureParameter>,
-        gives: ResultType,
-    },
-}
+pub use crate::core_form::{
+    Data, DataConstructor, ResultType, SignatureParameter, Static, TypeName, Written,
+};
+use crate::plain::{CreditMark, FunKind, Name, Operator, Place};
 
 /// A parameter of a function.
 #[derive(Drop)]
 pub struct Parameter {
     pub lent: bool,
-    pub name: Vec<u8>,
+    pub name: Name,
     pub place: Place,
-    pub written: Written,
+    pub ty: Written,
 }
 
 /// What a let binds to a name, or to `_`, whose name is `_`.
 #[derive(Drop)]
 pub struct Bind {
-    pub name: Vec<u8>,
+    pub name: Name,
     pub place: Place,
     pub annotation: Option<Written>,
 }
@@ -71,7 +33,7 @@ pub enum Pattern {
         place: Place,
     },
     Variable {
-        name: Vec<u8>,
+        name: Name,
         place: Place,
     },
     Literal {
@@ -79,7 +41,7 @@ pub enum Pattern {
         place: Place,
     },
     Constructor {
-        name: Vec<u8>,
+        name: Name,
         place: Place,
         patterns: Vec<Pattern>,
     },
@@ -91,7 +53,7 @@ pub enum Pattern {
 #[cycle(tree)]
 pub enum Step {
     Variable {
-        name: Vec<u8>,
+        name: Name,
         place: Place,
     },
     /// The place is that of the minus where there is one.
@@ -100,13 +62,13 @@ pub enum Step {
         place: Place,
     },
     Call {
-        name: Vec<u8>,
+        name: Name,
         place: Place,
         statics: Vec<Written>,
         arguments: Vec<Expression>,
     },
     Constructor {
-        name: Vec<u8>,
+        name: Name,
         place: Place,
         arguments: Vec<Expression>,
     },
@@ -174,36 +136,12 @@ pub struct Clause {
 pub struct Function {
     pub kind: FunKind,
     pub credits: Vec<CreditMark>,
-    pub name: Vec<u8>,
+    pub name: Name,
     pub place: Place,
     pub statics: Vec<Static>,
     pub parameters: Vec<Parameter>,
-    pub gives: ResultType,
+    pub result: ResultType,
     pub body: Block,
-}
-
-/// A type parameter of a data type.
-#[derive(Drop)]
-pub struct TypeName {
-    pub name: Vec<u8>,
-    pub place: Place,
-}
-
-/// A constructor of a data type, with its fields' types.
-#[derive(Drop)]
-pub struct DataConstructor {
-    pub name: Vec<u8>,
-    pub place: Place,
-    pub fields: Vec<Written>,
-}
-
-/// A data type. The place is its name's.
-#[derive(Drop)]
-pub struct Data {
-    pub name: Vec<u8>,
-    pub place: Place,
-    pub parameters: Vec<TypeName>,
-    pub constructors: Vec<DataConstructor>,
 }
 
 /// A declaration.

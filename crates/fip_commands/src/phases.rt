@@ -42,7 +42,7 @@ fn core_form_of(alloc: Global, source: &[u8]) -> Result<Core, Failure>
         return Err(Failure::Refused(bare_refusal(alloc, Rule::E05)));
     }
     match parse(alloc, source) {
-        Ok(program) => Ok(core_of(alloc, &program)?),
+        Ok(program) => Ok(core_of(alloc, program)?),
         Err(ParseError::Refused(refusal)) => Err(Failure::Refused(refusal)),
         Err(ParseError::NoMemory) => Err(Failure::NoMemory),
     }

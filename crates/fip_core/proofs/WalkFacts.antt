@@ -2,6 +2,8 @@
 use Rattle.std.proofs.Common.{◌≡◌, ℕ, zero, suc, ◌+◌, ◌≤◌, ◌<◌, Bool, true, false, cond, List, [], ◌∷◌, ◌++◌, length, map, take, Some, None, refl, sym, ap, ◌∙◌, arith, zero-add, length-take}
 use Rattle.std.specs.Prelude.{reverse, pos, codes, ◌==◌}
 use Rattle.std.specs.Str.{bytes_eq}
+use Rattle.std.specs.declared.vec.IntoIter.{IntoIter}
+use Rattle.std.specs.Vec.Iter.{into_iter_items, into_iter_len}
 use Rattle.std.proofs.lemmas.List.{append_assoc, append-nil, reverse-append, take-append-le, take_all, map-append, length-map}
 use Rattle.fip_language.specs.declared.Place.{Place}
 use Rattle.fip_language.specs.declared.Operator.{Operator}
@@ -505,15 +507,25 @@ several_steps s n out es now next made st a e h i c =
       next = ap (λ y. (part_left y).next) q ∙ sym f.part_next ∙ o.next ∙ ap (λ y. (form.whole s n y).next) (sym i);
     }
 
-pub waited_all : (s : Scope) (n : ℕ) (out : List Binding) (xs : List Step) (i : ℕ) (now : Scope) (next : ℕ) (made : List Binding) (st : List C.Argument) → length xs ≤ i → st ≡ (waits s n (left_by (map surface.action (take i xs)) [])).arguments → made ≡ out ++ (waits s n (left_by (map surface.action (take i xs)) [])).lets → next ≡ (waits s n (left_by (map surface.action (take i xs)) [])).next → now ≡ s → Waited s n out (left_by (map surface.action xs) []) now next made st
-waited_all s n out xs i now next made st h hst hm hn hs =
-    let all : take i xs ≡ xs = take_all i xs h in
-    record {
-      stack = hst ∙ ap (λ z. (waits s n (left_by (map surface.action z) [])).arguments) all;
-      lets = hm ∙ ap (λ z. out ++ (waits s n (left_by (map surface.action z) [])).lets) all;
-      next = hn ∙ ap (λ z. (waits s n (left_by (map surface.action z) [])).next) all;
-      scope = hs;
-    }
+nothing : {A : Type 0} (xs : List A) → length xs ≡ 0 → xs ≡ []
+nothing [] h = refl
+nothing (x ∷ xs) h = absurd (omega (arith, h))
+
+-- an iterator that has ended has nothing left
+pub none_left : {A Z : Type 0} (it : IntoIter A Z) → into_iter_len it ≡ 0 → into_iter_items it ≡ []
+none_left it h = nothing it.rest.items (sym it.rest.ok.0 ∙ h)
+
+-- what it gave is then all
+pub taken_all : {A Z : Type 0} (it : IntoIter A Z) (xs ys : List A) → ys ++ into_iter_items it ≡ xs → into_iter_len it ≡ 0 → ys ≡ xs
+taken_all it xs ys e h = sym (append-nil ys) ∙ ap (λ z. ys ++ z) (sym (none_left it h)) ∙ e
+
+pub waited_all : (s : Scope) (n : ℕ) (out : List Binding) (xs ys : List Step) (now : Scope) (next : ℕ) (made : List Binding) (st : List C.Argument) → ys ≡ xs → st ≡ (waits s n (left_by (map surface.action ys) [])).arguments → made ≡ out ++ (waits s n (left_by (map surface.action ys) [])).lets → next ≡ (waits s n (left_by (map surface.action ys) [])).next → now ≡ s → Waited s n out (left_by (map surface.action xs) []) now next made st
+waited_all s n out xs ys now next made st all hst hm hn hs = record {
+  stack = hst ∙ ap (λ z. (waits s n (left_by (map surface.action z) [])).arguments) all;
+  lets = hm ∙ ap (λ z. out ++ (waits s n (left_by (map surface.action z) [])).lets) all;
+  next = hn ∙ ap (λ z. (waits s n (left_by (map surface.action z) [])).next) all;
+  scope = hs;
+}
 
 -- functions
 
@@ -522,17 +534,15 @@ parameters_length n [] = refl
 parameters_length n (p ∷ ps) = ap suc (parameters_length (n + 1) ps)
 
 -- the body, from the scope that the parameters left
-pub body_stands : (s e : Scope) (m : ℕ) (ps qs : List Q.Parameter) (body : S.Block) (b : C.Block) → ps ≡ qs → e ≡ [] → s ≡ form.with_binders e (map (λ p. p.binder) (form.parameters 0 (map surface.parameter ps))) → m ≡ 0 + length ps → b ≡ (form.as_block (form.contents s m body)).block → b ≡ (form.as_block (form.contents (form.with_binders [] (map (λ p. p.binder) (form.parameters 0 (map surface.parameter qs)))) (length (form.parameters 0 (map surface.parameter qs))) body)).block
-body_stands s e m ps qs body b hp he hs hm hb =
-    let es : s ≡ form.with_binders [] (map (λ p. p.binder) (form.parameters 0 (map surface.parameter qs))) =
-    hs
-    ∙ ap (λ z. form.with_binders z (map (λ p. p.binder) (form.parameters 0 (map surface.parameter ps)))) he
-    ∙ ap (λ y. form.with_binders [] (map (λ p. p.binder) (form.parameters 0 (map surface.parameter y)))) hp in
-    let em : m ≡ length (form.parameters 0 (map surface.parameter qs)) =
-    hm ∙ zero-add (length ps) ∙ ap length hp ∙ sym (length-map qs surface.parameter) ∙ sym (parameters_length 0 (map surface.parameter qs)) in
+pub body_stands : (s e : Scope) (m : ℕ) (ps : List Q.Parameter) (body : S.Block) (b : C.Block) → e ≡ [] → s ≡ form.with_binders e (map (λ p. p.binder) (form.parameters 0 (map surface.parameter ps))) → m ≡ 0 + length ps → b ≡ (form.as_block (form.contents s m body)).block → b ≡ (form.as_block (form.contents (form.with_binders [] (map (λ p. p.binder) (form.parameters 0 (map surface.parameter ps)))) (length (form.parameters 0 (map surface.parameter ps))) body)).block
+body_stands s e m ps body b he hs hm hb =
+    let es : s ≡ form.with_binders [] (map (λ p. p.binder) (form.parameters 0 (map surface.parameter ps))) =
+    hs ∙ ap (λ z. form.with_binders z (map (λ p. p.binder) (form.parameters 0 (map surface.parameter ps)))) he in
+    let em : m ≡ length (form.parameters 0 (map surface.parameter ps)) =
+    hm ∙ zero-add (length ps) ∙ sym (length-map ps surface.parameter) ∙ sym (parameters_length 0 (map surface.parameter ps)) in
     hb
     ∙ ap (λ z. (form.as_block (form.contents z m body)).block) es
-    ∙ ap (λ k. (form.as_block (form.contents (form.with_binders [] (map (λ p. p.binder) (form.parameters 0 (map surface.parameter qs)))) k body)).block) em
+    ∙ ap (λ k. (form.as_block (form.contents (form.with_binders [] (map (λ p. p.binder) (form.parameters 0 (map surface.parameter ps)))) k body)).block) em
 
 -- brackets round a block with lets
 pub brackets_of_lets : (ls : List surface.LetPart) (e : S.Expression) (w : form.Whole) → 0 < length ls → form.in_brackets (surface.block_of ls e) w ≡ record { lets = []; expression = C.Nested (form.as_block w).block; next = (form.as_block w).next }

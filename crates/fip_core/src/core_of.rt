@@ -2,6 +2,9 @@
 //
 // An expression is a list of steps in postfix order. The operands that wait for their operator are kept on a stack,
 // as arguments: each is bound as soon as it is complete, so that the lets stand from left to right.
+//
+// The surface tree is taken apart: its names, its types, its static parameters and its data types move into the core
+// form. Only the names that binders bring into scope are copied, and the names that no source has are made.
 ghost use Rattle.std.specs.Prelude.{◌≡◌, ℕ, ◌+◌, List, [], ◌∷◌, ◌++◌, map, length, cond, Some, None, IfOk, OnOk};
 ghost use Rattle.std.specs.Str.{bytes_eq};
 ghost use Rattle.fip_language.specs.Core as C;
@@ -12,16 +15,12 @@ ghost use Rattle.fip_base.specs.SurfaceView as surface;
 ghost use Rattle.fip_core.specs.Walk.{bindings, fresh, part_behind, waiting, top_argument, under_top, stepped};
 ghost use Rattle.fip_core.specs.Walk.{part_left, let_made, case_made, operands_of};
 
-use crate::copies::{
-    copy_all_written, copy_annotation, copy_credits, copy_data, copy_name, copy_result,
-    copy_statics, copy_written,
-};
 use crate::scope::Scope;
 use fip_base::core_form::{
     Argument, Binder, Binding, Block, Clause, Core, Expression, Function, MatchKind, Parameter,
     Pattern,
 };
-use fip_base::plain::{NoMemory, Operator, Place};
+use fip_base::plain::{Name, NoMemory, Operator, Place};
 use fip_base::surface as tree;
 use fip_base::surface::Step;
 use std::alloc::Global;
@@ -35,21 +34,21 @@ const ORIGIN: Place = Place {
 
 // A walk through one function: what is in scope, and the number of the next binder.
 #[derive(Drop)]
-struct Walk<'a> {
+struct Walk {
     alloc: Global,
-    scope: Scope<'a>,
+    scope: Scope,
     next: usize,
 }
 
 /// The core form of a program; an error where no memory is left.
-pub fn core_of(alloc: Global, program: &tree::Program) -> Result<Core, NoMemory>
-    ensures same { IfOk result (λ c. core_view.core c ≡ form.core_form (surface.program program.now)) }
+pub fn core_of(alloc: Global, program: tree::Program) -> Result<Core, NoMemory>
+    ensures same { IfOk result (λ c. core_view.core c ≡ form.core_form (surface.program program)) }
 {
     let mut types = Vec::new(alloc);
     let mut functions = Vec::new(alloc);
-    for declaration in &program.declarations {
+    for declaration in program.declarations {
         match declaration {
-            tree::Declaration::Data { data } => types.push(copy_data(alloc, data)?)?,
+            tree::Declaration::Data { data } => types.push(data)?,
             tree::Declaration::Function { function } => functions.push(core_function(
                 alloc, function,
             )?)?,
@@ -58,24 +57,24 @@ pub fn core_of(alloc: Global, program: &tree::Program) -> Result<Core, NoMemory>
     Ok(Core { types, functions })
 }
 
-fn core_function(alloc: Global, f: &tree::Function) -> Result<Function, NoMemory>
-    ensures same { IfOk result (λ r. core_view.function r ≡ form.function (surface.function f.now)) }
+fn core_function(alloc: Global, f: tree::Function) -> Result<Function, NoMemory>
+    ensures same { IfOk result (λ r. core_view.function r ≡ form.function (surface.function f)) }
 {
     let mut walk = Walk {
         alloc,
         scope: Scope::new(alloc),
         next: 0,
     };
-    let parameters = walk.parameters(&f.parameters)?;
-    let body = walk.block(&f.body)?;
+    let parameters = walk.parameters(f.parameters)?;
+    let body = walk.block(f.body)?;
     Ok(Function {
         kind: f.kind,
-        credits: copy_credits(alloc, &f.credits)?,
-        name: copy_name(alloc, &f.name)?,
+        credits: f.credits,
+        name: f.name,
         place: f.place,
-        statics: copy_statics(alloc, &f.statics)?,
+        statics: f.statics,
         parameters,
-        result: copy_result(alloc, &f.gives)?,
+        result: f.result,
         body,
     })
 }
@@ -135,20 +134,15 @@ fn match_of(
     }
 }
 
-fn constructor(
-    alloc: Global,
-    name: &[u8],
-    place: Place,
-    arguments: Vec<Argument>,
-) -> Result<Expression, NoMemory>
-    ensures same { IfOk result (λ r. core_view.expression r
-        ≡ C.Give (C.Constructor name.now place (core_view.arguments arguments.items))) }
+fn constructor(name: Name, place: Place, arguments: Vec<Argument>) -> Expression
+    ensures same { core_view.expression result
+        ≡ C.Give (C.Constructor name place (core_view.arguments arguments.items)) }
 {
-    Ok(Expression::Give(Argument::Constructor {
-        name: copy_name(alloc, name)?,
+    Expression::Give(Argument::Constructor {
+        name,
         place,
         arguments,
-    }))
+    })
 }
 
 // How many operands a step takes.
@@ -196,7 +190,7 @@ fn put(out: &mut Vec<Binding>, binders: Vec<Binder>, bound: Expression) -> Resul
     Ok(())
 }
 
-impl<'a> Walk<'a> {
+impl Walk {
     // The number of a new binder. There are never more binders than memory holds.
     fn number(&mut self) -> Result<usize, NoMemory>
         ensures given { IfOk result (λ n. n ≡ self.old.next) }
@@ -209,36 +203,35 @@ impl<'a> Walk<'a> {
     }
 
     // A new binder of a name, which is in scope from here on.
-    fn binder(&mut self, name: &'a [u8], place: Place) -> Result<Binder, NoMemory>
-        ensures given { IfOk result (λ b. core_view.binder b ≡ fresh self.old.next name.now place) }
+    fn binder(&mut self, name: Name, place: Place) -> Result<Binder, NoMemory>
+        ensures given { IfOk result (λ b. core_view.binder b ≡ fresh self.old.next name place) }
         ensures scope { OnOk result (self.new.scope ≡ form.with_binder self.old.scope
-            (fresh self.old.next name.now place)) }
+            (fresh self.old.next name place)) }
         ensures next { OnOk result (self.new.next ≡ self.old.next + 1) }
     {
         let number = self.number()?;
-        self.enter(name, number)?;
+        self.enter(name.as_slice(), number)?;
         Ok(Binder {
             number,
-            name: copy_name(self.alloc, name)?,
+            name,
             place,
             annotation: None,
         })
     }
 
     // A variable, as what its name has in scope.
-    fn occurrence(&self, name: &'a [u8], place: Place) -> Result<Argument, NoMemory>
-        ensures same { IfOk result (λ a. core_view.argument a ≡ C.Variable (form.lookup self.now.scope name.now)
-            name.now place) }
+    fn occurrence(&self, name: Name, place: Place) -> Argument
+        ensures same { core_view.argument result ≡ C.Variable (form.lookup self.now.scope name) name place }
     {
-        Ok(Argument::Variable {
-            binder: self.scope.find(name),
-            name: copy_name(self.alloc, name)?,
+        Argument::Variable {
+            binder: self.scope.find(name.as_slice()),
+            name,
             place,
-        })
+        }
     }
 
     // A binder comes into scope; nothing names the one whose name is _.
-    fn enter(&mut self, name: &'a [u8], number: usize) -> Result<(), NoMemory>
+    fn enter(&mut self, name: &[u8], number: usize) -> Result<(), NoMemory>
         ensures scope { let one = self.old.scope ++ record { name = name.now; number = number } ∷ [] in
             OnOk result (self.new.scope ≡ cond (bytes_eq name.now form.underscore) self.old.scope one) }
         ensures next { self.new.next ≡ self.old.next }
@@ -246,24 +239,23 @@ impl<'a> Walk<'a> {
         if name == b"_".as_slice() {
             return Ok(());
         }
-        self.scope.bind(name, number)
+        self.scope.bind(self.alloc, name, number)
     }
 
-    fn parameters(&mut self, ps: &'a [tree::Parameter]) -> Result<Vec<Parameter>, NoMemory>
+    fn parameters(&mut self, ps: Vec<tree::Parameter>) -> Result<Vec<Parameter>, NoMemory>
         ensures given { IfOk result (λ r. map core_view.parameter r.items
-            ≡ form.parameters self.old.next (map surface.parameter ps.now)) }
-        ensures scope { let made = form.parameters self.old.next (map surface.parameter ps.now) in
+            ≡ form.parameters self.old.next (map surface.parameter ps.items)) }
+        ensures scope { let made = form.parameters self.old.next (map surface.parameter ps.items) in
             OnOk result (self.new.scope ≡ form.with_binders self.old.scope (map (λ p. p.binder) made)) }
-        ensures next { OnOk result (self.new.next ≡ self.old.next + length ps.now) }
+        ensures next { OnOk result (self.new.next ≡ self.old.next + length ps.items) }
     {
         let mut parameters = Vec::new(self.alloc);
         for p in ps {
-            let binder = self.binder(&p.name, p.place)?;
-            let ty = copy_written(self.alloc, &p.written)?;
+            let binder = self.binder(p.name, p.place)?;
             parameters.push(Parameter {
                 lent: p.lent,
                 binder,
-                ty,
+                ty: p.ty,
             })?;
         }
         Ok(parameters)
@@ -282,7 +274,7 @@ impl<'a> Walk<'a> {
         let place = place_of(&bound);
         let binder = Binder {
             number,
-            name: copy_name(self.alloc, b"_")?,
+            name: underscore(self.alloc)?,
             place,
             annotation: None,
         };
@@ -291,7 +283,7 @@ impl<'a> Walk<'a> {
         put(out, binders, bound)?;
         Ok(Argument::Variable {
             binder: Some(number),
-            name: copy_name(self.alloc, b"_")?,
+            name: underscore(self.alloc)?,
             place,
         })
     }
@@ -387,27 +379,24 @@ impl<'a> Walk<'a> {
 
     // An expression that isn't bound yet, and before it the lets of its parts.
     #[cycle(walk)]
-    fn whole(
-        &mut self,
-        e: &'a tree::Expression,
-        out: &mut Vec<Binding>,
-    ) -> Result<Expression, NoMemory>
+    fn whole(&mut self, e: tree::Expression, out: &mut Vec<Binding>) -> Result<Expression, NoMemory>
         ensures given { IfOk result (λ r. core_view.expression r
-            ≡ (form.whole self.old.scope self.old.next (surface.expression e.now)).expression) }
+            ≡ (form.whole self.old.scope self.old.next (surface.expression e)).expression) }
         ensures lets { OnOk result (bindings out.new.items ≡ bindings out.old.items
-            ++ (form.whole self.old.scope self.old.next (surface.expression e.now)).lets) }
+            ++ (form.whole self.old.scope self.old.next (surface.expression e)).lets) }
         ensures next { OnOk result (self.new.next ≡ (form.whole self.old.scope self.old.next
-            (surface.expression e.now)).next) }
+            (surface.expression e)).next) }
         ensures scope { OnOk result (self.new.scope ≡ self.old.scope) }
     {
-        let Some((last, before)) = e.steps.split_last() else {
+        let mut before = e.steps;
+        let Some(last) = before.pop() else {
             return Ok(Expression::Give(literal(0, ORIGIN)));
         };
         let mut stack = Vec::new(self.alloc);
         for step in before {
             self.operand(step, &mut stack, out)?;
         }
-        if stack.len() <= operands(last) {
+        if stack.len() <= operands(&last) {
             return self.step(last, &mut stack, out);
         }
         self.operand(last, &mut stack, out)?;
@@ -419,17 +408,13 @@ impl<'a> Walk<'a> {
 
     // An expression as a part: an argument is itself, any other is bound.
     #[cycle(walk)]
-    fn part(
-        &mut self,
-        e: &'a tree::Expression,
-        out: &mut Vec<Binding>,
-    ) -> Result<Argument, NoMemory>
+    fn part(&mut self, e: tree::Expression, out: &mut Vec<Binding>) -> Result<Argument, NoMemory>
         ensures given { IfOk result (λ r. core_view.argument r
-            ≡ (form.as_part (form.whole self.old.scope self.old.next (surface.expression e.now))).argument) }
+            ≡ (form.as_part (form.whole self.old.scope self.old.next (surface.expression e))).argument) }
         ensures lets { OnOk result (bindings out.new.items ≡ bindings out.old.items
-            ++ (form.as_part (form.whole self.old.scope self.old.next (surface.expression e.now))).lets) }
+            ++ (form.as_part (form.whole self.old.scope self.old.next (surface.expression e))).lets) }
         ensures next { OnOk result (self.new.next ≡ (form.as_part
-            (form.whole self.old.scope self.old.next (surface.expression e.now))).next) }
+            (form.whole self.old.scope self.old.next (surface.expression e))).next) }
         ensures scope { OnOk result (self.new.scope ≡ self.old.scope) }
     {
         let lets = out.len();
@@ -442,18 +427,18 @@ impl<'a> Walk<'a> {
     #[cycle(walk)]
     fn operand(
         &mut self,
-        step: &'a Step,
+        step: Step,
         stack: &mut Vec<Argument>,
         out: &mut Vec<Binding>,
     ) -> Result<(), NoMemory>
         ensures given { OnOk result (waiting stack.new.items
-            ≡ (part_left (stepped self.old.scope self.old.next (surface.action step.now)
+            ≡ (part_left (stepped self.old.scope self.old.next (surface.action step)
             (waiting stack.old.items))).arguments) }
         ensures lets { OnOk result (bindings out.new.items ≡ bindings out.old.items
-            ++ (part_left (stepped self.old.scope self.old.next (surface.action step.now)
+            ++ (part_left (stepped self.old.scope self.old.next (surface.action step)
             (waiting stack.old.items))).lets) }
         ensures next { OnOk result (self.new.next ≡ (part_left
-            (stepped self.old.scope self.old.next (surface.action step.now) (waiting stack.old.items))).next) }
+            (stepped self.old.scope self.old.next (surface.action step) (waiting stack.old.items))).next) }
         ensures scope { OnOk result (self.new.scope ≡ self.old.scope) }
     {
         let lets = out.len();
@@ -468,45 +453,45 @@ impl<'a> Walk<'a> {
     #[cycle(walk)]
     fn step(
         &mut self,
-        step: &'a Step,
+        step: Step,
         stack: &mut Vec<Argument>,
         out: &mut Vec<Binding>,
     ) -> Result<Expression, NoMemory>
         ensures given { IfOk result (λ r. core_view.expression r
-            ≡ (stepped self.old.scope self.old.next (surface.action step.now) (waiting stack.old.items)).expression) }
+            ≡ (stepped self.old.scope self.old.next (surface.action step) (waiting stack.old.items)).expression) }
         ensures lets { OnOk result (bindings out.new.items ≡ bindings out.old.items
-            ++ (stepped self.old.scope self.old.next (surface.action step.now) (waiting stack.old.items)).lets) }
+            ++ (stepped self.old.scope self.old.next (surface.action step) (waiting stack.old.items)).lets) }
         ensures stack { OnOk result (waiting stack.new.items
-            ≡ (stepped self.old.scope self.old.next (surface.action step.now) (waiting stack.old.items)).stack) }
-        ensures next { OnOk result (self.new.next ≡ (stepped self.old.scope self.old.next (surface.action step.now)
+            ≡ (stepped self.old.scope self.old.next (surface.action step) (waiting stack.old.items)).stack) }
+        ensures next { OnOk result (self.new.next ≡ (stepped self.old.scope self.old.next (surface.action step)
             (waiting stack.old.items)).next) }
         ensures scope { OnOk result (self.new.scope ≡ self.old.scope) }
     {
         match step {
-            Step::Variable { name, place } => Ok(Expression::Give(self.occurrence(name, *place)?)),
-            Step::Literal { value, place } => Ok(Expression::Give(literal(*value, *place))),
+            Step::Variable { name, place } => Ok(Expression::Give(self.occurrence(name, place))),
+            Step::Literal { value, place } => Ok(Expression::Give(literal(value, place))),
             Step::Call {
                 name,
                 place,
                 statics,
                 arguments,
             } => Ok(Expression::Call {
-                name: copy_name(self.alloc, name)?,
-                place: *place,
-                statics: copy_all_written(self.alloc, statics)?,
+                name,
+                place,
+                statics,
                 arguments: self.parts(arguments, out)?,
             }),
             Step::Constructor {
                 name,
                 place,
                 arguments,
-            } => constructor(self.alloc, name, *place, self.parts(arguments, out)?),
+            } => Ok(constructor(name, place, self.parts(arguments, out)?)),
             Step::Bracket { block } => self.brackets(block, out),
             Step::Tuple { place, parts } => Ok(Expression::Tuple {
-                place: *place,
+                place,
                 arguments: self.parts(parts, out)?,
             }),
-            Step::Binary { operator, place } => Ok(operation(*operator, *place, stack)),
+            Step::Binary { operator, place } => Ok(operation(operator, place, stack)),
             Step::Match {
                 destructive,
                 place,
@@ -514,13 +499,13 @@ impl<'a> Walk<'a> {
             } => {
                 let scrutinee = self.as_variable(pop_operand(stack), out)?;
                 let clauses = self.clauses(clauses)?;
-                Ok(match_of(*destructive, *place, scrutinee, clauses))
+                Ok(match_of(destructive, place, scrutinee, clauses))
             }
             Step::If { place, yes, no } => {
                 let scrutinee = self.as_variable(pop_operand(stack), out)?;
                 let met = self.block(yes)?;
                 let unmet = self.block(no)?;
-                self.choice(*place, scrutinee, met, unmet)
+                self.choice(place, scrutinee, met, unmet)
             }
         }
     }
@@ -557,15 +542,15 @@ impl<'a> Walk<'a> {
     #[cycle(walk)]
     fn parts(
         &mut self,
-        es: &'a [tree::Expression],
+        es: Vec<tree::Expression>,
         out: &mut Vec<Binding>,
     ) -> Result<Vec<Argument>, NoMemory>
         ensures given { IfOk result (λ r. map core_view.argument r.items
-            ≡ (form.parts self.old.scope self.old.next (surface.expressions es.now)).arguments) }
+            ≡ (form.parts self.old.scope self.old.next (surface.expressions es.items)).arguments) }
         ensures lets { OnOk result (bindings out.new.items ≡ bindings out.old.items
-            ++ (form.parts self.old.scope self.old.next (surface.expressions es.now)).lets) }
+            ++ (form.parts self.old.scope self.old.next (surface.expressions es.items)).lets) }
         ensures next { OnOk result (self.new.next ≡ (form.parts self.old.scope self.old.next
-            (surface.expressions es.now)).next) }
+            (surface.expressions es.items)).next) }
         ensures scope { OnOk result (self.new.scope ≡ self.old.scope) }
     {
         let mut arguments = Vec::new(self.alloc);
@@ -579,38 +564,39 @@ impl<'a> Walk<'a> {
     #[cycle(walk)]
     fn brackets(
         &mut self,
-        block: &'a tree::Block,
+        block: tree::Block,
         out: &mut Vec<Binding>,
     ) -> Result<Expression, NoMemory>
         ensures given { IfOk result (λ r. core_view.expression r
-            ≡ (form.whole self.old.scope self.old.next (S.Bracket (surface.block block.now))).expression) }
+            ≡ (form.whole self.old.scope self.old.next (S.Bracket (surface.block block))).expression) }
         ensures lets { OnOk result (bindings out.new.items ≡ bindings out.old.items
-            ++ (form.whole self.old.scope self.old.next (S.Bracket (surface.block block.now))).lets) }
+            ++ (form.whole self.old.scope self.old.next (S.Bracket (surface.block block))).lets) }
         ensures next { OnOk result (self.new.next ≡ (form.whole self.old.scope self.old.next
-            (S.Bracket (surface.block block.now))).next) }
+            (S.Bracket (surface.block block))).next) }
         ensures scope { OnOk result (self.new.scope ≡ self.old.scope) }
     {
         if block.lets.is_empty() {
-            return self.whole(&block.last, out);
+            return self.whole(block.last, out);
         }
         let block = self.block(block)?;
         Ok(Expression::Nested(Box::new(self.alloc, block)?))
     }
 
     #[cycle(walk)]
-    fn block(&mut self, block: &'a tree::Block) -> Result<Block, NoMemory>
+    fn block(&mut self, block: tree::Block) -> Result<Block, NoMemory>
         ensures given { IfOk result (λ r. core_view.block r
-            ≡ (form.as_block (form.contents self.old.scope self.old.next (surface.block block.now))).block) }
+            ≡ (form.as_block (form.contents self.old.scope self.old.next (surface.block block))).block) }
         ensures next { OnOk result (self.new.next ≡ (form.as_block
-            (form.contents self.old.scope self.old.next (surface.block block.now))).next) }
+            (form.contents self.old.scope self.old.next (surface.block block))).next) }
         ensures scope { OnOk result (self.new.scope ≡ self.old.scope) }
     {
+        let tree::Block { lets, last } = block;
         let kept = self.scope.len();
         let mut bindings = Vec::new(self.alloc);
-        for l in &block.lets {
+        for l in lets {
             self.binding(l, &mut bindings)?;
         }
-        let whole = self.whole(&block.last, &mut bindings)?;
+        let whole = self.whole(last, &mut bindings)?;
         self.scope.release(kept);
         let last = self.as_last(whole, &mut bindings)?;
         Ok(Block { bindings, last })
@@ -618,41 +604,41 @@ impl<'a> Walk<'a> {
 
     // A let: its bound expression, and then its binders, which are in scope from here on.
     #[cycle(walk)]
-    fn binding(&mut self, l: &'a tree::Let, out: &mut Vec<Binding>) -> Result<(), NoMemory>
+    fn binding(&mut self, l: tree::Let, out: &mut Vec<Binding>) -> Result<(), NoMemory>
         ensures lets { OnOk result (bindings out.new.items ≡ bindings out.old.items
-            ++ (let_made self.old.scope self.old.next (surface.let_part l.now)).lets) }
+            ++ (let_made self.old.scope self.old.next (surface.let_part l)).lets) }
         ensures scope { OnOk result (self.new.scope ≡ (let_made self.old.scope self.old.next
-            (surface.let_part l.now)).scope) }
+            (surface.let_part l)).scope) }
         ensures next { OnOk result (self.new.next ≡ (let_made self.old.scope self.old.next
-            (surface.let_part l.now)).next) }
+            (surface.let_part l)).next) }
     {
-        let bound = self.whole(&l.bound, out)?;
-        let binders = self.binders(&l.binds)?;
+        let bound = self.whole(l.bound, out)?;
+        let binders = self.binders(l.binds)?;
         put(out, binders, bound)
     }
 
-    fn binders(&mut self, binds: &'a [tree::Bind]) -> Result<Vec<Binder>, NoMemory>
+    fn binders(&mut self, binds: Vec<tree::Bind>) -> Result<Vec<Binder>, NoMemory>
         ensures given { IfOk result (λ r. core_view.binders r.items
-            ≡ form.binders self.old.next (map surface.bind binds.now)) }
-        ensures scope { let made = form.binders self.old.next (map surface.bind binds.now) in
+            ≡ form.binders self.old.next (map surface.bind binds.items)) }
+        ensures scope { let made = form.binders self.old.next (map surface.bind binds.items) in
             OnOk result (self.new.scope ≡ form.with_binders self.old.scope made) }
-        ensures next { OnOk result (self.new.next ≡ self.old.next + length binds.now) }
+        ensures next { OnOk result (self.new.next ≡ self.old.next + length binds.items) }
     {
         let mut binders = Vec::new(self.alloc);
         for b in binds {
-            let mut binder = self.binder(&b.name, b.place)?;
-            binder.annotation = copy_annotation(self.alloc, &b.annotation)?;
+            let mut binder = self.binder(b.name, b.place)?;
+            binder.annotation = b.annotation;
             binders.push(binder)?;
         }
         Ok(binders)
     }
 
     #[cycle(walk)]
-    fn clauses(&mut self, cs: &'a [tree::Clause]) -> Result<Vec<Clause>, NoMemory>
+    fn clauses(&mut self, cs: Vec<tree::Clause>) -> Result<Vec<Clause>, NoMemory>
         ensures given { IfOk result (λ r. core_view.clauses r.items
-            ≡ (form.cases self.old.scope self.old.next (surface.clauses cs.now)).clauses) }
+            ≡ (form.cases self.old.scope self.old.next (surface.clauses cs.items)).clauses) }
         ensures next { OnOk result (self.new.next ≡ (form.cases self.old.scope self.old.next
-            (surface.clauses cs.now)).next) }
+            (surface.clauses cs.items)).next) }
         ensures scope { OnOk result (self.new.scope ≡ self.old.scope) }
     {
         let mut clauses = Vec::new(self.alloc);
@@ -664,51 +650,50 @@ impl<'a> Walk<'a> {
 
     // A clause. The binders of its pattern are in scope in its body alone.
     #[cycle(walk)]
-    fn clause(&mut self, c: &'a tree::Clause) -> Result<Clause, NoMemory>
+    fn clause(&mut self, c: tree::Clause) -> Result<Clause, NoMemory>
         ensures given { IfOk result (λ r. core_view.clause r
-            ≡ (case_made self.old.scope self.old.next (surface.clause c.now)).case) }
+            ≡ (case_made self.old.scope self.old.next (surface.clause c)).case) }
         ensures next { OnOk result (self.new.next ≡ (case_made self.old.scope self.old.next
-            (surface.clause c.now)).next) }
+            (surface.clause c)).next) }
         ensures scope { OnOk result (self.new.scope ≡ self.old.scope) }
     {
         let kept = self.scope.len();
-        let pattern = self.pattern(&c.pattern)?;
-        let body = self.block(&c.body)?;
+        let pattern = self.pattern(c.pattern)?;
+        let body = self.block(c.body)?;
         self.scope.release(kept);
         Ok(Clause { pattern, body })
     }
 
     // A pattern, whose binders are in scope from here on.
-    fn pattern(&mut self, p: &'a tree::Pattern) -> Result<Pattern, NoMemory>
+    fn pattern(&mut self, p: tree::Pattern) -> Result<Pattern, NoMemory>
         ensures given { IfOk result (λ r. core_view.pattern r
-            ≡ (form.pattern self.old.scope self.old.next (surface.pattern p.now)).pattern) }
+            ≡ (form.pattern self.old.scope self.old.next (surface.pattern p)).pattern) }
         ensures scope { OnOk result (self.new.scope ≡ (form.pattern self.old.scope self.old.next
-            (surface.pattern p.now)).scope) }
+            (surface.pattern p)).scope) }
         ensures next { OnOk result (self.new.next ≡ (form.pattern self.old.scope self.old.next
-            (surface.pattern p.now)).next) }
+            (surface.pattern p)).next) }
     {
         match p {
-            tree::Pattern::Wildcard { place } => Ok(Pattern::Binder(self.binder(b"_", *place)?)),
-            tree::Pattern::Variable { name, place } => Ok(Pattern::Binder(self.binder(
-                name, *place,
-            )?)),
-            tree::Pattern::Literal { value, place } => Ok(Pattern::Literal {
-                value: *value,
-                place: *place,
-            }),
+            tree::Pattern::Wildcard { place } => {
+                let name = underscore(self.alloc)?;
+                Ok(Pattern::Binder(self.binder(name, place)?))
+            }
+            tree::Pattern::Variable { name, place } => {
+                Ok(Pattern::Binder(self.binder(name, place)?))
+            }
+            tree::Pattern::Literal { value, place } => Ok(Pattern::Literal { value, place }),
             tree::Pattern::Constructor {
                 name,
                 place,
                 patterns,
             } => {
-                let name = copy_name(self.alloc, name)?;
                 let mut numbered = Vec::new(self.alloc);
                 for q in patterns {
                     numbered.push(self.pattern(q)?)?;
                 }
                 Ok(Pattern::Constructor {
                     name,
-                    place: *place,
+                    place,
                     patterns: numbered,
                 })
             }
@@ -716,12 +701,26 @@ impl<'a> Walk<'a> {
     }
 }
 
+// A name with these bytes.
+fn name_of(alloc: Global, bytes: &[u8]) -> Result<Name, NoMemory>
+    ensures same { IfOk result (λ x. x ≡ bytes.now) }
+{
+    Ok(Name::new(Vec::from_slice(alloc, bytes)?))
+}
+
+// The name of what nothing names.
+fn underscore(alloc: Global) -> Result<Name, NoMemory>
+    ensures same { IfOk result (λ x. x ≡ form.underscore) }
+{
+    name_of(alloc, b"_")
+}
+
 // The pattern of a constructor without fields.
 fn bare_pattern(alloc: Global, name: &[u8], place: Place) -> Result<Pattern, NoMemory>
     ensures same { IfOk result (λ p. core_view.pattern p ≡ C.ConstructorPattern name.now place C.NoPatterns) }
 {
     Ok(Pattern::Constructor {
-        name: copy_name(alloc, name)?,
+        name: name_of(alloc, name)?,
         place,
         patterns: Vec::new(alloc),
     })

@@ -1,4 +1,5 @@
-// The names in scope. A map finds the latest binding of a name, and a list of the bindings undoes them.
+// The names in scope. A map finds the latest binding of a name, and a list of the bindings undoes them. Both keep names
+// of their own, since the tree that is numbered takes its names along.
 ghost use Rattle.std.specs.Prelude.{◌≡◌, List, [], ◌∷◌, ◌++◌, ◌-◌, map, take, length, OnOk, OnErr};
 ghost use Rattle.fip_language.specs.CoreForm.{lookup};
 
@@ -9,20 +10,20 @@ use std::marker::Model;
 
 /// A binding: a name, the number of its binder, and the number that the name had before it.
 #[derive(Drop)]
-pub struct Entry<'a> {
-    name: &'a [u8],
+pub struct Entry {
+    name: Vec<u8>,
     number: usize,
     hidden: Option<usize>,
 }
 
 /// The names in scope, each with the number of its binder; a later binding hides the earlier ones of its name.
 #[derive(Drop)]
-pub struct Scope<'a> {
-    numbers: BTreeMap<&'a [u8], usize>,
-    entries: Vec<Entry<'a>>,
+pub struct Scope {
+    numbers: BTreeMap<Vec<u8>, usize>,
+    entries: Vec<Entry>,
 }
 
-impl<'a> Model for Scope<'a> {
+impl Model for Scope {
     ghost use Rattle.std.specs.Prelude.{List, map};
     ghost use Rattle.std.specs.Cmp.Lexicographic.{slice_cmp};
     ghost use Rattle.std.specs.Ordering.{nat_cmp};
@@ -34,10 +35,10 @@ impl<'a> Model for Scope<'a> {
 
     ghost view = { λ s. map named s.entries.items };
 
-    ghost invariant = { λ s. IsKept s.entries.items (λ x. get_by (λ k. slice_cmp nat_cmp x k.now) s.numbers) };
+    ghost invariant = { λ s. IsKept s.entries.items (λ x. get_by (λ k. slice_cmp nat_cmp x k.items) s.numbers) };
 }
 
-impl<'a> Scope<'a> {
+impl Scope {
     /// The empty scope.
     pub fn new(alloc: Global) -> Self
         ensures empty { result ≡ [] }
@@ -56,24 +57,26 @@ impl<'a> Scope<'a> {
     }
 
     /// The number of the latest binding of a name.
-    pub fn find(&self, name: &'a [u8]) -> Option<usize>
+    pub fn find(&self, name: &[u8]) -> Option<usize>
         ensures latest { result ≡ lookup self.now name.now }
     {
-        self.numbers.get(&name).copied()
+        self.numbers.get(name).copied()
     }
 
     /// One more binding. Where no memory is left, nothing changes.
-    pub fn bind(&mut self, name: &'a [u8], number: usize) -> Result<(), NoMemory>
+    pub fn bind(&mut self, alloc: Global, name: &[u8], number: usize) -> Result<(), NoMemory>
         ensures bound { OnOk result (self.new ≡ self.old ++ record { name = name.now; number = number } ∷ []) }
         ensures unchanged { OnErr result (self.new ≡ self.old) }
     {
-        let hidden = self.numbers.get(&name).copied();
+        let hidden = self.numbers.get(name).copied();
+        let key = Vec::from_slice(alloc, name)?;
+        let name = Vec::from_slice(alloc, name)?;
         self.entries.push(Entry {
             name,
             number,
             hidden,
         })?;
-        match self.numbers.insert(name, number) {
+        match self.numbers.insert(key, number) {
             Ok(_) => Ok(()),
             Err(_) => {
                 self.entries.pop();

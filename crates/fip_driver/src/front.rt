@@ -51,7 +51,7 @@ fn core_form_of(alloc: Global, source: &[u8]) -> Result<Core, Failure>
     ensures fails { IfErr result (λ e. SpellingFails source_spelling source.now e) }
 {
     match parsed(alloc, source) {
-        Ok(program) => match core_of(alloc, &program) {
+        Ok(program) => match core_of(alloc, program) {
             Ok(core) => Ok(core),
             Err(_) => Err(Failure::NoMemory),
         },

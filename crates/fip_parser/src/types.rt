@@ -1,11 +1,12 @@
 //! Types, a place at a time.
 
 ghost use Rattle.std.specs.Prelude.{false};
-ghost use Rattle.fip_base.specs.SurfaceView.{written as written_view};
+ghost use Rattle.fip_base.specs.CoreView.{written as written_view};
 ghost use Rattle.fip_grammar.specs.Machine as machine;
 ghost use Rattle.parser_state.specs.StateView as view;
 ghost use Rattle.parser_state.specs.StateView.{Follows};
 
+use fip_base::plain::Name;
 use fip_base::surface::{Bind, Written};
 use fip_grammar::Sign;
 use fip_grammar::token::{Token, Word};
@@ -42,12 +43,12 @@ fn type_named(
     alloc: Global,
     open: Vec<OpenType>,
     purpose: TypeUse,
-    name: Vec<u8>,
+    name: Name,
     place: Place,
     token: Token,
 ) -> Result<Next, AllocError>
     requires well { view.IsWellUse purpose }
-    ensures next { Follows false token.entry result (machine.step_type (machine.TypeNamed name.items place)
+    ensures next { Follows false token.entry result (machine.step_type (machine.TypeNamed name place)
         (view.open_types «open».items) (view.type_use purpose)) }
 {
     match token.word {
@@ -64,7 +65,7 @@ fn type_named(
             alloc,
             open,
             purpose,
-            Written::Name {
+            Written::Named {
                 name,
                 place,
                 arguments: Vec::new(alloc),
@@ -146,14 +147,14 @@ fn after_annotation(
     alloc: Global,
     body: Body,
     binds: Binds,
-    name: Vec<u8>,
+    name: Name,
     place: Place,
     written: Written,
     token: Token,
 ) -> Result<Next, AllocError>
     requires well { view.IsWellBody body }
     ensures next { Follows false token.entry result (λ w p. machine.after_type
-        (machine.ForAnnotation (view.body body) (view.binds binds) name.items place) (written_view written) w) }
+        (machine.ForAnnotation (view.body body) (view.binds binds) name place) (written_view written) w) }
 {
     let bind = Bind {
         name,

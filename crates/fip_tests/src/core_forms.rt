@@ -11,7 +11,7 @@ fn has_bodies(alloc: Global, source: &[u8], lines: &[u8]) -> Result<bool, Fail> 
     let Ok(program) = parse(alloc, source) else {
         return Ok(false);
     };
-    let core = core_of(alloc, &program)?;
+    let core = core_of(alloc, program)?;
     Ok(bodies(alloc, &core)?.as_slice() == lines)
 }
 

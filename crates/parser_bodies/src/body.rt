@@ -1,20 +1,22 @@
 //! A function's body, a place at a time: blocks, lets and the first tokens of operands.
 
 ghost use Rattle.std.specs.Prelude.{false, true, map};
-ghost use Rattle.fip_base.specs.SurfaceView.{bind as bind_view, block as block_view, written};
+ghost use Rattle.fip_base.specs.CoreView.{written};
+ghost use Rattle.fip_base.specs.SurfaceView.{bind as bind_view, block as block_view};
 ghost use Rattle.fip_grammar.specs.Token as Pure;
 ghost use Rattle.fip_grammar.specs.Machine as machine;
 ghost use Rattle.parser_state.specs.StateView as view;
 ghost use Rattle.parser_state.specs.StateView.{Leads, Follows};
 
 use crate::patterns::pattern_wanted;
+use fip_base::plain::Name;
 use fip_base::surface::{Bind, Block, Step, Written};
 use fip_grammar::Sign;
 use fip_grammar::token::{Token, Word};
 use fip_language::{Operator, Place};
 use parser_state::literal::{literal, negated_literal};
 use parser_state::moves::{
-    close_match, enter, none_waits, operand, start_expression, stays_in_body, wants_type,
+    close_match, enter, name_of, none_waits, operand, start_expression, stays_in_body, wants_type,
 };
 use parser_state::state::{Binds, Body, BodyPosition, Next, OpenMatch, Opener, TypeUse, Use};
 use std::alloc::{AllocError, Global};
@@ -56,7 +58,7 @@ pub fn bind_start(alloc: Global, binds: Binds, body: Body, token: Token) -> Resu
         Word::Lower(text) => stays_in_body(
             BodyPosition::BindNamed {
                 binds,
-                name: text.to_vec(alloc)?,
+                name: name_of(alloc, text)?,
                 place,
             },
             body,
@@ -64,7 +66,7 @@ pub fn bind_start(alloc: Global, binds: Binds, body: Body, token: Token) -> Resu
         Word::Sign(Sign::Underscore) => stays_in_body(
             BodyPosition::BindNamed {
                 binds,
-                name: b"_".to_vec(alloc)?,
+                name: name_of(alloc, b"_")?,
                 place,
             },
             body,
@@ -77,14 +79,14 @@ pub fn bind_start(alloc: Global, binds: Binds, body: Body, token: Token) -> Resu
 pub fn bind_named(
     alloc: Global,
     binds: Binds,
-    name: Vec<u8>,
+    name: Name,
     place: Place,
     body: Body,
     token: Token,
 ) -> Result<Next, AllocError>
     requires well { view.IsWellBody body }
     ensures next { Follows false token.entry result (machine.step_body
-        (machine.BindNamed (view.binds binds) name.items place) (view.body body)) }
+        (machine.BindNamed (view.binds binds) name place) (view.body body)) }
 {
     match token.word {
         Word::Sign(Sign::Colon) => wants_type(
@@ -188,14 +190,14 @@ pub fn operand_start(alloc: Global, body: Body, token: Token) -> Result<Next, Al
     match token.word {
         Word::Lower(text) => stays_in_body(
             BodyPosition::LowerName {
-                name: text.to_vec(alloc)?,
+                name: name_of(alloc, text)?,
                 place,
             },
             body,
         ),
         Word::Upper(text) => stays_in_body(
             BodyPosition::UpperName {
-                name: text.to_vec(alloc)?,
+                name: name_of(alloc, text)?,
                 place,
             },
             body,
@@ -248,7 +250,7 @@ fn open_match(destructive: bool, place: Place, body: Body) -> Result<Next, Alloc
 
 /// Behind the static arguments of a call.
 pub fn call_open(
-    name: Vec<u8>,
+    name: Name,
     place: Place,
     statics: Vec<Written>,
     body: Body,
@@ -256,7 +258,7 @@ pub fn call_open(
 ) -> Result<Next, AllocError>
     requires well { view.IsWellBody body }
     ensures next { Follows false token.entry result (machine.step_body
-        (machine.CallOpen name.items place (map written statics.items)) (view.body body)) }
+        (machine.CallOpen name place (map written statics.items)) (view.body body)) }
 {
     match token.word {
         Word::Sign(Sign::RoundOpen) => stays_in_body(
@@ -274,7 +276,7 @@ pub fn call_open(
 /// A call's first argument, or `)`.
 pub fn argument_first(
     alloc: Global,
-    name: Vec<u8>,
+    name: Name,
     place: Place,
     statics: Vec<Written>,
     body: Body,
@@ -282,7 +284,7 @@ pub fn argument_first(
 ) -> Result<Next, AllocError>
     requires well { view.IsWellBody body }
     ensures next { Follows false token.entry result (machine.step_body
-        (machine.ArgumentFirst name.items place (map written statics.items)) (view.body body)) }
+        (machine.ArgumentFirst name place (map written statics.items)) (view.body body)) }
 {
     match token.word {
         Word::Sign(Sign::RoundClose) => operand(

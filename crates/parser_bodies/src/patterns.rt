@@ -6,12 +6,13 @@ ghost use Rattle.fip_grammar.specs.Machine as machine;
 ghost use Rattle.parser_state.specs.StateView as view;
 ghost use Rattle.parser_state.specs.StateView.{Leads, Follows};
 
+use fip_base::plain::Name;
 use fip_base::surface::Pattern;
 use fip_grammar::Sign;
 use fip_grammar::token::{Token, Word};
 use fip_language::{Operator, Place};
 use parser_state::literal::{literal, negated_literal};
-use parser_state::moves::{enter, stays_in_body, stays_in_pattern};
+use parser_state::moves::{enter, name_of, stays_in_body, stays_in_pattern};
 use parser_state::state::{Body, BodyPosition, Next, OpenMatch, OpenPattern, PatternPosition, Use};
 use std::alloc::{AllocError, Global};
 
@@ -73,11 +74,11 @@ pub fn pattern_wanted(
             pattern_read(Pattern::Wildcard { place }, open, body, clauses)
         }
         Word::Lower(text) => {
-            let name = text.to_vec(alloc)?;
+            let name = name_of(alloc, text)?;
             pattern_read(Pattern::Variable { name, place }, open, body, clauses)
         }
         Word::Upper(text) => {
-            let name = text.to_vec(alloc)?;
+            let name = name_of(alloc, text)?;
             stays_in_pattern(PatternPosition::Named { name, place }, open, body, clauses)
         }
         Word::Operator(Operator::Subtract) => {
@@ -113,7 +114,7 @@ fn pattern_minus(
 
 fn pattern_named(
     alloc: Global,
-    name: Vec<u8>,
+    name: Name,
     place: Place,
     open: Vec<OpenPattern>,
     body: Body,
@@ -121,7 +122,7 @@ fn pattern_named(
     token: Token,
 ) -> Result<Next, AllocError>
     requires well { view.IsWellUnder body }
-    ensures next { Follows false token.entry result (machine.step_pattern (machine.PatternNamed name.items place)
+    ensures next { Follows false token.entry result (machine.step_pattern (machine.PatternNamed name place)
         (view.open_patterns «open».items) (view.under_operand body) (view.open_match clauses (view.operand body))) }
 {
     match token.word {

@@ -6,11 +6,12 @@ ghost use Rattle.fip_grammar.specs.Machine as machine;
 ghost use Rattle.parser_state.specs.StateView as view;
 ghost use Rattle.parser_state.specs.StateView.{Leads, Follows};
 
+use fip_base::plain::Name;
 use fip_base::surface::{Data, DataConstructor, Declaration, TypeName};
 use fip_grammar::Sign;
 use fip_grammar::token::{Token, Word};
 use fip_language::Place;
-use parser_state::moves::{stays_in_data, wants_type};
+use parser_state::moves::{name_of, stays_in_data, wants_type};
 use parser_state::state::{DataHead, DataHeading, Next, TypeUse};
 use std::alloc::{AllocError, Global};
 
@@ -19,7 +20,7 @@ fn data_name(alloc: Global, token: Token) -> Result<Next, AllocError>
 {
     match token.word {
         Word::Lower(text) => {
-            let name = text.to_vec(alloc)?;
+            let name = name_of(alloc, text)?;
             let data = DataHead {
                 name,
                 place: token.place,
@@ -49,7 +50,7 @@ fn data_parameter(alloc: Global, data: DataHead, token: Token) -> Result<Next, A
     match token.word {
         Word::Lower(text) => {
             let mut data = data;
-            let name = text.to_vec(alloc)?;
+            let name = name_of(alloc, text)?;
             data.parameters.push(TypeName {
                 name,
                 place: token.place,
@@ -86,7 +87,7 @@ fn constructor_first(alloc: Global, data: DataHead, token: Token) -> Result<Next
     match token.word {
         Word::Upper(text) => stays_in_data(DataHeading::ConstructorStart {
             data,
-            name: text.to_vec(alloc)?,
+            name: name_of(alloc, text)?,
             place: token.place,
         }),
         _ => Ok(Next::Refused),
@@ -137,12 +138,12 @@ fn constructor_end(data: DataHead, token: Token) -> Result<Next, AllocError>
 fn constructor_start(
     alloc: Global,
     data: DataHead,
-    name: Vec<u8>,
+    name: Name,
     place: Place,
     token: Token,
 ) -> Result<Next, AllocError>
     ensures next { Follows false token.entry result (machine.step_data
-        (machine.ConstructorStart (view.data_head «data») name.items place)) }
+        (machine.ConstructorStart (view.data_head «data») name place)) }
 {
     match token.word {
         Word::Sign(Sign::RoundOpen) => wants_type(

@@ -5,12 +5,15 @@ ghost use Rattle.fip_grammar.specs.Machine as machine;
 ghost use Rattle.parser_state.specs.StateView as view;
 ghost use Rattle.parser_state.specs.StateView.{Follows};
 
+use fip_base::plain::Name;
 use fip_base::surface::Static;
 use fip_grammar::Sign;
 use fip_grammar::token::{Token, Word};
 use fip_language::{CreditMark, FunKind, Operator, Place};
 use parser_state::literal::magnitude;
-use parser_state::moves::{body_open, static_end, stays_in_function, type_wanted, wants_type};
+use parser_state::moves::{
+    body_open, name_of, static_end, stays_in_function, type_wanted, wants_type,
+};
 use parser_state::state::{FunctionHead, FunctionHeading, Next, ResultOwner, Signature, TypeUse};
 use std::alloc::{AllocError, Global};
 
@@ -69,7 +72,7 @@ fn function_name(
 {
     match token.word {
         Word::Lower(text) => {
-            let name = text.to_vec(alloc)?;
+            let name = name_of(alloc, text)?;
             stays_in_function(FunctionHeading::FunctionStart {
                 head: FunctionHead {
                     kind,
@@ -103,7 +106,7 @@ fn static_name(alloc: Global, head: FunctionHead, token: Token) -> Result<Next, 
     match token.word {
         Word::Lower(text) => stays_in_function(FunctionHeading::StaticStart {
             head,
-            name: text.to_vec(alloc)?,
+            name: name_of(alloc, text)?,
             place: token.place,
         }),
         _ => Ok(Next::Refused),
@@ -113,12 +116,12 @@ fn static_name(alloc: Global, head: FunctionHead, token: Token) -> Result<Next, 
 fn static_start(
     alloc: Global,
     head: FunctionHead,
-    name: Vec<u8>,
+    name: Name,
     place: Place,
     token: Token,
 ) -> Result<Next, AllocError>
     ensures next { Follows false token.entry result (machine.step_function
-        (machine.StaticStart (view.function_head head) name.items place)) }
+        (machine.StaticStart (view.function_head head) name place)) }
 {
     match token.word {
         Word::Sign(Sign::Colon) => {
@@ -275,7 +278,7 @@ fn parameter_name(
         Word::Lower(text) => stays_in_function(FunctionHeading::ParameterColon {
             head,
             lent,
-            name: text.to_vec(alloc)?,
+            name: name_of(alloc, text)?,
             place: token.place,
         }),
         _ => Ok(Next::Refused),
@@ -305,12 +308,12 @@ fn parameter_colon(
     alloc: Global,
     head: FunctionHead,
     lent: bool,
-    name: Vec<u8>,
+    name: Name,
     place: Place,
     token: Token,
 ) -> Result<Next, AllocError>
     ensures next { Follows false token.entry result (machine.step_function
-        (machine.ParameterColon (view.function_head head) lent name.items place)) }
+        (machine.ParameterColon (view.function_head head) lent name place)) }
 {
     match token.word {
         Word::Sign(Sign::Colon) => wants_type(

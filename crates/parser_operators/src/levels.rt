@@ -4,11 +4,13 @@ ghost use Rattle.std.specs.Prelude.{◌≡◌, [], map, IfOk};
 ghost use Rattle.std.specs.List.{All};
 ghost use Rattle.fip_language.specs.Surface as Surface;
 ghost use Rattle.fip_base.specs.SurfaceView.{bind as bind_view, block as block_view, pattern as pattern_view};
-ghost use Rattle.fip_base.specs.SurfaceView.{expression, written, result_type, below};
+ghost use Rattle.fip_base.specs.CoreView.{written, result_type};
+ghost use Rattle.fip_base.specs.SurfaceView.{expression, below};
 ghost use Rattle.fip_grammar.specs.Machine as machine;
 ghost use Rattle.parser_state.specs.StateView as view;
 ghost use Rattle.parser_state.specs.StateView.{Leads};
 
+use fip_base::plain::Name;
 use fip_base::surface::{
     Bind, Block, Clause, Declaration, Expression, Function, Let, Pattern, ResultType, Step, Written,
 };
@@ -123,7 +125,7 @@ fn end_body(
                 place,
                 statics,
                 parameters,
-                gives,
+                result: gives,
                 body,
             };
             Ok(Next::Declares {
@@ -178,7 +180,7 @@ fn with_part(done: Vec<Expression>, block: Block) -> Result<Vec<Expression>, All
 fn end_argument(
     alloc: Global,
     body: Body,
-    name: Vec<u8>,
+    name: Name,
     place: Place,
     statics: Vec<Written>,
     done: Vec<Expression>,
@@ -187,7 +189,7 @@ fn end_argument(
 ) -> Result<Next, AllocError>
     requires well { view.IsWellBody body }
     ensures next { Leads result (machine.end_level (view.body body)
-        (machine.ForArguments name.items place (map written statics.items) (map expression done.items))
+        (machine.ForArguments name place (map written statics.items) (map expression done.items))
         (block_view block) sign) }
 {
     let done = with_part(done, block)?;
@@ -221,7 +223,7 @@ fn end_argument(
 fn end_field(
     alloc: Global,
     body: Body,
-    name: Vec<u8>,
+    name: Name,
     place: Place,
     done: Vec<Expression>,
     block: Block,
@@ -229,7 +231,7 @@ fn end_field(
 ) -> Result<Next, AllocError>
     requires well { view.IsWellBody body }
     ensures next { Leads result (machine.end_level (view.body body)
-        (machine.ForFields name.items place (map expression done.items)) (block_view block) sign) }
+        (machine.ForFields name place (map expression done.items)) (block_view block) sign) }
 {
     let done = with_part(done, block)?;
     match sign {

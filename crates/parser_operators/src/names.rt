@@ -6,6 +6,7 @@ ghost use Rattle.parser_state.specs.StateView as view;
 ghost use Rattle.parser_state.specs.StateView.{Follows};
 
 use crate::operators::after_operand;
+use fip_base::plain::Name;
 use fip_base::surface::Step;
 use fip_grammar::Sign;
 use fip_grammar::token::{Token, Word};
@@ -17,13 +18,13 @@ use std::alloc::{AllocError, Global};
 /// Behind a lower name: the brackets of a call, or the end of a variable.
 pub fn lower_name(
     alloc: Global,
-    name: Vec<u8>,
+    name: Name,
     place: Place,
     body: Body,
     token: Token,
 ) -> Result<Next, AllocError>
     requires well { view.IsWellBody body }
-    ensures next { Follows false token.entry result (machine.step_body (machine.LowerName name.items place)
+    ensures next { Follows false token.entry result (machine.step_body (machine.LowerName name place)
         (view.body body)) }
 {
     match token.word {
@@ -55,13 +56,13 @@ pub fn lower_name(
 /// Behind an upper name: a constructor's arguments, or the end of one without.
 pub fn upper_name(
     alloc: Global,
-    name: Vec<u8>,
+    name: Name,
     place: Place,
     body: Body,
     token: Token,
 ) -> Result<Next, AllocError>
     requires well { view.IsWellBody body }
-    ensures next { Follows false token.entry result (machine.step_body (machine.UpperName name.items place)
+    ensures next { Follows false token.entry result (machine.step_body (machine.UpperName name place)
         (view.body body)) }
 {
     match token.word {

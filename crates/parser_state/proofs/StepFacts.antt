@@ -2,9 +2,10 @@
 use Rattle.std.proofs.Common.{Vec, Global, ◌≡◌, ℕ, ℤ, Bool, List, [], ◌∷◌, ◌++◌, map, refl, sym, ap, ◌∙◌}
 use Rattle.fip_language.specs.declared.Place.{Place}
 use Rattle.fip_language.specs.Surface as S
+use Rattle.fip_base.specs.CoreView as core
 use Rattle.fip_base.specs.SurfaceView as surface
 use Rattle.fip_base.specs.SurfaceView.{action, acted, kept, top, below}
-use Rattle.fip_base.specs.declared.surface.Written.{Written}
+use Rattle.fip_base.specs.declared.core_form.Written.{Written}
 use Rattle.fip_base.specs.declared.surface.Step.{Step}
 use Rattle.fip_base.specs.declared.surface.Step.TheVariants as V
 use Rattle.fip_base.specs.declared.surface.Step.TheFolds.{fold-roll-Expression, fold-roll-Block, fold-roll-Let, fold-roll-Clause}
@@ -37,15 +38,15 @@ Behind b a = M.in_body (M.AtOperator (acted a (view.operands b))) (view.body_wit
 pub at_literal : (b : Body) (i j : ℤ) (p : Place) → i ≡ j → Behind b (surface.Leaves (S.Literal j p)) ≡ Behind b (action (V.Literal i p))
 at_literal b i j p h = ap (λ z. Behind b (surface.Leaves (S.Literal z p))) (sym h) ∙ ap (Behind b) (sym (action_literal i p))
 
-pub at_call : (b : Body) (x : Vec ℕ Global) (p : Place) (ts : Vec Written Global) (es : Vec Expression Global) (done : List S.Expression) → done ≡ map surface.expression es.items → M.in_body (M.AtOperator (S.Call x.items p (M.onto_types (map surface.written ts.items) C.NoWritten) (M.onto_expressions done S.NoExpressions))) (view.body b) ≡ Behind b (action (V.Call x p ts es))
+pub at_call : (b : Body) (x : List ℕ) (p : Place) (ts : Vec Written Global) (es : Vec Expression Global) (done : List S.Expression) → done ≡ map surface.expression es.items → M.in_body (M.AtOperator (S.Call x p (M.onto_types (map core.written ts.items) C.NoWritten) (M.onto_expressions done S.NoExpressions))) (view.body b) ≡ Behind b (action (V.Call x p ts es))
 at_call b x p ts es done h =
-    ap (λ z. Behind b (surface.Leaves (S.Call x.items p z (M.onto_expressions done S.NoExpressions)))) (types_as (map surface.written ts.items))
-    ∙ ap (λ z. Behind b (surface.Leaves (S.Call x.items p (surface.writtens ts.items) z))) (expressions_as done ∙ ap surface.expressions_of h)
+    ap (λ z. Behind b (surface.Leaves (S.Call x p z (M.onto_expressions done S.NoExpressions)))) (types_as (map core.written ts.items))
+    ∙ ap (λ z. Behind b (surface.Leaves (S.Call x p (core.writtens ts.items) z))) (expressions_as done ∙ ap surface.expressions_of h)
     ∙ ap (Behind b) (sym (action_call x p ts es))
 
-pub at_constructor : (b : Body) (x : Vec ℕ Global) (p : Place) (es : Vec Expression Global) (done : List S.Expression) → done ≡ map surface.expression es.items → M.in_body (M.AtOperator (S.Constructor x.items p (M.onto_expressions done S.NoExpressions))) (view.body b) ≡ Behind b (action (V.Constructor x p es))
+pub at_constructor : (b : Body) (x : List ℕ) (p : Place) (es : Vec Expression Global) (done : List S.Expression) → done ≡ map surface.expression es.items → M.in_body (M.AtOperator (S.Constructor x p (M.onto_expressions done S.NoExpressions))) (view.body b) ≡ Behind b (action (V.Constructor x p es))
 at_constructor b x p es done h =
-    ap (λ z. Behind b (surface.Leaves (S.Constructor x.items p z))) (expressions_as done ∙ ap surface.expressions_of h)
+    ap (λ z. Behind b (surface.Leaves (S.Constructor x p z))) (expressions_as done ∙ ap surface.expressions_of h)
     ∙ ap (Behind b) (sym (action_constructor x p es))
 
 pub at_tuple : (b : Body) (p : Place) (es : Vec Expression Global) (done : List S.Expression) → done ≡ map surface.expression es.items → M.in_body (M.AtOperator (S.Tuple p (M.onto_expressions done S.NoExpressions))) (view.body b) ≡ Behind b (action (V.Tuple p es))

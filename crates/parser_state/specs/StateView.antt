@@ -17,9 +17,12 @@ use Rattle.std.specs.Global.{Global}
 use Rattle.fip_base.specs.declared.surface.Bind.{Bind}
 use Rattle.fip_language.specs.Core as C
 use Rattle.fip_language.specs.Surface as S
-use Rattle.fip_base.specs.SurfaceView.{written, result_type, bind, pattern, LetPart, Case, top, below, left_by, action}
-use Rattle.fip_base.specs.SurfaceView.{block, clause, expression, let_part, signature_parameter, static, parameter}
-use Rattle.fip_base.specs.SurfaceView.{type_name, data_constructor, declaration}
+use Rattle.fip_base.specs.CoreView.{written, result_type}
+use Rattle.fip_base.specs.SurfaceView.{bind, pattern, LetPart, Case, top, below, left_by, action}
+use Rattle.fip_base.specs.CoreView.{signature_parameter, static}
+use Rattle.fip_base.specs.SurfaceView.{block, clause, expression, let_part, parameter}
+use Rattle.fip_base.specs.CoreView.{type_name, data_constructor}
+use Rattle.fip_base.specs.SurfaceView.{declaration}
 use Rattle.fip_base.specs.declared.surface.Step.{Step}
 use Rattle.fip_base.specs.declared.surface.Let.{Let}
 use Rattle.fip_base.specs.declared.surface.Clause.{Clause}
@@ -71,7 +74,7 @@ use Rattle.fip_grammar.specs.declared.Sign.{Sign}
 abbrev pub data_head : DataHead → C.Data
 data_head d =
     record {
-      name = d.name.items;
+      name = d.name;
       place = d.place;
       parameters = map type_name d.parameters.items;
       constructors = map data_constructor d.constructors.items;
@@ -82,14 +85,14 @@ function_head h =
     record {
       kind = h.kind;
       credits = h.credits.items;
-      name = h.name.items;
+      name = h.name;
       place = h.place;
       statics = map static h.statics.items;
       parameters = map parameter h.parameters.items;
     }
 
 abbrev pub signature : Signature → M.SignatureHead
-signature g = record { name = g.name.items; place = g.place; parameters = map signature_parameter g.parameters.items }
+signature g = record { name = g.name; place = g.place; parameters = map signature_parameter g.parameters.items }
 
 abbrev pub result_owner : ResultOwner → M.ResultOwner
 result_owner (R.Signature h g) = M.OfSignature (function_head h) (signature g)
@@ -101,7 +104,7 @@ function_heading (F.CreditSize k cs p) = M.CreditSize k cs.items p
 function_heading (F.FunctionName k cs) = M.FunctionName k cs.items
 function_heading (F.FunctionStart h) = M.FunctionStart (function_head h)
 function_heading (F.StaticName h) = M.StaticName (function_head h)
-function_heading (F.StaticStart h n p) = M.StaticStart (function_head h) n.items p
+function_heading (F.StaticStart h n p) = M.StaticStart (function_head h) n p
 function_heading (F.SignatureKeyword h g) = M.SignatureKeyword (function_head h) (signature g)
 function_heading (F.SignatureOpen h g) = M.SignatureOpen (function_head h) (signature g)
 function_heading (F.SignatureFirst h g) = M.SignatureFirst (function_head h) (signature g)
@@ -113,7 +116,7 @@ function_heading (F.ParametersOpen h) = M.ParametersOpen (function_head h)
 function_heading (F.ParameterFirst h) = M.ParameterFirst (function_head h)
 function_heading (F.ParameterNext h) = M.ParameterNext (function_head h)
 function_heading (F.ParameterName h) = M.ParameterName (function_head h)
-function_heading (F.ParameterColon h lent n p) = M.ParameterColon (function_head h) lent n.items p
+function_heading (F.ParameterColon h lent n p) = M.ParameterColon (function_head h) lent n p
 function_heading (F.ResultColon h) = M.ResultColon (function_head h)
 function_heading (F.BodyOpen h r) = M.BodyOpen (function_head h) (result_type r)
 
@@ -125,7 +128,7 @@ data_heading (D.DataParameterEnd d) = M.DataParameterEnd (data_head d)
 data_heading (D.DataOpen d) = M.DataOpen (data_head d)
 data_heading (D.ConstructorFirst d) = M.ConstructorFirst (data_head d)
 data_heading (D.ConstructorNext d) = M.ConstructorNext (data_head d)
-data_heading (D.ConstructorStart d n p) = M.ConstructorStart (data_head d) n.items p
+data_heading (D.ConstructorStart d n p) = M.ConstructorStart (data_head d) n p
 data_heading (D.ConstructorEnd d) = M.ConstructorEnd (data_head d)
 
 -- expressions whose brackets are open
@@ -218,8 +221,8 @@ open_match m e = record {
 
 -- What a bracket is for, where the expressions before it are these: a match takes its scrutinee, an if its condition.
 abbrev pub purpose : Use → List S.Expression → M.Use
-purpose (E.Arguments n p ts done) es = M.ForArguments n.items p (map written ts.items) (map expression done.items)
-purpose (E.Fields n p done) es = M.ForFields n.items p (map expression done.items)
+purpose (E.Arguments n p ts done) es = M.ForArguments n p (map written ts.items) (map expression done.items)
+purpose (E.Fields n p done) es = M.ForFields n p (map expression done.items)
 purpose (E.Parenthesis p) es = M.ForParenthesis p
 purpose E.Bracket es = M.ForBracket
 purpose (E.Tuple p done) es = M.ForTuple p (map expression done.items)
@@ -294,13 +297,13 @@ abbrev pub in_body : BodyPosition → Body → M.State
 in_body B.Block b = M.InBody M.AtBlock (body b)
 in_body B.LetStart b = M.InBody M.LetStart (body b)
 in_body (B.BindStart done) b = M.InBody (M.BindStart (map bind done.items)) (body b)
-in_body (B.BindNamed bs n p) b = M.InBody (M.BindNamed (binds bs) n.items p) (body b)
+in_body (B.BindNamed bs n p) b = M.InBody (M.BindNamed (binds bs) n p) (body b)
 in_body (B.LetEquals bs) b = M.InBody (M.LetEquals (map bind bs.items)) (body b)
 in_body B.Operand b = M.InBody M.AtOperand (body b)
-in_body (B.LowerName n p) b = M.InBody (M.LowerName n.items p) (body b)
-in_body (B.CallOpen n p ts) b = M.InBody (M.CallOpen n.items p (map written ts.items)) (body b)
-in_body (B.ArgumentFirst n p ts) b = M.InBody (M.ArgumentFirst n.items p (map written ts.items)) (body b)
-in_body (B.UpperName n p) b = M.InBody (M.UpperName n.items p) (body b)
+in_body (B.LowerName n p) b = M.InBody (M.LowerName n p) (body b)
+in_body (B.CallOpen n p ts) b = M.InBody (M.CallOpen n p (map written ts.items)) (body b)
+in_body (B.ArgumentFirst n p ts) b = M.InBody (M.ArgumentFirst n p (map written ts.items)) (body b)
+in_body (B.UpperName n p) b = M.InBody (M.UpperName n p) (body b)
 in_body (B.Minus p) b = M.InBody (M.Minus p) (body b)
 in_body (B.Parenthesis p) b = M.InBody (M.Parenthesis p) (body b)
 in_body B.Operator b = M.InBody (M.AtOperator (operand b)) (under_operand b)
@@ -329,24 +332,24 @@ IsWellIn (B.ElseOpen p y) b = IsWellUnder b
 -- types and patterns whose brackets are open, the innermost first
 
 abbrev pub open_type : OpenType → M.OpenType
-open_type o = record { name = o.name.items; place = o.place; done = map written o.done.items }
+open_type o = record { name = o.name; place = o.place; done = map written o.done.items }
 
 abbrev pub open_types : List OpenType → List M.OpenType
 open_types os = reverse (map open_type os)
 
 abbrev pub type_position : TypePosition → M.TypePosition
 type_position T.Wanted = M.TypeWanted
-type_position (T.Named n p) = M.TypeNamed n.items p
+type_position (T.Named n p) = M.TypeNamed n p
 type_position (T.Done t) = M.TypeDone (written t)
 
 abbrev pub type_use : TypeUse → M.TypeUse
-type_use (U.Field d n p fs) = M.ForField (data_head d) n.items p (map written fs.items)
+type_use (U.Field d n p fs) = M.ForField (data_head d) n p (map written fs.items)
 type_use (U.SignatureParameter h g lent) = M.ForSignatureParameter (function_head h) (signature g) lent
-type_use (U.Parameter h lent n p) = M.ForParameter (function_head h) lent n.items p
+type_use (U.Parameter h lent n p) = M.ForParameter (function_head h) lent n p
 type_use (U.Result o) = M.ForResult (result_owner o)
 type_use (U.ResultPart o p ts) = M.ForResultPart (result_owner o) p (map written ts.items)
-type_use (U.Annotation b bs n p) = M.ForAnnotation (body b) (binds bs) n.items p
-type_use (U.StaticArgument b n p ts) = M.ForStaticArgument (body b) n.items p (map written ts.items)
+type_use (U.Annotation b bs n p) = M.ForAnnotation (body b) (binds bs) n p
+type_use (U.StaticArgument b n p ts) = M.ForStaticArgument (body b) n p (map written ts.items)
 
 abbrev pub IsWellUse : TypeUse → Type 0
 IsWellUse (U.Field d n p fs) = Unit {0}
@@ -358,7 +361,7 @@ IsWellUse (U.Annotation b bs n p) = IsWellBody b
 IsWellUse (U.StaticArgument b n p ts) = IsWellBody b
 
 abbrev pub open_pattern : OpenPattern → M.OpenPattern
-open_pattern o = record { name = o.name.items; place = o.place; done = map pattern o.done.items }
+open_pattern o = record { name = o.name; place = o.place; done = map pattern o.done.items }
 
 abbrev pub open_patterns : List OpenPattern → List M.OpenPattern
 open_patterns os = reverse (map open_pattern os)
@@ -366,7 +369,7 @@ open_patterns os = reverse (map open_pattern os)
 abbrev pub pattern_position : PatternPosition → M.PatternPosition
 pattern_position P.Wanted = M.PatternWanted
 pattern_position (P.Minus p) = M.PatternMinus p
-pattern_position (P.Named n p) = M.PatternNamed n.items p
+pattern_position (P.Named n p) = M.PatternNamed n p
 pattern_position (P.Done q) = M.PatternDone (pattern q)
 
 -- the whole

@@ -3,7 +3,8 @@
 ghost use Rattle.std.specs.Prelude.{◌≡◌, false, List, [], IfOk};
 ghost use Rattle.std.specs.List.{All};
 ghost use Rattle.fip_language.specs.Surface as Surface;
-ghost use Rattle.fip_base.specs.SurfaceView.{action, acted, kept, result_type};
+ghost use Rattle.fip_base.specs.CoreView.{result_type};
+ghost use Rattle.fip_base.specs.SurfaceView.{action, acted, kept};
 ghost use Rattle.fip_grammar.specs.Machine as machine;
 ghost use Rattle.parser_state.specs.StateView as view;
 ghost use Rattle.parser_state.specs.StateView.{Leads, Follows};
@@ -12,10 +13,18 @@ use crate::state::{
     Body, BodyPosition, DataHeading, FunctionHead, FunctionHeading, Level, Next, OpenMatch,
     OpenPattern, OpenType, Partial, PatternPosition, State, TypePosition, TypeUse, Use, Waiting,
 };
+use fip_base::plain::Name;
 use fip_base::surface::{Bind, ResultType, Step, Written};
 use fip_grammar::Sign;
 use fip_grammar::token::{Token, Word};
 use std::alloc::{AllocError, Global};
+
+/// The name of these bytes.
+pub fn name_of(alloc: Global, bytes: &[u8]) -> Result<Name, AllocError>
+    ensures same { IfOk result (λ x. x ≡ bytes.now) }
+{
+    Ok(Name::new(bytes.to_vec(alloc)?))
+}
 
 /// No operator waits.
 pub fn none_waits() -> Waiting
@@ -269,14 +278,14 @@ pub fn type_wanted(
     match token.word {
         Word::Sign(Sign::Int) => stays_in_type(
             TypePosition::Done {
-                written: Written::Int { place: token.place },
+                written: Written::Int(token.place),
             },
             open,
             purpose,
         ),
         Word::Lower(text) => stays_in_type(
             TypePosition::Named {
-                name: text.to_vec(alloc)?,
+                name: name_of(alloc, text)?,
                 place: token.place,
             },
             open,

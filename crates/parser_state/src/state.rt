@@ -1,5 +1,6 @@
 //! What the parser has read of a program so far: the constructs that are open, and the place in each.
 
+use fip_base::plain::Name;
 use fip_base::surface::{
     Bind, Block, Clause, DataConstructor, Declaration, Expression, Let, Parameter, Pattern,
     ResultType, SignatureParameter, Static, Step, TypeName, Written,
@@ -9,7 +10,7 @@ use fip_language::{CreditMark, FunKind, Operator, Place};
 /// The head of a data type, and its constructors so far.
 #[derive(Drop)]
 pub struct DataHead {
-    pub name: Vec<u8>,
+    pub name: Name,
     pub place: Place,
     pub parameters: Vec<TypeName>,
     pub constructors: Vec<DataConstructor>,
@@ -20,7 +21,7 @@ pub struct DataHead {
 pub struct FunctionHead {
     pub kind: FunKind,
     pub credits: Vec<CreditMark>,
-    pub name: Vec<u8>,
+    pub name: Name,
     pub place: Place,
     pub statics: Vec<Static>,
     pub parameters: Vec<Parameter>,
@@ -29,7 +30,7 @@ pub struct FunctionHead {
 /// A function parameter's signature so far.
 #[derive(Drop)]
 pub struct Signature {
-    pub name: Vec<u8>,
+    pub name: Name,
     pub place: Place,
     pub parameters: Vec<SignatureParameter>,
 }
@@ -76,7 +77,7 @@ pub enum FunctionHeading {
     /// `:`, `,` or `]`, behind a static parameter's name.
     StaticStart {
         head: FunctionHead,
-        name: Vec<u8>,
+        name: Name,
         place: Place,
     },
     /// `fun` of a signature.
@@ -132,7 +133,7 @@ pub enum FunctionHeading {
     ParameterColon {
         head: FunctionHead,
         lent: bool,
-        name: Vec<u8>,
+        name: Name,
         place: Place,
     },
     /// `:`, behind a function's parameters.
@@ -178,7 +179,7 @@ pub enum DataHeading {
     /// `(`, `;` or `}`, behind a constructor's name.
     ConstructorStart {
         data: DataHead,
-        name: Vec<u8>,
+        name: Name,
         place: Place,
     },
     /// `;` or `}`, behind a constructor.
@@ -190,7 +191,7 @@ pub enum DataHeading {
 /// A type whose brackets are open, with its arguments so far.
 #[derive(Drop)]
 pub struct OpenType {
-    pub name: Vec<u8>,
+    pub name: Name,
     pub place: Place,
     pub done: Vec<Written>,
 }
@@ -201,7 +202,7 @@ pub enum TypePosition {
     /// A type comes next.
     Wanted,
     /// Behind a name: `[` may come.
-    Named { name: Vec<u8>, place: Place },
+    Named { name: Name, place: Place },
     /// Behind a type.
     Done { written: Written },
 }
@@ -212,7 +213,7 @@ pub enum TypeUse {
     /// A constructor's field.
     Field {
         data: DataHead,
-        name: Vec<u8>,
+        name: Name,
         place: Place,
         fields: Vec<Written>,
     },
@@ -226,7 +227,7 @@ pub enum TypeUse {
     Parameter {
         head: FunctionHead,
         lent: bool,
-        name: Vec<u8>,
+        name: Name,
         place: Place,
     },
     /// A result that is no tuple.
@@ -243,13 +244,13 @@ pub enum TypeUse {
     Annotation {
         body: Body,
         binds: Binds,
-        name: Vec<u8>,
+        name: Name,
         place: Place,
     },
     /// A static argument of a call.
     StaticArgument {
         body: Body,
-        name: Vec<u8>,
+        name: Name,
         place: Place,
         statics: Vec<Written>,
     },
@@ -265,7 +266,7 @@ pub enum Binds {
 /// A pattern whose brackets are open, with its parts so far.
 #[derive(Drop)]
 pub struct OpenPattern {
-    pub name: Vec<u8>,
+    pub name: Name,
     pub place: Place,
     pub done: Vec<Pattern>,
 }
@@ -278,7 +279,7 @@ pub enum PatternPosition {
     /// A literal, behind its minus.
     Minus { place: Place },
     /// Behind a constructor's name: `(` may come.
-    Named { name: Vec<u8>, place: Place },
+    Named { name: Name, place: Place },
     /// Behind a pattern.
     Done { pattern: Pattern },
 }
@@ -336,14 +337,14 @@ pub struct OpenMatch {
 pub enum Use {
     /// Arguments of a call.
     Arguments {
-        name: Vec<u8>,
+        name: Name,
         place: Place,
         statics: Vec<Written>,
         done: Vec<Expression>,
     },
     /// Arguments of a constructor.
     Fields {
-        name: Vec<u8>,
+        name: Name,
         place: Place,
         done: Vec<Expression>,
     },
@@ -404,7 +405,7 @@ pub enum BodyPosition {
     /// `:` or the bind's end, behind a bind's name.
     BindNamed {
         binds: Binds,
-        name: Vec<u8>,
+        name: Name,
         place: Place,
     },
     /// `=`, behind binds in brackets.
@@ -415,24 +416,24 @@ pub enum BodyPosition {
     Operand,
     /// `[`, `(` or the operand's end, behind a lower name.
     LowerName {
-        name: Vec<u8>,
+        name: Name,
         place: Place,
     },
     /// `(`, `[` having been closed.
     CallOpen {
-        name: Vec<u8>,
+        name: Name,
         place: Place,
         statics: Vec<Written>,
     },
     /// A call's first argument or `)`.
     ArgumentFirst {
-        name: Vec<u8>,
+        name: Name,
         place: Place,
         statics: Vec<Written>,
     },
     /// `(` or the operand's end, behind an upper name.
     UpperName {
-        name: Vec<u8>,
+        name: Name,
         place: Place,
     },
     /// A literal, behind its minus.

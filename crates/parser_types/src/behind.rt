@@ -2,11 +2,12 @@
 
 ghost use Rattle.std.specs.Prelude.{◌≡◌, false, ◌∷◌, map, IfOk};
 ghost use Rattle.fip_language.specs.Core as C;
-ghost use Rattle.fip_base.specs.SurfaceView.{written as written_view, result_type};
+ghost use Rattle.fip_base.specs.CoreView.{written as written_view, result_type};
 ghost use Rattle.fip_grammar.specs.Machine as machine;
 ghost use Rattle.parser_state.specs.StateView as view;
 ghost use Rattle.parser_state.specs.StateView.{Leads, Follows};
 
+use fip_base::plain::Name;
 use fip_base::surface::{
     DataConstructor, Parameter, ResultType, SignatureParameter, Static, Written,
 };
@@ -46,7 +47,7 @@ pub fn type_argument(
         }
         Word::Sign(Sign::SquareClose) => stays_in_type(
             TypePosition::Done {
-                written: Written::Name {
+                written: Written::Named {
                     name,
                     place,
                     arguments: done,
@@ -63,14 +64,14 @@ pub fn type_argument(
 pub fn after_field(
     alloc: Global,
     data: DataHead,
-    name: Vec<u8>,
+    name: Name,
     place: Place,
     fields: Vec<Written>,
     written: Written,
     token: Token,
 ) -> Result<Next, AllocError>
     ensures next { Follows false token.entry result (λ w p. machine.after_type
-        (machine.ForField (view.data_head «data») name.items place (map written_view fields.items))
+        (machine.ForField (view.data_head «data») name place (map written_view fields.items))
         (written_view written) w) }
 {
     let mut fields = fields;
@@ -113,7 +114,7 @@ pub fn after_signature_parameter(
     let mut signature = signature;
     signature
         .parameters
-        .push(SignatureParameter { lent, written })?;
+        .push(SignatureParameter { lent, ty: written })?;
     match token.word {
         Word::Sign(Sign::Comma) => stays_in_function(FunctionHeading::SignatureNext {
             head,
@@ -131,20 +132,20 @@ pub fn after_signature_parameter(
 pub fn after_parameter(
     head: FunctionHead,
     lent: bool,
-    name: Vec<u8>,
+    name: Name,
     place: Place,
     written: Written,
     token: Token,
 ) -> Result<Next, AllocError>
     ensures next { Follows false token.entry result (λ w p. machine.after_type
-        (machine.ForParameter (view.function_head head) lent name.items place) (written_view written) w) }
+        (machine.ForParameter (view.function_head head) lent name place) (written_view written) w) }
 {
     let mut head = head;
     head.parameters.push(Parameter {
         lent,
         name,
         place,
-        written,
+        ty: written,
     })?;
     match token.word {
         Word::Sign(Sign::Comma) => stays_in_function(FunctionHeading::ParameterNext { head }),
@@ -172,7 +173,7 @@ fn with_signature(
         name,
         place,
         parameters,
-        gives,
+        result: gives,
     })?;
     Ok(head)
 }
@@ -187,7 +188,7 @@ pub fn after_one_result(
     ensures next { Follows false token.entry result (λ w p. machine.after_one_result (view.result_owner owner)
         (C.OneResult (written_view written)) w) }
 {
-    let gives = ResultType::One { written };
+    let gives = ResultType::One(written);
     match owner {
         ResultOwner::Function { head } => body_open(alloc, head, gives, token),
         ResultOwner::Signature { head, signature } => static_end(
@@ -243,7 +244,7 @@ pub fn after_result_part(
             if is_first {
                 return Ok(Next::Refused);
             }
-            after_tuple_result(owner, ResultType::Tuple { place, parts })
+            after_tuple_result(owner, ResultType::Tuple(place, parts))
         }
         _ => Ok(Next::Refused),
     }
@@ -253,7 +254,7 @@ pub fn after_result_part(
 pub fn after_static_argument(
     alloc: Global,
     body: Body,
-    name: Vec<u8>,
+    name: Name,
     place: Place,
     statics: Vec<Written>,
     written: Written,
@@ -261,7 +262,7 @@ pub fn after_static_argument(
 ) -> Result<Next, AllocError>
     requires well { view.IsWellBody body }
     ensures next { Follows false token.entry result (λ w p. machine.after_type
-        (machine.ForStaticArgument (view.body body) name.items place (map written_view statics.items))
+        (machine.ForStaticArgument (view.body body) name place (map written_view statics.items))
         (written_view written) w) }
 {
     let mut statics = statics;

@@ -14,24 +14,16 @@ function_of k cs x p ss ps r b = record { kind = k; credits = cs; name = x; plac
 
 pub returns : goal.returns
 returns c =
-    let f = c.args.f.now in
-    let made = c.in_ok-copy_credits.field-0.items in
-    let ss = map core.static c.in_ok-copy_statics.field-0.items in
-    let ps = map core.parameter c.in_ok-parameters.parameters.items in
-    let r = core.result_type c.in_ok-copy_result.field-0 in
-    let b = core.block c.in_ok-body.body in
+    let f = c.args.f in
     let cs = f.credits.items in
+    let ss = map core.static f.statics.items in
+    let r = core.result_type f.result in
+    let b = core.block c.in_ok-body.body in
     let qs = form.parameters 0 (map surface.parameter f.parameters.items) in
     record {
       same =
-          ap (λ x. function_of f.kind made x f.place ss ps r b) (c.in_ok-copy_name.ensures.same ∙ c.deref-3.ensures.value)
-          ∙ ap (λ x. function_of f.kind x f.name.items f.place ss ps r b) (c.in_ok-copy_credits.ensures.same ∙ c.deref-2.ensures.value)
-          ∙ ap (λ x. function_of f.kind cs f.name.items f.place x ps r b)
-          (c.in_ok-copy_statics.ensures.same ∙ ap (λ z. map surface.static z) c.deref-4.ensures.value)
-          ∙ ap (λ x. function_of f.kind cs f.name.items f.place (map surface.static f.statics.items) x r b)
-          (c.in_ok-parameters.ensures.given ∙ ap (λ z. form.parameters 0 (map surface.parameter z)) c.deref.ensures.value)
-          ∙ ap (λ x. function_of f.kind cs f.name.items f.place (map surface.static f.statics.items) qs x b) c.in_ok-copy_result.ensures.same
-          ∙ ap (λ x. function_of f.kind cs f.name.items f.place (map surface.static f.statics.items) qs (surface.result_type f.gives) x)
-          (body_stands c.parameters.new.self.scope c.new.result c.parameters.new.self.next c.deref.result.now f.parameters.items (surface.block f.body) b
-          c.deref.ensures.value c.new.ensures.empty c.in_ok-parameters.ensures.scope c.in_ok-parameters.ensures.next c.in_ok-body.ensures.given);
+          ap (λ x. function_of f.kind cs f.name f.place ss x r b) c.in_ok-parameters.ensures.given
+          ∙ ap (λ x. function_of f.kind cs f.name f.place ss qs r x)
+          (body_stands c.parameters.new.self.scope c.new.result c.parameters.new.self.next f.parameters.items (surface.block f.body) b
+          c.new.ensures.empty c.in_ok-parameters.ensures.scope c.in_ok-parameters.ensures.next c.in_ok-body.ensures.given);
     }

@@ -13,7 +13,7 @@ returns-in_ok-push-in-Sign-SquareOpen c =
     record {
       next =
           c.stays_in_type.ensures.next false _ _ (
-          ap (λ v. machine.step_type (machine.TypeNamed c.args.name.items c.args.place) (view.open_types c.args.open.items) (view.type_use c.args.purpose) (word v) c.args.token.place) bracket
+          ap (λ v. machine.step_type (machine.TypeNamed c.args.name c.args.place) (view.open_types c.args.open.items) (view.type_use c.args.purpose) (word v) c.args.token.place) bracket
           ∙ ap (λ o. machine.Stays (machine.InType machine.TypeWanted o (view.type_use c.args.purpose))) (sym (facts.new_type _ _ _ c.in_ok-push-in-Sign-SquareOpen.ensures.items c.new.ensures.items))
           );
     }

@@ -3,7 +3,8 @@ use Rattle.fip_grammar.specs.declared.Sign.TheVariants as S
 use Rattle.fip_grammar.specs.declared.token.Word.TheVariants as W
 use Rattle.fip_grammar.specs.WordView.{word}
 use Rattle.fip_grammar.specs.Machine as machine
-use Rattle.fip_base.specs.SurfaceView.{written, expression}
+use Rattle.fip_base.specs.CoreView.{written}
+use Rattle.fip_base.specs.SurfaceView.{expression}
 use Rattle.parser_state.specs.StateView as view
 use Rattle.parser_state.proofs.StepFacts as steps
 use Rattle.parser_state.proofs.Rows.{answers_as}
@@ -19,7 +20,7 @@ returns-in-Sign-RoundClose c =
     record {
       next =
           c.operand.ensures.next false _ _
-          (ap (λ v. machine.step_body (machine.ArgumentFirst c.args.name.items c.args.place (map written c.args.statics.items)) (view.body b) (word v) t.place) e1
+          (ap (λ v. machine.step_body (machine.ArgumentFirst c.args.name c.args.place (map written c.args.statics.items)) (view.body b) (word v) t.place) e1
           ∙ steps.at_call b c.args.name c.args.place c.args.statics c.new.result [] (sym (ap (map expression) c.new.ensures.items)));
     }
 
@@ -27,7 +28,7 @@ pub returns-in_ok-inner-in_default : goal.returns-in_ok-inner-in_default
 returns-in_ok-inner-in_default c =
     let b = c.args.body in
     let t = c.args.token in
-    let n = c.args.name.items in
+    let n = c.args.name in
     let ts = map written c.args.statics.items in
     let other : c.args.token.word ≡ W.Sign S.RoundClose → ⊥ = λ e. elim c.in_default.branch [
       | in_default-via-in-Sign+in_default w ↦ search rules

@@ -13,7 +13,7 @@ returns-in_ok-push-in-Sign-RoundOpen c =
     record {
       next =
           c.stays_in_pattern.ensures.next false _ _ (
-          ap (λ v. machine.step_pattern (machine.PatternNamed c.args.name.items c.args.place) (view.open_patterns c.args.open.items) (view.under_operand c.args.body) (view.open_match c.args.clauses (view.operand c.args.body)) (word v) c.args.token.place) bracket
+          ap (λ v. machine.step_pattern (machine.PatternNamed c.args.name c.args.place) (view.open_patterns c.args.open.items) (view.under_operand c.args.body) (view.open_match c.args.clauses (view.operand c.args.body)) (word v) c.args.token.place) bracket
           ∙ ap (λ o. machine.in_pattern machine.PatternWanted o (view.under_operand c.args.body) (view.open_match c.args.clauses (view.operand c.args.body))) (sym (facts.new_pattern _ _ _ c.in_ok-push-in-Sign-RoundOpen.ensures.items c.new.ensures.items))
           );
     }

@@ -18,7 +18,7 @@ returns-in_ok-name-in-Lower c = record {
   next =
       c.pattern_read-in-Lower.ensures.next false _ _ (
       ap (λ v. machine.pattern_wanted (view.open_patterns c.args.open.items) (view.under_operand c.args.body) (view.open_match c.args.clauses (view.operand c.args.body)) (word v) c.args.token.place) c.in-Lower.is
-      ∙ ap (λ q. machine.in_pattern (machine.PatternDone q) (view.open_patterns c.args.open.items) (view.under_operand c.args.body) (view.open_match c.args.clauses (view.operand c.args.body))) (sym (facts.pattern_variable _ _ c.args.token.place (c.in_ok-name-in-Lower.ensures.items_if_clones_equal (λ x y h. h))))
+      ∙ ap (λ q. machine.in_pattern (machine.PatternDone q) (view.open_patterns c.args.open.items) (view.under_operand c.args.body) (view.open_match c.args.clauses (view.operand c.args.body))) (sym (facts.pattern_variable _ _ c.args.token.place c.in_ok-name-in-Lower.ensures.same))
       );
 }
 
@@ -46,6 +46,6 @@ returns-in_ok-name-in-Upper c = record {
   next =
       c.stays_in_pattern.ensures.next false _ _ (
       ap (λ v. machine.pattern_wanted (view.open_patterns c.args.open.items) (view.under_operand c.args.body) (view.open_match c.args.clauses (view.operand c.args.body)) (word v) c.args.token.place) c.in-Upper.is
-      ∙ ap (λ n. machine.in_pattern (machine.PatternNamed n c.args.token.place) (view.open_patterns c.args.open.items) (view.under_operand c.args.body) (view.open_match c.args.clauses (view.operand c.args.body))) (sym (c.in_ok-name-in-Upper.ensures.items_if_clones_equal (λ x y h. h)))
+      ∙ ap (λ n. machine.in_pattern (machine.PatternNamed n c.args.token.place) (view.open_patterns c.args.open.items) (view.under_operand c.args.body) (view.open_match c.args.clauses (view.operand c.args.body))) (sym c.in_ok-name-in-Upper.ensures.same)
       );
 }

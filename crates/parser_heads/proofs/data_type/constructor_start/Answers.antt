@@ -1,5 +1,5 @@
 use Rattle.std.proofs.Common.{rules, ◌≡◌, false, [], map, sym, ap, ◌∙◌}
-use Rattle.fip_base.specs.SurfaceView.{written}
+use Rattle.fip_base.specs.CoreView.{written}
 use Rattle.fip_grammar.specs.declared.token.Word.TheVariants as W
 use Rattle.fip_grammar.specs.declared.Sign.TheVariants as S
 use Rattle.fip_grammar.specs.WordView.{word}
@@ -20,7 +20,7 @@ returns-in_ok-push-in_default c =
     record {
       next =
           answers_as _ false _ _ _ (
-          constructor_default (view.data_head c.args.data) c.args.name.items c.args.place c.args.token.word c.args.token.place other
+          constructor_default (view.data_head c.args.data) c.args.name c.args.place c.args.token.word c.args.token.place other
           ∙ ap (λ d. machine.constructor_end d (word c.args.token.word)) (sym (facts.one_constructor c.args.data _ _ [] c.in_ok-push-in_default.ensures.items (ap (map written) c.new-in_default.ensures.items)))
           ) c.constructor_end.ensures.next;
     }

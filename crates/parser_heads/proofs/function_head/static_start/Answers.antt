@@ -19,7 +19,7 @@ returns-in_ok-push-in_default c =
     record {
       next =
           answers_as _ false _ _ _ (
-          static_default (view.function_head c.args.head) c.args.name.items c.args.place c.args.token.word c.args.token.place other
+          static_default (view.function_head c.args.head) c.args.name c.args.place c.args.token.word c.args.token.place other
           ∙ ap (λ h. machine.static_end h (word c.args.token.word)) (sym (facts.one_static c.args.head _ _ c.in_ok-push-in_default.ensures.items))
           ) c.static_end.ensures.next;
     }

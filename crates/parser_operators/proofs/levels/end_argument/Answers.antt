@@ -1,6 +1,7 @@
 use Rattle.std.proofs.Common.{◌∙◌, map, sym, ap}
 use Rattle.fip_grammar.specs.Machine as machine
-use Rattle.fip_base.specs.SurfaceView.{block, written, expression}
+use Rattle.fip_base.specs.CoreView.{written}
+use Rattle.fip_base.specs.SurfaceView.{block, expression}
 use Rattle.parser_state.specs.StateView as view
 use Rattle.parser_state.proofs.StepFacts as steps
 use Rattle.parser_operators.proofs.levels.end_argument.Goals as goal
@@ -12,6 +13,6 @@ returns-in-RoundClose c =
       next =
           λ negated w x e. c.operand.ensures.next negated w x
           (e
-          ∙ ap (λ s. machine.end_level (view.body b) (machine.ForArguments c.args.name.items c.args.place (map written c.args.statics.items) (map expression c.args.done.items)) (block c.args.block) s) c.in-RoundClose.is
+          ∙ ap (λ s. machine.end_level (view.body b) (machine.ForArguments c.args.name c.args.place (map written c.args.statics.items) (map expression c.args.done.items)) (block c.args.block) s) c.in-RoundClose.is
           ∙ steps.at_call b c.args.name c.args.place c.args.statics _ _ (sym c.in_ok-done.ensures));
     }

@@ -1,6 +1,6 @@
 use Rattle.std.proofs.Common.{◌∙◌, ap}
 use Rattle.fip_grammar.specs.Machine as machine
-use Rattle.fip_base.specs.SurfaceView.{result_type}
+use Rattle.fip_base.specs.CoreView.{result_type}
 use Rattle.parser_state.specs.StateView as view
 use Rattle.parser_state.proofs.StepFacts as steps
 use Rattle.parser_operators.proofs.levels.end_block.Goals as goal

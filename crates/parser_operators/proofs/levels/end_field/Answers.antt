@@ -12,6 +12,6 @@ returns-in-RoundClose c =
       next =
           λ negated w x e. c.operand.ensures.next negated w x
           (e
-          ∙ ap (λ s. machine.end_level (view.body b) (machine.ForFields c.args.name.items c.args.place (map expression c.args.done.items)) (block c.args.block) s) c.in-RoundClose.is
+          ∙ ap (λ s. machine.end_level (view.body b) (machine.ForFields c.args.name c.args.place (map expression c.args.done.items)) (block c.args.block) s) c.in-RoundClose.is
           ∙ steps.at_constructor b c.args.name c.args.place _ _ (sym c.in_ok-done.ensures));
     }

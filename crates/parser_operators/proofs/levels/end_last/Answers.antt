@@ -1,6 +1,7 @@
 use Rattle.std.proofs.Common.{◌∙◌, ap, subst}
 use Rattle.fip_grammar.specs.Machine as machine
-use Rattle.fip_base.specs.SurfaceView.{block, result_type}
+use Rattle.fip_base.specs.CoreView.{result_type}
+use Rattle.fip_base.specs.SurfaceView.{block}
 use Rattle.parser_state.specs.StateView as view
 use Rattle.parser_state.proofs.StateFacts as facts
 use Rattle.parser_operators.proofs.levels.end_last.Goals as goal

@@ -3,7 +3,7 @@ use Rattle.fip_grammar.specs.declared.Sign.TheVariants as S
 use Rattle.fip_grammar.specs.declared.token.Word.TheVariants as W
 use Rattle.fip_grammar.specs.WordView.{word}
 use Rattle.fip_grammar.specs.Machine as machine
-use Rattle.fip_base.specs.SurfaceView.{bind, block, written, expression, pattern, action, acted, kept, top, below, result_type}
+use Rattle.fip_base.specs.SurfaceView.{expression, top, below}
 use Rattle.parser_state.specs.StateView as view
 use Rattle.fip_base.proofs.SurfaceLayers.{action_constructor}
 use Rattle.parser_state.proofs.StepFacts as steps
@@ -25,7 +25,7 @@ pub returns-in_ok-inner-in-Sign-RoundOpen : goal.returns-in_ok-inner-in-Sign-Rou
 returns-in_ok-inner-in-Sign-RoundOpen c =
     let b = c.args.body in
     let t = c.args.token in
-    let n = c.args.name.items in
+    let n = c.args.name in
     let e1 : t.word ≡ W.Sign S.RoundOpen = search rules in
     record {
       next =
@@ -39,11 +39,11 @@ pub returns-in_ok-push-in_default : goal.returns-in_ok-push-in_default
 returns-in_ok-push-in_default c =
     let b = c.args.body in
     let t = c.args.token in
-    let v = Surface.Constructor c.args.name.items c.args.place Surface.NoExpressions in
-    let a = action_constructor c.args.name c.args.place c.new-in_default.result ∙ ap (λ z. surface.Leaves (Surface.Constructor c.args.name.items c.args.place (surface.expressions z))) c.new-in_default.ensures.items in
+    let v = Surface.Constructor c.args.name c.args.place Surface.NoExpressions in
+    let a = action_constructor c.args.name c.args.place c.new-in_default.result ∙ ap (λ z. surface.Leaves (Surface.Constructor c.args.name c.args.place (surface.expressions z))) c.new-in_default.ensures.items in
     let es : view.left c.push.new.self.items ≡ v ∷ view.operands b =
     steps.pushed c.push.new.self.items b.partial.steps.items (V.Constructor c.args.name c.args.place c.new-in_default.result) (surface.Leaves v) c.in_ok-push-in_default.ensures.items a in
-    let e1 : machine.step_body (machine.UpperName c.args.name.items c.args.place) (view.body b) (word t.word) t.place ≡ machine.after_operand (view.body b) v (word t.word) t.place = search rules in
+    let e1 : machine.step_body (machine.UpperName c.args.name c.args.place) (view.body b) (word t.word) t.place ≡ machine.after_operand (view.body b) v (word t.word) t.place = search rules in
     record {
       next =
           answers_as _ false _ _ _

@@ -1,6 +1,6 @@
 use Rattle.std.proofs.Common.{rules, ◌≡◌, false, length, [], ◌∷◌, ◌++◌, map, sym, ap, ◌∙◌}
 use Rattle.fip_language.specs.Core as C
-use Rattle.fip_base.specs.SurfaceView.{written}
+use Rattle.fip_base.specs.CoreView.{written}
 use Rattle.fip_grammar.specs.declared.token.Word.TheVariants as W
 use Rattle.fip_grammar.specs.declared.Sign.TheVariants as S
 use Rattle.fip_grammar.specs.WordView.{word}

@@ -1,5 +1,5 @@
 use Rattle.std.proofs.Common.{rules, ◌≡◌, false, map, sym, ap, ◌∙◌}
-use Rattle.fip_base.specs.SurfaceView.{written}
+use Rattle.fip_base.specs.CoreView.{written}
 use Rattle.fip_grammar.specs.declared.token.Word.TheVariants as W
 use Rattle.fip_grammar.specs.declared.Sign.TheVariants as S
 use Rattle.fip_grammar.specs.WordView.{word}
@@ -14,8 +14,8 @@ returns-in-Sign-Comma c =
     record {
       next =
           c.wants_type.ensures.next false _ _ (
-          ap (λ v. machine.after_type (machine.ForStaticArgument (view.body c.args.body) c.args.name.items c.args.place (map written c.args.statics.items)) (written c.args.written) (word v)) comma
-          ∙ ap (λ l. machine.wants_type (machine.ForStaticArgument (view.body c.args.body) c.args.name.items c.args.place l)) (sym (map_pushed written _ _ _ c.in_ok-push.ensures.items))
+          ap (λ v. machine.after_type (machine.ForStaticArgument (view.body c.args.body) c.args.name c.args.place (map written c.args.statics.items)) (written c.args.written) (word v)) comma
+          ∙ ap (λ l. machine.wants_type (machine.ForStaticArgument (view.body c.args.body) c.args.name c.args.place l)) (sym (map_pushed written _ _ _ c.in_ok-push.ensures.items))
           );
     }
 
@@ -26,7 +26,7 @@ returns-in-Sign-SquareClose c =
     record {
       next =
           c.stays_in_body.ensures.next false _ _ (
-          ap (λ v. machine.after_type (machine.ForStaticArgument b c.args.name.items c.args.place (map written c.args.statics.items)) (written c.args.written) (word v)) close
-          ∙ ap (λ l. machine.in_body (machine.CallOpen c.args.name.items c.args.place l) b) (sym (map_pushed written _ _ _ c.in_ok-push.ensures.items))
+          ap (λ v. machine.after_type (machine.ForStaticArgument b c.args.name c.args.place (map written c.args.statics.items)) (written c.args.written) (word v)) close
+          ∙ ap (λ l. machine.in_body (machine.CallOpen c.args.name c.args.place l) b) (sym (map_pushed written _ _ _ c.in_ok-push.ensures.items))
           );
     }

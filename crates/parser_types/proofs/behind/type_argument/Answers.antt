@@ -1,5 +1,5 @@
 use Rattle.std.proofs.Common.{rules, ◌≡◌, false, ◌∷◌, sym, ap, ◌∙◌}
-use Rattle.fip_base.specs.SurfaceView.{written}
+use Rattle.fip_base.specs.CoreView.{written}
 use Rattle.fip_grammar.specs.declared.token.Word.TheVariants as W
 use Rattle.fip_grammar.specs.declared.Sign.TheVariants as S
 use Rattle.fip_grammar.specs.WordView.{word}

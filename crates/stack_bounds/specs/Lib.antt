@@ -1,0 +1,2 @@
+pub mod Scrutinees
+pub mod Bounds

@@ -62,6 +62,18 @@ fn write_words(words: &mut Vec<u64>, start: usize, new: &[u64])
     }
 }
 
+// Puts the words of a cell behind the others, for which there is memory.
+#[inline(always)]
+fn push_words(words: &mut Vec<u64>, header: u64, fields: &[u64])
+    requires { length words.old.items + (length fields.now + 1) ≤ vec_capacity words.old }
+    ensures { words.new.items ≡ words.old.items ++ header ∷ fields.now }
+{
+    words.push(header).unwrap();
+    for word in fields {
+        words.push(*word).unwrap();
+    }
+}
+
 // Takes the memory that a further cell needs beside its words: bits up to a number of places, room to push as many
 // words as there will be cells, and room for places of released cells of its size.
 fn take_room(
@@ -346,8 +358,7 @@ impl Flat {
             size,
             self.counts[size] + 1,
         )?;
-        self.words.push(64 * tag as u64 + 2 * size as u64).unwrap();
-        self.words.extend_from_slice(fields).unwrap();
+        push_words(&mut self.words, 64 * tag as u64 + 2 * size as u64, fields);
         mark(&mut self.marks, place);
         self.counts[size] += 1;
         self.made += 1;

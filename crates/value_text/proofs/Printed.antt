@@ -1,6 +1,6 @@
 -- What the calls of the printer answer, for whoever called.
 use Rattle.std.proofs.Common.{◌≡◌, ◌≢◌, ℕ, ◌^◌, ◌<◌, ◌≤◌, ◌/◌, ◌%◌, ◌==◌, Bool, true, false, List, [], ◌∷◌, ◌++◌, length, sym, ap, ◌∙◌, subst, append_assoc, arith}
-use Rattle.std.specs.Prelude.{slice_get, Result, Ok, Err, OnOk, Some}
+use Rattle.std.specs.Prelude.{slice_get, Result, Ok, Err, IfOk, Some}
 use Rattle.std.specs.Borrow.{Bor}
 use Rattle.std.proofs.lemmas.Bool.{eqb-true}
 use Rattle.fip_language.specs.Values.{Node}
@@ -23,14 +23,10 @@ pub none_of : (xs : List ℕ) (b : Bool) → b ≡ (length xs == 0) → b ≡ tr
 none_of xs b e f = eqb-true (length xs) 0 (sym e ∙ f)
 
 -- a constructor without fields
-bare_prints : (tb : Table) (cs : Cells) (ty w : ℕ) (ts : List Task) (out out' : List ℕ) → 0 < ty → w % 2 ≡ 0 → ((s : Shape) → slice_get (constructors tb ty) (w / 2) ≡ Some s → out' ≡ out ++ s.name) → (x : Placed) → Stands tb cs ty x → word_of x ≡ w → (rest : List ℕ) → Prints tb cs ts rest → Printing tb cs ts out' (out ++ printed tb ty (value_of x) rest)
+pub bare_prints : (tb : Table) (cs : Cells) (ty w : ℕ) (ts : List Task) (out out' : List ℕ) → 0 < ty → w % 2 ≡ 0 → ((s : Shape) → slice_get (constructors tb ty) (w / 2) ≡ Some s → out' ≡ out ++ s.name) → (x : Placed) → Stands tb cs ty x → word_of x ≡ w → (rest : List ℕ) → Prints tb cs ts rest → Printing tb cs ts out' (out ++ printed tb ty (value_of x) rest)
 bare_prints tb cs ty w ts out out' z e f x h q rest pr =
     let n = even_bare tb cs ty w x z e h q in
     (rest, pr, ap (λ o. o ++ rest) (f n.0 n.1) ∙ append_assoc out (n.0).name rest ∙ ap (λ t. out ++ t) (sym (n.2 rest)))
-
-pub bare_result : {A E : Type 0} (tb : Table) (cs : Cells) (ty w : ℕ) (ts : List Task) (out out' : List ℕ) (r : Result A E) → 0 < ty → w % 2 ≡ 0 → OnOk r ((s : Shape) → slice_get (constructors tb ty) (w / 2) ≡ Some s → out' ≡ out ++ s.name) → OnOk r (length cs ≤ 2 ^ 32 → (x : Placed) → Stands tb cs ty x → word_of x ≡ w → (rest : List ℕ) → Prints tb cs ts rest → Printing tb cs ts out' (out ++ printed tb ty (value_of x) rest))
-bare_result tb cs ty w ts out out' (Ok a) z e f = λ few. bare_prints tb cs ty w ts out out' z e f
-bare_result tb cs ty w ts out out' (Err a) z e f = tt
 
 -- a value with a cell
 cell_prints : (tb : Table) (cs : Cells) (ty w : ℕ) (ts ts' : List Task) (out out' : List ℕ) → 0 < ty → w % 2 ≢ 0 → ((c : ℕ) (xs : Parts) → Stands tb cs ty (At (w / 2) c xs) → (rest : List ℕ) → Prints tb cs ts rest → Printing tb cs ts' out' (out ++ printed tb ty (value_of (At (w / 2) c xs)) rest)) → (x : Placed) → Stands tb cs ty x → word_of x ≡ w → (rest : List ℕ) → Prints tb cs ts rest → Printing tb cs ts' out' (out ++ printed tb ty (value_of x) rest)
@@ -38,8 +34,8 @@ cell_prints tb cs ty w ts ts' out out' z e f x h q rest pr =
     let n = odd_cell tb cs ty w x z e h q in
     subst (λ x. Printing tb cs ts' out' (out ++ printed tb ty (value_of x) rest)) (sym n.3) (f n.0 n.1 n.2 rest pr)
 
-pub cell_result : {A E : Type 0} (tb : Table) (cs : Cells) (ty w : ℕ) (ts ts' : List Task) (out out' : List ℕ) (r : Result A E) → 0 < ty → w % 2 ≢ 0 → OnOk r ((c : ℕ) (xs : Parts) → Stands tb cs ty (At (w / 2) c xs) → (rest : List ℕ) → Prints tb cs ts rest → Printing tb cs ts' out' (out ++ printed tb ty (value_of (At (w / 2) c xs)) rest)) → OnOk r (length cs ≤ 2 ^ 32 → (x : Placed) → Stands tb cs ty x → word_of x ≡ w → (rest : List ℕ) → Prints tb cs ts rest → Printing tb cs ts' out' (out ++ printed tb ty (value_of x) rest))
-cell_result tb cs ty w ts ts' out out' (Ok a) z e f = λ few. cell_prints tb cs ty w ts ts' out out' z e f
+pub cell_result : {A E : Type 0} (tb : Table) (cs : Cells) (ty w : ℕ) (ts : List Task) (ts' : A → List Task) (out out' : List ℕ) (r : Result A E) → 0 < ty → w % 2 ≢ 0 → IfOk r (λ a. (c : ℕ) (xs : Parts) → Stands tb cs ty (At (w / 2) c xs) → (rest : List ℕ) → Prints tb cs ts rest → Printing tb cs (ts' a) out' (out ++ printed tb ty (value_of (At (w / 2) c xs)) rest)) → IfOk r (λ a. length cs ≤ 2 ^ 32 → (x : Placed) → Stands tb cs ty x → word_of x ≡ w → (rest : List ℕ) → Prints tb cs ts rest → Printing tb cs (ts' a) out' (out ++ printed tb ty (value_of x) rest))
+cell_result tb cs ty w ts ts' out out' (Ok a) z e f = λ few. cell_prints tb cs ty w ts (ts' a) out out' z e f
 cell_result tb cs ty w ts ts' out out' (Err a) z e f = tt
 
 -- its name, its bracket and its fields
@@ -54,10 +50,10 @@ cell_goes tb cs ty p c xs h r types ts ts' out out' rest is t l o f pr =
 pub shape_there : (tb : Table) (cs : Cells) (ty p c tag : ℕ) (xs : Parts) (n : IsNode tb cs ty p c xs) (r : Shape) → ((x : Cell) → cell_at cs p ≡ Some x → tag ≡ x.tag) → slice_get (constructors tb ty) tag ≡ Some r → r ≡ n.s
 shape_there tb cs ty p c tag xs n r t e = node_shape tb cs ty p c tag xs n r (t (record { tag = c; fields = words_of xs }) n.cell) e
 
-pub node_result : {A E : Type 0} (tb : Table) (cs : Cells) (ty p tag : ℕ) (s : Shape) (types : List ℕ) (ts ts' : List Task) (out out' : List ℕ) (r : Result A E) → ((x : Cell) → cell_at cs p ≡ Some x → tag ≡ x.tag) → slice_get (constructors tb ty) tag ≡ Some s → types ≡ s.fields → 0 < length types → out' ≡ (out ++ s.name) ++ 40 ∷ [] → OnOk r ((tb : Table) (c : Cell) (xs : Parts) → 0 < length types → AreLast tb cs types p c xs → (rest : List ℕ) → Prints tb cs ts rest → Prints tb cs ts' (printed_tail tb types (values_of xs) rest)) → OnOk r ((c : ℕ) (xs : Parts) → Stands tb cs ty (At p c xs) → (rest : List ℕ) → Prints tb cs ts rest → Printing tb cs ts' out' (out ++ printed tb ty (value_of (At p c xs)) rest))
+pub node_result : {A E : Type 0} (tb : Table) (cs : Cells) (ty p tag : ℕ) (s : Shape) (types : List ℕ) (ts : List Task) (ts' : A → List Task) (out out' : List ℕ) (r : Result A E) → ((x : Cell) → cell_at cs p ≡ Some x → tag ≡ x.tag) → slice_get (constructors tb ty) tag ≡ Some s → types ≡ s.fields → 0 < length types → out' ≡ (out ++ s.name) ++ 40 ∷ [] → IfOk r (λ a. (tb : Table) (c : Cell) (xs : Parts) → 0 < length types → AreLast tb cs types p c xs → (rest : List ℕ) → Prints tb cs ts rest → Prints tb cs (ts' a) (printed_tail tb types (values_of xs) rest)) → IfOk r (λ a. (c : ℕ) (xs : Parts) → Stands tb cs ty (At p c xs) → (rest : List ℕ) → Prints tb cs ts rest → Printing tb cs (ts' a) out' (out ++ printed tb ty (value_of (At p c xs)) rest))
 node_result tb cs ty p tag s types ts ts' out out' (Ok a) t e k l o f = λ c xs h rest pr.
     let n = node_of tb cs ty p c xs h in
-    cell_goes tb cs ty p c xs n s types ts ts' out out' rest (shape_there tb cs ty p c tag xs n s t e) k l o f pr
+    cell_goes tb cs ty p c xs n s types ts (ts' a) out out' rest (shape_there tb cs ty p c tag xs n s t e) k l o f pr
 node_result tb cs ty p tag s types ts ts' out out' (Err a) t e k l o f = tt
 
 pub bare_goes : (tb : Table) (cs : Cells) (ty p tag : ℕ) (s : Shape) (types : List ℕ) (ts : List Task) (out out' : List ℕ) → ((x : Cell) → cell_at cs p ≡ Some x → tag ≡ x.tag) → slice_get (constructors tb ty) tag ≡ Some s → types ≡ s.fields → length types ≡ 0 → out' ≡ out ++ s.name → (c : ℕ) (xs : Parts) → Stands tb cs ty (At p c xs) → (rest : List ℕ) → Prints tb cs ts rest → Printing tb cs ts out' (out ++ printed tb ty (value_of (At p c xs)) rest)
@@ -66,15 +62,15 @@ bare_goes tb cs ty p tag s types ts out out' t e k l o c xs h rest pr =
     bare_node tb cs ty p c xs n s ts out out' rest (shape_there tb cs ty p c tag xs n s t e) (sym (ap length k) ∙ l) o pr
 
 -- further fields
-pub more_result : {A E : Type 0} (cs : Cells) (types : List ℕ) (p : ℕ) (ts ts' : List Task) (out out' : List ℕ) (r : Result A E) → 0 < length types → out' ≡ out ++ 44 ∷ 32 ∷ [] → OnOk r ((tb : Table) (c : Cell) (xs : Parts) → 0 < length types → AreLast tb cs types p c xs → (rest : List ℕ) → Prints tb cs ts rest → Prints tb cs ts' (printed_tail tb types (values_of xs) rest)) → OnOk r ((tb : Table) (c : Cell) (xs : Parts) → AreLast tb cs types p c xs → (rest : List ℕ) → Prints tb cs ts rest → Printing tb cs ts' out' (out ++ printed_more tb types (values_of xs) rest))
-more_result cs types p ts ts' out out' (Ok a) l o f = λ tb c xs h rest pr. more_prints tb cs types p c xs ts' out out' rest l h (f tb c xs l h rest pr) o
+pub more_result : {A E : Type 0} (cs : Cells) (types : List ℕ) (p : ℕ) (ts : List Task) (ts' : A → List Task) (out out' : List ℕ) (r : Result A E) → 0 < length types → out' ≡ out ++ 44 ∷ 32 ∷ [] → IfOk r (λ a. (tb : Table) (c : Cell) (xs : Parts) → 0 < length types → AreLast tb cs types p c xs → (rest : List ℕ) → Prints tb cs ts rest → Prints tb cs (ts' a) (printed_tail tb types (values_of xs) rest)) → IfOk r (λ a. (tb : Table) (c : Cell) (xs : Parts) → AreLast tb cs types p c xs → (rest : List ℕ) → Prints tb cs ts rest → Printing tb cs (ts' a) out' (out ++ printed_more tb types (values_of xs) rest))
+more_result cs types p ts ts' out out' (Ok a) l o f = λ tb c xs h rest pr. more_prints tb cs types p c xs (ts' a) out out' rest l h (f tb c xs l h rest pr) o
 more_result cs types p ts ts' out out' (Err a) l o f = tt
 
 -- a task, for any text
-pub whole_result : {A E : Type 0} (tb : Table) (cs : Cells) (ty w : ℕ) (ts ts' : List Task) (out out' : List ℕ) (r : Result A E) → OnOk r (length cs ≤ 2 ^ 32 → (x : Placed) → Stands tb cs ty x → word_of x ≡ w → (rest : List ℕ) → Prints tb cs ts rest → Printing tb cs ts' out' (out ++ printed tb ty (value_of x) rest)) → OnOk r (length cs ≤ 2 ^ 32 → (whole : List ℕ) → Printing tb cs (T.Whole ty w ∷ ts) out whole → Printing tb cs ts' out' whole)
-whole_result tb cs ty w ts ts' out out' (Ok a) h = λ few whole p. printing_whole tb cs ty w ts ts' out out' whole p (h few)
+pub whole_result : {A E : Type 0} (tb : Table) (cs : Cells) (ty w : ℕ) (ts : List Task) (ts' : A → List Task) (out out' : List ℕ) (r : Result A E) → IfOk r (λ a. length cs ≤ 2 ^ 32 → (x : Placed) → Stands tb cs ty x → word_of x ≡ w → (rest : List ℕ) → Prints tb cs ts rest → Printing tb cs (ts' a) out' (out ++ printed tb ty (value_of x) rest)) → IfOk r (λ a. length cs ≤ 2 ^ 32 → (whole : List ℕ) → Printing tb cs (T.Whole ty w ∷ ts) out whole → Printing tb cs (ts' a) out' whole)
+whole_result tb cs ty w ts ts' out out' (Ok a) h = λ few whole p. printing_whole tb cs ty w ts (ts' a) out out' whole p (h few)
 whole_result tb cs ty w ts ts' out out' (Err e) h = tt
 
-pub fields_result : {A E : Type 0} (tb : Table) (cs : Cells) (types : Bor (List ℕ)) (p : ℕ) (ts ts' : List Task) (out out' : List ℕ) (r : Result A E) → OnOk r ((tb : Table) (c : Cell) (xs : Parts) → AreLast tb cs types.now p c xs → (rest : List ℕ) → Prints tb cs ts rest → Printing tb cs ts' out' (out ++ printed_more tb types.now (values_of xs) rest)) → OnOk r (length cs ≤ 2 ^ 32 → (whole : List ℕ) → Printing tb cs (T.Fields types p ∷ ts) out whole → Printing tb cs ts' out' whole)
-fields_result tb cs types p ts ts' out out' (Ok a) h = λ few whole q. printing_fields tb cs types p ts ts' out out' whole q h
+pub fields_result : {A E : Type 0} (tb : Table) (cs : Cells) (types : Bor (List ℕ)) (p : ℕ) (ts : List Task) (ts' : A → List Task) (out out' : List ℕ) (r : Result A E) → IfOk r (λ a. (tb : Table) (c : Cell) (xs : Parts) → AreLast tb cs types.now p c xs → (rest : List ℕ) → Prints tb cs ts rest → Printing tb cs (ts' a) out' (out ++ printed_more tb types.now (values_of xs) rest)) → IfOk r (λ a. length cs ≤ 2 ^ 32 → (whole : List ℕ) → Printing tb cs (T.Fields types p ∷ ts) out whole → Printing tb cs (ts' a) out' whole)
+fields_result tb cs types p ts ts' out out' (Ok a) h = λ few whole q. printing_fields tb cs types p ts (ts' a) out out' whole q h
 fields_result tb cs types p ts ts' out out' (Err e) h = tt

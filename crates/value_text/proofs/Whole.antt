@@ -4,7 +4,7 @@ use Rattle.std.specs.Prelude.{Result, Ok, Err}
 use Rattle.std.proofs.Math.Nat.{mul-zero}
 use Rattle.std.specs.declared.vec.Vec.{Vec}
 use Rattle.std.specs.declared.alloc.Global.{Global}
-use Rattle.fip_language.specs.Prefix.{Accepted, Stopped}
+use Rattle.fip_language.specs.Prefix.{Accepted}
 use Rattle.fip_language.specs.Values.{Values}
 use Rattle.fip_language.specs.Table.{Table}
 use Rattle.fip_language.specs.Store.{count}

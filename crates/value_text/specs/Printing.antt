@@ -1,5 +1,5 @@
 -- What is still to be printed, in the words of the private functions of the printer. No public clause speaks of it.
-use Rattle.std.specs.Prelude.{◌≡◌, ℕ, List, [], ◌∷◌, ◌++◌, ◌-◌, length, drop, Some}
+use Rattle.std.specs.Prelude.{◌≡◌, ℕ, List, [], ◌∷◌, ◌++◌, ◌-◌, length, drop, Option, Some, None}
 use Rattle.fip_language.specs.Values.{Values, End, More}
 use Rattle.fip_language.specs.Table.{Table}
 use Rattle.fip_language.specs.Store.{Cell, Placed, Parts, value_of, values_of, word_of, words_of}
@@ -34,6 +34,15 @@ Prints tb cs (T.Whole ty w ∷ ts) text = (x : Placed) × Stands tb cs ty x × (
     × (text ≡ printed tb ty (value_of x) rest) × Prints tb cs ts rest
 Prints tb cs (T.Fields types p ∷ ts) text = (c : Cell) × (xs : Parts) × AreLast tb cs types.now p c xs × (rest : List ℕ)
     × (text ≡ printed_more tb types.now (values_of xs) rest) × Prints tb cs ts rest
+
+-- the tasks with the one that comes before them, where there is one
+abbrev pub then_tasks : Option Task → List Task → List Task
+then_tasks None ts = ts
+then_tasks (Some t) ts = t ∷ ts
+
+abbrev pub one_task : Option Task → ℕ
+one_task None = 0
+one_task (Some t) = 1
 
 -- these tasks and what is printed make up the text
 abbrev pub Printing : Table → Cells → List Task → List ℕ → List ℕ → Type 0

@@ -1,6 +1,7 @@
 // The cells of values are made while their text is read.
 ghost use Rattle.std.specs.Prelude.{◌≡◌, ◌⊎◌, ℕ, ◌+◌, ◌-◌, ◌*◌, ◌<◌, ◌≤◌, List, [], ◌∷◌, ◌++◌, length, drop, IfOk};
 ghost use Rattle.std.specs.Prelude.{OnOk, OnErr, Err, replicate, slice_index_or};
+ghost use Rattle.fip_language.specs.declared.limits.TheConstants.{MOST_FIELDS};
 ghost use Rattle.fip_language.specs.SoundTable.{IsSoundTable, AreTypes};
 ghost use Rattle.fip_language.specs.Store.{int_word};
 ghost use Rattle.fip_language.specs.Values.{Values};
@@ -13,10 +14,8 @@ use crate::read::{self, Event, Refused};
 use cell_store::{CellError, Loader};
 use fip_base::plain::Param;
 use fip_base::table::TypeTable;
+use fip_language::limits::MOST_FIELDS;
 use std::alloc::{AllocError, Global};
-
-/// The most fields of a cell.
-const MOST_FIELDS: usize = 16;
 
 /// Why nothing more was built.
 #[derive(Clone, Copy, Debug)]
@@ -43,7 +42,7 @@ fn int_bits(i: i64) -> u64
 #[inline(always)]
 fn push_cell(tag: u32, fields: &[u64], loader: &mut Loader) -> Result<u64, Stopped>
     requires some { 0 < length fields.now }
-    requires few { length fields.now ≤ 16 }
+    requires few { length fields.now ≤ MOST_FIELDS }
     ensures made { IfOk result (λ w. (p : ℕ) × (w ≡ 2 * p + 1)
         × IsMade loader.old loader.new p (record { tag = tag; fields = fields.now })) }
     ensures full { result ≡ Err Stopped.Full → (free_in loader.old (length fields.now) ≡ 0)
@@ -139,7 +138,7 @@ pub fn build(
 fn add_credit(size: u8, loader: &mut Loader, words: &mut Vec<u64>) -> Result<(), Stopped>
     ensures made { OnOk result ((p : ℕ) × (words.new.items ≡ words.old.items ++ (2 * p + 1) ∷ [])
         × IsMade loader.old loader.new p (record { tag = 0; fields = replicate size 0 })) }
-    ensures full { result ≡ Err Stopped.Full → 0 < size → size ≤ 16 → (free_in loader.old size ≡ 0)
+    ensures full { result ≡ Err Stopped.Full → 0 < size → size ≤ MOST_FIELDS → (free_in loader.old size ≡ 0)
         × (loader.old.left < size + 1) }
     ensures value { (k : ℕ) → result ≡ Err (Stopped.BadValue k) → ⊥ }
 {

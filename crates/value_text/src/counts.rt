@@ -3,9 +3,10 @@ ghost use Rattle.std.specs.Prelude.{◌≡◌, ◌≢◌, ℕ, suc, ◌+◌, ◌
 ghost use Rattle.value_text.specs.Counting.{closes};
 
 use crate::read::Event;
+use fip_language::limits::MOST_FIELDS;
 
 // The sizes of cells, with 0, which no cell has.
-const SIZES: usize = 17;
+const SIZES: usize = MOST_FIELDS + 1;
 
 /// How many cells of each size from 1 to 16: that of size k is number k of the list. Number 0 stays 0.
 #[derive(Clone, Copy, Debug, PartialEq, Eq)]

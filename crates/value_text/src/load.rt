@@ -2,6 +2,7 @@
 // fit, and where the loader has cells, a first pass tests the text and counts its cells, and a second one makes them.
 ghost use Rattle.std.specs.Prelude.{◌≡◌, ◌⊎◌, ℕ, ◌+◌, ◌*◌, ◌-◌, ◌<◌, ◌≤◌, ◌^◌, List, [], length, Ok, Err, IfOk};
 ghost use Rattle.std.specs.Prelude.{OnOk, MatchResult};
+ghost use Rattle.fip_language.specs.declared.limits.TheConstants.{MOST_STORE_WORDS};
 ghost use Rattle.fip_language.specs.Prefix.{IsPlace};
 ghost use Rattle.fip_language.specs.SoundTable.{IsSoundTable, AreTypes};
 ghost use Rattle.fip_language.specs.ValueText.{SpellsValues};
@@ -21,6 +22,7 @@ use crate::read::{self, Refused};
 use cell_store::Loader;
 use fip_base::plain::Param;
 use fip_base::table::TypeTable;
+use fip_language::limits::MOST_FIELDS;
 use std::alloc::Global;
 
 /// Why values weren't loaded. A loader that is handed back is as it was.
@@ -78,7 +80,7 @@ fn words_needed(loader: &Loader, counts: &Counts) -> usize
         result ≡ words_up_to 16 (count_at counts.now) (free_in loader.now) }
 {
     let mut needed = 0usize;
-    for k in 1..17 {
+    for k in 1..MOST_FIELDS + 1 {
         let fresh = counts.of(k).saturating_sub(loader.spare(k));
         needed = needed.saturating_add((k + 1).saturating_mul(fresh));
     }
@@ -162,7 +164,7 @@ fn make_all(
     loader: Loader,
     needed: usize,
 ) -> Result<(Loader, Vec<u64>), LoadError>
-    requires { needed ≤ 16777216 }
+    requires { needed ≤ MOST_STORE_WORDS }
     ensures { IsGiven table.now (types_of params.now) credits.now bytes.now → (vs : Values) →
         CanLoad table.now (types_of params.now) credits.now bytes.now loader vs →
         IsAnswer table.now (types_of params.now) credits.now bytes.now loader result }
@@ -254,7 +256,7 @@ fn load_new(
     bytes: &[u8],
     words: usize,
 ) -> Result<(Loader, Vec<u64>), Stopped>
-    requires { words ≤ 16777216 }
+    requires { words ≤ MOST_STORE_WORDS }
     ensures { IsGiven table.now (types_of params.now) credits.now bytes.now → (first : Loading) → first.cells ≡ [] →
         first.released ≡ [] → first.left ≡ words →
         IsTried table.now (types_of params.now) credits.now bytes.now first result }

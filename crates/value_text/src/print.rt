@@ -12,6 +12,7 @@ ghost use Rattle.fip_language.specs.ValueText.{SpellsValues};
 ghost use Rattle.cell_store.specs.Cells.{cell_at};
 ghost use Rattle.value_text.specs.Standing.{Stands};
 ghost use Rattle.value_text.specs.Printing.{last_first, printed_tail, AreLast, Prints, Printing};
+ghost use Rattle.value_text.specs.Printing.{then_tasks, one_task};
 
 use crate::read::split;
 use cell_store::Cells;
@@ -30,6 +31,7 @@ pub enum Task<'a> {
 }
 
 // The int of these 64 bits.
+#[inline(always)]
 fn int_of_bits(word: u64) -> i64
     ensures bits { int_word result ≡ word }
     ensures fits { FitsSigned w64 result }
@@ -41,6 +43,18 @@ fn int_of_bits(word: u64) -> i64
     }
 }
 
+// Puts a few bytes behind the others, one after another.
+#[inline(always)]
+fn put_bytes(bytes: &[u8], out: &mut Vec<u8>) -> Result<(), AllocError>
+    ensures items { OnOk result (out.new.items ≡ out.old.items ++ bytes.now) }
+    ensures more { OnOk result (vec_len out.new ≡ vec_len out.old + length bytes.now) }
+{
+    for b in bytes {
+        out.push(*b)?;
+    }
+    Ok(())
+}
+
 fn print_int(word: u64, out: &mut Vec<u8>) -> Result<(), AllocError>
     ensures text { OnOk result ((i : ℤ) → FitsSigned w64 i → int_word i ≡ word →
         out.new.items ≡ out.old.items ++ signed_decimal i) }
@@ -48,10 +62,10 @@ fn print_int(word: u64, out: &mut Vec<u8>) -> Result<(), AllocError>
 {
     let mut buffer = Buffer::new();
     let i = int_of_bits(word);
-    out.extend_from_slice(buffer.format(i).as_bytes())?;
-    Ok(())
+    put_bytes(buffer.format(i).as_bytes(), out)
 }
 
+#[inline(always)]
 fn add<'a>(tasks: &mut Vec<Task<'a>>, task: Task<'a>) -> Result<(), AllocError>
     ensures added { OnOk result (last_first tasks.new.items ≡ task.entry ∷ last_first tasks.old.items) }
     ensures one { OnOk result (vec_len tasks.new ≡ vec_len tasks.old + 1) }
@@ -61,6 +75,7 @@ fn add<'a>(tasks: &mut Vec<Task<'a>>, task: Task<'a>) -> Result<(), AllocError>
 }
 
 // The constructor of this number, where the type has one.
+#[inline(always)]
 fn constructor_at(table: &TypeTable, ty: u32, tag: u64) -> Option<&Constructor>
     ensures some { IfSome result (λ r. slice_get (constructors table.now ty) tag ≡ Some r.now) }
     ensures none { IfNone result (slice_get (constructors table.now ty) tag ≡ None) }
@@ -77,6 +92,7 @@ fn constructor_at(table: &TypeTable, ty: u32, tag: u64) -> Option<&Constructor>
 }
 
 // The word of the first of the last `left` fields of a cell.
+#[inline(always)]
 fn field_from_end<C: Cells>(cells: &C, place: u32, left: usize) -> Option<u64>
     requires { cell_at (C.cells cells.now) place ≢ None }
     ensures { (c : Cell) → cell_at (C.cells cells.now) place ≡ Some c → 0 < left → left ≤ length c.fields →
@@ -89,60 +105,64 @@ fn field_from_end<C: Cells>(cells: &C, place: u32, left: usize) -> Option<u64>
     Some(cells.field(place, size - left))
 }
 
-// The first of the last fields of a cell, and the others behind it.
+// The first of the last fields of a cell is the next task; the others wait.
+#[inline(always)]
 fn add_fields<'a, C: Cells>(
     cells: &C,
     types: &'a [u32],
     place: u32,
     tasks: &mut Vec<Task<'a>>,
-) -> Result<(), AllocError>
+) -> Result<Option<Task<'a>>, AllocError>
     requires { cell_at (C.cells cells.now) place ≢ None }
-    ensures prints { OnOk result ((tb : Table) (c : Cell) (xs : Parts) → 0 < length types.now →
+    ensures prints { IfOk result (λ next. (tb : Table) (c : Cell) (xs : Parts) → 0 < length types.now →
         AreLast tb (C.cells cells.now) types.now place c xs → (rest : List ℕ) →
         Prints tb (C.cells cells.now) (last_first tasks.old.items) rest →
-        Prints tb (C.cells cells.now) (last_first tasks.new.items) (printed_tail tb types.now (values_of xs) rest)) }
-    ensures few { OnOk result (vec_len tasks.new ≤ vec_len tasks.old + 2) }
+        Prints tb (C.cells cells.now) (then_tasks next (last_first tasks.new.items))
+        (printed_tail tb types.now (values_of xs) rest)) }
+    ensures few { IfOk result (λ next. one_task next + vec_len tasks.new ≤ vec_len tasks.old + 2) }
 {
     match split(types) {
-        None => Ok(()),
+        None => Ok(None),
         Some((ty, rest)) => match field_from_end(cells, place, types.len()) {
-            None => Ok(()),
+            None => Ok(None),
             Some(word) => {
                 add(tasks, Task::Fields(rest, place))?;
-                add(tasks, Task::Whole(ty, word))?;
-                Ok(())
+                Ok(Some(Task::Whole(ty, word)))
             }
         },
     }
 }
 
-// The last fields of a cell, or the ) behind them.
+// The last fields of a cell, of which the first is the next task, or the ) behind them.
+#[inline(always)]
 fn print_fields<'a, C: Cells>(
     cells: &C,
     types: &'a [u32],
     place: u32,
     out: &mut Vec<u8>,
     tasks: &mut Vec<Task<'a>>,
-) -> Result<(), AllocError>
-    ensures prints { OnOk result ((tb : Table) (c : Cell) (xs : Parts) →
+) -> Result<Option<Task<'a>>, AllocError>
+    ensures prints { IfOk result (λ next. (tb : Table) (c : Cell) (xs : Parts) →
         AreLast tb (C.cells cells.now) types.now place c xs → (rest : List ℕ) →
         Prints tb (C.cells cells.now) (last_first tasks.old.items) rest →
-        Printing tb (C.cells cells.now) (last_first tasks.new.items) out.new.items
+        Printing tb (C.cells cells.now) (then_tasks next (last_first tasks.new.items)) out.new.items
         (out.old.items ++ printed_more tb types.now (values_of xs) rest)) }
-    ensures steps { OnOk result (vec_len tasks.new + 3 * vec_len out.old ≤ vec_len tasks.old + 3 * vec_len out.new) }
+    ensures steps { IfOk result (λ next.
+        one_task next + vec_len tasks.new + 3 * vec_len out.old ≤ vec_len tasks.old + 3 * vec_len out.new) }
 {
     if types.is_empty() {
         out.push(b')')?;
-        return Ok(());
+        return Ok(None);
     }
     if !cells.begins(place) {
-        return Ok(());
+        return Ok(None);
     }
-    out.extend_from_slice(b", ")?;
+    put_bytes(b", ", out)?;
     add_fields(cells, types, place, tasks)
 }
 
-// A value with a cell: its name, and its fields as tasks.
+// A value with a cell: its name, and its fields as tasks, of which the first comes next.
+#[inline(always)]
 fn print_cell<'a, C: Cells>(
     table: &'a TypeTable,
     cells: &C,
@@ -150,28 +170,31 @@ fn print_cell<'a, C: Cells>(
     place: u32,
     out: &mut Vec<u8>,
     tasks: &mut Vec<Task<'a>>,
-) -> Result<(), AllocError>
+) -> Result<Option<Task<'a>>, AllocError>
     requires { cell_at (C.cells cells.now) place ≢ None }
-    ensures prints { OnOk result ((c : ℕ) (xs : Parts) → Stands table.now (C.cells cells.now) ty (At place c xs) →
-        (rest : List ℕ) → Prints table.now (C.cells cells.now) (last_first tasks.old.items) rest →
-        Printing table.now (C.cells cells.now) (last_first tasks.new.items) out.new.items
+    ensures prints { IfOk result (λ next. (c : ℕ) (xs : Parts) →
+        Stands table.now (C.cells cells.now) ty (At place c xs) → (rest : List ℕ) →
+        Prints table.now (C.cells cells.now) (last_first tasks.old.items) rest →
+        Printing table.now (C.cells cells.now) (then_tasks next (last_first tasks.new.items)) out.new.items
         (out.old.items ++ printed table.now ty (value_of (At place c xs)) rest)) }
-    ensures steps { OnOk result (vec_len tasks.new + 3 * vec_len out.old ≤ vec_len tasks.old + 3 * vec_len out.new) }
+    ensures steps { IfOk result (λ next.
+        one_task next + vec_len tasks.new + 3 * vec_len out.old ≤ vec_len tasks.old + 3 * vec_len out.new) }
 {
     let tag = cells.cell_tag(place);
     let Some(constructor) = constructor_at(table, ty, tag as u64) else {
-        return Ok(());
+        return Ok(None);
     };
-    out.extend_from_slice(constructor.name())?;
+    put_bytes(constructor.name(), out)?;
     let types = constructor.fields();
     if types.is_empty() {
-        return Ok(());
+        return Ok(None);
     }
     out.push(b'(')?;
     add_fields(cells, types, place, tasks)
 }
 
 // A constructor without fields.
+#[inline(always)]
 fn print_bare(table: &TypeTable, ty: u32, tag: u64, out: &mut Vec<u8>) -> Result<(), AllocError>
     ensures text { OnOk result ((s : Shape) → slice_get (constructors table.now ty) tag ≡ Some s →
         out.new.items ≡ out.old.items ++ s.name) }
@@ -179,14 +202,12 @@ fn print_bare(table: &TypeTable, ty: u32, tag: u64, out: &mut Vec<u8>) -> Result
 {
     match constructor_at(table, ty, tag) {
         None => Ok(()),
-        Some(constructor) => {
-            out.extend_from_slice(constructor.name())?;
-            Ok(())
-        }
+        Some(constructor) => put_bytes(constructor.name(), out),
     }
 }
 
-// A value.
+// A value, and the task that comes next where there is one.
+#[inline(always)]
 fn print_whole<'a, C: Cells>(
     table: &'a TypeTable,
     cells: &C,
@@ -194,43 +215,48 @@ fn print_whole<'a, C: Cells>(
     word: u64,
     out: &mut Vec<u8>,
     tasks: &mut Vec<Task<'a>>,
-) -> Result<(), AllocError>
-    ensures prints { OnOk result (length (C.cells cells.now) ≤ 2 ^ 32 → (x : Placed) →
+) -> Result<Option<Task<'a>>, AllocError>
+    ensures prints { IfOk result (λ next. length (C.cells cells.now) ≤ 2 ^ 32 → (x : Placed) →
         Stands table.now (C.cells cells.now) ty x → word_of x ≡ word → (rest : List ℕ) →
         Prints table.now (C.cells cells.now) (last_first tasks.old.items) rest →
-        Printing table.now (C.cells cells.now) (last_first tasks.new.items) out.new.items
+        Printing table.now (C.cells cells.now) (then_tasks next (last_first tasks.new.items)) out.new.items
         (out.old.items ++ printed table.now ty (value_of x) rest)) }
-    ensures steps { OnOk result (vec_len tasks.new + 3 * vec_len out.old ≤ vec_len tasks.old + 3 * vec_len out.new) }
+    ensures steps { IfOk result (λ next.
+        one_task next + vec_len tasks.new + 3 * vec_len out.old ≤ vec_len tasks.old + 3 * vec_len out.new) }
 {
     if ty == 0 {
-        return print_int(word, out);
+        print_int(word, out)?;
+        return Ok(None);
     }
     if word % 2 == 0 {
-        return print_bare(table, ty, word / 2, out);
+        print_bare(table, ty, word / 2, out)?;
+        return Ok(None);
     }
     if word / 2 > u32::MAX as u64 {
-        return Ok(());
+        return Ok(None);
     }
     let place = (word / 2) as u32;
     if cells.begins(place) {
         print_cell(table, cells, ty, place, out, tasks)
     } else {
-        Ok(())
+        Ok(None)
     }
 }
 
-// The next task.
+// A task, and the one that comes next where there is one.
+#[inline(always)]
 fn print_task<'a, C: Cells>(
     table: &'a TypeTable,
     cells: &C,
     task: Task<'a>,
     out: &mut Vec<u8>,
     tasks: &mut Vec<Task<'a>>,
-) -> Result<(), AllocError>
-    ensures prints { OnOk result (length (C.cells cells.now) ≤ 2 ^ 32 → (whole : List ℕ) →
+) -> Result<Option<Task<'a>>, AllocError>
+    ensures prints { IfOk result (λ next. length (C.cells cells.now) ≤ 2 ^ 32 → (whole : List ℕ) →
         Printing table.now (C.cells cells.now) (task.entry ∷ last_first tasks.old.items) out.old.items whole →
-        Printing table.now (C.cells cells.now) (last_first tasks.new.items) out.new.items whole) }
-    ensures steps { OnOk result (vec_len tasks.new + 3 * vec_len out.old ≤ vec_len tasks.old + 3 * vec_len out.new) }
+        Printing table.now (C.cells cells.now) (then_tasks next (last_first tasks.new.items)) out.new.items whole) }
+    ensures steps { IfOk result (λ next.
+        one_task next + vec_len tasks.new + 3 * vec_len out.old ≤ vec_len tasks.old + 3 * vec_len out.new) }
 {
     match task {
         Task::Whole(ty, word) => print_whole(table, cells, ty, word, out, tasks),
@@ -251,11 +277,16 @@ fn print_tasks<C: Cells>(
 {
     let mut out = Vec::new(alloc);
     let mut tasks = Vec::new(alloc);
-    add(&mut tasks, Task::Whole(ty, word))?;
-    while let Some(task) = tasks.pop() {
-        print_task(table, cells, task, &mut out, &mut tasks)?;
+    let mut task = Task::Whole(ty, word);
+    'printing: loop {
+        match print_task(table, cells, task, &mut out, &mut tasks)? {
+            Some(next) => task = next,
+            None => match tasks.pop() {
+                Some(next) => task = next,
+                None => return Ok(out),
+            },
+        }
     }
-    Ok(out)
 }
 
 /// The canonical text of the value of a type that a word stands for in the cells: constructors and ints without

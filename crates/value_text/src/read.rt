@@ -179,6 +179,7 @@ fn read_node<'a>(
 }
 
 // Behind a value, where no constructor is open.
+#[inline(never)]
 fn read_line<'a>(bytes: &[u8], cursor: &mut Cursor<'a>) -> Result<Option<Event>, Refused>
     requires place { cursor.old.at ≤ length bytes.now }
     requires next { cursor.old.next ≡ None }

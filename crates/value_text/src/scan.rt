@@ -42,6 +42,9 @@ fn digit(b: u8) -> bool
 fn name_byte(b: u8) -> bool
     ensures { result ≡ is_name_byte b }
 {
+    if b < 48 {
+        return false;
+    }
     digit(b) || 65 <= b && b <= 90 || 97 <= b && b <= 122 || b == b'_'
 }
 
@@ -73,6 +76,11 @@ pub fn sign(bytes: &[u8], at: usize, byte: u8) -> Result<usize, usize>
         (λ next. runs tb bytes.now (Await (character byte) s) at ≡ runs tb bytes.now s next)
         (λ k. runs tb bytes.now (Await (character byte) s) at ≡ Stopped k) }
 {
+    if at < bytes.len() {
+        if bytes[at] == byte {
+            return Ok(at + 1);
+        }
+    }
     let i = skip_blanks(bytes, at);
     if i >= bytes.len() {
         return Err(i);

@@ -1,7 +1,7 @@
-use Rattle.std.proofs.Common.{◌≤◌, take}
+use Rattle.std.proofs.Common.{take}
 use Rattle.fip_language.specs.Values.{Values}
 use Rattle.cell_store.specs.Made.{Loading}
-use Rattle.value_text.specs.Loaded.{AreCredits, wanted, words_up_to, free_in}
+use Rattle.value_text.specs.Loaded.{AreCredits, wanted}
 use Rattle.value_text.specs.Building.{IsBuilt, IsCrediting}
 use Rattle.value_text.proofs.build.add_credits.Given as goal
 

@@ -4,7 +4,7 @@ use Rattle.value_text.specs.declared.read.Event.{Event}
 use Rattle.value_text.specs.Reading.{outline, outline_at, Spot, spot_of, Stepped, cost_of, IsNarrow, IsReading}
 use Rattle.value_text.specs.Loaded.{types_of}
 use Rattle.value_text.proofs.Built.{building_starts, building_room, building_on, building_ends, reading_goes, reading_ends, is_read}
-use Rattle.value_text.proofs.Counted.{reading_starts, reading_stops}
+use Rattle.value_text.proofs.Counted.{reading_starts}
 use Rattle.value_text.proofs.Results.{put_fails}
 use Rattle.value_text.proofs.build.build.Goals as goal
 

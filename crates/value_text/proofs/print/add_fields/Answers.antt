@@ -1,4 +1,4 @@
-use Rattle.std.proofs.Common.{ap, ◌∙◌, List, ◌∷◌}
+use Rattle.std.proofs.Common.{ap, List, ◌∷◌}
 use Rattle.value_text.specs.declared.print.Task.{Task}
 use Rattle.value_text.specs.declared.print.Task.TheVariants as T
 use Rattle.value_text.specs.Printing.{last_first}
@@ -9,7 +9,7 @@ pub returns-in-None-field_from_end-clause-prints : goal.returns-in-None-field_fr
 returns-in-None-field_from_end-clause-prints g c = λ tb x xs l h rest pr.
     absurd (no_field tb (g.C.Cells.cells c.args.cells.now) c.args.types.now c.in-Some.ty c.in-Some.rest.now c.args.place x xs c.in-Some.ensures h c.in-None-field_from_end.ensures)
 
-pub returns-in_ok-add-in-Some-field_from_end-2-clause-prints : goal.returns-in_ok-add-in-Some-field_from_end-2-clause-prints
-returns-in_ok-add-in-Some-field_from_end-2-clause-prints g c = λ tb x xs l h rest pr.
-    tail_prints tb (g.C.Cells.cells c.args.cells.now) c.args.types.now c.in-Some.ty c.in-Some.rest c.args.place x xs c.in-Some-field_from_end.word (last_first c.args.tasks.now.items) (last_first c.add-in-Some-field_from_end.new.tasks.items) rest c.in-Some.ensures h c.in-Some-field_from_end.ensures
-    (c.in_ok-add-in-Some-field_from_end-2.ensures.added ∙ ap (λ (ts : List Task). T.Whole c.in-Some.ty c.in-Some-field_from_end.word ∷ ts) c.in_ok-add-in-Some-field_from_end.ensures.added) pr
+pub returns-in_ok-add-in-Some-field_from_end-clause-prints : goal.returns-in_ok-add-in-Some-field_from_end-clause-prints
+returns-in_ok-add-in-Some-field_from_end-clause-prints g c = λ tb x xs l h rest pr.
+    tail_prints tb (g.C.Cells.cells c.args.cells.now) c.args.types.now c.in-Some.ty c.in-Some.rest c.args.place x xs c.in-Some-field_from_end.word (last_first c.args.tasks.now.items) (T.Whole c.in-Some.ty c.in-Some-field_from_end.word ∷ last_first c.add.new.tasks.items) rest c.in-Some.ensures h c.in-Some-field_from_end.ensures
+    (ap (λ (ts : List Task). T.Whole c.in-Some.ty c.in-Some-field_from_end.word ∷ ts) c.in_ok-add-in-Some-field_from_end.ensures.added) pr

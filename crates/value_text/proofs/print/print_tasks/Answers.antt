@@ -1,26 +1,42 @@
-use Rattle.std.proofs.Common.{arith, refl, sym, ap, ◌∙◌, subst, ◌≡◌, ℕ, [], ◌∷◌, ◌++◌, List}
+use Rattle.std.proofs.Common.{arith, refl, sym, ap, ◌∙◌, subst, ◌≡◌, ℕ, [], ◌++◌, List, Option}
 use Rattle.fip_language.specs.Store.{value_of}
 use Rattle.fip_language.specs.PrintedText.{printed}
 use Rattle.value_text.specs.declared.print.Task.{Task}
-use Rattle.value_text.specs.declared.print.Task.TheVariants as T
-use Rattle.value_text.specs.Printing.{last_first, Prints, Printing}
+use Rattle.value_text.specs.Printing.{last_first, then_tasks, Prints, Printing}
 use Rattle.value_text.proofs.Printing.{last_push, last_empty, none_left, printing_ends}
 use Rattle.value_text.proofs.print.print_tasks.Goals as goal
 
-pub loop-task-init : goal.loop-task-init
-loop-task-init g c =
+pub printing-init : goal.printing-init
+printing-init g c =
     let tb = c.args.table.now in
     let cs = g.C.Cells.cells c.args.cells.now in
-    let e : last_first c.add.new.tasks.items ≡ T.Whole c.args.ty c.args.word ∷ [] = c.in_ok-add.ensures.added ∙ ap (λ (ts : List Task). T.Whole c.args.ty c.args.word ∷ ts) (ap last_first c.new-tasks.ensures.items ∙ last_empty) in
+    let e : last_first c.new-tasks.result.items ≡ [] = ap last_first c.new-tasks.ensures.items ∙ last_empty in
     λ few x h w.
     let text = printed tb c.args.ty (value_of x) [] in
-    (text, subst (λ (ts : List Task). Prints tb cs ts text) (sym e) (x, h, w, [], refl, refl), ap (λ (o : List ℕ). o ++ text) c.new-out.ensures.items)
+    (text, (x, h, w, [], refl, subst (λ (ts : List Task). Prints tb cs ts []) (sym e) refl), ap (λ (o : List ℕ). o ++ text) c.new-out.ensures.items)
 
-pub loop-task-preserved : goal.loop-task-preserved
-loop-task-preserved g c =
+pub printing-preserved-in-Some : goal.printing-preserved-in-Some
+printing-preserved-in-Some g c =
     let tb = c.args.table.now in
     let cs = g.C.Cells.cells c.args.cells.now in
-    λ few x h w. c.in_ok-print_task.ensures.prints few (printed tb c.args.ty (value_of x) []) (subst (λ (ts : List Task). Printing tb cs ts c.loop-task.out.items (printed tb c.args.ty (value_of x) [])) (ap last_first c.in-Some.ensures.items ∙ last_push _ _) (c.loop-task.invariant few x h w))
+    λ few x h w.
+    let whole = printed tb c.args.ty (value_of x) [] in
+    subst (λ (o : Option Task). Printing tb cs (then_tasks o (last_first c.print_task.new.tasks.items)) c.print_task.new.out.items whole) c.in-Some.is (c.in_ok-next.ensures.prints few whole (c.printing.invariant few x h w))
 
-pub returns : goal.returns
-returns g c = λ few x h w. printing_ends c.args.table.now (g.C.Cells.cells c.args.cells.now) (last_first c.loop-task.tasks.items) c.loop-task.out.items (printed c.args.table.now c.args.ty (value_of x) []) (none_left c.loop-task.tasks.items (let z = c.in_default.ensures.cases in omega (arith, z.0))) (c.loop-task.invariant few x h w)
+pub printing-preserved : goal.printing-preserved
+printing-preserved g c =
+    let tb = c.args.table.now in
+    let cs = g.C.Cells.cells c.args.cells.now in
+    λ few x h w.
+    let whole = printed tb c.args.ty (value_of x) [] in
+    subst (λ (ts : List Task). Printing tb cs ts c.print_task.new.out.items whole) (ap last_first c.in-Some-pop.ensures.items ∙ last_push _ _)
+    (subst (λ (o : Option Task). Printing tb cs (then_tasks o (last_first c.print_task.new.tasks.items)) c.print_task.new.out.items whole) c.in-None.is (c.in_ok-next.ensures.prints few whole (c.printing.invariant few x h w)))
+
+pub returns-in-None-pop : goal.returns-in-None-pop
+returns-in-None-pop g c =
+    let tb = c.args.table.now in
+    let cs = g.C.Cells.cells c.args.cells.now in
+    λ few x h w.
+    let whole = printed tb c.args.ty (value_of x) [] in
+    printing_ends tb cs (last_first c.print_task.new.tasks.items) c.print_task.new.out.items whole (none_left c.print_task.new.tasks.items (let z = c.in-None-pop.ensures.cases in omega (arith, z.0)))
+    (subst (λ (o : Option Task). Printing tb cs (then_tasks o (last_first c.print_task.new.tasks.items)) c.print_task.new.out.items whole) c.in-None.is (c.in_ok-next.ensures.prints few whole (c.printing.invariant few x h w)))

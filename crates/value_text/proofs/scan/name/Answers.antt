@@ -1,4 +1,4 @@
-use Rattle.std.proofs.Common.{◌<◌, ◌≤◌, List, arith, refl, subst, ◌-◌, take, drop}
+use Rattle.std.proofs.Common.{◌≤◌, List, arith, refl, subst, ◌-◌, take, drop}
 use Rattle.fip_language.specs.Table.{Shape}
 use Rattle.fip_base.specs.TableView.{IsNamed}
 use Rattle.value_text.proofs.Names.{name_bytes, name_found}

@@ -4,6 +4,9 @@ use Rattle.value_text.specs.Machine.{Await}
 use Rattle.value_text.proofs.Runs.{ends_short, sign_goes, sign_stops}
 use Rattle.value_text.proofs.scan.sign.Goals as goal
 
+pub returns-then-bytes-at-clause-reads : goal.returns-then-bytes-at-clause-reads
+returns-then-bytes-at-clause-reads c = λ tb s. sign_goes tb c.args.bytes.now (character c.args.byte) s c.args.at (let h = c.if-at-bytes.true in omega (arith, h)) c.requires.sign (ap character c.if-bytes-at.true)
+
 pub returns-then-i-bytes-clause-reads : goal.returns-then-i-bytes-clause-reads
 returns-then-i-bytes-clause-reads c = λ tb s. c.skip_blanks-i.ensures.skips tb (Await (character c.args.byte) s) refl ∙ ends_short tb c.args.bytes.now (Await (character c.args.byte) s) c.skip_blanks-i.result (let h = c.if-i-bytes.true in let k = c.skip_blanks-i.ensures.within in omega (arith, h, k)) refl
 

@@ -1,9 +1,7 @@
 -- The words end with the new cell's header and fields, and a bit marks its place.
-use Rattle.std.proofs.Common.{◌≡◌, ◌∙◌, ◌++◌, ◌∷◌, [], Some, None, true, false, nat_eq, arith, ap, length}
+use Rattle.std.proofs.Common.{◌≡◌, ◌∙◌, ◌++◌, ◌∷◌, Some, None, true, false, nat_eq, arith, ap, length, ℕ, List}
 use Rattle.std.specs.Prelude.{replicate, if◌then◌else◌}
 use Rattle.std.specs.Vec.{vec_capacity}
-use Rattle.std.proofs.lemmas.Slice.{pushed}
-use Rattle.std.proofs.lemmas.List.{append_assoc}
 use Rattle.fip_language.specs.Store.{Cell}
 use Rattle.cell_store.specs.Flat.{header, parse, flags}
 use Rattle.cell_store.specs.Made.{Stored}
@@ -45,8 +43,7 @@ invariant_of-self-2 c =
     let old = i.words.items in
     let fs = c.args.fields.now in
     let h = header c.args.tag (length fs) in
-    let first = pushed (h ∷ []) c.in_ok-reserve.ensures.items c.unwrap.ensures c.push.ensures.items in
-    let words : c.extend_from_slice.new.self.items ≡ old ++ h ∷ fs = pushed fs first c.unwrap-2.ensures c.extend_from_slice.ensures.items ∙ append_assoc old (h ∷ []) fs in
+    let words : c.push_words.new.words.items ≡ old ++ h ∷ fs = c.push_words.ensures ∙ ap (λ (ws : List ℕ). ws ++ h ∷ fs) c.in_ok-reserve.ensures.items in
     let ok = i.words.ok.0 in
     let place = c.len-place.ensures in
     let length_is : c.len-place.result ≡ length old = omega (arith, ok, place) in
@@ -68,8 +65,7 @@ returns-clause-made c =
     let fs = c.args.fields.now in
     let d : Cell = record { tag = c.args.tag; fields = fs } in
     let h = header c.args.tag (length fs) in
-    let first = pushed (h ∷ []) c.in_ok-reserve.ensures.items c.unwrap.ensures c.push.ensures.items in
-    let words : c.extend_from_slice.new.self.items ≡ old ++ h ∷ fs = pushed fs first c.unwrap-2.ensures c.extend_from_slice.ensures.items ∙ append_assoc old (h ∷ []) fs in
+    let words : c.push_words.new.words.items ≡ old ++ h ∷ fs = c.push_words.ensures ∙ ap (λ (ws : List ℕ). ws ++ h ∷ fs) c.in_ok-reserve.ensures.items in
     let a = appended old c.args.tag fs i.counts c.self.invariant.laid c.self.invariant.counted c.requires.some c.requires.few c.ranges.tag.fits in
     let ok = i.words.ok.0 in
     let place = c.len-place.ensures in

@@ -29,7 +29,7 @@ use Rattle.cell_conservation.proofs.Binding.{held_all, tracks_binders, parameter
 use Rattle.cell_conservation.proofs.Owned.{owned_once, owned_total}
 use Rattle.cell_conservation.proofs.Counting.{CallsKeep, block_counts}
 
-derived_at : (p : Program) (ds : List Instance) (i : ℕ) (d : Instance) → AreFipDerived p ds → slice_get ds i ≡ Some d → d.kind ≡ Fip → IsDerived p d
+pub derived_at : (p : Program) (ds : List Instance) (i : ℕ) (d : Instance) → AreFipDerived p ds → slice_get ds i ≡ Some d → d.kind ≡ Fip → IsDerived p d
 derived_at p [] i d h e k = cc
 derived_at p (x ∷ ds) zero d h e k = let same : x ≡ d = cc in subst (IsDerived p) same (h.0 (ap (λ (z : Instance). z.kind) same ∙ k))
 derived_at p (x ∷ ds) (suc i) d h e k = derived_at p ds i d h.1 e k
@@ -74,7 +74,7 @@ keeps_where f vs Deep h = tt
 keeps_where f vs Stuck h = tt
 
 -- the derivation of a fip instance
-fip_derived : (p : Program) (f : Instance) (k : FunKind) → f.kind ≡ k → IsDerived p f → Derived (is_fip k) (borrowed_parameters (world p k) 0 f.params f.binders) (owned_parameters (world p k) 0 f.params f.binders) f.credits (body_term (world p k) f)
+pub fip_derived : (p : Program) (f : Instance) (k : FunKind) → f.kind ≡ k → IsDerived p f → Derived (is_fip k) (borrowed_parameters (world p k) 0 f.params f.binders) (owned_parameters (world p k) 0 f.params f.binders) f.credits (body_term (world p k) f)
 fip_derived p f k e h = subst (λ z. Derived (is_fip z) (borrowed_parameters (world p z) 0 f.params f.binders) (owned_parameters (world p z) 0 f.params f.binders) f.credits (body_term (world p z) f)) e h
 
 body_keeps : (p : Program) → IsFormed p → (calls : Calls) → CallsSound p calls → CallsKeep p calls → (f : Instance) → f.kind ≡ Fip → IsDerived p f → Typed true (Y.world p) f → FormedInstance p f → ExhaustiveBlock p.types f.body → (d : ℕ) (vs : Values) (k : ℕ) → HaveTypes p.types (parameter_types f) vs → KeepsCells f vs (body_run calls d (Some f) vs k).answer
@@ -112,7 +112,7 @@ meaning_keeps p i f vs n d well derived e fip h = keeps_counted f vs n _ (λ lef
 ruled : (k : FunKind) → k ≡ Fip → is_ruled k ≡ true
 ruled k e = ap is_ruled e
 
-fip_of : (p : Program) (ds : List Instance) → AreDerived p ds → AreFipDerived p ds
+pub fip_of : (p : Program) (ds : List Instance) → AreDerived p ds → AreFipDerived p ds
 fip_of p [] h = tt
 fip_of p (d ∷ ds) h = ((λ e. h.0 (ruled d.kind e)), fip_of p ds h.1)
 

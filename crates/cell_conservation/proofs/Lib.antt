@@ -7,3 +7,4 @@ pub mod Owned
 pub mod Arguments
 pub mod Counting
 pub mod Keeping
+pub mod Examples

@@ -4,6 +4,7 @@ ghost use Rattle.fip_language.specs.declared.FunKind.TheVariants.{Fip};
 ghost use Rattle.fip_language.specs.Values.{Values};
 ghost use Rattle.fip_language.specs.Table.{HaveTypes};
 ghost use Rattle.fip_trees.specs.Tree.{Instance, Program};
+ghost use Rattle.flat_meaning.specs.Example.{lists};
 ghost use Rattle.flat_meaning.specs.Meaning.{flat_meaning};
 ghost use Rattle.type_soundness.specs.Soundness.{parameter_types, IsWellTyped};
 ghost use Rattle.own_agreement.specs.Agreement.{AreSized, IsAccepted};
@@ -29,4 +30,11 @@ pub fn accepted_instances_keep_their_cells()
         slice_get program.instances i ≡ Some f → f.kind ≡ Fip →
         HaveTypes program.types (parameter_types f) arguments →
         KeepsCells f arguments (flat_meaning program i arguments calls frames).answer }
+{}
+
+/// There are such programs: in that of the examples each fip instance is derived. For who doubts that the laws speak of
+/// any.
+#[tactic(auto, using(crate::proofs::Examples::lists_derived))]
+pub fn an_example_is_derived()
+    ensures law { AreFipDerived lists lists.instances }
 {}

@@ -1,0 +1,43 @@
+// The laws on programs that pass all checks. Each is the contract of a function that does nothing.
+ghost use Rattle.std.specs.Prelude.{◌≡◌, ◌≤◌, ℕ, List, Some, slice_get};
+ghost use Rattle.fip_base.specs.declared.plain.Stack.{Stack};
+ghost use Rattle.fip_language.specs.declared.FunKind.TheVariants.{Fip};
+ghost use Rattle.fip_language.specs.Table.{HaveTypes};
+ghost use Rattle.fip_language.specs.Values.{Values};
+ghost use Rattle.fip_trees.specs.declared.groups.Member.{Member};
+ghost use Rattle.fip_trees.specs.Tree.{Instance, Program};
+ghost use Rattle.flat_meaning.specs.Meaning.{flat_meaning};
+ghost use Rattle.tail_groups.specs.Members.{FipCallsFip};
+ghost use Rattle.type_soundness.specs.Formed.{IsFormed};
+ghost use Rattle.type_soundness.specs.Soundness.{parameter_types};
+ghost use Rattle.cell_conservation.specs.Conservation.{AreFipDerived};
+ghost use Rattle.in_place_runs.specs.InPlace.{RunsInPlace, IsChecked};
+
+/// In a program that passes all checks, a fip instance on arguments of its parameters' types, with as many free frames
+/// as its stack number says, runs in place: it gives values of its results' types with just the cells that it was
+/// given, or ends in a trap or out of calls; it is never stuck, and its stack stays within its number. For who runs it
+/// where there is no allocator.
+#[tactic(auto, using(crate::proofs::Checked::runs_in_place))]
+pub fn checked_programs_run_in_place()
+    ensures law { (program : Program) (members : List Member) (i : ℕ) (f : Instance) (m : Member) (s : Stack)
+        (arguments : Values) (calls frames : ℕ) → IsChecked program members →
+        slice_get program.instances i ≡ Some f → f.kind ≡ Fip → slice_get members i ≡ Some m → m.stack ≡ Some s →
+        HaveTypes program.types (parameter_types f) arguments → s.frames ≤ frames →
+        RunsInPlace program.types f arguments s frames (flat_meaning program i arguments calls frames) }
+{}
+
+/// In a program that passes all checks each fip instance has a stack number. For who reserves its stack.
+#[tactic(auto, using(crate::proofs::Checked::has_stack))]
+pub fn fip_instances_have_a_stack()
+    ensures law { (program : Program) (members : List Member) (i : ℕ) (f : Instance) → IsChecked program members →
+        slice_get program.instances i ≡ Some f → f.kind ≡ Fip →
+        (m : Member) × (s : Stack) × (slice_get members i ≡ Some m) × (m.stack ≡ Some s) }
+{}
+
+/// Fip instances that are derived call fip ones alone, so their stack numbers are what they are found to be. For who
+/// asks what groups and numbers ask.
+#[tactic(auto, using(crate::proofs::Strong::fip_calls_fip))]
+pub fn derived_instances_call_fip_ones()
+    ensures law { (program : Program) → IsFormed program → AreFipDerived program program.instances →
+        FipCallsFip program.instances }
+{}

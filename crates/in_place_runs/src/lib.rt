@@ -1,0 +1,4 @@
+// Programs that pass all checks run in place.
+#![tactic(auto)]
+
+pub mod laws;

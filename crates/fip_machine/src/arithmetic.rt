@@ -1,63 +1,67 @@
 // Operators on ints.
 use fip_base::plain::{Operator, TrapKind};
 
-// The word of a bool: False is constructor 0, True is 1.
+/// What an operator comes to: the word of an int, whether a comparison holds, or why there is no result.
+#[derive(Clone, Copy)]
+pub enum Outcome {
+    Int(u64),
+    Flag(bool),
+    Trap(TrapKind),
+}
+
+/// The word of a bool: False is constructor 0, True is 1.
 #[inline(always)]
-fn bool_word(holds: bool) -> u64 {
+pub fn bool_word(holds: bool) -> u64 {
     2 * (holds as u64)
 }
 
 #[inline(always)]
-fn in_range(exact: Option<i64>) -> Result<u64, TrapKind> {
+fn in_range(exact: Option<i64>) -> Outcome {
     match exact {
-        Some(value) => Ok(value.cast_unsigned()),
-        None => Err(TrapKind::Overflow),
+        Some(value) => Outcome::Int(value.cast_unsigned()),
+        None => Outcome::Trap(TrapKind::Overflow),
     }
 }
 
-fn quotient(left: i64, right: i64) -> Result<u64, TrapKind> {
+#[inline(never)]
+fn product(left: i64, right: i64) -> Outcome {
+    in_range(left.checked_mul(right))
+}
+
+#[inline(never)]
+fn quotient(left: i64, right: i64) -> Outcome {
     if right == 0 {
-        return Err(TrapKind::DivideByZero);
+        return Outcome::Trap(TrapKind::DivideByZero);
     }
     in_range(left.checked_div(right))
 }
 
 // The remainder has the sign of the dividend; by -1 it is 0, where the quotient may be out of range.
-fn remainder(left: i64, right: i64) -> Result<u64, TrapKind> {
+#[inline(never)]
+fn remainder(left: i64, right: i64) -> Outcome {
     if right == 0 {
-        return Err(TrapKind::DivideByZero);
+        return Outcome::Trap(TrapKind::DivideByZero);
     }
     if right == -1 {
-        return Ok(0);
+        return Outcome::Int(0);
     }
     in_range(left.checked_rem(right))
 }
 
-#[inline(never)]
-fn rare_result(operator: Operator, left: i64, right: i64) -> Result<u64, TrapKind> {
+/// What an operator comes to.
+#[inline(always)]
+pub fn outcome_of(operator: Operator, left: i64, right: i64) -> Outcome {
     match operator {
         Operator::Add => in_range(left.checked_add(right)),
         Operator::Subtract => in_range(left.checked_sub(right)),
-        Operator::Multiply => in_range(left.checked_mul(right)),
+        Operator::Multiply => product(left, right),
         Operator::Divide => quotient(left, right),
         Operator::Remainder => remainder(left, right),
-        Operator::Equal => Ok(bool_word(left == right)),
-        Operator::NotEqual => Ok(bool_word(left != right)),
-        Operator::Less => Ok(bool_word(left < right)),
-        Operator::LessOrEqual => Ok(bool_word(left <= right)),
-        Operator::Greater => Ok(bool_word(left > right)),
-        Operator::GreaterOrEqual => Ok(bool_word(left >= right)),
-    }
-}
-
-/// The word of an operator's result, or why it has none.
-#[inline(always)]
-pub fn result_of(operator: Operator, left: i64, right: i64) -> Result<u64, TrapKind> {
-    match operator {
-        Operator::Add => in_range(left.checked_add(right)),
-        Operator::Subtract => in_range(left.checked_sub(right)),
-        Operator::Less => Ok(bool_word(left < right)),
-        Operator::LessOrEqual => Ok(bool_word(left <= right)),
-        _ => rare_result(operator, left, right),
+        Operator::Equal => Outcome::Flag(left == right),
+        Operator::NotEqual => Outcome::Flag(left != right),
+        Operator::Less => Outcome::Flag(left < right),
+        Operator::LessOrEqual => Outcome::Flag(left <= right),
+        Operator::Greater => Outcome::Flag(left > right),
+        Operator::GreaterOrEqual => Outcome::Flag(left >= right),
     }
 }

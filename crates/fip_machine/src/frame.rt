@@ -1,5 +1,6 @@
-// What instructions do to the words of frames. Lists of at most four registers are matched, so that each length is
-// straight code: a list is read first and then written, since the store and the frames may not be known to lie apart.
+// What instructions do to the words of frames. Lists of at most four registers are matched, the commonest lengths
+// first, so that each length is straight code: a list is read first and then written, since the store and the frames
+// may not be known to lie apart.
 ghost use Rattle.std.specs.Prelude.{◌≡◌, ◌≢◌, ℕ, ◌+◌, ◌<◌, ◌≤◌, None, length};
 ghost use Rattle.fip_language.specs.declared.limits.TheConstants.{MOST_FIELDS};
 ghost use Rattle.cell_code.specs.Runnable.{AreBelow};
@@ -26,8 +27,6 @@ pub fn take<C: Cells>(cells: &C, frame: &mut [u64], place: u32, registers: &[u16
     requires below { AreBelow (length frame.old) registers.now }
 {
     match registers {
-        [] => {}
-        [a] => frame[*a as usize] = cells.field(place, 0),
         [a, b] => {
             let x = cells.field(place, 0);
             let y = cells.field(place, 1);
@@ -52,6 +51,8 @@ pub fn take<C: Cells>(cells: &C, frame: &mut [u64], place: u32, registers: &[u16
             frame[*c as usize] = z;
             frame[*d as usize] = w;
         }
+        [a] => frame[*a as usize] = cells.field(place, 0),
+        [] => {}
         _ => take_all(cells, frame, place, registers),
     }
 }
@@ -79,7 +80,6 @@ pub fn put<C: Cells>(cells: &mut C, frame: &[u64], place: u32, tag: u32, registe
     requires below { AreBelow (length frame.now) registers.now }
 {
     match registers {
-        [a] => cells.overwrite(place, tag, &[frame[*a as usize]]),
         [a, b] => cells.overwrite(place, tag, &[frame[*a as usize], frame[*b as usize]]),
         [a, b, c] => cells.overwrite(
             place,
@@ -96,6 +96,7 @@ pub fn put<C: Cells>(cells: &mut C, frame: &[u64], place: u32, tag: u32, registe
                 frame[*d as usize],
             ],
         ),
+        [a] => cells.overwrite(place, tag, &[frame[*a as usize]]),
         _ => put_all(cells, frame, place, tag, registers),
     }
 }
@@ -110,38 +111,88 @@ fn clear_all(words: &mut [u64], from: usize, to: usize)
     }
 }
 
-/// The words from `from` up to `to` become 0.
+// Four words become 0.
+#[inline(always)]
+fn clear_four(words: &mut [u64], from: usize, at: usize)
+    requires from { from ≤ at }
+    requires room { at + 4 ≤ length words.old }
+    ensures { Keeps from words.old words.new }
+{
+    words[at] = 0;
+    words[at + 1] = 0;
+    words[at + 2] = 0;
+    words[at + 3] = 0;
+}
+
+// Four words become 0, and four others.
+#[inline(always)]
+fn clear_fours(words: &mut [u64], from: usize, at: usize, other: usize)
+    requires at { from ≤ at }
+    requires at_room { at + 4 ≤ length words.old }
+    requires other { from ≤ other }
+    requires other_room { other + 4 ≤ length words.old }
+    ensures { Keeps from words.old words.new }
+{
+    clear_four(words, from, at);
+    clear_four(words, from, other);
+}
+
+// Eight words become 0, and eight others.
+#[inline(always)]
+fn clear_eights(words: &mut [u64], from: usize, at: usize, other: usize)
+    requires at { from ≤ at }
+    requires at_room { at + 8 ≤ length words.old }
+    requires other { from ≤ other }
+    requires other_room { other + 8 ≤ length words.old }
+    ensures { Keeps from words.old words.new }
+{
+    clear_fours(words, from, at, at + 4);
+    clear_fours(words, from, other, other + 4);
+}
+
+// Sixteen words become 0, and sixteen others.
+#[inline(always)]
+fn clear_sixteens(words: &mut [u64], from: usize, at: usize, other: usize)
+    requires at { from ≤ at }
+    requires at_room { at + 16 ≤ length words.old }
+    requires other { from ≤ other }
+    requires other_room { other + 16 ≤ length words.old }
+    ensures { Keeps from words.old words.new }
+{
+    clear_eights(words, from, at, at + 8);
+    clear_eights(words, from, other, other + 8);
+}
+
+// At most three words become 0.
+#[inline(always)]
+fn clear_few(words: &mut [u64], from: usize, to: usize)
+    requires { to ≤ length words.old }
+    ensures { Keeps from words.old words.new }
+{
+    if from < to {
+        words[from] = 0;
+        words[from + (to - from) / 2] = 0;
+        words[to - 1] = 0;
+    }
+}
+
+/// The words from `from` up to `to` become 0: the first ones and the last ones, which may be the same.
 #[inline(always)]
 pub fn clear(words: &mut [u64], from: usize, to: usize)
     requires { to ≤ length words.old }
     ensures { Keeps from words.old words.new }
 {
-    match to.saturating_sub(from) {
-        0 => {}
-        1 => words[from] = 0,
-        2 => {
-            words[from] = 0;
-            words[from + 1] = 0;
-        }
-        3 => {
-            words[from] = 0;
-            words[from + 1] = 0;
-            words[from + 2] = 0;
-        }
-        4 => {
-            words[from] = 0;
-            words[from + 1] = 0;
-            words[from + 2] = 0;
-            words[from + 3] = 0;
-        }
-        5 => {
-            words[from] = 0;
-            words[from + 1] = 0;
-            words[from + 2] = 0;
-            words[from + 3] = 0;
-            words[from + 4] = 0;
-        }
-        _ => clear_all(words, from, to),
+    let count = to.saturating_sub(from);
+    if count > 32 {
+        clear_all(words, from, to);
+    } else if count >= 16 {
+        clear_sixteens(words, from, from, to - 16);
+    } else if count >= 8 {
+        clear_eights(words, from, from, to - 8);
+    } else if count >= 4 {
+        clear_fours(words, from, from, to - 4);
+    } else {
+        clear_few(words, from, to);
     }
 }
 
@@ -166,8 +217,6 @@ pub fn pass(words: &mut [u64], base: usize, own: usize, above: usize, arguments:
     ensures { Keeps above words.old words.new }
 {
     match arguments {
-        [] => {}
-        [a] => words[above] = words[base + *a as usize],
         [a, b] => {
             let x = words[base + *a as usize];
             let y = words[base + *b as usize];
@@ -182,6 +231,8 @@ pub fn pass(words: &mut [u64], base: usize, own: usize, above: usize, arguments:
             words[above + 1] = y;
             words[above + 2] = z;
         }
+        [a] => words[above] = words[base + *a as usize],
+        [] => {}
         _ => pass_all(words, base, own, above, arguments),
     }
 }
@@ -212,8 +263,6 @@ pub fn replace(words: &mut [u64], spare: &mut [u64], base: usize, own: usize, ar
     ensures { Keeps base words.old words.new }
 {
     match arguments {
-        [] => {}
-        [a] => words[base] = words[base + *a as usize],
         [a, b] => {
             let x = words[base + *a as usize];
             let y = words[base + *b as usize];
@@ -238,6 +287,8 @@ pub fn replace(words: &mut [u64], spare: &mut [u64], base: usize, own: usize, ar
             words[base + 2] = z;
             words[base + 3] = w;
         }
+        [a] => words[base] = words[base + *a as usize],
+        [] => {}
         _ => replace_all(words, spare, base, own, arguments),
     }
 }

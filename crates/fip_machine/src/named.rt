@@ -1,6 +1,6 @@
 // The cells that words name. In a run of verified code each word names the cell that its register should: these tests,
 // one for each thing that is asked of a cell, never fail there. Where one did fail, the instruction would do nothing.
-ghost use Rattle.std.specs.Prelude.{◌≡◌, ◌≢◌, ℕ, ◌<◌, ◌≤◌, false, None, Some, IfSome, slice_get};
+ghost use Rattle.std.specs.Prelude.{◌≡◌, ◌≢◌, ℕ, ◌<◌, ◌≤◌, false, None, Some, IfSome, IsTrue, slice_get};
 ghost use Rattle.cell_store.specs.Cells.{cell_at, size_in};
 
 use cell_store::Cells;
@@ -24,6 +24,15 @@ pub fn cell_of<C: Cells>(cells: &C, word: u64) -> Option<u32>
     }
 }
 
+/// Whether the cell at the place has so many fields.
+#[inline(always)]
+pub fn has_size<C: Cells>(cells: &C, place: u32, size: usize) -> bool
+    requires there { cell_at (C.cells cells.now) place ≢ None }
+    ensures size { IsTrue result → size_in (cell_at (C.cells cells.now) place) ≡ size }
+{
+    cells.cell_size(place) == size
+}
+
 /// The place of the cell that a word names, where it has so many fields.
 #[inline(always)]
 pub fn sized_cell_of<C: Cells>(cells: &C, word: u64, size: usize) -> Option<u32>
@@ -31,7 +40,7 @@ pub fn sized_cell_of<C: Cells>(cells: &C, word: u64, size: usize) -> Option<u32>
     ensures size { IfSome result (λ p. size_in (cell_at (C.cells cells.now) p) ≡ size) }
 {
     let place = cell_of(cells, word)?;
-    if cells.cell_size(place) == size {
+    if has_size(cells, place, size) {
         Some(place)
     } else {
         None
@@ -70,14 +79,4 @@ pub fn live_cell_of<C: Cells>(cells: &C, word: u64) -> Option<u32>
     ensures live { IfSome result (λ p. slice_get (C.released cells.now) p ≡ Some false) }
 {
     live_cell_at(cells, place_of(word))
-}
-
-/// The number of the constructor of the value that a word stands for: of a cell, or without fields.
-#[inline(always)]
-pub fn constructor_of<C: Cells>(cells: &C, word: u64) -> Option<u64> {
-    if word & 1 == 0 {
-        return Some(word / 2);
-    }
-    let place = cell_of(cells, word)?;
-    Some(u64::from(cells.cell_tag(place)))
 }

@@ -2,19 +2,20 @@
 // asks of registers, targets, functions and room holds of a verified code, and isn't tested; what it asks of cells is
 // tested in
 // `named`.
-ghost use Rattle.std.specs.Prelude.{◌≡◌, ◌≢◌, ℕ, ◌+◌, ◌-◌, ◌*◌, ◌<◌, ◌≤◌, ◌^◌, length, vec_len, Some, IfSome};
+ghost use Rattle.std.specs.Prelude.{◌≡◌, ◌≢◌, ℕ, ◌+◌, ◌-◌, ◌*◌, ◌<◌, ◌≤◌, ◌^◌, length, vec_len, Some, IfSome, None};
 ghost use Rattle.std.specs.Prelude.{slice_get};
 ghost use Rattle.fip_language.specs.declared.limits.TheConstants.{MOST_FIELDS, MOST_RESULTS};
+ghost use Rattle.cell_store.specs.Cells.{cell_at, size_in};
 ghost use Rattle.cell_code.specs.Runnable.{AreBelow, CanCall, Covers, Row, IsSafe, IsRunnable, body_of};
 ghost use Rattle.fip_machine.specs.Bounding.{AreAtMost, Fits};
 ghost use Rattle.fip_machine.specs.Keeping.{Keeps};
 ghost use Rattle.fip_machine.specs.Placed.{IsPlaced, IsRoomy, Waiting, body_at, weight};
 
-use crate::arithmetic::result_of;
+use crate::arithmetic::{Outcome, bool_word, outcome_of};
 use crate::cursor::{Bounds, Cursor};
 use crate::frame::{clear, give, pass, put, replace, take};
 use crate::gauge::SIZES;
-use crate::named::{constructor_of, field_cell_of, sized_cell_of};
+use crate::named::{cell_of, field_cell_of, has_size, sized_cell_of};
 use crate::release::{release_cell, release_tree};
 use cell_code::{Function, Instr};
 use cell_store::Cells;
@@ -60,6 +61,17 @@ pub fn function_at<'a>(verified: &'a Verified, f: usize) -> &'a Function
     ensures runnable { IsRunnable verified.now.code.functions.items verified.now.stacks }
 {
     &verified.code().functions[f]
+}
+
+// The instruction that is next.
+#[inline(always)]
+fn next_of<'a>(verified: &Verified, bounds: Bounds, words: &[u64], cursor: &Cursor<'a>) -> &'a Instr
+    requires placed { IsPlaced verified.now bounds (length words.now) cursor.now }
+    ensures row { Row (body_at verified.now cursor.now) cursor.now.at (IsSafe (body_at verified.now cursor.now))
+        result.now }
+{
+    let instrs = cursor.instrs;
+    &instrs[cursor.at]
 }
 
 // On to an instruction of the same function.
@@ -164,13 +176,43 @@ struct Operation {
     col: u32,
 }
 
-// A register gets an operator's result, or the run traps.
+// Where the instruction that is next tests the register, which just got a bool, does it.
 #[inline(always)]
-fn calculate(
-    verified: &Verified,
+fn test_flag<'a>(
+    verified: &'a Verified,
+    bounds: Bounds,
+    words: &[u64],
+    cursor: &mut Cursor<'a>,
+    register: u16,
+    holds: bool,
+)
+    requires placed { IsPlaced verified.now bounds (length words.now) cursor.old }
+    requires roomy { IsRoomy bounds (length words.now) cursor.old }
+    requires waiting { Waiting verified.now bounds words.now cursor.old.frames cursor.old.base }
+    ensures placed { IsPlaced verified.now bounds (length words.now) cursor.new }
+    ensures roomy { IsRoomy bounds (length words.now) cursor.new }
+    ensures waiting { Waiting verified.now bounds words.now cursor.new.frames cursor.new.base }
+    ensures least { weight cursor.new ≤ weight cursor.old }
+{
+    if let Instr::Test {
+        register: tested,
+        constructor,
+        target,
+    } = next_of(verified, bounds, words, cursor)
+        && *tested == register
+    {
+        let on = *constructor == holds as u32;
+        branch(verified, bounds, words, cursor, on, *target);
+    }
+}
+
+// A register gets an operator's result, or the run traps. In the loop of a run a test of a comparison is done at once.
+#[inline(always)]
+fn calculate<'a, const IN_LOOP: bool>(
+    verified: &'a Verified,
     bounds: Bounds,
     words: &mut [u64],
-    cursor: &mut Cursor,
+    cursor: &mut Cursor<'a>,
     register: u16,
     operation: Operation,
 ) -> Stepped
@@ -189,9 +231,16 @@ fn calculate(
 {
     let left = words[cursor.base + operation.left as usize].cast_signed();
     let right = words[cursor.base + operation.right as usize].cast_signed();
-    match result_of(operation.operator, left, right) {
-        Ok(word) => write(verified, bounds, words, cursor, register, word),
-        Err(kind) => Stepped::Trap {
+    match outcome_of(operation.operator, left, right) {
+        Outcome::Int(word) => write(verified, bounds, words, cursor, register, word),
+        Outcome::Flag(holds) => {
+            write(verified, bounds, words, cursor, register, bool_word(holds));
+            if IN_LOOP {
+                test_flag(verified, bounds, words, cursor, register, holds);
+            }
+            Stepped::Went
+        }
+        Outcome::Trap(kind) => Stepped::Trap {
             kind,
             line: operation.line as usize,
             col: operation.col as usize,
@@ -199,34 +248,188 @@ fn calculate(
     }
 }
 
-// Goes on where the register has the constructor, else to the target.
+// Registers of the frame at `base`, which has `own`, get the fields of the cell.
 #[inline(always)]
-fn test<C: Cells>(
-    verified: &Verified,
+fn take_at<C: Cells>(
+    cells: &C,
+    words: &mut [u64],
+    base: usize,
+    own: usize,
+    place: u32,
+    fields: &[u16],
+)
+    requires room { base + own ≤ length words.old }
+    requires size { size_in (cell_at (C.cells cells.now) place) ≡ length fields.now }
+    requires fields { AreBelow own fields.now }
+    ensures { Keeps base words.old words.new }
+{
+    let frame = &mut words[base..base + own];
+    take(cells, frame, place, fields);
+}
+
+// Where the instruction that is next tests the register too, whose cell is at this place, does it.
+#[inline(always)]
+fn test_again<'a, C: Cells>(
+    verified: &'a Verified,
     bounds: Bounds,
     cells: &C,
     words: &[u64],
-    cursor: &mut Cursor,
+    cursor: &mut Cursor<'a>,
+    register: u16,
+    place: u32,
+)
+    requires placed { IsPlaced verified.now bounds (length words.now) cursor.old }
+    requires roomy { IsRoomy bounds (length words.now) cursor.old }
+    requires waiting { Waiting verified.now bounds words.now cursor.old.frames cursor.old.base }
+    requires there { cell_at (C.cells cells.now) place ≢ None }
+    ensures placed { IsPlaced verified.now bounds (length words.now) cursor.new }
+    ensures roomy { IsRoomy bounds (length words.now) cursor.new }
+    ensures waiting { Waiting verified.now bounds words.now cursor.new.frames cursor.new.base }
+    ensures least { weight cursor.new ≤ weight cursor.old }
+{
+    if let Instr::Test {
+        register: tested,
+        constructor,
+        target,
+    } = next_of(verified, bounds, words, cursor)
+        && *tested == register
+    {
+        let on = cells.cell_tag(place) == *constructor;
+        branch(verified, bounds, words, cursor, on, *target);
+    }
+}
+
+// Where the instruction that is next puts fields into the register's cell, which is at this place, does it.
+#[inline(always)]
+fn put_next<'a, C: Cells>(
+    verified: &'a Verified,
+    bounds: Bounds,
+    cells: &mut C,
+    words: &[u64],
+    cursor: &mut Cursor<'a>,
+    register: u16,
+    place: u32,
+    size: usize,
+)
+    requires placed { IsPlaced verified.now bounds (length words.now) cursor.old }
+    requires roomy { IsRoomy bounds (length words.now) cursor.old }
+    requires waiting { Waiting verified.now bounds words.now cursor.old.frames cursor.old.base }
+    requires there { cell_at (C.cells cells.old) place ≢ None }
+    requires size { size_in (cell_at (C.cells cells.old) place) ≡ size }
+    ensures placed { IsPlaced verified.now bounds (length words.now) cursor.new }
+    ensures roomy { IsRoomy bounds (length words.now) cursor.new }
+    ensures waiting { Waiting verified.now bounds words.now cursor.new.frames cursor.new.base }
+    ensures least { weight cursor.new ≤ weight cursor.old }
+{
+    if let Instr::Put {
+        register: credit,
+        constructor,
+        fields,
+        ..
+    } = next_of(verified, bounds, words, cursor)
+        && *credit == register
+    {
+        let fields = fields.as_slice();
+        if fields.len() == size {
+            let frame = &words[cursor.base..cursor.base + cursor.registers];
+            put(cells, frame, place, *constructor, fields);
+            go_on(verified, bounds, words, cursor);
+        }
+    }
+}
+
+// Where the instruction that is next takes the fields of the register's cell, which is at this place, does it, and goes
+// on with that cell.
+#[inline(always)]
+fn take_next<'a, C: Cells>(
+    verified: &'a Verified,
+    bounds: Bounds,
+    cells: &mut C,
+    words: &mut [u64],
+    cursor: &mut Cursor<'a>,
+    register: u16,
+    place: u32,
+)
+    requires placed { IsPlaced verified.now bounds (length words.old) cursor.old }
+    requires roomy { IsRoomy bounds (length words.old) cursor.old }
+    requires waiting { Waiting verified.now bounds words.old cursor.old.frames cursor.old.base }
+    requires there { cell_at (C.cells cells.old) place ≢ None }
+    ensures placed { IsPlaced verified.now bounds (length words.new) cursor.new }
+    ensures roomy { IsRoomy bounds (length words.new) cursor.new }
+    ensures waiting { Waiting verified.now bounds words.new cursor.new.frames cursor.new.base }
+    ensures least { weight cursor.new ≤ weight cursor.old }
+{
+    if let Instr::Take {
+        register: taken,
+        fields,
+    } = next_of(verified, bounds, words, cursor)
+        && *taken == register
+    {
+        let fields = fields.as_slice();
+        let size = fields.len();
+        if has_size(cells, place, size) {
+            take_at(cells, words, cursor.base, cursor.registers, place, fields);
+            go_on(verified, bounds, words, cursor);
+            put_next(
+                verified, bounds, cells, words, cursor, register, place, size,
+            );
+        }
+    }
+}
+
+// Goes on where the register has the constructor, else to the target. Instructions behind it that work on the same cell
+// are done at once in the loop of a run, so that the cell is looked up once.
+#[inline(always)]
+fn test<'a, C: Cells, const IN_LOOP: bool>(
+    verified: &'a Verified,
+    bounds: Bounds,
+    cells: &mut C,
+    words: &mut [u64],
+    cursor: &mut Cursor<'a>,
     register: u16,
     constructor: u32,
     target: u32,
 ) -> Stepped
-    requires placed { IsPlaced verified.now bounds (length words.now) cursor.old }
-    requires roomy { IsRoomy bounds (length words.now) cursor.old }
-    requires waiting { Waiting verified.now bounds words.now cursor.old.frames cursor.old.base }
+    requires placed { IsPlaced verified.now bounds (length words.old) cursor.old }
+    requires roomy { IsRoomy bounds (length words.old) cursor.old }
+    requires waiting { Waiting verified.now bounds words.old cursor.old.frames cursor.old.base }
     requires register { register < cursor.old.registers }
     requires next { IsSafe (body_at verified.now cursor.old) (cursor.old.at + 1) }
     requires forward { cursor.old.at < target }
     requires ahead { IsSafe (body_at verified.now cursor.old) target }
-    ensures placed { IsPlaced verified.now bounds (length words.now) cursor.new }
-    ensures roomy { IsRoomy bounds (length words.now) cursor.new }
-    ensures waiting { Waiting verified.now bounds words.now cursor.new.frames cursor.new.base }
+    ensures placed { IsPlaced verified.now bounds (length words.new) cursor.new }
+    ensures roomy { IsRoomy bounds (length words.new) cursor.new }
+    ensures waiting { Waiting verified.now bounds words.new cursor.new.frames cursor.new.base }
     ensures less { weight cursor.new < weight cursor.old }
     ensures went { result ≡ Stepped.Went }
 {
-    let found = constructor_of(cells, words[cursor.base + register as usize]);
-    let on = found == Some(u64::from(constructor));
-    branch(verified, bounds, words, cursor, on, target)
+    let word = words[cursor.base + register as usize];
+    if word & 1 == 0 {
+        return branch(
+            verified,
+            bounds,
+            words,
+            cursor,
+            word / 2 == u64::from(constructor),
+            target,
+        );
+    }
+    let Some(place) = cell_of(cells, word) else {
+        return branch(verified, bounds, words, cursor, false, target);
+    };
+    branch(
+        verified,
+        bounds,
+        words,
+        cursor,
+        cells.cell_tag(place) == constructor,
+        target,
+    );
+    if IN_LOOP {
+        test_again(verified, bounds, cells, words, cursor, register, place);
+        take_next(verified, bounds, cells, words, cursor, register, place);
+    }
+    Stepped::Went
 }
 
 // A register gets a field of the cell of another.
@@ -282,9 +485,8 @@ fn take_fields<C: Cells>(
     if fields.is_empty() {
         return;
     }
-    let frame = &mut words[base..base + own];
-    match sized_cell_of(cells, frame[register as usize], fields.len()) {
-        Some(place) => take(cells, frame, place, fields),
+    match sized_cell_of(cells, words[base + register as usize], fields.len()) {
+        Some(place) => take_at(cells, words, base, own, place, fields),
         None => {}
     }
 }
@@ -729,13 +931,13 @@ fn act<'a, C: Cells, const IN_LOOP: bool>(
                 line: *line,
                 col: *col,
             };
-            calculate(verified, bounds, words, cursor, *destination, operation)
+            calculate::<IN_LOOP>(verified, bounds, words, cursor, *destination, operation)
         }
         Instr::Test {
             register,
             constructor,
             target,
-        } => test(
+        } => test::<C, IN_LOOP>(
             verified,
             bounds,
             cells,
@@ -863,7 +1065,6 @@ pub fn advance<'a, C: Cells, const IN_LOOP: bool>(
     ensures frames { result ≡ Stepped.Entered → cursor.new.frames ≤ cursor.old.frames + 1 }
     ensures spare { vec_len beside.new.spare ≡ vec_len beside.old.spare }
 {
-    let instrs = cursor.instrs;
-    let instr = &instrs[cursor.at];
+    let instr = next_of(verified, bounds, words, cursor);
     act::<C, IN_LOOP>(verified, bounds, cells, words, beside, cursor, instr)
 }

@@ -154,9 +154,9 @@ fn burst<'a, C: Cells>(
 {
     let mut here = *cursor;
     let mut calls = *left;
-    let reach = 2 * bounds.largest;
-    let limit = if words.len() < bounds.words {
-        words.len()
+    // Where a frame begins here or further on, a call may need more words than there are.
+    let stop = if words.len() < bounds.words {
+        (words.len() + 1).saturating_sub(2 * bounds.largest)
     } else {
         usize::MAX
     };
@@ -168,7 +168,7 @@ fn burst<'a, C: Cells>(
                 if calls == 0 {
                     break 'steps Pause::Spent;
                 }
-                if here.base + reach > limit {
+                if here.base >= stop {
                     break 'steps Pause::Short;
                 }
             }

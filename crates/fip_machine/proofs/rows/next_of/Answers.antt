@@ -3,13 +3,13 @@ use Rattle.std.proofs.lemmas.Option.{same_Some, slice_get_read}
 use Rattle.cell_code.specs.Runnable.{Row, IsSafe}
 use Rattle.cell_code.proofs.Following.{safe_here}
 use Rattle.fip_machine.specs.Placed.{body_at}
-use Rattle.fip_machine.proofs.rows.advance.Goals as goal
+use Rattle.fip_machine.proofs.rows.next_of.Goals as goal
 
-pub act-requires-clause-row : goal.act-requires-clause-row
-act-requires-clause-row g c =
+pub returns : goal.returns
+returns c =
     let b = body_at c.args.verified.now c.args.cursor.now in
     let instrs = c.args.cursor.now.instrs.now in
     let at = c.args.cursor.now.at in
     let h = safe_here b at c.requires.placed.safe in
     let read = slice_get_read instrs (length instrs) at c.index-instrs-cursor.result refl c.requires.placed.within c.index-instrs-cursor.is in
-    subst (Row b at (IsSafe b)) (same_Some h.0 c.index-instrs-cursor.result (sym h.1 ∙ read)) h.2
+    record { row = subst (Row b at (IsSafe b)) (same_Some h.0 c.index-instrs-cursor.result (sym h.1 ∙ read)) h.2 }

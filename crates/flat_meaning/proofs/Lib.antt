@@ -5,3 +5,4 @@ pub mod More
 pub mod Frames
 pub mod Peak
 pub mod Examples
+pub mod Same

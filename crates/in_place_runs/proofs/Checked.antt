@@ -22,7 +22,7 @@ use Rattle.cell_conservation.specs.Conservation.{KeepsCells, AreFipDerived}
 use Rattle.cell_conservation.proofs.Keeping.{fip_of, meaning_keeps}
 use Rattle.stack_bounds.specs.Scrutinees.{IsVariable, MatchesVariables, BlockMatchesVariables, ClausesMatchVariables, AllMatchVariables}
 use Rattle.stack_bounds.specs.Bounds.{AreBounded}
-use Rattle.stack_bounds.proofs.Within.{meaning_within}
+use Rattle.stack_bounds.proofs.Within.{frame_at, meaning_within}
 use Rattle.in_place_runs.specs.InPlace.{EndsInPlace, RunsInPlace, IsChecked}
 use Rattle.in_place_runs.proofs.Strong.{fip_calls_fip}
 
@@ -83,11 +83,6 @@ runs_in_place p ms i f m s vs n d c e k there has typed l =
 
 -- ---- each fip instance has a number
 
-frame_there : (ds : List Instance) (i : ℕ) (d : Instance) → slice_get ds i ≡ Some d → slice_get (map frame ds) i ≡ Some (frame d)
-frame_there [] i d e = cc
-frame_there (x ∷ ds) zero d e = let same : x ≡ d = cc in ap (λ y. Some (frame y)) same
-frame_there (x ∷ ds) (suc i) d e = frame_there ds i d e
-
 member_there : (ms : List Member) (i : ℕ) (o : Option Stack) → slice_get (map stack ms) i ≡ Some o → (m : Member) × (slice_get ms i ≡ Some m) × (m.stack ≡ o)
 member_there [] i o e = cc
 member_there (x ∷ ms) zero o e = (x, refl, cc)
@@ -97,7 +92,7 @@ pub has_stack : (p : Program) (ms : List Member) (i : ℕ) (f : Instance) → Is
 has_stack p ms i f c e k =
     let b = bounded p ms c in
     let stacks = b.members.stacks b.fip in
-    let framed : HasFrame (map frame p.instances) i = (registers f + FRAME_WORDS, frame_there p.instances i f e ∙ ap (λ z. Some (if is_fip z then Some (registers f + FRAME_WORDS) else None)) k) in
+    let framed : HasFrame (map frame p.instances) i = (registers f + FRAME_WORDS, frame_at p.instances i f e ∙ ap (λ z. Some (if is_fip z then Some (registers f + FRAME_WORDS) else None)) k) in
     let s = stacks.some i framed in
     let m = member_there ms i (Some s.0) s.1 in
     (m.0, s.0, m.1, m.2)

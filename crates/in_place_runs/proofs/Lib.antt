@@ -1,2 +1,3 @@
 pub mod Strong
 pub mod Checked
+pub mod Sources

@@ -15,23 +15,12 @@ use Rattle.fip_language.specs.Meaning as CM
 use Rattle.fip_language.proofs.Bound.{with_value-same, with_values-same, in_frame-same, if_matches-same}
 use Rattle.fip_trees.specs.declared.program.Binder.{Binder}
 use Rattle.fip_trees.specs.Tree as T
+use Rattle.flat_meaning.proofs.Same.{sum_same, more_same, both_same, go_on_same, counted_same}
 use Rattle.flat_meaning.specs.Registers as F
 use Rattle.flat_meaning.specs.Matching as FP
 use Rattle.flat_meaning.specs.Meaning as FM
 use Rattle.flat_meaning.specs.Meaning.{flat_meaning}
 use Rattle.instance_meaning.specs.Specialised.{IsNumber, IsArgument, AreArguments, SameNumbers, SameParameters, IsPattern, ArePatterns, IsExpression, IsBlock, AreClauses, IsInstance, IsSpecialised}
-
-sum_same : (a b c d : ℕ) → a ≡ b → c ≡ d → a + c ≡ b + d
-sum_same a b c d p q = ap (λ n. n + c) p ∙ ap (λ n. b + n) q
-
-more_same : (a b : Option Value) (c d : Option Values) → a ≡ b → c ≡ d → more_of a c ≡ more_of b d
-more_same a b c d p q = ap (λ x. more_of x c) p ∙ ap (more_of b) q
-
-both_same : (a b c d : Option (List Binding)) → a ≡ b → c ≡ d → both a c ≡ both b d
-both_same a b c d p q = ap (λ x. both x c) p ∙ ap (both b) q
-
-go_on_same : (r s : Run) (go go' : Values → ℕ → Run) → r ≡ s → ((vs : Values) (left : ℕ) → go vs left ≡ go' vs left) → then_with r go ≡ then_with s go'
-go_on_same r s go go' e same = ap (λ x. then_with x go) e ∙ ap (then_with s) (λ i vs left. same vs left i)
 
 -- ---- registers
 
@@ -145,10 +134,6 @@ parameters_same (b ∷ bs) (c ∷ cs) env (More v vs) h = ap (λ n. FM.bind_bind
 -- calls of instances, and of the functions that they stand for, are the same
 abbrev Related : List Closed → FM.Calls → CM.Calls → Type 0
 Related numbered c' c = (d g : ℕ) (vs : Values) (k : ℕ) (x : Closed) → slice_get numbered g ≡ Some x → c' d g vs k ≡ c d x vs k
-
-counted_same : (k : ℕ) (go go' : ℕ → Run) → ((left : ℕ) → go left ≡ go' left) → counted k go ≡ counted k go'
-counted_same zero go go' h = refl
-counted_same (suc k) go go' h = h k
 
 module _ (core : Core) (numbered : List Closed) (here : S.Instance) (c' : FM.Calls) (c : CM.Calls) (related : Related numbered c' c) where
   abbrev words : ℕ

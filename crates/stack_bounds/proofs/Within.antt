@@ -86,7 +86,7 @@ row_at [] i d e = cc
 row_at (x ∷ ds) zero d e = let same : x ≡ d = cc in ap instance_calls same
 row_at (x ∷ ds) (suc i) d e = row_at ds i d e
 
-frame_at : (ds : List Instance) (i : ℕ) (d : Instance) → slice_get ds i ≡ Some d → slice_get (map frame ds) i ≡ Some (frame d)
+pub frame_at : (ds : List Instance) (i : ℕ) (d : Instance) → slice_get ds i ≡ Some d → slice_get (map frame ds) i ≡ Some (frame d)
 frame_at [] i d e = cc
 frame_at (x ∷ ds) zero d e = let same : x ≡ d = cc in ap (λ y. Some (frame y)) same
 frame_at (x ∷ ds) (suc i) d e = frame_at ds i d e

@@ -1,8 +1,8 @@
 -- A program with its types filled in means what it meant before: the meaning reads no slot.
 use Rattle.std.proofs.Common.{◌≡◌, ℕ, zero, suc, ◌+◌, Bool, true, false, List, [], ◌∷◌, ◌++◌, map, length, Option, Some, None, slice_get, refl, ap, ◌∙◌, ◌==◌, if◌then◌else◌}
 use Rattle.fip_language.specs.Values.{Value, Int, Node, Values, End, More}
-use Rattle.fip_language.specs.Matching.{Binding, both}
-use Rattle.fip_language.specs.Meaning.{Run, Environment, nothing_bound, bind, bind_matched, more_of, entered, then_with, counted, in_frame, with_value, with_values, operation, if_matches, Gives, ends}
+use Rattle.fip_language.specs.Matching.{Binding}
+use Rattle.fip_language.specs.Meaning.{Run, Environment, nothing_bound, bind, bind_matched, entered, counted, in_frame, with_value, with_values, operation, if_matches, Gives, ends}
 use Rattle.fip_language.proofs.Bound.{with_value-same, if_matches-same}
 use Rattle.fip_base.specs.declared.plain.Param.{Param}
 use Rattle.fip_trees.specs.declared.program.Binder.{Binder}
@@ -13,21 +13,10 @@ use Rattle.type_check.specs.Scope.{Scope}
 use Rattle.type_check.specs.World.{World, world, chosen, field_types, head}
 use Rattle.type_check.specs.Typing.{bound_by, parameter_scope}
 use Rattle.type_check.specs.Faults.{found, found_block, found_argument, fill_argument, fill_arguments, fill_binders, fill_pattern, fill_patterns, fill, fill_block, fill_clauses, fill_parameters, fill_instance, filled}
+use Rattle.flat_meaning.proofs.Same.{sum_same, more_same, both_same, go_on_same}
 use Rattle.flat_meaning.specs.Registers.{registers_of_argument, registers_of_arguments, registers_of_pattern, registers_of_patterns, registers_of_expression, registers_of_block, registers_of_clauses, frame_words}
 use Rattle.flat_meaning.specs.Matching.{matching, matching_all}
 use Rattle.flat_meaning.specs.Meaning.{bind_binders, node_of, argument_value, argument_values, Calls, eval, eval_block, eval_clauses, body_run, calls_of, flat_meaning}
-
-sum_same : (a b c d : ℕ) → a ≡ b → c ≡ d → a + c ≡ b + d
-sum_same a b c d p q = ap (λ n. n + c) p ∙ ap (λ n. b + n) q
-
-more_same : (a b : Option Value) (c d : Option Values) → a ≡ b → c ≡ d → more_of a c ≡ more_of b d
-more_same a b c d p q = ap (λ x. more_of x c) p ∙ ap (more_of b) q
-
-both_same : (a b c d : Option (List Binding)) → a ≡ b → c ≡ d → both a c ≡ both b d
-both_same a b c d p q = ap (λ x. both x c) p ∙ ap (both b) q
-
-go_on_same : (r s : Run) (go go' : Values → ℕ → Run) → r ≡ s → ((vs : Values) (left : ℕ) → go vs left ≡ go' vs left) → then_with r go ≡ then_with s go'
-go_on_same r s go go' e same = ap (λ x. then_with x go) e ∙ ap (then_with s) (λ i vs left. same vs left i)
 
 binders_length : (ts : List (Option ℕ)) (bs : List Binder) → length (fill_binders ts bs) ≡ length bs
 binders_length ts [] = refl

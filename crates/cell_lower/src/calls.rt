@@ -67,6 +67,7 @@ impl<'a> Lowerer<'a> {
         let arguments = Registers::of(self.context.alloc, registers.as_slice())?;
         match target {
             Target::Return => {
+                self.end_bare()?;
                 self.give_up_all()?;
                 self.buffer.add(Instr::Tail {
                     function,

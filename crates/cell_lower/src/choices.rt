@@ -440,12 +440,12 @@ impl<'a> Lowerer<'a> {
         Ok(())
     }
 
-    // Takes the cells of a pattern's constructors apart, from the root on.
+    // Takes the cells of a pattern's constructors apart, from the root on. One without fields stays for its clause.
     fn take_apart(&mut self, pattern: &Pattern, spot: &Spot) -> Result<(), NoMemory> {
-        let Pattern::Constructor { ty, patterns, .. } = pattern else {
+        let Pattern::Constructor { patterns, .. } = pattern else {
             return Ok(());
         };
-        if self.is_scalar(*ty) {
+        if patterns.is_empty() {
             return Ok(());
         }
         let mut fields = Registers::new(self.context.alloc);

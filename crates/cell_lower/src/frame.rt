@@ -18,6 +18,8 @@ pub enum Held {
     Lent { ty: u32, root: Option<u16> },
     /// A cell of this size whose fields are no longer owned.
     Credit { size: u8 },
+    /// An owned tree of one constructor without fields, which was matched and is not used yet.
+    Bare { ty: u32, constructor: u32 },
 }
 
 /// A credit: the size of its cell, and the register that names it.
@@ -91,6 +93,31 @@ impl Frame {
             if is_lent_of(*held, register) {
                 *held = Held::Nothing;
             }
+        }
+    }
+
+    /// A register with this constructor, which was matched; it is used up.
+    pub fn take_bare(&mut self, ty: u32, constructor: u32) -> Option<u16> {
+        let register = self.first_with(Held::Bare { ty, constructor })?;
+        self.set(register, Held::Nothing);
+        Some(register)
+    }
+
+    // The first register that holds this.
+    fn first_with(&self, wanted: Held) -> Option<u16> {
+        for (place, held) in self.held.iter().enumerate() {
+            if *held == wanted {
+                return u16::try_from(place).ok();
+            }
+        }
+        None
+    }
+
+    /// Whether a register holds a constructor that was matched.
+    pub fn is_bare(&self, register: u16) -> bool {
+        match self.at(register) {
+            Held::Bare { .. } => true,
+            _ => false,
         }
     }
 
@@ -197,7 +224,18 @@ fn kind_of(alloc: Global, program: &Program, held: Held) -> Result<Kind, NoMemor
             from: None,
         }),
         Held::Credit { size } => Ok(Kind::Credit { size }),
+        Held::Bare { ty, constructor } => Ok(Kind::Owned {
+            ty,
+            constructors: one_of(alloc, constructor)?,
+        }),
     }
+}
+
+// One constructor.
+fn one_of(alloc: Global, constructor: u32) -> Result<Constructors, NoMemory> {
+    let mut numbers = Vec::new(alloc);
+    numbers.push(constructor)?;
+    Ok(Constructors::new(numbers))
 }
 
 // All constructors of a type.

@@ -46,6 +46,9 @@ impl<'a> Lowerer<'a> {
     ) -> Result<Matching<'t>, NoMemory> {
         let alloc = self.context.alloc;
         let register = self.value(written.scrutinee)?;
+        if let Target::Into(_) = target {
+            self.end_bare()?;
+        }
         self.forget_built(register)?;
         let entry = self.frame.copy(alloc)?;
         let used = self.used_by(written, target)?;
@@ -182,9 +185,21 @@ impl<'a> Lowerer<'a> {
                 Ok(())
             }
             Pattern::Literal { .. } => Ok(()),
-            Pattern::Constructor { patterns, .. } => {
+            Pattern::Constructor {
+                ty,
+                number,
+                patterns,
+                ..
+            } => {
                 if takes && !patterns.is_empty() {
                     self.frame.add_credit(patterns.len(), spot.register)?;
+                }
+                if takes && patterns.is_empty() && !self.is_scalar(*ty) {
+                    let held = Held::Bare {
+                        ty: *ty,
+                        constructor: *number,
+                    };
+                    self.frame.set(spot.register, held);
                 }
                 for (part, field) in patterns.iter().zip(spot.fields.iter()) {
                     self.open_part(takes, root, part, field)?;
@@ -204,6 +219,7 @@ impl<'a> Lowerer<'a> {
         let Target::Into(given) = target else {
             return Ok(());
         };
+        self.end_bare()?;
         self.give_up_to(
             &matching.entry,
             matching.used.as_slice(),

@@ -67,7 +67,13 @@ impl<'a> Lowerer<'a> {
         Ok(register)
     }
 
+    // A constructor without fields: one that was matched, or a new one.
     fn atom(&mut self, ty: u32, constructor: u32) -> Result<u16, NoMemory> {
+        if let Some(register) = self.frame.take_bare(ty, constructor) {
+            let built = Some(constructor);
+            self.frame.set(register, Held::Owned { ty, built });
+            return Ok(register);
+        }
         let destination = self.fresh()?;
         self.buffer.add(Instr::Atom {
             destination,
@@ -93,11 +99,26 @@ impl<'a> Lowerer<'a> {
         }
     }
 
+    /// Uses up each constructor without fields that was matched and is not used.
+    pub fn end_bare(&mut self) -> Result<(), NoMemory> {
+        for register in 0..self.next {
+            if self.frame.is_bare(register) {
+                self.frame.set(register, Held::Nothing);
+                self.buffer.add(Instr::Take {
+                    register,
+                    fields: Registers::new(self.context.alloc),
+                })?;
+            }
+        }
+        Ok(())
+    }
+
     /// Hands results on.
     pub fn give(&mut self, results: &[u16], target: Target<'_>) -> Result<(), NoMemory> {
         match target {
             Target::Return => {
                 self.use_up_all(results);
+                self.end_bare()?;
                 self.give_up_all()?;
                 self.buffer.add(Instr::Ret {
                     results: Registers::of(self.context.alloc, results)?,

@@ -1,98 +1,163 @@
 // The trees of an instance, from those of its function.
+ghost use Rattle.std.specs.Prelude.{◌≡◌, map, option_map, IfOk, OnOk};
+ghost use Rattle.fip_base.specs.CoreView as V;
+ghost use Rattle.fip_language.specs.Core as C;
+ghost use Rattle.fip_trees.specs.Tree as T;
+ghost use Rattle.fip_trees.specs.TreeView as W;
+ghost use Rattle.static_params.specs.FlatProgram as P;
+ghost use Rattle.static_params.specs.FlatView as F;
+ghost use Rattle.static_params.specs.SourceView as S;
+ghost use Rattle.static_params.specs.Uses.{result_types};
+
 use crate::closed::Shared;
 use crate::source::{Here, Source};
 use crate::table::Numbers;
 use fip_base::core_form::{
-    Argument, Binder, Binding, Block, Clause, Expression, MatchKind, Pattern, Written,
+    Argument, Binder, Binding, Block, Clause, Expression, MatchKind, Pattern, ResultType, Written,
 };
-use fip_base::plain::{Name, NoMemory, Place};
+use fip_base::plain::{Name, NoMemory, Operator, Place, Types};
 use fip_trees::decls::ConstructorId;
 use fip_trees::least::Least;
 use fip_trees::program as flat;
 use std::alloc::Global;
 
-/// An instance whose trees are made.
-#[derive(Clone, Copy)]
+/// An instance whose trees are made, and the closed trees, of which more may come.
+#[derive(Drop)]
 pub struct Flattening<'r, 's, 'a> {
     pub source: &'r Source<'s, 'a>,
     pub numbers: &'r Numbers,
-    pub here: &'r Here,
+    pub here: Here,
+    pub shared: Shared,
 }
 
 impl<'r, 's, 'a> Flattening<'r, 's, 'a> {
     /// The number of a type.
-    pub fn ty(&self, shared: &mut Shared, written: &Written) -> Result<u32, NoMemory> {
-        let place = self.source.declared_type(shared, self.here, written)?;
+    pub fn ty(&mut self, written: &Written) -> Result<u32, NoMemory>
+        ensures stays { F.IsMaking self.old → OnOk result (F.Stays self.old self.new) }
+        ensures flat { F.IsMaking self.old →
+            IfOk result (λ n. n ≡ F.type_in (F.making self.old) (V.written written.now)) }
+    {
+        let place = self
+            .source
+            .declared_type(&mut self.shared, &self.here, written)?;
+        self.shared.hold();
         Ok(self.numbers.type_number(place))
     }
 
+    /// The numbers of the types of a result.
+    pub fn results(&mut self, given: &ResultType) -> Result<Types, NoMemory>
+        ensures stays { F.IsMaking self.old → OnOk result (F.Stays self.old self.new) }
+        ensures flat { F.IsMaking self.old → IfOk result (λ ns. ns ≡
+            map (F.type_in (F.making self.old)) (result_types (V.result_type given.now))) }
+    {
+        let places = self.source.results(&mut self.shared, &self.here, given)?;
+        self.shared.hold();
+        let numbers = self.numbers.type_numbers(self.source.alloc, &places)?;
+        Ok(numbers)
+    }
+
     // The number of the instance that is called. No use in an instance breaks a rule by now.
-    fn callee(
-        &self,
-        shared: &mut Shared,
-        name: &Name,
-        place: Place,
-        statics: &[Written],
-    ) -> Result<u32, NoMemory> {
+    fn callee(&mut self, name: &Name, place: Place, statics: &[Written]) -> Result<u32, NoMemory>
+        ensures stays { F.IsMaking self.old → OnOk result (F.Stays self.old self.new) }
+        ensures flat { F.IsMaking self.old → IfOk result (λ n. n ≡
+            F.call_in (F.making self.old) name.now place (V.writtens statics.now)) }
+    {
         let mut least = Least::new(self.source.alloc);
         let callee = self.source.closed_use(
-            shared,
-            self.here,
+            &mut self.shared,
+            &self.here,
             name.as_slice(),
             place,
             statics,
             &mut least,
         )?;
-        Ok(self.numbers.instance_number(callee.unwrap_or(0)))
+        self.shared.hold();
+        match callee {
+            Some(found) => Ok(self.numbers.instance_number(found)),
+            None => Ok(0),
+        }
     }
 
     // The constructor of a name. Each that is named is declared.
-    fn constructor(&self, name: &Name) -> ConstructorId {
+    fn constructor(&self, name: &Name) -> ConstructorId
+        ensures { result ≡ P.constructor_of (S.source self.now.source.now) name.now }
+    {
         match self.source.decls.names.find_constructor(name.as_slice()) {
             Some(id) => id,
             None => ConstructorId { data: 1, number: 0 },
         }
     }
 
-    fn copied(&self, name: &Name) -> Result<Name, NoMemory> {
-        name.copy(self.source.alloc)
+    fn copied(&self, name: &Name) -> Result<Name, NoMemory>
+        ensures { IfOk result (λ copy. copy ≡ name.now) }
+    {
+        let copy = name.copy(self.source.alloc)?;
+        Ok(copy)
+    }
+
+    // The number of the type that is written at a binder.
+    fn annotation(&mut self, annotation: &Option<Written>) -> Result<Option<u32>, NoMemory>
+        ensures stays { F.IsMaking self.old → OnOk result (F.Stays self.old self.new) }
+        ensures flat { F.IsMaking self.old → IfOk result (λ o. o ≡
+            option_map (F.type_in (F.making self.old)) (option_map V.written annotation.now)) }
+    {
+        match annotation {
+            None => Ok(None),
+            Some(written) => {
+                let ty = self.ty(written)?;
+                Ok(Some(ty))
+            }
+        }
     }
 
     /// A binder, with the number of the type that is written at it.
-    pub fn binder(&self, shared: &mut Shared, binder: &Binder) -> Result<flat::Binder, NoMemory> {
-        let annotation = match &binder.annotation {
-            None => None,
-            Some(written) => Some(self.ty(shared, written)?),
-        };
+    pub fn binder(&mut self, binder: &Binder) -> Result<flat::Binder, NoMemory>
+        ensures stays { F.IsMaking self.old → OnOk result (F.Stays self.old self.new) }
+        ensures flat { F.IsMaking self.old →
+            IfOk result (λ b. b ≡ F.binder_in (F.making self.old) (V.binder binder.now)) }
+    {
+        let name = self.copied(&binder.name)?;
+        let annotation = self.annotation(&binder.annotation)?;
         Ok(flat::Binder {
             number: binder.number,
-            name: self.copied(&binder.name)?,
+            name,
             place: binder.place,
             annotation,
             ty: 0,
         })
     }
 
-    fn binders(&self, shared: &mut Shared, list: &[Binder]) -> Result<Vec<flat::Binder>, NoMemory> {
+    fn binders(&mut self, list: &[Binder]) -> Result<Vec<flat::Binder>, NoMemory>
+        ensures stays { F.IsMaking self.old → OnOk result (F.Stays self.old self.new) }
+        ensures flat { F.IsMaking self.old →
+            IfOk result (λ v. v.items ≡ map (F.binder_in (F.making self.old)) (map V.binder list.now)) }
+    {
         let mut binders = Vec::new(self.source.alloc);
         for binder in list {
-            binders.push(self.binder(shared, binder)?)?;
+            let made = self.binder(binder)?;
+            binders.push(made)?;
         }
         Ok(binders)
     }
 
     #[cycle(arguments)]
-    fn argument(&self, argument: &Argument) -> Result<flat::Argument, NoMemory> {
+    fn argument(&self, argument: &Argument) -> Result<flat::Argument, NoMemory>
+        ensures { IfOk result (λ a. W.argument a ≡
+            P.flat_argument (S.source self.now.source.now) (V.argument argument.now)) }
+    {
         match argument {
             Argument::Variable {
                 binder,
                 name,
                 place,
-            } => Ok(flat::Argument::Variable {
-                binder: *binder,
-                name: self.copied(name)?,
-                place: *place,
-            }),
+            } => {
+                let name = self.copied(name)?;
+                Ok(flat::Argument::Variable {
+                    binder: *binder,
+                    name,
+                    place: *place,
+                })
+            }
             Argument::Literal { value, place } => Ok(flat::Argument::Literal {
                 value: *value,
                 place: *place,
@@ -103,31 +168,44 @@ impl<'r, 's, 'a> Flattening<'r, 's, 'a> {
                 arguments,
             } => {
                 let id = self.constructor(name);
+                let arguments = self.arguments(arguments)?;
+                let name = self.copied(name)?;
                 Ok(flat::Argument::Constructor {
                     ty: 0,
                     data: id.data,
                     number: id.number,
-                    name: self.copied(name)?,
+                    name,
                     place: *place,
-                    arguments: self.arguments(arguments)?,
+                    arguments,
                 })
             }
         }
     }
 
     #[cycle(arguments)]
-    fn arguments(&self, list: &[Argument]) -> Result<Vec<flat::Argument>, NoMemory> {
+    fn arguments(&self, list: &[Argument]) -> Result<Vec<flat::Argument>, NoMemory>
+        ensures { IfOk result (λ v. W.arguments v.items ≡
+            P.flat_arguments (S.source self.now.source.now) (V.arguments list.now)) }
+    {
         let mut arguments = Vec::new(self.source.alloc);
         for argument in list {
-            arguments.push(self.argument(argument)?)?;
+            let made = self.argument(argument)?;
+            arguments.push(made)?;
         }
         Ok(arguments)
     }
 
     #[cycle(patterns)]
-    fn pattern(&self, shared: &mut Shared, pattern: &Pattern) -> Result<flat::Pattern, NoMemory> {
+    fn pattern(&mut self, pattern: &Pattern) -> Result<flat::Pattern, NoMemory>
+        ensures stays { F.IsMaking self.old → OnOk result (F.Stays self.old self.new) }
+        ensures flat { F.IsMaking self.old →
+            IfOk result (λ p. W.pattern p ≡ F.pattern_in (F.making self.old) (V.pattern pattern.now)) }
+    {
         match pattern {
-            Pattern::Binder(binder) => Ok(flat::Pattern::Binder(self.binder(shared, binder)?)),
+            Pattern::Binder(binder) => {
+                let made = self.binder(binder)?;
+                Ok(flat::Pattern::Binder(made))
+            }
             Pattern::Literal { value, place } => Ok(flat::Pattern::Literal {
                 value: *value,
                 place: *place,
@@ -138,77 +216,128 @@ impl<'r, 's, 'a> Flattening<'r, 's, 'a> {
                 patterns,
             } => {
                 let id = self.constructor(name);
+                let name = self.copied(name)?;
+                let patterns = self.patterns(patterns)?;
                 Ok(flat::Pattern::Constructor {
                     ty: 0,
                     data: id.data,
                     number: id.number,
-                    name: self.copied(name)?,
+                    name,
                     place: *place,
-                    patterns: self.patterns(shared, patterns)?,
+                    patterns,
                 })
             }
         }
     }
 
     #[cycle(patterns)]
-    fn patterns(
-        &self,
-        shared: &mut Shared,
-        list: &[Pattern],
-    ) -> Result<Vec<flat::Pattern>, NoMemory> {
+    fn patterns(&mut self, list: &[Pattern]) -> Result<Vec<flat::Pattern>, NoMemory>
+        ensures stays { F.IsMaking self.old → OnOk result (F.Stays self.old self.new) }
+        ensures flat { F.IsMaking self.old →
+            IfOk result (λ v. W.patterns v.items ≡ F.patterns_in (F.making self.old) (V.patterns list.now)) }
+    {
         let mut patterns = Vec::new(self.source.alloc);
         for pattern in list {
-            patterns.push(self.pattern(shared, pattern)?)?;
+            let made = self.pattern(pattern)?;
+            patterns.push(made)?;
         }
         Ok(patterns)
     }
 
-    #[cycle(blocks)]
-    fn expression(
+    // A call: the instance that it reaches, with its arguments.
+    fn call(
+        &mut self,
+        name: &Name,
+        place: Place,
+        statics: &[Written],
+        arguments: &[Argument],
+    ) -> Result<flat::Expression, NoMemory>
+        ensures stays { F.IsMaking self.old → OnOk result (F.Stays self.old self.new) }
+        ensures flat { F.IsMaking self.old → IfOk result (λ e. W.expression e ≡ F.expression_in (F.making self.old)
+            (C.Call name.now place (V.writtens statics.now) (V.arguments arguments.now))) }
+    {
+        let arguments = self.arguments(arguments)?;
+        let copy = self.copied(name)?;
+        let callee = self.callee(name, place, statics)?;
+        Ok(flat::Expression::Call {
+            callee,
+            name: copy,
+            place,
+            arguments,
+        })
+    }
+
+    // An expression that stands in no block and has no clauses.
+    fn operation(
         &self,
-        shared: &mut Shared,
-        expression: &Expression,
-    ) -> Result<flat::Expression, NoMemory> {
+        operator: Operator,
+        place: Place,
+        left: &Argument,
+        right: &Argument,
+    ) -> Result<flat::Expression, NoMemory>
+        ensures { IfOk result (λ e. W.expression e ≡ T.Operation operator place
+            (P.flat_argument (S.source self.now.source.now) (V.argument left.now))
+            (P.flat_argument (S.source self.now.source.now) (V.argument right.now))) }
+    {
+        let left = self.argument(left)?;
+        let right = self.argument(right)?;
+        Ok(flat::Expression::Operation {
+            operator,
+            place,
+            left,
+            right,
+        })
+    }
+
+    #[cycle(blocks)]
+    fn expression(&mut self, expression: &Expression) -> Result<flat::Expression, NoMemory>
+        ensures stays { F.IsMaking self.old → OnOk result (F.Stays self.old self.new) }
+        ensures flat { F.IsMaking self.old → IfOk result (λ e. W.expression e ≡
+            F.expression_in (F.making self.old) (V.expression expression.now)) }
+    {
         match expression {
-            Expression::Give(argument) => Ok(flat::Expression::Give(self.argument(argument)?)),
-            Expression::Tuple { place, arguments } => Ok(flat::Expression::Tuple {
-                place: *place,
-                arguments: self.arguments(arguments)?,
-            }),
+            Expression::Give(argument) => {
+                let made = self.argument(argument)?;
+                Ok(flat::Expression::Give(made))
+            }
+            Expression::Tuple { place, arguments } => {
+                let arguments = self.arguments(arguments)?;
+                Ok(flat::Expression::Tuple {
+                    place: *place,
+                    arguments,
+                })
+            }
             Expression::Operation {
                 operator,
                 place,
                 left,
                 right,
-            } => Ok(flat::Expression::Operation {
-                operator: *operator,
-                place: *place,
-                left: self.argument(left)?,
-                right: self.argument(right)?,
-            }),
+            } => {
+                let made = self.operation(*operator, *place, left, right)?;
+                Ok(made)
+            }
             Expression::Call {
                 name,
                 place,
                 statics,
                 arguments,
-            } => Ok(flat::Expression::Call {
-                callee: self.callee(shared, name, *place, statics)?,
-                name: self.copied(name)?,
-                place: *place,
-                arguments: self.arguments(arguments)?,
-            }),
+            } => {
+                let made = self.call(name, *place, statics, arguments)?;
+                Ok(made)
+            }
             Expression::Match {
                 kind,
                 place,
                 scrutinee,
                 clauses,
             } => {
-                let clauses = self.clauses(shared, clauses)?;
                 let scrutinee = self.argument(scrutinee)?;
-                match_of(self.source.alloc, *kind, *place, scrutinee, clauses)
+                let clauses = self.clauses(clauses)?;
+                let made = match_of(self.source.alloc, *kind, *place, scrutinee, clauses)?;
+                Ok(made)
             }
             Expression::Nested(block) => {
-                let block = self.block(shared, block)?;
+                let block = self.block(block)?;
                 let boxed = Box::new(self.source.alloc, block)?;
                 Ok(flat::Expression::Nested(boxed))
             }
@@ -216,41 +345,64 @@ impl<'r, 's, 'a> Flattening<'r, 's, 'a> {
     }
 
     #[cycle(blocks)]
-    fn clause(&self, shared: &mut Shared, clause: &Clause) -> Result<flat::Clause, NoMemory> {
-        let pattern = self.pattern(shared, &clause.pattern)?;
-        let body = self.block(shared, &clause.body)?;
+    fn clause(&mut self, clause: &Clause) -> Result<flat::Clause, NoMemory>
+        ensures stays { F.IsMaking self.old → OnOk result (F.Stays self.old self.new) }
+        ensures flat { F.IsMaking self.old →
+            IfOk result (λ c. W.clause c ≡ F.case_in (F.making self.old) (V.clause clause.now)) }
+    {
+        let pattern = self.pattern(&clause.pattern)?;
+        let body = self.block(&clause.body)?;
         Ok(flat::Clause { pattern, body })
     }
 
     #[cycle(blocks)]
-    fn clauses(&self, shared: &mut Shared, list: &[Clause]) -> Result<Vec<flat::Clause>, NoMemory> {
+    fn clauses(&mut self, list: &[Clause]) -> Result<Vec<flat::Clause>, NoMemory>
+        ensures stays { F.IsMaking self.old → OnOk result (F.Stays self.old self.new) }
+        ensures flat { F.IsMaking self.old →
+            IfOk result (λ v. W.clauses v.items ≡ F.clauses_in (F.making self.old) (V.clauses list.now)) }
+    {
         let mut clauses = Vec::new(self.source.alloc);
         for clause in list {
-            clauses.push(self.clause(shared, clause)?)?;
+            let made = self.clause(clause)?;
+            clauses.push(made)?;
         }
         Ok(clauses)
     }
 
     #[cycle(blocks)]
-    fn bindings(
-        &self,
-        shared: &mut Shared,
-        list: &[Binding],
-    ) -> Result<Vec<flat::Binding>, NoMemory> {
+    fn binding(&mut self, binding: &Binding) -> Result<flat::Binding, NoMemory>
+        ensures stays { F.IsMaking self.old → OnOk result (F.Stays self.old self.new) }
+        ensures flat { F.IsMaking self.old →
+            IfOk result (λ b. W.binding b ≡ F.bound_in (F.making self.old) (V.binding binding.now)) }
+    {
+        let binders = self.binders(&binding.binders)?;
+        let bound = self.expression(&binding.bound)?;
+        Ok(flat::Binding { binders, bound })
+    }
+
+    #[cycle(blocks)]
+    fn bindings(&mut self, list: &[Binding]) -> Result<Vec<flat::Binding>, NoMemory>
+        ensures stays { F.IsMaking self.old → OnOk result (F.Stays self.old self.new) }
+        ensures flat { F.IsMaking self.old →
+            IfOk result (λ v. map W.binding v.items ≡ map (F.bound_in (F.making self.old)) (map V.binding list.now)) }
+    {
         let mut bindings = Vec::new(self.source.alloc);
         for binding in list {
-            let binders = self.binders(shared, &binding.binders)?;
-            let bound = self.expression(shared, &binding.bound)?;
-            bindings.push(flat::Binding { binders, bound })?;
+            let made = self.binding(binding)?;
+            bindings.push(made)?;
         }
         Ok(bindings)
     }
 
     /// A block.
     #[cycle(blocks)]
-    pub fn block(&self, shared: &mut Shared, block: &Block) -> Result<flat::Block, NoMemory> {
-        let bindings = self.bindings(shared, &block.bindings)?;
-        let last = self.expression(shared, &block.last)?;
+    pub fn block(&mut self, block: &Block) -> Result<flat::Block, NoMemory>
+        ensures stays { F.IsMaking self.old → OnOk result (F.Stays self.old self.new) }
+        ensures flat { F.IsMaking self.old →
+            IfOk result (λ b. W.block b ≡ F.block_in (F.making self.old) (V.block block.now)) }
+    {
+        let bindings = self.bindings(&block.bindings)?;
+        let last = self.expression(&block.last)?;
         Ok(flat::Block { bindings, last })
     }
 }
@@ -262,7 +414,10 @@ fn match_of(
     place: Place,
     scrutinee: flat::Argument,
     mut clauses: Vec<flat::Clause>,
-) -> Result<flat::Expression, NoMemory> {
+) -> Result<flat::Expression, NoMemory>
+    ensures { IfOk result (λ e. W.expression e ≡
+        P.match_of (W.is_destructive kind) place (W.argument scrutinee) (W.clauses clauses.items)) }
+{
     if clauses.is_empty() {
         return Ok(flat::Expression::Give(scrutinee));
     }

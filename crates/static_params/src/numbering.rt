@@ -1,15 +1,39 @@
 // Numbers for what is reached: first what is there at the start, and then, in order of number, what each leads to that
 // has no number yet.
+ghost use Rattle.std.specs.Prelude.{◌≡◌, ℕ, ◌<◌, ◌≤◌, List, [], length, nat_eq, slice_get, get_or, None, IfOk, IfSome};
+ghost use Rattle.std.specs.Prelude.{OnOk};
+ghost use Rattle.std.specs.List.{position};
+ghost use Rattle.fip_trees.specs.Least.{after};
+ghost use Rattle.fip_trees.specs.declared.least.Violation.{Violation};
+ghost use Rattle.static_params.specs.Closed.{Closed, same_closed};
+ghost use Rattle.static_params.specs.Numbering.{AreMore, AreNumbered, numbered_of, with_all};
+ghost use Rattle.static_params.specs.SharedTrees.{AreWithin, Grows, Kept, Started, all_at, tree_at, trees};
+
 use crate::closed::Shared;
 use fip_base::plain::NoMemory;
 use fip_trees::least::Least;
 use indexmap::IndexSet;
 use std::alloc::Global;
+use std::marker::Model;
 
 /// What is numbered.
 pub trait Reaching {
+    /// That what it reads is right, and what is known of trees.
+    ghost is_right: { Self → Kept → Type 0 };
+
+    /// What is there at the start.
+    ghost starts: { Self → Kept → List Closed };
+
+    /// What each leads to.
+    ghost next: { Self → Closed → List Closed };
+
+    /// Which rules each breaks, by its number.
+    ghost breaks: { Self → ℕ → Closed → List Violation };
+
     /// The places of what is there at the start.
-    fn starts(&self, alloc: Global, shared: &mut Shared) -> Result<Vec<u32>, NoMemory>;
+    fn starts(&self, alloc: Global, shared: &mut Shared) -> Result<Vec<u32>, NoMemory>
+        ensures started { Self.is_right self.now shared.old → IfOk result (λ v. Started (Self.is_right self.now)
+            (Self.starts self.now shared.old) shared.old shared.new v.items) };
 
     /// The places of what the tree at a place leads to; notes the rules that it breaks, by its number.
     fn visit(
@@ -19,7 +43,11 @@ pub trait Reaching {
         number: usize,
         place: u32,
         least: &mut Least,
-    ) -> Result<Vec<u32>, NoMemory>;
+    ) -> Result<Vec<u32>, NoMemory>
+        ensures visited { Self.is_right self.now shared.old → IfOk result (λ v. Started (Self.is_right self.now)
+            (Self.next self.now (tree_at (trees shared.old.branches) place)) shared.old shared.new v.items) }
+        ensures least { Self.is_right self.now shared.old → OnOk result (least.new ≡
+            after least.old (Self.breaks self.now number (tree_at (trees shared.old.branches) place))) };
 }
 
 /// Places, each once, in the order in which they came.
@@ -28,14 +56,24 @@ pub struct Places {
     set: IndexSet<u32>,
 }
 
+impl Model for Places {
+    ghost Value = { List ℕ };
+
+    ghost view = { λ s. s.set.keys };
+}
+
 impl Places {
-    fn new(alloc: Global) -> Self {
+    fn new(alloc: Global) -> Self
+        ensures empty { result ≡ [] }
+    {
         Places {
             set: IndexSet::new(alloc),
         }
     }
 
-    fn add_all(&mut self, places: &[u32]) -> Result<(), NoMemory> {
+    fn add_all(&mut self, places: &[u32]) -> Result<(), NoMemory>
+        ensures added { OnOk result (self.new ≡ with_all nat_eq self.old places.now) }
+    {
         for place in places {
             self.set.insert(*place)?;
         }
@@ -43,22 +81,31 @@ impl Places {
     }
 
     /// The places, in order.
-    pub fn as_slice(&self) -> &[u32] {
+    pub fn as_slice(&self) -> &[u32]
+        ensures same { result.now ≡ self.now }
+    {
         self.set.as_slice()
     }
 
     /// How many there are.
-    pub fn len(&self) -> usize {
+    pub fn len(&self) -> usize
+        ensures count { result ≡ length self.now }
+    {
         self.set.len()
     }
 
     /// The place of a number.
-    pub fn at(&self, number: usize) -> Option<u32> {
+    pub fn at(&self, number: usize) -> Option<u32>
+        ensures { result ≡ slice_get self.now number }
+    {
         self.set.get_index(number).copied()
     }
 
     /// The number of a place; none where it has none.
-    pub fn number_of(&self, place: u32) -> Option<usize> {
+    pub fn number_of(&self, place: u32) -> Option<usize>
+        ensures number { result ≡ position (nat_eq place) self.now }
+        ensures within { IfSome result (λ i. i < length self.now) }
+    {
         self.set.get_index_of(&place)
     }
 }
@@ -70,8 +117,23 @@ pub fn number<R: Reaching>(
     most: usize,
     shared: &mut Shared,
     least: &mut Least,
-) -> Result<Option<Places>, NoMemory> {
+) -> Result<Option<Places>, NoMemory>
+    ensures few { IfOk result (λ o. IfSome o (λ v. length v ≤ most)) }
+    ensures right { R.is_right reaching.now shared.old → OnOk result (R.is_right reaching.now shared.new) }
+    ensures grows { R.is_right reaching.now shared.old →
+        OnOk result (Grows shared.old.branches shared.new.branches) }
+    ensures within { R.is_right reaching.now shared.old →
+        IfOk result (λ o. IfSome o (λ v. AreWithin shared.new.branches v)) }
+    ensures numbered { R.is_right reaching.now shared.old → IfOk result (λ o. IfSome o (λ v.
+        AreNumbered same_closed (R.starts reaching.now shared.old) (R.next reaching.now)
+        (all_at (trees shared.new.branches) v))) }
+    ensures many { R.is_right reaching.now shared.old → IfOk result (λ o. o ≡ None →
+        AreMore most (R.starts reaching.now shared.old) (R.next reaching.now)) }
+    ensures least { R.is_right reaching.now shared.old → IfOk result (λ o. IfSome o (λ v. least.new ≡
+        after least.old (numbered_of (R.breaks reaching.now) 0 (all_at (trees shared.new.branches) v)))) }
+{
     let starts = reaching.starts(alloc, shared)?;
+    shared.hold();
     let mut places = Places::new(alloc);
     places.add_all(&starts)?;
     if places.len() > most {
@@ -82,6 +144,7 @@ pub fn number<R: Reaching>(
             None => return Ok(Some(places)),
             Some(place) => {
                 let next = reaching.visit(alloc, shared, i, place, least)?;
+                shared.hold();
                 places.add_all(&next)?;
             }
         }

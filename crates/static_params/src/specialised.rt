@@ -1,16 +1,34 @@
 // The program without static parameters, or the least violation.
+ghost use Rattle.std.specs.Prelude.{◌≡◌, ◌++◌, [], None, Some, map, slice_get, IfErr, IfOk, IfSome, OnOk};
+ghost use Rattle.fip_language.specs.Mentions.{all_of};
+ghost use Rattle.fip_base.specs.CoreView as V;
+ghost use Rattle.fip_trees.specs.TreeView as W;
+ghost use Rattle.fip_language.specs.declared.rule.Rule.TheVariants.{E21};
+ghost use Rattle.static_params.specs.Answers.{AreManyTypes, IsAccepted, Says, start};
+ghost use Rattle.static_params.specs.FlatProgram.{binders_in, bracket_of, count_tys, credit_size, field_counts};
+ghost use Rattle.static_params.specs.FlatProgram.{flat_instance, flat_program, instance_if, instances_of, is_root};
+ghost use Rattle.static_params.specs.FlatProgram.{signature_tuple};
+ghost use Rattle.static_params.specs.FlatView.{AreNumbers, GoesOn, IsMaking, IsNamed, IsNumbered, IsTypes, Stays};
+ghost use Rattle.static_params.specs.FlatView.{making};
+ghost use Rattle.static_params.specs.FlatView.{bound_parameter_in, numbers_at, parameter_in};
+ghost use Rattle.static_params.specs.KnownFits.{AreRoots, IsRight};
+ghost use Rattle.static_params.specs.SharedTrees.{AreWithin, Grows, all_at, tree_at, trees};
+ghost use Rattle.static_params.specs.Source.{Constructor, Declared};
+ghost use Rattle.static_params.specs.SourceView as S;
+ghost use Rattle.static_params.specs.Uses.{broken};
+
 use crate::closed::Shared;
 use crate::flatten::Flattening;
 use crate::instances::{Instances, Passed};
 use crate::numbering::{Places, number};
 use crate::source::{FunctionSource, Here, Source, source_of};
-use crate::table::{Numbers, table_of};
+use crate::table::{Numbers, declaring_of, table_of};
 use crate::type_instances::TypeInstances;
 use fip_base::core_form::{Core, Parameter, ResultType, Static};
 use fip_base::plain::{CreditMark, NoMemory, Param, Params, Place};
 use fip_base::refusal::{PhaseError, Rule};
 use fip_language::limits::MOST_INSTANCES;
-use fip_trees::decls::{DeclaredType, Decls};
+use fip_trees::decls::{DeclaredConstructor, DeclaredType, Decls, FieldType};
 use fip_trees::least::Least;
 use fip_trees::program::{Binder, Flat, Instance, Program, TupleResult};
 use std::alloc::Global;
@@ -22,106 +40,146 @@ const START: Place = Place {
     at: 0,
 };
 
-// Why there is no program: a violation was noted, or no memory is left.
-#[derive(Clone, Copy, Debug, PartialEq, Eq)]
-enum Stop {
-    Broken,
-    NoMemory,
-}
-
-impl From<NoMemory> for Stop {
-    fn from(_: NoMemory) -> Stop {
-        Stop::NoMemory
-    }
-}
-
 /// The program without static parameters, where these are its declarations. The least violation of E11 and E12 in
 /// static arguments and of E20 to E23 where there is one.
-pub fn specialise(alloc: Global, core: &Core, decls: &Decls<'_>) -> Result<Flat, PhaseError> {
+pub fn specialise(alloc: Global, core: &Core, decls: &Decls<'_>) -> Result<Flat, PhaseError>
+    ensures accepted { IfOk result (λ f. IsAccepted (S.source_of core.now decls.now) f.program) }
+    ensures refused { IfErr result (λ e. Says (S.source_of core.now decls.now) e) }
+{
     let mut least = Least::new(alloc);
     match specialised(alloc, core, decls, &mut least) {
-        Ok(flat) => Ok(flat),
-        Err(Stop::NoMemory) => Err(PhaseError::NoMemory),
-        Err(Stop::Broken) => match least.into_refusal() {
+        Ok(Some(flat)) => Ok(flat),
+        Ok(None) => match least.into_refusal() {
             Some(refusal) => Err(PhaseError::Refused(refusal)),
             None => Err(PhaseError::NoMemory),
         },
+        Err(NoMemory) => Err(PhaseError::NoMemory),
     }
 }
 
+// None where a violation is noted.
 fn specialised(
     alloc: Global,
     core: &Core,
     decls: &Decls<'_>,
     least: &mut Least,
-) -> Result<Flat, Stop> {
+) -> Result<Option<Flat>, NoMemory>
+    ensures accepted { least.old ≡ None → IfOk result (λ o. IfSome o (λ f.
+        IsAccepted (S.source_of core.now decls.now) f.program)) }
+    ensures refused { least.old ≡ None → IfOk result (λ o. o ≡ None →
+        IsNamed (S.source_of core.now decls.now) least.new) }
+{
     let source = source_of(alloc, core, decls)?;
     let mut shared = Shared::new(alloc);
-    let numbers = numbers_of(alloc, &source, &mut shared, least)?;
-    if !least.is_none() {
-        return Err(Stop::Broken);
+    match numbers_of(alloc, &source, &mut shared, least)? {
+        Some(numbers) => {
+            let flat = flat_of(&source, shared, &numbers, least)?;
+            Ok(flat)
+        }
+        None => Ok(None),
     }
-    let program = program_of(&source, &mut shared, &numbers)?;
-    Ok(Flat { program })
 }
 
-// More than 4,096 instances or types are E21 at the source's first place.
-fn too_many(least: &mut Least, what: &[u8]) -> Result<Numbers, Stop> {
-    least.note(Rule::E21, START, 0, 0, what)?;
-    Err(Stop::Broken)
+// None where a use breaks a rule.
+fn flat_of(
+    source: &Source<'_, '_>,
+    shared: Shared,
+    numbers: &Numbers,
+    least: &Least,
+) -> Result<Option<Flat>, NoMemory>
+    ensures accepted { IsNumbered source.now numbers.now shared least.now → IfOk result (λ o. IfSome o (λ f.
+        IsAccepted (S.source source.now) f.program)) }
+    ensures refused { IsNumbered source.now numbers.now shared least.now → IfOk result (λ o. o ≡ None →
+        IsNamed (S.source source.now) least.now) }
+{
+    if !least.is_none() {
+        return Ok(None);
+    }
+    let program = program_of(source, shared, numbers)?;
+    Ok(Some(Flat { program }))
 }
 
-// The numbers of the instances and of the types.
+// More than 4,096 instances or types are E21 at the source's first place, where no use stands.
+fn too_many(alloc: Global, least: &mut Least, what: &[u8]) -> Result<(), NoMemory>
+    ensures { OnOk result (least.new ≡ Some (broken E21 start 0 what.now)) }
+{
+    *least = Least::new(alloc);
+    least.note(Rule::E21, START, 0, 0, what)
+}
+
+// The numbers of the instances and of the types; none where either are more than 4,096, which is noted.
 fn numbers_of(
     alloc: Global,
     source: &Source<'_, '_>,
     shared: &mut Shared,
     least: &mut Least,
-) -> Result<Numbers, Stop> {
+) -> Result<Option<Numbers>, NoMemory>
+    ensures found { IsRight source.now shared.old → least.old ≡ None → IfOk result (λ o. IfSome o (λ ns.
+        IsNumbered source.now ns shared.new least.new)) }
+    ensures broken { IsRight source.now shared.old → IfOk result (λ o. o ≡ None →
+        IsNamed (S.source source.now) least.new) }
+{
     let reaching = Instances { source };
-    let instances = match number(alloc, &reaching, MOST_INSTANCES, shared, least)? {
-        Some(instances) => instances,
-        None => return too_many(least, b"functions"),
-    };
-    let reaching = Passed {
-        instances: &instances,
-    };
-    let passed = match number(alloc, &reaching, u32::MAX as usize, shared, least)? {
+    match number(alloc, &reaching, MOST_INSTANCES, shared, least)? {
+        Some(instances) => match types_of(alloc, source, shared, &instances)? {
+            Some(types) => Ok(Some(Numbers { instances, types })),
+            None => {
+                too_many(alloc, least, b"types")?;
+                Ok(None)
+            }
+        },
+        None => {
+            too_many(alloc, least, b"functions")?;
+            Ok(None)
+        }
+    }
+}
+
+// The numbers of the types; none where they are more than 4,096.
+fn types_of(
+    alloc: Global,
+    source: &Source<'_, '_>,
+    shared: &mut Shared,
+    instances: &Places,
+) -> Result<Option<Places>, NoMemory>
+    ensures grows { AreRoots source.now instances.now [] shared.old →
+        OnOk result (Grows shared.old.branches shared.new.branches) }
+    ensures right { AreRoots source.now instances.now [] shared.old →
+        OnOk result (IsRight source.now shared.new) }
+    ensures types { AreRoots source.now instances.now [] shared.old → IfOk result (λ o. IfSome o (λ v.
+        IsTypes source.now (all_at (trees shared.old.branches) instances.now) shared.new v)) }
+    ensures many { AreRoots source.now instances.now [] shared.old → IfOk result (λ o. o ≡ None →
+        AreManyTypes (S.source source.now) (all_at (trees shared.old.branches) instances.now)) }
+{
+    let mut unused = Least::new(alloc);
+    let reaching = Passed { source, instances };
+    let passed = match number(alloc, &reaching, u32::MAX as usize, shared, &mut unused)? {
         Some(passed) => passed,
-        None => return Err(Stop::NoMemory),
+        None => return Err(NoMemory),
     };
     let reaching = TypeInstances {
         source,
-        instances: &instances,
+        instances,
         passed: &passed,
     };
-    let types = match number(alloc, &reaching, MOST_INSTANCES, shared, least)? {
-        Some(types) => types,
-        None => return too_many(least, b"types"),
-    };
-    Ok(Numbers { instances, types })
+    let types = number(alloc, &reaching, MOST_INSTANCES, shared, &mut unused)?;
+    Ok(types)
 }
 
+// The program of what is numbered.
 fn program_of(
     source: &Source<'_, '_>,
-    shared: &mut Shared,
+    mut shared: Shared,
     numbers: &Numbers,
-) -> Result<Program, NoMemory> {
-    let (types, declaring) = table_of(source, shared, numbers)?;
-    let mut arities = Vec::new(source.alloc);
-    let mut field_counts = Vec::new(source.alloc);
-    for declared in &source.decls.types {
-        arities.push(declared.arity)?;
-        field_counts.push(field_counts_of(source.alloc, declared)?)?;
-    }
-    let mut instances = Vec::new(source.alloc);
-    for (number, place) in numbers.instances.as_slice().iter().enumerate() {
-        if let Some(here) = source.here(shared, *place, number)? {
-            if let Some(found) = source.functions.get(here.function) {
-                instances.push(instance_of(source, shared, numbers, &here, found)?)?;
-            }
-        }
-    }
+) -> Result<Program, NoMemory>
+    ensures { IsRight source.now shared → AreNumbers shared numbers.now → IfOk result (λ p.
+        W.program p ≡ flat_program (S.source source.now) (numbers_at (trees shared.branches) numbers.now)) }
+{
+    let declaring = declaring_of(source, &shared, numbers)?;
+    let types = table_of(source, &mut shared, numbers)?;
+    let arities = arities_of(source.alloc, &source.decls.types)?;
+    let field_counts = field_counts_of(source.alloc, &source.decls.types)?;
+    let instances = instances_of(source, shared, numbers)?;
     Ok(Program {
         types,
         declaring,
@@ -131,55 +189,192 @@ fn program_of(
     })
 }
 
-// The numbers of the fields of a data type's constructors, as they are declared.
-fn field_counts_of(alloc: Global, declared: &DeclaredType<'_>) -> Result<Vec<usize>, NoMemory> {
+// How many type parameters each data type has.
+fn arities_of(alloc: Global, types: &[DeclaredType<'_>]) -> Result<Vec<u32>, NoMemory>
+    ensures { IfOk result (λ v. v.items ≡ map (λ (d : Declared). d.arity) (map S.declared types.now)) }
+{
+    let mut arities = Vec::new(alloc);
+    for declared in types {
+        arities.push(declared.arity)?;
+    }
+    Ok(arities)
+}
+
+// The numbers of the fields of each data type's constructors, as they are declared.
+fn field_counts_of(alloc: Global, types: &[DeclaredType<'_>]) -> Result<Vec<Vec<usize>>, NoMemory>
+    ensures { IfOk result (λ v. map W.counts_row v.items ≡ map field_counts (map S.declared types.now)) }
+{
     let mut counts = Vec::new(alloc);
-    for constructor in &declared.constructors {
-        counts.push(constructor.fields.len())?;
+    for declared in types {
+        let row = counts_of(alloc, &declared.constructors)?;
+        counts.push(row)?;
     }
     Ok(counts)
 }
 
-fn instance_of(
+fn counts_of(
+    alloc: Global,
+    constructors: &[DeclaredConstructor<'_>],
+) -> Result<Vec<usize>, NoMemory>
+    ensures { IfOk result (λ v. v.items ≡
+        map (λ (k : Constructor). count_tys k.fields) (map S.constructor constructors.now)) }
+{
+    let mut counts = Vec::new(alloc);
+    for constructor in constructors {
+        counts.push(count_of(&constructor.fields))?;
+    }
+    Ok(counts)
+}
+
+fn count_of(fields: &[FieldType]) -> usize
+    ensures { result ≡ count_tys (S.tys_of (map S.ty fields.now)) }
+{
+    fields.len()
+}
+
+fn instances_of(
     source: &Source<'_, '_>,
-    shared: &mut Shared,
+    shared: Shared,
     numbers: &Numbers,
-    here: &Here,
-    found: &FunctionSource<'_>,
-) -> Result<Instance, NoMemory> {
-    let alloc = source.alloc;
-    let function = found.function;
-    let flattening = Flattening {
+) -> Result<Vec<Instance>, NoMemory>
+    ensures { IsRight source.now shared → AreNumbers shared numbers.now → IfOk result (λ v.
+        W.instances v.items ≡ (flat_program (S.source source.now)
+        (numbers_at (trees shared.branches) numbers.now)).instances) }
+{
+    let given = Vec::new(source.alloc);
+    let here = Here {
+        function: 0,
+        given,
+        number: 0,
+    };
+    let mut flattening = Flattening {
         source,
         numbers,
         here,
+        shared,
     };
-    let results = source.results(shared, here, &function.result)?;
+    let mut instances = Vec::new(source.alloc);
+    put_instances(
+        &mut flattening,
+        numbers.instances.as_slice(),
+        &mut instances,
+    )?;
+    Ok(instances)
+}
+
+// Puts the instances of the functions at these places behind the others.
+fn put_instances(
+    flattening: &mut Flattening<'_, '_, '_>,
+    places: &[u32],
+    instances: &mut Vec<Instance>,
+) -> Result<(), NoMemory>
+    ensures { IsMaking flattening.old → AreWithin flattening.old.shared.branches places.now →
+        OnOk result (W.instances instances.new.items ≡ W.instances instances.old.items ++
+        all_of (instances_of (making flattening.old).source (making flattening.old).numbers)
+        (all_at (trees flattening.old.shared.branches) places.now)) }
+{
+    for place in places {
+        put_instance(flattening, *place, instances)?;
+    }
+    Ok(())
+}
+
+// Puts the instance of the function at a place behind the others.
+fn put_instance(
+    flattening: &mut Flattening<'_, '_, '_>,
+    place: u32,
+    instances: &mut Vec<Instance>,
+) -> Result<(), NoMemory>
+    ensures goes { IsMaking flattening.old → OnOk result (GoesOn flattening.old flattening.new) }
+    ensures made { IsMaking flattening.old → OnOk result (W.instances instances.new.items ≡
+        W.instances instances.old.items ++ instances_of (making flattening.old).source
+        (making flattening.old).numbers (tree_at (trees flattening.old.shared.branches) place)) }
+{
+    match flattening.source.here(&flattening.shared, place, 0)? {
+        Some(here) => {
+            flattening.here = here;
+            put_found(flattening, instances)?;
+            Ok(())
+        }
+        None => Ok(()),
+    }
+}
+
+// Puts the instance that is made behind the others.
+fn put_found(
+    flattening: &mut Flattening<'_, '_, '_>,
+    instances: &mut Vec<Instance>,
+) -> Result<(), NoMemory>
+    ensures stays { IsMaking flattening.old → OnOk result (Stays flattening.old flattening.new) }
+    ensures made { IsMaking flattening.old → OnOk result (W.instances instances.new.items ≡
+        W.instances instances.old.items ++ instance_if (making flattening.old).source
+        (making flattening.old).numbers (making flattening.old).here
+        (slice_get (making flattening.old).source.functions flattening.old.here.function)) }
+{
+    match flattening.source.functions.get(flattening.here.function) {
+        Some(found) => {
+            let made = instance_of(flattening, found)?;
+            instances.push(made)?;
+            Ok(())
+        }
+        None => Ok(()),
+    }
+}
+
+fn instance_of(
+    flattening: &mut Flattening<'_, '_, '_>,
+    found: &FunctionSource<'_>,
+) -> Result<Instance, NoMemory>
+    ensures stays { IsMaking flattening.old → OnOk result (Stays flattening.old flattening.new) }
+    ensures made { IsMaking flattening.old → found.now.mentions.binders ≡ binders_in (S.function_source found.now) →
+        IfOk result (λ i. W.instance_of i ≡ flat_instance (making flattening.old).source
+        (making flattening.old).numbers (making flattening.old).here (S.function_source found.now)) }
+{
+    let alloc = flattening.source.alloc;
+    let function = found.function;
+    let name = function.name.copy(alloc)?;
+    let credits = sizes_of(alloc, &function.credits)?;
+    let signature_tuples = signature_tuples_of(alloc, &function.statics)?;
+    let params = params_of(flattening, &function.parameters)?;
+    let binders = binders_of(flattening, &function.parameters)?;
+    let results = flattening.results(&function.result)?;
+    let body = flattening.block(&function.body)?;
+    let root = is_root(&function.statics);
+    let results_place = bracket_of(&function.result);
     Ok(Instance {
-        name: function.name.copy(alloc)?,
+        name,
         place: function.place,
-        root: function.statics.is_empty(),
+        root,
         kind: function.kind,
-        params: params_of(&flattening, shared, &function.parameters)?,
-        binders: binders_of(&flattening, shared, &function.parameters)?,
-        credits: sizes_of(alloc, &function.credits)?,
-        results: numbers.type_numbers(alloc, &results)?,
-        results_place: bracket_of(&function.result),
-        signature_tuples: signature_tuples_of(alloc, &function.statics)?,
+        params,
+        binders,
+        credits,
+        results,
+        results_place,
+        signature_tuples,
         variables: found.mentions.binders,
-        body: flattening.block(shared, &function.body)?,
+        body,
     })
+}
+
+fn is_root(statics: &[Static]) -> bool
+    ensures { result ≡ is_root (map V.static statics.now) }
+{
+    statics.is_empty()
 }
 
 // The types of parameters, and which of them are lent.
 fn params_of(
-    flattening: &Flattening<'_, '_, '_>,
-    shared: &mut Shared,
+    flattening: &mut Flattening<'_, '_, '_>,
     parameters: &[Parameter],
-) -> Result<Params, NoMemory> {
+) -> Result<Params, NoMemory>
+    ensures stays { IsMaking flattening.old → OnOk result (Stays flattening.old flattening.new) }
+    ensures made { IsMaking flattening.old → IfOk result (λ ps. ps ≡
+        map (parameter_in (making flattening.old)) (map V.parameter parameters.now)) }
+{
     let mut params = Vec::new(flattening.source.alloc);
     for parameter in parameters {
-        let ty = flattening.ty(shared, &parameter.ty)?;
+        let ty = flattening.ty(&parameter.ty)?;
         params.push(Param {
             ty,
             lent: parameter.lent,
@@ -189,49 +384,74 @@ fn params_of(
 }
 
 fn binders_of(
-    flattening: &Flattening<'_, '_, '_>,
-    shared: &mut Shared,
+    flattening: &mut Flattening<'_, '_, '_>,
     parameters: &[Parameter],
-) -> Result<Vec<Binder>, NoMemory> {
+) -> Result<Vec<Binder>, NoMemory>
+    ensures stays { IsMaking flattening.old → OnOk result (Stays flattening.old flattening.new) }
+    ensures made { IsMaking flattening.old → IfOk result (λ v. v.items ≡
+        map (bound_parameter_in (making flattening.old)) (map V.parameter parameters.now)) }
+{
     let mut binders = Vec::new(flattening.source.alloc);
     for parameter in parameters {
-        binders.push(flattening.binder(shared, &parameter.binder)?)?;
+        let binder = flattening.binder(&parameter.binder)?;
+        binders.push(binder)?;
     }
     Ok(binders)
 }
 
 // The sizes of the credits that a header states. Each is the size of a cell.
-fn sizes_of(alloc: Global, credits: &[CreditMark]) -> Result<Vec<u8>, NoMemory> {
+fn sizes_of(alloc: Global, credits: &[CreditMark]) -> Result<Vec<u8>, NoMemory>
+    ensures { IfOk result (λ v. v.items ≡ map credit_size credits.now) }
+{
     let mut sizes = Vec::new(alloc);
     for mark in credits {
-        match u8::try_from(mark.size) {
-            Ok(size) => sizes.push(size)?,
-            Err(_) => sizes.push(u8::MAX)?,
-        }
+        sizes.push(size_of(mark))?;
     }
     Ok(sizes)
 }
 
+fn size_of(mark: &CreditMark) -> u8
+    ensures { result ≡ credit_size mark.now }
+{
+    match u8::try_from(mark.size) {
+        Ok(size) => size,
+        Err(_) => u8::MAX,
+    }
+}
+
 // The tuples that function parameters give.
-fn signature_tuples_of(alloc: Global, statics: &[Static]) -> Result<Vec<TupleResult>, NoMemory> {
+fn signature_tuples_of(alloc: Global, statics: &[Static]) -> Result<Vec<TupleResult>, NoMemory>
+    ensures { IfOk result (λ v. v.items ≡ all_of signature_tuple (map V.static statics.now)) }
+{
     let mut tuples = Vec::new(alloc);
     for parameter in statics {
-        if let Static::Function {
-            result: ResultType::Tuple(place, list),
-            ..
-        } = parameter
-        {
-            tuples.push(TupleResult {
-                place: *place,
-                count: list.len(),
-            })?;
-        }
+        put_signature_tuple(&mut tuples, parameter)?;
     }
     Ok(tuples)
 }
 
+fn put_signature_tuple(tuples: &mut Vec<TupleResult>, parameter: &Static) -> Result<(), NoMemory>
+    ensures { OnOk result (tuples.new.items ≡ tuples.old.items ++ signature_tuple (V.static parameter.now)) }
+{
+    match parameter {
+        Static::Type { .. } => Ok(()),
+        Static::Function { result, .. } => match result {
+            ResultType::One(_) => Ok(()),
+            ResultType::Tuple(place, list) => {
+                tuples.push(TupleResult {
+                    place: *place,
+                    count: list.len(),
+                })?;
+                Ok(())
+            }
+        },
+    }
+}
+
 // The place of a tuple's bracket.
-fn bracket_of(given: &ResultType) -> Option<Place> {
+fn bracket_of(given: &ResultType) -> Option<Place>
+    ensures { result ≡ bracket_of (V.result_type given.now) }
+{
     match given {
         ResultType::One(_) => None,
         ResultType::Tuple(place, _) => Some(*place),

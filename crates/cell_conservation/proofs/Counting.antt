@@ -23,9 +23,9 @@ use Rattle.fip_rules.specs.Shapes.{Names, behind, binders, takes, shape}
 use Rattle.flat_meaning.specs.Matching.{matching}
 use Rattle.flat_meaning.specs.Meaning.{bind_binders, argument_value, argument_values, Calls, eval, eval_block, eval_clauses}
 use Rattle.type_soundness.specs.Formed.{FormedExpression, FormedBlock, FormedClauses, IsFormed}
-use Rattle.type_soundness.specs.Exhaustive.{ExhaustiveExpression, ExhaustiveBlock, ExhaustiveClauses}
-use Rattle.type_soundness.specs.Soundness.{IsSoundAnswer, parameter_types}
-use Rattle.type_soundness.proofs.WellTyped.{CallsSound, head_is, argument_has, arguments_have, expression_sound}
+use Rattle.type_soundness.specs.Soundness.{IsTypedAnswer, parameter_types}
+use Rattle.type_soundness.proofs.WellTyped.{head_is, argument_has, arguments_have}
+use Rattle.type_soundness.proofs.Gains.{CallsGain, expression_gained}
 use Rattle.own_calculus.specs.Terms as C
 use Rattle.own_calculus.specs.Terms.{given}
 use Rattle.own_agreement.specs.Bodies.{Scalars, value, passed, credits_of, variables, entering, nodes, inside, past_clause, matched, term, term_block, clauses}
@@ -165,7 +165,7 @@ only_fip Fun e = cc
 strong_fip : (p : Program) (g : ℕ) (f : Instance) → slice_get p.instances g ≡ Some f → not (weaker (world p Fip) g) ≡ true → f.kind ≡ Fip
 strong_fip p g f e h = only_fip f.kind (sym (ap (λ o. not (weaker_than Fip o)) e) ∙ h)
 
-typed_given : (tb : Table) (ts : List ℕ) (a : Answer) (us : Values) (j : ℕ) → IsSoundAnswer tb ts a → a ≡ Gives us j → HaveTypes tb ts us
+typed_given : (tb : Table) (ts : List ℕ) (a : Answer) (us : Values) (j : ℕ) → IsTypedAnswer tb ts a → a ≡ Gives us j → HaveTypes tb ts us
 typed_given tb ts (Gives vs k) us j h e = subst (HaveTypes tb ts) (same_values vs us k j e) h
 typed_given tb ts (Trap kind line col) us j h e = cc
 typed_given tb ts Out us j h e = cc
@@ -186,7 +186,7 @@ call_counts p calls keep c sc s env held h g as' vs lt i r t d k rs left e stron
 
 -- ---- trees
 
-module _ (p : Program) (well : IsFormed p) (calls : Calls) (sound : CallsSound p calls) (keep : CallsKeep p calls) (words : ℕ) where
+module _ (p : Program) (well : IsFormed p) (calls : Calls) (gain : CallsGain p calls) (keep : CallsKeep p calls) (words : ℕ) where
   abbrev w : World
   w = world p Fip
 
@@ -212,18 +212,18 @@ module _ (p : Program) (well : IsFormed p) (calls : Calls) (sound : CallsSound p
   }
 
   mutual
-    pub expression_counts : (c : Names) (sc : Scalars) (s : Scope) (held : Held) (b : Bool) (e : Expression) (ts : List ℕ) (tail : Bool) (d : ℕ) (env : Environment) (k : ℕ) → FormedExpression p e → Types true y s b e ts → ExhaustiveExpression p.types e → Tracks p.types c sc s env held → (rs : Values) (left : ℕ) → Gave (eval calls words e tail d env k) rs left → Counts held (term w sc c e) (λ n. cells_of_all n rs)
-    expression_counts c sc s held b (Give a) ts tail d env k f h x has rs left e =
+    pub expression_counts : (c : Names) (sc : Scalars) (s : Scope) (held : Held) (b : Bool) (e : Expression) (ts : List ℕ) (tail : Bool) (d : ℕ) (env : Environment) (k : ℕ) → FormedExpression p e → Types true y s b e ts → Tracks p.types c sc s env held → (rs : Values) (left : ℕ) → Gave (eval calls words e tail d env k) rs left → Counts held (term w sc c e) (λ n. cells_of_all n rs)
+    expression_counts c sc s held b (Give a) ts tail d env k f h has rs left e =
         let z = value_gives (argument_value env a) _ rs left e in
         λ n.
         let same = ap (cells_of_all n) (same_values (More z.0 End) rs k left z.2) in
         let one = value_cells p c sc s env held has b a h.0 z.0 n h.2 z.1 in omega arith
-    expression_counts c sc s held b (Tuple q as') ts tail d env k f h x has rs left e =
+    expression_counts c sc s held b (Tuple q as') ts tail d env k f h has rs left e =
         let z = values_give (argument_values env as') _ rs left e in
         λ n.
         let same = ap (cells_of_all n) (same_values z.0 rs k left z.2) in
         let all = (values_cells p c sc s env held has b as' ts z.0 n h.1 z.1).0 in omega arith
-    expression_counts c sc s held b (Operation o q l r) ts tail d env k f h x has rs left e =
+    expression_counts c sc s held b (Operation o q l r) ts tail d env k f h has rs left e =
         let u = value_gives (argument_value env l) _ rs left e in
         let v = value_gives (argument_value env r) _ rs left u.2 in
         let lt = argument_has p s env (tracks_values p.types c sc s env held has) true l 0 f.0 h.1 in
@@ -234,7 +234,7 @@ module _ (p : Program) (well : IsFormed p) (calls : Calls) (sound : CallsSound p
         let two = value_cells p c sc s env held has true r 0 rt.0 n h.2 rt.1 in
         let i = int_cells p.types lt.0 n lt.2 in
         let j = int_cells p.types rt.0 n rt.2 in omega arith
-    expression_counts c sc s held b (Call g n q as') ts tail d env k f h x has rs left e =
+    expression_counts c sc s held b (Call g n q as') ts tail d env k f h has rs left e =
         let z = values_give (argument_values env as') _ rs left e in
         let typed = arguments_have p s env (tracks_values p.types c sc s env held has) true as' (Y.head y g).parameters f.1 h.1 in
         let same : typed.0 ≡ z.0 = some_same typed.0 z.0 (sym typed.1 ∙ z.1) in
@@ -244,7 +244,7 @@ module _ (p : Program) (well : IsFormed p) (calls : Calls) (sound : CallsSound p
       where
         some_same : (us vs : Values) → Some us ≡ Some vs → us ≡ vs
         some_same us vs i = cc
-    expression_counts c sc s held b (Match ds u q a r body cs) ts tail d env k f h x has rs left e =
+    expression_counts c sc s held b (Match ds u q a r body cs) ts tail d env k f h has rs left e =
         let z = value_gives (argument_value env a) _ rs left e in
         let there = argument_has p s env (tracks_values p.types c sc s env held has) false a h.0 f.0 h.2 in
         let same : there.0 ≡ z.0 = some_same there.0 z.0 (sym there.1 ∙ z.1) in
@@ -259,35 +259,35 @@ module _ (p : Program) (well : IsFormed p) (calls : Calls) (sound : CallsSound p
         let m = P.matched y h.0 r z.0 i.0 h.3 typed i.1 in
         first_chosen w sc taken (past_clause w taken c r body) held (λ n. cells n z.0) ys (nodes r) inner cs (λ n. cells_of_all n rs)
         (chosen_of c held (λ n. cells n z.0) r z.0 i.0 inner (λ n. cells_of_all n rs) (λ n. refl) m
-        (block_counts (inside w taken c (binders r)) (entering w c.next sc (binders r)) (s ++ bound_by y (Some h.0) r) (held_all (is_scalar p.types) c.next (binders r) m.values held) b body ts tail d (bind_matched env i.0) k f.1 h.4 x.1 (inside_tracked taken c sc s env held h.0 r z.0 i.0 h.3 m has) rs left i.2)))
+        (block_counts (inside w taken c (binders r)) (entering w c.next sc (binders r)) (s ++ bound_by y (Some h.0) r) (held_all (is_scalar p.types) c.next (binders r) m.values held) b body ts tail d (bind_matched env i.0) k f.1 h.4 (inside_tracked taken c sc s env held h.0 r z.0 i.0 h.3 m has) rs left i.2)))
         (λ i.
         let later = tracks_later p.types c (past_clause w taken c r body) sc s env held refl (past_grows w taken c (binders r) body) has in
-        clauses_count taken (past_clause w taken c r body) sc s held h.0 cs z.0 ts tail d env k f.2 h.5 x.2 later typed rs left i ys (nodes r) inner)
+        clauses_count taken (past_clause w taken c r body) sc s held h.0 cs z.0 ts tail d env k f.2 h.5 later typed rs left i ys (nodes r) inner)
         (match_gives (matching r z.0) _ _ rs left z.2))
       where
         some_same : (us vs : Value) → Some us ≡ Some vs → us ≡ vs
         some_same us vs i = cc
-    expression_counts c sc s held b (Nested e) ts tail d env k f h x has rs left g = block_counts c sc s held b e ts tail d env k f h x has rs left g
+    expression_counts c sc s held b (Nested e) ts tail d env k f h has rs left g = block_counts c sc s held b e ts tail d env k f h has rs left g
 
-    pub block_counts : (c : Names) (sc : Scalars) (s : Scope) (held : Held) (b : Bool) (e : Block) (ts : List ℕ) (tail : Bool) (d : ℕ) (env : Environment) (k : ℕ) → FormedBlock p e → TypesBlock true y s b e ts → ExhaustiveBlock p.types e → Tracks p.types c sc s env held → (rs : Values) (left : ℕ) → Gave (eval_block calls words e tail d env k) rs left → Counts held (term_block w sc c e) (λ n. cells_of_all n rs)
-    block_counts c sc s held b (Last e) ts tail d env k f h x has rs left g = expression_counts c sc s held b e ts tail d env k f h x has rs left g
-    block_counts c sc s held b (Let bs e rest) ts tail d env k f h x has rs left g =
+    pub block_counts : (c : Names) (sc : Scalars) (s : Scope) (held : Held) (b : Bool) (e : Block) (ts : List ℕ) (tail : Bool) (d : ℕ) (env : Environment) (k : ℕ) → FormedBlock p e → TypesBlock true y s b e ts → Tracks p.types c sc s env held → (rs : Values) (left : ℕ) → Gave (eval_block calls words e tail d env k) rs left → Counts held (term_block w sc c e) (λ n. cells_of_all n rs)
+    block_counts c sc s held b (Last e) ts tail d env k f h has rs left g = expression_counts c sc s held b e ts tail d env k f h has rs left g
+    block_counts c sc s held b (Let bs e rest) ts tail d env k f h has rs left g =
         let z = bound_gives (eval calls words e false d env k).answer _ rs left g in
         let us = z.0 in
-        let first = expression_counts c sc s held (all_annotated bs) e h.0 false d env k f.0 h.1 x.0 has us z.1 z.2 in
-        let typed = typed_given p.types h.0 (eval calls words e false d env k).answer us z.1 (expression_sound p well calls sound words s (all_annotated bs) e h.0 false d env k f.0 h.1 x.0 (tracks_values p.types c sc s env held has)) z.2 in
+        let first = expression_counts c sc s held (all_annotated bs) e h.0 false d env k f.0 h.1 has us z.1 z.2 in
+        let typed = typed_given p.types h.0 (eval calls words e false d env k).answer us z.1 (expression_gained p well calls gain words s (all_annotated bs) e h.0 false d env k f.0 h.1 (tracks_values p.types c sc s env held has)) z.2 in
         let slotted : HaveTypes p.types (slots bs) us = subst (λ qs. HaveTypes p.types qs us) (let_slots bs h.0 h.2) typed in
         let c1 = behind c (shape w c e) in
         let later = tracks_later p.types c c1 sc s env held refl (grows w c e) has in
         let new = held_all (is_scalar p.types) c1.next bs us held in
         let all = tracks_binders p.types w refl true c1 sc s env held bs us later slotted in
         let moved = subst (λ (r : Scope). Tracks p.types (inside w true c1 bs) (entering w c1.next sc bs) (s ++ r) (bind_binders env bs us) new) (sym (let_entries bs h.0 h.2)) all in
-        let body = block_counts (inside w true c1 bs) (entering w c1.next sc bs) (s ++ entries bs (map Some h.0)) new b rest ts tail d (bind_binders env bs us) z.1 f.1 h.3 x.1 moved rs left z.3 in
+        let body = block_counts (inside w true c1 bs) (entering w c1.next sc bs) (s ++ entries bs (map Some h.0)) new b rest ts tail d (bind_binders env bs us) z.1 f.1 h.3 moved rs left z.3 in
         ((λ n. cells_of_all n us), new, first, binds_all p.types w refl c1.next bs us held, (λ n. sym (total_is p.types w refl c1.next bs us held n slotted)), body)
 
-    clauses_count : (taken : Bool) (c : Names) (sc : Scalars) (s : Scope) (held : Held) (t : ℕ) (cs : Clauses) (v : Value) (ts : List ℕ) (tail : Bool) (d : ℕ) (env : Environment) (k : ℕ) → FormedClauses p cs → TypesClauses true y s t cs ts → ExhaustiveClauses p.types cs → Tracks p.types c sc s env held → HasType p.types t v → (rs : Values) (left : ℕ) → Gave (eval_clauses calls words cs v tail d env k) rs left → (ys ks : List ℕ) (e : C.Term) → CountsWhere taken held (λ n. cells n v) (clauses w sc taken c ys ks e cs) (λ n. cells_of_all n rs)
-    clauses_count taken c sc s held t NoClauses v ts tail d env k f h x has typed rs left g ys ks e = cc
-    clauses_count taken c sc s held t (MoreClauses r body cs) v ts tail d env k f h x has typed rs left g ys ks e =
+    clauses_count : (taken : Bool) (c : Names) (sc : Scalars) (s : Scope) (held : Held) (t : ℕ) (cs : Clauses) (v : Value) (ts : List ℕ) (tail : Bool) (d : ℕ) (env : Environment) (k : ℕ) → FormedClauses p cs → TypesClauses true y s t cs ts → Tracks p.types c sc s env held → HasType p.types t v → (rs : Values) (left : ℕ) → Gave (eval_clauses calls words cs v tail d env k) rs left → (ys ks : List ℕ) (e : C.Term) → CountsWhere taken held (λ n. cells n v) (clauses w sc taken c ys ks e cs) (λ n. cells_of_all n rs)
+    clauses_count taken c sc s held t NoClauses v ts tail d env k f h has typed rs left g ys ks e = cc
+    clauses_count taken c sc s held t (MoreClauses r body cs) v ts tail d env k f h has typed rs left g ys ks e =
         let zs = variables w c.next (binders r) in
         let inner = term_block w (entering w c.next sc (binders r)) (inside w taken c (binders r)) body in
         later_chosen w sc taken c held (λ n. cells n v) ys ks e r body cs (λ n. cells_of_all n rs)
@@ -296,8 +296,8 @@ module _ (p : Program) (well : IsFormed p) (calls : Calls) (sound : CallsSound p
         let m = P.matched y t r v i.0 h.0 typed i.1 in
         first_chosen w sc taken (past_clause w taken c r body) held (λ n. cells n v) zs (nodes r) inner cs (λ n. cells_of_all n rs)
         (chosen_of c held (λ n. cells n v) r v i.0 inner (λ n. cells_of_all n rs) (λ n. refl) m
-        (block_counts (inside w taken c (binders r)) (entering w c.next sc (binders r)) (s ++ bound_by y (Some t) r) (held_all (is_scalar p.types) c.next (binders r) m.values held) true body ts tail d (bind_matched env i.0) k f.0 h.1 x.0 (inside_tracked taken c sc s env held t r v i.0 h.0 m has) rs left i.2)))
+        (block_counts (inside w taken c (binders r)) (entering w c.next sc (binders r)) (s ++ bound_by y (Some t) r) (held_all (is_scalar p.types) c.next (binders r) m.values held) true body ts tail d (bind_matched env i.0) k f.0 h.1 (inside_tracked taken c sc s env held t r v i.0 h.0 m has) rs left i.2)))
         (λ i.
         let later = tracks_later p.types c (past_clause w taken c r body) sc s env held refl (past_grows w taken c (binders r) body) has in
-        clauses_count taken (past_clause w taken c r body) sc s held t cs v ts tail d env k f.1 h.2 x.1 later typed rs left i zs (nodes r) inner)
+        clauses_count taken (past_clause w taken c r body) sc s held t cs v ts tail d env k f.1 h.2 later typed rs left i zs (nodes r) inner)
         (match_gives (matching r v) _ _ rs left g))

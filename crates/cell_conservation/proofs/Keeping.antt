@@ -8,15 +8,15 @@ use Rattle.fip_language.specs.Meaning.{Answer, Gives, Trap, Out, Deep, Stuck, Ru
 use Rattle.fip_trees.specs.Tree.{Instance, Program}
 use Rattle.type_check.specs.Scope.{Scope}
 use Rattle.type_check.specs.World as Y
-use Rattle.type_check.specs.Typing.{Typed, Parameters, parameter_entries}
+use Rattle.type_check.specs.Typing.{IsFilled, Typed, Parameters, parameter_entries}
 use Rattle.fip_rules.specs.World.{World, world, is_fip, is_ruled}
 use Rattle.fip_rules.specs.Shapes.{Names, within, taking, parameters, no_names}
 use Rattle.flat_meaning.specs.Registers.{frame_words}
 use Rattle.flat_meaning.specs.Meaning.{bind_binders, Calls, body_run, calls_of, flat_meaning}
 use Rattle.type_soundness.specs.Formed.{FormedInstance, IsFormed}
-use Rattle.type_soundness.specs.Exhaustive.{ExhaustiveBlock}
-use Rattle.type_soundness.specs.Soundness.{parameter_types, IsWellTyped}
-use Rattle.type_soundness.proofs.WellTyped.{CallsSound, typed_at, formed_at, exhaustive_at, calls_sound}
+use Rattle.type_soundness.specs.Soundness.{parameter_types}
+use Rattle.type_soundness.proofs.WellTyped.{typed_at, formed_at}
+use Rattle.type_soundness.proofs.Gains.{CallsGain, calls_gained}
 use Rattle.own_calculus.specs.Functions.{Derived}
 use Rattle.own_agreement.specs.Bodies.{Scalars, entering, borrowed_parameters, owned_parameters, entering_parameters, no_variables, body_term}
 use Rattle.own_agreement.specs.Agreement.{IsDerived, AreDerived, AreSized, IsAccepted}
@@ -77,8 +77,8 @@ keeps_where f vs Stuck h = tt
 pub fip_derived : (p : Program) (f : Instance) (k : FunKind) → f.kind ≡ k → IsDerived p f → Derived (is_fip k) (borrowed_parameters (world p k) 0 f.params f.binders) (owned_parameters (world p k) 0 f.params f.binders) f.credits (body_term (world p k) f)
 fip_derived p f k e h = subst (λ z. Derived (is_fip z) (borrowed_parameters (world p z) 0 f.params f.binders) (owned_parameters (world p z) 0 f.params f.binders) f.credits (body_term (world p z) f)) e h
 
-body_keeps : (p : Program) → IsFormed p → (calls : Calls) → CallsSound p calls → CallsKeep p calls → (f : Instance) → f.kind ≡ Fip → IsDerived p f → Typed true (Y.world p) f → FormedInstance p f → ExhaustiveBlock p.types f.body → (d : ℕ) (vs : Values) (k : ℕ) → HaveTypes p.types (parameter_types f) vs → KeepsCells f vs (body_run calls d (Some f) vs k).answer
-body_keeps p well calls sound keep f fip derived typed formed exhaustive d vs k g =
+body_keeps : (p : Program) → IsFormed p → (calls : Calls) → CallsGain p calls → CallsKeep p calls → (f : Instance) → f.kind ≡ Fip → IsDerived p f → Typed true (Y.world p) f → FormedInstance p f → (d : ℕ) (vs : Values) (k : ℕ) → HaveTypes p.types (parameter_types f) vs → KeepsCells f vs (body_run calls d (Some f) vs k).answer
+body_keeps p well calls gain keep f fip derived typed formed d vs k g =
     keeps_where f vs (body_run calls d (Some f) vs k).answer (λ rs left e n.
     let slot : Parameters true f.params f.binders = typed.2 in
     let has = parameters_tracked p f vs formed slot g in
@@ -87,25 +87,25 @@ body_keeps p well calls sound keep f fip derived typed formed exhaustive d vs k 
     let scalars = entering_parameters w 0 no_variables f.params f.binders in
     let held = held_all (is_scalar p.types) 0 f.binders vs nothing_held in
     let own = owned_parameters w 0 f.params f.binders in
-    let counts = block_counts p well calls sound keep (frame_words f) names scalars (parameter_entries f.params f.binders) held true f.body f.results true d (bind_binders nothing_bound f.binders vs) k formed.body typed.3 exhaustive has rs left e in
+    let counts = block_counts p well calls gain keep (frame_words f) names scalars (parameter_entries f.params f.binders) held true f.body f.results true d (bind_binders nothing_bound f.binders vs) k formed.body typed.3 has rs left e in
     let law = function_law (borrowed_parameters w 0 f.params f.binders) own f.credits (body_term w f) held (λ j. cells_of_all j rs) (fip_derived p f Fip fip derived) (owned_once p.types w refl 0 f.params f.binders) counts n in
     let whole = owned_total p.types w refl 0 f.params f.binders vs nothing_held n formed.binders slot g in
     omega arith)
 
-calls_keep : (p : Program) → IsWellTyped p → AreFipDerived p p.instances → (m : ℕ) → CallsKeep p (calls_of p m)
-calls_keep p well derived zero d g vs k f e fip h = tt
-calls_keep p well derived (suc m) d g vs k f e fip h =
+calls_keep : (p : Program) → IsFormed p → IsFilled p → AreFipDerived p p.instances → (m : ℕ) → CallsKeep p (calls_of p m)
+calls_keep p well typed derived zero d g vs k f e fip h = tt
+calls_keep p well typed derived (suc m) d g vs k f e fip h =
     subst (λ o. KeepsCells f vs (body_run (calls_of p m) d o vs k).answer) (sym e)
-    (body_keeps p well.formed (calls_of p m) (calls_sound p well m) (calls_keep p well derived m) f fip (derived_at p p.instances g f derived e fip) (typed_at (Y.world p) p.instances g f well.typed e) (formed_at p p.instances g f well.formed.bodies e) (exhaustive_at p.types p.instances g f well.exhaustive e) d vs k h)
+    (body_keeps p well (calls_of p m) (calls_gained p well typed m) (calls_keep p well typed derived m) f fip (derived_at p p.instances g f derived e fip) (typed_at (Y.world p) p.instances g f typed e) (formed_at p p.instances g f well.bodies e) d vs k h)
 
 keeps_counted : (f : Instance) (vs : Values) (k : ℕ) (go : ℕ → Run) → ((left : ℕ) → KeepsCells f vs (go left).answer) → KeepsCells f vs (counted k go).answer
 keeps_counted f vs zero go h = tt
 keeps_counted f vs (suc k) go h = h k
 
 -- what a fip instance gives has the cells that it was given
-pub meaning_keeps : (p : Program) (i : ℕ) (f : Instance) (vs : Values) (n d : ℕ) → IsWellTyped p → AreFipDerived p p.instances → slice_get p.instances i ≡ Some f → f.kind ≡ Fip → HaveTypes p.types (parameter_types f) vs → KeepsCells f vs (flat_meaning p i vs n d).answer
+pub meaning_keeps : (p : Program) (i : ℕ) (f : Instance) (vs : Values) (n d : ℕ) → IsFormed p → IsFilled p → AreFipDerived p p.instances → slice_get p.instances i ≡ Some f → f.kind ≡ Fip → HaveTypes p.types (parameter_types f) vs → KeepsCells f vs (flat_meaning p i vs n d).answer
 unfolding flat_meaning
-meaning_keeps p i f vs n d well derived e fip h = keeps_counted f vs n _ (λ left. calls_keep p well derived n d i vs left f e fip h)
+meaning_keeps p i f vs n d well typed derived e fip h = keeps_counted f vs n _ (λ left. calls_keep p well typed derived n d i vs left f e fip h)
 
 -- ---- where the rules on ownership and credits are kept
 
@@ -116,6 +116,6 @@ pub fip_of : (p : Program) (ds : List Instance) → AreDerived p ds → AreFipDe
 fip_of p [] h = tt
 fip_of p (d ∷ ds) h = ((λ e. h.0 (ruled d.kind e)), fip_of p ds h.1)
 
-pub accepted_keeps : (p : Program) (i : ℕ) (f : Instance) (vs : Values) (n d : ℕ) → IsWellTyped p → AreSized p p.instances → IsAccepted p → slice_get p.instances i ≡ Some f → f.kind ≡ Fip → HaveTypes p.types (parameter_types f) vs → KeepsCells f vs (flat_meaning p i vs n d).answer
-accepted_keeps p i f vs n d well sized accepted e fip h =
-    meaning_keeps p i f vs n d well (fip_of p p.instances ((programs_agree p sized).0 accepted)) e fip h
+pub accepted_keeps : (p : Program) (i : ℕ) (f : Instance) (vs : Values) (n d : ℕ) → IsFormed p → IsFilled p → AreSized p p.instances → IsAccepted p → slice_get p.instances i ≡ Some f → f.kind ≡ Fip → HaveTypes p.types (parameter_types f) vs → KeepsCells f vs (flat_meaning p i vs n d).answer
+accepted_keeps p i f vs n d well typed sized accepted e fip h =
+    meaning_keeps p i f vs n d well typed (fip_of p p.instances ((programs_agree p sized).0 accepted)) e fip h

@@ -6,27 +6,29 @@ ghost use Rattle.fip_language.specs.Table.{HaveTypes};
 ghost use Rattle.fip_trees.specs.Tree.{Instance, Program};
 ghost use Rattle.flat_meaning.specs.Example.{lists};
 ghost use Rattle.flat_meaning.specs.Meaning.{flat_meaning};
-ghost use Rattle.type_soundness.specs.Soundness.{parameter_types, IsWellTyped};
+ghost use Rattle.type_check.specs.Typing.{IsFilled};
+ghost use Rattle.type_soundness.specs.Formed.{IsFormed};
+ghost use Rattle.type_soundness.specs.Soundness.{parameter_types};
 ghost use Rattle.own_agreement.specs.Agreement.{AreSized, IsAccepted};
 ghost use Rattle.cell_conservation.specs.Conservation.{KeepsCells, AreFipDerived};
 
-/// In a well typed program whose fip instances are derived: where a fip instance gives values, on arguments of its
+/// In a typed program whose fip instances are derived: where a fip instance gives values, on arguments of its
 /// parameters' types, these have as many cells of each size as its owned arguments and its header's credits together.
 /// So it needs no allocator, and leaves nothing behind. For who runs it where there is none.
 #[tactic(auto, using(crate::proofs::Keeping::meaning_keeps))]
 pub fn derived_instances_keep_their_cells()
     ensures law { (program : Program) (i : ℕ) (f : Instance) (arguments : Values) (calls frames : ℕ) →
-        IsWellTyped program → AreFipDerived program program.instances → slice_get program.instances i ≡ Some f →
-        f.kind ≡ Fip → HaveTypes program.types (parameter_types f) arguments →
+        IsFormed program → IsFilled program → AreFipDerived program program.instances →
+        slice_get program.instances i ≡ Some f → f.kind ≡ Fip → HaveTypes program.types (parameter_types f) arguments →
         KeepsCells f arguments (flat_meaning program i arguments calls frames).answer }
 {}
 
-/// The same of a well typed program that breaks none of the rules on ownership and on credits. For who checked it by
+/// The same of a typed program that breaks none of the rules on ownership and on credits. For who checked it by
 /// these rules.
 #[tactic(auto, using(crate::proofs::Keeping::accepted_keeps))]
 pub fn accepted_instances_keep_their_cells()
     ensures law { (program : Program) (i : ℕ) (f : Instance) (arguments : Values) (calls frames : ℕ) →
-        IsWellTyped program → AreSized program program.instances → IsAccepted program →
+        IsFormed program → IsFilled program → AreSized program program.instances → IsAccepted program →
         slice_get program.instances i ≡ Some f → f.kind ≡ Fip →
         HaveTypes program.types (parameter_types f) arguments →
         KeepsCells f arguments (flat_meaning program i arguments calls frames).answer }

@@ -77,7 +77,7 @@ pub runs_in_place : (p : Program) (ms : List Member) (i : ℕ) (f : Instance) (m
 runs_in_place p ms i f m s vs n d c e k there has typed l =
     let within = meaning_within p ms i m s vs n d (bounded p ms c) there has in
     record {
-      ends = ends_so p.types f vs (flat_meaning p i vs n d).answer (meaning_sound p i f vs n d c.typed e typed) (meaning_keeps p i f vs n d c.typed (derived p ms c) e k typed) (within.enough l);
+      ends = ends_so p.types f vs (flat_meaning p i vs n d).answer (meaning_sound p i f vs n d c.typed e typed) (meaning_keeps p i f vs n d c.typed.formed c.typed.typed (derived p ms c) e k typed) (within.enough l);
       stack = within;
     }
 

@@ -3,8 +3,8 @@
 -- parameters, binders by number, operators with their places, and clauses; where the function calls a name, it calls
 -- the instance whose number that function with its static arguments has, and where the function names a constructor, it
 -- has the constructor's number. Names, other places and types play no part.
--- For example where `up` calls `map[int, int, next]`, `map` calls `f` in its body, and `numbered` is up,
--- map[int, int, next], next: instance 0 calls 1, and instance 1 calls 2 where `map` calls `f`.
+-- For example where `up` calls `map[int, int, next]`, `map` calls `f` in its body, and `numbered` is up, next,
+-- map[int, int, next]: instance 0 calls 2, and instance 2 calls 1 where `map` calls `f`.
 use Rattle.std.specs.Prelude.{◌≡◌, ℕ, Bool, List, [], ◌∷◌, length, Option, Some, None, slice_get}
 use Rattle.fip_language.specs.declared.Place.{Place}
 use Rattle.fip_language.specs.Core as C

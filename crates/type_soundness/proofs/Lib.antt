@@ -4,3 +4,4 @@ pub mod Scopes
 pub mod WellTyped
 pub mod Covering
 pub mod Examples
+pub mod Gains

@@ -16,6 +16,14 @@ IsSoundAnswer tb ts Out = Unit {0}
 IsSoundAnswer tb ts Deep = Unit {0}
 IsSoundAnswer tb ts Stuck = ⊥
 
+-- the same of what it gives alone
+abbrev pub IsTypedAnswer : Table → List ℕ → Answer → Type 0
+IsTypedAnswer tb ts (Gives results left) = HaveTypes tb ts results
+IsTypedAnswer tb ts (Trap kind line col) = Unit {0}
+IsTypedAnswer tb ts Out = Unit {0}
+IsTypedAnswer tb ts Deep = Unit {0}
+IsTypedAnswer tb ts Stuck = Unit {0}
+
 -- the types of the parameters
 abbrev pub parameter_types : Instance → List ℕ
 parameter_types d = map type_of d.params

@@ -13,7 +13,7 @@ ghost use Rattle.flat_meaning.specs.Meaning.{flat_meaning};
 ghost use Rattle.flat_meaning.specs.Example.{lists};
 ghost use Rattle.type_soundness.specs.Formed.{IsFormed};
 ghost use Rattle.type_soundness.specs.Exhaustive.{AreExhaustive};
-ghost use Rattle.type_soundness.specs.Soundness.{IsSoundAnswer, parameter_types, IsWellTyped};
+ghost use Rattle.type_soundness.specs.Soundness.{IsSoundAnswer, IsTypedAnswer, parameter_types, IsWellTyped};
 
 /// A program with its types filled in means what it meant before. For who types a program and then runs it.
 #[tactic(auto, using(crate::proofs::FilledSlots::filled_means))]
@@ -30,6 +30,16 @@ pub fn well_typed_programs_do_not_get_stuck()
         IsWellTyped program → slice_get program.instances i ≡ Some f →
         HaveTypes program.types (parameter_types f) arguments →
         IsSoundAnswer program.types f.results (flat_meaning program i arguments calls frames).answer }
+{}
+
+/// What an instance of a typed program gives, on values of its parameters' types, is of its results' types, whatever
+/// its matches cover. For who reads a value.
+#[tactic(auto, using(crate::proofs::Gains::meaning_gained))]
+pub fn typed_programs_give_typed_values()
+    ensures law { (program : Program) (i : ℕ) (f : Instance) (arguments : Values) (calls frames : ℕ) →
+        IsFormed program → IsFilled program → slice_get program.instances i ≡ Some f →
+        HaveTypes program.types (parameter_types f) arguments →
+        IsTypedAnswer program.types f.results (flat_meaning program i arguments calls frames).answer }
 {}
 
 /// Where all matches are covered, each has a clause for each value of its scrutinee's type. For who evaluates a match.

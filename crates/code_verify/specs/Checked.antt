@@ -1,9 +1,41 @@
 -- What callers see of a code that was verified: the code, and for each function what it needs of the stack, where it is
--- fip.
-use Rattle.std.specs.Prelude.{List, Option}
+-- fip; and which tree an instruction releases.
+use Rattle.std.specs.Prelude.{◌≡◌, ℕ, true, List, Option, Some, None, slice_get}
 use Rattle.fip_base.specs.declared.plain.Stack.{Stack}
 use Rattle.cell_code.specs.declared.code.Code.{Code}
+use Rattle.sound_code.specs.Codes.{PlainCode, PlainFunction, function_at}
+use Rattle.sound_code.specs.Headers.{is_formed}
+use Rattle.sound_code.specs.StackNumbers.{HasStack}
+use Rattle.cell_code.specs.declared.code.Instr.TheVariants as I
+use Rattle.cell_code.specs.declared.kind.Kind.{Kind}
+use Rattle.cell_code.specs.declared.kind.Kind.TheVariants.{Owned}
+use Rattle.sound_code.specs.Kinds.{at}
+use Rattle.sound_code.specs.Flow.{IsReachedAt}
 
 pub record Checked : Type 0 where
   pub code : Code
   pub stacks : List (Option Stack)
+
+-- Instruction i is reached, and releases a tree of type t.
+pub record ReachedDrop (c : PlainCode) (f : PlainFunction) (i t : ℕ) : Type 0 where
+  pub kinds : List Kind
+  pub register : ℕ
+  pub set : List ℕ
+  pub reached : IsReachedAt c f i kinds (I.Drop register)
+  pub owned : at kinds register ≡ Owned t set
+
+-- Instruction i of function n is a Drop that is reached, and releases a tree of type t.
+abbrev pub ReleasesAt : PlainCode → ℕ → ℕ → ℕ → Type 0
+ReleasesAt c n i t = (f : PlainFunction) × (function_at c n ≡ Some f) × (is_formed c f ≡ true) × ReachedDrop c f i t
+
+abbrev pub stack_or_none : Option (Option Stack) → Option Stack
+stack_or_none None = None
+stack_or_none (Some o) = o
+
+-- the stack number of function n; none where there is none
+abbrev pub stack_at : List (Option Stack) → ℕ → Option Stack
+stack_at ss n = stack_or_none (slice_get ss n)
+
+-- Each function's stack number is the written one.
+abbrev pub HaveStacks : PlainCode → List (Option Stack) → Type 0
+HaveStacks c ss = (n : ℕ) → HasStack c n (stack_at ss n)

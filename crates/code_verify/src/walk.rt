@@ -1,12 +1,26 @@
 // A walk over a function's instructions.
-use crate::labels::label_of;
-use crate::least::{Least, Violation};
-use crate::range::is_in_range;
-use crate::rule::SoundRule;
+ghost use Rattle.std.specs.Prelude.{◌≡◌, ◌<◌, ◌++◌, [], slice_get, length, None, Some, IfOk, OnOk, true};
+ghost use Rattle.sound_code.specs.Codes.{plain, plain_function, label_at};
+ghost use Rattle.sound_code.specs.Kinds.{at};
+ghost use Rattle.sound_code.specs.Ranges.{in_range};
+ghost use Rattle.sound_code.specs.Headers as headers;
+ghost use Rattle.sound_code.specs.Handing.{kept_if};
+ghost use Rattle.sound_code.specs.declared.rule.SoundRule.TheVariants.{S1};
+ghost use Rattle.code_rows.specs.Noting.{noted_unless};
+ghost use Rattle.code_rows.specs.Placing.{code_of, function_of};
+ghost use Rattle.code_verify.specs.Steps.{last_kept, fip_kept, asked, GoesAfter, here, Took};
+ghost use Rattle.code_verify.specs.Steps.{calls_of_instr, waiting_of_instr, drops_of_instr};
+ghost use Rattle.code_verify.specs.Steps.{call_if, waiting_if, drop_if};
+ghost use Rattle.code_verify.specs.Finding.{IsFound};
+
 use call_groups::Call;
 use cell_code::{Code, Function, Instr};
-use fip_base::plain::{FunKind, NoMemory};
-use register_kinds::{Known, Registers, Seen, Set, Table, Tested};
+use code_rows::{
+    Labels, Least, Place, arrive, is_end, is_fip, is_in_range, note_unless, releases, row,
+};
+use fip_base::plain::NoMemory;
+use register_kinds::{Registers, Table};
+use sound_code::SoundRule;
 use std::alloc::Global;
 
 /// A call outside tail position: its instruction, and the function that is called.
@@ -23,229 +37,258 @@ pub struct DropType {
     pub ty: u32,
 }
 
-/// What a function was found to do.
+/// What a function was found to do: the least violation but S8; the calls that can be reached, and those outside tail
+/// position; for each Drop that can be reached its type, in the order of the instructions.
 #[derive(Drop)]
 pub struct Found {
-    pub violation: Option<Violation>,
-    /// The calls that can be reached.
+    pub least: Least,
     pub calls: Vec<Call>,
-    /// Those outside tail position.
     pub waiting: Vec<Waiting>,
-    /// For each Drop that can be reached its type, in the order of the instructions.
     pub drops: Vec<DropType>,
 }
 
-/// The walk: what is known of the registers, and what was found so far.
-#[derive(Drop)]
-pub struct Walk<'a> {
-    pub code: &'a Code,
-    pub table: &'a Table<'a>,
-    pub function: &'a Function,
-    pub number: usize,
-    pub registers: Registers<'a>,
-    // For each label when what is known was last seen to fit it.
-    seen: Vec<Option<Seen>>,
-    least: Least,
-    calls: Vec<Call>,
-    waiting: Vec<Waiting>,
-    drops: Vec<DropType>,
+/// Walks over the instructions of a function that keeps S9. NoMemory: no memory is left.
+pub fn walk<'a>(
+    alloc: Global,
+    code: &'a Code,
+    table: &'a Table<'a>,
+    function: &'a Function,
+    number: usize,
+) -> Result<Found, NoMemory>
+    requires types { table.now ≡ code.now.types }
+    requires formed { headers.is_formed (plain code.now) (plain_function function.now) ≡ true }
+    ensures found { IfOk result (λ r. IsFound (plain code.now) number (plain_function function.now)
+        (length function.now.instrs.items) r) }
+{
+    let labels = Labels::of(alloc, function)?;
+    walk_over(alloc, code, table, function, &labels, number)
 }
 
-impl<'a> Walk<'a> {
-    /// Before the first instruction of a function that doesn't break S9. NoMemory: no memory is left.
-    pub fn new(
-        alloc: Global,
-        code: &'a Code,
-        table: &'a Table<'a>,
-        function: &'a Function,
-        number: usize,
-    ) -> Result<Walk<'a>, NoMemory> {
-        let mut walk = Walk {
-            code,
+// The same with its label maps by instruction.
+fn walk_over<'a>(
+    alloc: Global,
+    code: &'a Code,
+    table: &'a Table<'a>,
+    function: &'a Function,
+    labels: &'a Labels<'a>,
+    number: usize,
+) -> Result<Found, NoMemory>
+    requires types { table.now ≡ code.now.types }
+    requires formed { headers.is_formed (plain code.now) (plain_function function.now) ≡ true }
+    requires labels { labels.now ≡ (plain_function function.now).labels }
+    ensures found { IfOk result (λ r. IsFound (plain code.now) number (plain_function function.now)
+        (length function.now.instrs.items) r) }
+{
+    let mut registers = Registers::enter(alloc, table, function)?;
+    let mut found = nothing(alloc);
+    let mut known = true;
+    for at in 0..function.instrs.len() {
+        let place = Place {
             table,
+            functions: code.functions.as_slice(),
             function,
+            labels,
             number,
-            registers: Registers::new(alloc, function.registers)?,
-            seen: Vec::new(alloc),
-            least: Least::new(),
-            calls: Vec::new(alloc),
-            waiting: Vec::new(alloc),
-            drops: Vec::new(alloc),
-        };
-        walk.seen.resize(function.labels.len(), None)?;
-        walk.start()?;
-        Ok(walk)
-    }
-
-    // A frame starts with the arguments and then the header's credits.
-    fn start(&mut self) -> Result<(), NoMemory> {
-        let mut register = 0u16;
-        for param in self.function.params.as_slice() {
-            let known = if self.table.is_scalar(param.ty) {
-                Known::Scalar { ty: param.ty }
-            } else if param.lent {
-                lent_below(param.ty)
-            } else {
-                Known::Owned {
-                    ty: param.ty,
-                    set: Set::All,
-                }
-            };
-            self.registers.write(register, known)?;
-            register = register.saturating_add(1);
-        }
-        for size in &self.function.credits {
-            let size = *size as usize;
-            self.registers.write(register, Known::Credit { size })?;
-            register = register.saturating_add(1);
-        }
-        Ok(())
-    }
-
-    /// Walks over the instructions.
-    pub fn run(mut self) -> Result<Found, NoMemory> {
-        let function = self.function;
-        let mut known = true;
-        let mut next = 0usize;
-        for (at, instr) in function.instrs.iter().enumerate() {
-            if let Some(label) = function.labels.get(next) {
-                if label.at as usize == at {
-                    if known {
-                        self.arrive(at.saturating_sub(1), next, None);
-                    }
-                    self.registers.adopt(&label.kinds)?;
-                    known = true;
-                    next = next.saturating_add(1);
-                }
-            }
-            known = self.step(at, instr, known)?;
-        }
-        Ok(Found {
-            violation: self.least.first(),
-            calls: self.calls,
-            waiting: self.waiting,
-            drops: self.drops,
-        })
-    }
-
-    // One instruction, where the kinds before it are known or not. Whether those behind it are.
-    fn step(&mut self, at: usize, instr: &'a Instr, known: bool) -> Result<bool, NoMemory> {
-        let in_range = is_in_range(self.code, self.table, self.function, at, instr);
-        self.note_unless(in_range, at, SoundRule::S1);
-        if !known {
-            return Ok(false);
-        }
-        let is_last = self.function.instrs.len() <= at.saturating_add(1);
-        self.note_unless(!is_last || ends(instr), at, SoundRule::S4);
-        self.keep_call(at, instr)?;
-        if in_range {
-            self.row(at, instr)
-        } else {
-            Ok(false)
-        }
-    }
-
-    // Keeps a call that can be reached, where it names a function.
-    fn keep_call(&mut self, at: usize, instr: &Instr) -> Result<(), NoMemory> {
-        match instr {
-            Instr::Call { function, .. } => self.keep(at, *function as usize, true),
-            Instr::Tail { function, .. } => self.keep(at, *function as usize, false),
-            _ => Ok(()),
-        }
-    }
-
-    fn keep(&mut self, at: usize, callee: usize, waits: bool) -> Result<(), NoMemory> {
-        if callee < self.code.functions.len() {
-            self.calls.push(Call { callee, waits })?;
-            if waits {
-                self.waiting.push(Waiting { at, callee })?;
-            }
-        }
-        Ok(())
-    }
-
-    /// Keeps the type of a Drop.
-    pub fn keep_drop(&mut self, at: usize, ty: u32) -> Result<(), NoMemory> {
-        self.drops.push(DropType { at, ty })?;
-        Ok(())
-    }
-
-    /// Notes that an instruction breaks a rule, unless it is kept.
-    pub fn note_unless(&mut self, kept: bool, at: usize, rule: SoundRule) {
-        if !kept {
-            self.least.note(Violation {
-                function: self.number,
-                at,
-                rule,
-            });
-        }
-    }
-
-    /// From an instruction the run goes on at a target.
-    pub fn go_to(&mut self, at: usize, target: u32, tested: Option<Tested>) {
-        if let Some(label) = label_of(&self.function.labels, target) {
-            self.arrive(at, label, tested);
-        }
-    }
-
-    // From an instruction the run arrives at the label of a number. Where a violation is known that comes before, this
-    // one needn't be looked for.
-    fn arrive(&mut self, at: usize, number: usize, tested: Option<Tested>) {
-        let violation = Violation {
-            function: self.number,
             at,
-            rule: SoundRule::S5,
         };
-        if self.least.is_before(violation) {
-            return;
-        }
-        if let (Some(label), Some(seen)) = (
-            self.function.labels.get(number),
-            self.seen.get(number),
-        ) {
-            if self.registers.fit(self.table, &label.kinds, tested, *seen) {
-                self.see(number);
-            } else {
-                self.least.note(violation);
-            }
-        }
+        known = enter(&place, &mut registers, known);
+        known = step(
+            &place,
+            &mut registers,
+            instr_at(function, at),
+            known,
+            &mut found,
+        )?;
     }
+    Ok(found)
+}
 
-    // What is known fits a label now.
-    fn see(&mut self, number: usize) {
-        if number < self.seen.len() {
-            self.seen[number] = Some(self.registers.present());
-        }
-    }
+fn instr_at(function: &Function, at: usize) -> &Instr
+    requires within { at < length function.now.instrs.items }
+    ensures is { slice_get function.now.instrs.items at ≡ Some result.now }
+{
+    &function.instrs[at]
+}
 
-    /// Whether the function is fip.
-    pub fn is_fip(&self) -> bool {
-        is_fip(self.function)
+// Nothing was found.
+fn nothing(alloc: Global) -> Found
+    ensures least { result.least.first ≡ None }
+    ensures calls { result.calls.items ≡ [] }
+    ensures waiting { result.waiting.items ≡ [] }
+    ensures drops { result.drops.items ≡ [] }
+{
+    Found {
+        least: Least::new(),
+        calls: Vec::new(alloc),
+        waiting: Vec::new(alloc),
+        drops: Vec::new(alloc),
     }
 }
 
-/// Whether a function is fip.
-pub fn is_fip(function: &Function) -> bool {
-    function.kind == FunKind::Fip
-}
-
-// A tree of a type that a frame below owns.
-fn lent_below<'a>(ty: u32) -> Known<'a> {
-    Known::Lent {
-        ty,
-        set: Set::All,
-        tree: None,
-        from: None,
-        loose: true,
+// At an instruction with a label map that holds, whatever comes. Whether anything is known.
+fn enter<'a>(place: &Place<'a>, registers: &mut Registers<'a>, known: bool) -> bool
+    requires maps { registers.old.maps ≡ place.now.labels.now }
+    ensures here { kept_if result registers.new.kinds
+        ≡ here (label_at place.now.labels.now place.now.at) (kept_if known registers.old.kinds) }
+    ensures maps { registers.new.maps ≡ registers.old.maps }
+{
+    match place.labels.find(place.at) {
+        Some(label) => {
+            registers.adopt(label);
+            true
+        }
+        None => known,
     }
 }
 
-// Whether no instruction follows behind it.
-fn ends(instr: &Instr) -> bool {
+// One instruction, where the kinds before it are known or not. Whether those behind it are.
+fn step<'a>(
+    place: &Place<'a>,
+    registers: &mut Registers<'a>,
+    instr: &'a Instr,
+    known: bool,
+    found: &mut Found,
+) -> Result<bool, NoMemory>
+    requires maps { registers.old.maps ≡ place.now.labels.now }
+    requires within { place.now.at < length place.now.function.now.instrs.items }
+    ensures goes { IfOk result (λ goes. GoesAfter (code_of place.now) (function_of place.now) place.now.at
+        (kept_if known registers.old.kinds) instr.now goes registers.new.kinds) }
+    ensures took { IfOk result (λ goes. Took (code_of place.now) place.now.number (function_of place.now) place.now.at
+        (kept_if known registers.old.kinds) instr.now goes registers.new.kinds found.old found.new) }
+    ensures maps { OnOk result (registers.new.maps ≡ registers.old.maps) }
+{
+    if !known {
+        note_range(place, instr, &mut found.least);
+        return Ok(false);
+    }
+    keep_call(place, instr, found)?;
+    keep_drop(place, registers, instr, found)?;
+    Ok(ask(place, registers, instr, &mut found.least))
+}
+
+// An instruction that is never reached is asked S1 alone.
+fn note_range(place: &Place, instr: &Instr, least: &mut Least)
+    ensures { least.new.first ≡ noted_unless place.now.number place.now.at
+        (in_range (code_of place.now) (function_of place.now) place.now.at instr.now) S1 least.old.first }
+{
+    let in_range = is_in_range(place, instr);
+    note_unless(place, in_range, SoundRule::S1, least);
+}
+
+// Asks all rules but S8 of an instruction that is reached. Whether the next one is, from it.
+fn ask<'a>(
+    place: &Place<'a>,
+    registers: &mut Registers<'a>,
+    instr: &'a Instr,
+    least: &mut Least,
+) -> bool
+    requires maps { registers.old.maps ≡ place.now.labels.now }
+    requires within { place.now.at < length place.now.function.now.instrs.items }
+    ensures noted { least.new.first ≡ asked (code_of place.now) place.now.number (function_of place.now) place.now.at
+        registers.old.kinds instr.now result registers.new.kinds least.old.first }
+    ensures goes { GoesAfter (code_of place.now) (function_of place.now) place.now.at (Some registers.old.kinds)
+        instr.now result registers.new.kinds }
+    ensures maps { registers.new.maps ≡ registers.old.maps }
+{
+    let in_range = is_in_range(place, instr);
+    note_unless(place, in_range, SoundRule::S1, least);
+    note_unless(place, ends_last(place, instr), SoundRule::S4, least);
+    note_unless(place, keeps_fip(place, instr), SoundRule::S7, least);
+    if !in_range {
+        return false;
+    }
+    let goes_on = row(place, registers, instr, least);
+    if goes_on {
+        arrive(place, registers, place.at + 1, least);
+    }
+    goes_on
+}
+
+// Whether an instruction isn't the last, or ends the function.
+fn ends_last(place: &Place, instr: &Instr) -> bool
+    requires within { place.now.at < length place.now.function.now.instrs.items }
+    ensures { result ≡ last_kept (function_of place.now) place.now.at instr.now }
+{
+    place.at + 1 != place.function.instrs.len() || is_end(instr)
+}
+
+// Whether a function isn't fip, or an instruction of it releases no cell.
+fn keeps_fip(place: &Place, instr: &Instr) -> bool
+    ensures { result ≡ fip_kept (code_of place.now) (function_of place.now) instr.now }
+{
+    !(is_fip(place.function) && releases(place, instr))
+}
+
+// Keeps a call, where it names a function.
+fn keep_call(place: &Place, instr: &Instr, found: &mut Found) -> Result<(), NoMemory>
+    ensures calls { OnOk result (found.new.calls.items
+        ≡ found.old.calls.items ++ calls_of_instr (code_of place.now) instr.now) }
+    ensures waiting { OnOk result (found.new.waiting.items
+        ≡ found.old.waiting.items ++ waiting_of_instr (code_of place.now) place.now.at instr.now) }
+    ensures least { OnOk result (found.new.least.first ≡ found.old.least.first) }
+    ensures drops { OnOk result (found.new.drops.items ≡ found.old.drops.items) }
+{
     match instr {
-        Instr::Tail { .. } => true,
-        Instr::Ret { .. } => true,
-        Instr::Jump { .. } => true,
-        _ => false,
+        Instr::Call { function, .. } => keep(place, *function as usize, true, found),
+        Instr::Tail { function, .. } => keep(place, *function as usize, false, found),
+        _ => Ok(()),
     }
+}
+
+fn keep(place: &Place, callee: usize, waits: bool, found: &mut Found) -> Result<(), NoMemory>
+    ensures calls { OnOk result (found.new.calls.items
+        ≡ found.old.calls.items ++ call_if (code_of place.now) callee waits) }
+    ensures waiting { OnOk result (found.new.waiting.items
+        ≡ found.old.waiting.items ++ waiting_if (code_of place.now) place.now.at callee waits) }
+    ensures least { OnOk result (found.new.least.first ≡ found.old.least.first) }
+    ensures drops { OnOk result (found.new.drops.items ≡ found.old.drops.items) }
+{
+    if callee >= place.functions.len() {
+        return Ok(());
+    }
+    found.calls.push(Call { callee, waits })?;
+    if waits {
+        found.waiting.push(Waiting {
+            at: place.at,
+            callee,
+        })?;
+    }
+    Ok(())
+}
+
+// Keeps the type of a Drop.
+fn keep_drop(
+    place: &Place,
+    registers: &Registers,
+    instr: &Instr,
+    found: &mut Found,
+) -> Result<(), NoMemory>
+    ensures calls { OnOk result (found.new.calls.items ≡ found.old.calls.items) }
+    ensures waiting { OnOk result (found.new.waiting.items ≡ found.old.waiting.items) }
+    ensures least { OnOk result (found.new.least.first ≡ found.old.least.first) }
+    ensures drops { OnOk result (found.new.drops.items
+        ≡ found.old.drops.items ++ drops_of_instr registers.now.kinds place.now.at instr.now) }
+{
+    match instr {
+        Instr::Drop { register } => keep_type(place, registers, *register, found),
+        _ => Ok(()),
+    }
+}
+
+fn keep_type(
+    place: &Place,
+    registers: &Registers,
+    register: u16,
+    found: &mut Found,
+) -> Result<(), NoMemory>
+    ensures calls { OnOk result (found.new.calls.items ≡ found.old.calls.items) }
+    ensures waiting { OnOk result (found.new.waiting.items ≡ found.old.waiting.items) }
+    ensures least { OnOk result (found.new.least.first ≡ found.old.least.first) }
+    ensures drops { OnOk result (found.new.drops.items
+        ≡ found.old.drops.items ++ drop_if place.now.at (at registers.now.kinds register)) }
+{
+    if let Some(ty) = registers.owned_type(register) {
+        found.drops.push(DropType { at: place.at, ty })?;
+    }
+    Ok(())
 }

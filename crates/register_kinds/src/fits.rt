@@ -1,159 +1,213 @@
-// Whether what is known fits what a label says.
-use crate::known::Known;
-use crate::registers::Registers;
-use crate::table::Table;
+// Whether what is known fits a label map.
+ghost use Rattle.std.specs.Prelude.{◌≡◌, Some, slice_get};
+ghost use Rattle.sound_code.specs.Changes.{tested, without};
+ghost use Rattle.sound_code.specs.Codes.{LabelMap};
+ghost use Rattle.sound_code.specs.Fitting.{fits, fit_all, takes_from};
+ghost use Rattle.sound_code.specs.Kinds.{at, set_of};
+ghost use Rattle.register_kinds.specs.Arrivals.{arrive, each_fits, fits_at, lacked_at, lessened, tested_fits};
+ghost use Rattle.register_kinds.specs.Kept.{KindsRise};
+ghost use Rattle.register_kinds.specs.Rising.{Rise};
+ghost use Rattle.register_kinds.specs.Views.{kind_of, kinds_of};
+
+use crate::known::{Known, same_root};
+use crate::registers::{Registers, known_in, map_of};
 use cell_code::{From, Kind};
 
-/// When what is known was seen to fit a label: behind which changes.
-#[derive(Clone, Copy, Debug)]
-pub struct Seen {
-    labels: usize,
-    changes: usize,
-    passed: usize,
-}
-
-/// A register that was tested, and the constructor that it doesn't have at the label.
+/// A register that was tested, and a constructor that its value doesn't have.
 #[derive(Clone, Copy, Debug)]
 pub struct Tested {
-    pub register: u16,
-    pub constructor: u32,
+    register: u16,
+    constructor: u32,
 }
 
 impl<'a> Registers<'a> {
-    /// The present, as the time at which something was seen.
-    pub fn present(&self) -> Seen {
-        Seen {
-            labels: self.labels,
-            changes: self.changed.len(),
-            passed: self.passed,
+    /// Whether what is known fits the label map of a number. Where it did before, only what has changed since is looked
+    /// at.
+    pub fn fit(&mut self, label: usize) -> bool
+        ensures is { (m : LabelMap) → slice_get self.old.maps label ≡ Some m →
+            result ≡ fit_all m.kinds self.old.kinds }
+        ensures kinds { self.new.kinds ≡ self.old.kinds }
+        ensures maps { self.new.maps ≡ self.old.maps }
+    {
+        let fits = self.fits_map(label, None);
+        if fits {
+            self.log.see(label);
         }
+        fits
     }
 
-    /// Whether what is known fits what a label says. Where it did before, behind the same label, only what has changed
-    /// since is looked at.
-    pub fn fit(
-        &self,
-        table: &Table<'a>,
-        kinds: &[Kind],
-        tested: Option<Tested>,
-        seen: Option<Seen>,
-    ) -> bool {
-        match seen {
-            Some(seen) if seen.labels == self.labels => {
-                self.changes_fit(table, kinds, tested, seen.changes)
-                    && (seen.passed == self.passed || self.roots_fit(kinds))
-            }
-            _ => self.all_fit(table, kinds, tested),
-        }
-    }
-
-    fn all_fit(&self, table: &Table<'a>, kinds: &[Kind], tested: Option<Tested>) -> bool {
-        for (known, (place, kind)) in self.known.iter().zip(kinds.iter().enumerate()) {
-            if !self.fits(table, *known, kind, without_at(tested, place)) {
-                return false;
-            }
-        }
-        true
-    }
-
-    // Whether the registers fit that changed from this change on.
-    fn changes_fit(
-        &self,
-        table: &Table<'a>,
-        kinds: &[Kind],
-        tested: Option<Tested>,
-        from: usize,
-    ) -> bool {
-        let Some(changed) = self.changed.get(from..) else {
-            return self.all_fit(table, kinds, tested);
+    /// Whether what is known would fit the label map of a number if a register's tree hadn't this constructor.
+    pub fn fit_without(&mut self, label: usize, register: u16, constructor: u32) -> bool
+        ensures is { (m : LabelMap) → slice_get self.old.maps label ≡ Some m → result ≡ fit_all m.kinds
+            (tested self.old.kinds register (without constructor (set_of (at self.old.kinds register)))) }
+        ensures kinds { self.new.kinds ≡ self.old.kinds }
+        ensures maps { self.new.maps ≡ self.old.maps }
+    {
+        let tested = Tested {
+            register,
+            constructor,
         };
-        if changed.len() > self.known.len() {
-            return self.all_fit(table, kinds, tested);
+        let fits = self.fits_map(label, Some(tested));
+        if fits {
+            self.log.see_but(label, register);
         }
-        for register in changed {
-            let place = *register as usize;
-            if let Some(kind) = kinds.get(place) {
-                if !self.fits(
-                    table,
-                    self.known(*register),
-                    kind,
-                    without_at(tested, place),
-                ) {
-                    return false;
-                }
-            }
-        }
-        true
+        fits
     }
 
-    // Whether lent registers lie in the trees of the registers that the label says.
-    fn roots_fit(&self, kinds: &[Kind]) -> bool {
-        for (known, kind) in self.known.iter().zip(kinds) {
-            if let Kind::Lent { root, .. } = kind {
-                if !self.root_fits(*known, *root) {
-                    return false;
+    // Whether what is known fits a label map, where a register may have been tested.
+    fn fits_map(&self, label: usize, tested: Option<Tested>) -> bool
+        ensures is { (m : LabelMap) → slice_get self.now.maps label ≡ Some m →
+            result ≡ fit_all m.kinds (arrive tested 0 self.now.kinds) }
+    {
+        match map_of(self.labels, label) {
+            None => true,
+            Some(kinds) => match self.log.since(label) {
+                None => all_fit(&self.known, kinds, tested),
+                Some(changed) => {
+                    if !each_fits(&self.known, kinds, tested, changed) {
+                        return false;
+                    }
+                    tested_fits(&self.known, kinds, tested)
                 }
-            }
-        }
-        true
-    }
-
-    fn root_fits(&self, known: Known<'a>, root: Option<u16>) -> bool {
-        match known {
-            Known::Lent { tree, .. } => match (tree, root) {
-                (Some(tree), Some(root)) => self.owner_of(tree) == root,
-                (None, None) => true,
-                _ => false,
             },
-            _ => false,
-        }
-    }
-
-    // Whether what is known of a register fits what a label says of it; it doesn't have the constructor `without`.
-    fn fits(&self, table: &Table<'a>, known: Known<'a>, kind: &Kind, without: Option<u32>) -> bool {
-        match (kind, known) {
-            (Kind::Gone, _) => known.is_free(),
-            (Kind::Scalar { ty }, _) => known.is_scalar_of(*ty),
-            (Kind::Credit { size }, _) => known.is_credit_of(*size as usize),
-            (Kind::Owned { ty, constructors }, Known::Owned { ty: own, set }) => {
-                own == *ty && set.is_within(table.count(own), without, constructors.as_slice())
-            }
-            (
-                Kind::Lent {
-                    ty,
-                    constructors,
-                    root,
-                    from,
-                },
-                Known::Lent {
-                    ty: own,
-                    set,
-                    from: known_from,
-                    ..
-                },
-            ) => {
-                own == *ty
-                    && takes_from(*from, known_from)
-                    && self.root_fits(known, *root)
-                    && set.is_within(table.count(own), without, constructors.as_slice())
-            }
-            _ => false,
         }
     }
 }
 
-// The constructor that the register at a place doesn't have at a label.
-fn without_at(tested: Option<Tested>, place: usize) -> Option<u32> {
+// Whether all registers fit.
+#[tactic(auto, using(crate::proofs::Short::drop_none))]
+fn all_fit(known: &[Known], kinds: &[Kind], tested: Option<Tested>) -> bool
+    requires known_rise { KindsRise (kinds_of known.now) }
+    requires kinds_rise { KindsRise kinds.now }
+    ensures is { result ≡ fit_all kinds.now (arrive tested 0 (kinds_of known.now)) }
+{
+    let mut place = 0usize;
+    for kind in kinds {
+        match known.get(place) {
+            None => return false,
+            Some(one) => {
+                if !fits(*one, kind, lacked_at(tested, place)) {
+                    return false;
+                }
+            }
+        }
+        place += 1;
+    }
+    known.get(place).is_none()
+}
+
+// Whether these registers fit.
+fn each_fits(known: &[Known], kinds: &[Kind], tested: Option<Tested>, changed: &[u16]) -> bool
+    requires known_rise { KindsRise (kinds_of known.now) }
+    requires kinds_rise { KindsRise kinds.now }
+    ensures is { result ≡ each_fits tested kinds.now (kinds_of known.now) changed.now }
+{
+    for register in changed {
+        if !fits_at(known, kinds, tested, *register) {
+            return false;
+        }
+    }
+    true
+}
+
+// Whether the register fits that was tested.
+fn tested_fits(known: &[Known], kinds: &[Kind], tested: Option<Tested>) -> bool
+    requires known_rise { KindsRise (kinds_of known.now) }
+    requires kinds_rise { KindsRise kinds.now }
+    ensures is { result ≡ tested_fits tested kinds.now (kinds_of known.now) }
+{
     match tested {
-        Some(tested) if tested.register as usize == place => Some(tested.constructor),
-        _ => None,
+        None => true,
+        Some(test) => fits_at(known, kinds, Some(test), test.register),
+    }
+}
+
+// Whether one register fits.
+fn fits_at(known: &[Known], kinds: &[Kind], tested: Option<Tested>, register: u16) -> bool
+    requires known_rise { KindsRise (kinds_of known.now) }
+    requires kinds_rise { KindsRise kinds.now }
+    ensures is { result ≡ fits_at tested kinds.now (kinds_of known.now) register }
+{
+    match kinds.get(register as usize) {
+        None => known_in(known, register).is_free(),
+        Some(kind) => fits(
+            known_in(known, register),
+            kind,
+            lacked_at(tested, register as usize),
+        ),
+    }
+}
+
+// The constructor that a register was tested not to have.
+fn lacked_at(tested: Option<Tested>, place: usize) -> Option<u32>
+    ensures is { result ≡ lacked_at tested place }
+{
+    match tested {
+        None => None,
+        Some(test) => {
+            if place == test.register as usize {
+                Some(test.constructor)
+            } else {
+                None
+            }
+        }
+    }
+}
+
+// Whether what is known of a register, whose tree doesn't have the constructor `lacked`, fits what a label says of it.
+#[tactic(auto, using(crate::proofs::Less::free, crate::proofs::Less::scalar, crate::proofs::Less::credit))]
+fn fits(known: Known, kind: &Kind, lacked: Option<u32>) -> bool
+    requires known_rises { Rise (set_of (kind_of known)) }
+    requires kind_rises { Rise (set_of kind.now) }
+    ensures is { result ≡ fits kind.now (lessened lacked (kind_of known.entry)) }
+{
+    match kind {
+        Kind::Gone => known.is_free(),
+        Kind::Scalar { ty } => known.is_scalar_of(*ty),
+        Kind::Credit { size } => known.is_credit_of(*size as usize),
+        Kind::Owned { ty, constructors } => match known {
+            Known::Owned { ty: own, set } => {
+                own == *ty && set.is_within(lacked, constructors.as_slice())
+            }
+            Known::Gone => false,
+            Known::Scalar { .. } => false,
+            Known::Lent { .. } => false,
+            Known::Credit { .. } => false,
+        },
+        Kind::Lent {
+            ty,
+            constructors,
+            root,
+            from,
+        } => match known {
+            Known::Lent {
+                ty: own,
+                set,
+                root: known_root,
+                from: known_from,
+            } => {
+                own == *ty
+                    && set.is_within(lacked, constructors.as_slice())
+                    && same_root(known_root, *root)
+                    && takes_from(*from, known_from)
+            }
+            Known::Gone => false,
+            Known::Scalar { .. } => false,
+            Known::Owned { .. } => false,
+            Known::Credit { .. } => false,
+        },
     }
 }
 
 // Whether a label's from takes what is known: the same one, or, where it has none, any.
-fn takes_from(from: Option<From>, known: Option<From>) -> bool {
+fn takes_from(from: Option<From>, known: Option<From>) -> bool
+    ensures is { result ≡ takes_from from known }
+{
     match from {
         None => true,
-        Some(_) => from == known,
+        Some(from) => match known {
+            None => false,
+            Some(known) => from.register == known.register && from.field == known.field,
+        },
     }
 }

@@ -1,429 +1,360 @@
 // The registers of a function.
+ghost use Rattle.std.specs.Prelude.{◌≡◌, ◌<◌, ◌++◌, ℕ, true, false, set, length, Some, None, List, map};
+ghost use Rattle.std.specs.Prelude.{IfOk, IfSome, OnOk};
+ghost use Rattle.std.specs.Prelude.{slice_get, slice_index};
+ghost use Rattle.cell_code.specs.declared.kind.From.{From};
+ghost use Rattle.cell_code.specs.declared.kind.Kind.TheVariants.{Credit};
+ghost use Rattle.sound_code.specs.Codes.{LabelMap, plain_function, plain_label};
+ghost use Rattle.sound_code.specs.Entry.{entry, gones, param_kind};
+ghost use Rattle.sound_code.specs.Headers.{is_formed};
+ghost use Rattle.sound_code.specs.Kinds.{at, has, from_of, is_lent_of, set_of};
+ghost use Rattle.register_kinds.specs.Kept.{KindsRise, Marked, is_lent, names};
+ghost use Rattle.register_kinds.specs.Rising.{Rise};
+ghost use Rattle.register_kinds.specs.State.{of_types};
+ghost use Rattle.register_kinds.specs.Takes.{kept_at};
+ghost use Rattle.register_kinds.specs.Views.{kind_of, kinds_of};
+
 use crate::known::Known;
+use crate::lents::Lents;
+use crate::log::Log;
+use crate::marks::Marks;
 use crate::set::Set;
 use crate::table::Table;
-use cell_code::{From, Kind};
-use fip_base::plain::NoMemory;
+use cell_code::{Function, Kind, Label};
+use fip_base::plain::{NoMemory, Param};
 use std::alloc::Global;
-use std::mem;
+use std::marker::Model;
 
-/// What is known of each register of a function.
-///
-/// Each register has a tree's number of its own, which is that of its tree while it owns one; a register that becomes
-/// the owner of another's tree changes numbers with it. A lent register *hangs* on the register whose field its word is
-/// known to be, and where no chain of such froms leads to the owner of its tree, on that owner. So what ends with an
-/// owner hangs on it, directly or not.
+/// What is known of each register of a function, which also knows the function's label maps.
 #[derive(Drop)]
 pub struct Registers<'a> {
-    pub(crate) alloc: Global,
-    count: u16,
     pub(crate) known: Vec<Known<'a>>,
-    // For each register those that hang on it, and maybe some that did.
-    hanging: Vec<Vec<u16>>,
-    // For each register the number of its tree, and for each of these numbers the register.
-    tree_of: Vec<u16>,
-    owner_of: Vec<u16>,
-    // The registers that changed since the last label, in the order of the changes.
-    pub(crate) changed: Vec<u16>,
-    // How often a tree passed from one register to another.
-    pub(crate) passed: usize,
-    // How many labels were met.
-    pub(crate) labels: usize,
+    pub(crate) labels: &'a [Label],
+    pub(crate) lents: Lents,
+    pub(crate) named: Marks,
+    pub(crate) owners: Marks,
+    pub(crate) log: Log,
+}
+
+impl<'a> Model for Registers<'a> {
+    ghost use Rattle.std.specs.Prelude.{map};
+    ghost use Rattle.sound_code.specs.Codes.{plain_label};
+    ghost use Rattle.register_kinds.specs.Kept.{IsKept};
+    ghost use Rattle.register_kinds.specs.State.{RegisterState};
+    ghost use Rattle.register_kinds.specs.Views.{kinds_of};
+
+    ghost Value = { RegisterState };
+
+    ghost view = { λ v. record {
+      kinds = kinds_of v.known.items;
+      maps = map plain_label v.labels.now;
+      lent = v.lents.held;
+      reached = v.lents.reached;
+    } };
+
+    ghost invariant = { λ v. IsKept (kinds_of v.known.items) (map plain_label v.labels.now) v.lents v.named v.owners
+        v.log };
 }
 
 impl<'a> Registers<'a> {
-    /// So many registers of which nothing is known.
-    pub fn new(alloc: Global, count: u16) -> Result<Registers<'a>, NoMemory> {
-        let mut registers = Registers {
-            alloc,
-            count,
-            known: Vec::new(alloc),
-            hanging: Vec::new(alloc),
-            tree_of: Vec::new(alloc),
-            owner_of: Vec::new(alloc),
-            changed: Vec::new(alloc),
-            passed: 0,
-            labels: 0,
-        };
-        for register in 0..count {
-            registers.known.push(Known::Gone)?;
-            registers.hanging.push(Vec::new(alloc))?;
-            registers.tree_of.push(register)?;
-            registers.owner_of.push(register)?;
-        }
-        Ok(registers)
+    /// The registers where a function that doesn't break S9 is entered. NoMemory: no memory is left.
+    pub fn enter(
+        alloc: Global,
+        table: &Table<'a>,
+        function: &'a Function,
+    ) -> Result<Registers<'a>, NoMemory>
+        requires formed { is_formed (of_types table.now) (plain_function function.now) ≡ true }
+        ensures kinds { IfOk result (λ s. s.kinds ≡ entry (of_types table.now) (plain_function function.now)) }
+        ensures maps { IfOk result (λ s. s.maps ≡ (plain_function function.now).labels) }
+    {
+        let known = entry_kinds(alloc, table, function)?;
+        let mut lents = Lents::new(alloc, function.registers)?;
+        list_below(&mut lents, function.params.as_slice().len());
+        Ok(Registers {
+            known,
+            labels: &function.labels,
+            lents,
+            named: Marks::new(alloc, function.registers as usize)?,
+            owners: Marks::new(alloc, function.registers as usize)?,
+            log: Log::new(alloc, function.registers as usize, function.labels.len())?,
+        })
     }
 
-    /// What is known of a register.
-    pub fn known(&self, register: u16) -> Known<'a> {
-        match self.known.get(register as usize) {
-            Some(known) => *known,
-            None => Known::Gone,
-        }
-    }
-
-    /// Whether each may be overwritten.
-    pub fn are_all_free(&self) -> bool {
-        for known in &self.known {
-            if !known.is_free() {
-                return false;
-            }
-        }
-        true
-    }
-
-    // The number of a register's tree.
-    fn tree_of(&self, register: u16) -> u16 {
-        match self.tree_of.get(register as usize) {
-            Some(tree) => *tree,
-            None => register,
+    /// At a label: what its map says of each register holds. No change where there is no label of this number.
+    pub fn adopt(&mut self, label: usize)
+        ensures kinds { (m : LabelMap) → slice_get self.old.maps label ≡ Some m → self.new.kinds ≡ m.kinds }
+        ensures maps { self.new.maps ≡ self.old.maps }
+    {
+        let labels = self.labels;
+        match map_of(labels, label) {
+            None => (),
+            Some(kinds) => self.put_all(kinds),
         }
     }
 
-    /// The register that owns a tree.
-    pub fn owner_of(&self, tree: u16) -> u16 {
-        match self.owner_of.get(tree as usize) {
-            Some(owner) => *owner,
-            None => tree,
+    // What a label map says of each register holds.
+    fn put_all(&mut self, kinds: &'a [Kind])
+        requires rise { KindsRise kinds.now }
+        requires long { length kinds.now ≡ length self.now.kinds }
+        requires few { length kinds.now < 65536 }
+        ensures kinds { self.new.kinds ≡ kinds.now }
+        ensures maps { self.new.maps ≡ self.old.maps }
+    {
+        let mut register = 0u16;
+        for kind in kinds {
+            self.put(register, Known::of(kind));
+            register += 1;
         }
     }
+}
 
-    // The tree that a register owns or reads.
-    fn tree_at(&self, register: u16) -> Option<u16> {
-        match self.known(register) {
-            Known::Owned { .. } => Some(self.tree_of(register)),
-            Known::Lent { tree, .. } => tree,
-            _ => None,
-        }
+impl<'a> Registers<'a> {
+    // What is known of a register.
+    pub(crate) fn known(&self, register: u16) -> Known<'a>
+        ensures is { kind_of result ≡ at self.now.kinds register }
+        ensures rises { Rise (set_of (kind_of result)) }
+    {
+        known_in(&self.known, register)
     }
 
     // Another thing is known of a register.
-    pub(crate) fn put(&mut self, register: u16, known: Known<'a>) -> Result<(), NoMemory> {
+    pub(crate) fn put(&mut self, register: u16, known: Known<'a>)
+        requires rises { Rise (set_of (kind_of known)) }
+        ensures kinds { self.new.kinds ≡ set self.old.kinds register (kind_of known.entry) }
+        ensures maps { self.new.maps ≡ self.old.maps }
+    {
         let place = register as usize;
         if place < self.known.len() {
+            self.lents.add(register);
+            mark_source(&mut self.named, known);
+            mark_root(&mut self.owners, known);
             self.known[place] = known;
-        }
-        self.changed.push(register)?;
-        Ok(())
-    }
-
-    // A register hangs on another.
-    fn hang(&mut self, on: u16, register: u16) -> Result<(), NoMemory> {
-        let place = on as usize;
-        if place < self.hanging.len() {
-            self.hanging[place].push(register)?;
-        }
-        Ok(())
-    }
-
-    // A lent register hangs where it has to.
-    fn hang_lent(&mut self, register: u16) -> Result<(), NoMemory> {
-        let known = self.known(register);
-        if let Known::Lent {
-            from: Some(from),
-            ..
-        } = known
-        {
-            self.hang(from.register, register)?;
-        }
-        self.hang_loose(register)
-    }
-
-    // One that no chain of froms ties to the owner of its tree hangs on that.
-    fn hang_loose(&mut self, register: u16) -> Result<(), NoMemory> {
-        match self.known(register).loose_tree() {
-            Some(tree) => self.hang(self.owner_of(tree), register),
-            None => Ok(()),
+            self.log.add(register);
         }
     }
 
-    // Those that hang on a register, and maybe some that did; none does any more.
-    fn unhang(&mut self, on: u16) -> Vec<u16> {
-        let place = on as usize;
-        if place < self.hanging.len() {
-            mem::replace(&mut self.hanging[place], Vec::new(self.alloc))
-        } else {
-            Vec::new(self.alloc)
+    // The same of one that is in the list of those that may be lent.
+    pub(crate) fn change(&mut self, register: u16, known: Known<'a>)
+        requires rises { Rise (set_of (kind_of known)) }
+        requires listed { has self.now.lent register ≡ true }
+        ensures kinds { self.new.kinds ≡ set self.old.kinds register (kind_of known.entry) }
+        ensures maps { self.new.maps ≡ self.old.maps }
+        ensures lent { self.new.lent ≡ self.old.lent }
+        ensures reached { self.new.reached ≡ self.old.reached }
+    {
+        let place = register as usize;
+        if place < self.known.len() {
+            mark_source(&mut self.named, known);
+            mark_root(&mut self.owners, known);
+            self.known[place] = known;
+            self.log.add(register);
         }
     }
 
-    // Whether a register hangs on another.
-    fn hangs(&self, register: u16, on: u16) -> bool {
-        let known = self.known(register);
-        if known.came_from(on) {
-            return true;
-        }
-        match known.loose_tree() {
-            Some(tree) => self.owner_of(tree) == on,
-            None => false,
-        }
+    // The heir that was kept for a register.
+    pub(crate) fn reached(&self, register: u16) -> Option<u16>
+        ensures is { result ≡ kept_at self.now.reached register }
+    {
+        self.lents.reached(register)
     }
 
-    /// A register that may be overwritten is written, or a credit is gone: another thing is known of it, and no from
-    /// names it any more.
-    pub fn write(&mut self, register: u16, known: Known<'a>) -> Result<(), NoMemory> {
-        for other in self.unhang(register) {
-            if self.known(other).came_from(register) {
-                self.forget_from(other)?;
-            }
-        }
-        let known = if known.came_from(register) {
-            known.without_from()
-        } else {
-            known
-        };
-        self.put(register, known)?;
-        self.hang_lent(register)
+    // Keeps an heir for a register, or none.
+    pub(crate) fn reach(&mut self, register: u16, heir: Option<u16>)
+        ensures is { self.new.reached ≡ set self.old.reached register heir }
+        ensures long { length self.new.reached ≡ length self.new.kinds }
+        ensures kinds { self.new.kinds ≡ self.old.kinds }
+        ensures maps { self.new.maps ≡ self.old.maps }
+        ensures lent { self.new.lent ≡ self.old.lent }
+    {
+        self.lents.reach(register, heir);
     }
 
-    // The field that a lent register's word is isn't known any more.
-    fn forget_from(&mut self, register: u16) -> Result<(), NoMemory> {
-        let known = self.known(register);
-        self.put(register, known.without_from())?;
-        match known.loose_tree() {
-            Some(_) => Ok(()),
-            None => self.hang_loose(register),
-        }
+    // The number of registers in the list of those that may be lent.
+    pub(crate) fn lent_len(&self) -> usize
+        ensures is { result ≡ length self.now.lent }
+    {
+        self.lents.as_slice().len()
     }
 
-    /// A register that owns a tree gives it up: it is gone, and so is each register that reads the tree.
-    pub fn use_up(&mut self, register: u16) -> Result<(), NoMemory> {
-        self.cut(register, &[])?;
-        self.put(register, Known::Gone)
+    // A register of that list.
+    pub(crate) fn lent_at(&self, place: usize) -> u16
+        requires within { place < length self.now.lent }
+        ensures is { result ≡ slice_index self.now.lent place }
+        ensures listed { has self.now.lent result ≡ true }
+    {
+        self.lents.as_slice()[place]
     }
 
-    // All that hangs on a register, directly or not, is gone, but some that hang on it directly, and what hangs on
-    // these.
-    pub(crate) fn cut(&mut self, register: u16, kept: &[u16]) -> Result<(), NoMemory> {
-        let mut ended = Vec::new(self.alloc);
-        self.cut_from(register, kept, &mut ended)?;
-        for _ in 0..self.count {
-            match ended.pop() {
-                Some(next) => self.cut_from(next, &[], &mut ended)?,
-                None => break,
-            }
-        }
-        Ok(())
+    // Each register that is lent is in that list.
+    pub(crate) fn all_lent_are_listed(&self)
+        ensures is { (q : ℕ) → is_lent (at self.now.kinds q) ≡ true → has self.now.lent q ≡ true }
+    {
+        let _ = &self.lents;
     }
 
-    // What hangs on a register directly is gone, but what is kept, and stands behind what has ended.
-    fn cut_from(
-        &mut self,
-        register: u16,
-        kept: &[u16],
-        ended: &mut Vec<u16>,
-    ) -> Result<(), NoMemory> {
-        for other in self.unhang(register) {
-            if self.hangs(other, register) && !kept.contains(&other) {
-                self.put(other, Known::Gone)?;
-                ended.push(other)?;
-            }
-        }
-        Ok(())
+    // Whether a from may name a register.
+    pub(crate) fn is_named(&self, register: u16) -> bool
+        ensures none { result ≡ false → (q : ℕ) → names register (from_of (at self.now.kinds q)) ≡ false }
+    {
+        self.named.is_marked(register)
     }
 
-    // The tree of a register passes to others, which read its parts; nothing else hangs on it any more. The first gets
-    // the tree's number, so that of what hangs on it nothing changes.
-    pub(crate) fn pass(&mut self, register: u16, heirs: &[u16]) -> Result<(), NoMemory> {
-        if let Some((first, others)) = heirs.split_first() {
-            let tree = self.tree_of(register);
-            for heir in others {
-                self.part(*heir, tree)?;
-            }
-            self.swap_trees(register, *first);
-        }
-        Ok(())
+    // Whether something may be lent of a register.
+    pub(crate) fn is_owner(&self, register: u16) -> bool
+        ensures none { result ≡ false → (q : ℕ) → is_lent_of register (at self.now.kinds q) ≡ false }
+    {
+        self.owners.is_marked(register)
     }
 
-    // What hangs on a register, directly or not, leaves a tree for that of the register.
-    fn part(&mut self, register: u16, tree: u16) -> Result<(), NoMemory> {
-        let own = self.tree_of(register);
-        let mut parted = Vec::new(self.alloc);
-        parted.push(register)?;
-        for _ in 0..self.count {
-            match parted.pop() {
-                Some(next) => self.part_from(next, tree, own, &mut parted)?,
-                None => break,
-            }
-        }
-        Ok(())
+    // No from names a register any more.
+    pub(crate) fn unname(&mut self, register: u16)
+        requires none { (q : ℕ) → names register (from_of (at self.now.kinds q)) ≡ false }
+        ensures same { self.new ≡ self.old }
+    {
+        self.named.clear(register);
     }
 
-    // What hangs on a register directly leaves a tree for another, and stands behind what has left.
-    fn part_from(
-        &mut self,
-        register: u16,
-        tree: u16,
-        own: u16,
-        parted: &mut Vec<u16>,
-    ) -> Result<(), NoMemory> {
-        for other in self.unhang(register) {
-            let known = self.known(other);
-            if known.came_from(register) {
-                self.hang(register, other)?;
-                if known.lies_in(tree) {
-                    self.put(other, known.in_tree(own))?;
-                    parted.push(other)?;
-                }
-            }
-        }
-        Ok(())
-    }
-
-    // Two registers change the numbers of their trees.
-    fn swap_trees(&mut self, one: u16, other: u16) {
-        let tree = self.tree_of(one);
-        let other_tree = self.tree_of(other);
-        set(&mut self.tree_of, one, other_tree);
-        set(&mut self.tree_of, other, tree);
-        set(&mut self.owner_of, tree, other);
-        set(&mut self.owner_of, other_tree, one);
-        self.passed = self.passed.saturating_add(1);
-    }
-
-    /// A register reads a field of a type that isn't scalar, of another register's cell.
-    pub fn lend(&mut self, register: u16, from: From, ty: u32) -> Result<(), NoMemory> {
-        let tree = self.tree_at(from.register);
-        self.write(
-            register,
-            Known::Lent {
-                ty,
-                set: Set::All,
-                tree,
-                from: Some(from),
-                loose: false,
-            },
-        )
-    }
-
-    /// One register gets what another has.
-    pub fn move_word(&mut self, register: u16, source: u16) -> Result<(), NoMemory> {
-        let known = self.known(source);
-        match known {
-            Known::Owned { .. } => self.use_up(source)?,
-            Known::Credit { .. } => self.write(source, Known::Gone)?,
-            _ => (),
-        }
-        self.write(register, known)
-    }
-
-    /// A register that owns or reads a tree was tested: its root has one of these constructors.
-    pub fn narrow(&mut self, register: u16, set: Set<'a>) -> Result<(), NoMemory> {
-        let known = self.known(register);
-        self.put(register, known.narrowed(set))
-    }
-
-    /// A register has a value of a type: a scalar, or a tree that it owns.
-    pub fn receive(&mut self, table: &Table<'a>, register: u16, ty: u32) -> Result<(), NoMemory> {
-        self.write(register, field_kind(table, ty))
-    }
-
-    /// At a label: what it says of each register holds. No other from names a register, and no register has changed.
-    pub fn adopt(&mut self, kinds: &'a [Kind]) -> Result<(), NoMemory> {
-        for register in 0..self.count {
-            let known = match kinds.get(register as usize) {
-                Some(kind) => self.known_of(kind),
-                None => Known::Gone,
-            };
-            self.put(register, known)?;
-        }
-        self.hang_all()?;
-        self.changed.clear();
-        self.labels = self.labels.saturating_add(1);
-        Ok(())
-    }
-
-    // What a label says of a register. That froms tie it to the owner of its tree is still to be seen.
-    fn known_of(&self, kind: &'a Kind) -> Known<'a> {
-        match kind {
-            Kind::Gone => Known::Gone,
-            Kind::Scalar { ty } => Known::Scalar { ty: *ty },
-            Kind::Owned { ty, constructors } => Known::Owned {
-                ty: *ty,
-                set: Set::Listed(constructors.as_slice()),
-            },
-            Kind::Lent {
-                ty,
-                constructors,
-                root,
-                from,
-            } => Known::Lent {
-                ty: *ty,
-                set: Set::Listed(constructors.as_slice()),
-                tree: match root {
-                    Some(root) => Some(self.tree_of(*root)),
-                    None => None,
-                },
-                from: *from,
-                loose: true,
-            },
-            Kind::Credit { size } => Known::Credit {
-                size: *size as usize,
-            },
-        }
-    }
-
-    // All lent registers hang where they have to.
-    fn hang_all(&mut self) -> Result<(), NoMemory> {
-        for list in self.hanging.iter_mut() {
-            list.clear();
-        }
-        let mut owners = Vec::new(self.alloc);
-        for register in 0..self.count {
-            match self.known(register) {
-                Known::Owned { .. } => owners.push(register)?,
-                Known::Lent {
-                    from: Some(from),
-                    ..
-                } => self.hang(from.register, register)?,
-                _ => (),
-            }
-        }
-        self.tie(owners)?;
-        for register in 0..self.count {
-            self.hang_loose(register)?;
-        }
-        Ok(())
-    }
-
-    // What hangs on an owner, directly or not, is tied to it.
-    fn tie(&mut self, owners: Vec<u16>) -> Result<(), NoMemory> {
-        let mut tied = owners;
-        for _ in 0..self.count {
-            match tied.pop() {
-                Some(next) => self.tie_from(next, &mut tied)?,
-                None => break,
-            }
-        }
-        Ok(())
-    }
-
-    // What hangs on a register directly is tied as that is, and stands behind what is tied.
-    fn tie_from(&mut self, register: u16, tied: &mut Vec<u16>) -> Result<(), NoMemory> {
-        for other in self.unhang(register) {
-            self.hang(register, other)?;
-            let known = self.known(other);
-            if known.loose_tree().is_some() {
-                self.put(other, known.tied())?;
-                tied.push(other)?;
-            }
-        }
-        Ok(())
+    // Nothing is lent of a register any more.
+    pub(crate) fn disown(&mut self, register: u16)
+        requires none { (q : ℕ) → is_lent_of register (at self.now.kinds q) ≡ false }
+        ensures same { self.new ≡ self.old }
+    {
+        self.owners.clear(register);
     }
 }
 
-// Writes a number into a list, where it has the place.
-fn set(numbers: &mut Vec<u16>, place: u16, number: u16) {
-    if (place as usize) < numbers.len() {
-        numbers[place as usize] = number;
+// What is known of a register.
+#[tactic(auto, using(crate::proofs::Places::kinds_get, crate::proofs::Places::kinds_none))]
+pub(crate) fn known_in<'a>(known: &[Known<'a>], register: u16) -> Known<'a>
+    ensures is { kind_of result ≡ at (kinds_of known.now) register }
+{
+    match known.get(register as usize) {
+        Some(known) => *known,
+        None => Known::Gone,
     }
 }
 
-/// What is known of a register that has a value of a type.
-pub fn field_kind<'a>(table: &Table<'a>, ty: u32) -> Known<'a> {
-    if table.is_scalar(ty) {
-        Known::Scalar { ty }
+// The kinds of the label map of a number.
+pub(crate) fn map_of(labels: &[Label], label: usize) -> Option<&[Kind]>
+    ensures found { IfSome result (λ ks. (m : LabelMap)
+        × (slice_get (map plain_label labels.now) label ≡ Some m) × (m.kinds ≡ ks.now)) }
+    ensures none { result ≡ None → (m : LabelMap) → slice_get (map plain_label labels.now) label ≡ Some m → ⊥ }
+{
+    match labels.get(label) {
+        None => None,
+        Some(found) => Some(&found.kinds),
+    }
+}
+
+// Lists all registers below a number.
+fn list_below(lents: &mut Lents, count: usize)
+    ensures listed { (q : ℕ) → q < count → q < lents.old.room → q < 65536 → has lents.new.held q ≡ true }
+    ensures room { lents.new.room ≡ lents.old.room }
+{
+    for place in 0..count {
+        if let Ok(register) = u16::try_from(place) {
+            lents.add(register);
+        }
+    }
+}
+
+// Marks the register that a from names.
+fn mark_source(named: &mut Marks, known: Known)
+    ensures marked { (f : From) → from_of (kind_of known.entry) ≡ Some f → Marked named.new f.register }
+    ensures others { (r : ℕ) → Marked named.old r → Marked named.new r }
+{
+    match known.from() {
+        None => (),
+        Some(from) => named.mark(from.register),
+    }
+}
+
+// Marks the register that something is lent of.
+fn mark_root(owners: &mut Marks, known: Known)
+    ensures marked { (o : ℕ) → is_lent_of o (kind_of known.entry) ≡ true → Marked owners.new o }
+    ensures others { (r : ℕ) → Marked owners.old r → Marked owners.new r }
+{
+    match known {
+        Known::Gone => (),
+        Known::Scalar { .. } => (),
+        Known::Owned { .. } => (),
+        Known::Lent { root, .. } => match root {
+            None => (),
+            Some(root) => owners.mark(root),
+        },
+        Known::Credit { .. } => (),
+    }
+}
+
+// The kinds where a function is entered.
+fn entry_kinds<'a>(
+    alloc: Global,
+    table: &Table<'a>,
+    function: &'a Function,
+) -> Result<Vec<Known<'a>>, NoMemory>
+    ensures is { IfOk result (λ v. kinds_of v.items ≡ entry (of_types table.now) (plain_function function.now)) }
+{
+    let mut known = param_kinds(alloc, table, function.params.as_slice())?;
+    add_credits(&mut known, &function.credits)?;
+    let rest = (function.registers as usize).saturating_sub(known.len());
+    add_gones(&mut known, rest)?;
+    Ok(known)
+}
+
+// Credits of these sizes follow.
+fn add_credits(known: &mut Vec<Known>, sizes: &[u8]) -> Result<(), NoMemory>
+    ensures is { OnOk result (kinds_of known.new.items ≡ kinds_of known.old.items ++ map Credit sizes.now) }
+{
+    for size in sizes {
+        known.push(Known::Credit {
+            size: *size as usize,
+        })?;
+    }
+    Ok(())
+}
+
+// So many registers follow that are gone.
+fn add_gones(known: &mut Vec<Known>, count: usize) -> Result<(), NoMemory>
+    ensures is { OnOk result (kinds_of known.new.items ≡ kinds_of known.old.items ++ gones count) }
+{
+    for place in 0..count {
+        known.push(Known::Gone)?;
+    }
+    Ok(())
+}
+
+// The kinds of parameters.
+fn param_kinds<'a>(
+    alloc: Global,
+    table: &Table<'a>,
+    params: &[Param],
+) -> Result<Vec<Known<'a>>, NoMemory>
+    ensures is { IfOk result (λ v. kinds_of v.items ≡ map (param_kind table.now) params.now) }
+{
+    let mut known = Vec::new(alloc);
+    for param in params {
+        known.push(param_known(table, *param))?;
+    }
+    Ok(known)
+}
+
+// The kind of a parameter.
+fn param_known<'a>(table: &Table<'a>, param: Param) -> Known<'a>
+    ensures is { kind_of result ≡ param_kind table.now param }
+{
+    if table.is_scalar(param.ty) {
+        Known::Scalar { ty: param.ty }
+    } else if param.lent {
+        Known::Lent {
+            ty: param.ty,
+            set: Set::All(table.count(param.ty)),
+            root: None,
+            from: None,
+        }
     } else {
-        Known::Owned { ty, set: Set::All }
+        Known::Owned {
+            ty: param.ty,
+            set: Set::All(table.count(param.ty)),
+        }
     }
 }

@@ -1,10 +1,18 @@
 // Sets of constructors of one type. None of them takes memory of its own: that of all constructors is a word, and a
 // longer one is that of a label.
+ghost use Rattle.std.specs.Prelude.{◌≡◌, ◌+◌, ℕ, suc, true, false, List, [], ◌∷◌, None, IfSome};
+ghost use Rattle.sound_code.specs.Changes.{without};
+ghost use Rattle.sound_code.specs.Fitting.{is_subset};
+ghost use Rattle.sound_code.specs.Kinds.{has};
+ghost use Rattle.sound_code.specs.Types.{numbers};
+ghost use Rattle.register_kinds.specs.Rising.{Rise, RiseFrom, less, beyond, is_one};
+ghost use Rattle.register_kinds.specs.Views.{constructors_in};
+
 /// The constructors that a value may have.
 #[derive(Clone, Copy, Debug)]
 pub enum Set<'a> {
-    /// All of its type.
-    All,
+    /// All of a type with so many.
+    All(usize),
     /// This one.
     One(u32),
     /// These, in rising order.
@@ -12,72 +20,214 @@ pub enum Set<'a> {
 }
 
 impl<'a> Set<'a> {
-    /// Whether a constructor of a type with so many is in it.
-    pub fn has(self, count: usize, constructor: u32) -> bool {
+    /// Whether a constructor is in it.
+    pub fn has(self, constructor: u32) -> bool
+        ensures is { Rise (constructors_in self.entry) → result ≡ has (constructors_in self.entry) constructor }
+    {
         match self {
-            Set::All => (constructor as usize) < count,
+            Set::All(count) => is_below(constructor, count),
             Set::One(own) => own == constructor,
-            Set::Listed(own) => own.binary_search(&constructor).is_ok(),
+            Set::Listed(own) => is_listed(own, constructor),
         }
     }
 
-    /// Its constructor, where it has one alone; of a type with so many.
-    pub fn only(self, count: usize) -> Option<u32> {
+    /// Its constructor, where it has one alone.
+    pub fn only(self) -> Option<u32>
+        ensures one { IfSome result (λ c. constructors_in self.entry ≡ c ∷ []) }
+        ensures other { result ≡ None → (c : ℕ) → constructors_in self.entry ≡ c ∷ [] → ⊥ }
+    {
         match self {
-            Set::All => { if count == 1 { Some(0) } else { None } }
+            Set::All(count) => only_of(count),
             Set::One(own) => Some(own),
             Set::Listed([own]) => Some(*own),
             Set::Listed(_) => None,
         }
     }
 
-    /// Whether all of them, but `without` where it is there, are among others, which are constructors in rising order
-    /// of a type with so many.
-    pub fn is_within(self, count: usize, without: Option<u32>, others: &[u32]) -> bool {
+    /// Whether all of them, but `lacked` where it is there, are among others, which are in rising order.
+    pub fn is_within(self, lacked: Option<u32>, others: &[u32]) -> bool
+        requires own_rise { Rise (constructors_in self) }
+        requires others_rise { Rise others.now }
+        ensures is { result ≡ is_subset (less lacked (constructors_in self.entry)) others.now }
+    {
         match self {
-            Set::All => others.len() == count || lacks_one(count, without, others),
-            Set::One(own) => without == Some(own) || others.binary_search(&own).is_ok(),
-            Set::Listed(own) => are_among(own, without, others),
+            Set::All(count) => are_all_among(count, lacked, others),
+            Set::One(own) => is_among(own, lacked, others),
+            Set::Listed(own) => are_among(own, lacked, others),
         }
     }
 }
 
-// Whether the others are all constructors of a type with so many, but `without`.
-fn lacks_one(count: usize, without: Option<u32>, others: &[u32]) -> bool {
-    match without {
-        Some(constructor) => {
-            others.len() < count
-                && count - others.len() == 1
-                && others.binary_search(&constructor).is_err()
-        }
+// Whether a number stands among numbers, where they rise.
+pub(crate) fn is_listed(numbers: &[u32], number: u32) -> bool
+    ensures is { Rise numbers.now → result ≡ has numbers.now number }
+{
+    numbers.binary_search(&number).is_ok()
+}
+
+// Whether a number is below a count.
+#[tactic(auto, using(crate::proofs::Sets::has_numbers))]
+fn is_below(number: u32, count: usize) -> bool
+    ensures is { result ≡ has (numbers 0 count) number }
+{
+    (number as usize) < count
+}
+
+// The constructor of a type with so many, where that is one.
+fn only_of(count: usize) -> Option<u32>
+    ensures one { IfSome result (λ c. numbers 0 count ≡ c ∷ []) }
+    ensures other { result ≡ None → (c : ℕ) → numbers 0 count ≡ c ∷ [] → ⊥ }
+{
+    match count {
+        1 => Some(0),
+        _ => None,
+    }
+}
+
+// Whether a number, if it isn't `lacked`, is among others, which rise.
+fn is_among(own: u32, lacked: Option<u32>, others: &[u32]) -> bool
+    requires rise { Rise others.now }
+    ensures is { result ≡ is_subset (less lacked (own ∷ [])) others.now }
+{
+    match lacked {
+        None => is_listed(others, own),
+        Some(lacked) => own == lacked || is_listed(others, own),
+    }
+}
+
+// Whether the numbers below a count, but `lacked`, are among others, which rise.
+fn are_all_among(count: usize, lacked: Option<u32>, others: &[u32]) -> bool
+    requires rise { Rise others.now }
+    ensures is { result ≡ is_subset (less lacked (numbers 0 count)) others.now }
+{
+    match lacked {
+        None => begin(0, count, others),
+        Some(lacked) => all_but_one_among(count, lacked, others),
+    }
+}
+
+// Whether the numbers below a count but one are among others, which rise.
+fn all_but_one_among(count: usize, lacked: u32, others: &[u32]) -> bool
+    requires rise { Rise others.now }
+    ensures is { result ≡ is_subset (without lacked (numbers 0 count)) others.now }
+{
+    let below = lacked as usize;
+    if count <= below {
+        return begin(0, count, others);
+    }
+    if !begin(0, below, others) {
+        return false;
+    }
+    begin(below + 1, count - below - 1, above(others, lacked))
+}
+
+// Whether rising numbers begin with so many, from a number on that none is below.
+fn begin(low: usize, count: usize, others: &[u32]) -> bool
+    requires rise { RiseFrom low others.now }
+    ensures is { result ≡ is_subset (numbers low count) others.now }
+{
+    if count == 0 {
+        return true;
+    }
+    match others.get(count - 1) {
         None => false,
+        Some(last) => is_behind(*last as usize, low, count - 1),
     }
 }
 
-// Whether all of these, but `without`, are among others; both lists rise.
-fn are_among(own: &[u32], without: Option<u32>, others: &[u32]) -> bool {
+// Whether a number is the sum of two.
+fn is_behind(number: usize, low: usize, count: usize) -> bool
+    ensures yes { result ≡ true → number ≡ low + count }
+    ensures no { result ≡ false → number ≡ low + count → ⊥ }
+{
+    match number.checked_sub(low) {
+        None => false,
+        Some(rest) => rest == count,
+    }
+}
+
+// The numbers of a rising list that are greater than one.
+fn above(numbers: &[u32], number: u32) -> &[u32]
+    requires rise { Rise numbers.now }
+    ensures is { result.now ≡ beyond number numbers.now }
+{
+    match numbers.binary_search(&number) {
+        Ok(place) => &numbers[place + 1..],
+        Err(place) => &numbers[place..],
+    }
+}
+
+// Whether all of these, but `lacked`, are among others; both lists rise.
+fn are_among(own: &[u32], lacked: Option<u32>, others: &[u32]) -> bool
+    requires own_rise { Rise own.now }
+    requires others_rise { Rise others.now }
+    ensures is { result ≡ is_subset (less lacked own.now) others.now }
+{
     let mut rest = others;
     for constructor in own {
-        if without != Some(*constructor) {
-            match behind(rest, *constructor) {
-                Some(next) => rest = next,
-                None => return false,
-            }
+        match after(rest, lacked, *constructor) {
+            Some(next) => rest = next,
+            None => return false,
         }
     }
     true
 }
 
+// Where a number, if it isn't `lacked`, is among others, those among which greater ones can be looked for.
+fn after(others: &[u32], lacked: Option<u32>, number: u32) -> Option<&[u32]>
+    requires rise { Rise others.now }
+    ensures rise { IfSome result (λ r. Rise r.now) }
+    ensures found { IfSome result (λ r. (own : List ℕ) → RiseFrom (suc number) own →
+        is_subset (less lacked own) r.now ≡ is_subset (less lacked (number ∷ own)) others.now) }
+    ensures none { result ≡ None → (own : List ℕ) → is_subset (less lacked (number ∷ own)) others.now ≡ false }
+{
+    if is_lacked(lacked, number) {
+        return Some(others);
+    }
+    match behind(others, number) {
+        None => None,
+        Some(rest) => Some(rest),
+    }
+}
+
+// Whether a number is `lacked`.
+fn is_lacked(lacked: Option<u32>, number: u32) -> bool
+    ensures is { result ≡ is_one lacked number }
+{
+    match lacked {
+        None => false,
+        Some(lacked) => number == lacked,
+    }
+}
+
 // What stands behind a number in a rising list; none where it isn't there. Numbers that follow one another are found at
 // once.
-fn behind(numbers: &[u32], number: u32) -> Option<&[u32]> {
-    if let Some((first, rest)) = numbers.split_first() {
-        if *first == number {
-            return Some(rest);
+fn behind(numbers: &[u32], number: u32) -> Option<&[u32]>
+    requires rise { Rise numbers.now }
+    ensures found { IfSome result (λ r. (has numbers.now number ≡ true) × (r.now ≡ beyond number numbers.now)) }
+    ensures none { result ≡ None → has numbers.now number ≡ false }
+{
+    match numbers {
+        [] => None,
+        [first, rest @ ..] => {
+            if *first == number {
+                Some(rest)
+            } else {
+                search(numbers, number)
+            }
         }
     }
-    match numbers.binary_search(&number) {
-        Ok(place) => numbers.get(place + 1..),
-        Err(_) => None,
+}
+
+// The same by a search.
+fn search(numbers: &[u32], number: u32) -> Option<&[u32]>
+    requires rise { Rise numbers.now }
+    ensures found { IfSome result (λ r. (has numbers.now number ≡ true) × (r.now ≡ beyond number numbers.now)) }
+    ensures none { result ≡ None → has numbers.now number ≡ false }
+{
+    if is_listed(numbers, number) {
+        Some(above(numbers, number))
+    } else {
+        None
     }
 }

@@ -1,64 +1,396 @@
 // Taking a cell apart: its fields go into registers, and the register that owned it keeps it as a credit.
-use crate::known::Known;
-use crate::registers::{Registers, field_kind};
+ghost use Rattle.std.specs.Prelude.{◌≡◌, ◌⊎◌, ◌<◌, ℕ, true, false, None, set, length};
+ghost use Rattle.sound_code.specs.Asked.{known_fields};
+ghost use Rattle.sound_code.specs.Kinds.{at, from_of, has};
+ghost use Rattle.sound_code.specs.Taking.{IsTaken, IsReached, part, is_heir, is_field, part_kind, credit, ends};
+ghost use Rattle.register_kinds.specs.Takes.{as_part, seen_at, next_at, AreReached, AreSettled, nones, kept_at};
+ghost use Rattle.register_kinds.specs.Takes.{is_used, forgotten, fated, filled_by, filled_at, emptied, in_turn};
+ghost use Rattle.register_kinds.specs.Rising.{Rise};
+ghost use Rattle.sound_code.specs.Kinds.{set_of};
+ghost use Rattle.register_kinds.specs.Views.{kind_of};
+
+use crate::known::{Known, whole};
+use crate::registers::Registers;
 use crate::table::Table;
-use fip_base::plain::NoMemory;
+use cell_code::From;
+
+/// A field of a cell, and its type.
+#[derive(Clone, Copy, Debug)]
+pub struct Piece {
+    field: usize,
+    ty: u32,
+}
 
 impl<'a> Registers<'a> {
-    /// The cell of a register, which owns it, is taken apart into these registers, whose types are those of the fields.
-    /// A register that was known to read the field that it gets owns it from now on, with the constructors that it was
-    /// known to have, and what was read through it goes on to be read. All else that was read of the tree is gone.
-    pub fn take(
-        &mut self,
-        table: &Table<'a>,
-        register: u16,
-        parts: &[u16],
-        types: &[u32],
-    ) -> Result<(), NoMemory> {
-        let heirs = self.heirs(table, register, parts, types)?;
-        self.cut(register, &heirs)?;
-        self.pass(register, &heirs)?;
-        for (part, ty) in parts.iter().zip(types) {
-            if heirs.contains(part) {
-                self.inherit(*part)?;
-            } else {
-                self.write(*part, field_kind(table, *ty))?;
-            }
-        }
-        self.put(register, emptied(parts.len()))
+    /// The cell of a register is taken apart into these registers, one for each field. A register that was known to
+    /// read the field that it gets owns it from now on, with the constructors that it was known to have, and what was
+    /// read through it goes on to be read. All else that was read of the tree is gone.
+    pub fn take(&mut self, table: &Table<'a>, register: u16, parts: &[u16])
+        ensures kinds { IsTaken table.now self.old.kinds register parts.now
+            (known_fields table.now (at self.old.kinds register)) self.new.kinds }
+        ensures maps { self.new.maps ≡ self.old.maps }
+    {
+        let types = self.known_fields(table, register);
+        self.find_heirs(table, register, parts, types);
+        self.all_lent_are_listed();
+        self.forget_ended(table, register, parts, types);
+        self.pass_on(register, parts, types);
+        self.fill(table, register, parts, types);
+        self.empty(register, parts, types);
     }
 
-    // Those of the parts that are known to read the field that they get, and are no scalars.
-    fn heirs(
+    // Whether a register is known to read the field that it gets, which is no scalar.
+    fn is_heir(
         &self,
         table: &Table<'a>,
         register: u16,
         parts: &[u16],
         types: &[u32],
-    ) -> Result<Vec<u16>, NoMemory> {
-        let mut heirs = Vec::new(self.alloc);
-        for (field, (part, ty)) in parts.iter().zip(types).enumerate() {
-            if !table.is_scalar(*ty) && self.known(*part).is_part(register, field) {
-                heirs.push(*part)?;
-            }
+        other: u16,
+    ) -> bool
+        ensures is { result ≡ is_heir table.now self.now.kinds register (part parts.now types.now) other }
+    {
+        let from = self.known(other).from();
+        match piece_of(parts, types, other) {
+            None => false,
+            Some(piece) => !table.is_scalar(piece.ty) && is_field(register, piece.field, from),
         }
-        Ok(heirs)
     }
 
-    // A register that was lent owns what it reads. Froms that name it stay.
-    fn inherit(&mut self, register: u16) -> Result<(), NoMemory> {
-        match self.known(register).tree_kind() {
-            Some((ty, set)) => self.put(register, Known::Owned { ty, set }),
-            None => Ok(()),
+    // The heir that a lent register was seen to reach.
+    fn seen(&self, lent: u16) -> Option<u16>
+        ensures is { result ≡ seen_at self.now.kinds self.now.reached lent }
+    {
+        if self.known(lent).is_lent() {
+            self.reached(lent)
+        } else {
+            None
+        }
+    }
+
+    // The heir that a register's word came from, or that the register reaches that it came from.
+    fn next(
+        &self,
+        table: &Table<'a>,
+        register: u16,
+        parts: &[u16],
+        types: &[u32],
+        lent: u16,
+    ) -> Option<u16>
+        ensures is { result ≡ next_at self.now.kinds
+            (is_heir table.now self.now.kinds register (part parts.now types.now)) self.now.reached lent }
+    {
+        match self.known(lent).from() {
+            None => None,
+            Some(from) => {
+                if self.is_heir(table, register, parts, types, from.register) {
+                    Some(from.register)
+                } else {
+                    self.seen(from.register)
+                }
+            }
+        }
+    }
+
+    // Finds the heirs that registers reach.
+    fn find_heirs(&mut self, table: &Table<'a>, register: u16, parts: &[u16], types: &[u32])
+        ensures reached { (q : ℕ) → IsReached self.old.kinds
+            (is_heir table.now self.old.kinds register (part parts.now types.now)) q
+            (seen_at self.old.kinds self.new.reached q) }
+        ensures kinds { self.new.kinds ≡ self.old.kinds }
+        ensures maps { self.new.maps ≡ self.old.maps }
+        ensures lent { self.new.lent ≡ self.old.lent }
+    {
+        self.all_lent_are_listed();
+        self.unreach();
+        while self.reach_more(table, register, parts, types) {}
+    }
+
+    // No register is seen to reach an heir.
+    fn unreach(&mut self)
+        ensures none { (q : ℕ) → has self.old.lent q ≡ true → kept_at self.new.reached q ≡ None }
+        ensures kinds { self.new.kinds ≡ self.old.kinds }
+        ensures maps { self.new.maps ≡ self.old.maps }
+        ensures lent { self.new.lent ≡ self.old.lent }
+    {
+        for place in 0..self.lent_len() {
+            let lent = self.lent_at(place);
+            self.reach(lent, None);
+        }
+    }
+
+    // Sees of registers that they reach an heir. Whether there was one.
+    fn reach_more(&mut self, table: &Table<'a>, register: u16, parts: &[u16], types: &[u32]) -> bool
+        ensures reached { AreReached self.old.kinds
+            (is_heir table.now self.old.kinds register (part parts.now types.now)) self.old.reached →
+            AreReached self.old.kinds
+            (is_heir table.now self.old.kinds register (part parts.now types.now)) self.new.reached }
+        ensures more { result ≡ true → nones self.new.reached < nones self.old.reached }
+        ensures settled { result ≡ false → AreSettled self.old.kinds
+            (is_heir table.now self.old.kinds register (part parts.now types.now)) self.new.reached self.old.lent }
+        ensures kinds { self.new.kinds ≡ self.old.kinds }
+        ensures maps { self.new.maps ≡ self.old.maps }
+        ensures lent { self.new.lent ≡ self.old.lent }
+    {
+        let mut more = false;
+        for place in 0..self.lent_len() {
+            let lent = self.lent_at(place);
+            more = either(self.reach_one(table, register, parts, types, lent), more);
+        }
+        more
+    }
+
+    // Sees of a register that it reaches an heir. Whether it does.
+    fn reach_one(
+        &mut self,
+        table: &Table<'a>,
+        register: u16,
+        parts: &[u16],
+        types: &[u32],
+        lent: u16,
+    ) -> bool
+        ensures reached { AreReached self.old.kinds
+            (is_heir table.now self.old.kinds register (part parts.now types.now)) self.old.reached →
+            AreReached self.old.kinds
+            (is_heir table.now self.old.kinds register (part parts.now types.now)) self.new.reached }
+        ensures more { result ≡ true → nones self.new.reached < nones self.old.reached }
+        ensures same { result ≡ false → self.new.reached ≡ self.old.reached }
+        ensures settled { result ≡ false → kept_at self.old.reached lent ≡ None → next_at self.old.kinds
+            (is_heir table.now self.old.kinds register (part parts.now types.now)) self.old.reached lent ≡ None }
+        ensures kinds { self.new.kinds ≡ self.old.kinds }
+        ensures maps { self.new.maps ≡ self.old.maps }
+        ensures lent { self.new.lent ≡ self.old.lent }
+    {
+        match self.reached(lent) {
+            Some(_) => false,
+            None => match self.next(table, register, parts, types, lent) {
+                None => false,
+                Some(heir) => {
+                    self.reach(lent, Some(heir));
+                    true
+                }
+            },
+        }
+    }
+
+    // Whether no from names a register any more.
+    fn ends(
+        &self,
+        table: &Table<'a>,
+        register: u16,
+        parts: &[u16],
+        types: &[u32],
+        other: u16,
+    ) -> bool
+        ensures is { result ≡ ends table.now self.now.kinds register (part parts.now types.now)
+            (length parts.now) (seen_at self.now.kinds self.now.reached) other }
+    {
+        if piece_of(parts, types, other).is_some() {
+            return !self.is_heir(table, register, parts, types, other);
+        }
+        if other == register {
+            return parts.is_empty();
+        }
+        self.known(other).is_lent_of(register) && self.seen(other).is_none()
+    }
+
+    // Registers that aren't used forget what no from names any more.
+    fn forget_ended(&mut self, table: &Table<'a>, register: u16, parts: &[u16], types: &[u32])
+        ensures kinds { self.new.kinds ≡ in_turn (forgotten register (part parts.now types.now)
+            (ends table.now self.old.kinds register (part parts.now types.now) (length parts.now)
+            (seen_at self.old.kinds self.old.reached))) self.old.kinds self.old.lent }
+        ensures maps { self.new.maps ≡ self.old.maps }
+        ensures lent { self.new.lent ≡ self.old.lent }
+        ensures reached { self.new.reached ≡ self.old.reached }
+    {
+        for place in 0..self.lent_len() {
+            self.forget_ended_in(table, register, parts, types, self.lent_at(place));
+        }
+    }
+
+    // A listed register that isn't used forgets what no from names any more.
+    fn forget_ended_in(
+        &mut self,
+        table: &Table<'a>,
+        register: u16,
+        parts: &[u16],
+        types: &[u32],
+        lent: u16,
+    )
+        requires listed { has self.now.lent lent ≡ true }
+        ensures kinds { self.new.kinds ≡ set self.old.kinds lent (forgotten register (part parts.now types.now)
+            (ends table.now self.old.kinds register (part parts.now types.now) (length parts.now)
+            (seen_at self.old.kinds self.old.reached)) lent (at self.old.kinds lent)) }
+        ensures maps { self.new.maps ≡ self.old.maps }
+        ensures lent { self.new.lent ≡ self.old.lent }
+        ensures reached { self.new.reached ≡ self.old.reached }
+    {
+        if is_used(register, parts, types, lent) {
+            return;
+        }
+        let known = self.known(lent);
+        match known.from() {
+            None => (),
+            Some(from) => {
+                if self.ends(table, register, parts, types, from.register) {
+                    self.change(lent, known.without_from());
+                }
+            }
+        }
+    }
+
+    // Registers that aren't used get the heirs that they reach as roots; where they reach none, and were lent of the
+    // register, they are gone.
+    fn pass_on(&mut self, register: u16, parts: &[u16], types: &[u32])
+        ensures kinds { self.new.kinds ≡ in_turn (fated register (part parts.now types.now) self.old.reached)
+            self.old.kinds self.old.lent }
+        ensures maps { self.new.maps ≡ self.old.maps }
+    {
+        for place in 0..self.lent_len() {
+            self.pass_on_in(register, parts, types, self.lent_at(place));
+        }
+    }
+
+    // The same of a listed register.
+    fn pass_on_in(&mut self, register: u16, parts: &[u16], types: &[u32], lent: u16)
+        requires listed { has self.now.lent lent ≡ true }
+        ensures kinds { self.new.kinds ≡ set self.old.kinds lent (fated register (part parts.now types.now)
+            self.old.reached lent (at self.old.kinds lent)) }
+        ensures maps { self.new.maps ≡ self.old.maps }
+        ensures lent { self.new.lent ≡ self.old.lent }
+        ensures reached { self.new.reached ≡ self.old.reached }
+    {
+        if is_used(register, parts, types, lent) {
+            return;
+        }
+        match self.seen(lent) {
+            Some(heir) => self.change(lent, self.known(lent).with_root(heir)),
+            None => {
+                if self.known(lent).is_lent_of(register) {
+                    self.change(lent, Known::Gone);
+                }
+            }
+        }
+    }
+
+    // The parts get what their types tell, or what they were known to read.
+    fn fill(&mut self, table: &Table<'a>, register: u16, parts: &[u16], types: &[u32])
+        ensures kinds { (q : ℕ) → q < length self.old.kinds → at self.new.kinds q
+            ≡ filled_by table.now register (length parts.now) (at self.old.kinds q) (part parts.now types.now q) }
+        ensures long { length self.new.kinds ≡ length self.old.kinds }
+        ensures maps { self.new.maps ≡ self.old.maps }
+    {
+        for place in 0..parts.len() {
+            self.fill_one(table, register, parts, types, place);
+        }
+    }
+
+    // The register of one part gets it, where this is its first.
+    fn fill_one(
+        &mut self,
+        table: &Table<'a>,
+        register: u16,
+        parts: &[u16],
+        types: &[u32],
+        place: usize,
+    )
+        requires within { place < length parts.now }
+        ensures kinds { (q : ℕ) → q < length self.old.kinds → at self.new.kinds q
+            ≡ filled_at table.now register place (at self.old.kinds q) (part parts.now types.now q) }
+        ensures long { length self.new.kinds ≡ length self.old.kinds }
+        ensures maps { self.new.maps ≡ self.old.maps }
+    {
+        let destination = parts[place];
+        match piece_of(parts, types, destination) {
+            None => (),
+            Some(piece) => {
+                if piece.field == place {
+                    let known = part_known(table, register, self.known(destination), piece);
+                    self.put(destination, known);
+                }
+            }
+        }
+    }
+
+    // The register that owned the cell keeps it as a credit, unless it gets a part.
+    fn empty(&mut self, register: u16, parts: &[u16], types: &[u32])
+        ensures kinds { self.new.kinds ≡ emptied self.old.kinds register (part parts.now types.now register)
+            (length parts.now) }
+        ensures maps { self.new.maps ≡ self.old.maps }
+    {
+        if piece_of(parts, types, register).is_none() {
+            self.put(register, credit(parts.len()));
         }
     }
 }
 
-// What is known of a register whose cell of so many fields was taken apart.
-fn emptied<'a>(size: usize) -> Known<'a> {
-    if size == 0 {
-        Known::Gone
+// Whether one of two is so.
+fn either(one: bool, other: bool) -> bool
+    ensures yes { result ≡ true → (one ≡ true) ⊎ (other ≡ true) }
+    ensures no { result ≡ false → (one ≡ false) × (other ≡ false) }
+{
+    one || other
+}
+
+// The first part that a register gets.
+fn piece_of(parts: &[u16], types: &[u32], register: u16) -> Option<Piece>
+    ensures is { as_part result ≡ part parts.now types.now register }
+{
+    let mut field = 0usize;
+    for part in parts {
+        match types.get(field) {
+            None => return None,
+            Some(ty) => {
+                if *part == register {
+                    return Some(Piece { field, ty: *ty });
+                }
+            }
+        }
+        field += 1;
+    }
+    None
+}
+
+// Whether a from is this field of a register.
+fn is_field(register: u16, field: usize, from: Option<From>) -> bool
+    ensures is { result ≡ is_field register field from }
+{
+    match from {
+        None => false,
+        Some(from) => from.register == register && from.field as usize == field,
+    }
+}
+
+// Whether a register gets a part, or owned the cell.
+fn is_used(register: u16, parts: &[u16], types: &[u32], other: u16) -> bool
+    ensures is { result ≡ is_used register (part parts.now types.now) other }
+{
+    piece_of(parts, types, other).is_some() || other == register
+}
+
+// What is known of a register that gets a part.
+fn part_known<'a>(table: &Table<'a>, register: u16, known: Known<'a>, piece: Piece) -> Known<'a>
+    requires rises { Rise (set_of (kind_of known)) }
+    ensures is { kind_of result
+        ≡ part_kind table.now register (kind_of known.entry) (record { field = piece.field; ty = piece.ty }) }
+    ensures rises { Rise (set_of (kind_of result)) }
+{
+    if table.is_scalar(piece.ty) {
+        Known::Scalar { ty: piece.ty }
+    } else if is_field(register, piece.field, known.from()) {
+        known.inherited()
     } else {
-        Known::Credit { size }
+        whole(table, piece.ty)
+    }
+}
+
+// What is known of a register whose cell of so many fields was taken apart.
+fn credit<'a>(size: usize) -> Known<'a>
+    ensures is { kind_of result ≡ credit size }
+    ensures rises { Rise (set_of (kind_of result)) }
+{
+    match size {
+        0 => Known::Gone,
+        _ => Known::Credit { size },
     }
 }

@@ -1,0 +1,4 @@
+pub mod Noting
+pub mod Numbering
+pub mod Placing
+pub mod Rows

@@ -1,0 +1,5 @@
+use Rattle.code_tables.specs.Marks.{AreMarks}
+use Rattle.code_tables.proofs.finite.look_again.Given as goal
+
+abbrev pub invariant-loop-place : goal.invariant-loop-place
+invariant-loop-place l = AreMarks l.types l.marks.items

@@ -1,0 +1,9 @@
+// Whether the tables of a code are sound: its types, and its functions' names. All else of a code speaks of types and
+// functions by their numbers, so that this is asked first.
+#![tactic(auto)]
+
+mod finite;
+mod names;
+mod tables;
+
+pub use tables::are_sound_tables;

@@ -1,0 +1,11 @@
+pub mod InstrFacts
+pub mod Breaking
+pub mod Walking
+pub mod Looping
+pub mod Forms
+pub mod Surveyed
+pub mod OwnCalls
+pub mod StackNumbers
+pub mod Running
+pub mod Typing
+pub mod Reporting

@@ -1,0 +1,31 @@
+use Rattle.std.proofs.Common.{◌≡◌, ◌∙◌, true, false, Some, length, sym, ap}
+use Rattle.std.proofs.lemmas.Result.{IfOk-weaker}
+use Rattle.sound_code.specs.Codes.{plain, plain_function, function_at}
+use Rattle.sound_code.specs.Headers.{is_formed}
+use Rattle.register_kinds.specs.State.{of_types}
+use Rattle.code_verify.specs.Finding.{IsFound}
+use Rattle.code_verify.specs.Surveying.{IsFoundOf}
+use Rattle.code_verify.proofs.Surveyed.{found_formed, found_unformed}
+use Rattle.code_verify.proofs.Running.{is_at}
+use Rattle.code_verify.proofs.accept.find.Goals as goal
+
+pub returns-then-is_formed : goal.returns-then-is_formed
+returns-then-is_formed c =
+    let code = c.args.code.now in
+    let f = plain_function c.args.function.now in
+    let is : function_at (plain code) c.args.number ≡ Some f = is_at code c.args.number c.args.function.now c.requires.there in
+    let formed : is_formed (plain code) f ≡ true =
+    ap (λ w. is_formed (of_types w) f) (sym c.requires.types) ∙ (sym c.is_formed.ensures ∙ c.if-is_formed.true) in
+    IfOk-weaker c.walk.result (λ r. IsFound (plain code) c.args.number f (length c.args.function.now.instrs.items) r)
+    (λ r. IsFoundOf (plain code) c.args.number r) (λ r p. found_formed (plain code) c.args.number f r is formed p)
+    c.walk.ensures.found
+
+pub returns : goal.returns
+returns c =
+    let code = c.args.code.now in
+    let f = plain_function c.args.function.now in
+    let is : function_at (plain code) c.args.number ≡ Some f = is_at code c.args.number c.args.function.now c.requires.there in
+    let unformed : is_formed (plain code) f ≡ false =
+    ap (λ w. is_formed (of_types w) f) (sym c.requires.types) ∙ (sym c.is_formed.ensures ∙ c.if-is_formed.false) in
+    let none = c.unformed.ensures in
+    found_unformed (plain code) c.args.number f c.unformed.result is unformed none.least none.calls none.waiting none.drops

@@ -1,0 +1,23 @@
+use Rattle.std.proofs.Common.{subst}
+use Rattle.sound_code.specs.Codes.{plain}
+use Rattle.code_verify.specs.Releasing.{AreShort}
+use Rattle.code_verify.proofs.OwnCalls.{survey_releases, survey_flows}
+use Rattle.code_verify.proofs.Running.{runnable}
+use Rattle.code_verify.proofs.accept.settle.Goals as goal
+
+pub new-requires : goal.new-requires
+new-requires c =
+    let code = c.args.code in
+    let s = c.args.survey in
+    let rows = c.requires.survey.rows_are in
+    let short = subst AreShort c.deref.ensures.value (c.are_short.ensures c.if-not-are_short.false) in
+    record {
+      verified = record {
+        sound = c.requires.sound;
+        runnable =
+            runnable code c.args.stacks.items c.requires.tables c.requires.sound c.requires.stacks
+            (survey_flows (plain code) s.calls.items s.waiting.items s.drops.items rows) short;
+        stacks_are = c.requires.stacks;
+        releases = survey_releases (plain code) s.calls.items s.waiting.items s.drops.items rows;
+      };
+    }

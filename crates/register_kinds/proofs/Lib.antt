@@ -1,0 +1,14 @@
+pub mod Sets
+pub mod Types
+pub mod Places
+pub mod Changed
+pub mod Keeps
+pub mod LentLists
+pub mod Sights
+pub mod Short
+pub mod Subsets
+pub mod Arriving
+pub mod Entered
+pub mod Reaching
+pub mod TakenKinds
+pub mod Less

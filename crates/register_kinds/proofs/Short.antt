@@ -1,0 +1,50 @@
+-- Two lists in step, of which the other ends first.
+use Rattle.std.proofs.Common.{◌≡◌, ℕ, zero, suc, ◌<◌, ◌≤◌, List, [], ◌∷◌, None, drop, length, slice_get, refl, arith}
+use Rattle.std.specs.Prelude.{Bool, true}
+use Rattle.fip_language.specs.Table.{Table}
+use Rattle.fip_base.specs.declared.plain.Param.{Param}
+use Rattle.cell_code.specs.declared.kind.Kind.{Kind}
+use Rattle.sound_code.specs.Handing.{give_all, pass_all, hand_all, lend_all}
+use Rattle.sound_code.specs.Leaves.{received}
+use Rattle.sound_code.specs.Taking.{part_from}
+
+pub drop_none : {X : Type 0} (xs : List X) (j : ℕ) → slice_get xs j ≡ None → drop j xs ≡ []
+drop_none [] zero h = refl
+drop_none [] (suc j) h = refl
+drop_none (x ∷ xs) zero h = absurd (cc)
+drop_none (x ∷ xs) (suc j) h = drop_none xs j h
+
+drop_past : {X : Type 0} (xs : List X) (j : ℕ) → length xs ≤ j → drop j xs ≡ []
+drop_past [] zero h = refl
+drop_past [] (suc j) h = refl
+drop_past (x ∷ xs) zero h = absurd (omega arith)
+drop_past (x ∷ xs) (suc j) h = drop_past xs j (omega arith)
+
+more : {X : Type 0} (xs : List X) (i : ℕ) → i < length xs → (x : X) × (rest : List X) × (drop i xs ≡ x ∷ rest)
+more [] i h = absurd (omega arith)
+more (x ∷ xs) zero h = (x, xs, refl)
+more (x ∷ xs) (suc i) h = more xs i (omega arith)
+
+pub give_short : (ks : List Kind) (ss ts : List ℕ) (i j : ℕ) → i < length ss → length ts ≤ j →
+    give_all ks (drop i ss) (drop j ts) ≡ None
+give_short ks ss ts i j h e = let m = more ss i h in rw (m.2, drop_past ts j e) refl
+
+pub pass_short : (w : Table) (ks : List Kind) (ss : List Param) (ts : List ℕ) (i j : ℕ) → i < length ss →
+    length ts ≤ j → pass_all w ks (drop i ss) (drop j ts) ≡ None
+pass_short w ks ss ts i j h e = let m = more ss i h in rw (m.2, drop_past ts j e) refl
+
+pub hand_short : (ks : List Kind) (ss ts : List ℕ) (i j : ℕ) → i < length ss → length ts ≤ j →
+    hand_all ks (drop i ss) (drop j ts) ≡ None
+hand_short ks ss ts i j h e = let m = more ss i h in rw (m.2, drop_past ts j e) refl
+
+pub lend_short : (w : Table) (tail : Bool) (ks : List Kind) (ss : List Param) (ts : List ℕ) (i j : ℕ) →
+    i < length ss → length ts ≤ j → lend_all w tail ks (drop i ss) (drop j ts) ≡ true
+lend_short w tail ks ss ts i j h e = let m = more ss i h in rw (m.2, drop_past ts j e) refl
+
+pub received_short : (w : Table) (ks : List Kind) (ss ts : List ℕ) (i j : ℕ) → i < length ss → length ts ≤ j →
+    received w ks (drop i ss) (drop j ts) ≡ ks
+received_short w ks ss ts i j h e = let m = more ss i h in rw (m.2, drop_past ts j e) refl
+
+pub part_short : (n : ℕ) (ss ts : List ℕ) (i j q : ℕ) → i < length ss → length ts ≤ j →
+    part_from n (drop i ss) (drop j ts) q ≡ None
+part_short n ss ts i j q h e = let m = more ss i h in rw (m.2, drop_past ts j e) refl

@@ -1,0 +1,557 @@
+-- What taking a cell apart makes of all kinds, as registers are looked at in turn.
+use Rattle.std.proofs.Common.{◌≡◌, ℕ, zero, suc, ◌+◌, ◌<◌, ◌≤◌, ◌⊎◌, inl, inr, List, [], ◌∷◌, length, drop, set, get_or, refl, sym, ap, ◌∙◌, subst, arith}
+use Rattle.std.specs.Prelude.{Bool, true, false, ◌||◌, ◌&&◌, not, is_some, ◌==◌, if◌then◌else◌, Option, Some, None}
+use Rattle.std.proofs.lemmas.Bool.{lt-ltb, le-ltb, eq-eqb, ne_eqb}
+use Rattle.std.proofs.lemmas.Bool.Decides.{eqb_tells}
+use Rattle.fip_language.specs.Table.{Table}
+use Rattle.cell_code.specs.declared.kind.Kind.{Kind}
+use Rattle.cell_code.specs.declared.kind.Kind.TheVariants.{Gone, Scalar, Owned, Lent, Credit}
+use Rattle.sound_code.specs.Kinds.{at, has, is_lent_of}
+use Rattle.sound_code.specs.Changes.{forget}
+use Rattle.sound_code.specs.Taking.{Part, part, part_from, is_heir, is_heir_by, fate, with_root, ends, part_kind, part_or, credit}
+use Rattle.sound_code.specs.Taking.{taken}
+use Rattle.register_kinds.specs.Kept.{is_lent}
+use Rattle.register_kinds.specs.Takes.{seen_by, seen_at, kept_at, is_used, forgotten, fated, filled_by, filled_at, emptied, in_turn, Alike}
+use Rattle.register_kinds.proofs.Places.{at_set_same, at_set_other, set_long, set_same}
+use Rattle.register_kinds.proofs.Changed.{is_become, forget_other, forget_twice, forget_same, lent_forget}
+use Rattle.register_kinds.proofs.Keeps.{either}
+
+-- registers in turn
+
+in_turn_long : (g : ℕ → Kind → Kind) (ks : List Kind) (qs : List ℕ) → length (in_turn g ks qs) ≡ length ks
+in_turn_long g ks [] = refl
+in_turn_long g ks (q ∷ qs) = in_turn_long g (set ks q (g q (at ks q))) qs ∙ set_long ks q (g q (at ks q))
+
+set_turn : (g : ℕ → Kind → Kind) (ks : List Kind) (x q : ℕ) →
+    (at (set ks x (g x (at ks x))) q ≡ at ks q) ⊎ (at (set ks x (g x (at ks x))) q ≡ g q (at ks q))
+set_turn g [] x q = inl refl
+set_turn g (k ∷ ks) zero zero = inr refl
+set_turn g (k ∷ ks) zero (suc q) = inl refl
+set_turn g (k ∷ ks) (suc x) zero = inl refl
+set_turn g (k ∷ ks) (suc x) (suc q) = set_turn (λ n. g (suc n)) ks x q
+
+set_met : (g : ℕ → Kind → Kind) (ks : List Kind) (x : ℕ) → x < length ks →
+    at (set ks x (g x (at ks x))) x ≡ g x (at ks x)
+set_met g ks x h = at_set_same ks x (g x (at ks x)) h
+
+-- Where a change is the same twice and changes no other, all registers have changed.
+once_more : (g : ℕ → Kind → Kind) (q : ℕ) (k l : Kind) → ((q : ℕ) (k : Kind) → g q (g q k) ≡ g q k) →
+    (l ≡ k) ⊎ (l ≡ g q k) → g q l ≡ g q k
+once_more g q k l i (inl e) = ap (g q) e
+once_more g q k l i (inr e) = ap (g q) e ∙ i q k
+
+or_cases : (a b : Bool) → (a || b) ≡ true → (a ≡ true) ⊎ (b ≡ true)
+or_cases true b e = inl refl
+or_cases false b e = inr e
+
+met_here : (g : ℕ → Kind → Kind) (ks : List Kind) (x q : ℕ) → q < length ks →
+    (((x == q) ≡ true) × (x ≡ q)) ⊎ (((x == q) ≡ false) × (x ≡ q → ⊥)) → (x == q) ≡ true →
+    at (set ks x (g x (at ks x))) q ≡ g q (at ks q)
+met_here g ks x q l (inl e) y =
+    ap (λ z. at (set ks x (g x (at ks x))) z) (sym e.1)
+    ∙ set_met g ks x (let z = e.1 in omega arith) ∙ ap (λ z. g z (at ks z)) e.1
+met_here g ks x q l (inr e) y = absurd (let z = e.0 in cc)
+
+-- what is still to be met, or has its new kind
+turned_on : (g : ℕ → Kind → Kind) → ((q : ℕ) (k : Kind) → g q (g q k) ≡ g q k) → (qs : List ℕ) (ks : List Kind)
+    (x q : ℕ) → q < length ks → g q (at (set ks x (g x (at ks x))) q) ≡ g q (at ks q) →
+    (has (x ∷ qs) q ≡ true) ⊎ (g q (at ks q) ≡ at ks q) →
+    (at (set ks x (g x (at ks x))) q ≡ at ks q) ⊎ (at (set ks x (g x (at ks x))) q ≡ g q (at ks q)) →
+    (has qs q ≡ true) ⊎ (g q (at (set ks x (g x (at ks x))) q) ≡ at (set ks x (g x (at ks x))) q)
+turned_on g i qs ks x q l m h (inr e) = inr (m ∙ sym e)
+turned_on g i qs ks x q l m (inr h) (inl e) = inr (m ∙ h ∙ sym e)
+turned_on g i qs ks x q l m (inl h) (inl e) =
+    elim (or_cases (x == q) (has qs q) h) [
+      | inl y ↦ inr (m ∙ sym (met_here g ks x q l (eqb_tells x q) y))
+      | inr y ↦ inl y
+    ]
+
+pub turned : (g : ℕ → Kind → Kind) → ((q : ℕ) (k : Kind) → g q (g q k) ≡ g q k) → (qs : List ℕ) (ks : List Kind)
+    (q : ℕ) → q < length ks → (has qs q ≡ true) ⊎ (g q (at ks q) ≡ at ks q) →
+    at (in_turn g ks qs) q ≡ g q (at ks q)
+turned g i [] ks q l (inl h) = absurd (cc)
+turned g i [] ks q l (inr h) = sym h
+turned g i (x ∷ qs) ks q l h =
+    let s = set_long ks x (g x (at ks x)) in
+    let m = once_more g q (at ks q) (at (set ks x (g x (at ks x))) q) i (set_turn g ks x q) in
+    turned g i qs (set ks x (g x (at ks x))) q (omega arith) (turned_on g i qs ks x q l m h (set_turn g ks x q)) ∙ m
+
+-- the parts
+
+part_some : (a b : Part) → Some a ≡ Some b → a ≡ b
+part_some a b e = cc
+
+first_named : (d : ℕ) (ds : List ℕ) (q x : ℕ) → d ≡ q → x ≡ 0 → get_or (d ∷ ds) x 0 ≡ q
+first_named d ds q zero e h = e
+first_named d ds q (suc x) e h = absurd (omega arith)
+
+later_named : (d : ℕ) (ds : List ℕ) (q x i n : ℕ) → suc i ≤ n → n ≡ i + x →
+    ((x : ℕ) → n ≡ suc i + x → get_or ds x 0 ≡ q) → get_or (d ∷ ds) x 0 ≡ q
+later_named d ds q zero i n h e f = absurd (omega arith)
+later_named d ds q (suc x) i n h e f = f x (omega arith)
+
+part_step : (i d t : ℕ) (ds ts : List ℕ) (q : ℕ) (p : Part) →
+    (((d == q) ≡ true) × (d ≡ q)) ⊎ (((d == q) ≡ false) × (d ≡ q → ⊥)) →
+    (if d == q then Some (record { field = i; ty = t }) else part_from (suc i) ds ts q) ≡ Some p →
+    (part_from (suc i) ds ts q ≡ Some p →
+    (suc i ≤ p.field) × (p.field < suc i + length ds) × ((x : ℕ) → p.field ≡ suc i + x → get_or ds x 0 ≡ q)) →
+    (i ≤ p.field) × (p.field < i + suc (length ds)) × ((x : ℕ) → p.field ≡ i + x → get_or (d ∷ ds) x 0 ≡ q)
+part_step i d t ds ts q p (inl g) e h =
+    let f = (rw g.0 at e) in
+    let z = ap (λ (x : Part). x.field) (part_some (record { field = i; ty = t }) p f) in
+    ((omega arith), (omega arith), (λ x y. first_named d ds q x g.1 (omega arith)))
+part_step i d t ds ts q p (inr g) e h =
+    let f = (rw g.0 at e) in
+    let k = h f in
+    let a = k.0 in
+    let b = k.1 in
+    ((omega arith), (omega arith), (λ x y. later_named d ds q x i p.field a y k.2))
+
+part_there : (i : ℕ) (ds ts : List ℕ) (q : ℕ) (p : Part) → part_from i ds ts q ≡ Some p →
+    (i ≤ p.field) × (p.field < i + length ds) × ((d : ℕ) → p.field ≡ i + d → get_or ds d 0 ≡ q)
+part_there i [] ts q p e = absurd (cc)
+part_there i (d ∷ ds) [] q p e = absurd (cc)
+part_there i (d ∷ ds) (t ∷ ts) q p e = part_step i d t ds ts q p (eqb_tells d q) e (part_there (suc i) ds ts q p)
+
+pub part_within : (ds ts : List ℕ) (q : ℕ) (p : Part) → part ds ts q ≡ Some p → p.field < length ds
+part_within ds ts q p e = let h = part_there 0 ds ts q p e in let g = h.1 in omega arith
+
+pub part_names : (ds ts : List ℕ) (q : ℕ) (p : Part) → part ds ts q ≡ Some p → get_or ds p.field 0 ≡ q
+part_names ds ts q p e = (part_there 0 ds ts q p e).2 p.field (omega arith)
+
+-- what isn't lent
+
+unlent_fate : (o : Option ℕ) (r : ℕ) (k : Kind) → is_lent k ≡ false → fate o r k ≡ k
+unlent_fate None r Gone e = refl
+unlent_fate None r (Scalar t) e = refl
+unlent_fate None r (Owned t s) e = refl
+unlent_fate None r (Lent t s root from) e = absurd (cc)
+unlent_fate None r (Credit n) e = refl
+unlent_fate (Some d) r Gone e = refl
+unlent_fate (Some d) r (Scalar t) e = refl
+unlent_fate (Some d) r (Owned t s) e = refl
+unlent_fate (Some d) r (Lent t s root from) e = absurd (cc)
+unlent_fate (Some d) r (Credit n) e = refl
+
+if_same : (b : Bool) (k l : Kind) → l ≡ k → (if b then k else l) ≡ k
+if_same true k l e = refl
+if_same false k l e = e
+
+pub unlent_forgotten : (r : ℕ) (parts : ℕ → Option Part) (ended : ℕ → Bool) (q : ℕ) (k : Kind) → is_lent k ≡ false →
+    forgotten r parts ended q k ≡ k
+unlent_forgotten r parts ended q k e = if_same (is_used r parts q) k (forget ended k) (forget_other ended k e)
+
+pub unlent_fated : (r : ℕ) (parts : ℕ → Option Part) (os : List (Option ℕ)) (q : ℕ) (k : Kind) → is_lent k ≡ false →
+    fated r parts os q k ≡ k
+unlent_fated r parts os q k e =
+    if_same (is_used r parts q) k (fate (seen_by os q k) r k) (unlent_fate (seen_by os q k) r k e)
+
+lent_forgets : (p : ℕ → Bool) (k : Kind) → is_lent (forget p k) ≡ is_lent k
+lent_forgets p Gone = refl
+lent_forgets p (Scalar t) = refl
+lent_forgets p (Owned t s) = refl
+lent_forgets p (Lent t s root from) = refl
+lent_forgets p (Credit n) = refl
+
+if_lent : (b : Bool) (p : ℕ → Bool) (k : Kind) → is_lent (if b then k else forget p k) ≡ is_lent k
+if_lent true p k = refl
+if_lent false p k = lent_forgets p k
+
+pub lent_forgotten : (r : ℕ) (parts : ℕ → Option Part) (ended : ℕ → Bool) (q : ℕ) (k : Kind) →
+    is_lent (forgotten r parts ended q k) ≡ is_lent k
+lent_forgotten r parts ended q k = if_lent (is_used r parts q) ended k
+
+if_root : (b : Bool) (p : ℕ → Bool) (r : ℕ) (k : Kind) → is_lent_of r (if b then k else forget p k) ≡ is_lent_of r k
+if_root true p r k = refl
+if_root false p r k = lent_forget p r k
+
+root_forgotten : (r : ℕ) (parts : ℕ → Option Part) (ended : ℕ → Bool) (q : ℕ) (k : Kind) →
+    is_lent_of r (forgotten r parts ended q k) ≡ is_lent_of r k
+root_forgotten r parts ended q k = if_root (is_used r parts q) ended r k
+
+-- twice is once
+
+if_twice : (b : Bool) (f : Kind → Kind) (k : Kind) → f (f k) ≡ f k →
+    (if b then (if b then k else f k) else f (if b then k else f k)) ≡ (if b then k else f k)
+if_twice true f k e = refl
+if_twice false f k e = e
+
+pub forgotten_twice : (r : ℕ) (parts : ℕ → Option Part) (ended : ℕ → Bool) (q : ℕ) (k : Kind) →
+    forgotten r parts ended q (forgotten r parts ended q k) ≡ forgotten r parts ended q k
+forgotten_twice r parts ended q k = if_twice (is_used r parts q) (forget ended) k (forget_twice ended k)
+
+lost : (r : ℕ) (k : Kind) (b : Bool) → is_lent_of r k ≡ b →
+    fate None r (if b then Gone else k) ≡ (if b then Gone else k)
+lost r k true e = refl
+lost r k false e = rw e refl
+
+seen_gone : (os : List (Option ℕ)) (q r : ℕ) (k : Kind) (b : Bool) → is_lent_of r k ≡ b → seen_by os q k ≡ None →
+    fate (seen_by os q (if b then Gone else k)) r (if b then Gone else k) ≡ (if b then Gone else k)
+seen_gone os q r k true e h = refl
+seen_gone os q r k false e h = ap (λ o. fate o r k) h ∙ lost r k false e
+
+fate_by : (os : List (Option ℕ)) (q r : ℕ) (k : Kind) (o : Option ℕ) → seen_by os q k ≡ o →
+    fate (seen_by os q (fate o r k)) r (fate o r k) ≡ fate o r k
+fate_by os q r k None e = seen_gone os q r k (is_lent_of r k) refl e
+fate_by os q r Gone (Some d) e = refl
+fate_by os q r (Scalar t) (Some d) e = refl
+fate_by os q r (Owned t s) (Some d) e = refl
+fate_by os q r (Lent t s root from) (Some d) e = ap (λ o. fate o r (Lent t s (Some d) from)) e
+fate_by os q r (Credit n) (Some d) e = refl
+
+pub fated_twice : (r : ℕ) (parts : ℕ → Option Part) (os : List (Option ℕ)) (q : ℕ) (k : Kind) →
+    fated r parts os q (fated r parts os q k) ≡ fated r parts os q k
+fated_twice r parts os q k =
+    if_twice (is_used r parts q) (λ x. fate (seen_by os q x) r x) k (fate_by os q r k (seen_by os q k) refl)
+
+-- forgetting and fate don't meet
+
+with_forget : (d : ℕ) (p : ℕ → Bool) (k : Kind) → with_root d (forget p k) ≡ forget p (with_root d k)
+with_forget d p Gone = refl
+with_forget d p (Scalar t) = refl
+with_forget d p (Owned t s) = refl
+with_forget d p (Lent t s root from) = refl
+with_forget d p (Credit n) = refl
+
+gone_forget : (p : ℕ → Bool) (k : Kind) (a b : Bool) → a ≡ b →
+    (if a then Gone else forget p k) ≡ forget p (if b then Gone else k)
+gone_forget p k true true e = refl
+gone_forget p k true false e = absurd (cc)
+gone_forget p k false true e = absurd (cc)
+gone_forget p k false false e = refl
+
+fate_forget : (o : Option ℕ) (r : ℕ) (p : ℕ → Bool) (k : Kind) → fate o r (forget p k) ≡ forget p (fate o r k)
+fate_forget None r p k = gone_forget p k (is_lent_of r (forget p k)) (is_lent_of r k) (lent_forget p r k)
+fate_forget (Some d) r p k = with_forget d p k
+
+seen_forget : (os : List (Option ℕ)) (q : ℕ) (p : ℕ → Bool) (k : Kind) → seen_by os q (forget p k) ≡ seen_by os q k
+seen_forget os q p k = ap (λ b. if b then kept_at os q else None) (lent_forgets p k)
+
+pub both : (os : List (Option ℕ)) (q r : ℕ) (p : ℕ → Bool) (k : Kind) →
+    fate (seen_by os q (forget p k)) r (forget p k) ≡ forget p (fate (seen_by os q k) r k)
+both os q r p k = ap (λ o. fate o r (forget p k)) (seen_forget os q p k) ∙ fate_forget (seen_by os q k) r p k
+
+-- while registers forget
+
+pub alike_here : (r : ℕ) (parts : ℕ → Option Part) (ks : List Kind) → Alike r parts ks ks
+alike_here r parts ks = record { used = λ q e. refl; lent = λ q. refl; root = λ q. refl }
+
+kept_used : (b : Bool) (p : ℕ → Bool) (k : Kind) → b ≡ true → (if b then k else forget p k) ≡ k
+kept_used true p k e = refl
+kept_used false p k e = absurd (cc)
+
+pub alike_step : (r : ℕ) (parts : ℕ → Option Part) (ended : ℕ → Bool) (ks start : List Kind) (x : ℕ) →
+    Alike r parts ks start → Alike r parts (set ks x (forgotten r parts ended x (at ks x))) start
+alike_step r parts ended ks start x a = record {
+  used = either (λ q k. is_used r parts q ≡ true → k ≡ at start q) ks x (forgotten r parts ended x (at ks x)) a.used
+      (λ e. kept_used (is_used r parts x) ended (at ks x) e ∙ a.used x e);
+  lent = either (λ q k. is_lent k ≡ is_lent (at start q)) ks x (forgotten r parts ended x (at ks x)) a.lent
+      (lent_forgotten r parts ended x (at ks x) ∙ a.lent x);
+  root = either (λ q k. is_lent_of r k ≡ is_lent_of r (at start q)) ks x (forgotten r parts ended x (at ks x)) a.root
+      (root_forgotten r parts ended x (at ks x) ∙ a.root x);
+}
+
+used_by : (a b : Bool) → a ≡ true → (a || b) ≡ true
+used_by true b e = refl
+used_by false b e = absurd (cc)
+
+used_some : (r : ℕ) (parts : ℕ → Option Part) (q : ℕ) (p : Part) → parts q ≡ Some p → is_used r parts q ≡ true
+used_some r parts q p e = used_by (is_some (parts q)) (q == r) (ap is_some e)
+
+heir_alike : (w : Table) (r : ℕ) (parts : ℕ → Option Part) (ks start : List Kind) (q : ℕ) (o : Option Part) →
+    parts q ≡ o → is_some o ≡ true → Alike r parts ks start →
+    is_heir w ks r parts q ≡ is_heir w start r parts q
+heir_alike w r parts ks start q None e h a = absurd (cc)
+heir_alike w r parts ks start q (Some p) e h a =
+    ap (λ k. is_heir_by w r k (parts q)) (a.used q (used_some r parts q p e))
+
+seen_alike : (r : ℕ) (parts : ℕ → Option Part) (ks start : List Kind) (os : List (Option ℕ)) (q : ℕ) →
+    Alike r parts ks start → seen_at ks os q ≡ seen_at start os q
+seen_alike r parts ks start os q a = ap (λ b. if b then kept_at os q else None) (a.lent q)
+
+ends_by : (w : Table) (r : ℕ) (parts : ℕ → Option Part) (ks start : List Kind) (os : List (Option ℕ)) (size q : ℕ)
+    (b c : Bool) → is_some (parts q) ≡ b → Alike r parts ks start →
+    (if b then not (is_heir w ks r parts q) else
+    (if c then size == 0 else is_lent_of r (at ks q) && not (is_some (seen_at ks os q))))
+    ≡ (if b then not (is_heir w start r parts q) else
+    (if c then size == 0 else is_lent_of r (at start q) && not (is_some (seen_at start os q))))
+ends_by w r parts ks start os size q true c e a = ap not (heir_alike w r parts ks start q (parts q) refl e a)
+ends_by w r parts ks start os size q false true e a = refl
+ends_by w r parts ks start os size q false false e a =
+    ap (λ b. b && not (is_some (seen_at ks os q))) (a.root q)
+    ∙ ap (λ o. is_lent_of r (at start q) && not (is_some o)) (seen_alike r parts ks start os q a)
+
+ends_alike : (w : Table) (r : ℕ) (parts : ℕ → Option Part) (ks start : List Kind) (os : List (Option ℕ)) (size q : ℕ) →
+    Alike r parts ks start →
+    ends w ks r parts size (seen_at ks os) q ≡ ends w start r parts size (seen_at start os) q
+ends_alike w r parts ks start os size q a =
+    ends_by w r parts ks start os size q (is_some (parts q)) (q == r) refl a
+
+forgotten_same : (r : ℕ) (parts : ℕ → Option Part) (e f : ℕ → Bool) (q : ℕ) (k : Kind) → ((q : ℕ) → e q ≡ f q) →
+    forgotten r parts e q k ≡ forgotten r parts f q k
+forgotten_same r parts e f q k h = ap (λ z. if is_used r parts q then k else z) (forget_same e f h k)
+
+-- one register more forgets what ends, as that was at the start
+pub ended_step : (w : Table) (r : ℕ) (parts : ℕ → Option Part) (size : ℕ) (os : List (Option ℕ)) (x : ℕ)
+    (ks start new : List Kind) (qs : List ℕ) → Alike r parts ks start →
+    new ≡ set ks x (forgotten r parts (ends w ks r parts size (seen_at ks os)) x (at ks x)) →
+    in_turn (forgotten r parts (ends w start r parts size (seen_at start os))) new qs
+    ≡ in_turn (forgotten r parts (ends w start r parts size (seen_at start os))) ks (x ∷ qs)
+ended_step w r parts size os x ks start new qs a e =
+    ap (λ z. in_turn (forgotten r parts (ends w start r parts size (seen_at start os))) z qs)
+    (e ∙ ap (set ks x) (forgotten_same r parts (ends w ks r parts size (seen_at ks os))
+    (ends w start r parts size (seen_at start os)) x (at ks x)
+    (λ q. ends_alike w r parts ks start os size q a)))
+
+past_end : (xs : List ℕ) (i : ℕ) → length xs ≤ i → drop i xs ≡ []
+past_end [] zero h = refl
+past_end [] (suc i) h = refl
+past_end (x ∷ xs) zero h = absurd (omega arith)
+past_end (x ∷ xs) (suc i) h = past_end xs i (omega arith)
+
+pub turns_done : (g : ℕ → Kind → Kind) (ks : List Kind) (qs : List ℕ) (i : ℕ) → length qs ≤ i →
+    ks ≡ in_turn g ks (drop i qs)
+turns_done g ks qs i h = sym (ap (in_turn g ks) (past_end qs i h))
+
+-- a register that isn't used and has no from that ends
+
+pub kept_own : (g : ℕ → Kind → Kind) (ks : List Kind) (q : ℕ) → g q (at ks q) ≡ at ks q → ks ≡ set ks q (g q (at ks q))
+kept_own g ks q e = sym (ap (set ks q) e ∙ set_same ks q)
+
+pub used_forgotten : (r : ℕ) (parts : ℕ → Option Part) (ended : ℕ → Bool) (q : ℕ) (k : Kind) →
+    is_used r parts q ≡ true → forgotten r parts ended q k ≡ k
+used_forgotten r parts ended q k e = kept_used (is_used r parts q) ended k e
+
+pub unused_forgotten : (r : ℕ) (parts : ℕ → Option Part) (ended : ℕ → Bool) (q : ℕ) (k : Kind) →
+    forget ended k ≡ k → forgotten r parts ended q k ≡ k
+unused_forgotten r parts ended q k e = if_same (is_used r parts q) k (forget ended k) e
+
+kept_fated : (b : Bool) (k l : Kind) → b ≡ true → (if b then k else l) ≡ k
+kept_fated true k l e = refl
+kept_fated false k l e = absurd (cc)
+
+pub used_fated : (r : ℕ) (parts : ℕ → Option Part) (os : List (Option ℕ)) (q : ℕ) (k : Kind) →
+    is_used r parts q ≡ true → fated r parts os q k ≡ k
+used_fated r parts os q k e = kept_fated (is_used r parts q) k (fate (seen_by os q k) r k) e
+
+-- the fates of registers that aren't used
+
+if_not : (b : Bool) (k l : Kind) → b ≡ false → l ≡ (if b then k else l)
+if_not true k l e = absurd (cc)
+if_not false k l e = refl
+
+pub fated_some : (r : ℕ) (parts : ℕ → Option Part) (os : List (Option ℕ)) (q d : ℕ) (k : Kind) →
+    is_used r parts q ≡ false → seen_by os q k ≡ Some d → with_root d k ≡ fated r parts os q k
+fated_some r parts os q d k u e =
+    ap (λ o. fate o r k) (sym e) ∙ if_not (is_used r parts q) k (fate (seen_by os q k) r k) u
+
+lost_gone : (r : ℕ) (k : Kind) (b : Bool) → is_lent_of r k ≡ b → b ≡ true → Gone ≡ (if b then Gone else k)
+lost_gone r k true e h = refl
+lost_gone r k false e h = absurd (cc)
+
+lost_kept : (r : ℕ) (k : Kind) (b : Bool) → b ≡ false → (if b then Gone else k) ≡ k
+lost_kept r k true e = absurd (cc)
+lost_kept r k false e = refl
+
+pub fated_gone : (r : ℕ) (parts : ℕ → Option Part) (os : List (Option ℕ)) (q : ℕ) (k : Kind) →
+    is_used r parts q ≡ false → seen_by os q k ≡ None → is_lent_of r k ≡ true → Gone ≡ fated r parts os q k
+fated_gone r parts os q k u e h =
+    lost_gone r k (is_lent_of r k) refl h ∙ ap (λ o. fate o r k) (sym e)
+    ∙ if_not (is_used r parts q) k (fate (seen_by os q k) r k) u
+
+pub fated_kept : (r : ℕ) (parts : ℕ → Option Part) (os : List (Option ℕ)) (q : ℕ) (k : Kind) →
+    seen_by os q k ≡ None → is_lent_of r k ≡ false → fated r parts os q k ≡ k
+fated_kept r parts os q k e h =
+    if_same (is_used r parts q) k (fate (seen_by os q k) r k)
+    (ap (λ o. fate o r k) e ∙ lost_kept r k (is_lent_of r k) h)
+
+-- filling
+
+filled_far : (w : Table) (r n : ℕ) (k : Kind) (o : Option Part) → ((p : Part) → o ≡ Some p → p.field ≡ n → ⊥) →
+    k ≡ filled_at w r n k o
+filled_far w r n k None h = refl
+filled_far w r n k (Some p) h =
+    elim (eqb_tells p.field n) [ inl g ↦ absurd (h p refl g.1) | inr g ↦ rw g.0 refl ]
+
+pub fill_other : (w : Table) (r n : ℕ) (k : Kind) (ds ts : List ℕ) (d q : ℕ) → d ≡ get_or ds n 0 →
+    ((p : Part) → part ds ts d ≡ Some p → p.field ≡ n → ⊥) → k ≡ filled_at w r n k (part ds ts q)
+fill_other w r n k ds ts d q e h =
+    filled_far w r n k (part ds ts q)
+    (λ p g i. h p (ap (part ds ts) (e ∙ ap (λ z. get_or ds z 0) (sym i) ∙ part_names ds ts q p g) ∙ g) i)
+
+filled_here : (w : Table) (r n : ℕ) (k : Kind) (p : Part) → p.field ≡ n → part_kind w r k p ≡ filled_at w r n k (Some p)
+filled_here w r n k p e = rw (eq-eqb p.field n e) refl
+
+fill_placed : (w : Table) (r n : ℕ) (ks : List Kind) (ds ts : List ℕ) (d : ℕ) (p : Part) → d ≡ get_or ds n 0 →
+    part ds ts d ≡ Some p → p.field ≡ n → (q : ℕ) → q < length ks →
+    (((d == q) ≡ true) × (d ≡ q)) ⊎ (((d == q) ≡ false) × (d ≡ q → ⊥)) →
+    at (set ks d (part_kind w r (at ks d) p)) q ≡ filled_at w r n (at ks q) (part ds ts q)
+fill_placed w r n ks ds ts d p e g f q l (inl h) =
+    ap (λ z. at (set ks d (part_kind w r (at ks d) p)) z) (sym h.1)
+    ∙ at_set_same ks d (part_kind w r (at ks d) p) (let z = h.1 in omega arith)
+    ∙ filled_here w r n (at ks d) p f
+    ∙ ap (filled_at w r n (at ks d)) (sym g)
+    ∙ ap (λ z. filled_at w r n (at ks z) (part ds ts z)) h.1
+fill_placed w r n ks ds ts d p e g f q l (inr h) =
+    at_set_other ks d q (part_kind w r (at ks d) p) h.1
+    ∙ filled_far w r n (at ks q) (part ds ts q)
+    (λ y i j. h.1 (e ∙ ap (λ z. get_or ds z 0) (sym j) ∙ part_names ds ts q y i))
+
+pub fill_put : (w : Table) (r n : ℕ) (ks new : List Kind) (ds ts : List ℕ) (d : ℕ) (p : Part) → d ≡ get_or ds n 0 →
+    part ds ts d ≡ Some p → p.field ≡ n → new ≡ set ks d (part_kind w r (at ks d) p) → (q : ℕ) → q < length ks →
+    at new q ≡ filled_at w r n (at ks q) (part ds ts q)
+fill_put w r n ks new ds ts d p e g f s q l =
+    ap (λ z. at z q) s ∙ fill_placed w r n ks ds ts d p e g f q l (eqb_tells d q)
+
+pub filled_start : (w : Table) (r : ℕ) (k : Kind) (o : Option Part) → k ≡ filled_by w r 0 k o
+filled_start w r k None = refl
+filled_start w r k (Some p) = rw (le-ltb p.field 0 (omega arith)) refl
+
+next_at_most : (x n : ℕ) → ((x < n) ⊎ (x ≡ n)) ⊎ (suc n ≤ x)
+next_at_most x n = grind arith
+
+pub filled_next : (w : Table) (r n : ℕ) (k : Kind) (o : Option Part) →
+    filled_at w r n (filled_by w r n k o) o ≡ filled_by w r (n + 1) k o
+filled_next w r n k None = refl
+filled_next w r n k (Some p) =
+    elim (next_at_most p.field n) [
+      | inl h ↦ elim h [
+        | inl g ↦ rw (ne_eqb p.field n (λ e. omega arith), lt-ltb p.field n g, lt-ltb p.field (n + 1) (omega arith)) refl
+        | inr g ↦ rw (eq-eqb p.field n g, le-ltb p.field n (omega arith), lt-ltb p.field (n + 1) (omega arith)) refl
+      ]
+      | inr g ↦ rw (
+        ne_eqb p.field n (λ e. omega arith),
+        le-ltb p.field n (omega arith),
+        le-ltb p.field (n + 1) (omega arith),
+      ) refl
+    ]
+
+-- all together
+
+two_used : (r : ℕ) (parts : ℕ → Option Part) (os : List (Option ℕ)) (ended : ℕ → Bool) (q : ℕ) (k : Kind) →
+    is_used r parts q ≡ true → fated r parts os q (forgotten r parts ended q k) ≡ k
+two_used r parts os ended q k u =
+    used_fated r parts os q (forgotten r parts ended q k) u ∙ used_forgotten r parts ended q k u
+
+two_unused : (r : ℕ) (parts : ℕ → Option Part) (os : List (Option ℕ)) (ended : ℕ → Bool) (q : ℕ) (k : Kind) →
+    is_used r parts q ≡ false →
+    fated r parts os q (forgotten r parts ended q k) ≡ forget ended (fate (seen_by os q k) r k)
+two_unused r parts os ended q k u =
+    ap (fated r parts os q) (sym (if_not (is_used r parts q) k (forget ended k) u))
+    ∙ sym (if_not (is_used r parts q) (forget ended k) (fate (seen_by os q (forget ended k)) r (forget ended k)) u)
+    ∙ both os q r ended k
+
+filled_full : (w : Table) (r size : ℕ) (k l : Kind) (p : Part) → p.field < size → l ≡ k →
+    filled_by w r size l (Some p) ≡ part_kind w r k p
+filled_full w r size k l p h e = rw (lt-ltb p.field size h) (ap (λ z. part_kind w r z p) e)
+
+used_or : (a b : Bool) → a ≡ false → b ≡ false → (a || b) ≡ false
+used_or true b e f = absurd (cc)
+used_or false b e f = f
+
+-- a register that doesn't own the cell
+other_case : (w : Table) (r size : ℕ) (parts : ℕ → Option Part) (os : List (Option ℕ)) (ended : ℕ → Bool) (q : ℕ)
+    (k : Kind) (o : Option Part) → parts q ≡ o → ((p : Part) → o ≡ Some p → p.field < size) → (q == r) ≡ false →
+    filled_by w r size (fated r parts os q (forgotten r parts ended q k)) o
+    ≡ part_or w r k o (if q == r then credit size else forget ended (fate (seen_by os q k) r k))
+other_case w r size parts os ended q k None e h g =
+    two_unused r parts os ended q k (used_or (is_some (parts q)) (q == r) (ap is_some e) g) ∙ rw g refl
+other_case w r size parts os ended q k (Some p) e h g =
+    filled_full w r size k (fated r parts os q (forgotten r parts ended q k)) p (h p refl)
+    (two_used r parts os ended q k (used_some r parts q p e))
+
+emptied_other : (ks : List Kind) (r size q : ℕ) (o : Option Part) → (q ≡ r → ⊥) → at (emptied ks r o size) q ≡ at ks q
+emptied_other ks r size q None h = at_set_other ks r q (credit size) (λ e. h (sym e))
+emptied_other ks r size q (Some p) h = refl
+
+-- the register that owned the cell
+own_case : (w : Table) (r size : ℕ) (parts : ℕ → Option Part) (os : List (Option ℕ)) (ended : ℕ → Bool)
+    (k x : Kind) (ks : List Kind) (o : Option Part) → parts r ≡ o → ((p : Part) → o ≡ Some p → p.field < size) →
+    r < length ks → at ks r ≡ filled_by w r size (fated r parts os r (forgotten r parts ended r k)) o →
+    at (emptied ks r o size) r ≡ part_or w r k o (credit size)
+own_case w r size parts os ended k x ks None e h l f = at_set_same ks r (credit size) l
+own_case w r size parts os ended k x ks (Some p) e h l f =
+    f ∙ filled_full w r size k (fated r parts os r (forgotten r parts ended r k)) p (h p refl)
+    (two_used r parts os ended r k (used_some r parts r p e))
+
+emptied_long : (ks : List Kind) (r size : ℕ) (o : Option Part) → length (emptied ks r o size) ≡ length ks
+emptied_long ks r size None = set_long ks r (credit size)
+emptied_long ks r size (Some p) = refl
+
+new_own : (w : Table) (r : ℕ) (ds ts : List ℕ) (os : List (Option ℕ)) (ended : ℕ → Bool) (ks third : List Kind) (q : ℕ) →
+    q < length third →
+    at third q ≡ filled_by w r (length ds) (fated r (part ds ts) os q (forgotten r (part ds ts) ended q (at ks q)))
+    (part ds ts q) → q ≡ r →
+    at (emptied third r (part ds ts r) (length ds)) q ≡ part_or w r (at ks q) (part ds ts q) (credit (length ds))
+new_own w r ds ts os ended ks third q l f e =
+    subst (λ z. at (emptied third r (part ds ts r) (length ds)) z ≡ part_or w r (at ks z) (part ds ts z) (credit (length ds)))
+    (sym e)
+    (own_case w r (length ds) (part ds ts) os ended (at ks r) Gone third (part ds ts r) refl
+    (λ p i. part_within ds ts r p i) (subst (λ z. z < length third) e l)
+    (subst (λ z. at third z ≡ filled_by w r (length ds) (fated r (part ds ts) os z (forgotten r (part ds ts) ended z (at ks z)))
+    (part ds ts z)) e f))
+
+new_at : (w : Table) (r : ℕ) (ds ts : List ℕ) (os : List (Option ℕ)) (ended : ℕ → Bool) (ks third : List Kind) (q : ℕ) →
+    q < length third →
+    at third q ≡ filled_by w r (length ds) (fated r (part ds ts) os q (forgotten r (part ds ts) ended q (at ks q)))
+    (part ds ts q) →
+    (((q == r) ≡ true) × (q ≡ r)) ⊎ (((q == r) ≡ false) × (q ≡ r → ⊥)) →
+    at (emptied third r (part ds ts r) (length ds)) q
+    ≡ part_or w r (at ks q) (part ds ts q)
+    (if q == r then credit (length ds) else forget ended (fate (seen_by os q (at ks q)) r (at ks q)))
+new_at w r ds ts os ended ks third q l f (inr g) =
+    emptied_other third r (length ds) q (part ds ts r) g.1 ∙ f
+    ∙ other_case w r (length ds) (part ds ts) os ended q (at ks q) (part ds ts q) refl
+    (λ p e. part_within ds ts q p e) g.0
+new_at w r ds ts os ended ks third q l f (inl g) =
+    rw g.0 (new_own w r ds ts os ended ks third q l f g.1)
+
+listed_or : (a b : Bool) → (a ≡ true → b ≡ true) → (b ≡ true) ⊎ (a ≡ false)
+listed_or true b h = inl (h refl)
+listed_or false b h = inr refl
+
+listed_forgotten : (r : ℕ) (parts : ℕ → Option Part) (ended : ℕ → Bool) (q : ℕ) (k : Kind) (b : Bool) →
+    (b ≡ true) ⊎ (is_lent k ≡ false) → (b ≡ true) ⊎ (forgotten r parts ended q k ≡ k)
+listed_forgotten r parts ended q k b (inl h) = inl h
+listed_forgotten r parts ended q k b (inr h) = inr (unlent_forgotten r parts ended q k h)
+
+listed_fated : (r : ℕ) (parts : ℕ → Option Part) (os : List (Option ℕ)) (ended : ℕ → Bool) (q : ℕ) (k l : Kind)
+    (b : Bool) → k ≡ forgotten r parts ended q l → (b ≡ true) ⊎ (is_lent l ≡ false) →
+    (b ≡ true) ⊎ (fated r parts os q k ≡ k)
+listed_fated r parts os ended q k l b e (inl h) = inl h
+listed_fated r parts os ended q k l b e (inr h) =
+    inr (unlent_fated r parts os q k (ap is_lent e ∙ lent_forgotten r parts ended q l ∙ h))
+
+unlent_not : (ks : List Kind) (qs : List ℕ) → ((q : ℕ) → is_lent (at ks q) ≡ true → has qs q ≡ true) → (q : ℕ) →
+    (has qs q ≡ true) ⊎ (is_lent (at ks q) ≡ false)
+unlent_not ks qs h q = listed_or (is_lent (at ks q)) (has qs q) (h q)
+
+pub taken_is : (w : Table) (r : ℕ) (ds ts : List ℕ) (os : List (Option ℕ)) (ks first second third new : List Kind)
+    (qs : List ℕ) → ((q : ℕ) → is_lent (at ks q) ≡ true → has qs q ≡ true) →
+    first ≡ in_turn (forgotten r (part ds ts) (ends w ks r (part ds ts) (length ds) (seen_at ks os))) ks qs →
+    second ≡ in_turn (fated r (part ds ts) os) first qs →
+    ((q : ℕ) → q < length second →
+    at third q ≡ filled_by w r (length ds) (at second q) (part ds ts q)) → length third ≡ length second →
+    new ≡ emptied third r (part ds ts r) (length ds) → new ≡ taken w ks r (part ds ts) (length ds) (seen_at ks os)
+taken_is w r ds ts os ks first second third new qs lists a b fill long e =
+    let one = ap length a ∙ in_turn_long (forgotten r (part ds ts) (ends w ks r (part ds ts) (length ds) (seen_at ks os))) ks qs in
+    let two = ap length b ∙ in_turn_long (fated r (part ds ts) os) first qs in
+    let at_first : (q : ℕ) → q < length ks →
+    at first q ≡ forgotten r (part ds ts) (ends w ks r (part ds ts) (length ds) (seen_at ks os)) q (at ks q)
+    = (λ q l. ap (λ z. at z q) a ∙ turned (forgotten r (part ds ts) (ends w ks r (part ds ts) (length ds) (seen_at ks os)))
+    (forgotten_twice r (part ds ts) (ends w ks r (part ds ts) (length ds) (seen_at ks os))) qs ks q l
+    (listed_forgotten r (part ds ts) (ends w ks r (part ds ts) (length ds) (seen_at ks os)) q (at ks q) (has qs q)
+    (unlent_not ks qs lists q))) in
+    is_become ks new (λ q. part_or w r (at ks q) (part ds ts q) (if q == r then credit (length ds) else
+    forget (ends w ks r (part ds ts) (length ds) (seen_at ks os)) (fate (seen_at ks os q) r (at ks q))))
+    (ap length e ∙ emptied_long third r (length ds) (part ds ts r) ∙ long ∙ two ∙ one)
+    (λ q l. ap (λ z. at z q) e
+    ∙ new_at w r ds ts os (ends w ks r (part ds ts) (length ds) (seen_at ks os)) ks third q (omega arith)
+    (fill q (omega arith) ∙ ap (λ z. filled_by w r (length ds) z (part ds ts q))
+    (ap (λ z. at z q) b ∙ turned (fated r (part ds ts) os) (fated_twice r (part ds ts) os) qs first q (omega arith)
+    (listed_fated r (part ds ts) os (ends w ks r (part ds ts) (length ds) (seen_at ks os)) q (at first q) (at ks q)
+    (has qs q) (at_first q l) (unlent_not ks qs lists q)) ∙ ap (fated r (part ds ts) os q) (at_first q l)))
+    (eqb_tells q r))
+
+pub part_field : (o : Option Part) (a b : Part) → o ≡ Some a → o ≡ Some b → a.field ≡ b.field
+part_field o a b e f = ap (λ (p : Part). p.field) (part_some a b (sym e ∙ f))

@@ -1,0 +1,24 @@
+use Rattle.std.proofs.Common.{sym, ◌∙◌, ap, map, slice_get}
+use Rattle.sound_code.specs.Codes.{plain_label}
+use Rattle.sound_code.specs.Fitting.{fit_all}
+use Rattle.register_kinds.specs.Views.{kinds_of}
+use Rattle.register_kinds.proofs.Arriving.{arrive_none, keeps_seen}
+use Rattle.register_kinds.proofs.registers.Registers.fit.Goals as goal
+
+pub invariant_of-self : goal.invariant_of-self
+invariant_of-self c =
+    keeps_seen (kinds_of c.self.inside.known.items) (map plain_label c.self.inside.labels.now) c.self.inside.lents
+    c.self.inside.named c.self.inside.owners c.self.inside.log c.see.new.self c.args.label c.self.invariant
+    (λ m e. ap (λ s. fit_all m.kinds s.kinds) c.self.view_is
+    ∙ ap (fit_all m.kinds) (sym (arrive_none 0 c.args.self.now.kinds))
+    ∙ sym (c.fits_map-fits.ensures.is m (ap (λ s. slice_get s.maps c.args.label) (sym c.self.view_is) ∙ e))
+    ∙ c.if-fits.true)
+    c.see.ensures.seen
+
+pub returns-then-fits-clause-is : goal.returns-then-fits-clause-is
+returns-then-fits-clause-is c =
+    λ m e. c.fits_map-fits.ensures.is m e ∙ ap (fit_all m.kinds) (arrive_none 0 c.args.self.now.kinds)
+
+pub returns-else-fits-clause-is : goal.returns-else-fits-clause-is
+returns-else-fits-clause-is c =
+    λ m e. c.fits_map-fits.ensures.is m e ∙ ap (fit_all m.kinds) (arrive_none 0 c.args.self.now.kinds)

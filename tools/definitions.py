@@ -68,7 +68,7 @@ class Spec:
         self.number, self.texts = {}, []
         for line in lines:
             line = line.split("--")[0].rstrip()
-            if line and not USE.match(line) and not line.startswith("infix"):
+            if line and not line.startswith(("infix", "use ")):
                 self.take(line)
 
     def take(self, line):

@@ -12,7 +12,7 @@ use Rattle.fip_trees.specs.declared.decls.ConstructorId.{ConstructorId}
 use Rattle.fip_trees.specs.Names.{Names, names, with_meanings}
 use Rattle.fip_trees.specs.Least.{In, IsLeast, after, comes_before, refusal}
 use Rattle.fip_trees.proofs.Leasts.{in_left, in_right, in_either, none_of, least_of}
-use Rattle.data_types.specs.Types.{Declarations, IsValued}
+use Rattle.data_types.specs.Types.{Declarations, IsValued, Node, End, NoTys}
 use Rattle.data_types.specs.Marks.{true_of}
 use Rattle.data_types.specs.Steps.{TellsValued}
 use Rattle.data_types.specs.Declarations.{declarations, declared_names, written_names, type_meanings, row_meanings, constructor_meanings, function_meanings, data_declared}
@@ -186,3 +186,36 @@ accepted core (Some v) walked g = absurd (cc)
 pub accepted_names : (core : Core) (o : Option Violation) → IsWalked core None o → option_map refusal o ≡ None → declared_names core ≡ written_names core
 accepted_names core None walked g = declared_if_none core walked
 accepted_names core (Some v) walked g = absurd (cc)
+
+-- ---- E13: each data type has a value
+
+bool_valued : (core : Core) → IsValued (declarations core) 0
+bool_valued core = (Node 0 End, (NoTys, refl, tt))
+
+flag_valued : (core : Core) (flags : List Bool) (n : ℕ) (o : Option Bool) → TellsValued (declarations core) flags → slice_get flags n ≡ o → n < length flags → (slice_get flags n ≡ Some false → ⊥) → IsValued (declarations core) n
+flag_valued core flags n None told e h k = absurd (let r = got_none flags n h e in r)
+  where
+    got_none : (xs : List Bool) (m : ℕ) → m < length xs → slice_get xs m ≡ None → ⊥
+    got_none [] m h e = omega (arith, h)
+    got_none (x ∷ xs) zero h e = absurd (cc)
+    got_none (x ∷ xs) (suc m) h e = got_none xs m (omega (arith, h)) e
+flag_valued core flags n (Some true) told e h k = told.valued n e
+flag_valued core flags n (Some false) told e h k = absurd (k e)
+
+there : {A : Type 0} (xs : List A) (n : ℕ) → n < length xs → (x : A) × (slice_get xs n ≡ Some x)
+there [] n h = absurd (omega (arith, h))
+there (x ∷ xs) zero h = (x, refl)
+there (x ∷ xs) (suc n) h = there xs n (omega (arith, h))
+
+each_valued : (core : Core) → IsWalked core None None → (n : ℕ) → n < length (data_types core) → IsValued (declarations core) n
+each_valued core walked zero h = bool_valued core
+each_valued core walked (suc n) h =
+    let at = there core.types n (omega (arith, h)) in
+    let size = walked.told.all in
+    let same = map_length (data_declared (declared_names core)) (data_types core) in
+    flag_valued core walked.flags (suc n) (slice_get walked.flags (suc n)) walked.told refl (omega (arith, h, size, same))
+    (λ e. none_violated core walked (broken E13 at.0.place at.0.name) (inr (record { place = n; type = at.0; there = at.1; unvalued = walked.told.unvalued (suc n) e; is = refl })))
+
+pub accepted_valued : (core : Core) (o : Option Violation) → IsWalked core None o → option_map refusal o ≡ None → (n : ℕ) → n < length (data_types core) → IsValued (declarations core) n
+accepted_valued core None walked g = each_valued core walked
+accepted_valued core (Some v) walked g = absurd (cc)

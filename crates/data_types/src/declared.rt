@@ -1,5 +1,5 @@
 // The declarations of a program, or their least violation.
-ghost use Rattle.std.specs.Prelude.{◌≡◌, map, IfOk, IfErr, OnOk};
+ghost use Rattle.std.specs.Prelude.{◌≡◌, ◌<◌, ℕ, true, length, map, IfOk, IfErr, OnOk};
 ghost use Rattle.fip_language.specs.Declarations.{data_types};
 ghost use Rattle.fip_base.specs.CoreView as V;
 ghost use Rattle.fip_trees.specs.Least.{after};
@@ -7,6 +7,8 @@ ghost use Rattle.fip_trees.specs.declared.least.Violation.{Violation};
 ghost use Rattle.data_types.specs.Answers.{IsWalked, Says, Violates, declared_row_names, value_faults};
 ghost use Rattle.data_types.specs.Declarations.{declarations, declared_names, row_names, written_names};
 ghost use Rattle.data_types.specs.Faults.{all_function_faults, function_faults};
+ghost use Rattle.data_types.specs.Numbered.{types_numbered};
+ghost use Rattle.data_types.specs.Types.{IsValued};
 ghost use Rattle.data_types.specs.View as v;
 
 use crate::bits::is_true;
@@ -46,6 +48,9 @@ pub fn declare<'a>(alloc: Global, core: &'a Core) -> Result<Decls<'a>, PhaseErro
     ensures types { IfOk result (λ d. v.declarations d.types.items ≡ declarations (V.core core.now)) }
     ensures constructors { IfOk result (λ d. map declared_row_names d.types.items ≡
         map row_names (data_types (V.core core.now))) }
+    ensures numbered { IfOk result (λ d. types_numbered d.types.items ≡ true) }
+    ensures valued { IfOk result (λ d. (n : ℕ) → n < length (data_types (V.core core.now)) →
+        IsValued (declarations (V.core core.now)) n) }
     ensures least { IfErr result (λ e. Says (V.core core.now) e) }
 {
     let mut least = Least::new(alloc);
@@ -65,6 +70,7 @@ fn declarations<'a>(alloc: Global, core: &'a Core, least: &mut Least) -> Result<
     ensures types { IfOk result (λ d. v.declarations d.types.items ≡ declarations (V.core core.now)) }
     ensures constructors { IfOk result (λ d. map declared_row_names d.types.items ≡
         map row_names (data_types (V.core core.now))) }
+    ensures numbered { IfOk result (λ d. types_numbered d.types.items ≡ true) }
     ensures faults { OnOk result (IsWalked (V.core core.now) least.old least.new) }
 {
     let names = names_of(alloc, core, least)?;

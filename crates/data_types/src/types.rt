@@ -1,5 +1,5 @@
 // The data types of a program, the names in their fields looked up.
-ghost use Rattle.std.specs.Prelude.{◌≡◌, [], ◌∷◌, length, map, IfOk, OnOk};
+ghost use Rattle.std.specs.Prelude.{◌≡◌, true, [], ◌∷◌, length, map, IfOk, OnOk};
 ghost use Rattle.fip_language.specs.Declarations.{bool_type};
 ghost use Rattle.fip_base.specs.CoreView as V;
 ghost use Rattle.fip_trees.specs.Least.{after};
@@ -9,6 +9,7 @@ ghost use Rattle.data_types.specs.Declarations.{constructor_fields, constructor_
 ghost use Rattle.data_types.specs.Declarations.{parameter_meanings, row_names};
 ghost use Rattle.data_types.specs.Faults.{data_faults, field_faults, repeats, size_faults, type_name_mentions};
 ghost use Rattle.data_types.specs.Faults.{all_data_faults};
+ghost use Rattle.data_types.specs.Numbered.{all_true, row_numbered, type_numbered, types_numbered, HasNumbers};
 ghost use Rattle.data_types.specs.Types.{NoTys};
 ghost use Rattle.data_types.specs.View as v;
 
@@ -36,6 +37,7 @@ pub fn types_of<'a>(
         map (data_declared names.now) (bool_type ∷ map V.data_type declared.now)) }
     ensures names { IfOk result (λ ts. map declared_row_names ts.items ≡
         map row_names (bool_type ∷ map V.data_type declared.now)) }
+    ensures numbered { HasNumbers names.now → IfOk result (λ ts. types_numbered ts.items ≡ true) }
     ensures faults { OnOk result (least.new ≡
         after least.old (all_data_faults names.now (map V.data_type declared.now))) }
 {
@@ -50,6 +52,7 @@ pub fn types_of<'a>(
 fn declared_bool<'a>(alloc: Global) -> Result<DeclaredType<'a>, NoMemory>
     ensures declared { IfOk result (λ t. v.declared t ≡ record { arity = 0; constructors = NoTys ∷ NoTys ∷ [] }) }
     ensures names { IfOk result (λ t. declared_row_names t ≡ row_names bool_type) }
+    ensures numbered { IfOk result (λ t. type_numbered t ≡ true) }
 {
     let mut constructors = Vec::new(alloc);
     constructors.push(DeclaredConstructor {
@@ -97,6 +100,7 @@ fn type_of<'a>(
 ) -> Result<DeclaredType<'a>, NoMemory>
     ensures declared { IfOk result (λ t. v.declared t ≡ data_declared names.now (V.data_type written.now)) }
     ensures names { IfOk result (λ t. declared_row_names t ≡ row_names (V.data_type written.now)) }
+    ensures numbered { HasNumbers names.now → IfOk result (λ t. type_numbered t ≡ true) }
     ensures faults { OnOk result (least.new ≡ after least.old (data_faults names.now (V.data_type written.now))) }
 {
     let parameters = parameters_of(alloc, &written.parameters, least)?;
@@ -133,6 +137,8 @@ fn constructors_of<'a>(
         map (constructor_fields scope.now) (map V.data_constructor list.now)) }
     ensures names { IfOk result (λ ks. map (λ k. k.name.now) ks.items ≡
         map constructor_name (map V.data_constructor list.now)) }
+    ensures numbered { HasNumbers scope.now.names →
+        IfOk result (λ ks. all_true (map row_numbered ks.items) ≡ true) }
     ensures faults { OnOk result (least.new ≡
         after least.old (field_faults scope.now (map V.data_constructor list.now))) }
 {

@@ -1,10 +1,11 @@
 // Types as they are written, their names looked up.
-ghost use Rattle.std.specs.Prelude.{◌≡◌, None, Some, IfOk, OnOk};
+ghost use Rattle.std.specs.Prelude.{◌≡◌, ◌<◌, true, None, Some, IfOk, OnOk};
 ghost use Rattle.fip_base.specs.CoreView as V;
 ghost use Rattle.fip_trees.specs.Least.{after};
 ghost use Rattle.fip_trees.specs.Names.{meaning};
 ghost use Rattle.data_types.specs.Declarations.{all_looked_up, count_tys, looked_up, meant};
 ghost use Rattle.data_types.specs.Faults.{use_faults, written_faults, writtens_faults};
+ghost use Rattle.data_types.specs.Numbered.{is_numbered, are_numbered, HasNumbers};
 ghost use Rattle.data_types.specs.View as v;
 
 use crate::notes::note;
@@ -47,6 +48,7 @@ impl<'s, 'a> Scope<'s, 'a> {
         least: &mut Least,
     ) -> Result<FieldType, NoMemory>
         ensures found { IfOk result (λ ty. v.ty ty ≡ looked_up self.now (V.written written.now)) }
+        ensures numbered { HasNumbers self.now.names → IfOk result (λ ty. is_numbered ty ≡ true) }
         ensures faults { OnOk result (least.new ≡ after least.old (written_faults self.now (V.written written.now))) }
     {
         match written {
@@ -72,6 +74,7 @@ impl<'s, 'a> Scope<'s, 'a> {
         least: &mut Least,
     ) -> Result<Vec<FieldType>, NoMemory>
         ensures found { IfOk result (λ tys. v.tys tys.items ≡ all_looked_up self.now (V.writtens list.now)) }
+        ensures numbered { HasNumbers self.now.names → IfOk result (λ tys. are_numbered tys.items ≡ true) }
         ensures faults { OnOk result (least.new ≡ after least.old (writtens_faults self.now (V.writtens list.now))) }
     {
         let mut found = Vec::new(alloc);
@@ -91,6 +94,8 @@ impl<'s, 'a> Scope<'s, 'a> {
     ) -> Result<FieldType, NoMemory>
         ensures found { IfOk result (λ ty. v.ty ty ≡ meant (meaning name.now self.now.parameters)
             (meaning name.now self.now.names.types) (v.tys arguments.items)) }
+        ensures numbered { HasNumbers self.now.names → are_numbered arguments.items ≡ true →
+            IfOk result (λ ty. is_numbered ty ≡ true) }
         ensures faults { OnOk result (least.new ≡ after least.old (use_faults (meaning name.now self.now.parameters)
             (meaning name.now self.now.names.types) name.now place (count_tys (v.tys arguments.items)))) }
     {
@@ -117,6 +122,7 @@ fn parameter(
     least: &mut Least,
 ) -> Result<FieldType, NoMemory>
     ensures found { IfOk result (λ ty. v.ty ty ≡ meant (Some number) None (v.tys arguments.now)) }
+    ensures numbered { IfOk result (λ ty. is_numbered ty ≡ true) }
     ensures faults { OnOk result (least.new ≡
         after least.old (use_faults (Some number) None name.now place (count_tys (v.tys arguments.now)))) }
 {
@@ -137,6 +143,8 @@ fn applied(
     least: &mut Least,
 ) -> Result<FieldType, NoMemory>
     ensures found { IfOk result (λ ty. v.ty ty ≡ meant None (Some head) (v.tys arguments.items)) }
+    ensures numbered { 0 < head.number → are_numbered arguments.items ≡ true →
+        IfOk result (λ ty. is_numbered ty ≡ true) }
     ensures faults { OnOk result (least.new ≡
         after least.old (use_faults None (Some head) name.now place (count_tys (v.tys arguments.items)))) }
 {

@@ -1,4 +1,4 @@
-use Rattle.std.proofs.Common.{◌≡◌, ◌∙◌, ap, subst, List, ◌∷◌, map}
+use Rattle.std.proofs.Common.{◌≡◌, ◌∙◌, sym, ap, subst, List, ◌∷◌, map}
 use Rattle.fip_language.specs.Declarations.{bool_type, data_types}
 use Rattle.fip_base.specs.CoreView.{core, data_type, function}
 use Rattle.fip_base.specs.declared.core_form.Data.{Data}
@@ -11,7 +11,9 @@ use Rattle.data_types.specs.Declarations.{data_declared, declarations, row_names
 use Rattle.data_types.specs.Faults.{all_data_faults, all_function_faults}
 use Rattle.data_types.specs.Steps.{TellsValued}
 use Rattle.data_types.specs.View as v
+use Rattle.data_types.specs.Numbered.{HasNumbers}
 use Rattle.data_types.proofs.Naming.{all_walked}
+use Rattle.data_types.proofs.Numbers.{has_numbers}
 use Rattle.data_types.proofs.declared.declarations.Goals as goal
 
 pub returns-clause-types : goal.returns-clause-types
@@ -41,3 +43,6 @@ returns-clause-faults c =
           (c.in_ok-check_functions.ensures ∙ ap (λ (fs : List Function). after c.types_of.new.least (all_function_faults ns (map function fs))) c.deref-2.ensures.value)
           (c.in_ok-note_unvalued.ensures ∙ ap (λ (ds : List Data). after c.check_functions.new.least (value_faults 1 c.deref-5.result.now (map data_type ds))) c.deref-4.ensures.value ∙ ap (λ bs. after c.check_functions.new.least (value_faults 1 bs program.types)) c.deref-5.ensures.value);
     }
+
+pub returns-clause-numbered : goal.returns-clause-numbered
+returns-clause-numbered c = c.in_ok-types.ensures.numbered (subst HasNumbers (sym c.in_ok-names.ensures.names) (has_numbers (core c.args.core.now)))

@@ -1,7 +1,7 @@
 use Rattle.std.proofs.Common.{◌∙◌, sym, subst}
 use Rattle.fip_base.specs.CoreView.{core}
 use Rattle.data_types.specs.Answers.{IsWalked}
-use Rattle.data_types.proofs.Exact.{refused, accepted, accepted_names}
+use Rattle.data_types.proofs.Exact.{refused, accepted, accepted_names, accepted_valued}
 use Rattle.data_types.proofs.declared.declare.Goals as goal
 
 pub returns-in-Some-clause-least : goal.returns-in-Some-clause-least
@@ -12,3 +12,6 @@ returns-clause-accepted c = accepted (core c.args.core.now) c.declarations.new.l
 
 pub returns-clause-names : goal.returns-clause-names
 returns-clause-names c = c.in-Ok.ensures.names ∙ accepted_names (core c.args.core.now) c.declarations.new.least (subst (λ o. IsWalked (core c.args.core.now) o c.declarations.new.least) c.new-least.ensures.none c.in-Ok.ensures.faults) (sym c.into_refusal.ensures.least ∙ c.in-None.is)
+
+pub returns-clause-valued : goal.returns-clause-valued
+returns-clause-valued c = accepted_valued (core c.args.core.now) c.declarations.new.least (subst (λ o. IsWalked (core c.args.core.now) o c.declarations.new.least) c.new-least.ensures.none c.in-Ok.ensures.faults) (sym c.into_refusal.ensures.least ∙ c.in-None.is)

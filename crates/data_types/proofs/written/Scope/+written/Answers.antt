@@ -6,8 +6,10 @@ use Rattle.data_types.specs.Types.{MoreTys}
 use Rattle.fip_language.specs.Core.{WrittenName}
 use Rattle.data_types.specs.Declarations.{all_looked_up, count_tys}
 use Rattle.data_types.specs.Faults.{written_faults, writtens_faults}
+use Rattle.data_types.specs.Numbered.{is_numbered}
 use Rattle.data_types.specs.View.{ty}
 use Rattle.data_types.proofs.CoreForms.{onto, onto_push, onto_none, written_named, named_noted}
+use Rattle.data_types.proofs.Numbers.{all_true_then}
 use Rattle.data_types.proofs.Shared.{count_looked_up}
 use Rattle.data_types.proofs.Repeats.{walk_step, drop_item}
 use Rattle.data_types.proofs.written.Scope.+written.Goals as goal
@@ -24,6 +26,7 @@ look_up_all-loop-written-preserved t c =
           ∙ ap (λ y. onto old (MoreTys y rest)) c.in_ok-look_up.ensures.found
           ∙ ap (λ (xs : List Written). onto old (all_looked_up c.args.self.now (writtens xs))) (sym (drop_item c.args.list.now c.loop-written.written-index c.written-item.result c.loop-written-test.true c.written-item.is))
           ∙ c.loop-written.invariant.found;
+      numbered = λ n. all_true_then is_numbered c.loop-written.found.items _ c.in_ok-look_up.field-0 c.in_ok-push.ensures.items (c.loop-written.invariant.numbered n) (c.in_ok-look_up.ensures.numbered n);
       faults =
           walk_step (λ w. written_faults c.args.self.now (written w)) (λ ws. writtens_faults c.args.self.now (writtens ws)) (λ (x : Written) (xs : List Written). refl) c.args.list.now c.loop-written.written-index c.written-item.result c.loop-written.least c.look_up.new.least c.loop-written-test.true c.written-item.is c.in_ok-look_up.ensures.faults
           ∙ c.loop-written.invariant.faults;

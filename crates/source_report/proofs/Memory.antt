@@ -1,0 +1,261 @@
+-- The rules on matches don't see where trees lie in memory: instances with the same trees break the same.
+use Rattle.std.proofs.Common.{◌≡◌, ◌⊎◌, inl, inr, ℕ, suc, List, [], ◌∷◌, ◌++◌, if◌then◌else◌, refl, sym, ap, ap₂, ◌∙◌, map, subst, append_assoc}
+use Rattle.fip_language.specs.declared.Place.{Place}
+use Rattle.fip_language.specs.declared.rule.Rule.TheVariants.{E43}
+use Rattle.fip_language.specs.Table.{Table}
+use Rattle.fip_trees.specs.Tree as T
+use Rattle.fip_trees.specs.TreeView as V
+use Rattle.fip_trees.specs.Least.{violation, IsLeastOf}
+use Rattle.fip_trees.specs.declared.least.Violation.{Violation}
+use Rattle.fip_trees.specs.declared.program.Binder.{Binder}
+use Rattle.fip_trees.specs.declared.program.Instance.{Instance}
+use Rattle.fip_trees.specs.declared.program.Expression.{Expression, roll-Expression}
+use Rattle.fip_trees.specs.declared.program.Expression.TheOpen as E
+use Rattle.fip_trees.specs.declared.program.Expression.TheFolds.{fold-roll-Expression, fold-roll-Block, fold-roll-Binding, fold-roll-Clause, map-Expression, map-Block, map-Binding, map-Clause, ind-Block}
+use Rattle.fip_trees.specs.declared.program.Block.{Block, roll-Block}
+use Rattle.fip_trees.specs.declared.program.Binding.{Binding, roll-Binding}
+use Rattle.fip_trees.specs.declared.program.Clause.{Clause, roll-Clause}
+use Rattle.fip_trees.specs.declared.program.Pattern.{Pattern, roll-Pattern}
+use Rattle.fip_trees.specs.declared.program.Pattern.TheOpen as N
+use Rattle.fip_trees.specs.declared.program.Pattern.TheFolds.{fold-roll-Pattern, map-Pattern, ind-Pattern}
+use Rattle.match_knowledge.specs.Patterns as K
+use Rattle.match_cover.specs.PatternView.{erased, pattern_place, place_step, pattern_binders, binders_step, joined}
+use Rattle.match_cover.specs.Matches.{Match, block_matches}
+use Rattle.match_cover.specs.Lets.{Lets, expression_step, binding_step, block_step, clause_step, expression_lets, binding_lets, block_lets, clause_lets}
+use Rattle.match_cover.specs.Shapes.{is_large, twice_faults, patterns_faults, matches_faults, lets_faults, shape_faults}
+use Rattle.match_cover.specs.Coverage.{Uncovered, Unreached, SomeUnreached, SomeBreaks, CoverFault}
+use Rattle.match_cover.specs.Answers.{IsLeastCoverFault}
+use Rattle.source_report.proofs.Erasing.{plain, erased_is}
+use Rattle.source_report.proofs.Matching.{PlainMatch, match_view, matches_block, matches_are}
+
+-- ---- patterns: their places and their binders
+
+place_is : (q : Pattern) → pattern_place q ≡ T.pattern_place (V.pattern q)
+place_is q = ind-Pattern (λ q. pattern_place q ≡ T.pattern_place (V.pattern q)) (λ x y e. by x) q
+  where
+    layer : (x : N.Pattern-F Pattern) → place_step (map-Pattern Pattern Place pattern_place x) ≡ T.pattern_place (V.pattern_step (map-Pattern Pattern T.Pattern V.pattern x))
+    layer (N.Binder b) = refl
+    layer (N.Literal v p) = refl
+    layer (N.Constructor t d c n p ps) = refl
+
+    by : (x : N.Pattern-F Pattern) → pattern_place (roll-Pattern x) ≡ T.pattern_place (V.pattern (roll-Pattern x))
+    by x = fold-roll-Pattern Place place_step x ∙ layer x ∙ sym (ap T.pattern_place (fold-roll-Pattern T.Pattern V.pattern_step x))
+
+abbrev mutual
+  pub binders : T.Pattern → List Binder
+  binders (T.BinderPattern b) = b ∷ []
+  binders (T.LiteralPattern i p) = []
+  binders (T.ConstructorPattern t d c n p ps) = binders_all ps
+
+  pub binders_all : T.Patterns → List Binder
+  binders_all T.NoPatterns = []
+  binders_all (T.MorePatterns p ps) = binders p ++ binders_all ps
+
+module _ {S : Type 0} (f : S → Pattern) (ok : (s : S) → pattern_binders (f s) ≡ binders (V.pattern (f s))) where
+  rows_bind : (ss : List S) → joined (map pattern_binders (map f ss)) ≡ binders_all (V.patterns_of (map V.pattern (map f ss)))
+  rows_bind [] = refl
+  rows_bind (s ∷ ss) = ap₂ (λ xs ys. xs ++ ys) (ok s) (rows_bind ss)
+
+  layer_binds : (y : N.Pattern-F S) → binders_step (map-Pattern Pattern (List Binder) pattern_binders (map-Pattern S Pattern f y)) ≡ binders (V.pattern_step (map-Pattern Pattern T.Pattern V.pattern (map-Pattern S Pattern f y)))
+  layer_binds (N.Binder b) = refl
+  layer_binds (N.Literal v p) = refl
+  layer_binds (N.Constructor t d c n p ps) = rows_bind ps.items
+
+  step_binds : (y : N.Pattern-F S) → pattern_binders (roll-Pattern (map-Pattern S Pattern f y)) ≡ binders (V.pattern (roll-Pattern (map-Pattern S Pattern f y)))
+  step_binds y = fold-roll-Pattern (List Binder) binders_step (map-Pattern S Pattern f y) ∙ layer_binds y ∙ sym (ap binders (fold-roll-Pattern T.Pattern V.pattern_step (map-Pattern S Pattern f y)))
+
+binders_are : (q : Pattern) → pattern_binders q ≡ binders (V.pattern q)
+binders_are q = ind-Pattern (λ q. pattern_binders q ≡ binders (V.pattern q)) (λ x y e. subst (λ x. pattern_binders (roll-Pattern x) ≡ binders (V.pattern (roll-Pattern x))) e (step_binds (λ e. e.0) (λ e. e.1) y)) q
+
+-- ---- lets
+
+abbrev mutual
+  pub lets : T.Expression → Lets
+  lets (T.Give a) = []
+  lets (T.Tuple p as') = []
+  lets (T.Operation o p l r) = []
+  lets (T.Call g n p as') = []
+  lets (T.Match k u p a q b cs) = lets_block b ++ lets_clauses cs
+  lets (T.Nested b) = lets_block b
+
+  pub lets_block : T.Block → Lets
+  lets_block (T.Last e) = lets e
+  lets_block (T.Let bs e rest) = (bs ∷ lets e) ++ lets_block rest
+
+  pub lets_clauses : T.Clauses → Lets
+  lets_clauses T.NoClauses = []
+  lets_clauses (T.MoreClauses q b cs) = lets_block b ++ lets_clauses cs
+
+abbrev IsExpression : Expression → Type 0
+IsExpression x = expression_lets x ≡ lets (V.expression x)
+
+abbrev IsBinding : Binding → Type 0
+IsBinding x = binding_lets x ≡ (V.binding x).binders ∷ lets (V.binding x).bound
+
+abbrev IsBlock : Block → Type 0
+IsBlock x = block_lets x ≡ lets_block (V.block x)
+
+abbrev IsClause : Clause → Type 0
+IsClause x = clause_lets x ≡ lets_block (V.clause x).body
+
+module _ {SE SI SB SC : Type 0} (fe : SE → Expression) (fi : SI → Binding) (fb : SB → Block) (fc : SC → Clause)
+    (oke : (s : SE) → IsExpression (fe s)) (oki : (s : SI) → IsBinding (fi s)) (okb : (s : SB) → IsBlock (fb s)) (okc : (s : SC) → IsClause (fc s)) where
+  abbrev to_expression : E.Expression-F SE SI SB SC → E.Expression-F Expression Binding Block Clause
+  to_expression = map-Expression SE SI SB SC Expression Binding Block Clause fe fi fb fc
+
+  abbrev to_binding : E.Binding-F SE SI SB SC → E.Binding-F Expression Binding Block Clause
+  to_binding = map-Binding SE SI SB SC Expression Binding Block Clause fe fi fb fc
+
+  abbrev to_block : E.Block-F SE SI SB SC → E.Block-F Expression Binding Block Clause
+  to_block = map-Block SE SI SB SC Expression Binding Block Clause fe fi fb fc
+
+  abbrev to_clause : E.Clause-F SE SI SB SC → E.Clause-F Expression Binding Block Clause
+  to_clause = map-Clause SE SI SB SC Expression Binding Block Clause fe fi fb fc
+
+  clauses_lets : (ss : List SC) → joined (map clause_lets (map fc ss)) ≡ lets_clauses (V.clauses_of (map V.clause (map fc ss)))
+  clauses_lets [] = refl
+  clauses_lets (s ∷ ss) = ap₂ (λ xs ys. xs ++ ys) (okc s) (clauses_lets ss)
+
+  bindings_lets : (ss : List SI) (l : Lets) (e : T.Expression) → l ≡ lets e → joined (map binding_lets (map fi ss)) ++ l ≡ lets_block (V.block_of (map V.binding (map fi ss)) e)
+  bindings_lets [] l e h = h
+  bindings_lets (s ∷ ss) l e h =
+      append_assoc (binding_lets (fi s)) (joined (map binding_lets (map fi ss))) l ∙ ap₂ (λ xs ys. xs ++ ys) (oki s) (bindings_lets ss l e h)
+
+  expression_layer : (y : E.Expression-F SE SI SB SC) →
+      expression_step (map-Expression Expression Binding Block Clause Lets Lets Lets Lets expression_lets binding_lets block_lets clause_lets (to_expression y)) ≡
+      lets (V.expression_step (map-Expression Expression Binding Block Clause T.Expression V.BoundPart T.Block V.Case V.expression V.binding V.block V.clause (to_expression y)))
+  expression_layer (E.Give a) = refl
+  expression_layer (E.Tuple p as') = refl
+  expression_layer (E.Operation o p l r) = refl
+  expression_layer (E.Call g n p as') = refl
+  expression_layer (E.Match k u p a c cs) = ap₂ (λ xs ys. xs ++ ys) (okc c.value) (clauses_lets cs.items)
+  expression_layer (E.Nested b) = okb b.value
+
+  expression_ok : (y : E.Expression-F SE SI SB SC) → IsExpression (roll-Expression (to_expression y))
+  expression_ok y =
+      fold-roll-Expression Lets Lets Lets Lets expression_step binding_step block_step clause_step (to_expression y) ∙ expression_layer y ∙
+      sym (ap lets (fold-roll-Expression T.Expression V.BoundPart T.Block V.Case V.expression_step V.binding_step V.block_step V.clause_step (to_expression y)))
+
+  binding_ok : (y : E.Binding-F SE SI SB SC) → IsBinding (roll-Binding (to_binding y))
+  binding_ok y =
+      fold-roll-Binding Lets Lets Lets Lets expression_step binding_step block_step clause_step (to_binding y) ∙
+      ap (λ ls. y.binders.items ∷ ls) (oke y.bound) ∙
+      sym (ap (λ (b : V.BoundPart). b.binders ∷ lets b.bound) (fold-roll-Binding T.Expression V.BoundPart T.Block V.Case V.expression_step V.binding_step V.block_step V.clause_step (to_binding y)))
+
+  block_ok : (y : E.Block-F SE SI SB SC) → IsBlock (roll-Block (to_block y))
+  block_ok y =
+      fold-roll-Block Lets Lets Lets Lets expression_step binding_step block_step clause_step (to_block y) ∙
+      bindings_lets y.bindings.items (expression_lets (fe y.last)) (V.expression (fe y.last)) (oke y.last) ∙
+      sym (ap lets_block (fold-roll-Block T.Expression V.BoundPart T.Block V.Case V.expression_step V.binding_step V.block_step V.clause_step (to_block y)))
+
+  clause_ok : (y : E.Clause-F SE SI SB SC) → IsClause (roll-Clause (to_clause y))
+  clause_ok y =
+      fold-roll-Clause Lets Lets Lets Lets expression_step binding_step block_step clause_step (to_clause y) ∙ okb y.body ∙
+      sym (ap (λ (c : V.Case). lets_block c.body) (fold-roll-Clause T.Expression V.BoundPart T.Block V.Case V.expression_step V.binding_step V.block_step V.clause_step (to_clause y)))
+
+lets_are : (d : Block) → block_lets d ≡ lets_block (V.block d)
+lets_are d =
+    ind-Block IsExpression IsBinding IsBlock IsClause
+    (λ x y e. subst (λ x. IsExpression (roll-Expression x)) e (expression_ok (λ e. e.0) (λ e. e.0) (λ e. e.0) (λ e. e.0) (λ e. e.1) (λ e. e.1) (λ e. e.1) (λ e. e.1) y))
+    (λ x y e. subst (λ x. IsBinding (roll-Binding x)) e (binding_ok (λ e. e.0) (λ e. e.0) (λ e. e.0) (λ e. e.0) (λ e. e.1) (λ e. e.1) (λ e. e.1) (λ e. e.1) y))
+    (λ x y e. subst (λ x. IsBlock (roll-Block x)) e (block_ok (λ e. e.0) (λ e. e.0) (λ e. e.0) (λ e. e.0) (λ e. e.1) (λ e. e.1) (λ e. e.1) (λ e. e.1) y))
+    (λ x y e. subst (λ x. IsClause (roll-Clause x)) e (clause_ok (λ e. e.0) (λ e. e.0) (λ e. e.0) (λ e. e.0) (λ e. e.1) (λ e. e.1) (λ e. e.1) (λ e. e.1) y))
+    d
+
+-- ---- E42 and E43
+
+rows_are : (qs : List Pattern) → map erased qs ≡ map plain (map V.pattern qs)
+rows_are [] = refl
+rows_are (q ∷ qs) = ap₂ (λ p ps. p ∷ ps) (erased_is q) (rows_are qs)
+
+abbrev pub plain_size : ℕ → PlainMatch → List Violation
+plain_size i m = if is_large (map plain m.patterns) then violation E43 m.place i 0 [] ∷ [] else []
+
+abbrev pub plain_twice : ℕ → List T.Pattern → List Violation
+plain_twice i [] = []
+plain_twice i (q ∷ qs) = twice_faults i [] (binders q) ++ plain_twice i qs
+
+abbrev pub plain_matches : ℕ → List PlainMatch → List Violation
+plain_matches i [] = []
+plain_matches i (m ∷ ms) = plain_size i m ++ (plain_twice i m.patterns ++ plain_matches i ms)
+
+abbrev pub plain_shapes : ℕ → List T.Instance → List Violation
+plain_shapes i [] = []
+plain_shapes i (d ∷ ds) = (plain_matches i (matches_block d.body) ++ lets_faults i (lets_block d.body)) ++ plain_shapes (suc i) ds
+
+twice_are : (i : ℕ) (qs : List Pattern) → patterns_faults i qs ≡ plain_twice i (map V.pattern qs)
+twice_are i [] = refl
+twice_are i (q ∷ qs) = ap₂ (λ xs ys. xs ++ ys) (ap (twice_faults i []) (binders_are q)) (twice_are i qs)
+
+matches_faults_are : (i : ℕ) (ms : List Match) → matches_faults i ms ≡ plain_matches i (map match_view ms)
+matches_faults_are i [] = refl
+matches_faults_are i (m ∷ ms) =
+    ap₂ (λ xs ys. xs ++ ys) (ap (λ rs. if is_large rs then violation E43 m.place i 0 [] ∷ [] else []) (rows_are m.clauses))
+    (ap₂ (λ xs ys. xs ++ ys) (twice_are i m.clauses) (matches_faults_are i ms))
+
+pub shapes_are : (i : ℕ) (ds : List Instance) → shape_faults i ds ≡ plain_shapes i (V.instances ds)
+shapes_are i [] = refl
+shapes_are i (d ∷ ds) =
+    ap₂ (λ xs ys. xs ++ ys)
+    (ap₂ (λ xs ys. xs ++ ys) (matches_faults_are i (block_matches d.body) ∙ ap (plain_matches i) (matches_are d.body)) (ap (lets_faults i) (lets_are d.body)))
+    (shapes_are (suc i) ds)
+
+-- ---- E40 and E41
+
+abbrev PlainUnreached : Table → ℕ → ℕ → List K.Pattern → List T.Pattern → Violation → Type 0
+PlainUnreached tb i t before [] v = ⊥
+PlainUnreached tb i t before (q ∷ qs) v = Unreached tb i (T.pattern_place q) t before (plain q) v ⊎ PlainUnreached tb i t (before ++ plain q ∷ []) qs v
+
+abbrev PlainBreaks : Table → ℕ → PlainMatch → Violation → Type 0
+PlainBreaks tb i m v = PlainUnreached tb i m.ty [] m.patterns v ⊎ Uncovered tb i m.place m.ty (map plain m.patterns) v
+
+abbrev SomePlain : Table → ℕ → List PlainMatch → Violation → Type 0
+SomePlain tb i [] v = ⊥
+SomePlain tb i (m ∷ ms) v = PlainBreaks tb i m v ⊎ SomePlain tb i ms v
+
+abbrev pub PlainFault : Table → ℕ → List T.Instance → Violation → Type 0
+PlainFault tb i [] v = ⊥
+PlainFault tb i (d ∷ ds) v = SomePlain tb i (matches_block d.body) v ⊎ PlainFault tb (suc i) ds v
+
+unreached_forth : (tb : Table) (i t : ℕ) (before : List K.Pattern) (qs : List Pattern) (v : Violation) → SomeUnreached tb i t before qs v → PlainUnreached tb i t before (map V.pattern qs) v
+unreached_forth tb i t before [] v h = absurd h
+unreached_forth tb i t before (q ∷ qs) v (inl h) =
+    inl (subst (λ p. Unreached tb i p t before (plain (V.pattern q)) v) (place_is q) (subst (λ r. Unreached tb i (pattern_place q) t before r v) (erased_is q) h))
+unreached_forth tb i t before (q ∷ qs) v (inr h) =
+    inr (unreached_forth tb i t (before ++ plain (V.pattern q) ∷ []) qs v (subst (λ r. SomeUnreached tb i t (before ++ r ∷ []) qs v) (erased_is q) h))
+
+unreached_back : (tb : Table) (i t : ℕ) (before : List K.Pattern) (qs : List Pattern) (v : Violation) → PlainUnreached tb i t before (map V.pattern qs) v → SomeUnreached tb i t before qs v
+unreached_back tb i t before [] v h = absurd h
+unreached_back tb i t before (q ∷ qs) v (inl h) =
+    inl (subst (λ p. Unreached tb i p t before (erased q) v) (sym (place_is q)) (subst (λ r. Unreached tb i (T.pattern_place (V.pattern q)) t before r v) (sym (erased_is q)) h))
+unreached_back tb i t before (q ∷ qs) v (inr h) =
+    inr (subst (λ r. SomeUnreached tb i t (before ++ r ∷ []) qs v) (sym (erased_is q)) (unreached_back tb i t (before ++ plain (V.pattern q) ∷ []) qs v h))
+
+matches_forth : (tb : Table) (i : ℕ) (ms : List Match) (v : Violation) → SomeBreaks tb i ms v → SomePlain tb i (map match_view ms) v
+matches_forth tb i [] v h = absurd h
+matches_forth tb i (m ∷ ms) v (inl (inl h)) = inl (inl (unreached_forth tb i m.ty [] m.clauses v h))
+matches_forth tb i (m ∷ ms) v (inl (inr h)) = inl (inr (subst (λ rs. Uncovered tb i m.place m.ty rs v) (rows_are m.clauses) h))
+matches_forth tb i (m ∷ ms) v (inr h) = inr (matches_forth tb i ms v h)
+
+matches_back : (tb : Table) (i : ℕ) (ms : List Match) (v : Violation) → SomePlain tb i (map match_view ms) v → SomeBreaks tb i ms v
+matches_back tb i [] v h = absurd h
+matches_back tb i (m ∷ ms) v (inl (inl h)) = inl (inl (unreached_back tb i m.ty [] m.clauses v h))
+matches_back tb i (m ∷ ms) v (inl (inr h)) = inl (inr (subst (λ rs. Uncovered tb i m.place m.ty rs v) (sym (rows_are m.clauses)) h))
+matches_back tb i (m ∷ ms) v (inr h) = inr (matches_back tb i ms v h)
+
+pub fault_forth : (tb : Table) (i : ℕ) (ds : List Instance) (v : Violation) → CoverFault tb i ds v → PlainFault tb i (V.instances ds) v
+fault_forth tb i [] v h = absurd h
+fault_forth tb i (d ∷ ds) v (inl h) = inl (subst (λ ms. SomePlain tb i ms v) (matches_are d.body) (matches_forth tb i (block_matches d.body) v h))
+fault_forth tb i (d ∷ ds) v (inr h) = inr (fault_forth tb (suc i) ds v h)
+
+pub fault_back : (tb : Table) (i : ℕ) (ds : List Instance) (v : Violation) → PlainFault tb i (V.instances ds) v → CoverFault tb i ds v
+fault_back tb i [] v h = absurd h
+fault_back tb i (d ∷ ds) v (inl h) = inl (matches_back tb i (block_matches d.body) v (subst (λ ms. SomePlain tb i ms v) (sym (matches_are d.body)) h))
+fault_back tb i (d ∷ ds) v (inr h) = inr (fault_back tb (suc i) ds v h)
+
+pub least_plain : (tb : Table) (ds : List Instance) (v : Violation) → IsLeastCoverFault tb ds v → IsLeastOf (PlainFault tb 0 (V.instances ds)) v
+least_plain tb ds v h =
+    record {
+      violated = fault_forth tb 0 ds v h.violated;
+      least = λ w k. h.least w (fault_back tb 0 ds w k);
+    }

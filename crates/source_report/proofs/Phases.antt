@@ -1,0 +1,67 @@
+-- What each phase answers, as the report of the source.
+use Rattle.std.proofs.Common.{◌≡◌, ◌≤◌, ◌<◌, inl, inr, ℕ, List, length, sym, subst}
+use Rattle.fip_language.specs.declared.Place.{Place}
+use Rattle.fip_language.specs.declared.limits.TheConstants.{MOST_SOURCE_BYTES}
+use Rattle.fip_language.specs.declared.rule.Rule.{Rule}
+use Rattle.fip_language.specs.declared.rule.Rule.TheVariants.{E05}
+use Rattle.fip_language.specs.Core.{Core}
+use Rattle.fip_base.specs.declared.refusal.Refusal.{Refusal}
+use Rattle.fip_base.specs.declared.refusal.PhaseError.{PhaseError}
+use Rattle.fip_base.specs.declared.refusal.PhaseError.TheVariants.{Refused, NoMemory}
+use Rattle.fip_grammar.specs.Limits.{IsMisspelt}
+use Rattle.fip_trees.specs.declared.groups.Member.{Member}
+use Rattle.fip_trees.specs.declared.program.Instance.{Instance}
+use Rattle.fip_trees.specs.Tree.{Program}
+use Rattle.data_types.specs.Answers as Declaring
+use Rattle.static_params.specs.Answers as Statics
+use Rattle.type_check.specs.Answers as Types
+use Rattle.match_cover.specs.Answers as Covering
+use Rattle.match_cover.specs.Coverage.{IsReady}
+use Rattle.fip_rules.specs.Checks as Owning
+use Rattle.credit_check.specs.Credits as Credits
+use Rattle.tail_groups.specs.Members.{AreMembers}
+use Rattle.tail_groups.specs.Rules as Calls
+use Rattle.cell_lower.specs.Limits as Limits
+use Rattle.source_report.specs.FlatSource.{flat_source}
+use Rattle.source_report.specs.Report.{bare, at, Reports, TooLong, Misspelt, Declaration, StaticParameter, Typing, Shape, Coverage, Ownership, Credit, TailCall, Limit, IsParsed, IsDeclared, IsFlat, IsTyped, AreOf, IsMatched, IsOwned, IsCredited, IsTailed, Says}
+
+pub too_long : (source : List ℕ) (r : Refusal) → MOST_SOURCE_BYTES < length source → r ≡ bare E05 → Reports source r
+too_long source r h e = subst (Reports source) (sym e) (TooLong h)
+
+pub misspelt : (source : List ℕ) (r : Refusal) → length source ≤ MOST_SOURCE_BYTES → ((rule : Rule) × (p : Place) × IsMisspelt source rule p × (r ≡ at rule p)) → Reports source r
+misspelt source r h k = subst (Reports source) (sym k.3) (Misspelt k.0 k.1 h k.2)
+
+pub by_declarations : (source : List ℕ) (core : Core) (e : PhaseError) → IsParsed source core → Declaring.Says core e → Says source e
+by_declarations source core (Refused r) h k = subst (Reports source) (sym k.2) (Declaration core k.0 h k.1)
+by_declarations source core NoMemory h k = tt
+
+pub by_statics : (source : List ℕ) (core : Core) (e : PhaseError) → IsDeclared source core → Statics.Says (flat_source core) e → Says source e
+by_statics source core (Refused r) h k = subst (Reports source) (sym k.2) (StaticParameter core k.0 h k.1)
+by_statics source core NoMemory h k = tt
+
+pub by_types : (source : List ℕ) (p : Program) (e : PhaseError) → IsFlat source p → Types.Says p e → Says source e
+by_types source p (Refused r) h k = subst (Reports source) (sym k.2) (Typing p k.0 h k.1)
+by_types source p NoMemory h k = tt
+
+pub by_matches : (source : List ℕ) (p : Program) (ds : List Instance) (e : PhaseError) → IsTyped source p → AreOf p ds → IsReady p.types ds → Covering.Says p.types ds e → Says source e
+by_matches source p ds NoMemory h o ready k = tt
+by_matches source p ds (Refused r) h o ready (inl k) = subst (Reports source) (sym k.2) (Shape p ds k.0 h o k.1)
+by_matches source p ds (Refused r) h o ready (inr k) =
+    let says = k.1 ready in
+    subst (Reports source) (sym says.2) (Coverage p ds says.0 h o k.0 says.1)
+
+pub by_ownership : (source : List ℕ) (p : Program) (e : PhaseError) → IsMatched source p → Owning.Says p e → Says source e
+by_ownership source p (Refused r) h k = subst (Reports source) (sym k.2) (Ownership p k.0 h k.1)
+by_ownership source p NoMemory h k = tt
+
+pub by_credits : (source : List ℕ) (p : Program) (e : PhaseError) → IsOwned source p → Credits.Says p e → Says source e
+by_credits source p (Refused r) h k = subst (Reports source) (sym k.2) (Credit p k.0 h k.1)
+by_credits source p NoMemory h k = tt
+
+pub by_calls : (source : List ℕ) (p : Program) (e : PhaseError) → IsCredited source p → Calls.Says p e → Says source e
+by_calls source p (Refused r) h k = subst (Reports source) (sym k.2) (TailCall p k.0 h k.1)
+by_calls source p NoMemory h k = tt
+
+pub by_limits : (source : List ℕ) (p : Program) (ms : List Member) (e : PhaseError) → IsTailed source p → AreMembers p.instances ms → Limits.Says p ms e → Says source e
+by_limits source p ms (Refused r) h m k = subst (Reports source) (sym k.2) (Limit p ms k.0 h m k.1)
+by_limits source p ms NoMemory h m k = tt

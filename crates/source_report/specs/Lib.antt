@@ -1,0 +1,5 @@
+pub mod FlatSource
+pub mod Literals
+pub mod Report
+pub mod Same
+pub mod WellFormed

@@ -1,11 +1,11 @@
 -- A program has one list of instances and one of types, and is accepted or refused.
-use Rattle.std.proofs.Common.{◌≡◌, ◌⊎◌, inl, inr, List, [], ap, sym, subst, ◌∙◌}
+use Rattle.std.proofs.Common.{◌≡◌, inl, inr, List, ap, sym, subst, ◌∙◌}
 use Rattle.fip_language.specs.declared.limits.TheConstants.{MOST_INSTANCES}
 use Rattle.fip_trees.specs.Least.{In}
 use Rattle.fip_trees.specs.TreeView as W
 use Rattle.fip_trees.specs.declared.least.Violation.{Violation}
 use Rattle.fip_trees.specs.declared.program.Program.{Program}
-use Rattle.static_params.specs.Answers.{AreFew, AreFewInstances, AreManyFunctions, AreManyTypes, IsAccepted, IsLeastUse, IsManyFunctions, IsManyTypes, Names}
+use Rattle.static_params.specs.Answers.{AreFew, AreFewInstances, AreManyFunctions, AreManyTypes, IsAccepted, Names}
 use Rattle.static_params.specs.Closed.{Closed, same_closed}
 use Rattle.static_params.specs.FlatProgram.{Numbers, flat_program}
 use Rattle.static_params.specs.Instances.{AreInstances, ArePassed, all_faults, calls_from, passed_to, roots}

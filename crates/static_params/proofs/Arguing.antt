@@ -7,11 +7,11 @@ use Rattle.fip_base.specs.declared.core_form.Written as W
 use Rattle.fip_trees.specs.Least.{after}
 use Rattle.fip_trees.specs.declared.least.Violation.{Violation}
 use Rattle.fip_trees.proofs.Leasts.{after-append}
-use Rattle.static_params.specs.Closed.{Closed, Closeds, Int, NoClosed, MoreClosed}
+use Rattle.static_params.specs.Closed.{Closed}
 use Rattle.static_params.specs.Source.{Source, Instance}
 use Rattle.static_params.specs.SharedTrees.{Branch, Grows, NoneOrWithin, tree_at, trees}
-use Rattle.static_params.specs.Uses.{all_fit, all_given, arguments_faults, both, closed_arguments, misfits, static_fits, types_given}
-use Rattle.static_params.specs.UsesView.{AreAllWithin, IsPlaceOf, all_trees, argument_of, argument_or_none, faults_of_argument, misfit_at, type_or_int}
+use Rattle.static_params.specs.Uses.{all_fit, arguments_faults, closed_arguments, misfits, static_fits}
+use Rattle.static_params.specs.UsesView.{AreAllWithin, IsPlaceOf, all_trees, argument_of, argument_or_none, faults_of_argument, misfit_at}
 use Rattle.static_params.proofs.Using.{arguments_kept, arguments_within}
 use Rattle.static_params.proofs.Lists.{drop_item}
 

@@ -1,11 +1,10 @@
 -- Whether functions that are passed fit, where it is known what is given beside them, and where it isn't.
-use Rattle.std.proofs.Common.{◌≡◌, ◌+◌, ◌<◌, ℕ, Bool, false, Option, Some, None, List, [], length, Vec, Global, refl, ap, sym, subst, ◌∙◌}
+use Rattle.std.proofs.Common.{◌≡◌, ◌+◌, ◌<◌, ℕ, Bool, false, Option, Some, None, List, [], length, Vec, Global, ap, sym, subst, ◌∙◌}
 use Rattle.fip_language.specs.Core.{Writtens}
-use Rattle.fip_trees.specs.declared.least.Violation.{Violation}
 use Rattle.static_params.specs.declared.closed.Head.{Head}
 use Rattle.static_params.specs.declared.closed.Head.TheVariants as H
 use Rattle.static_params.specs.declared.source.Here.{Here}
-use Rattle.static_params.specs.Closed.{Closed, Closeds, Int, Applied, NoClosed, arguments_of, head_of}
+use Rattle.static_params.specs.Closed.{Closed, Closeds, Applied, arguments_of, head_of}
 use Rattle.static_params.specs.SharedTrees.{Branch, tree_at, trees, trees_at}
 use Rattle.static_params.specs.Source.{Instance, Source, statics_at}
 use Rattle.static_params.specs.SourceView.{IsAsked, IsFunctionAt, IsHere, instance}

@@ -1,6 +1,5 @@
 -- Closing what is written, one type after another.
-use Rattle.std.proofs.Common.{◌≡◌, ℕ, zero, suc, ◌+◌, ◌<◌, ◌≤◌, Bool, true, false, ◌&&◌, List, [], ◌∷◌, ◌++◌, length, map, drop, get_or, Option, Some, None, option_map, is_some, Vec, Global, refl, ap, sym, subst, ◌∙◌, arith, append_assoc, append-nil, drop_of_length-le, if◌then◌else◌}
-use Rattle.std.specs.Prelude.{◌==◌}
+use Rattle.std.proofs.Common.{◌≡◌, ℕ, suc, ◌+◌, ◌<◌, ◌≤◌, Bool, true, false, ◌&&◌, List, [], ◌∷◌, ◌++◌, length, drop, get_or, Option, Some, None, option_map, is_some, Vec, Global, refl, ap, sym, subst, ◌∙◌, drop_of_length-le}
 use Rattle.fip_language.specs.declared.Place.{Place}
 use Rattle.fip_language.specs.Core as C
 use Rattle.fip_language.specs.Core.{Name}
@@ -15,15 +14,15 @@ use Rattle.fip_trees.specs.Names.{meaning}
 use Rattle.fip_trees.proofs.Leasts.{after-append}
 use Rattle.fip_trees.specs.declared.least.Violation.{Violation}
 use Rattle.static_params.specs.declared.source.Here.{Here}
-use Rattle.static_params.specs.Closed.{Closed, Closeds, Int, NoClosed, MoreClosed}
+use Rattle.static_params.specs.Closed.{Closed, Closeds, NoClosed, MoreClosed}
 use Rattle.static_params.specs.Source.{Source, Instance, given_type}
 use Rattle.static_params.specs.SourceView.{instance, IsReady}
 use Rattle.static_params.specs.declared.source.Source as D
 use Rattle.static_params.specs.Uses.{both, closed_type, closed_types, count, named_type, type_faults, types_faults, type_name_faults}
 use Rattle.static_params.specs.SharedTrees.{Branch, tree_at, trees, trees_at, all_at, Grows, AreWithin, NoneOrWithin}
 use Rattle.static_params.specs.UsesView.{IsPlaceOf, ArePlacesOf, trees_of, with_place}
-use Rattle.static_params.proofs.Growing.{grows_same, grows_more, within_more, trees_kept}
-use Rattle.static_params.proofs.Lists.{drop_item, walk_step}
+use Rattle.static_params.proofs.Growing.{within_more, trees_kept}
+use Rattle.static_params.proofs.Lists.{drop_item}
 
 pub instance_kept : (here : Here) (bs cs : List Branch) → Grows bs cs → AreWithin bs here.given.items → instance (trees cs) here ≡ instance (trees bs) here
 instance_kept here bs cs g w = ap (λ (x : Closeds). record { function = here.function; given = x }) (trees_kept bs cs here.given.items g w)

@@ -1,14 +1,13 @@
 -- Types of headers, one after another.
-use Rattle.std.proofs.Common.{◌≡◌, ℕ, zero, suc, ◌+◌, ◌<◌, ◌≤◌, Bool, true, false, ◌&&◌, ◌||◌, List, [], ◌∷◌, ◌++◌, length, map, drop, get_or, Option, Some, None, refl, ap, sym, subst, ◌∙◌, arith, append_assoc, append-nil, drop_of_length-le, nat_eq}
-use Rattle.fip_language.specs.Core as C
+use Rattle.std.proofs.Common.{◌≡◌, ℕ, suc, ◌+◌, ◌<◌, ◌≤◌, Bool, true, false, ◌&&◌, ◌||◌, List, [], ◌∷◌, ◌++◌, length, map, drop, get_or, refl, ap, sym, subst, ◌∙◌, append_assoc, append-nil, drop_of_length-le}
 use Rattle.fip_language.proofs.Plain.{every_append}
 use Rattle.fip_base.specs.CoreView as V
 use Rattle.fip_base.specs.declared.core_form.Written.{Written}
 use Rattle.fip_base.specs.declared.core_form.SignatureParameter as DS
 use Rattle.fip_base.specs.declared.core_form.Parameter as DP
-use Rattle.static_params.specs.Closed.{Closed, Int, same_closed}
+use Rattle.static_params.specs.Closed.{Closed, same_closed}
 use Rattle.static_params.specs.Source.{Source, Instance, is_scalar}
-use Rattle.static_params.specs.SharedTrees.{AreShared, Branch, Grows, AreWithin, all_at, tree_at, trees}
+use Rattle.static_params.specs.SharedTrees.{Branch, Grows, AreWithin, all_at, tree_at, trees}
 use Rattle.static_params.specs.Uses.{declared_type, same_mark, same_parameters}
 use Rattle.static_params.specs.UsesView.{is_same_parameter}
 use Rattle.static_params.proofs.Closing.{at_append, kept_all}

@@ -1,12 +1,12 @@
 -- The types of fields, and the places at which they stand.
-use Rattle.std.proofs.Common.{◌≡◌, ℕ, zero, suc, ◌+◌, ◌<◌, ◌≤◌, List, [], ◌∷◌, ◌++◌, length, map, get_or, Vec, Global, refl, ap, sym, ◌∙◌, arith}
+use Rattle.std.proofs.Common.{◌≡◌, ℕ, zero, suc, ◌+◌, ◌<◌, List, [], ◌∷◌, ◌++◌, length, map, get_or, Vec, Global, refl, ap, sym, ◌∙◌, arith}
 use Rattle.fip_trees.specs.declared.decls.FieldType.{FieldType}
 use Rattle.fip_trees.specs.declared.decls.FieldType.TheOpen as F
 use Rattle.fip_trees.specs.declared.decls.FieldType.TheVariants as FV
 use Rattle.fip_trees.specs.declared.decls.FieldType.TheFolds.{fold-roll-FieldType}
-use Rattle.static_params.specs.Closed.{Closed, Closeds, Int, NoClosed, MoreClosed, row}
-use Rattle.static_params.specs.Source.{Ty, Plain, Parameter, Of, Tys, NoTys, MoreTys}
-use Rattle.static_params.specs.SharedTrees.{AreWithin, Branch, all_at, tree_at, trees, trees_at}
+use Rattle.static_params.specs.Closed.{Closed, Closeds, Int, MoreClosed, row}
+use Rattle.static_params.specs.Source.{Ty, Plain, Parameter, Of}
+use Rattle.static_params.specs.SharedTrees.{AreWithin, Branch, all_at, tree_at, trees_at}
 use Rattle.static_params.specs.SourceView.{ty, ty_step, tys_of}
 use Rattle.static_params.specs.TypeInstances.{field_type, field_types, pick, unless_int, unless_ints}
 use Rattle.fip_language.specs.Mentions.{all_of}

@@ -1,27 +1,24 @@
 -- Functions that are passed, against the signatures that are asked of them.
-use Rattle.std.proofs.Common.{◌≡◌, ℕ, zero, suc, ◌+◌, ◌<◌, ◌≤◌, ◌⊎◌, inl, inr, Bool, true, false, not, ◌&&◌, ◌||◌, List, [], ◌∷◌, ◌++◌, length, map, drop, get_or, slice_get, Option, Some, None, option_map, Vec, Global, refl, ap, sym, subst, ◌∙◌, arith, if◌then◌else◌, drop_of_length-le, nat_eq}
-use Rattle.std.specs.Prelude.{◌==◌, bytes_eq}
-use Rattle.fip_language.specs.declared.Place.{Place}
-use Rattle.fip_language.specs.Core.{Name, Written, Result, Static, TypeParameter, FunctionParameter, Function, SignatureParameter, Parameter}
-use Rattle.fip_language.specs.Every.{Every}
+use Rattle.std.proofs.Common.{◌≡◌, ℕ, suc, ◌+◌, ◌<◌, ◌⊎◌, inl, inr, Bool, true, false, ◌&&◌, List, [], ◌∷◌, length, map, get_or, Option, refl, ap, sym, subst, ◌∙◌, nat_eq}
+use Rattle.std.specs.Prelude.{bytes_eq}
+use Rattle.fip_language.specs.Core.{Written, Result, Static, SignatureParameter, Parameter}
 use Rattle.static_params.specs.declared.closed.Head.TheVariants as H
 use Rattle.static_params.specs.declared.closed.Passing.{Passing}
 use Rattle.static_params.specs.declared.source.Here.{Here}
 use Rattle.static_params.specs.declared.source.Source as D
-use Rattle.static_params.specs.Closed.{Closed, Closeds, Int, Applied, NoClosed, MoreClosed, same_closed}
-use Rattle.static_params.specs.Source.{Source, Instance, is_scalar, statics_at}
-use Rattle.static_params.specs.SourceView.{source, instance, IsAsked, IsFunctionAt, IsReady}
-use Rattle.static_params.specs.SharedTrees.{AreShared, Branch, Kept, IsNoted, Grows, AreWithin, NoneOrWithin, all_at, tree_at, trees, trees_at}
+use Rattle.static_params.specs.Closed.{Closed, Closeds, Int, Applied, same_closed}
+use Rattle.static_params.specs.Source.{Source, Instance}
+use Rattle.static_params.specs.SourceView.{source, instance, IsAsked, IsReady}
+use Rattle.static_params.specs.SharedTrees.{AreShared, Branch, Kept, IsNoted, Grows, AreWithin, all_at, tree_at, trees}
 use Rattle.static_params.specs.KnownFits.{AreKnown, IsKnown, IsRight, fits_there, fits_parameter}
-use Rattle.static_params.specs.Uses.{declared_type, fit_if_known, all_fit, fits, header_fits, misfits_if_known, misfits, same_mark, same_parameters, same_results, static_fits, types_given}
-use Rattle.static_params.specs.UsesView.{AreAllWithin, AsksFor, all_trees, is_same_parameter, trees_of}
+use Rattle.static_params.specs.Uses.{declared_type, fits, same_parameters, same_results}
+use Rattle.static_params.specs.UsesView.{AsksFor, is_same_parameter}
 use Rattle.std.proofs.lemmas.Bool.{eqb-true, eqb-false}
 use Rattle.static_params.specs.Numbering.{Differ}
 use Rattle.static_params.proofs.ClosedTrees.{closed_exact}
 use Rattle.static_params.proofs.SharedTrees.{same_place}
 use Rattle.static_params.proofs.Growing.{more_within, within_more, trees_kept, as_trees}
-use Rattle.static_params.proofs.Using.{arguments_kept, tree_kept}
-use Rattle.static_params.proofs.Lists.{drop_item}
+use Rattle.static_params.proofs.Using.{tree_kept}
 use Rattle.std.proofs.lemmas.Bool.{ne_eqb}
 
 -- ---- what is known stays known

@@ -1,5 +1,5 @@
 -- A walk over a numbered list gathers what each item breaks.
-use Rattle.std.proofs.Common.{◌≡◌, ℕ, zero, suc, ◌+◌, ◌⊎◌, inl, inr, Bool, List, [], ◌∷◌, ◌++◌, length, take, slice_get, Option, Some, None, refl, ap, sym, subst, ◌∙◌, arith, append_assoc, append-nil}
+use Rattle.std.proofs.Common.{◌≡◌, ℕ, zero, suc, ◌+◌, List, [], ◌∷◌, ◌++◌, length, take, slice_get, Option, Some, None, refl, ap, sym, ◌∙◌, arith, append_assoc, append-nil}
 use Rattle.fip_trees.specs.Least.{after}
 use Rattle.fip_trees.specs.declared.least.Violation.{Violation}
 use Rattle.fip_trees.proofs.Leasts.{after-append}

@@ -1,12 +1,11 @@
 -- Places of static arguments, gathered one after another.
-use Rattle.std.proofs.Common.{◌≡◌, ℕ, zero, suc, ◌+◌, ◌<◌, ◌≤◌, Bool, true, false, List, [], ◌∷◌, ◌++◌, length, map, drop, get_or, slice_get, Option, Some, None, option_map, Vec, Global, refl, ap, sym, subst, ◌∙◌, arith, drop_of_length-le}
+use Rattle.std.proofs.Common.{◌≡◌, ℕ, ◌+◌, ◌<◌, ◌≤◌, true, List, [], ◌∷◌, ◌++◌, length, drop, get_or, Option, Some, None, option_map, Vec, Global, refl, ap, sym, subst, ◌∙◌, arith, drop_of_length-le}
 use Rattle.fip_language.specs.Core.{Static, TypeParameter, FunctionParameter}
-use Rattle.fip_language.specs.Every.{Every}
 use Rattle.fip_language.proofs.Plain.{every_append}
-use Rattle.static_params.specs.Closed.{Closed, Closeds, Int, NoClosed}
-use Rattle.static_params.specs.SharedTrees.{Branch, AreWithin, NoneOrWithin, all_at, tree_at, trees_at}
+use Rattle.static_params.specs.Closed.{Closed, Int, NoClosed}
+use Rattle.static_params.specs.SharedTrees.{Branch, AreWithin, NoneOrWithin, all_at, tree_at}
 use Rattle.static_params.specs.Uses.{all_given, both, types_given}
-use Rattle.static_params.specs.UsesView.{AreAllWithin, AreWithinIfSome, all_trees, trees_of, type_or_int}
+use Rattle.static_params.specs.UsesView.{AreAllWithin, all_trees, trees_of, type_or_int}
 use Rattle.static_params.proofs.Closing.{joined, joined_some, joined_none, onto_row, at_append}
 use Rattle.static_params.proofs.Lists.{drop_item}
 

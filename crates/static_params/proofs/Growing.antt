@@ -1,10 +1,9 @@
 -- Trees that come behind others change none of these.
-use Rattle.std.proofs.Common.{◌≡◌, ℕ, zero, suc, ◌+◌, ◌<◌, ◌≤◌, Bool, true, false, List, [], ◌∷◌, ◌++◌, length, slice_get, get_or, Option, Some, None, option_map, refl, ap, sym, subst, ◌∙◌, arith, if◌then◌else◌, append_assoc, append-nil}
+use Rattle.std.proofs.Common.{◌≡◌, ℕ, zero, suc, ◌+◌, ◌<◌, Bool, true, false, List, [], ◌∷◌, ◌++◌, length, slice_get, get_or, Some, refl, ap, sym, ◌∙◌, arith, if◌then◌else◌, append_assoc, append-nil}
 use Rattle.std.specs.List.{list_any}
-use Rattle.std.proofs.lemmas.List.{get_or_append_left}
 use Rattle.fip_language.specs.Every.{Every}
-use Rattle.static_params.specs.Closed.{Closed, Closeds, Int, MoreClosed, same_closed}
-use Rattle.static_params.specs.SharedTrees.{Branch, tree_at, trees, trees_at, Grows, AreWithin, NoneOrWithin}
+use Rattle.static_params.specs.Closed.{Closed, Int, same_closed}
+use Rattle.static_params.specs.SharedTrees.{Branch, trees, trees_at, Grows, AreWithin}
 use Rattle.static_params.specs.Numbering.{with_new}
 use Rattle.static_params.proofs.SharedTrees.{so_many, keep_trees}
 

@@ -1,5 +1,5 @@
 -- Instances that are made, one after another.
-use Rattle.std.proofs.Common.{◌≡◌, ◌++◌, ◌∙◌, ℕ, List, [], ◌∷◌, Option, map, refl, ap, sym, append-nil}
+use Rattle.std.proofs.Common.{◌≡◌, ◌++◌, ◌∙◌, ℕ, List, [], ◌∷◌, refl, ap}
 use Rattle.std.proofs.lemmas.List.{map-append}
 use Rattle.fip_trees.specs.Tree as T
 use Rattle.fip_trees.specs.TreeView as W
@@ -8,8 +8,7 @@ use Rattle.static_params.specs.declared.closed.Head.TheVariants as H
 use Rattle.static_params.specs.declared.flatten.Flattening.{Flattening}
 use Rattle.static_params.specs.Closed.{Closed, Closeds, Int, Applied}
 use Rattle.static_params.specs.FlatProgram.{Numbers, instances_of}
-use Rattle.static_params.specs.FlatView.{GoesOn, IsMaking, Making, Stays, making}
-use Rattle.static_params.specs.SharedTrees.{Grows}
+use Rattle.static_params.specs.FlatView.{GoesOn, IsMaking}
 use Rattle.static_params.specs.Source.{Source}
 use Rattle.static_params.proofs.Growing.{grows_same, grows_more}
 

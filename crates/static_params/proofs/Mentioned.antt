@@ -1,13 +1,11 @@
 -- What is looked up once of a function is what its header and its body mention.
-use Rattle.std.proofs.Common.{◌≡◌, ℕ, ◌+◌, ◌<◌, Bool, true, List, [], ◌∷◌, ◌++◌, length, map, get_or, reverse, slice_get, Option, Some, None, refl, ap, sym, ◌∙◌}
+use Rattle.std.proofs.Common.{◌≡◌, ℕ, ◌+◌, ◌<◌, true, List, [], ◌∷◌, length, map, get_or, reverse, slice_get, Some, refl, ap, sym, ◌∙◌}
 use Rattle.std.proofs.lemmas.List.{reverse-append}
-use Rattle.fip_language.specs.Core.{Written, Function}
-use Rattle.fip_language.specs.Stack.{sites_in_block}
 use Rattle.fip_base.specs.CoreView.{block, function, parameter, written}
 use Rattle.static_params.specs.declared.source.Source as D
 use Rattle.static_params.specs.declared.source.FunctionSource.{FunctionSource}
 use Rattle.static_params.specs.FlatProgram.{binders_in, binders_in_block}
-use Rattle.static_params.specs.Instances.{calls, use_at}
+use Rattle.static_params.specs.Instances.{calls}
 use Rattle.static_params.specs.MentionsView.{Heard, heard, hears_block, nothing, use_of}
 use Rattle.static_params.specs.SourceView.{IsLookedUp, declared_with, function_source, source}
 use Rattle.static_params.specs.TypeInstances.{annotations_in_block, numbers_named, written_in_header}

@@ -1,15 +1,15 @@
 -- The number of a tree is that of its place.
-use Rattle.std.proofs.Common.{◌≡◌, ℕ, zero, suc, ◌+◌, ◌<◌, ◌≤◌, Bool, true, false, not, List, [], ◌∷◌, ◌++◌, length, map, cond, Option, Some, None, refl, ap, sym, subst, ◌∙◌, arith, nat_eq, nat_lt}
+use Rattle.std.proofs.Common.{◌≡◌, ℕ, ◌+◌, ◌<◌, not, List, [], ◌∷◌, length, map, cond, Some, None, refl, ap, sym, ◌∙◌, nat_eq, nat_lt}
 use Rattle.std.specs.List.{position, position_or_len, prefix_len}
 use Rattle.static_params.specs.declared.table.Numbers as N
 use Rattle.static_params.specs.declared.source.Source as D
 use Rattle.static_params.specs.declared.source.Here.{Here}
-use Rattle.static_params.specs.Closed.{Closed, Closeds, Int, NoClosed, MoreClosed, same_closed}
-use Rattle.static_params.specs.FlatProgram.{Numbers, from_one, number_in, numbers_of, or_zero, type_number}
-use Rattle.static_params.specs.FlatView.{AreNumbers, IsMakingOf, Making, making_of, numbers_at}
+use Rattle.static_params.specs.Closed.{Closed, same_closed}
+use Rattle.static_params.specs.FlatProgram.{Numbers, from_one, number_in, numbers_of, type_number}
+use Rattle.static_params.specs.FlatView.{AreNumbers, IsMakingOf, making_of, numbers_at}
 use Rattle.static_params.specs.KnownFits.{IsRight}
 use Rattle.static_params.specs.SharedTrees.{AreShared, AreWithin, Branch, Grows, Kept, all_at, tree_at, trees, trees_at}
-use Rattle.static_params.proofs.Closing.{instance_kept, kept_all}
+use Rattle.static_params.proofs.Closing.{kept_all}
 use Rattle.static_params.proofs.Declaring.{map_length}
 use Rattle.static_params.proofs.Fitting.{same_at, same_instance}
 use Rattle.static_params.proofs.Growing.{within_more}

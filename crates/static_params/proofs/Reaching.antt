@@ -1,20 +1,15 @@
 -- What instances call, one after another.
-use Rattle.std.proofs.Common.{◌≡◌, ℕ, zero, suc, ◌+◌, ◌<◌, ◌≤◌, Bool, true, false, List, [], ◌∷◌, ◌++◌, length, map, drop, get_or, reverse, slice_get, Option, Some, None, option_map, refl, ap, sym, subst, ◌∙◌, arith, append_assoc, append-nil, drop_of_length-le}
-use Rattle.fip_language.specs.Core.{Written, Function, Static}
-use Rattle.fip_language.specs.Every.{Every}
-use Rattle.fip_language.specs.Mentions.{all_of}
-use Rattle.fip_language.proofs.Plain.{every_append}
-use Rattle.fip_trees.specs.Least.{after}
-use Rattle.fip_trees.specs.declared.least.Violation.{Violation}
+use Rattle.std.proofs.Common.{◌≡◌, ℕ, suc, ◌+◌, ◌<◌, ◌≤◌, List, [], ◌∷◌, ◌++◌, length, map, drop, get_or, Option, Some, None, option_map, refl, ap, sym, subst, ◌∙◌, arith, append_assoc, append-nil, drop_of_length-le}
+use Rattle.fip_language.specs.Core.{Function}
 use Rattle.static_params.specs.declared.mentions.CallSite.{CallSite}
 use Rattle.static_params.specs.declared.closed.Head.TheVariants as H
-use Rattle.static_params.specs.Closed.{Closed, Closeds, Int, Applied, NoClosed, MoreClosed}
+use Rattle.static_params.specs.Closed.{Closed, Closeds, Int, Applied}
 use Rattle.static_params.specs.Source.{Source, Instance}
 use Rattle.static_params.specs.Instances.{all_reached, calls_from, faults_of, if_there, root_if, roots_from}
 use Rattle.static_params.specs.MentionsView.{use_of}
 use Rattle.static_params.specs.PutView.{Put}
 use Rattle.static_params.specs.SharedTrees.{Branch, Grows, AreWithin, Kept, all_at, tree_at, trees}
-use Rattle.static_params.specs.Uses.{closed_function, use_faults}
+use Rattle.static_params.specs.Uses.{closed_function}
 use Rattle.static_params.specs.UsesView.{IsPlaceOf, with_place}
 use Rattle.static_params.proofs.Closing.{at_append, kept_all, with_within}
 use Rattle.static_params.proofs.Growing.{within_more}

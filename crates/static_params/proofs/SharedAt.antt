@@ -1,7 +1,6 @@
 -- The tree at a place is the one of its branch.
-use Rattle.std.proofs.Common.{◌≡◌, ◌⊎◌, inl, inr, ℕ, zero, suc, ◌+◌, ◌-◌, ◌<◌, ◌≤◌, List, [], ◌∷◌, ◌++◌, length, slice_get, get_or, Some, None, refl, ap, sym, subst, ◌∙◌, arith}
+use Rattle.std.proofs.Common.{◌≡◌, ◌⊎◌, inl, inr, ℕ, zero, suc, ◌+◌, ◌-◌, ◌<◌, ◌≤◌, List, [], ◌∷◌, length, slice_get, get_or, Some, None, refl, ap, subst, ◌∙◌, arith}
 use Rattle.fip_language.specs.Every.{Every}
-use Rattle.fip_language.proofs.Plain.{every_at}
 use Rattle.static_params.specs.Closed.{Closed, Int}
 use Rattle.static_params.specs.SharedTrees.{Branch, tree_of, trees, AreBefore}
 use Rattle.static_params.proofs.SharedTrees.{so_many, behind, at_place, before_all, among_at}

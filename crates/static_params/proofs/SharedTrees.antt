@@ -3,7 +3,7 @@ use Rattle.std.proofs.Common.{◌≡◌, ℕ, zero, suc, ◌+◌, ◌<◌, ◌�
 use Rattle.std.specs.List.{list_any}
 use Rattle.std.proofs.lemmas.List.{get_or_append_left}
 use Rattle.std.proofs.lemmas.Slice.Eq.{bytes_eq-Decides}
-use Rattle.static_params.specs.Closed.{Closed, Int, Applied, MoreClosed, same_head, same_closed}
+use Rattle.static_params.specs.Closed.{Closed, Int, Applied, MoreClosed, same_closed}
 use Rattle.fip_language.specs.Every.{Every, Among}
 use Rattle.static_params.specs.SharedTrees.{Branch, trees_at, tree_of, with_branches, trees, AreBefore, AreShared, same_branch}
 use Rattle.static_params.specs.Numbering.{with_new, Differ}

@@ -1,20 +1,19 @@
 -- What is numbered, and what is said of it.
-use Rattle.std.proofs.Common.{◌≡◌, ◌≤◌, ◌⊎◌, inl, inr, ℕ, suc, Bool, List, [], ◌∷◌, length, Option, Some, None, IfSome, true, false, refl, ap, sym, subst, ◌∙◌}
+use Rattle.std.proofs.Common.{◌≡◌, ◌≤◌, inl, inr, ℕ, suc, Bool, List, [], ◌∷◌, length, Option, Some, None, IfSome, true, false, refl, ap, sym, subst, ◌∙◌}
 use Rattle.std.specs.Prelude.{codes, is_none}
 use Rattle.fip_language.specs.declared.rule.Rule.TheVariants.{E21}
 use Rattle.fip_language.specs.declared.limits.TheConstants.{MOST_INSTANCES}
 use Rattle.fip_trees.specs.Least.{after}
 use Rattle.fip_trees.specs.declared.least.Violation.{Violation}
 use Rattle.fip_trees.proofs.Leasts.{least_of, none_of}
-use Rattle.fip_trees.specs.Tree as T
 use Rattle.static_params.specs.declared.closed.Passing.{Passing}
 use Rattle.static_params.specs.declared.source.Source as D
 use Rattle.static_params.specs.declared.table.Numbers as N
-use Rattle.static_params.specs.Answers.{AreFew, AreFewInstances, AreManyFunctions, AreManyTypes, IsLeastUse, IsManyFunctions, IsManyTypes, Names, start}
-use Rattle.static_params.specs.Closed.{Closed, same_closed}
+use Rattle.static_params.specs.Answers.{AreManyFunctions, AreManyTypes, Names, start}
+use Rattle.static_params.specs.Closed.{Closed}
 use Rattle.static_params.specs.FlatView.{IsNamed, IsNumbered, IsTypes, numbers_at}
 use Rattle.static_params.specs.Instances.{all_faults, AreInstances, ArePassed}
-use Rattle.static_params.specs.KnownFits.{AreKnown, AreRoots, IsRight}
+use Rattle.static_params.specs.KnownFits.{IsRight}
 use Rattle.static_params.specs.SharedTrees.{AreWithin, Grows, IsNoted, Kept, all_at, trees}
 use Rattle.static_params.specs.Source.{Source}
 use Rattle.static_params.specs.SourceView.{IsLookedUp, source}

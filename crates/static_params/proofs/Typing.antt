@@ -1,6 +1,6 @@
 -- The types that are met on the way from the instances.
-use Rattle.std.proofs.Common.{◌≡◌, ℕ, ◌+◌, ◌<◌, List, [], ◌∷◌, ◌++◌, length, map, get_or, slice_get, Option, Some, None, refl, ap, sym, subst, ◌∙◌, append-nil}
-use Rattle.fip_language.specs.Core.{Written, Function}
+use Rattle.std.proofs.Common.{◌≡◌, ℕ, ◌<◌, List, [], ◌∷◌, ◌++◌, length, map, get_or, slice_get, Option, Some, None, refl, ap, sym, ◌∙◌}
+use Rattle.fip_language.specs.Core.{Written}
 use Rattle.fip_language.specs.Mentions.{all_of}
 use Rattle.fip_base.specs.CoreView.{written}
 use Rattle.static_params.specs.declared.closed.Head.TheVariants as H
@@ -12,14 +12,14 @@ use Rattle.static_params.specs.Closed.{Closed, Closeds, Int, Applied, NoClosed, 
 use Rattle.static_params.specs.Instances.{functions_among, passed_to}
 use Rattle.static_params.specs.KnownFits.{AreRoots}
 use Rattle.static_params.specs.PutView.{Put}
-use Rattle.static_params.specs.SharedTrees.{AreWithin, Branch, Grows, Kept, all_at, tree_at, trees, trees_at}
+use Rattle.static_params.specs.SharedTrees.{Grows, Kept, tree_at, trees, trees_at}
 use Rattle.static_params.specs.Source.{Source, Instance, declared_at}
 use Rattle.static_params.specs.SourceView.{IsReady, function_source, instance, source}
 use Rattle.static_params.specs.TypeInstances.{annotations_in_block, fields_of, numbers_named, parts_of, unless_ints, types_among, types_given, types_in, types_of_instance, types_written, written_in_header}
 use Rattle.static_params.proofs.Closing.{instance_kept}
 use Rattle.static_params.proofs.Fitting.{right_kept}
 use Rattle.static_params.proofs.GivenStatics.{at_there}
-use Rattle.static_params.proofs.Growing.{grows_more, within_more}
+use Rattle.static_params.proofs.Growing.{within_more}
 use Rattle.static_params.proofs.Mentioned.{annotations_there, header_there, named_there}
 use Rattle.static_params.proofs.Putting.{put_as, put_more}
 

@@ -1,15 +1,14 @@
 -- Uses of functions: what the code finds is what the definitions say.
-use Rattle.std.proofs.Common.{◌≡◌, ℕ, zero, suc, ◌+◌, ◌<◌, ◌≤◌, Bool, true, false, not, ◌&&◌, List, [], ◌∷◌, ◌++◌, length, map, drop, get_or, slice_get, Option, Some, None, option_map, refl, ap, sym, subst, ◌∙◌, arith, if◌then◌else◌, add-one, Vec, Global}
+use Rattle.std.proofs.Common.{◌≡◌, ℕ, zero, suc, ◌+◌, ◌<◌, Bool, true, false, not, List, [], ◌∷◌, length, slice_get, Option, Some, None, option_map, refl, ap, sym, subst, ◌∙◌, arith, if◌then◌else◌, Vec, Global}
 use Rattle.std.specs.Prelude.{◌==◌}
 use Rattle.std.proofs.lemmas.Bool.Decides.{nat_tests}
 use Rattle.fip_language.specs.declared.Place.{Place}
-use Rattle.fip_language.specs.declared.rule.Rule.{Rule}
 use Rattle.fip_language.specs.declared.rule.Rule.TheVariants.{E20, E23}
-use Rattle.fip_language.specs.Core.{Name, Written, Writtens, Static}
+use Rattle.fip_language.specs.Core.{Name, Writtens}
 use Rattle.fip_trees.specs.Least.{after}
 use Rattle.fip_trees.specs.declared.least.Violation.{Violation}
 use Rattle.fip_trees.proofs.Leasts.{after-append}
-use Rattle.static_params.specs.Closed.{Closed, Closeds, Int, Applied}
+use Rattle.static_params.specs.Closed.{Closed, Applied}
 use Rattle.static_params.specs.declared.closed.Head.TheVariants as H
 use Rattle.static_params.specs.Source.{Source, Instance, statics_at}
 use Rattle.static_params.specs.SharedTrees.{Branch, Grows, NoneOrWithin, tree_at, trees, trees_at}

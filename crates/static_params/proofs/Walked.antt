@@ -14,7 +14,7 @@ use Rattle.fip_trees.specs.declared.least.Violation.{Violation}
 use Rattle.static_params.proofs.ClosedTrees.{closed_exact}
 use Rattle.static_params.proofs.Numbered.{adds, IsWalk, walk_starts, walk_goes, walk_ends, walk_many}
 use Rattle.static_params.proofs.Gathered.{Gathers, gathers_goes, gathers_ends}
-use Rattle.static_params.proofs.SharedTrees.{so_many, same_place}
+use Rattle.static_params.proofs.SharedTrees.{same_place}
 use Rattle.static_params.proofs.Growing.{as_trees, within_more}
 
 -- ---- places and trees

@@ -8,7 +8,7 @@ use Rattle.fip_language.specs.declared.Place.{Place}
 use Rattle.fip_language.specs.declared.rule.Rule.TheVariants.{E21}
 use Rattle.fip_base.specs.declared.refusal.PhaseError.{PhaseError}
 use Rattle.fip_base.specs.declared.refusal.PhaseError.TheVariants.{Refused, NoMemory}
-use Rattle.fip_trees.specs.Least.{In, IsLeast, refusal}
+use Rattle.fip_trees.specs.Least.{IsLeast, refusal}
 use Rattle.fip_trees.specs.declared.least.Violation.{Violation}
 use Rattle.fip_language.specs.declared.limits.TheConstants.{MOST_INSTANCES}
 use Rattle.fip_trees.specs.TreeView.{program}

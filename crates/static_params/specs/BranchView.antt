@@ -1,5 +1,5 @@
 -- What the values of the code stand for.
-use Rattle.std.specs.Prelude.{List, [], ◌∷◌, map}
+use Rattle.std.specs.Prelude.{List, map}
 use Rattle.static_params.specs.declared.closed.Closed.{Closed}
 use Rattle.static_params.specs.SharedTrees.{Branch}
 

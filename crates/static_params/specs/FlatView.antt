@@ -1,5 +1,5 @@
 -- For the contracts of the code alone: what is numbered, and the instance whose trees are made.
-use Rattle.std.specs.Prelude.{◌≡◌, ◌≤◌, ℕ, List, [], ◌∷◌, map, length, Option, Some, None, slice_get}
+use Rattle.std.specs.Prelude.{◌≡◌, ◌≤◌, ℕ, List, map, length, Option, Some, None}
 use Rattle.fip_language.specs.Core as C
 use Rattle.fip_language.specs.declared.Place.{Place}
 use Rattle.fip_language.specs.declared.limits.TheConstants.{MOST_INSTANCES}

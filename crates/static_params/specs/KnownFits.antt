@@ -1,10 +1,10 @@
 -- For the contracts of the code alone: which functions are known to fit a signature, each with whether it does.
-use Rattle.std.specs.Prelude.{◌≡◌, ℕ, ◌+◌, ◌<◌, Bool, true, false, List, Option, Some, None, slice_get, length}
-use Rattle.fip_language.specs.Core.{Static, TypeParameter, FunctionParameter}
+use Rattle.std.specs.Prelude.{◌≡◌, ℕ, ◌+◌, ◌<◌, Bool, true, List, Option, Some, None, slice_get, length}
+use Rattle.fip_language.specs.Core.{Static}
 use Rattle.static_params.specs.declared.closed.Head.TheVariants as H
 use Rattle.static_params.specs.declared.closed.Passing.{Passing}
 use Rattle.static_params.specs.declared.source.Source as D
-use Rattle.static_params.specs.Closed.{Closed, Closeds, Int, Applied}
+use Rattle.static_params.specs.Closed.{Closed, Int, Applied}
 use Rattle.static_params.specs.Source.{Source, Instance, statics_at}
 use Rattle.static_params.specs.SourceView.{source, IsLookedUp}
 use Rattle.static_params.specs.SharedTrees.{Kept, IsNoted, Branch, tree_at, trees, AreWithin}

@@ -1,17 +1,16 @@
 -- For the contracts of the code alone: what has been heard of a body when a walk has come so far, and how it goes on.
-use Rattle.std.specs.Prelude.{ℕ, ◌+◌, List, [], ◌∷◌, ◌++◌, map, reverse, Option, Some, None, nat_eq}
+use Rattle.std.specs.Prelude.{ℕ, ◌+◌, List, [], ◌∷◌, ◌++◌, map, reverse, Option, nat_eq}
 use Rattle.fip_language.specs.Core.{Name, Written, WrittenName, Binder, Argument, Variable, Literal, Constructor}
 use Rattle.fip_language.specs.Core.{Arguments, NoArguments, MoreArguments, Pattern, BinderPattern, LiteralPattern}
 use Rattle.fip_language.specs.Core.{ConstructorPattern, Patterns, NoPatterns, MorePatterns, Expression, Give, Tuple}
 use Rattle.fip_language.specs.Core.{Operation, Call, Match, Nested, Block, Last, Let, Clauses, NoClauses, MoreClauses}
 use Rattle.fip_base.specs.CoreView as V
-use Rattle.fip_base.specs.declared.core_form.Written as D
 use Rattle.fip_trees.specs.Names.{meaning}
 use Rattle.static_params.specs.declared.mentions.CallSite.{CallSite}
 use Rattle.static_params.specs.declared.mentions.Mentions.{Mentions}
 use Rattle.static_params.specs.Source.{Source}
 use Rattle.static_params.specs.Instances.{put_in_order}
-use Rattle.static_params.specs.Numbering.{with_new, with_all}
+use Rattle.static_params.specs.Numbering.{with_all}
 use Rattle.static_params.specs.TypeInstances.{annotation_of, plain_number}
 
 -- the calls, the last in the text first; the annotations; the data types without parameters that are named; how many

@@ -1,6 +1,6 @@
 -- What the values of the code stand for.
 use Rattle.std.specs.Prelude.{◌≡◌, ℕ, ◌+◌, ◌<◌, length, List, [], ◌∷◌, map, Option, Some, None}
-use Rattle.fip_language.specs.Core.{Function, Static, TypeParameter, FunctionParameter}
+use Rattle.fip_language.specs.Core.{Function}
 use Rattle.fip_language.specs.Every.{Every}
 use Rattle.fip_base.specs.CoreView.{block, function, static, written}
 use Rattle.fip_base.specs.declared.core_form.Core.{Core}
@@ -19,7 +19,7 @@ use Rattle.static_params.specs.Source.{Ty, Plain, Parameter, Of, Tys, NoTys, Mor
 use Rattle.static_params.specs.Source.{Instance}
 use Rattle.static_params.specs.Source.{is_bare, static_places}
 use Rattle.static_params.specs.TypeInstances.{written_in_header}
-use Rattle.static_params.specs.SharedTrees.{Branch, Kept, tree_at, trees, trees_at, AreWithin}
+use Rattle.static_params.specs.SharedTrees.{Branch, tree_at, trees, trees_at, AreWithin}
 use Rattle.static_params.specs.MentionsView.{heard, hears_block, nothing}
 
 abbrev pub tys_of : List Ty → Tys

@@ -4,7 +4,7 @@ ghost use Rattle.std.specs.Prelude.{◌≡◌, List};
 ghost use Rattle.fip_trees.specs.declared.least.Violation.{Violation};
 ghost use Rattle.fip_trees.specs.declared.program.Program.{Program};
 ghost use Rattle.fip_trees.specs.TreeView as W;
-ghost use Rattle.static_params.specs.Answers.{AreFew, AreManyTypes, AreFewInstances, AreManyFunctions};
+ghost use Rattle.static_params.specs.Answers.{AreFew, AreFewInstances, AreManyFunctions, AreManyTypes};
 ghost use Rattle.static_params.specs.Answers.{IsAccepted, Names};
 ghost use Rattle.static_params.specs.Closed.{Closed};
 ghost use Rattle.static_params.specs.FlatProgram.{Numbers};

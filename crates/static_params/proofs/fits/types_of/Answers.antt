@@ -1,4 +1,4 @@
-use Rattle.std.proofs.Common.{◌≡◌, ◌≤◌, ◌+◌, ◌∙◌, ℕ, Option, List, ◌∷◌, length, map, drop, sym, ap, subst}
+use Rattle.std.proofs.Common.{◌≡◌, ◌≤◌, ◌+◌, ◌∙◌, ℕ, ◌∷◌, length, map, drop, sym, ap, subst}
 use Rattle.fip_base.specs.CoreView.{static}
 use Rattle.static_params.proofs.Declaring.{map_length}
 use Rattle.static_params.proofs.Gathering.{typed_fails, typed_goes, typed_ends, typed_stops}

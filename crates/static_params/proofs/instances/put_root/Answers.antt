@@ -1,8 +1,6 @@
-use Rattle.std.proofs.Common.{◌≡◌, ◌∙◌, ℕ, List, [], map, ap, sym, subst}
-use Rattle.fip_base.specs.CoreView.{static}
+use Rattle.std.proofs.Common.{◌∙◌, ℕ, List, [], ap, sym, subst}
 use Rattle.static_params.specs.declared.closed.Head.TheVariants as H
 use Rattle.static_params.specs.Closed.{Applied, NoClosed}
-use Rattle.static_params.specs.Instances.{root_if}
 use Rattle.static_params.specs.SharedTrees.{AreWithin, trees, trees_at}
 use Rattle.static_params.proofs.Putting.{put_as, put_none, put_place}
 use Rattle.static_params.proofs.instances.put_root.Goals as goal

@@ -1,4 +1,4 @@
-use Rattle.std.proofs.Common.{◌≡◌, ◌≤◌, ◌++◌, length, drop, take, reverse, map}
+use Rattle.std.proofs.Common.{◌≡◌, ◌≤◌, ◌++◌, length, drop, take}
 use Rattle.fip_language.specs.Core as C
 use Rattle.static_params.specs.Instances.{place_of, put_in_order}
 use Rattle.static_params.proofs.Ordering.{backwards}

@@ -1,7 +1,6 @@
 use Rattle.std.proofs.Common.{◌+◌, refl, sym, ◌∙◌, arith}
-use Rattle.static_params.specs.SharedTrees.{Kept}
 use Rattle.static_params.proofs.Growing.{grows_more}
-use Rattle.static_params.proofs.Walked.{IsWalking, walking_first, walking_next, walking_ends, walking_many, past_end}
+use Rattle.static_params.proofs.Walked.{walking_first, walking_next, walking_ends, walking_many, past_end}
 use Rattle.static_params.proofs.numbering.number.Goals as goal
 
 pub returns-then-len-most-clause-many : goal.returns-then-len-most-clause-many

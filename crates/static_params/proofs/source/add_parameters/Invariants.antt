@@ -1,8 +1,6 @@
 use Rattle.std.proofs.Common.{◌≡◌, ◌++◌, drop, map}
 use Rattle.fip_language.specs.Core as F
-use Rattle.fip_language.specs.Mentions.{all_of}
 use Rattle.fip_base.specs.CoreView as V
-use Rattle.static_params.specs.TypeInstances.{written_in_static}
 use Rattle.static_params.proofs.source.add_parameters.Given as goal
 
 abbrev pub invariant-loop-parameter : goal.invariant-loop-parameter

@@ -1,5 +1,4 @@
 use Rattle.std.proofs.Common.{◌≡◌, ◌++◌, drop, map}
-use Rattle.fip_language.specs.Core as F
 use Rattle.fip_language.specs.Mentions.{all_of}
 use Rattle.fip_base.specs.CoreView as V
 use Rattle.static_params.specs.TypeInstances.{written_in_static}

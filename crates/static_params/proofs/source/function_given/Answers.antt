@@ -1,4 +1,4 @@
-use Rattle.static_params.proofs.GivenStatics.{function_there, no_function, function_past, within_given}
+use Rattle.static_params.proofs.GivenStatics.{function_there, function_past, within_given}
 use Rattle.static_params.proofs.source.function_given.Goals as goal
 
 pub returns-in-Some-Function-clause-given : goal.returns-in-Some-Function-clause-given

@@ -1,4 +1,4 @@
-use Rattle.std.proofs.Common.{◌≡◌, ◌∙◌, ◌++◌, List, map, ap, sym}
+use Rattle.std.proofs.Common.{◌∙◌, ◌++◌, map, ap}
 use Rattle.fip_base.specs.CoreView as V
 use Rattle.static_params.specs.FlatView.{Making, making, bound_parameter_in}
 use Rattle.static_params.proofs.Made.{items_goes, items_done, stays_same, stays_more}

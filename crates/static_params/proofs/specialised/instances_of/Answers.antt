@@ -1,9 +1,7 @@
-use Rattle.std.proofs.Common.{◌≡◌, ◌∙◌, ◌++◌, ℕ, List, [], ap, sym, subst}
+use Rattle.std.proofs.Common.{◌∙◌, ◌++◌, ℕ, List, ap, sym, subst}
 use Rattle.fip_language.specs.Mentions.{all_of}
-use Rattle.fip_trees.specs.Tree as T
 use Rattle.fip_trees.specs.TreeView as W
 use Rattle.fip_trees.specs.declared.program.Instance as I
-use Rattle.static_params.specs.Closed.{NoClosed}
 use Rattle.static_params.specs.FlatProgram.{instances_of}
 use Rattle.static_params.specs.FlatView.{IsMakingOf, numbers_at}
 use Rattle.static_params.specs.SharedTrees.{AreWithin, all_at, trees}

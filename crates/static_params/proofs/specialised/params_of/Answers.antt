@@ -1,4 +1,4 @@
-use Rattle.std.proofs.Common.{Bool, ℕ, ◌≡◌, ◌∙◌, ◌++◌, List, map, ap, sym}
+use Rattle.std.proofs.Common.{Bool, ℕ, ◌∙◌, ◌++◌, List, map, ap}
 use Rattle.fip_base.specs.CoreView as V
 use Rattle.fip_base.specs.declared.plain.Param.{Param}
 use Rattle.static_params.specs.FlatView.{Making, making, parameter_in}

@@ -1,6 +1,4 @@
-use Rattle.std.proofs.Common.{◌≡◌, ◌∙◌, List, Vec, ℕ, Global, map, ap, sym}
-use Rattle.fip_language.specs.Mentions.{all_of}
-use Rattle.fip_trees.specs.TreeView as W
+use Rattle.std.proofs.Common.{◌∙◌, List, map, ap}
 use Rattle.fip_trees.specs.declared.decls.DeclaredType.{DeclaredType}
 use Rattle.static_params.specs.FlatProgram.{Numbers, field_counts, flat_program}
 use Rattle.static_params.specs.FlatView.{numbers_at}

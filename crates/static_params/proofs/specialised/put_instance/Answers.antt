@@ -1,4 +1,4 @@
-use Rattle.std.proofs.Common.{◌≡◌, ◌∙◌, ◌++◌, List, Option, ap, sym, subst, append-nil}
+use Rattle.std.proofs.Common.{◌∙◌, ◌++◌, List, Option, ap, sym, subst, append-nil}
 use Rattle.fip_trees.specs.Tree as T
 use Rattle.fip_trees.specs.TreeView as W
 use Rattle.static_params.specs.declared.source.Here.{Here}

@@ -1,8 +1,7 @@
-use Rattle.std.proofs.Common.{◌≡◌, ◌∙◌, ◌++◌, ◌+◌, ◌<◌, ℕ, List, length, get_or, take, ap, sym, append-nil, append_assoc}
+use Rattle.std.proofs.Common.{◌∙◌, ◌++◌, ◌+◌, ◌<◌, ℕ, List, length, get_or, take, ap, sym, append-nil, append_assoc}
 use Rattle.fip_language.specs.Mentions.{all_of}
 use Rattle.fip_trees.specs.Tree as T
 use Rattle.fip_trees.specs.TreeView as W
-use Rattle.static_params.specs.Closed.{Closed}
 use Rattle.static_params.specs.FlatProgram.{Numbers, instances_of}
 use Rattle.static_params.specs.FlatView.{making}
 use Rattle.static_params.specs.SharedTrees.{tree_at, trees}

@@ -1,4 +1,4 @@
-use Rattle.std.proofs.Common.{◌≡◌, ◌∙◌, Option, None, IfSome, subst}
+use Rattle.std.proofs.Common.{Option, IfSome, subst}
 use Rattle.fip_trees.specs.declared.program.Flat.{Flat}
 use Rattle.static_params.specs.declared.table.Numbers.{Numbers}
 use Rattle.static_params.specs.Answers.{IsAccepted}

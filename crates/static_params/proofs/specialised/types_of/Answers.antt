@@ -1,4 +1,4 @@
-use Rattle.std.proofs.Common.{◌≡◌, ◌≤◌, ◌∙◌, ℕ, List, [], Option, IfSome, length, subst}
+use Rattle.std.proofs.Common.{ℕ, List, Option, IfSome, subst}
 use Rattle.static_params.specs.Instances.{ArePassed}
 use Rattle.static_params.specs.KnownFits.{AreRoots}
 use Rattle.static_params.specs.SharedTrees.{AreWithin, all_at, trees}

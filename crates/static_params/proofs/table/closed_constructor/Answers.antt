@@ -1,4 +1,4 @@
-use Rattle.std.proofs.Common.{◌≡◌, ◌∙◌, ℕ, List, map, nat_eq, ap, sym}
+use Rattle.std.proofs.Common.{◌∙◌, ℕ, List, map, nat_eq, ap}
 use Rattle.std.specs.List.{position}
 use Rattle.fip_trees.specs.declared.decls.FieldType.{FieldType}
 use Rattle.static_params.specs.FlatProgram.{from_one}

@@ -1,4 +1,4 @@
-use Rattle.std.proofs.Common.{◌≡◌, ◌∙◌, ◌++◌, ℕ, List, map, drop, refl, ap, sym}
+use Rattle.std.proofs.Common.{◌∙◌, ◌++◌, List, map, refl, ap}
 use Rattle.fip_language.specs.Table.{Shape}
 use Rattle.fip_trees.specs.declared.decls.DeclaredConstructor.{DeclaredConstructor}
 use Rattle.static_params.specs.Closed.{Closeds}

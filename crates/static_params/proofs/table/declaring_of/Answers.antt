@@ -1,4 +1,4 @@
-use Rattle.std.proofs.Common.{◌≡◌, ◌∙◌, ◌++◌, ℕ, List, get_or, take, ap, sym}
+use Rattle.std.proofs.Common.{◌∙◌, ◌++◌, ℕ, List, get_or, ap, sym}
 use Rattle.fip_language.specs.Mentions.{all_of}
 use Rattle.static_params.specs.FlatProgram.{declaring_of}
 use Rattle.static_params.specs.SharedTrees.{tree_at, trees}

@@ -1,5 +1,4 @@
-use Rattle.std.proofs.Common.{◌≡◌, ◌∙◌, ◌++◌, ℕ, List, ap, sym, append-nil, Some}
-use Rattle.static_params.specs.FlatProgram.{number_if}
+use Rattle.std.proofs.Common.{◌∙◌, ◌++◌, ℕ, List, ap, sym, append-nil, Some}
 use Rattle.static_params.specs.SharedTrees.{tree_at, trees}
 use Rattle.static_params.specs.SourceView.{source}
 use Rattle.static_params.proofs.Tabling.{declaring_of_type, declaring_of_function, declaring_of_int}

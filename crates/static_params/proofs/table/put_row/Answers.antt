@@ -1,8 +1,6 @@
-use Rattle.std.proofs.Common.{◌≡◌, ◌∙◌, ◌++◌, ap, sym, append-nil, Some}
+use Rattle.std.proofs.Common.{◌∙◌, ◌++◌, ap, sym, append-nil, Some}
 use Rattle.fip_language.specs.Table.{Shape}
 use Rattle.std.proofs.Common.{List}
-use Rattle.static_params.specs.Closed.{arguments_of}
-use Rattle.static_params.specs.FlatProgram.{row_if}
 use Rattle.static_params.specs.FlatView.{numbers_at}
 use Rattle.static_params.specs.SharedTrees.{tree_at, trees}
 use Rattle.static_params.specs.SourceView.{source}

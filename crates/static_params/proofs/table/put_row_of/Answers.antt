@@ -1,4 +1,4 @@
-use Rattle.std.proofs.Common.{◌≡◌, ◌∙◌, ◌++◌, ◌∷◌, [], ℕ, List, Option, Some, None, option_map, map, ap, sym, subst, append-nil}
+use Rattle.std.proofs.Common.{◌∙◌, ◌++◌, ◌∷◌, [], List, option_map, map, ap, sym, subst, append-nil}
 use Rattle.fip_language.specs.Table.{Shape}
 use Rattle.static_params.specs.Closed.{Closeds, arguments_of}
 use Rattle.static_params.specs.FlatProgram.{flat_constructor, row_if}

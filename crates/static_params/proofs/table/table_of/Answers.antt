@@ -1,4 +1,4 @@
-use Rattle.std.proofs.Common.{◌≡◌, ◌∙◌, ◌++◌, ◌+◌, ◌<◌, ℕ, List, get_or, length, take, refl, ap, sym, subst}
+use Rattle.std.proofs.Common.{◌∙◌, ◌++◌, ◌+◌, ◌<◌, ℕ, List, get_or, length, refl, ap, sym, subst}
 use Rattle.fip_language.specs.Mentions.{all_of}
 use Rattle.fip_language.specs.Table.{Shape}
 use Rattle.static_params.specs.Closed.{Closed}

@@ -1,12 +1,11 @@
-use Rattle.std.proofs.Common.{◌≡◌, ◌∙◌, ℕ, ◌+◌, ◌<◌, List, [], ◌∷◌, map, length, arith, refl, sym, ap, subst}
+use Rattle.std.proofs.Common.{◌∙◌, ℕ, ◌+◌, ◌<◌, List, [], ◌∷◌, map, length, sym, ap, subst}
 use Rattle.fip_trees.specs.declared.decls.FieldType.{FieldType}
 use Rattle.static_params.specs.declared.closed.Head.TheVariants as H
-use Rattle.static_params.specs.Closed.{Closed, Closeds, Applied, row}
-use Rattle.static_params.specs.SharedTrees.{AreWithin, all_at, tree_at, trees, trees_at}
+use Rattle.static_params.specs.Closed.{Closeds, Applied, row}
+use Rattle.static_params.specs.SharedTrees.{tree_at, trees, trees_at}
 use Rattle.static_params.specs.PutView.{Put}
-use Rattle.static_params.specs.Source.{Ty}
 use Rattle.static_params.specs.SourceView.{ty}
-use Rattle.static_params.specs.TypeInstances.{field_type, field_types}
+use Rattle.static_params.specs.TypeInstances.{field_type}
 use Rattle.static_params.proofs.Fielding.{ty_int, ty_parameter, ty_applied, pick_at, pick_within, rowed, fields_row}
 use Rattle.static_params.proofs.Growing.{grows_same, grows_more, trees_kept, within_more}
 use Rattle.static_params.proofs.Putting.{all_of_single, map_map, put_as, put_ends, put_place, put_starts, put_step}

@@ -1,5 +1,5 @@
-use Rattle.std.proofs.Common.{get_or, ◌≡◌, ◌∙◌, ℕ, ◌+◌, ◌<◌, List, length, refl, sym}
-use Rattle.static_params.specs.SharedTrees.{AreWithin, tree_at, trees}
+use Rattle.std.proofs.Common.{get_or, ℕ, ◌+◌, ◌<◌, length, refl, sym}
+use Rattle.static_params.specs.SharedTrees.{tree_at, trees}
 use Rattle.static_params.specs.TypeInstances.{unless_int}
 use Rattle.static_params.proofs.Growing.{grows_same}
 use Rattle.static_params.proofs.Putting.{item_is, all_of_map, every_there, put_as, put_ends, put_starts, put_step, put_unless}

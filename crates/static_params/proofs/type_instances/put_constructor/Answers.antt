@@ -1,7 +1,6 @@
-use Rattle.std.proofs.Common.{◌≡◌, ◌∙◌, ℕ, List, [], map, ap, sym, subst}
+use Rattle.std.proofs.Common.{◌∙◌, ℕ, List, [], map, ap, sym, subst}
 use Rattle.fip_language.specs.Mentions.{all_of}
 use Rattle.fip_trees.specs.declared.decls.FieldType.{FieldType}
-use Rattle.static_params.specs.Closed.{row}
 use Rattle.static_params.specs.SharedTrees.{AreWithin, all_at, trees, trees_at}
 use Rattle.static_params.specs.SourceView.{ty}
 use Rattle.static_params.specs.TypeInstances.{field_type, unless_int, unless_ints}

@@ -1,4 +1,4 @@
-use Rattle.std.proofs.Common.{◌∙◌, ap, subst, IfSome}
+use Rattle.std.proofs.Common.{◌∙◌, subst, IfSome}
 use Rattle.static_params.specs.SharedTrees.{IsNoted, Kept}
 use Rattle.static_params.proofs.FitNotes.{known_noted}
 use Rattle.static_params.proofs.closed.Shared.known_fit.Goals as goal

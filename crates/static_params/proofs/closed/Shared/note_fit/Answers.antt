@@ -1,4 +1,4 @@
-use Rattle.std.proofs.Common.{◌≡◌, ◌⊎◌, ap, sym, subst}
+use Rattle.std.proofs.Common.{◌≡◌, ◌⊎◌, subst}
 use Rattle.static_params.specs.SharedTrees.{IsNoted, Kept}
 use Rattle.static_params.proofs.FitNotes.{noted_more}
 use Rattle.static_params.proofs.closed.Shared.note_fit.Goals as goal

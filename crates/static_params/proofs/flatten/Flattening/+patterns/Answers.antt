@@ -1,4 +1,4 @@
-use Rattle.std.proofs.Common.{◌≡◌, ◌∙◌, ◌++◌, List, map, ap, sym}
+use Rattle.std.proofs.Common.{◌∙◌, ◌++◌, List, map, ap, sym}
 use Rattle.fip_base.specs.CoreView as V
 use Rattle.fip_base.specs.declared.core_form.Pattern as CP
 use Rattle.fip_language.specs.Core.{Name}

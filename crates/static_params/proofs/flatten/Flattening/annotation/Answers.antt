@@ -1,4 +1,4 @@
-use Rattle.std.proofs.Common.{◌≡◌, ◌∙◌, Some, Option, option_map, ap, sym}
+use Rattle.std.proofs.Common.{◌∙◌, Some, Option, option_map, ap, sym}
 use Rattle.fip_base.specs.CoreView as V
 use Rattle.fip_base.specs.declared.core_form.Written.{Written}
 use Rattle.static_params.specs.FlatView.{making, type_in}

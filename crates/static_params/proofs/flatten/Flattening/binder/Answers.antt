@@ -1,4 +1,3 @@
-use Rattle.std.proofs.Common.{◌≡◌}
 use Rattle.static_params.proofs.flatten.Flattening.binder.Goals as goal
 
 pub returns-clause-stays : goal.returns-clause-stays

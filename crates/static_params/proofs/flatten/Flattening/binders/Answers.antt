@@ -1,6 +1,5 @@
-use Rattle.std.proofs.Common.{◌≡◌, ◌∙◌, ◌++◌, List, map, ap, sym}
+use Rattle.std.proofs.Common.{◌∙◌, ◌++◌, map, ap}
 use Rattle.fip_base.specs.CoreView as V
-use Rattle.fip_trees.specs.TreeView as W
 use Rattle.static_params.specs.FlatView.{Making, making, binder_in}
 use Rattle.static_params.proofs.Made.{items_goes, items_done, stays_same, stays_more}
 use Rattle.static_params.proofs.flatten.Flattening.binders.Goals as goal

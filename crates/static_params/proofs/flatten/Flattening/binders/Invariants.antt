@@ -1,6 +1,5 @@
 use Rattle.std.proofs.Common.{◌≡◌, ◌++◌, map, drop}
 use Rattle.fip_base.specs.CoreView as V
-use Rattle.fip_trees.specs.TreeView as W
 use Rattle.static_params.specs.FlatView.{IsMaking, Stays, making, binder_in}
 use Rattle.static_params.proofs.flatten.Flattening.binders.Given as goal
 

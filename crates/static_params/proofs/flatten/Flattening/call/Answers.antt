@@ -1,4 +1,4 @@
-use Rattle.std.proofs.Common.{◌≡◌, ◌∙◌, ap}
+use Rattle.std.proofs.Common.{◌∙◌, ap}
 use Rattle.fip_language.specs.Core as C
 use Rattle.fip_base.specs.CoreView as V
 use Rattle.fip_trees.specs.Tree as T

@@ -1,4 +1,4 @@
-use Rattle.std.proofs.Common.{◌≡◌, ◌∙◌, ℕ, Option, Some, None, refl, ap, subst, sym}
+use Rattle.std.proofs.Common.{◌∙◌, ℕ, Option, refl, ap, subst}
 use Rattle.fip_language.specs.Core.{Name, WrittenName}
 use Rattle.fip_base.specs.CoreView.{writtens}
 use Rattle.static_params.specs.FlatProgram.{callee_number, or_zero}

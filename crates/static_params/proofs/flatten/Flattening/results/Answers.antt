@@ -1,4 +1,4 @@
-use Rattle.std.proofs.Common.{◌≡◌, ◌∙◌, ℕ, map, nat_eq, ap}
+use Rattle.std.proofs.Common.{◌∙◌, ℕ, map, nat_eq, ap}
 use Rattle.std.specs.List.{position}
 use Rattle.fip_base.specs.CoreView.{result_type}
 use Rattle.static_params.specs.FlatProgram.{from_one, type_number}

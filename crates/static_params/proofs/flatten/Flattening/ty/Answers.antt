@@ -1,4 +1,4 @@
-use Rattle.std.proofs.Common.{◌≡◌, ◌∙◌, ap}
+use Rattle.std.proofs.Common.{◌∙◌, ap}
 use Rattle.static_params.specs.FlatProgram.{from_one}
 use Rattle.static_params.specs.SharedTrees.{trees}
 use Rattle.static_params.specs.SourceView.{instance, source}

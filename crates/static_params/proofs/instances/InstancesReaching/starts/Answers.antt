@@ -1,9 +1,8 @@
-use Rattle.std.proofs.Common.{◌≡◌, ◌≤◌, ◌+◌, ◌∙◌, ℕ, List, [], length, map, refl, ap, sym, subst}
+use Rattle.std.proofs.Common.{◌≤◌, ◌+◌, ◌∙◌, ℕ, List, map, refl, ap, sym, subst}
 use Rattle.fip_base.specs.CoreView.{static}
 use Rattle.fip_base.specs.declared.core_form.Static.{Static}
 use Rattle.static_params.specs.declared.source.FunctionSource.{FunctionSource}
 use Rattle.static_params.specs.Instances.{root_if, roots_from}
-use Rattle.static_params.specs.PutView.{Put}
 use Rattle.static_params.specs.SourceView.{function_source}
 use Rattle.static_params.proofs.Declaring.{map_length}
 use Rattle.static_params.proofs.Fitting.{right_kept}

@@ -1,4 +1,4 @@
-use Rattle.std.proofs.Common.{slice_get, ◌≡◌, ◌∙◌, ℕ, List, [], Option, refl, ap, sym, subst}
+use Rattle.std.proofs.Common.{slice_get, ◌∙◌, Option, ap, sym, subst}
 use Rattle.fip_trees.specs.Least.{after}
 use Rattle.static_params.specs.declared.source.Here.{Here}
 use Rattle.static_params.specs.Closed.{Closed}

@@ -1,4 +1,4 @@
-use Rattle.std.proofs.Common.{◌∙◌, ℕ, List, refl, ap, sym, subst}
+use Rattle.std.proofs.Common.{◌∙◌, ℕ, List, ap, sym, subst}
 use Rattle.static_params.specs.Instances.{functions_among}
 use Rattle.static_params.specs.SharedTrees.{AreWithin, tree_at, trees, trees_at}
 use Rattle.static_params.proofs.Typing.{given_functions}

@@ -1,4 +1,4 @@
-use Rattle.std.proofs.Common.{◌≡◌, ◌∙◌, ◌+◌, sym, ap, subst, refl, Some, true, List, ◌∷◌, map, drop, length, arith, drop_of_length-le, le_of_eq}
+use Rattle.std.proofs.Common.{◌≡◌, ◌∙◌, sym, ap, subst, refl, Some, true, List, length, arith}
 use Rattle.fip_base.specs.CoreView.{written, writtens}
 use Rattle.fip_base.specs.declared.core_form.Written.{Written}
 use Rattle.fip_language.specs.Core.{WrittenName}
@@ -11,7 +11,7 @@ use Rattle.static_params.specs.Uses.{closed_type, type_faults, types_faults}
 use Rattle.static_params.proofs.Growing.{grows_same, grows_more}
 use Rattle.static_params.proofs.Lists.{walk_step}
 use Rattle.static_params.proofs.SharedAt.{int_first}
-use Rattle.static_params.proofs.Closing.{IsClosing, instance_kept, ready_more, written_int, written_named, count_writtens, closing_starts, closing_goes, closing_ends, closing_fails, named_place, named_noted}
+use Rattle.static_params.proofs.Closing.{IsClosing, instance_kept, ready_more, written_int, written_named, count_writtens, closing_starts, closing_goes, closing_ends, named_place, named_noted}
 use Rattle.static_params.proofs.source.Source.+types.Goals as goal
 
 -- ---- int

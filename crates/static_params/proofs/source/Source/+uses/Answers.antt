@@ -1,10 +1,9 @@
-use Rattle.std.proofs.Common.{◌≡◌, ◌≤◌, ◌<◌, ◌+◌, ◌∙◌, ℕ, Option, Some, None, List, length, map, slice_get, option_map, refl, if◌then◌else◌, ap, sym, subst}
-use Rattle.fip_language.specs.Core.{Static, Written}
+use Rattle.std.proofs.Common.{◌≡◌, ◌+◌, ◌∙◌, ℕ, Option, Some, None, List, length, map, slice_get, option_map, refl, if◌then◌else◌, ap, sym, subst}
+use Rattle.fip_language.specs.Core.{Static}
 use Rattle.fip_base.specs.CoreView.{static, written, writtens}
 use Rattle.fip_base.specs.declared.core_form.Static as DS
 use Rattle.fip_trees.specs.Least.{after}
 use Rattle.fip_trees.specs.Names.{meaning}
-use Rattle.static_params.specs.Closed.{Closed}
 use Rattle.static_params.specs.SharedTrees.{NoneOrWithin, tree_at, trees}
 use Rattle.static_params.specs.Source.{Instance, given_function, statics_at}
 use Rattle.static_params.specs.SourceView.{source, instance}

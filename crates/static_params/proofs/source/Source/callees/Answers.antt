@@ -1,5 +1,4 @@
 use Rattle.std.proofs.Common.{◌≡◌, ◌≤◌, ◌<◌, ◌∙◌, List, length, map, get_or, ap, sym, subst}
-use Rattle.fip_language.specs.Core.{Written}
 use Rattle.fip_trees.specs.Least.{after}
 use Rattle.static_params.specs.declared.mentions.CallSite.{CallSite}
 use Rattle.static_params.specs.declared.source.FunctionSource.{FunctionSource}

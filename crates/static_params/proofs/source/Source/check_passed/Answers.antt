@@ -1,15 +1,14 @@
-use Rattle.std.proofs.Common.{◌≡◌, ◌∙◌, ◌+◌, ◌<◌, ℕ, Bool, Option, Some, None, List, length, Vec, Global, ap, sym, subst, refl}
+use Rattle.std.proofs.Common.{◌∙◌, ℕ, Option, List, Vec, Global, ap, subst}
 use Rattle.fip_base.specs.CoreView.{writtens}
 use Rattle.fip_language.specs.Core.{Static}
 use Rattle.fip_trees.specs.Least.{after}
-use Rattle.static_params.specs.declared.closed.Head.TheVariants as H
 use Rattle.static_params.specs.declared.source.Here.{Here}
-use Rattle.static_params.specs.Closed.{Closed, Closeds, Applied}
-use Rattle.static_params.specs.SharedTrees.{AreWithin, tree_at, trees, trees_at}
-use Rattle.static_params.specs.Source.{Instance, statics_at}
-use Rattle.static_params.specs.SourceView.{IsAsked, IsHere, source, instance}
-use Rattle.static_params.specs.Uses.{all_fit, fit_if_known, misfits, misfits_if_known, types_given}
-use Rattle.static_params.specs.UsesView.{AreWithinIfSome, all_trees, trees_of}
+use Rattle.static_params.specs.Closed.{Closed}
+use Rattle.static_params.specs.SharedTrees.{trees, trees_at}
+use Rattle.static_params.specs.Source.{statics_at}
+use Rattle.static_params.specs.SourceView.{IsHere, source, instance}
+use Rattle.static_params.specs.Uses.{all_fit, misfits, types_given}
+use Rattle.static_params.specs.UsesView.{AreWithinIfSome, all_trees}
 use Rattle.static_params.proofs.Checking.{here_is, fit_known, misfits_known, fit_unknown, misfits_unknown}
 use Rattle.static_params.proofs.Fitting.{right_kept}
 use Rattle.static_params.proofs.SharedAt.{int_first}

@@ -1,9 +1,8 @@
-use Rattle.std.proofs.Common.{◌≡◌, ◌∙◌, ◌+◌, ℕ, Option, Some, List, map, drop, slice_get, option_map, not, ap, sym, subst}
+use Rattle.std.proofs.Common.{◌≡◌, ◌∙◌, ◌+◌, ℕ, Some, List, map, slice_get, option_map, not, ap, sym, subst}
 use Rattle.fip_language.specs.Core.{Static}
 use Rattle.fip_base.specs.CoreView.{static, written}
 use Rattle.fip_trees.specs.Least.{after}
 use Rattle.static_params.specs.SharedTrees.{NoneOrWithin, tree_at, trees}
-use Rattle.static_params.specs.Closed.{Closed}
 use Rattle.static_params.specs.Source.{Instance, statics_at}
 use Rattle.static_params.specs.SourceView.{source, instance}
 use Rattle.static_params.specs.Uses.{static_fits}

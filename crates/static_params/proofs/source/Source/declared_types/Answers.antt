@@ -1,6 +1,6 @@
-use Rattle.std.proofs.Common.{◌≡◌, ◌∙◌, refl, sym, ap, subst}
+use Rattle.std.proofs.Common.{◌∙◌, refl, sym, ap, subst}
 use Rattle.fip_base.specs.CoreView.{written}
-use Rattle.static_params.specs.SharedTrees.{trees, tree_at}
+use Rattle.static_params.specs.SharedTrees.{trees}
 use Rattle.static_params.specs.Source.{Instance}
 use Rattle.static_params.specs.SourceView.{source, instance}
 use Rattle.static_params.specs.Uses.{declared_type}

@@ -1,6 +1,6 @@
-use Rattle.std.proofs.Common.{◌≡◌, sym, subst, map, List}
+use Rattle.std.proofs.Common.{sym, subst, map}
 use Rattle.fip_base.specs.CoreView.{signature_parameter, result_type}
-use Rattle.static_params.specs.SharedTrees.{Branch, Grows}
+use Rattle.static_params.specs.SharedTrees.{Grows}
 use Rattle.static_params.specs.SourceView.{source}
 use Rattle.static_params.proofs.Growing.{grows_same}
 use Rattle.static_params.proofs.Fitting.{known_right, known_more, ready_if_right}

@@ -1,8 +1,7 @@
-use Rattle.std.proofs.Common.{◌≡◌, ◌∙◌, Bool, true, false, ◌&&◌, refl, ℕ, List, map, bytes_eq, ap, sym, subst}
+use Rattle.std.proofs.Common.{◌≡◌, ◌∙◌, Bool, true, false, ◌&&◌, ℕ, List, map, bytes_eq, ap, sym}
 use Rattle.fip_base.specs.CoreView as V
 use Rattle.fip_base.specs.declared.core_form.Parameter.{Parameter}
-use Rattle.fip_language.specs.declared.CreditMark.{CreditMark}
-use Rattle.static_params.specs.SharedTrees.{AreWithin, all_at, trees}
+use Rattle.static_params.specs.SharedTrees.{all_at, trees}
 use Rattle.static_params.specs.Source.{Instance}
 use Rattle.static_params.specs.SourceView.{source, instance}
 use Rattle.static_params.specs.Uses.{declared_type, no_credit, result_types, same_parameters, same_results}

@@ -1,4 +1,4 @@
-use Rattle.std.proofs.Common.{[], Option, Some, None, option_map, ap, sym, ◌∙◌, List, map}
+use Rattle.std.proofs.Common.{[], option_map, ap, sym, ◌∙◌, List, map}
 use Rattle.fip_language.specs.Mentions.{all_of}
 use Rattle.fip_trees.specs.declared.decls.DeclaredConstructor.{DeclaredConstructor}
 use Rattle.static_params.specs.SharedTrees.{trees, trees_at}

@@ -1,7 +1,7 @@
-use Rattle.std.proofs.Common.{[], ap, sym, subst, Option, Some, None}
+use Rattle.std.proofs.Common.{[], ap, sym, subst, Option}
 use Rattle.static_params.specs.declared.source.Here.{Here}
 use Rattle.static_params.specs.SharedTrees.{tree_at, trees}
-use Rattle.static_params.specs.SourceView.{IsHere, IsReady, source}
+use Rattle.static_params.specs.SourceView.{IsHere, source}
 use Rattle.static_params.specs.TypeInstances.{types_of_instance}
 use Rattle.static_params.proofs.Putting.{put_as, put_none}
 use Rattle.static_params.proofs.Typing.{no_instance}

@@ -1,4 +1,4 @@
-use Rattle.std.proofs.Common.{◌≡◌, ◌<◌, ◌≤◌, ◌∙◌, [], List, length, get_or, map, ap, sym, subst}
+use Rattle.std.proofs.Common.{◌≡◌, ◌<◌, ◌≤◌, [], List, length, get_or, map, ap, sym, subst}
 use Rattle.fip_base.specs.CoreView.{written}
 use Rattle.static_params.specs.declared.source.FunctionSource.{FunctionSource}
 use Rattle.static_params.specs.SharedTrees.{trees}
@@ -7,7 +7,6 @@ use Rattle.static_params.specs.TypeInstances.{types_in}
 use Rattle.static_params.proofs.Closing.{ready_more}
 use Rattle.static_params.proofs.GivenStatics.{at_past}
 use Rattle.static_params.proofs.Putting.{put_as, put_none}
-use Rattle.static_params.proofs.Growing.{grows_more}
 use Rattle.static_params.proofs.Typing.{puts_mentioned}
 use Rattle.static_params.proofs.source.Source.put_mentioned.Goals as goal
 

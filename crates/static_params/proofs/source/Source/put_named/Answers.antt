@@ -1,4 +1,4 @@
-use Rattle.std.proofs.Common.{get_or, ◌≡◌, ◌∙◌, ℕ, List, [], ◌∷◌, sym, ap, subst}
+use Rattle.std.proofs.Common.{get_or, ◌∙◌, ℕ, List, [], ◌∷◌, sym, ap, subst}
 use Rattle.static_params.specs.declared.closed.Head.TheVariants as H
 use Rattle.static_params.specs.Closed.{Applied, NoClosed}
 use Rattle.static_params.specs.SharedTrees.{AreWithin, trees, trees_at}

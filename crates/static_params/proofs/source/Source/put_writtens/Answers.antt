@@ -1,4 +1,4 @@
-use Rattle.std.proofs.Common.{◌≡◌, ◌∙◌, List, sym, ap}
+use Rattle.std.proofs.Common.{sym, ap}
 use Rattle.fip_language.specs.Core as C
 use Rattle.fip_base.specs.CoreView.{written}
 use Rattle.static_params.specs.SharedTrees.{trees}

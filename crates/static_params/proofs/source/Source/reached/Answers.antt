@@ -1,4 +1,4 @@
-use Rattle.std.proofs.Common.{◌≡◌, ◌∙◌, Option, ℕ, List, map, refl, sym, ap, subst}
+use Rattle.std.proofs.Common.{◌∙◌, List, map, refl, sym, ap, subst}
 use Rattle.fip_trees.specs.Least.{after}
 use Rattle.static_params.specs.declared.mentions.CallSite.{CallSite}
 use Rattle.static_params.specs.Instances.{all_use_faults}

@@ -1,7 +1,6 @@
-use Rattle.std.proofs.Common.{◌≡◌, ◌∙◌, ap, sym}
+use Rattle.std.proofs.Common.{◌∙◌, ap, sym}
 use Rattle.fip_base.specs.CoreView.{parameter, signature_parameter}
-use Rattle.static_params.specs.Closed.{Closed}
-use Rattle.static_params.specs.SharedTrees.{tree_at, trees}
+use Rattle.static_params.specs.SharedTrees.{trees}
 use Rattle.static_params.specs.Source.{Instance, is_scalar}
 use Rattle.static_params.specs.SourceView.{source, instance}
 use Rattle.static_params.specs.Uses.{declared_type}

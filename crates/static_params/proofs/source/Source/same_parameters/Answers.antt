@@ -1,6 +1,5 @@
-use Rattle.std.proofs.Common.{◌≡◌, ◌≤◌, ◌+◌, ◌∙◌, ℕ, ◌∷◌, List, length, map, drop, ap, sym, subst, arith}
+use Rattle.std.proofs.Common.{◌≡◌, ◌+◌, ◌∙◌, ℕ, ◌∷◌, map, drop, ap, sym, subst, arith}
 use Rattle.fip_base.specs.CoreView.{parameter, signature_parameter}
-use Rattle.fip_base.specs.declared.core_form.Parameter.{Parameter}
 use Rattle.static_params.specs.SharedTrees.{trees}
 use Rattle.static_params.specs.Source.{Instance}
 use Rattle.static_params.specs.SourceView.{source, instance}

@@ -1,4 +1,4 @@
-use Rattle.std.proofs.Common.{◌≡◌, ◌∙◌, ap, sym, arith}
+use Rattle.std.proofs.Common.{◌∙◌, ap, sym, arith}
 use Rattle.static_params.specs.FlatProgram as P
 use Rattle.static_params.proofs.table.Numbers.instance_number.Goals as goal
 

@@ -1,4 +1,4 @@
-use Rattle.std.proofs.Common.{◌∙◌, get_or, ℕ, map, nat_eq, ap, ◌++◌, drop}
+use Rattle.std.proofs.Common.{◌∙◌, get_or, ℕ, map, nat_eq, ap, ◌++◌}
 use Rattle.std.specs.List.{position}
 use Rattle.static_params.specs.FlatProgram.{from_one}
 use Rattle.static_params.proofs.Putting.{item_is, plain_goes, plain_done}

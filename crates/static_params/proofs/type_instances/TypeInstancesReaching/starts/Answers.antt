@@ -1,4 +1,4 @@
-use Rattle.std.proofs.Common.{◌≡◌, ◌∙◌, ◌++◌, ℕ, List, [], ◌∷◌, ap, sym, subst}
+use Rattle.std.proofs.Common.{◌∙◌, ◌++◌, ℕ, List, [], ◌∷◌, ap, sym, subst}
 use Rattle.fip_language.specs.Mentions.{all_of}
 use Rattle.static_params.specs.declared.closed.Head.TheVariants as H
 use Rattle.static_params.specs.Closed.{Applied, Closed, NoClosed}

@@ -1,4 +1,4 @@
-use Rattle.std.proofs.Common.{◌≡◌, ◌∙◌, ◌++◌, ℕ, List, [], ap, sym, subst, Some}
+use Rattle.std.proofs.Common.{◌∙◌, ◌++◌, ℕ, List, ap, sym, subst, Some}
 use Rattle.fip_language.specs.Mentions.{all_of}
 use Rattle.static_params.specs.Closed.{Closed, Closeds, arguments_of}
 use Rattle.static_params.specs.SharedTrees.{AreWithin, all_at, tree_at, trees, trees_at}

@@ -4,16 +4,19 @@ use Rattle.std.specs.Prelude.{Bool, true, false, ◌||◌, ◌&&◌, not, is_som
 use Rattle.std.proofs.lemmas.Bool.{lt-ltb, le-ltb, eq-eqb, ne_eqb}
 use Rattle.std.proofs.lemmas.Bool.Decides.{eqb_tells}
 use Rattle.fip_language.specs.Table.{Table}
+use Rattle.cell_code.specs.declared.kind.From.{From}
 use Rattle.cell_code.specs.declared.kind.Kind.{Kind}
 use Rattle.cell_code.specs.declared.kind.Kind.TheVariants.{Gone, Scalar, Owned, Lent, Credit}
-use Rattle.sound_code.specs.Kinds.{at, has, is_lent_of}
+use Rattle.sound_code.specs.Kinds.{at, has, from_of, is_lent_of}
+use Rattle.sound_code.specs.Types.{is_scalar_type}
 use Rattle.sound_code.specs.Changes.{forget}
 use Rattle.sound_code.specs.Taking.{Part, part, part_from, is_heir, is_heir_by, fate, with_root, ends, part_kind, part_or, credit}
-use Rattle.sound_code.specs.Taking.{taken}
-use Rattle.register_kinds.specs.Kept.{is_lent}
+use Rattle.sound_code.specs.Taking.{Chain, IsReached, IsTaken, is_field}
+use Rattle.register_kinds.specs.Kept.{is_lent, names}
 use Rattle.register_kinds.specs.Takes.{seen_by, seen_at, kept_at, is_used, forgotten, fated, filled_by, filled_at, emptied, in_turn, Alike}
+use Rattle.register_kinds.specs.Takes.{IsUnread, IsPassed}
 use Rattle.register_kinds.proofs.Places.{at_set_same, at_set_other, set_long, set_same}
-use Rattle.register_kinds.proofs.Changed.{is_become, forget_other, forget_twice, forget_same, lent_forget}
+use Rattle.register_kinds.proofs.Changed.{is_become, forget_other, forget_twice, forget_same, lent_forget, forget_none, forget_kept}
 use Rattle.register_kinds.proofs.Keeps.{either}
 
 -- registers in turn
@@ -450,61 +453,78 @@ used_or true b e f = absurd (cc)
 used_or false b e f = f
 
 -- a register that doesn't own the cell
-other_case : (w : Table) (r size : ℕ) (parts : ℕ → Option Part) (os : List (Option ℕ)) (ended : ℕ → Bool) (q : ℕ)
-    (k : Kind) (o : Option Part) → parts q ≡ o → ((p : Part) → o ≡ Some p → p.field < size) → (q == r) ≡ false →
-    filled_by w r size (fated r parts os q (forgotten r parts ended q k)) o
-    ≡ part_or w r k o (if q == r then credit size else forget ended (fate (seen_by os q k) r k))
-other_case w r size parts os ended q k None e h g =
-    two_unused r parts os ended q k (used_or (is_some (parts q)) (q == r) (ap is_some e) g) ∙ rw g refl
-other_case w r size parts os ended q k (Some p) e h g =
-    filled_full w r size k (fated r parts os q (forgotten r parts ended q k)) p (h p refl)
-    (two_used r parts os ended q k (used_some r parts q p e))
+other_case : (w : Table) (r size : ℕ) (parts : ℕ → Option Part) (q : ℕ) (k l x : Kind) (o : Option Part) →
+    parts q ≡ o → ((p : Part) → o ≡ Some p → p.field < size) → (q == r) ≡ false →
+    (is_used r parts q ≡ true → x ≡ k) → (is_used r parts q ≡ false → x ≡ l) →
+    filled_by w r size x o ≡ part_or w r k o (if q == r then credit size else l)
+other_case w r size parts q k l x None e h g u n = n (used_or (is_some (parts q)) (q == r) (ap is_some e) g) ∙ rw g refl
+other_case w r size parts q k l x (Some p) e h g u n =
+    filled_full w r size k x p (h p refl) (u (used_some r parts q p e))
 
 emptied_other : (ks : List Kind) (r size q : ℕ) (o : Option Part) → (q ≡ r → ⊥) → at (emptied ks r o size) q ≡ at ks q
 emptied_other ks r size q None h = at_set_other ks r q (credit size) (λ e. h (sym e))
 emptied_other ks r size q (Some p) h = refl
 
 -- the register that owned the cell
-own_case : (w : Table) (r size : ℕ) (parts : ℕ → Option Part) (os : List (Option ℕ)) (ended : ℕ → Bool)
-    (k x : Kind) (ks : List Kind) (o : Option Part) → parts r ≡ o → ((p : Part) → o ≡ Some p → p.field < size) →
-    r < length ks → at ks r ≡ filled_by w r size (fated r parts os r (forgotten r parts ended r k)) o →
+own_case : (w : Table) (r size : ℕ) (k x : Kind) (ks : List Kind) (o : Option Part) →
+    ((p : Part) → o ≡ Some p → p.field < size) → r < length ks → x ≡ k → at ks r ≡ filled_by w r size x o →
     at (emptied ks r o size) r ≡ part_or w r k o (credit size)
-own_case w r size parts os ended k x ks None e h l f = at_set_same ks r (credit size) l
-own_case w r size parts os ended k x ks (Some p) e h l f =
-    f ∙ filled_full w r size k (fated r parts os r (forgotten r parts ended r k)) p (h p refl)
-    (two_used r parts os ended r k (used_some r parts r p e))
+own_case w r size k x ks None h l e f = at_set_same ks r (credit size) l
+own_case w r size k x ks (Some p) h l e f = f ∙ filled_full w r size k x p (h p refl) e
 
 emptied_long : (ks : List Kind) (r size : ℕ) (o : Option Part) → length (emptied ks r o size) ≡ length ks
 emptied_long ks r size None = set_long ks r (credit size)
 emptied_long ks r size (Some p) = refl
 
-new_own : (w : Table) (r : ℕ) (ds ts : List ℕ) (os : List (Option ℕ)) (ended : ℕ → Bool) (ks third : List Kind) (q : ℕ) →
-    q < length third →
-    at third q ≡ filled_by w r (length ds) (fated r (part ds ts) os q (forgotten r (part ds ts) ended q (at ks q)))
-    (part ds ts q) → q ≡ r →
-    at (emptied third r (part ds ts r) (length ds)) q ≡ part_or w r (at ks q) (part ds ts q) (credit (length ds))
-new_own w r ds ts os ended ks third q l f e =
-    subst (λ z. at (emptied third r (part ds ts r) (length ds)) z ≡ part_or w r (at ks z) (part ds ts z) (credit (length ds)))
-    (sym e)
-    (own_case w r (length ds) (part ds ts) os ended (at ks r) Gone third (part ds ts r) refl
-    (λ p i. part_within ds ts r p i) (subst (λ z. z < length third) e l)
-    (subst (λ z. at third z ≡ filled_by w r (length ds) (fated r (part ds ts) os z (forgotten r (part ds ts) ended z (at ks z)))
-    (part ds ts z)) e f))
+used_second : (a b : Bool) → b ≡ true → (a || b) ≡ true
+used_second true b e = refl
+used_second false b e = e
 
-new_at : (w : Table) (r : ℕ) (ds ts : List ℕ) (os : List (Option ℕ)) (ended : ℕ → Bool) (ks third : List Kind) (q : ℕ) →
-    q < length third →
-    at third q ≡ filled_by w r (length ds) (fated r (part ds ts) os q (forgotten r (part ds ts) ended q (at ks q)))
-    (part ds ts q) →
+used_own : (r : ℕ) (parts : ℕ → Option Part) → is_used r parts r ≡ true
+used_own r parts = used_second (is_some (parts r)) (r == r) (eq-eqb r r refl)
+
+new_own : (w : Table) (r : ℕ) (ds ts : List ℕ) (ks second third : List Kind) (q : ℕ) → q < length third →
+    (is_used r (part ds ts) q ≡ true → at second q ≡ at ks q) →
+    at third q ≡ filled_by w r (length ds) (at second q) (part ds ts q) → q ≡ r →
+    at (emptied third r (part ds ts r) (length ds)) q ≡ part_or w r (at ks q) (part ds ts q) (credit (length ds))
+new_own w r ds ts ks second third q l u f e =
+    subst (λ z. at (emptied third r (part ds ts r) (length ds)) z
+    ≡ part_or w r (at ks z) (part ds ts z) (credit (length ds))) (sym e)
+    (own_case w r (length ds) (at ks r) (at second r) third (part ds ts r)
+    (λ p i. part_within ds ts r p i) (subst (λ z. z < length third) e l)
+    (subst (λ z. is_used r (part ds ts) z ≡ true → at second z ≡ at ks z) e u (used_own r (part ds ts)))
+    (subst (λ z. at third z ≡ filled_by w r (length ds) (at second z) (part ds ts z)) e f))
+
+new_at : (w : Table) (r : ℕ) (ds ts : List ℕ) (ks second third : List Kind) (x : Kind) (q : ℕ) → q < length third →
+    (is_used r (part ds ts) q ≡ true → at second q ≡ at ks q) →
+    (is_used r (part ds ts) q ≡ false → at second q ≡ x) →
+    at third q ≡ filled_by w r (length ds) (at second q) (part ds ts q) →
     (((q == r) ≡ true) × (q ≡ r)) ⊎ (((q == r) ≡ false) × (q ≡ r → ⊥)) →
     at (emptied third r (part ds ts r) (length ds)) q
-    ≡ part_or w r (at ks q) (part ds ts q)
-    (if q == r then credit (length ds) else forget ended (fate (seen_by os q (at ks q)) r (at ks q)))
-new_at w r ds ts os ended ks third q l f (inr g) =
+    ≡ part_or w r (at ks q) (part ds ts q) (if q == r then credit (length ds) else x)
+new_at w r ds ts ks second third x q l u n f (inr g) =
     emptied_other third r (length ds) q (part ds ts r) g.1 ∙ f
-    ∙ other_case w r (length ds) (part ds ts) os ended q (at ks q) (part ds ts q) refl
-    (λ p e. part_within ds ts q p e) g.0
-new_at w r ds ts os ended ks third q l f (inl g) =
-    rw g.0 (new_own w r ds ts os ended ks third q l f g.1)
+    ∙ other_case w r (length ds) (part ds ts) q (at ks q) x (at second q) (part ds ts q) refl
+    (λ p e. part_within ds ts q p e) g.0 u n
+new_at w r ds ts ks second third x q l u n f (inl g) = rw g.0 (new_own w r ds ts ks second third q l u f g.1)
+
+-- What has been passed on, filled and emptied is taken.
+pub taken_is : (w : Table) (r : ℕ) (ds ts : List ℕ) (ks second third new : List Kind)
+    (passed : IsPassed w ks r ds ts second) →
+    ((q : ℕ) → q < length second → at third q ≡ filled_by w r (length ds) (at second q) (part ds ts q)) →
+    length third ≡ length second → new ≡ emptied third r (part ds ts r) (length ds) → IsTaken w ks r ds ts new
+taken_is w r ds ts ks second third new passed fill long e =
+    let two = passed.long in (
+      passed.reached,
+      passed.reaches,
+      is_become ks new (λ q. part_or w r (at ks q) (part ds ts q) (if q == r then credit (length ds) else
+          forget (ends w ks r (part ds ts) (length ds) passed.reached) (fate (passed.reached q) r (at ks q))))
+          (ap length e ∙ emptied_long third r (length ds) (part ds ts r) ∙ long ∙ passed.long)
+          (λ q l. ap (λ z. at z q) e
+          ∙ new_at w r ds ts ks second third
+          (forget (ends w ks r (part ds ts) (length ds) passed.reached) (fate (passed.reached q) r (at ks q))) q (omega arith)
+          (passed.used q l) (passed.unused q l) (fill q (omega arith)) (eqb_tells q r)),
+    )
 
 listed_or : (a b : Bool) → (a ≡ true → b ≡ true) → (b ≡ true) ⊎ (a ≡ false)
 listed_or true b h = inl (h refl)
@@ -526,32 +546,110 @@ unlent_not : (ks : List Kind) (qs : List ℕ) → ((q : ℕ) → is_lent (at ks 
     (has qs q ≡ true) ⊎ (is_lent (at ks q) ≡ false)
 unlent_not ks qs h q = listed_or (is_lent (at ks q)) (has qs q) (h q)
 
-pub taken_is : (w : Table) (r : ℕ) (ds ts : List ℕ) (os : List (Option ℕ)) (ks first second third new : List Kind)
-    (qs : List ℕ) → ((q : ℕ) → is_lent (at ks q) ≡ true → has qs q ≡ true) →
+-- what all registers have, once they forgot and had their fates
+passed_at : (w : Table) (r : ℕ) (ds ts : List ℕ) (os : List (Option ℕ)) (ks first second : List Kind) (qs : List ℕ) →
+    ((q : ℕ) → is_lent (at ks q) ≡ true → has qs q ≡ true) →
     first ≡ in_turn (forgotten r (part ds ts) (ends w ks r (part ds ts) (length ds) (seen_at ks os))) ks qs →
-    second ≡ in_turn (fated r (part ds ts) os) first qs →
-    ((q : ℕ) → q < length second →
-    at third q ≡ filled_by w r (length ds) (at second q) (part ds ts q)) → length third ≡ length second →
-    new ≡ emptied third r (part ds ts r) (length ds) → new ≡ taken w ks r (part ds ts) (length ds) (seen_at ks os)
-taken_is w r ds ts os ks first second third new qs lists a b fill long e =
-    let one = ap length a ∙ in_turn_long (forgotten r (part ds ts) (ends w ks r (part ds ts) (length ds) (seen_at ks os))) ks qs in
-    let two = ap length b ∙ in_turn_long (fated r (part ds ts) os) first qs in
-    let at_first : (q : ℕ) → q < length ks →
-    at first q ≡ forgotten r (part ds ts) (ends w ks r (part ds ts) (length ds) (seen_at ks os)) q (at ks q)
-    = (λ q l. ap (λ z. at z q) a ∙ turned (forgotten r (part ds ts) (ends w ks r (part ds ts) (length ds) (seen_at ks os)))
+    second ≡ in_turn (fated r (part ds ts) os) first qs → (q : ℕ) → q < length ks →
+    at second q ≡ fated r (part ds ts) os q
+    (forgotten r (part ds ts) (ends w ks r (part ds ts) (length ds) (seen_at ks os)) q (at ks q))
+passed_at w r ds ts os ks first second qs lists a b q l =
+    let one = ap length a
+    ∙ in_turn_long (forgotten r (part ds ts) (ends w ks r (part ds ts) (length ds) (seen_at ks os))) ks qs in
+    let here : at first q
+    ≡ forgotten r (part ds ts) (ends w ks r (part ds ts) (length ds) (seen_at ks os)) q (at ks q)
+    = (ap (λ z. at z q) a
+    ∙ turned (forgotten r (part ds ts) (ends w ks r (part ds ts) (length ds) (seen_at ks os)))
     (forgotten_twice r (part ds ts) (ends w ks r (part ds ts) (length ds) (seen_at ks os))) qs ks q l
     (listed_forgotten r (part ds ts) (ends w ks r (part ds ts) (length ds) (seen_at ks os)) q (at ks q) (has qs q)
     (unlent_not ks qs lists q))) in
-    is_become ks new (λ q. part_or w r (at ks q) (part ds ts q) (if q == r then credit (length ds) else
-    forget (ends w ks r (part ds ts) (length ds) (seen_at ks os)) (fate (seen_at ks os q) r (at ks q))))
-    (ap length e ∙ emptied_long third r (length ds) (part ds ts r) ∙ long ∙ two ∙ one)
-    (λ q l. ap (λ z. at z q) e
-    ∙ new_at w r ds ts os (ends w ks r (part ds ts) (length ds) (seen_at ks os)) ks third q (omega arith)
-    (fill q (omega arith) ∙ ap (λ z. filled_by w r (length ds) z (part ds ts q))
-    (ap (λ z. at z q) b ∙ turned (fated r (part ds ts) os) (fated_twice r (part ds ts) os) qs first q (omega arith)
+    ap (λ z. at z q) b ∙ turned (fated r (part ds ts) os) (fated_twice r (part ds ts) os) qs first q (omega arith)
     (listed_fated r (part ds ts) os (ends w ks r (part ds ts) (length ds) (seen_at ks os)) q (at first q) (at ks q)
-    (has qs q) (at_first q l) (unlent_not ks qs lists q)) ∙ ap (fated r (part ds ts) os q) (at_first q l)))
-    (eqb_tells q r))
+    (has qs q) here (unlent_not ks qs lists q)) ∙ ap (fated r (part ds ts) os q) here
+
+pub passed_is : (w : Table) (r : ℕ) (ds ts : List ℕ) (os : List (Option ℕ)) (ks first second : List Kind) (qs : List ℕ) →
+    ((q : ℕ) → is_lent (at ks q) ≡ true → has qs q ≡ true) →
+    ((q : ℕ) → IsReached ks (is_heir w ks r (part ds ts)) q (seen_at ks os q)) →
+    first ≡ in_turn (forgotten r (part ds ts) (ends w ks r (part ds ts) (length ds) (seen_at ks os))) ks qs →
+    second ≡ in_turn (fated r (part ds ts) os) first qs → IsPassed w ks r ds ts second
+passed_is w r ds ts os ks first second qs lists reaches a b = record {
+  reached = seen_at ks os;
+  reaches = reaches;
+  long = ap length b ∙ in_turn_long (fated r (part ds ts) os) first qs ∙ ap length a
+      ∙ in_turn_long (forgotten r (part ds ts) (ends w ks r (part ds ts) (length ds) (seen_at ks os))) ks qs;
+  used = λ q l u. passed_at w r ds ts os ks first second qs lists a b q l
+      ∙ two_used r (part ds ts) os (ends w ks r (part ds ts) (length ds) (seen_at ks os)) q (at ks q) u;
+  unused = λ q l u. passed_at w r ds ts os ks first second qs lists a b q l
+      ∙ two_unused r (part ds ts) os (ends w ks r (part ds ts) (length ds) (seen_at ks os)) q (at ks q) u;
+}
+
+-- where nothing is read
+
+and_none : (a b : Bool) → b ≡ false → (a && b) ≡ false
+and_none true b e = e
+and_none false b e = refl
+
+unnamed_field : (r i : ℕ) (o : Option From) → names r o ≡ false → is_field r i o ≡ false
+unnamed_field r i None e = refl
+unnamed_field r i (Some f) e = rw e refl
+
+pub no_heir_by : (w : Table) (r : ℕ) (k : Kind) (o : Option Part) → names r (from_of k) ≡ false → is_heir_by w r k o ≡ false
+no_heir_by w r k None e = refl
+no_heir_by w r k (Some p) e =
+    and_none (not (is_scalar_type w p.ty)) (is_field r p.field (from_of k)) (unnamed_field r p.field (from_of k) e)
+
+no_chain : (ks : List Kind) (heir : ℕ → Bool) → ((q : ℕ) → heir q ≡ false) → (n d : ℕ) (o : Option From) →
+    Chain ks heir n o d → ⊥
+no_chain ks heir h zero d None c = c
+no_chain ks heir h zero d (Some f) c = let a = c.0 in let b = h f.register in cc
+no_chain ks heir h (suc n) d None c = c
+no_chain ks heir h (suc n) d (Some f) c = no_chain ks heir h n d (from_of (at ks f.register)) c.1
+
+part_has : (i : ℕ) (ds ts : List ℕ) (q : ℕ) (p : Part) → part_from i ds ts q ≡ Some p → has ds q ≡ true
+part_has i [] ts q p e = absurd (cc)
+part_has i (d ∷ ds) [] q p e = absurd (cc)
+part_has i (d ∷ ds) (t ∷ ts) q p e =
+    elim (eqb_tells d q) [
+      | inl g ↦ rw g.0 refl
+      | inr g ↦ (let f = (rw g.0 at e) in rw g.0 (part_has (suc i) ds ts q p f))
+    ]
+
+own_name : (f : From) → names f.register (Some f) ≡ true
+own_name f = eq-eqb f.register f.register refl
+
+forget_by : (p : ℕ → Bool) (k : Kind) (o : Option From) → from_of k ≡ o →
+    ((f : From) → o ≡ Some f → p f.register ≡ false) → forget p k ≡ k
+forget_by p k None e h = forget_none p k e
+forget_by p k (Some f) e h = forget_kept p k f e (h f refl)
+
+unread_part : (ks : List Kind) (ds ts : List ℕ) (q : ℕ) (f : From) (o : Option Part) → part ds ts f.register ≡ o →
+    ((p : ℕ) → has ds p ≡ true → (q : ℕ) → names p (from_of (at ks q)) ≡ false) → from_of (at ks q) ≡ Some f →
+    is_some o ≡ false
+unread_part ks ds ts q f None e h g = refl
+unread_part ks ds ts q f (Some p) e h g =
+    absurd (let a = h f.register (part_has 0 ds ts f.register p e) q in
+    let b = ap (names f.register) g ∙ own_name f in cc)
+
+unread_ends : (w : Table) (ks : List Kind) (r : ℕ) (ds ts : List ℕ) (q : ℕ) (f : From) → IsUnread ks r ds →
+    from_of (at ks q) ≡ Some f → ends w ks r (part ds ts) (length ds) (λ x. None) f.register ≡ false
+unread_ends w ks r ds ts q f u g =
+    let a = unread_part ks ds ts q f (part ds ts f.register) refl u.parts g in
+    let b : (f.register == r) ≡ false
+    = (sym (ap (names r) g) ∙ u.own q) in
+    rw (a, b) (ap (λ z. z && true) (u.lent f.register))
+
+pub unread_passed : (w : Table) (ks : List Kind) (r : ℕ) (ds ts : List ℕ) → IsUnread ks r ds → IsPassed w ks r ds ts ks
+unread_passed w ks r ds ts u = record {
+  reached = λ q. None;
+  reaches = λ q d c. no_chain ks (is_heir w ks r (part ds ts))
+      (λ p. no_heir_by w r (at ks p) (part ds ts p) (u.own p)) c.0 d (from_of (at ks q)) c.1;
+  long = refl;
+  used = λ q l e. refl;
+  unused = λ q l e. sym (ap (forget (ends w ks r (part ds ts) (length ds) (λ x. None)))
+      (lost_kept r (at ks q) (is_lent_of r (at ks q)) (u.lent q))
+      ∙ forget_by (ends w ks r (part ds ts) (length ds) (λ x. None)) (at ks q) (from_of (at ks q)) refl
+      (λ f g. unread_ends w ks r ds ts q f u g));
+}
 
 pub part_field : (o : Option Part) (a b : Part) → o ≡ Some a → o ≡ Some b → a.field ≡ b.field
 part_field o a b e f = ap (λ (p : Part). p.field) (part_some a b (sym e ∙ f))

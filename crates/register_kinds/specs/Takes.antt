@@ -1,15 +1,15 @@
 -- Only what this crate keeps while a cell is taken apart: for each register that is lent the heir that it was seen to
 -- reach; and what is made of each register in turn.
-use Rattle.std.specs.Prelude.{◌≡◌, ℕ, zero, suc, Bool, true, ◌||◌, is_some, List, [], ◌∷◌, Option, Some, None}
-use Rattle.std.specs.Prelude.{set, if◌then◌else◌, ◌==◌, nat_lt}
+use Rattle.std.specs.Prelude.{◌≡◌, ℕ, zero, suc, Bool, true, false, ◌||◌, is_some, List, [], ◌∷◌, Option, Some, None}
+use Rattle.std.specs.Prelude.{◌<◌, length, set, if◌then◌else◌, ◌==◌, nat_lt}
 use Rattle.fip_language.specs.Table.{Table}
 use Rattle.cell_code.specs.declared.kind.From.{From}
 use Rattle.cell_code.specs.declared.kind.Kind.{Kind}
 use Rattle.sound_code.specs.Kinds.{at, has, from_of, is_lent_of}
 use Rattle.sound_code.specs.Changes.{forget}
-use Rattle.sound_code.specs.Taking.{Part, Reaches, fate, part_kind, credit}
+use Rattle.sound_code.specs.Taking.{Part, Reaches, IsReached, part, is_heir, ends, fate, part_kind, credit}
 use Rattle.register_kinds.specs.declared.take.Piece.{Piece}
-use Rattle.register_kinds.specs.Kept.{is_lent}
+use Rattle.register_kinds.specs.Kept.{is_lent, names}
 
 -- the part that a piece stands for
 abbrev pub as_part : Option Piece → Option Part
@@ -67,6 +67,21 @@ fated r parts os q k = if is_used r parts q then k else fate (seen_by os q k) r 
 abbrev pub filled_by : Table → ℕ → ℕ → Kind → Option Part → Kind
 filled_by w r n k None = k
 filled_by w r n k (Some p) = if nat_lt p.field n then part_kind w r k p else k
+
+-- Nothing is lent of a register, and no from names it, or one of the parts.
+pub record IsUnread (ks : List Kind) (r : ℕ) (ds : List ℕ) : Type 0 where
+  pub lent : (q : ℕ) → is_lent_of r (at ks q) ≡ false
+  pub own : (q : ℕ) → names r (from_of (at ks q)) ≡ false
+  pub parts : (p : ℕ) → has ds p ≡ true → (q : ℕ) → names p (from_of (at ks q)) ≡ false
+
+-- Registers that aren't used have what was read through heirs, or are gone; those that are used stay.
+pub record IsPassed (w : Table) (ks : List Kind) (r : ℕ) (ds ts : List ℕ) (second : List Kind) : Type 0 where
+  pub reached : ℕ → Option ℕ
+  pub reaches : (q : ℕ) → IsReached ks (is_heir w ks r (part ds ts)) q (reached q)
+  pub long : length second ≡ length ks
+  pub used : (q : ℕ) → q < length ks → is_used r (part ds ts) q ≡ true → at second q ≡ at ks q
+  pub unused : (q : ℕ) → q < length ks → is_used r (part ds ts) q ≡ false →
+      at second q ≡ forget (ends w ks r (part ds ts) (length ds) reached) (fate (reached q) r (at ks q))
 
 -- one register after another
 abbrev pub in_turn : (ℕ → Kind → Kind) → List Kind → List ℕ → List Kind

@@ -15,6 +15,7 @@ mod set;
 mod steps;
 mod table;
 mod take;
+mod trail;
 
 pub use registers::Registers;
 pub use table::Table;

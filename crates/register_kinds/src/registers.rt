@@ -20,6 +20,7 @@ use crate::log::Log;
 use crate::marks::Marks;
 use crate::set::Set;
 use crate::table::Table;
+use crate::trail::Trail;
 use cell_code::{Function, Kind, Label};
 use fip_base::plain::{NoMemory, Param};
 use std::alloc::Global;
@@ -34,6 +35,7 @@ pub struct Registers<'a> {
     pub(crate) named: Marks,
     pub(crate) owners: Marks,
     pub(crate) log: Log,
+    pub(crate) trail: Trail,
 }
 
 impl<'a> Model for Registers<'a> {
@@ -77,6 +79,7 @@ impl<'a> Registers<'a> {
             named: Marks::new(alloc, function.registers as usize)?,
             owners: Marks::new(alloc, function.registers as usize)?,
             log: Log::new(alloc, function.registers as usize, function.labels.len())?,
+            trail: Trail::new(alloc, function.registers as usize)?,
         })
     }
 

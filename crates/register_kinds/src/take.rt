@@ -5,6 +5,8 @@ ghost use Rattle.sound_code.specs.Kinds.{at, from_of, has};
 ghost use Rattle.sound_code.specs.Taking.{IsTaken, IsReached, part, is_heir, is_field, part_kind, credit, ends};
 ghost use Rattle.register_kinds.specs.Takes.{as_part, seen_at, next_at, AreReached, AreSettled, nones, kept_at};
 ghost use Rattle.register_kinds.specs.Takes.{is_used, forgotten, fated, filled_by, filled_at, emptied, in_turn};
+ghost use Rattle.register_kinds.specs.Takes.{IsUnread, IsPassed};
+ghost use Rattle.register_kinds.specs.Kept.{names};
 ghost use Rattle.register_kinds.specs.Rising.{Rise};
 ghost use Rattle.sound_code.specs.Kinds.{set_of};
 ghost use Rattle.register_kinds.specs.Views.{kind_of};
@@ -31,12 +33,50 @@ impl<'a> Registers<'a> {
         ensures maps { self.new.maps ≡ self.old.maps }
     {
         let types = self.known_fields(table, register);
+        self.pass_all_on(table, register, parts, types);
+        self.fill(table, register, parts, types);
+        self.empty(register, parts, types);
+    }
+
+    // Whether something may be lent of a register, or a from name it or one of the parts.
+    fn is_read(&self, register: u16, parts: &[u16]) -> bool
+        ensures none { result ≡ false → IsUnread self.now.kinds register parts.now }
+    {
+        if self.is_owner(register) {
+            return true;
+        }
+        if self.is_named(register) {
+            return true;
+        }
+        self.is_one_named(parts)
+    }
+
+    // Whether a from may name one of these registers.
+    fn is_one_named(&self, registers: &[u16]) -> bool
+        ensures none { result ≡ false → (p : ℕ) → has registers.now p ≡ true → (q : ℕ) →
+            names p (from_of (at self.now.kinds q)) ≡ false }
+    {
+        for register in registers {
+            if self.is_named(*register) {
+                return true;
+            }
+        }
+        false
+    }
+
+    // What was read through an heir goes on to be read in its tree, and all else that was read of the register's is
+    // gone.
+    fn pass_all_on(&mut self, table: &Table<'a>, register: u16, parts: &[u16], types: &[u32])
+        ensures passed { IsPassed table.now self.old.kinds register parts.now types.now self.new.kinds }
+        ensures maps { self.new.maps ≡ self.old.maps }
+    {
+        if !self.is_read(register, parts) {
+            return;
+        }
         self.find_heirs(table, register, parts, types);
         self.all_lent_are_listed();
         self.forget_ended(table, register, parts, types);
         self.pass_on(register, parts, types);
-        self.fill(table, register, parts, types);
-        self.empty(register, parts, types);
     }
 
     // Whether a register is known to read the field that it gets, which is no scalar.
@@ -51,6 +91,9 @@ impl<'a> Registers<'a> {
         ensures is { result ≡ is_heir table.now self.now.kinds register (part parts.now types.now) other }
     {
         let from = self.known(other).from();
+        if !is_of(register, from) {
+            return false;
+        }
         match piece_of(parts, types, other) {
             None => false,
             Some(piece) => !table.is_scalar(piece.ty) && is_field(register, piece.field, from),
@@ -102,7 +145,9 @@ impl<'a> Registers<'a> {
         ensures lent { self.new.lent ≡ self.old.lent }
     {
         self.all_lent_are_listed();
+        self.clear_trail();
         self.unreach();
+        self.follow(table, register, parts, types);
         while self.reach_more(table, register, parts, types) {}
     }
 
@@ -116,6 +161,74 @@ impl<'a> Registers<'a> {
         for place in 0..self.lent_len() {
             let lent = self.lent_at(place);
             self.reach(lent, None);
+        }
+    }
+
+    // Sees of registers that they reach an heir, each after those that its froms lead to, so that no further look is
+    // wanted.
+    fn follow(&mut self, table: &Table<'a>, register: u16, parts: &[u16], types: &[u32])
+        ensures reached { AreReached self.old.kinds
+            (is_heir table.now self.old.kinds register (part parts.now types.now)) self.old.reached →
+            AreReached self.old.kinds
+            (is_heir table.now self.old.kinds register (part parts.now types.now)) self.new.reached }
+        ensures kinds { self.new.kinds ≡ self.old.kinds }
+        ensures maps { self.new.maps ≡ self.old.maps }
+        ensures lent { self.new.lent ≡ self.old.lent }
+    {
+        for place in 0..self.lent_len() {
+            let lent = self.lent_at(place);
+            self.trace(lent);
+            self.follow_back(table, register, parts, types);
+        }
+    }
+
+    // The last register of the way, which it leaves.
+    fn last_met(&mut self) -> Option<u16>
+        ensures same { self.new ≡ self.old }
+    {
+        self.trail.leave()
+    }
+
+    // No register was met on the way.
+    fn clear_trail(&mut self)
+        ensures same { self.new ≡ self.old }
+    {
+        self.trail.clear();
+    }
+
+    // The registers that the froms of a register lead to, which aren't seen to reach an heir yet.
+    fn trace(&mut self, lent: u16)
+        ensures same { self.new ≡ self.old }
+    {
+        let mut here = lent;
+        for _ in 0..self.lent_len() {
+            if self.reached(here).is_some() || !self.trail.meet(here) {
+                return;
+            }
+            match self.known(here).from() {
+                None => return,
+                Some(from) => here = from.register,
+            }
+        }
+    }
+
+    // Sees of these registers, from the last one on, that they reach an heir.
+    fn follow_back(&mut self, table: &Table<'a>, register: u16, parts: &[u16], types: &[u32])
+        ensures reached { AreReached self.old.kinds
+            (is_heir table.now self.old.kinds register (part parts.now types.now)) self.old.reached →
+            AreReached self.old.kinds
+            (is_heir table.now self.old.kinds register (part parts.now types.now)) self.new.reached }
+        ensures kinds { self.new.kinds ≡ self.old.kinds }
+        ensures maps { self.new.maps ≡ self.old.maps }
+        ensures lent { self.new.lent ≡ self.old.lent }
+    {
+        for _ in 0..self.trail.len() {
+            match self.last_met() {
+                None => return,
+                Some(lent) => {
+                    self.reach_one(table, register, parts, types, lent);
+                }
+            }
         }
     }
 
@@ -349,6 +462,16 @@ fn piece_of(parts: &[u16], types: &[u32], register: u16) -> Option<Piece>
         field += 1;
     }
     None
+}
+
+// Whether a from names a register.
+fn is_of(register: u16, from: Option<From>) -> bool
+    ensures is { result ≡ names register from }
+{
+    match from {
+        None => false,
+        Some(from) => from.register == register,
+    }
 }
 
 // Whether a from is this field of a register.

@@ -1,0 +1,5 @@
+pub mod Lookups
+pub mod Places
+pub mod Arguments
+pub mod Instances
+pub mod Specialised

@@ -1,0 +1,4 @@
+// Specialising: what it gives means what the source means.
+#![tactic(auto)]
+
+pub mod laws;

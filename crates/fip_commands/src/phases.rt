@@ -1,28 +1,22 @@
 // From the bytes of a source, or of a code file, to what is known of it.
-ghost use Rattle.std.specs.Prelude.{IfErr};
+ghost use Rattle.std.specs.Prelude.{◌≡◌, IfOk, IfErr};
+ghost use Rattle.command_outcome.specs.Failures.{phase_failure};
 ghost use Rattle.command_outcome.specs.Stages.{IsOfSource};
+ghost use Rattle.fip_commands.specs.Reported.{IsSilent, Tells};
+ghost use Rattle.fip_trees.specs.TreeView as V;
+ghost use Rattle.source_report.specs.Report.{IsAccepted, IsMatched};
 
 use crate::known::Front;
 use cell_code::Code;
-use cell_lower::lower;
 use code_file::{ReadCodeError, read_code};
 use code_verify::{Verified, VerifyError, verify};
 use command_outcome::Failure;
-use credit_check::check_credits;
-use data_types::declare;
-use fip_base::core_form::Core;
 use fip_base::plain::Detail;
 use fip_base::refusal::{PhaseError, Refusal, Rule};
-use fip_language::limits::{MOST_FILE_BYTES, MOST_SOURCE_BYTES};
-use fip_parser::parser::ParseError;
-use fip_rules::check_owned;
-use fip_syntax::{core_of, parse};
+use fip_language::limits::MOST_FILE_BYTES;
 use fip_trees::program::Typed;
-use match_cover::cover;
-use static_params::specialise;
+use program_front::Lowered;
 use std::alloc::Global;
-use tail_groups::groups;
-use type_check::check_types;
 
 /// A rule that is broken without a place and a name.
 pub(crate) fn bare_refusal(alloc: Global, rule: Rule) -> Refusal {
@@ -34,63 +28,63 @@ pub(crate) fn bare_refusal(alloc: Global, rule: Rule) -> Refusal {
     }
 }
 
-// The core form of a source. E05 where it is too long, E01 to E04 where it is no program.
-fn core_form_of(alloc: Global, source: &[u8]) -> Result<Core, Failure>
-    ensures stage { IfErr result IsOfSource }
-{
-    if source.len() > MOST_SOURCE_BYTES {
-        return Err(Failure::Refused(bare_refusal(alloc, Rule::E05)));
-    }
-    match parse(alloc, source) {
-        Ok(program) => Ok(core_of(alloc, program)?),
-        Err(ParseError::Refused(refusal)) => Err(Failure::Refused(refusal)),
-        Err(ParseError::NoMemory) => Err(Failure::NoMemory),
-    }
-}
-
-/// The program of a source whose types and matches are right. E05 where the source is too long, E01 to E04 where it
-/// is no program, E10 to E15 and E63 on declarations, E20 to E23 with E11 and E12 on static arguments, E30 to E34 on
-/// types, E40 to E43 on matches.
+/// The program of a source whose types and matches are right; else the source's report (`program_front::typed_of`).
 pub fn typed_of(alloc: Global, source: &[u8]) -> Result<Typed, Failure>
+    ensures typed { IfOk result (λ t. IsMatched source.now (V.program t.program)) }
+    ensures reported { IfErr result (Tells source.now) }
     ensures stage { IfErr result IsOfSource }
 {
-    let core = core_form_of(alloc, source)?;
-    let decls = declare(alloc, &core)?;
-    let flat = specialise(alloc, &core, &decls)?;
-    let typed = check_types(alloc, flat)?;
-    match cover(alloc, &typed) {
-        Ok(()) => Ok(typed),
+    match program_front::typed_of(alloc, source) {
+        Ok(typed) => Ok(typed),
         Err(error) => Err(failure_of(error)),
     }
 }
 
 // What a phase's error is.
 fn failure_of(error: PhaseError) -> Failure
+    ensures same { result ≡ phase_failure error }
     ensures stage { IsOfSource result }
 {
     error.into()
 }
 
-/// What is known of a source that breaks no rule. Beyond what `typed_of` refuses: E50 to E55 on ownership, E56 to E58
-/// and E62 on credits, E59 on tail calls, E60 on the limits of code.
+/// What is known of a source that breaks no rule; else the source's report (`program_front::front`). Of a code that was
+/// lowered, that it is sound is a test alone.
 pub fn front(alloc: Global, source: &[u8]) -> Result<Front, Failure>
+    ensures accepted { IfOk result (λ f. IsAccepted source.now (V.program f.typed.program)) }
+    ensures reported { IfErr result (Tells source.now) }
     ensures stage { IfErr result IsOfSource }
 {
-    let typed = typed_of(alloc, source)?;
-    check_owned(alloc, &typed)?;
-    let needs = check_credits(alloc, &typed)?;
-    let groups = groups(alloc, &typed)?;
-    let code = lower(alloc, &typed, &needs, &groups)?;
-    let verified = verified_of(alloc, code)?;
-    Ok(Front {
+    match program_front::front(alloc, source) {
+        Err(error) => Err(failure_of(error)),
+        Ok(lowered) => verified_front(alloc, lowered),
+    }
+}
+
+// The same with the code verified.
+fn verified_front(alloc: Global, lowered: Lowered) -> Result<Front, Failure>
+    ensures typed { IfOk result (λ f. V.program f.typed.program ≡ V.program lowered.typed.program) }
+    ensures told { IfErr result (λ e. IsSilent e) }
+    ensures stage { IfErr result IsOfSource }
+{
+    let Lowered {
         typed,
         groups,
-        verified,
-    })
+        code,
+    } = lowered;
+    match verified_of(alloc, code) {
+        Err(failure) => Err(failure),
+        Ok(verified) => Ok(Front {
+            typed,
+            groups,
+            verified,
+        }),
+    }
 }
 
 /// A code that is sound; else the least violation. Of a code that was lowered from a source it is a test alone.
 pub(crate) fn verified_of(alloc: Global, code: Code) -> Result<Verified, Failure>
+    ensures told { IfErr result (λ e. IsSilent e) }
     ensures stage { IfErr result IsOfSource }
 {
     match verify(alloc, code) {

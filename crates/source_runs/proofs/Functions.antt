@@ -1,13 +1,15 @@
 -- A function of an accepted source is an instance of its typed program, which means what the function means; and that
 -- program's fip instances run in place.
-use Rattle.std.proofs.Common.{◌≡◌, inl, ℕ, zero, suc, ◌+◌, List, [], ◌∷◌, Some, slice_get, refl, sym, ap, ◌∙◌, subst, arith}
+use Rattle.std.proofs.Common.{◌≡◌, inl, inr, ℕ, zero, suc, ◌+◌, List, [], ◌∷◌, ◌++◌, Some, slice_get, refl, sym, ap, ◌∙◌, subst, arith}
 use Rattle.fip_language.specs.declared.FunKind.TheVariants.{Fip}
 use Rattle.fip_language.specs.Core as C
 use Rattle.fip_language.specs.Core.{Static, Function, Core}
 use Rattle.fip_language.specs.CoreForm.{core_form}
 use Rattle.fip_language.specs.Every.{Every, Among}
+use Rattle.fip_language.specs.Mentions.{all_of}
+use Rattle.fip_language.proofs.SoundTables.{map_at}
 use Rattle.fip_language.specs.Meaning.{meaning}
-use Rattle.fip_language.specs.Statics.{NoClosed}
+use Rattle.fip_language.specs.Statics.{Closeds, NoClosed}
 use Rattle.fip_language.specs.Values.{Values}
 use Rattle.fip_language.proofs.Search.{slice_get_there}
 use Rattle.fip_grammar.proofs.Least.{spelt_once}
@@ -34,9 +36,9 @@ use Rattle.accepted_runs.proofs.Accepted.{accepted_in_place, accepted_stack}
 use Rattle.accepted_runs.proofs.CoreArguments as Q
 use Rattle.accepted_runs.proofs.Formed.{parsed_fits}
 use Rattle.specialised_meaning.specs.Declared.{AreSome, HasClauses, BlockHasClauses, ClausesHaveClauses, BodyHasClauses, IsDeclared}
-use Rattle.specialised_meaning.specs.Named.{function_name}
+use Rattle.specialised_meaning.specs.Named.{function_name, all_named}
 use Rattle.specialised_meaning.proofs.Specialised.{instance_means}
-use Rattle.source_runs.specs.Runs.{RunsAsMeant}
+use Rattle.source_runs.specs.Runs.{RunsAsMeant, InstanceRunsAsMeant}
 
 -- ---- matches have clauses
 
@@ -150,6 +152,73 @@ module _ (source : List ℕ) (q : Program) (h : IsFlat source q) where
             (ap (λ p. flat_meaning p r.number vs n free) same ∙ filled_means flat r.number vs n free ∙ r.means vs n free)
             (accepted_in_place source p ms r.number d s.0 s.1 vs n free accepted members there k s.2 s.3 typed l);
       }
+
+-- ---- instances
+
+of_one : {A B : Type 0} (f : A → List B) (xs : List A) → ((x : A) → Among x xs → (d : B) × (f x ≡ d ∷ [])) → (i : ℕ) (d : B) → slice_get (all_of f xs) i ≡ Some d → (x : A) × Among x xs × (slice_get xs i ≡ Some x) × (f x ≡ d ∷ [])
+of_one f [] h i d e = absurd (cc)
+of_one f (x ∷ xs) h zero d e =
+    let o = h x (inl refl) in
+    let at : slice_get (o.0 ∷ all_of f xs) 0 ≡ Some d = sym (ap (λ l. slice_get (l ++ all_of f xs) 0) o.1) ∙ e in
+    let same : o.0 ≡ d = cc in
+    (x, inl refl, refl, o.1 ∙ ap (λ y. y ∷ []) same)
+of_one f (x ∷ xs) h (suc i) d e =
+    let o = h x (inl refl) in
+    let r = of_one f xs (λ y a. h y (inr a)) i d (sym (ap (λ l. slice_get (l ++ all_of f xs) (suc i)) o.1) ∙ e) in
+    (r.0, inr r.1, r.2, r.3)
+
+module _ (source : List ℕ) (q : Program) (h : IsFlat source q) where
+  -- what an instance of the flat program means
+  abbrev Means : ℕ → Instance → Type 0
+  Means i d = (given : Closeds) × ((vs : Values) (n free : ℕ) → flat_meaning (flat source q h) i vs n free ≡ meaning h.core d.name given vs n free)
+
+  tree_means : (i : ℕ) (d : Instance) (c : Closed) → IsGoodFunction h.core c → slice_get h.numbers.instances i ≡ Some c → instances_of (flat_source h.core) h.numbers c ≡ d ∷ [] → Means i d
+  tree_means i d Z.Int g e o = absurd g
+  tree_means i d (Applied (H.«Type» n) cs) g e o = absurd g
+  tree_means i d (Applied (H.Function f) cs) g e o =
+      let there = slice_get_there h.core.functions f g.0 in
+      let it : Instance' = record { function = f; given = cs } in
+      let one : flat_instance (flat_source h.core) h.numbers it there.0 ∷ [] ≡ d ∷ [] = sym (ap (instance_if (flat_source h.core) h.numbers it) there.1) ∙ o in
+      let same : flat_instance (flat_source h.core) h.numbers it there.0 ≡ d = cc in
+      let name : function_name (slice_get h.core.functions f) ≡ d.name = ap function_name there.1 ∙ ap (λ (d : Instance). d.name) same in (
+        all_named h.core cs,
+        λ vs n free.
+            instance_means h.core (flat_declared source q h) (flat_source h.core).types h.numbers h.few.instances.instances h.unbroken i f cs vs n free e
+            ∙ ap (λ x. meaning h.core x (all_named h.core cs) vs n free) name,
+      )
+
+  flat_means : (i : ℕ) (d : Instance) → slice_get (flat source q h).instances i ≡ Some d → Means i d
+  flat_means i d e =
+      let good : (c : Closed) → Among c h.numbers.instances → IsGoodFunction h.core c = λ c a. instances_good h.core h.numbers.instances h.few.instances.instances c a in
+      let o = of_one (instances_of (flat_source h.core) h.numbers) h.numbers.instances (λ c a. one_instance source q h c (good c a)) i d e in
+      tree_means i d o.0 (good o.0 o.1) o.2 o.3
+
+  instance_runs : (p : Program) (ms : List Member) (i : ℕ) (f : Instance) → p ≡ filled (flat source q h) → IsAccepted source p → AreMembers p.instances ms → slice_get p.instances i ≡ Some f → f.kind ≡ Fip → InstanceRunsAsMeant h.core p ms i f
+  instance_runs p ms i f same accepted members there k =
+      let d = map_at (fill_instance (world (flat source q h))) (flat source q h).instances i f (sym (ap (λ (p : Program). slice_get p.instances i) same) ∙ there) in
+      let m = flat_means i d.0 d.1 in
+      let name : d.0.name ≡ f.name = ap (λ (d : Instance). d.name) d.2 in
+      let s = accepted_stack source p ms i f accepted members there k in
+      record {
+        given = m.0;
+        member = s.0;
+        found = s.2;
+        stack = s.1;
+        known = s.3;
+        runs = λ vs n free typed l.
+            subst (RunsInPlace p.types f vs s.1 free)
+            (ap (λ p. flat_meaning p i vs n free) same ∙ filled_means (flat source q h) i vs n free ∙ m.1 vs n free ∙ ap (λ x. meaning h.core x m.0 vs n free) name)
+            (accepted_in_place source p ms i f s.0 s.1 vs n free accepted members there k s.2 s.3 typed l);
+      }
+
+pub instance_in_place : (source : List ℕ) (core : Core) (p : Program) (ms : List Member) (i : ℕ) (f : Instance) → IsParsed source core → IsAccepted source p → AreMembers p.instances ms → slice_get p.instances i ≡ Some f → f.kind ≡ Fip → InstanceRunsAsMeant core p ms i f
+instance_in_place source core p ms i f parsed h members there k =
+    let typed = h.tailed.credited.owned.matched.typed in
+    let one : core ≡ typed.flat.core = parsed_once source core typed.flat.core parsed typed.flat.declared.parsed in
+    subst (λ c. InstanceRunsAsMeant c p ms i f) (sym one)
+    (instance_runs source typed.untyped typed.flat p ms i f (typed.is ∙ ap filled typed.flat.is) h members there k)
+
+-- ---- functions
 
 pub function_in_place : (source : List ℕ) (core : Core) (p : Program) (ms : List Member) (place : ℕ) (f : Function) → IsParsed source core → IsAccepted source p → AreMembers p.instances ms → slice_get core.functions place ≡ Some f → f.statics ≡ [] → f.kind ≡ Fip → RunsAsMeant core p ms f
 function_in_place source core p ms place f parsed h members e n k =

@@ -7,7 +7,7 @@ use Rattle.std.specs.Prelude.{◌≡◌, ◌≤◌, ℕ, List, Some, slice_get}
 use Rattle.fip_base.specs.declared.plain.Stack.{Stack}
 use Rattle.fip_language.specs.Core.{Function, Core}
 use Rattle.fip_language.specs.Meaning.{meaning}
-use Rattle.fip_language.specs.Statics.{NoClosed}
+use Rattle.fip_language.specs.Statics.{Closeds, NoClosed}
 use Rattle.fip_language.specs.Table.{HaveTypes}
 use Rattle.fip_language.specs.Values.{Values}
 use Rattle.fip_trees.specs.declared.groups.Member.{Member}
@@ -27,3 +27,16 @@ pub record RunsAsMeant (core : Core) (p : Program) (ms : List Member) (f : Funct
   pub runs : (arguments : Values) (calls frames : ℕ) → HaveTypes p.types (parameter_types instance) arguments →
       stack.frames ≤ frames →
       RunsInPlace p.types instance arguments stack frames (meaning core f.name NoClosed arguments calls frames)
+
+-- The same of an instance, which may have static parameters: it stands for its function with what is given for them.
+-- For example `map[int, int, next]`, where `next` is given for the function parameter of `map`.
+pub record InstanceRunsAsMeant (core : Core) (p : Program) (ms : List Member) (number : ℕ) (instance : Instance) :
+    Type 0 where
+  pub given : Closeds
+  pub member : Member
+  pub found : slice_get ms number ≡ Some member
+  pub stack : Stack
+  pub known : member.stack ≡ Some stack
+  pub runs : (arguments : Values) (calls frames : ℕ) → HaveTypes p.types (parameter_types instance) arguments →
+      stack.frames ≤ frames →
+      RunsInPlace p.types instance arguments stack frames (meaning core instance.name given arguments calls frames)

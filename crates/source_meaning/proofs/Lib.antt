@@ -1,0 +1,3 @@
+pub mod SpeltClauses
+pub mod CoreClauses
+pub mod Meant

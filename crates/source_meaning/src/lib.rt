@@ -1,0 +1,4 @@
+// The typed program of a source: what it means is what the source means.
+#![tactic(auto)]
+
+pub mod laws;

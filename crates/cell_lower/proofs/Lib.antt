@@ -1,1 +1,2 @@
 pub mod ExceededLimits
+pub mod Headers

@@ -1,43 +1,43 @@
 // Copies of tables of types.
-ghost use Rattle.std.specs.Prelude.{◌≡◌, IfOk, vec_len};
+ghost use Rattle.std.specs.Prelude.{◌≡◌, ◌<◌, ◌^◌, IfOk, length};
 
 use fip_base::plain::{Name, NoMemory, Types};
 use fip_base::table::{Constructor, DataType, TypeTable};
 use std::alloc::Global;
 
 /// A table of the same types.
-pub fn table_of(alloc: Global, types: &TypeTable) -> Result<TypeTable, NoMemory> {
+#[tactic(auto, using(crate::proofs::Headers::tables))]
+pub fn table_of(alloc: Global, types: &TypeTable) -> Result<TypeTable, NoMemory>
+    ensures same { IfOk result (λ t. t ≡ types.now) }
+{
     let mut table = TypeTable::new(alloc);
-    for number in 1..=types.len() {
-        let ty = u32::try_from(number).map_err(|_| NoMemory)?;
+    for place in 0..types.len() {
+        let ty = u32::try_from(place + 1).map_err(|_| NoMemory)?;
         table.push(type_of(alloc, types.constructors_of(ty))?)?;
     }
     Ok(table)
 }
 
-fn type_of(alloc: Global, constructors: &[Constructor]) -> Result<DataType, NoMemory> {
-    let count = u32::try_from(constructors.len()).map_err(|_| NoMemory)?;
-    let copies = copies_of(alloc, constructors, count)?;
-    Ok(DataType::new(copies))
+fn type_of(alloc: Global, constructors: &[Constructor]) -> Result<DataType, NoMemory>
+    requires few { length constructors.now < 2 ^ 32 }
+    ensures same { IfOk result (λ d. d ≡ constructors.now) }
+{
+    Ok(DataType::new(copies_of(alloc, constructors)?))
 }
 
-// The first so many constructors.
-fn copies_of(
-    alloc: Global,
-    constructors: &[Constructor],
-    count: u32,
-) -> Result<Vec<Constructor>, NoMemory>
-    ensures { IfOk result (λ v. vec_len v ≡ count) }
+fn copies_of(alloc: Global, constructors: &[Constructor]) -> Result<Vec<Constructor>, NoMemory>
+    ensures same { IfOk result (λ v. v.items ≡ constructors.now) }
 {
     let mut copies = Vec::new(alloc);
-    for i in 0..count {
-        let constructor = constructors.get(i as usize).ok_or(NoMemory)?;
+    for constructor in constructors {
         copies.push(copy_of(alloc, constructor)?)?;
     }
     Ok(copies)
 }
 
-fn copy_of(alloc: Global, constructor: &Constructor) -> Result<Constructor, NoMemory> {
+fn copy_of(alloc: Global, constructor: &Constructor) -> Result<Constructor, NoMemory>
+    ensures same { IfOk result (λ c. c ≡ constructor.now) }
+{
     let mut name = Vec::new(alloc);
     name.extend_from_slice(constructor.name())?;
     let mut fields = Vec::new(alloc);

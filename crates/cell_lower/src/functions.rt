@@ -1,15 +1,16 @@
 // The code of a program.
-ghost use Rattle.std.specs.Prelude.{◌≡◌, IfOk, IfErr};
+ghost use Rattle.std.specs.Prelude.{◌≡◌, [], ◌∷◌, ◌++◌, map, IfOk, IfErr, OnOk, Ok};
 ghost use Rattle.fip_base.specs.declared.refusal.PhaseError.TheVariants as PhaseError;
 ghost use Rattle.fip_trees.specs.TreeView as V;
 ghost use Rattle.fip_trees.specs.declared.least.Violation.{Violation};
 ghost use Rattle.cell_lower.specs.Limits.{Breaks, Says};
+ghost use Rattle.cell_lower.specs.Shape.{header, header_of, headers, headers_from, entry_name};
 
 use crate::copies::table_of;
-use crate::limits::note_limits;
+use crate::limits::{is_ruled, note_limits};
 use crate::lowerer::{Context, Lowerer, Target};
 use cell_code::{Code, Function};
-use fip_base::plain::{FunKind, Name, NoMemory};
+use fip_base::plain::{Name, NoMemory};
 use fip_base::refusal::PhaseError;
 use fip_trees::groups::Groups;
 use fip_trees::needs::Needs;
@@ -17,9 +18,9 @@ use fip_trees::program::{Instance, Program, Typed};
 use fip_trees::scalars::Scalars;
 use std::alloc::Global;
 
-/// The code of a program: a function for each instance that isn't plain, in the order of their numbers, with as many
-/// registers as the groups tell. The program is asked to have kept all rules up to E59, and `needs` and `groups` to be
-/// its own.
+/// The code of a program: its types, and a function for each instance that isn't plain, in the order of their numbers,
+/// with the instance's kind, parameters, credits and results, and as many registers as the groups tell. The program is
+/// asked to have kept all rules up to E59, and `needs` and `groups` to be its own.
 ///
 /// Refused exactly where E60 is broken, for the least violation by place and instance: an instance that isn't plain has
 /// more than 4,096 registers, or has a match and a parameter, a binder or a pattern node of a type with cells that has
@@ -32,6 +33,9 @@ pub fn lower(
 ) -> Result<Code, PhaseError>
     ensures within { IfOk result (λ _. (v : Violation) → Breaks (V.program typed.now.program) groups.now v → ⊥) }
     ensures least { IfErr result (λ e. Says (V.program typed.now.program) groups.now e) }
+    ensures types { IfOk result (λ c. c.types ≡ (V.program typed.now.program).types) }
+    ensures functions { IfOk result (λ c.
+        map header c.functions.items ≡ headers groups.now (V.program typed.now.program).instances) }
 {
     match note_limits(alloc, &typed.program, groups) {
         Err(NoMemory) => Err(PhaseError::NoMemory),
@@ -45,6 +49,7 @@ pub fn lower(
 // What was made, or want of memory as the phase's error.
 fn in_phase(made: Result<Code, NoMemory>) -> Result<Code, PhaseError>
     ensures memory { IfErr result (λ e. e ≡ PhaseError.NoMemory) }
+    ensures made { IfOk result (λ c. made ≡ Ok c) }
 {
     match made {
         Err(NoMemory) => Err(PhaseError::NoMemory),
@@ -57,24 +62,62 @@ fn code_of(
     program: &Program,
     needs: &Needs,
     groups: &Groups,
-) -> Result<Code, NoMemory> {
+) -> Result<Code, NoMemory>
+    ensures types { IfOk result (λ c. c.types ≡ (V.program program.now).types) }
+    ensures functions { IfOk result (λ c.
+        map header c.functions.items ≡ headers groups.now (V.program program.now).instances) }
+{
     let context = Context {
         alloc,
         program,
         scalars: Scalars::of(alloc, &program.types)?,
         functions: numbers_of(alloc, program)?,
     };
-    let mut functions = Vec::new(alloc);
-    for (number, instance) in program.instances.iter().enumerate() {
-        if instance.kind != FunKind::Fun {
-            let registers = groups.registers_of(number).ok_or(NoMemory)?;
-            functions.push(function_of(&context, instance, needs, number, registers)?)?;
-        }
-    }
+    let functions = functions_of(&context, program.instances.as_slice(), needs, groups)?;
     Ok(Code {
         types: table_of(alloc, &program.types)?,
         functions,
     })
+}
+
+// The functions of a program's instances.
+#[tactic(auto, using(crate::proofs::Headers::heading))]
+fn functions_of(
+    context: &Context<'_>,
+    instances: &[Instance],
+    needs: &Needs,
+    groups: &Groups,
+) -> Result<Vec<Function>, NoMemory>
+    ensures all { IfOk result (λ fs. map header fs.items ≡ headers groups.now (V.instances instances.now)) }
+{
+    let mut functions = Vec::new(context.alloc);
+    let mut number = 0;
+    for instance in instances {
+        add_function(context, &mut functions, instance, needs, groups, number)?;
+        number += 1;
+    }
+    Ok(functions)
+}
+
+// Puts the function of an instance behind the others, where it isn't plain.
+#[tactic(auto, using(crate::proofs::Headers::heading))]
+fn add_function(
+    context: &Context<'_>,
+    functions: &mut Vec<Function>,
+    instance: &Instance,
+    needs: &Needs,
+    groups: &Groups,
+    number: usize,
+) -> Result<(), NoMemory>
+    ensures added { OnOk result (map header functions.new.items ≡ map header functions.old.items
+        ++ headers_from groups.now number (V.instance_of instance.now ∷ [])) }
+{
+    if is_ruled(instance.kind) {
+        let registers = groups.registers_of(number).ok_or(NoMemory)?;
+        let function = function_of(context, instance, needs, number, registers)?;
+        functions.push(function)?;
+    }
+    Ok(())
 }
 
 // The number of each instance's function; a plain one has none.
@@ -82,11 +125,11 @@ fn numbers_of(alloc: Global, program: &Program) -> Result<Vec<Option<u32>>, NoMe
     let mut numbers = Vec::new(alloc);
     let mut next: u32 = 0;
     for instance in &program.instances {
-        if instance.kind == FunKind::Fun {
-            numbers.push(None)?;
-        } else {
+        if is_ruled(instance.kind) {
             numbers.push(Some(next))?;
             next = next.checked_add(1).ok_or(NoMemory)?;
+        } else {
+            numbers.push(None)?;
         }
     }
     Ok(numbers)
@@ -98,21 +141,18 @@ fn function_of(
     needs: &Needs,
     number: usize,
     registers: usize,
-) -> Result<Function, NoMemory> {
+) -> Result<Function, NoMemory>
+    ensures header { IfOk result (λ f. header f ≡ header_of registers (V.instance_of instance.now)) }
+{
     let alloc = context.alloc;
     let mut lowerer = Lowerer::new(context, needs.of(number), instance, registers)?;
     lowerer.block(&instance.body, Target::Return)?;
     let (instrs, labels) = lowerer.buffer.into_parts();
     let mut credits = Vec::new(alloc);
     credits.extend_from_slice(instance.credits.as_slice())?;
-    let name = if instance.root {
-        instance.name.copy(alloc)?
-    } else {
-        Name::new(Vec::new(alloc))
-    };
     Ok(Function {
         kind: instance.kind,
-        name,
+        name: name_of(alloc, instance)?,
         params: instance.params.copy(alloc)?,
         credits,
         results: instance.results.copy(alloc)?,
@@ -120,4 +160,15 @@ fn function_of(
         instrs,
         labels,
     })
+}
+
+// The name by which an instance is an entry.
+fn name_of(alloc: Global, instance: &Instance) -> Result<Name, NoMemory>
+    ensures name { IfOk result (λ n. n ≡ entry_name (V.instance_of instance.now)) }
+{
+    if instance.root {
+        Ok(instance.name.copy(alloc)?)
+    } else {
+        Ok(Name::new(Vec::new(alloc)))
+    }
 }

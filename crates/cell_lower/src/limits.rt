@@ -48,7 +48,8 @@ fn note_instance(
     Ok(())
 }
 
-fn is_ruled(kind: FunKind) -> bool
+/// Whether an instance of this kind isn't plain.
+pub fn is_ruled(kind: FunKind) -> bool
     ensures { result ≡ L.is_ruled kind }
 {
     match kind {

@@ -1,0 +1,17 @@
+-- The places of the examples, by computation alone.
+use Rattle.std.proofs.Common.{◌≡◌, refl}
+use Rattle.flat_meaning.specs.Example.{lists, rev, number}
+use Rattle.code_bounds.specs.Places.{places}
+use Rattle.code_bounds.specs.Bounds.{most_instructions, most_labels}
+
+pub rev_has_17 : places lists.types rev ≡ 17
+rev_has_17 = refl
+
+pub number_has_11 : places lists.types number ≡ 11
+number_has_11 = refl
+
+pub rev_has_instructions : most_instructions lists.types rev ≡ 6256
+rev_has_instructions = refl
+
+pub rev_has_labels : most_labels lists.types rev ≡ 136
+rev_has_labels = refl

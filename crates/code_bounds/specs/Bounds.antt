@@ -1,0 +1,17 @@
+-- How many instructions and label maps the code of an instance may have, by its registers and its places.
+use Rattle.std.specs.Prelude.{ℕ, ◌+◌, ◌*◌, ◌≤◌}
+use Rattle.fip_language.specs.Table.{Table}
+use Rattle.fip_trees.specs.Tree.{Instance}
+use Rattle.tail_groups.specs.Registers.{registers}
+use Rattle.code_bounds.specs.Places.{places}
+
+abbrev pub most_instructions : Table → Instance → ℕ
+most_instructions tb d = 16 * (registers d + 16) * places tb d
+
+abbrev pub most_labels : Table → Instance → ℕ
+most_labels tb d = 8 * places tb d
+
+-- code of so many instructions and label maps is within the bounds
+pub record IsWithin (tb : Table) (d : Instance) (instructions labels : ℕ) : Type 0 where
+  pub few_instructions : instructions ≤ most_instructions tb d
+  pub few_labels : labels ≤ most_labels tb d

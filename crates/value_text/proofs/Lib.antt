@@ -10,6 +10,7 @@ pub mod Steps
 pub mod Counted
 pub mod Taken
 pub mod Built
+pub mod Advanced
 pub mod Credits
 pub mod Whole
 pub mod Public

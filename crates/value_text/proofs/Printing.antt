@@ -15,23 +15,24 @@ use Rattle.cell_store.specs.Cells.{Cells, cell_at}
 use Rattle.value_text.proofs.Reread.{shape_is}
 use Rattle.value_text.proofs.Tables.{is_table}
 use Rattle.value_text.proofs.Exact.{printed_reads}
+use Rattle.value_text.specs.declared.print.Row.{Row}
 use Rattle.value_text.specs.declared.print.Task.{Task}
 use Rattle.value_text.specs.declared.print.Task.TheVariants as T
 use Rattle.value_text.specs.Standing.{Stands, StandAll}
-use Rattle.value_text.specs.Printing.{last_first, printed_tail, AreLast, Prints, Printing}
+use Rattle.value_text.specs.Printing.{task_of, last_first, printed_tail, AreLast, Prints, Printing}
 
-pub last_push : (ts : List Task) (t : Task) → last_first (ts ++ t ∷ []) ≡ t ∷ last_first ts
+pub last_push : (rs : List Row) (r : Row) → last_first (rs ++ r ∷ []) ≡ task_of r ∷ last_first rs
 unfolding last_first
-last_push [] t = refl
-last_push (u ∷ ts) t = ap (λ l. l ++ u ∷ []) (last_push ts t)
+last_push [] r = refl
+last_push (u ∷ rs) r = ap (λ l. l ++ task_of u ∷ []) (last_push rs r)
 
 pub last_empty : last_first [] ≡ []
 unfolding last_first
 last_empty = refl
 
-pub none_left : (ts : List Task) → length ts ≡ 0 → last_first ts ≡ []
+pub none_left : (rs : List Row) → length rs ≡ 0 → last_first rs ≡ []
 none_left [] e = last_empty
-none_left (t ∷ ts) e = absurd (omega arith)
+none_left (r ∷ rs) e = absurd (omega arith)
 
 -- an int's bits are its own
 pub bits_same : (i j : ℤ) → FitsSigned w64 i → FitsSigned w64 j → int_word i ≡ int_word j → i ≡ j

@@ -189,6 +189,11 @@ before_end tb false around = refl
 pub first_short : (tb : Table) (bytes : List ℕ) (neg : Bool) (around : Around) (i : ℕ) → i ≡ length bytes → runs tb bytes (before_digits neg around) i ≡ Stopped i
 first_short tb bytes neg around i e = ends_short tb bytes (before_digits neg around) i e (before_end tb neg around)
 
+-- an int without a sign has one number less
+pub within_bound : (neg : Bool) (m : ℕ) → m ≤ bound false → m ≤ bound neg
+within_bound false m l = l
+within_bound true m l = omega (arith, l)
+
 pub digit_goes : (tb : Table) (bytes : List ℕ) (neg : Bool) (n : ℕ) (around : Around) (i : ℕ) → i < length bytes → is_digit (get_or bytes i 0) ≡ true → 10 * n + digit_at bytes i ≤ bound neg → runs tb bytes (Number neg n around) i ≡ runs tb bytes (Number neg (10 * n + digit_at bytes i) around) (i + 1)
 digit_goes tb bytes neg n around i lt e le =
     let b = get_or bytes i 0 in

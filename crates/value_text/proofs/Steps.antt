@@ -1,5 +1,5 @@
 -- Each step of the reader, from spot to spot.
-use Rattle.std.proofs.Common.{◌≡◌, ℕ, zero, suc, ◌+◌, ◌<◌, ◌≤◌, List, [], ◌∷◌, ◌++◌, length, Option, Some, None, refl, sym, ap, ap₂, ◌∙◌, arith}
+use Rattle.std.proofs.Common.{◌≡◌, ℕ, zero, suc, ◌+◌, ◌<◌, ◌≤◌, List, [], ◌∷◌, ◌++◌, length, drop, Option, Some, None, refl, sym, ap, ap₂, ◌∙◌, arith}
 use Rattle.std.specs.Prelude.{ℤ, slice_get, Ok}
 use Rattle.std.proofs.lemmas.Option.{none-some}
 use Rattle.fip_language.specs.Prefix.{Accepted, Stopped}
@@ -169,6 +169,16 @@ end_bad tb bytes at k o (Behind (Field c done rest a) v) e n f l q = let z = sym
 end_bad tb bytes at k o (Behind (Lines done []) v) e n f l q = q (snoc done v)
 end_bad tb bytes at k o (Behind (Lines done (j ∷ js)) v) e n f l q = let z = sym l ∙ ap (λ (o : Outline). o.lines) e in cc
 end_bad tb bytes at k o Nowhere e n f l q = q End
+
+-- the fields behind the first ones
+pub drop_next : (fs : List ℕ) (n k : ℕ) (ks : List ℕ) → drop n fs ≡ k ∷ ks → (n < length fs) × (drop (suc n) fs ≡ ks)
+drop_next [] zero k ks e = cc
+drop_next [] (suc n) k ks e = cc
+drop_next (f ∷ fs) zero k ks e = (omega arith, tail_same f k fs ks e)
+drop_next (f ∷ fs) (suc n) k ks e = let h = drop_next fs n k ks e in (omega (arith, h.0), h.1)
+
+pub same_fields : (m : Option Shape) (a b : Shape) → m ≡ Some a → m ≡ Some b → a.fields ≡ b.fields
+same_fields m a b p q = let e : a ≡ b = cc in ap (λ (s : Shape). s.fields) e
 
 -- the fields of a constructor that is there
 pub fields_of_shape : (ss : List Shape) (c : ℕ) (s : Shape) → slice_get ss c ≡ Some s → (c < length ss) × (fields_at ss c ≡ s.fields)

@@ -1,11 +1,12 @@
 -- How values are built while their text is read, in the machine's words. No public clause speaks of it.
 use Rattle.std.specs.Prelude.{◌≡◌, ◌⊎◌, ℕ, ◌+◌, ◌-◌, ◌*◌, ◌<◌, ◌≤◌, List, [], ◌∷◌, ◌++◌, length, take, drop}
-use Rattle.std.specs.Prelude.{Result, Ok, Err}
+use Rattle.std.specs.Prelude.{Bool, true, false, Some, None, Result, Ok, Err}
 use Rattle.std.specs.declared.vec.Vec.{Vec}
 use Rattle.std.specs.declared.alloc.Global.{Global}
 use Rattle.fip_language.specs.Prefix.{Accepted, Stopped as Halted}
 use Rattle.fip_language.specs.Values.{Values, cells_of_all}
 use Rattle.fip_language.specs.Table.{Table}
+use Rattle.fip_language.specs.declared.limits.TheConstants.{MOST_FIELDS}
 use Rattle.fip_language.specs.Store.{Cell, Parts, int_word, values_of, words_of, count, uses_of_all}
 use Rattle.cell_store.specs.Cells.{cell_at, size_of}
 use Rattle.cell_store.specs.Made.{Loading, IsRetaken, IsAppended}
@@ -17,7 +18,9 @@ use Rattle.value_text.specs.Counting.{values_to}
 use Rattle.value_text.specs.declared.build.Stopped.{Stopped}
 use Rattle.value_text.specs.declared.build.Stopped.TheVariants as S
 use Rattle.value_text.specs.Loaded.{live, words_up_to, free_in, cell_words, wanted, AreZero}
-use Rattle.value_text.specs.Reading.{Outline, Spot, IsReading}
+use Rattle.value_text.specs.declared.read.Refused.{Refused}
+use Rattle.value_text.specs.declared.read.Refused.TheVariants.{BadValue, NoMemory}
+use Rattle.value_text.specs.Reading.{Outline, Spot, state_at, outline_at, Stepped, IsKnown, IsNarrow, IsReading}
 use Rattle.value_text.specs.Standing.{HoldAll}
 
 -- A cell was made at place p: a released one where there is one of its size.
@@ -36,8 +39,44 @@ Puts _ ws old ws' new = (ws' ≡ ws) × (new ≡ old)
 
 -- a cell that can be made: it has 1 to 16 fields, their words are there, and there is a released cell or room for it
 abbrev pub CanPut : Event → List ℕ → Loading → Type 0
-CanPut (Closed c n) ws l = (0 < n) × (n ≤ 16) × (n ≤ length ws) × (free_in l n ≡ 0 → n + 1 ≤ l.left)
+CanPut (Closed c n) ws l = (0 < n) × (n ≤ MOST_FIELDS) × (n ≤ length ws) × (free_in l n ≡ 0 → n + 1 ≤ l.left)
 CanPut _ ws l = Unit {0}
+
+-- an event was put down, or there was no room or no memory for it
+abbrev pub IsPut : Event → List ℕ → Loading → List ℕ → Loading → Result (Unit {0}) Stopped → Type 0
+IsPut e ws old ws' new (Ok u) = Puts e ws old ws' new
+IsPut e ws old ws' new (Err (S.BadValue k)) = ⊥
+IsPut e ws old ws' new (Err S.Full) = CanPut e ws old → ⊥
+IsPut e ws old ws' new (Err S.NoMemory) = Unit {0}
+
+-- why the builder stops where the reader does
+abbrev pub stopped_by : Refused → Stopped
+stopped_by (BadValue k) = S.BadValue k
+stopped_by NoMemory = S.NoMemory
+
+-- the builder goes on behind what was put down
+abbrev pub then_on : Result (Unit {0}) Stopped → Result Bool Stopped
+then_on (Ok u) = Ok true
+then_on (Err e) = Err e
+
+-- an event leads the reader from here to there
+pub record IsEvent (tb : Table) (bytes : List ℕ) (o : Outline) (at : ℕ) (o' : Outline) (at' : ℕ) (e : Event) :
+    Type 0 where
+  pub steps : (s : Spot) → o ≡ outline_at s → Stepped tb bytes s at (Ok (Some e)) o' at'
+  pub known : IsKnown tb o'
+  pub narrow : IsNarrow e
+
+-- what one step of the builder gives: an event that was put down, the end of the text, or why it stops
+abbrev pub Advanced : Table → List ℕ → Outline → ℕ → Outline → ℕ → List ℕ → Loading → List ℕ → Loading →
+    Result Bool Stopped → Type 0
+Advanced tb bytes o at o' at' ws l ws' l' (Ok true) = (e : Event) × IsEvent tb bytes o at o' at' e × Puts e ws l ws' l'
+Advanced tb bytes o at o' at' ws l ws' l' (Ok false) = ((s : Spot) → o ≡ outline_at s →
+    Stepped tb bytes s at (Ok None) o' at') × (ws' ≡ ws) × (l' ≡ l)
+Advanced tb bytes o at o' at' ws l ws' l' (Err (S.BadValue k)) = (s : Spot) → o ≡ outline_at s →
+    runs tb bytes (state_at s) at ≡ Halted k
+Advanced tb bytes o at o' at' ws l ws' l' (Err S.Full) = (e : Event) × IsEvent tb bytes o at o' at' e
+    × (CanPut e ws l → ⊥)
+Advanced tb bytes o at o' at' ws l ws' l' (Err S.NoMemory) = Unit {0}
 
 -- What was made or taken since the first store: so many cells at each place and of each size, of so many that are
 -- wanted. The cells that were live before stay, and each cell that no released one served took its words.
@@ -45,8 +84,8 @@ pub record IsTaken (want done uses : ℕ → ℕ) (first now : Loading) : Type 0
   pub once : (p : ℕ) → live first p + uses p ≡ live now p
   pub kept : (p : ℕ) → live first p ≡ 1 → cell_at now.cells p ≡ cell_at first.cells p
   pub flags : length now.released ≡ length now.cells
-  pub left : now.left + words_up_to 16 want (free_in first)
-      ≡ first.left + words_up_to 16 (λ k. want k - done k) (free_in now)
+  pub left : now.left + words_up_to MOST_FIELDS want (free_in first)
+      ≡ first.left + words_up_to MOST_FIELDS (λ k. want k - done k) (free_in now)
 
 -- trees with these values and words, whose cells are just those that were made or taken
 pub record IsBuilt (want : ℕ → ℕ) (first now : Loading) (vs : Values) (ws : List ℕ) : Type 0 where
@@ -84,7 +123,7 @@ pub record IsRead (tb : Table) (types bytes : List ℕ) (want : ℕ → ℕ) (fi
 pub record HasRoom (tb : Table) (types bytes : List ℕ) (want : ℕ → ℕ) (first : Loading) (vs : Values) : Type 0 where
   pub reads : runs tb bytes (start types) 0 ≡ Accepted vs
   pub wanted : (k : ℕ) → cells_of_all k vs ≤ want k
-  pub fits : words_up_to 16 want (free_in first) ≤ first.left
+  pub fits : words_up_to MOST_FIELDS want (free_in first) ≤ first.left
   pub flags : length first.released ≡ length first.cells
 
 -- what the builder of a whole text gives

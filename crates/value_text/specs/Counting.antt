@@ -4,6 +4,7 @@ use Rattle.fip_language.specs.Prefix.{Accepted, Stopped}
 use Rattle.fip_language.specs.Values.{Values, End, count_of, one_of_size, cells_of_all, words_needed}
 use Rattle.fip_language.specs.Values.{words_needed_by_all}
 use Rattle.fip_language.specs.Table.{Table}
+use Rattle.fip_language.specs.declared.limits.TheConstants.{MOST_FIELDS}
 use Rattle.value_text.specs.Machine.{start, join, snoc, Around, Lines, Field}
 use Rattle.value_text.specs.Scan.{runs}
 use Rattle.value_text.specs.declared.counts.Counts.{Counts}
@@ -46,12 +47,12 @@ count_at counts k = slice_index_or counts.numbers k 0
 pub record IsCounting (tb : Table) (types bytes : List ℕ) (o : Outline) (at : ℕ) (counts : Counts) : Type 0 where
   pub spot : Spot
   pub reading : IsReading tb types bytes o at spot
-  pub exact : (k : ℕ) → k ≤ 16 → count_at counts k ≡ cells_of_all k (values_to spot)
+  pub exact : (k : ℕ) → k ≤ MOST_FIELDS → count_at counts k ≡ cells_of_all k (values_to spot)
   pub few : spent_at spot ≤ at
 
 -- the cells of the values of the whole text, which has as many bytes as they have words at least
 abbrev pub IsCounted : Table → List ℕ → List ℕ → Result Counts Refused → Type 0
 IsCounted tb types bytes (Ok counts) = (vs : Values) × (runs tb bytes (start types) 0 ≡ Accepted vs)
-    × ((k : ℕ) → k ≤ 16 → count_at counts k ≡ cells_of_all k vs) × (words_needed_by_all vs ≤ length bytes)
+    × ((k : ℕ) → k ≤ MOST_FIELDS → count_at counts k ≡ cells_of_all k vs) × (words_needed_by_all vs ≤ length bytes)
 IsCounted tb types bytes (Err (BadValue k)) = runs tb bytes (start types) 0 ≡ Stopped k
 IsCounted tb types bytes (Err NoMemory) = Unit {0}

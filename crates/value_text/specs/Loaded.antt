@@ -7,6 +7,7 @@ use Rattle.std.specs.Prelude.{◌∷◌, ◌++◌, Option, Some, None, length, m
 use Rattle.fip_base.specs.declared.plain.Param.{Param}
 use Rattle.fip_language.specs.Values.{Values, cells_of_all}
 use Rattle.fip_language.specs.Table.{Table}
+use Rattle.fip_language.specs.declared.limits.TheConstants.{MOST_CREDITS, MOST_FIELDS}
 use Rattle.fip_language.specs.SoundTable.{AreTypes, IsSoundTable}
 use Rattle.fip_language.specs.Store.{Cell, Parts, values_of, words_of, count, uses_of_all}
 use Rattle.fip_language.specs.ValueText.{SpellsValues}
@@ -18,13 +19,14 @@ use Rattle.value_text.specs.Standing.{StandAll}
 abbrev pub types_of : List Param → List ℕ
 types_of params = map (λ (p : Param). p.ty) params
 
--- the sizes of credits: at most 16 credits, each of size 1 to 16
+-- the sizes of credits: 1 to 16 each
 abbrev pub AreSizes : List ℕ → Type 0
 AreSizes [] = Unit {0}
-AreSizes (k ∷ ks) = (0 < k) × (k ≤ 16) × AreSizes ks
+AreSizes (k ∷ ks) = (0 < k) × (k ≤ MOST_FIELDS) × AreSizes ks
 
+-- at most 16 of them
 pub record AreCredits (credits : List ℕ) : Type 0 where
-  pub few : length credits ≤ 16
+  pub few : length credits ≤ MOST_CREDITS
   pub sizes : AreSizes credits
 
 -- What is asked of what is given: a sound table, parameters of its types, credits that are sizes of cells, and a text
@@ -60,7 +62,7 @@ free_in l k = count_free k l.cells l.released
 
 -- the words that the values' and the credits' cells need of a store
 abbrev pub needed : Loading → List ℕ → Values → ℕ
-needed l credits vs = words_up_to 16 (wanted credits vs) (free_in l)
+needed l credits vs = words_up_to MOST_FIELDS (wanted credits vs) (free_in l)
 
 -- These places have cells of these sizes, tag and fields 0.
 abbrev pub AreZero : Cells → List ℕ → List ℕ → Type 0

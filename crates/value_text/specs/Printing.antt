@@ -6,13 +6,17 @@ use Rattle.fip_language.specs.Store.{Cell, Placed, Parts, value_of, values_of, w
 use Rattle.fip_language.specs.PrintedText.{printed, printed_more}
 use Rattle.cell_store.specs.Cells.{Cells, cell_at}
 use Rattle.value_text.specs.Standing.{Stands, StandAll}
+use Rattle.value_text.specs.declared.print.Row.{Row}
 use Rattle.value_text.specs.declared.print.Task.{Task}
 use Rattle.value_text.specs.declared.print.Task.TheVariants as T
 
--- the last first
-unfoldable pub last_first : List Task → List Task
+abbrev pub task_of : Row → Task
+task_of r = T.Fields r.types r.place
+
+-- the rows as tasks, the last first
+unfoldable pub last_first : List Row → List Task
 last_first [] = []
-last_first (t ∷ ts) = last_first ts ++ t ∷ []
+last_first (r ∷ rs) = last_first rs ++ task_of r ∷ []
 
 -- fields, without the bracket or the comma before them
 abbrev pub printed_tail : Table → List ℕ → Values → List ℕ → List ℕ

@@ -1,11 +1,12 @@
 -- How far the reader of a whole text is, in the machine's words. No public clause speaks of it.
 -- The reader keeps the open constructors and the types that are still to come; the values before are known to the
 -- machine alone. It goes in steps from spot to spot: a spot lies before a value or behind one.
-use Rattle.std.specs.Prelude.{◌≡◌, ℕ, suc, ◌+◌, ◌≤◌, List, [], ◌∷◌, ◌++◌, length, Option}
-use Rattle.std.specs.Prelude.{Some, None, Result, Ok, Err}
+use Rattle.std.specs.Prelude.{◌≡◌, ℕ, suc, ◌+◌, ◌≤◌, List, [], ◌∷◌, ◌++◌, length, drop, Option}
+use Rattle.std.specs.Prelude.{ℤ, Bool, true, false, Some, None, Result, Ok, Err}
 use Rattle.fip_language.specs.Prefix.{Accepted, Stopped}
 use Rattle.fip_language.specs.Values.{Value, Int, Node, Values, End, count_of}
 use Rattle.fip_language.specs.Table.{Table}
+use Rattle.fip_language.specs.declared.limits.TheConstants.{MOST_FIELDS}
 use Rattle.fip_language.specs.SoundTable.{AreTypes}
 use Rattle.value_text.specs.declared.read.Frame.{Frame}
 use Rattle.value_text.specs.declared.read.Cursor.{Cursor}
@@ -31,7 +32,7 @@ pub record Outline : Type 0 where
   pub lines : List ℕ
 
 abbrev pub pending : Frame → Pending
-pending f = record { c = f.tag; rest = f.rest.now; size = f.size }
+pending f = record { c = f.tag; rest = drop f.begun (f.constructor.now).fields; size = length (f.constructor.now).fields }
 
 -- the last first
 unfoldable pub pending_rows : List Frame → List Pending
@@ -44,7 +45,7 @@ outline r = record { next = r.next; frames = pending_rows r.frames.items; lines 
 -- all types that it speaks of are there, and no constructor has more than 16 fields
 abbrev pub KnownRows : Table → List Pending → Type 0
 KnownRows tb [] = Unit {0}
-KnownRows tb (p ∷ ps) = AreTypes tb p.rest × ((p.size ≤ 16) × KnownRows tb ps)
+KnownRows tb (p ∷ ps) = AreTypes tb p.rest × ((p.size ≤ MOST_FIELDS) × KnownRows tb ps)
 
 abbrev pub KnownNext : Table → Option ℕ → Type 0
 KnownNext tb None = Unit {0}
@@ -99,6 +100,27 @@ IsLast (Before k a) vs = ⊥
 IsLast (Behind a v) vs = (done : Values) × (a ≡ Lines done []) × (vs ≡ snoc done v)
 IsLast Nowhere vs = vs ≡ End
 
+-- what the parts of a step tell: an int; a constructor with fields, or the number of one without; a comma, or the
+-- number and the size of a constructor that closed; an end of a line, or the end of the text
+abbrev pub number_event : Result ℤ Refused → Result (Option Event) Refused
+number_event (Ok i) = Ok (Some (Number i))
+number_event (Err e) = Err e
+
+abbrev pub node_event : Result (Option ℕ) Refused → Result (Option Event) Refused
+node_event (Ok None) = Ok (Some Opened)
+node_event (Ok (Some c)) = Ok (Some (Bare c))
+node_event (Err e) = Err e
+
+abbrev pub field_event : Result (Option (ℕ × ℕ)) Refused → Result (Option Event) Refused
+field_event (Ok None) = Ok (Some Comma)
+field_event (Ok (Some r)) = Ok (Some (Closed r.0 r.1))
+field_event (Err e) = Err e
+
+abbrev pub line_event : Result Bool Refused → Result (Option Event) Refused
+line_event (Ok true) = Ok (Some Line)
+line_event (Ok false) = Ok None
+line_event (Err e) = Err e
+
 -- the bytes that an event has at least: with its ( and its commas a constructor has as many as its cell has words
 abbrev pub cost_of : Event → ℕ
 cost_of (Number i) = 0
@@ -123,7 +145,7 @@ spot_of (k ∷ ks) = Before k (Lines End ks)
 
 -- a cell has at most 16 fields
 abbrev pub IsNarrow : Event → Type 0
-IsNarrow (Closed c n) = n ≤ 16
+IsNarrow (Closed c n) = n ≤ MOST_FIELDS
 IsNarrow _ = Unit {0}
 
 -- what is read is all read so far, from the start of the text

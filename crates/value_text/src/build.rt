@@ -1,16 +1,19 @@
 // The cells of values are made while their text is read.
 ghost use Rattle.std.specs.Prelude.{◌≡◌, ◌⊎◌, ℕ, ◌+◌, ◌-◌, ◌*◌, ◌<◌, ◌≤◌, List, [], ◌∷◌, ◌++◌, length, drop, IfOk};
-ghost use Rattle.std.specs.Prelude.{OnOk, OnErr, Err, replicate, slice_index_or};
+ghost use Rattle.std.specs.Prelude.{OnOk, OnErr, Ok, Err, Some, None, true, replicate, slice_index_or};
 ghost use Rattle.fip_language.specs.declared.limits.TheConstants.{MOST_FIELDS};
 ghost use Rattle.fip_language.specs.SoundTable.{IsSoundTable, AreTypes};
 ghost use Rattle.fip_language.specs.Store.{int_word};
 ghost use Rattle.fip_language.specs.Values.{Values};
 ghost use Rattle.value_text.specs.Loaded.{types_of, free_in, wanted, AreCredits};
-ghost use Rattle.value_text.specs.Building.{IsMade, Puts, CanPut, Built, IsBuilt, IsCrediting};
+ghost use Rattle.fip_language.specs.Table.{Table};
+ghost use Rattle.value_text.specs.Building.{IsMade, IsPut, Advanced, stopped_by, then_on, Built, IsBuilt, IsCrediting};
+ghost use Rattle.value_text.specs.Reading.{Outline, outline, pending, IsKnown};
+ghost use Rattle.value_text.specs.declared.read.Event.{Event};
 ghost use Rattle.value_text.specs.Loaded.{words_up_to};
 ghost use Rattle.cell_store.specs.Made.{Loading};
 
-use crate::read::{self, Event, Refused};
+use crate::read::{self, Cursor, Frame, Refused};
 use cell_store::{CellError, Loader};
 use fip_base::plain::Param;
 use fip_base::table::TypeTable;
@@ -59,9 +62,7 @@ fn push_cell(tag: u32, fields: &[u64], loader: &mut Loader) -> Result<u64, Stopp
 // The cell of the last words, and its word in their place.
 #[inline(always)]
 fn close(tag: u32, size: usize, loader: &mut Loader, words: &mut Vec<u64>) -> Result<(), Stopped>
-    ensures puts { OnOk result (Puts (Event.Closed tag size) words.old.items loader.old words.new.items loader.new) }
-    ensures full { result ≡ Err Stopped.Full → CanPut (Event.Closed tag size) words.old.items loader.old → ⊥ }
-    ensures value { (k : ℕ) → result ≡ Err (Stopped.BadValue k) → ⊥ }
+    ensures { IsPut (Event.Closed tag size) words.old.items loader.old words.new.items loader.new result }
 {
     if size == 0 || size > MOST_FIELDS || size > words.len() {
         return Err(Stopped::Full);
@@ -91,20 +92,143 @@ fn push_word(words: &mut Vec<u64>, word: u64) -> Result<(), Stopped>
     }
 }
 
-/// What an event leaves in the store, and among the words that wait for their cells.
-#[inline(always)]
-pub fn put(event: Event, loader: &mut Loader, words: &mut Vec<u64>) -> Result<(), Stopped>
-    ensures puts { OnOk result (Puts event words.old.items loader.old words.new.items loader.new) }
-    ensures full { result ≡ Err Stopped.Full → CanPut event words.old.items loader.old → ⊥ }
-    ensures value { (k : ℕ) → result ≡ Err (Stopped.BadValue k) → ⊥ }
+// Why the builder stops where the reader does.
+fn stop_of(refused: Refused) -> Stopped
+    ensures { result ≡ stopped_by refused }
 {
-    match event {
-        Event::Number(i) => push_word(words, int_bits(i)),
-        Event::Bare(c) => push_word(words, 2 * c as u64),
-        Event::Closed { tag, size } => close(tag, size, loader, words),
-        Event::Opened => Ok(()),
-        Event::Comma => Ok(()),
-        Event::Line => Ok(()),
+    match refused {
+        Refused::BadValue(at) => Stopped::BadValue(at),
+        Refused::NoMemory => Stopped::NoMemory,
+    }
+}
+
+// The builder goes on behind what was put down.
+#[inline(always)]
+fn goes_on(put: Result<(), Stopped>) -> Result<bool, Stopped>
+    ensures { result ≡ then_on put }
+{
+    match put {
+        Ok(()) => Ok(true),
+        Err(e) => Err(e),
+    }
+}
+
+// An int.
+#[inline(always)]
+fn build_int<'a>(
+    bytes: &[u8],
+    cursor: &mut Cursor<'a>,
+    words: &mut Vec<u64>,
+) -> Result<bool, Stopped>
+    requires place { cursor.old.at ≤ length bytes.now }
+    requires next { cursor.old.next ≡ Some 0 }
+    ensures advances { (tb : Table) (l : Loading) → IsKnown tb (outline cursor.old) →
+        Advanced tb bytes.now (outline cursor.old) cursor.old.at (outline cursor.new) cursor.new.at words.old.items l
+        words.new.items l result }
+    ensures place { result ≡ Ok true → (cursor.old.at < cursor.new.at) × (cursor.new.at ≤ length bytes.now) }
+{
+    match read::read_int(bytes, cursor) {
+        Ok(i) => goes_on(push_word(words, int_bits(i))),
+        Err(e) => Err(stop_of(e)),
+    }
+}
+
+// A constructor without fields, or the front of one with fields.
+#[inline(always)]
+fn build_node<'a>(
+    table: &'a TypeTable,
+    ty: u32,
+    bytes: &[u8],
+    cursor: &mut Cursor<'a>,
+    words: &mut Vec<u64>,
+) -> Result<bool, Stopped>
+    requires place { cursor.old.at ≤ length bytes.now }
+    requires next { cursor.old.next ≡ Some ty }
+    requires data { 0 < ty }
+    requires of_table { ty ≤ length table.now }
+    ensures advances { IsSoundTable table.now → (l : Loading) → IsKnown table.now (outline cursor.old) →
+        Advanced table.now bytes.now (outline cursor.old) cursor.old.at (outline cursor.new) cursor.new.at
+        words.old.items l words.new.items l result }
+    ensures place { result ≡ Ok true → (cursor.old.at < cursor.new.at) × (cursor.new.at ≤ length bytes.now) }
+{
+    match read::read_node(table, ty, bytes, cursor) {
+        Ok(Some(tag)) => goes_on(push_word(words, 2 * tag as u64)),
+        Ok(None) => Ok(true),
+        Err(e) => Err(stop_of(e)),
+    }
+}
+
+// What stands behind a field of the innermost open constructor, whose frame was taken off.
+#[inline(always)]
+fn build_field<'a>(
+    bytes: &[u8],
+    cursor: &mut Cursor<'a>,
+    frame: Frame<'a>,
+    loader: &mut Loader,
+    words: &mut Vec<u64>,
+) -> Result<bool, Stopped>
+    requires place { cursor.old.at ≤ length bytes.now }
+    requires next { cursor.old.next ≡ None }
+    ensures advances { (tb : Table) (o : Outline) → o ≡ record (outline cursor.old) {
+      frames =
+          pending frame.entry ∷ (outline cursor.old).frames;
+    } → IsKnown tb o →
+        Advanced tb bytes.now o cursor.old.at (outline cursor.new) cursor.new.at words.old.items loader.old
+        words.new.items loader.new result }
+    ensures place { result ≡ Ok true → (cursor.old.at < cursor.new.at) × (cursor.new.at ≤ length bytes.now) }
+{
+    match read::read_field(bytes, cursor, frame) {
+        Ok(Some((tag, size))) => goes_on(close(tag, size, loader, words)),
+        Ok(None) => Ok(true),
+        Err(e) => Err(stop_of(e)),
+    }
+}
+
+// What stands behind the value of a line.
+fn build_line<'a>(bytes: &[u8], cursor: &mut Cursor<'a>) -> Result<bool, Stopped>
+    requires place { cursor.old.at ≤ length bytes.now }
+    requires next { cursor.old.next ≡ None }
+    requires frames { (outline cursor.old).frames ≡ [] }
+    ensures advances { (tb : Table) (l : Loading) (ws : List ℕ) → IsKnown tb (outline cursor.old) →
+        Advanced tb bytes.now (outline cursor.old) cursor.old.at (outline cursor.new) cursor.new.at ws l ws l result }
+    ensures place { result ≡ Ok true → (cursor.old.at < cursor.new.at) × (cursor.new.at ≤ length bytes.now) }
+{
+    match read::read_line(bytes, cursor) {
+        Ok(more) => Ok(more),
+        Err(e) => Err(stop_of(e)),
+    }
+}
+
+/// One step, and what it leaves in the store and among the words that wait for their cells; false behind the last
+/// value.
+#[inline(always)]
+pub fn advance<'a>(
+    table: &'a TypeTable,
+    bytes: &[u8],
+    cursor: &mut Cursor<'a>,
+    loader: &mut Loader,
+    words: &mut Vec<u64>,
+) -> Result<bool, Stopped>
+    requires place { cursor.old.at ≤ length bytes.now }
+    ensures advances { IsSoundTable table.now → IsKnown table.now (outline cursor.old) →
+        Advanced table.now bytes.now (outline cursor.old) cursor.old.at (outline cursor.new) cursor.new.at
+        words.old.items loader.old words.new.items loader.new result }
+    ensures place { result ≡ Ok true → (cursor.old.at < cursor.new.at) × (cursor.new.at ≤ length bytes.now) }
+{
+    match cursor.next {
+        Some(ty) => {
+            if ty == 0 {
+                build_int(bytes, cursor, words)
+            } else if ty as usize <= table.len() {
+                build_node(table, ty, bytes, cursor, words)
+            } else {
+                Err(Stopped::BadValue(cursor.at))
+            }
+        }
+        None => match cursor.frames.pop() {
+            Some(frame) => build_field(bytes, cursor, frame, loader, words),
+            None => build_line(bytes, cursor),
+        },
     }
 }
 
@@ -122,14 +246,10 @@ pub fn build(
     let mut cursor = read::begin(alloc, params);
     let mut words = Vec::new(alloc);
     loop {
-        match read::step(table, bytes, &mut cursor) {
-            Ok(Some(event)) => match put(event, loader, &mut words) {
-                Ok(()) => {}
-                Err(e) => return Err(e),
-            },
-            Ok(None) => return Ok(words),
-            Err(Refused::BadValue(at)) => return Err(Stopped::BadValue(at)),
-            Err(Refused::NoMemory) => return Err(Stopped::NoMemory),
+        match advance(table, bytes, &mut cursor, loader, &mut words) {
+            Ok(true) => {}
+            Ok(false) => return Ok(words),
+            Err(e) => return Err(e),
         }
     }
 }
@@ -159,7 +279,7 @@ pub fn add_credits(credits: &[u8], loader: &mut Loader, words: &mut Vec<u64>) ->
         IsBuilt (wanted credits.now vs) first loader.old vs words.old.items →
         IsCrediting credits.now (wanted credits.now vs) first loader.new vs words.new.items) }
     ensures full { AreCredits credits.now → result ≡ Err Stopped.Full → (first : Loading) (vs : Values) →
-        words_up_to 16 (wanted credits.now vs) (free_in first) ≤ first.left →
+        words_up_to MOST_FIELDS (wanted credits.now vs) (free_in first) ≤ first.left →
         IsBuilt (wanted credits.now vs) first loader.old vs words.old.items → ⊥ }
     ensures value { (k : ℕ) → result ≡ Err (Stopped.BadValue k) → ⊥ }
 {

@@ -1,5 +1,6 @@
 // How many cells of each size there are.
 ghost use Rattle.std.specs.Prelude.{◌≡◌, ◌≢◌, ℕ, suc, ◌+◌, ◌-◌, ◌<◌, ◌≤◌, ◌^◌, slice_index_or};
+ghost use Rattle.fip_language.specs.declared.limits.TheConstants.{MOST_FIELDS};
 ghost use Rattle.value_text.specs.Counting.{closes};
 
 use crate::read::Event;
@@ -33,7 +34,7 @@ impl Counts {
 
     /// One more of size `k`; nothing for a size that no cell has. At 2^64 - 1 the number stays.
     pub fn add_one(&mut self, k: usize)
-        ensures one { 0 < k → k ≤ 16 → slice_index_or self.old.numbers k 0 < 2 ^ 64 - 1 →
+        ensures one { 0 < k → k ≤ MOST_FIELDS → slice_index_or self.old.numbers k 0 < 2 ^ 64 - 1 →
             slice_index_or self.new.numbers k 0 ≡ suc (slice_index_or self.old.numbers k 0) }
         ensures others { (i : ℕ) → i ≢ k → slice_index_or self.new.numbers i 0 ≡ slice_index_or self.old.numbers i 0 }
         ensures zero { slice_index_or self.new.numbers 0 0 ≡ slice_index_or self.old.numbers 0 0 }
@@ -52,7 +53,7 @@ impl Counts {
 
     /// One more of the size of the cell that an event closes.
     pub fn add_closed(&mut self, event: Event)
-        ensures { ((k : ℕ) → k ≤ 16 → slice_index_or self.old.numbers k 0 < 2 ^ 64 - 1) → (k : ℕ) → k ≤ 16 →
+        ensures { ((k : ℕ) → k ≤ MOST_FIELDS → slice_index_or self.old.numbers k 0 < 2 ^ 64 - 1) → (k : ℕ) → k ≤ MOST_FIELDS →
             slice_index_or self.new.numbers k 0 ≡ slice_index_or self.old.numbers k 0 + closes k event }
     {
         match event {

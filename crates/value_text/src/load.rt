@@ -2,7 +2,7 @@
 // fit, and where the loader has cells, a first pass tests the text and counts its cells, and a second one makes them.
 ghost use Rattle.std.specs.Prelude.{◌≡◌, ◌⊎◌, ℕ, ◌+◌, ◌*◌, ◌-◌, ◌<◌, ◌≤◌, ◌^◌, List, [], length, Ok, Err, IfOk};
 ghost use Rattle.std.specs.Prelude.{OnOk, MatchResult};
-ghost use Rattle.fip_language.specs.declared.limits.TheConstants.{MOST_STORE_WORDS};
+ghost use Rattle.fip_language.specs.declared.limits.TheConstants.{MOST_FIELDS, MOST_STORE_WORDS};
 ghost use Rattle.fip_language.specs.Prefix.{IsPlace};
 ghost use Rattle.fip_language.specs.SoundTable.{IsSoundTable, AreTypes};
 ghost use Rattle.fip_language.specs.ValueText.{SpellsValues};
@@ -66,8 +66,8 @@ fn count(
 
 // The credits' cells are counted too.
 fn add_sizes(counts: &mut Counts, credits: &[u8])
-    ensures { AreSizes credits.now → ((k : ℕ) → k ≤ 16 → count_at counts.old k + length credits.now < 2 ^ 64) →
-        (k : ℕ) → k ≤ 16 → count_at counts.new k ≡ count_at counts.old k + cells_in k credits.now }
+    ensures { AreSizes credits.now → ((k : ℕ) → k ≤ MOST_FIELDS → count_at counts.old k + length credits.now < 2 ^ 64) →
+        (k : ℕ) → k ≤ MOST_FIELDS → count_at counts.new k ≡ count_at counts.old k + cells_in k credits.now }
 {
     for size in credits {
         counts.add_one(*size as usize);
@@ -76,8 +76,8 @@ fn add_sizes(counts: &mut Counts, credits: &[u8])
 
 // The words of the cells that no released cell serves.
 fn words_needed(loader: &Loader, counts: &Counts) -> usize
-    ensures { words_up_to 16 (count_at counts.now) (λ _. 0) < 2 ^ 64 →
-        result ≡ words_up_to 16 (count_at counts.now) (free_in loader.now) }
+    ensures { words_up_to MOST_FIELDS (count_at counts.now) (λ _. 0) < 2 ^ 64 →
+        result ≡ words_up_to MOST_FIELDS (count_at counts.now) (free_in loader.now) }
 {
     let mut needed = 0usize;
     for k in 1..MOST_FIELDS + 1 {

@@ -1,4 +1,4 @@
-// A value printed, without recursion: what is still to be printed is a list.
+// A value printed, without recursion: what is still to be printed is a list of rows of fields.
 ghost use Rattle.std.specs.Prelude.{◌≡◌, ◌≢◌, ℕ, ℤ, ◌+◌, ◌-◌, ◌*◌, ◌<◌, ◌≤◌, ◌^◌, List, [], ◌∷◌, ◌++◌, length};
 ghost use Rattle.std.specs.Prelude.{Some, None, IfOk, OnOk, IfSome, IfNone, FitsSigned, slice_get, vec_len};
 ghost use Rattle.std.specs.Int.{w64};
@@ -12,7 +12,7 @@ ghost use Rattle.fip_language.specs.ValueText.{SpellsValues};
 ghost use Rattle.cell_store.specs.Cells.{cell_at};
 ghost use Rattle.value_text.specs.Standing.{Stands};
 ghost use Rattle.value_text.specs.Printing.{last_first, printed_tail, AreLast, Prints, Printing};
-ghost use Rattle.value_text.specs.Printing.{then_tasks, one_task};
+ghost use Rattle.value_text.specs.Printing.{task_of, then_tasks, one_task};
 
 use crate::read::split;
 use cell_store::Cells;
@@ -20,6 +20,13 @@ use fip_base::plain::NoMemory;
 use fip_base::table::{Constructor, TypeTable};
 use itoa::Buffer;
 use std::alloc::{AllocError, Global};
+
+/// The last fields of a cell, which wait: their types, and the cell's place.
+#[derive(Clone, Copy)]
+pub struct Row<'a> {
+    types: &'a [u32],
+    place: u32,
+}
 
 /// What is to be printed: a value, or the last fields of a cell.
 #[derive(Clone, Copy)]
@@ -66,11 +73,11 @@ fn print_int(word: u64, out: &mut Vec<u8>) -> Result<(), AllocError>
 }
 
 #[inline(always)]
-fn add<'a>(tasks: &mut Vec<Task<'a>>, task: Task<'a>) -> Result<(), AllocError>
-    ensures added { OnOk result (last_first tasks.new.items ≡ task.entry ∷ last_first tasks.old.items) }
-    ensures one { OnOk result (vec_len tasks.new ≡ vec_len tasks.old + 1) }
+fn add<'a>(rows: &mut Vec<Row<'a>>, row: Row<'a>) -> Result<(), AllocError>
+    ensures added { OnOk result (last_first rows.new.items ≡ task_of row.entry ∷ last_first rows.old.items) }
+    ensures one { OnOk result (vec_len rows.new ≡ vec_len rows.old + 1) }
 {
-    tasks.push(task)?;
+    rows.push(row)?;
     Ok(())
 }
 
@@ -111,22 +118,22 @@ fn add_fields<'a, C: Cells>(
     cells: &C,
     types: &'a [u32],
     place: u32,
-    tasks: &mut Vec<Task<'a>>,
+    rows: &mut Vec<Row<'a>>,
 ) -> Result<Option<Task<'a>>, AllocError>
     requires { cell_at (C.cells cells.now) place ≢ None }
     ensures prints { IfOk result (λ next. (tb : Table) (c : Cell) (xs : Parts) → 0 < length types.now →
         AreLast tb (C.cells cells.now) types.now place c xs → (rest : List ℕ) →
-        Prints tb (C.cells cells.now) (last_first tasks.old.items) rest →
-        Prints tb (C.cells cells.now) (then_tasks next (last_first tasks.new.items))
+        Prints tb (C.cells cells.now) (last_first rows.old.items) rest →
+        Prints tb (C.cells cells.now) (then_tasks next (last_first rows.new.items))
         (printed_tail tb types.now (values_of xs) rest)) }
-    ensures few { IfOk result (λ next. one_task next + vec_len tasks.new ≤ vec_len tasks.old + 2) }
+    ensures few { IfOk result (λ next. one_task next + vec_len rows.new ≤ vec_len rows.old + 2) }
 {
     match split(types) {
         None => Ok(None),
         Some((ty, rest)) => match field_from_end(cells, place, types.len()) {
             None => Ok(None),
             Some(word) => {
-                add(tasks, Task::Fields(rest, place))?;
+                add(rows, Row { types: rest, place })?;
                 Ok(Some(Task::Whole(ty, word)))
             }
         },
@@ -140,15 +147,15 @@ fn print_fields<'a, C: Cells>(
     types: &'a [u32],
     place: u32,
     out: &mut Vec<u8>,
-    tasks: &mut Vec<Task<'a>>,
+    rows: &mut Vec<Row<'a>>,
 ) -> Result<Option<Task<'a>>, AllocError>
     ensures prints { IfOk result (λ next. (tb : Table) (c : Cell) (xs : Parts) →
         AreLast tb (C.cells cells.now) types.now place c xs → (rest : List ℕ) →
-        Prints tb (C.cells cells.now) (last_first tasks.old.items) rest →
-        Printing tb (C.cells cells.now) (then_tasks next (last_first tasks.new.items)) out.new.items
+        Prints tb (C.cells cells.now) (last_first rows.old.items) rest →
+        Printing tb (C.cells cells.now) (then_tasks next (last_first rows.new.items)) out.new.items
         (out.old.items ++ printed_more tb types.now (values_of xs) rest)) }
     ensures steps { IfOk result (λ next.
-        one_task next + vec_len tasks.new + 3 * vec_len out.old ≤ vec_len tasks.old + 3 * vec_len out.new) }
+        one_task next + vec_len rows.new + 3 * vec_len out.old ≤ vec_len rows.old + 3 * vec_len out.new) }
 {
     if types.is_empty() {
         out.push(b')')?;
@@ -158,7 +165,7 @@ fn print_fields<'a, C: Cells>(
         return Ok(None);
     }
     put_bytes(b", ", out)?;
-    add_fields(cells, types, place, tasks)
+    add_fields(cells, types, place, rows)
 }
 
 // A value with a cell: its name, and its fields as tasks, of which the first comes next.
@@ -169,16 +176,16 @@ fn print_cell<'a, C: Cells>(
     ty: u32,
     place: u32,
     out: &mut Vec<u8>,
-    tasks: &mut Vec<Task<'a>>,
+    rows: &mut Vec<Row<'a>>,
 ) -> Result<Option<Task<'a>>, AllocError>
     requires { cell_at (C.cells cells.now) place ≢ None }
     ensures prints { IfOk result (λ next. (c : ℕ) (xs : Parts) →
         Stands table.now (C.cells cells.now) ty (At place c xs) → (rest : List ℕ) →
-        Prints table.now (C.cells cells.now) (last_first tasks.old.items) rest →
-        Printing table.now (C.cells cells.now) (then_tasks next (last_first tasks.new.items)) out.new.items
+        Prints table.now (C.cells cells.now) (last_first rows.old.items) rest →
+        Printing table.now (C.cells cells.now) (then_tasks next (last_first rows.new.items)) out.new.items
         (out.old.items ++ printed table.now ty (value_of (At place c xs)) rest)) }
     ensures steps { IfOk result (λ next.
-        one_task next + vec_len tasks.new + 3 * vec_len out.old ≤ vec_len tasks.old + 3 * vec_len out.new) }
+        one_task next + vec_len rows.new + 3 * vec_len out.old ≤ vec_len rows.old + 3 * vec_len out.new) }
 {
     let tag = cells.cell_tag(place);
     let Some(constructor) = constructor_at(table, ty, tag as u64) else {
@@ -190,7 +197,7 @@ fn print_cell<'a, C: Cells>(
         return Ok(None);
     }
     out.push(b'(')?;
-    add_fields(cells, types, place, tasks)
+    add_fields(cells, types, place, rows)
 }
 
 // A constructor without fields.
@@ -214,15 +221,15 @@ fn print_whole<'a, C: Cells>(
     ty: u32,
     word: u64,
     out: &mut Vec<u8>,
-    tasks: &mut Vec<Task<'a>>,
+    rows: &mut Vec<Row<'a>>,
 ) -> Result<Option<Task<'a>>, AllocError>
     ensures prints { IfOk result (λ next. length (C.cells cells.now) ≤ 2 ^ 32 → (x : Placed) →
         Stands table.now (C.cells cells.now) ty x → word_of x ≡ word → (rest : List ℕ) →
-        Prints table.now (C.cells cells.now) (last_first tasks.old.items) rest →
-        Printing table.now (C.cells cells.now) (then_tasks next (last_first tasks.new.items)) out.new.items
+        Prints table.now (C.cells cells.now) (last_first rows.old.items) rest →
+        Printing table.now (C.cells cells.now) (then_tasks next (last_first rows.new.items)) out.new.items
         (out.old.items ++ printed table.now ty (value_of x) rest)) }
     ensures steps { IfOk result (λ next.
-        one_task next + vec_len tasks.new + 3 * vec_len out.old ≤ vec_len tasks.old + 3 * vec_len out.new) }
+        one_task next + vec_len rows.new + 3 * vec_len out.old ≤ vec_len rows.old + 3 * vec_len out.new) }
 {
     if ty == 0 {
         print_int(word, out)?;
@@ -237,7 +244,7 @@ fn print_whole<'a, C: Cells>(
     }
     let place = (word / 2) as u32;
     if cells.begins(place) {
-        print_cell(table, cells, ty, place, out, tasks)
+        print_cell(table, cells, ty, place, out, rows)
     } else {
         Ok(None)
     }
@@ -250,17 +257,17 @@ fn print_task<'a, C: Cells>(
     cells: &C,
     task: Task<'a>,
     out: &mut Vec<u8>,
-    tasks: &mut Vec<Task<'a>>,
+    rows: &mut Vec<Row<'a>>,
 ) -> Result<Option<Task<'a>>, AllocError>
     ensures prints { IfOk result (λ next. length (C.cells cells.now) ≤ 2 ^ 32 → (whole : List ℕ) →
-        Printing table.now (C.cells cells.now) (task.entry ∷ last_first tasks.old.items) out.old.items whole →
-        Printing table.now (C.cells cells.now) (then_tasks next (last_first tasks.new.items)) out.new.items whole) }
+        Printing table.now (C.cells cells.now) (task.entry ∷ last_first rows.old.items) out.old.items whole →
+        Printing table.now (C.cells cells.now) (then_tasks next (last_first rows.new.items)) out.new.items whole) }
     ensures steps { IfOk result (λ next.
-        one_task next + vec_len tasks.new + 3 * vec_len out.old ≤ vec_len tasks.old + 3 * vec_len out.new) }
+        one_task next + vec_len rows.new + 3 * vec_len out.old ≤ vec_len rows.old + 3 * vec_len out.new) }
 {
     match task {
-        Task::Whole(ty, word) => print_whole(table, cells, ty, word, out, tasks),
-        Task::Fields(types, place) => print_fields(cells, types, place, out, tasks),
+        Task::Whole(ty, word) => print_whole(table, cells, ty, word, out, rows),
+        Task::Fields(types, place) => print_fields(cells, types, place, out, rows),
     }
 }
 
@@ -276,13 +283,13 @@ fn print_tasks<C: Cells>(
         word_of x ≡ word → IfOk result (λ text. text.items ≡ printed table.now ty (value_of x) []) }
 {
     let mut out = Vec::new(alloc);
-    let mut tasks = Vec::new(alloc);
+    let mut rows = Vec::new(alloc);
     let mut task = Task::Whole(ty, word);
     'printing: loop {
-        match print_task(table, cells, task, &mut out, &mut tasks)? {
+        match print_task(table, cells, task, &mut out, &mut rows)? {
             Some(next) => task = next,
-            None => match tasks.pop() {
-                Some(next) => task = next,
+            None => match rows.pop() {
+                Some(row) => task = Task::Fields(row.types, row.place),
                 None => return Ok(out),
             },
         }

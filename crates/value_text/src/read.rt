@@ -1,37 +1,39 @@
 // A text of values, read in steps: a leaf, an opened or closed constructor, a comma or an end of a line each.
 // Open constructors are a list, so that nesting costs no stack.
-ghost use Rattle.std.specs.Prelude.{◌≡◌, ℕ, ◌+◌, ◌<◌, ◌≤◌, length, [], ◌∷◌, Some, None, IfOk, OnOk, MatchOption};
-ghost use Rattle.std.specs.Prelude.{MatchResult, slice_get};
+ghost use Rattle.std.specs.Prelude.{◌≡◌, ℕ, suc, ◌+◌, ◌<◌, ◌≤◌, length, drop, List, [], ◌∷◌, Some, None, IfOk};
+ghost use Rattle.std.specs.Prelude.{OnOk, MatchOption, MatchResult, slice_get, FitsSigned};
+ghost use Rattle.std.specs.Int.{w64};
+ghost use Rattle.fip_language.specs.declared.limits.TheConstants.{MOST_FIELDS};
 ghost use Rattle.fip_language.specs.Values.{Values};
 ghost use Rattle.fip_language.specs.Table.{Table, Shape, constructors};
 ghost use Rattle.fip_language.specs.SoundTable.{IsSoundTable, AreTypes};
 ghost use Rattle.value_text.specs.Loaded.{types_of};
 ghost use Rattle.value_text.specs.Scan.{runs};
 ghost use Rattle.value_text.specs.Reading.{pending, outline, outline_at, state_at, IsKnown, Spot, Stepped, cost_of};
-ghost use Rattle.value_text.specs.Reading.{spot_of, IsNarrow};
+ghost use Rattle.value_text.specs.Reading.{spot_of, IsNarrow, number_event, node_event, field_event, line_event};
 
 use crate::scan;
 use fip_base::plain::Param;
-use fip_base::table::TypeTable;
+use fip_base::table::{Constructor, TypeTable};
 use std::alloc::{AllocError, Global};
 
 /// A constructor whose `)` has not come.
 #[derive(Clone, Copy)]
 pub struct Frame<'a> {
+    constructor: &'a Constructor,
     tag: u32,
-    size: usize,
-    // the types of the fields behind the one that is read
-    rest: &'a [u32],
+    // how many of its fields have begun
+    begun: u32,
 }
 
 /// Where the reader is.
 #[derive(Drop)]
 pub struct Cursor<'a> {
-    at: usize,
+    pub(crate) at: usize,
     // the type of the value that comes next; none behind a value
-    next: Option<u32>,
+    pub(crate) next: Option<u32>,
     // the open constructors, the innermost last
-    frames: Vec<Frame<'a>>,
+    pub(crate) frames: Vec<Frame<'a>>,
     lines: &'a [Param],
 }
 
@@ -85,20 +87,6 @@ fn split_lines(params: &[Param]) -> Option<(u32, &[Param])>
     }
 }
 
-/// The words of the store that an event tells of.
-pub fn cost(event: Event) -> usize
-    ensures { result ≡ cost_of event }
-{
-    match event {
-        Event::Opened => 2,
-        Event::Comma => 1,
-        Event::Number(_) => 0,
-        Event::Bare(_) => 0,
-        Event::Closed { tag: _, size: _ } => 0,
-        Event::Line => 0,
-    }
-}
-
 // A frame becomes the innermost.
 #[inline(always)]
 fn push_frame<'a>(cursor: &mut Cursor<'a>, frame: Frame<'a>) -> Result<(), AllocError>
@@ -111,90 +99,127 @@ fn push_frame<'a>(cursor: &mut Cursor<'a>, frame: Frame<'a>) -> Result<(), Alloc
     Ok(())
 }
 
-// Before an int.
+// The constructor of this number.
 #[inline(always)]
-fn read_int<'a>(bytes: &[u8], cursor: &mut Cursor<'a>) -> Result<Option<Event>, Refused>
+fn constructor_of<'a>(table: &'a TypeTable, ty: u32, tag: u32) -> &'a Constructor
+    requires of_table { ty ≤ length table.now }
+    requires there { (s : Shape) × (slice_get (constructors table.now ty) tag ≡ Some s) }
+    ensures { slice_get (constructors table.now ty) tag ≡ Some result.now }
+{
+    &table.constructors_of(ty)[tag as usize]
+}
+
+// The type of a field, where the constructor has so many.
+#[inline(always)]
+fn field_at(constructor: &Constructor, begun: u32) -> Option<u32>
+    ensures { MatchOption result (drop begun constructor.now.fields ≡ [])
+        (λ k. drop begun constructor.now.fields ≡ k ∷ drop (suc begun) constructor.now.fields) }
+{
+    match constructor.fields().get(begun as usize) {
+        Some(k) => Some(*k),
+        None => None,
+    }
+}
+
+// The frame when one more field has begun.
+#[inline(always)]
+fn one_further<'a>(frame: Frame<'a>) -> Frame<'a>
+    ensures { (k : ℕ) (ks : List ℕ) → (pending frame.entry).size ≤ MOST_FIELDS →
+        (pending frame.entry).rest ≡ k ∷ ks → pending result ≡ record (pending frame.entry) { rest = ks } }
+{
+    let begun = frame.begun.wrapping_add(1);
+    Frame { begun, ..frame }
+}
+
+/// An int.
+#[inline(always)]
+pub fn read_int<'a>(bytes: &[u8], cursor: &mut Cursor<'a>) -> Result<i64, Refused>
     requires place { cursor.old.at ≤ length bytes.now }
     requires next { cursor.old.next ≡ Some 0 }
     ensures reads { (tb : Table) (s : Spot) → outline cursor.old ≡ outline_at s →
-        Stepped tb bytes.now s cursor.old.at result (outline cursor.new) cursor.new.at }
-    ensures place { IfOk result (λ e. MatchOption e ℕ (λ e. (cursor.old.at < cursor.new.at)
+        Stepped tb bytes.now s cursor.old.at (number_event result) (outline cursor.new) cursor.new.at }
+    ensures place { IfOk (number_event result) (λ e. MatchOption e ℕ (λ e. (cursor.old.at < cursor.new.at)
         × (cursor.old.at + cost_of e ≤ cursor.new.at) × (cursor.new.at ≤ length bytes.now))) }
-    ensures narrow { IfOk result (λ e. MatchOption e ℕ IsNarrow) }
+    ensures fits { IfOk result (λ i. FitsSigned w64 i) }
     ensures known { (tb : Table) → IsKnown tb (outline cursor.old) →
-        IfOk result (λ e. IsKnown tb (outline cursor.new)) }
+        IfOk (number_event result) (λ e. IsKnown tb (outline cursor.new)) }
 {
     match scan::int(bytes, cursor.at) {
         Ok((i, at)) => {
             cursor.at = at;
             cursor.next = None;
-            Ok(Some(Event::Number(i)))
+            Ok(i)
         }
         Err(at) => Err(Refused::BadValue(at)),
     }
 }
 
-// Before a value of a data type.
+/// The name of a constructor, and its `(` where it has fields; the number of one that has none.
 #[inline(always)]
-fn read_node<'a>(
+pub fn read_node<'a>(
     table: &'a TypeTable,
     ty: u32,
     bytes: &[u8],
     cursor: &mut Cursor<'a>,
-) -> Result<Option<Event>, Refused>
+) -> Result<Option<u32>, Refused>
     requires place { cursor.old.at ≤ length bytes.now }
     requires next { cursor.old.next ≡ Some ty }
     requires data { 0 < ty }
     requires of_table { ty ≤ length table.now }
     ensures reads { IsSoundTable table.now → (s : Spot) → outline cursor.old ≡ outline_at s →
-        Stepped table.now bytes.now s cursor.old.at result (outline cursor.new) cursor.new.at }
-    ensures place { IfOk result (λ e. MatchOption e ℕ (λ e. (cursor.old.at < cursor.new.at)
+        Stepped table.now bytes.now s cursor.old.at (node_event result) (outline cursor.new) cursor.new.at }
+    ensures place { IfOk (node_event result) (λ e. MatchOption e ℕ (λ e. (cursor.old.at < cursor.new.at)
         × (cursor.old.at + cost_of e ≤ cursor.new.at) × (cursor.new.at ≤ length bytes.now))) }
-    ensures narrow { IfOk result (λ e. MatchOption e ℕ IsNarrow) }
     ensures known { IsSoundTable table.now → IsKnown table.now (outline cursor.old) →
-        IfOk result (λ e. IsKnown table.now (outline cursor.new)) }
+        IfOk (node_event result) (λ e. IsKnown table.now (outline cursor.new)) }
 {
     let (tag, behind) = match scan::name(table, ty, bytes, cursor.at) {
         Ok(found) => found,
         Err(at) => return Err(Refused::BadValue(at)),
     };
-    let fields = table.fields_of(ty, tag);
-    match split(fields) {
+    let constructor = constructor_of(table, ty, tag);
+    match field_at(constructor, 0) {
         None => {
             cursor.at = behind;
             cursor.next = None;
-            Ok(Some(Event::Bare(tag)))
+            Ok(Some(tag))
         }
-        Some((k, rest)) => match scan::sign(bytes, behind, b'(') {
+        Some(k) => match scan::sign(bytes, behind, b'(') {
             Ok(at) => {
-                let size = fields.len();
-                push_frame(cursor, Frame { tag, size, rest })?;
+                let begun = 1;
+                push_frame(
+                    cursor,
+                    Frame {
+                        constructor,
+                        tag,
+                        begun,
+                    },
+                )?;
                 cursor.at = at;
                 cursor.next = Some(k);
-                Ok(Some(Event::Opened))
+                Ok(None)
             }
             Err(at) => Err(Refused::BadValue(at)),
         },
     }
 }
 
-// Behind a value, where no constructor is open.
+/// The end of a line behind a value; false where it was the last one, and the text ends.
 #[inline(never)]
-fn read_line<'a>(bytes: &[u8], cursor: &mut Cursor<'a>) -> Result<Option<Event>, Refused>
+pub fn read_line<'a>(bytes: &[u8], cursor: &mut Cursor<'a>) -> Result<bool, Refused>
     requires place { cursor.old.at ≤ length bytes.now }
     requires next { cursor.old.next ≡ None }
     requires frames { (outline cursor.old).frames ≡ [] }
     ensures reads { (tb : Table) (s : Spot) → outline cursor.old ≡ outline_at s →
-        Stepped tb bytes.now s cursor.old.at result (outline cursor.new) cursor.new.at }
-    ensures place { IfOk result (λ e. MatchOption e ℕ (λ e. (cursor.old.at < cursor.new.at)
+        Stepped tb bytes.now s cursor.old.at (line_event result) (outline cursor.new) cursor.new.at }
+    ensures place { IfOk (line_event result) (λ e. MatchOption e ℕ (λ e. (cursor.old.at < cursor.new.at)
         × (cursor.old.at + cost_of e ≤ cursor.new.at) × (cursor.new.at ≤ length bytes.now))) }
-    ensures narrow { IfOk result (λ e. MatchOption e ℕ IsNarrow) }
     ensures known { (tb : Table) → IsKnown tb (outline cursor.old) →
-        IfOk result (λ e. IsKnown tb (outline cursor.new)) }
+        IfOk (line_event result) (λ e. IsKnown tb (outline cursor.new)) }
 {
     match split_lines(cursor.lines) {
         None => match scan::end_of_text(bytes, cursor.at) {
-            Ok(()) => Ok(None),
+            Ok(()) => Ok(false),
             Err(at) => Err(Refused::BadValue(at)),
         },
         Some((k, lines)) => match scan::sign(bytes, cursor.at, b'\n') {
@@ -202,58 +227,96 @@ fn read_line<'a>(bytes: &[u8], cursor: &mut Cursor<'a>) -> Result<Option<Event>,
                 cursor.at = at;
                 cursor.next = Some(k);
                 cursor.lines = lines;
-                Ok(Some(Event::Line))
+                Ok(true)
             }
             Err(at) => Err(Refused::BadValue(at)),
         },
     }
 }
 
-// Behind a field of the innermost open constructor, whose frame was taken off.
+/// The `,` behind a field of the innermost open constructor, whose frame was taken off, or the `)` behind its last one;
+/// the number of a constructor that is closed, and the number of its fields.
 #[inline(always)]
-fn read_field<'a>(
+pub fn read_field<'a>(
     bytes: &[u8],
     cursor: &mut Cursor<'a>,
     frame: Frame<'a>,
-) -> Result<Option<Event>, Refused>
+) -> Result<Option<(u32, usize)>, Refused>
     requires place { cursor.old.at ≤ length bytes.now }
     requires next { cursor.old.next ≡ None }
-    ensures reads { (tb : Table) (s : Spot) → record (outline cursor.old) {
+    ensures reads { (pending frame.entry).size ≤ MOST_FIELDS → (tb : Table) (s : Spot) → record (outline cursor.old) {
       frames =
           pending frame.entry ∷ (outline cursor.old).frames;
     } ≡ outline_at s →
-        Stepped tb bytes.now s cursor.old.at result (outline cursor.new) cursor.new.at }
-    ensures place { IfOk result (λ e. MatchOption e ℕ (λ e. (cursor.old.at < cursor.new.at)
+        Stepped tb bytes.now s cursor.old.at (field_event result) (outline cursor.new) cursor.new.at }
+    ensures place { IfOk (field_event result) (λ e. MatchOption e ℕ (λ e. (cursor.old.at < cursor.new.at)
         × (cursor.old.at + cost_of e ≤ cursor.new.at) × (cursor.new.at ≤ length bytes.now))) }
-    ensures narrow { (pending frame.entry).size ≤ 16 → IfOk result (λ e. MatchOption e ℕ IsNarrow) }
-    ensures known { (tb : Table) → AreTypes tb (pending frame.entry).rest → (pending frame.entry).size ≤ 16 →
-        IsKnown tb (outline cursor.old) → IfOk result (λ e. IsKnown tb (outline cursor.new)) }
+    ensures narrow { (pending frame.entry).size ≤ MOST_FIELDS →
+        IfOk (field_event result) (λ e. MatchOption e ℕ IsNarrow) }
+    ensures known { (tb : Table) → AreTypes tb (pending frame.entry).rest → (pending frame.entry).size ≤ MOST_FIELDS →
+        IsKnown tb (outline cursor.old) → IfOk (field_event result) (λ e. IsKnown tb (outline cursor.new)) }
 {
-    match split(frame.rest) {
+    match field_at(frame.constructor, frame.begun) {
         None => match scan::sign(bytes, cursor.at, b')') {
             Ok(at) => {
                 cursor.at = at;
-                Ok(Some(Event::Closed {
-                    tag: frame.tag,
-                    size: frame.size,
-                }))
+                Ok(Some((frame.tag, frame.constructor.fields().len())))
             }
             Err(at) => Err(Refused::BadValue(at)),
         },
-        Some((k, rest)) => match scan::sign(bytes, cursor.at, b',') {
+        Some(k) => match scan::sign(bytes, cursor.at, b',') {
             Ok(at) => {
-                push_frame(cursor, Frame { rest, ..frame })?;
+                push_frame(cursor, one_further(frame))?;
                 cursor.at = at;
                 cursor.next = Some(k);
-                Ok(Some(Event::Comma))
+                Ok(None)
             }
             Err(at) => Err(Refused::BadValue(at)),
         },
+    }
+}
+
+// The step of an event.
+fn number_step(read: Result<i64, Refused>) -> Result<Option<Event>, Refused>
+    ensures { result ≡ number_event read }
+{
+    match read {
+        Ok(i) => Ok(Some(Event::Number(i))),
+        Err(e) => Err(e),
+    }
+}
+
+fn node_step(read: Result<Option<u32>, Refused>) -> Result<Option<Event>, Refused>
+    ensures { result ≡ node_event read }
+{
+    match read {
+        Ok(Some(tag)) => Ok(Some(Event::Bare(tag))),
+        Ok(None) => Ok(Some(Event::Opened)),
+        Err(e) => Err(e),
+    }
+}
+
+fn field_step(read: Result<Option<(u32, usize)>, Refused>) -> Result<Option<Event>, Refused>
+    ensures { result ≡ field_event read }
+{
+    match read {
+        Ok(Some((tag, size))) => Ok(Some(Event::Closed { tag, size })),
+        Ok(None) => Ok(Some(Event::Comma)),
+        Err(e) => Err(e),
+    }
+}
+
+fn line_step(read: Result<bool, Refused>) -> Result<Option<Event>, Refused>
+    ensures { result ≡ line_event read }
+{
+    match read {
+        Ok(true) => Ok(Some(Event::Line)),
+        Ok(false) => Ok(None),
+        Err(e) => Err(e),
     }
 }
 
 /// One step; none behind the last value, where only blanks and ends of lines come.
-#[inline(always)]
 pub fn step<'a>(
     table: &'a TypeTable,
     bytes: &[u8],
@@ -272,16 +335,16 @@ pub fn step<'a>(
     match cursor.next {
         Some(ty) => {
             if ty == 0 {
-                read_int(bytes, cursor)
+                number_step(read_int(bytes, cursor))
             } else if ty as usize <= table.len() {
-                read_node(table, ty, bytes, cursor)
+                node_step(read_node(table, ty, bytes, cursor))
             } else {
                 Err(Refused::BadValue(cursor.at))
             }
         }
         None => match cursor.frames.pop() {
-            Some(frame) => read_field(bytes, cursor, frame),
-            None => read_line(bytes, cursor),
+            Some(frame) => field_step(read_field(bytes, cursor, frame)),
+            None => line_step(read_line(bytes, cursor)),
         },
     }
 }

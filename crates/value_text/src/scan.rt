@@ -116,21 +116,18 @@ fn int_from(negative: bool, n: u64) -> i64
     }
 }
 
-// The number with one digit more, unless it leaves the range of an int.
+// The number with one digit more, which no digit takes out of the range of an int.
 #[inline(always)]
-fn with_digit(negative: bool, n: u64, byte: u8) -> Option<u64>
-    requires range { n ≤ bound negative }
+fn with_digit(n: u64, byte: u8) -> u64
+    requires small { n < 922337203685477580 }
     requires digit { is_digit byte ≡ true }
-    ensures { MatchOption result (nat_le (10 * n + (byte - 48)) (bound negative) ≡ false)
-        (λ m. (m ≡ 10 * n + (byte - 48)) × (m ≤ bound negative)) }
+    ensures number { result ≡ 10 * n + (byte - 48) }
+    ensures range { result ≤ bound false }
 {
-    if n < 922337203685477580 {
-        return Some(10 * n + (byte - 48) as u64);
-    }
-    with_last_digit(negative, n, byte)
+    10 * n + (byte - 48) as u64
 }
 
-// The same of a number with which a further digit may leave the range.
+// The number with one digit more, unless it leaves the range of an int.
 #[inline(never)]
 fn with_last_digit(negative: bool, n: u64, byte: u8) -> Option<u64>
     requires range { n ≤ bound negative }
@@ -170,7 +167,11 @@ fn digits(bytes: &[u8], at: usize, negative: bool) -> Result<(i64, usize), usize
         if !digit(bytes[i]) {
             return Ok((int_from(negative, n), i));
         }
-        match with_digit(negative, n, bytes[i]) {
+        if n < 922337203685477580 {
+            n = with_digit(n, bytes[i]);
+            continue;
+        }
+        match with_last_digit(negative, n, bytes[i]) {
             Some(m) => n = m,
             None => return Err(i),
         }

@@ -1,7 +1,7 @@
 // One value is read at a place of a text.
 ghost use Rattle.std.specs.Prelude.{◌≤◌, length, IfOk};
 
-use crate::build::{Stopped, put};
+use crate::build::{Stopped, advance};
 use crate::counts::Counts;
 use crate::read::{self, Refused};
 use cell_store::Loader;
@@ -74,14 +74,10 @@ fn build_value(
     let mut cursor = read::begin_value(alloc, ty, at.min(bytes.len()));
     let mut words = Vec::new(alloc);
     while !read::is_whole(&cursor) {
-        match read::step(table, bytes, &mut cursor) {
-            Ok(Some(event)) => match put(event, loader, &mut words) {
-                Ok(()) => {}
-                Err(e) => return Err(e),
-            },
-            Ok(None) => return Ok(words),
-            Err(Refused::BadValue(at)) => return Err(Stopped::BadValue(at)),
-            Err(Refused::NoMemory) => return Err(Stopped::NoMemory),
+        match advance(table, bytes, &mut cursor, loader, &mut words) {
+            Ok(true) => {}
+            Ok(false) => return Ok(words),
+            Err(e) => return Err(e),
         }
     }
     Ok(words)

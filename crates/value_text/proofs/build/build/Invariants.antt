@@ -6,12 +6,12 @@ use Rattle.value_text.specs.Building.{IsRead, IsBuilding}
 use Rattle.value_text.specs.Loaded.{types_of}
 use Rattle.value_text.proofs.build.build.Given as goal
 
-abbrev pub invariant-loop-event : goal.invariant-loop-event
-invariant-loop-event l = record {
+abbrev pub invariant-loop-words : goal.invariant-loop-words
+invariant-loop-words l = record {
   within : l.cursor.at ≤ length l.bytes;
   reading : IsSoundTable l.table → AreTypes l.table (types_of l.params) → (s : Spot) × IsReading l.table (types_of l.params) l.bytes (outline l.cursor) l.cursor.at s;
   building : IsSoundTable l.table → AreTypes l.table (types_of l.params) → (want : ℕ → ℕ) (vs : Values) → IsRead l.table (types_of l.params) l.bytes want l.initial.loader vs → IsBuilding l.table (types_of l.params) l.bytes want l.initial.loader l.loader (outline l.cursor) l.cursor.at l.words.items;
 }
 
-abbrev pub decreases-loop-event : goal.decreases-loop-event
-decreases-loop-event l = length l.bytes - l.cursor.at
+abbrev pub decreases-loop-words : goal.decreases-loop-words
+decreases-loop-words l = length l.bytes - l.cursor.at

@@ -11,5 +11,5 @@ returns-in-None-field_from_end-clause-prints g c = λ tb x xs l h rest pr.
 
 pub returns-in_ok-add-in-Some-field_from_end-clause-prints : goal.returns-in_ok-add-in-Some-field_from_end-clause-prints
 returns-in_ok-add-in-Some-field_from_end-clause-prints g c = λ tb x xs l h rest pr.
-    tail_prints tb (g.C.Cells.cells c.args.cells.now) c.args.types.now c.in-Some.ty c.in-Some.rest c.args.place x xs c.in-Some-field_from_end.word (last_first c.args.tasks.now.items) (T.Whole c.in-Some.ty c.in-Some-field_from_end.word ∷ last_first c.add.new.tasks.items) rest c.in-Some.ensures h c.in-Some-field_from_end.ensures
+    tail_prints tb (g.C.Cells.cells c.args.cells.now) c.args.types.now c.in-Some.ty c.in-Some.rest c.args.place x xs c.in-Some-field_from_end.word (last_first c.args.rows.now.items) (T.Whole c.in-Some.ty c.in-Some-field_from_end.word ∷ last_first c.add.new.rows.items) rest c.in-Some.ensures h c.in-Some-field_from_end.ensures
     (ap (λ (ts : List Task). T.Whole c.in-Some.ty c.in-Some-field_from_end.word ∷ ts) c.in_ok-add-in-Some-field_from_end.ensures.added) pr

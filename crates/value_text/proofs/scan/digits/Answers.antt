@@ -3,7 +3,7 @@ use Rattle.fip_language.specs.Values.{Int}
 use Rattle.fip_language.specs.ValueText.{bound, int_of}
 use Rattle.value_text.specs.Machine.{Number, filled}
 use Rattle.value_text.specs.Scan.{runs}
-use Rattle.value_text.proofs.Runs.{first_stops, digit_goes, digit_stops, number_over, int_back}
+use Rattle.value_text.proofs.Runs.{within_bound, first_stops, digit_goes, digit_stops, number_over, int_back}
 use Rattle.value_text.proofs.scan.digits.Goals as goal
 
 pub returns-then-not-digit-clause-reads : goal.returns-then-not-digit-clause-reads
@@ -20,6 +20,16 @@ pub returns-in-None-clause-reads : goal.returns-in-None-clause-reads
 returns-in-None-clause-reads c =
     let lt : c.loop-i.i < length c.args.bytes.now = let h = c.loop-i-test.true in omega (arith, h) in
     λ tb around. c.loop-i.invariant.reads tb around ∙ digit_stops tb c.args.bytes.now c.args.negative c.loop-i.n around c.loop-i.i lt (let h = c.if-not-digit-2.false in let k = c.digit-in-loop-i.ensures in cc) c.in-None.ensures
+
+pub loop-i-preserved-then-n-lt922337203685477580 : goal.loop-i-preserved-then-n-lt922337203685477580
+loop-i-preserved-then-n-lt922337203685477580 c =
+    let lt : c.loop-i.i < length c.args.bytes.now = let h = c.loop-i-test.true in omega (arith, h) in
+    let e = c.with_digit-n.ensures.number in
+    let le = within_bound c.args.negative c.with_digit-n.result c.with_digit-n.ensures.range in
+    record {
+      range = le;
+      reads = λ tb around. c.loop-i.invariant.reads tb around ∙ digit_goes tb c.args.bytes.now c.args.negative c.loop-i.n around c.loop-i.i lt (let h = c.if-not-digit-2.false in let k = c.digit-in-loop-i.ensures in cc) (subst (λ m. m ≤ bound c.args.negative) e le) ∙ ap (λ m. runs tb c.args.bytes.now (Number c.args.negative m around) (c.loop-i.i + 1)) (sym e);
+    }
 
 pub loop-i-preserved : goal.loop-i-preserved
 loop-i-preserved c =

@@ -1,0 +1,73 @@
+-- A step of the builder, from what the reader read and what was put down.
+use Rattle.std.proofs.Common.{◌≡◌, ℕ, ◌≤◌, List, [], ◌∷◌, ◌++◌, Option, Some, None, refl, sym, ◌∙◌, subst}
+use Rattle.std.specs.Prelude.{Bool, true, false, Result, Ok, Err, OnOk, OnErr, IfOk, MatchOption}
+use Rattle.fip_language.specs.Table.{Table}
+use Rattle.cell_store.specs.Made.{Loading}
+use Rattle.value_text.specs.declared.read.Event.{Event}
+use Rattle.value_text.specs.declared.read.Refused.{Refused}
+use Rattle.value_text.specs.declared.read.Refused.TheVariants.{BadValue, NoMemory}
+use Rattle.value_text.specs.declared.build.Stopped.{Stopped}
+use Rattle.value_text.specs.declared.build.Stopped.TheVariants as S
+use Rattle.fip_language.specs.SoundTable.{AreTypes, IsSoundTable}
+use Rattle.fip_language.specs.Values.{Values}
+use Rattle.value_text.proofs.Built.{building_room, is_read}
+use Rattle.value_text.specs.declared.read.Event.TheVariants as E
+use Rattle.value_text.specs.Reading.{Pending, Outline, Spot, outline_at, Stepped, IsKnown, IsNarrow, IsReading, node_event, field_event, line_event}
+use Rattle.value_text.specs.Building.{Puts, IsPut, IsEvent, Advanced, IsRead, IsBuilding, Built, stopped_by, then_on}
+
+pub word_put : (e : Event) (ws ws' : List ℕ) (l : Loading) (w : ℕ) (r : Result (Unit {0}) Stopped) → (ws' ≡ ws ++ w ∷ [] → Puts e ws l ws' l) → OnOk r (ws' ≡ ws ++ w ∷ []) → OnErr r (r ≡ Err S.NoMemory) → IsPut e ws l ws' l r
+word_put e ws ws' l w (Ok u) f a b = f a
+word_put e ws ws' l w (Err (S.BadValue k)) f a b = cc
+word_put e ws ws' l w (Err S.Full) f a b = cc
+word_put e ws ws' l w (Err S.NoMemory) f a b = tt
+
+-- what is known of the innermost open constructor, and of what is around it
+pub popped : (tb : Table) (n : Option ℕ) (p : Pending) (ps : List Pending) (ls : List ℕ) → IsKnown tb (record { next = n; frames = p ∷ ps; lines = ls }) → AreTypes tb p.rest × (p.size ≤ 16) × IsKnown tb (record { next = n; frames = ps; lines = ls })
+popped tb n p ps ls k = let f = k.frames in let g = f.1 in (f.0, g.0, record { next = k.next; frames = g.1; lines = k.lines })
+
+module _ (tb : Table) (bytes : List ℕ) (o : Outline) (at : ℕ) (o' : Outline) (at' : ℕ) where
+  pub bare_event : (c : ℕ) (r : Option ℕ) → r ≡ Some c → ((s : Spot) → o ≡ outline_at s → Stepped tb bytes s at (node_event (Ok r)) o' at') → IfOk (node_event (Ok r)) (λ e. IsKnown tb o') → IsEvent tb bytes o at o' at' (E.Bare c)
+  bare_event c None q s k = cc
+  bare_event c (Some d) q s k = let e : d ≡ c = cc in subst (λ c. IsEvent tb bytes o at o' at' (E.Bare c)) e (record { steps = s; known = k; narrow = tt })
+
+  pub opened_event : (r : Option ℕ) → r ≡ None → ((s : Spot) → o ≡ outline_at s → Stepped tb bytes s at (node_event (Ok r)) o' at') → IfOk (node_event (Ok r)) (λ e. IsKnown tb o') → IsEvent tb bytes o at o' at' E.Opened
+  opened_event None q s k = record { steps = s; known = k; narrow = tt }
+  opened_event (Some d) q s k = cc
+
+  pub closed_event : (c n : ℕ) (r : Option (ℕ × ℕ)) → r ≡ Some (c, n) → ((s : Spot) → o ≡ outline_at s → Stepped tb bytes s at (field_event (Ok r)) o' at') → IfOk (field_event (Ok r)) (λ e. IsKnown tb o') → IfOk (field_event (Ok r)) (λ e. MatchOption e ℕ IsNarrow) → IsEvent tb bytes o at o' at' (E.Closed c n)
+  closed_event c n None q s k w = cc
+  closed_event c n (Some d) q s k w = let e : (c, n) ≡ d = cc in subst (λ (d : ℕ × ℕ). IsEvent tb bytes o at o' at' (E.Closed d.0 d.1)) (sym e) (record { steps = s; known = k; narrow = w })
+
+  pub comma_event : (r : Option (ℕ × ℕ)) → r ≡ None → ((s : Spot) → o ≡ outline_at s → Stepped tb bytes s at (field_event (Ok r)) o' at') → IfOk (field_event (Ok r)) (λ e. IsKnown tb o') → IsEvent tb bytes o at o' at' E.Comma
+  comma_event None q s k = record { steps = s; known = k; narrow = tt }
+  comma_event (Some d) q s k = cc
+
+  pub line_advances : (ws : List ℕ) (l : Loading) (more : Bool) → ((s : Spot) → o ≡ outline_at s → Stepped tb bytes s at (line_event (Ok more)) o' at') → IfOk (line_event (Ok more)) (λ e. IsKnown tb o') → Advanced tb bytes o at o' at' ws l ws l (Ok more)
+  line_advances ws l true s k = (E.Line, record { steps = s; known = k; narrow = tt }, (refl, refl))
+  line_advances ws l false s k = (s, refl, refl)
+
+module _ (tb : Table) (bytes : List ℕ) (o : Outline) (at : ℕ) (o' : Outline) (at' : ℕ) (ws : List ℕ) (l : Loading) (ws' : List ℕ) (l' : Loading) where
+  pub put_advances : (e : Event) (r : Result (Unit {0}) Stopped) → IsEvent tb bytes o at o' at' e → IsPut e ws l ws' l' r → Advanced tb bytes o at o' at' ws l ws' l' (then_on r)
+  put_advances e (Ok u) h p = (e, h, p)
+  put_advances e (Err (S.BadValue k)) h p = absurd p
+  put_advances e (Err S.Full) h p = (e, h, p)
+  put_advances e (Err S.NoMemory) h p = tt
+
+  pub refused_advances : (e : Refused) → ((s : Spot) → o ≡ outline_at s → Stepped tb bytes s at (Err e) o' at') → Advanced tb bytes o at o' at' ws l ws' l' (Err (stopped_by e))
+  refused_advances (BadValue k) h = h
+  refused_advances NoMemory h = tt
+
+  pub went_on : (more : Bool) → more ≡ true → Advanced tb bytes o at o' at' ws l ws' l' (Ok more) → (e : Event) × IsEvent tb bytes o at o' at' e × Puts e ws l ws' l'
+  went_on true q a = a
+  went_on false q a = cc
+
+  pub has_ended : (more : Bool) → more ≡ false → Advanced tb bytes o at o' at' ws l ws' l' (Ok more) → ((s : Spot) → o ≡ outline_at s → Stepped tb bytes s at (Ok None) o' at') × (ws' ≡ ws) × (l' ≡ l)
+  has_ended true q a = cc
+  has_ended false q a = a
+
+  pub has_stopped : (types : List ℕ) (first : Loading) (e : Stopped) → IsSoundTable tb → (s : Spot) × IsReading tb types bytes o at s → ((want : ℕ → ℕ) (vs : Values) → IsRead tb types bytes want first vs → IsBuilding tb types bytes want first l o at ws) → Advanced tb bytes o at o' at' ws l ws' l' (Err e) → Built tb types bytes first l' (Err e)
+  has_stopped types first (S.BadValue k) sound r b a = sym (r.1).reads ∙ a r.0 (r.1).outline
+  has_stopped types first S.Full sound r b a = λ want vs room.
+      let read = is_read tb types bytes want first vs room in
+      a.2 (building_room tb sound types bytes want first l o o' at at' ws vs (b want vs read) read a.0 (a.1).steps (a.1).known (a.1).narrow room.fits)
+  has_stopped types first S.NoMemory sound r b a = tt

@@ -15,3 +15,5 @@ rev_has_instructions = refl
 
 pub rev_has_labels : most_labels lists.types rev ≡ 136
 rev_has_labels = refl
+
+pub ruleset computed = (rev_has_17, number_has_11, rev_has_instructions, rev_has_labels)

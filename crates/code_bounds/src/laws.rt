@@ -14,7 +14,7 @@ pub fn an_instance_has_room()
 
 /// The reversal of a list has 17 places, so its code has at most 6,256 instructions and 136 label maps; two clauses on
 /// a bool have 11.
-#[tactic(auto, using(crate::proofs::Examples::rev_has_17, crate::proofs::Examples::number_has_11, crate::proofs::Examples::rev_has_instructions, crate::proofs::Examples::rev_has_labels))]
+#[tactic(auto, using(crate::proofs::Examples::computed))]
 pub fn an_example_has_its_places()
     ensures rev { places lists.types rev ≡ 17 }
     ensures number { places lists.types number ≡ 11 }

@@ -1,18 +1,15 @@
 -- What the calls of the printer answer, for whoever called.
 use Rattle.std.proofs.Common.{◌≡◌, ◌≢◌, ℕ, ◌^◌, ◌<◌, ◌≤◌, ◌/◌, ◌%◌, ◌==◌, Bool, true, false, List, [], ◌∷◌, ◌++◌, length, sym, ap, ◌∙◌, subst, append_assoc, arith}
 use Rattle.std.specs.Prelude.{slice_get, Result, Ok, Err, IfOk, Some}
-use Rattle.std.specs.Borrow.{Bor}
 use Rattle.std.proofs.lemmas.Bool.{eqb-true}
 use Rattle.fip_language.specs.Values.{Node}
 use Rattle.fip_language.specs.Table.{Shape, Table, constructors}
 use Rattle.fip_language.specs.Store.{Cell, Placed, At, Parts, value_of, values_of, word_of, words_of}
 use Rattle.fip_language.specs.PrintedText.{printed, printed_more}
 use Rattle.cell_store.specs.Cells.{Cells, cell_at}
-use Rattle.value_text.specs.declared.print.Task.{Task}
-use Rattle.value_text.specs.declared.print.Task.TheVariants as T
 use Rattle.value_text.specs.Standing.{Stands}
-use Rattle.value_text.specs.Printing.{printed_tail, AreLast, Prints, Printing}
-use Rattle.value_text.proofs.Printing.{IsNode, node_of, node_last, node_shape, bare_node, cell_node, more_prints, even_bare, odd_cell, printing_whole, printing_fields}
+use Rattle.value_text.specs.Printing.{Task, printed_tail, AreLast, Prints, Printing}
+use Rattle.value_text.proofs.Printing.{IsNode, node_of, node_last, node_shape, bare_node, cell_node, more_prints, even_bare, odd_cell}
 
 -- whether a list is empty
 pub some_of : (xs : List ℕ) (b : Bool) → b ≡ (length xs == 0) → b ≡ false → 0 < length xs
@@ -66,11 +63,7 @@ pub more_result : {A E : Type 0} (cs : Cells) (types : List ℕ) (p : ℕ) (ts :
 more_result cs types p ts ts' out out' (Ok a) l o f = λ tb c xs h rest pr. more_prints tb cs types p c xs (ts' a) out out' rest l h (f tb c xs l h rest pr) o
 more_result cs types p ts ts' out out' (Err a) l o f = tt
 
--- a task, for any text
-pub whole_result : {A E : Type 0} (tb : Table) (cs : Cells) (ty w : ℕ) (ts : List Task) (ts' : A → List Task) (out out' : List ℕ) (r : Result A E) → IfOk r (λ a. length cs ≤ 2 ^ 32 → (x : Placed) → Stands tb cs ty x → word_of x ≡ w → (rest : List ℕ) → Prints tb cs ts rest → Printing tb cs (ts' a) out' (out ++ printed tb ty (value_of x) rest)) → IfOk r (λ a. length cs ≤ 2 ^ 32 → (whole : List ℕ) → Printing tb cs (T.Whole ty w ∷ ts) out whole → Printing tb cs (ts' a) out' whole)
-whole_result tb cs ty w ts ts' out out' (Ok a) h = λ few whole p. printing_whole tb cs ty w ts (ts' a) out out' whole p (h few)
-whole_result tb cs ty w ts ts' out out' (Err e) h = tt
-
-pub fields_result : {A E : Type 0} (tb : Table) (cs : Cells) (types : Bor (List ℕ)) (p : ℕ) (ts : List Task) (ts' : A → List Task) (out out' : List ℕ) (r : Result A E) → IfOk r (λ a. (tb : Table) (c : Cell) (xs : Parts) → AreLast tb cs types.now p c xs → (rest : List ℕ) → Prints tb cs ts rest → Printing tb cs (ts' a) out' (out ++ printed_more tb types.now (values_of xs) rest)) → IfOk r (λ a. length cs ≤ 2 ^ 32 → (whole : List ℕ) → Printing tb cs (T.Fields types p ∷ ts) out whole → Printing tb cs (ts' a) out' whole)
-fields_result tb cs types p ts ts' out out' (Ok a) h = λ few whole q. printing_fields tb cs types p ts (ts' a) out out' whole q h
-fields_result tb cs types p ts ts' out out' (Err e) h = tt
+-- a value behind others
+pub next_result : {A E : Type 0} (tb : Table) (cs : Cells) (ts us : List Task) (us' : A → List Task) (out mid out' : List ℕ) (r : Result A E) → (length cs ≤ 2 ^ 32 → (whole : List ℕ) → Printing tb cs ts out whole → Printing tb cs us mid whole) → IfOk r (λ a. (tb : Table) (whole : List ℕ) → Printing tb cs us mid whole → Printing tb cs (us' a) out' whole) → IfOk r (λ a. length cs ≤ 2 ^ 32 → (whole : List ℕ) → Printing tb cs ts out whole → Printing tb cs (us' a) out' whole)
+next_result tb cs ts us us' out mid out' (Ok a) f h = λ few whole p. h tb whole (f few whole p)
+next_result tb cs ts us us' out mid out' (Err e) f h = tt

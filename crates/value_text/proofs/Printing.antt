@@ -1,9 +1,8 @@
 -- What the printer does, task by task.
 use Rattle.std.proofs.Common.{◌≡◌, ◌≢◌, ℕ, zero, suc, ◌+◌, ◌-◌, ◌*◌, ◌<◌, ◌≤◌, ◌/◌, ◌%◌, List, [], ◌∷◌, ◌++◌, length, drop, get_or, Option, Some, None, refl, sym, ap, ◌∙◌, subst, append_assoc, arith, length-drop}
-use Rattle.std.specs.Prelude.{ℤ, pos, negsuc, slice_get, FitsSigned}
+use Rattle.std.specs.Prelude.{is_some, false, ℤ, pos, negsuc, slice_get, FitsSigned}
 use Rattle.std.specs.Int.{w64}
 use Rattle.std.specs.Fmt.{signed_decimal}
-use Rattle.std.specs.Borrow.{Bor}
 use Rattle.std.proofs.lemmas.List.{append-nil}
 use Rattle.fip_language.specs.Values.{Value, Int, Node, Values, End, More}
 use Rattle.fip_language.specs.Table.{Shape, Table, shapes, constructors, HasType, HaveTypes}
@@ -16,10 +15,8 @@ use Rattle.value_text.proofs.Reread.{shape_is}
 use Rattle.value_text.proofs.Tables.{is_table}
 use Rattle.value_text.proofs.Exact.{printed_reads}
 use Rattle.value_text.specs.declared.print.Row.{Row}
-use Rattle.value_text.specs.declared.print.Task.{Task}
-use Rattle.value_text.specs.declared.print.Task.TheVariants as T
 use Rattle.value_text.specs.Standing.{Stands, StandAll}
-use Rattle.value_text.specs.Printing.{task_of, last_first, printed_tail, AreLast, Prints, Printing}
+use Rattle.value_text.specs.Printing.{Task, Whole, Fields, task_of, last_first, printed_tail, AreLast, Prints, Printing}
 
 pub last_push : (rs : List Row) (r : Row) → last_first (rs ++ r ∷ []) ≡ task_of r ∷ last_first rs
 unfolding last_first
@@ -33,6 +30,10 @@ last_empty = refl
 pub none_left : (rs : List Row) → length rs ≡ 0 → last_first rs ≡ []
 none_left [] e = last_empty
 none_left (r ∷ rs) e = absurd (omega arith)
+
+pub no_value : (o : Option (ℕ × ℕ)) → is_some o ≡ false → o ≡ None
+no_value None e = refl
+no_value (Some v) e = cc
 
 -- an int's bits are its own
 pub bits_same : (i j : ℤ) → FitsSigned w64 i → FitsSigned w64 j → int_word i ≡ int_word j → i ≡ j
@@ -109,19 +110,19 @@ last_within tb cs (k ∷ ks) p c (MoreParts x xs) l h = (last_fewer tb cs k ks p
 none-some-is : {A : Type 0} (x : A) → None ≡ Some x → ⊥
 none-some-is x e = cc
 
-tail_by : (tb : Table) (cs : Cells) (k : ℕ) (r : Bor (List ℕ)) (p : ℕ) (c : Cell) (xs : Parts) (w : ℕ) (ts ts' : List Task) (rest : List ℕ) → AreLast tb cs (k ∷ r.now) p c xs → Some w ≡ slice_get c.fields (length c.fields - suc (length r.now)) → ts' ≡ T.Whole k w ∷ T.Fields r p ∷ ts → Prints tb cs ts rest → Prints tb cs ts' (printed_tail tb (k ∷ r.now) (values_of xs) rest)
+tail_by : (tb : Table) (cs : Cells) (k : ℕ) (r : List ℕ) (p : ℕ) (c : Cell) (xs : Parts) (w : ℕ) (ts ts' : List Task) (rest : List ℕ) → AreLast tb cs (k ∷ r) p c xs → Some w ≡ slice_get c.fields (length c.fields - suc (length r)) → ts' ≡ Whole k w ∷ Fields r p ∷ ts → Prints tb cs ts rest → Prints tb cs ts' (printed_tail tb (k ∷ r) (values_of xs) rest)
 tail_by tb cs k r p c NoParts w ts ts' rest h f e pr = absurd h.stand
 tail_by tb cs k r p c (MoreParts x xs) w ts ts' rest h f e pr =
-    let d = last_fewer tb cs k r.now p c x xs h in
+    let d = last_fewer tb cs k r p c x xs h in
     let same : word_of x ≡ w = let q = sym d.0 ∙ sym f in cc in
-    let text = printed tb k (value_of x) (printed_more tb r.now (values_of xs) rest) in
-    subst (λ ts. Prints tb cs ts text) (sym e) (x, (h.stand).0, same, printed_more tb r.now (values_of xs) rest, refl, (c, xs, d.1, rest, refl, pr))
+    let text = printed tb k (value_of x) (printed_more tb r (values_of xs) rest) in
+    subst (λ ts. Prints tb cs ts text) (sym e) (x, (h.stand).0, same, printed_more tb r (values_of xs) rest, refl, (c, xs, d.1, rest, refl, pr))
 
-pub tail_prints : (tb : Table) (cs : Cells) (types : List ℕ) (k : ℕ) (r : Bor (List ℕ)) (p : ℕ) (c : Cell) (xs : Parts) (w : ℕ) (ts ts' : List Task) (rest : List ℕ) → types ≡ k ∷ r.now → AreLast tb cs types p c xs → ((c : Cell) → cell_at cs p ≡ Some c → 0 < length types → length types ≤ length c.fields → Some w ≡ slice_get c.fields (length c.fields - length types)) → ts' ≡ T.Whole k w ∷ T.Fields r p ∷ ts → Prints tb cs ts rest → Prints tb cs ts' (printed_tail tb types (values_of xs) rest)
+pub tail_prints : (tb : Table) (cs : Cells) (types : List ℕ) (k : ℕ) (r : List ℕ) (p : ℕ) (c : Cell) (xs : Parts) (w : ℕ) (ts ts' : List Task) (rest : List ℕ) → types ≡ k ∷ r → AreLast tb cs types p c xs → ((c : Cell) → cell_at cs p ≡ Some c → 0 < length types → length types ≤ length c.fields → Some w ≡ slice_get c.fields (length c.fields - length types)) → ts' ≡ Whole k w ∷ Fields r p ∷ ts → Prints tb cs ts rest → Prints tb cs ts' (printed_tail tb types (values_of xs) rest)
 tail_prints tb cs types k r p c xs w ts ts' rest t h f e pr =
-    let l : length types ≡ suc (length r.now) = ap length t in
+    let l : length types ≡ suc (length r) = ap length t in
     let some : 0 < length types = omega (arith, l) in
-    let g : Some w ≡ slice_get c.fields (length c.fields - suc (length r.now)) = f c h.there some (last_within tb cs types p c xs some h) ∙ ap (λ n. slice_get c.fields (length c.fields - n)) l in
+    let g : Some w ≡ slice_get c.fields (length c.fields - suc (length r)) = f c h.there some (last_within tb cs types p c xs some h) ∙ ap (λ n. slice_get c.fields (length c.fields - n)) l in
     subst (λ types. Prints tb cs ts' (printed_tail tb types (values_of xs) rest)) (sym t) (tail_by tb cs k r p c xs w ts ts' rest (subst (λ t. AreLast tb cs t p c xs) t h) g e pr)
 
 -- a field that is there is found
@@ -226,13 +227,13 @@ odd_cell tb cs (suc t) w (At p c xs) z e h q =
     (c, xs, subst (λ p. Stands tb cs (suc t) (At p c xs)) n h, ap (λ p. At p c xs) n, subst (λ p. p < length cs) n (cell_below cs p _ h.0), subst (λ p. cell_at cs p ≢ None) n (not_there cs p _ h.0))
 
 -- one task of many
-pub printing_whole : (tb : Table) (cs : Cells) (ty w : ℕ) (ts ts' : List Task) (out out' whole : List ℕ) → Printing tb cs (T.Whole ty w ∷ ts) out whole → ((x : Placed) → Stands tb cs ty x → word_of x ≡ w → (rest : List ℕ) → Prints tb cs ts rest → Printing tb cs ts' out' (out ++ printed tb ty (value_of x) rest)) → Printing tb cs ts' out' whole
+pub printing_whole : (tb : Table) (cs : Cells) (ty w : ℕ) (ts ts' : List Task) (out out' whole : List ℕ) → Printing tb cs (Whole ty w ∷ ts) out whole → ((x : Placed) → Stands tb cs ty x → word_of x ≡ w → (rest : List ℕ) → Prints tb cs ts rest → Printing tb cs ts' out' (out ++ printed tb ty (value_of x) rest)) → Printing tb cs ts' out' whole
 printing_whole tb cs ty w ts ts' out out' whole h f =
     let p = h.1 in
     let q = f p.0 p.1 p.2 p.3 p.5 in
     (q.0, q.1, q.2 ∙ ap (λ x. out ++ x) (sym p.4) ∙ h.2)
 
-pub printing_fields : (tb : Table) (cs : Cells) (types : Bor (List ℕ)) (p : ℕ) (ts ts' : List Task) (out out' whole : List ℕ) → Printing tb cs (T.Fields types p ∷ ts) out whole → ((tb : Table) (c : Cell) (xs : Parts) → AreLast tb cs types.now p c xs → (rest : List ℕ) → Prints tb cs ts rest → Printing tb cs ts' out' (out ++ printed_more tb types.now (values_of xs) rest)) → Printing tb cs ts' out' whole
+pub printing_fields : (tb : Table) (cs : Cells) (types : List ℕ) (p : ℕ) (ts ts' : List Task) (out out' whole : List ℕ) → Printing tb cs (Fields types p ∷ ts) out whole → ((tb : Table) (c : Cell) (xs : Parts) → AreLast tb cs types p c xs → (rest : List ℕ) → Prints tb cs ts rest → Printing tb cs ts' out' (out ++ printed_more tb types (values_of xs) rest)) → Printing tb cs ts' out' whole
 printing_fields tb cs types p ts ts' out out' whole h f =
     let k = h.1 in
     let q = f tb k.0 k.1 k.2 k.3 k.5 in

@@ -7,11 +7,14 @@ use Rattle.fip_language.specs.PrintedText.{printed, printed_more}
 use Rattle.cell_store.specs.Cells.{Cells, cell_at}
 use Rattle.value_text.specs.Standing.{Stands, StandAll}
 use Rattle.value_text.specs.declared.print.Row.{Row}
-use Rattle.value_text.specs.declared.print.Task.{Task}
-use Rattle.value_text.specs.declared.print.Task.TheVariants as T
+
+-- what is to be printed: a value of a type, by its word, or the last fields of the cell at a place, of these types
+pub data Task : Type 0 where
+  Whole : (ty w : ℕ) → Task
+  Fields : (types : List ℕ) (p : ℕ) → Task
 
 abbrev pub task_of : Row → Task
-task_of r = T.Fields r.types r.place
+task_of r = Fields r.types.now r.place
 
 -- the rows as tasks, the last first
 unfoldable pub last_first : List Row → List Task
@@ -34,19 +37,19 @@ pub record AreLast (tb : Table) (cs : Cells) (types : List ℕ) (p : ℕ) (c : C
 -- behind them.
 abbrev pub Prints : Table → Cells → List Task → List ℕ → Type 0
 Prints tb cs [] text = text ≡ []
-Prints tb cs (T.Whole ty w ∷ ts) text = (x : Placed) × Stands tb cs ty x × (word_of x ≡ w) × (rest : List ℕ)
+Prints tb cs (Whole ty w ∷ ts) text = (x : Placed) × Stands tb cs ty x × (word_of x ≡ w) × (rest : List ℕ)
     × (text ≡ printed tb ty (value_of x) rest) × Prints tb cs ts rest
-Prints tb cs (T.Fields types p ∷ ts) text = (c : Cell) × (xs : Parts) × AreLast tb cs types.now p c xs × (rest : List ℕ)
-    × (text ≡ printed_more tb types.now (values_of xs) rest) × Prints tb cs ts rest
+Prints tb cs (Fields types p ∷ ts) text = (c : Cell) × (xs : Parts) × AreLast tb cs types p c xs × (rest : List ℕ)
+    × (text ≡ printed_more tb types (values_of xs) rest) × Prints tb cs ts rest
 
--- the tasks with the one that comes before them, where there is one
-abbrev pub then_tasks : Option Task → List Task → List Task
+-- the tasks with the value that comes before them, where there is one
+abbrev pub then_tasks : Option (ℕ × ℕ) → List Task → List Task
 then_tasks None ts = ts
-then_tasks (Some t) ts = t ∷ ts
+then_tasks (Some v) ts = Whole v.0 v.1 ∷ ts
 
-abbrev pub one_task : Option Task → ℕ
+abbrev pub one_task : Option (ℕ × ℕ) → ℕ
 one_task None = 0
-one_task (Some t) = 1
+one_task (Some v) = 1
 
 -- these tasks and what is printed make up the text
 abbrev pub Printing : Table → Cells → List Task → List ℕ → List ℕ → Type 0

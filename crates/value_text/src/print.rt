@@ -12,7 +12,7 @@ ghost use Rattle.fip_language.specs.ValueText.{SpellsValues};
 ghost use Rattle.cell_store.specs.Cells.{cell_at};
 ghost use Rattle.value_text.specs.Standing.{Stands};
 ghost use Rattle.value_text.specs.Printing.{last_first, printed_tail, AreLast, Prints, Printing};
-ghost use Rattle.value_text.specs.Printing.{task_of, then_tasks, one_task};
+ghost use Rattle.value_text.specs.Printing.{task_of, then_tasks, one_task, Whole};
 
 use crate::read::split;
 use cell_store::Cells;
@@ -26,15 +26,6 @@ use std::alloc::{AllocError, Global};
 pub struct Row<'a> {
     types: &'a [u32],
     place: u32,
-}
-
-/// What is to be printed: a value, or the last fields of a cell.
-#[derive(Clone, Copy)]
-pub enum Task<'a> {
-    // the value's type and word
-    Whole(u32, u64),
-    // the fields' types, and the cell's place
-    Fields(&'a [u32], u32),
 }
 
 // The int of these 64 bits.
@@ -69,7 +60,8 @@ fn print_int(word: u64, out: &mut Vec<u8>) -> Result<(), AllocError>
 {
     let mut buffer = Buffer::new();
     let i = int_of_bits(word);
-    put_bytes(buffer.format(i).as_bytes(), out)
+    out.extend_from_slice(buffer.format(i).as_bytes())?;
+    Ok(())
 }
 
 #[inline(always)]
@@ -112,14 +104,14 @@ fn field_from_end<C: Cells>(cells: &C, place: u32, left: usize) -> Option<u64>
     Some(cells.field(place, size - left))
 }
 
-// The first of the last fields of a cell is the next task; the others wait.
+// The first of the last fields of a cell is the next value; the others wait.
 #[inline(always)]
 fn add_fields<'a, C: Cells>(
     cells: &C,
     types: &'a [u32],
     place: u32,
     rows: &mut Vec<Row<'a>>,
-) -> Result<Option<Task<'a>>, AllocError>
+) -> Result<Option<(u32, u64)>, AllocError>
     requires { cell_at (C.cells cells.now) place ≢ None }
     ensures prints { IfOk result (λ next. (tb : Table) (c : Cell) (xs : Parts) → 0 < length types.now →
         AreLast tb (C.cells cells.now) types.now place c xs → (rest : List ℕ) →
@@ -134,13 +126,13 @@ fn add_fields<'a, C: Cells>(
             None => Ok(None),
             Some(word) => {
                 add(rows, Row { types: rest, place })?;
-                Ok(Some(Task::Whole(ty, word)))
+                Ok(Some((ty, word)))
             }
         },
     }
 }
 
-// The last fields of a cell, of which the first is the next task, or the ) behind them.
+// The last fields of a cell, of which the first is the next value, or the ) behind them.
 #[inline(always)]
 fn print_fields<'a, C: Cells>(
     cells: &C,
@@ -148,7 +140,7 @@ fn print_fields<'a, C: Cells>(
     place: u32,
     out: &mut Vec<u8>,
     rows: &mut Vec<Row<'a>>,
-) -> Result<Option<Task<'a>>, AllocError>
+) -> Result<Option<(u32, u64)>, AllocError>
     ensures prints { IfOk result (λ next. (tb : Table) (c : Cell) (xs : Parts) →
         AreLast tb (C.cells cells.now) types.now place c xs → (rest : List ℕ) →
         Prints tb (C.cells cells.now) (last_first rows.old.items) rest →
@@ -168,7 +160,7 @@ fn print_fields<'a, C: Cells>(
     add_fields(cells, types, place, rows)
 }
 
-// A value with a cell: its name, and its fields as tasks, of which the first comes next.
+// A value with a cell: its name, and its fields, of which the first comes next.
 #[inline(always)]
 fn print_cell<'a, C: Cells>(
     table: &'a TypeTable,
@@ -177,7 +169,7 @@ fn print_cell<'a, C: Cells>(
     place: u32,
     out: &mut Vec<u8>,
     rows: &mut Vec<Row<'a>>,
-) -> Result<Option<Task<'a>>, AllocError>
+) -> Result<Option<(u32, u64)>, AllocError>
     requires { cell_at (C.cells cells.now) place ≢ None }
     ensures prints { IfOk result (λ next. (c : ℕ) (xs : Parts) →
         Stands table.now (C.cells cells.now) ty (At place c xs) → (rest : List ℕ) →
@@ -213,7 +205,7 @@ fn print_bare(table: &TypeTable, ty: u32, tag: u64, out: &mut Vec<u8>) -> Result
     }
 }
 
-// A value, and the task that comes next where there is one.
+// A value, and its first field where it has one.
 #[inline(always)]
 fn print_whole<'a, C: Cells>(
     table: &'a TypeTable,
@@ -222,7 +214,7 @@ fn print_whole<'a, C: Cells>(
     word: u64,
     out: &mut Vec<u8>,
     rows: &mut Vec<Row<'a>>,
-) -> Result<Option<Task<'a>>, AllocError>
+) -> Result<Option<(u32, u64)>, AllocError>
     ensures prints { IfOk result (λ next. length (C.cells cells.now) ≤ 2 ^ 32 → (x : Placed) →
         Stands table.now (C.cells cells.now) ty x → word_of x ≡ word → (rest : List ℕ) →
         Prints table.now (C.cells cells.now) (last_first rows.old.items) rest →
@@ -250,29 +242,59 @@ fn print_whole<'a, C: Cells>(
     }
 }
 
-// A task, and the one that comes next where there is one.
+// The rows, one after another, until a value comes next.
 #[inline(always)]
-fn print_task<'a, C: Cells>(
-    table: &'a TypeTable,
+fn next_value<C: Cells>(
     cells: &C,
-    task: Task<'a>,
     out: &mut Vec<u8>,
-    rows: &mut Vec<Row<'a>>,
-) -> Result<Option<Task<'a>>, AllocError>
-    ensures prints { IfOk result (λ next. length (C.cells cells.now) ≤ 2 ^ 32 → (whole : List ℕ) →
-        Printing table.now (C.cells cells.now) (task.entry ∷ last_first rows.old.items) out.old.items whole →
-        Printing table.now (C.cells cells.now) (then_tasks next (last_first rows.new.items)) out.new.items whole) }
+    rows: &mut Vec<Row>,
+) -> Result<Option<(u32, u64)>, AllocError>
+    ensures prints { IfOk result (λ next. (tb : Table) (whole : List ℕ) →
+        Printing tb (C.cells cells.now) (last_first rows.old.items) out.old.items whole →
+        Printing tb (C.cells cells.now) (then_tasks next (last_first rows.new.items)) out.new.items whole) }
     ensures steps { IfOk result (λ next.
         one_task next + vec_len rows.new + 3 * vec_len out.old ≤ vec_len rows.old + 3 * vec_len out.new) }
+    ensures last { IfOk result (λ next. next ≡ None → vec_len rows.new ≡ 0) }
 {
-    match task {
-        Task::Whole(ty, word) => print_whole(table, cells, ty, word, out, rows),
-        Task::Fields(types, place) => print_fields(cells, types, place, out, rows),
+    'waiting: loop {
+        match rows.pop() {
+            None => return Ok(None),
+            Some(row) => {
+                let next = print_fields(cells, row.types, row.place, out, rows)?;
+                if next.is_some() {
+                    return Ok(next);
+                }
+            }
+        }
     }
 }
 
-// The tasks, one after another. A task that puts further ones behind itself prints a byte, so there is an end to them.
-fn print_tasks<C: Cells>(
+// A value, and the one that comes next where there is one.
+#[inline(always)]
+fn print_on<'a, C: Cells>(
+    table: &'a TypeTable,
+    cells: &C,
+    ty: u32,
+    word: u64,
+    out: &mut Vec<u8>,
+    rows: &mut Vec<Row<'a>>,
+) -> Result<Option<(u32, u64)>, AllocError>
+    ensures prints { IfOk result (λ next. length (C.cells cells.now) ≤ 2 ^ 32 → (whole : List ℕ) →
+        Printing table.now (C.cells cells.now) (Whole ty word ∷ last_first rows.old.items) out.old.items whole →
+        Printing table.now (C.cells cells.now) (then_tasks next (last_first rows.new.items)) out.new.items whole) }
+    ensures steps { IfOk result (λ next.
+        one_task next + vec_len rows.new + 3 * vec_len out.old ≤ vec_len rows.old + 3 * vec_len out.new) }
+    ensures last { IfOk result (λ next. next ≡ None → vec_len rows.new ≡ 0) }
+{
+    match print_whole(table, cells, ty, word, out, rows)? {
+        Some(next) => Ok(Some(next)),
+        None => next_value(cells, out, rows),
+    }
+}
+
+// The values, one after another. A value or a row that puts a further row behind itself prints a byte, so there is an
+// end to them.
+fn print_values<C: Cells>(
     alloc: Global,
     table: &TypeTable,
     cells: &C,
@@ -284,14 +306,12 @@ fn print_tasks<C: Cells>(
 {
     let mut out = Vec::new(alloc);
     let mut rows = Vec::new(alloc);
-    let mut task = Task::Whole(ty, word);
+    let mut ty = ty;
+    let mut word = word;
     'printing: loop {
-        match print_task(table, cells, task, &mut out, &mut rows)? {
-            Some(next) => task = next,
-            None => match rows.pop() {
-                Some(row) => task = Task::Fields(row.types, row.place),
-                None => return Ok(out),
-            },
+        match print_on(table, cells, ty, word, &mut out, &mut rows)? {
+            Some(next) => (ty, word) = next,
+            None => return Ok(out),
         }
     }
 }
@@ -317,5 +337,5 @@ pub fn print_value<C: Cells>(
         Stands table.now (C.cells cells.now) ty x → word_of x ≡ word →
         IfOk result (λ text. SpellsValues table.now (ty ∷ []) (text.items ++ 10 ∷ []) (More (value_of x) End)) }
 {
-    Ok(print_tasks(alloc, table, cells, ty, word)?)
+    Ok(print_values(alloc, table, cells, ty, word)?)
 }

@@ -1,5 +1,4 @@
-use Rattle.std.proofs.Common.{Option, arith}
-use Rattle.value_text.specs.declared.print.Task.{Task}
+use Rattle.std.proofs.Common.{ℕ, Option, arith}
 use Rattle.value_text.specs.Printing.{last_first, then_tasks}
 use Rattle.value_text.proofs.Printing.{odd_cell}
 use Rattle.value_text.proofs.Printed.{bare_prints, cell_result}
@@ -15,4 +14,4 @@ returns-then-word-clause-prints g c = λ few x h w rest pr.
     absurd (omega (arith, few, n.4, big))
 
 pub returns-then-begins-clause-prints : goal.returns-then-begins-clause-prints
-returns-then-begins-clause-prints g c = cell_result c.args.table.now (g.C.Cells.cells c.args.cells.now) c.args.ty c.args.word (last_first c.args.rows.now.items) (λ (next : Option Task). then_tasks next (last_first c.print_cell.new.rows.items)) c.args.out.now.items c.print_cell.new.out.items c.print_cell.result (let z = c.if-ty-eq0.false in omega (arith, z)) c.if-word-eq0.false c.print_cell.ensures.prints
+returns-then-begins-clause-prints g c = cell_result c.args.table.now (g.C.Cells.cells c.args.cells.now) c.args.ty c.args.word (last_first c.args.rows.now.items) (λ (next : Option (ℕ × ℕ)). then_tasks next (last_first c.print_cell.new.rows.items)) c.args.out.now.items c.print_cell.new.out.items c.print_cell.result (let z = c.if-ty-eq0.false in omega (arith, z)) c.if-word-eq0.false c.print_cell.ensures.prints

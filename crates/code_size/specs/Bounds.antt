@@ -3,7 +3,7 @@ use Rattle.std.specs.Prelude.{ℕ, ◌+◌, ◌*◌, ◌≤◌}
 use Rattle.fip_language.specs.Table.{Table}
 use Rattle.fip_trees.specs.Tree.{Instance}
 use Rattle.tail_groups.specs.Registers.{registers}
-use Rattle.code_bounds.specs.Places.{places}
+use Rattle.code_size.specs.Places.{places}
 
 abbrev pub most_instructions : Table → Instance → ℕ
 most_instructions tb d = 16 * (registers d + 16) * places tb d

@@ -1,8 +1,8 @@
 -- The places of the examples, by computation alone.
 use Rattle.std.proofs.Common.{◌≡◌, refl}
 use Rattle.flat_meaning.specs.Example.{lists, rev, number}
-use Rattle.code_bounds.specs.Places.{places}
-use Rattle.code_bounds.specs.Bounds.{most_instructions, most_labels}
+use Rattle.code_size.specs.Places.{places}
+use Rattle.code_size.specs.Bounds.{most_instructions, most_labels}
 
 pub rev_has_17 : places lists.types rev ≡ 17
 rev_has_17 = refl

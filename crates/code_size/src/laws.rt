@@ -3,8 +3,8 @@ ghost use Rattle.std.specs.Prelude.{◌≡◌, ◌<◌, ℕ};
 ghost use Rattle.fip_language.specs.Table.{Table};
 ghost use Rattle.fip_trees.specs.Tree.{Instance};
 ghost use Rattle.flat_meaning.specs.Example.{lists, rev, number};
-ghost use Rattle.code_bounds.specs.Places.{places};
-ghost use Rattle.code_bounds.specs.Bounds.{most_instructions, most_labels};
+ghost use Rattle.code_size.specs.Places.{places};
+ghost use Rattle.code_size.specs.Bounds.{most_instructions, most_labels};
 
 /// An instance has a place of its own, so its code may have an instruction. For who bounds a code file.
 #[tactic(auto, using(crate::proofs::Room::some_instruction))]

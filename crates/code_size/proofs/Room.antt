@@ -3,8 +3,8 @@ use Rattle.std.proofs.Common.{◌<◌, ℕ, suc, ◌+◌, ◌*◌, arith}
 use Rattle.fip_language.specs.Table.{Table}
 use Rattle.fip_trees.specs.Tree.{Instance}
 use Rattle.tail_groups.specs.Registers.{registers}
-use Rattle.code_bounds.specs.Places.{block_places}
-use Rattle.code_bounds.specs.Bounds.{most_instructions}
+use Rattle.code_size.specs.Places.{block_places}
+use Rattle.code_size.specs.Bounds.{most_instructions}
 
 positive : (r n : ℕ) → 0 < 16 * (r + 16) * suc n
 positive r n = grind arith

@@ -1,5 +1,5 @@
 -- A step of the builder, from what the reader read and what was put down.
-use Rattle.std.proofs.Common.{◌≡◌, ℕ, ◌≤◌, List, [], ◌∷◌, ◌++◌, Option, Some, None, refl, sym, ◌∙◌, subst}
+use Rattle.std.proofs.Common.{◌≡◌, ℕ, List, [], ◌∷◌, ◌++◌, Option, Some, None, refl, sym, ◌∙◌, subst}
 use Rattle.std.specs.Prelude.{Bool, true, false, Result, Ok, Err, OnOk, OnErr, IfOk, MatchOption}
 use Rattle.fip_language.specs.Table.{Table}
 use Rattle.cell_store.specs.Made.{Loading}
@@ -8,11 +8,11 @@ use Rattle.value_text.specs.declared.read.Refused.{Refused}
 use Rattle.value_text.specs.declared.read.Refused.TheVariants.{BadValue, NoMemory}
 use Rattle.value_text.specs.declared.build.Stopped.{Stopped}
 use Rattle.value_text.specs.declared.build.Stopped.TheVariants as S
-use Rattle.fip_language.specs.SoundTable.{AreTypes, IsSoundTable}
+use Rattle.fip_language.specs.SoundTable.{IsSoundTable}
 use Rattle.fip_language.specs.Values.{Values}
 use Rattle.value_text.proofs.Built.{building_room, is_read}
 use Rattle.value_text.specs.declared.read.Event.TheVariants as E
-use Rattle.value_text.specs.Reading.{Pending, Outline, Spot, outline_at, Stepped, IsKnown, IsNarrow, IsReading, node_event, field_event, line_event}
+use Rattle.value_text.specs.Reading.{Outline, Spot, outline_at, Stepped, IsKnown, IsNarrow, IsReading, node_event, field_event, line_event}
 use Rattle.value_text.specs.Building.{Puts, IsPut, IsEvent, Advanced, IsRead, IsBuilding, Built, stopped_by, then_on}
 
 pub word_put : (e : Event) (ws ws' : List ℕ) (l : Loading) (w : ℕ) (r : Result (Unit {0}) Stopped) → (ws' ≡ ws ++ w ∷ [] → Puts e ws l ws' l) → OnOk r (ws' ≡ ws ++ w ∷ []) → OnErr r (r ≡ Err S.NoMemory) → IsPut e ws l ws' l r
@@ -20,10 +20,6 @@ word_put e ws ws' l w (Ok u) f a b = f a
 word_put e ws ws' l w (Err (S.BadValue k)) f a b = cc
 word_put e ws ws' l w (Err S.Full) f a b = cc
 word_put e ws ws' l w (Err S.NoMemory) f a b = tt
-
--- what is known of the innermost open constructor, and of what is around it
-pub popped : (tb : Table) (n : Option ℕ) (p : Pending) (ps : List Pending) (ls : List ℕ) → IsKnown tb (record { next = n; frames = p ∷ ps; lines = ls }) → AreTypes tb p.rest × (p.size ≤ 16) × IsKnown tb (record { next = n; frames = ps; lines = ls })
-popped tb n p ps ls k = let f = k.frames in let g = f.1 in (f.0, g.0, record { next = k.next; frames = g.1; lines = k.lines })
 
 module _ (tb : Table) (bytes : List ℕ) (o : Outline) (at : ℕ) (o' : Outline) (at' : ℕ) where
   pub bare_event : (c : ℕ) (r : Option ℕ) → r ≡ Some c → ((s : Spot) → o ≡ outline_at s → Stepped tb bytes s at (node_event (Ok r)) o' at') → IfOk (node_event (Ok r)) (λ e. IsKnown tb o') → IsEvent tb bytes o at o' at' (E.Bare c)

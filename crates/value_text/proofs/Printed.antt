@@ -5,11 +5,11 @@ use Rattle.std.proofs.lemmas.Bool.{eqb-true}
 use Rattle.fip_language.specs.Values.{Node}
 use Rattle.fip_language.specs.Table.{Shape, Table, constructors}
 use Rattle.fip_language.specs.Store.{Cell, Placed, At, Parts, value_of, values_of, word_of, words_of}
-use Rattle.fip_language.specs.PrintedText.{printed, printed_more}
+use Rattle.fip_language.specs.PrintedText.{printed}
 use Rattle.cell_store.specs.Cells.{Cells, cell_at}
 use Rattle.value_text.specs.Standing.{Stands}
 use Rattle.value_text.specs.Printing.{Task, printed_tail, AreLast, Prints, Printing}
-use Rattle.value_text.proofs.Printing.{IsNode, node_of, node_last, node_shape, bare_node, cell_node, more_prints, even_bare, odd_cell}
+use Rattle.value_text.proofs.Printing.{IsNode, node_of, node_last, node_shape, bare_node, cell_node, even_bare, odd_cell}
 
 -- whether a list is empty
 pub some_of : (xs : List ℕ) (b : Bool) → b ≡ (length xs == 0) → b ≡ false → 0 < length xs
@@ -47,21 +47,15 @@ cell_goes tb cs ty p c xs h r types ts ts' out out' rest is t l o f pr =
 pub shape_there : (tb : Table) (cs : Cells) (ty p c tag : ℕ) (xs : Parts) (n : IsNode tb cs ty p c xs) (r : Shape) → ((x : Cell) → cell_at cs p ≡ Some x → tag ≡ x.tag) → slice_get (constructors tb ty) tag ≡ Some r → r ≡ n.s
 shape_there tb cs ty p c tag xs n r t e = node_shape tb cs ty p c tag xs n r (t (record { tag = c; fields = words_of xs }) n.cell) e
 
-pub node_result : {A E : Type 0} (tb : Table) (cs : Cells) (ty p tag : ℕ) (s : Shape) (types : List ℕ) (ts : List Task) (ts' : A → List Task) (out out' : List ℕ) (r : Result A E) → ((x : Cell) → cell_at cs p ≡ Some x → tag ≡ x.tag) → slice_get (constructors tb ty) tag ≡ Some s → types ≡ s.fields → 0 < length types → out' ≡ (out ++ s.name) ++ 40 ∷ [] → IfOk r (λ a. (tb : Table) (c : Cell) (xs : Parts) → 0 < length types → AreLast tb cs types p c xs → (rest : List ℕ) → Prints tb cs ts rest → Prints tb cs (ts' a) (printed_tail tb types (values_of xs) rest)) → IfOk r (λ a. (c : ℕ) (xs : Parts) → Stands tb cs ty (At p c xs) → (rest : List ℕ) → Prints tb cs ts rest → Printing tb cs (ts' a) out' (out ++ printed tb ty (value_of (At p c xs)) rest))
-node_result tb cs ty p tag s types ts ts' out out' (Ok a) t e k l o f = λ c xs h rest pr.
+pub node_goes : (tb : Table) (cs : Cells) (ty p tag : ℕ) (s : Shape) (types : List ℕ) (ts ts' : List Task) (out out' : List ℕ) → ((x : Cell) → cell_at cs p ≡ Some x → tag ≡ x.tag) → slice_get (constructors tb ty) tag ≡ Some s → types ≡ s.fields → 0 < length types → out' ≡ (out ++ s.name) ++ 40 ∷ [] → ((tb : Table) (c : Cell) (xs : Parts) → 0 < length types → AreLast tb cs types p c xs → (rest : List ℕ) → Prints tb cs ts rest → Prints tb cs ts' (printed_tail tb types (values_of xs) rest)) → (c : ℕ) (xs : Parts) → Stands tb cs ty (At p c xs) → (rest : List ℕ) → Prints tb cs ts rest → Printing tb cs ts' out' (out ++ printed tb ty (value_of (At p c xs)) rest)
+node_goes tb cs ty p tag s types ts ts' out out' t e k l o f c xs h rest pr =
     let n = node_of tb cs ty p c xs h in
-    cell_goes tb cs ty p c xs n s types ts (ts' a) out out' rest (shape_there tb cs ty p c tag xs n s t e) k l o f pr
-node_result tb cs ty p tag s types ts ts' out out' (Err a) t e k l o f = tt
+    cell_goes tb cs ty p c xs n s types ts ts' out out' rest (shape_there tb cs ty p c tag xs n s t e) k l o f pr
 
 pub bare_goes : (tb : Table) (cs : Cells) (ty p tag : ℕ) (s : Shape) (types : List ℕ) (ts : List Task) (out out' : List ℕ) → ((x : Cell) → cell_at cs p ≡ Some x → tag ≡ x.tag) → slice_get (constructors tb ty) tag ≡ Some s → types ≡ s.fields → length types ≡ 0 → out' ≡ out ++ s.name → (c : ℕ) (xs : Parts) → Stands tb cs ty (At p c xs) → (rest : List ℕ) → Prints tb cs ts rest → Printing tb cs ts out' (out ++ printed tb ty (value_of (At p c xs)) rest)
 bare_goes tb cs ty p tag s types ts out out' t e k l o c xs h rest pr =
     let n = node_of tb cs ty p c xs h in
     bare_node tb cs ty p c xs n s ts out out' rest (shape_there tb cs ty p c tag xs n s t e) (sym (ap length k) ∙ l) o pr
-
--- further fields
-pub more_result : {A E : Type 0} (cs : Cells) (types : List ℕ) (p : ℕ) (ts : List Task) (ts' : A → List Task) (out out' : List ℕ) (r : Result A E) → 0 < length types → out' ≡ out ++ 44 ∷ 32 ∷ [] → IfOk r (λ a. (tb : Table) (c : Cell) (xs : Parts) → 0 < length types → AreLast tb cs types p c xs → (rest : List ℕ) → Prints tb cs ts rest → Prints tb cs (ts' a) (printed_tail tb types (values_of xs) rest)) → IfOk r (λ a. (tb : Table) (c : Cell) (xs : Parts) → AreLast tb cs types p c xs → (rest : List ℕ) → Prints tb cs ts rest → Printing tb cs (ts' a) out' (out ++ printed_more tb types (values_of xs) rest))
-more_result cs types p ts ts' out out' (Ok a) l o f = λ tb c xs h rest pr. more_prints tb cs types p c xs (ts' a) out out' rest l h (f tb c xs l h rest pr) o
-more_result cs types p ts ts' out out' (Err a) l o f = tt
 
 -- a value behind others
 pub next_result : {A E : Type 0} (tb : Table) (cs : Cells) (ts us : List Task) (us' : A → List Task) (out mid out' : List ℕ) (r : Result A E) → (length cs ≤ 2 ^ 32 → (whole : List ℕ) → Printing tb cs ts out whole → Printing tb cs us mid whole) → IfOk r (λ a. (tb : Table) (whole : List ℕ) → Printing tb cs us mid whole → Printing tb cs (us' a) out' whole) → IfOk r (λ a. length cs ≤ 2 ^ 32 → (whole : List ℕ) → Printing tb cs ts out whole → Printing tb cs (us' a) out' whole)

@@ -1,6 +1,6 @@
 -- What the printer does, task by task.
-use Rattle.std.proofs.Common.{◌≡◌, ◌≢◌, ℕ, zero, suc, ◌+◌, ◌-◌, ◌*◌, ◌<◌, ◌≤◌, ◌/◌, ◌%◌, List, [], ◌∷◌, ◌++◌, length, drop, get_or, Option, Some, None, refl, sym, ap, ◌∙◌, subst, append_assoc, arith, length-drop}
-use Rattle.std.specs.Prelude.{is_some, false, ℤ, pos, negsuc, slice_get, FitsSigned}
+use Rattle.std.proofs.Common.{◌≡◌, ◌≢◌, ℕ, zero, suc, ◌+◌, ◌-◌, ◌*◌, ◌<◌, ◌≤◌, ◌/◌, ◌%◌, List, [], ◌∷◌, ◌++◌, length, take, drop, get_or, Option, Some, None, refl, sym, ap, ◌∙◌, subst, append_assoc, arith, length-drop}
+use Rattle.std.specs.Prelude.{slice_set, ◌==◌, Bool, false, ℤ, pos, negsuc, slice_get, FitsSigned}
 use Rattle.std.specs.Int.{w64}
 use Rattle.std.specs.Fmt.{signed_decimal}
 use Rattle.std.proofs.lemmas.List.{append-nil}
@@ -27,13 +27,30 @@ pub last_empty : last_first [] ≡ []
 unfolding last_first
 last_empty = refl
 
+-- the last row is the first task
+pub top_first : (rs : List Row) (n : ℕ) (r : Row) → suc n ≡ length rs → r ≡ get_or rs n r → last_first rs ≡ task_of r ∷ last_first (take n rs)
+unfolding last_first
+top_first [] n r l e = absurd (omega (arith, l))
+top_first (u ∷ []) zero r l e = ap (λ u. task_of u ∷ []) (sym e)
+top_first (u ∷ []) (suc n) r l e = absurd (omega (arith, l))
+top_first (u ∷ v ∷ rs) zero r l e = absurd (omega (arith, l))
+top_first (u ∷ v ∷ rs) (suc n) r l e = ap (λ ts. ts ++ task_of u ∷ []) (top_first (v ∷ rs) n r (omega (arith, l)) e)
+
+pub set_first : (rs : List Row) (n : ℕ) (r : Row) → suc n ≡ length rs → last_first (slice_set rs n r) ≡ task_of r ∷ last_first (take n rs)
+unfolding last_first
+set_first [] n r l = absurd (omega (arith, l))
+set_first (u ∷ []) zero r l = refl
+set_first (u ∷ []) (suc n) r l = absurd (omega (arith, l))
+set_first (u ∷ v ∷ rs) zero r l = absurd (omega (arith, l))
+set_first (u ∷ v ∷ rs) (suc n) r l = ap (λ ts. ts ++ task_of u ∷ []) (set_first (v ∷ rs) n r (omega (arith, l)))
+
+pub some_rows : (n : ℕ) (b : Bool) → b ≡ (n == 0) → b ≡ false → 0 < n
+some_rows zero b e f = cc
+some_rows (suc n) b e f = omega arith
+
 pub none_left : (rs : List Row) → length rs ≡ 0 → last_first rs ≡ []
 none_left [] e = last_empty
 none_left (r ∷ rs) e = absurd (omega arith)
-
-pub no_value : (o : Option (ℕ × ℕ)) → is_some o ≡ false → o ≡ None
-no_value None e = refl
-no_value (Some v) e = cc
 
 -- an int's bits are its own
 pub bits_same : (i j : ℤ) → FitsSigned w64 i → FitsSigned w64 j → int_word i ≡ int_word j → i ≡ j

@@ -1,7 +1,8 @@
 -- Each step of the reader, from spot to spot.
-use Rattle.std.proofs.Common.{◌≡◌, ℕ, zero, suc, ◌+◌, ◌<◌, ◌≤◌, List, [], ◌∷◌, ◌++◌, length, drop, Option, Some, None, refl, sym, ap, ap₂, ◌∙◌, arith}
-use Rattle.std.specs.Prelude.{ℤ, slice_get, Ok}
+use Rattle.std.proofs.Common.{◌≡◌, ℕ, zero, suc, ◌+◌, ◌<◌, ◌≤◌, List, [], ◌∷◌, ◌++◌, length, take, drop, get_or, Option, Some, None, refl, sym, ap, ap₂, ◌∙◌, arith}
+use Rattle.std.specs.Prelude.{ℤ, slice_get, slice_set, Ok, Bool, true, false, ◌==◌}
 use Rattle.std.proofs.lemmas.Option.{none-some}
+use Rattle.std.proofs.lemmas.Bool.{eqb-true}
 use Rattle.fip_language.specs.Prefix.{Accepted, Stopped}
 use Rattle.fip_language.specs.Values.{Value, Int, Node, Values, End, More, count_of}
 use Rattle.fip_language.specs.Table.{Shape, Table, constructors}
@@ -18,6 +19,23 @@ pub rows_push : (fs : List Frame) (f : Frame) → pending_rows (fs ++ f ∷ []) 
 unfolding pending_rows
 rows_push [] f = refl
 rows_push (g ∷ fs) f = ap (λ ps. ps ++ pending g ∷ []) (rows_push fs f)
+
+-- the last frame is the innermost constructor
+pub top_row : (fs : List Frame) (n : ℕ) (f : Frame) → suc n ≡ length fs → f ≡ get_or fs n f → pending_rows fs ≡ pending f ∷ pending_rows (take n fs)
+unfolding pending_rows
+top_row [] n f l e = absurd (omega (arith, l))
+top_row (g ∷ []) zero f l e = ap (λ g. pending g ∷ []) (sym e)
+top_row (g ∷ []) (suc n) f l e = absurd (omega (arith, l))
+top_row (g ∷ h ∷ fs) zero f l e = absurd (omega (arith, l))
+top_row (g ∷ h ∷ fs) (suc n) f l e = ap (λ ps. ps ++ pending g ∷ []) (top_row (h ∷ fs) n f (omega (arith, l)) e)
+
+pub set_row : (fs : List Frame) (n : ℕ) (f : Frame) → suc n ≡ length fs → pending_rows (slice_set fs n f) ≡ pending f ∷ pending_rows (take n fs)
+unfolding pending_rows
+set_row [] n f l = absurd (omega (arith, l))
+set_row (g ∷ []) zero f l = refl
+set_row (g ∷ []) (suc n) f l = absurd (omega (arith, l))
+set_row (g ∷ h ∷ fs) zero f l = absurd (omega (arith, l))
+set_row (g ∷ h ∷ fs) (suc n) f l = ap (λ ps. ps ++ pending g ∷ []) (set_row (h ∷ fs) n f (omega (arith, l)))
 
 pub rows_empty : pending_rows [] ≡ []
 unfolding pending_rows
@@ -200,6 +218,13 @@ begins_at types k ls frames e f = ap (λ f. outlined (Some k) f ls) f ∙ ap (λ
 
 pub begins_none : (types : List ℕ) (frames : List Pending) → types ≡ [] → frames ≡ [] → outlined None frames types ≡ outline_at (spot_of types)
 begins_none types frames e f = ap₂ (λ f t. outlined None f t) f e ∙ ap (λ t. outline_at (spot_of t)) (sym e)
+
+pub none_open : (n : ℕ) (b : Bool) → b ≡ (n == 0) → b ≡ true → n ≡ 0
+none_open n b e f = eqb-true n 0 (sym e ∙ f)
+
+pub some_open : (n : ℕ) (b : Bool) → b ≡ (n == 0) → b ≡ false → 0 < n
+some_open zero b e f = cc
+some_open (suc n) b e f = omega arith
 
 pub no_rows : (fs : List Frame) → length fs ≡ 0 → pending_rows fs ≡ []
 no_rows [] e = rows_empty

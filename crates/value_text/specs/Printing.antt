@@ -6,6 +6,7 @@ use Rattle.fip_language.specs.Store.{Cell, Placed, Parts, value_of, values_of, w
 use Rattle.fip_language.specs.PrintedText.{printed, printed_more}
 use Rattle.cell_store.specs.Cells.{Cells, cell_at}
 use Rattle.value_text.specs.Standing.{Stands, StandAll}
+use Rattle.value_text.specs.declared.print.Field.{Field}
 use Rattle.value_text.specs.declared.print.Row.{Row}
 
 -- what is to be printed: a value of a type, by its word, or the last fields of the cell at a place, of these types
@@ -46,6 +47,11 @@ Prints tb cs (Fields types p ∷ ts) text = (c : Cell) × (xs : Parts) × AreLas
 abbrev pub then_tasks : Option (ℕ × ℕ) → List Task → List Task
 then_tasks None ts = ts
 then_tasks (Some v) ts = Whole v.0 v.1 ∷ ts
+
+-- the tasks with the first field of the cell at a place, and its further fields, before them, where there is one
+abbrev pub then_field : Option Field → ℕ → List Task → List Task
+then_field None p ts = ts
+then_field (Some f) p ts = Whole f.ty f.word ∷ Fields (f.rest).now p ∷ ts
 
 abbrev pub one_task : Option (ℕ × ℕ) → ℕ
 one_task None = 0

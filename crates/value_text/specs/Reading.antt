@@ -32,7 +32,11 @@ pub record Outline : Type 0 where
   pub lines : List ℕ
 
 abbrev pub pending : Frame → Pending
-pending f = record { c = f.tag; rest = drop f.begun (f.constructor.now).fields; size = length (f.constructor.now).fields }
+pending f = record {
+  c = f.tag;
+  rest = drop f.begun (f.constructor.now).fields;
+  size = length (f.constructor.now).fields;
+}
 
 -- the last first
 unfoldable pub pending_rows : List Frame → List Pending

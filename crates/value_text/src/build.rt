@@ -1,6 +1,6 @@
 // The cells of values are made while their text is read.
 ghost use Rattle.std.specs.Prelude.{◌≡◌, ◌⊎◌, ℕ, ◌+◌, ◌-◌, ◌*◌, ◌<◌, ◌≤◌, List, [], ◌∷◌, ◌++◌, length, drop, IfOk};
-ghost use Rattle.std.specs.Prelude.{OnOk, OnErr, Ok, Err, Some, None, true, replicate, slice_index_or};
+ghost use Rattle.std.specs.Prelude.{OnOk, OnErr, Ok, Err, Some, None, true, replicate, slice_index_or, vec_len};
 ghost use Rattle.fip_language.specs.declared.limits.TheConstants.{MOST_FIELDS};
 ghost use Rattle.fip_language.specs.SoundTable.{IsSoundTable, AreTypes};
 ghost use Rattle.fip_language.specs.Store.{int_word};
@@ -8,12 +8,12 @@ ghost use Rattle.fip_language.specs.Values.{Values};
 ghost use Rattle.value_text.specs.Loaded.{types_of, free_in, wanted, AreCredits};
 ghost use Rattle.fip_language.specs.Table.{Table};
 ghost use Rattle.value_text.specs.Building.{IsMade, IsPut, Advanced, stopped_by, then_on, Built, IsBuilt, IsCrediting};
-ghost use Rattle.value_text.specs.Reading.{Outline, outline, pending, IsKnown};
+ghost use Rattle.value_text.specs.Reading.{outline, IsKnown};
 ghost use Rattle.value_text.specs.declared.read.Event.{Event};
 ghost use Rattle.value_text.specs.Loaded.{words_up_to};
 ghost use Rattle.cell_store.specs.Made.{Loading};
 
-use crate::read::{self, Cursor, Frame, Refused};
+use crate::read::{self, Cursor, Refused};
 use cell_store::{CellError, Loader};
 use fip_base::plain::Param;
 use fip_base::table::TypeTable;
@@ -158,26 +158,23 @@ fn build_node<'a>(
     }
 }
 
-// What stands behind a field of the innermost open constructor, whose frame was taken off.
+// What stands behind a field of the innermost open constructor.
 #[inline(always)]
 fn build_field<'a>(
     bytes: &[u8],
     cursor: &mut Cursor<'a>,
-    frame: Frame<'a>,
     loader: &mut Loader,
     words: &mut Vec<u64>,
 ) -> Result<bool, Stopped>
     requires place { cursor.old.at ≤ length bytes.now }
     requires next { cursor.old.next ≡ None }
-    ensures advances { (tb : Table) (o : Outline) → o ≡ record (outline cursor.old) {
-      frames =
-          pending frame.entry ∷ (outline cursor.old).frames;
-    } → IsKnown tb o →
-        Advanced tb bytes.now o cursor.old.at (outline cursor.new) cursor.new.at words.old.items loader.old
+    requires open { 0 < vec_len cursor.old.frames }
+    ensures advances { (tb : Table) → IsKnown tb (outline cursor.old) →
+        Advanced tb bytes.now (outline cursor.old) cursor.old.at (outline cursor.new) cursor.new.at words.old.items loader.old
         words.new.items loader.new result }
     ensures place { result ≡ Ok true → (cursor.old.at < cursor.new.at) × (cursor.new.at ≤ length bytes.now) }
 {
-    match read::read_field(bytes, cursor, frame) {
+    match read::read_field(bytes, cursor) {
         Ok(Some((tag, size))) => goes_on(close(tag, size, loader, words)),
         Ok(None) => Ok(true),
         Err(e) => Err(stop_of(e)),
@@ -225,10 +222,13 @@ pub fn advance<'a>(
                 Err(Stopped::BadValue(cursor.at))
             }
         }
-        None => match cursor.frames.pop() {
-            Some(frame) => build_field(bytes, cursor, frame, loader, words),
-            None => build_line(bytes, cursor),
-        },
+        None => {
+            if cursor.frames.is_empty() {
+                build_line(bytes, cursor)
+            } else {
+                build_field(bytes, cursor, loader, words)
+            }
+        }
     }
 }
 

@@ -53,7 +53,8 @@ impl Counts {
 
     /// One more of the size of the cell that an event closes.
     pub fn add_closed(&mut self, event: Event)
-        ensures { ((k : ℕ) → k ≤ MOST_FIELDS → slice_index_or self.old.numbers k 0 < 2 ^ 64 - 1) → (k : ℕ) → k ≤ MOST_FIELDS →
+        ensures { ((k : ℕ) → k ≤ MOST_FIELDS → slice_index_or self.old.numbers k 0 < 2 ^ 64 - 1) →
+            (k : ℕ) → k ≤ MOST_FIELDS →
             slice_index_or self.new.numbers k 0 ≡ slice_index_or self.old.numbers k 0 + closes k event }
     {
         match event {

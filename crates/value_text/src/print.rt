@@ -12,7 +12,7 @@ ghost use Rattle.fip_language.specs.ValueText.{SpellsValues};
 ghost use Rattle.cell_store.specs.Cells.{cell_at};
 ghost use Rattle.value_text.specs.Standing.{Stands};
 ghost use Rattle.value_text.specs.Printing.{last_first, printed_tail, AreLast, Prints, Printing};
-ghost use Rattle.value_text.specs.Printing.{task_of, then_tasks, one_task, Whole};
+ghost use Rattle.value_text.specs.Printing.{Task, task_of, then_tasks, then_field, one_task, Whole};
 
 use crate::read::split;
 use cell_store::Cells;
@@ -26,6 +26,14 @@ use std::alloc::{AllocError, Global};
 pub struct Row<'a> {
     types: &'a [u32],
     place: u32,
+}
+
+/// The first of the last fields of a cell: its type and word, and the types of the fields behind it.
+#[derive(Clone, Copy)]
+pub struct Field<'a> {
+    ty: u32,
+    word: u64,
+    rest: &'a [u32],
 }
 
 // The int of these 64 bits.
@@ -104,50 +112,39 @@ fn field_from_end<C: Cells>(cells: &C, place: u32, left: usize) -> Option<u64>
     Some(cells.field(place, size - left))
 }
 
-// The first of the last fields of a cell is the next value; the others wait.
+// The first of the last fields of a cell.
 #[inline(always)]
-fn add_fields<'a, C: Cells>(
-    cells: &C,
-    types: &'a [u32],
-    place: u32,
-    rows: &mut Vec<Row<'a>>,
-) -> Result<Option<(u32, u64)>, AllocError>
+fn first_field<'a, C: Cells>(cells: &C, types: &'a [u32], place: u32) -> Option<Field<'a>>
     requires { cell_at (C.cells cells.now) place ≢ None }
-    ensures prints { IfOk result (λ next. (tb : Table) (c : Cell) (xs : Parts) → 0 < length types.now →
-        AreLast tb (C.cells cells.now) types.now place c xs → (rest : List ℕ) →
-        Prints tb (C.cells cells.now) (last_first rows.old.items) rest →
-        Prints tb (C.cells cells.now) (then_tasks next (last_first rows.new.items))
-        (printed_tail tb types.now (values_of xs) rest)) }
-    ensures few { IfOk result (λ next. one_task next + vec_len rows.new ≤ vec_len rows.old + 2) }
+    ensures { (tb : Table) (c : Cell) (xs : Parts) → 0 < length types.now →
+        AreLast tb (C.cells cells.now) types.now place c xs → (rest : List ℕ) (ts : List Task) →
+        Prints tb (C.cells cells.now) ts rest →
+        Prints tb (C.cells cells.now) (then_field result place ts) (printed_tail tb types.now (values_of xs) rest) }
 {
     match split(types) {
-        None => Ok(None),
+        None => None,
         Some((ty, rest)) => match field_from_end(cells, place, types.len()) {
-            None => Ok(None),
-            Some(word) => {
-                add(rows, Row { types: rest, place })?;
-                Ok(Some((ty, word)))
-            }
+            None => None,
+            Some(word) => Some(Field { ty, word, rest }),
         },
     }
 }
 
-// The last fields of a cell, of which the first is the next value, or the ) behind them.
+// The comma before the last fields of a cell, of which the first comes next, or the ) behind them.
 #[inline(always)]
-fn print_fields<'a, C: Cells>(
+fn print_field<'a, C: Cells>(
     cells: &C,
     types: &'a [u32],
     place: u32,
     out: &mut Vec<u8>,
-    rows: &mut Vec<Row<'a>>,
-) -> Result<Option<(u32, u64)>, AllocError>
+) -> Result<Option<Field<'a>>, AllocError>
     ensures prints { IfOk result (λ next. (tb : Table) (c : Cell) (xs : Parts) →
-        AreLast tb (C.cells cells.now) types.now place c xs → (rest : List ℕ) →
-        Prints tb (C.cells cells.now) (last_first rows.old.items) rest →
-        Printing tb (C.cells cells.now) (then_tasks next (last_first rows.new.items)) out.new.items
+        AreLast tb (C.cells cells.now) types.now place c xs → (rest : List ℕ) (ts : List Task) →
+        Prints tb (C.cells cells.now) ts rest →
+        Printing tb (C.cells cells.now) (then_field next place ts) out.new.items
         (out.old.items ++ printed_more tb types.now (values_of xs) rest)) }
-    ensures steps { IfOk result (λ next.
-        one_task next + vec_len rows.new + 3 * vec_len out.old ≤ vec_len rows.old + 3 * vec_len out.new) }
+    ensures more { IfOk result (λ next. vec_len out.old ≤ vec_len out.new) }
+    ensures grows { IfOk result (λ next. IfSome next (λ f. vec_len out.old < vec_len out.new)) }
 {
     if types.is_empty() {
         out.push(b')')?;
@@ -157,7 +154,7 @@ fn print_fields<'a, C: Cells>(
         return Ok(None);
     }
     put_bytes(b", ", out)?;
-    add_fields(cells, types, place, rows)
+    Ok(first_field(cells, types, place))
 }
 
 // A value with a cell: its name, and its fields, of which the first comes next.
@@ -189,7 +186,14 @@ fn print_cell<'a, C: Cells>(
         return Ok(None);
     }
     out.push(b'(')?;
-    add_fields(cells, types, place, rows)
+    match first_field(cells, types, place) {
+        None => Ok(None),
+        Some(field) => {
+            let types = field.rest;
+            add(rows, Row { types, place })?;
+            Ok(Some((field.ty, field.word)))
+        }
+    }
 }
 
 // A constructor without fields.
@@ -244,10 +248,10 @@ fn print_whole<'a, C: Cells>(
 
 // The rows, one after another, until a value comes next.
 #[inline(always)]
-fn next_value<C: Cells>(
+fn next_value<'a, C: Cells>(
     cells: &C,
     out: &mut Vec<u8>,
-    rows: &mut Vec<Row>,
+    rows: &mut Vec<Row<'a>>,
 ) -> Result<Option<(u32, u64)>, AllocError>
     ensures prints { IfOk result (λ next. (tb : Table) (whole : List ℕ) →
         Printing tb (C.cells cells.now) (last_first rows.old.items) out.old.items whole →
@@ -257,14 +261,18 @@ fn next_value<C: Cells>(
     ensures last { IfOk result (λ next. next ≡ None → vec_len rows.new ≡ 0) }
 {
     'waiting: loop {
-        match rows.pop() {
-            None => return Ok(None),
-            Some(row) => {
-                let next = print_fields(cells, row.types, row.place, out, rows)?;
-                if next.is_some() {
-                    return Ok(next);
-                }
+        if rows.is_empty() {
+            return Ok(None);
+        }
+        let top = rows.len() - 1;
+        let row = rows[top];
+        match print_field(cells, row.types, row.place, out)? {
+            Some(field) => {
+                let types = field.rest;
+                rows[top] = Row { types, ..row };
+                return Ok(Some((field.ty, field.word)));
             }
+            None => rows.truncate(top),
         }
     }
 }

@@ -1,7 +1,7 @@
 // A text of values, read in steps: a leaf, an opened or closed constructor, a comma or an end of a line each.
 // Open constructors are a list, so that nesting costs no stack.
 ghost use Rattle.std.specs.Prelude.{◌≡◌, ℕ, suc, ◌+◌, ◌<◌, ◌≤◌, length, drop, List, [], ◌∷◌, Some, None, IfOk};
-ghost use Rattle.std.specs.Prelude.{OnOk, MatchOption, MatchResult, slice_get, FitsSigned};
+ghost use Rattle.std.specs.Prelude.{OnOk, MatchOption, MatchResult, slice_get, FitsSigned, vec_len};
 ghost use Rattle.std.specs.Int.{w64};
 ghost use Rattle.fip_language.specs.declared.limits.TheConstants.{MOST_FIELDS};
 ghost use Rattle.fip_language.specs.Values.{Values};
@@ -234,31 +234,31 @@ pub fn read_line<'a>(bytes: &[u8], cursor: &mut Cursor<'a>) -> Result<bool, Refu
     }
 }
 
-/// The `,` behind a field of the innermost open constructor, whose frame was taken off, or the `)` behind its last one;
-/// the number of a constructor that is closed, and the number of its fields.
+/// The `,` behind a field of the innermost open constructor, or the `)` behind its last one; the number of a
+/// constructor that is closed, and the number of its fields.
 #[inline(always)]
 pub fn read_field<'a>(
     bytes: &[u8],
     cursor: &mut Cursor<'a>,
-    frame: Frame<'a>,
 ) -> Result<Option<(u32, usize)>, Refused>
     requires place { cursor.old.at ≤ length bytes.now }
     requires next { cursor.old.next ≡ None }
-    ensures reads { (pending frame.entry).size ≤ MOST_FIELDS → (tb : Table) (s : Spot) → record (outline cursor.old) {
-      frames =
-          pending frame.entry ∷ (outline cursor.old).frames;
-    } ≡ outline_at s →
+    requires open { 0 < vec_len cursor.old.frames }
+    ensures reads { (tb : Table) → IsKnown tb (outline cursor.old) → (s : Spot) → outline cursor.old ≡ outline_at s →
         Stepped tb bytes.now s cursor.old.at (field_event result) (outline cursor.new) cursor.new.at }
     ensures place { IfOk (field_event result) (λ e. MatchOption e ℕ (λ e. (cursor.old.at < cursor.new.at)
         × (cursor.old.at + cost_of e ≤ cursor.new.at) × (cursor.new.at ≤ length bytes.now))) }
-    ensures narrow { (pending frame.entry).size ≤ MOST_FIELDS →
+    ensures narrow { (tb : Table) → IsKnown tb (outline cursor.old) →
         IfOk (field_event result) (λ e. MatchOption e ℕ IsNarrow) }
-    ensures known { (tb : Table) → AreTypes tb (pending frame.entry).rest → (pending frame.entry).size ≤ MOST_FIELDS →
-        IsKnown tb (outline cursor.old) → IfOk (field_event result) (λ e. IsKnown tb (outline cursor.new)) }
+    ensures known { (tb : Table) → IsKnown tb (outline cursor.old) →
+        IfOk (field_event result) (λ e. IsKnown tb (outline cursor.new)) }
 {
+    let top = cursor.frames.len() - 1;
+    let frame = cursor.frames[top];
     match field_at(frame.constructor, frame.begun) {
         None => match scan::sign(bytes, cursor.at, b')') {
             Ok(at) => {
+                cursor.frames.truncate(top);
                 cursor.at = at;
                 Ok(Some((frame.tag, frame.constructor.fields().len())))
             }
@@ -266,7 +266,7 @@ pub fn read_field<'a>(
         },
         Some(k) => match scan::sign(bytes, cursor.at, b',') {
             Ok(at) => {
-                push_frame(cursor, one_further(frame))?;
+                cursor.frames[top] = one_further(frame);
                 cursor.at = at;
                 cursor.next = Some(k);
                 Ok(None)
@@ -342,10 +342,13 @@ pub fn step<'a>(
                 Err(Refused::BadValue(cursor.at))
             }
         }
-        None => match cursor.frames.pop() {
-            Some(frame) => field_step(read_field(bytes, cursor, frame)),
-            None => line_step(read_line(bytes, cursor)),
-        },
+        None => {
+            if cursor.frames.is_empty() {
+                line_step(read_line(bytes, cursor))
+            } else {
+                field_step(read_field(bytes, cursor))
+            }
+        }
     }
 }
 

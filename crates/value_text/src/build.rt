@@ -170,8 +170,8 @@ fn build_field<'a>(
     requires next { cursor.old.next ≡ None }
     requires open { 0 < vec_len cursor.old.frames }
     ensures advances { (tb : Table) → IsKnown tb (outline cursor.old) →
-        Advanced tb bytes.now (outline cursor.old) cursor.old.at (outline cursor.new) cursor.new.at words.old.items
-        loader.old words.new.items loader.new result }
+        Advanced tb bytes.now (outline cursor.old) cursor.old.at (outline cursor.new) cursor.new.at
+        words.old.items loader.old words.new.items loader.new result }
     ensures place { result ≡ Ok true → (cursor.old.at < cursor.new.at) × (cursor.new.at ≤ length bytes.now) }
 {
     match read::read_field(bytes, cursor) {

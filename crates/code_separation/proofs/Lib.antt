@@ -1,0 +1,13 @@
+pub mod Sound
+pub mod Lower
+pub mod Arrive
+pub mod Local
+pub mod Calling
+pub mod Returning
+pub mod Stepping
+pub mod Loading
+pub mod Apartness
+pub mod Running
+pub mod CodesRun
+pub mod KindsFound
+pub mod Examples

@@ -1,11 +1,11 @@
 use crate::arithmetic::result_of;
 use crate::collect::collect;
-use crate::store::{Store, Value};
-use crate::{PlainEnded, Rows, eval, print_rows};
+use crate::{PlainEnded, Rows, eval};
 use cell_store::{Loader, seal};
 use fip_base::plain::{FunKind, Name, NoMemory, Operator, Param, Params, Place, TrapKind, Types};
 use fip_base::table::{Constructor, DataType, TypeTable};
 use fip_trees::program::{Argument, Binder, Binding, Block, Expression, Instance, Program, Typed};
+use plain_rows::{Store, Value};
 use std::alloc::Global;
 use std::test::Fail;
 
@@ -35,12 +35,12 @@ fn rows_that_nothing_reaches_are_dropped(rt: HostRuntime) -> Result<(), Fail> {
     let kept = store.push(2, &[Value::Int(8)])?;
     store.push(3, &[kept, kept])?;
     let last = store.push(4, &[kept])?;
-    let mut values = [last, Value::Int(3)];
+    let mut values = Vec::from_slice(alloc, &[last, Value::Int(3)])?;
     let store = collect(alloc, &store, &mut values)?;
     assert_eq!(rt; (store.len(), store.weight()), (2, 4));
-    assert_eq!(rt; values[0], Value::Row(1));
-    assert_eq!(rt; store.field(1, 0), Some(Value::Row(0)));
-    assert_eq!(rt; store.field(0, 0), Some(Value::Int(8)));
+    assert_eq!(rt; values.get(0).copied(), Some(Value::Row(1)));
+    assert_eq!(rt; store.fields(1).get(0).copied(), Some(Value::Row(0)));
+    assert_eq!(rt; store.fields(0).get(0).copied(), Some(Value::Int(8)));
     Ok(())
 }
 
@@ -59,24 +59,6 @@ fn ints(alloc: Global) -> Result<TypeTable, NoMemory> {
         table.push(DataType::new(constructors))?;
     }
     Ok(table)
-}
-
-#[test]
-fn cells_that_are_read_are_printed(rt: HostRuntime) -> Result<(), Fail> {
-    let alloc = rt.alloc();
-    let types = ints(alloc)?;
-    let mut loader = Loader::new(alloc, 6);
-    assert_eq!(rt; loader.cell(1, &[5, 0]), Ok(0));
-    assert_eq!(rt; loader.cell(1, &[u64::MAX, 1]), Ok(3));
-    let list = Param { ty: 1, lent: false };
-    let int = Param { ty: 0, lent: false };
-    let rows = Rows::of(alloc, &types, &seal(loader), &[list, int, list], &[7, 9, 0])?;
-    let text = print_rows(alloc, &types, &[1, 0, 1], &PlainEnded::Value(rows))?;
-    assert_eq!(rt;
-        text.as_slice(),
-        b"Cons(-1, Cons(5, Nil))\n9\nNil\n".as_slice()
-    );
-    Ok(())
 }
 
 const PLACE: Place = Place {

@@ -1,0 +1,7 @@
+pub mod Slots
+pub mod Moving
+pub mod Giving
+pub mod Choosing
+pub mod Waiting
+pub mod Steps
+pub mod Forms

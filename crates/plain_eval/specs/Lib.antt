@@ -1,0 +1,8 @@
+pub mod Operating
+pub mod Slots
+pub mod Moving
+pub mod Giving
+pub mod Choosing
+pub mod Work
+pub mod Machine
+pub mod Ended

@@ -1,0 +1,27 @@
+-- What is still to be printed. It serves the proof that the text is the canonical one.
+use Rattle.std.specs.Prelude.{◌≡◌, ℕ, List, [], ◌∷◌, ◌++◌}
+use Rattle.fip_language.specs.Values.{Value as Tree, Values}
+use Rattle.fip_language.specs.Table.{Table, HasType, HaveTypes}
+use Rattle.fip_language.specs.PrintedText.{printed, printed_more}
+use Rattle.plain_rows.specs.declared.store.Store.{Store}
+use Rattle.plain_rows.specs.declared.print.Task.{Task}
+use Rattle.plain_rows.specs.declared.print.Task.TheVariants as T
+use Rattle.plain_rows.specs.Rows.{Stands, StandAll}
+
+-- the last first
+unfoldable pub last_first : List Task → List Task
+last_first [] = []
+last_first (t ∷ ts) = last_first ts ++ t ∷ []
+
+-- The tasks, the next first, print this text and then what comes behind it: a value, or the last fields of a row with
+-- what stands before and behind them.
+abbrev pub Prints : Table → Store → List ℕ → List Task → List ℕ → Type 0
+Prints tb s behind [] text = text ≡ behind
+Prints tb s behind (T.Whole ty w ∷ ts) text = (v : Tree) × HasType tb ty v × Stands s w v × (rest : List ℕ)
+    × (text ≡ printed tb ty v rest) × Prints tb s behind ts rest
+Prints tb s behind (T.Fields types ws ∷ ts) text = (vs : Values) × HaveTypes tb types.now vs × StandAll s ws.now vs
+    × (rest : List ℕ) × (text ≡ printed_more tb types.now vs rest) × Prints tb s behind ts rest
+
+-- these tasks and what is printed make up the text
+abbrev pub Printing : Table → Store → List ℕ → List Task → List ℕ → List ℕ → Type 0
+Printing tb s behind ts out whole = (text : List ℕ) × Prints tb s behind ts text × (out ++ text ≡ whole)

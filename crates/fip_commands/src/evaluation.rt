@@ -2,12 +2,12 @@
 ghost use Rattle.std.specs.Prelude.{IfErr};
 ghost use Rattle.command_outcome.specs.Stages.{IsOfRun};
 
-use crate::entry::Evaluable;
 use crate::running::loaded;
 use cell_store::seal;
 use command_outcome::Failure;
 use fip_language::limits::MOST_STORE_WORDS;
 use plain_eval::{PlainEnded, Rows, eval, print_rows};
+use source_commands::Evaluable;
 use std::alloc::Global;
 
 /// Evaluates the entry on the text of its arguments, with so many calls and frames: the lines of its results. A bad

@@ -1,5 +1,4 @@
 // The texts of the library, and a tree that is made of a seed's keys.
-use crate::entry::exec_entry;
 use crate::running::{failure_of, started};
 use cell_store::Cells;
 use command_line::Room;
@@ -8,6 +7,7 @@ use fip_base::plain::NoMemory;
 use fip_language::limits::MOST_STORE_WORDS;
 use fip_library::text;
 use fip_machine::Gauge;
+use source_commands::exec_entry;
 use std::alloc::Global;
 
 // The room of a run that makes a tree.

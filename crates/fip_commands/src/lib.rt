@@ -1,25 +1,20 @@
-// What each command does between its fetch and its delivery: from bytes to bytes, or to what keeps it from them.
+// What the commands do with an input: runs, evaluations, sessions, tasks and traces, from bytes to bytes, or to what
+// keeps them from them. What they do before, to a source or to a code, is in `source_commands`, whose calls stand here
+// too.
 #![tactic(auto)]
 
-mod derivations;
-mod entry;
 mod evaluation;
-mod files;
 mod generated;
-mod known;
-mod listing;
-mod phases;
 mod running;
 mod sessions;
 mod traces;
 
-pub use derivations::{audit, bad_proof, derive};
-pub use entry::{Evaluable, Ready, eval_entry, exec_entry, run_entry};
 pub use evaluation::evaluate;
-pub use files::{Compiled, check, compile, upgrade, verify_file};
 pub use generated::{generate, library};
-pub use known::Front;
-pub use phases::{front, typed_of};
 pub use running::run;
 pub use sessions::{session, tasks};
+pub use source_commands::{
+    Compiled, Evaluable, Front, Ready, audit, bad_proof, check, compile, derive, eval_entry,
+    exec_entry, front, run_entry, typed_of, upgrade, verify_file,
+};
 pub use traces::{replay, trace};

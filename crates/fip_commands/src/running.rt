@@ -3,14 +3,14 @@ ghost use Rattle.std.specs.Prelude.{◌≤◌, IfErr, IfSome};
 ghost use Rattle.fip_language.specs.declared.limits.TheConstants.{MOST_FIELDS};
 ghost use Rattle.command_outcome.specs.Stages.{IsOfRun};
 
-use crate::entry::Ready;
 use cell_store::{Cells, Loader};
 use command_line::Room;
 use command_outcome::{Failure, bound_line, cells_line, stack_line};
 use fip_base::plain::{NoMemory, Param, Stack};
 use fip_base::table::TypeTable;
-use fip_language::limits::{MOST_FIELDS, MOST_STORE_WORDS};
+use fip_language::limits::{MOST_FIELDS, MOST_FRAMES, MOST_STORE_WORDS};
 use fip_machine::{Ended, Gauge, Machine};
+use source_commands::Ready;
 use std::alloc::Global;
 use value_text::{LoadError, load_values, print_value};
 
@@ -39,6 +39,39 @@ pub(crate) fn loaded(
     }
 }
 
+/// The types of the code.
+pub(crate) fn types_of(ready: &Ready) -> &TypeTable {
+    &ready.verified().code().types
+}
+
+// What a run of the function holds of the stack at the most; none where it isn't fip.
+fn bound_of(ready: &Ready) -> Option<Stack> {
+    ready.verified().code_stack(ready.entry())
+}
+
+// The machine at the start of the function, with the words of its arguments and credits, and so many frames, at most
+// 1,000,000; a fip function gets as many as it needs in their place.
+fn start(
+    alloc: Global,
+    ready: &Ready,
+    loader: Loader,
+    words: Vec<u64>,
+    frames: u64,
+) -> Result<Machine<'_>, NoMemory> {
+    let frames = match bound_of(ready) {
+        Some(bound) => bound.frames.min(MOST_FRAMES),
+        None => frames.min(MOST_FRAMES as u64) as usize,
+    };
+    Machine::start(
+        alloc,
+        ready.verified(),
+        ready.entry(),
+        loader,
+        words,
+        frames,
+    )
+}
+
 /// The machine at the start of the entry, with its arguments in a new store. The failures are those of `loaded`.
 pub(crate) fn started<'a>(
     alloc: Global,
@@ -51,8 +84,8 @@ pub(crate) fn started<'a>(
     let function = ready.function();
     let params = function.params.as_slice();
     let credits = function.credits.as_slice();
-    let (loader, words) = loaded(alloc, ready.types(), params, credits, input, room.words)?;
-    Ok(ready.start(alloc, loader, words, room.frames)?)
+    let (loader, words) = loaded(alloc, types_of(ready), params, credits, input, room.words)?;
+    Ok(start(alloc, ready, loader, words, room.frames)?)
 }
 
 /// The lines of the values of these types that words stand for.
@@ -138,9 +171,9 @@ pub fn run(
         None => {
             let types = ready.function().results.as_slice();
             let words = machine.results();
-            let mut text = values_text(alloc, ready.types(), machine.cells(), types, words)?;
+            let mut text = values_text(alloc, types_of(&ready), machine.cells(), types, words)?;
             if gauge {
-                put_gauge(alloc, &mut text, &seen, ready.bound())?;
+                put_gauge(alloc, &mut text, &seen, bound_of(&ready))?;
             }
             Ok(text)
         }

@@ -3,12 +3,12 @@ ghost use Rattle.std.specs.Prelude.{◌≤◌, IfErr};
 ghost use Rattle.fip_language.specs.declared.limits.TheConstants.{MOST_FRAMES, MOST_STORE_WORDS};
 ghost use Rattle.command_outcome.specs.Stages.{IsOfTasks};
 
-use crate::known::Front;
 use command_line::Room;
 use command_outcome::Failure;
 use fip_base::plain::NoMemory;
 use fip_language::limits::{MOST_FRAMES, MOST_STORE_WORDS};
 use fip_session::{TasksError, session_reply, tasks_reply};
+use source_commands::Front;
 use std::alloc::Global;
 
 // The seeds: the sequence that draws the tasks has the same numbers for two that differ by a multiple of this.

@@ -1,10 +1,12 @@
 // Runs whose writes to the cells are kept, and what these writes make of the cells.
-ghost use Rattle.std.specs.Prelude.{IfErr};
+ghost use Rattle.std.specs.Prelude.{◌≡◌, Err, IfErr};
+ghost use Rattle.fip_language.specs.declared.rule.Rule.TheVariants.{E75};
+ghost use Rattle.fip_base.specs.declared.refusal.Refusal.{Refusal as a_refusal};
+ghost use Rattle.command_outcome.specs.declared.failure.Failure.TheVariants.{Refused};
+ghost use Rattle.source_report.specs.Report.{bare};
 ghost use Rattle.command_outcome.specs.Stages.{IsOfRun, IsOfSource, IsOfTrace};
 
-use crate::entry::Ready;
-use crate::files::Compiled;
-use crate::running::{failure_of, started, values_text};
+use crate::running::{failure_of, started, types_of, values_text};
 use cell_trace::{ReadTraceError, Trace, TraceError, cells_after, read_trace, write_trace};
 use command_line::Room;
 use command_outcome::Failure;
@@ -12,10 +14,12 @@ use fip_base::plain::{Detail, NoMemory};
 use fip_base::refusal::{Refusal, Rule};
 use fip_language::limits::MOST_FILE_BYTES;
 use fip_machine::{Ended, Gauge, Machine};
+use source_commands::{Compiled, Ready};
 use std::alloc::Global;
 
 // The refusal of a trace that is too long.
 fn too_long(alloc: Global) -> Failure
+    ensures names { result ≡ Refused (bare E75) }
     ensures stage { IsOfTrace result }
 {
     Failure::Refused(Refusal {
@@ -46,7 +50,7 @@ fn traced_text(
 ) -> Result<Compiled, NoMemory> {
     let types = ready.function().results.as_slice();
     let words = machine.results();
-    let text = values_text(alloc, ready.types(), machine.cells(), types, words)?;
+    let text = values_text(alloc, types_of(ready), machine.cells(), types, words)?;
     let file = write_trace(alloc, trace)?;
     Ok(Compiled { file, text })
 }
@@ -56,6 +60,7 @@ fn traced_text(
 /// is too long: its file would have more than 16,777,216 bytes, or there are more than 4,294,967,295 events or more
 /// steps than 64 bits count.
 pub fn trace(alloc: Global, ready: Ready, input: &[u8], room: Room) -> Result<Compiled, Failure>
+    ensures long { (r : a_refusal) → result ≡ Err (Refused r) → r ≡ bare E75 }
     ensures stage { IfErr result IsOfTrace }
 {
     let machine = started(alloc, &ready, input, room)?;

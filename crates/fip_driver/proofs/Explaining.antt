@@ -15,6 +15,7 @@ use Rattle.fip_base.specs.Files.{File, file_of}
 use Rattle.fip_base.specs.Refusal.{refusal_text}
 use Rattle.fip_base.specs.declared.refusal.Refusal.{Refusal}
 use Rattle.command_line.specs.Words.{Request}
+use Rattle.fip_driver.proofs.Telling.{more_left}
 use Rattle.fip_driver.specs.Reply.{out_text, err_text}
 use Rattle.command_outcome.specs.Texts.{bad_input_text}
 use Rattle.fip_driver.specs.Explained.{IsWritten, FailsAs, Fails, ExplainedBy}
@@ -22,7 +23,8 @@ use Rattle.fip_base.specs.Takes.{Takes}
 use Rattle.std.proofs.lemmas.List.{length-append}
 use Rattle.fip_driver.specs.Fronted.{SpellingFails, EntryFails}
 use Rattle.fip_driver.specs.Fetched.{FetchFails, ReadFails, too_long}
-use Rattle.fip_driver.specs.Answered.{Spelling, Replies, ComesToInput, Explained, IsRequest, plain_request}
+use Rattle.fip_driver.specs.Answered.{Replies, ComesToInput, Explained, IsRequest, plain_request}
+use Rattle.fip_driver.specs.Spelling.{Spelling}
 use Rattle.command_outcome.specs.declared.failure.Failure.{Failure}
 use Rattle.command_outcome.specs.declared.failure.Failure.TheVariants as F
 use Rattle.command_outcome.specs.declared.failure.Object.TheVariants as O
@@ -137,13 +139,6 @@ entry_explained q core input gauge rose F.NoMemory right h = tt
 entry_explained q core input gauge rose failure right h = absurd h
 
 -- what an input that isn't read answers, where its bytes are told
-more_left : (input : List ℕ) (left : Option (List ℕ)) → Takes (Some input) left 16777217 → 16777216 < length input
-more_left input None h = absurd h.1
-more_left input (Some rest) h =
-    let long : length input ≡ length h.0 + length rest = ap length h.1 ∙ length-append h.0 rest in
-    let taken = h.2 in
-    omega arith
-
 pub input_explained : (q : A.Request) (core : Core) (f : Function) (input : List ℕ) (left : Option (List ℕ)) (before now : ℕ) (gauge : Bool) (e : Failure) → ReadFails (Some input) left before now e → ExplainedBy (Reads q core f input) gauge (Rose before now) (Err e)
 input_explained q core f input left before now gauge (F.BadInput at) h = long_input_explained q core f input gauge at (more_left input left h.1) h.0
 input_explained q core f input left before now gauge (F.Fault O.Folder) h = cc

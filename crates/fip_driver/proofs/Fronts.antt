@@ -19,8 +19,8 @@ use Rattle.loop_form.specs.View.{loop_of}
 use Rattle.loop_form.specs.declared.program.LoopProgram.{LoopProgram}
 use Rattle.loop_check.specs.Checked.{IsPassed}
 use Rattle.fip_driver.specs.Reply.{err_text}
-use Rattle.fip_driver.specs.Answered.{source_spelling}
-use Rattle.fip_driver.specs.Fronted.{SpellingFails, FrontFails, IsFront, IsOutside, IsSoundLoop, Takes}
+use Rattle.fip_driver.specs.Spelling.{source_spelling, IsOutside}
+use Rattle.fip_driver.specs.Fronted.{SpellingFails, FrontFails, IsFront, IsSoundLoop, Takes}
 use Rattle.fip_driver.specs.Fetched.{unknown_entry}
 use Rattle.command_outcome.specs.declared.failure.Failure.{Failure}
 use Rattle.command_outcome.specs.declared.failure.Failure.TheVariants as F

@@ -1,4 +1,8 @@
 mod WholeAnswer
+mod Telling
+mod SourceEnds
+mod OneCommand
+mod OneEnd
 mod Explaining
 mod Running
 mod Entering

@@ -1,8 +1,6 @@
 -- Words ask for one thing at most, and a request has one reply at most: so there is one written answer.
 use Rattle.std.proofs.Common.{◌≡◌, ◌∙◌, ℕ, List, sym, ap, ap₂, subst, refl, inl, inr, slice_index, arith}
 use Rattle.std.specs.Prelude.{Option, Some, Bool, true, false, codes}
-use Rattle.std.specs.Str.Parse.{digits_value, without_leading_plus}
-use Rattle.clap.specs.Words.{Text, Row, one_of, subcommand_of}
 use Rattle.fip_language.specs.Prefix.{Accepted}
 use Rattle.fip_language.specs.Values.{Values}
 use Rattle.fip_language.specs.Table.{Table}
@@ -22,69 +20,16 @@ use Rattle.fip_grammar.proofs.UpperNames.{spelt_upper_names}
 use Rattle.fip_base.specs.Files.{File, file_of}
 use Rattle.loop_text.proofs.Tables.{is_table, types_alive}
 use Rattle.loop_text.proofs.Exact.{accepts_text}
-use Rattle.command_line.specs.Words.{Request, Room, Command, Check, Compile, Verify, Upgrade, Exec, Run, Eval, Trace, Session, Tasks, Derive, Audit, Replay, Library, Gen}
-use Rattle.command_line.specs.Words.{AsksToRun, IsRoom, IsCommand, IsNumberIn, flag_text, command_app, command_name}
-use Rattle.fip_driver.specs.Commands.{IsOther}
+use Rattle.command_line.specs.Words.{Request, Command, Exec, IsCommand}
 use Rattle.fip_driver.specs.Explained.{IsWritten}
-use Rattle.fip_driver.specs.Answered.{source_spelling, plain_request, Replies, IsRequest, IsNoCommand, IsBeyond, Answer, NotUnderstood, Replied, Beyond, IsAnswered}
-
--- ---- the words
-
-same_some : {A : Type 0} (o : Option A) (a b : A) → o ≡ Some a → o ≡ Some b → a ≡ b
-same_some o a b e f = cc
-
-number_once : (id : Text) (least most : ℕ) (rows : List Row) (m n : ℕ) → IsNumberIn id least most rows m → IsNumberIn id least most rows n → m ≡ n
-number_once id least most rows m n h k = h.value ∙ ap (λ t. digits_value 10 (without_leading_plus t)) (same_some (one_of id rows) h.text k.text h.given k.given) ∙ sym k.value
-
-flag_once : (a b : Bool) → flag_text a ≡ flag_text b → a ≡ b
-flag_once true true e = refl
-flag_once true false e = cc
-flag_once false true e = cc
-flag_once false false e = refl
-
-room_once : (rows : List Row) (r q : Room) → IsRoom rows r → IsRoom rows q → r ≡ q
-room_once rows r q h k =
-    let calls = number_once (codes "calls") _ _ rows r.calls q.calls h.calls k.calls in
-    let frames = number_once (codes "frames") _ _ rows r.frames q.frames h.frames k.frames in
-    let words = number_once (codes "words") _ _ rows r.words q.words h.words k.words in
-    λ i. record { calls = calls i; frames = frames i; words = words i }
-
-asks_once : (rows : List Row) (r q : Request) → AsksToRun rows r → AsksToRun rows q → r ≡ q
-asks_once rows r q h k =
-    let files : r.file ≡ q.file = same_some _ r.file q.file h.file k.file in
-    let entries : r.entry ≡ q.entry = same_some _ r.entry q.entry h.entry k.entry in
-    let rooms = room_once rows r.room q.room h.room k.room in
-    let gauges = flag_once r.gauge q.gauge (same_some (one_of (codes "gauge") rows) (flag_text r.gauge) (flag_text q.gauge) h.gauge k.gauge) in
-    λ i. record { file = files i; entry = entries i; room = rooms i; gauge = gauges i }
-
-request_once : (words : List Text) (r q : Request) → IsRequest words r → IsRequest words q → r ≡ q
-request_once words r q h k =
-    let both = same_some (subcommand_of command_app words) (codes "exec", h.rows) (codes "exec", k.rows) h.command k.command in
-    let rows : h.rows ≡ k.rows = ap (λ p. p.1) both in
-    asks_once k.rows r q (subst (λ rows. AsksToRun rows r) rows h.asks) k.asks
-
--- the name of another command isn't `exec`
-other_name : (c : Command) → IsOther c → codes "exec" ≡ command_name c → ⊥
-other_name (Exec r) other e = other
-other_name (Check file) other e = let differ : ◌≡◌ {A = ℕ} 101 99 = ap (λ (t : Text). slice_index t 0) e in omega (arith, differ)
-other_name (Compile file out) other e = let differ : ◌≡◌ {A = ℕ} 101 99 = ap (λ (t : Text). slice_index t 0) e in omega (arith, differ)
-other_name (Verify file) other e = let differ : ◌≡◌ {A = ℕ} 101 118 = ap (λ (t : Text). slice_index t 0) e in omega (arith, differ)
-other_name (Upgrade file out) other e = let differ : ◌≡◌ {A = ℕ} 101 117 = ap (λ (t : Text). slice_index t 0) e in omega (arith, differ)
-other_name (Run r) other e = let differ : ◌≡◌ {A = ℕ} 101 114 = ap (λ (t : Text). slice_index t 0) e in omega (arith, differ)
-other_name (Eval file entry calls frames) other e = let differ : ◌≡◌ {A = ℕ} 120 118 = ap (λ (t : Text). slice_index t 1) e in omega (arith, differ)
-other_name (Trace file entry out room) other e = let differ : ◌≡◌ {A = ℕ} 101 116 = ap (λ (t : Text). slice_index t 0) e in omega (arith, differ)
-other_name (Session file room) other e = let differ : ◌≡◌ {A = ℕ} 101 115 = ap (λ (t : Text). slice_index t 0) e in omega (arith, differ)
-other_name (Tasks file seed turns room) other e = let differ : ◌≡◌ {A = ℕ} 101 116 = ap (λ (t : Text). slice_index t 0) e in omega (arith, differ)
-other_name (Derive file out) other e = let differ : ◌≡◌ {A = ℕ} 101 100 = ap (λ (t : Text). slice_index t 0) e in omega (arith, differ)
-other_name (Audit file proof) other e = let differ : ◌≡◌ {A = ℕ} 101 97 = ap (λ (t : Text). slice_index t 0) e in omega (arith, differ)
-other_name (Replay trace step) other e = let differ : ◌≡◌ {A = ℕ} 101 114 = ap (λ (t : Text). slice_index t 0) e in omega (arith, differ)
-other_name (Library name) other e = let differ : ◌≡◌ {A = ℕ} 101 108 = ap (λ (t : Text). slice_index t 0) e in omega (arith, differ)
-other_name (Gen seed count) other e = let differ : ◌≡◌ {A = ℕ} 101 103 = ap (λ (t : Text). slice_index t 0) e in omega (arith, differ)
-
-not_both : (words : List Text) (r : Request) (c : Command) → IsRequest words r → IsCommand words c → IsOther c → ⊥
-not_both words r c h k other =
-    let both = same_some (subcommand_of command_app words) (codes "exec", h.rows) (command_name c, k.rows) h.command k.command in
-    other_name c other (ap (λ p. p.0) both)
+use Rattle.fip_driver.specs.Answered.{plain_request, Replies, IsRequest, Answer, NotUnderstood, Replied, Said, Beyond, IsAnswered, without_lines}
+use Rattle.fip_driver.specs.Ends.{End, Checks, Says, Missing, OnSource, IsOpen, OpenSource, OpenFile, OpenNone}
+use Rattle.source_commands.specs.Wanted.{Wanted}
+use Rattle.std.proofs.lemmas.Option.{none-some, same_Some}
+use Rattle.fip_driver.proofs.Explaining.{file_reply, core_reply, not_right_reply}
+use Rattle.fip_driver.proofs.OneCommand.{command_once, request_once}
+use Rattle.fip_driver.proofs.OneEnd.{says_once, says_not_open}
+use Rattle.fip_driver.specs.Spelling.{source_spelling}
 
 -- ---- the source
 
@@ -124,23 +69,61 @@ one_reply words files input r q a b h k =
 
 -- ---- the whole
 
-module _ (words : List (List ℕ)) (files : List File) (input : List ℕ) where
-  -- a reply that is written is that of no request of which nothing is said
-  written_said : (r : Request) (reply : Reply) → Replies source_spelling words files input r reply → IsWritten reply → IsBeyond source_spelling words files input → ⊥
-  written_said r reply h written (inl other) = not_both words r other.0 h.asked other.1 other.2
-  written_said r reply h written (inr beyond) = subst IsWritten (one_reply words files input r beyond.0 reply NotRight h beyond.1).1 written
+-- a source that has no reply as a program of the loop form
+checked_not_right : (words : List (List ℕ)) (files : List File) (input : List ℕ) (r : Request) (w : Wanted) (source : List ℕ) → IsRequest words r → Checks source_spelling files (Exec r) w source → Replies source_spelling words files input r NotRight
+checked_not_right words files input r w source asked h =
+    let name : r.file ≡ h.name = same_Some r.file h.name h.names in
+    let there : file_of r.file files ≡ Some source = subst (λ n. file_of n files ≡ Some source) (sym name) h.there in
+    let out = h.beside.1 in
+    let runs = not_right_reply (plain_request r) out.0 input out.2 in
+    file_reply source_spelling words files input source r asked there NotRight (core_reply source_spelling (plain_request r) source input out.0 h.beside.0 out.1 NotRight runs)
 
-  no_command_said : IsNoCommand words → IsBeyond source_spelling words files input → ⊥
-  no_command_said none (inl other) = none other.0 other.1
-  no_command_said none (inr beyond) = none (Exec beyond.0) beyond.1.asked
+module _ (words : List (List ℕ)) (files : List File) (input : List ℕ) where
+  abbrev Written : Request → Reply → Type 0
+  Written r reply = Replies source_spelling words files input r reply × IsWritten reply
+
+  written_checked : (r : Request) (reply : Reply) (w : Wanted) (source : List ℕ) → Written r reply → Checks source_spelling files (Exec r) w source → ⊥
+  written_checked r reply w source h k =
+      let other = checked_not_right words files input r w source h.0.asked k in
+      subst IsWritten (one_reply words files input r r reply NotRight h.0 other).1 h.1
+
+  written_said : (r : Request) (reply : Reply) (e : End) → Written r reply → Says source_spelling files input (Exec r) e → ⊥
+  written_said r reply e h (Missing name other names gone) = other
+  written_said r reply e h (OnSource w source f checks says) = written_checked r reply w source h checks
+
+  written_open : (r : Request) (reply : Reply) → Written r reply → IsOpen source_spelling files input (Exec r) → ⊥
+  written_open r reply h (OpenSource w source checks ready taken other) = written_checked r reply w source h checks
+  written_open r reply h (OpenFile bytes unsaid there) = unsaid
+  written_open r reply h (OpenNone none) = none-some r.file (sym none)
+
+  -- what the words ask for is `exec` of the request that is replied to
+  exec_said : (r : Request) (reply : Reply) (c : Command) (e : End) → Written r reply → IsCommand words c → Says source_spelling files input c e → ⊥
+  exec_said r reply c e h asked k = written_said r reply e h (subst (λ c. Says source_spelling files input c e) (command_once words c (Exec r) asked h.0.asked) k)
+
+  exec_open : (r : Request) (reply : Reply) (c : Command) → Written r reply → IsCommand words c → IsOpen source_spelling files input c → ⊥
+  exec_open r reply c h asked k = written_open r reply h (subst (λ c. IsOpen source_spelling files input c) (command_once words c (Exec r) asked h.0.asked) k)
+
+  said_open : (c d : Command) (e : End) → IsCommand words c → Says source_spelling files input c e → IsCommand words d → IsOpen source_spelling files input d → ⊥
+  said_open c d e asked h also k = says_not_open source_spelling files input c e h (subst (λ c. IsOpen source_spelling files input c) (command_once words d c also asked) k)
+
+  said_twice : (c d : Command) (e f : End) → IsCommand words c → Says source_spelling files input c e → IsCommand words d → Says source_spelling files input d f → without_lines e ≡ without_lines f
+  said_twice c d e f asked h also k = says_once source_spelling files input c e f h (subst (λ c. Says source_spelling files input c f) (command_once words d c also asked) k)
 
   pub one_answer : (a b : Answer) → IsAnswered source_spelling words files input a → IsAnswered source_spelling words files input b → a ≡ b
   one_answer NotUnderstood NotUnderstood h k = refl
   one_answer NotUnderstood (Replied q b) h k = absurd (h (Exec q) k.0.asked)
-  one_answer NotUnderstood Beyond h k = absurd (no_command_said h k)
+  one_answer NotUnderstood (Said d f) h k = absurd (h d k.1)
+  one_answer NotUnderstood Beyond h k = absurd (h k.0 k.1)
   one_answer (Replied r a) NotUnderstood h k = absurd (k (Exec r) h.0.asked)
   one_answer (Replied r a) (Replied q b) h k = let same = one_reply words files input r q a b h.0 k.0 in ap₂ Replied same.0 same.1
-  one_answer (Replied r a) Beyond h k = absurd (written_said r a h.0 h.1 k)
-  one_answer Beyond NotUnderstood h k = absurd (no_command_said k h)
-  one_answer Beyond (Replied q b) h k = absurd (written_said q b k.0 k.1 h)
+  one_answer (Replied r a) (Said d f) h k = absurd (exec_said r a d k.0 h k.1 k.2)
+  one_answer (Replied r a) Beyond h k = absurd (exec_open r a k.0 h k.1 k.2)
+  one_answer (Said c e) NotUnderstood h k = absurd (k c h.1)
+  one_answer (Said c e) (Replied q b) h k = absurd (exec_said q b c h.0 k h.1 h.2)
+  one_answer (Said c e) (Said d f) h k =
+      ap₂ Said (command_once words c d h.1 k.1) (h.3 ∙ said_twice c d h.0 k.0 h.1 h.2 k.1 k.2 ∙ sym k.3)
+  one_answer (Said c e) Beyond h k = absurd (said_open c k.0 h.0 h.1 h.2 k.1 k.2)
+  one_answer Beyond NotUnderstood h k = absurd (k h.0 h.1)
+  one_answer Beyond (Replied q b) h k = absurd (exec_open q b h.0 k h.1 h.2)
+  one_answer Beyond (Said d f) h k = absurd (said_open d h.0 k.0 k.1 k.2 h.1 h.2)
   one_answer Beyond Beyond h k = refl

@@ -14,54 +14,24 @@ use Rattle.fip_language.proofs.LoopStack.{function_of-only}
 use Rattle.fip_base.specs.Faults.{Rose}
 use Rattle.fip_base.specs.Files.{File, file_of, HoldsFile, HoldsLonger}
 use Rattle.loop_form.specs.Loop.{Loop}
-use Rattle.command_line.specs.Words.{Request, Command}
+use Rattle.command_line.specs.Words.{Request, Command, Exec, IsCommand}
 use Rattle.fip_driver.specs.LoopRun.{IsLoopRun}
 use Rattle.fip_driver.specs.Fetched.{FetchFails, ReadFails}
-use Rattle.fip_driver.specs.Fronted.{HasEntry, FrontFails, IsFront, IsOutside}
-use Rattle.fip_driver.specs.Answered.{source_spelling, IsTold, IsNoCommand, HasRightEntry, ComesToInput, Explained, IsBeyond, Answered, plain_request}
+use Rattle.fip_driver.specs.Fronted.{HasEntry, FrontFails, IsFront, EntryOutcome}
+use Rattle.fip_driver.specs.Answered.{IsTold, IsNoCommand, HasRightEntry, ComesToInput, Explained, Answered, plain_request}
+use Rattle.fip_driver.specs.Spelling.{source_spelling, IsOutside}
 use Rattle.fip_driver.specs.Explained.{ExplainedBy}
-use Rattle.fip_driver.specs.Outcome.{EntryOutcome, RequestOutcome, CommandOutcome, WordsOutcome}
+use Rattle.fip_driver.specs.Outcome.{RequestOutcome, WordsOutcome, SourceOutcome, Closes, end_of}
 use Rattle.command_outcome.specs.declared.failure.Failure.{Failure}
 use Rattle.command_outcome.specs.declared.failure.Failure.TheVariants as F
 use Rattle.fip_driver.proofs.Explaining.{explained_up, explained_fault, explained, fetch_explained, file_reply, core_reply, function_reply, spelling_explained, not_right_reply, entry_explained, input_explained}
 use Rattle.fip_driver.proofs.Running.{run_explained}
-use Rattle.fip_driver.specs.Commands.{IsOther}
-use Rattle.fip_driver.proofs.WholeAnswer.{whole_answer, beyond_answer}
+use Rattle.source_commands.specs.Wanted.{Compiled}
+use Rattle.fip_driver.specs.Ends.{Checks}
+use Rattle.fip_driver.proofs.SourceEnds.{checked_closes}
+use Rattle.fip_driver.proofs.Telling.{any_told, held, told_fetch, told_input, whole_of}
+use Rattle.fip_driver.proofs.WholeAnswer.{whole_answer, closed_answer}
 use Rattle.fip_driver.specs.Delivered.{Seen, Delivered}
-
--- something is told, or else this may be
-any_told : {A : Type 0} (o : Option A) (x : A) → (y : A) × IsTold o y
-any_told None x = (x, tt)
-any_told (Some y) x = (y, refl)
-
-own_name : (name bytes : List ℕ) → file_of name (record { name = name; bytes = bytes } ∷ []) ≡ Some bytes
-own_name name bytes = ap (λ b. if b then Some bytes else None) ((bytes_eq-Decides name name).1 refl)
-
--- files that are told, with these bytes under the name
-held : (files : Option (List File)) (name bytes : List ℕ) → HoldsFile files name bytes → (all : List File) × IsTold files all × (file_of name all ≡ Some bytes)
-held None name bytes h = (record { name = name; bytes = bytes } ∷ [], tt, own_name name bytes)
-held (Some all) name bytes h = (all, refl, h)
-
--- so many bytes
-bytes_of : (n : ℕ) → (bytes : List ℕ) × (length bytes ≡ n)
-bytes_of n = (replicate n 0, length-replicate n 0)
-
--- ---- the file
-
-longer : (name : List ℕ) (limit : ℕ) → (all : List File) × HoldsLonger (Some all) name limit
-longer name limit =
-    let b = bytes_of (limit + 1) in
-    let all : List File = record { name = name; bytes = b.0 } ∷ [] in
-    let enough : limit < length b.0 = let n = b.1 in omega arith in
-    (all, subst (λ o. IsSomeAnd o (λ bs. limit < length bs)) (sym (own_name name b.0)) enough)
-
--- the same cause, of files that are told
-told_fetch : (files : Option (List File)) (name : List ℕ) (before now : ℕ) (f : Failure) → FetchFails files name before now f → (all : List File) × IsTold files all × FetchFails (Some all) name before now f
-told_fetch (Some all) name before now f h = (all, refl, h)
-told_fetch None name before now (F.Refused x) h = let l = longer name 1048576 in (l.0, tt, (h.0, l.1))
-told_fetch None name before now (F.Fault object) h = ([], tt, (h.0, elim h.1 [ inl up ↦ inl up | inr gone ↦ absurd gone ]))
-told_fetch None name before now F.NoMemory h = ([], tt, tt)
-told_fetch None name before now failure h = absurd h
 
 pub fetch_outcome : (r : Request) (files : Option (List File)) (left : Option (List ℕ)) (before now : ℕ) (rose : Type 0) (f : Failure) → FetchFails files r.file before now f → RequestOutcome r files left (Rose before now) rose (Err f)
 fetch_outcome r files left before now rose f h words asked =
@@ -101,14 +71,14 @@ entry_outcome l r files left fr rose source text o holds le same fronts ends =
     of_source r files left fr rose source o holds (e.0, e.1, explained_up Is _ r.gauge _ (core_reply source_spelling (plain_request r) source e.0 front.0 le front.1) o (explained_fault Is r.gauge rose _ (λ k. (k, right)) o e.2))
 
 -- a source outside the loop form
-pub outside_outcome : (r : Request) (files : Option (List File)) (left : Option (List ℕ)) (folder_rose rose : Type 0) (source text : List ℕ) (o : Result (Vec ℕ Global) Failure) → HoldsFile files r.file source → length source ≤ 1048576 → text ≡ source → IsOutside source_spelling text → RequestOutcome r files left folder_rose rose o
-outside_outcome r files left fr rose source text o holds le same h words asked =
+pub outside_outcome : (r : Request) (files : Option (List File)) (left : Option (List ℕ)) (folder_rose rose : Type 0) (source text again : List ℕ) (o : Result (Vec ℕ Global) Failure) → HoldsFile files r.file source → length source ≤ 1048576 → text ≡ source → again ≡ source → IsOutside source_spelling text → SourceOutcome (Exec r) (Compiled r.entry) again left ⊥ rose (end_of o) → RequestOutcome r files left folder_rose rose o
+outside_outcome r files left fr rose source text again o holds le same twice h k words asked =
     let t = held files r.file source holds in
-    let i = any_told left [] in
     let out = subst (λ x. IsOutside source_spelling x) same h in
-    let runs = not_right_reply (plain_request r) out.0 i.0 out.2 in
-    let answers = core_reply source_spelling (plain_request r) source i.0 out.0 le out.1 NotRight runs in
-    (t.0, i.0, t.1, i.1, inr (inr (r, file_reply source_spelling words t.0 i.0 source r asked t.2 NotRight answers)))
+    let i = subst (λ x. SourceOutcome (Exec r) (Compiled r.entry) x left ⊥ rose (end_of o)) twice k in
+    let checks : Checks source_spelling t.0 (Exec r) (Compiled r.entry) source = record { wants = refl; name = r.file; names = refl; there = t.2; beside = (le, out) } in
+    let closes = checked_closes (Exec r) (Compiled r.entry) t.0 source i.0 ⊥ rose fr rose (end_of o) (λ b. absurd b) (λ x. x) checks i.2 in
+    (t.0, i.0, t.1, i.1, inr (Exec r, asked, closes))
 
 -- ---- the input
 
@@ -117,28 +87,10 @@ of_input : (l : Loop) (r : Request) (rose : Type 0) (o : Result (Vec ℕ Global)
 of_input l r rose o core h input e =
     explained_up (Reads (plain_request r) core h.ready.function input) _ r.gauge rose (function_reply (plain_request r) core input h.ready.function h.ready.checked.right (entered core l r h)) o e
 
--- the same cause, of an input that is told
-told_input : (before left : Option (List ℕ)) (old new : ℕ) (f : Failure) → ReadFails before left old new f → (input : List ℕ) × IsTold before input × ((rest : Option (List ℕ)) × ReadFails (Some input) rest old new f)
-told_input (Some input) left old new f h = (input, refl, (left, h))
-told_input None left old new (F.BadInput at) h =
-    let b = bytes_of 16777217 in
-    (b.0, tt, (Some [], (h.0, (b.0, sym (append-nil b.0), b.1))))
-told_input None left old new (F.Fault object) h = ([], tt, (None, h))
-told_input None left old new F.NoMemory h = ([], tt, (None, tt))
-told_input None left old new failure h = absurd h
-
 pub read_outcome : (l : Loop) (r : Request) (before left : Option (List ℕ)) (old new : ℕ) (f : Failure) → ReadFails before left old new f → EntryOutcome l r before (Rose old new) (Err f)
 read_outcome l r before left old new f h core has =
     let t = told_input before left old new f h in
     (t.0, t.1, of_input l r (Rose old new) (Err f) core has t.0 (input_explained (plain_request r) core has.ready.function t.0 t.2.0 old new r.gauge f t.2.1))
-
--- an input that was read to its end is what was told
-whole_of : (before left : Option (List ℕ)) (read : List ℕ) → Consumes before left read → IsAtEnd left → IsTold before read
-whole_of None left read c end = tt
-whole_of (Some xs) None read c end = absurd c
-whole_of (Some xs) (Some ys) read c end =
-    let none : ys ≡ [] = end in
-    c ∙ (ap (λ ys. read ++ ys) none ∙ append-nil read)
 
 pub run_outcome : (l : Loop) (r : Request) (before left : Option (List ℕ)) (rose : Type 0) (read bytes : List ℕ) (o : Result (Vec ℕ Global) Failure) → Consumes before left read → IsAtEnd left → length read ≤ 16777216 → bytes ≡ read → IsLoopRun l bytes r.room.words r.room.calls r.gauge o → EntryOutcome l r before rose o
 run_outcome l r before left rose read bytes o c end le same h core has =
@@ -159,22 +111,15 @@ no_memory_outcome words files left fr rose =
     let i = any_told left [] in
     (t.0, i.0, t.1, i.1, inl tt)
 
--- another command than `exec`
-pub other_outcome : (c : Command) (files : Option (List File)) (left : Option (List ℕ)) (folder_rose rose : Type 0) (o : Result (Vec ℕ Global) Failure) → IsOther c → CommandOutcome c files left folder_rose rose o
-other_outcome c files left fr rose o other words asked =
-    let t = any_told files [] in
-    let i = any_told left [] in
-    (t.0, i.0, t.1, i.1, inr (inl (c, asked, other)))
-
 -- ---- the whole
 
 module _ (words : List (List ℕ)) (files : List File) (input : List ℕ) (out out' err err' : Seen) where
   abbrev Whole : List File → List ℕ → ℕ → Type 0
   Whole fs bytes s = Answered source_spelling words fs bytes out.written out'.written err.written err'.written s
 
-  told_whole : (folder_rose input_rose : Type 0) → (folder_rose → ⊥) → (input_rose → ⊥) → (Rose out.faults out'.faults → ⊥) → (Rose err.faults err'.faults → ⊥) → (o : Result (Vec ℕ Global) Failure) (s : ℕ) (fs : List File) (bytes : List ℕ) → Explained source_spelling words fs bytes folder_rose input_rose o ⊎ IsBeyond source_spelling words fs bytes → Delivered out out' err err' o s → Whole fs bytes s
+  told_whole : (folder_rose input_rose : Type 0) → (folder_rose → ⊥) → (input_rose → ⊥) → (Rose out.faults out'.faults → ⊥) → (Rose err.faults err'.faults → ⊥) → (o : Result (Vec ℕ Global) Failure) (s : ℕ) (fs : List File) (bytes : List ℕ) → Explained source_spelling words fs bytes folder_rose input_rose o ⊎ ((c : Command) × IsCommand words c × Closes source_spelling fs bytes c folder_rose input_rose (end_of o)) → Delivered out out' err err' o s → Whole fs bytes s
   told_whole fr ir no_f no_i no_out no_err o s fs bytes (inl h) d = whole_answer source_spelling words fs bytes out out' err err' no_out no_err fr ir no_f no_i o s h d
-  told_whole fr ir no_f no_i no_out no_err o s fs bytes (inr h) d = beyond_answer source_spelling words fs bytes out out' err err' no_out no_err o s h d
+  told_whole fr ir no_f no_i no_out no_err o s fs bytes (inr h) d = closed_answer source_spelling words fs bytes out out' err err' no_out no_err h.0 fr ir no_f no_i o s h.1 h.2 d
 
   -- where no count of faults rose, and the folder and the input tell what they hold
   pub whole_outcome : (folder : Option (List File)) (left : Option (List ℕ)) (folder_rose input_rose : Type 0) → folder ≡ Some files → left ≡ Some input → (folder_rose → ⊥) → (input_rose → ⊥) → (Rose out.faults out'.faults → ⊥) → (Rose err.faults err'.faults → ⊥) → (o : Result (Vec ℕ Global) Failure) (s : ℕ) → WordsOutcome words folder left folder_rose input_rose o → Delivered out out' err err' o s → Whole files input s

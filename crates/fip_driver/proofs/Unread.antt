@@ -8,7 +8,7 @@ use Rattle.command_outcome.specs.Stages.{IsOfSource, IsOfRun, IsOfTasks, IsOfTra
 use Rattle.command_outcome.specs.Failures.{failure_status, failure_text}
 use Rattle.command_outcome.specs.Texts.{no_memory_text}
 use Rattle.fip_driver.specs.Delivered.{Seen, Told, ToldFailure, Delivered}
-use Rattle.fip_driver.specs.Answered.{Spelling}
+use Rattle.fip_driver.specs.Spelling.{Spelling}
 use Rattle.fip_driver.specs.Commands.{ReadsInput, CallsNoFolder, stored_name}
 use Rattle.fip_driver.specs.Fetched.{FetchFails, ReadFails, IsEarlyFailure, IsLateFailure}
 use Rattle.fip_driver.specs.Fronted.{FrontFails}

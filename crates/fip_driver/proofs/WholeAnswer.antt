@@ -12,7 +12,11 @@ use Rattle.fip_driver.specs.Explained.{IsWritten}
 use Rattle.fip_driver.specs.Reply.{out_text}
 use Rattle.command_outcome.specs.Texts.{no_memory_text, folder_fault_text}
 use Rattle.fip_driver.specs.Delivered.{Seen, Tried, Told, ToldFailure, Delivered}
-use Rattle.fip_driver.specs.Answered.{Spelling, Answered, HasFailed, Explained, IsBeyond, IsOfTable}
+use Rattle.fip_driver.specs.Answered.{Answered, HasFailed, Explained}
+use Rattle.fip_driver.specs.Ends.{End, Ends, Says, Comes}
+use Rattle.fip_driver.specs.Outcome.{end_of, IsFault, Closes}
+use Rattle.command_line.specs.Words.{Command, IsCommand}
+use Rattle.fip_driver.specs.Spelling.{Spelling}
 use Rattle.command_outcome.specs.Failures.{failure_text, failure_status, fault_text}
 use Rattle.command_outcome.specs.declared.failure.Failure.{Failure}
 use Rattle.command_outcome.specs.declared.failure.Failure.TheVariants as F
@@ -90,34 +94,44 @@ module _ (spelling : Spelling) (words : List (List ℕ)) (files : List File) (in
   whole_answer fr ir no_f no_i (Ok text) s h (inr d) = absurd (no_out d.1)
   whole_answer fr ir no_f no_i (Err f) s h d = delivered_failure fr ir no_f no_i f s d.0 h d.1
 
-  -- ---- where no definition says the answer
+  -- ---- what isn't a reply
 
-  abbrev Table : ℕ → Type 0
-  Table s = IsOfTable out.written out'.written err.written err'.written s
+  -- how an end is told, or that memory was wanting for its text
+  abbrev EndTold : End → ℕ → Type 0
+  EndTold e s = Ends e out.written out'.written err.written err'.written s
 
-  failure_of_table : (f : Failure) (s : ℕ) → out' ≡ out → s ≡ failure_status f → Appends err.written err'.written (failure_text f) → Table s
-  failure_of_table f s same e told = inr (ap (λ o. o.written) same, (f, e, told))
+  told_or_not : (f : Failure) (s : ℕ) → out' ≡ out → Told err err' (failure_status f) (failure_text f) s ⊎ Told err err' 10 no_memory_text s → EndTold (Err f) s ⊎ Whole s
+  told_or_not f s same (inl (inl t)) = inl (t.0, ap (λ o. o.written) same, t.1)
+  told_or_not f s same (inl (inr t)) = absurd (no_err t.1)
+  told_or_not f s same (inr t) = inr (no_memory s same t)
 
-  told_of_table : (f : Failure) (s : ℕ) → out' ≡ out → Told err err' (failure_status f) (failure_text f) s → Table s
-  told_of_table f s same (inl t) = failure_of_table f s same t.0 t.1
-  told_of_table f s same (inr t) = absurd (no_err t.1)
+  tried_end : (object : Object) (s : ℕ) → out' ≡ out → s ≡ 9 → Tried err err' (fault_text object) → EndTold (Err (F.Fault object)) s
+  tried_end object s same e (inl t) = (e, ap (λ o. o.written) same, t)
+  tried_end object s same e (inr t) = absurd (no_err t.0)
 
-  either_of_table : (f : Failure) (s : ℕ) → out' ≡ out → Told err err' (failure_status f) (failure_text f) s ⊎ Told err err' 10 no_memory_text s → Table s
-  either_of_table f s same (inl t) = told_of_table f s same t
-  either_of_table f s same (inr t) = told_of_table F.NoMemory s same t
+  failure_end : (f : Failure) (s : ℕ) → out' ≡ out → ToldFailure err err' f s → EndTold (Err f) s ⊎ Whole s
+  failure_end (F.Fault object) s same h = inl (tried_end object s same h.0 h.1)
+  failure_end f s same h = told_or_not f s same h
 
-  tried_of_table : (object : Object) (s : ℕ) → out' ≡ out → s ≡ 9 → Tried err err' (fault_text object) → Table s
-  tried_of_table object s same e (inl t) = failure_of_table (F.Fault object) s same e t
-  tried_of_table object s same e (inr t) = absurd (no_err t.0)
+  delivered_end : (o : Result (Vec ℕ Global) Failure) (s : ℕ) → Delivered out out' err err' o s → EndTold (end_of o) s ⊎ Whole s
+  delivered_end (Ok text) s (inl d) = inl (d.0, ap (λ e. e.written) d.2, d.1)
+  delivered_end (Ok text) s (inr d) = absurd (no_out d.1)
+  delivered_end (Err f) s d = failure_end f s d.0 d.1
 
-  table_failure : (f : Failure) (s : ℕ) → out' ≡ out → ToldFailure err err' f s → Table s
-  table_failure (F.Fault object) s same h = tried_of_table object s same h.0 h.1
-  table_failure f s same h = either_of_table f s same h
+  -- where no count of faults rose, an end of a fault is want of memory
+  fault_end : (c : Command) (folder_rose input_rose : Type 0) → (folder_rose → ⊥) → (input_rose → ⊥) → (e : End) (s : ℕ) → IsFault c folder_rose input_rose e → EndTold e s → Whole s
+  fault_end c fr ir no_f no_i (Ok text) s h t = absurd h
+  fault_end c fr ir no_f no_i (Err F.NoMemory) s h t = inl t
+  fault_end c fr ir no_f no_i (Err (F.Fault O.Folder)) s h t = absurd (no_f h.0)
+  fault_end c fr ir no_f no_i (Err (F.Fault O.Input)) s h t = absurd (no_i h.0)
+  fault_end c fr ir no_f no_i (Err (F.Fault O.Out)) s h t = absurd h
+  fault_end c fr ir no_f no_i (Err (F.Fault O.Err)) s h t = absurd h
+  fault_end c fr ir no_f no_i (Err failure) s h t = absurd h
 
-  table_of : (o : Result (Vec ℕ Global) Failure) (s : ℕ) → Delivered out out' err err' o s → Table s
-  table_of (Ok text) s (inl d) = inl (d.0, ap (λ e. e.written) d.2, (text.items, d.1))
-  table_of (Ok text) s (inr d) = absurd (no_out d.1)
-  table_of (Err f) s d = table_failure f s d.0 d.1
+  closed_end : (c : Command) (folder_rose input_rose : Type 0) → (folder_rose → ⊥) → (input_rose → ⊥) → (e : End) (s : ℕ) → IsCommand words c → Closes spelling files input c folder_rose input_rose e → EndTold e s → Whole s
+  closed_end c fr ir no_f no_i e s asked (inl h) t = fault_end c fr ir no_f no_i e s h t
+  closed_end c fr ir no_f no_i e s asked (inr (inl h)) t = inr (inr (inr (inl (c, e, asked, h, t))))
+  closed_end c fr ir no_f no_i e s asked (inr (inr h)) t = inr (inr (inr (inr (c, e, asked, h, t))))
 
-  pub beyond_answer : (o : Result (Vec ℕ Global) Failure) (s : ℕ) → IsBeyond spelling words files input → Delivered out out' err err' o s → Whole s
-  beyond_answer o s h d = inr (inr (inr (h, table_of o s d)))
+  pub closed_answer : (c : Command) (folder_rose input_rose : Type 0) → (folder_rose → ⊥) → (input_rose → ⊥) → (o : Result (Vec ℕ Global) Failure) (s : ℕ) → IsCommand words c → Closes spelling files input c folder_rose input_rose (end_of o) → Delivered out out' err err' o s → Whole s
+  closed_answer c fr ir no_f no_i o s asked h d = elim (delivered_end o s d) [ inl t ↦ closed_end c fr ir no_f no_i (end_of o) s asked h t | inr w ↦ w ]

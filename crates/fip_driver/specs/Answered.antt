@@ -1,45 +1,29 @@
 -- What the program answers, where the folder tells its files and the input its bytes.
--- The definitions of the language say so far what `exec` answers for a source that is no program, and for a right
--- program of the loop form. Of every other request the table of statuses and texts is all that is said.
+-- The definitions of the language say what `exec` answers for a source that is no program, and for a right program of
+-- the loop form. `Ends` says what every command answers for a source that is refused, and `check` for one that isn't;
+-- and how the answers may be that aren't said yet.
 use Rattle.std.specs.Prelude.{◌≡◌, ◌≤◌, ℕ, List, length, ◌⊎◌, Option, Some, None, Result, Ok, Err}
 use Rattle.std.specs.Io.KnownBytes.{Appends}
 use Rattle.std.specs.declared.vec.Vec.{Vec}
 use Rattle.std.specs.declared.alloc.Global.{Global}
 use Rattle.fip_language.specs.declared.Place.{Place}
 use Rattle.fip_language.specs.declared.limits.TheConstants.{MOST_SOURCE_BYTES}
-use Rattle.fip_language.specs.declared.rule.Rule.{Rule}
 use Rattle.fip_language.specs.Core.{Function, Core}
 use Rattle.fip_language.specs.Declarations.{function_of}
 use Rattle.fip_language.specs.Right.{IsRight}
-use Rattle.fip_language.specs.CoreForm.{core_form}
-use Rattle.fip_language.specs.Surface.{Program}
-use Rattle.fip_grammar.specs.Limits.{IsSpelt, IsMisspelt}
 use Rattle.fip_language.specs.Answer as A
-use Rattle.fip_language.specs.Answer.{Reply, NotRight, Execs, status}
+use Rattle.fip_language.specs.Answer.{Reply, Execs, status}
 use Rattle.fip_base.specs.Files.{File, file_of}
 use Rattle.command_line.specs.Words.{Request, Command, Exec, IsCommand}
 use Rattle.fip_driver.specs.Reply.{out_text, err_text}
 use Rattle.command_outcome.specs.Texts.{not_understood_text, no_memory_text}
+use Rattle.fip_driver.specs.Ends.{End, Ends, Says, Comes, IsOpen}
 use Rattle.fip_driver.specs.Explained.{IsWritten, FailsAs, PrintsAs}
-use Rattle.fip_driver.specs.Commands.{IsOther}
-use Rattle.command_outcome.specs.Failures.{failure_status, failure_text}
+use Rattle.fip_driver.specs.Spelling.{Spelling}
 use Rattle.command_outcome.specs.declared.failure.Failure.{Failure}
 use Rattle.command_outcome.specs.declared.failure.Failure.TheVariants as F
 use Rattle.command_outcome.specs.declared.failure.Object.{Object}
 use Rattle.command_outcome.specs.declared.failure.Object.TheVariants as O
-
--- how a source is spelt: with a core form, or with a rule of its spelling broken at a place
-pub record Spelling : Type 1 where
-  pub spells : List ℕ → Core → Type 0
-  pub misspells : List ℕ → Rule → Place → Type 0
-
--- How the sources of the language are spelt: their tokens are those of a program, whose core form it is; or they break
--- one of the rules E01 to E04.
-abbrev pub source_spelling : Spelling
-source_spelling = record {
-  spells = λ source core. (p : Program) × IsSpelt source p × (core ≡ core_form p);
-  misspells = IsMisspelt;
-}
 
 -- what an object tells, where it tells something
 abbrev pub IsTold : {A : Type 0} → Option A → A → Type 0
@@ -60,39 +44,39 @@ pub record Replies (spelling : Spelling) (words : List (List ℕ)) (files : List
   pub asked : IsRequest words r
   pub execs : Execs spelling.spells spelling.misspells (plain_request r) (λ name. file_of name files) input reply
 
--- The words ask for another command than `exec`.
-abbrev pub IsOtherCommand : List (List ℕ) → Type 0
-IsOtherCommand words = (c : Command) × IsCommand words c × IsOther c
-
--- Of what the words ask for no definition says yet what the answer is: it is another command than `exec`, or the source
--- is spelt and is no right program of the loop form.
-abbrev pub IsBeyond : Spelling → List (List ℕ) → List File → List ℕ → Type 0
-IsBeyond spelling words files input =
-    IsOtherCommand words
-    ⊎ ((r : Request) × Replies spelling words files input r NotRight)
-
 abbrev pub IsNoCommand : List (List ℕ) → Type 0
 IsNoCommand words = (c : Command) → IsCommand words c → ⊥
+
+-- An end without the line and the column of a refusal's place.
+abbrev pub at_offset : Option Place → Option Place
+at_offset None = None
+at_offset (Some p) = Some (record p { line = 0; col = 0 })
+
+abbrev pub without_lines : End → End
+without_lines (Err (F.Refused r)) = Err (F.Refused (record r { place = at_offset r.place }))
+without_lines e = e
 
 -- what words are answered
 pub data Answer : Type 0 where
   NotUnderstood : Answer
+  -- by the reply to a program of the loop form
   Replied : (r : Request) (reply : Reply) → Answer
+  -- by what is said of all other sources
+  Said : (c : Command) (e : End) → Answer
+  -- by what no definition says yet
   Beyond : Answer
 
--- The words have this answer.
+-- The words have this answer. A report is one up to the line and the column of its place: that they are those of its
+-- offset is said by no clause.
 abbrev pub IsAnswered : Spelling → List (List ℕ) → List File → List ℕ → Answer → Type 0
 IsAnswered spelling words files input NotUnderstood = IsNoCommand words
 IsAnswered spelling words files input (Replied r reply) = Replies spelling words files input r reply × IsWritten reply
-IsAnswered spelling words files input Beyond = IsBeyond spelling words files input
+IsAnswered spelling words files input (Said c e) =
+    (d : End) × IsCommand words c × Says spelling files input c d × (e ≡ without_lines d)
+IsAnswered spelling words files input Beyond = (c : Command) × IsCommand words c × IsOpen spelling files input c
 
--- The status and the texts are of the table: a result on out, or a status other than 0 with its text on err alone.
-abbrev pub IsOfTable : Option (List ℕ) → Option (List ℕ) → Option (List ℕ) → Option (List ℕ) → ℕ → Type 0
-IsOfTable out out' err err' s =
-    ((s ≡ 0) × (err' ≡ err) × ((text : List ℕ) × Appends out out' text))
-    ⊎ ((out' ≡ out) × ((failure : Failure) × (s ≡ failure_status failure) × Appends err err' (failure_text failure)))
-
--- The whole answer: the status, and what out and err hold more. Status 10 is want of memory.
+-- The whole answer: the status, and what out and err hold more. Status 10 is want of memory. Where what a command ends
+-- with isn't said, it is one of the ends that may come, and told as such.
 abbrev pub Answered : Spelling → List (List ℕ) → List File → List ℕ → Option (List ℕ) → Option (List ℕ) →
     Option (List ℕ) → Option (List ℕ) → ℕ → Type 0
 Answered spelling words files input out out' err err' s =
@@ -100,7 +84,8 @@ Answered spelling words files input out out' err err' s =
     ⊎ (IsNoCommand words × (s ≡ 2) × (out' ≡ out) × Appends err err' not_understood_text)
     ⊎ ((r : Request) × (reply : Reply) × Replies spelling words files input r reply × IsWritten reply
     × (s ≡ status reply) × Appends out out' (out_text r.gauge reply) × Appends err err' (err_text reply))
-    ⊎ (IsBeyond spelling words files input × IsOfTable out out' err err' s)
+    ⊎ ((c : Command) × (e : End) × IsCommand words c × Says spelling files input c e × Ends e out out' err err' s)
+    ⊎ ((c : Command) × (e : End) × IsCommand words c × Comes spelling files input c e × Ends e out out' err err' s)
 
 abbrev pub HasFailed : Spelling → List (List ℕ) → List File → List ℕ → Failure → Type 0
 HasFailed spelling words files input failure = (r : Request) × (reply : Reply)

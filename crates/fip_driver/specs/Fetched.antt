@@ -6,6 +6,7 @@ use Rattle.fip_language.specs.declared.rule.Rule.TheVariants.{E05, E70}
 use Rattle.fip_base.specs.Faults.{Rose}
 use Rattle.fip_base.specs.Files.{File, HoldsLonger, IsMissing}
 use Rattle.fip_base.specs.Takes.{Takes}
+use Rattle.source_commands.specs.Judged.{IsJudged}
 use Rattle.command_outcome.specs.Stages.{IsOfSource, IsOfTrace}
 use Rattle.command_outcome.specs.declared.failure.Object.TheVariants as O
 use Rattle.command_outcome.specs.declared.failure.Failure.{Failure}
@@ -25,6 +26,27 @@ FetchFails files name before now (F.Refused r) = (r ≡ too_long) × HoldsLonger
 FetchFails files name before now (F.Fault object) = (object ≡ O.Folder) × (Rose before now ⊎ IsMissing files name)
 FetchFails files name before now F.NoMemory = Unit {0}
 FetchFails files name before now failure = ⊥
+
+-- why another file wasn't fetched, where too many bytes are told so
+abbrev pub FileFails : (Failure → Type 0) → Option (List File) → List ℕ → ℕ → ℕ → Failure → Type 0
+FileFails IsLong files name before now (F.Fault object) =
+    (object ≡ O.Folder) × (Rose before now ⊎ IsMissing files name)
+FileFails IsLong files name before now F.NoMemory = Unit {0}
+FileFails IsLong files name before now failure = IsLong failure × HoldsLonger files name MOST_FILE_BYTES
+
+-- why a file wasn't stored
+abbrev pub StoreFails : ℕ → ℕ → Failure → Type 0
+StoreFails before now (F.Fault object) = (object ≡ O.Folder) × Rose before now
+StoreFails before now F.NoMemory = Unit {0}
+StoreFails before now failure = ⊥
+
+-- why a proof file isn't accepted, or wasn't fetched
+abbrev pub JudgeFails : Option (List File) → List ℕ → ℕ → ℕ → Failure → Type 0
+JudgeFails files name before now (F.Refused r) = IsJudged r
+JudgeFails files name before now (F.Fault object) =
+    (object ≡ O.Folder) × (Rose before now ⊎ IsMissing files name)
+JudgeFails files name before now F.NoMemory = Unit {0}
+JudgeFails files name before now failure = ⊥
 
 -- why an input wasn't read, by what was left of it before and after, and the count of faults before and after
 abbrev pub ReadFails : Option (List ℕ) → Option (List ℕ) → ℕ → ℕ → Failure → Type 0

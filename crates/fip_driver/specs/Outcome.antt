@@ -1,31 +1,74 @@
 -- What a command comes to, before it is handed to the sinks.
-use Rattle.std.specs.Prelude.{ℕ, List, Option, Result, ◌⊎◌}
+use Rattle.std.specs.Prelude.{◌≡◌, ◌⊎◌, ℕ, ◌<◌, ◌≤◌, List, length, Option, Result, Ok, Err}
 use Rattle.std.specs.declared.vec.Vec.{Vec}
 use Rattle.std.specs.declared.alloc.Global.{Global}
-use Rattle.fip_language.specs.Core.{Core}
-use Rattle.fip_language.specs.Answer.{Runs}
+use Rattle.fip_language.specs.declared.limits.TheConstants.{MOST_FILE_BYTES}
 use Rattle.fip_base.specs.Files.{File}
-use Rattle.loop_form.specs.Loop.{Loop}
 use Rattle.command_line.specs.Words.{Request, Command, IsCommand}
-use Rattle.fip_driver.specs.Answered.{IsTold, Explained, IsBeyond, IsRequest, plain_request, source_spelling}
-use Rattle.fip_driver.specs.Explained.{ExplainedBy}
-use Rattle.fip_driver.specs.Fronted.{HasEntry}
+use Rattle.source_commands.specs.Wanted.{Wanted}
+use Rattle.source_commands.specs.declared.files.Compiled.{Compiled}
+use Rattle.fip_driver.specs.Answered.{IsTold, Explained, IsRequest}
+use Rattle.fip_driver.specs.Commands.{ReadsInput, CallsNoFolder}
+use Rattle.fip_driver.specs.Ends.{End, SaysOf, ComesOf, Says, Comes}
+use Rattle.fip_driver.specs.Spelling.{Spelling, source_spelling}
 use Rattle.command_outcome.specs.declared.failure.Failure.{Failure}
+use Rattle.command_outcome.specs.declared.failure.Failure.TheVariants as F
+use Rattle.command_outcome.specs.declared.failure.Object.TheVariants as O
 
--- What running an entry comes to, for each core form whose loop program this is: it is explained by the reply to an
--- input, which is what the source told of its bytes.
-abbrev pub EntryOutcome : Loop → Request → Option (List ℕ) → Type 0 → Result (Vec ℕ Global) Failure → Type 0
-EntryOutcome l r left rose o =
-    (core : Core) → HasEntry core l r.entry → (input : List ℕ) × IsTold left input
-    × ExplainedBy (Runs (plain_request r) core input) r.gauge rose o
+-- a result without where its bytes lie in memory
+abbrev pub end_of : Result (Vec ℕ Global) Failure → End
+end_of (Ok text) = Ok text.items
+end_of (Err failure) = Err failure
+
+abbrev pub compiled_end : Result Compiled Failure → End
+compiled_end (Ok compiled) = Ok compiled.text.items
+compiled_end (Err failure) = Err failure
+
+-- want of memory, or a fault that was counted of an object that the command calls
+abbrev pub IsFault : Command → Type 0 → Type 0 → End → Type 0
+IsFault c folder_rose input_rose (Err F.NoMemory) = Unit {0}
+IsFault c folder_rose input_rose (Err (F.Fault O.Folder)) = folder_rose × (CallsNoFolder c → ⊥)
+IsFault c folder_rose input_rose (Err (F.Fault O.Input)) = input_rose × ReadsInput c
+IsFault c folder_rose input_rose e = ⊥
+
+-- want of memory, or a fault of the input that was counted
+abbrev pub IsInputFault : Type 0 → End → Type 0
+IsInputFault rose (Err F.NoMemory) = Unit {0}
+IsInputFault rose (Err (F.Fault O.Input)) = rose
+IsInputFault rose e = ⊥
+
+-- What reading an input and running on it comes to, by how the run may end.
+abbrev pub InputOutcome : (End → Type 0) → Option (List ℕ) → Type 0 → End → Type 0
+InputOutcome May left rose e =
+    (input : List ℕ) × IsTold left input × (IsInputFault rose e
+    ⊎ (((MOST_FILE_BYTES < length input) × (e ≡ Err (F.BadInput MOST_FILE_BYTES)))
+    ⊎ ((length input ≤ MOST_FILE_BYTES) × May e)))
+
+-- What a command comes to on a source of which all rules are asked.
+abbrev pub SourceOutcome : Command → Wanted → List ℕ → Option (List ℕ) → Type 0 → Type 0 → End → Type 0
+SourceOutcome c w source left folder_rose input_rose e =
+    (input : List ℕ) × IsTold left input × (IsFault c folder_rose input_rose e
+    ⊎ (SaysOf source input c w e ⊎ ComesOf source input c w e))
+
+-- What a command comes to on files: it is said, or may come.
+abbrev pub Closes : Spelling → List File → List ℕ → Command → Type 0 → Type 0 → End → Type 0
+Closes spelling files input c folder_rose input_rose e =
+    IsFault c folder_rose input_rose e ⊎ (Says spelling files input c e ⊎ Comes spelling files input c e)
+
+-- The same of the files and the input that the folder and the source told, where they told something.
+abbrev pub FileOutcome : Command → Option (List File) → Option (List ℕ) → Type 0 → Type 0 → End → Type 0
+FileOutcome c files left folder_rose input_rose e =
+    (all : List File) × (input : List ℕ) × IsTold files all × IsTold left input
+    × Closes source_spelling all input c folder_rose input_rose e
 
 -- What words come to: it is explained by the reply to files and an input, which are what the folder and the source
--- told, where they told something; or no definition says yet what it is.
+-- told, where they told something; or it is what a command ends with on them.
 abbrev pub WordsOutcome : List (List ℕ) → Option (List File) → Option (List ℕ) → Type 0 → Type 0 →
     Result (Vec ℕ Global) Failure → Type 0
 WordsOutcome words files left folder_rose input_rose o =
     (all : List File) × (input : List ℕ) × IsTold files all × IsTold left input
-    × (Explained source_spelling words all input folder_rose input_rose o ⊎ IsBeyond source_spelling words all input)
+    × (Explained source_spelling words all input folder_rose input_rose o
+    ⊎ ((c : Command) × IsCommand words c × Closes source_spelling all input c folder_rose input_rose (end_of o)))
 
 -- what a request comes to, whatever words ask for it
 abbrev pub RequestOutcome : Request → Option (List File) → Option (List ℕ) → Type 0 → Type 0 →

@@ -1,7 +1,11 @@
 // What the commands come to that fetch one file: which object is called when.
-ghost use Rattle.std.specs.Prelude.{◌≡◌, ◌≤◌, OnOk, Some};
+ghost use Rattle.std.specs.Prelude.{◌≡◌, ◌≤◌, ℕ, List, Option, OnOk, Some};
 ghost use Rattle.std.specs.Io.KnownBytes.{IsAtEnd};
 ghost use Rattle.fip_language.specs.declared.limits.TheConstants.{MOST_FRAMES};
+ghost use Rattle.fip_base.specs.Faults.{Rose};
+ghost use Rattle.command_line.specs.Words as W;
+ghost use Rattle.fip_driver.specs.Ends.{IsRunEnd};
+ghost use Rattle.fip_driver.specs.Outcome.{FileOutcome, InputOutcome, end_of};
 ghost use Rattle.fip_driver.specs.Unread.{AreKept, IsBeforeSource, IsBeforeInput};
 
 use crate::fetched::{fetch_code, fetch_source, read_input};
@@ -13,6 +17,8 @@ use std::alloc::Global;
 
 /// The lines of a source that breaks no rule.
 pub fn check<F: Folder>(alloc: Global, file: &str, folder: &mut F) -> Result<Vec<u8>, Failure>
+    ensures outcome { (left : Option (List ℕ)) → FileOutcome (W.Check file.now) (F.files folder.old) left
+        (Rose (F.faults folder.old) (F.faults folder.new)) ⊥ (end_of result) }
     ensures understood { IsBeforeSource result → ⊥ }
     ensures files { F.files folder.new ≡ F.files folder.old }
 {
@@ -29,6 +35,8 @@ pub fn compile<F: Folder>(
     out: &str,
     folder: &mut F,
 ) -> Result<Vec<u8>, Failure>
+    ensures outcome { (left : Option (List ℕ)) → FileOutcome (W.Compile file.now out.now) (F.files folder.old) left
+        (Rose (F.faults folder.old) (F.faults folder.new)) ⊥ (end_of result) }
     ensures kept { AreKept (Some out.now) (F.files folder.old) (F.files folder.new) result }
     ensures understood { IsBeforeSource result → ⊥ }
 {
@@ -43,6 +51,8 @@ pub fn compile<F: Folder>(
 
 /// The lines of a code file that is sound.
 pub fn verify<F: Folder>(alloc: Global, file: &str, folder: &mut F) -> Result<Vec<u8>, Failure>
+    ensures outcome { (left : Option (List ℕ)) → FileOutcome (W.Verify file.now) (F.files folder.old) left
+        (Rose (F.faults folder.old) (F.faults folder.new)) ⊥ (end_of result) }
     ensures understood { IsBeforeSource result → ⊥ }
     ensures files { F.files folder.new ≡ F.files folder.old }
 {
@@ -59,6 +69,8 @@ pub fn upgrade<F: Folder>(
     out: &str,
     folder: &mut F,
 ) -> Result<Vec<u8>, Failure>
+    ensures outcome { (left : Option (List ℕ)) → FileOutcome (W.Upgrade file.now out.now) (F.files folder.old) left
+        (Rose (F.faults folder.old) (F.faults folder.new)) ⊥ (end_of result) }
     ensures kept { AreKept (Some out.now) (F.files folder.old) (F.files folder.new) result }
     ensures understood { IsBeforeSource result → ⊥ }
 {
@@ -80,6 +92,8 @@ fn evaluate<S: Source>(
     input: &mut S,
 ) -> Result<Vec<u8>, Failure>
     requires frames { frames ≤ MOST_FRAMES }
+    ensures outcome { InputOutcome IsRunEnd (S.left input.old) (Rose (S.faults input.old) (S.faults input.new))
+        (end_of result) }
     ensures read { OnOk result (IsAtEnd (S.left input.new)) }
     ensures late { IsBeforeInput result → ⊥ }
 {
@@ -106,6 +120,9 @@ pub fn eval<F: Folder, S: Source>(
     input: &mut S,
 ) -> Result<Vec<u8>, Failure>
     requires frames { frames ≤ MOST_FRAMES }
+    ensures outcome { FileOutcome (W.Eval file.now entry.now calls frames) (F.files folder.old) (S.left input.old)
+        (Rose (F.faults folder.old) (F.faults folder.new)) (Rose (S.faults input.old) (S.faults input.new))
+        (end_of result) }
     ensures read { OnOk result (IsAtEnd (S.left input.new)) }
     ensures before { IsBeforeInput result → input.new ≡ input.old }
     ensures understood { IsBeforeSource result → ⊥ }

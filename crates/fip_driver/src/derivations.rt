@@ -1,5 +1,10 @@
 // What the commands on derivations come to: which object is called when.
-ghost use Rattle.std.specs.Prelude.{◌≡◌, Some};
+ghost use Rattle.std.specs.Prelude.{◌≡◌, ◌≤◌, ℕ, List, Option, IfOk, IfErr, Some};
+ghost use Rattle.fip_base.specs.Faults.{Rose};
+ghost use Rattle.command_line.specs.Words as W;
+ghost use Rattle.command_outcome.specs.Successes.{derived_text};
+ghost use Rattle.fip_driver.specs.Fetched.{JudgeFails};
+ghost use Rattle.fip_driver.specs.Outcome.{FileOutcome, end_of};
 ghost use Rattle.fip_driver.specs.Unread.{AreKept, IsBeforeSource};
 
 use crate::fetched::{fetch_proof, fetch_source};
@@ -16,6 +21,8 @@ pub fn derive<F: Folder>(
     out: &str,
     folder: &mut F,
 ) -> Result<Vec<u8>, Failure>
+    ensures outcome { (left : Option (List ℕ)) → FileOutcome (W.Derive file.now out.now) (F.files folder.old) left
+        (Rose (F.faults folder.old) (F.faults folder.new)) ⊥ (end_of result) }
     ensures kept { AreKept (Some out.now) (F.files folder.old) (F.files folder.new) result }
     ensures understood { IsBeforeSource result → ⊥ }
 {
@@ -35,6 +42,10 @@ fn judge<F: Folder>(
     proof: &str,
     folder: &mut F,
 ) -> Result<Vec<u8>, Failure>
+    ensures derived { IfOk result (λ v. v.items ≡ derived_text) }
+    ensures fails { IfErr result (JudgeFails (F.files folder.old) proof.now (F.faults folder.old)
+        (F.faults folder.new)) }
+    ensures later { F.faults folder.old ≤ F.faults folder.new }
     ensures understood { IsBeforeSource result → ⊥ }
     ensures files { F.files folder.new ≡ F.files folder.old }
 {
@@ -52,6 +63,8 @@ pub fn audit<F: Folder>(
     proof: &str,
     folder: &mut F,
 ) -> Result<Vec<u8>, Failure>
+    ensures outcome { (left : Option (List ℕ)) → FileOutcome (W.Audit file.now proof.now) (F.files folder.old) left
+        (Rose (F.faults folder.old) (F.faults folder.new)) ⊥ (end_of result) }
     ensures understood { IsBeforeSource result → ⊥ }
     ensures files { F.files folder.new ≡ F.files folder.old }
 {

@@ -5,8 +5,11 @@ ghost use Rattle.fip_language.specs.declared.limits.TheConstants.{MOST_STORE_WOR
 ghost use Rattle.fip_base.specs.Faults.{Rose};
 ghost use Rattle.loop_form.specs.View.{loop_of};
 ghost use Rattle.command_line.specs.View.{request_of};
-ghost use Rattle.fip_driver.specs.Fronted.{IsSoundLoop};
-ghost use Rattle.fip_driver.specs.Outcome.{EntryOutcome, RequestOutcome};
+ghost use Rattle.command_line.specs.Words as W;
+ghost use Rattle.source_commands.specs.Wanted.{Compiled};
+ghost use Rattle.fip_driver.specs.Ends.{IsRunEnd};
+ghost use Rattle.fip_driver.specs.Fronted.{IsSoundLoop, EntryOutcome};
+ghost use Rattle.fip_driver.specs.Outcome.{RequestOutcome, FileOutcome, InputOutcome, SourceOutcome, end_of};
 ghost use Rattle.fip_driver.specs.Unread.{IsBeforeSource, IsBeforeInput};
 
 use crate::fetched::{fetch_code, fetch_source, read_input};
@@ -54,6 +57,8 @@ fn run_ready<S: Source>(
     gauge: bool,
     input: &mut S,
 ) -> Result<Vec<u8>, Failure>
+    ensures outcome { InputOutcome IsRunEnd (S.left input.old) (Rose (S.faults input.old) (S.faults input.new))
+        (end_of result) }
     ensures read { OnOk result (IsAtEnd (S.left input.new)) }
     ensures late { IsBeforeInput result → ⊥ }
 {
@@ -70,6 +75,8 @@ fn exec_whole<S: Source>(
     source: &[u8],
     input: &mut S,
 ) -> Result<Vec<u8>, Failure>
+    ensures outcome { SourceOutcome (W.Exec (request_of request.now)) (Compiled request.now.entry.now) source.now
+        (S.left input.old) ⊥ (Rose (S.faults input.old) (S.faults input.new)) (end_of result) }
     ensures read { OnOk result (IsAtEnd (S.left input.new)) }
     ensures before { IsBeforeInput result → input.new ≡ input.old }
     ensures understood { IsBeforeSource result → ⊥ }
@@ -112,6 +119,9 @@ pub fn run<F: Folder, S: Source>(
     folder: &mut F,
     input: &mut S,
 ) -> Result<Vec<u8>, Failure>
+    ensures outcome { FileOutcome (W.Run (request_of request.now)) (F.files folder.old) (S.left input.old)
+        (Rose (F.faults folder.old) (F.faults folder.new)) (Rose (S.faults input.old) (S.faults input.new))
+        (end_of result) }
     ensures read { OnOk result (IsAtEnd (S.left input.new)) }
     ensures before { IsBeforeInput result → input.new ≡ input.old }
     ensures understood { IsBeforeSource result → ⊥ }

@@ -3,7 +3,8 @@ ghost use Rattle.std.specs.Prelude.{◌≡◌, ◌≤◌, length, IfOk, OnOk, If
 ghost use Rattle.std.specs.Io.KnownBytes.{Consumes, IsAtEnd};
 ghost use Rattle.fip_language.specs.declared.limits.TheConstants.{MOST_FILE_BYTES, MOST_SOURCE_BYTES};
 ghost use Rattle.fip_base.specs.Files.{HoldsFile};
-ghost use Rattle.fip_driver.specs.Fetched.{FetchFails, ReadFails, IsEarlyFailure};
+ghost use Rattle.command_outcome.specs.declared.failure.Failure.TheVariants.{BadCode, BadTrace};
+ghost use Rattle.fip_driver.specs.Fetched.{FetchFails, FileFails, JudgeFails, ReadFails, IsEarlyFailure};
 
 use command_outcome::{Failure, Object};
 use fip_base::all::{ReadError, read_all};
@@ -44,6 +45,9 @@ pub fn fetch_source<F: Folder>(
 /// The bytes of a code file, at most 16,777,216. Bad code at that offset where there are more; a fault of the folder
 /// where it failed or has no file of that name.
 pub fn fetch_code<F: Folder>(folder: &mut F, name: &str) -> Result<Vec<u8>, Failure>
+    ensures found { IfOk result (λ v. HoldsFile (F.files folder.old) name.now v.items) }
+    ensures fails { IfErr result (λ e. FileFails (λ f. f ≡ BadCode MOST_FILE_BYTES) (F.files folder.old) name.now
+        (F.faults folder.old) (F.faults folder.new) e) }
     ensures early { IfErr result IsEarlyFailure }
     ensures same { F.files folder.new ≡ F.files folder.old }
 {
@@ -60,8 +64,11 @@ pub fn fetch_code<F: Folder>(folder: &mut F, name: &str) -> Result<Vec<u8>, Fail
 /// The bytes of a proof file, at most 16,777,216. E72 with that number where there are more; a fault of the folder
 /// where it failed or has no file of that name.
 pub fn fetch_proof<F: Folder>(alloc: Global, folder: &mut F, name: &str) -> Result<Vec<u8>, Failure>
+    ensures fails { IfErr result (λ e. JudgeFails (F.files folder.old) name.now (F.faults folder.old)
+        (F.faults folder.new) e) }
     ensures early { IfErr result IsEarlyFailure }
     ensures same { F.files folder.new ≡ F.files folder.old }
+    ensures later { F.faults folder.old ≤ F.faults folder.new }
 {
     match folder.fetch(name, MOST_FILE_BYTES) {
         Ok(bytes) => Ok(bytes),
@@ -74,6 +81,9 @@ pub fn fetch_proof<F: Folder>(alloc: Global, folder: &mut F, name: &str) -> Resu
 /// The bytes of a trace's file, at most 16,777,216. A bad trace at that offset where there are more; a fault of the
 /// folder where it failed or has no file of that name.
 pub fn fetch_trace<F: Folder>(folder: &mut F, name: &str) -> Result<Vec<u8>, Failure>
+    ensures found { IfOk result (λ v. HoldsFile (F.files folder.old) name.now v.items) }
+    ensures fails { IfErr result (λ e. FileFails (λ f. f ≡ BadTrace MOST_FILE_BYTES) (F.files folder.old) name.now
+        (F.faults folder.old) (F.faults folder.new) e) }
     ensures early { IfErr result IsEarlyFailure }
     ensures same { F.files folder.new ≡ F.files folder.old }
 {

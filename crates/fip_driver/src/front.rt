@@ -4,7 +4,7 @@ ghost use Rattle.fip_base.specs.CoreView.{core as core_view};
 ghost use Rattle.fip_base.specs.SurfaceView.{program as program_view};
 ghost use Rattle.fip_grammar.specs.Limits.{IsSpelt};
 ghost use Rattle.loop_form.specs.View.{loop_of};
-ghost use Rattle.fip_driver.specs.Answered.{source_spelling};
+ghost use Rattle.fip_driver.specs.Spelling.{source_spelling};
 ghost use Rattle.fip_driver.specs.Fetched.{unknown_entry};
 ghost use Rattle.fip_driver.specs.Fronted.{SpellingFails, FrontFails, Takes, IsSoundPath};
 

@@ -6,7 +6,8 @@ ghost use Rattle.std.specs.declared.alloc.Global.{Global as an_allocator};
 ghost use Rattle.fip_base.specs.Faults.{Rose};
 ghost use Rattle.fip_base.specs.Files.{File};
 ghost use Rattle.command_outcome.specs.declared.failure.Failure.{Failure as a_failure};
-ghost use Rattle.fip_driver.specs.Answered.{Answer, Answered, IsAnswered, source_spelling};
+ghost use Rattle.fip_driver.specs.Answered.{Answer, Answered, IsAnswered};
+ghost use Rattle.fip_driver.specs.Spelling.{source_spelling};
 ghost use Rattle.fip_driver.specs.Delivered.{seen, NotRisen, Delivered};
 ghost use Rattle.fip_driver.specs.Outcome.{WordsOutcome};
 ghost use Rattle.fip_driver.specs.Unread.{HadInput, HadFolder, HadStored, LeavesInput, HasRead, HasCalled, HasStored};
@@ -66,14 +67,14 @@ pub fn fp2<F: Folder, S: Source, O: Sink, E: Sink>(
     ensures files { (F.files folder.new ≡ F.files folder.old)
         ⊎ HasStored (map string_bytes words.now) (F.files folder.old) (F.files folder.new) result.0 }
     // Where no count of faults rose, and the folder and the input tell what they hold: the whole answer is the written
-    // one, or want of memory; and one of the table where no definition says it yet.
+    // one, or want of memory; and where no definition says it yet, it is one that may come.
     ensures whole { (files : List File) (bytes : List ℕ) → F.files folder.old ≡ Some files →
         S.left input.old ≡ Some bytes → NotRisen (F.faults folder.old) (F.faults folder.new) →
         NotRisen (S.faults input.old) (S.faults input.new) → NotRisen (O.faults out.old) (O.faults out.new) →
         NotRisen (E.faults err.old) (E.faults err.new) →
         Answered source_spelling (map string_bytes words.now) files bytes (O.written out.old) (O.written out.new)
         (E.written err.old) (E.written err.new) result.0 }
-    // There is one written answer.
+    // There is one written answer, a report up to the line and the column of its place.
     ensures one { (files : List File) (bytes : List ℕ) (a b : Answer) →
         IsAnswered source_spelling (map string_bytes words.now) files bytes a →
         IsAnswered source_spelling (map string_bytes words.now) files bytes b → a ≡ b }

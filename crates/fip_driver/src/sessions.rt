@@ -1,6 +1,11 @@
 // What sessions and tasks come to: which object is called when.
 ghost use Rattle.std.specs.Prelude.{◌≡◌, OnOk};
 ghost use Rattle.std.specs.Io.KnownBytes.{IsAtEnd};
+ghost use Rattle.fip_base.specs.Faults.{Rose};
+ghost use Rattle.command_line.specs.View.{room_of};
+ghost use Rattle.command_line.specs.Words as W;
+ghost use Rattle.fip_driver.specs.Ends.{IsSessionEnd, IsTasksEnd};
+ghost use Rattle.fip_driver.specs.Outcome.{FileOutcome, InputOutcome, end_of};
 ghost use Rattle.fip_driver.specs.Unread.{IsBeforeSource, IsBeforeInput};
 
 use crate::fetched::{fetch_source, read_input};
@@ -17,6 +22,8 @@ fn talk<S: Source>(
     room: Room,
     input: &mut S,
 ) -> Result<Vec<u8>, Failure>
+    ensures outcome { InputOutcome IsSessionEnd (S.left input.old) (Rose (S.faults input.old) (S.faults input.new))
+        (end_of result) }
     ensures read { OnOk result (IsAtEnd (S.left input.new)) }
     ensures late { IsBeforeInput result → ⊥ }
 {
@@ -34,6 +41,9 @@ pub fn session<F: Folder, S: Source>(
     folder: &mut F,
     input: &mut S,
 ) -> Result<Vec<u8>, Failure>
+    ensures outcome { FileOutcome (W.Session file.now (room_of room)) (F.files folder.old) (S.left input.old)
+        (Rose (F.faults folder.old) (F.faults folder.new)) (Rose (S.faults input.old) (S.faults input.new))
+        (end_of result) }
     ensures read { OnOk result (IsAtEnd (S.left input.new)) }
     ensures before { IsBeforeInput result → input.new ≡ input.old }
     ensures understood { IsBeforeSource result → ⊥ }
@@ -57,6 +67,8 @@ fn take_turns<S: Source>(
     room: Room,
     input: &mut S,
 ) -> Result<Vec<u8>, Failure>
+    ensures outcome { InputOutcome IsTasksEnd (S.left input.old) (Rose (S.faults input.old) (S.faults input.new))
+        (end_of result) }
     ensures read { OnOk result (IsAtEnd (S.left input.new)) }
     ensures late { IsBeforeInput result → ⊥ }
 {
@@ -76,6 +88,9 @@ pub fn tasks<F: Folder, S: Source>(
     folder: &mut F,
     input: &mut S,
 ) -> Result<Vec<u8>, Failure>
+    ensures outcome { FileOutcome (W.Tasks file.now seed turns (room_of room)) (F.files folder.old) (S.left input.old)
+        (Rose (F.faults folder.old) (F.faults folder.new)) (Rose (S.faults input.old) (S.faults input.new))
+        (end_of result) }
     ensures read { OnOk result (IsAtEnd (S.left input.new)) }
     ensures before { IsBeforeInput result → input.new ≡ input.old }
     ensures understood { IsBeforeSource result → ⊥ }

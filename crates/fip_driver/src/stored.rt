@@ -1,5 +1,6 @@
 // Storing a file before the text of a command goes out.
-ghost use Rattle.std.specs.Prelude.{Some};
+ghost use Rattle.std.specs.Prelude.{◌≡◌, IfOk, IfErr, Some};
+ghost use Rattle.fip_driver.specs.Fetched.{StoreFails};
 ghost use Rattle.fip_driver.specs.Unread.{AreKept, IsBeforeSource};
 
 use command_outcome::{Failure, Object};
@@ -8,6 +9,8 @@ use fip_commands::Compiled;
 
 /// Stores a file under a name, and gives the text that is printed. A fault of the folder where it failed.
 pub fn store<F: Folder>(folder: &mut F, name: &str, compiled: Compiled) -> Result<Vec<u8>, Failure>
+    ensures told { IfOk result (λ v. v.items ≡ compiled.text.items) }
+    ensures fails { IfErr result (StoreFails (F.faults folder.old) (F.faults folder.new)) }
     ensures kept { AreKept (Some name.now) (F.files folder.old) (F.files folder.new) result }
     ensures understood { IsBeforeSource result → ⊥ }
 {

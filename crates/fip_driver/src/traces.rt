@@ -1,7 +1,12 @@
 // What the commands on traces come to: which object is called when.
-ghost use Rattle.std.specs.Prelude.{◌≡◌, IfErr, OnOk, Some};
+ghost use Rattle.std.specs.Prelude.{◌≡◌, ℕ, List, Option, IfErr, OnOk, Some};
 ghost use Rattle.std.specs.Io.KnownBytes.{IsAtEnd};
+ghost use Rattle.fip_base.specs.Faults.{Rose};
+ghost use Rattle.command_line.specs.View.{room_of};
+ghost use Rattle.command_line.specs.Words as W;
+ghost use Rattle.fip_driver.specs.Ends.{IsTraceEnd};
 ghost use Rattle.fip_driver.specs.Fetched.{IsLateFailure};
+ghost use Rattle.fip_driver.specs.Outcome.{FileOutcome, InputOutcome, end_of, compiled_end};
 ghost use Rattle.fip_driver.specs.Unread.{AreKept, IsBeforeSource};
 
 use crate::fetched::{fetch_source, fetch_trace, read_input};
@@ -19,6 +24,8 @@ fn traced<S: Source>(
     room: Room,
     input: &mut S,
 ) -> Result<Compiled, Failure>
+    ensures outcome { InputOutcome IsTraceEnd (S.left input.old) (Rose (S.faults input.old) (S.faults input.new))
+        (compiled_end result) }
     ensures read { OnOk result (IsAtEnd (S.left input.new)) }
     ensures fails { IfErr result IsLateFailure }
 {
@@ -38,6 +45,9 @@ pub fn trace<F: Folder, S: Source>(
     folder: &mut F,
     input: &mut S,
 ) -> Result<Vec<u8>, Failure>
+    ensures outcome { FileOutcome (W.Trace file.now entry.now out.now (room_of room)) (F.files folder.old)
+        (S.left input.old) (Rose (F.faults folder.old) (F.faults folder.new)) (Rose (S.faults input.old) (S.faults input.new))
+        (end_of result) }
     ensures read { OnOk result (IsAtEnd (S.left input.new)) }
     ensures kept { AreKept (Some out.now) (F.files folder.old) (F.files folder.new) result }
     ensures understood { IsBeforeSource result → ⊥ }
@@ -61,6 +71,8 @@ pub fn replay<F: Folder>(
     step: u64,
     folder: &mut F,
 ) -> Result<Vec<u8>, Failure>
+    ensures outcome { (left : Option (List ℕ)) → FileOutcome (W.Replay name.now step) (F.files folder.old) left
+        (Rose (F.faults folder.old) (F.faults folder.new)) ⊥ (end_of result) }
     ensures understood { IsBeforeSource result → ⊥ }
     ensures files { F.files folder.new ≡ F.files folder.old }
 {

@@ -1,47 +1,90 @@
-use Rattle.std.proofs.Common.{sym, subst}
+use Rattle.std.proofs.Common.{sym, subst, refl}
+use Rattle.fip_base.specs.Faults.{Rose}
 use Rattle.command_line.specs.View.{command_of}
-use Rattle.fip_driver.specs.Commands.{IsOther}
-use Rattle.fip_driver.proofs.Outcomes.{other_outcome}
+use Rattle.fip_driver.specs.Outcome.{CommandOutcome, end_of}
+use Rattle.fip_driver.proofs.SourceEnds.{file_outcome, none_ends}
 use Rattle.fip_driver.proofs.answer.answer.Goals as goal
 
 pub returns-in-Check-clause-outcome : goal.returns-in-Check-clause-outcome
-returns-in-Check-clause-outcome g c = other_outcome (command_of c.args.command.now) (g.F.Folder.files c.args.folder.now) (g.S.Source.left c.args.input.now) _ _ _ (subst (λ x. IsOther (command_of x)) (sym c.in-Check.is) tt)
+returns-in-Check-clause-outcome g c =
+    let fr = Rose (g.F.Folder.faults c.args.folder.now) (g.F.Folder.faults c.check.new.folder) in
+    let ir = Rose (g.S.Source.faults c.args.input.now) (g.S.Source.faults c.args.input.now) in
+    subst (λ x. CommandOutcome (command_of x) (g.F.Folder.files c.args.folder.now) (g.S.Source.left c.args.input.now) fr ir c.check.result) (sym c.in-Check.is) (file_outcome _ (g.F.Folder.files c.args.folder.now) (g.S.Source.left c.args.input.now) fr ⊥ ir c.check.result (λ r. absurd r) (c.check.ensures.outcome (g.S.Source.left c.args.input.now)))
 
 pub returns-in-Compile-clause-outcome : goal.returns-in-Compile-clause-outcome
-returns-in-Compile-clause-outcome g c = other_outcome (command_of c.args.command.now) (g.F.Folder.files c.args.folder.now) (g.S.Source.left c.args.input.now) _ _ _ (subst (λ x. IsOther (command_of x)) (sym c.in-Compile.is) tt)
+returns-in-Compile-clause-outcome g c =
+    let fr = Rose (g.F.Folder.faults c.args.folder.now) (g.F.Folder.faults c.compile.new.folder) in
+    let ir = Rose (g.S.Source.faults c.args.input.now) (g.S.Source.faults c.args.input.now) in
+    subst (λ x. CommandOutcome (command_of x) (g.F.Folder.files c.args.folder.now) (g.S.Source.left c.args.input.now) fr ir c.compile.result) (sym c.in-Compile.is) (file_outcome _ (g.F.Folder.files c.args.folder.now) (g.S.Source.left c.args.input.now) fr ⊥ ir c.compile.result (λ r. absurd r) (c.compile.ensures.outcome (g.S.Source.left c.args.input.now)))
 
 pub returns-in-Verify-clause-outcome : goal.returns-in-Verify-clause-outcome
-returns-in-Verify-clause-outcome g c = other_outcome (command_of c.args.command.now) (g.F.Folder.files c.args.folder.now) (g.S.Source.left c.args.input.now) _ _ _ (subst (λ x. IsOther (command_of x)) (sym c.in-Verify.is) tt)
+returns-in-Verify-clause-outcome g c =
+    let fr = Rose (g.F.Folder.faults c.args.folder.now) (g.F.Folder.faults c.verify.new.folder) in
+    let ir = Rose (g.S.Source.faults c.args.input.now) (g.S.Source.faults c.args.input.now) in
+    subst (λ x. CommandOutcome (command_of x) (g.F.Folder.files c.args.folder.now) (g.S.Source.left c.args.input.now) fr ir c.verify.result) (sym c.in-Verify.is) (file_outcome _ (g.F.Folder.files c.args.folder.now) (g.S.Source.left c.args.input.now) fr ⊥ ir c.verify.result (λ r. absurd r) (c.verify.ensures.outcome (g.S.Source.left c.args.input.now)))
 
 pub returns-in-Upgrade-clause-outcome : goal.returns-in-Upgrade-clause-outcome
-returns-in-Upgrade-clause-outcome g c = other_outcome (command_of c.args.command.now) (g.F.Folder.files c.args.folder.now) (g.S.Source.left c.args.input.now) _ _ _ (subst (λ x. IsOther (command_of x)) (sym c.in-Upgrade.is) tt)
-
-pub returns-in-Run-clause-outcome : goal.returns-in-Run-clause-outcome
-returns-in-Run-clause-outcome g c = other_outcome (command_of c.args.command.now) (g.F.Folder.files c.args.folder.now) (g.S.Source.left c.args.input.now) _ _ _ (subst (λ x. IsOther (command_of x)) (sym c.in-Run.is) tt)
-
-pub returns-in-Eval-clause-outcome : goal.returns-in-Eval-clause-outcome
-returns-in-Eval-clause-outcome g c = other_outcome (command_of c.args.command.now) (g.F.Folder.files c.args.folder.now) (g.S.Source.left c.args.input.now) _ _ _ (subst (λ x. IsOther (command_of x)) (sym c.in-Eval.is) tt)
-
-pub returns-in-Library-clause-outcome : goal.returns-in-Library-clause-outcome
-returns-in-Library-clause-outcome g c = other_outcome (command_of c.args.command.now) (g.F.Folder.files c.args.folder.now) (g.S.Source.left c.args.input.now) _ _ _ (subst (λ x. IsOther (command_of x)) (sym c.in-Library.is) tt)
-
-pub returns-in-Gen-clause-outcome : goal.returns-in-Gen-clause-outcome
-returns-in-Gen-clause-outcome g c = other_outcome (command_of c.args.command.now) (g.F.Folder.files c.args.folder.now) (g.S.Source.left c.args.input.now) _ _ _ (subst (λ x. IsOther (command_of x)) (sym c.in-Gen.is) tt)
-
-pub returns-in-Trace-clause-outcome : goal.returns-in-Trace-clause-outcome
-returns-in-Trace-clause-outcome g c = other_outcome (command_of c.args.command.now) (g.F.Folder.files c.args.folder.now) (g.S.Source.left c.args.input.now) _ _ _ (subst (λ x. IsOther (command_of x)) (sym c.in-Trace.is) tt)
-
-pub returns-in-Session-clause-outcome : goal.returns-in-Session-clause-outcome
-returns-in-Session-clause-outcome g c = other_outcome (command_of c.args.command.now) (g.F.Folder.files c.args.folder.now) (g.S.Source.left c.args.input.now) _ _ _ (subst (λ x. IsOther (command_of x)) (sym c.in-Session.is) tt)
-
-pub returns-in-Tasks-clause-outcome : goal.returns-in-Tasks-clause-outcome
-returns-in-Tasks-clause-outcome g c = other_outcome (command_of c.args.command.now) (g.F.Folder.files c.args.folder.now) (g.S.Source.left c.args.input.now) _ _ _ (subst (λ x. IsOther (command_of x)) (sym c.in-Tasks.is) tt)
+returns-in-Upgrade-clause-outcome g c =
+    let fr = Rose (g.F.Folder.faults c.args.folder.now) (g.F.Folder.faults c.upgrade.new.folder) in
+    let ir = Rose (g.S.Source.faults c.args.input.now) (g.S.Source.faults c.args.input.now) in
+    subst (λ x. CommandOutcome (command_of x) (g.F.Folder.files c.args.folder.now) (g.S.Source.left c.args.input.now) fr ir c.upgrade.result) (sym c.in-Upgrade.is) (file_outcome _ (g.F.Folder.files c.args.folder.now) (g.S.Source.left c.args.input.now) fr ⊥ ir c.upgrade.result (λ r. absurd r) (c.upgrade.ensures.outcome (g.S.Source.left c.args.input.now)))
 
 pub returns-in-Derive-clause-outcome : goal.returns-in-Derive-clause-outcome
-returns-in-Derive-clause-outcome g c = other_outcome (command_of c.args.command.now) (g.F.Folder.files c.args.folder.now) (g.S.Source.left c.args.input.now) _ _ _ (subst (λ x. IsOther (command_of x)) (sym c.in-Derive.is) tt)
+returns-in-Derive-clause-outcome g c =
+    let fr = Rose (g.F.Folder.faults c.args.folder.now) (g.F.Folder.faults c.derive.new.folder) in
+    let ir = Rose (g.S.Source.faults c.args.input.now) (g.S.Source.faults c.args.input.now) in
+    subst (λ x. CommandOutcome (command_of x) (g.F.Folder.files c.args.folder.now) (g.S.Source.left c.args.input.now) fr ir c.derive.result) (sym c.in-Derive.is) (file_outcome _ (g.F.Folder.files c.args.folder.now) (g.S.Source.left c.args.input.now) fr ⊥ ir c.derive.result (λ r. absurd r) (c.derive.ensures.outcome (g.S.Source.left c.args.input.now)))
 
 pub returns-in-Audit-clause-outcome : goal.returns-in-Audit-clause-outcome
-returns-in-Audit-clause-outcome g c = other_outcome (command_of c.args.command.now) (g.F.Folder.files c.args.folder.now) (g.S.Source.left c.args.input.now) _ _ _ (subst (λ x. IsOther (command_of x)) (sym c.in-Audit.is) tt)
+returns-in-Audit-clause-outcome g c =
+    let fr = Rose (g.F.Folder.faults c.args.folder.now) (g.F.Folder.faults c.audit.new.folder) in
+    let ir = Rose (g.S.Source.faults c.args.input.now) (g.S.Source.faults c.args.input.now) in
+    subst (λ x. CommandOutcome (command_of x) (g.F.Folder.files c.args.folder.now) (g.S.Source.left c.args.input.now) fr ir c.audit.result) (sym c.in-Audit.is) (file_outcome _ (g.F.Folder.files c.args.folder.now) (g.S.Source.left c.args.input.now) fr ⊥ ir c.audit.result (λ r. absurd r) (c.audit.ensures.outcome (g.S.Source.left c.args.input.now)))
 
 pub returns-in-Replay-clause-outcome : goal.returns-in-Replay-clause-outcome
-returns-in-Replay-clause-outcome g c = other_outcome (command_of c.args.command.now) (g.F.Folder.files c.args.folder.now) (g.S.Source.left c.args.input.now) _ _ _ (subst (λ x. IsOther (command_of x)) (sym c.in-Replay.is) tt)
+returns-in-Replay-clause-outcome g c =
+    let fr = Rose (g.F.Folder.faults c.args.folder.now) (g.F.Folder.faults c.replay.new.folder) in
+    let ir = Rose (g.S.Source.faults c.args.input.now) (g.S.Source.faults c.args.input.now) in
+    subst (λ x. CommandOutcome (command_of x) (g.F.Folder.files c.args.folder.now) (g.S.Source.left c.args.input.now) fr ir c.replay.result) (sym c.in-Replay.is) (file_outcome _ (g.F.Folder.files c.args.folder.now) (g.S.Source.left c.args.input.now) fr ⊥ ir c.replay.result (λ r. absurd r) (c.replay.ensures.outcome (g.S.Source.left c.args.input.now)))
+
+pub returns-in-Run-clause-outcome : goal.returns-in-Run-clause-outcome
+returns-in-Run-clause-outcome g c =
+    let fr = Rose (g.F.Folder.faults c.args.folder.now) (g.F.Folder.faults c.run.new.folder) in
+    let ir = Rose (g.S.Source.faults c.args.input.now) (g.S.Source.faults c.run.new.input) in
+    subst (λ x. CommandOutcome (command_of x) (g.F.Folder.files c.args.folder.now) (g.S.Source.left c.args.input.now) fr ir c.run.result) (sym c.in-Run.is) (file_outcome _ (g.F.Folder.files c.args.folder.now) (g.S.Source.left c.args.input.now) fr ir ir c.run.result (λ r. r) c.run.ensures.outcome)
+
+pub returns-in-Eval-clause-outcome : goal.returns-in-Eval-clause-outcome
+returns-in-Eval-clause-outcome g c =
+    let fr = Rose (g.F.Folder.faults c.args.folder.now) (g.F.Folder.faults c.eval.new.folder) in
+    let ir = Rose (g.S.Source.faults c.args.input.now) (g.S.Source.faults c.eval.new.input) in
+    subst (λ x. CommandOutcome (command_of x) (g.F.Folder.files c.args.folder.now) (g.S.Source.left c.args.input.now) fr ir c.eval.result) (sym c.in-Eval.is) (file_outcome _ (g.F.Folder.files c.args.folder.now) (g.S.Source.left c.args.input.now) fr ir ir c.eval.result (λ r. r) c.eval.ensures.outcome)
+
+pub returns-in-Trace-clause-outcome : goal.returns-in-Trace-clause-outcome
+returns-in-Trace-clause-outcome g c =
+    let fr = Rose (g.F.Folder.faults c.args.folder.now) (g.F.Folder.faults c.trace.new.folder) in
+    let ir = Rose (g.S.Source.faults c.args.input.now) (g.S.Source.faults c.trace.new.input) in
+    subst (λ x. CommandOutcome (command_of x) (g.F.Folder.files c.args.folder.now) (g.S.Source.left c.args.input.now) fr ir c.trace.result) (sym c.in-Trace.is) (file_outcome _ (g.F.Folder.files c.args.folder.now) (g.S.Source.left c.args.input.now) fr ir ir c.trace.result (λ r. r) c.trace.ensures.outcome)
+
+pub returns-in-Session-clause-outcome : goal.returns-in-Session-clause-outcome
+returns-in-Session-clause-outcome g c =
+    let fr = Rose (g.F.Folder.faults c.args.folder.now) (g.F.Folder.faults c.session.new.folder) in
+    let ir = Rose (g.S.Source.faults c.args.input.now) (g.S.Source.faults c.session.new.input) in
+    subst (λ x. CommandOutcome (command_of x) (g.F.Folder.files c.args.folder.now) (g.S.Source.left c.args.input.now) fr ir c.session.result) (sym c.in-Session.is) (file_outcome _ (g.F.Folder.files c.args.folder.now) (g.S.Source.left c.args.input.now) fr ir ir c.session.result (λ r. r) c.session.ensures.outcome)
+
+pub returns-in-Tasks-clause-outcome : goal.returns-in-Tasks-clause-outcome
+returns-in-Tasks-clause-outcome g c =
+    let fr = Rose (g.F.Folder.faults c.args.folder.now) (g.F.Folder.faults c.tasks.new.folder) in
+    let ir = Rose (g.S.Source.faults c.args.input.now) (g.S.Source.faults c.tasks.new.input) in
+    subst (λ x. CommandOutcome (command_of x) (g.F.Folder.files c.args.folder.now) (g.S.Source.left c.args.input.now) fr ir c.tasks.result) (sym c.in-Tasks.is) (file_outcome _ (g.F.Folder.files c.args.folder.now) (g.S.Source.left c.args.input.now) fr ir ir c.tasks.result (λ r. r) c.tasks.ensures.outcome)
+
+pub returns-in-Library-clause-outcome : goal.returns-in-Library-clause-outcome
+returns-in-Library-clause-outcome g c =
+    let fr = Rose (g.F.Folder.faults c.args.folder.now) (g.F.Folder.faults c.args.folder.now) in
+    let ir = Rose (g.S.Source.faults c.args.input.now) (g.S.Source.faults c.args.input.now) in
+    subst (λ x. CommandOutcome (command_of x) (g.F.Folder.files c.args.folder.now) (g.S.Source.left c.args.input.now) fr ir c.library.result) (sym c.in-Library.is) (file_outcome _ (g.F.Folder.files c.args.folder.now) (g.S.Source.left c.args.input.now) fr ⊥ ir c.library.result (λ r. absurd r) (none_ends _ (g.F.Folder.files c.args.folder.now) (g.S.Source.left c.args.input.now) fr ⊥ (end_of c.library.result) refl))
+
+pub returns-in-Gen-clause-outcome : goal.returns-in-Gen-clause-outcome
+returns-in-Gen-clause-outcome g c =
+    let fr = Rose (g.F.Folder.faults c.args.folder.now) (g.F.Folder.faults c.args.folder.now) in
+    let ir = Rose (g.S.Source.faults c.args.input.now) (g.S.Source.faults c.args.input.now) in
+    subst (λ x. CommandOutcome (command_of x) (g.F.Folder.files c.args.folder.now) (g.S.Source.left c.args.input.now) fr ir c.generate.result) (sym c.in-Gen.is) (file_outcome _ (g.F.Folder.files c.args.folder.now) (g.S.Source.left c.args.input.now) fr ⊥ ir c.generate.result (λ r. absurd r) (none_ends _ (g.F.Folder.files c.args.folder.now) (g.S.Source.left c.args.input.now) fr ⊥ (end_of c.generate.result) refl))

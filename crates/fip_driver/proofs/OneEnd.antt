@@ -1,0 +1,98 @@
+-- A command ends with one thing at most, where it is said; and then its answer isn't open.
+use Rattle.std.proofs.Common.{◌≡◌, ◌∙◌, ◌<◌, ◌≤◌, ℕ, List, sym, ap, subst, refl, inl, inr, arith}
+use Rattle.std.specs.Prelude.{Option, Some, None, Result, Ok, Err}
+use Rattle.std.proofs.lemmas.Option.{none-some, same_Some}
+use Rattle.fip_language.specs.declared.Place.{Place}
+use Rattle.fip_base.specs.Files.{File, file_of}
+use Rattle.fip_base.specs.declared.refusal.Refusal.{Refusal}
+use Rattle.command_line.specs.Words.{Command, Check, Compile, Verify, Upgrade, Exec, Run, Eval, Trace, Session, Tasks, Derive, Audit, Replay, Library, Gen}
+use Rattle.command_outcome.specs.declared.failure.Failure.TheVariants as F
+use Rattle.source_report.specs.Same.{AreSame, offset}
+use Rattle.source_commands.specs.Roots.{IsListing}
+use Rattle.source_commands.specs.Wanted.{Wanted, Lawful, Refuses, IsReady}
+use Rattle.source_commands.proofs.Once.{listing_once, listing_ready, refused_once, refused_not_ready}
+use Rattle.fip_driver.specs.Answered.{at_offset, without_lines}
+use Rattle.fip_driver.specs.Commands.{ReadsInput, fetched_name, wanted}
+use Rattle.fip_driver.specs.Ends.{End, SaysOf, Refused, Listed, LongInput, IsTaken, Checks, Says, Missing, OnSource, IsUnsaid, IsThere, IsOpen, OpenSource, OpenFile, OpenNone}
+use Rattle.fip_driver.specs.Spelling.{Spelling}
+
+same_offset : (p q : Option Place) → offset p ≡ offset q → at_offset p ≡ at_offset q
+same_offset None None e = refl
+same_offset None (Some q) e = absurd (none-some q.at e)
+same_offset (Some p) None e = absurd (none-some p.at (sym e))
+same_offset (Some p) (Some q) e = ap (λ n. Some (record { at = n; line = 0; col = 0 })) (same_Some p.at q.at e)
+
+same_refusal : (q r : Refusal) → AreSame q r → ◌≡◌ {A = End} (without_lines (Err (F.Refused q))) (without_lines (Err (F.Refused r)))
+same_refusal q r h =
+    let places = same_offset q.place r.place h.offset in
+    λ i. Err (F.Refused (record { rule = h.rule i; place = places i; size = h.size i; detail = h.detail i }))
+
+-- ---- on a source
+
+listed_wants : (c : Command) (w : Wanted) (file : List ℕ) → c ≡ Check file → wanted c ≡ Some w → w ≡ Lawful
+listed_wants c w file same wants = sym (same_Some Lawful w (subst (λ c. wanted c ≡ Some w) same wants))
+
+listed_reads : (c : Command) (file : List ℕ) → c ≡ Check file → ReadsInput c → ⊥
+listed_reads c file same reads = subst ReadsInput same reads
+
+listed_fits : (source text : List ℕ) (c : Command) (w : Wanted) (file : List ℕ) → c ≡ Check file → wanted c ≡ Some w → IsListing source text → IsReady source w
+listed_fits source text c w file same wants h = subst (IsReady source) (sym (listed_wants c w file same wants)) (listing_ready source text h)
+
+source_once : (source input : List ℕ) (c : Command) (w : Wanted) (d e : End) → wanted c ≡ Some w → SaysOf source input c w d → SaysOf source input c w e → without_lines d ≡ without_lines e
+source_once source input c w d e wants (Refused q h) (Refused r k) = same_refusal q r (refused_once source w q r h k)
+source_once source input c w d e wants (Refused q h) (Listed file text same k) = absurd (refused_not_ready source w q h (listed_fits source text c w file same wants k))
+source_once source input c w d e wants (Refused q h) (LongInput ready reads more) = absurd (refused_not_ready source w q h ready)
+source_once source input c w d e wants (Listed file text same h) (Refused r k) = absurd (refused_not_ready source w r k (listed_fits source text c w file same wants h))
+source_once source input c w d e wants (Listed file text same h) (Listed other more is k) = ap (λ t. Ok t) (listing_once source text more h k)
+source_once source input c w d e wants (Listed file text same h) (LongInput ready reads more) = absurd (listed_reads c file same reads)
+source_once source input c w d e wants (LongInput ready reads more) (Refused r k) = absurd (refused_not_ready source w r k ready)
+source_once source input c w d e wants (LongInput ready reads more) (Listed file text same k) = absurd (listed_reads c file same reads)
+source_once source input c w d e wants (LongInput ready reads more) (LongInput r s m) = refl
+
+source_not_open : (source input : List ℕ) (c : Command) (w : Wanted) (e : End) → SaysOf source input c w e → IsReady source w → IsTaken c input → ((file : List ℕ) → c ≡ Check file → ⊥) → ⊥
+source_not_open source input c w e (Refused r h) ready taken other = refused_not_ready source w r h ready
+source_not_open source input c w e (Listed file text same h) ready taken other = other file same
+source_not_open source input c w e (LongInput r reads more) ready taken other = let le = taken reads in omega (arith, more, le)
+
+-- ---- on files
+
+module _ (spelling : Spelling) (files : List File) (input : List ℕ) (c : Command) where
+  one_name : (m n : List ℕ) → fetched_name c ≡ Some m → fetched_name c ≡ Some n → m ≡ n
+  one_name m n h k = same_Some m n (sym h ∙ k)
+
+  there_or_missing : (m n bytes : List ℕ) → fetched_name c ≡ Some m → fetched_name c ≡ Some n → file_of m files ≡ None → file_of n files ≡ Some bytes → ⊥
+  there_or_missing m n bytes h k gone there = none-some bytes (sym (subst (λ x. file_of x files ≡ None) (one_name m n h k) gone) ∙ there)
+
+  one_want : (v w : Wanted) (s t : List ℕ) → Checks spelling files c v s → Checks spelling files c w t → v ≡ w
+  one_want v w s t h k = same_Some v w (sym h.wants ∙ k.wants)
+
+  one_source : (v w : Wanted) (s t : List ℕ) → Checks spelling files c v s → Checks spelling files c w t → s ≡ t
+  one_source v w s t h k = same_Some s t (sym (subst (λ x. file_of x files ≡ Some s) (one_name h.name k.name h.names k.names) h.there) ∙ k.there)
+
+  moved : (v w : Wanted) (s t : List ℕ) (e : End) → Checks spelling files c v s → Checks spelling files c w t → SaysOf s input c v e → SaysOf t input c w e
+  moved v w s t e h k says = subst (λ x. SaysOf t input c x e) (one_want v w s t h k) (subst (λ x. SaysOf x input c v e) (one_source v w s t h k) says)
+
+  pub says_once : (d e : End) → Says spelling files input c d → Says spelling files input c e → without_lines d ≡ without_lines e
+  says_once d e (Missing m o names gone) (Missing n p called lost) = refl
+  says_once d e (Missing m o names gone) (OnSource w source f checks h) = absurd (there_or_missing m checks.name source names checks.names gone checks.there)
+  says_once d e (OnSource w source f checks h) (Missing m o names gone) = absurd (there_or_missing m checks.name source names checks.names gone checks.there)
+  says_once d e (OnSource v s f h says) (OnSource w t g k others) = source_once t input c w f g k.wants (moved v w s t f h k says) others
+
+unsaid_unwanted : (c : Command) (w : Wanted) → IsUnsaid c → wanted c ≡ Some w → ⊥
+unsaid_unwanted (Verify file) w u e = none-some w e
+unsaid_unwanted (Upgrade file out) w u e = none-some w e
+unsaid_unwanted (Run r) w u e = none-some w e
+unsaid_unwanted (Audit file proof) w u e = none-some w e
+unsaid_unwanted (Replay trace step) w u e = none-some w e
+unsaid_unwanted (Library name) w u e = none-some w e
+unsaid_unwanted (Gen seed count) w u e = none-some w e
+unsaid_unwanted c w u e = u
+
+module _ (spelling : Spelling) (files : List File) (input : List ℕ) (c : Command) where
+  pub says_not_open : (e : End) → Says spelling files input c e → IsOpen spelling files input c → ⊥
+  says_not_open e (Missing m o names gone) (OpenSource w source checks ready taken other) = there_or_missing spelling files input c m checks.name source names checks.names gone checks.there
+  says_not_open e (Missing m o names gone) (OpenFile bytes unsaid there) = there_or_missing spelling files input c m there.0 bytes names there.1 gone there.2
+  says_not_open e (Missing m o names gone) (OpenNone none) = none-some m (sym none ∙ names)
+  says_not_open e (OnSource v s f h says) (OpenSource w t k ready taken other) = source_not_open t input c w f (moved spelling files input c v w s t f h k says) ready taken other
+  says_not_open e (OnSource v s f h says) (OpenFile bytes unsaid there) = unsaid_unwanted c v unsaid h.wants
+  says_not_open e (OnSource v s f h says) (OpenNone none) = none-some h.name (sym none ∙ h.names)

@@ -1,0 +1,342 @@
+-- From what a part answered to what a command ends with: on an input, on a source, on the file, and for the words.
+use Rattle.std.proofs.Common.{◌≡◌, ◌∙◌, ◌<◌, ◌≤◌, ◌+◌, ℕ, List, [], length, sym, ap, subst, refl, inl, inr, arith}
+use Rattle.std.specs.Prelude.{◌⊎◌, Option, Some, None, Result, Ok, Err, IfOk, IfErr, IsSomeAnd}
+use Rattle.std.specs.Io.KnownBytes.{Consumes, IsAtEnd}
+use Rattle.std.specs.declared.vec.Vec.{Vec}
+use Rattle.std.specs.declared.alloc.Global.{Global}
+use Rattle.fip_language.specs.declared.rule.Rule.TheVariants.{E05, E61, E74, E75}
+use Rattle.fip_base.specs.declared.refusal.Refusal.{Refusal}
+use Rattle.fip_base.specs.Faults.{Rose}
+use Rattle.fip_base.specs.Files.{File, file_of, HoldsFile}
+use Rattle.fip_trees.specs.Tree.{Program}
+use Rattle.command_line.specs.Words.{Command, Check, Compile, Upgrade, Verify, Exec, Run, Eval, Trace, Session, Tasks, Derive, Audit, Replay, Library, Gen}
+use Rattle.command_outcome.specs.Stages.{IsOfRun, IsOfTasks, IsOfTrace}
+use Rattle.command_outcome.specs.Successes.{derived_text}
+use Rattle.command_outcome.specs.declared.failure.Failure.{Failure}
+use Rattle.command_outcome.specs.declared.failure.Failure.TheVariants as F
+use Rattle.command_outcome.specs.declared.failure.Object.{Object}
+use Rattle.command_outcome.specs.declared.failure.Object.TheVariants as O
+use Rattle.source_report.specs.Report.{bare, IsMatched, Reports, TooLong}
+use Rattle.source_commands.specs.Judged.{IsJudged}
+use Rattle.source_commands.specs.Roots.{IsListing}
+use Rattle.source_commands.specs.Wanted.{Wanted, Lawful, IsReady, IsRefusedBy, KeepsFrom, KeepsFromFile}
+use Rattle.source_commands.proofs.Once.{listing_ready}
+use Rattle.source_commands.specs.declared.files.Compiled.{Compiled as compiled_file}
+use Rattle.fip_driver.specs.Answered.{IsTold}
+use Rattle.fip_driver.specs.Commands.{IsOther, ReadsInput, CallsNoFolder, fetched_name, wanted}
+use Rattle.fip_driver.specs.Ends.{End, SaysOf, Refused, Listed, LongInput, ComesOf, Unsound, Ready, MayEnd, IsTaken, IsRunEnd, IsTraceEnd, IsTasksEnd, IsSessionEnd, IsBeside, Checks, Says, Missing, OnSource, Comes, MayOnSource, MayOnFile, MayOnNone, IsUnsaid, IsThere, MayEndOn, IsAuditEnd}
+use Rattle.fip_driver.specs.Fetched.{FetchFails, FileFails, StoreFails, JudgeFails, ReadFails}
+use Rattle.fip_driver.specs.Outcome.{end_of, compiled_end, IsFault, IsInputFault, InputOutcome, SourceOutcome, Closes, FileOutcome, CommandOutcome}
+use Rattle.fip_driver.specs.Spelling.{Spelling, source_spelling}
+use Rattle.fip_driver.proofs.Telling.{any_told, held, longer, told_fetch, told_input, whole_of, more_left}
+
+-- ---- faults
+
+fault_up : (c : Command) (fr ir more_fr more_ir : Type 0) (e : End) → (fr → more_fr) → (ir → more_ir) → IsFault c fr ir e → IsFault c more_fr more_ir e
+fault_up c fr ir mf mi (Ok text) f i h = h
+fault_up c fr ir mf mi (Err F.NoMemory) f i h = tt
+fault_up c fr ir mf mi (Err (F.Fault O.Folder)) f i h = (f h.0, h.1)
+fault_up c fr ir mf mi (Err (F.Fault O.Input)) f i h = (i h.0, h.1)
+fault_up c fr ir mf mi (Err (F.Fault O.Out)) f i h = h
+fault_up c fr ir mf mi (Err (F.Fault O.Err)) f i h = h
+fault_up c fr ir mf mi (Err failure) f i h = h
+
+input_fault_up : (c : Command) (fr ir : Type 0) (e : End) → ReadsInput c → IsInputFault ir e → IsFault c fr ir e
+input_fault_up c fr ir (Ok text) r h = h
+input_fault_up c fr ir (Err F.NoMemory) r h = tt
+input_fault_up c fr ir (Err (F.Fault O.Folder)) r h = absurd h
+input_fault_up c fr ir (Err (F.Fault O.Input)) r h = (h, r)
+input_fault_up c fr ir (Err (F.Fault O.Out)) r h = h
+input_fault_up c fr ir (Err (F.Fault O.Err)) r h = h
+input_fault_up c fr ir (Err failure) r h = h
+
+-- a count that rose later rose
+pub rose_later : (before mid now : ℕ) → before ≤ mid → Rose mid now → Rose before now
+rose_later before mid now le h = grind arith
+
+-- ---- the input
+
+-- an input that wasn't read
+pub unread_ends : (May : End → Type 0) (before left : Option (List ℕ)) (old new : ℕ) (f : Failure) → ReadFails before left old new f → InputOutcome May before (Rose old new) (Err f)
+unread_ends May before left old new f h = let t = told_input before left old new f h in (t.0, t.1, by f t.0 t.2.0 t.2.1)
+  where
+    by : (f : Failure) (input : List ℕ) (rest : Option (List ℕ)) → ReadFails (Some input) rest old new f → IsInputFault (Rose old new) (Err f) ⊎ (((16777216 < length input) × ◌≡◌ {A = End} (Err f) (Err (F.BadInput 16777216))) ⊎ ((length input ≤ 16777216) × May (Err f)))
+    by (F.BadInput at) input rest h = inr (inl (more_left input rest h.1, ap (λ n. Err (F.BadInput n)) h.0))
+    by (F.Fault O.Folder) input rest h = absurd (let same = h.0 in cc)
+    by (F.Fault O.Input) input rest h = inl h.1
+    by (F.Fault O.Out) input rest h = absurd (let same = h.0 in cc)
+    by (F.Fault O.Err) input rest h = absurd (let same = h.0 in cc)
+    by F.NoMemory input rest h = inl tt
+    by failure input rest h = absurd h
+
+-- an input that was read to its end
+pub read_ends : (May : End → Type 0) (before left : Option (List ℕ)) (rose : Type 0) (read : List ℕ) (e : End) → Consumes before left read → IsAtEnd left → length read ≤ 16777216 → May e → InputOutcome May before rose e
+read_ends May before left rose read e c end le m = (read, whole_of before left read c end, inr (inr (le, m)))
+
+pub runs_end : (o : Result (Vec ℕ Global) Failure) → IfErr o IsOfRun → IsRunEnd (end_of o)
+runs_end (Ok text) h = tt
+runs_end (Err failure) h = h
+
+pub tasks_end : (o : Result (Vec ℕ Global) Failure) → IfErr o IsOfTasks → IsTasksEnd (end_of o)
+tasks_end (Ok text) h = tt
+tasks_end (Err failure) h = h
+
+pub traces_end : (o : Result compiled_file Failure) → IfErr o IsOfTrace → ((r : Refusal) → o ≡ Err (F.Refused r) → r ≡ bare E75) → IsTraceEnd (compiled_end o)
+traces_end (Ok compiled) h bare = tt
+traces_end (Err (F.Refused r)) h bare = bare r refl
+traces_end (Err failure) h bare = h
+
+-- ---- the source
+
+no_input : (c : Command) (input : List ℕ) → (ReadsInput c → ⊥) → IsTaken c input
+no_input c input never reads = absurd (never reads)
+
+pub kept_ends : (c : Command) (w : Wanted) (source : List ℕ) (left : Option (List ℕ)) (fr ir : Type 0) (f : Failure) → KeepsFrom source w f → SourceOutcome c w source left fr ir (Err f)
+kept_ends c w source left fr ir f h = let i = any_told left [] in (i.0, i.1, by f i.0 h)
+  where
+    by : (f : Failure) (input : List ℕ) → KeepsFrom source w f → IsFault c fr ir (Err f) ⊎ (SaysOf source input c w (Err f) ⊎ ComesOf source input c w (Err f))
+    by (F.Refused r) input h = inr (inl (Refused r h))
+    by (F.Unsound function at rule) input h = inr (inr (Unsound h.0 function at rule h.1))
+    by F.NoMemory input h = inl tt
+    by failure input h = absurd h
+
+-- `check`
+pub check_ends : (file source : List ℕ) (left : Option (List ℕ)) (fr ir : Type 0) (o : Result (Vec ℕ Global) Failure) → IfOk o (λ v. IsListing source v.items) → IfErr o (KeepsFrom source Lawful) → SourceOutcome (Check file) Lawful source left fr ir (end_of o)
+check_ends file source left fr ir (Ok v) h k = let i = any_told left [] in (i.0, i.1, inr (inl (Listed file v.items refl h)))
+check_ends file source left fr ir (Err f) h k = kept_ends (Check file) Lawful source left fr ir f k
+
+-- a file that is too long, by a rule of its own
+long_ends : (c : Command) (source : List ℕ) (left : Option (List ℕ)) (fr ir : Type 0) (rule : _) (f : Failure) → (ReadsInput c → ⊥) → ((r : Refusal) → r ≡ bare rule → MayEnd c source (Err (F.Refused r))) → KeepsFromFile source rule f → SourceOutcome c Lawful source left fr ir (Err f)
+long_ends c source left fr ir rule f never may (inl h) = kept_ends c Lawful source left fr ir f h
+long_ends c source left fr ir rule f never may (inr h) = let i = any_told left [] in (i.0, i.1, by f i.0 h.1)
+  where
+    by : (f : Failure) (input : List ℕ) → IsRefusedBy (λ r. r ≡ bare rule) f → IsFault c fr ir (Err f) ⊎ (SaysOf source input c Lawful (Err f) ⊎ ComesOf source input c Lawful (Err f))
+    by (F.Refused r) input e = inr (inr (Ready (Err (F.Refused r)) h.0 (no_input c input never) (may r e)))
+    by F.NoMemory input e = inl tt
+    by failure input e = absurd e
+
+-- what was made of a source is stored, and its text is told
+stored_ends : (c : Command) (source : List ℕ) (left : Option (List ℕ)) (ir : Type 0) (before mid now : ℕ) (o : Result (Vec ℕ Global) Failure) → (CallsNoFolder c → ⊥) → (ReadsInput c → ⊥) → before ≤ mid → IsReady source Lawful → IfOk o (λ v. MayEnd c source (Ok v.items)) → IfErr o (StoreFails mid now) → SourceOutcome c Lawful source left (Rose before now) ir (end_of o)
+stored_ends c source left ir before mid now o calls never le ready ok err = let i = any_told left [] in (i.0, i.1, by o i.0 ok err)
+  where
+    by : (o : Result (Vec ℕ Global) Failure) (input : List ℕ) → IfOk o (λ v. MayEnd c source (Ok v.items)) → IfErr o (StoreFails mid now) → IsFault c (Rose before now) ir (end_of o) ⊎ (SaysOf source input c Lawful (end_of o) ⊎ ComesOf source input c Lawful (end_of o))
+    by (Ok v) input ok err = inr (inr (Ready (Ok v.items) ready (no_input c input never) ok))
+    by (Err (F.Fault O.Folder)) input ok err = inl (rose_later before mid now le err.1, calls)
+    by (Err (F.Fault O.Input)) input ok err = absurd (let same = err.0 in cc)
+    by (Err (F.Fault O.Out)) input ok err = absurd (let same = err.0 in cc)
+    by (Err (F.Fault O.Err)) input ok err = absurd (let same = err.0 in cc)
+    by (Err F.NoMemory) input ok err = inl tt
+    by (Err failure) input ok err = absurd err
+
+-- `compile`
+pub compile_refused : (file out source : List ℕ) (left : Option (List ℕ)) (fr ir : Type 0) (f : Failure) → KeepsFromFile source E61 f → SourceOutcome (Compile file out) Lawful source left fr ir (Err f)
+compile_refused file out source left fr ir f h = long_ends (Compile file out) source left fr ir E61 f (λ r. r) (λ r e. ap F.Refused e) h
+
+pub compile_ends : (file out source text : List ℕ) (left : Option (List ℕ)) (ir : Type 0) (before mid now : ℕ) (o : Result (Vec ℕ Global) Failure) → before ≤ mid → IsListing source text → IfOk o (λ v. v.items ≡ text) → IfErr o (StoreFails mid now) → SourceOutcome (Compile file out) Lawful source left (Rose before now) ir (end_of o)
+compile_ends file out source text left ir before mid now o le listing ok err =
+    stored_ends (Compile file out) source left ir before mid now o (λ r. r) (λ r. r) le (listing_ready source text listing) (by o ok) err
+  where
+    by : (o : Result (Vec ℕ Global) Failure) → IfOk o (λ v. v.items ≡ text) → IfOk o (λ v. IsListing source v.items)
+    by (Ok v) e = subst (IsListing source) (sym e) listing
+    by (Err f) e = tt
+
+-- `derive`
+pub derive_refused : (file out source : List ℕ) (left : Option (List ℕ)) (fr ir : Type 0) (f : Failure) → KeepsFromFile source E74 f → SourceOutcome (Derive file out) Lawful source left fr ir (Err f)
+derive_refused file out source left fr ir f h = long_ends (Derive file out) source left fr ir E74 f (λ r. r) (λ r e. ap F.Refused e) h
+
+pub derive_ends : (file out source text : List ℕ) (left : Option (List ℕ)) (ir : Type 0) (before mid now : ℕ) (o : Result (Vec ℕ Global) Failure) → before ≤ mid → IsReady source Lawful → text ≡ derived_text → IfOk o (λ v. v.items ≡ text) → IfErr o (StoreFails mid now) → SourceOutcome (Derive file out) Lawful source left (Rose before now) ir (end_of o)
+derive_ends file out source text left ir before mid now o le ready derived ok err =
+    stored_ends (Derive file out) source left ir before mid now o (λ r. r) (λ r. r) le ready (by o ok) err
+  where
+    by : (o : Result (Vec ℕ Global) Failure) → IfOk o (λ v. v.items ≡ text) → IfOk o (λ v. v.items ≡ derived_text)
+    by (Ok v) e = e ∙ derived
+    by (Err f) e = tt
+
+-- what comes of an input, of a source that has what is wanted
+pub input_ends : (c : Command) (w : Wanted) (source : List ℕ) (left : Option (List ℕ)) (fr rose : Type 0) (May : End → Type 0) (e : End) → IsReady source w → ReadsInput c → ((d : End) → May d → MayEnd c source d) → InputOutcome May left rose e → SourceOutcome c w source left fr rose e
+input_ends c w source left fr rose May e ready reads up (input, told, h) = (input, told, by h)
+  where
+    long : (d : End) → 16777216 < length input → d ≡ Err (F.BadInput 16777216) → SaysOf source input c w d
+    long d more same = subst (SaysOf source input c w) (sym same) (LongInput ready reads more)
+
+    by : IsInputFault rose e ⊎ (((16777216 < length input) × (e ≡ Err (F.BadInput 16777216))) ⊎ ((length input ≤ 16777216) × May e)) → IsFault c fr rose e ⊎ (SaysOf source input c w e ⊎ ComesOf source input c w e)
+    by (inl f) = inl (input_fault_up c fr rose e reads f)
+    by (inr (inl (more, same))) = inr (inl (long e more same))
+    by (inr (inr (le, m))) = inr (inr (Ready e ready (λ r. le) (up e m)))
+
+-- a trace that was made is stored
+pub trace_stored : (left : Option (List ℕ)) (rose : Type 0) (file entry out source text : List ℕ) (room : _) (before mid now : ℕ) (w : Wanted) (o : Result (Vec ℕ Global) Failure) → before ≤ mid → IsReady source w → InputOutcome IsTraceEnd left rose (Ok text) → IfOk o (λ v. v.items ≡ text) → IfErr o (StoreFails mid now) → SourceOutcome (Trace file entry out room) w source left (Rose before now) rose (end_of o)
+trace_stored left rose file entry out source text room before mid now w o le ready (input, told, h) ok err = (input, told, by o ok err)
+  where
+    short : IsInputFault rose (Ok text) ⊎ (((16777216 < length input) × ◌≡◌ {A = End} (Ok text) (Err (F.BadInput 16777216))) ⊎ ((length input ≤ 16777216) × IsTraceEnd (Ok text))) → length input ≤ 16777216
+    short (inl f) = absurd f
+    short (inr (inl (more, same))) = absurd cc
+    short (inr (inr (le, m))) = le
+
+    by : (o : Result (Vec ℕ Global) Failure) → IfOk o (λ v. v.items ≡ text) → IfErr o (StoreFails mid now) → IsFault (Trace file entry out room) (Rose before now) rose (end_of o) ⊎ (SaysOf source input (Trace file entry out room) w (end_of o) ⊎ ComesOf source input (Trace file entry out room) w (end_of o))
+    by (Ok v) ok err = inr (inr (Ready (Ok v.items) ready (λ r. short h) tt))
+    by (Err (F.Fault O.Folder)) ok err = inl (rose_later before mid now le err.1, λ r. r)
+    by (Err (F.Fault O.Input)) ok err = absurd (let same = err.0 in cc)
+    by (Err (F.Fault O.Out)) ok err = absurd (let same = err.0 in cc)
+    by (Err (F.Fault O.Err)) ok err = absurd (let same = err.0 in cc)
+    by (Err F.NoMemory) ok err = inl tt
+    by (Err failure) ok err = absurd err
+
+-- ---- the file
+
+-- what comes of a source that is checked, of files
+pub checked_closes : (c : Command) (w : Wanted) (files : List File) (source input : List ℕ) (fr ir more_fr more_ir : Type 0) (e : End) → (fr → more_fr) → (ir → more_ir) → Checks source_spelling files c w source → IsFault c fr ir e ⊎ (SaysOf source input c w e ⊎ ComesOf source input c w e) → Closes source_spelling files input c more_fr more_ir e
+checked_closes c w files source input fr ir mf mi e f i checks (inl h) = inl (fault_up c fr ir mf mi e f i h)
+checked_closes c w files source input fr ir mf mi e f i checks (inr (inl s)) = inr (inl (OnSource w source e checks s))
+checked_closes c w files source input fr ir mf mi e f i checks (inr (inr s)) = inr (inr (MayOnSource w source e checks s))
+
+beside_other : (spelling : Spelling) (c : Command) (source : List ℕ) → IsOther c → IsBeside spelling c source
+beside_other spelling (Exec r) source other = absurd other
+beside_other spelling c source other = tt
+
+-- what comes of the source of a file
+pub source_ends : (c : Command) (w : Wanted) (name : List ℕ) (files : Option (List File)) (left : Option (List ℕ)) (fr ir more_fr more_ir : Type 0) (source text : List ℕ) (e : End) → (fr → more_fr) → (ir → more_ir) → HoldsFile files name source → fetched_name c ≡ Some name → wanted c ≡ Some w → IsOther c → text ≡ source → SourceOutcome c w text left fr ir e → FileOutcome c files left more_fr more_ir e
+source_ends c w name files left fr ir mf mi source text e f i holds names wants other same k =
+    let h = subst (λ s. SourceOutcome c w s left fr ir e) same k in
+    let t = held files name source holds in
+    let checks : Checks source_spelling t.0 c w source = record { wants = wants; name = name; names = names; there = t.2; beside = beside_other source_spelling c source other } in
+    (t.0, h.0, t.1, h.1, checked_closes c w t.0 source h.0 fr ir mf mi e f i checks h.2)
+
+-- what keeps a source from being fetched
+too_long_said : (c : Command) (w : Wanted) (name : List ℕ) (files : List File) (input : List ℕ) (r : Refusal) (o : Option (List ℕ)) → file_of name files ≡ o → IsOther c → fetched_name c ≡ Some name → wanted c ≡ Some w → r ≡ bare E05 → IsSomeAnd o (λ bytes. 1048576 < length bytes) → Says source_spelling files input c (Err (F.Refused r))
+too_long_said c w name files input r None e other names wants same h = absurd h
+too_long_said c w name files input r (Some source) e other names wants same h =
+    let checks : Checks source_spelling files c w source = record { wants = wants; name = name; names = names; there = e; beside = beside_other source_spelling c source other } in
+    subst (λ r. Says source_spelling files input c (Err (F.Refused r))) (sym same) (OnSource w source (Err (F.Refused (bare E05))) checks (Refused (bare E05) (inl (TooLong h))))
+
+pub fetch_ends : (c : Command) (w : Wanted) (name : List ℕ) (files : Option (List File)) (left : Option (List ℕ)) (before now : ℕ) (ir : Type 0) (f : Failure) → IsOther c → fetched_name c ≡ Some name → wanted c ≡ Some w → (CallsNoFolder c → ⊥) → FetchFails files name before now f → FileOutcome c files left (Rose before now) ir (Err f)
+fetch_ends c w name files left before now ir f other names wants calls h =
+    let t = told_fetch files name before now f h in
+    let i = any_told left [] in
+    (t.0, i.0, t.1, i.1, by f t.0 i.0 t.2)
+  where
+    by : (f : Failure) (all : List File) (input : List ℕ) → FetchFails (Some all) name before now f → Closes source_spelling all input c (Rose before now) ir (Err f)
+    by (F.Refused r) all input h = inr (inl (too_long_said c w name all input r (file_of name all) refl other names wants h.0 h.1))
+    by (F.Fault O.Folder) all input h = elim h.1 [ inl up ↦ inl (up, calls) | inr gone ↦ inr (inl (Missing name other names gone)) ]
+    by (F.Fault O.Input) all input h = absurd (let same = h.0 in cc)
+    by (F.Fault O.Out) all input h = absurd (let same = h.0 in cc)
+    by (F.Fault O.Err) all input h = absurd (let same = h.0 in cc)
+    by F.NoMemory all input h = inl tt
+    by failure all input h = absurd h
+
+-- ---- files of which no more is said
+
+pub there_ends : (c : Command) (name : List ℕ) (files : Option (List File)) (left : Option (List ℕ)) (fr ir : Type 0) (bytes : List ℕ) (e : End) → IsUnsaid c → fetched_name c ≡ Some name → HoldsFile files name bytes → ((all : List File) → MayEndOn all c bytes e) → FileOutcome c files left fr ir e
+there_ends c name files left fr ir bytes e unsaid names holds may =
+    let t = held files name bytes holds in
+    let i = any_told left [] in
+    (t.0, i.0, t.1, i.1, inr (inr (MayOnFile bytes e unsaid (name, names, t.2) (may t.0))))
+
+pub none_ends : (c : Command) (files : Option (List File)) (left : Option (List ℕ)) (fr ir : Type 0) (e : End) → fetched_name c ≡ None → FileOutcome c files left fr ir e
+none_ends c files left fr ir e none =
+    let t = any_told files [] in
+    let i = any_told left [] in
+    (t.0, i.0, t.1, i.1, inr (inr (MayOnNone e none)))
+
+-- the same cause, of files that are told
+told_file : (IsLong : Failure → Type 0) (files : Option (List File)) (name : List ℕ) (before now : ℕ) (f : Failure) → FileFails IsLong files name before now f → (all : List File) × IsTold files all × FileFails IsLong (Some all) name before now f
+told_file IsLong (Some all) name before now f h = (all, refl, h)
+told_file IsLong None name before now (F.Fault object) h = ([], tt, (h.0, elim h.1 [ inl up ↦ inl up | inr gone ↦ absurd gone ]))
+told_file IsLong None name before now F.NoMemory h = ([], tt, tt)
+told_file IsLong None name before now failure h = let l = longer name 16777216 in (l.0, tt, (h.0, l.1))
+
+pub missed_ends : (c : Command) (IsLong : Failure → Type 0) (name : List ℕ) (files : Option (List File)) (left : Option (List ℕ)) (before now : ℕ) (ir : Type 0) (f : Failure) → IsOther c → IsUnsaid c → fetched_name c ≡ Some name → (CallsNoFolder c → ⊥) → ((all : List File) (bytes : List ℕ) (e : End) → MayEndOn all c bytes e) → FileFails IsLong files name before now f → FileOutcome c files left (Rose before now) ir (Err f)
+missed_ends c IsLong name files left before now ir f other unsaid names calls may h =
+    let t = told_file IsLong files name before now f h in
+    let i = any_told left [] in
+    (t.0, i.0, t.1, i.1, by f t.0 i.0 t.2)
+  where
+    long : (f : Failure) (all : List File) (input : List ℕ) (o : Option (List ℕ)) → file_of name all ≡ o → IsSomeAnd o (λ bytes. 16777216 < length bytes) → Closes source_spelling all input c (Rose before now) ir (Err f)
+    long f all input None e h = absurd h
+    long f all input (Some bytes) e h = inr (inr (MayOnFile bytes (Err f) unsaid (name, names, e) (may all bytes (Err f))))
+
+    by : (f : Failure) (all : List File) (input : List ℕ) → FileFails IsLong (Some all) name before now f → Closes source_spelling all input c (Rose before now) ir (Err f)
+    by (F.Fault O.Folder) all input h = elim h.1 [ inl up ↦ inl (up, calls) | inr gone ↦ inr (inl (Missing name other names gone)) ]
+    by (F.Fault O.Input) all input h = absurd (let same = h.0 in cc)
+    by (F.Fault O.Out) all input h = absurd (let same = h.0 in cc)
+    by (F.Fault O.Err) all input h = absurd (let same = h.0 in cc)
+    by F.NoMemory all input h = inl tt
+    by failure all input h = long failure all input (file_of name all) refl h.1
+
+-- ---- `audit`
+
+audit_checked : (file proof : List ℕ) (left : Option (List ℕ)) (ir : Type 0) (source : List ℕ) (all : List File) (before mid now : ℕ) (o : Result (Vec ℕ Global) Failure) → file_of file all ≡ Some source → before ≤ mid → ((p : Program) × IsMatched source p) → IfOk o (λ v. v.items ≡ derived_text) → IfErr o (λ f. JudgeFails (Some all) proof mid now f) → (input : List ℕ) → Closes source_spelling all input (Audit file proof) (Rose before now) ir (end_of o)
+audit_checked file proof left ir source all before mid now o there le matched ok err input = by o ok err
+  where
+    may : (e : End) → IsAuditEnd all proof source e → Closes source_spelling all input (Audit file proof) (Rose before now) ir e
+    may e h = inr (inr (MayOnFile source e tt (file, refl, there) h))
+
+    by : (o : Result (Vec ℕ Global) Failure) → IfOk o (λ v. v.items ≡ derived_text) → IfErr o (λ f. JudgeFails (Some all) proof mid now f) → Closes source_spelling all input (Audit file proof) (Rose before now) ir (end_of o)
+    by (Ok v) ok err = may (Ok v.items) (matched, ok)
+    by (Err (F.Refused r)) ok err = may (Err (F.Refused r)) (inr (matched, err))
+    by (Err (F.Fault O.Folder)) ok err = elim err.1 [ inl up ↦ inl (rose_later before mid now le up, λ r. r) | inr gone ↦ may (Err (F.Fault O.Folder)) (matched, gone) ]
+    by (Err (F.Fault O.Input)) ok err = absurd (let same = err.0 in cc)
+    by (Err (F.Fault O.Out)) ok err = absurd (let same = err.0 in cc)
+    by (Err (F.Fault O.Err)) ok err = absurd (let same = err.0 in cc)
+    by (Err F.NoMemory) ok err = inl tt
+    by (Err failure) ok err = absurd err
+
+judged_told : (files : Option (List File)) (all : List File) (proof : List ℕ) (mid now : ℕ) (f : Failure) → IsTold files all → JudgeFails files proof mid now f → JudgeFails (Some all) proof mid now f
+judged_told (Some files) all proof mid now f told h = subst (λ x. JudgeFails (Some x) proof mid now f) told h
+judged_told None all proof mid now (F.Refused r) told h = h
+judged_told None all proof mid now (F.Fault object) told h = (h.0, elim h.1 [ inl up ↦ inl up | inr gone ↦ absurd gone ])
+judged_told None all proof mid now F.NoMemory told h = tt
+judged_told None all proof mid now failure told h = absurd h
+
+if_err : {T E : Type 0} (r : Result T E) (P Q : E → Type 0) → ((e : E) → P e → Q e) → IfErr r P → IfErr r Q
+if_err (Ok t) P Q up h = tt
+if_err (Err e) P Q up h = up e h
+
+-- a source whose types and matches are right
+pub judged_ends : (file proof : List ℕ) (files later : Option (List File)) (left : Option (List ℕ)) (ir : Type 0) (source text : List ℕ) (p : Program) (before mid now : ℕ) (o : Result (Vec ℕ Global) Failure) → HoldsFile files file source → later ≡ files → before ≤ mid → text ≡ source → IsMatched text p → IfOk o (λ v. v.items ≡ derived_text) → IfErr o (JudgeFails later proof mid now) → FileOutcome (Audit file proof) files left (Rose before now) ir (end_of o)
+judged_ends file proof files later left ir source text p before mid now o holds kept le same matched ok err =
+    let t = held files file source holds in
+    let i = any_told left [] in
+    let fails = if_err o (JudgeFails files proof mid now) (JudgeFails (Some t.0) proof mid now) (λ f. judged_told files t.0 proof mid now f t.1) (subst (λ x. IfErr o (JudgeFails x proof mid now)) kept err) in
+    (t.0, i.0, t.1, i.1, audit_checked file proof left ir source t.0 before mid now o t.2 le (p, subst (λ s. IsMatched s p) same matched) ok fails i.0)
+
+-- one whose report is among those that are asked
+pub reported_ends : (file proof : List ℕ) (files : Option (List File)) (left : Option (List ℕ)) (fr ir : Type 0) (source text : List ℕ) (f : Failure) → HoldsFile files file source → text ≡ source → IsRefusedBy (Reports text) f → FileOutcome (Audit file proof) files left fr ir (Err f)
+reported_ends file proof files left fr ir source text f holds same h =
+    let t = held files file source holds in
+    let i = any_told left [] in
+    (t.0, i.0, t.1, i.1, by f t.0 i.0 t.2 (subst (λ s. IsRefusedBy (Reports s) f) same h))
+  where
+    by : (f : Failure) (all : List File) (input : List ℕ) → file_of file all ≡ Some source → IsRefusedBy (Reports source) f → Closes source_spelling all input (Audit file proof) fr ir (Err f)
+    by (F.Refused r) all input there h = inr (inr (MayOnFile source (Err (F.Refused r)) tt (file, refl, there) (inl h)))
+    by F.NoMemory all input there h = inl tt
+    by failure all input there h = absurd h
+
+-- one that wasn't fetched
+pub audit_unfetched : (file proof : List ℕ) (files : Option (List File)) (left : Option (List ℕ)) (before now : ℕ) (ir : Type 0) (f : Failure) → FetchFails files file before now f → FileOutcome (Audit file proof) files left (Rose before now) ir (Err f)
+audit_unfetched file proof files left before now ir f h =
+    let t = told_fetch files file before now f h in
+    let i = any_told left [] in
+    (t.0, i.0, t.1, i.1, by f t.0 i.0 t.2)
+  where
+    long : (r : Refusal) (all : List File) (input : List ℕ) (o : Option (List ℕ)) → file_of file all ≡ o → r ≡ bare E05 → IsSomeAnd o (λ bytes. 1048576 < length bytes) → Closes source_spelling all input (Audit file proof) (Rose before now) ir (Err (F.Refused r))
+    long r all input None e same h = absurd h
+    long r all input (Some source) e same h = inr (inr (MayOnFile source (Err (F.Refused r)) tt (file, refl, e) (inl (subst (Reports source) (sym same) (TooLong h)))))
+
+    by : (f : Failure) (all : List File) (input : List ℕ) → FetchFails (Some all) file before now f → Closes source_spelling all input (Audit file proof) (Rose before now) ir (Err f)
+    by (F.Refused r) all input h = long r all input (file_of file all) refl h.0 h.1
+    by (F.Fault O.Folder) all input h = elim h.1 [ inl up ↦ inl (up, λ r. r) | inr gone ↦ inr (inl (Missing file tt refl gone)) ]
+    by (F.Fault O.Input) all input h = absurd (let same = h.0 in cc)
+    by (F.Fault O.Out) all input h = absurd (let same = h.0 in cc)
+    by (F.Fault O.Err) all input h = absurd (let same = h.0 in cc)
+    by F.NoMemory all input h = inl tt
+    by failure all input h = absurd h
+
+-- ---- the words
+
+pub file_outcome : (c : Command) (files : Option (List File)) (left : Option (List ℕ)) (fr ir more_ir : Type 0) (o : Result (Vec ℕ Global) Failure) → (ir → more_ir) → FileOutcome c files left fr ir (end_of o) → CommandOutcome c files left fr more_ir o
+file_outcome c files left fr ir mi o up h words asked = (h.0, h.1, h.2, h.3, inr (c, asked, by h.4))
+  where
+    by : Closes source_spelling h.0 h.1 c fr ir (end_of o) → Closes source_spelling h.0 h.1 c fr mi (end_of o)
+    by (inl f) = inl (fault_up c fr ir fr mi (end_of o) (λ r. r) up f)
+    by (inr k) = inr k

@@ -1,0 +1,166 @@
+-- What a command ends with, by the files and the input: a text on out, or what keeps it from one. The reply to a right
+-- program of the loop form isn't said here, but in `fip_language`'s `Answer`; for `exec` of another program it goes on
+-- here.
+--
+-- The causes come in this order: the file is missing; the source is refused, by its report or by the entry; the input
+-- has too many bytes. So `check list.fip3` ends with `fault: folder` where there is no such file, with the report of
+-- the source where it breaks a rule, and else with a line for each root.
+use Rattle.std.specs.Prelude.{◌≡◌, ◌⊎◌, ℕ, ◌<◌, ◌≤◌, List, length, Option, Some, None, Result, Ok, Err}
+use Rattle.std.specs.Io.KnownBytes.{Appends}
+use Rattle.fip_language.specs.declared.limits.TheConstants.{MOST_SOURCE_BYTES, MOST_FILE_BYTES}
+use Rattle.fip_language.specs.declared.rule.Rule.TheVariants.{E61, E74, E75}
+use Rattle.fip_base.specs.Files.{File, file_of}
+use Rattle.command_line.specs.Words.{Command, Check, Compile, Verify, Upgrade, Exec, Run, Eval, Trace, Session, Tasks}
+use Rattle.command_line.specs.Words.{Derive, Audit, Replay, Library, Gen}
+use Rattle.command_outcome.specs.Failures.{failure_status, failure_text}
+use Rattle.command_outcome.specs.Stages.{IsOfRun, IsOfTasks}
+use Rattle.command_outcome.specs.Successes.{derived_text}
+use Rattle.command_outcome.specs.declared.failure.Failure.{Failure}
+use Rattle.command_outcome.specs.declared.failure.Failure.TheVariants as F
+use Rattle.command_outcome.specs.declared.failure.Object.TheVariants as O
+use Rattle.fip_trees.specs.Tree.{Program}
+use Rattle.source_report.specs.Report.{bare, IsAccepted, IsMatched, Reports}
+use Rattle.source_commands.specs.Judged.{IsJudged}
+use Rattle.source_commands.specs.Roots.{IsListing}
+use Rattle.source_commands.specs.Wanted.{Wanted, Refuses, IsReady}
+use Rattle.fip_driver.specs.Commands.{IsOther, ReadsInput, fetched_name, wanted}
+use Rattle.fip_driver.specs.Spelling.{Spelling, IsOutside}
+
+abbrev pub End : Type 0
+End = Result (List ℕ) Failure
+
+-- ---- what is said of a source of which all rules are asked
+
+-- The command ends so on this source: it is refused; or it has what is wanted, and `check` lists its roots, or the
+-- input has too many bytes.
+pub data SaysOf (source input : List ℕ) (c : Command) (w : Wanted) : End → Type 0 where
+  Refused : (r : _) → Refuses source w r → SaysOf source input c w (Err (F.Refused r))
+  Listed : (file text : List ℕ) → c ≡ Check file → IsListing source text → SaysOf source input c w (Ok text)
+  LongInput : IsReady source w → ReadsInput c → MOST_FILE_BYTES < length input →
+      SaysOf source input c w (Err (F.BadInput MOST_FILE_BYTES))
+
+-- ---- what isn't said yet, and how it may be
+
+-- how a run may end
+abbrev pub IsRunEnd : End → Type 0
+IsRunEnd (Ok text) = Unit {0}
+IsRunEnd (Err failure) = IsOfRun failure
+
+abbrev pub IsTraceEnd : End → Type 0
+IsTraceEnd (Err (F.Refused r)) = r ≡ bare E75
+IsTraceEnd e = IsRunEnd e
+
+abbrev pub IsTasksEnd : End → Type 0
+IsTasksEnd (Ok text) = Unit {0}
+IsTasksEnd (Err failure) = IsOfTasks failure
+
+abbrev pub IsSessionEnd : End → Type 0
+IsSessionEnd (Ok text) = Unit {0}
+IsSessionEnd (Err failure) = ⊥
+
+abbrev pub IsCompileEnd : List ℕ → End → Type 0
+IsCompileEnd source (Ok text) = IsListing source text
+IsCompileEnd source (Err failure) = failure ≡ F.Refused (bare E61)
+
+abbrev pub IsDeriveEnd : End → Type 0
+IsDeriveEnd (Ok text) = text ≡ derived_text
+IsDeriveEnd (Err failure) = failure ≡ F.Refused (bare E74)
+
+-- how a command may end on a source that has what is wanted
+abbrev pub MayEnd : Command → List ℕ → End → Type 0
+MayEnd (Compile file out) source e = IsCompileEnd source e
+MayEnd (Exec r) source e = IsRunEnd e
+MayEnd (Eval file entry calls frames) source e = IsRunEnd e
+MayEnd (Trace file entry out room) source e = IsTraceEnd e
+MayEnd (Session file room) source e = IsSessionEnd e
+MayEnd (Tasks file seed turns room) source e = IsTasksEnd e
+MayEnd (Derive file out) source e = IsDeriveEnd e
+MayEnd c source e = ⊥
+
+-- an input that isn't read, or hasn't too many bytes
+abbrev pub IsTaken : Command → List ℕ → Type 0
+IsTaken c input = ReadsInput c → length input ≤ MOST_FILE_BYTES
+
+-- The command may end so on this source. No clause says yet that the code of an accepted source is sound: were it not
+-- so, it would be told as unsound.
+pub data ComesOf (source input : List ℕ) (c : Command) (w : Wanted) : End → Type 0 where
+  Unsound : (p : Program) (function at : ℕ) (rule : _) → IsAccepted source p →
+      ComesOf source input c w (Err (F.Unsound function at rule))
+  Ready : (e : End) → IsReady source w → IsTaken c input → MayEnd c source e → ComesOf source input c w e
+
+-- ---- what is said of the files
+
+-- what `exec` asks first: that the source has no reply as a program of the loop form
+abbrev pub IsBeside : Spelling → Command → List ℕ → Type 0
+IsBeside spelling (Exec r) source = (length source ≤ MOST_SOURCE_BYTES) × IsOutside spelling source
+IsBeside spelling c source = Unit {0}
+
+-- The command asks all rules of this source.
+pub record Checks (spelling : Spelling) (files : List File) (c : Command) (w : Wanted) (source : List ℕ) : Type 0 where
+  pub wants : wanted c ≡ Some w
+  pub name : List ℕ
+  pub names : fetched_name c ≡ Some name
+  pub there : file_of name files ≡ Some source
+  pub beside : IsBeside spelling c source
+
+-- The command ends so. A missing file of `exec` has a reply of its own.
+pub data Says (spelling : Spelling) (files : List File) (input : List ℕ) (c : Command) : End → Type 0 where
+  Missing : (name : List ℕ) → IsOther c → fetched_name c ≡ Some name → file_of name files ≡ None →
+      Says spelling files input c (Err (F.Fault O.Folder))
+  OnSource : (w : Wanted) (source : List ℕ) (e : End) → Checks spelling files c w source →
+      SaysOf source input c w e → Says spelling files input c e
+
+-- ---- what isn't said of them yet
+
+-- the commands of which no more is said than that a missing file is told
+abbrev pub IsUnsaid : Command → Type 0
+IsUnsaid (Verify file) = Unit {0}
+IsUnsaid (Upgrade file out) = Unit {0}
+IsUnsaid (Run r) = Unit {0}
+IsUnsaid (Audit file proof) = Unit {0}
+IsUnsaid (Replay trace step) = Unit {0}
+IsUnsaid (Library name) = Unit {0}
+IsUnsaid (Gen seed count) = Unit {0}
+IsUnsaid c = ⊥
+
+-- A source whose types and matches are right is asked no more rules by `audit`: the proof file may be missing, and is
+-- judged.
+abbrev pub IsAuditEnd : List File → List ℕ → List ℕ → End → Type 0
+IsAuditEnd files proof source (Ok text) = ((p : Program) × IsMatched source p) × (text ≡ derived_text)
+IsAuditEnd files proof source (Err (F.Refused r)) =
+    Reports source r ⊎ (((p : Program) × IsMatched source p) × IsJudged r)
+IsAuditEnd files proof source (Err (F.Fault O.Folder)) =
+    ((p : Program) × IsMatched source p) × (file_of proof files ≡ None)
+IsAuditEnd files proof source (Err failure) = ⊥
+
+-- how such a command may end on a file that is there
+abbrev pub MayEndOn : List File → Command → List ℕ → End → Type 0
+MayEndOn files (Audit file proof) bytes e = IsAuditEnd files proof bytes e
+MayEndOn files c bytes e = Unit {0}
+
+-- The file that is fetched first is there, and has these bytes.
+abbrev pub IsThere : List File → Command → List ℕ → Type 0
+IsThere files c bytes = (name : List ℕ) × (fetched_name c ≡ Some name) × (file_of name files ≡ Some bytes)
+
+-- The command may end so.
+pub data Comes (spelling : Spelling) (files : List File) (input : List ℕ) (c : Command) : End → Type 0 where
+  MayOnSource : (w : Wanted) (source : List ℕ) (e : End) → Checks spelling files c w source →
+      ComesOf source input c w e → Comes spelling files input c e
+  MayOnFile : (bytes : List ℕ) (e : End) → IsUnsaid c → IsThere files c bytes → MayEndOn files c bytes e →
+      Comes spelling files input c e
+  MayOnNone : (e : End) → fetched_name c ≡ None → Comes spelling files input c e
+
+-- The answer isn't said: the source has what a command other than `check` wants, or it is none of a source.
+pub data IsOpen (spelling : Spelling) (files : List File) (input : List ℕ) (c : Command) : Type 0 where
+  OpenSource : (w : Wanted) (source : List ℕ) → Checks spelling files c w source → IsReady source w → IsTaken c input →
+      ((file : List ℕ) → c ≡ Check file → ⊥) → IsOpen spelling files input c
+  OpenFile : (bytes : List ℕ) → IsUnsaid c → IsThere files c bytes → IsOpen spelling files input c
+  OpenNone : fetched_name c ≡ None → IsOpen spelling files input c
+
+-- ---- how an end is told
+
+-- a text on out with status 0; or a status other than 0 with its text on err alone
+abbrev pub Ends : End → Option (List ℕ) → Option (List ℕ) → Option (List ℕ) → Option (List ℕ) → ℕ → Type 0
+Ends (Ok text) out out' err err' s = (s ≡ 0) × (err' ≡ err) × Appends out out' text
+Ends (Err failure) out out' err err' s =
+    (s ≡ failure_status failure) × (out' ≡ out) × Appends err err' (failure_text failure)

@@ -1,0 +1,5 @@
+pub mod Told
+pub mod Roots
+pub mod Once
+pub mod CodeFiles
+pub mod Entries

@@ -1,0 +1,8 @@
+use Rattle.source_commands.proofs.CodeFiles.{function_found, function_missed}
+use Rattle.source_commands.proofs.entry.run_entry.Goals as goal
+
+pub returns-in-Ok-clause-ready : goal.returns-in-Ok-clause-ready
+returns-in-Ok-clause-ready c = function_found c.args.bytes.now c.args.entry.now c.in-Ok.verified.code c.named_in.result c.in-Ok.ensures.sound c.named_in.ensures.ready
+
+pub returns-in-Ok-clause-kept : goal.returns-in-Ok-clause-kept
+returns-in-Ok-clause-kept c = function_missed c.args.bytes.now c.args.entry.now c.in-Ok.verified.code c.named_in.result c.in-Ok.ensures.sound c.named_in.ensures.none c.named_in.ensures.missed

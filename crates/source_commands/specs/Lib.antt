@@ -1,0 +1,5 @@
+pub mod Roots
+pub mod Wanted
+pub mod Entries
+pub mod Judged
+pub mod Codes

@@ -1,0 +1,88 @@
+// Derivations that a program keeps the discipline of ownership: made for it, and judged.
+ghost use Rattle.std.specs.Prelude.{◌≡◌, IfOk, IfErr};
+ghost use Rattle.std.specs.Fmt.{decimal};
+ghost use Rattle.fip_language.specs.declared.rule.Rule.TheVariants.{E72, E74};
+ghost use Rattle.command_outcome.specs.Stages.{IsOfSource};
+ghost use Rattle.command_outcome.specs.Successes.{derived_text};
+ghost use Rattle.source_report.specs.Report.{bare};
+ghost use Rattle.source_commands.specs.Judged.{IsJudged};
+ghost use Rattle.source_commands.specs.Wanted.{Lawful, IsReady, IsRefusedBy, KeepsFromFile, of_entry};
+
+use crate::files::Compiled;
+use crate::phases::{bare_refusal, front};
+use command_outcome::{Failure, derived_line};
+use fip_base::plain::{Detail, NoMemory};
+use fip_base::refusal::{Refusal, Rule};
+use fip_language::limits::MOST_FILE_BYTES;
+use fip_proof::{AuditError, TextError, derivation_text};
+use fip_trees::program::Typed;
+use std::alloc::Global;
+
+// The line of a program that is derived.
+fn derived(alloc: Global) -> Result<Vec<u8>, NoMemory>
+    ensures text { IfOk result (λ v. v.items ≡ derived_text) }
+{
+    Ok(Vec::from_slice(alloc, derived_line().as_bytes())?)
+}
+
+// The text of the derivation of a program, and the line that it is derived; E74 where it is too long.
+fn derivation_of(alloc: Global, typed: &Typed) -> Result<Compiled, Failure>
+    ensures derived { IfOk result (λ c. c.text.items ≡ derived_text) }
+    ensures long { IfErr result (IsRefusedBy (λ r. r ≡ bare E74)) }
+    ensures stage { IfErr result IsOfSource }
+{
+    match derivation_text(alloc, typed, MOST_FILE_BYTES) {
+        Ok(file) => {
+            let text = derived(alloc)?;
+            Ok(Compiled { file, text })
+        }
+        Err(TextError::TooLong) => Err(Failure::Refused(bare_refusal(alloc, Rule::E74))),
+        Err(TextError::NoMemory) => Err(Failure::NoMemory),
+    }
+}
+
+/// The text of the derivation of a source that breaks no rule, and the line that it is derived. The refusals are those
+/// of `front`, and after them E74 where the text has more than 16,777,216 bytes.
+pub fn derive(alloc: Global, source: &[u8]) -> Result<Compiled, Failure>
+    ensures ready { IfOk result (λ _. IsReady source.now Lawful) }
+    ensures derived { IfOk result (λ c. c.text.items ≡ derived_text) }
+    ensures kept { IfErr result (KeepsFromFile source.now E74) }
+    ensures stage { IfErr result IsOfSource }
+{
+    match front(alloc, source) {
+        Ok(front) => derivation_of(alloc, &front.typed),
+        Err(failure) => Err(failure),
+    }
+}
+
+/// The refusal E72 of a proof file that is no derivation's text. Its detail is the least offset, in bytes, at which the
+/// file can't go on; of a file that is too long it is the most bytes that a file may have.
+pub fn bad_proof(alloc: Global, at: usize) -> Failure
+    ensures names { IsRefusedBy (λ r. r ≡ of_entry E72 (decimal at)) result }
+    ensures stage { IsOfSource result }
+{
+    match format!(in alloc; "{at}") {
+        Ok(offset) => Failure::Refused(Refusal {
+            rule: Rule::E72,
+            place: None,
+            size: 0,
+            detail: Detail::new(offset.into_bytes()),
+        }),
+        Err(_) => Failure::NoMemory,
+    }
+}
+
+/// Judges a proof file of a program whose types and matches are right: the line that the program is derived. E72 where
+/// the bytes are no derivation's text, or more than 16,777,216; E73 where they are no derivation of this program.
+pub fn audit(alloc: Global, typed: &Typed, proof: &[u8]) -> Result<Vec<u8>, Failure>
+    ensures derived { IfOk result (λ v. v.items ≡ derived_text) }
+    ensures judged { IfErr result (IsRefusedBy IsJudged) }
+    ensures stage { IfErr result IsOfSource }
+{
+    match fip_proof::audit(alloc, typed, proof) {
+        Ok(()) => Ok(derived(alloc)?),
+        Err(AuditError::BadProof { at }) => Err(bad_proof(alloc, at)),
+        Err(AuditError::NotDerived) => Err(Failure::Refused(bare_refusal(alloc, Rule::E73))),
+        Err(AuditError::NoMemory) => Err(Failure::NoMemory),
+    }
+}

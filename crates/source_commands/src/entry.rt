@@ -1,0 +1,302 @@
+// The function that is run or evaluated.
+ghost use Rattle.std.specs.Prelude.{◌≡◌, ◌<◌, ℕ, List, IfErr, IfSome, OnOk, MatchOption, None, Some, false, length};
+ghost use Rattle.std.specs.Prelude.{◌⊎◌, true, map, slice_get, bytes_eq, if◌then◌else◌};
+ghost use Rattle.fip_language.specs.declared.rule.Rule.TheVariants.{E70};
+ghost use Rattle.sound_code.specs.Codes.{plain, plain_function};
+ghost use Rattle.command_outcome.specs.declared.failure.Failure.TheVariants.{NoMemory};
+ghost use Rattle.source_commands.specs.Codes.{HasFunction, KeepsFromRun, has_named, names_one};
+ghost use Rattle.command_outcome.specs.Stages.{IsOfSource};
+ghost use Rattle.fip_trees.specs.TreeView as V;
+ghost use Rattle.fip_trees.specs.declared.program.Instance.{Instance as an_instance};
+ghost use Rattle.source_report.specs.Report.{IsAccepted};
+ghost use Rattle.source_commands.specs.Roots as R;
+ghost use Rattle.source_commands.specs.Wanted.{Root, Compiled, MissesRoot, MissesCode, IsRoot, IsCompiled, IsReady};
+ghost use Rattle.source_commands.specs.Wanted.{IsRefusedBy, IsUnsound, KeepsFrom, of_entry};
+
+use crate::known::Front;
+use crate::phases::{code_of, front};
+use cell_code::Function;
+use code_verify::{SoundRule, Verified};
+use command_outcome::Failure;
+use fip_base::plain::{Detail, FunKind};
+use fip_base::refusal::{Refusal, Rule};
+use fip_trees::program::{Instance, Typed};
+use std::alloc::Global;
+use std::marker::Model;
+
+/// A verified code, and which of its functions is run.
+#[derive(Drop)]
+pub struct Ready {
+    verified: Verified,
+    entry: usize,
+}
+
+impl Model for Ready {
+    ghost use Rattle.std.specs.Prelude.{◌<◌, length};
+    ghost use Rattle.source_commands.specs.Entries.{Chosen};
+
+    ghost Value = { Chosen };
+
+    ghost view = { λ r. record { checked = r.verified; entry = r.entry } };
+
+    ghost invariant = { λ r. r.entry < length r.verified.code.functions.items };
+}
+
+impl Ready {
+    /// The code.
+    pub fn verified(&self) -> &Verified
+        ensures same { result.now ≡ self.now.checked }
+    {
+        &self.verified
+    }
+
+    /// The number of the function that is run.
+    pub fn entry(&self) -> usize
+        ensures same { result ≡ self.now.entry }
+        ensures within { result < length self.now.checked.code.functions.items }
+    {
+        self.entry
+    }
+
+    /// The function that is run.
+    pub fn function(&self) -> &Function
+        ensures same { slice_get self.now.checked.code.functions.items self.now.entry ≡ Some result.now }
+    {
+        &self.verified.code().functions[self.entry]
+    }
+}
+
+/// A program without violations, and which of its instances is evaluated.
+#[derive(Drop)]
+pub struct Evaluable {
+    typed: Typed,
+    entry: usize,
+}
+
+impl Model for Evaluable {
+    ghost use Rattle.std.specs.Prelude.{◌<◌, length};
+    ghost use Rattle.source_commands.specs.Entries.{Rooted};
+
+    ghost Value = { Rooted };
+
+    ghost view = { λ e. record { instances = length e.typed.program.instances.items; entry = e.entry } };
+
+    ghost invariant = { λ e. e.entry < length e.typed.program.instances.items };
+}
+
+impl Evaluable {
+    /// The program.
+    pub fn typed(&self) -> &Typed
+        ensures instances { length result.now.program.instances.items ≡ self.now.instances }
+    {
+        &self.typed
+    }
+
+    /// The number of the instance that is evaluated.
+    pub fn number(&self) -> usize
+        ensures same { result ≡ self.now.entry }
+        ensures within { result < self.now.instances }
+    {
+        self.entry
+    }
+
+    /// The instance that is evaluated.
+    pub fn instance(&self) -> &Instance {
+        &self.typed.program.instances[self.entry]
+    }
+}
+
+// A rule on the entry that is broken; it names the entry.
+fn entry_refused(alloc: Global, rule: Rule, entry: &str) -> Failure
+    ensures names { IsRefusedBy (λ r. r ≡ of_entry rule entry.now) result }
+    ensures stage { IsOfSource result }
+{
+    match Vec::from_slice(alloc, entry.as_bytes()) {
+        Ok(name) => Failure::Refused(Refusal {
+            rule,
+            place: None,
+            size: 0,
+            detail: Detail::new(name),
+        }),
+        Err(_) => Failure::NoMemory,
+    }
+}
+
+// Whether an instance is a root of this name.
+fn is_root(instance: &Instance, name: &[u8]) -> bool
+    ensures is { result ≡ (if instance.now.root then bytes_eq instance.now.name name.now else false) }
+{
+    instance.root && instance.name.as_slice() == name
+}
+
+// The number of the first root of a name; none where no root has it.
+fn root_named(instances: &[Instance], name: &[u8]) -> Option<usize>
+    ensures within { IfSome result (λ i. i < length instances.now) }
+    ensures first { MatchOption result (R.root_named name.now (V.instances instances.now) ≡ None)
+        (λ i. (d : an_instance) × (slice_get instances.now i ≡ Some d)
+        × (R.root_named name.now (V.instances instances.now) ≡ Some (V.instance_of d))) }
+{
+    for (number, instance) in instances.iter().enumerate() {
+        if is_root(instance, name) {
+            return Some(number);
+        }
+    }
+    None
+}
+
+// Whether a function has a name.
+fn is_named(function: &Function, name: &[u8]) -> bool
+    ensures is { result ≡ bytes_eq function.now.name name.now }
+{
+    function.name.as_slice() == name
+}
+
+// The number of the first function of a name; none where no function has it.
+fn first_named(functions: &[Function], name: &[u8]) -> Option<usize>
+    ensures within { IfSome result (λ f. f < length functions.now) }
+    ensures named { MatchOption result (has_named name.now (map plain_function functions.now) ≡ false)
+        (λ f. has_named name.now (map plain_function functions.now) ≡ true) }
+{
+    for (number, function) in functions.iter().enumerate() {
+        if is_named(function, name) {
+            return Some(number);
+        }
+    }
+    None
+}
+
+// The number of the function that has a name; none where no function has it. The empty name names none.
+fn function_named(functions: &[Function], name: &[u8]) -> Option<usize>
+    ensures within { IfSome result (λ f. f < length functions.now) }
+    ensures named { MatchOption result (names_one name.now (map plain_function functions.now) ≡ false)
+        (λ f. names_one name.now (map plain_function functions.now) ≡ true) }
+{
+    if name.is_empty() {
+        return None;
+    }
+    first_named(functions, name)
+}
+
+// Asks that a root has the entry's name and isn't plain: E70 where none has it, E71 where it is plain.
+fn ask_compiled(alloc: Global, instances: &[Instance], entry: &str) -> Result<(), Failure>
+    ensures compiled { OnOk result (IsCompiled (R.root_named entry.now (V.instances instances.now))) }
+    ensures missed { IfErr result (IsRefusedBy (λ r. MissesCode (R.root_named entry.now (V.instances instances.now))
+        entry.now r)) }
+    ensures stage { IfErr result IsOfSource }
+{
+    match root_named(instances, entry.as_bytes()) {
+        Some(number) => {
+            if instances[number].kind == FunKind::Fun {
+                Err(entry_refused(alloc, Rule::E71, entry))
+            } else {
+                Ok(())
+            }
+        }
+        None => Err(entry_refused(alloc, Rule::E70, entry)),
+    }
+}
+
+// The function of a root's name. That a code that was lowered has it is a test alone: else it is told as unsound, at
+// the function that would stand behind its last one.
+fn chosen(verified: Verified, entry: &str) -> Result<Ready, Failure>
+    ensures told { IfErr result IsUnsound }
+    ensures stage { IfErr result IsOfSource }
+{
+    match function_named(verified.code().functions.as_slice(), entry.as_bytes()) {
+        Some(number) => Ok(Ready {
+            verified,
+            entry: number,
+        }),
+        None => Err(Failure::Unsound {
+            function: verified.code().functions.len(),
+            at: 0,
+            rule: SoundRule::S0,
+        }),
+    }
+}
+
+// The root that is run, of an accepted source.
+fn compiled(alloc: Global, front: Front, entry: &str) -> Result<Ready, Failure>
+    ensures ready { (source : List ℕ) → IsAccepted source (V.program front.typed.program) →
+        OnOk result (IsReady source (Compiled entry.now)) }
+    ensures kept { (source : List ℕ) → IsAccepted source (V.program front.typed.program) →
+        IfErr result (KeepsFrom source (Compiled entry.now)) }
+    ensures stage { IfErr result IsOfSource }
+{
+    match ask_compiled(alloc, front.typed.program.instances.as_slice(), entry) {
+        Ok(()) => chosen(front.verified, entry),
+        Err(failure) => Err(failure),
+    }
+}
+
+/// The code of a source that breaks no rule, and the root that is run. The refusals are those of `front`, and after
+/// them E70 where no root has the entry's name, E71 where the root is plain.
+pub fn exec_entry(alloc: Global, source: &[u8], entry: &str) -> Result<Ready, Failure>
+    ensures ready { OnOk result (IsReady source.now (Compiled entry.now)) }
+    ensures kept { IfErr result (KeepsFrom source.now (Compiled entry.now)) }
+    ensures stage { IfErr result IsOfSource }
+{
+    match front(alloc, source) {
+        Ok(front) => compiled(alloc, front, entry),
+        Err(failure) => Err(failure),
+    }
+}
+
+/// The code of a code file, and the function that is run. Bad code where the bytes are no code file, unsound where
+/// its code isn't sound; E70 where no function has the entry's name, or it is empty.
+pub fn run_entry(alloc: Global, bytes: &[u8], entry: &str) -> Result<Ready, Failure>
+    ensures ready { OnOk result (HasFunction bytes.now entry.now) }
+    ensures kept { IfErr result (KeepsFromRun bytes.now entry.now) }
+    ensures stage { IfErr result IsOfSource }
+{
+    match code_of(alloc, bytes) {
+        Ok(verified) => named_in(alloc, verified, entry),
+        Err(failure) => Err(failure),
+    }
+}
+
+// The function of a name, of a sound code.
+fn named_in(alloc: Global, verified: Verified, entry: &str) -> Result<Ready, Failure>
+    ensures ready { OnOk result (names_one entry.now (plain verified.code).functions ≡ true) }
+    ensures missed { IfErr result (IsRefusedBy (λ r. r ≡ of_entry E70 entry.now)) }
+    ensures none { IfErr result (λ f. (names_one entry.now (plain verified.code).functions ≡ false) ⊎ (f ≡ NoMemory)) }
+    ensures stage { IfErr result IsOfSource }
+{
+    match function_named(verified.code().functions.as_slice(), entry.as_bytes()) {
+        Some(number) => Ok(Ready {
+            verified,
+            entry: number,
+        }),
+        None => Err(entry_refused(alloc, Rule::E70, entry)),
+    }
+}
+
+// The root that is evaluated, of an accepted source.
+fn rooted(alloc: Global, typed: Typed, entry: &str) -> Result<Evaluable, Failure>
+    ensures ready { (source : List ℕ) → IsAccepted source (V.program typed.program) →
+        OnOk result (IsReady source (Root entry.now)) }
+    ensures kept { (source : List ℕ) → IsAccepted source (V.program typed.program) →
+        IfErr result (KeepsFrom source (Root entry.now)) }
+    ensures stage { IfErr result IsOfSource }
+{
+    match root_named(typed.program.instances.as_slice(), entry.as_bytes()) {
+        Some(number) => Ok(Evaluable {
+            typed,
+            entry: number,
+        }),
+        None => Err(entry_refused(alloc, Rule::E70, entry)),
+    }
+}
+
+/// The program of a source that breaks no rule, and the root that is evaluated, which may be of any kind. The
+/// refusals are those of `front`, and after them E70 where no root has the entry's name.
+pub fn eval_entry(alloc: Global, source: &[u8], entry: &str) -> Result<Evaluable, Failure>
+    ensures ready { OnOk result (IsReady source.now (Root entry.now)) }
+    ensures kept { IfErr result (KeepsFrom source.now (Root entry.now)) }
+    ensures stage { IfErr result IsOfSource }
+{
+    match front(alloc, source) {
+        Ok(front) => rooted(alloc, front.typed, entry),
+        Err(failure) => Err(failure),
+    }
+}

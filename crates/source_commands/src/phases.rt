@@ -1,0 +1,128 @@
+// From the bytes of a source, or of a code file, to what is known of it.
+ghost use Rattle.std.specs.Prelude.{◌≡◌, IfOk, IfErr};
+ghost use Rattle.code_file.specs.Plain.{plain_code};
+ghost use Rattle.sound_code.specs.Breaks.{IsSound};
+ghost use Rattle.sound_code.specs.Codes.{plain};
+ghost use Rattle.source_commands.specs.Codes.{IsSoundFile, IsLeastOf, KeepsFromCode};
+ghost use Rattle.command_outcome.specs.Failures.{phase_failure};
+ghost use Rattle.command_outcome.specs.Stages.{IsOfSource};
+ghost use Rattle.fip_trees.specs.TreeView as V;
+ghost use Rattle.source_report.specs.Report.{bare, IsAccepted, IsMatched, Reports};
+ghost use Rattle.source_commands.specs.Wanted.{Lawful, IsRefusedBy, KeepsFrom, IsUnsound};
+ghost use Rattle.tail_groups.specs.Members.{AreMembers};
+
+use crate::known::Front;
+use cell_code::Code;
+use code_file::{ReadCodeError, read_code};
+use code_verify::{Verified, VerifyError, verify};
+use command_outcome::Failure;
+use fip_base::plain::Detail;
+use fip_base::refusal::{PhaseError, Refusal, Rule};
+use fip_language::limits::MOST_FILE_BYTES;
+use fip_trees::program::Typed;
+use program_front::Lowered;
+use std::alloc::Global;
+
+/// A rule that is broken without a place and a name.
+pub(crate) fn bare_refusal(alloc: Global, rule: Rule) -> Refusal
+    ensures bare { result ≡ bare rule }
+{
+    Refusal {
+        rule,
+        place: None,
+        size: 0,
+        detail: Detail::new(Vec::new(alloc)),
+    }
+}
+
+/// The program of a source whose types and matches are right; else the source's report (`program_front::typed_of`).
+pub fn typed_of(alloc: Global, source: &[u8]) -> Result<Typed, Failure>
+    ensures typed { IfOk result (λ t. IsMatched source.now (V.program t.program)) }
+    ensures reported { IfErr result (IsRefusedBy (Reports source.now)) }
+    ensures stage { IfErr result IsOfSource }
+{
+    match program_front::typed_of(alloc, source) {
+        Ok(typed) => Ok(typed),
+        Err(error) => Err(failure_of(error)),
+    }
+}
+
+// What a phase's error is.
+fn failure_of(error: PhaseError) -> Failure
+    ensures same { result ≡ phase_failure error }
+    ensures stage { IsOfSource result }
+{
+    error.into()
+}
+
+/// What is known of a source that breaks no rule; else the source's report (`program_front::front`). Of a code that was
+/// lowered, that it is sound is a test alone.
+pub fn front(alloc: Global, source: &[u8]) -> Result<Front, Failure>
+    ensures accepted { IfOk result (λ f. IsAccepted source.now (V.program f.typed.program)) }
+    ensures groups { IfOk result (λ f. AreMembers (V.program f.typed.program).instances f.groups) }
+    ensures kept { IfErr result (KeepsFrom source.now Lawful) }
+    ensures stage { IfErr result IsOfSource }
+{
+    match program_front::front(alloc, source) {
+        Err(error) => Err(failure_of(error)),
+        Ok(lowered) => verified_front(alloc, lowered),
+    }
+}
+
+// The same with the code verified.
+fn verified_front(alloc: Global, lowered: Lowered) -> Result<Front, Failure>
+    ensures typed { IfOk result (λ f. V.program f.typed.program ≡ V.program lowered.typed.program) }
+    ensures groups { IfOk result (λ f. f.groups ≡ lowered.groups) }
+    ensures told { IfErr result IsUnsound }
+    ensures stage { IfErr result IsOfSource }
+{
+    let Lowered {
+        typed,
+        groups,
+        code,
+    } = lowered;
+    match verified_of(alloc, code) {
+        Err(failure) => Err(failure),
+        Ok(verified) => Ok(Front {
+            typed,
+            groups,
+            verified,
+        }),
+    }
+}
+
+/// A code that is sound; else the least violation. Of a code that was lowered from a source it is a test alone.
+pub(crate) fn verified_of(alloc: Global, code: Code) -> Result<Verified, Failure>
+    ensures same { IfOk result (λ v. v.code ≡ code) }
+    ensures sound { IfOk result (λ v. IsSound (plain code)) }
+    ensures least { IfErr result (IsLeastOf (plain code)) }
+    ensures told { IfErr result IsUnsound }
+    ensures stage { IfErr result IsOfSource }
+{
+    match verify(alloc, code) {
+        Ok(verified) => Ok(verified),
+        Err(VerifyError::Unsound { function, at, rule }) => {
+            Err(Failure::Unsound { function, at, rule })
+        }
+        Err(VerifyError::NoMemory) => Err(Failure::NoMemory),
+    }
+}
+
+/// The sound code of a code file. Bad code where the bytes are no code file, or too many; unsound where the code
+/// isn't sound.
+pub(crate) fn code_of(alloc: Global, bytes: &[u8]) -> Result<Verified, Failure>
+    ensures sound { IfOk result (λ v. IsSoundFile bytes.now (plain_code v.code)) }
+    ensures kept { IfErr result (KeepsFromCode bytes.now) }
+    ensures stage { IfErr result IsOfSource }
+{
+    if bytes.len() > MOST_FILE_BYTES {
+        return Err(Failure::BadCode {
+            at: MOST_FILE_BYTES,
+        });
+    }
+    match read_code(alloc, bytes) {
+        Ok(code) => verified_of(alloc, code),
+        Err(ReadCodeError::BadCode { at }) => Err(Failure::BadCode { at }),
+        Err(ReadCodeError::NoMemory) => Err(Failure::NoMemory),
+    }
+}

@@ -46,8 +46,8 @@ pub fn trace<F: Folder, S: Source>(
     input: &mut S,
 ) -> Result<Vec<u8>, Failure>
     ensures outcome { FileOutcome (W.Trace file.now entry.now out.now (room_of room)) (F.files folder.old)
-        (S.left input.old) (Rose (F.faults folder.old) (F.faults folder.new)) (Rose (S.faults input.old) (S.faults input.new))
-        (end_of result) }
+        (S.left input.old) (Rose (F.faults folder.old) (F.faults folder.new))
+        (Rose (S.faults input.old) (S.faults input.new)) (end_of result) }
     ensures read { OnOk result (IsAtEnd (S.left input.new)) }
     ensures kept { AreKept (Some out.now) (F.files folder.old) (F.files folder.new) result }
     ensures understood { IsBeforeSource result → ⊥ }

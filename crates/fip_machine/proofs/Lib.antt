@@ -1,4 +1,1 @@
-pub mod Stacked
-pub mod Living
-pub mod Fitting
-pub mod Starting
+pub mod Tasked

@@ -1,5 +1,2 @@
-pub mod Bounding
-pub mod Placed
-pub mod Live
-pub mod Keeping
 pub mod Tasks
+pub mod Machines

@@ -1,12 +1,14 @@
 -- What a task keeps to at every moment, and what callers see of it.
-use Rattle.std.specs.Prelude.{◌≢◌, ℕ, ◌<◌, ◌≤◌, List, Option, Some, length}
+use Rattle.std.specs.Prelude.{◌≢◌, ℕ, ◌<◌, ◌≤◌, List, Option, None, Some, length}
+use Rattle.code_runs.specs.Cells.{Store}
+use Rattle.code_runs.specs.States.{Frame, Typed, State}
 use Rattle.code_verify.specs.Checked.{Checked}
-use Rattle.fip_machine.specs.declared.cursor.Bounds.{Bounds}
-use Rattle.fip_machine.specs.declared.cursor.Cursor.{Cursor}
-use Rattle.fip_machine.specs.declared.rows.Stepped.{Stepped}
-use Rattle.fip_machine.specs.declared.rows.Stepped.TheVariants.{Went}
-use Rattle.fip_machine.specs.Bounding.{AreAtMost}
-use Rattle.fip_machine.specs.Placed.{IsPlaced, Waiting}
+use Rattle.machine_rows.specs.declared.cursor.Bounds.{Bounds}
+use Rattle.machine_rows.specs.declared.cursor.Cursor.{Cursor}
+use Rattle.machine_rows.specs.declared.rows.Stepped.{Stepped}
+use Rattle.machine_rows.specs.declared.rows.Stepped.TheVariants.{Went, Entered, Value, Trap, Deep}
+use Rattle.machine_rows.specs.Bounding.{AreAtMost}
+use Rattle.machine_rows.specs.Placed.{IsPlaced, Waiting}
 
 -- The words of all frames, how many the memory that was taken can hold, how many words are spare, and how the run
 -- ended.
@@ -20,8 +22,28 @@ pub record IsTask (v : Checked) (b : Bounds) (words : List ℕ) (capacity spare 
   pub taken : b.words ≤ capacity
   pub over : ended ≢ Some Went
 
--- the frames that wait below the running one, the words of all frames, and what can still be done without a call
+-- The code, the frame that runs and those that wait, how many frames are free, the words of the results that were
+-- given, and how the run ended; the frames that wait below the running one, the words of all frames, and what can still
+-- be done without a call.
 pub record Stand : Type 0 where
+  pub code : Checked
+  pub running : Frame
+  pub waiting : List Frame
+  pub free : ℕ
+  pub given : List ℕ
+  pub ended : Option Stepped
   pub frames : ℕ
   pub words : ℕ
   pub weight : ℕ
+
+-- The state of a run, with these cells. The words of the entry's lent arguments are not kept: they are given.
+abbrev pub state_with : Stand → List Typed → Store → State
+state_with t lent s = record { store = s; running = t.running; waiting = t.waiting; free = t.free; lent = lent }
+
+-- how the run ended, where it did
+abbrev pub ended_by : Stepped → Option Stepped
+ended_by Went = None
+ended_by Entered = None
+ended_by Value = Some Value
+ended_by (Trap kind line col) = Some (Trap kind line col)
+ended_by Deep = Some Deep

@@ -3,10 +3,7 @@ ghost use Rattle.fip_language.specs.declared.limits.TheConstants.{MOST_FIELDS};
 ghost use Rattle.std.specs.Prelude.{◌≡◌, ◌<◌, ◌≤◌};
 
 use cell_store::Cells;
-use fip_language::limits::MOST_FIELDS;
-
-/// The sizes of cells.
-pub const SIZES: usize = MOST_FIELDS;
+use machine_cells::SIZES;
 
 /// The lowest and the highest number of held cells of each size, and the most frames and words, over the states that
 /// were seen. All are 0 before a state was seen.

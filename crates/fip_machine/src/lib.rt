@@ -2,18 +2,12 @@
 // and a step takes no memory.
 #![tactic(auto)]
 
-mod arithmetic;
-mod cursor;
-mod frame;
 mod gauge;
 mod machine;
-mod named;
-mod release;
-mod rows;
 mod stack;
 mod traced;
 
 pub use gauge::Gauge;
 pub use machine::{Ended, Machine};
-pub use rows::Stepped;
+pub use machine_rows::Stepped;
 pub use stack::TaskStack;

@@ -1,14 +1,22 @@
 // A machine: a task with a store of its own.
 ghost use Rattle.fip_language.specs.declared.limits.TheConstants.{MOST_FRAMES};
-ghost use Rattle.std.specs.Prelude.{◌≡◌, ◌<◌, ◌≤◌, length};
+ghost use Rattle.std.specs.Prelude.{◌≡◌, ◌<◌, ◌≤◌, List, [], length, IfOk, None, Some, slice_get};
+ghost use Rattle.code_runs.specs.Codes.{plain};
+ghost use Rattle.code_runs.specs.States.{Typed, State};
+ghost use Rattle.code_runs.specs.Steps.{Kinds, next};
+ghost use Rattle.code_runs.specs.Runs.{loaded};
+ghost use Rattle.machine_cells.specs.Small.{IsSmall, store_of};
+ghost use Rattle.machine_rows.specs.Coming.{Comes, Knows};
+ghost use Rattle.fip_machine.specs.Tasks.{state_with, ended_by};
 
 use crate::gauge::{Gauge, held};
-use crate::rows::Stepped;
 use crate::stack::TaskStack;
 use cell_store::{Loader, Sealed, seal};
 use code_verify::Verified;
 use fip_base::plain::{NoMemory, TrapKind};
+use machine_rows::Stepped;
 use std::alloc::Global;
+use std::marker::Model;
 
 /// How a run ended.
 #[derive(Clone, Copy, Debug, PartialEq, Eq)]
@@ -44,6 +52,19 @@ pub struct Machine<'a> {
     cells: Sealed,
 }
 
+impl<'a> Model for Machine<'a> {
+    ghost use Rattle.machine_cells.specs.Small.{store_of};
+    ghost use Rattle.fip_machine.specs.Machines.{Seen};
+
+    ghost Value = { Seen };
+
+    ghost view = { λ m. record {
+      stack = m.stack;
+      store = store_of m.cells.cells m.cells.released;
+      pushed = m.cells.pushed;
+    } };
+}
+
 impl<'a> Machine<'a> {
     /// The machine at the start of a function of the code, with the words of its arguments and then of its credits, and
     /// so many free frames, at most 1,000,000; the caller gives a fip function as many as it needs. The loader is
@@ -58,7 +79,16 @@ impl<'a> Machine<'a> {
     ) -> Result<Machine<'a>, NoMemory>
         requires entry { entry < length verified.now.code.functions.items }
         requires frames { frames ≤ MOST_FRAMES }
+        ensures code { IfOk result (λ m. m.stack.code ≡ verified.now) }
+        ensures going { IfOk result (λ m. m.stack.ended ≡ None) }
+        ensures store { IfOk result (λ m. m.store ≡ store_of loader.cells loader.released) }
+        ensures small { IfOk result (λ m. IsSmall m.store.cells) }
+        ensures pushed { IfOk result (λ m. m.pushed ≡ []) }
+        ensures loaded { IfOk result (λ m. (g : _) → slice_get verified.now.code.functions.items entry ≡ Some g →
+            length words.items ≤ g.registers → (s : State) → loaded (plain verified.now.code) entry m.store
+            words.items frames ≡ Some s → state_with m.stack s.lent m.store ≡ s) }
     {
+        let _left = loader.left();
         let stack = TaskStack::start(alloc, verified, entry, words, frames)?;
         Ok(Machine {
             stack,
@@ -67,7 +97,19 @@ impl<'a> Machine<'a> {
     }
 
     /// Does one instruction. Once the run is over, it answers the same again and changes nothing.
-    pub fn step(&mut self) -> Stepped {
+    pub fn step(&mut self) -> Stepped
+        ensures code { self.new.stack.code ≡ self.old.stack.code }
+        ensures small { IsSmall self.old.store.cells → IsSmall self.new.store.cells }
+        ensures pushed { self.old.pushed ≡ [] → self.new.pushed ≡ [] }
+        ensures next { (kinds : Kinds) → Knows self.old.stack.code kinds → self.old.stack.ended ≡ None →
+            IsSmall self.old.store.cells → self.old.pushed ≡ [] → (lent : List Typed) → Comes
+            (state_with self.old.stack lent self.old.store) (next kinds (plain self.old.stack.code.code)
+            (state_with self.old.stack lent self.old.store)) result
+            (state_with self.new.stack lent self.new.store) self.new.stack.given }
+        ensures ends { self.old.stack.ended ≡ None → self.new.stack.ended ≡ ended_by result }
+        ensures ended { (e : _) → self.old.stack.ended ≡ Some e → (result ≡ e)
+            × (self.new.stack ≡ self.old.stack) × (self.new.store ≡ self.old.store) }
+    {
         self.stack.step(&mut self.cells)
     }
 
@@ -98,17 +140,23 @@ impl<'a> Machine<'a> {
     }
 
     /// The words of the results, after Value.
-    pub fn results(&self) -> &[u64] {
+    pub fn results(&self) -> &[u64]
+        ensures given { result.now ≡ self.now.stack.given }
+    {
         self.stack.results()
     }
 
     /// The cells, as they are now.
-    pub fn cells(&self) -> &Sealed {
+    pub fn cells(&self) -> &Sealed
+        ensures cells { store_of result.now.cells result.now.released ≡ self.now.store }
+    {
         &self.cells
     }
 
     /// The cells, as they are now.
-    pub fn into_sealed(self) -> Sealed {
+    pub fn into_sealed(self) -> Sealed
+        ensures cells { store_of result.cells result.released ≡ self.entry.store }
+    {
         self.cells
     }
 }

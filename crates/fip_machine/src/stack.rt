@@ -1,19 +1,28 @@
 // The frames of a task.
-ghost use Rattle.std.specs.Prelude.{◌≡◌, ◌≢◌, ℕ, ◌+◌, ◌*◌, ◌<◌, ◌≤◌, length, vec_len, IfOk, Some, slice_get};
+ghost use Rattle.std.specs.Prelude.{◌≡◌, ◌≢◌, ℕ, ◌+◌, ◌*◌, ◌<◌, ◌≤◌, List, [], length, vec_len, IfOk, None, Some};
+ghost use Rattle.std.specs.Prelude.{slice_get};
+ghost use Rattle.code_runs.specs.Codes.{plain};
+ghost use Rattle.code_runs.specs.Cells.{Store};
+ghost use Rattle.code_runs.specs.States.{Typed, State};
+ghost use Rattle.code_runs.specs.Steps.{Kinds, first_words, next};
+ghost use Rattle.code_runs.specs.Runs.{loaded};
+ghost use Rattle.frame_stack.specs.View.{frame_at};
+ghost use Rattle.machine_cells.specs.Small.{IsSmall, store_of};
+ghost use Rattle.machine_rows.specs.Coming.{Comes, Knows};
+ghost use Rattle.fip_machine.specs.Tasks.{state_with, ended_by};
 ghost use Rattle.std.specs.Vec.{vec_capacity};
 ghost use Rattle.fip_language.specs.declared.limits.TheConstants.{MOST_FIELDS, MOST_FRAMES, MOST_REGISTERS};
-ghost use Rattle.fip_machine.specs.Bounding.{AreAtMost, Fits};
-ghost use Rattle.fip_machine.specs.Keeping.{Keeps};
-ghost use Rattle.fip_machine.specs.Placed.{IsPlaced, IsRoomy, Waiting};
+ghost use Rattle.machine_rows.specs.Bounding.{AreAtMost, Fits};
+ghost use Rattle.frame_stack.specs.Keeping.{Keeps};
+ghost use Rattle.machine_rows.specs.Placed.{IsPlaced, IsRoomy, Waiting};
 
-use crate::cursor::{Bounds, Cursor, Highest};
-use crate::gauge::SIZES;
-use crate::rows::{Beside, Stepped, advance, function_at};
 use cell_code::Instr;
 use cell_store::Cells;
 use code_verify::Verified;
 use fip_base::plain::NoMemory;
 use fip_language::limits::MOST_RESULTS;
+use machine_cells::SIZES;
+use machine_rows::{Beside, Bounds, Cursor, Highest, Stepped, advance, function_at};
 use std::alloc::Global;
 use std::marker::Model;
 
@@ -29,18 +38,25 @@ pub struct TaskStack<'a> {
 }
 
 impl<'a> Model for TaskStack<'a> {
-    ghost use Rattle.std.specs.Prelude.{ℕ, ◌+◌, vec_len};
+    ghost use Rattle.std.specs.Prelude.{ℕ, ◌+◌, ◌-◌, take, vec_len};
     ghost use Rattle.std.specs.Vec.{vec_capacity};
-    ghost use Rattle.fip_machine.specs.Placed.{weight};
+    ghost use Rattle.frame_stack.specs.View.{waiting_in};
+    ghost use Rattle.machine_rows.specs.Placed.{weight};
+    ghost use Rattle.machine_rows.specs.View.{words_of};
     ghost use Rattle.fip_machine.specs.Tasks.{Stand, IsTask};
 
     ghost Value = { Stand };
 
     ghost view = { λ t. record {
+      code = t.verified.now;
+      running = record { function = t.cursor.function; at = t.cursor.at; words = words_of t.words.items t.cursor };
+      waiting = waiting_in t.verified.now.code.functions.items t.cursor.frames (take t.cursor.base t.words.items);
+      free = t.bounds.frames - t.cursor.frames;
+      given = take t.beside.given t.beside.results;
+      ended = t.ended;
       frames = t.cursor.frames;
       words = t.cursor.base + t.cursor.registers + 2;
-      weight =
-          weight t.cursor;
+      weight = weight t.cursor;
     } };
 
     ghost invariant = { λ t. IsTask t.verified.now t.bounds t.words.items (vec_capacity t.words)
@@ -86,6 +102,8 @@ fn taken(words: Vec<u64>, bounds: Bounds, registers: usize) -> Result<Vec<u64>, 
     requires largest { registers + 2 ≤ bounds.largest }
     requires few { bounds.largest < 100000 }
     ensures room { IfOk result (λ v. registers ≤ length v.items) }
+    ensures first { IfOk result (λ v. length words.items ≤ registers →
+        frame_at 0 registers v.items ≡ first_words registers words.items) }
     ensures taken { IfOk result (λ v. bounds.words ≤ vec_capacity v) }
 {
     let mut stack = words;
@@ -112,6 +130,17 @@ fn make_room(words: &mut Vec<u64>, bounds: Bounds, cursor: &Cursor)
     if len < bounds.words && len < least {
         let wanted = least.max(len.saturating_add(len));
         words.resize(bounds.words.min(wanted), 0).unwrap();
+    }
+}
+
+// How the run ended with a step; none where it goes on.
+fn over(stepped: Stepped) -> Option<Stepped>
+    ensures is { result ≡ ended_by stepped }
+    ensures ended { result ≢ Some Stepped.Went }
+{
+    match stepped {
+        Stepped::Went | Stepped::Entered => None,
+        _ => Some(stepped),
     }
 }
 
@@ -194,6 +223,11 @@ impl<'a> TaskStack<'a> {
         requires entry { entry < length verified.now.code.functions.items }
         requires frames { frames ≤ MOST_FRAMES }
         ensures frames { IfOk result (λ t. t.frames ≡ 0) }
+        ensures code { IfOk result (λ t. t.code ≡ verified.now) }
+        ensures going { IfOk result (λ t. t.ended ≡ None) }
+        ensures loaded { IfOk result (λ t. (g : _) → slice_get verified.now.code.functions.items entry ≡ Some g →
+            length words.items ≤ g.registers → (store : Store) (s : State) → loaded (plain verified.now.code) entry
+            store words.items frames ≡ Some s → state_with t s.lent store ≡ s) }
     {
         let bounds = bounds_of(verified, entry, frames);
         let function = function_at(verified, entry);
@@ -228,7 +262,20 @@ impl<'a> TaskStack<'a> {
 
     /// Does one instruction on the cells. Once the run is over, it answers the same again and changes nothing.
     pub fn step<C: Cells>(&mut self, cells: &mut C) -> Stepped
-        ensures { result ≡ Stepped.Went → self.new.weight < self.old.weight }
+        ensures less { result ≡ Stepped.Went → self.new.weight < self.old.weight }
+        ensures code { self.new.code ≡ self.old.code }
+        ensures small { IsSmall (C.cells cells.old) → IsSmall (C.cells cells.new) }
+        ensures pushed { C.pushed cells.old ≡ [] → C.pushed cells.new ≡ [] }
+        ensures next { (kinds : Kinds) → Knows self.old.code kinds → self.old.ended ≡ None →
+            IsSmall (C.cells cells.old) → C.pushed cells.old ≡ [] → (lent : List Typed) → Comes
+            (state_with self.old lent (store_of (C.cells cells.old) (C.released cells.old)))
+            (next kinds (plain self.old.code.code) (state_with self.old lent (store_of (C.cells cells.old)
+            (C.released cells.old)))) result (state_with self.new lent (store_of (C.cells cells.new)
+            (C.released cells.new))) self.new.given }
+        ensures ends { self.old.ended ≡ None → self.new.ended ≡ ended_by result }
+        ensures ended { (e : _) → self.old.ended ≡ Some e → (result ≡ e) × (self.new ≡ self.old)
+            × (store_of (C.cells cells.new) (C.released cells.new)
+            ≡ store_of (C.cells cells.old) (C.released cells.old)) }
     {
         if let Some(ended) = self.ended {
             return ended;
@@ -242,10 +289,7 @@ impl<'a> TaskStack<'a> {
             &mut self.beside,
             &mut self.cursor,
         );
-        match stepped {
-            Stepped::Went | Stepped::Entered => {}
-            _ => self.ended = Some(stepped),
-        }
+        self.ended = over(stepped);
         stepped
     }
 
@@ -299,7 +343,9 @@ impl<'a> TaskStack<'a> {
     }
 
     /// The words of the results, after Value.
-    pub fn results(&self) -> &[u64] {
+    pub fn results(&self) -> &[u64]
+        ensures given { result.now ≡ self.now.given }
+    {
         &self.beside.results[..self.beside.given]
     }
 

@@ -3,9 +3,9 @@ ghost use Rattle.std.specs.Prelude.{◌≡◌, ◌<◌};
 
 use crate::gauge::{Gauge, held};
 use crate::machine::{Ended, Machine, ended_of};
-use crate::rows::Stepped;
 use crate::stack::TaskStack;
 use cell_trace::{Recorder, Trace, TraceError};
+use machine_rows::Stepped;
 use std::alloc::Global;
 
 impl<'a> Machine<'a> {

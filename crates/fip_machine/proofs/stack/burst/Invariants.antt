@@ -1,6 +1,6 @@
 -- The running frame stays in its place. Each step lessens what is left of the calls, the frames and the instructions.
 use Rattle.std.proofs.Common.{◌≡◌, ◌+◌, ◌*◌, ◌<◌, ◌≤◌, length, vec_len}
-use Rattle.fip_machine.specs.Placed.{IsPlaced, IsRoomy, Waiting, weight}
+use Rattle.machine_rows.specs.Placed.{IsPlaced, IsRoomy, Waiting, weight}
 use Rattle.fip_machine.proofs.stack.burst.Given as goal
 
 abbrev pub invariant-steps : goal.invariant-steps

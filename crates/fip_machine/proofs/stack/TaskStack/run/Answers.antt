@@ -1,6 +1,6 @@
 use Rattle.std.proofs.Common.{◌≤◌, sym, subst, arith, length}
-use Rattle.fip_machine.specs.Placed.{Waiting}
-use Rattle.fip_machine.proofs.Stacked.{keeps_less, waiting_keeps}
+use Rattle.machine_rows.specs.Placed.{Waiting}
+use Rattle.machine_rows.proofs.Stacked.{keeps_less, waiting_keeps}
 use Rattle.fip_machine.proofs.stack.TaskStack.run.Goals as goal
 
 pub burst-pause-requires-clause-waiting : goal.burst-pause-requires-clause-waiting

@@ -1,11 +1,18 @@
 -- The words reach as far as the entry's frame, and as one more frame of any function where not all are there.
-use Rattle.std.proofs.Common.{◌<◌, List, length, refl, sym, subst, arith}
-use Rattle.std.proofs.lemmas.Option.{slice_get_within, none-some}
+use Rattle.std.proofs.Common.{◌≡◌, ◌-◌, ◌<◌, ◌≤◌, ◌∙◌, List, [], length, refl, sym, ap, subst, arith}
+use Rattle.std.proofs.lemmas.Option.{slice_get_within, none-some, same_Some}
+use Rattle.cell_code.specs.declared.code.Function.{Function}
+use Rattle.code_runs.specs.Codes.{plain, plain_function}
+use Rattle.code_runs.specs.States.{State}
+use Rattle.code_runs.specs.Steps.{first_words, first_frame}
+use Rattle.code_runs.specs.Runs.{lent_words, loaded_in}
+use Rattle.frame_stack.specs.View.{frame_at}
+use Rattle.machine_rows.proofs.Calls.{plain_at}
 use Rattle.cell_code.specs.declared.code.Instr.{Instr}
 use Rattle.cell_code.specs.Runnable.{Body, IsSafe}
 use Rattle.cell_code.proofs.Following.{safe_here}
-use Rattle.fip_machine.specs.declared.rows.Stepped.TheVariants.{Went}
-use Rattle.fip_machine.proofs.Fitting.{fits_own}
+use Rattle.machine_rows.specs.declared.rows.Stepped.TheVariants.{Went}
+use Rattle.machine_rows.proofs.Fitting.{fits_own}
 use Rattle.fip_machine.proofs.stack.TaskStack.start.Goals as goal
 
 pub taken-requires-clause-own : goal.taken-requires-clause-own
@@ -48,3 +55,36 @@ invariant_of-result c =
       taken = c.in_ok-stack.ensures.taken;
       over = none-some Went;
     }
+
+pub returns-clause-loaded : goal.returns-clause-loaded
+returns-clause-loaded c g is few store s loads =
+    let v = c.args.verified.now in
+    let h = c.function_at-function.result.now in
+    let ws = c.args.words.items in
+    let f = c.args.entry in
+    let code = plain v.code in
+    let same : h ≡ g = same_Some h g (sym c.function_at-function.ensures.is ∙ is) in
+    let begun : State = record {
+      store = store;
+      running = first_frame f (plain_function g) ws;
+      waiting = [];
+      free = c.args.frames;
+      lent = lent_words code.types g.params ws;
+    } in
+    let known : begun ≡ s = same_Some begun s (sym (ap (λ o. loaded_in code.types f o store ws c.args.frames) (plain_at v.code.functions.items f g is)) ∙ loads) in
+    let fits : length ws ≤ h.registers = subst (λ (k : Function). length ws ≤ k.registers) (sym same) few in
+    let words : frame_at 0 h.registers c.in_ok-stack.stack.items ≡ first_words g.registers ws = c.in_ok-stack.ensures.first fits ∙ ap (λ (k : Function). first_words k.registers ws) same in
+    let free : c.bounds_of-bounds.result.frames - 0 ≡ c.args.frames = (let e = c.bounds_of-bounds.ensures.frames in omega (arith, e)) in
+    subst (λ (s : State). ◌≡◌ {A = State} (record {
+      store = store;
+      running = record { function = f; at = 0; words = frame_at 0 h.registers c.in_ok-stack.stack.items };
+      waiting = [];
+      free = c.bounds_of-bounds.result.frames - 0;
+      lent = s.lent;
+    }) s) known (λ i. record {
+      store = store;
+      running = record { function = f; at = 0; words = words i };
+      waiting = [];
+      free = free i;
+      lent = lent_words code.types g.params ws;
+    })

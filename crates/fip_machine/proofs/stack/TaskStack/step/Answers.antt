@@ -1,6 +1,16 @@
-use Rattle.std.proofs.Common.{◌≤◌, sym, subst, arith, length}
-use Rattle.fip_machine.specs.Placed.{Waiting}
-use Rattle.fip_machine.proofs.Stacked.{keeps_less, waiting_keeps}
+use Rattle.std.proofs.Common.{◌≡◌, ◌≤◌, ◌∙◌, ℕ, List, rules, refl, sym, ap, subst, arith, length, take}
+use Rattle.std.specs.Vec.{with_items}
+use Rattle.std.proofs.lemmas.List.{with_items_is}
+use Rattle.code_runs.specs.Codes.{plain}
+use Rattle.code_runs.specs.States.{State}
+use Rattle.code_runs.specs.Steps.{next}
+use Rattle.machine_cells.specs.Small.{store_of}
+use Rattle.machine_rows.specs.View.{state_of}
+use Rattle.machine_rows.specs.Coming.{Comes, Knows}
+use Rattle.fip_machine.specs.Tasks.{Stand, state_with}
+use Rattle.fip_machine.proofs.Tasked.{room_same}
+use Rattle.machine_rows.specs.Placed.{Waiting}
+use Rattle.machine_rows.proofs.Stacked.{keeps_less, waiting_keeps}
 use Rattle.fip_machine.proofs.stack.TaskStack.step.Goals as goal
 
 pub advance-stepped-requires-clause-waiting : goal.advance-stepped-requires-clause-waiting
@@ -10,3 +20,26 @@ advance-stepped-requires-clause-waiting g c =
     let base : i.cursor.base ≤ length i.words.items = omega (arith, room) in
     subst (λ ws. Waiting i.verified.now i.bounds ws i.cursor.frames i.cursor.base) (sym c.as_mut_slice.ensures.value)
     (waiting_keeps i.verified.now i.bounds i.words.items c.make_room.new.words.items i.cursor.frames i.cursor.base (keeps_less (length i.words.items) i.cursor.base i.words.items c.make_room.new.words.items base c.make_room.ensures.keeps) c.self.invariant.waiting)
+
+pub returns-clause-next : goal.returns-clause-next
+returns-clause-next g c kinds known going small empty lent =
+    let i = c.self.inside in
+    let v = i.verified.now in
+    let b = i.bounds in
+    let ws = i.words.items in
+    let cursor = i.cursor in
+    let s = store_of (g.C.Cells.cells c.args.cells.now) (g.C.Cells.released c.args.cells.now) in
+    let t = store_of (g.C.Cells.cells c.advance-stepped.new.cells) (g.C.Cells.released c.advance-stepped.new.cells) in
+    let r = c.advance-stepped.result in
+    let us = c.advance-stepped.new.words in
+    let after = c.advance-stepped.new.cursor in
+    let given = take c.advance-stepped.new.beside.given c.advance-stepped.new.beside.results in
+    let old = state_of v b lent s ws cursor in
+    let mid = c.as_mut_slice.result.now in
+    let knows : Knows v kinds = subst (λ (w : Stand). Knows w.code kinds) (sym c.self.view_is) known in
+    let told = c.advance-stepped.ensures.next kinds knows refl small empty lent in
+    let same : state_of v b lent s mid cursor ≡ old = ap (λ xs. state_of v b lent s xs cursor) c.as_mut_slice.ensures.value ∙ room_same v b lent s ws c.make_room.new.words.items cursor c.self.invariant.placed.room c.make_room.ensures.more c.make_room.ensures.keeps in
+    let first = subst (λ (st : State). Comes st (next kinds (plain v.code) st) r (state_of v b lent t us after) given) same told in
+    let items : (with_items c.make_room.new.words us).items ≡ us = with_items_is c.make_room.new.words us (search rules) in
+    let second = subst (λ (xs : List ℕ). Comes old (next kinds (plain v.code) old) r (state_of v b lent t xs after) given) (sym items) first in
+    subst (λ (w : Stand). Comes (state_with w lent s) (next kinds (plain w.code.code) (state_with w lent s)) r (state_of v b lent t (with_items c.make_room.new.words us).items after) given) c.self.view_is second

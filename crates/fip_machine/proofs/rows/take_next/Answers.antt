@@ -1,5 +1,0 @@
-use Rattle.fip_machine.proofs.Stacked.{waiting_keeps}
-use Rattle.fip_machine.proofs.rows.take_next.Goals as goal
-
-pub go_on-requires-clause-waiting : goal.go_on-requires-clause-waiting
-go_on-requires-clause-waiting g c = waiting_keeps c.args.verified.now c.args.bounds c.args.words.now c.take_at.new.words c.args.cursor.now.frames c.args.cursor.now.base c.take_at.ensures c.requires.waiting

@@ -1,0 +1,6 @@
+// What instructions do to the words of frames, which lie in one list.
+#![tactic(auto)]
+
+mod frame;
+
+pub use frame::{clear, give, pass, put, replace, take};

@@ -1,0 +1,30 @@
+use Rattle.std.proofs.Common.{◌≡◌, ◌≢◌, ◌/◌, ◌∙◌, None, Some, true, false, sym, ap, subst, arith}
+use Rattle.std.specs.Prelude.{slice_get, slice_set}
+use Rattle.std.proofs.lemmas.Option.{none-some, same_Some}
+use Rattle.cell_store.specs.Cells.{cell_at}
+use Rattle.machine_cells.specs.Small.{store_of}
+use Rattle.machine_cells.proofs.Pendings.{place_within, same_cell, is_there, given}
+use Rattle.machine_cells.proofs.release.release_cell.Goals as goal
+
+pub returns-in-Some-clause-released : goal.returns-in-Some-clause-released
+returns-in-Some-clause-released g c small s is =
+    let cs = g.C.Cells.cells c.args.cells.now in
+    let rs = g.C.Cells.released c.args.cells.now in
+    let p = c.args.word / 2 in
+    let up = given (store_of cs rs) p s is in
+    let there = is_there (cell_at cs p) up.cell (same_cell cs p ∙ up.at) in
+    let within = place_within cs p there in
+    let place = c.place_of.ensures (omega (arith, within, small)) in
+    let same = c.in-Some.ensures.same ∙ place in
+    (λ i. store_of (c.release.ensures.cells i) ((c.release.ensures.released ∙ ap (λ q. slice_set rs q true) same) i)) ∙ sym up.is
+
+pub returns-in_default-clause-released : goal.returns-in_default-clause-released
+returns-in_default-clause-released g c small s is =
+    let cs = g.C.Cells.cells c.args.cells.now in
+    let rs = g.C.Cells.released c.args.cells.now in
+    let p = c.args.word / 2 in
+    let up = given (store_of cs rs) p s is in
+    let there = is_there (cell_at cs p) up.cell (same_cell cs p ∙ up.at) in
+    let within = place_within cs p there in
+    let place = c.place_of.ensures (omega (arith, within, small)) in
+    absurd (c.in_default.not-Some c.place_of.result (c.live_cell_at.ensures.found (subst (λ q. cell_at cs q ≢ None) (sym place) there) (subst (λ q. slice_get rs q ≡ Some false) (sym place) up.live)))

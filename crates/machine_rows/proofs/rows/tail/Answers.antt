@@ -1,0 +1,19 @@
+use Rattle.std.proofs.Common.{◌≡◌, ◌≢◌, ℕ, ◌+◌, ◌-◌, ◌/◌, ◌%◌, ◌<◌, ◌≤◌, ◌∙◌, Bool, true, false, List, [], ◌∷◌, None, Some, refl, sym, ap, subst, arith, length, take, get_or}
+use Rattle.std.specs.Prelude.{slice_get, slice_set, nat_eq, ◌==◌, if◌then◌else◌}
+use Rattle.std.specs.Prelude.{nat_eq}
+use Rattle.machine_rows.specs.View.{state_of}
+use Rattle.machine_rows.specs.Coming.{Comes}
+use Rattle.cell_code.specs.declared.code.Instr.TheVariants as I
+use Rattle.code_runs.specs.Codes.{plain}
+use Rattle.code_runs.specs.Steps.{act}
+use Rattle.machine_rows.proofs.rows.tail.Goals as goal
+
+pub returns-then-number-cursor-clause-next : goal.returns-then-number-cursor-clause-next
+returns-then-number-cursor-clause-next c ks s given lent =
+    let v = c.args.verified.now in
+    let b = c.args.bounds in
+    let old = state_of v b lent s c.args.words.now c.args.cursor.now in
+    subst (λ f. Comes old (act (plain v.code) ks old (I.Tail f c.args.arguments.now)) c.enter_again.result (state_of v b lent s c.enter_again.new.words c.enter_again.new.cursor) given) (sym c.if-number-cursor.true) (c.enter_again.ensures.next ks s given lent)
+
+pub returns-else-number-cursor-clause-next : goal.returns-else-number-cursor-clause-next
+returns-else-number-cursor-clause-next c ks s given lent = c.enter_instead.ensures.next ks s given lent

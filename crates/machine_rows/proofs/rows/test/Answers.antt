@@ -1,0 +1,66 @@
+use Rattle.std.proofs.Common.{◌≡◌, ◌≢◌, ℕ, ◌+◌, ◌-◌, ◌/◌, ◌%◌, ◌<◌, ◌≤◌, ◌∙◌, Bool, true, false, List, [], ◌∷◌, None, Some, refl, sym, ap, subst, arith, length, take, get_or}
+use Rattle.std.specs.Prelude.{slice_get, slice_set, nat_eq, ◌==◌, if◌then◌else◌}
+use Rattle.std.specs.Prelude.{option_map}
+use Rattle.std.proofs.lemmas.Bool.Decides.{nat_tests}
+use Rattle.std.proofs.lemmas.Option.{none-some, same_Some}
+use Rattle.fip_language.specs.Store.{Cell}
+use Rattle.cell_store.specs.Cells.{cell_at}
+use Rattle.machine_cells.specs.Small.{store_of}
+use Rattle.machine_cells.proofs.Pendings.{same_cell, is_there}
+use Rattle.machine_rows.specs.declared.rows.Stepped.TheVariants as S
+use Rattle.machine_rows.specs.View.{state_of}
+use Rattle.machine_rows.proofs.RowNexts.{test_next}
+use Rattle.machine_rows.proofs.Helps.{no_loop, same_place, even_constructor, odd_constructor}
+use Rattle.machine_rows.proofs.rows.test.Goals as goal
+
+pub returns-then-word-eq0-clause-next : goal.returns-then-word-eq0-clause-next
+returns-then-word-eq0-clause-next g c ks given once small lent =
+    let v = c.args.verified.now in
+    let b = c.args.bounds in
+    let ws = c.args.words.now in
+    let cursor = c.args.cursor.now in
+    let room = c.requires.placed.room in
+    let cs = g.C.Cells.cells c.args.cells.now in
+    let s = store_of cs (g.C.Cells.released c.args.cells.now) in
+    let word = get_or ws (cursor.base + c.args.register) 0 in
+    let k = c.args.constructor in
+    let on = nat_eq (word / 2) c.from.result in
+    test_next v b ks lent s ws cursor c.branch-verified.result (state_of v b lent s ws c.branch-verified.new.cursor) given c.args.register k c.args.target on c.requires.register room (λ z e.
+    let is = even_constructor s word k z c.if-word-eq0.true e in
+    (λ i. nat_eq (is i) (sym c.from.ensures i))) c.branch-verified.ensures.went (c.branch-verified.ensures.state lent s)
+
+pub returns-in_default-clause-next : goal.returns-in_default-clause-next
+returns-in_default-clause-next g c ks given once small lent =
+    let v = c.args.verified.now in
+    let b = c.args.bounds in
+    let ws = c.args.words.now in
+    let cursor = c.args.cursor.now in
+    let room = c.requires.placed.room in
+    let cs = g.C.Cells.cells c.args.cells.now in
+    let s = store_of cs (g.C.Cells.released c.args.cells.now) in
+    let word = get_or ws (cursor.base + c.args.register) 0 in
+    let k = c.args.constructor in
+    test_next v b ks lent s ws cursor c.branch-verified-in_default.result (state_of v b lent s ws c.branch-verified-in_default.new.cursor) given c.args.register k c.args.target false c.requires.register room (λ z e.
+    let odd = odd_constructor s word z c.if-word-eq0.false e in
+    absurd (none-some (word / 2) (sym c.in_default.is ∙ c.cell_of.ensures.found small (is_there (cell_at cs (word / 2)) odd.cell (same_cell cs (word / 2) ∙ odd.at))))) c.branch-verified-in_default.ensures.went (c.branch-verified-in_default.ensures.state lent s)
+
+pub returns-then-this-ne0-clause-next : goal.returns-then-this-ne0-clause-next
+returns-then-this-ne0-clause-next g c ks given once small lent = absurd (no_loop _ once c.if-this-ne0.true)
+
+pub returns-else-this-ne0-clause-next : goal.returns-else-this-ne0-clause-next
+returns-else-this-ne0-clause-next g c ks given once small lent =
+    let v = c.args.verified.now in
+    let b = c.args.bounds in
+    let ws = c.args.words.now in
+    let cursor = c.args.cursor.now in
+    let room = c.requires.placed.room in
+    let cs = g.C.Cells.cells c.args.cells.now in
+    let s = store_of cs (g.C.Cells.released c.args.cells.now) in
+    let word = get_or ws (cursor.base + c.args.register) 0 in
+    let k = c.args.constructor in
+    test_next v b ks lent s ws cursor S.Went (state_of v b lent s ws c.branch-verified-2.new.cursor) given c.args.register k c.args.target (nat_eq c.cell_tag.result k) c.requires.register room (λ z e.
+    let odd = odd_constructor s word z c.if-word-eq0.false e in
+    let at = same_cell cs (word / 2) ∙ odd.at in
+    let place = same_place c.cell_of.result c.in-Some.place (word / 2) c.in-Some.is (c.cell_of.ensures.found small (is_there (cell_at cs (word / 2)) odd.cell at)) in
+    let tag : c.cell_tag.result ≡ z = same_Some c.cell_tag.result z (sym c.cell_tag.ensures ∙ ap (λ p. option_map (λ (u : Cell). u.tag) (cell_at cs p)) place ∙ ap (option_map (λ (u : Cell). u.tag)) at ∙ ap Some odd.tag) in
+    ap (λ t. nat_eq t k) (sym tag)) refl (c.branch-verified-2.ensures.state lent s)

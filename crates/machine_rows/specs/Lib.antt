@@ -1,0 +1,4 @@
+pub mod Bounding
+pub mod Placed
+pub mod View
+pub mod Coming

@@ -1,10 +1,10 @@
 // Whether a derivation is one of a program: one walk through both, side by side. What a node uses up is compared with
 // what its rule leaves for it, before the walk comes to it.
 use crate::counts::{Counts, Underived, want};
-use crate::derivation::{Derivation, Line, Node, RuleName};
 use crate::scalar_types::ScalarTypes;
 use crate::scope::{Scope, Variable};
 use crate::split::{Parts, front_left, has, is_within};
+use derivation_trees::{Derivation, Line, Node, RuleName};
 use fip_base::core_form::MatchKind;
 use fip_base::plain::{FunKind, Param};
 use fip_trees::program::{

@@ -1,5 +1,5 @@
 // Credits counted by their sizes, and taken away one after another.
-use crate::derivation::Credit;
+use derivation_trees::Credit;
 use fip_language::limits::MOST_FIELDS;
 use fip_trees::program::Pattern;
 

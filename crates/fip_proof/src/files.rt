@@ -1,13 +1,12 @@
 // A program with its proof file: what is made for one, and how one is judged.
 use crate::accept::check;
-use crate::error::{AuditError, TextError};
+use crate::error::AuditError;
 use crate::make::line_of;
-use crate::read::read_derivation;
-use crate::write::Text;
 use fip_base::plain::FunKind;
 use fip_language::limits::MOST_FILE_BYTES;
 use fip_trees::program::Typed;
 use fip_trees::scalars::Scalars;
+use proof_text::{Text, TextError, read_derivation};
 use std::alloc::Global;
 
 /// The text of the derivation of a typed program, which is asked to break no rule on ownership and credits. TooLong:

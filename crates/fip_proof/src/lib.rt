@@ -21,23 +21,19 @@
 
 mod accept;
 mod counts;
-mod derivation;
 mod error;
 mod files;
 mod make;
-mod read;
 mod scalar_types;
 mod scope;
 mod split;
 #[cfg(test)]
 mod tests;
 mod uses;
-mod write;
 
 pub use accept::check;
-pub use derivation::{Credit, Derivation, Line, Node, RuleName};
-pub use error::{AuditError, ProofError, TextError};
+pub use derivation_trees::{Credit, Derivation, Line, Node, RuleName};
+pub use error::AuditError;
 pub use files::{audit, derivation_text};
 pub use make::derive;
-pub use read::read_derivation;
-pub use write::write_derivation;
+pub use proof_text::{ProofError, TextError, read_derivation, write_derivation};

@@ -4,9 +4,8 @@
 // The walk goes down from what a function owns. Of what is there an expression asks for the variables that occur in it
 // and for the credits that it needs. Of a let's own variables those that the bound expression uses up go there, all
 // others to the rest, and the bound expression may lend them.
-use crate::derivation::{Builder, Derivation, Line, RuleName};
-use crate::error::TextError;
 use crate::uses::{Stretch, Uses, add_argument, add_pattern, credits_of, marked};
+use derivation_trees::{Builder, Derivation, Line, RuleName};
 use fip_base::core_form::MatchKind;
 use fip_base::plain::{FunKind, NoMemory};
 use fip_trees::program::{
@@ -14,6 +13,7 @@ use fip_trees::program::{
 };
 use fip_trees::scalars::Scalars;
 use fip_trees::sizes::Sizes;
+use proof_text::TextError;
 use std::alloc::Global;
 
 /// The derivation of a typed program, which is asked to break no rule on ownership and credits. NoMemory: no memory is

@@ -1,5 +1,5 @@
 // Lists of variables that split into lists. All rise.
-use crate::derivation::Node;
+use derivation_trees::Node;
 
 /// Whether a variable stands in a list.
 pub fn has(list: &[u32], number: u32) -> bool {

@@ -1,8 +1,5 @@
 // Texts, and the derivations of small programs.
-use crate::{
-    AuditError, ProofError, audit, check, derivation_text, derive, read_derivation,
-    write_derivation,
-};
+use crate::{AuditError, audit, check, derivation_text, derive, write_derivation};
 use fip_base::plain::{FunKind, Name, NoMemory, Param, Params, Place, Types};
 use fip_base::table::{Constructor, DataType, TypeTable};
 use fip_trees::program::{Argument, Binder, Binding, Block, Expression, Instance, Program, Typed};
@@ -134,14 +131,6 @@ fn one_too_many(alloc: Global) -> Result<Typed, NoMemory> {
     program(alloc, function(alloc, FunKind::Fbip, credits, body)?)
 }
 
-// The place at which a text is bad; none where it is a derivation's.
-fn bad_place(alloc: Global, text: &[u8]) -> Option<usize> {
-    match read_derivation(alloc, text) {
-        Err(ProofError::BadProof { at }) => Some(at),
-        _ => None,
-    }
-}
-
 #[test]
 fn a_let_comes_before_the_lets_that_it_binds(rt: HostRuntime) -> Result<(), Fail> {
     let alloc = rt.alloc();
@@ -174,24 +163,5 @@ fn what_is_left_over_is_weakened_away(rt: HostRuntime) -> Result<(), Fail> {
     assert_eq!(rt; audit(alloc, &typed, twice), Ok(()));
     let more = b"0 WEAKEN[0|1:2](REUSE[0|1:2](VAR[0|]))\n".as_slice();
     assert_eq!(rt; audit(alloc, &typed, more), Err(AuditError::NotDerived));
-    Ok(())
-}
-
-#[test]
-fn the_least_bad_byte_is_named(rt: HostRuntime) -> Result<(), Fail> {
-    let alloc = rt.alloc();
-    assert_eq!(rt; bad_place(alloc, b"".as_slice()), None);
-    assert_eq!(rt; bad_place(alloc, b"x".as_slice()), Some(0));
-    assert_eq!(rt; bad_place(alloc, b"0 VAR[0|]".as_slice()), Some(9));
-    assert_eq!(rt; bad_place(alloc, b"00".as_slice()), Some(1));
-    assert_eq!(rt; bad_place(alloc, b"0 VAR[3 2|]\n".as_slice()), Some(9));
-    assert_eq!(rt; bad_place(alloc, b"0 VAR[4294967295 ".as_slice()), Some(16));
-    assert_eq!(rt; bad_place(alloc, b"0 VAR[0|16:1 ".as_slice()), Some(12));
-    assert_eq!(rt; bad_place(alloc, b"0 VAR[0|3:1 1:".as_slice()), Some(13));
-    assert_eq!(rt; bad_place(alloc, b"0 MATCH?".as_slice()), Some(7));
-    assert_eq!(rt;
-        bad_place(alloc, b"0 VAR[|]\n0 VAR[|]\n".as_slice()),
-        Some(9)
-    );
     Ok(())
 }

@@ -1,6 +1,6 @@
 // What is looked up while a derivation is made: the numbers of the variables, where each occurs, and what each
 // expression needs.
-use crate::derivation::Credit;
+use derivation_trees::Credit;
 use fip_base::core_form::MatchKind;
 use fip_base::plain::NoMemory;
 use fip_language::limits::MOST_FIELDS;

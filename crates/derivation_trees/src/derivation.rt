@@ -1,4 +1,9 @@
 // What a derivation is: lines of nodes.
+ghost use Rattle.std.specs.Prelude.{◌≡◌, ◌-◌, [], length, OnOk};
+ghost use Rattle.derivation_trees.specs.Trees.{heads};
+ghost use Rattle.derivation_trees.specs.Building.{built, nothing_built, alter, alter_at, with_part};
+ghost use Rattle.derivation_trees.specs.Building.{with_span, opened, closed};
+
 use fip_base::plain::NoMemory;
 use std::alloc::Global;
 
@@ -71,7 +76,10 @@ pub struct Line {
 
 impl Line {
     /// The derivation of the instance of this number; nodes that are open are closed.
-    pub fn new(instance: u32, builder: Builder) -> Line {
+    pub fn new(instance: u32, builder: Builder) -> Line
+        ensures instance { result.instance ≡ instance }
+        ensures nodes { builder.open.items ≡ [] → result.nodes.items ≡ builder.nodes.items }
+    {
         Line {
             instance,
             nodes: builder.into_nodes(),
@@ -79,12 +87,16 @@ impl Line {
     }
 
     /// The number of the instance.
-    pub fn instance(&self) -> u32 {
+    pub fn instance(&self) -> u32
+        ensures instance { result ≡ self.now.instance }
+    {
         self.instance
     }
 
     /// Its nodes.
-    pub fn nodes(&self) -> &[Node] {
+    pub fn nodes(&self) -> &[Node]
+        ensures nodes { result.now ≡ self.now.nodes.items }
+    {
         self.nodes.as_slice()
     }
 }
@@ -97,12 +109,16 @@ pub struct Derivation {
 
 impl Derivation {
     /// The derivation with these lines.
-    pub fn new(lines: Vec<Line>) -> Derivation {
+    pub fn new(lines: Vec<Line>) -> Derivation
+        ensures lines { result.lines.items ≡ lines.items }
+    {
         Derivation { lines }
     }
 
     /// Its lines.
-    pub fn lines(&self) -> &[Line] {
+    pub fn lines(&self) -> &[Line]
+        ensures lines { result.now ≡ self.now.lines.items }
+    {
         self.lines.as_slice()
     }
 }
@@ -116,7 +132,9 @@ pub struct Builder {
 
 impl Builder {
     /// No node.
-    pub fn new(alloc: Global) -> Builder {
+    pub fn new(alloc: Global) -> Builder
+        ensures none { built result ≡ nothing_built }
+    {
         Builder {
             nodes: Vec::new(alloc),
             open: Vec::new(alloc),
@@ -124,7 +142,9 @@ impl Builder {
     }
 
     /// How many nodes are open.
-    pub fn depth(&self) -> usize {
+    pub fn depth(&self) -> usize
+        ensures depth { result ≡ length self.now.open.items }
+    {
         self.open.len()
     }
 
@@ -147,12 +167,10 @@ impl Builder {
         rule: RuleName,
         variables: Vec<u32>,
         credits: Vec<Credit>,
-    ) -> Result<(), NoMemory> {
-        if let Some(place) = self.open.last() {
-            if let Some(node) = self.nodes.get_mut(*place) {
-                node.parts = node.parts.checked_add(1).ok_or(NoMemory)?;
-            }
-        }
+    ) -> Result<(), NoMemory>
+        ensures opened { OnOk result (built self.new ≡ opened (built self.old) rule variables.items credits.items) }
+    {
+        add_part(&mut self.nodes, self.open.last().copied())?;
         self.open.push(self.nodes.len())?;
         self.nodes.push(Node {
             rule,
@@ -165,20 +183,50 @@ impl Builder {
     }
 
     /// The innermost open node has all its parts.
-    pub fn close(&mut self) {
-        let end = self.nodes.len();
+    pub fn close(&mut self)
+        ensures closed { built self.new ≡ closed (built self.old) }
+    {
         if let Some(place) = self.open.pop() {
-            if let Some(node) = self.nodes.get_mut(place) {
-                node.span = end.saturating_sub(place);
-            }
+            set_span(&mut self.nodes, place);
         }
     }
 
     /// The nodes; those that are open are closed.
-    fn into_nodes(mut self) -> Vec<Node> {
+    fn into_nodes(mut self) -> Vec<Node>
+        ensures nodes { self.open.items ≡ [] → result.items ≡ self.nodes.items }
+    {
         for _ in 0..self.depth() {
             self.close();
         }
         self.nodes
+    }
+}
+
+// The node at a place has one part more.
+fn add_part(nodes: &mut Vec<Node>, place: Option<usize>) -> Result<(), NoMemory>
+    ensures { OnOk result (heads nodes.new.items ≡ alter_at with_part place (heads nodes.old.items)) }
+{
+    match place {
+        None => Ok(()),
+        Some(place) => add_part_at(nodes, place),
+    }
+}
+
+fn add_part_at(nodes: &mut Vec<Node>, place: usize) -> Result<(), NoMemory>
+    ensures { OnOk result (heads nodes.new.items ≡ alter with_part place (heads nodes.old.items)) }
+{
+    if let Some(node) = nodes.get_mut(place) {
+        node.parts = node.parts.checked_add(1).ok_or(NoMemory)?;
+    }
+    Ok(())
+}
+
+// The tree of the node at a place ends with the nodes.
+fn set_span(nodes: &mut Vec<Node>, place: usize)
+    ensures { heads nodes.new.items ≡ alter (with_span (length nodes.old.items - place)) place (heads nodes.old.items) }
+{
+    let end = nodes.len();
+    if let Some(node) = nodes.get_mut(place) {
+        node.span = end.saturating_sub(place);
     }
 }

@@ -1,0 +1,106 @@
+-- Derivations as trees. A node has a rule, what it uses up, and its parts: the owned variables by their numbers, and
+-- the credits by their sizes. For example MATCH![0|](VAR[1|]) is
+-- Branch TakingMatch (0 ∷ []) [] (MoreTrees (Branch Variable (1 ∷ []) [] NoTrees) NoTrees).
+--
+-- In memory the nodes of a tree stand in a list, each before its parts, its first part directly behind it. A node keeps
+-- how many parts it has, and its span, the number of the nodes of its tree: its next neighbour stands so many places
+-- behind it.
+use Rattle.std.specs.Prelude.{ℕ, zero, suc, ◌+◌, List, [], ◌∷◌, ◌++◌, Option, Some, None, map, length, slice_get}
+use Rattle.derivation_trees.specs.declared.derivation.RuleName.{RuleName}
+use Rattle.derivation_trees.specs.declared.derivation.Credit.{Credit}
+use Rattle.derivation_trees.specs.declared.derivation.Node.{Node}
+use Rattle.derivation_trees.specs.declared.derivation.Line.{Line}
+use Rattle.derivation_trees.specs.declared.derivation.Derivation.{Derivation}
+
+-- Missing stands for a part that a list of nodes doesn't have; no rule speaks of it
+mutual
+  pub data Tree : Type 0 where
+    Missing : Tree
+    Branch : (rule : RuleName) (variables : List ℕ) (credits : List Credit) (parts : Trees) → Tree
+
+  pub data Trees : Type 0 where
+    NoTrees : Trees
+    MoreTrees : (t : Tree) (rest : Trees) → Trees
+
+abbrev pub count : Trees → ℕ
+count NoTrees = 0
+count (MoreTrees t ts) = suc (count ts)
+
+-- a node without its parts, as it stands in a list
+pub record Head : Type 0 where
+  pub rule : RuleName
+  pub variables : List ℕ
+  pub credits : List Credit
+  pub parts : ℕ
+  pub span : ℕ
+
+abbrev pub head : Node → Head
+head n = record {
+  rule = n.rule;
+  variables = n.variables.items;
+  credits = n.credits.items;
+  parts = n.parts;
+  span = n.span;
+}
+
+abbrev pub heads : List Node → List Head
+heads = map head
+
+-- ---- from trees to lists
+
+abbrev mutual
+  -- the number of nodes
+  pub size : Tree → ℕ
+  size Missing = 0
+  size (Branch r xs cs ts) = suc (size_all ts)
+
+  pub size_all : Trees → ℕ
+  size_all NoTrees = 0
+  size_all (MoreTrees t ts) = size t + size_all ts
+
+abbrev mutual
+  pub flat : Tree → List Head
+  flat Missing = []
+  flat (Branch r xs cs ts) =
+      record { rule = r; variables = xs; credits = cs; parts = count ts; span = suc (size_all ts) } ∷ flat_all ts
+
+  pub flat_all : Trees → List Head
+  flat_all NoTrees = []
+  flat_all (MoreTrees t ts) = flat t ++ flat_all ts
+
+-- ---- from lists to trees
+
+abbrev pub span_of : Option Head → ℕ
+span_of None = 0
+span_of (Some h) = h.span
+
+-- n trees, of which the first one begins at place i, by what begins at each place
+abbrev pub row : (ℕ → Tree) → List Head → ℕ → ℕ → Trees
+row tree hs i zero = NoTrees
+row tree hs i (suc n) = MoreTrees (tree i) (row tree hs (i + span_of (slice_get hs i)) n)
+
+abbrev pub rooted : (ℕ → Tree) → List Head → ℕ → Option Head → Tree
+rooted tree hs i None = Missing
+rooted tree hs i (Some h) = Branch h.rule h.variables h.credits (row tree hs (suc i) h.parts)
+
+-- the tree whose root stands at place i, cut off below so many nodes
+abbrev pub cut_at : ℕ → List Head → ℕ → Tree
+cut_at zero hs i = Missing
+cut_at (suc m) hs i = rooted (cut_at m hs) hs i (slice_get hs i)
+
+-- the tree whose root stands at place i; no path in it has more nodes than the list
+abbrev pub tree_at : List Head → ℕ → Tree
+tree_at hs i = cut_at (length hs) hs i
+
+-- ---- derivations
+
+-- the derivation of the instance of this number
+pub record Entry : Type 0 where
+  pub instance : ℕ
+  pub tree : Tree
+
+abbrev pub entry : Line → Entry
+entry l = record { instance = l.instance; tree = tree_at (heads l.nodes.items) 0 }
+
+abbrev pub entries : Derivation → List Entry
+entries d = map entry d.lines.items

@@ -1,0 +1,13 @@
+pub mod Digits
+pub mod Numbers
+pub mod Residual
+pub mod Parts
+pub mod Takes
+pub mod Gives
+pub mod Exact
+pub mod Flat
+pub mod Begins
+pub mod Loop
+pub mod Written
+pub mod Writers
+pub mod Whole

@@ -1,0 +1,5 @@
+pub mod ProofText
+pub mod Limited
+pub mod Machine
+pub mod Reading
+pub mod Writing

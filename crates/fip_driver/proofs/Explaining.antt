@@ -1,5 +1,5 @@
 -- From what a part of the program answered to the reply of the whole.
-use Rattle.std.proofs.Common.{◌≡◌, ◌∙◌, ◌<◌, ◌≤◌, ◌+◌, ℕ, List, [], sym, ap, subst, refl, inl, inr, length, arith}
+use Rattle.std.proofs.Common.{◌≡◌, ◌∙◌, ◌<◌, ◌≤◌, ℕ, List, [], sym, ap, subst, refl, inl, inr, length}
 use Rattle.std.specs.Prelude.{Option, Some, None, Result, Ok, Err, Bool, IsSomeAnd}
 use Rattle.std.specs.declared.vec.Vec.{Vec}
 use Rattle.std.specs.declared.alloc.Global.{Global}
@@ -19,8 +19,6 @@ use Rattle.fip_driver.proofs.Telling.{more_left}
 use Rattle.fip_driver.specs.Reply.{out_text, err_text}
 use Rattle.command_outcome.specs.Texts.{bad_input_text}
 use Rattle.fip_driver.specs.Explained.{IsWritten, FailsAs, Fails, ExplainedBy}
-use Rattle.fip_base.specs.Takes.{Takes}
-use Rattle.std.proofs.lemmas.List.{length-append}
 use Rattle.fip_driver.specs.Fronted.{SpellingFails, EntryFails}
 use Rattle.fip_driver.specs.Fetched.{FetchFails, ReadFails, too_long}
 use Rattle.fip_driver.specs.Answered.{Replies, ComesToInput, Explained, IsRequest, plain_request}

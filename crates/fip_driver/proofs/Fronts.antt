@@ -1,6 +1,6 @@
 -- From the parts of a source's front, the parser, the core form and the check, to what can come of the source.
 use Rattle.std.proofs.Common.{◌≡◌, ◌∙◌, ℕ, List, sym, ap, subst, refl, inl, inr}
-use Rattle.std.specs.Prelude.{◌⊎◌, Option, Some, None, option_map}
+use Rattle.std.specs.Prelude.{Option, Some, None, option_map}
 use Rattle.fip_language.specs.declared.Place.{Place}
 use Rattle.fip_language.specs.declared.rule.Rule.{Rule}
 use Rattle.fip_language.specs.Core.{Core}

@@ -1,7 +1,9 @@
 mod WholeAnswer
 mod Telling
 mod SourceEnds
+mod CodeEnds
 mod OneCommand
+mod OneCode
 mod OneEnd
 mod Explaining
 mod Running

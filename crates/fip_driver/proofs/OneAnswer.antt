@@ -1,6 +1,6 @@
 -- Words ask for one thing at most, and a request has one reply at most: so there is one written answer.
-use Rattle.std.proofs.Common.{◌≡◌, ◌∙◌, ℕ, List, sym, ap, ap₂, subst, refl, inl, inr, slice_index, arith}
-use Rattle.std.specs.Prelude.{Option, Some, Bool, true, false, codes}
+use Rattle.std.proofs.Common.{◌≡◌, ◌∙◌, ℕ, List, sym, ap, ap₂, subst, refl}
+use Rattle.std.specs.Prelude.{Some}
 use Rattle.fip_language.specs.Prefix.{Accepted}
 use Rattle.fip_language.specs.Values.{Values}
 use Rattle.fip_language.specs.Table.{Table}
@@ -23,11 +23,12 @@ use Rattle.loop_text.proofs.Exact.{accepts_text}
 use Rattle.command_line.specs.Words.{Request, Command, Exec, IsCommand}
 use Rattle.fip_driver.specs.Explained.{IsWritten}
 use Rattle.fip_driver.specs.Answered.{plain_request, Replies, IsRequest, Answer, NotUnderstood, Replied, Said, Beyond, IsAnswered, without_lines}
-use Rattle.fip_driver.specs.Ends.{End, Checks, Says, Missing, OnSource, IsOpen, OpenSource, OpenFile, OpenNone}
+use Rattle.fip_driver.specs.Ends.{End, Checks, Says, Missing, OnSource, OnCode, IsOpen, OpenSource, OpenCode, OpenFile, OpenNone}
 use Rattle.source_commands.specs.Wanted.{Wanted}
 use Rattle.std.proofs.lemmas.Option.{none-some, same_Some}
 use Rattle.fip_driver.proofs.Explaining.{file_reply, core_reply, not_right_reply}
 use Rattle.fip_driver.proofs.OneCommand.{command_once, request_once}
+use Rattle.fip_driver.proofs.OneCode.{says_asks, runs_asks}
 use Rattle.fip_driver.proofs.OneEnd.{says_once, says_not_open}
 use Rattle.fip_driver.specs.Spelling.{source_spelling}
 
@@ -90,9 +91,11 @@ module _ (words : List (List ℕ)) (files : List File) (input : List ℕ) where
   written_said : (r : Request) (reply : Reply) (e : End) → Written r reply → Says source_spelling files input (Exec r) e → ⊥
   written_said r reply e h (Missing name other names gone) = other
   written_said r reply e h (OnSource w source f checks says) = written_checked r reply w source h checks
+  written_said r reply e h (OnCode bytes f there says) = says_asks bytes input (Exec r) f says
 
   written_open : (r : Request) (reply : Reply) → Written r reply → IsOpen source_spelling files input (Exec r) → ⊥
   written_open r reply h (OpenSource w source checks ready taken other) = written_checked r reply w source h checks
+  written_open r reply h (OpenCode bytes there runs) = runs_asks bytes input (Exec r) runs
   written_open r reply h (OpenFile bytes unsaid there) = unsaid
   written_open r reply h (OpenNone none) = none-some r.file (sym none)
 

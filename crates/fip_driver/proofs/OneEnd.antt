@@ -1,19 +1,20 @@
 -- A command ends with one thing at most, where it is said; and then its answer isn't open.
-use Rattle.std.proofs.Common.{◌≡◌, ◌∙◌, ◌<◌, ◌≤◌, ℕ, List, sym, ap, subst, refl, inl, inr, arith}
-use Rattle.std.specs.Prelude.{Option, Some, None, Result, Ok, Err}
+use Rattle.std.proofs.Common.{◌≡◌, ◌∙◌, ℕ, List, sym, ap, subst, refl, arith}
+use Rattle.std.specs.Prelude.{Option, Some, None, Ok, Err}
 use Rattle.std.proofs.lemmas.Option.{none-some, same_Some}
 use Rattle.fip_language.specs.declared.Place.{Place}
 use Rattle.fip_base.specs.Files.{File, file_of}
 use Rattle.fip_base.specs.declared.refusal.Refusal.{Refusal}
-use Rattle.command_line.specs.Words.{Command, Check, Compile, Verify, Upgrade, Exec, Run, Eval, Trace, Session, Tasks, Derive, Audit, Replay, Library, Gen}
+use Rattle.command_line.specs.Words.{Command, Check, Verify, Upgrade, Run, Audit, Replay, Library, Gen}
 use Rattle.command_outcome.specs.declared.failure.Failure.TheVariants as F
 use Rattle.source_report.specs.Same.{AreSame, offset}
 use Rattle.source_commands.specs.Roots.{IsListing}
-use Rattle.source_commands.specs.Wanted.{Wanted, Lawful, Refuses, IsReady}
+use Rattle.source_commands.specs.Wanted.{Wanted, Lawful, IsReady}
 use Rattle.source_commands.proofs.Once.{listing_once, listing_ready, refused_once, refused_not_ready}
 use Rattle.fip_driver.specs.Answered.{at_offset, without_lines}
 use Rattle.fip_driver.specs.Commands.{ReadsInput, fetched_name, wanted}
-use Rattle.fip_driver.specs.Ends.{End, SaysOf, Refused, Listed, LongInput, IsTaken, Checks, Says, Missing, OnSource, IsUnsaid, IsThere, IsOpen, OpenSource, OpenFile, OpenNone}
+use Rattle.fip_driver.specs.Ends.{End, SaysOf, Refused, Listed, LongInput, IsTaken, Checks, Says, Missing, OnSource, OnCode, AsksCode, SaysOfCode, IsUnsaid, IsThere, IsOpen, OpenSource, OpenCode, OpenFile, OpenNone}
+use Rattle.fip_driver.proofs.OneCode.{says_asks, runs_asks, code_once, code_not_open}
 use Rattle.fip_driver.specs.Spelling.{Spelling}
 
 same_offset : (p q : Option Place) → offset p ≡ offset q → at_offset p ≡ at_offset q
@@ -56,6 +57,19 @@ source_not_open source input c w e (LongInput r reads more) ready taken other = 
 
 -- ---- on files
 
+-- the commands that ask a code file ask no source, and are said of
+asks_unwanted : (c : Command) (w : Wanted) → AsksCode c → wanted c ≡ Some w → ⊥
+asks_unwanted (Verify file) w a e = none-some w e
+asks_unwanted (Upgrade file out) w a e = none-some w e
+asks_unwanted (Run r) w a e = none-some w e
+asks_unwanted c w a e = a
+
+asks_said : (c : Command) → AsksCode c → IsUnsaid c → ⊥
+asks_said (Verify file) a u = u
+asks_said (Upgrade file out) a u = u
+asks_said (Run r) a u = u
+asks_said c a u = a
+
 module _ (spelling : Spelling) (files : List File) (input : List ℕ) (c : Command) where
   one_name : (m n : List ℕ) → fetched_name c ≡ Some m → fetched_name c ≡ Some n → m ≡ n
   one_name m n h k = same_Some m n (sym h ∙ k)
@@ -72,16 +86,21 @@ module _ (spelling : Spelling) (files : List File) (input : List ℕ) (c : Comma
   moved : (v w : Wanted) (s t : List ℕ) (e : End) → Checks spelling files c v s → Checks spelling files c w t → SaysOf s input c v e → SaysOf t input c w e
   moved v w s t e h k says = subst (λ x. SaysOf t input c x e) (one_want v w s t h k) (subst (λ x. SaysOf x input c v e) (one_source v w s t h k) says)
 
+  one_file : (x y : List ℕ) → IsThere files c x → IsThere files c y → x ≡ y
+  one_file x y h k = same_Some x y (sym (subst (λ n. file_of n files ≡ Some x) (one_name h.0 k.0 h.1 k.1) h.2) ∙ k.2)
+
   pub says_once : (d e : End) → Says spelling files input c d → Says spelling files input c e → without_lines d ≡ without_lines e
   says_once d e (Missing m o names gone) (Missing n p called lost) = refl
   says_once d e (Missing m o names gone) (OnSource w source f checks h) = absurd (there_or_missing m checks.name source names checks.names gone checks.there)
   says_once d e (OnSource w source f checks h) (Missing m o names gone) = absurd (there_or_missing m checks.name source names checks.names gone checks.there)
+  says_once d e (Missing m o names gone) (OnCode bytes f there says) = absurd (there_or_missing m there.0 bytes names there.1 gone there.2)
+  says_once d e (OnCode bytes f there says) (Missing m o names gone) = absurd (there_or_missing m there.0 bytes names there.1 gone there.2)
+  says_once d e (OnSource w source f checks h) (OnCode bytes g there says) = absurd (asks_unwanted c w (says_asks bytes input c g says) checks.wants)
+  says_once d e (OnCode bytes g there says) (OnSource w source f checks h) = absurd (asks_unwanted c w (says_asks bytes input c g says) checks.wants)
+  says_once d e (OnCode x f there says) (OnCode y g also others) = code_once y input c f g (subst (λ b. SaysOfCode b input c f) (one_file x y there also) says) others
   says_once d e (OnSource v s f h says) (OnSource w t g k others) = source_once t input c w f g k.wants (moved v w s t f h k says) others
 
 unsaid_unwanted : (c : Command) (w : Wanted) → IsUnsaid c → wanted c ≡ Some w → ⊥
-unsaid_unwanted (Verify file) w u e = none-some w e
-unsaid_unwanted (Upgrade file out) w u e = none-some w e
-unsaid_unwanted (Run r) w u e = none-some w e
 unsaid_unwanted (Audit file proof) w u e = none-some w e
 unsaid_unwanted (Replay trace step) w u e = none-some w e
 unsaid_unwanted (Library name) w u e = none-some w e
@@ -96,3 +115,9 @@ module _ (spelling : Spelling) (files : List File) (input : List ℕ) (c : Comma
   says_not_open e (OnSource v s f h says) (OpenSource w t k ready taken other) = source_not_open t input c w f (moved spelling files input c v w s t f h k says) ready taken other
   says_not_open e (OnSource v s f h says) (OpenFile bytes unsaid there) = unsaid_unwanted c v unsaid h.wants
   says_not_open e (OnSource v s f h says) (OpenNone none) = none-some h.name (sym none ∙ h.names)
+  says_not_open e (Missing m o names gone) (OpenCode bytes there runs) = there_or_missing spelling files input c m there.0 bytes names there.1 gone there.2
+  says_not_open e (OnSource v s f h says) (OpenCode bytes there runs) = asks_unwanted c v (runs_asks bytes input c runs) h.wants
+  says_not_open e (OnCode bytes f there says) (OpenSource w t k ready taken other) = asks_unwanted c w (says_asks bytes input c f says) k.wants
+  says_not_open e (OnCode bytes f there says) (OpenCode again also runs) = code_not_open again input c f (subst (λ b. SaysOfCode b input c f) (one_file spelling files input c bytes again there also) says) runs
+  says_not_open e (OnCode bytes f there says) (OpenFile again unsaid also) = asks_said c (says_asks bytes input c f says) unsaid
+  says_not_open e (OnCode bytes f there says) (OpenNone none) = none-some there.0 (sym none ∙ there.1)

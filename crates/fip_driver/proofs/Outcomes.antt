@@ -1,18 +1,16 @@
 -- What the parts of a command come to, and so the whole: each part's outcome is explained by the reply to what the objects
 -- told, or to something where they told nothing.
-use Rattle.std.proofs.Common.{◌≡◌, ◌∙◌, ◌<◌, ◌≤◌, ◌+◌, ℕ, List, [], ◌∷◌, ◌++◌, sym, ap, subst, refl, inl, inr, length, arith, append-nil, replicate}
-use Rattle.std.specs.Prelude.{◌⊎◌, Option, Some, None, Result, Err, IsSomeAnd, if◌then◌else◌}
+use Rattle.std.proofs.Common.{◌≡◌, ◌≤◌, ℕ, List, [], sym, subst, refl, inl, inr, length}
+use Rattle.std.specs.Prelude.{◌⊎◌, Option, Some, Result, Err}
 use Rattle.std.specs.Io.KnownBytes.{Consumes, IsAtEnd}
 use Rattle.std.specs.declared.vec.Vec.{Vec}
 use Rattle.std.specs.declared.alloc.Global.{Global}
-use Rattle.std.proofs.lemmas.List.{length-replicate}
-use Rattle.std.proofs.lemmas.Slice.Eq.{bytes_eq-Decides}
 use Rattle.fip_language.specs.Core.{Core}
 use Rattle.fip_language.specs.Declarations.{function_of}
-use Rattle.fip_language.specs.Answer.{Answers, Runs, Reads, NotRight}
+use Rattle.fip_language.specs.Answer.{Answers, Runs, Reads}
 use Rattle.fip_language.proofs.LoopStack.{function_of-only}
 use Rattle.fip_base.specs.Faults.{Rose}
-use Rattle.fip_base.specs.Files.{File, file_of, HoldsFile, HoldsLonger}
+use Rattle.fip_base.specs.Files.{File, HoldsFile}
 use Rattle.loop_form.specs.Loop.{Loop}
 use Rattle.command_line.specs.Words.{Request, Command, Exec, IsCommand}
 use Rattle.fip_driver.specs.LoopRun.{IsLoopRun}
@@ -24,7 +22,7 @@ use Rattle.fip_driver.specs.Explained.{ExplainedBy}
 use Rattle.fip_driver.specs.Outcome.{RequestOutcome, WordsOutcome, SourceOutcome, Closes, end_of}
 use Rattle.command_outcome.specs.declared.failure.Failure.{Failure}
 use Rattle.command_outcome.specs.declared.failure.Failure.TheVariants as F
-use Rattle.fip_driver.proofs.Explaining.{explained_up, explained_fault, explained, fetch_explained, file_reply, core_reply, function_reply, spelling_explained, not_right_reply, entry_explained, input_explained}
+use Rattle.fip_driver.proofs.Explaining.{explained_up, explained_fault, explained, fetch_explained, file_reply, core_reply, function_reply, spelling_explained, entry_explained, input_explained}
 use Rattle.fip_driver.proofs.Running.{run_explained}
 use Rattle.source_commands.specs.Wanted.{Compiled}
 use Rattle.fip_driver.specs.Ends.{Checks}

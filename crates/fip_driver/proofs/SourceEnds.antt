@@ -1,5 +1,5 @@
 -- From what a part answered to what a command ends with: on an input, on a source, on the file, and for the words.
-use Rattle.std.proofs.Common.{◌≡◌, ◌∙◌, ◌<◌, ◌≤◌, ◌+◌, ℕ, List, [], length, sym, ap, subst, refl, inl, inr, arith}
+use Rattle.std.proofs.Common.{◌≡◌, ◌∙◌, ◌<◌, ◌≤◌, ℕ, List, [], length, sym, ap, subst, refl, inl, inr, arith}
 use Rattle.std.specs.Prelude.{◌⊎◌, Option, Some, None, Result, Ok, Err, IfOk, IfErr, IsSomeAnd}
 use Rattle.std.specs.Io.KnownBytes.{Consumes, IsAtEnd}
 use Rattle.std.specs.declared.vec.Vec.{Vec}
@@ -9,22 +9,20 @@ use Rattle.fip_base.specs.declared.refusal.Refusal.{Refusal}
 use Rattle.fip_base.specs.Faults.{Rose}
 use Rattle.fip_base.specs.Files.{File, file_of, HoldsFile}
 use Rattle.fip_trees.specs.Tree.{Program}
-use Rattle.command_line.specs.Words.{Command, Check, Compile, Upgrade, Verify, Exec, Run, Eval, Trace, Session, Tasks, Derive, Audit, Replay, Library, Gen}
+use Rattle.command_line.specs.Words.{Command, Check, Compile, Exec, Trace, Derive, Audit}
 use Rattle.command_outcome.specs.Stages.{IsOfRun, IsOfTasks, IsOfTrace}
 use Rattle.command_outcome.specs.Successes.{derived_text}
 use Rattle.command_outcome.specs.declared.failure.Failure.{Failure}
 use Rattle.command_outcome.specs.declared.failure.Failure.TheVariants as F
-use Rattle.command_outcome.specs.declared.failure.Object.{Object}
 use Rattle.command_outcome.specs.declared.failure.Object.TheVariants as O
 use Rattle.source_report.specs.Report.{bare, IsMatched, Reports, TooLong}
-use Rattle.source_commands.specs.Judged.{IsJudged}
 use Rattle.source_commands.specs.Roots.{IsListing}
 use Rattle.source_commands.specs.Wanted.{Wanted, Lawful, IsReady, IsRefusedBy, KeepsFrom, KeepsFromFile}
 use Rattle.source_commands.proofs.Once.{listing_ready}
 use Rattle.source_commands.specs.declared.files.Compiled.{Compiled as compiled_file}
 use Rattle.fip_driver.specs.Answered.{IsTold}
 use Rattle.fip_driver.specs.Commands.{IsOther, ReadsInput, CallsNoFolder, fetched_name, wanted}
-use Rattle.fip_driver.specs.Ends.{End, SaysOf, Refused, Listed, LongInput, ComesOf, Unsound, Ready, MayEnd, IsTaken, IsRunEnd, IsTraceEnd, IsTasksEnd, IsSessionEnd, IsBeside, Checks, Says, Missing, OnSource, Comes, MayOnSource, MayOnFile, MayOnNone, IsUnsaid, IsThere, MayEndOn, IsAuditEnd}
+use Rattle.fip_driver.specs.Ends.{End, SaysOf, Refused, Listed, LongInput, ComesOf, Unsound, Ready, MayEnd, IsTaken, IsRunEnd, IsTraceEnd, IsTasksEnd, IsBeside, Checks, Says, Missing, OnSource, Comes, MayOnSource, MayOnFile, MayOnNone, IsUnsaid, IsThere, MayEndOn, IsAuditEnd}
 use Rattle.fip_driver.specs.Fetched.{FetchFails, FileFails, StoreFails, JudgeFails, ReadFails}
 use Rattle.fip_driver.specs.Outcome.{end_of, compiled_end, IsFault, IsInputFault, InputOutcome, SourceOutcome, Closes, FileOutcome, CommandOutcome}
 use Rattle.fip_driver.specs.Spelling.{Spelling, source_spelling}
@@ -32,7 +30,7 @@ use Rattle.fip_driver.proofs.Telling.{any_told, held, longer, told_fetch, told_i
 
 -- ---- faults
 
-fault_up : (c : Command) (fr ir more_fr more_ir : Type 0) (e : End) → (fr → more_fr) → (ir → more_ir) → IsFault c fr ir e → IsFault c more_fr more_ir e
+pub fault_up : (c : Command) (fr ir more_fr more_ir : Type 0) (e : End) → (fr → more_fr) → (ir → more_ir) → IsFault c fr ir e → IsFault c more_fr more_ir e
 fault_up c fr ir mf mi (Ok text) f i h = h
 fault_up c fr ir mf mi (Err F.NoMemory) f i h = tt
 fault_up c fr ir mf mi (Err (F.Fault O.Folder)) f i h = (f h.0, h.1)
@@ -41,7 +39,7 @@ fault_up c fr ir mf mi (Err (F.Fault O.Out)) f i h = h
 fault_up c fr ir mf mi (Err (F.Fault O.Err)) f i h = h
 fault_up c fr ir mf mi (Err failure) f i h = h
 
-input_fault_up : (c : Command) (fr ir : Type 0) (e : End) → ReadsInput c → IsInputFault ir e → IsFault c fr ir e
+pub input_fault_up : (c : Command) (fr ir : Type 0) (e : End) → ReadsInput c → IsInputFault ir e → IsFault c fr ir e
 input_fault_up c fr ir (Ok text) r h = h
 input_fault_up c fr ir (Err F.NoMemory) r h = tt
 input_fault_up c fr ir (Err (F.Fault O.Folder)) r h = absurd h
@@ -239,21 +237,22 @@ none_ends c files left fr ir e none =
     (t.0, i.0, t.1, i.1, inr (inr (MayOnNone e none)))
 
 -- the same cause, of files that are told
-told_file : (IsLong : Failure → Type 0) (files : Option (List File)) (name : List ℕ) (before now : ℕ) (f : Failure) → FileFails IsLong files name before now f → (all : List File) × IsTold files all × FileFails IsLong (Some all) name before now f
+pub told_file : (IsLong : Failure → Type 0) (files : Option (List File)) (name : List ℕ) (before now : ℕ) (f : Failure) → FileFails IsLong files name before now f → (all : List File) × IsTold files all × FileFails IsLong (Some all) name before now f
 told_file IsLong (Some all) name before now f h = (all, refl, h)
 told_file IsLong None name before now (F.Fault object) h = ([], tt, (h.0, elim h.1 [ inl up ↦ inl up | inr gone ↦ absurd gone ]))
 told_file IsLong None name before now F.NoMemory h = ([], tt, tt)
 told_file IsLong None name before now failure h = let l = longer name 16777216 in (l.0, tt, (h.0, l.1))
 
-pub missed_ends : (c : Command) (IsLong : Failure → Type 0) (name : List ℕ) (files : Option (List File)) (left : Option (List ℕ)) (before now : ℕ) (ir : Type 0) (f : Failure) → IsOther c → IsUnsaid c → fetched_name c ≡ Some name → (CallsNoFolder c → ⊥) → ((all : List File) (bytes : List ℕ) (e : End) → MayEndOn all c bytes e) → FileFails IsLong files name before now f → FileOutcome c files left (Rose before now) ir (Err f)
-missed_ends c IsLong name files left before now ir f other unsaid names calls may h =
+-- what keeps a file from being fetched; of one that is too long this is said, or may come
+pub missed_ends : (c : Command) (IsLong : Failure → Type 0) (name : List ℕ) (files : Option (List File)) (left : Option (List ℕ)) (before now : ℕ) (ir : Type 0) (f : Failure) → IsOther c → fetched_name c ≡ Some name → (CallsNoFolder c → ⊥) → ((all : List File) (input bytes : List ℕ) (e : Failure) → IsLong e → 16777216 < length bytes → IsThere all c bytes → Says source_spelling all input c (Err e) ⊎ Comes source_spelling all input c (Err e)) → FileFails IsLong files name before now f → FileOutcome c files left (Rose before now) ir (Err f)
+missed_ends c IsLong name files left before now ir f other names calls long h =
     let t = told_file IsLong files name before now f h in
     let i = any_told left [] in
     (t.0, i.0, t.1, i.1, by f t.0 i.0 t.2)
   where
-    long : (f : Failure) (all : List File) (input : List ℕ) (o : Option (List ℕ)) → file_of name all ≡ o → IsSomeAnd o (λ bytes. 16777216 < length bytes) → Closes source_spelling all input c (Rose before now) ir (Err f)
-    long f all input None e h = absurd h
-    long f all input (Some bytes) e h = inr (inr (MayOnFile bytes (Err f) unsaid (name, names, e) (may all bytes (Err f))))
+    too_long : (f : Failure) (all : List File) (input : List ℕ) (o : Option (List ℕ)) → IsLong f → file_of name all ≡ o → IsSomeAnd o (λ bytes. 16777216 < length bytes) → Closes source_spelling all input c (Rose before now) ir (Err f)
+    too_long f all input None is e h = absurd h
+    too_long f all input (Some bytes) is e h = inr (long all input bytes f is h (name, names, e))
 
     by : (f : Failure) (all : List File) (input : List ℕ) → FileFails IsLong (Some all) name before now f → Closes source_spelling all input c (Rose before now) ir (Err f)
     by (F.Fault O.Folder) all input h = elim h.1 [ inl up ↦ inl (up, calls) | inr gone ↦ inr (inl (Missing name other names gone)) ]
@@ -261,7 +260,11 @@ missed_ends c IsLong name files left before now ir f other unsaid names calls ma
     by (F.Fault O.Out) all input h = absurd (let same = h.0 in cc)
     by (F.Fault O.Err) all input h = absurd (let same = h.0 in cc)
     by F.NoMemory all input h = inl tt
-    by failure all input h = long failure all input (file_of name all) refl h.1
+    by failure all input h = too_long failure all input (file_of name all) h.0 refl h.1
+
+-- of a file of which no more is said
+pub long_unsaid : (c : Command) (IsLong : Failure → Type 0) → IsUnsaid c → ((all : List File) (bytes : List ℕ) (e : End) → MayEndOn all c bytes e) → (all : List File) (input bytes : List ℕ) (e : Failure) → IsLong e → 16777216 < length bytes → IsThere all c bytes → Says source_spelling all input c (Err e) ⊎ Comes source_spelling all input c (Err e)
+long_unsaid c IsLong unsaid may all input bytes e is more there = inr (MayOnFile bytes (Err e) unsaid there (may all bytes (Err e)))
 
 -- ---- `audit`
 

@@ -1,5 +1,5 @@
 -- What a folder and a source told, or what they may hold where they told nothing.
-use Rattle.std.proofs.Common.{◌≡◌, ◌∙◌, ◌<◌, ◌≤◌, ◌+◌, ℕ, List, [], ◌∷◌, ◌++◌, length, replicate, sym, ap, subst, refl, inl, inr, append-nil, arith, if◌then◌else◌}
+use Rattle.std.proofs.Common.{◌≡◌, ◌∙◌, ◌<◌, ◌+◌, ℕ, List, [], ◌∷◌, ◌++◌, length, replicate, sym, ap, subst, refl, inl, inr, append-nil, arith, if◌then◌else◌}
 use Rattle.std.specs.Prelude.{Option, Some, None, IsSomeAnd}
 use Rattle.std.specs.Io.KnownBytes.{Consumes, IsAtEnd}
 use Rattle.std.proofs.lemmas.List.{length-append, length-replicate}

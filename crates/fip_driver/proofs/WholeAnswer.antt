@@ -13,7 +13,7 @@ use Rattle.fip_driver.specs.Reply.{out_text}
 use Rattle.command_outcome.specs.Texts.{no_memory_text, folder_fault_text}
 use Rattle.fip_driver.specs.Delivered.{Seen, Tried, Told, ToldFailure, Delivered}
 use Rattle.fip_driver.specs.Answered.{Answered, HasFailed, Explained}
-use Rattle.fip_driver.specs.Ends.{End, Ends, Says, Comes}
+use Rattle.fip_driver.specs.Ends.{End, Ends}
 use Rattle.fip_driver.specs.Outcome.{end_of, IsFault, Closes}
 use Rattle.command_line.specs.Words.{Command, IsCommand}
 use Rattle.fip_driver.specs.Spelling.{Spelling}

@@ -2,16 +2,16 @@
 -- program of the loop form isn't said here, but in `fip_language`'s `Answer`; for `exec` of another program it goes on
 -- here.
 --
--- The causes come in this order: the file is missing; the source is refused, by its report or by the entry; the input
--- has too many bytes. So `check list.fip3` ends with `fault: folder` where there is no such file, with the report of
+-- The causes come in this order: the file is missing; the source or the code is refused, then the entry; the input has
+-- too many bytes. So `check list.fip3` ends with `fault: folder` where there is no such file, with the report of
 -- the source where it breaks a rule, and else with a line for each root.
-use Rattle.std.specs.Prelude.{◌≡◌, ◌⊎◌, ℕ, ◌<◌, ◌≤◌, List, length, Option, Some, None, Result, Ok, Err}
+use Rattle.std.specs.Prelude.{◌≡◌, ◌⊎◌, ℕ, ◌<◌, ◌≤◌, false, List, length, Option, Some, None, Result, Ok, Err}
 use Rattle.std.specs.Io.KnownBytes.{Appends}
 use Rattle.fip_language.specs.declared.limits.TheConstants.{MOST_SOURCE_BYTES, MOST_FILE_BYTES}
-use Rattle.fip_language.specs.declared.rule.Rule.TheVariants.{E61, E74, E75}
+use Rattle.fip_language.specs.declared.rule.Rule.TheVariants.{E61, E70, E74, E75}
 use Rattle.fip_base.specs.Files.{File, file_of}
-use Rattle.command_line.specs.Words.{Command, Check, Compile, Verify, Upgrade, Exec, Run, Eval, Trace, Session, Tasks}
-use Rattle.command_line.specs.Words.{Derive, Audit, Replay, Library, Gen}
+use Rattle.command_line.specs.Words.{Request, Command, Check, Compile, Verify, Upgrade, Exec, Run, Eval, Trace, Session}
+use Rattle.command_line.specs.Words.{Tasks, Derive, Audit, Replay, Library, Gen}
 use Rattle.command_outcome.specs.Failures.{failure_status, failure_text}
 use Rattle.command_outcome.specs.Stages.{IsOfRun, IsOfTasks}
 use Rattle.command_outcome.specs.Successes.{derived_text}
@@ -20,9 +20,12 @@ use Rattle.command_outcome.specs.declared.failure.Failure.TheVariants as F
 use Rattle.command_outcome.specs.declared.failure.Object.TheVariants as O
 use Rattle.fip_trees.specs.Tree.{Program}
 use Rattle.source_report.specs.Report.{bare, IsAccepted, IsMatched, Reports}
+use Rattle.code_file.specs.Plain.{PlainCode}
+use Rattle.source_commands.specs.Codes.{sound_view, IsSoundFile, RefusesCode, IsCodeListing, IsUpgraded, IsUnspelt}
+use Rattle.source_commands.specs.Codes.{names_one, HasFunction}
 use Rattle.source_commands.specs.Judged.{IsJudged}
 use Rattle.source_commands.specs.Roots.{IsListing}
-use Rattle.source_commands.specs.Wanted.{Wanted, Refuses, IsReady}
+use Rattle.source_commands.specs.Wanted.{Wanted, Refuses, IsReady, of_entry}
 use Rattle.fip_driver.specs.Commands.{IsOther, ReadsInput, fetched_name, wanted}
 use Rattle.fip_driver.specs.Spelling.{Spelling, IsOutside}
 
@@ -88,6 +91,38 @@ pub data ComesOf (source input : List ℕ) (c : Command) (w : Wanted) : End → 
       ComesOf source input c w (Err (F.Unsound function at rule))
   Ready : (e : End) → IsReady source w → IsTaken c input → MayEnd c source e → ComesOf source input c w e
 
+-- ---- what is said of a code file
+
+-- those that fetch a code file
+abbrev pub AsksCode : Command → Type 0
+AsksCode (Verify file) = Unit {0}
+AsksCode (Upgrade file out) = Unit {0}
+AsksCode (Run r) = Unit {0}
+AsksCode c = ⊥
+
+-- The command ends so on these bytes: they are no code file, or its code isn't sound; or it is, and its functions are
+-- listed, or no file of the second version spells it, or no function has the entry's name, or the input has too many
+-- bytes.
+pub data SaysOfCode (bytes input : List ℕ) (c : Command) : End → Type 0 where
+  CodeRefused : (failure : Failure) → AsksCode c → RefusesCode bytes failure → SaysOfCode bytes input c (Err failure)
+  CodeListed : (file text : List ℕ) → c ≡ Verify file → IsCodeListing bytes text → SaysOfCode bytes input c (Ok text)
+  CodeUpgraded : (file out text again : List ℕ) → c ≡ Upgrade file out → IsCodeListing bytes text →
+      IsUpgraded bytes again → SaysOfCode bytes input c (Ok text)
+  CodeUnspelt : (file out : List ℕ) (code : PlainCode) → c ≡ Upgrade file out → IsSoundFile bytes code →
+      IsUnspelt code → SaysOfCode bytes input c (Err (F.Refused (bare E61)))
+  NoFunction : (r : Request) (code : PlainCode) → c ≡ Run r → IsSoundFile bytes code →
+      names_one r.entry (sound_view code).functions ≡ false →
+      SaysOfCode bytes input c (Err (F.Refused (of_entry E70 r.entry)))
+  LongRun : (r : Request) → c ≡ Run r → HasFunction bytes r.entry → MOST_FILE_BYTES < length input →
+      SaysOfCode bytes input c (Err (F.BadInput MOST_FILE_BYTES))
+
+-- A run of a function of a code file ends somehow.
+pub record RunsCode (bytes input : List ℕ) (c : Command) : Type 0 where
+  pub request : Request
+  pub is : c ≡ Run request
+  pub function : HasFunction bytes request.entry
+  pub short : length input ≤ MOST_FILE_BYTES
+
 -- ---- what is said of the files
 
 -- what `exec` asks first: that the source has no reply as a program of the loop form
@@ -103,20 +138,23 @@ pub record Checks (spelling : Spelling) (files : List File) (c : Command) (w : W
   pub there : file_of name files ≡ Some source
   pub beside : IsBeside spelling c source
 
+-- The file that is fetched first is there, and has these bytes.
+abbrev pub IsThere : List File → Command → List ℕ → Type 0
+IsThere files c bytes = (name : List ℕ) × (fetched_name c ≡ Some name) × (file_of name files ≡ Some bytes)
+
 -- The command ends so. A missing file of `exec` has a reply of its own.
 pub data Says (spelling : Spelling) (files : List File) (input : List ℕ) (c : Command) : End → Type 0 where
   Missing : (name : List ℕ) → IsOther c → fetched_name c ≡ Some name → file_of name files ≡ None →
       Says spelling files input c (Err (F.Fault O.Folder))
   OnSource : (w : Wanted) (source : List ℕ) (e : End) → Checks spelling files c w source →
       SaysOf source input c w e → Says spelling files input c e
+  OnCode : (bytes : List ℕ) (e : End) → IsThere files c bytes → SaysOfCode bytes input c e →
+      Says spelling files input c e
 
 -- ---- what isn't said of them yet
 
 -- the commands of which no more is said than that a missing file is told
 abbrev pub IsUnsaid : Command → Type 0
-IsUnsaid (Verify file) = Unit {0}
-IsUnsaid (Upgrade file out) = Unit {0}
-IsUnsaid (Run r) = Unit {0}
 IsUnsaid (Audit file proof) = Unit {0}
 IsUnsaid (Replay trace step) = Unit {0}
 IsUnsaid (Library name) = Unit {0}
@@ -138,22 +176,22 @@ abbrev pub MayEndOn : List File → Command → List ℕ → End → Type 0
 MayEndOn files (Audit file proof) bytes e = IsAuditEnd files proof bytes e
 MayEndOn files c bytes e = Unit {0}
 
--- The file that is fetched first is there, and has these bytes.
-abbrev pub IsThere : List File → Command → List ℕ → Type 0
-IsThere files c bytes = (name : List ℕ) × (fetched_name c ≡ Some name) × (file_of name files ≡ Some bytes)
-
 -- The command may end so.
 pub data Comes (spelling : Spelling) (files : List File) (input : List ℕ) (c : Command) : End → Type 0 where
   MayOnSource : (w : Wanted) (source : List ℕ) (e : End) → Checks spelling files c w source →
       ComesOf source input c w e → Comes spelling files input c e
+  MayOnCode : (bytes : List ℕ) (e : End) → IsThere files c bytes → RunsCode bytes input c → IsRunEnd e →
+      Comes spelling files input c e
   MayOnFile : (bytes : List ℕ) (e : End) → IsUnsaid c → IsThere files c bytes → MayEndOn files c bytes e →
       Comes spelling files input c e
   MayOnNone : (e : End) → fetched_name c ≡ None → Comes spelling files input c e
 
--- The answer isn't said: the source has what a command other than `check` wants, or it is none of a source.
+-- The answer isn't said: the source has what a command other than `check` wants, a function of a code file is run, or
+-- it is a command of which no more is said.
 pub data IsOpen (spelling : Spelling) (files : List File) (input : List ℕ) (c : Command) : Type 0 where
   OpenSource : (w : Wanted) (source : List ℕ) → Checks spelling files c w source → IsReady source w → IsTaken c input →
       ((file : List ℕ) → c ≡ Check file → ⊥) → IsOpen spelling files input c
+  OpenCode : (bytes : List ℕ) → IsThere files c bytes → RunsCode bytes input c → IsOpen spelling files input c
   OpenFile : (bytes : List ℕ) → IsUnsaid c → IsThere files c bytes → IsOpen spelling files input c
   OpenNone : fetched_name c ≡ None → IsOpen spelling files input c
 

@@ -50,6 +50,7 @@ pub fn fetch_code<F: Folder>(folder: &mut F, name: &str) -> Result<Vec<u8>, Fail
         (F.faults folder.old) (F.faults folder.new) e) }
     ensures early { IfErr result IsEarlyFailure }
     ensures same { F.files folder.new ≡ F.files folder.old }
+    ensures later { F.faults folder.old ≤ F.faults folder.new }
 {
     match folder.fetch(name, MOST_FILE_BYTES) {
         Ok(bytes) => Ok(bytes),

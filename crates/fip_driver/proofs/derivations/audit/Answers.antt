@@ -1,4 +1,3 @@
-use Rattle.std.proofs.Common.{refl}
 use Rattle.fip_trees.specs.TreeView.{program}
 use Rattle.fip_driver.proofs.SourceEnds.{judged_ends, reported_ends, audit_unfetched}
 use Rattle.fip_driver.proofs.derivations.audit.Goals as goal

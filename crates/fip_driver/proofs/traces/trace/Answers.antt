@@ -3,7 +3,7 @@ use Rattle.command_line.specs.Words as W
 use Rattle.command_line.specs.View.{room_of}
 use Rattle.source_commands.specs.Wanted.{Compiled}
 use Rattle.fip_driver.specs.Ends.{IsTraceEnd}
-use Rattle.fip_driver.specs.Outcome.{end_of, compiled_end}
+use Rattle.fip_driver.specs.Outcome.{end_of}
 use Rattle.fip_driver.proofs.SourceEnds.{trace_stored, input_ends, kept_ends, source_ends, fetch_ends}
 use Rattle.fip_driver.proofs.traces.trace.Goals as goal
 

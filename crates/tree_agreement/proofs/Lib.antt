@@ -1,0 +1,15 @@
+pub mod Values
+pub mod Operating
+pub mod PlainFollows
+pub mod ReadingFollows
+pub mod CellFollows
+pub mod TakeFollows
+pub mod Arriving
+pub mod Inside
+pub mod Handing
+pub mod Entering
+pub mod Resuming
+pub mod Stepping
+pub mod Loading
+pub mod Running
+pub mod Examples

@@ -1,0 +1,33 @@
+// The laws on lowered code of typed programs. Each is the contract of a function that does nothing.
+ghost use Rattle.std.specs.Prelude.{◌≡◌, ◌≢◌, ℕ, Some};
+ghost use Rattle.fip_language.specs.Meaning.{Answer, Stuck};
+ghost use Rattle.fip_language.specs.Values.{Values};
+ghost use Rattle.fip_trees.specs.Tree.{Program};
+ghost use Rattle.type_check.specs.Typing.{IsFilled};
+ghost use Rattle.type_soundness.specs.Formed.{IsFormed};
+ghost use Rattle.code_runs.specs.Codes.{PlainCode};
+ghost use Rattle.flat_meaning.specs.Meaning.{flat_meaning};
+ghost use Rattle.tree_runs.specs.Runs.{begun, entry};
+ghost use Rattle.lowered_code.specs.Bodies.{function_of};
+ghost use Rattle.lowered_code.specs.Functions.{AreLowered};
+ghost use Rattle.lowered_runs.specs.Distinct.{AreDistinct};
+ghost use Rattle.lowered_runs.specs.Ends.{EndsIn};
+ghost use Rattle.lowered_runs.specs.Guarded.{IsGuarded, Takes};
+ghost use Rattle.lowered_runs.specs.Lowered.{all_instrs};
+
+/// In a typed program each match that an evaluation comes to has a value of the match's type, and each call has
+/// arguments of its parameters' types. For who leaves out a test that no value of the type fails.
+pub fn typed_programs_keep_their_types()
+    ensures law { (program : Program) → IsFormed program → IsFilled program → IsGuarded program }
+{}
+
+/// A run on trees of the lowered code of a typed program, on arguments of their types, ends as the instance means: with
+/// the same values and calls left, in the same trap, or out of calls or frames. For who runs code in place of its
+/// program.
+pub fn typed_code_means_its_program()
+    ensures law { (code : PlainCode) (program : Program) → AreLowered program (all_instrs code) →
+        IsFormed program → IsFilled program → AreDistinct program → (g f : ℕ) (arguments : Values)
+        (calls frames : ℕ) (answer : Answer) → function_of program.instances g ≡ Some f →
+        Takes program g arguments → (flat_meaning program g arguments calls frames).answer ≡ answer →
+        answer ≢ Stuck → EndsIn code (begun (entry f arguments frames) calls) answer }
+{}

@@ -1,0 +1,6 @@
+// Lowered code of a typed program means what the program means: laws, no code.
+#![tactic(auto)]
+
+mod laws;
+
+pub use laws::{typed_code_means_its_program, typed_programs_keep_their_types};

@@ -1,0 +1,12 @@
+pub mod Leads
+pub mod Lists
+pub mod Statics
+pub mod Arguments
+pub mod Naming
+pub mod Later
+pub mod Handing
+pub mod Matching
+pub mod Choosing
+pub mod Bodies
+pub mod Starts
+pub mod Whole

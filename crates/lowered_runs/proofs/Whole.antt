@@ -1,0 +1,119 @@
+-- Runs of a whole code go as their program means.
+use Rattle.std.proofs.Common.{◌≡◌, ◌≢◌, ℕ, zero, suc, ◌≤◌, ◌+◌, ◌-◌, List, [], ◌∷◌, Option, Some, None, Bool, refl, sym, ap, ◌∙◌, subst, ⊎_elim, arith, slice_get}
+use Rattle.std.specs.Prelude.{option_map}
+use Rattle.std.proofs.lemmas.Option.{slice_get-map}
+use Rattle.std.proofs.lemmas.Bool.{cases_lt}
+use Rattle.fip_language.specs.Values.{Values, End, More}
+use Rattle.fip_language.specs.Every.{Every}
+use Rattle.fip_language.specs.Meaning.{Answer, Gives, Trap, Out, Deep, Stuck, nothing_bound}
+use Rattle.fip_trees.specs.Tree.{Instance, Program}
+use Rattle.cell_code.specs.declared.code.Instr.{Instr}
+use Rattle.code_runs.specs.Codes.{PlainFunction, PlainCode, function_at, instr_in}
+use Rattle.flat_meaning.specs.Registers.{frame_words}
+use Rattle.flat_meaning.specs.Meaning.{bind_binders, body_run, calls_of, flat_meaning}
+use Rattle.tree_runs.specs.Contents.{Contents, first_contents}
+use Rattle.tree_runs.specs.States.{Frame, State}
+use Rattle.tree_runs.specs.Steps.{returned}
+use Rattle.tree_runs.specs.Runs.{Run, Over, begun, later, after, entry}
+use Rattle.tree_runs.proofs.Stays.{over_stays}
+use Rattle.lowered_code.specs.Bodies.{Return, has_function, one_more, function_of}
+use Rattle.lowered_code.specs.Functions.{known_at_start, IsFunction, AreLowered}
+use Rattle.lowered_runs.specs.Distinct.{IsDistinct, AreDistinct, in_block}
+use Rattle.lowered_runs.specs.Guarded.{Takes, IsGuarded}
+use Rattle.lowered_runs.specs.Ends.{EndsIn}
+use Rattle.lowered_runs.specs.Lowered.{instrs_of, all_instrs}
+use Rattle.lowered_runs.proofs.Leads.{At, Ends, ComesTo, LeadsTo, stays, coming, answer_coming}
+use Rattle.lowered_runs.proofs.Lists.{same_some}
+use Rattle.lowered_runs.proofs.Bodies.{Begins, begin, Defined, CallsRun, block_runs, clear_bound}
+use Rattle.lowered_runs.proofs.Starts.{starts}
+
+every_at : {A : Type 0} (P : A → Type 0) (xs : List A) (i : ℕ) (x : A) → Every P xs → slice_get xs i ≡ Some x → P x
+every_at P [] i x h e = absurd (cc)
+every_at P (y ∷ ys) zero x h e = subst P (same_some y x e) h.0
+every_at P (y ∷ ys) (suc i) x h e = every_at P ys i x h.1 e
+
+-- an instance with a function is there
+one_more_some : (b : Bool) (o : Option ℕ) (f : ℕ) → one_more b o ≡ Some f → (e : ℕ) × (o ≡ Some e)
+one_more_some b None f h = absurd (cc)
+one_more_some b (Some e) f h = (e, refl)
+
+function_there : (ds : List Instance) (g f : ℕ) → function_of ds g ≡ Some f → (d : Instance) × (slice_get ds g ≡ Some d)
+function_there [] g f h = absurd (cc)
+function_there (d ∷ ds) zero f h = (d, refl)
+function_there (d ∷ ds) (suc g) f h = let e = one_more_some (has_function d.kind) (function_of ds g) f h in function_there ds g e.0 e.1
+
+mapped : (o : Option PlainFunction) (is : List Instr) → option_map instrs_of o ≡ Some is → (h : PlainFunction) × (o ≡ Some h) × (h.instrs ≡ is)
+mapped None is e = absurd (cc)
+mapped (Some h) is e = (h, refl, same_some h.instrs is e)
+
+module _ (code : PlainCode) (program : Program) (lowered : AreLowered program (all_instrs code)) (guarded : IsGuarded program) (distinct : AreDistinct program) where
+  -- the function that is there, with its instructions
+  coded : (f : ℕ) (is : List Instr) → slice_get (all_instrs code) f ≡ Some is → (h : PlainFunction) × (function_at code f ≡ Some h) × (h.instrs ≡ is)
+  coded f is e = mapped (slice_get code.functions f) is (sym (slice_get-map instrs_of code.functions f) ∙ e)
+
+  defined : Defined code program
+  defined g f n =
+      let d = function_there program.instances g f n in
+      let l = lowered.of g f d.0 n d.1 in
+      let c = coded f l.1 l.2 in
+      (c.0, c.1)
+
+  body_goes : (m : ℕ) → CallsRun code program m → (g f : ℕ) (d : Instance) (n : ℕ) (is : List Instr) (h : PlainFunction) (vs : Values) (cs : Contents) (waiting : List Frame) (free left : ℕ) → slice_get program.instances g ≡ Some d → function_at code f ≡ Some h → h.instrs ≡ is → IsFunction lowered.setting n is d → Takes program g vs → Begins cs vs → left ≤ m → LeadsTo code (At (begin f cs waiting free) left) (answer_coming (body_run (calls_of program m) free (Some d) vs left).answer (λ ws l. coming l (returned code waiting free ws)))
+  body_goes m run g f d n is h vs cs waiting free left there here same fun takes b le =
+      let dis = every_at IsDistinct program.instances g d distinct there in
+      block_runs code program lowered.setting lowered.so defined m run (frame_words d) f is
+      (λ p i e. ap (λ o. instr_in o p) here ∙ ap (λ xs. slice_get xs p) same ∙ e) waiting free
+      d.body Return 0 (known_at_start lowered.setting n d) fun.end fun.after (bind_binders nothing_bound d.binders vs) cs left
+      (λ ws l. coming l (returned code waiting free ws)) fun.body
+      dis.body
+      (clear_bound nothing_bound d.binders vs (in_block d.body) dis.others (λ x k. refl)) (guarded.by m g d vs free left there (takes d there))
+      (starts lowered.setting n d cs vs dis b) tt le (λ ws l. stays code (coming l (returned code waiting free ws)))
+
+  pub calls_run : (m : ℕ) → CallsRun code program m
+  calls_run zero g f vs cs waiting free left n takes b lt = absurd (omega (arith, lt))
+  calls_run (suc m) g f vs cs waiting free left n takes b lt =
+      let d = function_there program.instances g f n in
+      let l = lowered.of g f d.0 n d.1 in
+      let c = coded f l.1 l.2 in
+      subst (λ o. LeadsTo code (At (begin f cs waiting free) left) (answer_coming (body_run (calls_of program m) free o vs left).answer (λ ws k. coming k (returned code waiting free ws)))) (sym d.1)
+      (body_goes m (calls_run m) g f d.0 l.0 l.1 c.0 vs cs waiting free left d.1 c.1 c.2 l.3 takes b (omega (arith, lt)))
+
+  answer_comes : (x a : Answer) → x ≡ a → a ≢ Stuck → ComesTo code (answer_coming x (λ ws l. Ends (Gives ws l))) a
+  answer_comes (Gives vs k) a e n = sym e
+  answer_comes (Trap kind line col) a e n = sym e
+  answer_comes Out a e n = sym e
+  answer_comes Deep a e n = sym e
+  answer_comes Stuck a e n = absurd (n (sym e))
+
+  begins : (vs : Values) → Begins (first_contents vs) vs
+  begins End i v e = absurd (cc)
+  begins (More u vs) zero v e = cc
+  begins (More u vs) (suc i) v e = begins vs i v e
+
+  pub runs_end : (g f : ℕ) (vs : Values) (calls frames : ℕ) (a : Answer) → function_of program.instances g ≡ Some f → Takes program g vs → (flat_meaning program g vs calls frames).answer ≡ a → a ≢ Stuck → EndsIn code (begun (entry f vs frames) calls) a
+  unfolding flat_meaning
+  runs_end g f vs zero frames a n takes e s = record { enough = 0; last = entry f vs frames; left = 0; steps = 0; is = ap (λ x. Over x (entry f vs frames) 0 0) e }
+  runs_end g f vs (suc left) frames a n takes e s =
+      (calls_run (suc left) g f vs (first_contents vs) [] frames left n takes (begins vs) (omega arith)).by a
+      (answer_comes (calls_of program (suc left) frames g vs left).answer a e s) 0
+
+-- a run has one end
+
+after_more : (code : PlainCode) (m n : ℕ) (r : Run) → after code (m + n) r ≡ after code n (after code m r)
+after_more code zero n r = ap (λ k. after code k r) (let e : 0 + n ≡ n = omega arith in e)
+after_more code (suc m) n r = ap (λ k. after code k r) (let e : suc m + n ≡ suc (m + n) = omega arith in e) ∙ after_more code m n (later code r)
+
+later_same : (code : PlainCode) (r : Run) (m n : ℕ) (a : Answer) (s : State) (left steps : ℕ) → m ≤ n → after code m r ≡ Over a s left steps → after code n r ≡ Over a s left steps
+later_same code r m n a s left steps le e =
+    ap (λ k. after code k r) (let q : n ≡ m + (n - m) = omega (arith, le) in q)
+    ∙ after_more code m (n - m) r ∙ ap (after code (n - m)) e ∙ over_stays code (n - m) a s left steps
+
+same_answer : (a b : Answer) (s t : State) (l m i j : ℕ) → Over a s l i ≡ Over b t m j → a ≡ b
+same_answer a b s t l m i j e = cc
+
+pub one_end : (code : PlainCode) (r : Run) (a b : Answer) → EndsIn code r a → EndsIn code r b → a ≡ b
+one_end code r a b p q =
+    ⊎_elim
+    (λ lt. same_answer a b p.last q.last p.left q.left p.steps q.steps (sym (later_same code r p.enough q.enough a p.last p.left p.steps (omega (arith, lt)) p.is) ∙ q.is))
+    (λ le. same_answer a b p.last q.last p.left q.left p.steps q.steps (sym p.is ∙ later_same code r q.enough p.enough b q.last q.left q.steps le q.is))
+    (cases_lt p.enough q.enough)

@@ -1,0 +1,4 @@
+pub mod Distinct
+pub mod Ends
+pub mod Lowered
+pub mod Guarded

@@ -1,0 +1,30 @@
+// The laws on runs of lowered code. Each is the contract of a function that does nothing.
+ghost use Rattle.std.specs.Prelude.{◌≡◌, ◌≢◌, ℕ, Some};
+ghost use Rattle.fip_language.specs.Meaning.{Answer, Stuck};
+ghost use Rattle.fip_language.specs.Values.{Values};
+ghost use Rattle.fip_trees.specs.Tree.{Program};
+ghost use Rattle.code_runs.specs.Codes.{PlainCode};
+ghost use Rattle.flat_meaning.specs.Meaning.{flat_meaning};
+ghost use Rattle.tree_runs.specs.Runs.{Run, begun, entry};
+ghost use Rattle.lowered_code.specs.Bodies.{function_of};
+ghost use Rattle.lowered_code.specs.Functions.{AreLowered};
+ghost use Rattle.lowered_runs.specs.Distinct.{AreDistinct};
+ghost use Rattle.lowered_runs.specs.Ends.{EndsIn};
+ghost use Rattle.lowered_runs.specs.Guarded.{IsGuarded, Takes};
+ghost use Rattle.lowered_runs.specs.Lowered.{all_instrs};
+
+/// A run on trees of lowered code, from the function of an instance, ends as the instance means: with the same values
+/// and calls left, in the same trap, or out of calls or frames. For who runs code in place of its program. It is said
+/// of programs that keep their types.
+pub fn lowered_code_means_its_program()
+    ensures law { (code : PlainCode) (program : Program) → AreLowered program (all_instrs code) →
+        IsGuarded program → AreDistinct program → (g f : ℕ) (arguments : Values) (calls frames : ℕ)
+        (answer : Answer) → function_of program.instances g ≡ Some f → Takes program g arguments →
+        (flat_meaning program g arguments calls frames).answer ≡ answer → answer ≢ Stuck →
+        EndsIn code (begun (entry f arguments frames) calls) answer }
+{}
+
+/// A run ends in one answer at most. For who asks whether it can end otherwise than its program means.
+pub fn a_tree_run_has_one_end()
+    ensures law { (code : PlainCode) (r : Run) (a b : Answer) → EndsIn code r a → EndsIn code r b → a ≡ b }
+{}

@@ -1,8 +1,8 @@
 -- A word stands for one tree, and what registers stand for where kinds are weakened or a register is written.
 use Rattle.std.proofs.Common.{◌≡◌, ℕ, zero, suc, ◌<◌, Bool, true, List, [], ◌∷◌, length, map, Option, Some, None, slice_get, refl, sym, ap, ap₂, ◌∙◌, subst, arith, ◌==◌, if◌then◌else◌}
 use Rattle.std.proofs.lemmas.Option.{none-some, same_Some, option_and_then_some}
-use Rattle.fip_language.specs.Values.{Value, End, More}
-use Rattle.fip_language.specs.Table.{Table, Shape, shapes}
+use Rattle.fip_language.specs.Values.{Value, Values, End, More}
+use Rattle.fip_language.specs.Table.{Table, Shape, shapes, HasType, HaveTypes}
 use Rattle.fip_language.specs.Store.{Cell, Placed, PlacedInt, Bare, At, Parts, NoParts, MoreParts, word_of, words_of, value_of, values_of}
 use Rattle.cell_code.specs.declared.kind.Kind.{Kind}
 use Rattle.cell_code.specs.declared.kind.Kind.TheVariants.{Gone, Scalar, Owned, Lent, Credit}
@@ -25,7 +25,7 @@ use Rattle.kind_soundness.proofs.Giving.{scalar_of, owned_of}
 use Rattle.kind_soundness.proofs.Agree.{tree_agree}
 use Rattle.kind_soundness.proofs.Reaching.{same_tree}
 use Rattle.row_soundness.proofs.Reading.{int_is}
-use Rattle.tree_agreement.specs.Agreement.{IsWordOf, type_in, Shows, AreShown}
+use Rattle.tree_agreement.specs.Agreement.{IsWordOf, AreWordsOf, type_in, Shows, AreShown}
 
 -- ---- one tree for a word
 
@@ -242,3 +242,23 @@ given_shown tb s ks ws cs (t ∷ ts) (r ∷ rs) left e a = option_and_then_some 
 -- a word stands for one value
 pub one_value : (tb : Table) (s : Store) (t w : ℕ) (v u : Value) → IsWordOf tb s t w v → IsWordOf tb s t w u → v ≡ u
 one_value tb s t w v u i j = sym i.2 ∙ value_is tb s t w i.0 u i.1 j
+
+-- ---- values have the types of their words
+
+mutual
+  pub stands_type : (tb : Table) (s : Store) (t : ℕ) (x : Placed) → Stands tb s t x → HasType tb t (value_of x)
+  stands_type tb s zero (PlacedInt i) g = g
+  stands_type tb s zero (Bare c) g = absurd g
+  stands_type tb s zero (At p c xs) g = absurd g
+  stands_type tb s (suc t) (PlacedInt i) g = absurd g
+  stands_type tb s (suc t) (Bare c) g = (g.0, g.1, subst (λ ts. HaveTypes tb ts End) (sym g.2) tt)
+  stands_type tb s (suc t) (At p c xs) g = (g.2, g.3, stand_types tb s g.2.fields xs g.4)
+
+  pub stand_types : (tb : Table) (s : Store) (ts : List ℕ) (xs : Parts) → StandAll tb s ts xs → HaveTypes tb ts (values_of xs)
+  stand_types tb s [] NoParts g = tt
+  stand_types tb s [] (MoreParts x xs) g = absurd g
+  stand_types tb s (t ∷ ts) NoParts g = absurd g
+  stand_types tb s (t ∷ ts) (MoreParts x xs) g = (stands_type tb s t x g.0, stand_types tb s ts xs g.1)
+
+pub words_types : (tb : Table) (s : Store) (ts ws : List ℕ) (vs : Values) → AreWordsOf tb s ts ws vs → HaveTypes tb ts vs
+words_types tb s ts ws vs a = subst (HaveTypes tb ts) a.3 (stand_types tb s ts a.0 a.2)

@@ -2,7 +2,7 @@
 ghost use Rattle.std.specs.Prelude.{◌≡◌, ℕ, pos, List, [], ◌∷◌};
 ghost use Rattle.fip_language.specs.Values.{Value, Values};
 ghost use Rattle.fip_language.specs.Meaning.{Answer};
-ghost use Rattle.fip_language.specs.Table.{Table};
+ghost use Rattle.fip_language.specs.Table.{Table, HaveTypes};
 ghost use Rattle.fip_language.specs.Example.{empty, item, pair};
 ghost use Rattle.code_runs.specs.Cells.{Store};
 ghost use Rattle.code_runs.specs.States.{State};
@@ -19,13 +19,19 @@ ghost use Rattle.sound_code.specs.Example.{reversal};
 ghost use Rattle.code_separation.specs.Codes.{run_code, HasLiterals, AreKinds};
 ghost use Rattle.code_separation.specs.Alive.{IsAlive};
 ghost use Rattle.code_separation.specs.Starts.{IsStart};
-ghost use Rattle.tree_agreement.specs.Agreement.{IsWordOf, IsSame, IsSameNext};
+ghost use Rattle.tree_agreement.specs.Agreement.{IsWordOf, AreWordsOf, IsSame, IsSameNext};
 ghost use Rattle.tree_agreement.specs.Runs.{BeginsWith, IsSameEnd, IsSameRun};
 
 /// A word of a type stands for one value at most. For who asks whether a word could be read in two ways.
 pub fn a_word_stands_for_one_value()
     ensures law { (types : Table) (s : Store) (type word : ℕ) (v u : Value) → IsWordOf types s type word v →
         IsWordOf types s type word u → v ≡ u }
+{}
+
+/// Values that words of some types stand for have these types. For who reads the results of a machine.
+pub fn words_stand_for_values_of_their_types()
+    ensures law { (types : Table) (s : Store) (ts words : List ℕ) (values : Values) →
+        AreWordsOf types s ts words values → HaveTypes types ts values }
 {}
 
 /// The first registers of an entry stand for its arguments. For who doubts that a run has some.

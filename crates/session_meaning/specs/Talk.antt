@@ -26,8 +26,8 @@ use Rattle.command_outcome.specs.Texts.{line_end, trap_text, out_of_calls_text, 
 use Rattle.session_meaning.specs.Lines.{Given, Held, Fresh, Line, Calls, Shows, GivesUp, SpellsLine}
 use Rattle.session_meaning.specs.Typed.{IsValue, IsEntry}
 
--- the program of a session with what is found of its instances, the words of its store, and the calls and frames of
--- each run
+-- the program of a session with what is found of its instances (its groups and stack numbers, `AreMembers`), the words
+-- of its store, and the calls and frames of each run
 pub record Setting : Type 0 where
   pub program : Program
   pub members : List Member

@@ -2,7 +2,7 @@
 -- turns, and none of that shows: each gets the answer that it would have alone.
 --
 -- `rev(Cons(1, Nil), Nil)` and `rev(Nil, Nil)` answer `0: Cons(1, Nil)` and `1: Nil`, whosever turn it is when.
-use Rattle.std.specs.Prelude.{◌≡◌, ℕ, suc, ◌+◌, ◌<◌, ◌≤◌, ◌⊎◌, List, [], ◌∷◌, ◌++◌, length, map, codes}
+use Rattle.std.specs.Prelude.{◌≡◌, ℕ, suc, ◌+◌, ◌<◌, ◌≤◌, ◌⊎◌, List, [], ◌∷◌, ◌++◌, length, map, codes, Result, Ok, Err}
 use Rattle.std.specs.Fmt.{decimal}
 use Rattle.fip_language.specs.Core.{Name}
 use Rattle.fip_language.specs.Values.{Values, End, More, words_needed_by_all}
@@ -12,6 +12,8 @@ use Rattle.fip_language.specs.Meaning.{Answer, Gives}
 use Rattle.fip_base.specs.declared.plain.Param.{Param}
 use Rattle.fip_trees.specs.Tree.{Instance, Program}
 use Rattle.command_outcome.specs.Texts.{line_end}
+use Rattle.command_outcome.specs.declared.failure.Failure.{Failure}
+use Rattle.command_outcome.specs.declared.failure.Failure.TheVariants as F
 use Rattle.session_meaning.specs.Lines.{Parts, SpellsTask}
 use Rattle.session_meaning.specs.Typed.{AreValues, IsEntry}
 use Rattle.session_meaning.specs.Talk.{Setting, answer_of, EndText}
@@ -81,10 +83,10 @@ TaskLines o n (t ∷ ts) text = (line : List ℕ) × (rest : List ℕ)
     × TaskText o t (answer_of o t.entry t.values) line
     × (text ≡ decimal n ++ (codes ": " ++ (line ++ rest))) × TaskLines o (suc n) ts rest
 
--- what a list of tasks comes to
-pub data Comes (o : Setting) (lines : List (List ℕ)) : Type 0 where
-  BadTask : (k : ℕ) → IsBadTask o.program lines k → Comes o lines
-  TooSmall : (tasks : List Task) → AreTasks o.program lines tasks → length lines ≤ most_tasks →
-      o.words < words_of_tasks tasks → Comes o lines
+-- What a list of tasks comes to: the text on out, or the first line that is no task, or that the store is too small.
+pub data Comes (o : Setting) (lines : List (List ℕ)) : Result (List ℕ) Failure → Type 0 where
+  Bad : (k : ℕ) → IsBadTask o.program lines k → Comes o lines (Err (F.BadTask k))
+  Small : (tasks : List Task) → AreTasks o.program lines tasks → length lines ≤ most_tasks →
+      o.words < words_of_tasks tasks → Comes o lines (Err (F.TooSmall (words_of_tasks tasks) o.words))
   Answered : (tasks : List Task) (text : List ℕ) → AreTasks o.program lines tasks → length lines ≤ most_tasks →
-      words_of_tasks tasks ≤ o.words → TaskLines o 0 tasks text → Comes o lines
+      words_of_tasks tasks ≤ o.words → TaskLines o 0 tasks text → Comes o lines (Ok text)

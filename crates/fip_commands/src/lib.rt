@@ -1,15 +1,14 @@
 // What the commands do with an input: runs, evaluations, sessions, tasks and traces, from bytes to bytes, or to what
-// keeps them from them. What they do before, to a source or to a code, is in `source_commands`, whose calls stand here
-// too.
+// keeps them from them. What they do before, to a source or to a code, is in `source_commands`, and the evaluation in
+// `eval_command`; their calls stand here too.
 #![tactic(auto)]
 
-mod evaluation;
 mod generated;
 mod running;
 mod sessions;
 mod traces;
 
-pub use evaluation::evaluate;
+pub use eval_command::evaluate;
 pub use generated::{generate, library};
 pub use running::run;
 pub use sessions::{session, tasks};

@@ -1,19 +1,21 @@
 -- A command ends with one thing at most, where it is said; and then its answer isn't open.
-use Rattle.std.proofs.Common.{◌≡◌, ◌∙◌, ℕ, List, sym, ap, subst, refl, arith}
+use Rattle.std.proofs.Common.{◌≡◌, ◌∙◌, ℕ, List, sym, ap, subst, refl, arith, []}
 use Rattle.std.specs.Prelude.{Option, Some, None, Ok, Err}
 use Rattle.std.proofs.lemmas.Option.{none-some, same_Some}
 use Rattle.fip_language.specs.declared.Place.{Place}
 use Rattle.fip_base.specs.Files.{File, file_of}
 use Rattle.fip_base.specs.declared.refusal.Refusal.{Refusal}
-use Rattle.command_line.specs.Words.{Command, Check, Verify, Upgrade, Run, Audit, Replay, Library, Gen}
+use Rattle.command_line.specs.Words.{Command, Check, Verify, Upgrade, Run, Audit, Replay, Library, Gen, Eval}
 use Rattle.command_outcome.specs.declared.failure.Failure.TheVariants as F
+use Rattle.eval_command.specs.EvalAnswer.{Evaluates}
+use Rattle.eval_command.proofs.Once.{evaluated_once, evaluated_ready}
 use Rattle.source_report.specs.Same.{AreSame, offset}
 use Rattle.source_commands.specs.Roots.{IsListing}
-use Rattle.source_commands.specs.Wanted.{Wanted, Lawful, IsReady}
+use Rattle.source_commands.specs.Wanted.{Wanted, Lawful, Root, Refuses, IsReady}
 use Rattle.source_commands.proofs.Once.{listing_once, listing_ready, refused_once, refused_not_ready}
 use Rattle.fip_driver.specs.Answered.{at_offset, without_lines}
 use Rattle.fip_driver.specs.Commands.{ReadsInput, fetched_name, wanted}
-use Rattle.fip_driver.specs.Ends.{End, SaysOf, Refused, Listed, LongInput, IsTaken, Checks, Says, Missing, OnSource, OnCode, AsksCode, SaysOfCode, IsUnsaid, IsThere, IsOpen, OpenSource, OpenCode, OpenFile, OpenNone}
+use Rattle.fip_driver.specs.Ends.{End, SaysOf, Refused, Listed, LongInput, Evaluated, IsTaken, Checks, Says, Missing, OnSource, OnCode, AsksCode, SaysOfCode, IsUnsaid, IsUnsaidOn, IsThere, IsOpen, OpenSource, OpenCode, OpenFile, OpenNone}
 use Rattle.fip_driver.proofs.OneCode.{says_asks, runs_asks, code_once, code_not_open}
 use Rattle.fip_driver.specs.Spelling.{Spelling}
 
@@ -39,21 +41,60 @@ listed_reads c file same reads = subst ReadsInput same reads
 listed_fits : (source text : List ℕ) (c : Command) (w : Wanted) (file : List ℕ) → c ≡ Check file → wanted c ≡ Some w → IsListing source text → IsReady source w
 listed_fits source text c w file same wants h = subst (IsReady source) (sym (listed_wants c w file same wants)) (listing_ready source text h)
 
+-- what the words of `eval` ask for
+abbrev entry_of : Command → List ℕ
+entry_of (Eval file entry calls frames) = entry
+entry_of c = []
+
+abbrev calls_of : Command → ℕ
+calls_of (Eval file entry calls frames) = calls
+calls_of c = 0
+
+abbrev frames_of : Command → ℕ
+frames_of (Eval file entry calls frames) = frames
+frames_of c = 0
+
+evaluated_wants : (c : Command) (w : Wanted) (file entry : List ℕ) (calls frames : ℕ) → c ≡ Eval file entry calls frames → wanted c ≡ Some w → w ≡ Root entry
+evaluated_wants c w file entry calls frames same wants = sym (same_Some (Root entry) w (subst (λ c. wanted c ≡ Some w) same wants))
+
+evaluated_fits : (source input : List ℕ) (c : Command) (w : Wanted) (file entry : List ℕ) (calls frames : ℕ) (e : End) → c ≡ Eval file entry calls frames → wanted c ≡ Some w → Evaluates source entry input calls frames e → IsReady source w
+evaluated_fits source input c w file entry calls frames e same wants h = subst (IsReady source) (sym (evaluated_wants c w file entry calls frames same wants)) (evaluated_ready source entry input calls frames e h)
+
+-- the same words ask for the same
+evaluated_same : (source input file entry other name : List ℕ) (calls frames m n : ℕ) (c : Command) (e : End) → c ≡ Eval file entry calls frames → c ≡ Eval other name m n → Evaluates source entry input calls frames e → Evaluates source name input m n e
+evaluated_same source input file entry other name calls frames m n c e same is h =
+    let one = sym same ∙ is in
+    subst (λ x. Evaluates source x input m n e) (ap entry_of one)
+    (subst (λ x. Evaluates source entry input x n e) (ap calls_of one)
+    (subst (λ x. Evaluates source entry input calls x e) (ap frames_of one) h))
+
+evaluated_reads : (c : Command) (file entry : List ℕ) (calls frames : ℕ) → c ≡ Eval file entry calls frames → ReadsInput c
+evaluated_reads c file entry calls frames same = subst ReadsInput (sym same) tt
+
 source_once : (source input : List ℕ) (c : Command) (w : Wanted) (d e : End) → wanted c ≡ Some w → SaysOf source input c w d → SaysOf source input c w e → without_lines d ≡ without_lines e
 source_once source input c w d e wants (Refused q h) (Refused r k) = same_refusal q r (refused_once source w q r h k)
 source_once source input c w d e wants (Refused q h) (Listed file text same k) = absurd (refused_not_ready source w q h (listed_fits source text c w file same wants k))
 source_once source input c w d e wants (Refused q h) (LongInput ready reads more) = absurd (refused_not_ready source w q h ready)
+source_once source input c w d e wants (Refused q h) (Evaluated file entry calls frames f same le k) = absurd (refused_not_ready source w q h (evaluated_fits source input c w file entry calls frames f same wants k))
 source_once source input c w d e wants (Listed file text same h) (Refused r k) = absurd (refused_not_ready source w r k (listed_fits source text c w file same wants h))
 source_once source input c w d e wants (Listed file text same h) (Listed other more is k) = ap (λ t. Ok t) (listing_once source text more h k)
 source_once source input c w d e wants (Listed file text same h) (LongInput ready reads more) = absurd (listed_reads c file same reads)
+source_once source input c w d e wants (Listed file text same h) (Evaluated other entry calls frames f is le k) = absurd (listed_reads c file same (evaluated_reads c other entry calls frames is))
 source_once source input c w d e wants (LongInput ready reads more) (Refused r k) = absurd (refused_not_ready source w r k ready)
 source_once source input c w d e wants (LongInput ready reads more) (Listed file text same k) = absurd (listed_reads c file same reads)
 source_once source input c w d e wants (LongInput ready reads more) (LongInput r s m) = refl
+source_once source input c w d e wants (LongInput ready reads more) (Evaluated file entry calls frames f same le k) = absurd (omega (arith, more, le))
+source_once source input c w d e wants (Evaluated file entry calls frames f same le h) (Refused r k) = absurd (refused_not_ready source w r k (evaluated_fits source input c w file entry calls frames f same wants h))
+source_once source input c w d e wants (Evaluated file entry calls frames f same le h) (Listed other text is k) = absurd (listed_reads c other is (evaluated_reads c file entry calls frames same))
+source_once source input c w d e wants (Evaluated file entry calls frames f same le h) (LongInput ready reads more) = absurd (omega (arith, more, le))
+source_once source input c w d e wants (Evaluated file entry calls frames f same le h) (Evaluated other name m n g is ge k) =
+    ap without_lines (evaluated_once source name input m n f g (evaluated_same source input file entry other name calls frames m n c f same is h) k)
 
-source_not_open : (source input : List ℕ) (c : Command) (w : Wanted) (e : End) → SaysOf source input c w e → IsReady source w → IsTaken c input → ((file : List ℕ) → c ≡ Check file → ⊥) → ⊥
+source_not_open : (source input : List ℕ) (c : Command) (w : Wanted) (e : End) → SaysOf source input c w e → IsReady source w → IsTaken c input → IsUnsaidOn c → ⊥
 source_not_open source input c w e (Refused r h) ready taken other = refused_not_ready source w r h ready
-source_not_open source input c w e (Listed file text same h) ready taken other = other file same
+source_not_open source input c w e (Listed file text same h) ready taken other = subst IsUnsaidOn same other
 source_not_open source input c w e (LongInput r reads more) ready taken other = let le = taken reads in omega (arith, more, le)
+source_not_open source input c w e (Evaluated file entry calls frames f same le h) ready taken other = subst IsUnsaidOn same other
 
 -- ---- on files
 

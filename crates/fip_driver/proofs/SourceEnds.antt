@@ -9,22 +9,24 @@ use Rattle.fip_base.specs.declared.refusal.Refusal.{Refusal}
 use Rattle.fip_base.specs.Faults.{Rose}
 use Rattle.fip_base.specs.Files.{File, file_of, HoldsFile}
 use Rattle.fip_trees.specs.Tree.{Program}
-use Rattle.command_line.specs.Words.{Command, Check, Compile, Exec, Trace, Derive, Audit}
+use Rattle.command_line.specs.Words.{Command, Check, Compile, Exec, Trace, Derive, Audit, Eval}
 use Rattle.command_outcome.specs.Stages.{IsOfRun, IsOfTasks, IsOfTrace}
 use Rattle.command_outcome.specs.Successes.{derived_text}
 use Rattle.command_outcome.specs.declared.failure.Failure.{Failure}
 use Rattle.command_outcome.specs.declared.failure.Failure.TheVariants as F
 use Rattle.command_outcome.specs.declared.failure.Object.TheVariants as O
 use Rattle.source_report.specs.Report.{bare, IsMatched, Reports, TooLong}
+use Rattle.eval_command.specs.EvalAnswer.{Evaluates, OrNoMemory}
+use Rattle.source_commands.specs.Judged.{IsJudged}
 use Rattle.source_commands.specs.Roots.{IsListing}
-use Rattle.source_commands.specs.Wanted.{Wanted, Lawful, IsReady, IsRefusedBy, KeepsFrom, KeepsFromFile}
+use Rattle.source_commands.specs.Wanted.{Wanted, Lawful, Root, IsReady, IsRefusedBy, KeepsFrom, KeepsFromFile}
 use Rattle.source_commands.proofs.Once.{listing_ready}
 use Rattle.source_commands.specs.declared.files.Compiled.{Compiled as compiled_file}
 use Rattle.fip_driver.specs.Answered.{IsTold}
 use Rattle.fip_driver.specs.Commands.{IsOther, ReadsInput, CallsNoFolder, fetched_name, wanted}
-use Rattle.fip_driver.specs.Ends.{End, SaysOf, Refused, Listed, LongInput, ComesOf, Unsound, Ready, MayEnd, IsTaken, IsRunEnd, IsTraceEnd, IsTasksEnd, IsBeside, Checks, Says, Missing, OnSource, Comes, MayOnSource, MayOnFile, MayOnNone, IsUnsaid, IsThere, MayEndOn, IsAuditEnd}
+use Rattle.fip_driver.specs.Ends.{End, SaysOf, Refused, Listed, LongInput, Evaluated, ComesOf, Unsound, Ready, MayEnd, IsTaken, IsRunEnd, IsTraceEnd, IsTasksEnd, IsSessionEnd, IsBeside, Checks, Says, Missing, OnSource, Comes, MayOnSource, MayOnFile, MayOnNone, IsUnsaid, IsThere, MayEndOn, IsAuditEnd}
 use Rattle.fip_driver.specs.Fetched.{FetchFails, FileFails, StoreFails, JudgeFails, ReadFails}
-use Rattle.fip_driver.specs.Outcome.{end_of, compiled_end, IsFault, IsInputFault, InputOutcome, SourceOutcome, Closes, FileOutcome, CommandOutcome}
+use Rattle.fip_driver.specs.Outcome.{end_of, compiled_end, IsFault, IsInputFault, ReadOutcome, InputOutcome, SourceOutcome, Closes, FileOutcome, CommandOutcome}
 use Rattle.fip_driver.specs.Spelling.{Spelling, source_spelling}
 use Rattle.fip_driver.proofs.Telling.{any_told, held, longer, told_fetch, told_input, whole_of, more_left}
 
@@ -55,10 +57,10 @@ rose_later before mid now le h = grind arith
 -- ---- the input
 
 -- an input that wasn't read
-pub unread_ends : (May : End → Type 0) (before left : Option (List ℕ)) (old new : ℕ) (f : Failure) → ReadFails before left old new f → InputOutcome May before (Rose old new) (Err f)
-unread_ends May before left old new f h = let t = told_input before left old new f h in (t.0, t.1, by f t.0 t.2.0 t.2.1)
+pub unread_says : (Is : List ℕ → End → Type 0) (before left : Option (List ℕ)) (old new : ℕ) (f : Failure) → ReadFails before left old new f → ReadOutcome Is before (Rose old new) (Err f)
+unread_says Is before left old new f h = let t = told_input before left old new f h in (t.0, t.1, by f t.0 t.2.0 t.2.1)
   where
-    by : (f : Failure) (input : List ℕ) (rest : Option (List ℕ)) → ReadFails (Some input) rest old new f → IsInputFault (Rose old new) (Err f) ⊎ (((16777216 < length input) × ◌≡◌ {A = End} (Err f) (Err (F.BadInput 16777216))) ⊎ ((length input ≤ 16777216) × May (Err f)))
+    by : (f : Failure) (input : List ℕ) (rest : Option (List ℕ)) → ReadFails (Some input) rest old new f → IsInputFault (Rose old new) (Err f) ⊎ (((16777216 < length input) × ◌≡◌ {A = End} (Err f) (Err (F.BadInput 16777216))) ⊎ ((length input ≤ 16777216) × Is input (Err f)))
     by (F.BadInput at) input rest h = inr (inl (more_left input rest h.1, ap (λ n. Err (F.BadInput n)) h.0))
     by (F.Fault O.Folder) input rest h = absurd (let same = h.0 in cc)
     by (F.Fault O.Input) input rest h = inl h.1
@@ -66,6 +68,18 @@ unread_ends May before left old new f h = let t = told_input before left old new
     by (F.Fault O.Err) input rest h = absurd (let same = h.0 in cc)
     by F.NoMemory input rest h = inl tt
     by failure input rest h = absurd h
+
+pub unread_ends : (May : End → Type 0) (before left : Option (List ℕ)) (old new : ℕ) (f : Failure) → ReadFails before left old new f → InputOutcome May before (Rose old new) (Err f)
+unread_ends May = unread_says (λ input. May)
+
+-- an input that was read to its end, and what is said of it
+pub read_says : (Is : List ℕ → End → Type 0) (before left : Option (List ℕ)) (rose : Type 0) (read : List ℕ) (o : Result (Vec ℕ Global) Failure) → Consumes before left read → IsAtEnd left → length read ≤ 16777216 → OrNoMemory (Is read) o → ReadOutcome Is before rose (end_of o)
+read_says Is before left rose read o c end le h = (read, whole_of before left read c end, by o h)
+  where
+    by : (o : Result (Vec ℕ Global) Failure) → OrNoMemory (Is read) o → IsInputFault rose (end_of o) ⊎ (((16777216 < length read) × (end_of o ≡ Err (F.BadInput 16777216))) ⊎ ((length read ≤ 16777216) × Is read (end_of o)))
+    by (Ok text) h = inr (inr (le, h))
+    by (Err F.NoMemory) h = inl tt
+    by (Err failure) h = inr (inr (le, h))
 
 -- an input that was read to its end
 pub read_ends : (May : End → Type 0) (before left : Option (List ℕ)) (rose : Type 0) (read : List ℕ) (e : End) → Consumes before left read → IsAtEnd left → length read ≤ 16777216 → May e → InputOutcome May before rose e
@@ -161,6 +175,18 @@ input_ends c w source left fr rose May e ready reads up (input, told, h) = (inpu
     by (inl f) = inl (input_fault_up c fr rose e reads f)
     by (inr (inl (more, same))) = inr (inl (long e more same))
     by (inr (inr (le, m))) = inr (inr (Ready e ready (λ r. le) (up e m)))
+
+-- what `eval` tells
+pub evaluated_ends : (file entry source : List ℕ) (calls frames : ℕ) (left : Option (List ℕ)) (fr rose : Type 0) (e : End) → IsReady source (Root entry) → ReadOutcome (λ bytes. Evaluates source entry bytes calls frames) left rose e → SourceOutcome (Eval file entry calls frames) (Root entry) source left fr rose e
+evaluated_ends file entry source calls frames left fr rose e ready (input, told, h) = (input, told, by h)
+  where
+    long : (d : End) → 16777216 < length input → d ≡ Err (F.BadInput 16777216) → SaysOf source input (Eval file entry calls frames) (Root entry) d
+    long d more same = subst (SaysOf source input (Eval file entry calls frames) (Root entry)) (sym same) (LongInput ready tt more)
+
+    by : IsInputFault rose e ⊎ (((16777216 < length input) × (e ≡ Err (F.BadInput 16777216))) ⊎ ((length input ≤ 16777216) × Evaluates source entry input calls frames e)) → IsFault (Eval file entry calls frames) fr rose e ⊎ (SaysOf source input (Eval file entry calls frames) (Root entry) e ⊎ ComesOf source input (Eval file entry calls frames) (Root entry) e)
+    by (inl f) = inl (input_fault_up (Eval file entry calls frames) fr rose e tt f)
+    by (inr (inl (more, same))) = inr (inl (long e more same))
+    by (inr (inr (le, m))) = inr (inl (Evaluated file entry calls frames e refl le m))
 
 -- a trace that was made is stored
 pub trace_stored : (left : Option (List ℕ)) (rose : Type 0) (file entry out source text : List ℕ) (room : _) (before mid now : ℕ) (w : Wanted) (o : Result (Vec ℕ Global) Failure) → before ≤ mid → IsReady source w → InputOutcome IsTraceEnd left rose (Ok text) → IfOk o (λ v. v.items ≡ text) → IfErr o (StoreFails mid now) → SourceOutcome (Trace file entry out room) w source left (Rose before now) rose (end_of o)

@@ -4,7 +4,8 @@
 --
 -- The causes come in this order: the file is missing; the source or the code is refused, then the entry; the input has
 -- too many bytes. So `check list.fip3` ends with `fault: folder` where there is no such file, with the report of
--- the source where it breaks a rule, and else with a line for each root.
+-- the source where it breaks a rule, and else with a line for each root; and `eval list.fip3 rev` with what the source
+-- means, once the input is read.
 use Rattle.std.specs.Prelude.{◌≡◌, ◌⊎◌, ℕ, ◌<◌, ◌≤◌, false, List, length, Option, Some, None, Result, Ok, Err}
 use Rattle.std.specs.Io.KnownBytes.{Appends}
 use Rattle.fip_language.specs.declared.limits.TheConstants.{MOST_SOURCE_BYTES, MOST_FILE_BYTES}
@@ -23,6 +24,7 @@ use Rattle.source_report.specs.Report.{bare, IsAccepted, IsMatched, Reports}
 use Rattle.code_file.specs.Plain.{PlainCode}
 use Rattle.source_commands.specs.Codes.{sound_view, IsSoundFile, RefusesCode, IsCodeListing, IsUpgraded, IsUnspelt}
 use Rattle.source_commands.specs.Codes.{names_one, HasFunction}
+use Rattle.eval_command.specs.EvalAnswer.{Evaluates}
 use Rattle.source_commands.specs.Judged.{IsJudged}
 use Rattle.source_commands.specs.Roots.{IsListing}
 use Rattle.source_commands.specs.Wanted.{Wanted, Refuses, IsReady, of_entry}
@@ -34,13 +36,15 @@ End = Result (List ℕ) Failure
 
 -- ---- what is said of a source of which all rules are asked
 
--- The command ends so on this source: it is refused; or it has what is wanted, and `check` lists its roots, or the
--- input has too many bytes.
+-- The command ends so on this source: it is refused; or it has what is wanted, and `check` lists its roots, the input
+-- has too many bytes, or `eval` tells what the source means on the input.
 pub data SaysOf (source input : List ℕ) (c : Command) (w : Wanted) : End → Type 0 where
   Refused : (r : _) → Refuses source w r → SaysOf source input c w (Err (F.Refused r))
   Listed : (file text : List ℕ) → c ≡ Check file → IsListing source text → SaysOf source input c w (Ok text)
   LongInput : IsReady source w → ReadsInput c → MOST_FILE_BYTES < length input →
       SaysOf source input c w (Err (F.BadInput MOST_FILE_BYTES))
+  Evaluated : (file entry : List ℕ) (calls frames : ℕ) (e : End) → c ≡ Eval file entry calls frames →
+      length input ≤ MOST_FILE_BYTES → Evaluates source entry input calls frames e → SaysOf source input c w e
 
 -- ---- what isn't said yet, and how it may be
 
@@ -73,7 +77,6 @@ IsDeriveEnd (Err failure) = failure ≡ F.Refused (bare E74)
 abbrev pub MayEnd : Command → List ℕ → End → Type 0
 MayEnd (Compile file out) source e = IsCompileEnd source e
 MayEnd (Exec r) source e = IsRunEnd e
-MayEnd (Eval file entry calls frames) source e = IsRunEnd e
 MayEnd (Trace file entry out room) source e = IsTraceEnd e
 MayEnd (Session file room) source e = IsSessionEnd e
 MayEnd (Tasks file seed turns room) source e = IsTasksEnd e
@@ -186,11 +189,17 @@ pub data Comes (spelling : Spelling) (files : List File) (input : List ℕ) (c :
       Comes spelling files input c e
   MayOnNone : (e : End) → fetched_name c ≡ None → Comes spelling files input c e
 
--- The answer isn't said: the source has what a command other than `check` wants, a function of a code file is run, or
--- it is a command of which no more is said.
+-- the commands whose end isn't said on a source that has what they want
+abbrev pub IsUnsaidOn : Command → Type 0
+IsUnsaidOn (Check file) = ⊥
+IsUnsaidOn (Eval file entry calls frames) = ⊥
+IsUnsaidOn c = Unit {0}
+
+-- The answer isn't said: the source has what a command other than `check` and `eval` wants, a function of a code file
+-- is run, or it is a command of which no more is said.
 pub data IsOpen (spelling : Spelling) (files : List File) (input : List ℕ) (c : Command) : Type 0 where
   OpenSource : (w : Wanted) (source : List ℕ) → Checks spelling files c w source → IsReady source w → IsTaken c input →
-      ((file : List ℕ) → c ≡ Check file → ⊥) → IsOpen spelling files input c
+      IsUnsaidOn c → IsOpen spelling files input c
   OpenCode : (bytes : List ℕ) → IsThere files c bytes → RunsCode bytes input c → IsOpen spelling files input c
   OpenFile : (bytes : List ℕ) → IsUnsaid c → IsThere files c bytes → IsOpen spelling files input c
   OpenNone : fetched_name c ≡ None → IsOpen spelling files input c

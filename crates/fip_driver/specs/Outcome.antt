@@ -37,12 +37,16 @@ IsInputFault rose (Err F.NoMemory) = Unit {0}
 IsInputFault rose (Err (F.Fault O.Input)) = rose
 IsInputFault rose e = ⊥
 
--- What reading an input and running on it comes to, by how the run may end.
-abbrev pub InputOutcome : (End → Type 0) → Option (List ℕ) → Type 0 → End → Type 0
-InputOutcome May left rose e =
+-- What reading an input and running on it comes to, by what is said of the end on an input.
+abbrev pub ReadOutcome : (List ℕ → End → Type 0) → Option (List ℕ) → Type 0 → End → Type 0
+ReadOutcome Is left rose e =
     (input : List ℕ) × IsTold left input × (IsInputFault rose e
     ⊎ (((MOST_FILE_BYTES < length input) × (e ≡ Err (F.BadInput MOST_FILE_BYTES)))
-    ⊎ ((length input ≤ MOST_FILE_BYTES) × May e)))
+    ⊎ ((length input ≤ MOST_FILE_BYTES) × Is input e)))
+
+-- The same, by how the run may end on any input.
+abbrev pub InputOutcome : (End → Type 0) → Option (List ℕ) → Type 0 → End → Type 0
+InputOutcome May = ReadOutcome (λ input. May)
 
 -- What a command comes to on a source of which all rules are asked.
 abbrev pub SourceOutcome : Command → Wanted → List ℕ → Option (List ℕ) → Type 0 → Type 0 → End → Type 0

@@ -1,11 +1,13 @@
 // What the commands come to that fetch one file: which object is called when.
-ghost use Rattle.std.specs.Prelude.{◌≡◌, ◌≤◌, ℕ, List, Option, OnOk, Some};
+ghost use Rattle.std.specs.Prelude.{◌≡◌, ◌<◌, ◌≤◌, ℕ, List, length, Option, OnOk, Some};
 ghost use Rattle.std.specs.Io.KnownBytes.{IsAtEnd};
 ghost use Rattle.fip_language.specs.declared.limits.TheConstants.{MOST_FRAMES};
 ghost use Rattle.fip_base.specs.Faults.{Rose};
+ghost use Rattle.fip_trees.specs.TreeView as V;
 ghost use Rattle.command_line.specs.Words as W;
-ghost use Rattle.fip_driver.specs.Ends.{IsRunEnd};
-ghost use Rattle.fip_driver.specs.Outcome.{FileOutcome, InputOutcome, end_of};
+ghost use Rattle.source_commands.specs.Entries.{IsRootedIn};
+ghost use Rattle.eval_command.specs.EvalAnswer.{Evaluates};
+ghost use Rattle.fip_driver.specs.Outcome.{FileOutcome, ReadOutcome, end_of};
 ghost use Rattle.fip_driver.specs.Unread.{AreKept, IsBeforeSource, IsBeforeInput};
 
 use crate::fetched::{fetch_code, fetch_source, read_input};
@@ -92,8 +94,11 @@ fn evaluate<S: Source>(
     input: &mut S,
 ) -> Result<Vec<u8>, Failure>
     requires frames { frames ≤ MOST_FRAMES }
-    ensures outcome { InputOutcome IsRunEnd (S.left input.old) (Rose (S.faults input.old) (S.faults input.new))
-        (end_of result) }
+    requires within { program.entry < length program.typed.program.instances.items }
+    ensures outcome { (source name : List ℕ) →
+        IsRootedIn source name (V.program program.typed.program) program.entry →
+        ReadOutcome (λ bytes. Evaluates source name bytes calls frames) (S.left input.old)
+        (Rose (S.faults input.old) (S.faults input.new)) (end_of result) }
     ensures read { OnOk result (IsAtEnd (S.left input.new)) }
     ensures late { IsBeforeInput result → ⊥ }
 {

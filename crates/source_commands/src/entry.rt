@@ -1,5 +1,6 @@
 // The function that is run or evaluated.
-ghost use Rattle.std.specs.Prelude.{◌≡◌, ◌<◌, ℕ, List, IfErr, IfSome, OnOk, MatchOption, None, Some, false, length};
+ghost use Rattle.std.specs.Prelude.{◌≡◌, ◌<◌, ℕ, List, IfOk, IfErr, IfSome, OnOk, MatchOption, None, Some, false};
+ghost use Rattle.std.specs.Prelude.{length};
 ghost use Rattle.std.specs.Prelude.{◌⊎◌, true, map, slice_get, bytes_eq, if◌then◌else◌};
 ghost use Rattle.fip_language.specs.declared.rule.Rule.TheVariants.{E70};
 ghost use Rattle.sound_code.specs.Codes.{plain, plain_function};
@@ -9,6 +10,7 @@ ghost use Rattle.command_outcome.specs.Stages.{IsOfSource};
 ghost use Rattle.fip_trees.specs.TreeView as V;
 ghost use Rattle.fip_trees.specs.declared.program.Instance.{Instance as an_instance};
 ghost use Rattle.source_report.specs.Report.{IsAccepted};
+ghost use Rattle.source_commands.specs.Entries.{IsRootedIn};
 ghost use Rattle.source_commands.specs.Roots as R;
 ghost use Rattle.source_commands.specs.Wanted.{Root, Compiled, MissesRoot, MissesCode, IsRoot, IsCompiled, IsReady};
 ghost use Rattle.source_commands.specs.Wanted.{IsRefusedBy, IsUnsound, KeepsFrom, of_entry};
@@ -69,39 +71,16 @@ impl Ready {
 /// A program without violations, and which of its instances is evaluated.
 #[derive(Drop)]
 pub struct Evaluable {
-    typed: Typed,
-    entry: usize,
-}
-
-impl Model for Evaluable {
-    ghost use Rattle.std.specs.Prelude.{◌<◌, length};
-    ghost use Rattle.source_commands.specs.Entries.{Rooted};
-
-    ghost Value = { Rooted };
-
-    ghost view = { λ e. record { instances = length e.typed.program.instances.items; entry = e.entry } };
-
-    ghost invariant = { λ e. e.entry < length e.typed.program.instances.items };
+    pub typed: Typed,
+    pub entry: usize,
 }
 
 impl Evaluable {
-    /// The program.
-    pub fn typed(&self) -> &Typed
-        ensures instances { length result.now.program.instances.items ≡ self.now.instances }
-    {
-        &self.typed
-    }
-
-    /// The number of the instance that is evaluated.
-    pub fn number(&self) -> usize
-        ensures same { result ≡ self.now.entry }
-        ensures within { result < self.now.instances }
-    {
-        self.entry
-    }
-
     /// The instance that is evaluated.
-    pub fn instance(&self) -> &Instance {
+    pub fn instance(&self) -> &Instance
+        requires { self.now.entry < length self.now.typed.program.instances.items }
+        ensures same { slice_get self.now.typed.program.instances.items self.now.entry ≡ Some result.now }
+    {
         &self.typed.program.instances[self.entry]
     }
 }
@@ -275,6 +254,9 @@ fn named_in(alloc: Global, verified: Verified, entry: &str) -> Result<Ready, Fai
 fn rooted(alloc: Global, typed: Typed, entry: &str) -> Result<Evaluable, Failure>
     ensures ready { (source : List ℕ) → IsAccepted source (V.program typed.program) →
         OnOk result (IsReady source (Root entry.now)) }
+    ensures found { (source : List ℕ) → IsAccepted source (V.program typed.program) →
+        IfOk result (λ e. IsRootedIn source entry.now (V.program e.typed.program) e.entry) }
+    ensures within { IfOk result (λ e. e.entry < length e.typed.program.instances.items) }
     ensures kept { (source : List ℕ) → IsAccepted source (V.program typed.program) →
         IfErr result (KeepsFrom source (Root entry.now)) }
     ensures stage { IfErr result IsOfSource }
@@ -292,6 +274,8 @@ fn rooted(alloc: Global, typed: Typed, entry: &str) -> Result<Evaluable, Failure
 /// refusals are those of `front`, and after them E70 where no root has the entry's name.
 pub fn eval_entry(alloc: Global, source: &[u8], entry: &str) -> Result<Evaluable, Failure>
     ensures ready { OnOk result (IsReady source.now (Root entry.now)) }
+    ensures found { IfOk result (λ e. IsRootedIn source.now entry.now (V.program e.typed.program) e.entry) }
+    ensures within { IfOk result (λ e. e.entry < length e.typed.program.instances.items) }
     ensures kept { IfErr result (KeepsFrom source.now (Root entry.now)) }
     ensures stage { IfErr result IsOfSource }
 {

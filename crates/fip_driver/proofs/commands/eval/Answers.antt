@@ -1,13 +1,12 @@
 use Rattle.std.proofs.Common.{refl}
 use Rattle.command_line.specs.Words as W
 use Rattle.source_commands.specs.Wanted.{Root}
-use Rattle.fip_driver.specs.Ends.{IsRunEnd}
 use Rattle.fip_driver.specs.Outcome.{end_of}
-use Rattle.fip_driver.proofs.SourceEnds.{input_ends, kept_ends, source_ends, fetch_ends}
+use Rattle.fip_driver.proofs.SourceEnds.{evaluated_ends, kept_ends, source_ends, fetch_ends}
 use Rattle.fip_driver.proofs.commands.eval.Goals as goal
 
 pub returns-in-Ok-eval_entry-clause-outcome : goal.returns-in-Ok-eval_entry-clause-outcome
-returns-in-Ok-eval_entry-clause-outcome g c = source_ends (W.Eval c.args.file.now c.args.entry.now c.args.calls c.args.frames) (Root c.args.entry.now) c.args.file.now (g.F.Folder.files c.args.folder.now) (g.S.Source.left c.args.input.now) ⊥ _ _ _ c.in-Ok.source.items c.as_slice.result.now (end_of c.evaluate.result) (λ r. absurd r) (λ r. r) c.in-Ok.ensures.found refl refl tt c.as_slice.ensures.value (input_ends (W.Eval c.args.file.now c.args.entry.now c.args.calls c.args.frames) (Root c.args.entry.now) c.as_slice.result.now (g.S.Source.left c.args.input.now) ⊥ _ IsRunEnd (end_of c.evaluate.result) c.in-Ok-eval_entry.ensures.ready tt (λ d m. m) c.evaluate.ensures.outcome)
+returns-in-Ok-eval_entry-clause-outcome g c = source_ends (W.Eval c.args.file.now c.args.entry.now c.args.calls c.args.frames) (Root c.args.entry.now) c.args.file.now (g.F.Folder.files c.args.folder.now) (g.S.Source.left c.args.input.now) ⊥ _ _ _ c.in-Ok.source.items c.as_slice.result.now (end_of c.evaluate.result) (λ r. absurd r) (λ r. r) c.in-Ok.ensures.found refl refl tt c.as_slice.ensures.value (evaluated_ends c.args.file.now c.args.entry.now c.as_slice.result.now c.args.calls c.args.frames (g.S.Source.left c.args.input.now) ⊥ _ (end_of c.evaluate.result) c.in-Ok-eval_entry.ensures.ready (c.evaluate.ensures.outcome c.as_slice.result.now c.args.entry.now c.in-Ok-eval_entry.ensures.found))
 
 pub returns-in-Ok-clause-outcome : goal.returns-in-Ok-clause-outcome
 returns-in-Ok-clause-outcome g c = source_ends (W.Eval c.args.file.now c.args.entry.now c.args.calls c.args.frames) (Root c.args.entry.now) c.args.file.now (g.F.Folder.files c.args.folder.now) (g.S.Source.left c.args.input.now) ⊥ ⊥ _ _ c.in-Ok.source.items c.as_slice.result.now _ (λ r. absurd r) (λ r. absurd r) c.in-Ok.ensures.found refl refl tt c.as_slice.ensures.value (kept_ends (W.Eval c.args.file.now c.args.entry.now c.args.calls c.args.frames) (Root c.args.entry.now) c.as_slice.result.now (g.S.Source.left c.args.input.now) ⊥ ⊥ c.in-Err-eval_entry.failure c.in-Err-eval_entry.ensures.kept)

@@ -1,0 +1,5 @@
+pub mod Texts
+pub mod Loading
+pub mod SoundTypes
+pub mod Meant
+pub mod Once

@@ -1,0 +1,7 @@
+// The evaluation of a source's root on an input: from the bytes of its arguments to the lines of its results.
+#![tactic(auto)]
+
+mod arguments;
+mod evaluation;
+
+pub use evaluation::evaluate;

@@ -1,0 +1,5 @@
+pub mod Loading
+pub mod TraceText
+pub mod TraceReading
+pub mod Replaying
+pub mod Example

@@ -1,0 +1,52 @@
+// The laws of the definitions. Each is the contract of a function that does nothing.
+ghost use Rattle.std.specs.Prelude.{◌≡◌, ℕ, ◌+◌, List, [], ◌∷◌, length};
+ghost use Rattle.fip_language.specs.Values.{Values, words_needed_by_all};
+ghost use Rattle.code_runs.specs.Example.{flat};
+ghost use Rattle.loaded_runs.specs.Loading.{first_store, first_words, words_of_credits};
+ghost use Rattle.loaded_runs.specs.TraceText.{Trace, IsTrace, trace_text};
+ghost use Rattle.loaded_runs.specs.TraceReading.{Got, Bad, read_trace};
+ghost use Rattle.loaded_runs.specs.Replaying.{replayed, live_line, free_line};
+ghost use Rattle.loaded_runs.specs.Example.{arguments, cell, rewriting, releasing, file_with};
+
+/// A store has just as many words as the cells of the arguments and of the credits need. For who asks whether an input
+/// fits.
+#[tactic(auto, using(crate::proofs::Lengths::store_length))]
+pub fn a_store_has_the_words_that_it_needs()
+    ensures law { (vs : Values) (credits : List ℕ) →
+        length (first_store vs credits).cells ≡ words_needed_by_all vs + words_of_credits credits }
+{}
+
+/// Cons(1, Cons(2, Nil)) and Nil lie in a new store as the example of runs has them, and their words are 7 and 0. The
+/// cell of a credit of size 2 is behind them, and its word is 13. For who wants to see the numbers.
+#[tactic(auto, using(crate::proofs::Examples::computed))]
+pub fn an_example_is_loaded()
+    ensures store { first_store arguments [] ≡ flat }
+    ensures words { first_words arguments [] ≡ 7 ∷ 0 ∷ [] }
+    ensures credit { first_words arguments (2 ∷ []) ≡ 7 ∷ 0 ∷ 13 ∷ [] }
+{}
+
+/// What is written of a trace is read as that trace, to the end of the file. For who keeps traces in files.
+#[tactic(auto, using(crate::proofs::Reading::file_is_read))]
+pub fn a_trace_is_read_as_it_was_written()
+    ensures law { (t : Trace) → IsTrace t → (end : ℕ) × (read_trace (trace_text t) ≡ Got t end []) }
+{}
+
+/// The file of the example is written and read as it is said to be, and is bad at its event's byte where that is
+/// another. For who writes a reader of traces.
+#[tactic(auto, using(crate::proofs::Examples::computed))]
+pub fn an_example_of_a_file()
+    ensures written { trace_text rewriting ≡ file_with 0 }
+    ensures read { read_trace (file_with 0) ≡ Got rewriting 80 [] }
+    ensures another { read_trace (file_with 2) ≡ Bad 47 }
+    ensures nothing { read_trace [] ≡ Bad 0 }
+{}
+
+/// The cell of the example has its first fields before its one step, and its last ones after it and after any later
+/// one; and a released cell is told as free. For who reads the lines of `replay`.
+pub fn an_example_is_replayed()
+    ensures before { replayed rewriting 0 ≡ live_line 0 (cell 1 0) }
+    ensures after { replayed rewriting 1 ≡ live_line 0 (cell 2 0) }
+    ensures beyond { replayed rewriting 1000000 ≡ live_line 0 (cell 2 0) }
+    ensures live { replayed releasing 1 ≡ live_line 0 (cell 1 0) }
+    ensures free { replayed releasing 2 ≡ free_line 0 }
+{}

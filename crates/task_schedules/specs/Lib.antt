@@ -1,0 +1,4 @@
+pub mod Draws
+pub mod Schedules
+pub mod Projected
+pub mod Example

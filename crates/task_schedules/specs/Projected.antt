@@ -1,0 +1,135 @@
+-- For the theorem on schedules, which it states and doesn't prove: after every schedule each task is, up to the places
+-- of its cells, where it would be alone.
+--
+-- The places of a task's own cells, in the store that it would have alone, are renamed to places of the shared store;
+-- the renaming keeps their order, and gives no place to two tasks. A word that stands for a scalar is the same, one
+-- that names a cell is renamed, and a tree that the task holds is the same tree at the renamed places. Of a register
+-- that holds nothing no more is said than that its word is the same or renamed.
+--
+-- Where task 1 has its one cell at 0 alone and at 3 in the shared store, behind that of task 0, its word 1 is 7 there.
+use Rattle.std.specs.Prelude.{◌≡◌, ◌≢◌, ◌⊎◌, ℕ, suc, ◌/◌, ◌<◌, Bool, true, false, List, [], ◌∷◌, Option, Some, None}
+use Rattle.std.specs.Prelude.{map, length, slice_get, if◌then◌else◌}
+use Rattle.fip_language.specs.Table.{Table}
+use Rattle.fip_language.specs.Store.{Cell, Placed, PlacedInt, Bare, At, Parts, NoParts, MoreParts}
+use Rattle.cell_code.specs.declared.kind.Kind.{Kind}
+use Rattle.cell_code.specs.declared.kind.Kind.TheVariants as K
+use Rattle.code_runs.specs.Codes.{PlainCode, results_of}
+use Rattle.code_runs.specs.Words.{is_place, place_word}
+use Rattle.code_runs.specs.Cells.{Store, cell_at, size_in, released_at}
+use Rattle.code_runs.specs.Trees.{IsTree}
+use Rattle.code_runs.specs.States.{Frame, State}
+use Rattle.code_runs.specs.Steps.{Kinds}
+use Rattle.code_runs.specs.Runs.{End, Value, Trap, Out, Deep, Unsound, Run, Going, Over, state_of, begun}
+use Rattle.task_schedules.specs.Schedules.{Shared, scheduled, alone, in_store}
+
+abbrev pub Renaming : Type 0
+Renaming = ℕ → ℕ
+
+-- a word that may name a cell
+abbrev pub renamed_word : Renaming → ℕ → ℕ
+renamed_word f w = if is_place w then place_word (f (w / 2)) else w
+
+abbrev mutual
+  pub renamed : Renaming → Placed → Placed
+  renamed f (PlacedInt i) = PlacedInt i
+  renamed f (Bare c) = Bare c
+  renamed f (At p c xs) = At (f p) c (renamed_parts f xs)
+
+  pub renamed_parts : Renaming → Parts → Parts
+  renamed_parts f NoParts = NoParts
+  renamed_parts f (MoreParts x xs) = MoreParts (renamed f x) (renamed_parts f xs)
+
+-- a cell begins at this place
+abbrev pub IsThere : Store → ℕ → Type 0
+IsThere s p = cell_at s p ≢ None
+
+-- the task's own cells in the shared store: in the same order, of the same sizes, and released where they are
+pub record AreRenamed (f : Renaming) (own shared : Store) : Type 0 where
+  pub rises : (p q : ℕ) → IsThere own p → IsThere own q → p < q → f p < f q
+  pub sizes : (p : ℕ) → IsThere own p → size_in (cell_at shared (f p)) ≡ size_in (cell_at own p)
+  pub released : (p : ℕ) → IsThere own p → released_at shared (f p) ≡ released_at own p
+
+-- a tree of type t that the own word w stands for is that of the shared word v
+pub record IsRenamedTree (tb : Table) (f : Renaming) (own shared : Store) (t w v : ℕ) : Type 0 where
+  pub word : v ≡ renamed_word f w
+  pub tree : (x : Placed) → IsTree tb own t w x → IsTree tb shared t v (renamed f x)
+
+-- a register's words, by what is known of it
+abbrev pub IsRenamedWord : Table → Renaming → Store → Store → Kind → ℕ → ℕ → Type 0
+IsRenamedWord tb f own shared K.Gone w v = (v ≡ w) ⊎ (v ≡ renamed_word f w)
+IsRenamedWord tb f own shared (K.Scalar t) w v = v ≡ w
+IsRenamedWord tb f own shared (K.Owned t cs) w v = IsRenamedTree tb f own shared t w v
+IsRenamedWord tb f own shared (K.Lent t cs root from) w v = IsRenamedTree tb f own shared t w v
+IsRenamedWord tb f own shared (K.Credit k) w v = v ≡ renamed_word f w
+
+abbrev pub AreRenamedWords : Table → Renaming → Store → Store → List Kind → List ℕ → List ℕ → Type 0
+AreRenamedWords tb f own shared [] [] [] = Unit {0}
+AreRenamedWords tb f own shared (k ∷ ks) (w ∷ ws) (v ∷ vs) =
+    IsRenamedWord tb f own shared k w v × AreRenamedWords tb f own shared ks ws vs
+AreRenamedWords tb f own shared ks ws vs = ⊥
+
+-- a frame with these kinds
+pub record IsRenamedFrame (tb : Table) (f : Renaming) (own shared : Store) (ks : List Kind) (a b : Frame) : Type 0 where
+  pub function : b.function ≡ a.function
+  pub at : b.at ≡ a.at
+  pub words : AreRenamedWords tb f own shared ks a.words b.words
+
+abbrev pub AreRenamedFrames : Table → Renaming → Store → Store → Kinds → List Frame → List Frame → Type 0
+AreRenamedFrames tb f own shared waits [] [] = Unit {0}
+AreRenamedFrames tb f own shared waits (a ∷ as') (b ∷ bs) =
+    IsRenamedFrame tb f own shared (waits a.function a.at) a b × AreRenamedFrames tb f own shared waits as' bs
+AreRenamedFrames tb f own shared waits as' bs = ⊥
+
+-- the state of a task among others, b, is that of the task alone, a; the kinds are those before each instruction, and
+-- those that wait
+pub record IsProjected (before waits : Kinds) (code : PlainCode) (f : Renaming) (a b : State) : Type 0 where
+  pub cells : AreRenamed f a.store b.store
+  pub running : IsRenamedFrame code.types f a.store b.store (before a.running.function a.running.at) a.running b.running
+  pub waiting : AreRenamedFrames code.types f a.store b.store waits a.waiting b.waiting
+  pub free : b.free ≡ a.free
+
+-- values of these types that words stand for
+abbrev pub AreRenamedTrees : Table → Renaming → Store → Store → List ℕ → List ℕ → List ℕ → Type 0
+AreRenamedTrees tb f own shared [] [] [] = Unit {0}
+AreRenamedTrees tb f own shared (t ∷ ts) (w ∷ ws) (v ∷ vs) =
+    IsRenamedTree tb f own shared t w v × AreRenamedTrees tb f own shared ts ws vs
+AreRenamedTrees tb f own shared ts ws vs = ⊥
+
+-- the same end of a run of function n: its results are the same values, at their places
+abbrev pub IsSameEnd : PlainCode → ℕ → Renaming → Store → Store → End → End → Type 0
+IsSameEnd code n f own shared (Value ws) (Value vs) = AreRenamedTrees code.types f own shared (results_of code n) ws vs
+IsSameEnd code n f own shared (Trap k line col) (Trap k' line' col') = (k ≡ k') × (line ≡ line') × (col ≡ col')
+IsSameEnd code n f own shared Out Out = Unit {0}
+IsSameEnd code n f own shared Deep Deep = Unit {0}
+IsSameEnd code n f own shared a b = ⊥
+
+-- the run of a task among others, b, is that of the task alone, a
+abbrev pub IsSameRun : Kinds → Kinds → PlainCode → ℕ → Renaming → Run → Run → Type 0
+IsSameRun before waits code n f (Going s left steps) (Going t left' steps') =
+    IsProjected before waits code f s t × (left ≡ left') × (steps ≡ steps')
+IsSameRun before waits code n f (Over e s left steps) (Over e' t left' steps') =
+    IsSameEnd code n f s.store t.store e e' × IsProjected before waits code f s t × (left ≡ left') × (steps ≡ steps')
+IsSameRun before waits code n f a b = ⊥
+
+-- how a task begins alone: the function, its state in a store of its own cells, its calls, and where its cells are in
+-- the shared store
+pub record Begun : Type 0 where
+  pub function : ℕ
+  pub state : State
+  pub calls : ℕ
+  pub places : Renaming
+
+-- No place of the shared store is one of two tasks.
+abbrev pub AreApart : List Begun → Type 0
+AreApart ts = (i j p q : ℕ) (a b : Begun) → slice_get ts i ≡ Some a → slice_get ts j ≡ Some b → i ≢ j →
+    IsThere a.state.store p → IsThere b.state.store q → a.places p ≢ b.places q
+
+-- Each task comes to what it comes to alone, whatever the schedule is. The shared run begins with the tasks' own
+-- beginnings, at their places.
+pub record EachIsAlone (before waits : Kinds) (code : PlainCode) (tasks : List Begun) (first : Shared) : Type 0 where
+  pub apart : AreApart tasks
+  pub number : length first.runs ≡ length tasks
+  pub same : (schedule : List ℕ) (k : ℕ) (t : Begun) (r : Run) → slice_get tasks k ≡ Some t →
+      slice_get (scheduled before code schedule first).runs k ≡ Some r →
+      IsSameRun before waits code t.function t.places (alone before code k schedule (begun t.state t.calls))
+      (in_store (scheduled before code schedule first).store r)

@@ -1,0 +1,65 @@
+// The laws of schedules. Each is the contract of a function that does nothing.
+ghost use Rattle.std.specs.Prelude.{◌≡◌, ◌≢◌, ℕ, List, [], ◌∷◌, ◌++◌, Some, slice_get, map, replicate};
+ghost use Rattle.code_runs.specs.Codes.{PlainCode};
+ghost use Rattle.code_runs.specs.States.{State};
+ghost use Rattle.code_runs.specs.Steps.{Kinds};
+ghost use Rattle.code_runs.specs.Runs.{End, Value, Out, Run, Over, after, begun, state_of};
+ghost use Rattle.code_runs.specs.Example.{reversing, unknown};
+ghost use Rattle.task_schedules.specs.Draws.{drawn, numbers};
+ghost use Rattle.task_schedules.specs.Schedules.{Shared, turn, scheduled, alone, in_store};
+ghost use Rattle.task_schedules.specs.Example.{cells_of, store_of, both, both_done, rev_at, two_tasks, by_turns};
+ghost use Rattle.task_schedules.specs.Example.{second_first};
+
+/// A turn of one task changes no other task's frames, calls or end. For who reads a task between two turns of another.
+#[tactic(auto, using(crate::proofs::Turns::others_stay))]
+pub fn a_turn_is_of_one_task()
+    ensures law { (kinds : Kinds) (code : PlainCode) (t : Shared) (j k : ℕ) → j ≢ k →
+        slice_get (turn kinds code t k).runs j ≡ slice_get t.runs j }
+{}
+
+/// In the turn of a task that has ended no cell changes. For who gives a turn to a task that is over.
+#[tactic(auto, using(crate::proofs::Turns::ended_stays))]
+pub fn an_ended_task_changes_no_cell()
+    ensures law { (kinds : Kinds) (code : PlainCode) (t : Shared) (k : ℕ) (e : End) (s : State) (left steps : ℕ) →
+        slice_get t.runs k ≡ Some (Over e s left steps) → (turn kinds code t k).store ≡ t.store }
+{}
+
+/// A schedule behind another goes on where that ended. For who hands out turns one by one.
+#[tactic(auto, using(crate::proofs::Turns::goes_on))]
+pub fn a_schedule_goes_on()
+    ensures law { (kinds : Kinds) (code : PlainCode) (first more : List ℕ) (t : Shared) →
+        scheduled kinds code (first ++ more) t ≡ scheduled kinds code more (scheduled kinds code first t) }
+{}
+
+/// A task that has the store for itself does as alone, at every turn. For who runs one task.
+#[tactic(auto, using(crate::proofs::Turns::one_alone))]
+pub fn one_task_is_alone()
+    ensures law { (kinds : Kinds) (code : PlainCode) (r : Run) (n : ℕ) →
+        scheduled kinds code (replicate n 0) (record { store = (state_of r).store; runs = r ∷ [] })
+        ≡ record { store = (state_of (alone kinds code 0 (replicate n 0) r)).store;
+            runs = alone kinds code 0 (replicate n 0) r ∷ [] } }
+{}
+
+/// The two tasks of the examples come to the same ends by both schedules, as alone: each gives its list, in its own
+/// cells, after 7 steps. With one call each is out of calls. For who wants to see a schedule.
+pub fn an_example_takes_turns()
+    ensures alone { alone unknown reversing 1 by_turns (begun (rev_at 0 (store_of (cells_of 2 0 4)) 1 7 0) 2)
+        ≡ Over (Value (1 ∷ [])) (rev_at 2 (store_of (cells_of 2 7 4)) 0 1 0) 0 7 }
+    ensures turns { map (λ r. in_store both r) (scheduled unknown reversing by_turns (two_tasks 2)).runs
+        ≡ Over (Value (1 ∷ [])) (rev_at 2 both 0 1 0) 0 7 ∷ Over (Value (13 ∷ [])) (rev_at 2 both 0 13 0) 0 7 ∷ [] }
+    ensures store { (scheduled unknown reversing by_turns (two_tasks 2)).store ≡ both_done }
+    ensures other { (scheduled unknown reversing second_first (two_tasks 2)).store ≡ both_done }
+    ensures other_turns { map (λ r. in_store both r) (scheduled unknown reversing second_first (two_tasks 2)).runs
+        ≡ map (λ r. in_store both r) (scheduled unknown reversing by_turns (two_tasks 2)).runs }
+    ensures out { slice_get (scheduled unknown reversing by_turns (two_tasks 1)).runs 1
+        ≡ Some (Over Out (rev_at 5 both_done 13 19 2) 0 4) }
+{}
+
+/// The turns of the seed 1 go to the tasks 0, 0 and 1 of two, by its first numbers; where there is no task there is no
+/// turn. For who draws turns elsewhere.
+#[tactic(auto, using(crate::proofs::Examples::computed))]
+pub fn an_example_of_draws()
+    ensures numbers { numbers 3 1 ≡ 1103527590 ∷ 377401575 ∷ 662824084 ∷ [] }
+    ensures drawn { drawn 1 3 2 ≡ 0 ∷ 0 ∷ 1 ∷ [] }
+    ensures none { drawn 1 3 0 ≡ [] }
+{}

@@ -62,15 +62,22 @@ fn write_words(words: &mut Vec<u64>, start: usize, new: &[u64])
     }
 }
 
-// Puts the words of a cell behind the others, for which there is memory.
+// Puts the words of a cell behind the others, for which there is memory. The usual sizes are told apart, so that their
+// words are moved at once.
 #[inline(always)]
 fn push_words(words: &mut Vec<u64>, header: u64, fields: &[u64])
     requires { length words.old.items + (length fields.now + 1) ≤ vec_capacity words.old }
     ensures { words.new.items ≡ words.old.items ++ header ∷ fields.now }
 {
-    words.push(header).unwrap();
-    for word in fields {
-        words.push(*word).unwrap();
+    match fields {
+        [a] => words.extend_from_slice(&[header, *a]).unwrap(),
+        [a, b] => words.extend_from_slice(&[header, *a, *b]).unwrap(),
+        [a, b, c] => words.extend_from_slice(&[header, *a, *b, *c]).unwrap(),
+        [a, b, c, d] => words.extend_from_slice(&[header, *a, *b, *c, *d]).unwrap(),
+        _ => {
+            words.push(header).unwrap();
+            words.extend_from_slice(fields).unwrap();
+        }
     }
 }
 
@@ -347,7 +354,6 @@ impl Flat {
             return Err(CellError::Full);
         }
         let place = self.words.len();
-        self.words.reserve(size + 1)?;
         take_room(
             self.alloc,
             &mut self.marks,
@@ -358,6 +364,7 @@ impl Flat {
             size,
             self.counts[size] + 1,
         )?;
+        self.words.reserve(size + 1)?;
         push_words(&mut self.words, 64 * tag as u64 + 2 * size as u64, fields);
         mark(&mut self.marks, place);
         self.counts[size] += 1;

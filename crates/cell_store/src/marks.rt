@@ -31,7 +31,7 @@ pub fn reach(bits: &mut Vec<u64>, places: usize) -> Result<(), AllocError>
     ensures more { length bits.old.items ≤ length bits.new.items }
     ensures wide { OnOk result (places ≤ 64 * length bits.new.items) }
 {
-    if bits.len() < places.div_ceil(64) {
+    if bits.len() <= places / 64 {
         bits.push(0)?;
     }
     Ok(())

@@ -16,33 +16,48 @@ use Rattle.value_text.proofs.Tables.{is_table}
 use Rattle.value_text.proofs.Exact.{printed_reads}
 use Rattle.value_text.specs.declared.print.Row.{Row}
 use Rattle.value_text.specs.Standing.{Stands, StandAll}
-use Rattle.value_text.specs.Printing.{Task, Whole, Fields, task_of, last_first, printed_tail, AreLast, Prints, Printing}
+use Rattle.value_text.specs.Printing.{Task, Whole, Fields, Close, fields_of, closes, row_tasks, last_first, printed_tail, AreLast, Prints, Printing}
 
-pub last_push : (rs : List Row) (r : Row) → last_first (rs ++ r ∷ []) ≡ task_of r ∷ last_first rs
+closes_on : (n : ℕ) (ts us : List Task) → closes n ts ++ us ≡ closes n (ts ++ us)
+closes_on zero ts us = refl
+closes_on (suc n) ts us = ap (λ l. Close ∷ l) (closes_on n ts us)
+
+row_on : (r : Row) (ts us : List Task) → row_tasks r ts ++ us ≡ row_tasks r (ts ++ us)
+row_on r ts us = ap (λ l. fields_of r.types.now r.place ∷ l) (closes_on r.behind ts us)
+
+pub last_push : (rs : List Row) (r : Row) → last_first (rs ++ r ∷ []) ≡ row_tasks r (last_first rs)
 unfolding last_first
 last_push [] r = refl
-last_push (u ∷ rs) r = ap (λ l. l ++ task_of u ∷ []) (last_push rs r)
+last_push (u ∷ rs) r = ap (λ l. l ++ row_tasks u []) (last_push rs r) ∙ row_on r (last_first rs) (row_tasks u [])
 
 pub last_empty : last_first [] ≡ []
 unfolding last_first
 last_empty = refl
 
 -- the last row is the first task
-pub top_first : (rs : List Row) (n : ℕ) (r : Row) → suc n ≡ length rs → r ≡ get_or rs n r → last_first rs ≡ task_of r ∷ last_first (take n rs)
+pub top_first : (rs : List Row) (n : ℕ) (r : Row) → suc n ≡ length rs → r ≡ get_or rs n r → last_first rs ≡ row_tasks r (last_first (take n rs))
 unfolding last_first
 top_first [] n r l e = absurd (omega (arith, l))
-top_first (u ∷ []) zero r l e = ap (λ u. task_of u ∷ []) (sym e)
+top_first (u ∷ []) zero r l e = ap (λ u. row_tasks u []) (sym e)
 top_first (u ∷ []) (suc n) r l e = absurd (omega (arith, l))
 top_first (u ∷ v ∷ rs) zero r l e = absurd (omega (arith, l))
-top_first (u ∷ v ∷ rs) (suc n) r l e = ap (λ ts. ts ++ task_of u ∷ []) (top_first (v ∷ rs) n r (omega (arith, l)) e)
+top_first (u ∷ v ∷ rs) (suc n) r l e = ap (λ ts. ts ++ row_tasks u []) (top_first (v ∷ rs) n r (omega (arith, l)) e) ∙ row_on r (last_first (take n (v ∷ rs))) (row_tasks u [])
 
-pub set_first : (rs : List Row) (n : ℕ) (r : Row) → suc n ≡ length rs → last_first (slice_set rs n r) ≡ task_of r ∷ last_first (take n rs)
+pub set_first : (rs : List Row) (n : ℕ) (r : Row) → suc n ≡ length rs → last_first (slice_set rs n r) ≡ row_tasks r (last_first (take n rs))
 unfolding last_first
 set_first [] n r l = absurd (omega (arith, l))
 set_first (u ∷ []) zero r l = refl
 set_first (u ∷ []) (suc n) r l = absurd (omega (arith, l))
 set_first (u ∷ v ∷ rs) zero r l = absurd (omega (arith, l))
-set_first (u ∷ v ∷ rs) (suc n) r l = ap (λ ts. ts ++ task_of u ∷ []) (set_first (v ∷ rs) n r (omega (arith, l)))
+set_first (u ∷ v ∷ rs) (suc n) r l = ap (λ ts. ts ++ row_tasks u []) (set_first (v ∷ rs) n r (omega (arith, l))) ∙ row_on r (last_first (take n (v ∷ rs))) (row_tasks u [])
+
+pub no_fields : (ks : List ℕ) (p : ℕ) → length ks ≡ 0 → fields_of ks p ≡ Close
+no_fields [] p z = refl
+no_fields (k ∷ ks) p z = absurd (omega (arith, z))
+
+-- a row of which only the ) is left, and one more behind it
+pub closed_row : (rs : List Row) (n : ℕ) (r : Row) → suc n ≡ length rs → r ≡ get_or rs n r → length r.types.now ≡ 0 → last_first rs ≡ closes (suc r.behind) (last_first (take n rs))
+closed_row rs n r l e none = top_first rs n r l e ∙ ap (λ t. t ∷ closes r.behind (last_first (take n rs))) (no_fields r.types.now r.place none)
 
 pub some_rows : (n : ℕ) (b : Bool) → b ≡ (n == 0) → b ≡ false → 0 < n
 some_rows zero b e f = cc
@@ -127,15 +142,20 @@ last_within tb cs (k ∷ ks) p c (MoreParts x xs) l h = (last_fewer tb cs k ks p
 none-some-is : {A : Type 0} (x : A) → None ≡ Some x → ⊥
 none-some-is x e = cc
 
-tail_by : (tb : Table) (cs : Cells) (k : ℕ) (r : List ℕ) (p : ℕ) (c : Cell) (xs : Parts) (w : ℕ) (ts ts' : List Task) (rest : List ℕ) → AreLast tb cs (k ∷ r) p c xs → Some w ≡ slice_get c.fields (length c.fields - suc (length r)) → ts' ≡ Whole k w ∷ Fields r p ∷ ts → Prints tb cs ts rest → Prints tb cs ts' (printed_tail tb (k ∷ r) (values_of xs) rest)
+-- fields that are left, or the )
+fields_print : (tb : Table) (cs : Cells) (types : List ℕ) (p : ℕ) (c : Cell) (xs : Parts) (ts : List Task) (rest : List ℕ) → AreLast tb cs types p c xs → Prints tb cs ts rest → Prints tb cs (fields_of types p ∷ ts) (printed_more tb types (values_of xs) rest)
+fields_print tb cs [] p c xs ts rest h pr = (rest, refl, pr)
+fields_print tb cs (k ∷ ks) p c xs ts rest h pr = (c, xs, h, rest, refl, pr)
+
+tail_by : (tb : Table) (cs : Cells) (k : ℕ) (r : List ℕ) (p : ℕ) (c : Cell) (xs : Parts) (w : ℕ) (ts ts' : List Task) (rest : List ℕ) → AreLast tb cs (k ∷ r) p c xs → Some w ≡ slice_get c.fields (length c.fields - suc (length r)) → ts' ≡ Whole k w ∷ fields_of r p ∷ ts → Prints tb cs ts rest → Prints tb cs ts' (printed_tail tb (k ∷ r) (values_of xs) rest)
 tail_by tb cs k r p c NoParts w ts ts' rest h f e pr = absurd h.stand
 tail_by tb cs k r p c (MoreParts x xs) w ts ts' rest h f e pr =
     let d = last_fewer tb cs k r p c x xs h in
     let same : word_of x ≡ w = let q = sym d.0 ∙ sym f in cc in
     let text = printed tb k (value_of x) (printed_more tb r (values_of xs) rest) in
-    subst (λ ts. Prints tb cs ts text) (sym e) (x, (h.stand).0, same, printed_more tb r (values_of xs) rest, refl, (c, xs, d.1, rest, refl, pr))
+    subst (λ ts. Prints tb cs ts text) (sym e) (x, (h.stand).0, same, printed_more tb r (values_of xs) rest, refl, fields_print tb cs r p c xs ts rest d.1 pr)
 
-pub tail_prints : (tb : Table) (cs : Cells) (types : List ℕ) (k : ℕ) (r : List ℕ) (p : ℕ) (c : Cell) (xs : Parts) (w : ℕ) (ts ts' : List Task) (rest : List ℕ) → types ≡ k ∷ r → AreLast tb cs types p c xs → ((c : Cell) → cell_at cs p ≡ Some c → 0 < length types → length types ≤ length c.fields → Some w ≡ slice_get c.fields (length c.fields - length types)) → ts' ≡ Whole k w ∷ Fields r p ∷ ts → Prints tb cs ts rest → Prints tb cs ts' (printed_tail tb types (values_of xs) rest)
+pub tail_prints : (tb : Table) (cs : Cells) (types : List ℕ) (k : ℕ) (r : List ℕ) (p : ℕ) (c : Cell) (xs : Parts) (w : ℕ) (ts ts' : List Task) (rest : List ℕ) → types ≡ k ∷ r → AreLast tb cs types p c xs → ((c : Cell) → cell_at cs p ≡ Some c → 0 < length types → length types ≤ length c.fields → Some w ≡ slice_get c.fields (length c.fields - length types)) → ts' ≡ Whole k w ∷ fields_of r p ∷ ts → Prints tb cs ts rest → Prints tb cs ts' (printed_tail tb types (values_of xs) rest)
 tail_prints tb cs types k r p c xs w ts ts' rest t h f e pr =
     let l : length types ≡ suc (length r) = ap length t in
     let some : 0 < length types = omega (arith, l) in
@@ -165,10 +185,6 @@ pub more_prints : (tb : Table) (cs : Cells) (types : List ℕ) (p : ℕ) (c : Ce
 more_prints tb cs types p c xs ts' out out' rest l h pr o =
     let text = printed_tail tb types (values_of xs) rest in
     (text, pr, ap (λ o. o ++ text) o ∙ append_assoc out (44 ∷ 32 ∷ []) text ∙ ap (λ x. out ++ x) (sym (tail_of tb types xs cs rest l h.stand).0))
-
-pub close_prints : (tb : Table) (cs : Cells) (types : List ℕ) (vs : Values) (ts : List Task) (out out' rest : List ℕ) → length types ≡ 0 → Prints tb cs ts rest → out' ≡ out ++ 41 ∷ [] → Printing tb cs ts out' (out ++ printed_more tb types vs rest)
-close_prints tb cs [] vs ts out out' rest l pr o = (rest, pr, ap (λ o. o ++ rest) o ∙ append_assoc out (41 ∷ []) rest)
-close_prints tb cs (k ∷ ks) vs ts out out' rest l pr o = absurd (omega arith)
 
 pub not_there : (cs : Cells) (p : ℕ) (c : Cell) → cell_at cs p ≡ Some c → cell_at cs p ≢ None
 not_there cs p c e n = none-some-is c (sym n ∙ e)
@@ -255,6 +271,16 @@ printing_fields tb cs types p ts ts' out out' whole h f =
     let k = h.1 in
     let q = f tb k.0 k.1 k.2 k.3 k.5 in
     (q.0, q.1, q.2 ∙ ap (λ x. out ++ x) (sym k.4) ∙ h.2)
+
+pub printing_row : (tb : Table) (cs : Cells) (types : List ℕ) (p : ℕ) (ts ts' : List Task) (out out' whole : List ℕ) → 0 < length types → Printing tb cs (fields_of types p ∷ ts) out whole → ((tb : Table) (c : Cell) (xs : Parts) → AreLast tb cs types p c xs → (rest : List ℕ) → Prints tb cs ts rest → Printing tb cs ts' out' (out ++ printed_more tb types (values_of xs) rest)) → Printing tb cs ts' out' whole
+printing_row tb cs [] p ts ts' out out' whole l h f = absurd (omega arith)
+printing_row tb cs (k ∷ ks) p ts ts' out out' whole l h f = printing_fields tb cs (k ∷ ks) p ts ts' out out' whole h f
+
+pub printing_close : (tb : Table) (cs : Cells) (types : List ℕ) (p : ℕ) (ts : List Task) (out out' whole : List ℕ) → length types ≡ 0 → out' ≡ out ++ 41 ∷ [] → Printing tb cs (fields_of types p ∷ ts) out whole → Printing tb cs ts out' whole
+printing_close tb cs [] p ts out out' whole l o h =
+    let k = h.1 in
+    (k.0, k.2, ap (λ o. o ++ k.0) o ∙ append_assoc out (41 ∷ []) k.0 ∙ ap (λ x. out ++ x) (sym k.1) ∙ h.2)
+printing_close tb cs (k ∷ ks) p ts out out' whole l o h = absurd (omega (arith, l))
 
 pub printing_ends : (tb : Table) (cs : Cells) (ts : List Task) (out whole : List ℕ) → ts ≡ [] → Printing tb cs ts out whole → out ≡ whole
 printing_ends tb cs ts out whole e h =

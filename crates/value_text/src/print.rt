@@ -1,6 +1,6 @@
 // A value printed, without recursion: what is still to be printed is a list of rows of fields.
 ghost use Rattle.std.specs.Prelude.{◌≡◌, ◌≢◌, ℕ, ℤ, ◌+◌, ◌-◌, ◌*◌, ◌<◌, ◌≤◌, ◌^◌, List, [], ◌∷◌, ◌++◌, length};
-ghost use Rattle.std.specs.Prelude.{Some, None, IfOk, OnOk, IfSome, IfNone, FitsSigned, slice_get, vec_len};
+ghost use Rattle.std.specs.Prelude.{Some, None, IfOk, OnOk, IfSome, IfNone, FitsSigned, slice_get, suc, take, vec_len};
 ghost use Rattle.std.specs.Int.{w64};
 ghost use Rattle.std.specs.Fmt.{signed_decimal};
 ghost use Rattle.fip_language.specs.Values.{End, More};
@@ -12,7 +12,7 @@ ghost use Rattle.fip_language.specs.ValueText.{SpellsValues};
 ghost use Rattle.cell_store.specs.Cells.{cell_at};
 ghost use Rattle.value_text.specs.Standing.{Stands};
 ghost use Rattle.value_text.specs.Printing.{last_first, printed_tail, AreLast, Prints, Printing};
-ghost use Rattle.value_text.specs.Printing.{Task, task_of, then_tasks, then_field, one_task, Whole};
+ghost use Rattle.value_text.specs.Printing.{Task, fields_of, closes, row_tasks, then_tasks, then_field, one_task, Whole};
 
 use crate::read::split;
 use cell_store::Cells;
@@ -21,11 +21,13 @@ use fip_base::table::{Constructor, TypeTable};
 use itoa::Buffer;
 use std::alloc::{AllocError, Global};
 
-/// The last fields of a cell, which wait: their types, and the cell's place.
+/// The last fields of a cell, which wait: their types, and the cell's place; and behind them so many further cells of
+/// which only the ) is left.
 #[derive(Clone, Copy)]
 pub struct Row<'a> {
     types: &'a [u32],
     place: u32,
+    behind: u32,
 }
 
 /// The first of the last fields of a cell: its type and word, and the types of the fields behind it.
@@ -49,16 +51,34 @@ fn int_of_bits(word: u64) -> i64
     }
 }
 
-// Puts a few bytes behind the others, one after another.
+// Puts bytes behind the others; where their number is known to the compiler, with one test of the room.
+#[inline(always)]
+fn put(bytes: &[u8], out: &mut Vec<u8>) -> Result<(), AllocError>
+    ensures items { OnOk result (out.new.items ≡ out.old.items ++ bytes.now) }
+    ensures more { OnOk result (vec_len out.new ≡ vec_len out.old + length bytes.now) }
+{
+    out.extend_from_slice(bytes)?;
+    Ok(())
+}
+
+// Puts a few bytes behind the others. Up to eight are told apart, so that they are moved at once.
 #[inline(always)]
 fn put_bytes(bytes: &[u8], out: &mut Vec<u8>) -> Result<(), AllocError>
     ensures items { OnOk result (out.new.items ≡ out.old.items ++ bytes.now) }
     ensures more { OnOk result (vec_len out.new ≡ vec_len out.old + length bytes.now) }
 {
-    for b in bytes {
-        out.push(*b)?;
+    match bytes {
+        [] => Ok(()),
+        [a] => put(&[*a], out),
+        [a, b] => put(&[*a, *b], out),
+        [a, b, c] => put(&[*a, *b, *c], out),
+        [a, b, c, d] => put(&[*a, *b, *c, *d], out),
+        [a, b, c, d, e] => put(&[*a, *b, *c, *d, *e], out),
+        [a, b, c, d, e, f] => put(&[*a, *b, *c, *d, *e, *f], out),
+        [a, b, c, d, e, f, g] => put(&[*a, *b, *c, *d, *e, *f, *g], out),
+        [a, b, c, d, e, f, g, h] => put(&[*a, *b, *c, *d, *e, *f, *g, *h], out),
+        _ => put(bytes, out),
     }
-    Ok(())
 }
 
 fn print_int(word: u64, out: &mut Vec<u8>) -> Result<(), AllocError>
@@ -68,16 +88,120 @@ fn print_int(word: u64, out: &mut Vec<u8>) -> Result<(), AllocError>
 {
     let mut buffer = Buffer::new();
     let i = int_of_bits(word);
-    out.extend_from_slice(buffer.format(i).as_bytes())?;
-    Ok(())
+    put_bytes(buffer.format(i).as_bytes(), out)
+}
+
+// How many cells wait behind a further one, where only the ) of this one is left.
+#[inline(always)]
+fn closed(types: &[u32], behind: u32) -> Option<u32>
+    ensures { IfSome result (λ n. (length types.now ≡ 0) × (n ≡ suc behind)) }
+{
+    if types.is_empty() && behind < u32::MAX {
+        Some(behind + 1)
+    } else {
+        None
+    }
+}
+
+// The top row, where only the ) of its cell is left, and how many cells wait behind a further one in its place.
+#[inline(always)]
+fn waiting<'a>(rows: &Vec<Row<'a>>) -> Option<(usize, u32)>
+    ensures { IfSome result (λ r. (suc r.0 ≡ length rows.now.items)
+        × (last_first rows.now.items ≡ closes r.1 (last_first (take r.0 rows.now.items)))) }
+{
+    if rows.is_empty() {
+        return None;
+    }
+    let top = rows.len() - 1;
+    let row = rows[top];
+    match closed(row.types, row.behind) {
+        Some(behind) => Some((top, behind)),
+        None => None,
+    }
 }
 
 #[inline(always)]
-fn add<'a>(rows: &mut Vec<Row<'a>>, row: Row<'a>) -> Result<(), AllocError>
-    ensures added { OnOk result (last_first rows.new.items ≡ task_of row.entry ∷ last_first rows.old.items) }
+fn push_row<'a>(rows: &mut Vec<Row<'a>>, row: Row<'a>) -> Result<(), AllocError>
+    ensures added { OnOk result (last_first rows.new.items ≡ row_tasks row.entry (last_first rows.old.items)) }
     ensures one { OnOk result (vec_len rows.new ≡ vec_len rows.old + 1) }
 {
     rows.push(row)?;
+    Ok(())
+}
+
+// The last fields of a cell come next. Where only the ) of the cell above is left, that waits in the same row, so that
+// a long list takes no more memory than a short one.
+#[inline(always)]
+fn add<'a>(rows: &mut Vec<Row<'a>>, types: &'a [u32], place: u32) -> Result<(), AllocError>
+    ensures added { OnOk result (last_first rows.new.items ≡ fields_of types.now place ∷ last_first rows.old.items) }
+    ensures one { OnOk result (vec_len rows.new ≤ vec_len rows.old + 1) }
+{
+    match waiting(rows) {
+        Some((top, behind)) => {
+            rows[top] = Row {
+                types,
+                place,
+                behind,
+            };
+            Ok(())
+        }
+        None => {
+            let behind = 0;
+            push_row(
+                rows,
+                Row {
+                    types,
+                    place,
+                    behind,
+                },
+            )
+        }
+    }
+}
+
+fn nothing<'a>() -> &'a [u32]
+    ensures { length result.now ≡ 0 }
+{
+    &[]
+}
+
+// The cell of the top row is printed; those behind it wait on.
+#[inline(always)]
+fn close<'a>(rows: &mut Vec<Row<'a>>, top: usize, behind: u32)
+    requires { suc top ≡ length rows.old.items }
+    ensures tasks { last_first rows.new.items ≡ closes behind (last_first (take top rows.old.items)) }
+    ensures fewer { vec_len rows.new ≤ vec_len rows.old }
+{
+    if behind == 0 {
+        rows.truncate(top);
+    } else {
+        let types = nothing();
+        let place = 0;
+        let behind = behind - 1;
+        rows[top] = Row {
+            types,
+            place,
+            behind,
+        };
+    }
+}
+
+// The ) of the cell of the top row.
+#[inline(always)]
+fn print_close<'a>(
+    out: &mut Vec<u8>,
+    rows: &mut Vec<Row<'a>>,
+    top: usize,
+    behind: u32,
+) -> Result<(), AllocError>
+    requires { suc top ≡ length rows.old.items }
+    ensures tasks { OnOk result (last_first rows.new.items ≡ closes behind (last_first (take top rows.old.items))) }
+    ensures fewer { OnOk result (vec_len rows.new ≤ vec_len rows.old) }
+    ensures text { OnOk result (out.new.items ≡ out.old.items ++ 41 ∷ []) }
+    ensures grows { OnOk result (vec_len out.old < vec_len out.new) }
+{
+    out.push(b')')?;
+    close(rows, top, behind);
     Ok(())
 }
 
@@ -130,7 +254,7 @@ fn first_field<'a, C: Cells>(cells: &C, types: &'a [u32], place: u32) -> Option<
     }
 }
 
-// The comma before the last fields of a cell, of which the first comes next, or the ) behind them.
+// The comma before the last fields of a cell, of which the first comes next.
 #[inline(always)]
 fn print_field<'a, C: Cells>(
     cells: &C,
@@ -138,22 +262,18 @@ fn print_field<'a, C: Cells>(
     place: u32,
     out: &mut Vec<u8>,
 ) -> Result<Option<Field<'a>>, AllocError>
+    requires { 0 < length types.now }
     ensures prints { IfOk result (λ next. (tb : Table) (c : Cell) (xs : Parts) →
         AreLast tb (C.cells cells.now) types.now place c xs → (rest : List ℕ) (ts : List Task) →
         Prints tb (C.cells cells.now) ts rest →
         Printing tb (C.cells cells.now) (then_field next place ts) out.new.items
         (out.old.items ++ printed_more tb types.now (values_of xs) rest)) }
-    ensures more { IfOk result (λ next. vec_len out.old ≤ vec_len out.new) }
-    ensures grows { IfOk result (λ next. IfSome next (λ f. vec_len out.old < vec_len out.new)) }
+    ensures grows { IfOk result (λ next. vec_len out.old < vec_len out.new) }
 {
-    if types.is_empty() {
-        out.push(b')')?;
-        return Ok(None);
-    }
+    put(b", ", out)?;
     if !cells.begins(place) {
         return Ok(None);
     }
-    put_bytes(b", ", out)?;
     Ok(first_field(cells, types, place))
 }
 
@@ -190,7 +310,7 @@ fn print_cell<'a, C: Cells>(
         None => Ok(None),
         Some(field) => {
             let types = field.rest;
-            add(rows, Row { types, place })?;
+            add(rows, types, place)?;
             Ok(Some((field.ty, field.word)))
         }
     }
@@ -246,6 +366,47 @@ fn print_whole<'a, C: Cells>(
     }
 }
 
+// What is left of the cell of the top row, up to its next field.
+#[inline(always)]
+fn print_row<'a, C: Cells>(
+    cells: &C,
+    last: &'a [u32],
+    place: u32,
+    behind: u32,
+    top: usize,
+    out: &mut Vec<u8>,
+    rows: &mut Vec<Row<'a>>,
+) -> Result<Option<(u32, u64)>, AllocError>
+    requires top { suc top ≡ length rows.old.items }
+    requires tasks { last_first rows.old.items
+        ≡ fields_of last.now place ∷ closes behind (last_first (take top rows.old.items)) }
+    ensures prints { IfOk result (λ next. (tb : Table) (whole : List ℕ) →
+        Printing tb (C.cells cells.now) (last_first rows.old.items) out.old.items whole →
+        Printing tb (C.cells cells.now) (then_tasks next (last_first rows.new.items)) out.new.items whole) }
+    ensures fewer { IfOk result (λ next. vec_len rows.new ≤ vec_len rows.old) }
+    ensures grows { IfOk result (λ next. vec_len out.old < vec_len out.new) }
+{
+    if last.is_empty() {
+        print_close(out, rows, top, behind)?;
+        return Ok(None);
+    }
+    match print_field(cells, last, place, out)? {
+        Some(field) => {
+            let rest = field.rest;
+            rows[top] = Row {
+                types: rest,
+                place,
+                behind,
+            };
+            Ok(Some((field.ty, field.word)))
+        }
+        None => {
+            close(rows, top, behind);
+            Ok(None)
+        }
+    }
+}
+
 // The rows, one after another, until a value comes next.
 #[inline(always)]
 fn next_value<'a, C: Cells>(
@@ -266,13 +427,9 @@ fn next_value<'a, C: Cells>(
         }
         let top = rows.len() - 1;
         let row = rows[top];
-        match print_field(cells, row.types, row.place, out)? {
-            Some(field) => {
-                let types = field.rest;
-                rows[top] = Row { types, ..row };
-                return Ok(Some((field.ty, field.word)));
-            }
-            None => rows.truncate(top),
+        match print_row(cells, row.types, row.place, row.behind, top, out, rows)? {
+            Some(next) => return Ok(Some(next)),
+            None => {}
         }
     }
 }

@@ -1,41 +1,33 @@
-use Rattle.std.proofs.Common.{◌≡◌, suc, ◌-◌, ◌∷◌, List, Option, length, take, sym, subst, arith}
-use Rattle.value_text.specs.declared.print.Field.{Field}
-use Rattle.value_text.specs.declared.print.Row.{Row}
-use Rattle.value_text.specs.Printing.{Task, Whole, last_first, then_field, Printing}
-use Rattle.value_text.proofs.Printing.{top_first, set_first, some_rows, printing_fields}
+use Rattle.std.proofs.Common.{◌≡◌, suc, ◌-◌, Option, length, subst, arith}
+use Rattle.std.specs.Prelude.{ℕ}
+use Rattle.value_text.specs.Printing.{last_first, then_tasks, Printing}
+use Rattle.value_text.proofs.Printing.{top_first, some_rows}
 use Rattle.value_text.proofs.print.next_value.Goals as goal
+
+pub print_row-requires-clause-top : goal.print_row-requires-clause-top
+print_row-requires-clause-top g c =
+    let a = some_rows _ c.is_empty.result c.is_empty.ensures c.if-is_empty.false in
+    let b = c.len-top.ensures in
+    omega (arith, a, b)
+
+pub print_row-requires-clause-tasks : goal.print_row-requires-clause-tasks
+print_row-requires-clause-tasks g c =
+    let rows = c.waiting.rows.items in
+    let top = c.len-top.result - 1 in
+    let left : suc top ≡ length rows = let a = some_rows _ c.is_empty.result c.is_empty.ensures c.if-is_empty.false in let b = c.len-top.ensures in omega (arith, a, b) in
+    top_first rows top c.index-row.result.now left c.index-row.ensures
 
 pub returns-in-Some-clause-prints : goal.returns-in-Some-clause-prints
 returns-in-Some-clause-prints g c = λ tb whole p.
     let cs = g.C.Cells.cells c.args.cells.now in
-    let rows = c.waiting.rows.items in
-    let row = c.index-row.result.now in
-    let out' = c.print_field.new.out.items in
-    let top = c.len-top.result - 1 in
-    let left : suc top ≡ length rows = let a = some_rows _ c.is_empty.result c.is_empty.ensures c.if-is_empty.false in let b = c.len-top.ensures in omega (arith, a, b) in
-    let ts = last_first (take top rows) in
-    let next : Row = record row { types = c.in-Some.field.rest } in
-    subst (λ (ts : List Task). Printing tb cs (Whole c.in-Some.field.ty c.in-Some.field.word ∷ ts) out' whole) (sym (set_first rows top next left))
-    (subst (λ (o : Option Field). Printing tb cs (then_field o row.place ts) out' whole) c.in-Some.is
-    (printing_fields tb cs row.types.now row.place ts (then_field c.in_ok-field.field-0 row.place ts) c.waiting.out.items out' whole
-    (subst (λ (ts : List Task). Printing tb cs ts c.waiting.out.items whole) (top_first rows top row left c.index-row.ensures) (c.waiting.invariant.prints tb whole p))
-    (λ tb x xs h rest pr. c.in_ok-field.ensures.prints tb x xs h rest ts pr)))
+    subst (λ (o : Option (ℕ × ℕ)). Printing tb cs (then_tasks o (last_first c.print_row.new.rows.items)) c.print_row.new.out.items whole) c.in-Some.is
+    (c.in_ok-next.ensures.prints tb whole (c.waiting.invariant.prints tb whole p))
 
 pub waiting-preserved : goal.waiting-preserved
 waiting-preserved g c =
     let cs = g.C.Cells.cells c.args.cells.now in
-    let rows = c.waiting.rows.items in
-    let row = c.index-row.result.now in
-    let out' = c.print_field.new.out.items in
-    let top = c.len-top.result - 1 in
-    let some = some_rows _ c.is_empty.result c.is_empty.ensures c.if-is_empty.false in
-    let left : suc top ≡ length rows = let a = some in let b = c.len-top.ensures in omega (arith, a, b) in
-    let ts = last_first (take top rows) in
     record {
-      prints = λ tb whole p. subst (λ (rs : List Row). Printing tb cs (last_first rs) out' whole) (sym c.truncate.ensures.items)
-          (subst (λ (o : Option Field). Printing tb cs (then_field o row.place ts) out' whole) c.in-None.is
-          (printing_fields tb cs row.types.now row.place ts (then_field c.in_ok-field.field-0 row.place ts) c.waiting.out.items out' whole
-          (subst (λ (ts : List Task). Printing tb cs ts c.waiting.out.items whole) (top_first rows top row left c.index-row.ensures) (c.waiting.invariant.prints tb whole p))
-          (λ tb x xs h rest pr. c.in_ok-field.ensures.prints tb x xs h rest ts pr)));
-      steps = let a = some in let b = c.len-top.ensures in let d = c.truncate.ensures.len in let e = c.waiting.invariant.steps in let f = c.in_ok-field.ensures.more in omega (arith, a, b, d, e, f);
+      prints = λ tb whole p. subst (λ (o : Option (ℕ × ℕ)). Printing tb cs (then_tasks o (last_first c.print_row.new.rows.items)) c.print_row.new.out.items whole) c.in-None.is
+          (c.in_ok-next.ensures.prints tb whole (c.waiting.invariant.prints tb whole p));
+      steps = let d = c.in_ok-next.ensures.fewer in let e = c.waiting.invariant.steps in let f = c.in_ok-next.ensures.grows in omega (arith, d, e, f);
     }

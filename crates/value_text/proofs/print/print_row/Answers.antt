@@ -1,0 +1,49 @@
+use Rattle.std.proofs.Common.{◌∷◌, List, Option, take, sym, subst}
+use Rattle.value_text.specs.declared.print.Field.{Field}
+use Rattle.value_text.specs.declared.print.Row.{Row}
+use Rattle.value_text.specs.Printing.{Task, Whole, closes, last_first, then_field, Printing}
+use Rattle.value_text.proofs.Printing.{set_first, printing_row, printing_close}
+use Rattle.value_text.proofs.Printed.{some_of, none_of}
+use Rattle.value_text.proofs.print.print_row.Goals as goal
+
+pub print_field-requires : goal.print_field-requires
+print_field-requires g c = some_of c.args.last.now c.is_empty.result c.is_empty.ensures c.if-is_empty.false
+
+pub returns-then-is_empty-clause-prints : goal.returns-then-is_empty-clause-prints
+returns-then-is_empty-clause-prints g c = λ tb whole p.
+    let cs = g.C.Cells.cells c.args.cells.now in
+    let out = c.args.out.now.items in
+    let out' = c.print_close.new.out.items in
+    let ts = closes c.args.behind (last_first (take c.args.top c.args.rows.now.items)) in
+    subst (λ (ts : List Task). Printing tb cs ts out' whole) (sym c.in_ok-print_close.ensures.tasks)
+    (printing_close tb cs c.args.last.now c.args.place ts out out' whole (none_of c.args.last.now c.is_empty.result c.is_empty.ensures c.if-is_empty.true) c.in_ok-print_close.ensures.text
+    (subst (λ (ts : List Task). Printing tb cs ts out whole) c.requires.tasks p))
+
+pub returns-in-Some-clause-prints : goal.returns-in-Some-clause-prints
+returns-in-Some-clause-prints g c = λ tb whole p.
+    let cs = g.C.Cells.cells c.args.cells.now in
+    let rows = c.args.rows.now.items in
+    let out = c.args.out.now.items in
+    let out' = c.print_field.new.out.items in
+    let ts = closes c.args.behind (last_first (take c.args.top rows)) in
+    let next : Row = record { types = c.in-Some.field.rest; place = c.args.place; behind = c.args.behind } in
+    let some = some_of c.args.last.now c.is_empty.result c.is_empty.ensures c.if-is_empty.false in
+    subst (λ (ts : List Task). Printing tb cs (Whole c.in-Some.field.ty c.in-Some.field.word ∷ ts) out' whole) (sym (set_first rows c.args.top next c.requires.top))
+    (subst (λ (o : Option Field). Printing tb cs (then_field o c.args.place ts) out' whole) c.in-Some.is
+    (printing_row tb cs c.args.last.now c.args.place ts (then_field c.in_ok-field.field-0 c.args.place ts) out out' whole some
+    (subst (λ (ts : List Task). Printing tb cs ts out whole) c.requires.tasks p)
+    (λ tb x xs h rest pr. c.in_ok-field.ensures.prints tb x xs h rest ts pr)))
+
+pub returns-in-None-clause-prints : goal.returns-in-None-clause-prints
+returns-in-None-clause-prints g c = λ tb whole p.
+    let cs = g.C.Cells.cells c.args.cells.now in
+    let rows = c.args.rows.now.items in
+    let out = c.args.out.now.items in
+    let out' = c.print_field.new.out.items in
+    let ts = closes c.args.behind (last_first (take c.args.top rows)) in
+    let some = some_of c.args.last.now c.is_empty.result c.is_empty.ensures c.if-is_empty.false in
+    subst (λ (ts : List Task). Printing tb cs ts out' whole) (sym c.close.ensures.tasks)
+    (subst (λ (o : Option Field). Printing tb cs (then_field o c.args.place ts) out' whole) c.in-None.is
+    (printing_row tb cs c.args.last.now c.args.place ts (then_field c.in_ok-field.field-0 c.args.place ts) out out' whole some
+    (subst (λ (ts : List Task). Printing tb cs ts out whole) c.requires.tasks p)
+    (λ tb x xs h rest pr. c.in_ok-field.ensures.prints tb x xs h rest ts pr)))

@@ -30,5 +30,12 @@ other_file_is_bad = refl
 pub no_bytes_are_bad : read_trace [] ≡ Bad 0
 no_bytes_are_bad = refl
 
-pub ruleset computed = (arguments_lie, arguments_are, credits_are, file_is, file_is_read, other_file_is_bad,
-    no_bytes_are_bad)
+pub ruleset computed = (
+  arguments_lie,
+  arguments_are,
+  credits_are,
+  file_is,
+  file_is_read,
+  other_file_is_bad,
+  no_bytes_are_bad,
+)

@@ -50,13 +50,12 @@ unfolding read_number big_endian
 number_gives zero m at rest h = (at, ap (λ k. Got k at rest) (none m h))
 number_gives (suc w) m at rest h =
     let below : Gives (read_number w 0 at (big_endian w (m / 256) ++ (m % 256) ∷ rest)) (m / 256) ((m % 256) ∷ rest) =
-        number_gives w (m / 256) at ((m % 256) ∷ rest) (front m (256 ^ w) (256 ^ suc w) (pow-suc 256 w) h) in
-    (
+    number_gives w (m / 256) at ((m % 256) ∷ rest) (front m (256 ^ w) (256 ^ suc w) (pow-suc 256 w) h) in (
       suc below.0,
       ap (λ bytes. read_number (suc w) 0 at bytes) (append_assoc (big_endian w (m / 256)) ((m % 256) ∷ []) rest)
-      ∙ (number_next w 0 at (big_endian w (m / 256) ++ (m % 256) ∷ rest)
-      ∙ (ap (λ q. then_read q (λ k at' rest'. read_number 1 k at' rest')) below.1
-      ∙ ap (λ k. Got k (suc below.0) rest) (joined m))),
+          ∙ (number_next w 0 at (big_endian w (m / 256) ++ (m % 256) ∷ rest)
+          ∙ (ap (λ q. then_read q (λ k at' rest'. read_number 1 k at' rest')) below.1
+          ∙ ap (λ k. Got k (suc below.0) rest) (joined m))),
     )
 
 words_give : (ws : List ℕ) (at : ℕ) (rest : List ℕ) → Every IsWord ws →

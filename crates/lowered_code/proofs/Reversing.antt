@@ -73,7 +73,7 @@ arrives_nil cs e = record {
   kept = λ r f. refl;
   names = λ x r h. inr h;
   bound = λ x r v h g. absurd (cc);
-  bares = λ r t c h. let two = bare_is r t c h in ap cs two.0 ∙ e ∙ ap (λ d. Node d End) (sym two.1);
+  bares = λ r t c h. let two = bare_is r t c h in inr (ap cs two.0 ∙ e ∙ ap (λ d. Node d End) (sym two.1));
 }
 
 abbrev bound_two : Value → Value → List Binding
@@ -120,7 +120,7 @@ no_other (suc (suc d)) u ne = let lt = u.fixed.used in absurd (omega (arith, lt)
 
 opens_nil : Opens at_start 0 at_nil.known
 opens_nil = record {
-  tidy = λ t. record {
+  tidy = λ f t. record {
     named = λ x r h. record { used = let lt = (t.named x r h).used in omega (arith, lt); kept = tt };
     bare = λ r u c h. record { used = let e = (bare_is r u c h).0 in omega (arith, e); kept = tt };
     once = tt;
@@ -138,7 +138,7 @@ cons_fixed (suc (suc (suc (suc x)))) r h = absurd (cc)
 
 opens_cons : Opens at_start 0 at_cons.known
 opens_cons = record {
-  tidy = λ t. record {
+  tidy = λ f t. record {
     named = cons_fixed;
     bare = λ r u c h. absurd (no_bare r u c h);
     once = (tt, tt);

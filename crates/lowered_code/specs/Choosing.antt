@@ -17,8 +17,9 @@ use Rattle.cell_code.specs.declared.code.Instr.TheVariants as I
 use Rattle.tree_runs.specs.Contents.{Contents, put, put_all, children, value_at}
 use Rattle.tree_runs.specs.Steps.{is_node, is_int}
 use Rattle.lowered_code.specs.declared.held.Held.TheVariants as H
+use Rattle.lowered_code.specs.declared.held.Credit.{Credit}
 use Rattle.lowered_code.specs.Known.{Known, register_of}
-use Rattle.lowered_code.specs.Tidy.{Fixed, Tidy, Unknown}
+use Rattle.lowered_code.specs.Tidy.{Fixed, Tidy, Unknown, NotIn, Once, Below}
 
 -- a place of a function's code, and what its registers hold there
 pub record Place : Type 0 where
@@ -77,7 +78,8 @@ pub record Arrives (code : List Instr) (p : Place) (k : Known) (bs : List Bindin
       Among x (binders_of bs) ⊎ (register_of k.names (Some x) ≡ Some r)
   pub bound : (x r : ℕ) (v : Value) → register_of e.known.names (Some x) ≡ Some r →
       bind_matched nothing_bound bs x ≡ Some v → contents r ≡ v
-  pub bares : (r t c : ℕ) → slice_get e.known.held r ≡ Some (H.Bare t c) → contents r ≡ Node c End
+  pub bares : (r t c : ℕ) → slice_get e.known.held r ≡ Some (H.Bare t c) →
+      (slice_get k.held r ≡ Some (H.Bare t c)) ⊎ (contents r ≡ Node c End)
 
 abbrev pub ArrivesIf : List Instr → Place → Known → Option (List Binding) → Entry → Type 0 → Type 0
 ArrivesIf code p k None e other = other
@@ -99,7 +101,7 @@ pub record IsChoice (code : List Instr) (at : ℕ) (k : Known) (tb : Table) (t r
 
 -- what is known at the entry of a clause, after k was known; the cell of r may be taken apart
 pub record Opens (k : Known) (r : ℕ) (l : Known) : Type 0 where
-  pub tidy : Tidy k → Tidy l
+  pub tidy : Fixed k r → Tidy k → Tidy l
   pub unknown : (d : ℕ) → Unknown k d → (r ≡ d → ⊥) → Unknown l d
 
 -- where clauses meet no more is known than at the end of each
@@ -107,7 +109,13 @@ pub record Meets (k l : Known) : Type 0 where
   pub names : (x r : ℕ) → register_of l.names (Some x) ≡ Some r → register_of k.names (Some x) ≡ Some r
   pub barer : (r t c : ℕ) → slice_get l.held r ≡ Some (H.Bare t c) → slice_get k.held r ≡ Some (H.Bare t c)
 
--- and the credits are those of the first
+-- no credit is new
+pub record FewerCredits (cs ds : List Credit) : Type 0 where
+  pub keeps : (r : ℕ) → NotIn r cs → NotIn r ds
+  pub once : Once cs → Once ds
+  pub below : (n : ℕ) → Below n cs → Below n ds
+
+-- and the credits are those of the first, but for some that it gives up
 pub record MeetsFirst (k l : Known) : Type 0 where
-  pub credits : l.credits ≡ k.credits
+  pub credits : FewerCredits k.credits l.credits
   pub grows : k.next ≤ l.next

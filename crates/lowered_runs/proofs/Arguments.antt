@@ -16,7 +16,7 @@ use Rattle.lowered_code.specs.declared.held.Held.TheVariants as H
 use Rattle.lowered_code.specs.Known.{Known, register_of}
 use Rattle.lowered_code.specs.Values.{Setting, Stands, BuiltAt, ArgumentAt, ArgumentsAt}
 use Rattle.lowered_runs.proofs.Leads.{Coming, At, LeadsTo, and_on, does, next_is}
-use Rattle.lowered_runs.proofs.Lists.{taken_other, same_some}
+use Rattle.lowered_code.proofs.Lists.{taken_other, same_some}
 use Rattle.lowered_runs.proofs.Statics.{Step, tidy_on, argument_step, arguments_step, argument_fixed, fixed_on}
 
 -- registers that are fixed hold what they held

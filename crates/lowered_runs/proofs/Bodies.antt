@@ -20,7 +20,7 @@ use Rattle.tree_runs.specs.States.{Frame, State, Went, Entered}
 use Rattle.tree_runs.specs.Steps.{act, calculated, first_frame, called, called_with, replaced, resumed, returned, next}
 use Rattle.tree_runs.specs.Steps as S
 use Rattle.tree_runs.proofs.Puts.{put_same, put_other}
-use Rattle.lowered_code.specs.Tidy.{Unknown, Tidy}
+use Rattle.lowered_code.specs.Tidy.{Fixed, Unknown, Tidy}
 use Rattle.lowered_code.specs.declared.held.Held.TheVariants as H
 use Rattle.lowered_code.specs.Known.{Known}
 use Rattle.lowered_code.specs.Values.{Setting}
@@ -35,7 +35,7 @@ use Rattle.lowered_runs.specs.Guarded.{Takes, GuardedExpression, GuardedBlock, G
 use Rattle.lowered_runs.proofs.Matching.{matched_numbers, unmatched_same}
 use Rattle.lowered_runs.proofs.Choosing.{world_entered, world_met, case_runs, reaches_run, jumps}
 use Rattle.lowered_runs.proofs.Leads.{Coming, At, LeadsTo, and_on, to_stuck, coming, answer_coming, does, next_is, enters, enters_out, deep_out, too_deep, answers_on, answers_to, with_one, with_all}
-use Rattle.lowered_runs.proofs.Lists.{among_left, among_right}
+use Rattle.lowered_code.proofs.Lists.{among_left, among_right}
 use Rattle.lowered_runs.proofs.Statics.{argument_step, argument_fixed, argument_elsewhere, arguments_elsewhere, Step, arguments_step, unknown_on}
 use Rattle.lowered_runs.proofs.Arguments.{Kept, World, world_on, state, here, argument_runs, arguments_runs}
 use Rattle.lowered_runs.proofs.Naming.{Clear, Holds, Fit, bound_elsewhere, holds_read, fit_read, world_named}
@@ -277,8 +277,8 @@ module _ (code : PlainCode) (program : Program) (setting : Setting) (so : IsSett
       j.goes)
 
   -- a clause that is chosen
-  clause_goes : (q : Pattern) (v : Value) (bs : List Binding) (b : Block) (rest : List ℕ) (first : Bool) (e : Entry) (target : Target) (k l : Known) (r start end : ℕ) (after : Known) (env : Environment) (ds : Contents) (left : ℕ) (a : Answer) (go : Values → ℕ → Coming) → (c : ClauseAt (λ i n last o. BlockAt setting is i n b target last o) is l r e first target end after) → (arr : Arrives is (place start ds) l bs e) → matching q v ≡ Some bs → Differ (in_pattern q) × Apart (in_pattern q) (in_block b) → Clear env (in_pattern q ++ (in_block b ++ rest)) → World l env ds → ((d : ℕ) → Unknown k d → Unknown l d × (r ≡ d → ⊥)) → Aims target k → TidyFor target after → a ≡ (eval_block (calls_of program m) words b (is_tail target) free (bind_matched env bs) left).answer → On target after env end a go → ((m' : Known) (last : ℕ) → BlockAt setting is e.at e.known b target last m' → DistinctBlock b → Clear (bind_matched env bs) (in_block b) → GuardedBlock program (calls_of program m) words b free (bind_matched env bs) left → World e.known (bind_matched env bs) arr.contents → Aims target e.known → left ≤ m → On target m' (bind_matched env bs) last (eval_block (calls_of program m) words b (is_tail target) free (bind_matched env bs) left).answer go → LeadsTo code (The e.at arr.contents left) (answer_coming (eval_block (calls_of program m) words b (is_tail target) free (bind_matched env bs) left).answer go)) → BlockAt setting is e.at e.known b target c.0 c.1 → DistinctBlock b → GuardedBlock program (calls_of program m) words b free (bind_matched env bs) left → left ≤ m → LeadsTo code (The start ds left) (answer_coming (eval_block (calls_of program m) words b (is_tail target) free (bind_matched env bs) left).answer go)
-  clause_goes q v bs b rest first e target k l r start end after env ds left a go c arr matched dis clear w aimed aims tidy whole goes run_body body distinct guard le =
+  clause_goes : (q : Pattern) (v : Value) (bs : List Binding) (b : Block) (rest : List ℕ) (first : Bool) (e : Entry) (target : Target) (k l : Known) (r start end : ℕ) (after : Known) (env : Environment) (ds : Contents) (left : ℕ) (a : Answer) (go : Values → ℕ → Coming) → (c : ClauseAt (λ i n last o. BlockAt setting is i n b target last o) is l r e first target end after) → (arr : Arrives is (place start ds) l bs e) → matching q v ≡ Some bs → Differ (in_pattern q) × Apart (in_pattern q) (in_block b) → Clear env (in_pattern q ++ (in_block b ++ rest)) → World l env ds → Fixed l r → ((d : ℕ) → Unknown k d → Unknown l d × (r ≡ d → ⊥)) → Aims target k → TidyFor target after → a ≡ (eval_block (calls_of program m) words b (is_tail target) free (bind_matched env bs) left).answer → On target after env end a go → ((m' : Known) (last : ℕ) → BlockAt setting is e.at e.known b target last m' → DistinctBlock b → Clear (bind_matched env bs) (in_block b) → GuardedBlock program (calls_of program m) words b free (bind_matched env bs) left → World e.known (bind_matched env bs) arr.contents → Aims target e.known → left ≤ m → On target m' (bind_matched env bs) last (eval_block (calls_of program m) words b (is_tail target) free (bind_matched env bs) left).answer go → LeadsTo code (The e.at arr.contents left) (answer_coming (eval_block (calls_of program m) words b (is_tail target) free (bind_matched env bs) left).answer go)) → BlockAt setting is e.at e.known b target c.0 c.1 → DistinctBlock b → GuardedBlock program (calls_of program m) words b free (bind_matched env bs) left → left ≤ m → LeadsTo code (The start ds left) (answer_coming (eval_block (calls_of program m) words b (is_tail target) free (bind_matched env bs) left).answer go)
+  clause_goes q v bs b rest first e target k l r start end after env ds left a go c arr matched dis clear w fixed aimed aims tidy whole goes run_body body distinct guard le =
       let numbers_are = matched_numbers q v bs matched in
       let in_pattern_clear = clear_left env (in_pattern q) (in_block b ++ rest) clear in
       let body_clear = clear_left env (in_block b) rest (clear_right env (in_pattern q) (in_block b ++ rest) clear) in
@@ -286,7 +286,7 @@ module _ (code : PlainCode) (program : Program) (setting : Setting) (so : IsSett
       and_on code (The start ds left) (The e.at arr.contents left) _
       (reaches_run code f is has waiting free (place start ds) (place e.at arr.contents) left arr.reaches)
       (run_body c.1 c.0 body distinct (λ x among. outside x (λ n. dis.1 x n among) ∙ body_clear x among) guard
-      (world_entered is (place start ds) l r env bs e w c.2 arr)
+      (world_entered is (place start ds) l r env bs e w fixed c.2 arr)
       (aims_on target k e.known (λ d u. let two = aimed d u in c.2.unknown d two.0 two.1) aims) le
       (on_joined target first c.0 c.1 end after env (bind_matched env bs) a _ go c.4 tidy
       (λ x u f. outside x (λ n. none_some (sym (in_pattern_clear x n) ∙ f)) ∙ f) whole goes))
@@ -343,6 +343,7 @@ module _ (code : PlainCode) (program : Program) (setting : Setting) (so : IsSett
         (λ v ev. argument_runs code f is has waiting free setting at k a h.0 h.1 h.2 env cs0 left v _ h.6 w ev
         (λ ds kept same.
         let wm = world_on k h.2 env cs0 ds s kept w in
+        let fixed = argument_fixed setting is at k a h.0 h.1 h.2 w.tidy h.6 in
         let g = guard v ev in
         let typed = subst (HasType setting.types t) (sym same) (subst (λ tb. HasType tb t v) (sym so.types) g.0) in
         let choice = subst (λ u. ArrivesIf is (place start ds) h.2 (matching q u) h.4 (Chooses is (place start ds) h.2 u cs h.5)) same (h.8.chooses ds typed) in
@@ -350,11 +351,11 @@ module _ (code : PlainCode) (program : Program) (setting : Setting) (so : IsSett
         let whole = ap (λ o. (with_value o (λ u. if_matches (matching q u) (λ bs. eval_block (calls_of program m) words b (is_tail target) free (bind_matched env bs) left) (others cs u))).answer) ev in
         gives_up code f is has waiting free h.3 h.1 ds left _ h.7
         (case_runs code (The start ds left) is (place start ds) h.2 h.4 (Chooses is (place start ds) h.2 v cs h.5) (matching q v) (λ bs. eval_block (calls_of program m) words b (is_tail target) free (bind_matched env bs) left) (others cs v) go choice
-        (λ bs e arr. clause_goes q v bs b (in_clauses cs) true h.4 target k h.2 h.0 start end l env ds left _ go h.9 arr e (dis.0, dis.1) clear wm aimed aims tidy_after
+        (λ bs e arr. clause_goes q v bs b (in_clauses cs) true h.4 target k h.2 h.0 start end l env ds left _ go h.9 arr e (dis.0, dis.1) clear wm fixed aimed aims tidy_after
         (whole ∙ ap (λ o. (if_matches o (λ cs'. eval_block (calls_of program m) words b (is_tail target) free (bind_matched env cs') left) (others cs v)).answer) e) goes
         (λ m' last. block_runs b target h.4.at h.4.known last m' (bind_matched env bs) arr.contents left go) h.9.3 dis.2 (g.1 bs e) le)
         (λ e other. clauses_run cs h.5 v target k h.2 h.0 start end l env ds left _ go h.10 other dis.3
-        (clear_right env (in_block b) (in_clauses cs) (clear_right env (in_pattern q) (in_block b ++ in_clauses cs) clear)) g.2 wm aimed aims tidy_after le
+        (clear_right env (in_block b) (in_clauses cs) (clear_right env (in_pattern q) (in_block b ++ in_clauses cs) clear)) g.2 wm fixed aimed aims tidy_after le
         (whole ∙ ap (λ o. (if_matches o (λ cs'. eval_block (calls_of program m) words b (is_tail target) free (bind_matched env cs') left) (others cs v)).answer) e) goes))))
     expression_runs (Nested b) target at k end l env cs left go h dis clear guard w aims le goes =
         block_runs b target at k end l env cs left go h dis clear guard w aims le goes
@@ -397,14 +398,14 @@ module _ (code : PlainCode) (program : Program) (setting : Setting) (so : IsSett
         (ap (λ x. (go_on x (λ us c. eval_block (calls_of program m) words rest (is_tail target) free (bind_binders env bs us) c)).answer) ev) goes)))
         (answers_on code (eval (calls_of program m) words e false free env left).answer (λ vs n. eval_block (calls_of program m) words rest (is_tail target) free (bind_binders env bs vs) n) go)
 
-    clauses_run : (cs : Clauses) (es : List Entry) (v : Value) (target : Target) (k l : Known) (r start end : ℕ) (after : Known) (env : Environment) (ds : Contents) (left : ℕ) (a : Answer) (go : Values → ℕ → Coming) → ClausesAt setting is l r cs es target end after → Chooses is (place start ds) l v cs es → DistinctClauses cs → Clear env (in_clauses cs) → GuardedClauses program (calls_of program m) words cs v free env left → World l env ds → ((d : ℕ) → Unknown k d → Unknown l d × (r ≡ d → ⊥)) → Aims target k → TidyFor target after → left ≤ m → a ≡ (eval_clauses (calls_of program m) words cs v (is_tail target) free env left).answer → On target after env end a go → LeadsTo code (The start ds left) (answer_coming (eval_clauses (calls_of program m) words cs v (is_tail target) free env left).answer go)
-    clauses_run NoClauses es v target k l r start end after env ds left a go h c dis clear guard w aimed aims tidy le whole goes = to_stuck code (The start ds left)
-    clauses_run (MoreClauses q b cs) [] v target k l r start end after env ds left a go h c dis clear guard w aimed aims tidy le whole goes = absurd h
-    clauses_run (MoreClauses q b cs) (e ∷ es) v target k l r start end after env ds left a go h c dis clear guard w aimed aims tidy le whole goes =
+    clauses_run : (cs : Clauses) (es : List Entry) (v : Value) (target : Target) (k l : Known) (r start end : ℕ) (after : Known) (env : Environment) (ds : Contents) (left : ℕ) (a : Answer) (go : Values → ℕ → Coming) → ClausesAt setting is l r cs es target end after → Chooses is (place start ds) l v cs es → DistinctClauses cs → Clear env (in_clauses cs) → GuardedClauses program (calls_of program m) words cs v free env left → World l env ds → Fixed l r → ((d : ℕ) → Unknown k d → Unknown l d × (r ≡ d → ⊥)) → Aims target k → TidyFor target after → left ≤ m → a ≡ (eval_clauses (calls_of program m) words cs v (is_tail target) free env left).answer → On target after env end a go → LeadsTo code (The start ds left) (answer_coming (eval_clauses (calls_of program m) words cs v (is_tail target) free env left).answer go)
+    clauses_run NoClauses es v target k l r start end after env ds left a go h c dis clear guard w fixed aimed aims tidy le whole goes = to_stuck code (The start ds left)
+    clauses_run (MoreClauses q b cs) [] v target k l r start end after env ds left a go h c dis clear guard w fixed aimed aims tidy le whole goes = absurd h
+    clauses_run (MoreClauses q b cs) (e ∷ es) v target k l r start end after env ds left a go h c dis clear guard w fixed aimed aims tidy le whole goes =
         case_runs code (The start ds left) is (place start ds) l e (Chooses is (place start ds) l v cs es) (matching q v) (λ bs. eval_block (calls_of program m) words b (is_tail target) free (bind_matched env bs) left) (eval_clauses (calls_of program m) words cs v (is_tail target) free env left) go c
-        (λ bs eq arr. clause_goes q v bs b (in_clauses cs) false e target k l r start end after env ds left a go h.0 arr eq (dis.0, dis.1) clear w aimed aims tidy
+        (λ bs eq arr. clause_goes q v bs b (in_clauses cs) false e target k l r start end after env ds left a go h.0 arr eq (dis.0, dis.1) clear w fixed aimed aims tidy
         (whole ∙ ap (λ o. (if_matches o (λ cs'. eval_block (calls_of program m) words b (is_tail target) free (bind_matched env cs') left) (eval_clauses (calls_of program m) words cs v (is_tail target) free env left)).answer) eq) goes
         (λ m' last. block_runs b target e.at e.known last m' (bind_matched env bs) arr.contents left go) h.0.3 dis.2 (guard.0 bs eq) le)
         (λ eq other. clauses_run cs es v target k l r start end after env ds left a go h.1 other dis.3
-        (clear_right env (in_block b) (in_clauses cs) (clear_right env (in_pattern q) (in_block b ++ in_clauses cs) clear)) guard.1 w aimed aims tidy le
+        (clear_right env (in_block b) (in_clauses cs) (clear_right env (in_pattern q) (in_block b ++ in_clauses cs) clear)) guard.1 w fixed aimed aims tidy le
         (whole ∙ ap (λ o. (if_matches o (λ cs'. eval_block (calls_of program m) words b (is_tail target) free (bind_matched env cs') left) (eval_clauses (calls_of program m) words cs v (is_tail target) free env left)).answer) eq) goes)

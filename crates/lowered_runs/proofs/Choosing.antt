@@ -10,23 +10,23 @@ use Rattle.code_runs.specs.Codes.{PlainCode, instr_at}
 use Rattle.tree_runs.specs.Contents.{Contents, put, value_at, children}
 use Rattle.tree_runs.specs.States.{Frame, Went}
 use Rattle.tree_runs.specs.Steps.{act, branch, peeked, is_node, is_int}
-use Rattle.lowered_code.specs.Tidy.{Tidy}
+use Rattle.lowered_code.specs.Tidy.{Fixed, Tidy}
 use Rattle.lowered_code.specs.Known.{Known}
 use Rattle.lowered_code.specs.Choosing.{Place, place, followed, after, Reaches, Entry, binders_of, Arrives, ArrivesIf, Opens, Meets}
 use Rattle.lowered_runs.proofs.Leads.{Coming, LeadsTo, and_on, stays, does, next_is, answer_coming}
-use Rattle.lowered_runs.proofs.Lists.{same_some}
+use Rattle.lowered_code.proofs.Lists.{same_some}
 use Rattle.lowered_runs.proofs.Arguments.{World, state, here}
 use Rattle.lowered_runs.proofs.Matching.{among_or_not, unmatched_same, matched_same}
 
 -- what is known at a clause's entry is so
-pub world_entered : (code : List Instr) (p : Place) (k : Known) (r : ℕ) (env : Environment) (bs : List Binding) (e : Entry) → World k env p.contents → Opens k r e.known → (a : Arrives code p k bs e) → World e.known (bind_matched env bs) a.contents
-world_entered code p k r env bs e w o a = record {
-  tidy = o.tidy w.tidy;
+pub world_entered : (code : List Instr) (p : Place) (k : Known) (r : ℕ) (env : Environment) (bs : List Binding) (e : Entry) → World k env p.contents → Fixed k r → Opens k r e.known → (a : Arrives code p k bs e) → World e.known (bind_matched env bs) a.contents
+world_entered code p k r env bs e w fixed o a = record {
+  tidy = o.tidy fixed w.tidy;
   agrees = λ x q v n f. ⊎_elim
       (λ m. a.bound x q v n (matched_same nothing_bound env bs x m ∙ f))
       (λ no_one. ⊎_elim (λ m. absurd (no_one m)) (λ was. a.kept q (w.tidy.named x q was) ∙ w.agrees x q v was (sym (unmatched_same env bs x no_one) ∙ f)) (a.names x q n))
       (among_or_not x (binders_of bs));
-  bares = a.bares;
+  bares = λ q t c h. ⊎_elim (λ was. a.kept q (w.tidy.bare q t c was) ∙ w.bares q t c was) (λ new. new) (a.bares q t c h);
 }
 
 -- where clauses meet

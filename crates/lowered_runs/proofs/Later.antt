@@ -6,14 +6,14 @@ use Rattle.fip_base.specs.declared.plain.Param.{Param}
 use Rattle.fip_trees.specs.declared.program.Binder.{Binder}
 use Rattle.fip_trees.specs.Tree.{Expression, Give, Tuple, Operation, Call, Match, Nested, Block, Last, Let}
 use Rattle.cell_code.specs.declared.code.Instr.{Instr}
-use Rattle.lowered_code.specs.Tidy.{Fixed, Tidy, Unknown, NotIn, Once, Below}
+use Rattle.lowered_code.specs.Tidy.{Fixed, Tidy, Unknown}
 use Rattle.lowered_code.specs.declared.held.Held.{Held}
 use Rattle.lowered_code.specs.declared.held.Held.TheVariants as H
 use Rattle.lowered_code.specs.Known.{Known, used}
 use Rattle.lowered_code.specs.Choosing.{Meets, MeetsFirst}
 use Rattle.lowered_code.specs.Values.{Setting, is_scalar}
 use Rattle.lowered_code.specs.Bodies.{Into, as_value, IsMove, IsThere, MovedAt, GoesTo, result_type, handed, AreTaken, given_if, given, received, IsCall, registers_for, reserved, with_names, ValuesAt, ExpressionAt, BlockAt}
-use Rattle.lowered_runs.proofs.Lists.{below_not, below_more, fewer_same, taken_fewer, Barer, barer_on, barer_set, barer_used, NotBare}
+use Rattle.lowered_code.proofs.Lists.{below_not, below_more, fewer_same, taken_fewer, Barer, barer_on, barer_set, barer_used, NotBare}
 use Rattle.lowered_runs.proofs.Statics.{AllFixed, Step, step_same, step_on, next_to, argument_step, arguments_step, argument_fixed, arguments_fixed, argument_elsewhere, arguments_elsewhere, unknown_on, tidy_on}
 use Rattle.lowered_runs.proofs.Naming.{all_named_from}
 
@@ -183,15 +183,15 @@ tidy_named k bs rs fixed t = record {
 
 -- where clauses meet
 met_fixed : (k l : Known) (r : ℕ) → MeetsFirst k l → Fixed k r → Fixed l r
-met_fixed k l r f h = record { used = let a = h.used in let b = f.grows in omega (arith, a, b); kept = subst (NotIn r) (sym f.credits) h.kept }
+met_fixed k l r f h = record { used = let a = h.used in let b = f.grows in omega (arith, a, b); kept = f.credits.keeps r h.kept }
 
 met_keeps : (k l : Known) → Meets k l → MeetsFirst k l → Keeps k l
 met_keeps k l m f = record {
   tidy = λ t. record {
     named = λ x r h. met_fixed k l r f (t.named x r (m.names x r h));
     bare = λ r u c h. met_fixed k l r f (t.bare r u c (m.barer r u c h));
-    once = subst Once (sym f.credits) t.once;
-    below = subst (Below l.next) (sym f.credits) (below_more k.next l.next k.credits f.grows t.below);
+    once = f.credits.once t.once;
+    below = f.credits.below l.next (below_more k.next l.next k.credits f.grows t.below);
   };
   unknown = λ d u. record {
     fixed = met_fixed k l d f u.fixed;
@@ -224,7 +224,7 @@ mutual
       let inner = block_keeps setting code h.4.at h.4.known b ds c.0 c.1 c.3 in
       let met = met_keeps c.1 l c.4.meets (c.4.of_first refl) in
       record {
-        tidy = λ t'. met.tidy (inner.tidy (c.2.tidy (tidy_on k h.2 s t')));
+        tidy = λ t'. met.tidy (inner.tidy (c.2.tidy (argument_fixed setting code at k a h.0 h.1 h.2 t' h.6) (tidy_on k h.2 s t')));
         unknown = λ d u. met.unknown d (inner.unknown d (c.2.unknown d (unknown_on k h.2 d s u) (argument_elsewhere setting code at k a h.0 h.1 h.2 d u h.6)));
       }
   expression_keeps setting code at k (Nested b) ds end l h = block_keeps setting code at k b ds end l h

@@ -1,5 +1,4 @@
 pub mod Leads
-pub mod Lists
 pub mod Statics
 pub mod Arguments
 pub mod Naming

@@ -10,7 +10,7 @@ use Rattle.fip_trees.specs.Tree.{Pattern, BinderPattern, LiteralPattern, Constru
 use Rattle.flat_meaning.specs.Matching.{matching, matching_all}
 use Rattle.lowered_code.specs.Choosing.{binders_of}
 use Rattle.lowered_runs.specs.Distinct.{in_pattern, in_patterns}
-use Rattle.lowered_runs.proofs.Lists.{same_some}
+use Rattle.lowered_code.proofs.Lists.{same_some}
 use Rattle.lowered_runs.proofs.Naming.{bind_elim}
 
 binders_append : (as' bs : List Binding) → binders_of (as' ++ bs) ≡ binders_of as' ++ binders_of bs

@@ -12,7 +12,7 @@ use Rattle.lowered_code.specs.Tidy.{Fixed}
 use Rattle.lowered_code.specs.Known.{Known, joined, register_of, named}
 use Rattle.lowered_code.specs.Bodies.{all_named, with_names}
 use Rattle.lowered_runs.specs.Distinct.{numbers, Differ}
-use Rattle.lowered_runs.proofs.Lists.{set_get, same_some}
+use Rattle.lowered_code.proofs.Lists.{set_get, same_some}
 use Rattle.lowered_runs.proofs.Statics.{AllFixed}
 use Rattle.lowered_runs.proofs.Arguments.{World}
 

@@ -9,6 +9,7 @@ use Rattle.fip_trees.specs.declared.program.Binder.{Binder}
 use Rattle.fip_trees.specs.Tree.{Instance}
 use Rattle.flat_meaning.specs.Meaning.{bind_binders}
 use Rattle.tree_runs.specs.Contents.{Contents, value_at}
+use Rattle.lowered_code.specs.Choosing.{FewerCredits}
 use Rattle.lowered_code.specs.Tidy.{NotIn, Once, Below, Fixed}
 use Rattle.lowered_code.specs.declared.held.Held.TheVariants as H
 use Rattle.lowered_code.specs.declared.held.Credit.{Credit}
@@ -17,7 +18,7 @@ use Rattle.lowered_code.specs.Bodies.{given, given_if, registers_for, reserved, 
 use Rattle.lowered_code.specs.Values.{Setting, is_scalar}
 use Rattle.lowered_code.specs.Functions.{param_held, with_param, with_params, unless_in, with_credit, with_credits, nothing_known, known_at_start}
 use Rattle.lowered_runs.specs.Distinct.{numbers, Differ, IsDistinct}
-use Rattle.lowered_runs.proofs.Lists.{Fewer, fewer_same, Barer, barer_set, NotBare}
+use Rattle.lowered_code.proofs.Lists.{fewer_same, Barer, barer_set, NotBare}
 use Rattle.lowered_runs.proofs.Arguments.{World, world_on, kept_same}
 use Rattle.lowered_runs.proofs.Naming.{Clear, Holds, world_named}
 use Rattle.lowered_runs.proofs.Later.{reserved_fixed}
@@ -99,7 +100,7 @@ params_world setting k ps bs env cs vs e w h d c =
     (record {
       names = params_names setting k ps bs e;
       grows = let n = params_next setting k ps bs e in omega (arith, n);
-      fewer = subst (Fewer k.credits) (sym (params_credits setting k ps bs)) (fewer_same k.credits);
+      fewer = subst (FewerCredits k.credits) (sym (params_credits setting k ps bs)) (fewer_same k.credits);
       barer = params_barer setting k ps bs;
     })
     (kept_same (with_names k0 bs regs) cs)

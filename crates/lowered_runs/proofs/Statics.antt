@@ -4,12 +4,13 @@ use Rattle.std.proofs.Common.{◌≡◌, inl, inr, ℕ, ◌≤◌, List, [], ◌
 use Rattle.fip_language.specs.Every.{Every, Among}
 use Rattle.fip_trees.specs.Tree.{Argument, Variable, Literal, Constructor, Arguments, NoArguments, MoreArguments}
 use Rattle.cell_code.specs.declared.code.Instr.{Instr}
+use Rattle.lowered_code.specs.Choosing.{FewerCredits}
 use Rattle.lowered_code.specs.Tidy.{Fixed, Tidy, Unknown}
 use Rattle.lowered_code.specs.declared.held.Held.{Held}
 use Rattle.lowered_code.specs.declared.held.Held.TheVariants as H
 use Rattle.lowered_code.specs.Known.{Known, register_of, with_next, used_all}
 use Rattle.lowered_code.specs.Values.{Setting, is_scalar, built, built_if, IsReused, IsPut, BuiltAt, ArgumentAt, ArgumentsAt}
-use Rattle.lowered_runs.proofs.Lists.{below_not, below_more, Fewer, fewer_same, fewer_on, taken_fewer, taken_once, taken_below, Barer, barer_on, barer_set, barer_used_all, NotBare}
+use Rattle.lowered_code.proofs.Lists.{below_not, below_more, fewer_same, fewer_on, taken_fewer, taken_once, taken_below, Barer, barer_on, barer_set, barer_used_all, NotBare}
 
 abbrev pub AllFixed : Known → List ℕ → Type 0
 AllFixed k rs = Every (Fixed k) rs
@@ -18,7 +19,7 @@ AllFixed k rs = Every (Fixed k) rs
 pub record Step (k l : Known) : Type 0 where
   pub names : l.names ≡ k.names
   pub grows : k.next ≤ l.next
-  pub fewer : Fewer k.credits l.credits
+  pub fewer : FewerCredits k.credits l.credits
   pub barer : Barer k.held l.held
 
 pub fixed_on : (k l : Known) (r : ℕ) → Step k l → Fixed k r → Fixed l r
@@ -150,7 +151,7 @@ unknown_on k l d s u = record {
 built_elsewhere : (setting : Setting) (code : List Instr) (at : ℕ) (k : Known) (t c : ℕ) (rs : List ℕ) (r end : ℕ) (l : Known) (d : ℕ) → Unknown k d → BuiltAt setting code at k t c rs r end l → r ≡ d → ⊥
 built_elsewhere setting code at k t c [] r end l d u (inl h) e = u.no_bare r t c h.held e
 built_elsewhere setting code at k t c [] r end l d u (inr h) e = let a = u.fixed.used in let b = h.fresh in absurd (omega (arith, a, b, e))
-built_elsewhere setting code at k t c (f ∷ fs) r end l d u h e = Rattle.lowered_runs.proofs.Lists.taken_other k.credits (length (f ∷ fs)) r h.credits d h.taken u.fixed.kept (sym e)
+built_elsewhere setting code at k t c (f ∷ fs) r end l d u h e = Rattle.lowered_code.proofs.Lists.taken_other k.credits (length (f ∷ fs)) r h.credits d h.taken u.fixed.kept (sym e)
 
 pub argument_elsewhere : (setting : Setting) (code : List Instr) (at : ℕ) (k : Known) (a : Argument) (r end : ℕ) (l : Known) (d : ℕ) → Unknown k d → ArgumentAt setting code at k a r end l → r ≡ d → ⊥
 argument_elsewhere setting code at k (Variable x n p) r end l d u h e = var_elsewhere x h.named

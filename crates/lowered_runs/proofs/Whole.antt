@@ -23,7 +23,7 @@ use Rattle.lowered_runs.specs.Guarded.{Takes, IsGuarded}
 use Rattle.lowered_runs.specs.Ends.{EndsIn}
 use Rattle.lowered_runs.specs.Lowered.{instrs_of, all_instrs}
 use Rattle.lowered_runs.proofs.Leads.{At, Ends, ComesTo, LeadsTo, stays, coming, answer_coming}
-use Rattle.lowered_runs.proofs.Lists.{same_some}
+use Rattle.lowered_code.proofs.Lists.{same_some}
 use Rattle.lowered_runs.proofs.Bodies.{Begins, begin, Defined, CallsRun, block_runs, clear_bound}
 use Rattle.lowered_runs.proofs.Starts.{starts}
 

@@ -36,8 +36,10 @@ pub fn a_schedule_goes_on()
 pub fn one_task_is_alone()
     ensures law { (kinds : Kinds) (code : PlainCode) (r : Run) (n : ℕ) →
         scheduled kinds code (replicate n 0) (record { store = (state_of r).store; runs = r ∷ [] })
-        ≡ record { store = (state_of (alone kinds code 0 (replicate n 0) r)).store;
-            runs = alone kinds code 0 (replicate n 0) r ∷ [] } }
+        ≡ record {
+          store = (state_of (alone kinds code 0 (replicate n 0) r)).store;
+          runs = alone kinds code 0 (replicate n 0) r ∷ [];
+        } }
 {}
 
 /// The two tasks of the examples come to the same ends by both schedules, as alone: each gives its list, in its own

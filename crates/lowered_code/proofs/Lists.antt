@@ -4,6 +4,7 @@ use Rattle.std.specs.Prelude.{option_map, ◌==◌, if◌then◌else◌}
 use Rattle.std.proofs.lemmas.Option.{slice_get-map}
 use Rattle.fip_language.specs.Every.{Among}
 use Rattle.lowered_code.specs.Tidy.{NotIn, Once, Below}
+use Rattle.lowered_code.specs.Choosing.{FewerCredits}
 use Rattle.lowered_code.specs.declared.held.Held.{Held}
 use Rattle.lowered_code.specs.declared.held.Held.TheVariants as H
 use Rattle.lowered_code.specs.declared.held.Credit.{Credit}
@@ -48,19 +49,13 @@ below_drop : (n : ℕ) (bs : List Credit) (c : Credit) (cs : List Credit) → Be
 below_drop n [] c cs h = (h.1, h.0)
 below_drop n (b ∷ bs) c cs h = let two = below_drop n bs c cs h.1 in ((h.0, two.0), two.1)
 
--- fewer credits
-pub record Fewer (cs ds : List Credit) : Type 0 where
-  pub keeps : (r : ℕ) → NotIn r cs → NotIn r ds
-  pub once : Once cs → Once ds
-  pub below : (n : ℕ) → Below n cs → Below n ds
-
-pub fewer_same : (cs : List Credit) → Fewer cs cs
+pub fewer_same : (cs : List Credit) → FewerCredits cs cs
 fewer_same cs = record { keeps = λ r h. h; once = λ h. h; below = λ n h. h }
 
-pub fewer_on : (a b c : List Credit) → Fewer a b → Fewer b c → Fewer a c
+pub fewer_on : (a b c : List Credit) → FewerCredits a b → FewerCredits b c → FewerCredits a c
 fewer_on a b c p q = record { keeps = λ r h. q.keeps r (p.keeps r h); once = λ h. q.once (p.once h); below = λ n h. q.below n (p.below n h) }
 
-pub taken_fewer : (cs : List Credit) (n r : ℕ) (rest : List Credit) → IsTaken cs n r rest → Fewer cs rest
+pub taken_fewer : (cs : List Credit) (n r : ℕ) (rest : List Credit) → IsTaken cs n r rest → FewerCredits cs rest
 taken_fewer cs n r rest t =
     let c : Credit = record { size = n; register = r } in
     record {

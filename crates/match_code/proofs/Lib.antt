@@ -1,0 +1,12 @@
+pub mod Placing
+pub mod Lists
+pub mod Running
+pub mod Knowing
+pub mod Readings
+pub mod Openings
+pub mod Goods
+pub mod Entries
+pub mod Opens
+pub mod Choices
+pub mod Arriving
+pub mod Growths

@@ -1,0 +1,9 @@
+pub mod Written
+pub mod Spots
+pub mod Rows
+pub mod Reading
+pub mod Opening
+pub mod Landing
+pub mod Entering
+pub mod Losing
+pub mod Growing

@@ -1,0 +1,22 @@
+-- What the functions of the examples need, and what their headers break.
+use Rattle.std.proofs.Common.{◌≡◌, ℕ, suc, ◌+◌, ◌-◌, ◌<◌, Bool, [], ◌∷◌, refl, inl, inr, arith}
+use Rattle.fip_language.specs.declared.rule.Rule.TheVariants.{E56, E62}
+use Rattle.fip_language.specs.Example.{here}
+use Rattle.fip_trees.specs.Least.{violation}
+use Rattle.credit_check.specs.Credits.{Violates}
+use Rattle.credit_check.specs.Needs.{need_block}
+use Rattle.worked_examples.specs.Programs.{push, top, pushing}
+
+pub push_needs_one : need_block (pushing []) 2 (push []).body ≡ 1
+push_needs_one = refl
+
+pub top_needs_none : need_block (pushing (2 ∷ [])) 2 top.body ≡ 0
+top_needs_none = refl
+
+pub a_mark_is_missing : Violates (pushing []) (violation E56 here 0 2 [])
+a_mark_is_missing = inl (inr (inl (2, omega arith, omega arith, omega arith, refl)))
+
+pub a_mark_is_too_much : Violates (pushing (2 ∷ 2 ∷ [])) (violation E62 here 0 2 [])
+a_mark_is_too_much = inl (inr (inr (2, omega arith, omega arith, omega arith, refl)))
+
+pub ruleset computed = (push_needs_one, top_needs_none, a_mark_is_missing, a_mark_is_too_much)

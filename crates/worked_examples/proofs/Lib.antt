@@ -1,0 +1,6 @@
+pub mod Declared
+pub mod Typed
+pub mod Missing
+pub mod Credits
+pub mod Stacks
+pub mod Registers

@@ -1,0 +1,4 @@
+pub mod Declared
+pub mod Programs
+pub mod Matches
+pub mod Codes

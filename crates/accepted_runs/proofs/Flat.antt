@@ -20,13 +20,13 @@ use Rattle.static_params.specs.Numbering.{with_new, with_all}
 use Rattle.static_params.specs.TypeInstances.{AreTypes, type_roots, parts_of}
 use Rattle.static_params.specs.FlatProgram.{Numbers, declared_or_bool, constructor_of, flat_binder, flat_parameter, flat_argument, flat_arguments, flat_expression, flat_block, flat_clauses, flat_instance, instance_if, instances_of, flat_constructor, declaring_of, number_if, flat_program}
 use Rattle.static_params.specs.Answers.{AreFew}
-use Rattle.source_report.specs.FlatSource.{flat_source, constructor, declared}
+use Rattle.static_params.specs.FlatSource.{flat_source, constructor, declared}
 use Rattle.source_report.specs.WellFormed.{IsWellFormed}
-use Rattle.source_report.proofs.Closing.{all_of_have, below}
-use Rattle.source_report.proofs.Forming.{row_there}
-use Rattle.source_report.proofs.Meanings.{IsConstructor, constructor_there}
-use Rattle.source_report.proofs.Tables.{one_at, row_of, has_declaring}
-use Rattle.source_report.proofs.Valued.{good, applied}
+use Rattle.static_params.proofs.GoodTypes.{all_of_have, below}
+use Rattle.static_params.proofs.TableRows.{row_there}
+use Rattle.static_params.proofs.Meanings.{IsConstructor, constructor_there}
+use Rattle.static_params.proofs.TypeRows.{one_at, row_of, has_declaring}
+use Rattle.static_params.proofs.TypeValues.{good, applied}
 use Rattle.type_soundness.specs.Formed.{IsBare}
 use Rattle.accepted_runs.proofs.Arguments.{IsRowOf, Sound, AllSound, SoundExpression, SoundBlock, SoundClauses, SoundInstance}
 use Rattle.accepted_runs.proofs.CoreArguments.{FitsArgument, FitArguments, Fits, FitsBlock, FitClauses, CoreFits}

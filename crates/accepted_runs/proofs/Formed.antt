@@ -7,7 +7,7 @@ use Rattle.static_params.specs.FlatProgram.{flat_program}
 use Rattle.type_check.specs.Faults.{filled}
 use Rattle.type_check.specs.Typing.{IsFilled}
 use Rattle.type_soundness.specs.Formed.{IsBare, IsFormed}
-use Rattle.source_report.specs.FlatSource.{flat_source}
+use Rattle.static_params.specs.FlatSource.{flat_source}
 use Rattle.source_report.specs.Report.{IsParsed, IsFlat, IsTyped}
 use Rattle.source_report.specs.WellFormed.{IsWellFormed}
 use Rattle.source_report.proofs.Ready.{flat_formed, typed_formed}

@@ -1,6 +1,5 @@
 -- Ways through a function, step by step.
-use Rattle.std.proofs.Common.{◌≡◌, ℕ, zero, suc, ◌+◌, ◌⊎◌, Bool, true, List, [], ◌∷◌, Some, inl, inr, refl, sym, ap, arith, subst, slice_get, slice_set}
-use Rattle.std.proofs.lemmas.Option.{same_Some}
+use Rattle.std.proofs.Common.{◌≡◌, ℕ, zero, suc, ◌+◌, Some, arith, subst, slice_get}
 use Rattle.cell_code.specs.declared.code.Instr.{Instr}
 use Rattle.cell_code.specs.declared.code.Instr.TheVariants as I
 use Rattle.cell_code.specs.Runnable.{Body, Row, Follows, IsSafe}
@@ -63,21 +62,3 @@ safe_here b i s = here s.0 s.1
     here : (k : ℕ) → Follows b k i → (x : Instr) × (slice_get b.instrs i ≡ Some x) × Row b i (IsSafe b) x
     here zero h = absurd h
     here (suc k) h = (h.0, h.1, row_map b i (Follows b k) (IsSafe b) h.0 (λ j s. (k, s)) h.2)
-
--- a flag that is set
-set_at : (xs : List Bool) (i j : ℕ) (r : Bool) → slice_get (slice_set xs i r) j ≡ Some true → (slice_get xs j ≡ Some true) ⊎ ((j ≡ i) × (r ≡ true))
-set_at [] i j r h = inl h
-set_at (x ∷ xs) zero zero r h = inr (refl, same_Some r true h)
-set_at (x ∷ xs) zero (suc j) r h = inl h
-set_at (x ∷ xs) (suc i) zero r h = inl h
-set_at (x ∷ xs) (suc i) (suc j) r h = elim (set_at xs i j r h) [
-  | inl a ↦ inl a
-  | inr a ↦ inr (ap suc a.0, a.1)
-]
-
--- one more instruction that is known to be safe
-pub safe_set : (b : Body) (xs : List Bool) (i : ℕ) (r : Bool) (x : Instr) → ((j : ℕ) → slice_get xs j ≡ Some true → IsSafe b j) → slice_get b.instrs i ≡ Some x → (r ≡ true → Row b i (λ j. slice_get xs j ≡ Some true) x) → (j : ℕ) → slice_get (slice_set xs i r) j ≡ Some true → IsSafe b j
-safe_set b xs i r x old e row j h = elim (set_at xs i j r h) [
-  | inl a ↦ old j a
-  | inr a ↦ subst (IsSafe b) (sym a.0) (safe_from b i x e (row_map b i (λ j. slice_get xs j ≡ Some true) (IsSafe b) x old (row a.1)))
-]

@@ -5,9 +5,7 @@
 mod code;
 mod kind;
 mod registers;
-mod runnable;
 
 pub use code::{Code, Function, Instr, code_registers, named};
 pub use kind::{Constructors, From, Kind, Label};
 pub use registers::Registers;
-pub use runnable::is_runnable;

@@ -5,6 +5,7 @@ ghost use Rattle.fip_base.specs.CoreView as V;
 ghost use Rattle.fip_trees.specs.Least.{after};
 ghost use Rattle.fip_trees.specs.declared.least.Violation.{Violation};
 ghost use Rattle.data_types.specs.Answers.{IsWalked, Says, Violates, declared_row_names, value_faults};
+ghost use Rattle.data_types.specs.DeclaredProgram.{AreDeclared};
 ghost use Rattle.data_types.specs.Declarations.{declarations, declared_names, row_names, written_names};
 ghost use Rattle.data_types.specs.Faults.{all_function_faults, function_faults};
 ghost use Rattle.data_types.specs.Numbered.{types_numbered};
@@ -18,6 +19,7 @@ use crate::headers::{
 };
 use crate::names::names_of;
 use crate::notes::note_if;
+use crate::program::DeclaredProgram;
 use crate::types::types_of;
 use crate::valued::are_valued;
 use crate::written::Scope;
@@ -42,13 +44,15 @@ use std::alloc::Global;
 ///
 /// An error also where no memory is left, and where the search for types without a value (E13) would keep more than
 /// `MOST_KEPT`, which a program needs only where it is made to fill memory.
-pub fn declare<'a>(alloc: Global, core: &'a Core) -> Result<Decls<'a>, PhaseError>
+pub fn declare<'a>(alloc: Global, core: &'a Core) -> Result<DeclaredProgram<'a>, PhaseError>
+    ensures core { IfOk result (λ d. d.core ≡ core.now) }
+    ensures declared { IfOk result (λ d. AreDeclared d.core d.decls) }
     ensures accepted { IfOk result (λ d. (w : Violation) → Violates (V.core core.now) w → ⊥) }
-    ensures names { IfOk result (λ d. d.names ≡ written_names (V.core core.now)) }
-    ensures types { IfOk result (λ d. v.declarations d.types.items ≡ declarations (V.core core.now)) }
-    ensures constructors { IfOk result (λ d. map declared_row_names d.types.items ≡
+    ensures names { IfOk result (λ d. d.decls.names ≡ written_names (V.core core.now)) }
+    ensures types { IfOk result (λ d. v.declarations d.decls.types.items ≡ declarations (V.core core.now)) }
+    ensures constructors { IfOk result (λ d. map declared_row_names d.decls.types.items ≡
         map row_names (data_types (V.core core.now))) }
-    ensures numbered { IfOk result (λ d. types_numbered d.types.items ≡ true) }
+    ensures numbered { IfOk result (λ d. types_numbered d.decls.types.items ≡ true) }
     ensures valued { IfOk result (λ d. (n : ℕ) → n < length (data_types (V.core core.now)) →
         IsValued (declarations (V.core core.now)) n) }
     ensures least { IfErr result (λ e. Says (V.core core.now) e) }
@@ -58,7 +62,7 @@ pub fn declare<'a>(alloc: Global, core: &'a Core) -> Result<Decls<'a>, PhaseErro
         Err(NoMemory) => Err(PhaseError::NoMemory),
         Ok(decls) => match least.into_refusal() {
             Some(refusal) => Err(PhaseError::Refused(refusal)),
-            None => Ok(decls),
+            None => Ok(DeclaredProgram::new(core, decls)),
         },
     }
 }

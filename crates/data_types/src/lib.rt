@@ -9,8 +9,10 @@ mod marking;
 mod names;
 mod notes;
 mod order;
+mod program;
 mod types;
 mod valued;
 mod written;
 
 pub use declared::declare;
+pub use program::DeclaredProgram;

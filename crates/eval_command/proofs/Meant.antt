@@ -27,7 +27,7 @@ use Rattle.plain_rows.specs.Rows.{AreRows}
 use Rattle.type_soundness.specs.Soundness.{IsSoundAnswer, parameter_types}
 use Rattle.source_report.specs.Report.{IsTyped, IsMatched, IsAccepted}
 use Rattle.source_report.proofs.Ready.{typed_formed}
-use Rattle.source_report.proofs.Tables.{there_among}
+use Rattle.static_params.proofs.TypeRows.{there_among}
 use Rattle.accepted_runs.proofs.Accepted.{matched_sound}
 use Rattle.source_meaning.proofs.Meant.{root_meant}
 use Rattle.source_commands.specs.Entries.{IsRootedIn}

@@ -5,3 +5,4 @@ pub mod Sizes
 pub mod Tree
 pub mod TreeView
 pub mod Groups
+pub mod SoundProgram

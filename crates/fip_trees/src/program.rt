@@ -4,12 +4,14 @@
 // constructor or a match is a slot: it says nothing in a `Flat`, and is the node's type in a `Typed`. No pass behind
 // these trees looks a name up; names stay for what a refusal names.
 ghost use Rattle.std.specs.Prelude.{◌≡◌};
+ghost use Rattle.fip_trees.specs.SoundProgram.{IsSoundProgram};
 ghost use Rattle.fip_trees.specs.Tree.{pattern_place};
 ghost use Rattle.fip_trees.specs.TreeView as V;
 
 use fip_base::core_form::MatchKind;
 use fip_base::plain::{FunKind, Name, Operator, Params, Place, Types};
 use fip_base::table::{Constructor, TypeTable};
+use std::marker::Model;
 
 /// A binder of a variable. Its number is its own in its instance, from 0 without gaps, the parameters' first. The
 /// annotation is a type of the table. One that nothing names has the name `_`.
@@ -178,10 +180,52 @@ pub struct Program {
     pub instances: Vec<Instance>,
 }
 
-/// A program that isn't typed yet.
+/// A program that isn't typed yet. It has few instances and few types, no two roots of one name, and types that are
+/// sound: each has a finite value, constructors of unlike names, and few fields in each of them.
 #[derive(Drop)]
 pub struct Flat {
-    pub program: Program,
+    program: Program,
+}
+
+impl Model for Flat {
+    ghost use Rattle.fip_trees.specs.SoundProgram.{IsSoundProgram};
+    ghost use Rattle.fip_trees.specs.TreeView as V;
+    ghost use Rattle.fip_trees.specs.declared.program.Program.{Program};
+    ghost use Rattle.fip_trees.specs.contracts.program.Program as contracts;
+
+    ghost Value = { Program };
+
+    ghost coded = { contracts.the_row.coded };
+
+    ghost view = { λ f. f.program };
+
+    ghost invariant = { λ f. IsSoundProgram (V.program f.program) };
+}
+
+impl Flat {
+    /// A program that isn't typed yet, where it is sound.
+    pub fn new(program: Program) -> Flat
+        requires sound { IsSoundProgram (V.program program) }
+        ensures same { result ≡ program }
+    {
+        Flat { program }
+    }
+
+    /// The program.
+    pub fn program(&self) -> &Program
+        ensures same { result.now ≡ self.now }
+        ensures sound { IsSoundProgram (V.program self.now) }
+    {
+        &self.program
+    }
+
+    /// The program, taken out.
+    pub fn into_program(self) -> Program
+        ensures same { result ≡ self }
+        ensures sound { IsSoundProgram (V.program self) }
+    {
+        self.program
+    }
 }
 
 /// A program that is typed: each slot holds its node's type.

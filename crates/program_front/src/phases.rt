@@ -2,6 +2,7 @@
 ghost use Rattle.std.specs.Prelude.{◌≡◌, ℕ, List, IfOk, IfErr};
 ghost use Rattle.fip_language.specs.declared.rule.Rule.TheVariants.{E05};
 ghost use Rattle.fip_base.specs.CoreView as core_view;
+ghost use Rattle.fip_trees.specs.SoundProgram.{IsSoundProgram};
 ghost use Rattle.fip_trees.specs.TreeView as V;
 ghost use Rattle.tail_groups.specs.Members.{AreMembers};
 ghost use Rattle.source_report.specs.Report.{bare, IsParsed, IsFlat, IsMatched, IsAccepted, Says};
@@ -51,6 +52,7 @@ pub fn front(alloc: Global, source: &[u8]) -> Result<Lowered, PhaseError>
 /// arguments, E30 to E34 on types, E40 to E43 on matches. NoMemory: no memory is left.
 pub fn typed_of(alloc: Global, source: &[u8]) -> Result<Typed, PhaseError>
     ensures typed { IfOk result (λ t. IsMatched source.now (V.program t.program)) }
+    ensures sound { IfOk result (λ t. IsSoundProgram (V.program t.program)) }
     ensures reported { IfErr result (λ e. Says source.now e) }
 {
     match core_form_of(alloc, source) {
@@ -95,21 +97,22 @@ fn too_long(alloc: Global) -> Refusal
 // The program without static parameters of a source with this core form.
 fn flat_of(alloc: Global, core: &Core) -> Result<Flat, PhaseError>
     ensures flat { (source : List ℕ) → IsParsed source (core_view.core core.now) →
-        IfOk result (λ f. IsFlat source (V.program f.program)) }
+        IfOk result (λ f. IsFlat source (V.program f)) }
     ensures reported { (source : List ℕ) → IsParsed source (core_view.core core.now) →
         IfErr result (λ e. Says source e) }
 {
     match declare(alloc, core) {
         Err(error) => Err(error),
-        Ok(decls) => specialise(alloc, core, &decls),
+        Ok(declared) => specialise(alloc, &declared),
     }
 }
 
 // The typed program of a source with this program without static parameters.
 fn matched_of(alloc: Global, flat: Flat) -> Result<Typed, PhaseError>
-    ensures typed { (source : List ℕ) → IsFlat source (V.program flat.program) →
+    ensures typed { (source : List ℕ) → IsFlat source (V.program flat) →
         IfOk result (λ t. IsMatched source (V.program t.program)) }
-    ensures reported { (source : List ℕ) → IsFlat source (V.program flat.program) →
+    ensures sound { IfOk result (λ t. IsSoundProgram (V.program t.program)) }
+    ensures reported { (source : List ℕ) → IsFlat source (V.program flat) →
         IfErr result (λ e. Says source e) }
 {
     match check_types(alloc, flat) {

@@ -14,7 +14,7 @@ use Rattle.type_check.specs.World.{world}
 use Rattle.static_params.specs.FlatProgram.{flat_program}
 use Rattle.flat_meaning.specs.Meaning.{flat_meaning}
 use Rattle.type_soundness.proofs.FilledSlots.{filled_means}
-use Rattle.source_report.specs.FlatSource.{flat_source}
+use Rattle.static_params.specs.FlatSource.{flat_source}
 use Rattle.source_report.specs.Report.{IsParsed, IsFlat, IsTyped}
 use Rattle.specialised_meaning.specs.Declared.{BodyHasClauses, IsDeclared}
 use Rattle.specialised_meaning.specs.Means.{IsRun}

@@ -12,9 +12,9 @@ use Rattle.static_params.specs.Closed as Z
 use Rattle.static_params.specs.Closed.{Closed, Applied}
 use Rattle.static_params.specs.Source.{Source, Instance}
 use Rattle.static_params.specs.FlatProgram.{Numbers, flat_pattern, flat_patterns, flat_expression, flat_block, flat_clauses, instance_if, instances_of, flat_program}
-use Rattle.source_report.specs.FlatSource.{flat_source}
+use Rattle.static_params.specs.FlatSource.{flat_source}
 use Rattle.source_report.specs.Literals as L
-use Rattle.source_report.proofs.Closing.{all_of_have}
+use Rattle.static_params.proofs.GoodTypes.{all_of_have}
 use Rattle.source_report.proofs.SpeltLiterals as Q
 
 abbrev mutual

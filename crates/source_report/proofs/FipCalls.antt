@@ -21,9 +21,9 @@ use Rattle.tail_groups.specs.Rules as Tail
 use Rattle.tail_groups.specs.Sites.{Site, sites, block_sites, clauses_sites, instance_sites}
 use Rattle.source_report.specs.Report.{IsOwned}
 use Rattle.source_report.specs.WellFormed.{IsKnown, IsKnownBlock, AreKnownClauses}
-use Rattle.source_report.proofs.Closing.{among_either}
+use Rattle.static_params.proofs.GoodTypes.{among_either}
 use Rattle.source_report.proofs.Ready.{typed_formed}
-use Rattle.source_report.proofs.Tables.{there_among}
+use Rattle.static_params.proofs.TypeRows.{there_among}
 
 -- ---- each call is of an instance
 

@@ -6,8 +6,8 @@ use Rattle.fip_language.specs.Every.{Among}
 use Rattle.fip_language.specs.Mentions.{all_of}
 use Rattle.static_params.specs.Closed.{Closed, same_closed}
 use Rattle.static_params.specs.Numbering.{with_new, with_all, firsts, Reached, AreNumbered, AreMore, Differ}
-use Rattle.source_report.proofs.Closing.{among_either, reached_have}
-use Rattle.source_report.proofs.Tables.{among_left, among_right, among_of, all_among, same_self}
+use Rattle.static_params.proofs.GoodTypes.{among_either, reached_have}
+use Rattle.static_params.proofs.TypeRows.{among_left, among_right, among_of, all_among, same_self}
 
 -- the first goes on to the second
 abbrev IsFront : List Closed → List Closed → Type 0

@@ -22,7 +22,7 @@ use Rattle.credit_check.specs.Credits as Credits
 use Rattle.tail_groups.specs.Members.{AreMembers}
 use Rattle.tail_groups.specs.Rules as Calls
 use Rattle.cell_lower.specs.Limits as Limits
-use Rattle.source_report.specs.FlatSource.{flat_source}
+use Rattle.static_params.specs.FlatSource.{flat_source}
 use Rattle.source_report.specs.Report.{bare, at, Reports, TooLong, Misspelt, Declaration, StaticParameter, Typing, Shape, Coverage, Ownership, Credit, TailCall, Limit, IsParsed, IsDeclared, IsFlat, IsTyped, AreOf, IsMatched, IsOwned, IsCredited, IsTailed, Says}
 
 pub too_long : (source : List ℕ) (r : Refusal) → MOST_SOURCE_BYTES < length source → r ≡ bare E05 → Reports source r

@@ -38,13 +38,13 @@ use Rattle.type_check.specs.Typing.{bound_by, parameter_scope}
 use Rattle.type_check.specs.World.{World, world, fields_of}
 use Rattle.own_agreement.specs.Sized.{AreSizes, SizedHeader, IsVariable, SizedArgument, SizedArguments, SizedPattern, SizedPatterns, SizedExpression, SizedBlock, SizedClauses}
 use Rattle.own_agreement.specs.Agreement.{AreSized}
-use Rattle.source_report.specs.FlatSource.{flat_source, fields, constructor, declared}
+use Rattle.static_params.specs.FlatSource.{flat_source, fields, constructor, declared}
 use Rattle.source_report.specs.Report.{IsFlat, IsTyped}
-use Rattle.source_report.proofs.Closing.{all_of_have}
-use Rattle.source_report.proofs.Forming.{shapes_below, row_there}
+use Rattle.static_params.proofs.GoodTypes.{all_of_have}
+use Rattle.static_params.proofs.TableRows.{shapes_below, row_there}
 use Rattle.source_report.proofs.Scrutinees as Q
 use Rattle.source_report.proofs.Scrutinees.{core_asks}
-use Rattle.source_report.proofs.Tables.{there_among}
+use Rattle.static_params.proofs.TypeRows.{there_among}
 
 -- ---- declarations: E14 and E63
 

@@ -1,31 +1,23 @@
 -- What each phase gives where it accepts, as a step of the source towards its typed program.
-use Rattle.std.proofs.Common.{◌≡◌, ◌<◌, ℕ, List, map, length, true, Result, Ok, Err, IfOk, IfErr, refl, subst}
-use Rattle.fip_language.specs.Declarations.{data_types}
+use Rattle.std.proofs.Common.{◌≡◌, ℕ, List, Result, Ok, Err, IfOk, IfErr, refl, subst}
 use Rattle.fip_base.specs.CoreView as V
 use Rattle.fip_base.specs.declared.core_form.Core.{Core}
 use Rattle.fip_base.specs.declared.refusal.PhaseError.{PhaseError}
 use Rattle.fip_trees.specs.TreeView.{program}
 use Rattle.fip_trees.specs.declared.decls.Decls.{Decls}
-use Rattle.fip_trees.specs.declared.least.Violation.{Violation}
-use Rattle.fip_trees.specs.declared.program.Flat.{Flat}
 use Rattle.fip_trees.specs.declared.program.Program.{Program}
-use Rattle.data_types.specs.Answers as Declaring
-use Rattle.data_types.specs.Answers.{declared_row_names}
-use Rattle.data_types.specs.Declarations.{declarations, written_names, row_names}
-use Rattle.data_types.specs.Numbered.{types_numbered}
-use Rattle.data_types.specs.Types.{IsValued}
-use Rattle.data_types.specs.View as v
+use Rattle.data_types.specs.DeclaredProgram.{AreDeclared}
 use Rattle.static_params.specs.Answers as Statics
 use Rattle.static_params.specs.SourceView as s
 use Rattle.type_check.specs.Faults.{filled}
 use Rattle.type_check.specs.Typing as Types
 use Rattle.match_cover.specs.Answers.{Accepts}
 use Rattle.match_cover.specs.Answers as Covering
-use Rattle.source_report.specs.FlatSource.{flat_source}
+use Rattle.static_params.specs.FlatSource.{flat_source}
 use Rattle.source_report.specs.Report.{IsParsed, IsDeclared, IsFlat, IsTyped, IsMatched, Says}
 use Rattle.source_report.proofs.Phases.{by_statics, by_matches}
 use Rattle.source_report.proofs.Ready.{typed_ready}
-use Rattle.source_report.proofs.Sources.{source_is}
+use Rattle.static_params.proofs.CoreSources.{source_is}
 
 pub if_ok : {A E : Type 0} (r : Result A E) (P Q : A → Type 0) → ((a : A) → P a → Q a) → IfOk r P → IfOk r Q
 if_ok (Ok a) P Q f h = f a h
@@ -35,26 +27,17 @@ pub if_err : {A E : Type 0} (r : Result A E) (P Q : E → Type 0) → ((e : E) �
 if_err (Ok a) P Q f h = tt
 if_err (Err e) P Q f h = f e h
 
--- what declaring gives, beside its refusal
-pub record AreDeclared (core : Core) (decls : Decls) : Type 0 where
-  pub accepted : (w : Violation) → Declaring.Violates (V.core core) w → ⊥
-  pub names : decls.names ≡ written_names (V.core core)
-  pub types : v.declarations decls.types.items ≡ declarations (V.core core)
-  pub constructors : map declared_row_names decls.types.items ≡ map row_names (data_types (V.core core))
-  pub valued : (n : ℕ) → n < length (data_types (V.core core)) → IsValued (declarations (V.core core)) n
-  pub numbered : types_numbered decls.types.items ≡ true
-
 declared : (source : List ℕ) (core : Core) (decls : Decls) → AreDeclared core decls → IsParsed source (V.core core) → IsDeclared source (V.core core)
 declared source core decls d p = record { parsed = p; unbroken = d.accepted; valued = d.valued }
 
 same_source : (core : Core) (decls : Decls) → AreDeclared core decls → s.source_of core decls ≡ flat_source (V.core core)
 same_source core decls d = source_is core decls d.names d.types d.constructors d.numbered
 
-pub flat_made : (source : List ℕ) (core : Core) (decls : Decls) (r : Result Flat PhaseError) → AreDeclared core decls → IsParsed source (V.core core) → IfOk r (λ f. Statics.IsAccepted (s.source_of core decls) f.program) → IfOk r (λ f. IsFlat source (program f.program))
+pub flat_made : (source : List ℕ) (core : Core) (decls : Decls) (r : Result Program PhaseError) → AreDeclared core decls → IsParsed source (V.core core) → IfOk r (λ f. Statics.IsAccepted (s.source_of core decls) f) → IfOk r (λ f. IsFlat source (program f))
 flat_made source core decls r d p h =
-    if_ok r (λ f. Statics.IsAccepted (s.source_of core decls) f.program) (λ f. IsFlat source (program f.program))
+    if_ok r (λ f. Statics.IsAccepted (s.source_of core decls) f) (λ f. IsFlat source (program f))
     (λ f a.
-    let b : Statics.IsAccepted (flat_source (V.core core)) f.program = subst (λ s. Statics.IsAccepted s f.program) (same_source core decls d) a in
+    let b : Statics.IsAccepted (flat_source (V.core core)) f = subst (λ s. Statics.IsAccepted s f) (same_source core decls d) a in
     record {
       core = V.core core;
       declared = declared source core decls d p;
@@ -64,7 +47,7 @@ flat_made source core decls r d p h =
       is = b.made;
     }) h
 
-pub flat_refused : (source : List ℕ) (core : Core) (decls : Decls) (r : Result Flat PhaseError) → AreDeclared core decls → IsParsed source (V.core core) → IfErr r (λ e. Statics.Says (s.source_of core decls) e) → IfErr r (λ e. Says source e)
+pub flat_refused : (source : List ℕ) (core : Core) (decls : Decls) (r : Result Program PhaseError) → AreDeclared core decls → IsParsed source (V.core core) → IfErr r (λ e. Statics.Says (s.source_of core decls) e) → IfErr r (λ e. Says source e)
 flat_refused source core decls r d p h =
     if_err r (λ e. Statics.Says (s.source_of core decls) e) (λ e. Says source e)
     (λ e a. by_statics source (V.core core) e (declared source core decls d p) (subst (λ s. Statics.Says s e) (same_source core decls d) a)) h

@@ -1,4 +1,3 @@
-pub mod FlatSource
 pub mod Literals
 pub mod Report
 pub mod Same

@@ -49,7 +49,7 @@ use Rattle.credit_check.specs.Credits as Credits
 use Rattle.tail_groups.specs.Members.{AreMembers}
 use Rattle.tail_groups.specs.Rules as Calls
 use Rattle.cell_lower.specs.Limits as Limits
-use Rattle.source_report.specs.FlatSource.{flat_source}
+use Rattle.static_params.specs.FlatSource.{flat_source}
 
 -- ---- what a source becomes where it breaks no rule
 

@@ -27,11 +27,11 @@ use Rattle.flat_meaning.specs.Meaning.{flat_meaning}
 use Rattle.tail_groups.specs.Members.{AreMembers}
 use Rattle.type_soundness.proofs.FilledSlots.{filled_means}
 use Rattle.in_place_runs.specs.InPlace.{RunsInPlace}
-use Rattle.source_report.specs.FlatSource.{flat_source}
+use Rattle.static_params.specs.FlatSource.{flat_source}
 use Rattle.source_report.specs.Report.{IsParsed, IsFlat, IsAccepted}
-use Rattle.source_report.proofs.Closing.{get_map, IsGoodFunction}
-use Rattle.source_report.proofs.Reaching.{instances_good}
-use Rattle.source_report.proofs.Tables.{among_left, among_right, root_numbered, number_there, one_at}
+use Rattle.static_params.proofs.GoodTypes.{get_map, IsGoodFunction}
+use Rattle.static_params.proofs.GoodInstances.{instances_good}
+use Rattle.static_params.proofs.TypeRows.{among_left, among_right, root_numbered, number_there, one_at}
 use Rattle.accepted_runs.proofs.Accepted.{accepted_in_place, accepted_stack}
 use Rattle.accepted_runs.proofs.CoreArguments as Q
 use Rattle.accepted_runs.proofs.Formed.{parsed_fits}

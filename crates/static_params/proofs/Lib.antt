@@ -32,3 +32,12 @@ pub mod Specialising
 pub mod Fielding
 pub mod Ordering
 pub mod AnswerLaws
+pub mod Meanings
+pub mod GoodTypes
+pub mod GoodInstances
+pub mod TypeRows
+pub mod TypeValues
+pub mod CoreSources
+pub mod TableRows
+pub mod ConstructorRows
+pub mod Sounding

@@ -14,3 +14,4 @@ pub mod UsesView
 pub mod KnownFits
 pub mod PutView
 pub mod FlatView
+pub mod FlatSource

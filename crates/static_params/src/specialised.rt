@@ -24,6 +24,7 @@ use crate::numbering::{Places, number};
 use crate::source::{FunctionSource, Here, Source, source_of};
 use crate::table::{Numbers, declaring_of, table_of};
 use crate::type_instances::TypeInstances;
+use data_types::DeclaredProgram;
 use fip_base::core_form::{Core, Parameter, ResultType, Static};
 use fip_base::plain::{CreditMark, NoMemory, Param, Params, Place};
 use fip_base::refusal::{PhaseError, Rule};
@@ -40,20 +41,22 @@ const START: Place = Place {
     at: 0,
 };
 
-/// The program without static parameters, where these are its declarations. The least violation of E11 and E12 in
-/// static arguments and of E20 to E23 where there is one.
-pub fn specialise(alloc: Global, core: &Core, decls: &Decls<'_>) -> Result<Flat, PhaseError>
-    ensures accepted { IfOk result (λ f. IsAccepted (S.source_of core.now decls.now) f.program) }
-    ensures refused { IfErr result (λ e. Says (S.source_of core.now decls.now) e) }
+/// The program without static parameters of a program, which breaks no rule on declarations. The least violation of E11
+/// and E12 in static arguments and of E20 to E23 where there is one.
+pub fn specialise(alloc: Global, declared: &DeclaredProgram<'_>) -> Result<Flat, PhaseError>
+    ensures accepted { IfOk result (λ f. IsAccepted (S.source_of declared.now.core declared.now.decls) f) }
+    ensures refused { IfErr result (λ e. Says (S.source_of declared.now.core declared.now.decls) e) }
 {
     let mut least = Least::new(alloc);
-    match specialised(alloc, core, decls, &mut least) {
-        Ok(Some(flat)) => Ok(flat),
-        Ok(None) => match least.into_refusal() {
-            Some(refusal) => Err(PhaseError::Refused(refusal)),
-            None => Err(PhaseError::NoMemory),
-        },
+    match specialised(alloc, declared.core(), declared.decls(), &mut least) {
         Err(NoMemory) => Err(PhaseError::NoMemory),
+        Ok(found) => match found {
+            Some(program) => Ok(Flat::new(program)),
+            None => match least.into_refusal() {
+                Some(refusal) => Err(PhaseError::Refused(refusal)),
+                None => Err(PhaseError::NoMemory),
+            },
+        },
     }
 }
 
@@ -63,9 +66,9 @@ fn specialised(
     core: &Core,
     decls: &Decls<'_>,
     least: &mut Least,
-) -> Result<Option<Flat>, NoMemory>
-    ensures accepted { least.old ≡ None → IfOk result (λ o. IfSome o (λ f.
-        IsAccepted (S.source_of core.now decls.now) f.program)) }
+) -> Result<Option<Program>, NoMemory>
+    ensures accepted { least.old ≡ None → IfOk result (λ o. IfSome o (λ p.
+        IsAccepted (S.source_of core.now decls.now) p)) }
     ensures refused { least.old ≡ None → IfOk result (λ o. o ≡ None →
         IsNamed (S.source_of core.now decls.now) least.new) }
 {
@@ -86,9 +89,9 @@ fn flat_of(
     shared: Shared,
     numbers: &Numbers,
     least: &Least,
-) -> Result<Option<Flat>, NoMemory>
-    ensures accepted { IsNumbered source.now numbers.now shared least.now → IfOk result (λ o. IfSome o (λ f.
-        IsAccepted (S.source source.now) f.program)) }
+) -> Result<Option<Program>, NoMemory>
+    ensures accepted { IsNumbered source.now numbers.now shared least.now → IfOk result (λ o. IfSome o (λ p.
+        IsAccepted (S.source source.now) p)) }
     ensures refused { IsNumbered source.now numbers.now shared least.now → IfOk result (λ o. o ≡ None →
         IsNamed (S.source source.now) least.now) }
 {
@@ -96,7 +99,7 @@ fn flat_of(
         return Ok(None);
     }
     let program = program_of(source, shared, numbers)?;
-    Ok(Some(Flat { program }))
+    Ok(Some(program))
 }
 
 // More than 4,096 instances or types are E21 at the source's first place, where no use stands.

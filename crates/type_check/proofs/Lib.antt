@@ -11,3 +11,4 @@ pub mod Shared
 pub mod Halves
 pub mod Plains
 pub mod Examples
+pub mod Filling

@@ -1,6 +1,7 @@
 // Instances, and the program.
 ghost use Rattle.std.specs.Prelude.{◌≡◌, ◌++◌, None, map, drop, IfOk, IfErr, OnOk};
 ghost use Rattle.fip_trees.specs.Least.{after};
+ghost use Rattle.fip_trees.specs.SoundProgram.{IsSoundProgram};
 ghost use Rattle.fip_trees.specs.TreeView as V;
 ghost use Rattle.type_check.specs.Faults.{fill_instance, fill_parameters, instance_faults, instances_faults};
 ghost use Rattle.type_check.specs.Faults.{header_faults, tuples_faults, type_faults, filled, or_place};
@@ -32,15 +33,27 @@ use std::alloc::Global;
 /// - E33: a call, a constructor or a pattern has the wrong number of parts;
 /// - E34: a tuple or a header has more than eight results, or there are more or fewer results than expected.
 ///
-/// Where it is not refused, all of it is typed, and the slots hold these types. An error also where no memory is left.
+/// Where it is not refused, all of it is typed, the slots hold these types, and it is as sound as it was. An error also
+/// where no memory is left.
 pub fn check_types(alloc: Global, flat: Flat) -> Result<Typed, PhaseError>
-    ensures typed { IfOk result (λ t. IsTyped (V.program flat.program)) }
-    ensures tree { IfOk result (λ t. V.program t.program ≡ filled (V.program flat.program)) }
+    ensures typed { IfOk result (λ t. IsTyped (V.program flat)) }
+    ensures tree { IfOk result (λ t. V.program t.program ≡ filled (V.program flat)) }
     ensures slots { IfOk result (λ t. IsFilled (V.program t.program)) }
-    ensures least { IfErr result (λ e. Says (V.program flat.program) e) }
+    ensures sound { IfOk result (λ t. IsSoundProgram (V.program t.program)) }
+    ensures least { IfErr result (λ e. Says (V.program flat) e) }
+{
+    checked(alloc, flat.into_program())
+}
+
+// The program with the type of each node in its slot, or the least violation.
+pub(crate) fn checked(alloc: Global, program: Program) -> Result<Typed, PhaseError>
+    ensures typed { IfOk result (λ t. IsTyped (V.program program)) }
+    ensures tree { IfOk result (λ t. V.program t.program ≡ filled (V.program program)) }
+    ensures slots { IfOk result (λ t. IsFilled (V.program t.program)) }
+    ensures least { IfErr result (λ e. Says (V.program program) e) }
 {
     let mut least = Least::new(alloc);
-    match check_program(alloc, flat.program, &mut least) {
+    match check_program(alloc, program, &mut least) {
         Err(NoMemory) => Err(PhaseError::NoMemory),
         Ok(program) => match least.into_refusal() {
             Some(refusal) => Err(PhaseError::Refused(refusal)),

@@ -1,9 +1,9 @@
 // Small programs: what is refused, and what a slot holds.
-use crate::check_types;
+use crate::check::checked;
 use fip_base::plain::{FunKind, Name, NoMemory, Param, Params, Place, Types};
 use fip_base::refusal::{PhaseError, Rule};
 use fip_base::table::{Constructor, DataType, TypeTable};
-use fip_trees::program::{Argument, Binder, Block, Expression, Flat, Instance, Program};
+use fip_trees::program::{Argument, Binder, Block, Expression, Instance, Program};
 use std::alloc::Global;
 use std::test::Fail;
 
@@ -71,23 +71,21 @@ fn function(alloc: Global, results: Vec<u32>, argument: Argument) -> Result<Inst
     })
 }
 
-fn flat(alloc: Global, results: Vec<u32>, argument: Argument) -> Result<Flat, NoMemory> {
+fn flat(alloc: Global, results: Vec<u32>, argument: Argument) -> Result<Program, NoMemory> {
     let mut types = TypeTable::new(alloc);
     types.push(bool_type(alloc)?)?;
-    Ok(Flat {
-        program: Program {
-            types,
-            declaring: vec![in alloc; 1]?,
-            arities: vec![in alloc; 0, 1]?,
-            field_counts: vec![in alloc; vec![in alloc; 0, 0]?, vec![in alloc; 0, 2]?]?,
-            instances: vec![in alloc; function(alloc, results, argument)?]?,
-        },
+    Ok(Program {
+        types,
+        declaring: vec![in alloc; 1]?,
+        arities: vec![in alloc; 0, 1]?,
+        field_counts: vec![in alloc; vec![in alloc; 0, 0]?, vec![in alloc; 0, 2]?]?,
+        instances: vec![in alloc; function(alloc, results, argument)?]?,
     })
 }
 
 // The rule that is broken; none where the program is typed.
-fn rule_of(alloc: Global, flat: Flat) -> Result<Option<Rule>, NoMemory> {
-    match check_types(alloc, flat) {
+fn rule_of(alloc: Global, program: Program) -> Result<Option<Rule>, NoMemory> {
+    match checked(alloc, program) {
         Ok(_) => Ok(None),
         Err(PhaseError::Refused(refusal)) => Ok(Some(refusal.rule)),
         Err(PhaseError::NoMemory) => Err(NoMemory),

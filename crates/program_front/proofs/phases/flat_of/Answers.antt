@@ -1,4 +1,6 @@
+use Rattle.std.proofs.Common.{sym, subst}
 use Rattle.fip_base.specs.CoreView.{core as core_view}
+use Rattle.source_report.specs.Report.{IsParsed}
 use Rattle.source_report.proofs.Phases.{by_declarations}
 use Rattle.source_report.proofs.Steps.{flat_made, flat_refused}
 use Rattle.program_front.proofs.phases.flat_of.Goals as goal
@@ -8,12 +10,10 @@ returns-in-Err-clause-reported c = λ source parsed. by_declarations source (cor
 
 pub returns-in-Ok-clause-flat : goal.returns-in-Ok-clause-flat
 returns-in-Ok-clause-flat c = λ source parsed.
-    flat_made source c.args.core.now c.in-Ok.decls c.specialise.result
-    (record { accepted = c.in-Ok.ensures.accepted; names = c.in-Ok.ensures.names; types = c.in-Ok.ensures.types; constructors = c.in-Ok.ensures.constructors; valued = c.in-Ok.ensures.valued; numbered = c.in-Ok.ensures.numbered })
-    parsed c.specialise.ensures.accepted
+    flat_made source c.in-Ok.declared.core c.in-Ok.declared.decls c.specialise.result c.in-Ok.ensures.declared
+    (subst (λ x. IsParsed source (core_view x)) (sym c.in-Ok.ensures.core) parsed) c.specialise.ensures.accepted
 
 pub returns-in-Ok-clause-reported : goal.returns-in-Ok-clause-reported
 returns-in-Ok-clause-reported c = λ source parsed.
-    flat_refused source c.args.core.now c.in-Ok.decls c.specialise.result
-    (record { accepted = c.in-Ok.ensures.accepted; names = c.in-Ok.ensures.names; types = c.in-Ok.ensures.types; constructors = c.in-Ok.ensures.constructors; valued = c.in-Ok.ensures.valued; numbered = c.in-Ok.ensures.numbered })
-    parsed c.specialise.ensures.refused
+    flat_refused source c.in-Ok.declared.core c.in-Ok.declared.decls c.specialise.result c.in-Ok.ensures.declared
+    (subst (λ x. IsParsed source (core_view x)) (sym c.in-Ok.ensures.core) parsed) c.specialise.ensures.refused

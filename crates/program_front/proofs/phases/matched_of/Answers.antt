@@ -4,14 +4,14 @@ use Rattle.source_report.proofs.Steps.{matched_from, cover_refused}
 use Rattle.program_front.proofs.phases.matched_of.Goals as goal
 
 pub returns-in-Err-clause-reported : goal.returns-in-Err-clause-reported
-returns-in-Err-clause-reported c = λ source flat. by_types source (program c.args.flat.program) c.in-Err.error flat c.in-Err.ensures.least
+returns-in-Err-clause-reported c = λ source flat. by_types source (program c.args.flat) c.in-Err.error flat c.in-Err.ensures.least
 
 pub returns-in-Err-cover-clause-reported : goal.returns-in-Err-cover-clause-reported
 returns-in-Err-cover-clause-reported c = λ source flat.
-    cover_refused source c.args.flat.program c.in-Ok.typed.program c.in-Err-cover.error
+    cover_refused source c.args.flat c.in-Ok.typed.program c.in-Err-cover.error
     (record { typed = c.in-Ok.ensures.typed; tree = c.in-Ok.ensures.tree; slots = c.in-Ok.ensures.slots }) flat c.in-Err-cover.ensures.least
 
 pub returns-in-Ok-cover-clause-typed : goal.returns-in-Ok-cover-clause-typed
 returns-in-Ok-cover-clause-typed c = λ source flat.
-    matched_from source c.args.flat.program c.in-Ok.typed.program
+    matched_from source c.args.flat c.in-Ok.typed.program
     (record { typed = c.in-Ok.ensures.typed; tree = c.in-Ok.ensures.tree; slots = c.in-Ok.ensures.slots }) flat c.in-Ok-cover.ensures.accepts

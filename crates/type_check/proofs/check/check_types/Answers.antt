@@ -1,16 +1,23 @@
-use Rattle.std.proofs.Common.{◌∙◌, sym, ap, subst}
-use Rattle.fip_trees.specs.Least.{after}
+use Rattle.std.proofs.Common.{◌≡◌, IfOk, IfErr, subst}
 use Rattle.fip_trees.specs.TreeView.{program}
-use Rattle.type_check.specs.Typing.{IsFilled}
-use Rattle.type_check.specs.Faults.{type_faults}
-use Rattle.type_check.proofs.Exact.{typed_exactly, filled_right, refused, accepted}
+use Rattle.fip_trees.specs.declared.program.Program.{Program}
+use Rattle.fip_trees.specs.declared.program.Typed.{Typed}
+use Rattle.type_check.specs.Answers.{Says}
+use Rattle.type_check.specs.Faults.{filled}
+use Rattle.type_check.specs.Typing.{IsTyped}
+use Rattle.type_check.proofs.Filling.{sound_if, stays_sound}
 use Rattle.type_check.proofs.check.check_types.Goals as goal
 
-pub returns-in-Some-clause-least : goal.returns-in-Some-clause-least
-returns-in-Some-clause-least c = refused (program c.args.flat.program) c.check_program.new.least c.in-Some.refusal (c.in-Ok.ensures.faults ∙ ap (λ o. after o (type_faults (program c.args.flat.program))) c.new-least.ensures.none) (sym c.into_refusal.ensures.least ∙ c.in-Some.is)
+pub returns-clause-typed : goal.returns-clause-typed
+returns-clause-typed c = subst (λ (p : Program). IfOk c.checked.result (λ (t : Typed). IsTyped (program p))) c.into_program.ensures.same c.checked.ensures.typed
 
-pub returns-in-None-clause-typed : goal.returns-in-None-clause-typed
-returns-in-None-clause-typed c = (typed_exactly (program c.args.flat.program)).1 (accepted (program c.args.flat.program) c.check_program.new.least (c.in-Ok.ensures.faults ∙ ap (λ o. after o (type_faults (program c.args.flat.program))) c.new-least.ensures.none) (sym c.into_refusal.ensures.least ∙ c.in-None.is))
+pub returns-clause-tree : goal.returns-clause-tree
+returns-clause-tree c = subst (λ (p : Program). IfOk c.checked.result (λ (t : Typed). program t.program ≡ filled (program p))) c.into_program.ensures.same c.checked.ensures.tree
 
-pub returns-in-None-clause-slots : goal.returns-in-None-clause-slots
-returns-in-None-clause-slots c = subst (λ p. IsFilled p) (sym c.in-Ok.ensures.tree) (filled_right (program c.args.flat.program) (accepted (program c.args.flat.program) c.check_program.new.least (c.in-Ok.ensures.faults ∙ ap (λ o. after o (type_faults (program c.args.flat.program))) c.new-least.ensures.none) (sym c.into_refusal.ensures.least ∙ c.in-None.is)))
+pub returns-clause-sound : goal.returns-clause-sound
+returns-clause-sound c =
+    sound_if c.checked.result (filled (program c.args.flat)) (stays_sound (program c.args.flat) c.into_program.ensures.sound)
+    (subst (λ (p : Program). IfOk c.checked.result (λ (t : Typed). program t.program ≡ filled (program p))) c.into_program.ensures.same c.checked.ensures.tree)
+
+pub returns-clause-least : goal.returns-clause-least
+returns-clause-least c = subst (λ (p : Program). IfErr c.checked.result (λ e. Says (program p) e)) c.into_program.ensures.same c.checked.ensures.least

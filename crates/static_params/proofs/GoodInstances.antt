@@ -17,9 +17,9 @@ use Rattle.static_params.specs.Source.{Source, Instance, statics_at, statics_or_
 use Rattle.static_params.specs.Uses.{closed_function, declared_type}
 use Rattle.static_params.specs.Instances.{roots, roots_from, root_if, calls_from, calls_in, if_there, calls, AreInstances, functions_among, passed_to, ArePassed}
 use Rattle.static_params.specs.TypeInstances.{unless_int, types_written, plain_number, numbers_named, types_named, types_in, types_of_instance, types_among, types_given, type_roots, pick, field_type, field_types, unless_ints, fields_of, parts_of, arity, AreTypes, written_in_header, annotations_in_block}
-use Rattle.source_report.specs.FlatSource.{flat_source, field, fields, constructor, declared}
-use Rattle.source_report.proofs.Meanings.{IsConstructor, constructor_there, IsSoundTy, AreSoundTys, all_looked_up_sound}
-use Rattle.source_report.proofs.Closing.{among_either, all_of_have, firsts_among, reached_have, get_map, below, IsNumber, IsGood, AreGood, IsGoodFunction, AreGiven, IsHere, closed_function_good, declared_type_good}
+use Rattle.static_params.specs.FlatSource.{flat_source, field, fields, constructor, declared}
+use Rattle.static_params.proofs.Meanings.{IsConstructor, constructor_there, IsSoundTy, AreSoundTys, all_looked_up_sound}
+use Rattle.static_params.proofs.GoodTypes.{among_either, all_of_have, firsts_among, reached_have, get_map, below, IsNumber, IsGood, AreGood, IsGoodFunction, AreGiven, IsHere, closed_function_good, declared_type_good}
 
 module _ (core : Core) where
   abbrev here_of : ℕ → Closeds → Instance

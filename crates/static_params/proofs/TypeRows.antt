@@ -17,9 +17,9 @@ use Rattle.static_params.specs.Numbering.{with_new, with_all, AreNumbered}
 use Rattle.static_params.specs.TypeInstances as Y
 use Rattle.static_params.specs.TypeInstances.{unless_int, types_written, numbers_named, types_named, types_in, types_of_instance, types_among, types_given, type_roots, field_types, unless_ints, fields_of, parts_of, written_in_header, annotations_in_block}
 use Rattle.static_params.specs.FlatProgram.{Numbers, number_in, from_one, type_number, flat_constructor, row_if, rows_of, number_if, declaring_of}
-use Rattle.source_report.specs.FlatSource.{flat_source, declared}
-use Rattle.source_report.proofs.Closing.{among_either, all_of_have, reached_have, IsGood}
-use Rattle.source_report.proofs.Reaching.{declared_is}
+use Rattle.static_params.specs.FlatSource.{flat_source, declared}
+use Rattle.static_params.proofs.GoodTypes.{among_either, all_of_have, reached_have, IsGood}
+use Rattle.static_params.proofs.GoodInstances.{declared_is}
 
 -- ---- lists
 

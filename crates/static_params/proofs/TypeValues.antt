@@ -18,11 +18,11 @@ use Rattle.static_params.specs.Source.{declared_at}
 use Rattle.static_params.specs.Instances.{AreInstances, ArePassed}
 use Rattle.static_params.specs.TypeInstances.{AreTypes, type_roots, parts_of, pick, field_type, field_types, unless_int, unless_ints, fields_of}
 use Rattle.static_params.specs.FlatProgram.{Numbers, number_in, from_one, type_number, numbers_of, flat_constructor, rows_of, flat_program}
-use Rattle.source_report.specs.FlatSource.{flat_source, field, fields, constructor, declared}
-use Rattle.source_report.proofs.Meanings.{IsSoundTy, AreSoundTys, all_looked_up_sound}
-use Rattle.source_report.proofs.Closing.{IsGood, AreGood, get_map}
-use Rattle.source_report.proofs.Reaching.{types_good, fields_good, declared_is}
-use Rattle.source_report.proofs.Tables.{among_left, among_right, among_of, there_among, next_numbered, number_cons, number_there, one_at, shapes_is, IsApplied, types_applied, row_of, row_is, has_row}
+use Rattle.static_params.specs.FlatSource.{flat_source, field, fields, constructor, declared}
+use Rattle.static_params.proofs.Meanings.{IsSoundTy, AreSoundTys, all_looked_up_sound}
+use Rattle.static_params.proofs.GoodTypes.{IsGood, AreGood, get_map}
+use Rattle.static_params.proofs.GoodInstances.{types_good, fields_good, declared_is}
+use Rattle.static_params.proofs.TypeRows.{among_left, among_right, among_of, there_among, next_numbered, number_cons, number_there, one_at, shapes_is, IsApplied, types_applied, row_of, row_is, has_row}
 
 -- ---- a type's arguments, put in for its parameters
 

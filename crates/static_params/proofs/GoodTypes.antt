@@ -14,8 +14,8 @@ use Rattle.static_params.specs.Closed.{Closed, Closeds, Int, Applied, NoClosed, 
 use Rattle.static_params.specs.Source.{Instance, statics_at, given_type, given_function, type_at, function_at, if_type, if_function, static_places}
 use Rattle.static_params.specs.Uses.{closed_type, closed_types, named_type, applied_to, both, declared_type, or_int, closed_function, closed_arguments, named_use, declared_use, applied_function, all_given, fit_if_known, types_given, statics_meant, count}
 use Rattle.static_params.specs.Numbering.{Way, Reached, with_new, with_all, firsts}
-use Rattle.source_report.specs.FlatSource.{flat_source}
-use Rattle.source_report.proofs.Meanings.{type_there, function_there}
+use Rattle.static_params.specs.FlatSource.{flat_source}
+use Rattle.static_params.proofs.Meanings.{type_there, function_there}
 
 -- ---- lists
 

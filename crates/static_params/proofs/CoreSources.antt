@@ -18,7 +18,7 @@ use Rattle.data_types.specs.Types as D
 use Rattle.data_types.specs.View as v
 use Rattle.static_params.specs.Source as S
 use Rattle.static_params.specs.SourceView as s
-use Rattle.source_report.specs.FlatSource.{field, fields, constructor, declared, flat_source}
+use Rattle.static_params.specs.FlatSource.{field, fields, constructor, declared, flat_source}
 
 both_true : (a b : Bool) → (a && b) ≡ true → (a ≡ true) × (b ≡ true)
 both_true true b e = (refl, e)

@@ -1,0 +1,23 @@
+-- What every program without static parameters keeps to, whatever source it was made of. There are few instances and
+-- few types, no two roots have one name, and the types are sound: each has a finite value, and its constructors have
+-- names of their own, few fields, and types for these that are in the table.
+--
+-- In the program of `data list[a] { Nil; Cons(a, list[a]) }` and `fun f(xs: list[int]): int { 0 }` there are one
+-- instance, f, and two types: bool, with the value False, and list[int], with the value Nil.
+use Rattle.std.specs.Prelude.{◌≡◌, ℕ, suc, ◌<◌, ◌≤◌, true, length, Some, slice_get}
+use Rattle.fip_language.specs.declared.limits.TheConstants.{MOST_FIELDS, MOST_INSTANCES}
+use Rattle.fip_language.specs.SoundTable.{AreTypes}
+use Rattle.fip_language.specs.Table.{Shape, shapes, HasType}
+use Rattle.fip_language.specs.Values.{Value}
+use Rattle.fip_trees.specs.Tree.{Instance, Program}
+
+pub record IsSoundProgram (p : Program) : Type 0 where
+  pub few : length p.instances ≤ MOST_INSTANCES
+  pub roots : (i j : ℕ) (d e : Instance) → slice_get p.instances i ≡ Some d → slice_get p.instances j ≡ Some e →
+      d.root ≡ true → e.root ≡ true → d.name ≡ e.name → i ≡ j
+  pub few_types : length p.types ≤ MOST_INSTANCES
+  pub inhabited : (t : ℕ) → t < length p.types → (v : Value) × HasType p.types (suc t) v
+  pub known : (t c : ℕ) (s : Shape) → slice_get (shapes p.types t) c ≡ Some s → AreTypes p.types s.fields
+  pub narrow : (t c : ℕ) (s : Shape) → slice_get (shapes p.types t) c ≡ Some s → length s.fields ≤ MOST_FIELDS
+  pub unlike : (t c d : ℕ) (s r : Shape) → slice_get (shapes p.types t) c ≡ Some s →
+      slice_get (shapes p.types t) d ≡ Some r → s.name ≡ r.name → c ≡ d

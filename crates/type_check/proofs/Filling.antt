@@ -1,0 +1,35 @@
+-- A program stays sound when its slots are filled: its types, and the names of its instances, stay.
+use Rattle.std.proofs.Common.{◌≡◌, ◌≤◌, ◌∙◌, ℕ, suc, List, [], ◌∷◌, length, map, Result, Ok, Err, IfOk, sym, ap, refl, subst}
+use Rattle.fip_language.proofs.SoundTables.{map_at}
+use Rattle.fip_language.specs.declared.limits.TheConstants.{MOST_INSTANCES}
+use Rattle.fip_base.specs.declared.refusal.PhaseError.{PhaseError}
+use Rattle.fip_trees.specs.SoundProgram.{IsSoundProgram}
+use Rattle.fip_trees.specs.Tree.{Instance, Program}
+use Rattle.fip_trees.specs.TreeView.{program}
+use Rattle.fip_trees.specs.declared.program.Typed.{Typed}
+use Rattle.type_check.specs.Faults.{fill_instance, filled}
+use Rattle.type_check.specs.World.{world}
+
+as_many : {A B : Type 0} (f : A → B) (xs : List A) → length (map f xs) ≡ length xs
+as_many f [] = refl
+as_many f (x ∷ xs) = ap suc (as_many f xs)
+
+pub stays_sound : (p : Program) → IsSoundProgram p → IsSoundProgram (filled p)
+stays_sound p h =
+    record {
+      few = subst (λ n. n ≤ MOST_INSTANCES) (sym (as_many (fill_instance (world p)) p.instances)) h.few;
+      roots = λ i j d e x y r q same.
+          let a = map_at (fill_instance (world p)) p.instances i d x in
+          let b = map_at (fill_instance (world p)) p.instances j e y in
+          h.roots i j a.0 b.0 a.1 b.1 (ap (λ (z : Instance). z.root) a.2 ∙ r) (ap (λ (z : Instance). z.root) b.2 ∙ q)
+          (ap (λ (z : Instance). z.name) a.2 ∙ same ∙ sym (ap (λ (z : Instance). z.name) b.2));
+      few_types = h.few_types;
+      inhabited = h.inhabited;
+      known = h.known;
+      narrow = h.narrow;
+      unlike = h.unlike;
+    }
+
+pub sound_if : (r : Result Typed PhaseError) (q : Program) → IsSoundProgram q → IfOk r (λ (t : Typed). program t.program ≡ q) → IfOk r (λ (t : Typed). IsSoundProgram (program t.program))
+sound_if (Ok t) q h e = subst IsSoundProgram (sym e) h
+sound_if (Err x) q h e = tt

@@ -1,11 +1,11 @@
 // A program with its proof file: what is made for one, and how one is judged.
-use crate::accept::check;
 use crate::error::AuditError;
 use crate::make::line_of;
 use fip_base::plain::FunKind;
 use fip_language::limits::MOST_FILE_BYTES;
 use fip_trees::program::Typed;
 use fip_trees::scalars::Scalars;
+use proof_check::check;
 use proof_text::{Text, TextError, read_derivation};
 use std::alloc::Global;
 

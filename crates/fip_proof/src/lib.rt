@@ -1,4 +1,4 @@
-// Derivations of the ownership calculus: made, checked, written and read. A derivation says for each fip and fbip
+// Derivations of the ownership calculus: made, checked (`proof_check`), written and read. A derivation says for each fip and fbip
 // instance, rule by rule, which owned variables and credits each of its expressions uses up. Whoever has a program and
 // a derivation needs no rule of the checkers to see that the program keeps the discipline.
 //
@@ -19,21 +19,16 @@
 // - WEAKEN, in fbip alone: O without some variables or credits derives e.
 #![tactic(auto)]
 
-mod accept;
-mod counts;
 mod error;
 mod files;
 mod make;
-mod scalar_types;
-mod scope;
-mod split;
 #[cfg(test)]
 mod tests;
 mod uses;
 
-pub use accept::check;
 pub use derivation_trees::{Credit, Derivation, Line, Node, RuleName};
 pub use error::AuditError;
 pub use files::{audit, derivation_text};
 pub use make::derive;
+pub use proof_check::check;
 pub use proof_text::{ProofError, TextError, read_derivation, write_derivation};

@@ -1,0 +1,13 @@
+mod Numbers
+mod Rows
+mod Given
+mod Windows
+mod Weakened
+mod Frames
+mod Flags
+mod Splitting
+mod Passing
+mod Owning
+mod Inside
+mod Blocks
+mod Lines

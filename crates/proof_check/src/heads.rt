@@ -1,0 +1,10 @@
+// Nodes of matches.
+use crate::walk::Found;
+
+/// The node of a match, the scrutinee's number where it is used up, and a bound below which all its variables stand.
+#[derive(Clone, Copy)]
+pub struct Head<'a> {
+    pub found: Found<'a>,
+    pub taken: Option<u32>,
+    pub below: usize,
+}

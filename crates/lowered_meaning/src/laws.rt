@@ -14,11 +14,18 @@ ghost use Rattle.lowered_runs.specs.Distinct.{AreDistinct};
 ghost use Rattle.lowered_runs.specs.Ends.{EndsIn};
 ghost use Rattle.lowered_runs.specs.Guarded.{IsGuarded, Takes};
 ghost use Rattle.lowered_runs.specs.Lowered.{all_instrs};
+ghost use Rattle.match_code.specs.WellMatched.{ArePatternsFormed, IsWellMatched};
 
 /// In a typed program each match that an evaluation comes to has a value of the match's type, and each call has
 /// arguments of its parameters' types. For who leaves out a test that no value of the type fails.
 pub fn typed_programs_keep_their_types()
     ensures law { (program : Program) → IsFormed program → IsFilled program → IsGuarded program }
+{}
+
+/// In a typed program the patterns of each match are of the match's type, where their literals have 64 bits and their
+/// constructors are there. For who writes the tests of a match.
+pub fn typed_patterns_are_of_their_types()
+    ensures law { (program : Program) → IsFilled program → ArePatternsFormed program → IsWellMatched program }
 {}
 
 /// A run on trees of the lowered code of a typed program, on arguments of their types, ends as the instance means: with

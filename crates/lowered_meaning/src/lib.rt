@@ -3,4 +3,7 @@
 
 mod laws;
 
-pub use laws::{typed_code_means_its_program, typed_programs_keep_their_types};
+pub use laws::{
+    typed_code_means_its_program, typed_patterns_are_of_their_types,
+    typed_programs_keep_their_types,
+};

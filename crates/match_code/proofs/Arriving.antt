@@ -1,6 +1,5 @@
 -- Where a run lands, a clause's body is entered, and what is known there is so.
-use Rattle.std.proofs.Common.{◌≡◌, ◌⊎◌, inl, inr, refl, sym, ap, ◌∙◌, subst, ⊎_elim, arith, ℕ, ◌<◌, ◌≤◌, Bool, List, [], ◌∷◌, Option, Some, None, slice_get}
-use Rattle.fip_language.specs.Values.{Value}
+use Rattle.std.proofs.Common.{◌≡◌, inl, inr, sym, ap, ◌∙◌, subst, ⊎_elim, arith, ℕ, ◌<◌, ◌≤◌, Bool, List, ◌∷◌, Some}
 use Rattle.fip_language.specs.Matching.{Binding}
 use Rattle.fip_language.specs.Every.{Among}
 use Rattle.fip_trees.specs.Tree.{Pattern}
@@ -9,7 +8,7 @@ use Rattle.cell_code.specs.declared.code.Instr.{Instr}
 use Rattle.tree_runs.specs.Contents.{Contents}
 use Rattle.lowered_code.specs.Known.{Known, register_of}
 use Rattle.lowered_code.specs.Values.{Setting}
-use Rattle.lowered_code.specs.Tidy.{Fixed, Tidy, Unknown, NotIn, Below}
+use Rattle.lowered_code.specs.Tidy.{Fixed, Tidy, Unknown, NotIn}
 use Rattle.lowered_code.specs.Choosing.{place, Arrives, Opens}
 use Rattle.lowered_code.proofs.Lists.{below_not, below_more}
 use Rattle.match_code.specs.Spots.{Spot, register, below, Differ}

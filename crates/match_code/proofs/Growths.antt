@@ -1,8 +1,8 @@
 -- Positions that get more positions below them.
-use Rattle.std.proofs.Common.{◌≡◌, ◌⊎◌, inl, inr, refl, sym, ap, ◌∙◌, subst, ⊎_elim, arith, ℕ, zero, suc, ◌<◌, ◌≤◌, List, [], ◌∷◌, ◌++◌, Option, Some, None}
+use Rattle.std.proofs.Common.{◌≡◌, ◌⊎◌, inl, inr, refl, ◌∙◌, subst, ⊎_elim, arith, ℕ, suc, ◌<◌, ◌≤◌}
 use Rattle.fip_language.specs.Every.{Among}
 use Rattle.fip_trees.specs.Tree.{Pattern, BinderPattern, LiteralPattern, ConstructorPattern, Patterns, NoPatterns, MorePatterns}
-use Rattle.match_code.specs.Spots.{Spot, At, Spots, NoSpots, MoreSpots, register, below, all_in, Differ, AllDiffer}
+use Rattle.match_code.specs.Spots.{Spot, At, Spots, NoSpots, MoreSpots, register, below, all_in, AllDiffer}
 use Rattle.match_code.specs.Opening.{Roomy, AllRoomy}
 use Rattle.match_code.specs.Growing.{Grows, AllGrow}
 use Rattle.match_code.proofs.Lists.{among_either, in_head, in_tail}

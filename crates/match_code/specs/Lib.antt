@@ -7,3 +7,4 @@ pub mod Landing
 pub mod Entering
 pub mod Losing
 pub mod Growing
+pub mod WellMatched

@@ -124,12 +124,18 @@ abbrev pub AreApart : List Begun → Type 0
 AreApart ts = (i j p q : ℕ) (a b : Begun) → slice_get ts i ≡ Some a → slice_get ts j ≡ Some b → i ≢ j →
     IsThere a.state.store p → IsThere b.state.store q → a.places p ≢ b.places q
 
--- Each task comes to what it comes to alone, whatever the schedule is. The shared run begins with the tasks' own
--- beginnings, at their places.
-pub record EachIsAlone (before waits : Kinds) (code : PlainCode) (tasks : List Begun) (first : Shared) : Type 0 where
+-- The tasks begin together: each run is that of its task alone, at the task's places, which are no other task's.
+pub record BeginTogether (before waits : Kinds) (code : PlainCode) (tasks : List Begun) (first : Shared) : Type 0 where
   pub apart : AreApart tasks
   pub number : length first.runs ≡ length tasks
-  pub same : (schedule : List ℕ) (k : ℕ) (t : Begun) (r : Run) → slice_get tasks k ≡ Some t →
-      slice_get (scheduled before code schedule first).runs k ≡ Some r →
-      IsSameRun before waits code t.function t.places (alone before code k schedule (begun t.state t.calls))
-      (in_store (scheduled before code schedule first).store r)
+  pub same : (k : ℕ) (t : Begun) (r : Run) → slice_get tasks k ≡ Some t → slice_get first.runs k ≡ Some r →
+      IsSameRun before waits code t.function t.places (begun t.state t.calls) (in_store first.store r)
+
+-- Tasks that begin together come each to what it comes to alone, whatever the schedule is. So it is to be for sound
+-- code, with the kinds before its instructions and those that wait, and for tasks whose states are apart.
+abbrev pub EachIsAlone : Kinds → Kinds → PlainCode → Type 0
+EachIsAlone before waits code = (tasks : List Begun) (first : Shared) → BeginTogether before waits code tasks first →
+    (schedule : List ℕ) (k : ℕ) (t : Begun) (r : Run) → slice_get tasks k ≡ Some t →
+    slice_get (scheduled before code schedule first).runs k ≡ Some r →
+    IsSameRun before waits code t.function t.places (alone before code k schedule (begun t.state t.calls))
+    (in_store (scheduled before code schedule first).store r)

@@ -4,3 +4,4 @@ pub mod Missing
 pub mod Credits
 pub mod Stacks
 pub mod Registers
+pub mod Owning

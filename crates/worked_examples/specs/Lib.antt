@@ -2,3 +2,4 @@ pub mod Declared
 pub mod Programs
 pub mod Matches
 pub mod Codes
+pub mod Terms

@@ -1,5 +1,5 @@
 // What the definitions say of small programs and codes. Each law is the contract of a function that does nothing.
-ghost use Rattle.std.specs.Prelude.{◌≡◌, ℕ, pos, List, [], ◌∷◌, Some, codes};
+ghost use Rattle.std.specs.Prelude.{◌≡◌, ℕ, pos, Bool, true, false, List, [], ◌∷◌, Some, codes};
 ghost use Rattle.fip_language.specs.declared.rule.Rule.TheVariants.{E30, E31, E56, E62};
 ghost use Rattle.fip_language.specs.Example.{at, here};
 ghost use Rattle.fip_trees.specs.declared.least.Violation.{Violation};
@@ -18,6 +18,8 @@ ghost use Rattle.call_groups.specs.Stacks.{AreStacks};
 ghost use Rattle.cell_code.specs.declared.kind.Kind.TheVariants.{Gone, Scalar, Owned, Credit};
 ghost use Rattle.sound_code.specs.Flow.{KnownAt};
 ghost use Rattle.sound_code.specs.Example.{reversal};
+ghost use Rattle.own_calculus.specs.Functions.{Derived};
+ghost use Rattle.worked_examples.specs.Terms.{given_back, dropped, twice};
 ghost use Rattle.worked_examples.specs.Declared.{list_type, endless_type, growing_type};
 ghost use Rattle.worked_examples.specs.Programs.{number_with, unknown_variable, push, top, pushing, a_stack};
 ghost use Rattle.worked_examples.specs.Matches.{two_or_none, just_one, one_or_two, literal};
@@ -82,4 +84,14 @@ pub fn kinds_at_each_instruction()
     ensures cons_taken { KnownAt reversal rev 3 (four_known (a_list (1 ∷ [])) any_list Gone Gone) }
     ensures cons_put { KnownAt reversal rev 4 (four_known (Credit 2) any_list (Scalar 0) any_list) }
     ensures again { KnownAt reversal rev 5 (four_known (a_list (1 ∷ [])) Gone (Scalar 0) any_list) }
+{}
+
+/// A list that is given back is derived. One that is dropped isn't in fip, and is in fbip; one that is given twice is
+/// in neither. For who asks what the calculus refuses.
+#[tactic(auto, using(crate::proofs::Owning::computed))]
+pub fn what_the_calculus_derives()
+    ensures given { Derived true [] (0 ∷ []) [] given_back }
+    ensures dropped { Derived true [] (0 ∷ []) [] dropped → ⊥ }
+    ensures in_fbip { Derived false [] (0 ∷ []) [] dropped }
+    ensures twice { (fip : Bool) → Derived fip [] (0 ∷ []) [] twice → ⊥ }
 {}

@@ -1,0 +1,7 @@
+mod Names
+mod Sharing
+mod Scoping
+mod Values
+mod Bodies
+mod Header
+mod Instances

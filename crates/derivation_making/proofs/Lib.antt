@@ -1,0 +1,15 @@
+pub mod Lists
+pub mod Credits
+pub mod Nodes
+pub mod Linking
+pub mod Reading
+pub mod Arguments
+pub mod Passing
+pub mod Standing
+pub mod Lets
+pub mod Matches
+pub mod Bodies
+pub mod Whole
+pub mod Lean
+pub mod Typed
+pub mod Programs

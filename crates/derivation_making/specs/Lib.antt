@@ -1,0 +1,5 @@
+pub mod Uses
+pub mod Made
+pub mod Fitting
+pub mod Numbered
+pub mod Weakening

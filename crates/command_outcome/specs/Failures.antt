@@ -1,8 +1,6 @@
 -- The statuses and texts of what keeps a command from its result.
 use Rattle.std.specs.Prelude.{ℕ, List}
 use Rattle.fip_base.specs.Refusal.{refusal_text}
-use Rattle.fip_base.specs.declared.refusal.PhaseError.{PhaseError}
-use Rattle.fip_base.specs.declared.refusal.PhaseError.TheVariants as P
 use Rattle.command_outcome.specs.declared.failure.Object.{Object}
 use Rattle.command_outcome.specs.declared.failure.Object.TheVariants as O
 use Rattle.command_outcome.specs.declared.failure.Failure.{Failure}
@@ -48,8 +46,3 @@ failure_status (F.OutOfCalls given) = 4
 failure_status (F.OutOfFrames given) = 7
 failure_status (F.Fault object) = 9
 failure_status F.NoMemory = 10
-
--- what a phase of the compiler ends with
-abbrev pub phase_failure : PhaseError → Failure
-phase_failure (P.Refused r) = F.Refused r
-phase_failure P.NoMemory = F.NoMemory

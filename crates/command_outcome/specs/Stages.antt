@@ -16,7 +16,6 @@ IsOfSource failure = ⊥
 -- what is said of an input and of a run on it; or want of memory
 abbrev pub IsOfRun : Failure → Type 0
 IsOfRun (F.BadInput at) = Unit {0}
-IsOfRun (F.BadTask line) = Unit {0}
 IsOfRun (F.TooSmall needed given) = Unit {0}
 IsOfRun (F.Trap kind line col) = Unit {0}
 IsOfRun (F.OutOfCalls given) = Unit {0}
@@ -30,6 +29,12 @@ IsOfTasks (F.BadTask line) = Unit {0}
 IsOfTasks (F.TooSmall needed given) = Unit {0}
 IsOfTasks F.NoMemory = Unit {0}
 IsOfTasks failure = ⊥
+
+-- what is said of a trace; or want of memory
+abbrev pub IsOfReplay : Failure → Type 0
+IsOfReplay (F.BadTrace at) = Unit {0}
+IsOfReplay F.NoMemory = Unit {0}
+IsOfReplay failure = ⊥
 
 -- what is said of an input, of a run on it, and of a trace that is too long; or want of memory
 abbrev pub IsOfTrace : Failure → Type 0

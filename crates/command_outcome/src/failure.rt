@@ -5,7 +5,7 @@ ghost use Rattle.command_outcome.specs.Failures.{fault_text, failure_text, failu
 use crate::lines;
 use code_verify::SoundRule;
 use fip_base::plain::{NoMemory, Status, TrapKind};
-use fip_base::refusal::{PhaseError, Refusal, refusal_text};
+use fip_base::refusal::{Refusal, refusal_text};
 use std::alloc::{AllocError, Global};
 
 /// An object that a host hands in.
@@ -102,20 +102,6 @@ impl From<NoMemory> for Failure {
 
     fn from(_: NoMemory) -> Failure {
         Failure::NoMemory
-    }
-}
-
-impl From<PhaseError> for Failure {
-    ghost use Rattle.command_outcome.specs.Failures.{phase_failure};
-    ghost use Rattle.command_outcome.specs.Stages.{IsOfSource};
-
-    ghost from_gives = { λ error e. (e ≡ phase_failure error) × IsOfSource e };
-
-    fn from(error: PhaseError) -> Failure {
-        match error {
-            PhaseError::Refused(refusal) => Failure::Refused(refusal),
-            PhaseError::NoMemory => Failure::NoMemory,
-        }
     }
 }
 

@@ -1,5 +1,5 @@
 // An evaluation on rows that never change.
-ghost use Rattle.std.specs.Prelude.{◌<◌, ◌≤◌, ℕ, List, length, IfErr};
+ghost use Rattle.std.specs.Prelude.{◌≤◌, ℕ, List, length, IfErr};
 ghost use Rattle.fip_language.specs.declared.limits.TheConstants.{MOST_FILE_BYTES};
 ghost use Rattle.fip_language.specs.Meaning.{Answer};
 ghost use Rattle.fip_language.specs.Values.{Values};
@@ -63,10 +63,10 @@ fn evaluated(
         (flat_meaning (V.program program.now.typed.program) program.now.entry vs calls frames).answer) result }
     ensures stage { IfErr result IsOfRun }
 {
-    match eval(alloc, &program.typed, program.entry, rows, calls, frames) {
+    match eval(alloc, program.typed(), program.entry(), rows, calls, frames) {
         Ok(ended) => told(
             alloc,
-            &program.typed.program.types,
+            &program.typed().program.types,
             results,
             &ended,
             calls,
@@ -86,13 +86,12 @@ pub fn evaluate(
     calls: u64,
     frames: usize,
 ) -> Result<Vec<u8>, Failure>
-    requires within { program.entry < length program.typed.program.instances.items }
     // It is what the source means, where the program is that of a source.
     ensures means { (source name : List ℕ) → IsRootedIn source name (V.program program.typed.program) program.entry →
         length input.now ≤ MOST_FILE_BYTES → OrNoMemory (Evaluates source name input.now calls frames) result }
     ensures stage { IfErr result IsOfRun }
 {
-    let types = &program.typed.program.types;
+    let types = &program.typed().program.types;
     let instance = program.instance();
     match arguments(alloc, types, instance.params.as_slice(), input) {
         Ok(rows) => evaluated(

@@ -1,4 +1,10 @@
 // The texts of the library, and a tree that is made of a seed's keys.
+ghost use Rattle.std.specs.Prelude.{◌≡◌, ◌⊎◌, IfOk, IfErr};
+ghost use Rattle.fip_library.specs.Names.{IsTextName};
+ghost use Rattle.fip_library.specs.Texts.{IsText};
+ghost use Rattle.command_outcome.specs.Stages.{IsOfSource, IsOfRun};
+ghost use Rattle.command_outcome.specs.declared.failure.Failure.TheVariants.{NotUnderstood, NoMemory as no_memory};
+
 use crate::running::{failure_of, started};
 use cell_store::Cells;
 use command_line::Room;
@@ -18,7 +24,10 @@ const FRAMES: u64 = 10_000;
 const WORDS: u64 = MOST_STORE_WORDS as u64;
 
 /// The text of a library program; not understood where the library has none of that name.
-pub fn library(alloc: Global, name: &str) -> Result<Vec<u8>, Failure> {
+pub fn library(alloc: Global, name: &str) -> Result<Vec<u8>, Failure>
+    ensures text { IfOk result (λ v. IsText name.now v.items) }
+    ensures none { IfErr result (λ f. (f ≡ no_memory) ⊎ ((f ≡ NotUnderstood) × (IsTextName name.now → ⊥))) }
+{
     match text(name) {
         Some(text) => Ok(Vec::from_slice(alloc, text.as_bytes())?),
         None => Err(Failure::NotUnderstood),
@@ -125,7 +134,9 @@ fn survey<C: Cells>(alloc: Global, cells: &C, root: u64) -> Result<(u64, Option<
 /// The four lines of the red-black tree that is made of so many keys of a seed: how many keys and nodes, the least
 /// and the greatest key. It is what `build` of the library's text `rbtree` gives for these keys, a pad for each, and
 /// no node.
-pub fn generate(alloc: Global, seed: u64, count: u64) -> Result<Vec<u8>, Failure> {
+pub fn generate(alloc: Global, seed: u64, count: u64) -> Result<Vec<u8>, Failure>
+    ensures stage { IfErr result (λ f. IsOfSource f ⊎ IsOfRun f) }
+{
     let source = library(alloc, "rbtree")?;
     let ready = exec_entry(alloc, source.as_slice(), "build")?;
     let input = arguments(alloc, seed, count)?;

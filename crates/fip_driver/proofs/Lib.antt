@@ -15,4 +15,6 @@ mod Finished
 mod Outcomes
 mod Fronts
 mod Unread
+mod Storing
+mod Counted
 mod OneAnswer

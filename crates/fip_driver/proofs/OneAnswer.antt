@@ -22,14 +22,14 @@ use Rattle.loop_text.proofs.Tables.{is_table, types_alive}
 use Rattle.loop_text.proofs.Exact.{accepts_text}
 use Rattle.command_line.specs.Words.{Request, Command, Exec, IsCommand}
 use Rattle.fip_driver.specs.Explained.{IsWritten}
-use Rattle.fip_driver.specs.Answered.{plain_request, Replies, IsRequest, Answer, NotUnderstood, Replied, Said, Beyond, IsAnswered, without_lines}
-use Rattle.fip_driver.specs.Ends.{End, Checks, Says, Missing, OnSource, OnCode, IsOpen, OpenSource, OpenCode, OpenFile, OpenNone}
+use Rattle.fip_driver.specs.Answered.{plain_request, Replies, IsRequest, Answer, NotUnderstood, Replied, Said, Beyond, IsAnswered}
+use Rattle.fip_driver.specs.Ends.{End, Checks, Says, Missing, OnSource, OnCode, OfLibrary, IsOpen, OpenSource, OpenCode, OpenFile, OpenGen}
 use Rattle.source_commands.specs.Wanted.{Wanted}
-use Rattle.std.proofs.lemmas.Option.{none-some, same_Some}
+use Rattle.std.proofs.lemmas.Option.{same_Some}
 use Rattle.fip_driver.proofs.Explaining.{file_reply, core_reply, not_right_reply}
 use Rattle.fip_driver.proofs.OneCommand.{command_once, request_once}
 use Rattle.fip_driver.proofs.OneCode.{says_asks, runs_asks}
-use Rattle.fip_driver.proofs.OneEnd.{says_once, says_not_open}
+use Rattle.fip_driver.proofs.OneEnd.{says_once, says_not_open, library_fetches, gen_fetches}
 use Rattle.fip_driver.specs.Spelling.{source_spelling}
 
 -- ---- the source
@@ -92,12 +92,13 @@ module _ (words : List (List ℕ)) (files : List File) (input : List ℕ) where
   written_said r reply e h (Missing name other names gone) = other
   written_said r reply e h (OnSource w source f checks says) = written_checked r reply w source h checks
   written_said r reply e h (OnCode bytes f there says) = says_asks bytes input (Exec r) f says
+  written_said r reply e h (OfLibrary name text same k) = library_fetches (Exec r) name r.file same refl
 
   written_open : (r : Request) (reply : Reply) → Written r reply → IsOpen source_spelling files input (Exec r) → ⊥
   written_open r reply h (OpenSource w source checks ready taken other) = written_checked r reply w source h checks
   written_open r reply h (OpenCode bytes there runs) = runs_asks bytes input (Exec r) runs
   written_open r reply h (OpenFile bytes unsaid there) = unsaid
-  written_open r reply h (OpenNone none) = none-some r.file (sym none)
+  written_open r reply h (OpenGen seed count same) = gen_fetches (Exec r) seed count r.file same refl
 
   -- what the words ask for is `exec` of the request that is replied to
   exec_said : (r : Request) (reply : Reply) (c : Command) (e : End) → Written r reply → IsCommand words c → Says source_spelling files input c e → ⊥
@@ -109,24 +110,24 @@ module _ (words : List (List ℕ)) (files : List File) (input : List ℕ) where
   said_open : (c d : Command) (e : End) → IsCommand words c → Says source_spelling files input c e → IsCommand words d → IsOpen source_spelling files input d → ⊥
   said_open c d e asked h also k = says_not_open source_spelling files input c e h (subst (λ c. IsOpen source_spelling files input c) (command_once words d c also asked) k)
 
-  said_twice : (c d : Command) (e f : End) → IsCommand words c → Says source_spelling files input c e → IsCommand words d → Says source_spelling files input d f → without_lines e ≡ without_lines f
+  said_twice : (c d : Command) (e f : End) → IsCommand words c → Says source_spelling files input c e → IsCommand words d → Says source_spelling files input d f → e ≡ f
   said_twice c d e f asked h also k = says_once source_spelling files input c e f h (subst (λ c. Says source_spelling files input c f) (command_once words d c also asked) k)
 
   pub one_answer : (a b : Answer) → IsAnswered source_spelling words files input a → IsAnswered source_spelling words files input b → a ≡ b
   one_answer NotUnderstood NotUnderstood h k = refl
   one_answer NotUnderstood (Replied q b) h k = absurd (h (Exec q) k.0.asked)
-  one_answer NotUnderstood (Said d f) h k = absurd (h d k.1)
+  one_answer NotUnderstood (Said d f) h k = absurd (h d k.0)
   one_answer NotUnderstood Beyond h k = absurd (h k.0 k.1)
   one_answer (Replied r a) NotUnderstood h k = absurd (k (Exec r) h.0.asked)
   one_answer (Replied r a) (Replied q b) h k = let same = one_reply words files input r q a b h.0 k.0 in ap₂ Replied same.0 same.1
-  one_answer (Replied r a) (Said d f) h k = absurd (exec_said r a d k.0 h k.1 k.2)
+  one_answer (Replied r a) (Said d f) h k = absurd (exec_said r a d f h k.0 k.1)
   one_answer (Replied r a) Beyond h k = absurd (exec_open r a k.0 h k.1 k.2)
-  one_answer (Said c e) NotUnderstood h k = absurd (k c h.1)
-  one_answer (Said c e) (Replied q b) h k = absurd (exec_said q b c h.0 k h.1 h.2)
+  one_answer (Said c e) NotUnderstood h k = absurd (k c h.0)
+  one_answer (Said c e) (Replied q b) h k = absurd (exec_said q b c e k h.0 h.1)
   one_answer (Said c e) (Said d f) h k =
-      ap₂ Said (command_once words c d h.1 k.1) (h.3 ∙ said_twice c d h.0 k.0 h.1 h.2 k.1 k.2 ∙ sym k.3)
-  one_answer (Said c e) Beyond h k = absurd (said_open c k.0 h.0 h.1 h.2 k.1 k.2)
+      ap₂ Said (command_once words c d h.0 k.0) (said_twice c d e f h.0 h.1 k.0 k.1)
+  one_answer (Said c e) Beyond h k = absurd (said_open c k.0 e h.0 h.1 k.1 k.2)
   one_answer Beyond NotUnderstood h k = absurd (k h.0 h.1)
   one_answer Beyond (Replied q b) h k = absurd (exec_open q b h.0 k h.1 h.2)
-  one_answer Beyond (Said d f) h k = absurd (said_open d h.0 k.0 k.1 k.2 h.1 h.2)
+  one_answer Beyond (Said d f) h k = absurd (said_open d h.0 f k.0 k.1 h.1 h.2)
   one_answer Beyond Beyond h k = refl

@@ -17,7 +17,6 @@ use Rattle.command_outcome.specs.declared.failure.Failure.{Failure}
 use Rattle.command_outcome.specs.declared.failure.Failure.TheVariants as F
 use Rattle.source_commands.specs.Codes.{sound_view, IsSoundFile, RefusesCode, LongFile, BadFile, UnsoundFile, IsLine, AreLines, IsCodeListing, IsUpgraded, IsUnspelt, HasFunction, names_one}
 use Rattle.source_commands.specs.Wanted.{of_entry}
-use Rattle.fip_driver.specs.Answered.{without_lines}
 use Rattle.fip_driver.specs.Ends.{End, SaysOfCode, CodeRefused, CodeListed, CodeUpgraded, CodeUnspelt, NoFunction, LongRun, RunsCode, AsksCode}
 
 -- ---- the code
@@ -106,8 +105,8 @@ module _ (bytes input : List ℕ) (c : Command) where
   pub runs_asks : RunsCode bytes input c → AsksCode c
   runs_asks h = subst AsksCode (sym h.is) tt
 
-  pub code_once : (d e : End) → SaysOfCode bytes input c d → SaysOfCode bytes input c e → without_lines d ≡ without_lines e
-  code_once d e (CodeRefused f a h) (CodeRefused g b k) = ap (λ f. without_lines (Err f)) (refused_once bytes f g h k)
+  pub code_once : (d e : End) → SaysOfCode bytes input c d → SaysOfCode bytes input c e → d ≡ e
+  code_once d e (CodeRefused f a h) (CodeRefused g b k) = ap (λ f. Err f) (refused_once bytes f g h k)
   code_once d e (CodeRefused f a h) (CodeListed file text is k) = absurd (refused_not_sound bytes f k.code h k.file)
   code_once d e (CodeRefused f a h) (CodeUpgraded file out text again is k l) = absurd (refused_not_sound bytes f k.code h k.file)
   code_once d e (CodeRefused f a h) (CodeUnspelt file out code is k l) = absurd (refused_not_sound bytes f code h k)

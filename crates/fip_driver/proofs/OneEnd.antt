@@ -1,34 +1,24 @@
 -- A command ends with one thing at most, where it is said; and then its answer isn't open.
-use Rattle.std.proofs.Common.{◌≡◌, ◌∙◌, ℕ, List, sym, ap, subst, refl, arith, []}
+use Rattle.std.proofs.Common.{◌≡◌, ◌∙◌, ◌==◌, ℕ, List, sym, ap, subst, refl, arith, [], slice_index, if◌then◌else◌}
 use Rattle.std.specs.Prelude.{Option, Some, None, Ok, Err}
 use Rattle.std.proofs.lemmas.Option.{none-some, same_Some}
-use Rattle.fip_language.specs.declared.Place.{Place}
 use Rattle.fip_base.specs.Files.{File, file_of}
-use Rattle.fip_base.specs.declared.refusal.Refusal.{Refusal}
+use Rattle.fip_library.specs.Texts.{IsText, OfList, OfTree, OfRedBlackTree, OfFingerTree}
+use Rattle.fip_library.specs.declared.list.TheConstants as List'
+use Rattle.fip_library.specs.declared.tree.TheConstants as Tree
+use Rattle.fip_library.specs.declared.rbtree.TheConstants as RedBlackTree
+use Rattle.fip_library.specs.declared.finger.TheConstants as FingerTree
 use Rattle.command_line.specs.Words.{Command, Check, Verify, Upgrade, Run, Audit, Replay, Library, Gen, Eval}
 use Rattle.command_outcome.specs.declared.failure.Failure.TheVariants as F
 use Rattle.eval_command.specs.EvalAnswer.{Evaluates}
 use Rattle.eval_command.proofs.Once.{evaluated_once, evaluated_ready}
-use Rattle.source_report.specs.Same.{AreSame, offset}
 use Rattle.source_commands.specs.Roots.{IsListing}
 use Rattle.source_commands.specs.Wanted.{Wanted, Lawful, Root, Refuses, IsReady}
 use Rattle.source_commands.proofs.Once.{listing_once, listing_ready, refused_once, refused_not_ready}
-use Rattle.fip_driver.specs.Answered.{at_offset, without_lines}
 use Rattle.fip_driver.specs.Commands.{ReadsInput, fetched_name, wanted}
-use Rattle.fip_driver.specs.Ends.{End, SaysOf, Refused, Listed, LongInput, Evaluated, IsTaken, Checks, Says, Missing, OnSource, OnCode, AsksCode, SaysOfCode, IsUnsaid, IsUnsaidOn, IsThere, IsOpen, OpenSource, OpenCode, OpenFile, OpenNone}
+use Rattle.fip_driver.specs.Ends.{End, SaysOf, Refused, Listed, LongInput, Evaluated, IsTaken, Checks, Says, Missing, OnSource, OnCode, OfLibrary, AsksCode, SaysOfCode, IsUnsaid, IsUnsaidOn, IsThere, IsOpen, OpenSource, OpenCode, OpenFile, OpenGen}
 use Rattle.fip_driver.proofs.OneCode.{says_asks, runs_asks, code_once, code_not_open}
 use Rattle.fip_driver.specs.Spelling.{Spelling}
-
-same_offset : (p q : Option Place) → offset p ≡ offset q → at_offset p ≡ at_offset q
-same_offset None None e = refl
-same_offset None (Some q) e = absurd (none-some q.at e)
-same_offset (Some p) None e = absurd (none-some p.at (sym e))
-same_offset (Some p) (Some q) e = ap (λ n. Some (record { at = n; line = 0; col = 0 })) (same_Some p.at q.at e)
-
-same_refusal : (q r : Refusal) → AreSame q r → ◌≡◌ {A = End} (without_lines (Err (F.Refused q))) (without_lines (Err (F.Refused r)))
-same_refusal q r h =
-    let places = same_offset q.place r.place h.offset in
-    λ i. Err (F.Refused (record { rule = h.rule i; place = places i; size = h.size i; detail = h.detail i }))
 
 -- ---- on a source
 
@@ -71,8 +61,8 @@ evaluated_same source input file entry other name calls frames m n c e same is h
 evaluated_reads : (c : Command) (file entry : List ℕ) (calls frames : ℕ) → c ≡ Eval file entry calls frames → ReadsInput c
 evaluated_reads c file entry calls frames same = subst ReadsInput (sym same) tt
 
-source_once : (source input : List ℕ) (c : Command) (w : Wanted) (d e : End) → wanted c ≡ Some w → SaysOf source input c w d → SaysOf source input c w e → without_lines d ≡ without_lines e
-source_once source input c w d e wants (Refused q h) (Refused r k) = same_refusal q r (refused_once source w q r h k)
+source_once : (source input : List ℕ) (c : Command) (w : Wanted) (d e : End) → wanted c ≡ Some w → SaysOf source input c w d → SaysOf source input c w e → d ≡ e
+source_once source input c w d e wants (Refused q h) (Refused r k) = ap (λ r. Err (F.Refused r)) (refused_once source w q r h k)
 source_once source input c w d e wants (Refused q h) (Listed file text same k) = absurd (refused_not_ready source w q h (listed_fits source text c w file same wants k))
 source_once source input c w d e wants (Refused q h) (LongInput ready reads more) = absurd (refused_not_ready source w q h ready)
 source_once source input c w d e wants (Refused q h) (Evaluated file entry calls frames f same le k) = absurd (refused_not_ready source w q h (evaluated_fits source input c w file entry calls frames f same wants k))
@@ -88,13 +78,49 @@ source_once source input c w d e wants (Evaluated file entry calls frames f same
 source_once source input c w d e wants (Evaluated file entry calls frames f same le h) (Listed other text is k) = absurd (listed_reads c other is (evaluated_reads c file entry calls frames same))
 source_once source input c w d e wants (Evaluated file entry calls frames f same le h) (LongInput ready reads more) = absurd (omega (arith, more, le))
 source_once source input c w d e wants (Evaluated file entry calls frames f same le h) (Evaluated other name m n g is ge k) =
-    ap without_lines (evaluated_once source name input m n f g (evaluated_same source input file entry other name calls frames m n c f same is h) k)
+    evaluated_once source name input m n f g (evaluated_same source input file entry other name calls frames m n c f same is h) k
 
 source_not_open : (source input : List ℕ) (c : Command) (w : Wanted) (e : End) → SaysOf source input c w e → IsReady source w → IsTaken c input → IsUnsaidOn c → ⊥
 source_not_open source input c w e (Refused r h) ready taken other = refused_not_ready source w r h ready
 source_not_open source input c w e (Listed file text same h) ready taken other = subst IsUnsaidOn same other
 source_not_open source input c w e (LongInput r reads more) ready taken other = let le = taken reads in omega (arith, more, le)
 source_not_open source input c w e (Evaluated file entry calls frames f same le h) ready taken other = subst IsUnsaidOn same other
+
+-- ---- the library
+
+-- the names differ by their first letters
+abbrev text_by : ℕ → List ℕ
+text_by k =
+    if k == 108 then List'.TEXT.now
+    else if k == 116 then Tree.TEXT.now
+    else if k == 114 then RedBlackTree.TEXT.now
+    else FingerTree.TEXT.now
+
+text_is : (name text : List ℕ) → IsText name text → text ≡ text_by (slice_index name 0)
+text_is _ _ OfList = refl
+text_is _ _ OfTree = refl
+text_is _ _ OfRedBlackTree = refl
+text_is _ _ OfFingerTree = refl
+
+text_once : (name other t u : List ℕ) → name ≡ other → IsText name t → IsText other u → t ≡ u
+text_once name other t u same h k = text_is name t h ∙ ap (λ n. text_by (slice_index n 0)) same ∙ sym (text_is other u k)
+
+abbrev library_name : Command → List ℕ
+library_name (Library name) = name
+library_name c = []
+
+abbrev is_of_library : Command → ℕ
+is_of_library (Library name) = 1
+is_of_library c = 0
+
+pub library_fetches : (c : Command) (name m : List ℕ) → c ≡ Library name → fetched_name c ≡ Some m → ⊥
+library_fetches c name m same names = none-some m (subst (λ c. fetched_name c ≡ Some m) same names)
+
+pub gen_fetches : (c : Command) (seed count : ℕ) (m : List ℕ) → c ≡ Gen seed count → fetched_name c ≡ Some m → ⊥
+gen_fetches c seed count m same names = none-some m (subst (λ c. fetched_name c ≡ Some m) same names)
+
+library_or_gen : (c : Command) (name : List ℕ) (seed count : ℕ) → c ≡ Library name → c ≡ Gen seed count → ⊥
+library_or_gen c name seed count same other = let one : 1 ≡ 0 = sym (ap is_of_library same) ∙ ap is_of_library other in omega (arith, one)
 
 -- ---- on files
 
@@ -130,7 +156,7 @@ module _ (spelling : Spelling) (files : List File) (input : List ℕ) (c : Comma
   one_file : (x y : List ℕ) → IsThere files c x → IsThere files c y → x ≡ y
   one_file x y h k = same_Some x y (sym (subst (λ n. file_of n files ≡ Some x) (one_name h.0 k.0 h.1 k.1) h.2) ∙ k.2)
 
-  pub says_once : (d e : End) → Says spelling files input c d → Says spelling files input c e → without_lines d ≡ without_lines e
+  pub says_once : (d e : End) → Says spelling files input c d → Says spelling files input c e → d ≡ e
   says_once d e (Missing m o names gone) (Missing n p called lost) = refl
   says_once d e (Missing m o names gone) (OnSource w source f checks h) = absurd (there_or_missing m checks.name source names checks.names gone checks.there)
   says_once d e (OnSource w source f checks h) (Missing m o names gone) = absurd (there_or_missing m checks.name source names checks.names gone checks.there)
@@ -139,26 +165,35 @@ module _ (spelling : Spelling) (files : List File) (input : List ℕ) (c : Comma
   says_once d e (OnSource w source f checks h) (OnCode bytes g there says) = absurd (asks_unwanted c w (says_asks bytes input c g says) checks.wants)
   says_once d e (OnCode bytes g there says) (OnSource w source f checks h) = absurd (asks_unwanted c w (says_asks bytes input c g says) checks.wants)
   says_once d e (OnCode x f there says) (OnCode y g also others) = code_once y input c f g (subst (λ b. SaysOfCode b input c f) (one_file x y there also) says) others
+  says_once d e (Missing m o names gone) (OfLibrary name text same h) = absurd (library_fetches c name m same names)
+  says_once d e (OnSource w source f checks h) (OfLibrary name text same k) = absurd (library_fetches c name checks.name same checks.names)
+  says_once d e (OnCode bytes f there says) (OfLibrary name text same h) = absurd (library_fetches c name there.0 same there.1)
+  says_once d e (OfLibrary name text same h) (Missing m o names gone) = absurd (library_fetches c name m same names)
+  says_once d e (OfLibrary name text same k) (OnSource w source f checks h) = absurd (library_fetches c name checks.name same checks.names)
+  says_once d e (OfLibrary name text same h) (OnCode bytes f there says) = absurd (library_fetches c name there.0 same there.1)
+  says_once d e (OfLibrary name text same h) (OfLibrary other more is k) = ap (λ t. Ok t) (text_once name other text more (ap library_name (sym same ∙ is)) h k)
   says_once d e (OnSource v s f h says) (OnSource w t g k others) = source_once t input c w f g k.wants (moved v w s t f h k says) others
 
 unsaid_unwanted : (c : Command) (w : Wanted) → IsUnsaid c → wanted c ≡ Some w → ⊥
 unsaid_unwanted (Audit file proof) w u e = none-some w e
 unsaid_unwanted (Replay trace step) w u e = none-some w e
-unsaid_unwanted (Library name) w u e = none-some w e
-unsaid_unwanted (Gen seed count) w u e = none-some w e
 unsaid_unwanted c w u e = u
 
 module _ (spelling : Spelling) (files : List File) (input : List ℕ) (c : Command) where
   pub says_not_open : (e : End) → Says spelling files input c e → IsOpen spelling files input c → ⊥
   says_not_open e (Missing m o names gone) (OpenSource w source checks ready taken other) = there_or_missing spelling files input c m checks.name source names checks.names gone checks.there
   says_not_open e (Missing m o names gone) (OpenFile bytes unsaid there) = there_or_missing spelling files input c m there.0 bytes names there.1 gone there.2
-  says_not_open e (Missing m o names gone) (OpenNone none) = none-some m (sym none ∙ names)
+  says_not_open e (Missing m o names gone) (OpenGen seed count same) = gen_fetches c seed count m same names
   says_not_open e (OnSource v s f h says) (OpenSource w t k ready taken other) = source_not_open t input c w f (moved spelling files input c v w s t f h k says) ready taken other
   says_not_open e (OnSource v s f h says) (OpenFile bytes unsaid there) = unsaid_unwanted c v unsaid h.wants
-  says_not_open e (OnSource v s f h says) (OpenNone none) = none-some h.name (sym none ∙ h.names)
+  says_not_open e (OnSource v s f h says) (OpenGen seed count same) = gen_fetches c seed count h.name same h.names
   says_not_open e (Missing m o names gone) (OpenCode bytes there runs) = there_or_missing spelling files input c m there.0 bytes names there.1 gone there.2
   says_not_open e (OnSource v s f h says) (OpenCode bytes there runs) = asks_unwanted c v (runs_asks bytes input c runs) h.wants
   says_not_open e (OnCode bytes f there says) (OpenSource w t k ready taken other) = asks_unwanted c w (says_asks bytes input c f says) k.wants
   says_not_open e (OnCode bytes f there says) (OpenCode again also runs) = code_not_open again input c f (subst (λ b. SaysOfCode b input c f) (one_file spelling files input c bytes again there also) says) runs
   says_not_open e (OnCode bytes f there says) (OpenFile again unsaid also) = asks_said c (says_asks bytes input c f says) unsaid
-  says_not_open e (OnCode bytes f there says) (OpenNone none) = none-some there.0 (sym none ∙ there.1)
+  says_not_open e (OnCode bytes f there says) (OpenGen seed count same) = gen_fetches c seed count there.0 same there.1
+  says_not_open e (OfLibrary name text same h) (OpenSource w t k ready taken other) = library_fetches c name k.name same k.names
+  says_not_open e (OfLibrary name text same h) (OpenCode bytes there runs) = library_fetches c name there.0 same there.1
+  says_not_open e (OfLibrary name text same h) (OpenFile bytes unsaid there) = library_fetches c name there.0 same there.1
+  says_not_open e (OfLibrary name text same h) (OpenGen seed count other) = library_or_gen c name seed count same other

@@ -1,34 +1,38 @@
 -- From what a part answered to what a command ends with: on an input, on a source, on the file, and for the words.
-use Rattle.std.proofs.Common.{◌≡◌, ◌∙◌, ◌<◌, ◌≤◌, ℕ, List, [], length, sym, ap, subst, refl, inl, inr, arith}
-use Rattle.std.specs.Prelude.{◌⊎◌, Option, Some, None, Result, Ok, Err, IfOk, IfErr, IsSomeAnd}
+use Rattle.std.proofs.Common.{◌≡◌, ◌∙◌, ◌<◌, ◌≤◌, ℕ, List, [], ◌∷◌, length, sym, ap, subst, refl, inl, inr, arith, if◌then◌else◌}
+use Rattle.std.specs.Prelude.{◌⊎◌, Option, Some, None, Result, Ok, Err, IfOk, IfErr, OnOk, IsSomeAnd}
+use Rattle.std.proofs.lemmas.Slice.Eq.{bytes_eq-Decides}
 use Rattle.std.specs.Io.KnownBytes.{Consumes, IsAtEnd}
 use Rattle.std.specs.declared.vec.Vec.{Vec}
 use Rattle.std.specs.declared.alloc.Global.{Global}
-use Rattle.fip_language.specs.declared.rule.Rule.TheVariants.{E05, E61, E74, E75}
+use Rattle.fip_language.specs.declared.rule.Rule.TheVariants.{E05, E61, E72, E74, E75}
+use Rattle.std.specs.Fmt.{decimal}
 use Rattle.fip_base.specs.declared.refusal.Refusal.{Refusal}
 use Rattle.fip_base.specs.Faults.{Rose}
-use Rattle.fip_base.specs.Files.{File, file_of, HoldsFile}
+use Rattle.fip_base.specs.Files.{File, file_of, HoldsFile, HoldsLonger, IsMissing}
+use Rattle.fip_base.proofs.Stored.{bytes_eq-other}
 use Rattle.fip_trees.specs.Tree.{Program}
-use Rattle.command_line.specs.Words.{Command, Check, Compile, Exec, Trace, Derive, Audit, Eval}
-use Rattle.command_outcome.specs.Stages.{IsOfRun, IsOfTasks, IsOfTrace}
+use Rattle.command_line.specs.Words.{Command, Check, Compile, Exec, Trace, Derive, Audit, Eval, Replay, Library, Gen, IsTextName}
+use Rattle.command_outcome.specs.Stages.{IsOfSource, IsOfRun, IsOfTasks, IsOfTrace, IsOfReplay}
+use Rattle.fip_library.specs.Texts.{IsText}
 use Rattle.command_outcome.specs.Successes.{derived_text}
 use Rattle.command_outcome.specs.declared.failure.Failure.{Failure}
 use Rattle.command_outcome.specs.declared.failure.Failure.TheVariants as F
 use Rattle.command_outcome.specs.declared.failure.Object.TheVariants as O
-use Rattle.source_report.specs.Report.{bare, IsMatched, Reports, TooLong}
+use Rattle.source_report.specs.Report.{bare, IsMatched, TooLong}
 use Rattle.eval_command.specs.EvalAnswer.{Evaluates, OrNoMemory}
-use Rattle.source_commands.specs.Judged.{IsJudged}
+use Rattle.source_commands.specs.Judged.{IsJudged, IsProofFile}
 use Rattle.source_commands.specs.Roots.{IsListing}
-use Rattle.source_commands.specs.Wanted.{Wanted, Lawful, Root, IsReady, IsRefusedBy, KeepsFrom, KeepsFromFile}
+use Rattle.source_commands.specs.Wanted.{Wanted, Lawful, Root, IsReady, IsRefusedBy, IsReport, IsLongFor, KeepsFrom, KeepsFromVerified, of_entry}
 use Rattle.source_commands.proofs.Once.{listing_ready}
 use Rattle.source_commands.specs.declared.files.Compiled.{Compiled as compiled_file}
 use Rattle.fip_driver.specs.Answered.{IsTold}
 use Rattle.fip_driver.specs.Commands.{IsOther, ReadsInput, CallsNoFolder, fetched_name, wanted}
-use Rattle.fip_driver.specs.Ends.{End, SaysOf, Refused, Listed, LongInput, Evaluated, ComesOf, Unsound, Ready, MayEnd, IsTaken, IsRunEnd, IsTraceEnd, IsTasksEnd, IsSessionEnd, IsBeside, Checks, Says, Missing, OnSource, Comes, MayOnSource, MayOnFile, MayOnNone, IsUnsaid, IsThere, MayEndOn, IsAuditEnd}
+use Rattle.fip_driver.specs.Ends.{End, SaysOf, Refused, Listed, LongInput, Evaluated, MakesCode, ComesOf, Unsound, Ready, MayEnd, IsTaken, IsRunEnd, IsTraceEnd, IsTasksEnd, IsSessionEnd, IsBeside, Checks, Says, Missing, OnSource, OfLibrary, IsUnsaidOn, Comes, MayOnSource, MayOnFile, MayOfGen, IsThere, HoldsProof, IsAuditEnd, IsGenEnd}
 use Rattle.fip_driver.specs.Fetched.{FetchFails, FileFails, StoreFails, JudgeFails, ReadFails}
 use Rattle.fip_driver.specs.Outcome.{end_of, compiled_end, IsFault, IsInputFault, ReadOutcome, InputOutcome, SourceOutcome, Closes, FileOutcome, CommandOutcome}
 use Rattle.fip_driver.specs.Spelling.{Spelling, source_spelling}
-use Rattle.fip_driver.proofs.Telling.{any_told, held, longer, told_fetch, told_input, whole_of, more_left}
+use Rattle.fip_driver.proofs.Telling.{any_told, held, own_name, bytes_of, longer, told_fetch, told_input, whole_of, more_left}
 
 -- ---- faults
 
@@ -108,7 +112,16 @@ kept_ends c w source left fr ir f h = let i = any_told left [] in (i.0, i.1, by 
   where
     by : (f : Failure) (input : List ℕ) → KeepsFrom source w f → IsFault c fr ir (Err f) ⊎ (SaysOf source input c w (Err f) ⊎ ComesOf source input c w (Err f))
     by (F.Refused r) input h = inr (inl (Refused r h))
-    by (F.Unsound function at rule) input h = inr (inr (Unsound h.0 function at rule h.1))
+    by F.NoMemory input h = inl tt
+    by failure input h = absurd h
+
+-- the same of a command that makes code
+pub verified_ends : (c : Command) (w : Wanted) (source : List ℕ) (left : Option (List ℕ)) (fr ir : Type 0) (f : Failure) → MakesCode c → KeepsFromVerified source w f → SourceOutcome c w source left fr ir (Err f)
+verified_ends c w source left fr ir f makes h = let i = any_told left [] in (i.0, i.1, by f i.0 h)
+  where
+    by : (f : Failure) (input : List ℕ) → KeepsFromVerified source w f → IsFault c fr ir (Err f) ⊎ (SaysOf source input c w (Err f) ⊎ ComesOf source input c w (Err f))
+    by (F.Refused r) input h = inr (inl (Refused r h))
+    by (F.Unsound function at rule) input h = inr (inr (Unsound function at rule makes h))
     by F.NoMemory input h = inl tt
     by failure input h = absurd h
 
@@ -118,9 +131,8 @@ check_ends file source left fr ir (Ok v) h k = let i = any_told left [] in (i.0,
 check_ends file source left fr ir (Err f) h k = kept_ends (Check file) Lawful source left fr ir f k
 
 -- a file that is too long, by a rule of its own
-long_ends : (c : Command) (source : List ℕ) (left : Option (List ℕ)) (fr ir : Type 0) (rule : _) (f : Failure) → (ReadsInput c → ⊥) → ((r : Refusal) → r ≡ bare rule → MayEnd c source (Err (F.Refused r))) → KeepsFromFile source rule f → SourceOutcome c Lawful source left fr ir (Err f)
-long_ends c source left fr ir rule f never may (inl h) = kept_ends c Lawful source left fr ir f h
-long_ends c source left fr ir rule f never may (inr h) = let i = any_told left [] in (i.0, i.1, by f i.0 h.1)
+long_ends : (c : Command) (source : List ℕ) (left : Option (List ℕ)) (fr ir : Type 0) (rule : _) (f : Failure) → (ReadsInput c → ⊥) → ((r : Refusal) → r ≡ bare rule → MayEnd c source (Err (F.Refused r))) → IsLongFor source rule f → SourceOutcome c Lawful source left fr ir (Err f)
+long_ends c source left fr ir rule f never may h = let i = any_told left [] in (i.0, i.1, by f i.0 h.1)
   where
     by : (f : Failure) (input : List ℕ) → IsRefusedBy (λ r. r ≡ bare rule) f → IsFault c fr ir (Err f) ⊎ (SaysOf source input c Lawful (Err f) ⊎ ComesOf source input c Lawful (Err f))
     by (F.Refused r) input e = inr (inr (Ready (Err (F.Refused r)) h.0 (no_input c input never) (may r e)))
@@ -141,8 +153,9 @@ stored_ends c source left ir before mid now o calls never le ready ok err = let 
     by (Err failure) input ok err = absurd err
 
 -- `compile`
-pub compile_refused : (file out source : List ℕ) (left : Option (List ℕ)) (fr ir : Type 0) (f : Failure) → KeepsFromFile source E61 f → SourceOutcome (Compile file out) Lawful source left fr ir (Err f)
-compile_refused file out source left fr ir f h = long_ends (Compile file out) source left fr ir E61 f (λ r. r) (λ r e. ap F.Refused e) h
+pub compile_refused : (file out source : List ℕ) (left : Option (List ℕ)) (fr ir : Type 0) (f : Failure) → KeepsFromVerified source Lawful f ⊎ IsLongFor source E61 f → SourceOutcome (Compile file out) Lawful source left fr ir (Err f)
+compile_refused file out source left fr ir f (inl h) = verified_ends (Compile file out) Lawful source left fr ir f tt h
+compile_refused file out source left fr ir f (inr h) = long_ends (Compile file out) source left fr ir E61 f (λ r. r) (λ r e. ap F.Refused e) h
 
 pub compile_ends : (file out source text : List ℕ) (left : Option (List ℕ)) (ir : Type 0) (before mid now : ℕ) (o : Result (Vec ℕ Global) Failure) → before ≤ mid → IsListing source text → IfOk o (λ v. v.items ≡ text) → IfErr o (StoreFails mid now) → SourceOutcome (Compile file out) Lawful source left (Rose before now) ir (end_of o)
 compile_ends file out source text left ir before mid now o le listing ok err =
@@ -153,8 +166,9 @@ compile_ends file out source text left ir before mid now o le listing ok err =
     by (Err f) e = tt
 
 -- `derive`
-pub derive_refused : (file out source : List ℕ) (left : Option (List ℕ)) (fr ir : Type 0) (f : Failure) → KeepsFromFile source E74 f → SourceOutcome (Derive file out) Lawful source left fr ir (Err f)
-derive_refused file out source left fr ir f h = long_ends (Derive file out) source left fr ir E74 f (λ r. r) (λ r e. ap F.Refused e) h
+pub derive_refused : (file out source : List ℕ) (left : Option (List ℕ)) (fr ir : Type 0) (f : Failure) → KeepsFrom source Lawful f ⊎ IsLongFor source E74 f → SourceOutcome (Derive file out) Lawful source left fr ir (Err f)
+derive_refused file out source left fr ir f (inl h) = kept_ends (Derive file out) Lawful source left fr ir f h
+derive_refused file out source left fr ir f (inr h) = long_ends (Derive file out) source left fr ir E74 f (λ r. r) (λ r e. ap F.Refused e) h
 
 pub derive_ends : (file out source text : List ℕ) (left : Option (List ℕ)) (ir : Type 0) (before mid now : ℕ) (o : Result (Vec ℕ Global) Failure) → before ≤ mid → IsReady source Lawful → text ≡ derived_text → IfOk o (λ v. v.items ≡ text) → IfErr o (StoreFails mid now) → SourceOutcome (Derive file out) Lawful source left (Rose before now) ir (end_of o)
 derive_ends file out source text left ir before mid now o le ready derived ok err =
@@ -208,11 +222,26 @@ trace_stored left rose file entry out source text room before mid now w o le rea
 
 -- ---- the file
 
+-- what may come of a source is never of `check` or `eval`
+makes_unsaid : (c : Command) → MakesCode c → IsUnsaidOn c
+makes_unsaid (Check file) h = h
+makes_unsaid (Eval file entry calls frames) h = h
+makes_unsaid c h = tt
+
+ends_unsaid : (c : Command) (source : List ℕ) (e : End) → MayEnd c source e → IsUnsaidOn c
+ends_unsaid (Check file) source e h = h
+ends_unsaid (Eval file entry calls frames) source e h = h
+ends_unsaid c source e h = tt
+
+comes_unsaid : (source input : List ℕ) (c : Command) (w : Wanted) (e : End) → ComesOf source input c w e → IsUnsaidOn c
+comes_unsaid source input c w e (Unsound function at rule makes ready) = makes_unsaid c makes
+comes_unsaid source input c w e (Ready d ready taken may) = ends_unsaid c source d may
+
 -- what comes of a source that is checked, of files
 pub checked_closes : (c : Command) (w : Wanted) (files : List File) (source input : List ℕ) (fr ir more_fr more_ir : Type 0) (e : End) → (fr → more_fr) → (ir → more_ir) → Checks source_spelling files c w source → IsFault c fr ir e ⊎ (SaysOf source input c w e ⊎ ComesOf source input c w e) → Closes source_spelling files input c more_fr more_ir e
 checked_closes c w files source input fr ir mf mi e f i checks (inl h) = inl (fault_up c fr ir mf mi e f i h)
 checked_closes c w files source input fr ir mf mi e f i checks (inr (inl s)) = inr (inl (OnSource w source e checks s))
-checked_closes c w files source input fr ir mf mi e f i checks (inr (inr s)) = inr (inr (MayOnSource w source e checks s))
+checked_closes c w files source input fr ir mf mi e f i checks (inr (inr s)) = inr (inr (MayOnSource w source e (comes_unsaid source input c w e s) checks s))
 
 beside_other : (spelling : Spelling) (c : Command) (source : List ℕ) → IsOther c → IsBeside spelling c source
 beside_other spelling (Exec r) source other = absurd other
@@ -231,7 +260,7 @@ too_long_said : (c : Command) (w : Wanted) (name : List ℕ) (files : List File)
 too_long_said c w name files input r None e other names wants same h = absurd h
 too_long_said c w name files input r (Some source) e other names wants same h =
     let checks : Checks source_spelling files c w source = record { wants = wants; name = name; names = names; there = e; beside = beside_other source_spelling c source other } in
-    subst (λ r. Says source_spelling files input c (Err (F.Refused r))) (sym same) (OnSource w source (Err (F.Refused (bare E05))) checks (Refused (bare E05) (inl (TooLong h))))
+    subst (λ r. Says source_spelling files input c (Err (F.Refused r))) (sym same) (OnSource w source (Err (F.Refused (bare E05))) checks (Refused (bare E05) (inl (bare E05, TooLong h, refl))))
 
 pub fetch_ends : (c : Command) (w : Wanted) (name : List ℕ) (files : Option (List File)) (left : Option (List ℕ)) (before now : ℕ) (ir : Type 0) (f : Failure) → IsOther c → fetched_name c ≡ Some name → wanted c ≡ Some w → (CallsNoFolder c → ⊥) → FetchFails files name before now f → FileOutcome c files left (Rose before now) ir (Err f)
 fetch_ends c w name files left before now ir f other names wants calls h =
@@ -248,19 +277,30 @@ fetch_ends c w name files left before now ir f other names wants calls h =
     by F.NoMemory all input h = inl tt
     by failure all input h = absurd h
 
--- ---- files of which no more is said
+-- ---- `library` and `gen`, which fetch none
 
-pub there_ends : (c : Command) (name : List ℕ) (files : Option (List File)) (left : Option (List ℕ)) (fr ir : Type 0) (bytes : List ℕ) (e : End) → IsUnsaid c → fetched_name c ≡ Some name → HoldsFile files name bytes → ((all : List File) → MayEndOn all c bytes e) → FileOutcome c files left fr ir e
-there_ends c name files left fr ir bytes e unsaid names holds may =
-    let t = held files name bytes holds in
-    let i = any_told left [] in
-    (t.0, i.0, t.1, i.1, inr (inr (MayOnFile bytes e unsaid (name, names, t.2) (may t.0))))
-
-pub none_ends : (c : Command) (files : Option (List File)) (left : Option (List ℕ)) (fr ir : Type 0) (e : End) → fetched_name c ≡ None → FileOutcome c files left fr ir e
-none_ends c files left fr ir e none =
+pub library_ends : (name : List ℕ) (files : Option (List File)) (left : Option (List ℕ)) (fr ir : Type 0) (o : Result (Vec ℕ Global) Failure) → IsTextName name → IfOk o (λ v. IsText name v.items) → IfErr o (λ f. (f ≡ F.NoMemory) ⊎ ((f ≡ F.NotUnderstood) × (IsTextName name → ⊥))) → FileOutcome (Library name) files left fr ir (end_of o)
+library_ends name files left fr ir o known ok err =
     let t = any_told files [] in
     let i = any_told left [] in
-    (t.0, i.0, t.1, i.1, inr (inr (MayOnNone e none)))
+    (t.0, i.0, t.1, i.1, by o ok err)
+  where
+    by : (o : Result (Vec ℕ Global) Failure) → IfOk o (λ v. IsText name v.items) → IfErr o (λ f. (f ≡ F.NoMemory) ⊎ ((f ≡ F.NotUnderstood) × (IsTextName name → ⊥))) → Closes source_spelling (any_told files []).0 (any_told left []).0 (Library name) fr ir (end_of o)
+    by (Ok v) ok err = inr (inl (OfLibrary name v.items refl ok))
+    by (Err f) ok (inl same) = inl (subst (λ x. IsFault (Library name) fr ir (Err x)) (sym same) tt)
+    by (Err f) ok (inr none) = absurd (none.1 known)
+
+gen_end : (o : Result (Vec ℕ Global) Failure) → IfErr o (λ f. IsOfSource f ⊎ IsOfRun f) → IsGenEnd (end_of o)
+gen_end (Ok v) h = tt
+gen_end (Err f) h = h
+
+pub gen_ends : (seed count : ℕ) (files : Option (List File)) (left : Option (List ℕ)) (fr ir : Type 0) (o : Result (Vec ℕ Global) Failure) → IfErr o (λ f. IsOfSource f ⊎ IsOfRun f) → FileOutcome (Gen seed count) files left fr ir (end_of o)
+gen_ends seed count files left fr ir o h =
+    let t = any_told files [] in
+    let i = any_told left [] in
+    (t.0, i.0, t.1, i.1, inr (inr (MayOfGen seed count (end_of o) refl (gen_end o h))))
+
+-- ---- other files
 
 -- the same cause, of files that are told
 pub told_file : (IsLong : Failure → Type 0) (files : Option (List File)) (name : List ℕ) (before now : ℕ) (f : Failure) → FileFails IsLong files name before now f → (all : List File) × IsTold files all × FileFails IsLong (Some all) name before now f
@@ -288,55 +328,112 @@ missed_ends c IsLong name files left before now ir f other names calls long h =
     by F.NoMemory all input h = inl tt
     by failure all input h = too_long failure all input (file_of name all) h.0 refl h.1
 
--- of a file of which no more is said
-pub long_unsaid : (c : Command) (IsLong : Failure → Type 0) → IsUnsaid c → ((all : List File) (bytes : List ℕ) (e : End) → MayEndOn all c bytes e) → (all : List File) (input bytes : List ℕ) (e : Failure) → IsLong e → 16777216 < length bytes → IsThere all c bytes → Says source_spelling all input c (Err e) ⊎ Comes source_spelling all input c (Err e)
-long_unsaid c IsLong unsaid may all input bytes e is more there = inr (MayOnFile bytes (Err e) unsaid there (may all bytes (Err e)))
+-- ---- `replay`
+
+pub long_trace : (trace : List ℕ) (step : ℕ) (all : List File) (input bytes : List ℕ) (e : Failure) → e ≡ F.BadTrace 16777216 → 16777216 < length bytes → IsThere all (Replay trace step) bytes → Says source_spelling all input (Replay trace step) (Err e) ⊎ Comes source_spelling all input (Replay trace step) (Err e)
+long_trace trace step all input bytes e same more there =
+    inr (subst (λ f. Comes source_spelling all input (Replay trace step) (Err f)) (sym same) (MayOnFile bytes (Err (F.BadTrace 16777216)) tt there (λ long. refl)))
+
+pub replay_ends : (trace : List ℕ) (step : ℕ) (files : Option (List File)) (left : Option (List ℕ)) (fr ir : Type 0) (bytes text : List ℕ) (o : Result (Vec ℕ Global) Failure) → HoldsFile files trace bytes → text ≡ bytes → OnOk o (length text ≤ 16777216) → ((at : ℕ) → o ≡ Err (F.BadTrace at) → 16777216 < length text → at ≡ 16777216) → IfErr o IsOfReplay → FileOutcome (Replay trace step) files left fr ir (end_of o)
+replay_ends trace step files left fr ir bytes text o holds same short long stage =
+    let t = held files trace bytes holds in
+    let i = any_told left [] in
+    (t.0, i.0, t.1, i.1, by o t.0 (trace, refl, t.2) i.0 (subst (λ xs. OnOk o (length xs ≤ 16777216)) same short) (subst (λ xs. (at : ℕ) → o ≡ Err (F.BadTrace at) → 16777216 < length xs → at ≡ 16777216) same long) stage)
+  where
+    by : (o : Result (Vec ℕ Global) Failure) (all : List File) → IsThere all (Replay trace step) bytes → (input : List ℕ) → OnOk o (length bytes ≤ 16777216) → ((at : ℕ) → o ≡ Err (F.BadTrace at) → 16777216 < length bytes → at ≡ 16777216) → IfErr o IsOfReplay → Closes source_spelling all input (Replay trace step) fr ir (end_of o)
+    by (Ok v) all there input short long stage = inr (inr (MayOnFile bytes (Ok v.items) tt there short))
+    by (Err (F.BadTrace at)) all there input short long stage = inr (inr (MayOnFile bytes (Err (F.BadTrace at)) tt there (long at refl)))
+    by (Err F.NoMemory) all there input short long stage = inl tt
+    by (Err f) all there input short long stage = absurd stage
 
 -- ---- `audit`
 
-audit_checked : (file proof : List ℕ) (left : Option (List ℕ)) (ir : Type 0) (source : List ℕ) (all : List File) (before mid now : ℕ) (o : Result (Vec ℕ Global) Failure) → file_of file all ≡ Some source → before ≤ mid → ((p : Program) × IsMatched source p) → IfOk o (λ v. v.items ≡ derived_text) → IfErr o (λ f. JudgeFails (Some all) proof mid now f) → (input : List ℕ) → Closes source_spelling all input (Audit file proof) (Rose before now) ir (end_of o)
-audit_checked file proof left ir source all before mid now o there le matched ok err input = by o ok err
+-- files that are told, with the bytes of both files
+both_held : (files : Option (List File)) (file source proof bytes : List ℕ) → HoldsFile files file source → HoldsFile files proof bytes → (all : List File) × IsTold files all × (file_of file all ≡ Some source) × HoldsProof all file proof bytes
+both_held (Some all) file source proof bytes h k = (all, refl, h, λ differ. k)
+both_held None file source proof bytes h k = (record { name = file; bytes = source } ∷ record { name = proof; bytes = bytes } ∷ [], tt, own, other)
   where
-    may : (e : End) → IsAuditEnd all proof source e → Closes source_spelling all input (Audit file proof) (Rose before now) ir e
-    may e h = inr (inr (MayOnFile source e tt (file, refl, there) h))
+    own : file_of file (record { name = file; bytes = source } ∷ record { name = proof; bytes = bytes } ∷ []) ≡ Some source
+    own = ap (λ b. if b then Some source else file_of file (record { name = proof; bytes = bytes } ∷ [])) ((bytes_eq-Decides file file).1 refl)
 
-    by : (o : Result (Vec ℕ Global) Failure) → IfOk o (λ v. v.items ≡ derived_text) → IfErr o (λ f. JudgeFails (Some all) proof mid now f) → Closes source_spelling all input (Audit file proof) (Rose before now) ir (end_of o)
-    by (Ok v) ok err = may (Ok v.items) (matched, ok)
-    by (Err (F.Refused r)) ok err = may (Err (F.Refused r)) (inr (matched, err))
-    by (Err (F.Fault O.Folder)) ok err = elim err.1 [ inl up ↦ inl (rose_later before mid now le up, λ r. r) | inr gone ↦ may (Err (F.Fault O.Folder)) (matched, gone) ]
-    by (Err (F.Fault O.Input)) ok err = absurd (let same = err.0 in cc)
-    by (Err (F.Fault O.Out)) ok err = absurd (let same = err.0 in cc)
-    by (Err (F.Fault O.Err)) ok err = absurd (let same = err.0 in cc)
-    by (Err F.NoMemory) ok err = inl tt
-    by (Err failure) ok err = absurd err
+    other : (proof ≡ file → ⊥) → file_of proof (record { name = file; bytes = source } ∷ record { name = proof; bytes = bytes } ∷ []) ≡ Some bytes
+    other differ = ap (λ b. if b then Some source else file_of proof (record { name = proof; bytes = bytes } ∷ [])) (bytes_eq-other file proof differ) ∙ own_name proof bytes
 
-judged_told : (files : Option (List File)) (all : List File) (proof : List ℕ) (mid now : ℕ) (f : Failure) → IsTold files all → JudgeFails files proof mid now f → JudgeFails (Some all) proof mid now f
-judged_told (Some files) all proof mid now f told h = subst (λ x. JudgeFails (Some x) proof mid now f) told h
-judged_told None all proof mid now (F.Refused r) told h = h
-judged_told None all proof mid now (F.Fault object) told h = (h.0, elim h.1 [ inl up ↦ inl up | inr gone ↦ absurd gone ])
-judged_told None all proof mid now F.NoMemory told h = tt
-judged_told None all proof mid now failure told h = absurd h
+-- what a proof file that is too long is told by
+pub long_judged : (files : Option (List File)) (name : List ℕ) (before now : ℕ) (f : Failure) → HoldsLonger files name 16777216 → IsRefusedBy (λ r. r ≡ of_entry E72 (decimal 16777216)) f → JudgeFails files name before now f
+long_judged files name before now (F.Refused r) h e = by files h
+  where
+    told : (bytes : List ℕ) → 16777216 < length bytes → IsJudged bytes r
+    told bytes more = inl (16777216, inl (more, refl), e)
 
-if_err : {T E : Type 0} (r : Result T E) (P Q : E → Type 0) → ((e : E) → P e → Q e) → IfErr r P → IfErr r Q
-if_err (Ok t) P Q up h = tt
-if_err (Err e) P Q up h = up e h
+    under : (o : Option (List ℕ)) (all : List File) → file_of name all ≡ o → IsSomeAnd o (λ bytes. 16777216 < length bytes) → (bytes : List ℕ) × (file_of name all ≡ Some bytes) × IsJudged bytes r
+    under None all same h = absurd h
+    under (Some bytes) all same h = (bytes, same, told bytes h)
+
+    by : (files : Option (List File)) → HoldsLonger files name 16777216 → (bytes : List ℕ) × HoldsFile files name bytes × IsJudged bytes r
+    by (Some all) h = under (file_of name all) all refl h
+    by None h = let b = bytes_of 16777217 in let n = b.1 in (b.0, tt, told b.0 (omega (arith, n)))
+long_judged files name before now F.NoMemory h e = tt
+long_judged files name before now f h e = absurd e
+
+judged_bytes : (files : Option (List File)) (name bytes : List ℕ) (before now : ℕ) (f : Failure) → HoldsFile files name bytes → IsRefusedBy (IsJudged bytes) f → JudgeFails files name before now f
+judged_bytes files name bytes before now (F.Refused r) h k = (bytes, h, k)
+judged_bytes files name bytes before now F.NoMemory h k = tt
+judged_bytes files name bytes before now f h k = absurd k
+
+pub judged_failed : (files : Option (List File)) (name bytes text : List ℕ) (before now : ℕ) (o : Result (Vec ℕ Global) Failure) → HoldsFile files name bytes → text ≡ bytes → IfErr o (IsRefusedBy (IsJudged text)) → IfErr o (JudgeFails files name before now)
+judged_failed files name bytes text before now (Ok v) h same k = tt
+judged_failed files name bytes text before now (Err f) h same k = judged_bytes files name bytes before now f h (subst (λ xs. IsRefusedBy (IsJudged xs) f) same k)
+
+pub judged_spelt : (files : Option (List File)) (name bytes text : List ℕ) (o : Result (Vec ℕ Global) Failure) → HoldsFile files name bytes → text ≡ bytes → OnOk o (IsProofFile text) → OnOk o ((xs : List ℕ) × HoldsFile files name xs × IsProofFile xs)
+judged_spelt files name bytes text (Ok v) h same k = (bytes, h, subst IsProofFile same k)
+judged_spelt files name bytes text (Err f) h same k = tt
+
+-- how `audit` may end on a source that is there
+audit_may : (file proof : List ℕ) (files : Option (List File)) (left : Option (List ℕ)) (fr ir : Type 0) (source : List ℕ) (all : List File) (e : End) → IsTold files all → file_of file all ≡ Some source → IsAuditEnd all file proof source e → FileOutcome (Audit file proof) files left fr ir e
+audit_may file proof files left fr ir source all e told there h = let i = any_told left [] in (all, i.0, told, i.1, inr (inr (MayOnFile source e tt (file, refl, there) h)))
+
+proof_missing : (file proof : List ℕ) (files : Option (List File)) (left : Option (List ℕ)) (fr ir : Type 0) (source : List ℕ) → HoldsFile files file source → ((p : Program) × IsMatched source p) → IsMissing files proof → FileOutcome (Audit file proof) files left fr ir (Err (F.Fault O.Folder))
+proof_missing file proof None left fr ir source holds matched gone = absurd gone
+proof_missing file proof (Some all) left fr ir source holds matched gone = audit_may file proof (Some all) left fr ir source all (Err (F.Fault O.Folder)) refl holds (matched, gone)
+
+-- a fault, or want of memory
+audit_fault : (file proof : List ℕ) (files : Option (List File)) (left : Option (List ℕ)) (fr ir : Type 0) (e : End) → IsFault (Audit file proof) fr ir e → FileOutcome (Audit file proof) files left fr ir e
+audit_fault file proof files left fr ir e h = let t = any_told files [] in let i = any_told left [] in (t.0, i.0, t.1, i.1, inl h)
 
 -- a source whose types and matches are right
-pub judged_ends : (file proof : List ℕ) (files later : Option (List File)) (left : Option (List ℕ)) (ir : Type 0) (source text : List ℕ) (p : Program) (before mid now : ℕ) (o : Result (Vec ℕ Global) Failure) → HoldsFile files file source → later ≡ files → before ≤ mid → text ≡ source → IsMatched text p → IfOk o (λ v. v.items ≡ derived_text) → IfErr o (JudgeFails later proof mid now) → FileOutcome (Audit file proof) files left (Rose before now) ir (end_of o)
-judged_ends file proof files later left ir source text p before mid now o holds kept le same matched ok err =
-    let t = held files file source holds in
-    let i = any_told left [] in
-    let fails = if_err o (JudgeFails files proof mid now) (JudgeFails (Some t.0) proof mid now) (λ f. judged_told files t.0 proof mid now f t.1) (subst (λ x. IfErr o (JudgeFails x proof mid now)) kept err) in
-    (t.0, i.0, t.1, i.1, audit_checked file proof left ir source t.0 before mid now o t.2 le (p, subst (λ s. IsMatched s p) same matched) ok fails i.0)
+pub judged_ends : (file proof : List ℕ) (files later : Option (List File)) (left : Option (List ℕ)) (ir : Type 0) (source text : List ℕ) (p : Program) (before mid now : ℕ) (o : Result (Vec ℕ Global) Failure) → HoldsFile files file source → later ≡ files → before ≤ mid → text ≡ source → IsMatched text p → IfOk o (λ v. v.items ≡ derived_text) → OnOk o ((bytes : List ℕ) × HoldsFile later proof bytes × IsProofFile bytes) → IfErr o (JudgeFails later proof mid now) → FileOutcome (Audit file proof) files left (Rose before now) ir (end_of o)
+judged_ends file proof files later left ir source text p before mid now o holds kept le same matched ok spelt err =
+    by o ok (subst (λ x. OnOk o ((bytes : List ℕ) × HoldsFile x proof bytes × IsProofFile bytes)) kept spelt) (subst (λ x. IfErr o (JudgeFails x proof mid now)) kept err)
+  where
+    right : (p : Program) × IsMatched source p
+    right = (p, subst (λ s. IsMatched s p) same matched)
+
+    by : (o : Result (Vec ℕ Global) Failure) → IfOk o (λ v. v.items ≡ derived_text) → OnOk o ((bytes : List ℕ) × HoldsFile files proof bytes × IsProofFile bytes) → IfErr o (JudgeFails files proof mid now) → FileOutcome (Audit file proof) files left (Rose before now) ir (end_of o)
+    by (Ok v) ok spelt err =
+        let t = both_held files file source proof spelt.0 holds spelt.1 in
+        audit_may file proof files left (Rose before now) ir source t.0 (Ok v.items) t.1 t.2 (right, (spelt.0, t.3, spelt.2), ok)
+    by (Err (F.Refused r)) ok spelt err =
+        let t = both_held files file source proof err.0 holds err.1 in
+        audit_may file proof files left (Rose before now) ir source t.0 (Err (F.Refused r)) t.1 t.2 (inr (right, (err.0, t.3, err.2)))
+    by (Err (F.Fault O.Folder)) ok spelt err = elim err.1 [
+      | inl up ↦ audit_fault file proof files left (Rose before now) ir (Err (F.Fault O.Folder)) (rose_later before mid now le up, λ r. r)
+      | inr gone ↦ proof_missing file proof files left (Rose before now) ir source holds right gone
+    ]
+    by (Err (F.Fault O.Input)) ok spelt err = absurd (let same = err.0 in cc)
+    by (Err (F.Fault O.Out)) ok spelt err = absurd (let same = err.0 in cc)
+    by (Err (F.Fault O.Err)) ok spelt err = absurd (let same = err.0 in cc)
+    by (Err F.NoMemory) ok spelt err = audit_fault file proof files left (Rose before now) ir (Err F.NoMemory) tt
+    by (Err f) ok spelt err = absurd err
 
 -- one whose report is among those that are asked
-pub reported_ends : (file proof : List ℕ) (files : Option (List File)) (left : Option (List ℕ)) (fr ir : Type 0) (source text : List ℕ) (f : Failure) → HoldsFile files file source → text ≡ source → IsRefusedBy (Reports text) f → FileOutcome (Audit file proof) files left fr ir (Err f)
+pub reported_ends : (file proof : List ℕ) (files : Option (List File)) (left : Option (List ℕ)) (fr ir : Type 0) (source text : List ℕ) (f : Failure) → HoldsFile files file source → text ≡ source → IsRefusedBy (IsReport text) f → FileOutcome (Audit file proof) files left fr ir (Err f)
 reported_ends file proof files left fr ir source text f holds same h =
     let t = held files file source holds in
     let i = any_told left [] in
-    (t.0, i.0, t.1, i.1, by f t.0 i.0 t.2 (subst (λ s. IsRefusedBy (Reports s) f) same h))
+    (t.0, i.0, t.1, i.1, by f t.0 i.0 t.2 (subst (λ s. IsRefusedBy (IsReport s) f) same h))
   where
-    by : (f : Failure) (all : List File) (input : List ℕ) → file_of file all ≡ Some source → IsRefusedBy (Reports source) f → Closes source_spelling all input (Audit file proof) fr ir (Err f)
+    by : (f : Failure) (all : List File) (input : List ℕ) → file_of file all ≡ Some source → IsRefusedBy (IsReport source) f → Closes source_spelling all input (Audit file proof) fr ir (Err f)
     by (F.Refused r) all input there h = inr (inr (MayOnFile source (Err (F.Refused r)) tt (file, refl, there) (inl h)))
     by F.NoMemory all input there h = inl tt
     by failure all input there h = absurd h
@@ -350,7 +447,7 @@ audit_unfetched file proof files left before now ir f h =
   where
     long : (r : Refusal) (all : List File) (input : List ℕ) (o : Option (List ℕ)) → file_of file all ≡ o → r ≡ bare E05 → IsSomeAnd o (λ bytes. 1048576 < length bytes) → Closes source_spelling all input (Audit file proof) (Rose before now) ir (Err (F.Refused r))
     long r all input None e same h = absurd h
-    long r all input (Some source) e same h = inr (inr (MayOnFile source (Err (F.Refused r)) tt (file, refl, e) (inl (subst (Reports source) (sym same) (TooLong h)))))
+    long r all input (Some source) e same h = inr (inr (MayOnFile source (Err (F.Refused r)) tt (file, refl, e) (inl (subst (IsReport source) (sym same) (bare E05, TooLong h, refl)))))
 
     by : (f : Failure) (all : List File) (input : List ℕ) → FetchFails (Some all) file before now f → Closes source_spelling all input (Audit file proof) (Rose before now) ir (Err f)
     by (F.Refused r) all input h = long r all input (file_of file all) refl h.0 h.1

@@ -1,6 +1,8 @@
 -- An object is left alone where the command ended before its turn.
 use Rattle.std.proofs.Common.{◌≡◌, ◌∙◌, ◌≤◌, ℕ, List, sym, subst, refl, arith, inl, inr}
 use Rattle.std.specs.Prelude.{◌⊎◌, Bool, Option, Some, None, Ok, Err, IfErr, OnOk}
+use Rattle.fip_language.specs.declared.rule.Rule.{Rule}
+use Rattle.fip_language.specs.declared.rule.Rule.TheVariants.{E75}
 use Rattle.loop_form.specs.Loop.{Loop}
 use Rattle.fip_base.specs.Files.{File}
 use Rattle.command_line.specs.Words.{Command, Exec, Run, Eval, Trace, Session, Tasks, Library, Gen, IsCommand}
@@ -9,11 +11,11 @@ use Rattle.command_outcome.specs.Failures.{failure_status, failure_text}
 use Rattle.command_outcome.specs.Texts.{no_memory_text}
 use Rattle.fip_driver.specs.Delivered.{Seen, Told, ToldFailure, Delivered}
 use Rattle.fip_driver.specs.Spelling.{Spelling}
-use Rattle.fip_driver.specs.Commands.{ReadsInput, CallsNoFolder, stored_name}
-use Rattle.fip_driver.specs.Fetched.{FetchFails, ReadFails, IsEarlyFailure, IsLateFailure}
+use Rattle.fip_driver.specs.Commands.{ReadsInput, CallsNoFolder}
+use Rattle.fip_driver.specs.Fetched.{FetchFails, StoreFails, ReadFails, IsEarlyFailure, IsLateFailure}
 use Rattle.fip_driver.specs.Fronted.{FrontFails}
 use Rattle.fip_driver.specs.LoopRun.{IsLoopRun}
-use Rattle.fip_driver.specs.Unread.{Outcome, IsBeforeSource, IsBeforeInput, IsBeforeInputOf, HadInput, HadFolder, LeavesInput, MayHaveStored, AreKept, HadStored, IsEarly, MayHaveRead, HasRead, HasCalled, HasStored}
+use Rattle.fip_driver.specs.Unread.{Outcome, IsBeforeSource, IsBeforeInput, IsBeforeTrace, IsBeforeInputOf, HadInput, HadFolder, LeavesInput, AreKept, IsEarly, MayHaveRead, HasRead, HasCalled, AreAfter}
 use Rattle.command_outcome.specs.declared.failure.Failure.{Failure}
 use Rattle.command_outcome.specs.declared.failure.Failure.TheVariants as F
 use Rattle.command_outcome.specs.declared.failure.Object.TheVariants as O
@@ -105,6 +107,28 @@ pub late_understood : (f : Failure) → IsLateFailure f → IsBeforeSource (Err 
 late_understood F.NotUnderstood h b = h
 late_understood failure h b = b
 
+-- of `trace`, what comes late isn't before its input
+pub late_after_input : (f : Failure) → IsLateFailure f → IsBeforeTrace (Err f) → ⊥
+late_after_input (F.Refused r) h b = b h
+late_after_input (F.Fault O.Folder) h b = h
+late_after_input (F.Fault O.Input) h b = b
+late_after_input (F.Fault O.Out) h b = h
+late_after_input (F.Fault O.Err) h b = h
+late_after_input F.NotUnderstood h b = h
+late_after_input (F.BadCode at) h b = h
+late_after_input (F.Unsound function at rule) h b = h
+late_after_input (F.BadTrace at) h b = h
+late_after_input f h b = b
+
+pub stored_after_input : (before now : ℕ) (o : Outcome) → IfErr o (StoreFails before now) → IsBeforeTrace o → ⊥
+stored_after_input before now (Ok text) h b = b
+stored_after_input before now (Err (F.Fault O.Folder)) h b = b
+stored_after_input before now (Err (F.Fault O.Input)) h b = b
+stored_after_input before now (Err (F.Fault O.Out)) h b = b
+stored_after_input before now (Err (F.Fault O.Err)) h b = b
+stored_after_input before now (Err F.NoMemory) h b = b
+stored_after_input before now (Err f) h b = h
+
 -- what waits for its input isn't before the source
 pub late_late : (o : Outcome) → (IsBeforeInput o → ⊥) → IsBeforeSource o → ⊥
 late_late (Ok text) h b = b
@@ -131,8 +155,32 @@ input_or_not (Err (F.Fault O.Out)) = inr (λ b. b)
 input_or_not (Err (F.Fault O.Err)) = inr (λ b. b)
 input_or_not (Err failure) = inr (λ b. b)
 
+abbrev IsOtherRule : Rule → Type 0
+IsOtherRule E75 = ⊥
+IsOtherRule r = Unit {0}
+
+other_or_not : (r : Rule) → (r ≡ E75 → ⊥) ⊎ (r ≡ E75)
+other_or_not E75 = inr refl
+other_or_not r = inl (λ e. subst IsOtherRule e tt)
+
+rule_or_not : (r : Rule) → (r ≡ E75 → ⊥) ⊎ ((r ≡ E75 → ⊥) → ⊥)
+rule_or_not r = elim (other_or_not r) [ inl differs ↦ inl differs | inr same ↦ inr (λ differs. differs same) ]
+
+trace_or_not : (o : Outcome) → IsBeforeTrace o ⊎ (IsBeforeTrace o → ⊥)
+trace_or_not (Ok text) = inr (λ b. b)
+trace_or_not (Err F.NotUnderstood) = inl tt
+trace_or_not (Err (F.Refused r)) = rule_or_not r.rule
+trace_or_not (Err (F.BadCode at)) = inl tt
+trace_or_not (Err (F.Unsound function at rule)) = inl tt
+trace_or_not (Err (F.BadTrace at)) = inl tt
+trace_or_not (Err (F.Fault O.Folder)) = inr (λ b. b)
+trace_or_not (Err (F.Fault O.Input)) = inr (λ b. b)
+trace_or_not (Err (F.Fault O.Out)) = inr (λ b. b)
+trace_or_not (Err (F.Fault O.Err)) = inr (λ b. b)
+trace_or_not (Err failure) = inr (λ b. b)
+
 before_or_not : (c : Command) (o : Outcome) → IsBeforeInputOf c o ⊎ (IsBeforeInputOf c o → ⊥)
-before_or_not (Trace file entry out room) o = source_or_not o
+before_or_not (Trace file entry out room) o = trace_or_not o
 before_or_not c o = input_or_not o
 
 reads_or_not : (c : Command) → ReadsInput c ⊎ (ReadsInput c → ⊥)
@@ -164,14 +212,6 @@ module _ (words : List (List ℕ)) (c : Command) (asked : IsCommand words c) (o 
 
   pub read_turn : (end : Type 0) → (ReadsInput c → end) → end ⊎ LeavesInput words
   read_turn end read = elim (reads_or_not c) [ inl reads ↦ inl (read reads) | inr never ↦ inr (c, asked, never) ]
-
-  named_turn : (old new : Option (List File)) (stored : Option (List ℕ)) → stored_name c ≡ stored → AreKept stored old new o → (new ≡ old) ⊎ HadStored words old new o
-  named_turn old new None is kept = inl kept
-  named_turn old new (Some name) is (inl same) = inl same
-  named_turn old new (Some name) is (inr changed) = inr (c, name, asked, is, changed.0, changed.1)
-
-  pub store_turn : (old new : Option (List File)) → AreKept (stored_name c) old new o → (new ≡ old) ⊎ HadStored words old new o
-  store_turn old new kept = named_turn old new (stored_name c) refl kept
 
 pub on_ok : (o : Outcome) (A B : Type 0) → (A → B) → OnOk o A → OnOk o B
 on_ok (Ok text) A B up h = up h
@@ -246,20 +286,41 @@ pub last_status : (out out' err err' : Seen) (o : Outcome) (s : ℕ) (A : Type 0
 last_status out out' err err' (Ok text) s A d h e = h
 last_status out out' err err' (Err f) s A d h e = absurd (failure_last err err' f s d.1 e)
 
-stored_status : (out out' err err' : Seen) (o : Outcome) (s : ℕ) → Delivered out out' err err' o s → MayHaveStored o → (s ≡ 0) ⊎ (s ≡ 9)
-stored_status out out' err err' (Ok text) s (inl d) m = inl d.0
-stored_status out out' err err' (Ok text) s (inr d) m = inr d.0
-stored_status out out' err err' (Err (F.Fault O.Folder)) s d m = inr d.1.0
-stored_status out out' err err' (Err (F.Fault O.Input)) s d m = absurd m
-stored_status out out' err err' (Err (F.Fault O.Out)) s d m = absurd m
-stored_status out out' err err' (Err (F.Fault O.Err)) s d m = absurd m
-stored_status out out' err err' (Err failure) s d m = absurd m
+-- the files after a command, by its status
+pub files_after : (out out' err err' : Seen) (c : Command) (stored : Option (List ℕ)) (old new : Option (List File)) (o : Outcome) (s : ℕ) → Delivered out out' err err' o s → AreKept c stored old new o → AreAfter c stored old new s
+files_after out out' err err' c None old new o s d h = h
+files_after out out' err err' c (Some name) old new (Ok text) s (inl d) h = inl (d.0, h)
+files_after out out' err err' c (Some name) old new (Ok text) s (inr d) h = inr (inl (d.0, h.others))
+files_after out out' err err' c (Some name) old new (Err (F.Fault O.Folder)) s d h = inr (inl (d.1.0, h))
+files_after out out' err err' c (Some name) old new (Err (F.Fault O.Input)) s d h = inr (inr (failure_last err err' (F.Fault O.Input) s d.1, h))
+files_after out out' err err' c (Some name) old new (Err (F.Fault O.Out)) s d h = inr (inr (failure_last err err' (F.Fault O.Out) s d.1, h))
+files_after out out' err err' c (Some name) old new (Err (F.Fault O.Err)) s d h = inr (inr (failure_last err err' (F.Fault O.Err) s d.1, h))
+files_after out out' err err' c (Some name) old new (Err f) s d h = inr (inr (failure_last err err' f s d.1, h))
+
+-- the words come before the input of `trace`
+source_trace : (o : Outcome) → IsBeforeSource o → IsBeforeTrace o
+source_trace (Ok text) b = absurd b
+source_trace (Err F.NotUnderstood) b = tt
+source_trace (Err f) b = absurd b
+
+failure_eight : (old new : Seen) (f : Failure) (s : ℕ) → ToldFailure old new f s → s ≡ 8 → IsBeforeTrace (Err f)
+failure_eight old new (F.BadCode at) s h e = tt
+failure_eight old new (F.Unsound function at rule) s h e = tt
+failure_eight old new (F.BadTrace at) s h e = tt
+failure_eight old new (F.Fault object) s h e = absurd (let nine = h.0 in omega (arith, nine, e))
+failure_eight old new f s h e = absurd (differs s (failure_status f) 8 (either_status old new (failure_status f) (failure_text f) s h) (λ a. omega (arith, a)) (omega arith) e)
+
+-- so does a code that isn't sound
+eighth_status : (out out' err err' : Seen) (o : Outcome) (s : ℕ) → Delivered out out' err err' o s → s ≡ 8 → IsBeforeTrace o
+eighth_status out out' err err' (Ok text) s (inl d) e = absurd (let zero = d.0 in omega (arith, zero, e))
+eighth_status out out' err err' (Ok text) s (inr d) e = absurd (let nine = d.0 in omega (arith, nine, e))
+eighth_status out out' err err' (Err f) s d e = failure_eight err err' f s d.1 e
 
 -- ---- the whole
 
 module _ (words : List (List ℕ)) (out out' err err' : Seen) (o : Outcome) (s : ℕ) (d : Delivered out out' err err' o s) where
   may_have_read : (c : Command) → (IsBeforeInputOf c o → ⊥) → MayHaveRead c s
-  may_have_read (Trace file entry to room) late' = λ e. late' (first_status out out' err err' o s d e)
+  may_have_read (Trace file entry to room) late' = λ e. elim e [ inl two ↦ late' (source_trace o (first_status out out' err err' o s d two)) | inr eight ↦ late' (eighth_status out out' err err' o s d eight) ]
   may_have_read c late' = λ e. late' (early_status out out' err err' o s d e)
 
   pub input_read : (same : Type 0) → same ⊎ HadInput words o → same ⊎ HasRead words s
@@ -269,7 +330,3 @@ module _ (words : List (List ℕ)) (out out' err err' : Seen) (o : Outcome) (s :
   pub folder_called : (same : Type 0) → same ⊎ HadFolder words o → same ⊎ HasCalled words s
   folder_called same (inl e) = inl e
   folder_called same (inr h) = inr (h.0, h.1, h.2, λ e. h.3 (first_status out out' err err' o s d e))
-
-  pub files_stored : (same : Type 0) (old new : Option (List File)) → same ⊎ HadStored words old new o → same ⊎ HasStored words old new s
-  files_stored same old new (inl e) = inl e
-  files_stored same old new (inr h) = inr (h.0, h.1, h.2, h.3, stored_status out out' err err' o s d h.4, h.5)

@@ -6,7 +6,6 @@ use Rattle.std.specs.Prelude.{◌≡◌, ◌≤◌, ℕ, List, length, ◌⊎◌
 use Rattle.std.specs.Io.KnownBytes.{Appends}
 use Rattle.std.specs.declared.vec.Vec.{Vec}
 use Rattle.std.specs.declared.alloc.Global.{Global}
-use Rattle.fip_language.specs.declared.Place.{Place}
 use Rattle.fip_language.specs.declared.limits.TheConstants.{MOST_SOURCE_BYTES}
 use Rattle.fip_language.specs.Core.{Function, Core}
 use Rattle.fip_language.specs.Declarations.{function_of}
@@ -47,15 +46,6 @@ pub record Replies (spelling : Spelling) (words : List (List ℕ)) (files : List
 abbrev pub IsNoCommand : List (List ℕ) → Type 0
 IsNoCommand words = (c : Command) → IsCommand words c → ⊥
 
--- An end without the line and the column of a refusal's place.
-abbrev pub at_offset : Option Place → Option Place
-at_offset None = None
-at_offset (Some p) = Some (record p { line = 0; col = 0 })
-
-abbrev pub without_lines : End → End
-without_lines (Err (F.Refused r)) = Err (F.Refused (record r { place = at_offset r.place }))
-without_lines e = e
-
 -- what words are answered
 pub data Answer : Type 0 where
   NotUnderstood : Answer
@@ -66,13 +56,11 @@ pub data Answer : Type 0 where
   -- by what no definition says yet
   Beyond : Answer
 
--- The words have this answer. A report is one up to the line and the column of its place: that they are those of its
--- offset is said by no clause.
+-- The words have this answer.
 abbrev pub IsAnswered : Spelling → List (List ℕ) → List File → List ℕ → Answer → Type 0
 IsAnswered spelling words files input NotUnderstood = IsNoCommand words
 IsAnswered spelling words files input (Replied r reply) = Replies spelling words files input r reply × IsWritten reply
-IsAnswered spelling words files input (Said c e) =
-    (d : End) × IsCommand words c × Says spelling files input c d × (e ≡ without_lines d)
+IsAnswered spelling words files input (Said c e) = IsCommand words c × Says spelling files input c e
 IsAnswered spelling words files input Beyond = (c : Command) × IsCommand words c × IsOpen spelling files input c
 
 -- The whole answer: the status, and what out and err hold more. Status 10 is want of memory. Where what a command ends

@@ -14,20 +14,21 @@ use Rattle.fip_base.specs.Files.{File, file_of}
 use Rattle.command_line.specs.Words.{Request, Command, Check, Compile, Verify, Upgrade, Exec, Run, Eval, Trace, Session}
 use Rattle.command_line.specs.Words.{Tasks, Derive, Audit, Replay, Library, Gen}
 use Rattle.command_outcome.specs.Failures.{failure_status, failure_text}
-use Rattle.command_outcome.specs.Stages.{IsOfRun, IsOfTasks}
+use Rattle.command_outcome.specs.Stages.{IsOfSource, IsOfRun, IsOfTasks}
 use Rattle.command_outcome.specs.Successes.{derived_text}
 use Rattle.command_outcome.specs.declared.failure.Failure.{Failure}
 use Rattle.command_outcome.specs.declared.failure.Failure.TheVariants as F
 use Rattle.command_outcome.specs.declared.failure.Object.TheVariants as O
 use Rattle.fip_trees.specs.Tree.{Program}
-use Rattle.source_report.specs.Report.{bare, IsAccepted, IsMatched, Reports}
+use Rattle.source_report.specs.Report.{bare, IsMatched}
 use Rattle.code_file.specs.Plain.{PlainCode}
 use Rattle.source_commands.specs.Codes.{sound_view, IsSoundFile, RefusesCode, IsCodeListing, IsUpgraded, IsUnspelt}
 use Rattle.source_commands.specs.Codes.{names_one, HasFunction}
 use Rattle.eval_command.specs.EvalAnswer.{Evaluates}
-use Rattle.source_commands.specs.Judged.{IsJudged}
+use Rattle.fip_library.specs.Texts.{IsText}
+use Rattle.source_commands.specs.Judged.{IsJudged, IsProofFile}
 use Rattle.source_commands.specs.Roots.{IsListing}
-use Rattle.source_commands.specs.Wanted.{Wanted, Refuses, IsReady, of_entry}
+use Rattle.source_commands.specs.Wanted.{Wanted, IsReport, Refuses, IsReady, of_entry}
 use Rattle.fip_driver.specs.Commands.{IsOther, ReadsInput, fetched_name, wanted}
 use Rattle.fip_driver.specs.Spelling.{Spelling, IsOutside}
 
@@ -87,10 +88,19 @@ MayEnd c source e = ⊥
 abbrev pub IsTaken : Command → List ℕ → Type 0
 IsTaken c input = ReadsInput c → length input ≤ MOST_FILE_BYTES
 
--- The command may end so on this source. No clause says yet that the code of an accepted source is sound: were it not
--- so, it would be told as unsound.
+-- those that make the code of a source, and verify it
+abbrev pub MakesCode : Command → Type 0
+MakesCode (Compile file out) = Unit {0}
+MakesCode (Exec r) = Unit {0}
+MakesCode (Trace file entry out room) = Unit {0}
+MakesCode (Session file room) = Unit {0}
+MakesCode (Tasks file seed turns room) = Unit {0}
+MakesCode c = ⊥
+
+-- The command may end so on this source, which has what is wanted. No clause says yet that the code of such a source is
+-- sound: were it not so, it would be told as unsound.
 pub data ComesOf (source input : List ℕ) (c : Command) (w : Wanted) : End → Type 0 where
-  Unsound : (p : Program) (function at : ℕ) (rule : _) → IsAccepted source p →
+  Unsound : (function at : ℕ) (rule : _) → MakesCode c → IsReady source w →
       ComesOf source input c w (Err (F.Unsound function at rule))
   Ready : (e : End) → IsReady source w → IsTaken c input → MayEnd c source e → ComesOf source input c w e
 
@@ -145,7 +155,7 @@ pub record Checks (spelling : Spelling) (files : List File) (c : Command) (w : W
 abbrev pub IsThere : List File → Command → List ℕ → Type 0
 IsThere files c bytes = (name : List ℕ) × (fetched_name c ≡ Some name) × (file_of name files ≡ Some bytes)
 
--- The command ends so. A missing file of `exec` has a reply of its own.
+-- The command ends so. A missing file of `exec` has a reply of its own. `library` prints a text of the library.
 pub data Says (spelling : Spelling) (files : List File) (input : List ℕ) (c : Command) : End → Type 0 where
   Missing : (name : List ℕ) → IsOther c → fetched_name c ≡ Some name → file_of name files ≡ None →
       Says spelling files input c (Err (F.Fault O.Folder))
@@ -153,41 +163,47 @@ pub data Says (spelling : Spelling) (files : List File) (input : List ℕ) (c : 
       SaysOf source input c w e → Says spelling files input c e
   OnCode : (bytes : List ℕ) (e : End) → IsThere files c bytes → SaysOfCode bytes input c e →
       Says spelling files input c e
+  OfLibrary : (name text : List ℕ) → c ≡ Library name → IsText name text → Says spelling files input c (Ok text)
 
 -- ---- what isn't said of them yet
 
--- the commands of which no more is said than that a missing file is told
+-- the commands on a file of which no more is said than that a missing one is told
 abbrev pub IsUnsaid : Command → Type 0
 IsUnsaid (Audit file proof) = Unit {0}
 IsUnsaid (Replay trace step) = Unit {0}
-IsUnsaid (Library name) = Unit {0}
-IsUnsaid (Gen seed count) = Unit {0}
 IsUnsaid c = ⊥
 
+-- The proof file has these bytes. (Under the source's own name a folder that tells nothing may give any others.)
+abbrev pub HoldsProof : List File → List ℕ → List ℕ → List ℕ → Type 0
+HoldsProof files file proof bytes = (proof ≡ file → ⊥) → file_of proof files ≡ Some bytes
+
 -- A source whose types and matches are right is asked no more rules by `audit`: the proof file may be missing, and is
--- judged.
-abbrev pub IsAuditEnd : List File → List ℕ → List ℕ → End → Type 0
-IsAuditEnd files proof source (Ok text) = ((p : Program) × IsMatched source p) × (text ≡ derived_text)
-IsAuditEnd files proof source (Err (F.Refused r)) =
-    Reports source r ⊎ (((p : Program) × IsMatched source p) × IsJudged r)
-IsAuditEnd files proof source (Err (F.Fault O.Folder)) =
+-- judged. Of one that is a derivation's text no clause says yet whether it is accepted.
+abbrev pub IsAuditEnd : List File → List ℕ → List ℕ → List ℕ → End → Type 0
+IsAuditEnd files file proof source (Ok text) = ((p : Program) × IsMatched source p)
+    × ((bytes : List ℕ) × HoldsProof files file proof bytes × IsProofFile bytes) × (text ≡ derived_text)
+IsAuditEnd files file proof source (Err (F.Refused r)) = IsReport source r ⊎ (((p : Program) × IsMatched source p)
+    × ((bytes : List ℕ) × HoldsProof files file proof bytes × IsJudged bytes r))
+IsAuditEnd files file proof source (Err (F.Fault O.Folder)) =
     ((p : Program) × IsMatched source p) × (file_of proof files ≡ None)
-IsAuditEnd files proof source (Err failure) = ⊥
+IsAuditEnd files file proof source (Err failure) = ⊥
+
+-- A trace that is too long is bad at that offset.
+abbrev pub IsReplayEnd : List ℕ → End → Type 0
+IsReplayEnd bytes (Ok text) = length bytes ≤ MOST_FILE_BYTES
+IsReplayEnd bytes (Err (F.BadTrace at)) = MOST_FILE_BYTES < length bytes → at ≡ MOST_FILE_BYTES
+IsReplayEnd bytes (Err failure) = ⊥
 
 -- how such a command may end on a file that is there
 abbrev pub MayEndOn : List File → Command → List ℕ → End → Type 0
-MayEndOn files (Audit file proof) bytes e = IsAuditEnd files proof bytes e
-MayEndOn files c bytes e = Unit {0}
+MayEndOn files (Audit file proof) bytes e = IsAuditEnd files file proof bytes e
+MayEndOn files (Replay trace step) bytes e = IsReplayEnd bytes e
+MayEndOn files c bytes e = ⊥
 
--- The command may end so.
-pub data Comes (spelling : Spelling) (files : List File) (input : List ℕ) (c : Command) : End → Type 0 where
-  MayOnSource : (w : Wanted) (source : List ℕ) (e : End) → Checks spelling files c w source →
-      ComesOf source input c w e → Comes spelling files input c e
-  MayOnCode : (bytes : List ℕ) (e : End) → IsThere files c bytes → RunsCode bytes input c → IsRunEnd e →
-      Comes spelling files input c e
-  MayOnFile : (bytes : List ℕ) (e : End) → IsUnsaid c → IsThere files c bytes → MayEndOn files c bytes e →
-      Comes spelling files input c e
-  MayOnNone : (e : End) → fetched_name c ≡ None → Comes spelling files input c e
+-- `gen` makes its tree by a run of a text of the library.
+abbrev pub IsGenEnd : End → Type 0
+IsGenEnd (Ok text) = Unit {0}
+IsGenEnd (Err failure) = IsOfSource failure ⊎ IsOfRun failure
 
 -- the commands whose end isn't said on a source that has what they want
 abbrev pub IsUnsaidOn : Command → Type 0
@@ -195,14 +211,24 @@ IsUnsaidOn (Check file) = ⊥
 IsUnsaidOn (Eval file entry calls frames) = ⊥
 IsUnsaidOn c = Unit {0}
 
+-- The command may end so. It is never `check` or `eval`, whose ends are all said.
+pub data Comes (spelling : Spelling) (files : List File) (input : List ℕ) (c : Command) : End → Type 0 where
+  MayOnSource : (w : Wanted) (source : List ℕ) (e : End) → IsUnsaidOn c → Checks spelling files c w source →
+      ComesOf source input c w e → Comes spelling files input c e
+  MayOnCode : (bytes : List ℕ) (e : End) → IsThere files c bytes → RunsCode bytes input c → IsRunEnd e →
+      Comes spelling files input c e
+  MayOnFile : (bytes : List ℕ) (e : End) → IsUnsaid c → IsThere files c bytes → MayEndOn files c bytes e →
+      Comes spelling files input c e
+  MayOfGen : (seed count : ℕ) (e : End) → c ≡ Gen seed count → IsGenEnd e → Comes spelling files input c e
+
 -- The answer isn't said: the source has what a command other than `check` and `eval` wants, a function of a code file
--- is run, or it is a command of which no more is said.
+-- is run, or it is `audit` or `replay` of a file that is there, or `gen`.
 pub data IsOpen (spelling : Spelling) (files : List File) (input : List ℕ) (c : Command) : Type 0 where
   OpenSource : (w : Wanted) (source : List ℕ) → Checks spelling files c w source → IsReady source w → IsTaken c input →
       IsUnsaidOn c → IsOpen spelling files input c
   OpenCode : (bytes : List ℕ) → IsThere files c bytes → RunsCode bytes input c → IsOpen spelling files input c
   OpenFile : (bytes : List ℕ) → IsUnsaid c → IsThere files c bytes → IsOpen spelling files input c
-  OpenNone : fetched_name c ≡ None → IsOpen spelling files input c
+  OpenGen : (seed count : ℕ) → c ≡ Gen seed count → IsOpen spelling files input c
 
 -- ---- how an end is told
 

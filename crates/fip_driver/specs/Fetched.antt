@@ -1,10 +1,12 @@
 -- It serves the proof of `fp2`: what can come of fetching a source and of reading an input.
-use Rattle.std.specs.Prelude.{◌≡◌, ℕ, suc, List, [], ◌⊎◌, None, Option}
+use Rattle.std.specs.Prelude.{◌≡◌, ℕ, suc, List, [], ◌⊎◌, None, Option, Result, Ok, Err}
+use Rattle.std.specs.declared.vec.Vec.{Vec}
+use Rattle.std.specs.declared.alloc.Global.{Global}
 use Rattle.fip_language.specs.declared.limits.TheConstants.{MOST_SOURCE_BYTES, MOST_FILE_BYTES}
 use Rattle.fip_base.specs.declared.refusal.Refusal.{Refusal}
 use Rattle.fip_language.specs.declared.rule.Rule.TheVariants.{E05, E70}
 use Rattle.fip_base.specs.Faults.{Rose}
-use Rattle.fip_base.specs.Files.{File, HoldsLonger, IsMissing}
+use Rattle.fip_base.specs.Files.{File, HoldsFile, HoldsLonger, IsMissing, KeepsOthers}
 use Rattle.fip_base.specs.Takes.{Takes}
 use Rattle.source_commands.specs.Judged.{IsJudged}
 use Rattle.command_outcome.specs.Stages.{IsOfSource, IsOfTrace}
@@ -40,9 +42,16 @@ StoreFails before now (F.Fault object) = (object ≡ O.Folder) × Rose before no
 StoreFails before now F.NoMemory = Unit {0}
 StoreFails before now failure = ⊥
 
+-- the files after these bytes were stored under a name, or weren't
+abbrev pub StoreKeeps : List ℕ → List ℕ → Option (List File) → Option (List File) → Result (Vec ℕ Global) Failure →
+    Type 0
+StoreKeeps name bytes old new (Ok text) = KeepsOthers old new name × HoldsFile new name bytes
+StoreKeeps name bytes old new (Err (F.Fault O.Folder)) = KeepsOthers old new name
+StoreKeeps name bytes old new (Err failure) = new ≡ old
+
 -- why a proof file isn't accepted, or wasn't fetched
 abbrev pub JudgeFails : Option (List File) → List ℕ → ℕ → ℕ → Failure → Type 0
-JudgeFails files name before now (F.Refused r) = IsJudged r
+JudgeFails files name before now (F.Refused r) = (bytes : List ℕ) × HoldsFile files name bytes × IsJudged bytes r
 JudgeFails files name before now (F.Fault object) =
     (object ≡ O.Folder) × (Rose before now ⊎ IsMissing files name)
 JudgeFails files name before now F.NoMemory = Unit {0}

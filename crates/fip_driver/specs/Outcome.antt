@@ -1,5 +1,5 @@
 -- What a command comes to, before it is handed to the sinks.
-use Rattle.std.specs.Prelude.{◌≡◌, ◌⊎◌, ℕ, ◌<◌, ◌≤◌, List, length, Option, Result, Ok, Err}
+use Rattle.std.specs.Prelude.{◌≡◌, ◌⊎◌, ℕ, ◌<◌, ◌≤◌, List, length, Option, Some, None, Result, Ok, Err}
 use Rattle.std.specs.declared.vec.Vec.{Vec}
 use Rattle.std.specs.declared.alloc.Global.{Global}
 use Rattle.fip_language.specs.declared.limits.TheConstants.{MOST_FILE_BYTES}
@@ -36,6 +36,21 @@ abbrev pub IsInputFault : Type 0 → End → Type 0
 IsInputFault rose (Err F.NoMemory) = Unit {0}
 IsInputFault rose (Err (F.Fault O.Input)) = rose
 IsInputFault rose e = ⊥
+
+-- a fault of the folder is named
+abbrev pub IsFolderFault : Result (Vec ℕ Global) Failure → Type 0
+IsFolderFault (Err (F.Fault O.Folder)) = Unit {0}
+IsFolderFault o = ⊥
+
+-- the count of a folder that tells nothing rose
+abbrev pub RoseUntold : Option (List File) → Type 0 → Type 0
+RoseUntold None rose = rose
+RoseUntold (Some files) rose = Unit {0}
+
+-- A fault of a folder that tells nothing is named only where its count rose.
+abbrev pub IsCounted : Option (List File) → Type 0 → Result (Vec ℕ Global) Failure → Type 0
+IsCounted files rose (Err (F.Fault O.Folder)) = RoseUntold files rose
+IsCounted files rose o = Unit {0}
 
 -- What reading an input and running on it comes to, by what is said of the end on an input.
 abbrev pub ReadOutcome : (List ℕ → End → Type 0) → Option (List ℕ) → Type 0 → End → Type 0

@@ -2,14 +2,17 @@
 -- input is read. What keeps a command from its result before the turn of an object comes leaves that object as it was.
 -- A program that breaks a rule is refused while its input still waits: a host can correct the source and call again.
 use Rattle.std.specs.Prelude.{◌≡◌, ◌⊎◌, ℕ, List, Option, Some, None, Result, Ok, Err}
+use Rattle.fip_language.specs.declared.rule.Rule.TheVariants.{E75}
 use Rattle.std.specs.declared.vec.Vec.{Vec}
 use Rattle.std.specs.declared.alloc.Global.{Global}
-use Rattle.fip_base.specs.Files.{File, KeepsOthers}
-use Rattle.command_line.specs.Words.{Command, Trace, IsCommand}
+use Rattle.fip_base.specs.Files.{File, HoldsFile, KeepsOthers}
+use Rattle.command_line.specs.Words.{Command, Compile, Trace, Upgrade, IsCommand}
 use Rattle.command_outcome.specs.declared.failure.Failure.{Failure}
 use Rattle.command_outcome.specs.declared.failure.Failure.TheVariants as F
 use Rattle.command_outcome.specs.declared.failure.Object.TheVariants as O
-use Rattle.fip_driver.specs.Commands.{ReadsInput, CallsNoFolder, stored_name}
+use Rattle.code_file.specs.Plain.{PlainCode}
+use Rattle.source_commands.specs.Codes.{IsSoundFile, IsUpgraded}
+use Rattle.fip_driver.specs.Commands.{ReadsInput, CallsNoFolder}
 
 abbrev pub Outcome : Type 0
 Outcome = Result (Vec ℕ Global) Failure
@@ -31,9 +34,14 @@ IsBeforeInput (Err (F.BadTrace at)) = Unit {0}
 IsBeforeInput (Err (F.Fault O.Folder)) = Unit {0}
 IsBeforeInput o = ⊥
 
--- A trace may be refused for its length, and is stored, behind the run.
+-- The same of `trace`. Its trace may be refused for its length (E75), and is stored, behind the run.
+abbrev pub IsBeforeTrace : Outcome → Type 0
+IsBeforeTrace (Err (F.Refused r)) = r.rule ≡ E75 → ⊥
+IsBeforeTrace (Err (F.Fault O.Folder)) = ⊥
+IsBeforeTrace o = IsBeforeInput o
+
 abbrev pub IsBeforeInputOf : Command → Outcome → Type 0
-IsBeforeInputOf (Trace file entry out room) o = IsBeforeSource o
+IsBeforeInputOf (Trace file entry out room) o = IsBeforeTrace o
 IsBeforeInputOf c o = IsBeforeInput o
 
 -- The words ask for a command that reads the input, and its turn had come.
@@ -48,20 +56,26 @@ HadFolder words o = (c : Command) × IsCommand words c × (CallsNoFolder c → �
 abbrev pub LeavesInput : List (List ℕ) → Type 0
 LeavesInput words = (c : Command) × IsCommand words c × (ReadsInput c → ⊥)
 
--- a file was stored, or the folder failed
-abbrev pub MayHaveStored : Outcome → Type 0
-MayHaveStored (Ok text) = Unit {0}
-MayHaveStored (Err (F.Fault O.Folder)) = Unit {0}
-MayHaveStored o = ⊥
+-- What is stored, as far as it is said, by the files before: `compile` stores the file of a sound code, `upgrade` that
+-- of the second version of the code that it fetched.
+abbrev pub IsMadeBy : Command → Option (List File) → List ℕ → Type 0
+IsMadeBy (Compile file out) files bytes = (code : PlainCode) × IsSoundFile bytes code
+IsMadeBy (Upgrade file out) files bytes = (code : List ℕ) × HoldsFile files file code × IsUpgraded code bytes
+IsMadeBy c files bytes = Unit {0}
+
+-- The command's file is stored under this name; each other file is as it was.
+pub record IsStored (c : Command) (name : List ℕ) (old new : Option (List File)) : Type 0 where
+  pub others : KeepsOthers old new name
+  pub bytes : List ℕ
+  pub there : HoldsFile new name bytes
+  pub made : IsMadeBy c old bytes
 
 -- The files after a command that stores under this name, or under none.
-abbrev pub AreKept : Option (List ℕ) → Option (List File) → Option (List File) → Outcome → Type 0
-AreKept None old new o = new ≡ old
-AreKept (Some name) old new o = (new ≡ old) ⊎ (MayHaveStored o × KeepsOthers old new name)
-
-abbrev pub HadStored : List (List ℕ) → Option (List File) → Option (List File) → Outcome → Type 0
-HadStored words old new o = (c : Command) × (name : List ℕ) × IsCommand words c × (stored_name c ≡ Some name)
-    × MayHaveStored o × KeepsOthers old new name
+abbrev pub AreKept : Command → Option (List ℕ) → Option (List File) → Option (List File) → Outcome → Type 0
+AreKept c None old new o = new ≡ old
+AreKept c (Some name) old new (Ok text) = IsStored c name old new
+AreKept c (Some name) old new (Err (F.Fault O.Folder)) = KeepsOthers old new name
+AreKept c (Some name) old new (Err failure) = new ≡ old
 
 -- ---- by the status
 
@@ -70,7 +84,7 @@ abbrev pub IsEarly : ℕ → Type 0
 IsEarly s = (s ≡ 1) ⊎ ((s ≡ 2) ⊎ (s ≡ 8))
 
 abbrev pub MayHaveRead : Command → ℕ → Type 0
-MayHaveRead (Trace file entry out room) s = s ≡ 2 → ⊥
+MayHaveRead (Trace file entry out room) s = ((s ≡ 2) ⊎ (s ≡ 8)) → ⊥
 MayHaveRead c s = IsEarly s → ⊥
 
 -- The words ask for a command that reads the input, and weren't refused, nor was a source or a code.
@@ -81,7 +95,9 @@ HasRead words s = (c : Command) × IsCommand words c × ReadsInput c × MayHaveR
 abbrev pub HasCalled : List (List ℕ) → ℕ → Type 0
 HasCalled words s = (c : Command) × IsCommand words c × (CallsNoFolder c → ⊥) × (s ≡ 2 → ⊥)
 
--- The words ask to store under a name; the status is 0, or 9 after a fault, and each other file is as it was.
-abbrev pub HasStored : List (List ℕ) → Option (List File) → Option (List File) → ℕ → Type 0
-HasStored words old new s = (c : Command) × (name : List ℕ) × IsCommand words c × (stored_name c ≡ Some name)
-    × ((s ≡ 0) ⊎ (s ≡ 9)) × KeepsOthers old new name
+-- The files after a command that stores under this name, or under none. At status 0 its file is stored; at 9, after a
+-- fault, no more is said than that each other file is as it was; else all files are.
+abbrev pub AreAfter : Command → Option (List ℕ) → Option (List File) → Option (List File) → ℕ → Type 0
+AreAfter c None old new s = new ≡ old
+AreAfter c (Some name) old new s = ((s ≡ 0) × IsStored c name old new)
+    ⊎ (((s ≡ 9) × KeepsOthers old new name) ⊎ ((s ≡ 0 → ⊥) × (new ≡ old)))

@@ -5,7 +5,7 @@ ghost use Rattle.fip_base.specs.Faults.{Rose};
 ghost use Rattle.command_line.specs.Words.{IsCommand};
 ghost use Rattle.command_line.specs.View.{command_of};
 ghost use Rattle.fip_driver.specs.Commands.{ReadsInput, CallsNoFolder, stored_name};
-ghost use Rattle.fip_driver.specs.Outcome.{CommandOutcome};
+ghost use Rattle.fip_driver.specs.Outcome.{CommandOutcome, IsCounted};
 ghost use Rattle.fip_driver.specs.Unread.{IsBeforeSource, IsBeforeInputOf, AreKept};
 
 use crate::commands::{check, compile, eval, upgrade, verify};
@@ -33,7 +33,9 @@ pub fn answer<F: Folder, S: Source>(
     ensures before { IsBeforeInputOf (command_of command.now) result → input.new ≡ input.old }
     ensures uncalled { CallsNoFolder (command_of command.now) → folder.new ≡ folder.old }
     ensures unfetched { IsBeforeSource result → folder.new ≡ folder.old }
-    ensures files { AreKept (stored_name (command_of command.now)) (F.files folder.old) (F.files folder.new) result }
+    ensures files { AreKept (command_of command.now) (stored_name (command_of command.now)) (F.files folder.old)
+        (F.files folder.new) result }
+    ensures counted { IsCounted (F.files folder.old) (Rose (F.faults folder.old) (F.faults folder.new)) result }
 {
     match command {
         Command::Check { file } => check(alloc, file, folder),

@@ -1,5 +1,5 @@
 // What the commands come to that fetch one file: which object is called when.
-ghost use Rattle.std.specs.Prelude.{◌≡◌, ◌<◌, ◌≤◌, ℕ, List, length, Option, OnOk, Some};
+ghost use Rattle.std.specs.Prelude.{◌≡◌, ◌≤◌, ℕ, List, Option, OnOk, Some};
 ghost use Rattle.std.specs.Io.KnownBytes.{IsAtEnd};
 ghost use Rattle.fip_language.specs.declared.limits.TheConstants.{MOST_FRAMES};
 ghost use Rattle.fip_base.specs.Faults.{Rose};
@@ -7,7 +7,7 @@ ghost use Rattle.fip_trees.specs.TreeView as V;
 ghost use Rattle.command_line.specs.Words as W;
 ghost use Rattle.source_commands.specs.Entries.{IsRootedIn};
 ghost use Rattle.eval_command.specs.EvalAnswer.{Evaluates};
-ghost use Rattle.fip_driver.specs.Outcome.{FileOutcome, ReadOutcome, end_of};
+ghost use Rattle.fip_driver.specs.Outcome.{FileOutcome, IsCounted, ReadOutcome, end_of};
 ghost use Rattle.fip_driver.specs.Unread.{AreKept, IsBeforeSource, IsBeforeInput};
 
 use crate::fetched::{fetch_code, fetch_source, read_input};
@@ -21,6 +21,7 @@ use std::alloc::Global;
 pub fn check<F: Folder>(alloc: Global, file: &str, folder: &mut F) -> Result<Vec<u8>, Failure>
     ensures outcome { (left : Option (List ℕ)) → FileOutcome (W.Check file.now) (F.files folder.old) left
         (Rose (F.faults folder.old) (F.faults folder.new)) ⊥ (end_of result) }
+    ensures counted { IsCounted (F.files folder.old) (Rose (F.faults folder.old) (F.faults folder.new)) result }
     ensures understood { IsBeforeSource result → ⊥ }
     ensures files { F.files folder.new ≡ F.files folder.old }
 {
@@ -39,7 +40,9 @@ pub fn compile<F: Folder>(
 ) -> Result<Vec<u8>, Failure>
     ensures outcome { (left : Option (List ℕ)) → FileOutcome (W.Compile file.now out.now) (F.files folder.old) left
         (Rose (F.faults folder.old) (F.faults folder.new)) ⊥ (end_of result) }
-    ensures kept { AreKept (Some out.now) (F.files folder.old) (F.files folder.new) result }
+    ensures kept { AreKept (W.Compile file.now out.now) (Some out.now) (F.files folder.old) (F.files folder.new)
+        result }
+    ensures counted { IsCounted (F.files folder.old) (Rose (F.faults folder.old) (F.faults folder.new)) result }
     ensures understood { IsBeforeSource result → ⊥ }
 {
     match fetch_source(alloc, folder, file) {
@@ -55,6 +58,7 @@ pub fn compile<F: Folder>(
 pub fn verify<F: Folder>(alloc: Global, file: &str, folder: &mut F) -> Result<Vec<u8>, Failure>
     ensures outcome { (left : Option (List ℕ)) → FileOutcome (W.Verify file.now) (F.files folder.old) left
         (Rose (F.faults folder.old) (F.faults folder.new)) ⊥ (end_of result) }
+    ensures counted { IsCounted (F.files folder.old) (Rose (F.faults folder.old) (F.faults folder.new)) result }
     ensures understood { IsBeforeSource result → ⊥ }
     ensures files { F.files folder.new ≡ F.files folder.old }
 {
@@ -73,7 +77,9 @@ pub fn upgrade<F: Folder>(
 ) -> Result<Vec<u8>, Failure>
     ensures outcome { (left : Option (List ℕ)) → FileOutcome (W.Upgrade file.now out.now) (F.files folder.old) left
         (Rose (F.faults folder.old) (F.faults folder.new)) ⊥ (end_of result) }
-    ensures kept { AreKept (Some out.now) (F.files folder.old) (F.files folder.new) result }
+    ensures kept { AreKept (W.Upgrade file.now out.now) (Some out.now) (F.files folder.old) (F.files folder.new)
+        result }
+    ensures counted { IsCounted (F.files folder.old) (Rose (F.faults folder.old) (F.faults folder.new)) result }
     ensures understood { IsBeforeSource result → ⊥ }
 {
     match fetch_code(folder, file) {
@@ -94,7 +100,6 @@ fn evaluate<S: Source>(
     input: &mut S,
 ) -> Result<Vec<u8>, Failure>
     requires frames { frames ≤ MOST_FRAMES }
-    requires within { program.entry < length program.typed.program.instances.items }
     ensures outcome { (source name : List ℕ) →
         IsRootedIn source name (V.program program.typed.program) program.entry →
         ReadOutcome (λ bytes. Evaluates source name bytes calls frames) (S.left input.old)
@@ -130,6 +135,7 @@ pub fn eval<F: Folder, S: Source>(
         (end_of result) }
     ensures read { OnOk result (IsAtEnd (S.left input.new)) }
     ensures before { IsBeforeInput result → input.new ≡ input.old }
+    ensures counted { IsCounted (F.files folder.old) (Rose (F.faults folder.old) (F.faults folder.new)) result }
     ensures understood { IsBeforeSource result → ⊥ }
     ensures files { F.files folder.new ≡ F.files folder.old }
 {

@@ -1,10 +1,12 @@
 // What the commands on derivations come to: which object is called when.
-ghost use Rattle.std.specs.Prelude.{◌≡◌, ◌≤◌, ℕ, List, Option, IfOk, IfErr, Some};
+ghost use Rattle.std.specs.Prelude.{◌≡◌, ◌≤◌, ℕ, List, Option, IfOk, IfErr, OnOk, Some};
 ghost use Rattle.fip_base.specs.Faults.{Rose};
+ghost use Rattle.fip_base.specs.Files.{HoldsFile};
 ghost use Rattle.command_line.specs.Words as W;
 ghost use Rattle.command_outcome.specs.Successes.{derived_text};
+ghost use Rattle.source_commands.specs.Judged.{IsProofFile};
 ghost use Rattle.fip_driver.specs.Fetched.{JudgeFails};
-ghost use Rattle.fip_driver.specs.Outcome.{FileOutcome, end_of};
+ghost use Rattle.fip_driver.specs.Outcome.{FileOutcome, IsCounted, end_of};
 ghost use Rattle.fip_driver.specs.Unread.{AreKept, IsBeforeSource};
 
 use crate::fetched::{fetch_proof, fetch_source};
@@ -23,7 +25,8 @@ pub fn derive<F: Folder>(
 ) -> Result<Vec<u8>, Failure>
     ensures outcome { (left : Option (List ℕ)) → FileOutcome (W.Derive file.now out.now) (F.files folder.old) left
         (Rose (F.faults folder.old) (F.faults folder.new)) ⊥ (end_of result) }
-    ensures kept { AreKept (Some out.now) (F.files folder.old) (F.files folder.new) result }
+    ensures kept { AreKept (W.Derive file.now out.now) (Some out.now) (F.files folder.old) (F.files folder.new) result }
+    ensures counted { IsCounted (F.files folder.old) (Rose (F.faults folder.old) (F.faults folder.new)) result }
     ensures understood { IsBeforeSource result → ⊥ }
 {
     match fetch_source(alloc, folder, file) {
@@ -43,9 +46,12 @@ fn judge<F: Folder>(
     folder: &mut F,
 ) -> Result<Vec<u8>, Failure>
     ensures derived { IfOk result (λ v. v.items ≡ derived_text) }
+    ensures spelt { OnOk result ((bytes : List ℕ) × HoldsFile (F.files folder.old) proof.now bytes
+        × IsProofFile bytes) }
     ensures fails { IfErr result (JudgeFails (F.files folder.old) proof.now (F.faults folder.old)
         (F.faults folder.new)) }
     ensures later { F.faults folder.old ≤ F.faults folder.new }
+    ensures counted { IsCounted (F.files folder.old) (Rose (F.faults folder.old) (F.faults folder.new)) result }
     ensures understood { IsBeforeSource result → ⊥ }
     ensures files { F.files folder.new ≡ F.files folder.old }
 {
@@ -65,6 +71,7 @@ pub fn audit<F: Folder>(
 ) -> Result<Vec<u8>, Failure>
     ensures outcome { (left : Option (List ℕ)) → FileOutcome (W.Audit file.now proof.now) (F.files folder.old) left
         (Rose (F.faults folder.old) (F.faults folder.new)) ⊥ (end_of result) }
+    ensures counted { IsCounted (F.files folder.old) (Rose (F.faults folder.old) (F.faults folder.new)) result }
     ensures understood { IsBeforeSource result → ⊥ }
     ensures files { F.files folder.new ≡ F.files folder.old }
 {

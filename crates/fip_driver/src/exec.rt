@@ -9,7 +9,8 @@ ghost use Rattle.command_line.specs.Words as W;
 ghost use Rattle.source_commands.specs.Wanted.{Compiled};
 ghost use Rattle.fip_driver.specs.Ends.{IsRunEnd};
 ghost use Rattle.fip_driver.specs.Fronted.{IsSoundLoop, EntryOutcome};
-ghost use Rattle.fip_driver.specs.Outcome.{RequestOutcome, FileOutcome, InputOutcome, SourceOutcome, end_of};
+ghost use Rattle.fip_driver.specs.Outcome.{RequestOutcome, FileOutcome, InputOutcome, SourceOutcome, IsCounted};
+ghost use Rattle.fip_driver.specs.Outcome.{end_of, IsFolderFault};
 ghost use Rattle.fip_driver.specs.Unread.{IsBeforeSource, IsBeforeInput};
 
 use crate::fetched::{fetch_code, fetch_source, read_input};
@@ -80,6 +81,7 @@ fn exec_whole<S: Source>(
     ensures read { OnOk result (IsAtEnd (S.left input.new)) }
     ensures before { IsBeforeInput result → input.new ≡ input.old }
     ensures understood { IsBeforeSource result → ⊥ }
+    ensures unfaulted { IsFolderFault result → ⊥ }
 {
     match fip_commands::exec_entry(alloc, source, request.entry) {
         Ok(ready) => run_ready(alloc, ready, request.room, request.gauge, input),
@@ -99,6 +101,7 @@ pub fn exec<F: Folder, S: Source>(
         (Rose (F.faults folder.old) (F.faults folder.new)) (Rose (S.faults input.old) (S.faults input.new)) result }
     ensures read { OnOk result (IsAtEnd (S.left input.new)) }
     ensures before { IsBeforeInput result → input.new ≡ input.old }
+    ensures counted { IsCounted (F.files folder.old) (Rose (F.faults folder.old) (F.faults folder.new)) result }
     ensures understood { IsBeforeSource result → ⊥ }
     ensures files { F.files folder.new ≡ F.files folder.old }
 {
@@ -124,6 +127,7 @@ pub fn run<F: Folder, S: Source>(
         (end_of result) }
     ensures read { OnOk result (IsAtEnd (S.left input.new)) }
     ensures before { IsBeforeInput result → input.new ≡ input.old }
+    ensures counted { IsCounted (F.files folder.old) (Rose (F.faults folder.old) (F.faults folder.new)) result }
     ensures understood { IsBeforeSource result → ⊥ }
     ensures files { F.files folder.new ≡ F.files folder.old }
 {

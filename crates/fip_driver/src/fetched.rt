@@ -65,6 +65,7 @@ pub fn fetch_code<F: Folder>(folder: &mut F, name: &str) -> Result<Vec<u8>, Fail
 /// The bytes of a proof file, at most 16,777,216. E72 with that number where there are more; a fault of the folder
 /// where it failed or has no file of that name.
 pub fn fetch_proof<F: Folder>(alloc: Global, folder: &mut F, name: &str) -> Result<Vec<u8>, Failure>
+    ensures found { IfOk result (λ v. HoldsFile (F.files folder.old) name.now v.items) }
     ensures fails { IfErr result (λ e. JudgeFails (F.files folder.old) name.now (F.faults folder.old)
         (F.faults folder.new) e) }
     ensures early { IfErr result IsEarlyFailure }

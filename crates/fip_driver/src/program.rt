@@ -9,8 +9,10 @@ ghost use Rattle.command_outcome.specs.declared.failure.Failure.{Failure as a_fa
 ghost use Rattle.fip_driver.specs.Answered.{Answer, Answered, IsAnswered};
 ghost use Rattle.fip_driver.specs.Spelling.{source_spelling};
 ghost use Rattle.fip_driver.specs.Delivered.{seen, NotRisen, Delivered};
-ghost use Rattle.fip_driver.specs.Outcome.{WordsOutcome};
-ghost use Rattle.fip_driver.specs.Unread.{HadInput, HadFolder, HadStored, LeavesInput, HasRead, HasCalled, HasStored};
+ghost use Rattle.command_line.specs.Words.{Command, IsCommand};
+ghost use Rattle.fip_driver.specs.Commands.{stored_name};
+ghost use Rattle.fip_driver.specs.Outcome.{WordsOutcome, IsCounted};
+ghost use Rattle.fip_driver.specs.Unread.{HadInput, HadFolder, LeavesInput, HasRead, HasCalled, AreKept, AreAfter};
 
 use crate::answer::answer;
 use crate::delivery::deliver;
@@ -32,8 +34,9 @@ fn outcome<F: Folder, S: Source>(
     ensures read { OnOk result (IsAtEnd (S.left input.new) ⊎ LeavesInput (map string_bytes words.now)) }
     ensures unread { (input.new ≡ input.old) ⊎ HadInput (map string_bytes words.now) result }
     ensures unfetched { (folder.new ≡ folder.old) ⊎ HadFolder (map string_bytes words.now) result }
-    ensures files { (F.files folder.new ≡ F.files folder.old)
-        ⊎ HadStored (map string_bytes words.now) (F.files folder.old) (F.files folder.new) result }
+    ensures files { (c : Command) → IsCommand (map string_bytes words.now) c →
+        AreKept c (stored_name c) (F.files folder.old) (F.files folder.new) result }
+    ensures counted { IsCounted (F.files folder.old) (Rose (F.faults folder.old) (F.faults folder.new)) result }
 {
     match read_words(alloc, words) {
         Ok(command) => answer(alloc, &command, folder, input),
@@ -56,16 +59,18 @@ pub fn fp2<F: Folder, S: Source, O: Sink, E: Sink>(
     err: &mut E,
 ) -> Status
     // What the words come to, and that just this is delivered to the sinks; where it ended before the input's turn, the
-    // input is as it was.
+    // input is as it was; and a fault of a folder that tells nothing is one that it counted.
     ensures answer { (o : Result (a_vec ℕ an_allocator) a_failure)
         × ((input.new ≡ input.old) ⊎ HadInput (map string_bytes words.now) o)
         × WordsOutcome (map string_bytes words.now) (F.files folder.old) (S.left input.old)
         (Rose (F.faults folder.old) (F.faults folder.new)) (Rose (S.faults input.old) (S.faults input.new)) o
+        × IsCounted (F.files folder.old) (Rose (F.faults folder.old) (F.faults folder.new)) o
         × Delivered (seen (O.written out.old) (O.faults out.old)) (seen (O.written out.new) (O.faults out.new))
         (seen (E.written err.old) (E.faults err.old)) (seen (E.written err.new) (E.faults err.new)) o result.0 }
-    // No file changes but the one under the name that the words ask to store.
-    ensures files { (F.files folder.new ≡ F.files folder.old)
-        ⊎ HasStored (map string_bytes words.now) (F.files folder.old) (F.files folder.new) result.0 }
+    // No file changes but the one under the name that the words ask to store. At status 0 it is stored; at a status
+    // other than 0 and 9 it is as it was.
+    ensures files { (c : Command) → IsCommand (map string_bytes words.now) c →
+        AreAfter c (stored_name c) (F.files folder.old) (F.files folder.new) result.0 }
     // Where no count of faults rose, and the folder and the input tell what they hold: the whole answer is the written
     // one, or want of memory; and where no definition says it yet, it is one that may come.
     ensures whole { (files : List File) (bytes : List ℕ) → F.files folder.old ≡ Some files →
@@ -74,7 +79,7 @@ pub fn fp2<F: Folder, S: Source, O: Sink, E: Sink>(
         NotRisen (E.faults err.old) (E.faults err.new) →
         Answered source_spelling (map string_bytes words.now) files bytes (O.written out.old) (O.written out.new)
         (E.written err.old) (E.written err.new) result.0 }
-    // There is one written answer, a report up to the line and the column of its place.
+    // There is one written answer.
     ensures one { (files : List File) (bytes : List ℕ) (a b : Answer) →
         IsAnswered source_spelling (map string_bytes words.now) files bytes a →
         IsAnswered source_spelling (map string_bytes words.now) files bytes b → a ≡ b }

@@ -5,7 +5,7 @@ ghost use Rattle.fip_base.specs.Faults.{Rose};
 ghost use Rattle.command_line.specs.View.{room_of};
 ghost use Rattle.command_line.specs.Words as W;
 ghost use Rattle.fip_driver.specs.Ends.{IsSessionEnd, IsTasksEnd};
-ghost use Rattle.fip_driver.specs.Outcome.{FileOutcome, InputOutcome, end_of};
+ghost use Rattle.fip_driver.specs.Outcome.{FileOutcome, InputOutcome, IsCounted, end_of};
 ghost use Rattle.fip_driver.specs.Unread.{IsBeforeSource, IsBeforeInput};
 
 use crate::fetched::{fetch_source, read_input};
@@ -46,6 +46,7 @@ pub fn session<F: Folder, S: Source>(
         (end_of result) }
     ensures read { OnOk result (IsAtEnd (S.left input.new)) }
     ensures before { IsBeforeInput result → input.new ≡ input.old }
+    ensures counted { IsCounted (F.files folder.old) (Rose (F.faults folder.old) (F.faults folder.new)) result }
     ensures understood { IsBeforeSource result → ⊥ }
     ensures files { F.files folder.new ≡ F.files folder.old }
 {
@@ -93,6 +94,7 @@ pub fn tasks<F: Folder, S: Source>(
         (end_of result) }
     ensures read { OnOk result (IsAtEnd (S.left input.new)) }
     ensures before { IsBeforeInput result → input.new ≡ input.old }
+    ensures counted { IsCounted (F.files folder.old) (Rose (F.faults folder.old) (F.faults folder.new)) result }
     ensures understood { IsBeforeSource result → ⊥ }
     ensures files { F.files folder.new ≡ F.files folder.old }
 {

@@ -1,7 +1,7 @@
 // Storing a file before the text of a command goes out.
-ghost use Rattle.std.specs.Prelude.{◌≡◌, IfOk, IfErr, Some};
-ghost use Rattle.fip_driver.specs.Fetched.{StoreFails};
-ghost use Rattle.fip_driver.specs.Unread.{AreKept, IsBeforeSource};
+ghost use Rattle.std.specs.Prelude.{◌≡◌, IfOk, IfErr};
+ghost use Rattle.fip_driver.specs.Fetched.{StoreFails, StoreKeeps};
+ghost use Rattle.fip_driver.specs.Unread.{IsBeforeSource};
 
 use command_outcome::{Failure, Object};
 use fip_base::outside::{Folder, StoreError};
@@ -11,7 +11,7 @@ use fip_commands::Compiled;
 pub fn store<F: Folder>(folder: &mut F, name: &str, compiled: Compiled) -> Result<Vec<u8>, Failure>
     ensures told { IfOk result (λ v. v.items ≡ compiled.text.items) }
     ensures fails { IfErr result (StoreFails (F.faults folder.old) (F.faults folder.new)) }
-    ensures kept { AreKept (Some name.now) (F.files folder.old) (F.files folder.new) result }
+    ensures kept { StoreKeeps name.now compiled.file.items (F.files folder.old) (F.files folder.new) result }
     ensures understood { IsBeforeSource result → ⊥ }
 {
     match folder.store(name, compiled.file.as_slice()) {

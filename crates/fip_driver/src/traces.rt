@@ -6,8 +6,8 @@ ghost use Rattle.command_line.specs.View.{room_of};
 ghost use Rattle.command_line.specs.Words as W;
 ghost use Rattle.fip_driver.specs.Ends.{IsTraceEnd};
 ghost use Rattle.fip_driver.specs.Fetched.{IsLateFailure};
-ghost use Rattle.fip_driver.specs.Outcome.{FileOutcome, InputOutcome, end_of, compiled_end};
-ghost use Rattle.fip_driver.specs.Unread.{AreKept, IsBeforeSource};
+ghost use Rattle.fip_driver.specs.Outcome.{FileOutcome, InputOutcome, IsCounted, end_of, compiled_end};
+ghost use Rattle.fip_driver.specs.Unread.{AreKept, IsBeforeSource, IsBeforeTrace};
 
 use crate::fetched::{fetch_source, fetch_trace, read_input};
 use crate::stored::store;
@@ -49,7 +49,10 @@ pub fn trace<F: Folder, S: Source>(
         (S.left input.old) (Rose (F.faults folder.old) (F.faults folder.new))
         (Rose (S.faults input.old) (S.faults input.new)) (end_of result) }
     ensures read { OnOk result (IsAtEnd (S.left input.new)) }
-    ensures kept { AreKept (Some out.now) (F.files folder.old) (F.files folder.new) result }
+    ensures before { IsBeforeTrace result → input.new ≡ input.old }
+    ensures kept { AreKept (W.Trace file.now entry.now out.now (room_of room)) (Some out.now) (F.files folder.old)
+        (F.files folder.new) result }
+    ensures counted { IsCounted (F.files folder.old) (Rose (F.faults folder.old) (F.faults folder.new)) result }
     ensures understood { IsBeforeSource result → ⊥ }
 {
     match fetch_source(alloc, folder, file) {
@@ -73,6 +76,7 @@ pub fn replay<F: Folder>(
 ) -> Result<Vec<u8>, Failure>
     ensures outcome { (left : Option (List ℕ)) → FileOutcome (W.Replay name.now step) (F.files folder.old) left
         (Rose (F.faults folder.old) (F.faults folder.new)) ⊥ (end_of result) }
+    ensures counted { IsCounted (F.files folder.old) (Rose (F.faults folder.old) (F.faults folder.new)) result }
     ensures understood { IsBeforeSource result → ⊥ }
     ensures files { F.files folder.new ≡ F.files folder.old }
 {

@@ -1,8 +1,9 @@
 // The library: four programs as texts, and the table of their names.
 #![tactic(auto)]
 
-ghost use Rattle.std.specs.Prelude.{◌↔◌, IsSome};
+ghost use Rattle.std.specs.Prelude.{◌↔◌, IsSome, IfSome};
 ghost use Rattle.fip_library.specs.Names.{IsTextName};
+ghost use Rattle.fip_library.specs.Texts.{IsText};
 
 mod finger;
 mod list;
@@ -12,6 +13,7 @@ mod tree;
 /// The text of a library program; None exactly for a name other than `list`, `tree`, `rbtree` and `finger`.
 pub fn text(name: &str) -> Option<&'static str>
     ensures named { IsSome result ↔ IsTextName name.now }
+    ensures text { IfSome result (λ t. IsText name.now t.now) }
 {
     match name {
         "list" => Some(list::TEXT),

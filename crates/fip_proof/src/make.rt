@@ -4,12 +4,17 @@
 // The walk goes down from what a function owns. Of what is there an expression asks for the variables that occur in it
 // and for the credits that it needs. Of a let's own variables those that the bound expression uses up go there, all
 // others to the rest, and the bound expression may lend them.
+ghost use Rattle.std.specs.Prelude.{◌≡◌, IfOk, OnOk};
+ghost use Rattle.derivation_trees.specs.Building.{built};
+ghost use Rattle.derivation_trees.specs.WholeTrees.{IsTree, AreTrees};
+ghost use Rattle.fip_proof.specs.Growing.{closed_times, Opens, Grows, GrowsAll, Awaits, AwaitsOne};
+
 use crate::uses::{Stretch, Uses, add_argument, add_pattern, credits_of, marked};
 use derivation_trees::{Builder, Derivation, Line, RuleName};
 use fip_base::core_form::MatchKind;
-use fip_base::plain::{FunKind, NoMemory};
+use fip_base::plain::{FunKind, NoMemory, Param};
 use fip_trees::program::{
-    Argument, Binder, Block, Clause, Expression, Instance, Pattern, Program, Typed,
+    Argument, Binder, Binding, Block, Clause, Expression, Instance, Pattern, Program, Typed,
 };
 use fip_trees::scalars::Scalars;
 use fip_trees::sizes::Sizes;
@@ -18,7 +23,10 @@ use std::alloc::Global;
 
 /// The derivation of a typed program, which is asked to break no rule on ownership and credits. NoMemory: no memory is
 /// left.
-pub fn derive(alloc: Global, typed: &Typed) -> Result<Derivation, NoMemory> {
+#[tactic(auto, using(crate::proofs::Growing::trees_more))]
+pub fn derive(alloc: Global, typed: &Typed) -> Result<Derivation, NoMemory>
+    ensures trees { IfOk result (λ d. AreTrees d.lines.items) }
+{
     let program = &typed.program;
     let scalars = Scalars::of(alloc, &program.types)?;
     let mut lines = Vec::new(alloc);
@@ -35,6 +43,7 @@ pub fn derive(alloc: Global, typed: &Typed) -> Result<Derivation, NoMemory> {
 
 /// The derivation of an instance. TooLong: its text has more bytes than there is room, so many that its variables and
 /// nodes alone need them. NoMemory: no memory is left.
+#[tactic(auto, using(crate::proofs::Growing::line_is, crate::proofs::Growing::closed_up))]
 pub fn line_of(
     alloc: Global,
     program: &Program,
@@ -42,7 +51,10 @@ pub fn line_of(
     number: usize,
     instance: &Instance,
     room: usize,
-) -> Result<Line, TextError> {
+) -> Result<Line, TextError>
+    ensures tree { IfOk result (λ l. IsTree l) }
+    ensures instance { IfOk result (λ l. l.instance ≡ number) }
+{
     let mut walk = Walk {
         alloc,
         program,
@@ -114,14 +126,18 @@ impl Walk<'_> {
     }
 
     // What the next expression asks for; the one behind is the next.
-    fn enter(&mut self) -> Asked {
+    fn enter(&mut self) -> Asked
+        ensures same { self.new.nodes ≡ self.old.nodes }
+    {
         let asked = self.asked_by(self.expression);
         self.expression = self.expression.saturating_add(1);
         asked
     }
 
     // One more node.
-    fn open(&mut self, rule: RuleName, owned: Owned) -> Result<(), TextError> {
+    fn open(&mut self, rule: RuleName, owned: Owned) -> Result<(), TextError>
+        ensures opened { OnOk result (Opens (built self.old.nodes) (built self.new.nodes)) }
+    {
         let cost = owned.variables.len().saturating_add(1);
         self.room = self.room.checked_sub(cost).ok_or(TextError::TooLong)?;
         let credits = credits_of(self.alloc, &owned.credits)?;
@@ -131,24 +147,27 @@ impl Walk<'_> {
 
     // A node that uses up what is asked of what is there, below one that weakens where that is less: how many nodes
     // were opened.
-    fn open_asked(
-        &mut self,
-        rule: RuleName,
-        there: Owned,
-        asked: Asked,
-    ) -> Result<usize, TextError> {
+    #[tactic(auto, using(crate::proofs::Growing::awaits_one, crate::proofs::Growing::awaits_two))]
+    fn open_asked(&mut self, rule: RuleName, there: Owned, asked: Asked) -> Result<usize, TextError>
+        ensures awaits { IfOk result (λ n. Awaits n (built self.old.nodes) (built self.new.nodes)) }
+    {
         let variables = self.those_in(&there.variables, asked.stretch)?;
         let is_all = variables.len() == there.variables.len() && there.credits == asked.need;
-        if !is_all {
-            self.open(RuleName::Weaken, there)?;
-        }
         let credits = asked.need;
+        if is_all {
+            self.open(rule, Owned { variables, credits })?;
+            return Ok(1);
+        }
+        self.open(RuleName::Weaken, there)?;
         self.open(rule, Owned { variables, credits })?;
-        Ok(if is_all { 1 } else { 2 })
+        Ok(2)
     }
 
-    fn close(&mut self, nodes: usize) {
-        for _ in 0..nodes {
+    #[tactic(auto, using(crate::proofs::Growing::close_none, crate::proofs::Growing::close_next))]
+    fn close(&mut self, nodes: usize)
+        ensures closed { built self.new.nodes ≡ closed_times nodes (built self.old.nodes) }
+    {
+        for i in 0..nodes {
             self.nodes.close();
         }
     }
@@ -199,49 +218,68 @@ impl Walk<'_> {
     }
 
     #[cycle(block)]
-    fn block(&mut self, block: &Block, owned: Owned) -> Result<(), TextError> {
+    #[tactic(auto, using(crate::proofs::Growing::waiting))]
+    fn block(&mut self, block: &Block, owned: Owned) -> Result<(), TextError>
+        ensures grows { OnOk result (Grows (built self.old.nodes) (built self.new.nodes)) }
+    {
         let mut asked = self.enter();
         let mut there = owned;
         let mut opened: usize = 0;
         for binding in &block.bindings {
-            let nodes = self.open_asked(RuleName::Let, there, asked)?;
-            opened = opened.saturating_add(nodes);
-            let bound = self.asked_by(self.expression);
-            asked.need.less(&bound.need);
-            asked.stretch.first = bound.stretch.end;
-            let used = self.parted(bound.stretch, true)?;
-            let mut left = self.parted(bound.stretch, false)?;
-            for binder in &binding.binders {
-                self.bind(binder, &mut left)?;
-            }
-            there = Owned {
-                variables: left,
-                credits: asked.need,
-            };
-            self.expression(
-                &binding.bound,
-                Owned {
-                    variables: used,
-                    credits: bound.need,
-                },
-            )?;
+            let (nodes, left) = self.binding(binding, there, &mut asked)?;
+            there = left;
+            opened = opened.checked_add(nodes).ok_or(TextError::NoMemory)?;
         }
         self.expression(&block.last, there)?;
         self.close(opened);
         Ok(())
     }
 
+    // A binding of a block that asks for so much: how many nodes were opened, and what is there for the rest.
     #[cycle(block)]
-    fn expression(&mut self, expression: &Expression, owned: Owned) -> Result<(), TextError> {
+    #[tactic(auto, using(crate::proofs::Growing::awaits_rest))]
+    fn binding(
+        &mut self,
+        binding: &Binding,
+        there: Owned,
+        asked: &mut Asked,
+    ) -> Result<(usize, Owned), TextError>
+        ensures awaits { IfOk result (λ r. AwaitsOne r.0 (built self.old.nodes) (built self.new.nodes)) }
+    {
+        let nodes = self.open_asked(RuleName::Let, there, *asked)?;
+        let bound = self.asked_by(self.expression);
+        asked.need.less(&bound.need);
+        asked.stretch.first = bound.stretch.end;
+        let used = self.parted(bound.stretch, true)?;
+        let mut variables = self.parted(bound.stretch, false)?;
+        for binder in &binding.binders {
+            self.bind(binder, &mut variables)?;
+        }
+        self.expression(
+            &binding.bound,
+            Owned {
+                variables: used,
+                credits: bound.need,
+            },
+        )?;
+        Ok((
+            nodes,
+            Owned {
+                variables,
+                credits: asked.need,
+            },
+        ))
+    }
+
+    #[cycle(block)]
+    #[tactic(auto, using(crate::proofs::Growing::awaited, crate::proofs::Growing::grows_first))]
+    fn expression(&mut self, expression: &Expression, owned: Owned) -> Result<(), TextError>
+        ensures grows { OnOk result (Grows (built self.old.nodes) (built self.new.nodes)) }
+    {
         match expression {
             Expression::Give(argument) => self.give(argument, owned),
             Expression::Tuple { arguments, .. } => self.tuple(arguments, owned),
-            Expression::Operation { .. } => {
-                let asked = self.enter();
-                let opened = self.open_asked(RuleName::Scalar, owned, asked)?;
-                self.close(opened);
-                Ok(())
-            }
+            Expression::Operation { .. } => self.operation(owned),
             Expression::Call {
                 callee,
                 arguments,
@@ -270,7 +308,20 @@ impl Walk<'_> {
         }
     }
 
-    fn tuple(&mut self, arguments: &[Argument], owned: Owned) -> Result<(), TextError> {
+    #[tactic(auto, using(crate::proofs::Growing::awaited_none))]
+    fn operation(&mut self, owned: Owned) -> Result<(), TextError>
+        ensures grows { OnOk result (Grows (built self.old.nodes) (built self.new.nodes)) }
+    {
+        let asked = self.enter();
+        let opened = self.open_asked(RuleName::Scalar, owned, asked)?;
+        self.close(opened);
+        Ok(())
+    }
+
+    #[tactic(auto, using(crate::proofs::Growing::awaited))]
+    fn tuple(&mut self, arguments: &[Argument], owned: Owned) -> Result<(), TextError>
+        ensures grows { OnOk result (Grows (built self.old.nodes) (built self.new.nodes)) }
+    {
         let asked = self.enter();
         let opened = self.open_asked(RuleName::Tuple, owned, asked)?;
         self.arguments(arguments)?;
@@ -300,7 +351,9 @@ impl Walk<'_> {
         taken: Option<u32>,
         credits: Sizes,
         clause: &Clause,
-    ) -> Result<(), TextError> {
+    ) -> Result<(), TextError>
+        ensures grows { OnOk result (Grows (built self.old.nodes) (built self.new.nodes)) }
+    {
         let mut owned = Owned {
             variables: self.all_but(node, taken)?,
             credits,
@@ -313,13 +366,16 @@ impl Walk<'_> {
     }
 
     #[cycle(block)]
+    #[tactic(auto, using(crate::proofs::Growing::grows_none, crate::proofs::Growing::grows_more))]
     fn clauses(
         &mut self,
         node: usize,
         taken: Option<u32>,
         credits: Sizes,
         clauses: &[Clause],
-    ) -> Result<(), TextError> {
+    ) -> Result<(), TextError>
+        ensures grows { OnOk result (GrowsAll (built self.old.nodes) (built self.new.nodes)) }
+    {
         for clause in clauses {
             self.clause(node, taken, credits, clause)?;
         }
@@ -337,23 +393,39 @@ impl Walk<'_> {
         Ok(found)
     }
 
-    fn call(&mut self, callee: u32, arguments: &[Argument], owned: Owned) -> Result<(), TextError> {
+    #[tactic(auto, using(crate::proofs::Growing::awaited, crate::proofs::Growing::awaited_none))]
+    fn call(&mut self, callee: u32, arguments: &[Argument], owned: Owned) -> Result<(), TextError>
+        ensures grows { OnOk result (Grows (built self.old.nodes) (built self.new.nodes)) }
+    {
         let asked = self.enter();
         let opened = self.open_asked(RuleName::Call, owned, asked)?;
         let program = self.program;
         if let Some(instance) = program.instance(callee) {
-            for (argument, param) in arguments.iter().zip(instance.params.as_slice().iter()) {
-                if !param.lent && !program.is_scalar(param.ty) {
-                    self.argument(argument)?;
-                }
-            }
+            self.passed(arguments, instance.params.as_slice())?;
         }
         self.close(opened);
         Ok(())
     }
 
+    // The arguments of a call in owned positions that aren't scalar.
+    #[tactic(auto, using(crate::proofs::Growing::grows_none, crate::proofs::Growing::grows_more))]
+    fn passed(&mut self, arguments: &[Argument], params: &[Param]) -> Result<(), TextError>
+        ensures grows { OnOk result (GrowsAll (built self.old.nodes) (built self.new.nodes)) }
+    {
+        let program = self.program;
+        for (argument, param) in arguments.iter().zip(params.iter()) {
+            if !param.lent && !program.is_scalar(param.ty) {
+                self.argument(argument)?;
+            }
+        }
+        Ok(())
+    }
+
     // An argument as a result, of what is there.
-    fn give(&mut self, argument: &Argument, owned: Owned) -> Result<(), TextError> {
+    #[tactic(auto, using(crate::proofs::Growing::awaited, crate::proofs::Growing::awaited_none))]
+    fn give(&mut self, argument: &Argument, owned: Owned) -> Result<(), TextError>
+        ensures grows { OnOk result (Grows (built self.old.nodes) (built self.new.nodes)) }
+    {
         let asked = self.enter();
         let opened = self.open_asked(self.rule_of(argument), owned, asked)?;
         if let Argument::Constructor { arguments, .. } = argument {
@@ -390,7 +462,10 @@ impl Walk<'_> {
 
     // Each argument uses up its own variables and credits.
     #[cycle(argument)]
-    fn arguments(&mut self, arguments: &[Argument]) -> Result<(), TextError> {
+    #[tactic(auto, using(crate::proofs::Growing::grows_none, crate::proofs::Growing::grows_more))]
+    fn arguments(&mut self, arguments: &[Argument]) -> Result<(), TextError>
+        ensures grows { OnOk result (GrowsAll (built self.old.nodes) (built self.new.nodes)) }
+    {
         for argument in arguments {
             self.argument(argument)?;
         }
@@ -398,7 +473,10 @@ impl Walk<'_> {
     }
 
     #[cycle(argument)]
-    fn argument(&mut self, argument: &Argument) -> Result<(), TextError> {
+    #[tactic(auto, using(crate::proofs::Growing::awaiting))]
+    fn argument(&mut self, argument: &Argument) -> Result<(), TextError>
+        ensures grows { OnOk result (Grows (built self.old.nodes) (built self.new.nodes)) }
+    {
         let mut owned = Owned {
             variables: Vec::new(self.alloc),
             credits: Sizes::none(),

@@ -1,5 +1,5 @@
 -- What stands round an expression: the variables of its frames.
-use Rattle.std.proofs.Common.{◌≡◌, ℕ, zero, suc, ◌<◌, ◌≤◌, ◌+◌, ◌-◌, refl, sym, ap, ◌∙◌, subst, List, [], ◌∷◌, ◌++◌, length, get_or, take, drop, map, Option, Some, None, Bool, true, false, not, ◌&&◌, ◌||◌, arith, nat_eq, Bor}
+use Rattle.std.proofs.Common.{◌≡◌, ℕ, zero, suc, ◌<◌, ◌≤◌, ◌+◌, ◌-◌, refl, sym, ap, ◌∙◌, subst, List, [], ◌∷◌, ◌++◌, length, get_or, take, drop, map, Option, Some, None, Bool, true, false, not, ◌&&◌, ◌||◌, arith, nat_eq, Bor, ◌⊎◌, inl, inr}
 use Rattle.std.specs.Prelude.{slice_get, if◌then◌else◌, ◌==◌}
 use Rattle.std.proofs.lemmas.Bool.Decides.{nat_tests}
 use Rattle.fip_base.specs.declared.plain.Param.{Param}
@@ -341,6 +341,70 @@ starts_at c d bs j own h o l e =
       next = g.next;
       bound = g.bound;
     }
+
+-- ---- the only binding that can have a number
+
+named_none : (c d e : ℕ) (own : Bool) (bs : List Binder) (x : ℕ) → AreNumbered c e bs → (x < c) ⊎ (c + length bs ≤ x) → known (named d own bs) x ≡ None
+named_none c d e own [] x h l = refl
+named_none c d e own (b ∷ bs) x h l =
+    let k = h.0 in
+    let n : b.number ≡ x → ⊥ = λ q. elim l as (λ z. ⊥) [ inl m ↦ omega arith | inr m ↦ omega arith ] in
+    let t : nat_eq b.number x ≡ false = grind (arith, nat_tests) in
+    let r = named_none (c + 1) (d + 1) (e + 1) own bs x h.2 (elim l as (λ z. (x < c + 1) ⊎ (c + 1 + length bs ≤ x)) [ inl m ↦ inl (omega arith) | inr m ↦ inr (omega arith) ]) in cc
+
+-- binders that a number isn't among
+bound_none : (c d e : ℕ) (bs : List Binder) (s : Scope) (x : ℕ) → AreNumbered c e bs → (x < c) ⊎ (c + length bs ≤ x) → known (binding d true bs s).variables x ≡ known s.variables x
+bound_none c d e bs s x h l = known_append (named d true bs) s.variables x (named_none c d e true bs x h l)
+
+none_from : (c d : ℕ) (bs : List BoundPart) (x : ℕ) → AreBindings c d bs → x < c → (s : Scope) → known (bindings d bs s).variables x ≡ known s.variables x
+none_from c d [] x h l s = refl
+none_from c d (b ∷ bs) x h l s =
+    none_from (c + within b.bound + length b.binders) (d + within b.bound + length b.binders) bs x h.3 (omega arith) (binding d true b.binders s)
+    ∙ bound_none (c + within b.bound) d d b.binders s x h.1 (inl (omega arith))
+
+same_first : (f g d e : ℕ) (bs : List Binder) → AreNumbered f d bs → AreNumbered g e bs → 0 < length bs → f ≡ g
+same_first f g d e [] h k l = absurd (omega arith)
+same_first f g d e (b ∷ bs) h k l = sym h.0 ∙ k.0
+
+-- from a binding on whose first number is greater, none has it
+after_none : (c d : ℕ) (bs : List BoundPart) (m x f e : ℕ) (b : BoundPart) → AreBindings c d bs → slice_get bs m ≡ Some b → AreNumbered f e b.binders → 0 < length b.binders → x < f → (s : Scope) → known (bindings d bs s).variables x ≡ known (bindings d (take m bs) s).variables x
+after_none c d [] m x f e b h k n z l s = absurd (cc)
+after_none c d (a ∷ bs) zero x f e b h k n z l s =
+    let i : a ≡ b = some_one k in
+    let g : f ≡ c + within a.bound = same_first f (c + within a.bound) e d a.binders (subst (λ (v : BoundPart). AreNumbered f e v.binders) (sym i) n) h.1 h.0 in
+    none_from (c + within a.bound + length a.binders) (d + within a.bound + length a.binders) bs x h.3 (omega arith) (binding d true a.binders s)
+    ∙ bound_none (c + within a.bound) d d a.binders s x h.1 (inl (omega arith))
+after_none c d (a ∷ bs) (suc m) x f e b h k n z l s = after_none (c + within a.bound + length a.binders) (d + within a.bound + length a.binders) bs m x f e b h.3 k n z l (binding d true a.binders s)
+
+least_first : (c d : ℕ) (bs : List BoundPart) (m f e : ℕ) (b : BoundPart) → AreBindings c d bs → slice_get bs m ≡ Some b → AreNumbered f e b.binders → 0 < length b.binders → c ≤ f
+least_first c d [] m f e b h k n z = absurd (cc)
+least_first c d (a ∷ bs) zero f e b h k n z =
+    let i : a ≡ b = some_one k in
+    let g : f ≡ c + within a.bound = same_first f (c + within a.bound) e d a.binders (subst (λ (v : BoundPart). AreNumbered f e v.binders) (sym i) n) h.1 h.0 in omega arith
+least_first c d (a ∷ bs) (suc m) f e b h k n z = let g = least_first (c + within a.bound + length a.binders) (d + within a.bound + length a.binders) bs m f e b h.3 k n z in omega arith
+
+-- and before a binding whose first number isn't greater
+before_none : (c d : ℕ) (bs : List BoundPart) (m x f e : ℕ) (b : BoundPart) → AreBindings c d bs → slice_get bs m ≡ Some b → AreNumbered f e b.binders → 0 < length b.binders → f ≤ x → (s : Scope) → known (bindings d (take m bs) s).variables x ≡ known s.variables x
+before_none c d [] m x f e b h k n z l s = absurd (cc)
+before_none c d (a ∷ bs) zero x f e b h k n z l s = refl
+before_none c d (a ∷ bs) (suc m) x f e b h k n z l s =
+    let g = least_first (c + within a.bound + length a.binders) (d + within a.bound + length a.binders) bs m f e b h.3 k n z in
+    before_none (c + within a.bound + length a.binders) (d + within a.bound + length a.binders) bs m x f e b h.3 k n z l (binding d true a.binders s)
+    ∙ bound_none (c + within a.bound) d d a.binders s x h.1 (inr (omega arith))
+
+pub begun_after : (c d : ℕ) (bs : List N.Binding) (m x f : ℕ) (own : List Binder) → AreBindings c d (map V.binding bs) → c ≤ d → m < length bs → ((b : BoundPart) → slice_get (map V.binding bs) m ≡ Some b → b.binders ≡ own) → ((z : Binder) → (get_or own 0 z).number ≡ f) → x < f → (s : Scope) → known (bindings d (map V.binding bs) s).variables x ≡ known (bindings d (take m (map V.binding bs)) s).variables x
+begun_after c d bs m x f own h o l e k q s =
+    let b = some_binding bs m l in
+    let g = starts_at c d bs m own h o l e in
+    let i = g.is_first f k in
+    after_none c d (map V.binding bs) m x g.first (start d (map V.binding bs) m) b.0 h b.1 (subst (AreNumbered g.first (start d (map V.binding bs) m)) (sym (e b.0 b.1)) g.numbered) (subst (λ (ys : List Binder). 0 < length ys) (sym (e b.0 b.1)) g.some) (omega arith) s
+
+pub begun_before : (c d : ℕ) (bs : List N.Binding) (m x f : ℕ) (own : List Binder) → AreBindings c d (map V.binding bs) → c ≤ d → m < length bs → ((b : BoundPart) → slice_get (map V.binding bs) m ≡ Some b → b.binders ≡ own) → ((z : Binder) → (get_or own 0 z).number ≡ f) → f ≤ x → (s : Scope) → known (bindings d (take m (map V.binding bs)) s).variables x ≡ known s.variables x
+begun_before c d bs m x f own h o l e k q s =
+    let b = some_binding bs m l in
+    let g = starts_at c d bs m own h o l e in
+    let i = g.is_first f k in
+    before_none c d (map V.binding bs) m x g.first (start d (map V.binding bs) m) b.0 h b.1 (subst (AreNumbered g.first (start d (map V.binding bs) m)) (sym (e b.0 b.1)) g.numbered) (subst (λ (ys : List Binder). 0 < length ys) (sym (e b.0 b.1)) g.some) (omega arith) s
 
 -- ---- the first of some binders
 

@@ -2,7 +2,7 @@
 //
 // A binder's number in a program is that of the core form, where the binders inside what a let binds come before the
 // let's own. In a derivation the let's own come first.
-ghost use Rattle.std.specs.Prelude.{◌≡◌, ◌<◌, ◌≤◌, ◌∷◌, ◌&&◌, not, []};
+ghost use Rattle.std.specs.Prelude.{◌≡◌, ◌<◌, ◌≤◌, ◌-◌, ◌∷◌, ◌&&◌, not, [], take};
 ghost use Rattle.std.specs.Prelude.{ℕ, Some, None, true, IfSome, IfNone, map, length};
 ghost use Rattle.std.specs.Prelude.{get_or, slice_get};
 ghost use Rattle.fip_trees.specs.declared.program.Binder.{Binder};
@@ -227,7 +227,7 @@ fn if_numbered<'a>(binder: &'a Binder, number: usize) -> Option<&'a Binder>
     }
 }
 
-// The variable of a binder of some bindings, looked for from the last one on.
+// The variable of a binder of some bindings.
 #[tactic(auto, using(crate::proofs::Frames::searching))]
 fn in_bindings(bindings: &[Binding], binder: usize, core: usize, next: usize) -> Option<Variable>
     requires numbered { AreBindings core next (map V.binding bindings.now) }
@@ -238,17 +238,38 @@ fn in_bindings(bindings: &[Binding], binder: usize, core: usize, next: usize) ->
     ensures none { IfNone result ((s : S.Scope) → known (behind next (map V.binding bindings.now) s).variables binder
         ≡ known s.variables binder) }
 {
-    let mut left = bindings.len();
-    while left > 0 {
-        left -= 1;
-        match in_binding(bindings, left, binder, core, next) {
-            None => {}
-            Some(found) => {
-                return Some(found);
-            }
+    let count = begun(bindings, binder, core, next);
+    if count == 0 {
+        return None;
+    }
+    match in_binding(bindings, count - 1, binder, core, next) {
+        None => None,
+        Some(found) => Some(found),
+    }
+}
+
+// How many bindings begin with a binder of this number or a lower one: only the last of them can have it.
+fn begun(bindings: &[Binding], binder: usize, core: usize, next: usize) -> usize
+    requires numbered { AreBindings core next (map V.binding bindings.now) }
+    requires order { core ≤ next }
+    ensures within { result ≤ length bindings.now }
+    ensures behind { (s : S.Scope) → known (behind next (map V.binding bindings.now) s).variables binder
+        ≡ known (behind next (take result (map V.binding bindings.now)) s).variables binder }
+    ensures before { 0 < result → (s : S.Scope) →
+        known (behind next (take (result - 1) (map V.binding bindings.now)) s).variables binder
+        ≡ known s.variables binder }
+{
+    let mut low: usize = 0;
+    let mut high = bindings.len();
+    while low < high {
+        let middle = low + (high - low) / 2;
+        if first_of(binders_of(bindings, middle)) <= binder {
+            low = middle + 1;
+        } else {
+            high = middle;
         }
     }
-    None
+    low
 }
 
 // The variable of a binder of the binding at a place.

@@ -8,8 +8,9 @@ use Rattle.fip_language.specs.Prefix.{IsPlace}
 use Rattle.cell_code.specs.declared.code.Code.{Code}
 use Rattle.cell_code.specs.declared.code.Function.{Function}
 use Rattle.cell_code.specs.declared.kind.Label.{Label}
-use Rattle.code_file.specs.CodeText.{IsFileOf}
-use Rattle.code_file.specs.Plain.{plain_code, plain_function, plain_label}
+use Rattle.code_file.specs.CodeText.{CodeText, IsFileOf}
+use Rattle.code_file.specs.declared.tags.Version.TheVariants.{Second}
+use Rattle.code_file.specs.Plain.{PlainCode, plain_code, plain_function, plain_label}
 use Rattle.code_verify.specs.Checked.{Checked}
 use Rattle.sound_code.specs.Breaks.{IsLeast, IsSound}
 use Rattle.sound_code.specs.Codes as S
@@ -52,6 +53,10 @@ unsound_file bytes code f le spelt h = absurd h
 pub file_unsound : (bytes : List ℕ) (code : Code) (o : Result Checked Failure) → length bytes ≤ 16777216 → IsFileOf bytes (plain_code code) → IfErr o (IsLeastOf (S.plain code)) → IfErr o (KeepsFromCode bytes)
 file_unsound bytes code (Ok v) le spelt h = tt
 file_unsound bytes code (Err f) le spelt h = unsound_file bytes code f le spelt h
+
+-- the file of a sound code
+pub sound_file : (bytes : List ℕ) (code : Code) → CodeText bytes Second (plain_code code) → length bytes ≤ 16777216 → IsSound (S.plain code) → (c : PlainCode) × IsSoundFile bytes c
+sound_file bytes code spelt le sound = (plain_code code, record { short = le; spelt = (Second, spelt); sound = subst IsSound (sym (view_same code)) sound })
 
 -- ---- the lines
 

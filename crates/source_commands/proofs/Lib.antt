@@ -1,4 +1,5 @@
 pub mod Told
+pub mod Judging
 pub mod Roots
 pub mod Once
 pub mod CodeFiles

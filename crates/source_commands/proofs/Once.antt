@@ -11,12 +11,14 @@ use Rattle.call_groups.specs.Stacks.{AreStacks, HasFrame, frames_in, words_in, n
 use Rattle.tail_groups.specs.Members.{AreMembers, FipCallsFip, frame, stack}
 use Rattle.tail_groups.specs.Sites.{call_rows}
 use Rattle.source_report.specs.Report.{IsAccepted, Reports}
-use Rattle.source_report.specs.Same.{AreSame}
+use Rattle.fip_language.specs.declared.Place.{Place}
+use Rattle.source_report.specs.Same.{AreSame, offset}
 use Rattle.source_report.proofs.FipCalls.{fip_calls}
 use Rattle.source_report.proofs.Once.{accepted_once, accepted_not, reported_once}
 use Rattle.std.proofs.lemmas.Option.{none-some, same_Some, get_or_from_slice_get}
+use Rattle.source_commands.specs.Places.{place_at, placed_at, placed}
 use Rattle.source_commands.specs.Roots.{held, root_line, root_lines, root_named, IsListing}
-use Rattle.source_commands.specs.Wanted.{Wanted, Lawful, Root, Compiled, MissesRoot, MissesCode, Misses, Refuses, IsRoot, IsCompiled, Has, IsReady}
+use Rattle.source_commands.specs.Wanted.{Wanted, Lawful, Root, Compiled, MissesRoot, MissesCode, Misses, IsReport, Refuses, IsRoot, IsCompiled, Has, IsReady}
 
 -- ---- stack numbers
 
@@ -79,8 +81,20 @@ listing_ready source text h = record { program = h.program; accepted = h.accepte
 
 -- ---- the refusal
 
-same_again : (q r : Refusal) → q ≡ r → AreSame q r
-same_again q r e = subst (AreSame q) e (record { rule = refl; offset = refl; size = refl; detail = refl })
+-- the line and the column are those of the offset
+placed_at_once : (source : List ℕ) (p q : Option Place) → offset p ≡ offset q → placed_at source p ≡ placed_at source q
+placed_at_once source None None e = refl
+placed_at_once source None (Some q) e = absurd (none-some q.at e)
+placed_at_once source (Some p) None e = absurd (none-some p.at (sym e))
+placed_at_once source (Some p) (Some q) e = ap (λ n. Some (place_at source n)) (same_Some p.at q.at e)
+
+placed_once : (source : List ℕ) (q r : Refusal) → AreSame q r → placed source q ≡ placed source r
+placed_once source q r h =
+    let places = placed_at_once source q.place r.place h.offset in
+    λ i. record { rule = h.rule i; place = places i; size = h.size i; detail = h.detail i }
+
+pub report_once : (source : List ℕ) (q r : Refusal) → IsReport source q → IsReport source r → q ≡ r
+report_once source q r h k = h.2 ∙ placed_once source h.0 k.0 (reported_once source h.0 k.0 h.1 k.1) ∙ sym k.2
 
 misses_once : (w : Wanted) (p : Program) (q r : Refusal) → Misses w p q → Misses w p r → q ≡ r
 misses_once Lawful p q r h k = absurd h
@@ -108,14 +122,14 @@ misses_or_has (Compiled name) p r h k = by (root_named name p.instances) h k
     by None h k = k
     by (Some d) h k = k h.0
 
-pub refused_once : (source : List ℕ) (w : Wanted) (q r : Refusal) → Refuses source w q → Refuses source w r → AreSame q r
-refused_once source w q r (inl h) (inl k) = reported_once source q r h k
-refused_once source w q r (inl h) (inr (p, a, k)) = absurd (accepted_not source p q a h)
-refused_once source w q r (inr (p, a, h)) (inl k) = absurd (accepted_not source p r a k)
+pub refused_once : (source : List ℕ) (w : Wanted) (q r : Refusal) → Refuses source w q → Refuses source w r → q ≡ r
+refused_once source w q r (inl h) (inl k) = report_once source q r h k
+refused_once source w q r (inl h) (inr (p, a, k)) = absurd (accepted_not source p h.0 a h.1)
+refused_once source w q r (inr (p, a, h)) (inl k) = absurd (accepted_not source p k.0 a k.1)
 refused_once source w q r (inr (p, a, h)) (inr (o, b, k)) =
-    same_again q r (misses_once w o q r (subst (λ p. Misses w p q) (accepted_once source p o a b) h) k)
+    misses_once w o q r (subst (λ p. Misses w p q) (accepted_once source p o a b) h) k
 
 pub refused_not_ready : (source : List ℕ) (w : Wanted) (r : Refusal) → Refuses source w r → IsReady source w → ⊥
-refused_not_ready source w r (inl h) k = accepted_not source k.program r k.accepted h
+refused_not_ready source w r (inl h) k = accepted_not source k.program h.0 k.accepted h.1
 refused_not_ready source w r (inr (p, a, h)) k =
     misses_or_has w k.program r (subst (λ p. Misses w p r) (accepted_once source p k.program a k.accepted) h) k.has

@@ -1,4 +1,5 @@
 pub mod Roots
+pub mod Places
 pub mod Wanted
 pub mod Entries
 pub mod Judged

@@ -11,6 +11,7 @@ use Rattle.fip_trees.specs.Tree.{Instance, Program}
 use Rattle.command_outcome.specs.declared.failure.Failure.{Failure}
 use Rattle.command_outcome.specs.declared.failure.Failure.TheVariants as F
 use Rattle.source_report.specs.Report.{bare, IsAccepted, Reports}
+use Rattle.source_commands.specs.Places.{placed}
 use Rattle.source_commands.specs.Roots.{root_named}
 
 pub data Wanted : Type 0 where
@@ -41,9 +42,13 @@ Misses Lawful p r = ⊥
 Misses (Root name) p r = MissesRoot (root_named name p.instances) name r
 Misses (Compiled name) p r = MissesCode (root_named name p.instances) name r
 
+-- The source's report as it is told: with the line and the column of its offset.
+abbrev pub IsReport : List ℕ → Refusal → Type 0
+IsReport source r = (q : Refusal) × Reports source q × (r ≡ placed source q)
+
 -- The source is refused: this is its report; or it has none, and misses what is wanted.
 abbrev pub Refuses : List ℕ → Wanted → Refusal → Type 0
-Refuses source w r = Reports source r ⊎ ((p : Program) × IsAccepted source p × Misses w p r)
+Refuses source w r = IsReport source r ⊎ ((p : Program) × IsAccepted source p × Misses w p r)
 
 -- ---- a source that has it
 
@@ -80,15 +85,18 @@ IsUnsound (F.Unsound function at rule) = Unit {0}
 IsUnsound F.NoMemory = Unit {0}
 IsUnsound failure = ⊥
 
--- What is said in place of what is wanted, or want of memory. No clause says yet that the code of an accepted source is
--- sound and has a function for each root that isn't plain: were it not so, it would be told as unsound.
+-- What is said in place of what is wanted, or want of memory.
 abbrev pub KeepsFrom : List ℕ → Wanted → Failure → Type 0
-KeepsFrom source w (F.Refused r) = Refuses source w r
-KeepsFrom source w (F.Unsound function at rule) = (p : Program) × IsAccepted source p
-KeepsFrom source w F.NoMemory = Unit {0}
-KeepsFrom source w failure = ⊥
+KeepsFrom source w failure = IsRefusedBy (Refuses source w) failure
 
--- The same; or the source has all, and what is made of it is too long a file, by this rule.
-abbrev pub KeepsFromFile : List ℕ → Rule → Failure → Type 0
-KeepsFromFile source rule failure = KeepsFrom source Lawful failure
-    ⊎ (IsReady source Lawful × IsRefusedBy (λ r. r ≡ bare rule) failure)
+-- The same of what is wanted with its code verified. No clause says yet that the code of an accepted source is sound
+-- and has a function for each root that isn't plain: were it not so, it would be told as unsound.
+abbrev pub KeepsFromVerified : List ℕ → Wanted → Failure → Type 0
+KeepsFromVerified source w (F.Refused r) = Refuses source w r
+KeepsFromVerified source w (F.Unsound function at rule) = IsReady source w
+KeepsFromVerified source w F.NoMemory = Unit {0}
+KeepsFromVerified source w failure = ⊥
+
+-- The source has all, and what is made of it is too long a file, by this rule; or memory is wanting.
+abbrev pub IsLongFor : List ℕ → Rule → Failure → Type 0
+IsLongFor source rule failure = IsReady source Lawful × IsRefusedBy (λ r. r ≡ bare rule) failure

@@ -1,20 +1,20 @@
 // Derivations that a program keeps the discipline of ownership: made for it, and judged.
-ghost use Rattle.std.specs.Prelude.{◌≡◌, IfOk, IfErr};
+ghost use Rattle.std.specs.Prelude.{◌≡◌, ◌⊎◌, OnOk, IfOk, IfErr};
 ghost use Rattle.std.specs.Fmt.{decimal};
 ghost use Rattle.fip_language.specs.declared.rule.Rule.TheVariants.{E72, E74};
 ghost use Rattle.command_outcome.specs.Stages.{IsOfSource};
 ghost use Rattle.command_outcome.specs.Successes.{derived_text};
 ghost use Rattle.source_report.specs.Report.{bare};
-ghost use Rattle.source_commands.specs.Judged.{IsJudged};
-ghost use Rattle.source_commands.specs.Wanted.{Lawful, IsReady, IsRefusedBy, KeepsFromFile, of_entry};
+ghost use Rattle.source_commands.specs.Judged.{IsJudged, IsProofFile};
+ghost use Rattle.source_commands.specs.Wanted.{Lawful, IsReady, IsRefusedBy, IsLongFor, KeepsFrom, of_entry};
 
 use crate::files::Compiled;
-use crate::phases::{bare_refusal, front};
+use crate::phases::{bare_refusal, lawful};
 use command_outcome::{Failure, derived_line};
 use fip_base::plain::{Detail, NoMemory};
 use fip_base::refusal::{Refusal, Rule};
 use fip_language::limits::MOST_FILE_BYTES;
-use fip_proof::{AuditError, TextError, derivation_text};
+use fip_proof::{ProofError, TextError, check, derivation_text, read_derivation};
 use fip_trees::program::Typed;
 use std::alloc::Global;
 
@@ -41,15 +41,15 @@ fn derivation_of(alloc: Global, typed: &Typed) -> Result<Compiled, Failure>
     }
 }
 
-/// The text of the derivation of a source that breaks no rule, and the line that it is derived. The refusals are those
-/// of `front`, and after them E74 where the text has more than 16,777,216 bytes.
+/// The text of the derivation of a source that breaks no rule, and the line that it is derived. Else the source's
+/// report, and after it E74 where the text has more than 16,777,216 bytes.
 pub fn derive(alloc: Global, source: &[u8]) -> Result<Compiled, Failure>
     ensures ready { IfOk result (λ _. IsReady source.now Lawful) }
     ensures derived { IfOk result (λ c. c.text.items ≡ derived_text) }
-    ensures kept { IfErr result (KeepsFromFile source.now E74) }
+    ensures kept { IfErr result (λ f. KeepsFrom source.now Lawful f ⊎ IsLongFor source.now E74 f) }
     ensures stage { IfErr result IsOfSource }
 {
-    match front(alloc, source) {
+    match lawful(alloc, source) {
         Ok(front) => derivation_of(alloc, &front.typed),
         Err(failure) => Err(failure),
     }
@@ -76,13 +76,22 @@ pub fn bad_proof(alloc: Global, at: usize) -> Failure
 /// the bytes are no derivation's text, or more than 16,777,216; E73 where they are no derivation of this program.
 pub fn audit(alloc: Global, typed: &Typed, proof: &[u8]) -> Result<Vec<u8>, Failure>
     ensures derived { IfOk result (λ v. v.items ≡ derived_text) }
-    ensures judged { IfErr result (IsRefusedBy IsJudged) }
+    ensures spelt { OnOk result (IsProofFile proof.now) }
+    ensures judged { IfErr result (IsRefusedBy (IsJudged proof.now)) }
     ensures stage { IfErr result IsOfSource }
 {
-    match fip_proof::audit(alloc, typed, proof) {
-        Ok(()) => Ok(derived(alloc)?),
-        Err(AuditError::BadProof { at }) => Err(bad_proof(alloc, at)),
-        Err(AuditError::NotDerived) => Err(Failure::Refused(bare_refusal(alloc, Rule::E73))),
-        Err(AuditError::NoMemory) => Err(Failure::NoMemory),
+    if proof.len() > MOST_FILE_BYTES {
+        return Err(bad_proof(alloc, MOST_FILE_BYTES));
+    }
+    match read_derivation(alloc, proof) {
+        Ok(derivation) => {
+            if check(typed, &derivation) {
+                Ok(derived(alloc)?)
+            } else {
+                Err(Failure::Refused(bare_refusal(alloc, Rule::E73)))
+            }
+        }
+        Err(ProofError::BadProof { at }) => Err(bad_proof(alloc, at)),
+        Err(ProofError::NoMemory) => Err(Failure::NoMemory),
     }
 }

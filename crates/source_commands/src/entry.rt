@@ -13,16 +13,16 @@ ghost use Rattle.source_report.specs.Report.{IsAccepted};
 ghost use Rattle.source_commands.specs.Entries.{IsRootedIn};
 ghost use Rattle.source_commands.specs.Roots as R;
 ghost use Rattle.source_commands.specs.Wanted.{Root, Compiled, MissesRoot, MissesCode, IsRoot, IsCompiled, IsReady};
-ghost use Rattle.source_commands.specs.Wanted.{IsRefusedBy, IsUnsound, KeepsFrom, of_entry};
+ghost use Rattle.source_commands.specs.Wanted.{IsRefusedBy, IsUnsound, KeepsFrom, KeepsFromVerified, of_entry};
 
-use crate::known::Front;
-use crate::phases::{code_of, front};
+use crate::phases::{code_of, lawful, verified_front};
 use cell_code::Function;
 use code_verify::{SoundRule, Verified};
 use command_outcome::Failure;
 use fip_base::plain::{Detail, FunKind};
 use fip_base::refusal::{Refusal, Rule};
 use fip_trees::program::{Instance, Typed};
+use program_front::Lowered;
 use std::alloc::Global;
 use std::marker::Model;
 
@@ -71,14 +71,43 @@ impl Ready {
 /// A program without violations, and which of its instances is evaluated.
 #[derive(Drop)]
 pub struct Evaluable {
-    pub typed: Typed,
-    pub entry: usize,
+    typed: Typed,
+    entry: usize,
+}
+
+impl Model for Evaluable {
+    ghost use Rattle.std.specs.Prelude.{◌<◌, length};
+    ghost use Rattle.std.specs.Coded.{codes};
+    ghost use Rattle.fip_trees.specs.contracts.program.Block as block;
+    ghost use Rattle.source_commands.specs.Entries.{Rooted};
+
+    ghost Value = { Rooted };
+
+    ghost coded = { Prim.hlevel (codes, block.the_row.coded) };
+
+    ghost view = { λ e. record { typed = e.typed; entry = e.entry } };
+
+    ghost invariant = { λ e. e.entry < length e.typed.program.instances.items };
 }
 
 impl Evaluable {
+    /// The program.
+    pub fn typed(&self) -> &Typed
+        ensures same { result.now ≡ self.now.typed }
+    {
+        &self.typed
+    }
+
+    /// The number of the instance that is evaluated.
+    pub fn entry(&self) -> usize
+        ensures same { result ≡ self.now.entry }
+        ensures within { result < length self.now.typed.program.instances.items }
+    {
+        self.entry
+    }
+
     /// The instance that is evaluated.
     pub fn instance(&self) -> &Instance
-        requires { self.now.entry < length self.now.typed.program.instances.items }
         ensures same { slice_get self.now.typed.program.instances.items self.now.entry ≡ Some result.now }
     {
         &self.typed.program.instances[self.entry]
@@ -194,29 +223,40 @@ fn chosen(verified: Verified, entry: &str) -> Result<Ready, Failure>
     }
 }
 
-// The root that is run, of an accepted source.
-fn compiled(alloc: Global, front: Front, entry: &str) -> Result<Ready, Failure>
-    ensures ready { (source : List ℕ) → IsAccepted source (V.program front.typed.program) →
-        OnOk result (IsReady source (Compiled entry.now)) }
-    ensures kept { (source : List ℕ) → IsAccepted source (V.program front.typed.program) →
-        IfErr result (KeepsFrom source (Compiled entry.now)) }
+// A code that is verified, and the function of a root's name in it.
+fn verified_entry(alloc: Global, lowered: Lowered, entry: &str) -> Result<Ready, Failure>
+    ensures told { IfErr result IsUnsound }
     ensures stage { IfErr result IsOfSource }
 {
-    match ask_compiled(alloc, front.typed.program.instances.as_slice(), entry) {
-        Ok(()) => chosen(front.verified, entry),
+    match verified_front(alloc, lowered) {
+        Ok(front) => chosen(front.verified, entry),
         Err(failure) => Err(failure),
     }
 }
 
-/// The code of a source that breaks no rule, and the root that is run. The refusals are those of `front`, and after
-/// them E70 where no root has the entry's name, E71 where the root is plain.
-pub fn exec_entry(alloc: Global, source: &[u8], entry: &str) -> Result<Ready, Failure>
-    ensures ready { OnOk result (IsReady source.now (Compiled entry.now)) }
-    ensures kept { IfErr result (KeepsFrom source.now (Compiled entry.now)) }
+// The root that is run, of an accepted source.
+fn compiled(alloc: Global, lowered: Lowered, entry: &str) -> Result<Ready, Failure>
+    ensures ready { (source : List ℕ) → IsAccepted source (V.program lowered.typed.program) →
+        OnOk result (IsReady source (Compiled entry.now)) }
+    ensures kept { (source : List ℕ) → IsAccepted source (V.program lowered.typed.program) →
+        IfErr result (KeepsFromVerified source (Compiled entry.now)) }
     ensures stage { IfErr result IsOfSource }
 {
-    match front(alloc, source) {
-        Ok(front) => compiled(alloc, front, entry),
+    match ask_compiled(alloc, lowered.typed.program.instances.as_slice(), entry) {
+        Ok(()) => verified_entry(alloc, lowered, entry),
+        Err(failure) => Err(failure),
+    }
+}
+
+/// The code of a source that breaks no rule, and the root that is run. Else the source's report, and after it E70
+/// where no root has the entry's name, E71 where the root is plain.
+pub fn exec_entry(alloc: Global, source: &[u8], entry: &str) -> Result<Ready, Failure>
+    ensures ready { OnOk result (IsReady source.now (Compiled entry.now)) }
+    ensures kept { IfErr result (KeepsFromVerified source.now (Compiled entry.now)) }
+    ensures stage { IfErr result IsOfSource }
+{
+    match lawful(alloc, source) {
+        Ok(lowered) => compiled(alloc, lowered, entry),
         Err(failure) => Err(failure),
     }
 }
@@ -256,7 +296,6 @@ fn rooted(alloc: Global, typed: Typed, entry: &str) -> Result<Evaluable, Failure
         OnOk result (IsReady source (Root entry.now)) }
     ensures found { (source : List ℕ) → IsAccepted source (V.program typed.program) →
         IfOk result (λ e. IsRootedIn source entry.now (V.program e.typed.program) e.entry) }
-    ensures within { IfOk result (λ e. e.entry < length e.typed.program.instances.items) }
     ensures kept { (source : List ℕ) → IsAccepted source (V.program typed.program) →
         IfErr result (KeepsFrom source (Root entry.now)) }
     ensures stage { IfErr result IsOfSource }
@@ -270,17 +309,16 @@ fn rooted(alloc: Global, typed: Typed, entry: &str) -> Result<Evaluable, Failure
     }
 }
 
-/// The program of a source that breaks no rule, and the root that is evaluated, which may be of any kind. The
-/// refusals are those of `front`, and after them E70 where no root has the entry's name.
+/// The program of a source that breaks no rule, and the root that is evaluated, which may be of any kind. Else the
+/// source's report, and after it E70 where no root has the entry's name.
 pub fn eval_entry(alloc: Global, source: &[u8], entry: &str) -> Result<Evaluable, Failure>
     ensures ready { OnOk result (IsReady source.now (Root entry.now)) }
     ensures found { IfOk result (λ e. IsRootedIn source.now entry.now (V.program e.typed.program) e.entry) }
-    ensures within { IfOk result (λ e. e.entry < length e.typed.program.instances.items) }
     ensures kept { IfErr result (KeepsFrom source.now (Root entry.now)) }
     ensures stage { IfErr result IsOfSource }
 {
-    match front(alloc, source) {
-        Ok(front) => rooted(alloc, front.typed, entry),
+    match lawful(alloc, source) {
+        Ok(lowered) => rooted(alloc, lowered.typed, entry),
         Err(failure) => Err(failure),
     }
 }

@@ -1,20 +1,21 @@
 // The commands that check a source or a code, and store a code.
-ghost use Rattle.std.specs.Prelude.{◌≡◌, ◌≤◌, length, Err, IfOk, IfErr};
+ghost use Rattle.std.specs.Prelude.{◌≡◌, ◌⊎◌, ◌≤◌, length, Err, IfOk, IfErr};
 ghost use Rattle.code_file.specs.CodeText.{CodeText};
-ghost use Rattle.code_file.specs.Plain.{plain_code};
+ghost use Rattle.code_file.specs.Plain.{PlainCode, plain_code};
 ghost use Rattle.code_file.specs.declared.tags.Version.TheVariants.{Second};
 ghost use Rattle.fip_base.specs.declared.refusal.Refusal.{Refusal as a_refusal};
 ghost use Rattle.fip_language.specs.declared.limits.TheConstants.{MOST_FILE_BYTES};
 ghost use Rattle.command_outcome.specs.declared.failure.Failure.TheVariants.{Refused};
-ghost use Rattle.source_commands.specs.Codes.{IsCodeListing, IsUpgraded, IsUnspelt, KeepsFromCode, KeepsFromUpgrade};
+ghost use Rattle.source_commands.specs.Codes.{IsCodeListing, IsSoundFile, IsUpgraded, IsUnspelt};
+ghost use Rattle.source_commands.specs.Codes.{KeepsFromCode, KeepsFromUpgrade};
 ghost use Rattle.fip_language.specs.declared.rule.Rule.TheVariants.{E61};
 ghost use Rattle.command_outcome.specs.Stages.{IsOfSource};
 ghost use Rattle.source_report.specs.Report.{bare};
 ghost use Rattle.source_commands.specs.Roots.{IsListing};
-ghost use Rattle.source_commands.specs.Wanted.{Lawful, IsRefusedBy, KeepsFrom, KeepsFromFile};
+ghost use Rattle.source_commands.specs.Wanted.{Lawful, IsRefusedBy, IsLongFor, KeepsFrom, KeepsFromVerified};
 
 use crate::listing::{functions_text, roots_text};
-use crate::phases::{bare_refusal, code_of, front};
+use crate::phases::{bare_refusal, code_of, front, lawful};
 use code_file::{WriteError, write_code};
 use code_verify::Verified;
 use command_outcome::Failure;
@@ -45,13 +46,13 @@ fn written(alloc: Global, verified: &Verified) -> Result<Vec<u8>, Failure>
 }
 
 /// A line for each root of a source that breaks no rule: its name, its kind, its header's credits, and for a fip one
-/// what a run of it holds of the stack at the most. The refusals are those of `front`.
+/// what a run of it holds of the stack at the most. Else the source's report.
 pub fn check(alloc: Global, source: &[u8]) -> Result<Vec<u8>, Failure>
     ensures listed { IfOk result (λ v. IsListing source.now v.items) }
     ensures kept { IfErr result (KeepsFrom source.now Lawful) }
     ensures stage { IfErr result IsOfSource }
 {
-    match front(alloc, source) {
+    match lawful(alloc, source) {
         Ok(front) => Ok(roots_text(alloc, &front.typed.program, &front.groups)?),
         Err(failure) => Err(failure),
     }
@@ -61,7 +62,8 @@ pub fn check(alloc: Global, source: &[u8]) -> Result<Vec<u8>, Failure>
 /// after them E61 where no code file of at most 16,777,216 bytes spells its code.
 pub fn compile(alloc: Global, source: &[u8]) -> Result<Compiled, Failure>
     ensures listed { IfOk result (λ c. IsListing source.now c.text.items) }
-    ensures kept { IfErr result (KeepsFromFile source.now E61) }
+    ensures sound { IfOk result (λ c. (code : PlainCode) × IsSoundFile c.file.items code) }
+    ensures kept { IfErr result (λ f. KeepsFromVerified source.now Lawful f ⊎ IsLongFor source.now E61 f) }
     ensures stage { IfErr result IsOfSource }
 {
     match front(alloc, source) {

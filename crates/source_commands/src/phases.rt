@@ -4,14 +4,15 @@ ghost use Rattle.code_file.specs.Plain.{plain_code};
 ghost use Rattle.sound_code.specs.Breaks.{IsSound};
 ghost use Rattle.sound_code.specs.Codes.{plain};
 ghost use Rattle.source_commands.specs.Codes.{IsSoundFile, IsLeastOf, KeepsFromCode};
-ghost use Rattle.command_outcome.specs.Failures.{phase_failure};
 ghost use Rattle.command_outcome.specs.Stages.{IsOfSource};
 ghost use Rattle.fip_trees.specs.TreeView as V;
-ghost use Rattle.source_report.specs.Report.{bare, IsAccepted, IsMatched, Reports};
-ghost use Rattle.source_commands.specs.Wanted.{Lawful, IsRefusedBy, KeepsFrom, IsUnsound};
+ghost use Rattle.source_report.specs.Report.{bare, IsAccepted, IsMatched, Says};
+ghost use Rattle.source_commands.specs.Wanted.{Wanted, Lawful, IsReport, KeepsFrom, KeepsFromVerified};
+ghost use Rattle.source_commands.specs.Wanted.{IsRefusedBy, IsUnsound};
 ghost use Rattle.tail_groups.specs.Members.{AreMembers};
 
 use crate::known::Front;
+use crate::places::placed;
 use cell_code::Code;
 use code_file::{ReadCodeError, read_code};
 use code_verify::{Verified, VerifyError, verify};
@@ -38,41 +39,60 @@ pub(crate) fn bare_refusal(alloc: Global, rule: Rule) -> Refusal
 /// The program of a source whose types and matches are right; else the source's report (`program_front::typed_of`).
 pub fn typed_of(alloc: Global, source: &[u8]) -> Result<Typed, Failure>
     ensures typed { IfOk result (λ t. IsMatched source.now (V.program t.program)) }
-    ensures reported { IfErr result (IsRefusedBy (Reports source.now)) }
+    ensures reported { IfErr result (IsRefusedBy (IsReport source.now)) }
     ensures stage { IfErr result IsOfSource }
 {
     match program_front::typed_of(alloc, source) {
         Ok(typed) => Ok(typed),
-        Err(error) => Err(failure_of(error)),
+        Err(error) => Err(failure_of(source, error)),
     }
 }
 
-// What a phase's error is.
-fn failure_of(error: PhaseError) -> Failure
-    ensures same { result ≡ phase_failure error }
+// How a source is told that a phase gives nothing of: its report, with the line and the column of its offset.
+fn failure_of(source: &[u8], error: PhaseError) -> Failure
+    ensures told { Says source.now error → IsRefusedBy (IsReport source.now) result }
     ensures stage { IsOfSource result }
 {
-    error.into()
+    match error {
+        PhaseError::Refused(refusal) => Failure::Refused(placed(source, refusal)),
+        PhaseError::NoMemory => Failure::NoMemory,
+    }
 }
 
-/// What is known of a source that breaks no rule; else the source's report (`program_front::front`). Of a code that was
+/// What is known of a source that breaks no rule, its code as it was lowered; else the source's report
+/// (`program_front::front`).
+pub(crate) fn lawful(alloc: Global, source: &[u8]) -> Result<Lowered, Failure>
+    ensures accepted { IfOk result (λ l. IsAccepted source.now (V.program l.typed.program)) }
+    ensures groups { IfOk result (λ l. AreMembers (V.program l.typed.program).instances l.groups) }
+    ensures kept { (w : Wanted) → IfErr result (KeepsFrom source.now w) }
+    ensures stage { IfErr result IsOfSource }
+{
+    match program_front::front(alloc, source) {
+        Err(error) => Err(failure_of(source, error)),
+        Ok(lowered) => Ok(lowered),
+    }
+}
+
+/// What is known of a source that breaks no rule, its code verified; else the source's report. Of a code that was
 /// lowered, that it is sound is a test alone.
 pub fn front(alloc: Global, source: &[u8]) -> Result<Front, Failure>
     ensures accepted { IfOk result (λ f. IsAccepted source.now (V.program f.typed.program)) }
     ensures groups { IfOk result (λ f. AreMembers (V.program f.typed.program).instances f.groups) }
-    ensures kept { IfErr result (KeepsFrom source.now Lawful) }
+    ensures sound { IfOk result (λ f. IsSound (plain f.verified.code)) }
+    ensures kept { IfErr result (KeepsFromVerified source.now Lawful) }
     ensures stage { IfErr result IsOfSource }
 {
-    match program_front::front(alloc, source) {
-        Err(error) => Err(failure_of(error)),
+    match lawful(alloc, source) {
+        Err(failure) => Err(failure),
         Ok(lowered) => verified_front(alloc, lowered),
     }
 }
 
-// The same with the code verified.
-fn verified_front(alloc: Global, lowered: Lowered) -> Result<Front, Failure>
+/// The same with the code verified.
+pub(crate) fn verified_front(alloc: Global, lowered: Lowered) -> Result<Front, Failure>
     ensures typed { IfOk result (λ f. V.program f.typed.program ≡ V.program lowered.typed.program) }
     ensures groups { IfOk result (λ f. f.groups ≡ lowered.groups) }
+    ensures sound { IfOk result (λ f. IsSound (plain f.verified.code)) }
     ensures told { IfErr result IsUnsound }
     ensures stage { IfErr result IsOfSource }
 {

@@ -112,7 +112,7 @@ fn the_least_rule_is_named(rt: HostRuntime) -> Result<(), Fail> {
 fn a_slot_holds_its_type(rt: HostRuntime) -> Result<(), Fail> {
     let alloc = rt.alloc();
     let flat = flat(alloc, vec![in alloc; 1]?, variable(alloc, Some(0))?)?;
-    let typed = check_types(alloc, flat)?;
+    let typed = checked(alloc, flat)?;
     let instance = typed.program.instances.first().ok_or("an instance")?;
     let parameter = instance.binders.first().ok_or("a binder")?;
     assert_eq!(rt; parameter.ty, 1);

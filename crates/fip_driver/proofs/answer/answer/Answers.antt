@@ -1,8 +1,9 @@
-use Rattle.std.proofs.Common.{sym, subst, refl}
+use Rattle.std.proofs.Common.{sym, subst}
 use Rattle.fip_base.specs.Faults.{Rose}
 use Rattle.command_line.specs.View.{command_of}
-use Rattle.fip_driver.specs.Outcome.{CommandOutcome, end_of}
-use Rattle.fip_driver.proofs.SourceEnds.{file_outcome, none_ends}
+use Rattle.fip_driver.specs.Outcome.{CommandOutcome}
+use Rattle.command_line.specs.Words.{IsCommand, IsTextName}
+use Rattle.fip_driver.proofs.SourceEnds.{file_outcome, library_ends, gen_ends}
 use Rattle.fip_driver.proofs.answer.answer.Goals as goal
 
 pub returns-in-Check-clause-outcome : goal.returns-in-Check-clause-outcome
@@ -79,12 +80,14 @@ returns-in-Tasks-clause-outcome g c =
 
 pub returns-in-Library-clause-outcome : goal.returns-in-Library-clause-outcome
 returns-in-Library-clause-outcome g c =
+    let asked = subst (λ x. IsCommand c.requires.asked.0 (command_of x)) c.in-Library.is c.requires.asked.1 in
+    let known : IsTextName c.in-Library.name.now = asked.asks.known in
     let fr = Rose (g.F.Folder.faults c.args.folder.now) (g.F.Folder.faults c.args.folder.now) in
     let ir = Rose (g.S.Source.faults c.args.input.now) (g.S.Source.faults c.args.input.now) in
-    subst (λ x. CommandOutcome (command_of x) (g.F.Folder.files c.args.folder.now) (g.S.Source.left c.args.input.now) fr ir c.library.result) (sym c.in-Library.is) (file_outcome _ (g.F.Folder.files c.args.folder.now) (g.S.Source.left c.args.input.now) fr ⊥ ir c.library.result (λ r. absurd r) (none_ends _ (g.F.Folder.files c.args.folder.now) (g.S.Source.left c.args.input.now) fr ⊥ (end_of c.library.result) refl))
+    subst (λ x. CommandOutcome (command_of x) (g.F.Folder.files c.args.folder.now) (g.S.Source.left c.args.input.now) fr ir c.library.result) (sym c.in-Library.is) (file_outcome _ (g.F.Folder.files c.args.folder.now) (g.S.Source.left c.args.input.now) fr ⊥ ir c.library.result (λ r. absurd r) (library_ends c.in-Library.name.now (g.F.Folder.files c.args.folder.now) (g.S.Source.left c.args.input.now) fr ⊥ c.library.result known c.library.ensures.text c.library.ensures.none))
 
 pub returns-in-Gen-clause-outcome : goal.returns-in-Gen-clause-outcome
 returns-in-Gen-clause-outcome g c =
     let fr = Rose (g.F.Folder.faults c.args.folder.now) (g.F.Folder.faults c.args.folder.now) in
     let ir = Rose (g.S.Source.faults c.args.input.now) (g.S.Source.faults c.args.input.now) in
-    subst (λ x. CommandOutcome (command_of x) (g.F.Folder.files c.args.folder.now) (g.S.Source.left c.args.input.now) fr ir c.generate.result) (sym c.in-Gen.is) (file_outcome _ (g.F.Folder.files c.args.folder.now) (g.S.Source.left c.args.input.now) fr ⊥ ir c.generate.result (λ r. absurd r) (none_ends _ (g.F.Folder.files c.args.folder.now) (g.S.Source.left c.args.input.now) fr ⊥ (end_of c.generate.result) refl))
+    subst (λ x. CommandOutcome (command_of x) (g.F.Folder.files c.args.folder.now) (g.S.Source.left c.args.input.now) fr ir c.generate.result) (sym c.in-Gen.is) (file_outcome _ (g.F.Folder.files c.args.folder.now) (g.S.Source.left c.args.input.now) fr ⊥ ir c.generate.result (λ r. absurd r) (gen_ends _ _ (g.F.Folder.files c.args.folder.now) (g.S.Source.left c.args.input.now) fr ⊥ c.generate.result c.generate.ensures.stage))

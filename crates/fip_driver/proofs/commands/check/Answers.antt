@@ -3,6 +3,7 @@ use Rattle.command_line.specs.Words as W
 use Rattle.source_commands.specs.Wanted.{Lawful}
 use Rattle.fip_driver.specs.Outcome.{end_of}
 use Rattle.fip_driver.proofs.SourceEnds.{check_ends, source_ends, fetch_ends}
+use Rattle.fip_driver.proofs.Counted.{sources_counted, fetch_counted}
 use Rattle.fip_driver.proofs.commands.check.Goals as goal
 
 pub returns-in-Ok-clause-outcome : goal.returns-in-Ok-clause-outcome
@@ -10,3 +11,9 @@ returns-in-Ok-clause-outcome g c = λ left. source_ends (W.Check c.args.file.now
 
 pub returns-in-Err-clause-outcome : goal.returns-in-Err-clause-outcome
 returns-in-Err-clause-outcome g c = λ left. fetch_ends (W.Check c.args.file.now) Lawful c.args.file.now (g.F.Folder.files c.args.folder.now) left _ _ _ c.in-Err.failure tt refl refl (λ r. r) c.in-Err.ensures.fails
+
+pub returns-in-Ok-clause-counted : goal.returns-in-Ok-clause-counted
+returns-in-Ok-clause-counted g c = sources_counted (g.F.Folder.files c.args.folder.now) _ c.check.result c.check.ensures.stage
+
+pub returns-in-Err-clause-counted : goal.returns-in-Err-clause-counted
+returns-in-Err-clause-counted g c = fetch_counted (g.F.Folder.files c.args.folder.now) c.args.file.now _ _ c.in-Err.failure c.in-Err.ensures.fails

@@ -3,6 +3,7 @@ use Rattle.command_line.specs.Words as W
 use Rattle.source_commands.specs.Wanted.{Root}
 use Rattle.fip_driver.specs.Outcome.{end_of}
 use Rattle.fip_driver.proofs.SourceEnds.{evaluated_ends, kept_ends, source_ends, fetch_ends}
+use Rattle.fip_driver.proofs.Counted.{late_counted, source_counted, fetch_counted}
 use Rattle.fip_driver.proofs.commands.eval.Goals as goal
 
 pub returns-in-Ok-eval_entry-clause-outcome : goal.returns-in-Ok-eval_entry-clause-outcome
@@ -13,3 +14,12 @@ returns-in-Ok-clause-outcome g c = source_ends (W.Eval c.args.file.now c.args.en
 
 pub returns-clause-outcome : goal.returns-clause-outcome
 returns-clause-outcome g c = fetch_ends (W.Eval c.args.file.now c.args.entry.now c.args.calls c.args.frames) (Root c.args.entry.now) c.args.file.now (g.F.Folder.files c.args.folder.now) (g.S.Source.left c.args.input.now) _ _ _ c.in-Err.failure tt refl refl (λ r. r) c.in-Err.ensures.fails
+
+pub returns-in-Ok-eval_entry-clause-counted : goal.returns-in-Ok-eval_entry-clause-counted
+returns-in-Ok-eval_entry-clause-counted g c = late_counted (g.F.Folder.files c.args.folder.now) _ c.evaluate.result c.evaluate.ensures.late
+
+pub returns-in-Ok-clause-counted : goal.returns-in-Ok-clause-counted
+returns-in-Ok-clause-counted g c = source_counted (g.F.Folder.files c.args.folder.now) _ c.in-Err-eval_entry.failure c.in-Err-eval_entry.ensures.stage
+
+pub returns-clause-counted : goal.returns-clause-counted
+returns-clause-counted g c = fetch_counted (g.F.Folder.files c.args.folder.now) c.args.file.now _ _ c.in-Err.failure c.in-Err.ensures.fails

@@ -1,9 +1,12 @@
-use Rattle.std.proofs.Common.{◌≡◌, refl}
+use Rattle.std.proofs.Common.{◌≡◌, refl, subst}
+use Rattle.source_commands.specs.Codes.{IsUpgraded}
 use Rattle.command_line.specs.Words as W
 use Rattle.command_outcome.specs.declared.failure.Failure.TheVariants.{BadCode}
 use Rattle.fip_driver.specs.Outcome.{end_of}
 use Rattle.fip_driver.proofs.CodeEnds.{upgrade_ends, upgrade_refused, code_ends, long_code}
 use Rattle.fip_driver.proofs.SourceEnds.{missed_ends}
+use Rattle.fip_driver.proofs.Storing.{stored_kept, unstored}
+use Rattle.fip_driver.proofs.Counted.{stored_counted, source_counted, file_counted}
 use Rattle.fip_driver.proofs.commands.upgrade.Goals as goal
 
 pub returns-in-Ok-upgrade-clause-outcome : goal.returns-in-Ok-upgrade-clause-outcome
@@ -14,3 +17,21 @@ returns-in-Ok-clause-outcome g c = λ left. code_ends (W.Upgrade c.args.file.now
 
 pub returns-clause-outcome : goal.returns-clause-outcome
 returns-clause-outcome g c = λ left. missed_ends (W.Upgrade c.args.file.now c.args.out.now) (λ f. f ≡ BadCode 16777216) c.args.file.now (g.F.Folder.files c.args.folder.now) left _ _ _ c.in-Err.failure tt refl (λ r. r) (long_code (W.Upgrade c.args.file.now c.args.out.now) tt) c.in-Err.ensures.fails
+
+pub returns-in-Ok-upgrade-clause-kept : goal.returns-in-Ok-upgrade-clause-kept
+returns-in-Ok-upgrade-clause-kept g c = stored_kept (W.Upgrade c.args.file.now c.args.out.now) c.args.out.now c.in-Ok-upgrade.compiled.file.items (g.F.Folder.files c.args.folder.now) _ _ c.store.result c.in-Ok.ensures.same (c.in-Ok.bytes.items, c.in-Ok.ensures.found, subst (λ xs. IsUpgraded xs c.in-Ok-upgrade.compiled.file.items) c.as_slice.ensures.value c.in-Ok-upgrade.ensures.spelt) c.store.ensures.kept
+
+pub returns-in-Ok-upgrade-clause-counted : goal.returns-in-Ok-upgrade-clause-counted
+returns-in-Ok-upgrade-clause-counted g c = stored_counted (g.F.Folder.files c.args.folder.now) _ _ _ c.store.result c.in-Ok.ensures.later c.store.ensures.fails
+
+pub returns-in-Ok-clause-kept : goal.returns-in-Ok-clause-kept
+returns-in-Ok-clause-kept g c = unstored (W.Upgrade c.args.file.now c.args.out.now) c.args.out.now (g.F.Folder.files c.args.folder.now) _ c.in-Err-upgrade.failure c.in-Ok.ensures.same
+
+pub returns-in-Ok-clause-counted : goal.returns-in-Ok-clause-counted
+returns-in-Ok-clause-counted g c = source_counted (g.F.Folder.files c.args.folder.now) _ c.in-Err-upgrade.failure c.in-Err-upgrade.ensures.stage
+
+pub returns-clause-kept : goal.returns-clause-kept
+returns-clause-kept g c = unstored (W.Upgrade c.args.file.now c.args.out.now) c.args.out.now (g.F.Folder.files c.args.folder.now) _ c.in-Err.failure c.in-Err.ensures.same
+
+pub returns-clause-counted : goal.returns-clause-counted
+returns-clause-counted g c = file_counted (λ f. f ≡ BadCode 16777216) (g.F.Folder.files c.args.folder.now) c.args.file.now _ _ c.in-Err.failure c.in-Err.ensures.fails

@@ -4,6 +4,7 @@ use Rattle.command_outcome.specs.declared.failure.Failure.TheVariants.{BadCode}
 use Rattle.fip_driver.specs.Outcome.{end_of}
 use Rattle.fip_driver.proofs.CodeEnds.{verify_ends, code_ends, long_code}
 use Rattle.fip_driver.proofs.SourceEnds.{missed_ends}
+use Rattle.fip_driver.proofs.Counted.{sources_counted, file_counted}
 use Rattle.fip_driver.proofs.commands.verify.Goals as goal
 
 pub returns-in-Ok-clause-outcome : goal.returns-in-Ok-clause-outcome
@@ -11,3 +12,9 @@ returns-in-Ok-clause-outcome g c = λ left. code_ends (W.Verify c.args.file.now)
 
 pub returns-in-Err-clause-outcome : goal.returns-in-Err-clause-outcome
 returns-in-Err-clause-outcome g c = λ left. missed_ends (W.Verify c.args.file.now) (λ f. f ≡ BadCode 16777216) c.args.file.now (g.F.Folder.files c.args.folder.now) left _ _ _ c.in-Err.failure tt refl (λ r. r) (long_code (W.Verify c.args.file.now) tt) c.in-Err.ensures.fails
+
+pub returns-in-Ok-clause-counted : goal.returns-in-Ok-clause-counted
+returns-in-Ok-clause-counted g c = sources_counted (g.F.Folder.files c.args.folder.now) _ c.verify_file.result c.verify_file.ensures.stage
+
+pub returns-in-Err-clause-counted : goal.returns-in-Err-clause-counted
+returns-in-Err-clause-counted g c = file_counted (λ f. f ≡ BadCode 16777216) (g.F.Folder.files c.args.folder.now) c.args.file.now _ _ c.in-Err.failure c.in-Err.ensures.fails

@@ -2,6 +2,8 @@ use Rattle.loop_form.specs.View.{loop_of}
 use Rattle.command_line.specs.View.{request_of}
 use Rattle.fip_driver.proofs.Fronts.{loop_taken, whole_taken}
 use Rattle.fip_driver.proofs.Outcomes.{fetch_outcome, source_outcome, entry_outcome, outside_outcome}
+use Rattle.fip_driver.specs.Spelling.{source_spelling}
+use Rattle.fip_driver.proofs.Counted.{unfaulted_counted, late_counted, front_counted, fetch_counted}
 use Rattle.fip_driver.proofs.exec.exec.Goals as goal
 
 pub returns-in-Ok-Loop-clause-outcome : goal.returns-in-Ok-Loop-clause-outcome
@@ -15,3 +17,15 @@ returns-in-Ok-clause-outcome g c = source_outcome (request_of c.args.request.now
 
 pub returns-clause-outcome : goal.returns-clause-outcome
 returns-clause-outcome g c = fetch_outcome (request_of c.args.request.now) (g.F.Folder.files c.args.folder.now) (g.S.Source.left c.args.input.now) _ _ _ c.in-Err.failure c.in-Err.ensures.fails
+
+pub returns-in-Ok-Loop-clause-counted : goal.returns-in-Ok-Loop-clause-counted
+returns-in-Ok-Loop-clause-counted g c = late_counted (g.F.Folder.files c.args.folder.now) _ c.exec_loop.result c.exec_loop.ensures.late
+
+pub returns-in-Ok-Whole-clause-counted : goal.returns-in-Ok-Whole-clause-counted
+returns-in-Ok-Whole-clause-counted g c = unfaulted_counted (g.F.Folder.files c.args.folder.now) _ c.exec_whole.result c.exec_whole.ensures.unfaulted
+
+pub returns-in-Ok-clause-counted : goal.returns-in-Ok-clause-counted
+returns-in-Ok-clause-counted g c = front_counted source_spelling c.as_slice.result.now c.args.request.now.entry.now (g.F.Folder.files c.args.folder.now) _ c.in-Err-path_of.failure c.in-Err-path_of.ensures.fails
+
+pub returns-clause-counted : goal.returns-clause-counted
+returns-clause-counted g c = fetch_counted (g.F.Folder.files c.args.folder.now) c.args.request.now.file.now _ _ c.in-Err.failure c.in-Err.ensures.fails

@@ -5,6 +5,7 @@ use Rattle.fip_driver.specs.Outcome.{end_of}
 use Rattle.command_line.specs.View.{request_of}
 use Rattle.fip_driver.proofs.CodeEnds.{run_ends, run_refused, code_ends, long_code}
 use Rattle.fip_driver.proofs.SourceEnds.{missed_ends}
+use Rattle.fip_driver.proofs.Counted.{late_counted, source_counted, file_counted}
 use Rattle.fip_driver.proofs.exec.run.Goals as goal
 
 pub returns-in-Ok-run_entry-clause-outcome : goal.returns-in-Ok-run_entry-clause-outcome
@@ -15,3 +16,12 @@ returns-in-Ok-clause-outcome g c = code_ends (W.Run (request_of c.args.request.n
 
 pub returns-clause-outcome : goal.returns-clause-outcome
 returns-clause-outcome g c = missed_ends (W.Run (request_of c.args.request.now)) (λ f. f ≡ BadCode 16777216) c.args.request.now.file.now (g.F.Folder.files c.args.folder.now) (g.S.Source.left c.args.input.now) _ _ _ c.in-Err.failure tt refl (λ r. r) (long_code (W.Run (request_of c.args.request.now)) tt) c.in-Err.ensures.fails
+
+pub returns-in-Ok-run_entry-clause-counted : goal.returns-in-Ok-run_entry-clause-counted
+returns-in-Ok-run_entry-clause-counted g c = late_counted (g.F.Folder.files c.args.folder.now) _ c.run_ready.result c.run_ready.ensures.late
+
+pub returns-in-Ok-clause-counted : goal.returns-in-Ok-clause-counted
+returns-in-Ok-clause-counted g c = source_counted (g.F.Folder.files c.args.folder.now) _ c.in-Err-run_entry.failure c.in-Err-run_entry.ensures.stage
+
+pub returns-clause-counted : goal.returns-clause-counted
+returns-clause-counted g c = file_counted (λ f. f ≡ BadCode 16777216) (g.F.Folder.files c.args.folder.now) c.args.request.now.file.now _ _ c.in-Err.failure c.in-Err.ensures.fails

@@ -1,7 +1,12 @@
-use Rattle.std.proofs.Common.{ap, Err, map, string_bytes}
+use Rattle.std.proofs.Common.{ap, subst, Err, map, string_bytes}
 use Rattle.command_line.specs.View.{command_of}
 use Rattle.fip_driver.proofs.Outcomes.{no_command_outcome, no_memory_outcome}
-use Rattle.fip_driver.proofs.Unread.{input_turn, folder_turn, read_turn, store_turn, on_ok}
+use Rattle.command_outcome.specs.declared.failure.Failure.TheVariants as F
+use Rattle.fip_driver.specs.Commands.{stored_name}
+use Rattle.fip_driver.specs.Unread.{AreKept}
+use Rattle.fip_driver.proofs.OneCommand.{command_once}
+use Rattle.fip_driver.proofs.Storing.{nothing_stored}
+use Rattle.fip_driver.proofs.Unread.{input_turn, folder_turn, read_turn, on_ok}
 use Rattle.fip_driver.proofs.program.outcome.Goals as goal
 
 pub returns-in-Ok-clause-read : goal.returns-in-Ok-clause-read
@@ -14,10 +19,16 @@ pub returns-in-Ok-clause-unfetched : goal.returns-in-Ok-clause-unfetched
 returns-in-Ok-clause-unfetched g c = folder_turn (map string_bytes c.args.words.now) (command_of c.in-Ok.command) c.in-Ok.ensures.ok c.answer.result _ c.answer.ensures.uncalled c.answer.ensures.unfetched
 
 pub returns-in-Ok-clause-files : goal.returns-in-Ok-clause-files
-returns-in-Ok-clause-files g c = store_turn (map string_bytes c.args.words.now) (command_of c.in-Ok.command) c.in-Ok.ensures.ok c.answer.result _ _ c.answer.ensures.files
+returns-in-Ok-clause-files g c = λ d asked. subst (λ x. AreKept x (stored_name x) (g.F.Folder.files c.args.folder.now) (g.F.Folder.files c.answer.new.folder) c.answer.result) (command_once (map string_bytes c.args.words.now) (command_of c.in-Ok.command) d c.in-Ok.ensures.ok asked) c.answer.ensures.files
 
 pub returns-in-Err-NotUnderstood-clause-outcome : goal.returns-in-Err-NotUnderstood-clause-outcome
 returns-in-Err-NotUnderstood-clause-outcome g c = no_command_outcome (map string_bytes c.args.words.now) (g.F.Folder.files c.args.folder.now) (g.S.Source.left c.args.input.now) (Unit {0}) (Unit {0}) (c.in-Err-NotUnderstood.ensures.not_understood (ap Err c.in-Err-NotUnderstood.field-0-is))
 
 pub returns-in-Err-NoMemory-clause-outcome : goal.returns-in-Err-NoMemory-clause-outcome
 returns-in-Err-NoMemory-clause-outcome g c = no_memory_outcome (map string_bytes c.args.words.now) (g.F.Folder.files c.args.folder.now) (g.S.Source.left c.args.input.now) (Unit {0}) (Unit {0})
+
+pub returns-in-Err-NotUnderstood-clause-files : goal.returns-in-Err-NotUnderstood-clause-files
+returns-in-Err-NotUnderstood-clause-files g c = λ d asked. nothing_stored d (stored_name d) (g.F.Folder.files c.args.folder.now) F.NotUnderstood
+
+pub returns-in-Err-NoMemory-clause-files : goal.returns-in-Err-NoMemory-clause-files
+returns-in-Err-NoMemory-clause-files g c = λ d asked. nothing_stored d (stored_name d) (g.F.Folder.files c.args.folder.now) F.NoMemory

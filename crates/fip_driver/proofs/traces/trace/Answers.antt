@@ -4,7 +4,10 @@ use Rattle.command_line.specs.View.{room_of}
 use Rattle.source_commands.specs.Wanted.{Compiled}
 use Rattle.fip_driver.specs.Ends.{IsTraceEnd}
 use Rattle.fip_driver.specs.Outcome.{end_of}
-use Rattle.fip_driver.proofs.SourceEnds.{trace_stored, input_ends, kept_ends, source_ends, fetch_ends}
+use Rattle.fip_driver.proofs.SourceEnds.{trace_stored, input_ends, verified_ends, source_ends, fetch_ends}
+use Rattle.fip_driver.proofs.Storing.{stored_kept, unstored}
+use Rattle.fip_driver.proofs.Unread.{late_after_input, stored_after_input}
+use Rattle.fip_driver.proofs.Counted.{stored_counted, late_failure_counted, source_counted, fetch_counted}
 use Rattle.fip_driver.proofs.traces.trace.Goals as goal
 
 pub returns-in-Ok-traced-clause-outcome : goal.returns-in-Ok-traced-clause-outcome
@@ -14,7 +17,37 @@ pub returns-in-Ok-exec_entry-clause-outcome : goal.returns-in-Ok-exec_entry-clau
 returns-in-Ok-exec_entry-clause-outcome g c = source_ends (W.Trace c.args.file.now c.args.entry.now c.args.out.now (room_of c.args.room)) (Compiled c.args.entry.now) c.args.file.now (g.F.Folder.files c.args.folder.now) (g.S.Source.left c.args.input.now) ⊥ _ _ _ c.in-Ok.source.items c.as_slice.result.now _ (λ r. absurd r) (λ r. r) c.in-Ok.ensures.found refl refl tt c.as_slice.ensures.value (input_ends (W.Trace c.args.file.now c.args.entry.now c.args.out.now (room_of c.args.room)) (Compiled c.args.entry.now) c.as_slice.result.now (g.S.Source.left c.args.input.now) ⊥ _ IsTraceEnd _ c.in-Ok-exec_entry.ensures.ready tt (λ d m. m) c.in-Err-traced.ensures.outcome)
 
 pub returns-in-Ok-clause-outcome : goal.returns-in-Ok-clause-outcome
-returns-in-Ok-clause-outcome g c = source_ends (W.Trace c.args.file.now c.args.entry.now c.args.out.now (room_of c.args.room)) (Compiled c.args.entry.now) c.args.file.now (g.F.Folder.files c.args.folder.now) (g.S.Source.left c.args.input.now) ⊥ ⊥ _ _ c.in-Ok.source.items c.as_slice.result.now _ (λ r. absurd r) (λ r. absurd r) c.in-Ok.ensures.found refl refl tt c.as_slice.ensures.value (kept_ends (W.Trace c.args.file.now c.args.entry.now c.args.out.now (room_of c.args.room)) (Compiled c.args.entry.now) c.as_slice.result.now (g.S.Source.left c.args.input.now) ⊥ ⊥ c.in-Err-exec_entry.failure c.in-Err-exec_entry.ensures.kept)
+returns-in-Ok-clause-outcome g c = source_ends (W.Trace c.args.file.now c.args.entry.now c.args.out.now (room_of c.args.room)) (Compiled c.args.entry.now) c.args.file.now (g.F.Folder.files c.args.folder.now) (g.S.Source.left c.args.input.now) ⊥ ⊥ _ _ c.in-Ok.source.items c.as_slice.result.now _ (λ r. absurd r) (λ r. absurd r) c.in-Ok.ensures.found refl refl tt c.as_slice.ensures.value (verified_ends (W.Trace c.args.file.now c.args.entry.now c.args.out.now (room_of c.args.room)) (Compiled c.args.entry.now) c.as_slice.result.now (g.S.Source.left c.args.input.now) ⊥ ⊥ c.in-Err-exec_entry.failure tt c.in-Err-exec_entry.ensures.kept)
 
 pub returns-clause-outcome : goal.returns-clause-outcome
 returns-clause-outcome g c = fetch_ends (W.Trace c.args.file.now c.args.entry.now c.args.out.now (room_of c.args.room)) (Compiled c.args.entry.now) c.args.file.now (g.F.Folder.files c.args.folder.now) (g.S.Source.left c.args.input.now) _ _ _ c.in-Err.failure tt refl refl (λ r. r) c.in-Err.ensures.fails
+
+pub returns-in-Ok-traced-clause-before : goal.returns-in-Ok-traced-clause-before
+returns-in-Ok-traced-clause-before g c = λ b. absurd (stored_after_input _ _ c.store.result c.store.ensures.fails b)
+
+pub returns-in-Ok-traced-clause-kept : goal.returns-in-Ok-traced-clause-kept
+returns-in-Ok-traced-clause-kept g c = stored_kept (W.Trace c.args.file.now c.args.entry.now c.args.out.now (room_of c.args.room)) c.args.out.now c.in-Ok-traced.compiled.file.items (g.F.Folder.files c.args.folder.now) _ _ c.store.result c.in-Ok.ensures.same tt c.store.ensures.kept
+
+pub returns-in-Ok-traced-clause-counted : goal.returns-in-Ok-traced-clause-counted
+returns-in-Ok-traced-clause-counted g c = stored_counted (g.F.Folder.files c.args.folder.now) _ _ _ c.store.result c.in-Ok.ensures.later c.store.ensures.fails
+
+pub returns-in-Ok-exec_entry-clause-before : goal.returns-in-Ok-exec_entry-clause-before
+returns-in-Ok-exec_entry-clause-before g c = λ b. absurd (late_after_input c.in-Err-traced.failure c.in-Err-traced.ensures.fails b)
+
+pub returns-in-Ok-exec_entry-clause-kept : goal.returns-in-Ok-exec_entry-clause-kept
+returns-in-Ok-exec_entry-clause-kept g c = unstored (W.Trace c.args.file.now c.args.entry.now c.args.out.now (room_of c.args.room)) c.args.out.now (g.F.Folder.files c.args.folder.now) _ c.in-Err-traced.failure c.in-Ok.ensures.same
+
+pub returns-in-Ok-exec_entry-clause-counted : goal.returns-in-Ok-exec_entry-clause-counted
+returns-in-Ok-exec_entry-clause-counted g c = late_failure_counted (g.F.Folder.files c.args.folder.now) _ c.in-Err-traced.failure c.in-Err-traced.ensures.fails
+
+pub returns-in-Ok-clause-kept : goal.returns-in-Ok-clause-kept
+returns-in-Ok-clause-kept g c = unstored (W.Trace c.args.file.now c.args.entry.now c.args.out.now (room_of c.args.room)) c.args.out.now (g.F.Folder.files c.args.folder.now) _ c.in-Err-exec_entry.failure c.in-Ok.ensures.same
+
+pub returns-in-Ok-clause-counted : goal.returns-in-Ok-clause-counted
+returns-in-Ok-clause-counted g c = source_counted (g.F.Folder.files c.args.folder.now) _ c.in-Err-exec_entry.failure c.in-Err-exec_entry.ensures.stage
+
+pub returns-clause-kept : goal.returns-clause-kept
+returns-clause-kept g c = unstored (W.Trace c.args.file.now c.args.entry.now c.args.out.now (room_of c.args.room)) c.args.out.now (g.F.Folder.files c.args.folder.now) _ c.in-Err.failure c.in-Err.ensures.same
+
+pub returns-clause-counted : goal.returns-clause-counted
+returns-clause-counted g c = fetch_counted (g.F.Folder.files c.args.folder.now) c.args.file.now _ _ c.in-Err.failure c.in-Err.ensures.fails

@@ -1,7 +1,10 @@
 use Rattle.fip_trees.specs.TreeView as V
 use Rattle.source_commands.specs.Wanted.{Lawful}
-use Rattle.source_commands.proofs.Told.{report_keeps}
+use Rattle.source_commands.proofs.Told.{kept_verified, unsound_kept}
 use Rattle.source_commands.proofs.phases.front.Goals as goal
 
 pub returns-in-Err-clause-kept : goal.returns-in-Err-clause-kept
-returns-in-Err-clause-kept c = report_keeps c.args.source.now Lawful c.in-Err.error c.failure_of.result c.failure_of.ensures.same c.in-Err.ensures.reported
+returns-in-Err-clause-kept c = kept_verified c.args.source.now Lawful c.in-Err.failure (c.in-Err.ensures.kept Lawful)
+
+pub returns-in-Ok-clause-kept : goal.returns-in-Ok-clause-kept
+returns-in-Ok-clause-kept c = unsound_kept c.args.source.now Lawful c.verified_front.result (record { program = V.program c.in-Ok.lowered.typed.program; accepted = c.in-Ok.ensures.accepted; has = tt }) c.verified_front.ensures.told

@@ -1,0 +1,31 @@
+// The laws on the derivations of accepted programs. Each is the contract of a function that does nothing.
+ghost use Rattle.std.specs.Prelude.{ℕ, List};
+ghost use Rattle.fip_trees.specs.Tree.{Program};
+ghost use Rattle.type_check.specs.Typing.{IsFilled};
+ghost use Rattle.own_agreement.specs.Agreement.{AreSized, IsAccepted as BreaksNoRule};
+ghost use Rattle.proof_check.specs.Accepted.{IsDerivation};
+ghost use Rattle.derivation_making.specs.Made.{made_entries};
+ghost use Rattle.derivation_making.specs.Numbered.{AllNumbered};
+ghost use Rattle.derivation_making.specs.Weakening.{AllLean};
+ghost use Rattle.source_report.specs.Report.{IsAccepted};
+
+/// What the making of derivations asks of a program, an accepted source's has: its slots are filled, its binders are
+/// numbered in order, below 2^32, it is what the calculus of ownership speaks of, and it breaks no rule on ownership and
+/// on credits. For who joins the laws.
+pub fn accepted_programs_are_numbered()
+    ensures numbered { (source : List ℕ) (program : Program) → IsAccepted source program →
+        AllNumbered program program.instances }
+    ensures filled { (source : List ℕ) (program : Program) → IsAccepted source program → IsFilled program }
+    ensures sized { (source : List ℕ) (program : Program) → IsAccepted source program →
+        AreSized program program.instances }
+    ensures unbroken { (source : List ℕ) (program : Program) → IsAccepted source program → BreaksNoRule program }
+{}
+
+/// What is made for the program of an accepted source is a derivation of it, and weakens no more than it must. For who
+/// asks whether each accepted source has a derivation.
+pub fn accepted_programs_have_derivations()
+    ensures derived { (source : List ℕ) (program : Program) → IsAccepted source program →
+        IsDerivation program (made_entries program 0 program.instances) }
+    ensures lean { (source : List ℕ) (program : Program) → IsAccepted source program →
+        AllLean (made_entries program 0 program.instances) }
+{}

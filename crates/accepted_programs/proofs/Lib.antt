@@ -1,0 +1,4 @@
+pub mod SpeltBinders
+pub mod CoreOrder
+pub mod TypedOrder
+pub mod Distinct

@@ -1,0 +1,6 @@
+use Rattle.std.proofs.Common.{subst}
+use Rattle.source_report.specs.Report.{Says}
+use Rattle.source_commands.proofs.phases.failure_of.Goals as goal
+
+pub returns-in-Refused-clause-told : goal.returns-in-Refused-clause-told
+returns-in-Refused-clause-told c = λ h. (c.in-Refused.refusal, subst (Says c.args.source.now) c.in-Refused.is h, c.placed.ensures.placed)

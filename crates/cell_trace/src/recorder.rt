@@ -36,7 +36,9 @@ impl Model for Recorder {
 impl Recorder {
     /// The store before the first step, and the most bytes that the file of its trace may have. An error where no
     /// memory is left.
-    pub fn new(alloc: Global, cells: Sealed, limit: usize) -> Result<Recorder, TraceError> {
+    pub fn new(alloc: Global, cells: Sealed, limit: usize) -> Result<Recorder, TraceError>
+        ensures same { IfOk result (λ r. r ≡ cells) }
+    {
         let mut recorder = Recorder {
             alloc,
             cells,
@@ -166,7 +168,9 @@ impl Recorder {
 
     /// The store as it is now, and the trace. TooLong where it is longer than it may be, NoMemory where no memory was
     /// left for it.
-    pub fn finish(self) -> (Sealed, Result<Trace, TraceError>) {
+    pub fn finish(self) -> (Sealed, Result<Trace, TraceError>)
+        ensures same { result.0 ≡ self }
+    {
         let Recorder {
             cells,
             loaded,

@@ -1,1 +1,2 @@
 pub mod Tasked
+pub mod Alongs

@@ -4,7 +4,7 @@ use Rattle.std.proofs.lemmas.Bool.{cases_lt}
 use Rattle.std.proofs.lemmas.List.{ext_get_or, get_or-take, get_or-replicate, get_or_append_left, get_or-append_right, length-take-le, length-replicate, take_all}
 use Rattle.code_verify.specs.Checked.{Checked}
 use Rattle.code_runs.specs.Cells.{Store}
-use Rattle.code_runs.specs.States.{Typed, State}
+use Rattle.code_runs.specs.States.{Typed}
 use Rattle.frame_stack.specs.Keeping.{Keeps}
 use Rattle.frame_stack.proofs.Viewed.{frame_kept}
 use Rattle.machine_rows.specs.declared.cursor.Bounds.{Bounds}

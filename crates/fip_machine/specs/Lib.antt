@@ -1,2 +1,4 @@
 pub mod Tasks
 pub mod Machines
+pub mod Ending
+pub mod Along

@@ -8,6 +8,7 @@ ghost use Rattle.code_runs.specs.Runs.{loaded};
 ghost use Rattle.machine_cells.specs.Small.{IsSmall, store_of};
 ghost use Rattle.machine_rows.specs.Coming.{Comes, Knows};
 ghost use Rattle.fip_machine.specs.Tasks.{state_with, ended_by};
+ghost use Rattle.fip_machine.specs.Along.{end_after};
 
 use crate::gauge::{Gauge, held};
 use crate::stack::TaskStack;
@@ -36,7 +37,9 @@ pub enum Ended {
 }
 
 // How a run ended after its last step; none where a call would come and none is left.
-pub(crate) fn ended_of(over: Option<Stepped>) -> Ended {
+pub(crate) fn ended_of(over: Option<Stepped>) -> Ended
+    ensures is { result ≡ end_after over }
+{
     match over {
         Some(Stepped::Value) => Ended::Value,
         Some(Stepped::Trap { kind, line, col }) => Ended::Trap { kind, line, col },
@@ -130,12 +133,20 @@ impl<'a> Machine<'a> {
     }
 
     // The machine of these frames and cells.
-    pub(crate) fn of(stack: TaskStack<'a>, cells: Sealed) -> Machine<'a> {
+    pub(crate) fn of(stack: TaskStack<'a>, cells: Sealed) -> Machine<'a>
+        ensures stack { result.stack ≡ stack.entry }
+        ensures store { result.store ≡ store_of cells.cells cells.released }
+        ensures pushed { result.pushed ≡ cells.pushed }
+    {
         Machine { stack, cells }
     }
 
     // Its frames and its cells.
-    pub(crate) fn into_parts(self) -> (TaskStack<'a>, Sealed) {
+    pub(crate) fn into_parts(self) -> (TaskStack<'a>, Sealed)
+        ensures stack { result.0 ≡ self.entry.stack }
+        ensures store { store_of result.1.cells result.1.released ≡ self.entry.store }
+        ensures pushed { result.1.pushed ≡ self.entry.pushed }
+    {
         (self.stack, self.cells)
     }
 

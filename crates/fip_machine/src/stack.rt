@@ -1,6 +1,6 @@
 // The frames of a task.
 ghost use Rattle.std.specs.Prelude.{◌≡◌, ◌≢◌, ℕ, ◌+◌, ◌*◌, ◌<◌, ◌≤◌, List, [], length, vec_len, IfOk, None, Some};
-ghost use Rattle.std.specs.Prelude.{slice_get};
+ghost use Rattle.std.specs.Prelude.{slice_get, false};
 ghost use Rattle.code_runs.specs.Codes.{plain};
 ghost use Rattle.code_runs.specs.Cells.{Store};
 ghost use Rattle.code_runs.specs.States.{Typed, State};
@@ -10,6 +10,7 @@ ghost use Rattle.frame_stack.specs.View.{frame_at};
 ghost use Rattle.machine_cells.specs.Small.{IsSmall, store_of};
 ghost use Rattle.machine_rows.specs.Coming.{Comes, Knows};
 ghost use Rattle.fip_machine.specs.Tasks.{state_with, ended_by};
+ghost use Rattle.fip_machine.specs.Along.{is_call, calls_next};
 ghost use Rattle.std.specs.Vec.{vec_capacity};
 ghost use Rattle.fip_language.specs.declared.limits.TheConstants.{MOST_FIELDS, MOST_FRAMES, MOST_REGISTERS};
 ghost use Rattle.machine_rows.specs.Bounding.{AreAtMost, Fits};
@@ -131,6 +132,12 @@ fn make_room(words: &mut Vec<u64>, bounds: Bounds, cursor: &Cursor)
         let wanted = least.max(len.saturating_add(len));
         words.resize(bounds.words.min(wanted), 0).unwrap();
     }
+}
+
+fn is_call(instr: &Instr) -> bool
+    ensures is { result ≡ is_call instr.now }
+{
+    matches!(instr, Instr::Call { .. } | Instr::Tail { .. })
 }
 
 // How the run ended with a step; none where it goes on.
@@ -331,15 +338,15 @@ impl<'a> TaskStack<'a> {
     }
 
     /// Whether the next instruction is a Call or Tail; false once the run is over.
-    pub fn at_call(&self) -> bool {
+    pub fn at_call(&self) -> bool
+        ensures over { (e : _) → self.now.ended ≡ Some e → result ≡ false }
+        ensures going { self.now.ended ≡ None → result ≡ calls_next self.now.code self.now }
+    {
         if self.ended.is_some() {
             return false;
         }
         let instrs = self.cursor.instrs;
-        matches!(
-            &instrs[self.cursor.at],
-            Instr::Call { .. } | Instr::Tail { .. }
-        )
+        is_call(&instrs[self.cursor.at])
     }
 
     /// The words of the results, after Value.

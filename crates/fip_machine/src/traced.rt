@@ -1,5 +1,13 @@
 // Runs that keep what they write.
-ghost use Rattle.std.specs.Prelude.{◌≡◌, ◌<◌};
+ghost use Rattle.std.specs.Prelude.{◌≡◌, ◌≢◌, ℕ, ◌-◌, ◌<◌, List, [], IfOk, IfNone, IfSome, Some, None, not};
+ghost use Rattle.code_runs.specs.Codes.{plain};
+ghost use Rattle.code_runs.specs.States.{Typed};
+ghost use Rattle.code_runs.specs.Steps.{Kinds};
+ghost use Rattle.machine_cells.specs.Small.{IsSmall};
+ghost use Rattle.machine_rows.specs.Coming.{Knows};
+ghost use Rattle.fip_machine.specs.Tasks.{state_with};
+ghost use Rattle.fip_machine.specs.Ending.{RunsTo};
+ghost use Rattle.fip_machine.specs.Along.{Origin, IsReady, IsAlong, HasRun, CameTo, calls_next, end_after};
 
 use crate::gauge::{Gauge, held};
 use crate::machine::{Ended, Machine, ended_of};
@@ -10,7 +18,8 @@ use std::alloc::Global;
 
 impl<'a> Machine<'a> {
     /// Runs as `run` does, and keeps what each step writes to the cells. Asks a machine that was just started, whose
-    /// cells aren't released, and a gauge that has seen no state.
+    /// cells aren't released, and a gauge that has seen no state. The end, the cells and the results are those of the
+    /// run that the definition says.
     ///
     /// The trace is there exactly where the run gives a value. TooLong where it gives one and the file of its trace has
     /// more than `limit` bytes, or there are more than 4,294,967,295 events or more steps than 64 bits count; NoMemory
@@ -21,7 +30,15 @@ impl<'a> Machine<'a> {
         calls: u64,
         gauge: &mut Gauge,
         limit: usize,
-    ) -> Result<(Machine<'a>, Ended, Option<Trace>), TraceError> {
+    ) -> Result<(Machine<'a>, Ended, Option<Trace>), TraceError>
+        ensures run { IfOk result (λ r. (kinds : Kinds) → Knows self.entry.stack.code kinds →
+            self.entry.stack.ended ≡ None → IsSmall self.entry.store.cells → self.entry.pushed ≡ [] →
+            (lent : List Typed) → RunsTo kinds (plain self.entry.stack.code.code)
+            (state_with self.entry.stack lent self.entry.store) calls r.1
+            (state_with r.0.stack lent r.0.store) r.0.stack.given) }
+        ensures trace { IfOk result (λ r. r.1 ≡ Ended.Value → r.2 ≢ None) }
+        ensures none { IfOk result (λ r. r.1 ≢ Ended.Value → r.2 ≡ None) }
+    {
         let (mut stack, cells) = self.into_parts();
         let mut recorder = Recorder::new(alloc, cells, limit)?;
         gauge.see(&held(&recorder), stack.frames(), stack.words());
@@ -38,20 +55,29 @@ impl<'a> Machine<'a> {
 }
 
 // Runs to the end, with so many calls.
-fn run_recorded(stack: &mut TaskStack, recorder: &mut Recorder, calls: u64) -> Ended {
+fn run_recorded(stack: &mut TaskStack, recorder: &mut Recorder, calls: u64) -> Ended
+    ensures run { (o : Origin) → IsReady o stack.old recorder.old calls → HasRun o result stack.new recorder.new }
+{
     if calls == 0 {
         return Ended::Out;
     }
-    for _ in 0..calls - 1 {
-        if let Some(over) = run_to_entry(stack, recorder) {
-            return ended_of(Some(over));
+    let mut left = calls - 1;
+    while left > 0 {
+        match run_to_entry(stack, recorder) {
+            None => left -= 1,
+            Some(over) => return ended_of(Some(over)),
         }
     }
     ended_of(run_to_call(stack, recorder))
 }
 
 // Runs until a function is entered, or to the end.
-fn run_to_entry(stack: &mut TaskStack, recorder: &mut Recorder) -> Option<Stepped> {
+fn run_to_entry(stack: &mut TaskStack, recorder: &mut Recorder) -> Option<Stepped>
+    ensures entered { IfNone result ((o : Origin) (left : ℕ) → 0 < left → IsAlong o stack.old recorder.old left →
+        IsAlong o stack.new recorder.new (left - 1)) }
+    ensures over { IfSome result (λ r. (o : Origin) (left : ℕ) → 0 < left → IsAlong o stack.old recorder.old left →
+        HasRun o (end_after (Some r)) stack.new recorder.new) }
+{
     loop {
         match step(stack, recorder) {
             Stepped::Went => {}
@@ -62,8 +88,11 @@ fn run_to_entry(stack: &mut TaskStack, recorder: &mut Recorder) -> Option<Steppe
 }
 
 // Runs to where a call would come, or to the end.
-fn run_to_call(stack: &mut TaskStack, recorder: &mut Recorder) -> Option<Stepped> {
-    while !stack.at_call() {
+fn run_to_call(stack: &mut TaskStack, recorder: &mut Recorder) -> Option<Stepped>
+    ensures run { (o : Origin) → IsAlong o stack.old recorder.old 0 → HasRun o (end_after result) stack.new
+        recorder.new }
+{
+    while has_no_call(stack) {
         match step(stack, recorder) {
             Stepped::Went => {}
             Stepped::Entered => return None,
@@ -73,9 +102,18 @@ fn run_to_call(stack: &mut TaskStack, recorder: &mut Recorder) -> Option<Stepped
     None
 }
 
+// Whether no call is next.
+fn has_no_call(stack: &TaskStack) -> bool
+    ensures is { stack.now.ended ≡ None → result ≡ not (calls_next stack.now.code stack.now) }
+{
+    !stack.at_call()
+}
+
 // One step.
 fn step(stack: &mut TaskStack, recorder: &mut Recorder) -> Stepped
-    ensures { result ≡ Stepped.Went → stack.new.weight < stack.old.weight }
+    ensures less { result ≡ Stepped.Went → stack.new.weight < stack.old.weight }
+    ensures came { (o : Origin) (left : ℕ) → IsAlong o stack.old recorder.old left → CameTo o left
+        (calls_next stack.old.code stack.old) result stack.new recorder.new }
 {
     recorder.next_step();
     stack.step(recorder)

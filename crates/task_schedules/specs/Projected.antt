@@ -1,10 +1,10 @@
 -- For the theorem on schedules, which it states and doesn't prove: after every schedule each task is, up to the places
--- of its cells, where it would be alone.
+-- of its cells, where it would be alone; and no turn of one task changes a cell of another.
 --
 -- The places of a task's own cells, in the store that it would have alone, are renamed to places of the shared store;
--- the renaming keeps their order, and gives no place to two tasks. A word that stands for a scalar is the same, one
--- that names a cell is renamed, and a tree that the task holds is the same tree at the renamed places. Of a register
--- that holds nothing no more is said than that its word is the same or renamed.
+-- the renaming keeps their order, and gives no place to two tasks. A word that stands for a scalar is the same, and one
+-- that stands for a tree stands for the same tree at the renamed places, alone as among others. Of a register that
+-- holds nothing, and of a cell that no tree has, no more is said than that its words are the same or renamed.
 --
 -- Where task 1 has its one cell at 0 alone and at 3 in the shared store, behind that of task 0, its word 1 is 7 there.
 use Rattle.std.specs.Prelude.{◌≡◌, ◌≢◌, ◌⊎◌, ℕ, suc, ◌/◌, ◌<◌, Bool, true, false, List, [], ◌∷◌, Option, Some, None}
@@ -15,12 +15,15 @@ use Rattle.cell_code.specs.declared.kind.Kind.{Kind}
 use Rattle.cell_code.specs.declared.kind.Kind.TheVariants as K
 use Rattle.code_runs.specs.Codes.{PlainCode, results_of}
 use Rattle.code_runs.specs.Words.{is_place, place_word}
-use Rattle.code_runs.specs.Cells.{Store, cell_at, size_in, released_at}
+use Rattle.code_runs.specs.Cells.{Store, IsStore, cell_at, released_at}
 use Rattle.code_runs.specs.Trees.{IsTree}
-use Rattle.code_runs.specs.States.{Frame, State}
+use Rattle.code_runs.specs.States.{Frame, Typed, State}
 use Rattle.code_runs.specs.Steps.{Kinds}
 use Rattle.code_runs.specs.Runs.{End, Value, Trap, Out, Deep, Unsound, Run, Going, Over, state_of, begun}
-use Rattle.task_schedules.specs.Schedules.{Shared, scheduled, alone, in_store}
+use Rattle.sound_code.specs.Codes as S
+use Rattle.code_separation.specs.Codes.{run_code}
+use Rattle.code_separation.specs.Starts.{IsStart}
+use Rattle.task_schedules.specs.Schedules.{Shared, turn, scheduled, alone, in_store}
 
 abbrev pub Renaming : Type 0
 Renaming = ℕ → ℕ
@@ -43,20 +46,35 @@ abbrev mutual
 abbrev pub IsThere : Store → ℕ → Type 0
 IsThere s p = cell_at s p ≢ None
 
--- the task's own cells in the shared store: in the same order, of the same sizes, and released where they are
+-- the same word, or renamed
+abbrev pub IsLikeWord : Renaming → ℕ → ℕ → Type 0
+IsLikeWord f w v = (v ≡ w) ⊎ (v ≡ renamed_word f w)
+
+abbrev pub AreLikeWords : Renaming → List ℕ → List ℕ → Type 0
+AreLikeWords f [] [] = Unit {0}
+AreLikeWords f (w ∷ ws) (v ∷ vs) = IsLikeWord f w v × AreLikeWords f ws vs
+AreLikeWords f ws vs = ⊥
+
+-- the same constructor, and as many words, each the same or renamed
+abbrev pub IsLikeCell : Renaming → Option Cell → Option Cell → Type 0
+IsLikeCell f (Some a) (Some b) = (b.tag ≡ a.tag) × AreLikeWords f a.fields b.fields
+IsLikeCell f a b = ⊥
+
+-- the task's own cells in the shared store: in the same order, with like words, and released where they are
 pub record AreRenamed (f : Renaming) (own shared : Store) : Type 0 where
   pub rises : (p q : ℕ) → IsThere own p → IsThere own q → p < q → f p < f q
-  pub sizes : (p : ℕ) → IsThere own p → size_in (cell_at shared (f p)) ≡ size_in (cell_at own p)
+  pub cells : (p : ℕ) → IsThere own p → IsLikeCell f (cell_at own p) (cell_at shared (f p))
   pub released : (p : ℕ) → IsThere own p → released_at shared (f p) ≡ released_at own p
 
--- a tree of type t that the own word w stands for is that of the shared word v
+-- the own word w stands for a tree of type t, and the shared word v for the renamed tree
 pub record IsRenamedTree (tb : Table) (f : Renaming) (own shared : Store) (t w v : ℕ) : Type 0 where
-  pub word : v ≡ renamed_word f w
-  pub tree : (x : Placed) → IsTree tb own t w x → IsTree tb shared t v (renamed f x)
+  pub tree : Placed
+  pub alone : IsTree tb own t w tree
+  pub among : IsTree tb shared t v (renamed f tree)
 
 -- a register's words, by what is known of it
 abbrev pub IsRenamedWord : Table → Renaming → Store → Store → Kind → ℕ → ℕ → Type 0
-IsRenamedWord tb f own shared K.Gone w v = (v ≡ w) ⊎ (v ≡ renamed_word f w)
+IsRenamedWord tb f own shared K.Gone w v = IsLikeWord f w v
 IsRenamedWord tb f own shared (K.Scalar t) w v = v ≡ w
 IsRenamedWord tb f own shared (K.Owned t cs) w v = IsRenamedTree tb f own shared t w v
 IsRenamedWord tb f own shared (K.Lent t cs root from) w v = IsRenamedTree tb f own shared t w v
@@ -80,6 +98,13 @@ AreRenamedFrames tb f own shared waits (a ∷ as') (b ∷ bs) =
     IsRenamedFrame tb f own shared (waits a.function a.at) a b × AreRenamedFrames tb f own shared waits as' bs
 AreRenamedFrames tb f own shared waits as' bs = ⊥
 
+-- the entry's lent arguments
+abbrev pub AreRenamedArguments : Table → Renaming → Store → Store → List Typed → List Typed → Type 0
+AreRenamedArguments tb f own shared [] [] = Unit {0}
+AreRenamedArguments tb f own shared (a ∷ as') (b ∷ bs) = (b.type ≡ a.type)
+    × IsRenamedTree tb f own shared a.type a.word b.word × AreRenamedArguments tb f own shared as' bs
+AreRenamedArguments tb f own shared as' bs = ⊥
+
 -- the state of a task among others, b, is that of the task alone, a; the kinds are those before each instruction, and
 -- those that wait
 pub record IsProjected (before waits : Kinds) (code : PlainCode) (f : Renaming) (a b : State) : Type 0 where
@@ -87,6 +112,7 @@ pub record IsProjected (before waits : Kinds) (code : PlainCode) (f : Renaming) 
   pub running : IsRenamedFrame code.types f a.store b.store (before a.running.function a.running.at) a.running b.running
   pub waiting : AreRenamedFrames code.types f a.store b.store waits a.waiting b.waiting
   pub free : b.free ≡ a.free
+  pub lent : AreRenamedArguments code.types f a.store b.store a.lent b.lent
 
 -- values of these types that words stand for
 abbrev pub AreRenamedTrees : Table → Renaming → Store → Store → List ℕ → List ℕ → List ℕ → Type 0
@@ -126,16 +152,36 @@ AreApart ts = (i j p q : ℕ) (a b : Begun) → slice_get ts i ≡ Some a → sl
 
 -- The tasks begin together: each run is that of its task alone, at the task's places, which are no other task's.
 pub record BeginTogether (before waits : Kinds) (code : PlainCode) (tasks : List Begun) (first : Shared) : Type 0 where
+  pub store : IsStore first.store
   pub apart : AreApart tasks
   pub number : length first.runs ≡ length tasks
   pub same : (k : ℕ) (t : Begun) (r : Run) → slice_get tasks k ≡ Some t → slice_get first.runs k ≡ Some r →
       IsSameRun before waits code t.function t.places (begun t.state t.calls) (in_store first.store r)
 
--- Tasks that begin together come each to what it comes to alone, whatever the schedule is. So it is to be for sound
--- code, with the kinds before its instructions and those that wait, and for tasks whose states are apart.
-abbrev pub EachIsAlone : Kinds → Kinds → PlainCode → Type 0
-EachIsAlone before waits code = (tasks : List Begun) (first : Shared) → BeginTogether before waits code tasks first →
+-- Each task begins alone in a state that is loaded: the code is sound, these are its kinds, the words that the function
+-- is given stand for arguments and credits that are apart, and the store of the task has no other cells.
+abbrev pub AreLoaded : Kinds → Kinds → S.PlainCode → List Begun → Type 0
+AreLoaded before waits code tasks =
+    (k : ℕ) (t : Begun) → slice_get tasks k ≡ Some t → IsStart code before waits t.function [] t.state
+
+-- Loaded tasks that begin together come each to what it comes to alone, whatever the schedule is.
+abbrev pub EachIsAlone : Kinds → Kinds → S.PlainCode → Type 0
+EachIsAlone before waits code = (tasks : List Begun) (first : Shared) → AreLoaded before waits code tasks →
+    BeginTogether before waits (run_code code) tasks first →
     (schedule : List ℕ) (k : ℕ) (t : Begun) (r : Run) → slice_get tasks k ≡ Some t →
-    slice_get (scheduled before code schedule first).runs k ≡ Some r →
-    IsSameRun before waits code t.function t.places (alone before code k schedule (begun t.state t.calls))
-    (in_store (scheduled before code schedule first).store r)
+    slice_get (scheduled before (run_code code) schedule first).runs k ≡ Some r →
+    IsSameRun before waits (run_code code) t.function t.places
+    (alone before (run_code code) k schedule (begun t.state t.calls))
+    (in_store (scheduled before (run_code code) schedule first).store r)
+
+-- what is at a place of the store: a cell, and whether it is released
+abbrev pub IsSameAt : Store → Store → ℕ → Type 0
+IsSameAt s t p = (cell_at s p ≡ cell_at t p) × (released_at s p ≡ released_at t p)
+
+-- After every schedule a turn of task k changes no cell of task j.
+abbrev pub EachKeepsItsCells : Kinds → Kinds → S.PlainCode → Type 0
+EachKeepsItsCells before waits code = (tasks : List Begun) (first : Shared) → AreLoaded before waits code tasks →
+    BeginTogether before waits (run_code code) tasks first →
+    (schedule : List ℕ) (j k p : ℕ) (t : Begun) → slice_get tasks j ≡ Some t → j ≢ k → IsThere t.state.store p →
+    IsSameAt (turn before (run_code code) (scheduled before (run_code code) schedule first) k).store
+    (scheduled before (run_code code) schedule first).store (t.places p)

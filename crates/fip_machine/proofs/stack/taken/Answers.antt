@@ -1,4 +1,4 @@
-use Rattle.std.proofs.Common.{◌≡◌, ◌+◌, ◌-◌, ◌≤◌, ◌∙◌, arith, length, vec_len}
+use Rattle.std.proofs.Common.{◌≡◌, ◌≤◌, ◌∙◌, arith, length, vec_len}
 use Rattle.std.proofs.lemmas.List.{take_all}
 use Rattle.fip_machine.proofs.Tasked.{first_taken, filled}
 use Rattle.fip_machine.proofs.stack.taken.Goals as goal

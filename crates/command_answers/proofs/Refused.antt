@@ -1,0 +1,18 @@
+-- A refused source comes to its refusal alone: a source has one refusal at most, and one that is ready has none.
+use Rattle.std.proofs.Common.{◌≡◌, ℕ, List, ap}
+use Rattle.fip_base.specs.declared.refusal.Refusal.{Refusal}
+use Rattle.command_line.specs.Words.{Command}
+use Rattle.command_outcome.specs.declared.failure.Failure.TheVariants as F
+use Rattle.source_commands.specs.Wanted.{Wanted, Refuses}
+use Rattle.source_commands.proofs.Once.{refused_once, refused_not_ready}
+use Rattle.command_answers.specs.Outcomes.{Outcome, failed}
+use Rattle.command_answers.specs.Answer as A
+use Rattle.command_answers.specs.Answer.{OnSource}
+
+pub refused_is_told : (source input : List ℕ) (c : Command) (w : Wanted) (r : Refusal)
+    (o : Outcome) → Refuses source w r → OnSource source input c w o → o ≡ failed (F.Refused r)
+refused_is_told source input c w r _ h (A.Refused q k) =
+    ap (λ x. failed (F.Refused x)) (refused_once source w q r k h)
+refused_is_told source input c w r _ h (A.LongInput ready reads long) =
+    absurd (refused_not_ready source w r h ready)
+refused_is_told source input c w r _ h (A.Ready o ready taken does) = absurd (refused_not_ready source w r h ready)

@@ -1,0 +1,14 @@
+pub mod Outcomes
+pub mod GaugeText
+pub mod OfProgram
+pub mod Runs
+pub mod Exec
+pub mod CodeRun
+pub mod Stored
+pub mod Replays
+pub mod Generating
+pub mod Lines
+pub mod Asks
+pub mod Answer
+pub mod Example
+pub mod Facts

@@ -1,0 +1,99 @@
+-- For the theorems on `compile` and on what a run leaves: which code is that of a program.
+--
+-- The code is sound. Its types are the program's. It has a function for each fip and fbip instance, in their order, of
+-- the instance's kind, parameters, credits and results, with its registers, and with its name where it is a root. It is
+-- no larger than the instance's places allow, and some bytes are its file. What a function holds of the stack at the
+-- most is what its instance does. And the code means the program: a run of a function on arguments that lie in a new
+-- store ends as its instance means, with the same calls left, whatever calls and frames are given; and where it gives
+-- values, it held as much of the stack. Which instructions do this is left open.
+--
+-- The six instructions of the reversal of a list are code of its program; so are seven, with a Move before the Ret.
+use Rattle.std.specs.Prelude.{◌≡◌, ℕ, List, map, length, Some, slice_get}
+use Rattle.fip_language.specs.Table.{HaveTypes}
+use Rattle.fip_language.specs.Values.{Values}
+use Rattle.fip_language.specs.Gauge.{Seen, highest_frames, highest_words}
+use Rattle.fip_language.specs.Meaning.{Peak}
+use Rattle.fip_base.specs.declared.plain.Stack.{Stack}
+use Rattle.fip_trees.specs.declared.groups.Member.{Member}
+use Rattle.fip_trees.specs.Tree.{Instance, Program}
+use Rattle.tail_groups.specs.Members.{AreMembers}
+use Rattle.code_size.specs.Bounds.{IsWithin}
+use Rattle.flat_meaning.specs.Meaning.{flat_meaning}
+use Rattle.cell_lower.specs.Shape.{Header, headers}
+use Rattle.code_file.specs.CodeText.{CodeText}
+use Rattle.code_file.specs.Plain.{PlainFunction, PlainCode}
+use Rattle.code_file.specs.declared.tags.Version.TheVariants.{Second}
+use Rattle.code_runs.specs.States.{State}
+use Rattle.code_runs.specs.Steps.{Kinds}
+use Rattle.code_runs.specs.Runs.{Value, Ends, loaded, begun}
+use Rattle.code_runs.specs.Gauges.{seen}
+use Rattle.sound_code.specs.Breaks.{IsSound}
+use Rattle.sound_code.specs.Codes as S
+use Rattle.sound_code.specs.StackNumbers.{HasStack}
+use Rattle.code_separation.specs.Codes.{run_code, AreKinds}
+use Rattle.lowered_code.specs.Bodies.{function_of}
+use Rattle.lowered_cells.specs.Ends.{EndsAs}
+use Rattle.type_soundness.specs.Soundness.{parameter_types}
+use Rattle.source_commands.specs.Codes.{sound_view}
+use Rattle.loaded_runs.specs.Loading.{first_store, first_words}
+
+abbrev pub plain_header : PlainFunction → Header
+plain_header f = record {
+  signature = record { kind = f.kind; params = f.params; credits = f.credits; results = f.results };
+  name = f.name;
+  registers = f.registers;
+}
+
+-- Function n is that of instance i, and no larger than its places allow.
+abbrev pub AreWithin : Program → List PlainFunction → Type 0
+AreWithin p fs = (i n : ℕ) (d : Instance) (f : PlainFunction) → slice_get p.instances i ≡ Some d →
+    function_of p.instances i ≡ Some n → slice_get fs n ≡ Some f →
+    IsWithin p.types d (length f.instrs) (length f.labels)
+
+-- Function n, that of instance i, is loaded with these arguments and a cell for each credit of the header.
+pub record IsLoaded (p : Program) (c : S.PlainCode) (i n : ℕ) (vs : Values) (frames : ℕ) (s : State) : Type 0 where
+  pub instance : Instance
+  pub there : slice_get p.instances i ≡ Some instance
+  pub is : function_of p.instances i ≡ Some n
+  pub typed : HaveTypes p.types (parameter_types instance) vs
+  pub begins : loaded (run_code c) n (first_store vs instance.credits) (first_words vs instance.credits) frames ≡ Some s
+
+-- Each run ends as its instance means.
+abbrev pub Means : Program → S.PlainCode → Type 0
+Means p c = (before waits : Kinds) → AreKinds c before waits → (i n : ℕ) (vs : Values) (calls frames : ℕ) (s : State) →
+    IsLoaded p c i n vs frames s → EndsAs c before n s calls (flat_meaning p i vs calls frames).answer
+
+abbrev pub highest_stack : List Seen → Stack
+highest_stack ss = record { frames = highest_frames ss; words = highest_words ss }
+
+abbrev pub stack_of_peak : Peak → Stack
+stack_of_peak peak = record { frames = peak.frames; words = peak.words }
+
+-- Each run that gives words holds, over all its states, as much of the stack as its instance means.
+abbrev pub Peaks : Program → S.PlainCode → Type 0
+Peaks p c = (before waits : Kinds) → AreKinds c before waits → (i n : ℕ) (vs : Values) (calls frames : ℕ) (s : State) →
+    IsLoaded p c i n vs frames s → (words : List ℕ) (last : State) (left steps : ℕ) →
+    Ends before (run_code c) s calls (Value words) last left steps →
+    highest_stack (seen before (run_code c) steps (begun s calls))
+    ≡ stack_of_peak (flat_meaning p i vs calls frames).peak
+
+-- What runs of function n hold of the stack at the most is what is found of instance i.
+abbrev pub HasStacks : Program → List Member → S.PlainCode → Type 0
+HasStacks p members c = (i n : ℕ) (m : Member) → function_of p.instances i ≡ Some n → slice_get members i ≡ Some m →
+    HasStack c n m.stack
+
+-- Some bytes, however many, are the code's file of the second version.
+abbrev pub IsSpelt : PlainCode → Type 0
+IsSpelt code = (file : List ℕ) × CodeText file Second code
+
+pub record IsCodeOf (p : Program) (code : PlainCode) : Type 0 where
+  pub types : code.types ≡ p.types
+  pub members : List Member
+  pub found : AreMembers p.instances members
+  pub functions : map plain_header code.functions ≡ headers members p.instances
+  pub within : AreWithin p code.functions
+  pub spelt : IsSpelt code
+  pub sound : IsSound (sound_view code)
+  pub stacks : HasStacks p members (sound_view code)
+  pub means : Means p (sound_view code)
+  pub peaks : Peaks p (sound_view code)

@@ -1,0 +1,55 @@
+-- For the theorems on `run`, on `trace`, and on what a run leaves: a run of a function of sound code on arguments, from
+-- the store in which they are loaded to its end.
+--
+-- The reversal of Cons(1, Cons(2, Nil)) and Nil begins with two cells and the words 7 and 0, and ends after 11 steps
+-- with the word 1, the cell at 0, which then holds 2.
+use Rattle.std.specs.Prelude.{◌≡◌, ◌+◌, ℕ, List, Some}
+use Rattle.fip_language.specs.Gauge.{Seen}
+use Rattle.fip_language.specs.Values.{Values, words_needed_by_all}
+use Rattle.fip_base.specs.declared.plain.Stack.{Stack}
+use Rattle.code_file.specs.Plain.{PlainCode}
+use Rattle.code_runs.specs.States.{State}
+use Rattle.code_runs.specs.Steps.{Kinds}
+use Rattle.code_runs.specs.Runs.{End, Ends, loaded, begun}
+use Rattle.code_runs.specs.Gauges.{seen}
+use Rattle.code_separation.specs.Codes.{run_code, AreKinds}
+use Rattle.source_commands.specs.Codes.{sound_view}
+use Rattle.loaded_runs.specs.Loading.{first_store, first_words, words_of_credits}
+use Rattle.loaded_runs.specs.TraceText.{Trace}
+use Rattle.loaded_runs.specs.Replaying.{trace_of}
+use Rattle.command_answers.specs.Outcomes.{Left}
+
+-- the words that a store must have for these arguments and credits
+abbrev pub words_for : Values → List ℕ → ℕ
+words_for vs credits = words_needed_by_all vs + words_of_credits credits
+
+-- function n of the code runs on these arguments, with cells for these credits, so many calls and free frames
+pub record Run (code : PlainCode) (n : ℕ) (vs : Values) (credits : List ℕ) (calls frames : ℕ) : Type 0 where
+  pub before : Kinds
+  pub waits : Kinds
+  pub kinds : AreKinds (sound_view code) before waits
+  pub first : State
+  pub begins : loaded (run_code (sound_view code)) n (first_store vs credits) (first_words vs credits) frames
+      ≡ Some first
+  pub end : End
+  pub last : State
+  pub left : ℕ
+  pub steps : ℕ
+  pub ends : Ends before (run_code (sound_view code)) first calls end last left steps
+
+-- what is seen of its states, from the loaded one to the last
+abbrev pub all_seen : {code : PlainCode} {n : ℕ} {vs : Values} {credits : List ℕ} {calls frames : ℕ} →
+    Run code n vs credits calls frames → List Seen
+all_seen {code = code} {calls = calls} r = seen r.before (run_code (sound_view code)) r.steps (begun r.first calls)
+
+-- its trace
+abbrev pub run_trace : {code : PlainCode} {n : ℕ} {vs : Values} {credits : List ℕ} {calls frames : ℕ} →
+    Run code n vs credits calls frames → Trace
+run_trace {code = code} {calls = calls} r =
+    trace_of r.before (run_code (sound_view code)) r.first calls r.steps
+
+-- The code, with the cells as its run left them.
+pub record IsLeft (c : PlainCode) (n : ℕ) (vs : Values) (credits : List ℕ) (calls frames : ℕ) (l : Left) : Type 0 where
+  pub code : l.code ≡ c
+  pub run : Run c n vs credits calls frames
+  pub store : l.store ≡ run.last.store

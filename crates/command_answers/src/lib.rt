@@ -1,0 +1,6 @@
+// The answer of every command: what words, files and an input come to, and what is stored and left. Definitions and
+// their laws; no code.
+#![tactic(auto)]
+
+pub mod laws;
+pub mod members;

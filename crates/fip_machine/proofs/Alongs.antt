@@ -1,0 +1,301 @@
+-- A step of a task leads from a moment of the run that the definition says to the next one.
+-- The idea: what a step came to is told by what the definition says comes next; then each way that a next state may come
+-- about is a case. Where no call is left, a call ends the run, and nothing else does so.
+use Rattle.std.proofs.Common.{◌≡◌, ◌≢◌, ℕ, zero, suc, ◌-◌, ◌<◌, Bool, true, false, List, [], ◌∷◌, Option, Some, None, refl, sym, ap, subst, ◌∙◌, arith}
+use Rattle.std.specs.Prelude.{option_and_then, not}
+use Rattle.fip_language.specs.declared.TrapKind.{TrapKind}
+use Rattle.cell_code.specs.declared.code.Instr.{Instr}
+use Rattle.cell_code.specs.declared.code.Instr.TheVariants as I
+use Rattle.cell_code.specs.declared.kind.Kind.{Kind}
+use Rattle.cell_store.specs.Made.{Stored}
+use Rattle.code_verify.specs.Checked.{Checked}
+use Rattle.code_runs.specs.Codes.{PlainFunction, PlainCode, plain, function_at}
+use Rattle.code_runs.specs.Cells.{Store}
+use Rattle.code_runs.specs.States.{Frame, Typed, State, Next, Went, Entered, Gave, Trapped, TooDeep, Stuck}
+use Rattle.code_runs.specs.Rows.{Done, read_all, write_all, operated, done, trap}
+use Rattle.code_runs.specs.Steps.{Kinds, went_with, went, called_with, called, replaced, destinations, resumed, returned, trapped, act_at, instr_of, kinds_of, next}
+use Rattle.code_runs.specs.Cells.{changed_by}
+use Rattle.code_runs.specs.Runs.{Value, Trap, Out, Deep, Unsound, Run, Going, Over, begun, comes, later, after}
+use Rattle.machine_cells.specs.Small.{IsSmall, store_of}
+use Rattle.machine_rows.specs.declared.rows.Stepped.{Stepped}
+use Rattle.machine_rows.specs.declared.rows.Stepped.TheVariants as S
+use Rattle.machine_rows.specs.Coming.{Comes, Knows}
+use Rattle.fip_machine.specs.declared.machine.Ended.{Ended}
+use Rattle.fip_machine.specs.declared.machine.Ended.TheVariants as M
+use Rattle.fip_machine.specs.Tasks.{Stand, state_with, ended_by}
+use Rattle.fip_machine.specs.Machines.{Seen}
+use Rattle.fip_machine.specs.Ending.{IsOver, RunsTo}
+use Rattle.fip_machine.specs.Along.{Origin, at_step, IsGoing, state_in, IsReady, IsAlong, HasRun, is_call_in, calls_next, HasEntered, IsDeep, CameTo, end_after}
+
+after_later : (kinds : Kinds) (code : PlainCode) (n : ℕ) (r : Run) → after kinds code (suc n) r ≡ later kinds code (after kinds code n r)
+after_later kinds code zero r = refl
+after_later kinds code (suc n) r = after_later kinds code n (later kinds code r)
+
+-- an instruction that is no call enters no function and asks no frame
+
+abbrev NotCalled : Next → Type 0
+NotCalled (Went t) = Unit {0}
+NotCalled (Entered t) = ⊥
+NotCalled (Gave ws) = Unit {0}
+NotCalled (Trapped kind line col) = Unit {0}
+NotCalled TooDeep = ⊥
+NotCalled Stuck = Unit {0}
+
+with_store : (s : State) (d : Done) (o : Option Store) → NotCalled (went_with s d o)
+with_store s d None = tt
+with_store s d (Some store) = tt
+
+has_gone : (s : State) (d : Option Done) → NotCalled (went s d)
+has_gone s None = tt
+has_gone s (Some d) = with_store s d (changed_by d.changes s.store)
+
+has_operated : (s : State) (line col : ℕ) (o : Option TrapKind) (d : Option Done) → NotCalled (trapped s line col o d)
+has_operated s line col None d = has_gone s d
+has_operated s line col (Some kind) d = tt
+
+has_resumed : (s : State) (w : Frame) (below : List Frame) (ws : Option (List ℕ)) → NotCalled (resumed s w below ws)
+has_resumed s w below None = tt
+has_resumed s w below (Some ws) = tt
+
+has_returned : (code : PlainCode) (s : State) (waiting : List Frame) (ws : Option (List ℕ)) → NotCalled (returned code s waiting ws)
+has_returned code s waiting None = tt
+has_returned code s [] (Some vs) = tt
+has_returned code s (w ∷ below) (Some vs) = has_resumed s w below (option_and_then (λ ds. write_all w.words ds vs) (destinations code w))
+
+no_call : (code : PlainCode) (ks : List Kind) (s : State) (o : Option Instr) → is_call_in o ≡ false → NotCalled (act_at code ks s o)
+no_call code ks s None e = tt
+no_call code ks s (Some (I.Const d v)) e = has_gone s (done code.types ks s (I.Const d v))
+no_call code ks s (Some (I.Atom d t c)) e = has_gone s (done code.types ks s (I.Atom d t c))
+no_call code ks s (Some (I.Move d r)) e = has_gone s (done code.types ks s (I.Move d r))
+no_call code ks s (Some (I.Arith d o x y line col)) e = has_operated s line col (trap (operated s o x y)) (done code.types ks s (I.Arith d o x y line col))
+no_call code ks s (Some (I.Test r c target)) e = has_gone s (done code.types ks s (I.Test r c target))
+no_call code ks s (Some (I.TestInt r v target)) e = has_gone s (done code.types ks s (I.TestInt r v target))
+no_call code ks s (Some (I.Peek d r i)) e = has_gone s (done code.types ks s (I.Peek d r i))
+no_call code ks s (Some (I.Take r ds)) e = has_gone s (done code.types ks s (I.Take r ds))
+no_call code ks s (Some (I.Put r t c ss)) e = has_gone s (done code.types ks s (I.Put r t c ss))
+no_call code ks s (Some (I.Drop r)) e = has_gone s (done code.types ks s (I.Drop r))
+no_call code ks s (Some (I.Free r)) e = has_gone s (done code.types ks s (I.Free r))
+no_call code ks s (Some (I.Call f ss ds)) e = absurd cc
+no_call code ks s (Some (I.Tail f ss)) e = absurd cc
+no_call code ks s (Some (I.Ret ss)) e = has_returned code s s.waiting (read_all s.running.words ss)
+no_call code ks s (Some (I.Jump target)) e = has_gone s (done code.types ks s (I.Jump target))
+
+-- what a step came to, by the run after it
+
+abbrev EnteredIn : Run → ℕ → Bool → State → List ℕ → Type 0
+EnteredIn m zero call new given = call ≡ false → IsOver m M.Out new given
+EnteredIn m (suc left) call new given = IsGoing m new left
+
+abbrev DeepIn : Run → ℕ → Bool → State → List ℕ → Type 0
+DeepIn m zero call new given = call ≡ false → IsOver m M.Deep new given
+DeepIn m (suc left) call new given = IsOver m M.Deep new given
+
+abbrev CameIn : Run → ℕ → Bool → Stepped → State → List ℕ → Type 0
+CameIn m left call S.Went new given = IsGoing m new left
+CameIn m left call S.Entered new given = EnteredIn m left call new given
+CameIn m left call S.Value new given = IsOver m M.Value new given
+CameIn m left call (S.Trap kind line col) new given = IsOver m (M.Trap kind line col) new given
+CameIn m left call S.Deep new given = DeepIn m left call new given
+
+-- where an instruction could not be done nothing is said
+came_stuck : (s : State) (l k left : ℕ) (call : Bool) (r : Stepped) (new : State) (given : List ℕ) → CameIn (Over Unsound s l k) left call r new given
+came_stuck s l k left call S.Went new given = tt
+came_stuck s l k zero call S.Entered new given = λ e. tt
+came_stuck s l k (suc left) call S.Entered new given = tt
+came_stuck s l k left call S.Value new given = tt
+came_stuck s l k left call (S.Trap kind line col) new given = tt
+came_stuck s l k zero call S.Deep new given = λ e. tt
+came_stuck s l k (suc left) call S.Deep new given = tt
+
+came : (s : State) (left k : ℕ) (call : Bool) (x : Next) (r : Stepped) (new : State) (given : List ℕ) → (call ≡ false → NotCalled x) → Comes s x r new given → CameIn (comes s left k x) left call r new given
+came s left k call (Went t) r new given n h = subst (λ q. CameIn (Going t left k) left call q new given) (sym h.0) (h.1, refl)
+came s zero k call (Entered t) r new given n h = subst (λ q. CameIn (Over Out s 0 k) zero call q new given) (sym h.0) (λ e. absurd (n e))
+came s (suc left) k call (Entered t) r new given n h = subst (λ q. CameIn (Going t left k) (suc left) call q new given) (sym h.0) (h.1, refl)
+came s left k call (Gave vs) r new given n h = subst (λ q. CameIn (Over (Value vs) s left k) left call q new given) (sym h.0) (refl, h.1, h.2)
+came s left k call (Trapped kind line col) r new given n h = subst (λ q. CameIn (Over (Trap kind line col) s left k) left call q new given) (sym h.0) (refl, h.1)
+came s zero k call TooDeep r new given n h = subst (λ q. CameIn (Over Out s 0 k) zero call q new given) (sym h.0) (λ e. absurd (n e))
+came s (suc left) k call TooDeep r new given n h = subst (λ q. CameIn (Over Deep s left k) (suc left) call q new given) (sym h.0) (refl, h.1)
+came s left k call Stuck r new given n h = came_stuck s left k left call r new given
+
+came_along : (kinds : Kinds) (code : PlainCode) (m : Run) (left : ℕ) (now : State) (r : Stepped) (new : State) (given : List ℕ) → IsGoing m now left → Comes now (next kinds code now) r new given → CameIn (later kinds code m) left (is_call_in (instr_of code now)) r new given
+came_along kinds code (Going s l k) left now r new given h c =
+    let at : Comes s (next kinds code s) r new given = subst (λ (u : State). Comes u (next kinds code u) r new given) h.0 c in
+    let there : CameIn (comes s l (suc k) (next kinds code s)) l (is_call_in (instr_of code s)) r new given = came s l (suc k) (is_call_in (instr_of code s)) (next kinds code s) r new given (no_call code (kinds_of kinds s) s (instr_of code s)) at in
+    let same : CameIn (comes s l (suc k) (next kinds code s)) left (is_call_in (instr_of code s)) r new given = subst (λ q. CameIn (comes s l (suc k) (next kinds code s)) q (is_call_in (instr_of code s)) r new given) (sym h.1) there in
+    subst (λ (u : State). CameIn (comes s l (suc k) (next kinds code s)) left (is_call_in (instr_of code u)) r new given) (sym h.0) same
+came_along kinds code (Over (Value ws) s l k) left now r new given h c = absurd h
+came_along kinds code (Over (Trap kind line col) s l k) left now r new given h c = absurd h
+came_along kinds code (Over Out s l k) left now r new given h c = absurd h
+came_along kinds code (Over Deep s l k) left now r new given h c = absurd h
+came_along kinds code (Over Unsound s l k) left now r new given h c = came_stuck s l k left (is_call_in (instr_of code now)) r new given
+
+pub stepped : (o : Origin) (t : Stand) (s : Stored) (left : ℕ) (r : Stepped) (u : Stand) (w : Stored) → IsAlong o t s left → u.code ≡ t.code → (IsSmall s.cells → IsSmall w.cells) → (s.pushed ≡ [] → w.pushed ≡ []) → (t.ended ≡ None → u.ended ≡ ended_by r) → (Knows t.code o.kinds → t.ended ≡ None → IsSmall s.cells → s.pushed ≡ [] → Comes (state_in o t s) (next o.kinds (plain t.code.code) (state_in o t s)) r (state_in o u w) u.given) → CameTo o left (calls_next t.code t) r u w
+stepped o t s left r u w a code small pushed ends told =
+    let old = state_in o t s in
+    let new = state_in o u w in
+    let knows : Knows t.code o.kinds = subst (λ (v : Checked). Knows v o.kinds) (sym a.code) a.knows in
+    let here : Comes old (next o.kinds (plain o.code.code) old) r new u.given = subst (λ (v : Checked). Comes old (next o.kinds (plain v.code) old) r new u.given) a.code (told knows a.going a.small a.empty) in
+    let on = came_along o.kinds (plain o.code.code) (at_step o a.steps) left old r new u.given a.run here in
+    let same : CameIn (at_step o (suc a.steps)) left (calls_next o.code t) r new u.given = subst (λ (m : Run). CameIn m left (calls_next o.code t) r new u.given) (sym (after_later o.kinds (plain o.code.code) a.steps (begun o.first o.calls))) on in
+    by r (subst (λ (v : Checked). CameIn (at_step o (suc a.steps)) left (calls_next v t) r new u.given) (sym a.code) same) (ends a.going)
+  where
+    along : (l : ℕ) → u.ended ≡ None → IsGoing (at_step o (suc a.steps)) (state_in o u w) l → IsAlong o u w l
+    along l e h = record {
+      code = code ∙ a.code;
+      knows = a.knows;
+      going = e;
+      small = small a.small;
+      empty = pushed a.empty;
+      steps = suc a.steps;
+      run = h;
+    }
+
+    entered : (l : ℕ) (call : Bool) → u.ended ≡ None → EnteredIn (at_step o (suc a.steps)) l call (state_in o u w) u.given → HasEntered o l call u w
+    entered zero call e h = λ f. (suc a.steps, h f)
+    entered (suc l) call e h = along l e h
+
+    deep : (l : ℕ) (call : Bool) → DeepIn (at_step o (suc a.steps)) l call (state_in o u w) u.given → IsDeep o l call u w
+    deep zero call h = λ f. (suc a.steps, h f)
+    deep (suc l) call h = (suc a.steps, h)
+
+    by : (r : Stepped) → CameIn (at_step o (suc a.steps)) left (calls_next t.code t) r (state_in o u w) u.given → u.ended ≡ ended_by r → CameTo o left (calls_next t.code t) r u w
+    by S.Went h e = along left e h
+    by S.Entered h e = entered left (calls_next t.code t) e h
+    by S.Value h e = (suc a.steps, h)
+    by (S.Trap kind line col) h e = (suc a.steps, h)
+    by S.Deep h e = deep left (calls_next t.code t) h
+
+-- runs to the next call
+
+pub has_gone_on : (o : Origin) (left : ℕ) (call : Bool) (r : Stepped) (u : Stand) (w : Stored) → r ≡ S.Went → CameTo o left call r u w → IsAlong o u w left
+has_gone_on o left call r u w e h = subst (λ q. CameTo o left call q u w) e h
+
+entered_less : (o : Origin) (left : ℕ) (call : Bool) (u : Stand) (w : Stored) → 0 < left → HasEntered o left call u w → IsAlong o u w (left - 1)
+entered_less o zero call u w some h = absurd (omega (arith, some))
+entered_less o (suc left) call u w some h = let less : suc left - 1 ≡ left = omega arith in subst (λ n. IsAlong o u w n) (sym less) h
+
+pub has_entered : (o : Origin) (left : ℕ) (call : Bool) (r : Stepped) (u : Stand) (w : Stored) → r ≡ S.Entered → 0 < left → CameTo o left call r u w → IsAlong o u w (left - 1)
+has_entered o left call r u w e some h = entered_less o left call u w some (subst (λ q. CameTo o left call q u w) e h)
+
+deep_ended : (o : Origin) (left : ℕ) (call : Bool) (u : Stand) (w : Stored) → 0 < left → IsDeep o left call u w → HasRun o M.Deep u w
+deep_ended o zero call u w some h = absurd (omega (arith, some))
+deep_ended o (suc left) call u w some h = h
+
+pub has_ended : (o : Origin) (left : ℕ) (call : Bool) (r : Stepped) (u : Stand) (w : Stored) → r ≢ S.Went → r ≢ S.Entered → 0 < left → CameTo o left call r u w → HasRun o (end_after (Some r)) u w
+has_ended o left call S.Went u w n m some h = absurd (n refl)
+has_ended o left call S.Entered u w n m some h = absurd (m refl)
+has_ended o left call S.Value u w n m some h = h
+has_ended o left call (S.Trap kind line col) u w n m some h = h
+has_ended o left call S.Deep u w n m some h = deep_ended o left call u w some h
+
+-- runs with no call left
+
+pub has_ended_late : (o : Origin) (r : Stepped) (u : Stand) (w : Stored) → r ≢ S.Went → CameTo o 0 false r u w → HasRun o (end_after (Some r)) u w
+has_ended_late o S.Went u w n h = absurd (n refl)
+has_ended_late o S.Entered u w n h = h refl
+has_ended_late o S.Value u w n h = h
+has_ended_late o (S.Trap kind line col) u w n h = h
+has_ended_late o S.Deep u w n h = h refl
+
+-- whether a call is next
+
+pub not_on : (b : Bool) → true ≡ not b → b ≡ false
+not_on true e = absurd cc
+not_on false e = refl
+
+pub not_off : (b : Bool) → false ≡ not b → b ≡ true
+not_off true e = refl
+not_off false e = absurd cc
+
+-- a call with none left
+
+out_called_with : (s : State) (f k : ℕ) (g : PlainFunction) (free : ℕ) (ws given : List ℕ) → IsOver (comes s 0 k (called_with s f g free ws)) M.Out s given
+out_called_with s f k g zero ws given = (refl, refl)
+out_called_with s f k g (suc free) ws given = (refl, refl)
+
+out_called : (s : State) (f k : ℕ) (g : Option PlainFunction) (ws : Option (List ℕ)) (given : List ℕ) → IsOver (comes s 0 k (called s f g ws)) M.Out s given
+out_called s f k None ws given = tt
+out_called s f k (Some g) None given = tt
+out_called s f k (Some g) (Some ws) given = out_called_with s f k g s.free ws given
+
+out_replaced : (s : State) (f k : ℕ) (g : Option PlainFunction) (ws : Option (List ℕ)) (given : List ℕ) → IsOver (comes s 0 k (replaced s f g ws)) M.Out s given
+out_replaced s f k None ws given = tt
+out_replaced s f k (Some g) None given = tt
+out_replaced s f k (Some g) (Some ws) given = (refl, refl)
+
+out_at : (code : PlainCode) (ks : List Kind) (s : State) (k : ℕ) (o : Option Instr) (given : List ℕ) → is_call_in o ≡ true → IsOver (comes s 0 k (act_at code ks s o)) M.Out s given
+out_at code ks s k None given e = absurd cc
+out_at code ks s k (Some (I.Const d v)) given e = absurd cc
+out_at code ks s k (Some (I.Atom d t c)) given e = absurd cc
+out_at code ks s k (Some (I.Move d r)) given e = absurd cc
+out_at code ks s k (Some (I.Arith d o x y line col)) given e = absurd cc
+out_at code ks s k (Some (I.Test r c target)) given e = absurd cc
+out_at code ks s k (Some (I.TestInt r v target)) given e = absurd cc
+out_at code ks s k (Some (I.Peek d r i)) given e = absurd cc
+out_at code ks s k (Some (I.Take r ds)) given e = absurd cc
+out_at code ks s k (Some (I.Put r t c ss)) given e = absurd cc
+out_at code ks s k (Some (I.Drop r)) given e = absurd cc
+out_at code ks s k (Some (I.Free r)) given e = absurd cc
+out_at code ks s k (Some (I.Call f ss ds)) given e = out_called s f k (function_at code f) (read_all s.running.words ss) given
+out_at code ks s k (Some (I.Tail f ss)) given e = out_replaced s f k (function_at code f) (read_all s.running.words ss) given
+out_at code ks s k (Some (I.Ret ss)) given e = absurd cc
+out_at code ks s k (Some (I.Jump target)) given e = absurd cc
+
+out_along : (kinds : Kinds) (code : PlainCode) (m : Run) (now : State) (given : List ℕ) → IsGoing m now 0 → is_call_in (instr_of code now) ≡ true → IsOver (later kinds code m) M.Out now given
+out_along kinds code (Going s l k) now given h c =
+    let at : is_call_in (instr_of code s) ≡ true = subst (λ (u : State). is_call_in (instr_of code u) ≡ true) h.0 c in
+    let there : IsOver (comes s 0 (suc k) (next kinds code s)) M.Out s given = out_at code (kinds_of kinds s) s (suc k) (instr_of code s) given at in
+    let same : IsOver (comes s l (suc k) (next kinds code s)) M.Out s given = subst (λ q. IsOver (comes s q (suc k) (next kinds code s)) M.Out s given) h.1 there in
+    subst (λ (u : State). IsOver (comes s l (suc k) (next kinds code s)) M.Out u given) (sym h.0) same
+out_along kinds code (Over (Value ws) s l k) now given h c = absurd h
+out_along kinds code (Over (Trap kind line col) s l k) now given h c = absurd h
+out_along kinds code (Over Out s l k) now given h c = absurd h
+out_along kinds code (Over Deep s l k) now given h c = absurd h
+out_along kinds code (Over Unsound s l k) now given h c = tt
+
+pub is_out : (o : Origin) (t : Stand) (s : Stored) → IsAlong o t s 0 → calls_next t.code t ≡ true → HasRun o M.Out t s
+is_out o t s a c =
+    let call : calls_next o.code t ≡ true = subst (λ (v : Checked). calls_next v t ≡ true) a.code c in
+    let on = out_along o.kinds (plain o.code.code) (at_step o a.steps) (state_in o t s) t.given a.run call in
+    (suc a.steps, subst (λ (m : Run). IsOver m M.Out (state_in o t s) t.given) (sym (after_later o.kinds (plain o.code.code) a.steps (begun o.first o.calls))) on)
+
+-- the beginning
+
+pub ready_out : (o : Origin) (t : Stand) (s : Stored) (calls : ℕ) → calls ≡ 0 → IsReady o t s calls → HasRun o M.Out t s
+ready_out o t s calls none r = (0, subst (λ n. IsOver (begun o.first n) M.Out (state_in o t s) t.given) (sym (r.calls ∙ none)) (refl, sym r.first))
+
+pub ready_along : (o : Origin) (t : Stand) (s : Stored) (calls : ℕ) → calls ≢ 0 → IsReady o t s calls → IsAlong o t s (calls - 1)
+ready_along o t s calls some r = record {
+  code = r.code;
+  knows = r.knows;
+  going = r.going;
+  small = r.small;
+  empty = r.empty;
+  steps = 0;
+  run = begins calls some r.calls;
+}
+  where
+    begins : (n : ℕ) → n ≢ 0 → o.calls ≡ n → IsGoing (begun o.first o.calls) (state_in o t s) (n - 1)
+    begins zero some e = absurd (some refl)
+    begins (suc n) some e = let less : suc n - 1 ≡ n = omega arith in subst (λ c. IsGoing (begun o.first c) (state_in o t s) (suc n - 1)) (sym e) (sym r.first, less)
+
+-- the whole of it: a machine is taken apart, its task runs over a recorder, and it is put together again
+
+pub has_come : (m : Seen) (t : Stand) (s w : Stored) (calls : ℕ) (e : Ended) (u : Stand) (v x : Stored) (new : Seen) → t ≡ m.stack → store_of s.cells s.released ≡ m.store → s.pushed ≡ m.pushed → w ≡ s → ((o : Origin) → IsReady o t w calls → HasRun o e u v) → x ≡ v → new.stack ≡ u → new.store ≡ store_of x.cells x.released → (kinds : Kinds) → Knows m.stack.code kinds → m.stack.ended ≡ None → IsSmall m.store.cells → m.pushed ≡ [] → (lent : List Typed) → RunsTo kinds (plain m.stack.code.code) (state_with m.stack lent m.store) calls e (state_with new.stack lent new.store) new.stack.given
+has_come m t s w calls e u v x new stack store pushed same ran kept after cells kinds knows going small empty lent =
+    let first : State = state_with m.stack lent m.store in
+    let there : store_of w.cells w.released ≡ m.store = ap (λ (z : Stored). store_of z.cells z.released) same ∙ store in
+    let o : Origin = record { code = m.stack.code; kinds = kinds; lent = lent; first = first; calls = calls } in
+    let ready : IsReady o t w calls = record {
+      code = ap (λ (q : Stand). q.code) stack;
+      knows = knows;
+      going = ap (λ (q : Stand). q.ended) stack ∙ going;
+      small = subst (λ (q : Store). IsSmall q.cells) (sym there) small;
+      empty = ap (λ (z : Stored). z.pushed) same ∙ pushed ∙ empty;
+      first = λ i. state_with (sym stack i) lent (sym there i);
+      calls = refl;
+    } in
+    let told : RunsTo kinds (plain m.stack.code.code) first calls e (state_with u lent (store_of v.cells v.released)) u.given = ran o ready in
+    let stood : RunsTo kinds (plain m.stack.code.code) first calls e (state_with new.stack lent (store_of v.cells v.released)) new.stack.given = subst (λ (q : Stand). RunsTo kinds (plain m.stack.code.code) first calls e (state_with q lent (store_of v.cells v.released)) q.given) (sym after) told in
+    let stays : store_of v.cells v.released ≡ new.store = sym (cells ∙ ap (λ (z : Stored). store_of z.cells z.released) kept) in
+    subst (λ (q : Store). RunsTo kinds (plain m.stack.code.code) first calls e (state_with new.stack lent q) new.stack.given) stays stood

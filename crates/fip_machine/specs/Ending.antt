@@ -1,0 +1,28 @@
+-- How a run came out, against the run that the definition says: it ended so, in this state, with these words of results.
+-- Where an instruction can't be done nothing is said: of sound code this never happens.
+-- rev of two items and none, with 2 calls: the definition's run is over after 8 steps, out of calls, before the call
+-- that isn't left. So the machine answers Out, and stands before that call.
+use Rattle.std.specs.Prelude.{◌≡◌, ℕ, List}
+use Rattle.code_runs.specs.Codes.{PlainCode}
+use Rattle.code_runs.specs.States.{State}
+use Rattle.code_runs.specs.Steps.{Kinds}
+use Rattle.code_runs.specs.Runs.{End, Value, Trap, Out, Deep, Unsound, Run, Going, Over, begun, after}
+use Rattle.fip_machine.specs.declared.machine.Ended.{Ended}
+use Rattle.fip_machine.specs.declared.machine.Ended.TheVariants as M
+
+-- The end in a last state is what was answered, with the state and the words that are left then.
+abbrev pub EndsAs : End → State → Ended → State → List ℕ → Type 0
+EndsAs (Value ws) last e new given = (e ≡ M.Value) × (new ≡ last) × (given ≡ ws)
+EndsAs (Trap kind line col) last e new given = (e ≡ M.Trap kind line col) × (new ≡ last)
+EndsAs Out last e new given = (e ≡ M.Out) × (new ≡ last)
+EndsAs Deep last e new given = (e ≡ M.Deep) × (new ≡ last)
+EndsAs Unsound last e new given = Unit {0}
+
+-- The run is over, and so.
+abbrev pub IsOver : Run → Ended → State → List ℕ → Type 0
+IsOver (Going s left n) e new given = ⊥
+IsOver (Over end s left n) e new given = EndsAs end s e new given
+
+-- The run from the first state, with so many calls, comes to this end.
+abbrev pub RunsTo : Kinds → PlainCode → State → ℕ → Ended → State → List ℕ → Type 0
+RunsTo kinds code first calls e new given = (n : ℕ) × IsOver (after kinds code n (begun first calls)) e new given

@@ -1,7 +1,7 @@
 -- What a command comes to: by the constructors of what it does, behind the file that it fetches.
-use Rattle.std.proofs.Common.{◌≡◌, ◌<◌, ◌≤◌, ℕ, List, [], ◌∷◌, Some, None, refl, sym, subst, inl, inr, length}
+use Rattle.std.proofs.Common.{◌≡◌, ◌<◌, ℕ, List, Some, None, refl, sym, subst, inl, length}
 use Rattle.std.specs.Prelude.{Option}
-use Rattle.fip_language.specs.declared.limits.TheConstants.{MOST_FILE_BYTES, MOST_SOURCE_BYTES}
+use Rattle.fip_language.specs.declared.limits.TheConstants.{MOST_SOURCE_BYTES}
 use Rattle.fip_language.specs.declared.rule.Rule.TheVariants.{E05}
 use Rattle.fip_base.specs.Files.{File, file_of}
 use Rattle.command_line.specs.Words.{Command, Check, Compile, Verify, Upgrade, Exec, Run, Eval, Trace, Session, Tasks, Derive, Audit, Replay, Library, Gen, IsCommand}
@@ -12,7 +12,6 @@ use Rattle.source_report.specs.Report as Report
 use Rattle.source_commands.specs.Wanted.{Wanted}
 use Rattle.command_answers.specs.Outcomes.{Outcome, failed}
 use Rattle.command_answers.specs.Asks.{fetched_name, stored_name, wanted}
-use Rattle.command_answers.specs.Stored as S
 use Rattle.command_answers.specs.Stored.{Audits}
 use Rattle.command_answers.specs.Answer as A
 use Rattle.command_answers.specs.Answer.{IsAnswer, NotUnderstood, Answered, ComesTo, OnNamed, OnFound, OnFile, OnWanted, OnSource, told}

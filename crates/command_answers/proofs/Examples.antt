@@ -1,8 +1,8 @@
 -- The examples, by computation alone.
-use Rattle.std.proofs.Common.{◌≡◌, ℕ, pos, true, List, [], ◌∷◌, ◌++◌, Some, None, Ok, Err, refl}
+use Rattle.std.proofs.Common.{◌≡◌, pos, true, [], ◌∷◌, ◌++◌, Some, Ok, Err, refl}
 use Rattle.std.specs.Prelude.{codes}
 use Rattle.std.specs.Fmt.{decimal}
-use Rattle.fip_language.specs.Values.{Values, End, More}
+use Rattle.fip_language.specs.Values.{End, More}
 use Rattle.flat_meaning.specs.Meaning.{flat_meaning}
 use Rattle.flat_meaning.specs.Example.{lists}
 use Rattle.command_outcome.specs.Successes.{tree_text}

@@ -6,7 +6,7 @@ use Rattle.command_line.specs.Words.{Command, IsCommand}
 use Rattle.command_outcome.specs.Failures.{failure_status}
 use Rattle.command_outcome.specs.declared.failure.Failure.{Failure}
 use Rattle.command_outcome.specs.declared.failure.Failure.TheVariants as F
-use Rattle.command_answers.specs.Outcomes.{End, Outcome, failed}
+use Rattle.command_answers.specs.Outcomes.{End, Left, Outcome, failed, ran}
 use Rattle.command_answers.specs.Answer.{Answer, IsAnswer, NotUnderstood, Answered, told, told_end}
 
 pub one_answer : (words : List (List ℕ)) (files : List File) (input : List ℕ) (a : Answer) →
@@ -59,3 +59,7 @@ pub err_stays : (words : List (List ℕ)) (files : List File) (input : List ℕ)
     IsAnswer words files input a → a.status ≡ 0 → a.err ≡ []
 err_stays words files input _ (NotUnderstood h) k = absurd (fails F.NotUnderstood k)
 err_stays words files input _ (Answered c o asked comes) k = err_of _ o files o.end k
+
+pub is_left : (l : Left) (e : End) → (told None (ran e l) []).left ≡ Some l
+is_left l (Ok text) = refl
+is_left l (Err f) = refl

@@ -11,7 +11,7 @@
 -- status is 0, 3, 4 or 7.
 --
 -- `exec list.fip3 rev` without that file has status 9 and `fault: folder` on err.
-use Rattle.std.specs.Prelude.{◌≡◌, ◌<◌, ◌≤◌, ℕ, false, List, [], length, Option, Some, None, Result, Ok, Err}
+use Rattle.std.specs.Prelude.{◌≡◌, ◌<◌, ◌≤◌, ℕ, false, List, [], length, Option, Some, None, Ok, Err}
 use Rattle.fip_language.specs.declared.limits.TheConstants.{MOST_FILE_BYTES}
 use Rattle.fip_language.specs.declared.rule.Rule.TheVariants.{E70}
 use Rattle.fip_base.specs.Files.{File, file_of, put_file}

@@ -6,13 +6,12 @@
 -- with a trap, or out of calls or frames. A fip function has the frames that it needs.
 --
 -- The file of the reversal of a list, with the input and options of `exec`, gives the lines of `exec`.
-use Rattle.std.specs.Prelude.{◌≡◌, ◌<◌, ◌≤◌, ℕ, Bool, List, [], ◌∷◌, ◌++◌, Option, Some, None, Ok, Err}
+use Rattle.std.specs.Prelude.{◌≡◌, ◌<◌, ◌≤◌, ℕ, Bool, List, [], ◌++◌, Option, Some, Ok, Err}
 use Rattle.fip_language.specs.Gauge.{Seen, lowest, highest}
 use Rattle.fip_language.specs.Prefix.{IsPlace}
 use Rattle.fip_language.specs.PrintedText.{printed_lines}
 use Rattle.fip_language.specs.Values.{Values}
 use Rattle.fip_language.specs.ValueText.{SpellsValues}
-use Rattle.fip_base.specs.declared.plain.Param.{Param}
 use Rattle.fip_base.specs.declared.plain.Stack.{Stack}
 use Rattle.command_line.specs.Words.{Room}
 use Rattle.command_outcome.specs.declared.failure.Failure.TheVariants as F
@@ -25,7 +24,7 @@ use Rattle.source_commands.specs.Codes.{sound_view, IsSoundFile}
 use Rattle.session_meaning.specs.Talk.{frames_of}
 use Rattle.tree_agreement.specs.Agreement.{AreWordsOf}
 use Rattle.value_text.specs.Loaded.{types_of}
-use Rattle.command_answers.specs.Outcomes.{End, Left, Outcome, failed, ran}
+use Rattle.command_answers.specs.Outcomes.{End, Outcome, failed, ran}
 use Rattle.command_answers.specs.GaugeText.{gauge_text, if_asked}
 use Rattle.command_answers.specs.OfProgram.{highest_stack}
 use Rattle.command_answers.specs.Runs.{words_for, Run, all_seen}

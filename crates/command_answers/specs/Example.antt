@@ -1,5 +1,5 @@
 -- The examples: runs of the program of lists, a tree of three keys, and a derivation's trees.
-use Rattle.std.specs.Prelude.{ℕ, pos, List, [], ◌∷◌, ◌++◌, Some, None, codes}
+use Rattle.std.specs.Prelude.{ℕ, pos, List, [], ◌∷◌, ◌++◌, Some, None}
 use Rattle.fip_language.specs.Values.{Value, Int, Node, Values, End, More}
 use Rattle.fip_language.specs.PrintedText.{printed_lines}
 use Rattle.flat_meaning.specs.Example.{lists, rev, inc, ints}

@@ -7,8 +7,6 @@
 -- On the source of the reversal of a list and the lines `a = rev(Cons(1, Nil), Nil)` and `?a`, the session prints `ok`
 -- and `Cons(1, Nil)`.
 use Rattle.std.specs.Prelude.{◌≡◌, ℕ, List}
-use Rattle.fip_trees.specs.declared.groups.Member.{Member}
-use Rattle.fip_trees.specs.Tree.{Program}
 use Rattle.tail_groups.specs.Members.{AreMembers}
 use Rattle.command_line.specs.Words.{Room}
 use Rattle.source_report.specs.Report.{IsAccepted}

@@ -6,7 +6,6 @@
 use Rattle.std.specs.Prelude.{◌≡◌, ◌+◌, ℕ, List, Some}
 use Rattle.fip_language.specs.Gauge.{Seen}
 use Rattle.fip_language.specs.Values.{Values, words_needed_by_all}
-use Rattle.fip_base.specs.declared.plain.Stack.{Stack}
 use Rattle.code_file.specs.Plain.{PlainCode}
 use Rattle.code_runs.specs.States.{State}
 use Rattle.code_runs.specs.Steps.{Kinds}

@@ -11,7 +11,7 @@
 -- For the reversal of a list `derive` stores
 --     0 MATCH![0 1|](VAR[1|],CALL[1 3|2:1](VAR[3|],REUSE[1|2:1](SCALAR[|],VAR[1|])))
 -- and `audit` prints `derived`; with the text `x` it is refused as `E72: 0`, and with no text as `E73`.
-use Rattle.std.specs.Prelude.{◌≡◌, ◌<◌, ◌≤◌, ◌⊎◌, ℕ, List, [], ◌∷◌, length, Option, Some, None}
+use Rattle.std.specs.Prelude.{◌≡◌, ◌<◌, ◌≤◌, ◌⊎◌, ℕ, List, length, Option, Some, None}
 use Rattle.std.specs.Fmt.{decimal}
 use Rattle.fip_language.specs.declared.limits.TheConstants.{MOST_FILE_BYTES}
 use Rattle.fip_language.specs.declared.rule.Rule.TheVariants.{E61, E72, E73, E74}

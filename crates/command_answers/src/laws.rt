@@ -1,5 +1,5 @@
 // The laws of answers. Each is the contract of a function that does nothing.
-ghost use Rattle.std.specs.Prelude.{◌≡◌, ◌≢◌, ◌<◌, ℕ, pos, true, false, List, [], ◌∷◌, ◌++◌, Some, None, Ok, Err, codes};
+ghost use Rattle.std.specs.Prelude.{◌≡◌, ◌≢◌, ◌<◌, ℕ, pos, true, List, [], ◌∷◌, ◌++◌, Some, None, Ok, Err, codes};
 ghost use Rattle.std.specs.Prelude.{length, slice_get};
 ghost use Rattle.std.specs.Fmt.{decimal};
 ghost use Rattle.fip_base.specs.Files.{File};
@@ -26,7 +26,7 @@ ghost use Rattle.command_line.specs.Words.{Command, IsCommand};
 ghost use Rattle.command_outcome.specs.Successes.{tree_text};
 ghost use Rattle.command_outcome.specs.declared.failure.Failure.TheVariants as F;
 ghost use Rattle.source_commands.specs.Wanted.{Wanted, Refuses};
-ghost use Rattle.command_answers.specs.Outcomes.{Left, Outcome, failed, storing};
+ghost use Rattle.command_answers.specs.Outcomes.{End as an_end, Left, Outcome, failed, storing, ran};
 ghost use Rattle.command_answers.specs.OfProgram.{IsCodeOf, IsLoaded};
 ghost use Rattle.command_answers.specs.GaugeText.{highest_of, lowest_of};
 ghost use Rattle.command_answers.specs.Exec.{TellsAll};
@@ -109,8 +109,9 @@ pub fn an_example_of_weakening()
     ensures twice { Weakens weakened_twice → ⊥ }
 {}
 
-/// What is stored stands under the command's name, and out of calls is status 4. For who wants to see an answer.
-#[tactic(auto, using(crate::proofs::Examples::computed))]
+/// What is stored stands under the command's name, out of calls is status 4, and what ran is left. For who wants to see
+/// an answer.
+#[tactic(auto, using(crate::proofs::Examples::computed, crate::proofs::Told::is_left))]
 pub fn an_example_is_told()
     ensures stored { told (Some (codes "p")) (storing (codes "derived\n") (7 ∷ [])) []
         ≡ record {
@@ -121,6 +122,7 @@ pub fn an_example_is_told()
           left = None;
         } }
     ensures failed { (told (Some (codes "p")) (failed (F.OutOfCalls 3)) []).status ≡ 4 }
+    ensures left { (l : Left) (e : an_end) → (told None (ran e l) []).left ≡ Some l }
 {}
 
 /// A code of a program has a file, so it is unspelt only where that is too long. For who is told E61.

@@ -1,5 +1,5 @@
 // The laws that say of what a command comes to. Each is the contract of a function that does nothing.
-ghost use Rattle.std.specs.Prelude.{◌≡◌, ℕ, ◌<◌, ◌≤◌, Bool, false, List, [], ◌∷◌, length, Option, Some, None, Ok, Err};
+ghost use Rattle.std.specs.Prelude.{◌≡◌, ℕ, ◌<◌, ◌≤◌, false, List, [], length, Some, None, Ok, Err};
 ghost use Rattle.std.specs.Prelude.{codes};
 ghost use Rattle.std.specs.Fmt.{decimal};
 ghost use Rattle.fip_language.specs.declared.limits.TheConstants.{MOST_FILE_BYTES, MOST_SOURCE_BYTES};
@@ -24,7 +24,7 @@ ghost use Rattle.code_file.specs.CodeText.{CodeText};
 ghost use Rattle.code_file.specs.Plain.{PlainCode};
 ghost use Rattle.code_file.specs.declared.tags.Version.TheVariants.{Second};
 ghost use Rattle.source_report.specs.Report.{bare, IsAccepted, IsMatched};
-ghost use Rattle.source_commands.specs.Codes.{IsSoundFile, IsCodeListing, IsUpgraded, IsUnspelt, RefusesCode, HasFunction};
+ghost use Rattle.source_commands.specs.Codes.{IsSoundFile, IsCodeListing, IsUpgraded, IsUnspelt, RefusesCode};
 ghost use Rattle.source_commands.specs.Roots.{IsListing};
 ghost use Rattle.source_commands.specs.Wanted.{Wanted, Refuses, IsReady, IsReport, of_entry};
 ghost use Rattle.eval_command.specs.EvalAnswer.{Spells, Evaluates};
@@ -40,9 +40,9 @@ ghost use Rattle.command_answers.specs.Exec.{Start, RunsOn, IsTraced, IsUntracea
 ghost use Rattle.command_answers.specs.CodeRun.{Chosen, RunOf, SpellsFor, TellsCode};
 ghost use Rattle.command_answers.specs.Stored.{IsMade, IsBadProof};
 ghost use Rattle.command_answers.specs.Lines.{IsSetting};
-ghost use Rattle.command_answers.specs.Generating.{Generates, gen_room, gen_input, rbtree_text, lines_of_tree};
+ghost use Rattle.command_answers.specs.Generating.{gen_room, gen_input, rbtree_text, lines_of_tree};
 ghost use Rattle.command_answers.specs.Asks.{ReadsInput, fetched_name, stored_name, wanted};
-ghost use Rattle.command_answers.specs.Answer.{IsAnswer, ComesTo, Does, IsTaken, DoesCode, told};
+ghost use Rattle.command_answers.specs.Answer.{IsAnswer, ComesTo, Does, IsTaken, told};
 
 /// Words that are no command are told so, and what a command comes to is told. For who asks whether every call has an
 /// answer.

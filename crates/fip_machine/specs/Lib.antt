@@ -1,4 +1,5 @@
 pub mod Tasks
 pub mod Machines
+pub mod GaugeView
 pub mod Ending
 pub mod Along

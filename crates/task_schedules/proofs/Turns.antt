@@ -6,7 +6,7 @@ use Rattle.code_runs.specs.Codes.{PlainCode}
 use Rattle.code_runs.specs.States.{State}
 use Rattle.code_runs.specs.Steps.{Kinds}
 use Rattle.code_runs.specs.Runs.{End, Run, Going, Over, after, later, state_of}
-use Rattle.task_schedules.specs.Schedules.{Shared, turn, turned, settled, scheduled, alone, in_store}
+use Rattle.task_schedules.specs.Schedules.{Shared, turn, turned, scheduled, alone, in_store}
 
 set_other : {A : Type 0} (xs : List A) (j k : ℕ) (x : A) → j ≢ k → slice_get (slice_set xs k x) j ≡ slice_get xs j
 set_other [] j k x h = refl

@@ -1,13 +1,14 @@
 -- The tasks of the examples: rev(Cons(1, Nil), Cons(3, Nil)) and rev(Cons(2, Nil), Cons(4, Nil)), by the code of the
 -- examples of runs. Each has two cells of size 2, needs two calls and 7 steps, and writes its second cell's word into
 -- its first cell.
-use Rattle.std.specs.Prelude.{ℕ, false, List, [], ◌∷◌, ◌++◌, Option, None, length, replicate}
+use Rattle.std.specs.Prelude.{ℕ, ◌+◌, false, List, [], ◌∷◌, ◌++◌, Option, None, length, replicate}
 use Rattle.fip_language.specs.Store.{Cell}
 use Rattle.code_runs.specs.Cells.{Store}
 use Rattle.code_runs.specs.Example.{cons, at}
 use Rattle.code_runs.specs.Runs.{begun}
 use Rattle.code_runs.specs.States.{State}
 use Rattle.task_schedules.specs.Schedules.{Shared}
+use Rattle.task_schedules.specs.Projected.{Begun}
 
 -- Cons(item, ..) with the word of the rest, and behind it Cons(other, Nil)
 abbrev pub cells_of : ℕ → ℕ → ℕ → List (Option Cell)
@@ -40,3 +41,23 @@ by_turns = 0 ∷ 1 ∷ 0 ∷ 1 ∷ 0 ∷ 1 ∷ 0 ∷ 1 ∷ 0 ∷ 1 ∷ 0 ∷ 1 �
 
 abbrev pub second_first : List ℕ
 second_first = replicate 7 1 ++ replicate 7 0
+
+-- how each begins alone, and where its cells are in the shared store
+abbrev pub first_task : Begun
+first_task = record {
+  function = 0;
+  state = rev_at 0 (store_of (cells_of 1 0 3)) 1 7 0;
+  calls = 2;
+  places = λ p. p;
+}
+
+abbrev pub second_task : Begun
+second_task = record {
+  function = 0;
+  state = rev_at 0 (store_of (cells_of 2 0 4)) 1 7 0;
+  calls = 2;
+  places = λ p. 6 + p;
+}
+
+abbrev pub tasks_alone : List Begun
+tasks_alone = first_task ∷ second_task ∷ []

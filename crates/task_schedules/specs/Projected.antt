@@ -7,8 +7,8 @@
 -- holds nothing, and of a cell that no tree has, no more is said than that its words are the same or renamed.
 --
 -- Where task 1 has its one cell at 0 alone and at 3 in the shared store, behind that of task 0, its word 1 is 7 there.
-use Rattle.std.specs.Prelude.{◌≡◌, ◌≢◌, ◌⊎◌, ℕ, suc, ◌/◌, ◌<◌, Bool, true, false, List, [], ◌∷◌, Option, Some, None}
-use Rattle.std.specs.Prelude.{map, length, slice_get, if◌then◌else◌}
+use Rattle.std.specs.Prelude.{◌≡◌, ◌≢◌, ◌⊎◌, ℕ, ◌/◌, ◌<◌, List, [], ◌∷◌, Option, Some, None}
+use Rattle.std.specs.Prelude.{length, slice_get, if◌then◌else◌}
 use Rattle.fip_language.specs.Table.{Table}
 use Rattle.fip_language.specs.Store.{Cell, Placed, PlacedInt, Bare, At, Parts, NoParts, MoreParts}
 use Rattle.cell_code.specs.declared.kind.Kind.{Kind}
@@ -19,7 +19,7 @@ use Rattle.code_runs.specs.Cells.{Store, IsStore, cell_at, released_at}
 use Rattle.code_runs.specs.Trees.{IsTree}
 use Rattle.code_runs.specs.States.{Frame, Typed, State}
 use Rattle.code_runs.specs.Steps.{Kinds}
-use Rattle.code_runs.specs.Runs.{End, Value, Trap, Out, Deep, Unsound, Run, Going, Over, state_of, begun}
+use Rattle.code_runs.specs.Runs.{End, Value, Trap, Out, Deep, Run, Going, Over, begun}
 use Rattle.sound_code.specs.Codes as S
 use Rattle.code_separation.specs.Codes.{run_code}
 use Rattle.code_separation.specs.Starts.{IsStart}

@@ -8,15 +8,14 @@
 -- Two tasks rev(Cons(1, Nil), Cons(3, Nil)) and rev(Cons(2, Nil), Cons(4, Nil)) have two cells each. After the turns 0,
 -- 1, 0, 1, .. of both, and also after all turns of task 1 and then all of task 0, each has given its list, in its own
 -- cells.
-use Rattle.std.specs.Prelude.{◌≡◌, ℕ, zero, suc, List, [], ◌∷◌, ◌++◌, Option, Some, None, map, replicate, slice_get}
+use Rattle.std.specs.Prelude.{◌≡◌, ℕ, suc, List, [], ◌∷◌, ◌++◌, Option, Some, None, replicate, slice_get}
 use Rattle.std.specs.Prelude.{slice_set}
 use Rattle.fip_language.specs.Every.{Every}
 use Rattle.fip_language.specs.Store.{count}
 use Rattle.code_runs.specs.Codes.{PlainCode}
 use Rattle.code_runs.specs.Cells.{Store}
-use Rattle.code_runs.specs.States.{State}
 use Rattle.code_runs.specs.Steps.{Kinds}
-use Rattle.code_runs.specs.Runs.{Run, Going, Over, state_of, later, after, begun}
+use Rattle.code_runs.specs.Runs.{Run, Going, Over, state_of, later, after}
 
 -- one store, and the run of each task; a run's own store is not looked at
 pub record Shared : Type 0 where

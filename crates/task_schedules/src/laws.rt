@@ -3,12 +3,13 @@ ghost use Rattle.std.specs.Prelude.{◌≡◌, ◌≢◌, ℕ, List, [], ◌∷�
 ghost use Rattle.code_runs.specs.Codes.{PlainCode};
 ghost use Rattle.code_runs.specs.States.{State};
 ghost use Rattle.code_runs.specs.Steps.{Kinds};
-ghost use Rattle.code_runs.specs.Runs.{End, Value, Out, Run, Over, after, begun, state_of};
-ghost use Rattle.code_runs.specs.Example.{reversing, unknown};
+ghost use Rattle.code_runs.specs.Runs.{End, Value, Out, Run, Over, begun, state_of};
+ghost use Rattle.code_runs.specs.Example.{reversing, unknown, at_start};
 ghost use Rattle.task_schedules.specs.Draws.{drawn, numbers};
+ghost use Rattle.task_schedules.specs.Projected.{BeginTogether};
 ghost use Rattle.task_schedules.specs.Schedules.{Shared, turn, scheduled, alone, in_store};
 ghost use Rattle.task_schedules.specs.Example.{cells_of, store_of, both, both_done, rev_at, two_tasks, by_turns};
-ghost use Rattle.task_schedules.specs.Example.{second_first};
+ghost use Rattle.task_schedules.specs.Example.{second_first, tasks_alone};
 
 /// A turn of one task changes no other task's frames, calls or end. For who reads a task between two turns of another.
 #[tactic(auto, using(crate::proofs::Turns::others_stay))]
@@ -64,4 +65,11 @@ pub fn an_example_of_draws()
     ensures numbers { numbers 3 1 ≡ 1103527590 ∷ 377401575 ∷ 662824084 ∷ [] }
     ensures drawn { drawn 1 3 2 ≡ 0 ∷ 0 ∷ 1 ∷ [] }
     ensures none { drawn 1 3 0 ≡ [] }
+{}
+
+/// The two tasks of the examples begin together, each at places of its own. For who wants to see that what is asked of
+/// tasks can be met.
+#[tactic(auto, using(crate::proofs::Together::begin))]
+pub fn an_example_begins_together()
+    ensures law { BeginTogether at_start at_start reversing tasks_alone (two_tasks 2) }
 {}

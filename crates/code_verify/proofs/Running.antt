@@ -1,8 +1,8 @@
 -- A run can rely on a sound code: on every way through each function its numbers are in range, and the stack numbers
 -- cover what is called. An instruction that is reached goes on only to instructions that are reached.
-use Rattle.std.proofs.Common.{◌≡◌, ◌⊎◌, inl, inr, ℕ, zero, suc, ◌+◌, ◌<◌, ◌≤◌, Bool, true, false, ◌&&◌, List, [], ◌∷◌, length, map, Option, Some, None, slice_get, option_map, option_and_then, is_some, if◌then◌else◌, ◌==◌, refl, sym, ap, ◌∙◌, subst, true≢false, arith}
-use Rattle.std.specs.Prelude.{nat_lt}
-use Rattle.std.proofs.lemmas.Bool.{false≢true, and_parts, and_from, ltb-true, eqb-true, true_from_ne_false, cases_lt}
+use Rattle.std.proofs.Common.{◌≡◌, ◌≢◌, ◌⊎◌, inl, inr, ℕ, zero, suc, ◌+◌, ◌<◌, ◌≤◌, Bool, true, false, ◌&&◌, List, [], ◌∷◌, length, map, Option, Some, None, slice_get, option_map, option_and_then, is_some, if◌then◌else◌, ◌==◌, refl, sym, ap, ◌∙◌, subst, true≢false, arith}
+use Rattle.std.specs.Prelude.{nat_lt, ◌||◌, not}
+use Rattle.std.proofs.lemmas.Bool.{false≢true, and_parts, and_from, ltb-true, eqb-true, eqb-false, true_from_ne_false, cases_lt}
 use Rattle.std.proofs.lemmas.Option.{same_Some, none-some, slice_get_within, slice_get-map}
 use Rattle.std.proofs.lemmas.List.Elements.{All-nil, All-cons}
 use Rattle.fip_language.specs.Table.{Table, Shape, constructors, shapes}
@@ -14,17 +14,17 @@ use Rattle.cell_code.specs.declared.code.Instr.{Instr}
 use Rattle.cell_code.specs.declared.code.Instr.TheVariants as I
 use Rattle.cell_code.specs.declared.kind.Kind.{Kind}
 use Rattle.cell_code.specs.declared.kind.Kind.TheVariants.{Gone, Scalar, Owned, Lent, Credit}
-use Rattle.cell_code.specs.Runnable.{body_of, AreBelow, CanCall, Covers, Row, Follows, IsFunction, IsRunnable}
+use Rattle.cell_code.specs.Runnable.{body_of, AreBelow, AreOthers, CanCall, Covers, Row, Follows, IsFunction, IsRunnable}
 use Rattle.sound_code.specs.declared.rule.SoundRule.TheVariants.{S1, S2, S3, S4, S9}
 use Rattle.sound_code.specs.Limits.{most_fields}
 use Rattle.sound_code.specs.Types.{fields, fields_of, count}
 use Rattle.sound_code.specs.Codes.{PlainCode, PlainFunction, plain, plain_function, function_at, params, credits, results, params_of, credits_of, label_at, is_fip}
-use Rattle.sound_code.specs.Kinds.{at}
+use Rattle.sound_code.specs.Kinds.{at, has}
 use Rattle.sound_code.specs.Tables.{AreSoundTables}
 use Rattle.sound_code.specs.Headers.{is_formed}
 use Rattle.sound_code.specs.Ranges.{are_below, is_target, in_range}
 use Rattle.sound_code.specs.Handing.{give, give_all, arguments}
-use Rattle.sound_code.specs.Asked.{only_fields, can_take, is_one, sources, destinations, tail_left, same_types}
+use Rattle.sound_code.specs.Asked.{only_fields, can_take, is_one, are_places, sources, destinations, tail_left, same_types}
 use Rattle.sound_code.specs.Flow.{is_as_asked, IsInstr, Holds, Comes, KnownAt, IsReachedAt}
 use Rattle.sound_code.specs.Entry.{entry}
 use Rattle.sound_code.specs.Endings.{is_end}
@@ -71,6 +71,18 @@ formed_at c t sound n f is = true_from_ne_false (is_formed c f) (λ e. sound n 0
 below_all : (n : ℕ) (rs : List ℕ) → are_below n rs ≡ true → AreBelow n rs
 below_all n [] e = All-nil (λ r. r < n)
 below_all n (r ∷ rs) e = (let p = and_parts (nat_lt r n) (are_below n rs) e in All-cons (λ r. r < n) r rs (ltb-true r n p.0) (below_all n rs p.1))
+
+others_all : (r : ℕ) (ds : List ℕ) → not (has ds r) ≡ true → AreOthers r ds
+others_all r [] e = All-nil (λ d. d ≢ r)
+others_all r (d ∷ ds) e = All-cons (λ d. d ≢ r) d ds (first (d == r) refl e) (others_all r ds (rest (d == r) e))
+  where
+    first : (b : Bool) → (d == r) ≡ b → not (b || has ds r) ≡ true → d ≢ r
+    first true q h same = absurd (false≢true h)
+    first false q h same = eqb-false d r q same
+
+    rest : (b : Bool) → not (b || has ds r) ≡ true → not (has ds r) ≡ true
+    rest true h = absurd (false≢true h)
+    rest false h = h
 
 shape_fields : (w : Table) → ((t : ℕ) → 0 < t → t ≤ length w → (k : ℕ) (s : Shape) → slice_get (constructors w t) k ≡ Some s → length s.fields ≤ most_fields) → (t k : ℕ) → length (fields w t k) ≤ most_fields
 shape_fields w h t k = at (slice_get (constructors w t) k) refl
@@ -262,7 +274,7 @@ row_follows code ss t sound h n g e flows P i ks go (I.Arith d op a b line col) 
 row_follows code ss t sound h n g e flows P i ks go (I.Test r k target) q = (let p = and_parts (nat_lt r g.registers) (is_target (plain_function g) i target) q.ranged in let j = target_there (plain code) (plain_function g) i target p.1 in (ltb-true r g.registers p.0, (next_holds code n g e t sound flows P i ks (I.Test r k target) go q refl), j.0, go target j.2.0 j.0 j.1 (known_label (plain code) (plain_function g) target j.2.0 j.2.1)))
 row_follows code ss t sound h n g e flows P i ks go (I.TestInt r v target) q = (let p = and_parts (nat_lt r g.registers) (is_target (plain_function g) i target) q.ranged in let j = target_there (plain code) (plain_function g) i target p.1 in (ltb-true r g.registers p.0, (next_holds code n g e t sound flows P i ks (I.TestInt r v target) go q refl), j.0, go target j.2.0 j.0 j.1 (known_label (plain code) (plain_function g) target j.2.0 j.2.1)))
 row_follows code ss t sound h n g e flows P i ks go (I.Peek d r k) q = (let p = and_parts (nat_lt d g.registers) (nat_lt r g.registers) q.ranged in (ltb-true d g.registers p.0, ltb-true r g.registers p.1, (next_holds code n g e t sound flows P i ks (I.Peek d r k) go q refl)))
-row_follows code ss t sound h n g e flows P i ks go (I.Take r ds) q = (let p = and_parts (nat_lt r g.registers) (are_below g.registers ds) q.ranged in (ltb-true r g.registers p.0, below_all g.registers ds p.1, taken_few code.types most_fields (length ds) (few_fields (plain code) t) (at ks r) q.sources_are, (next_holds code n g e t sound flows P i ks (I.Take r ds) go q refl)))
+row_follows code ss t sound h n g e flows P i ks go (I.Take r ds) q = (let p = and_parts (nat_lt r g.registers) (are_below g.registers ds) q.ranged in (ltb-true r g.registers p.0, below_all g.registers ds p.1, others_all r ds (and_parts (are_places ks ds) (not (has ds r)) q.destinations_are).1, taken_few code.types most_fields (length ds) (few_fields (plain code) t) (at ks r) q.sources_are, (next_holds code n g e t sound flows P i ks (I.Take r ds) go q refl)))
 row_follows code ss t sound h n g e flows P i ks go (I.Put d t2 k ss2) q = (let p = and_parts (nat_lt d g.registers) (nat_lt k (count code.types t2) && are_below g.registers ss2) q.ranged in let r = and_parts (nat_lt k (count code.types t2)) (are_below g.registers ss2) p.1 in let l = given_long ks ss2 (fields code.types t2 k) q.sources_are in let m = few_fields (plain code) t t2 k in (ltb-true d g.registers p.0, below_all g.registers ss2 r.1, omega (arith, l, m), (next_holds code n g e t sound flows P i ks (I.Put d t2 k ss2) go q refl)))
 row_follows code ss t sound h n g e flows P i ks go (I.Drop r) q = (ltb-true r g.registers q.ranged, (next_holds code n g e t sound flows P i ks (I.Drop r) go q refl))
 row_follows code ss t sound h n g e flows P i ks go (I.Free r) q = (ltb-true r g.registers q.ranged, (next_holds code n g e t sound flows P i ks (I.Free r) go q refl))

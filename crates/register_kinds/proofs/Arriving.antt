@@ -12,7 +12,8 @@ use Rattle.register_kinds.specs.Arrivals.{lessened, lacked_at, arrive, fits_at, 
 use Rattle.sound_code.specs.Codes.{LabelMap, plain_label}
 use Rattle.cell_code.specs.declared.kind.Label.{Label}
 use Rattle.register_kinds.specs.Arrivals.{HasBut}
-use Rattle.register_kinds.specs.Kept.{Lents, IsKept, KindsRise}
+use Rattle.register_kinds.specs.Kept.{Lents, Links, IsKept, KindsRise}
+use Rattle.register_kinds.specs.declared.asked.Asked.{Asked}
 use Rattle.register_kinds.specs.Rising.{Rise}
 use Rattle.register_kinds.specs.declared.known.Known.{Known}
 use Rattle.register_kinds.specs.Views.{kind_of, kinds_of}
@@ -178,39 +179,41 @@ seen_case t ms kinds ks known known2 qs a b e f f2 l h i j =
 
 -- a label map that was seen to fit
 
-pub keeps_seen : (ks : List Kind) (maps : List LabelMap) (lents : Lents) (named owners : List Bool)
-    (since after : List (Option (List ℕ))) (label : ℕ) → IsKept ks maps lents named owners since →
+pub keeps_seen : (ks : List Kind) (maps : List LabelMap) (lents : Lents) (links : Links)
+    (since after : List (Option (List ℕ))) (busy : ℕ) (asked : List Asked) (label : ℕ) →
+    IsKept ks maps lents links since busy asked →
     ((m : LabelMap) → slice_get maps label ≡ Some m → fit_all m.kinds ks ≡ true) →
     ((l : ℕ) (xs : List ℕ) → slice_get after l ≡ Some (Some xs) → (label ≡ l → ⊥) →
     slice_get since l ≡ Some (Some xs)) →
-    IsKept ks maps lents named owners after
-keeps_seen ks maps lents named owners since after label h fit other = record {
+    IsKept ks maps lents links after busy asked
+keeps_seen ks maps lents links since after busy asked label h fit other = record {
   rise = h.rise;
   are_maps = h.are_maps;
   few = h.few;
   room = h.room;
-  lists = h.lists;
-  names = h.names;
-  owns = h.owns;
+  linked = h.linked;
+  counted = h.counted;
+  asks = h.asks;
   sees = λ l m xs a b q e. elim (eqb_tells label l) [
     | inl g ↦ all_each m.kinds ks (fit m (ap (slice_get maps) g.1 ∙ a)) q
     | inr g ↦ h.sees l m xs a (other l xs b g.1) q e
   ];
 }
 
-pub keeps_seen_but : (ks : List Kind) (maps : List LabelMap) (lents : Lents) (named owners : List Bool)
-    (since after : List (Option (List ℕ))) (label : ℕ) (x : Tested) → IsKept ks maps lents named owners since →
+pub keeps_seen_but : (ks : List Kind) (maps : List LabelMap) (lents : Lents) (links : Links)
+    (since after : List (Option (List ℕ))) (busy : ℕ) (asked : List Asked) (label : ℕ) (x : Tested) →
+    IsKept ks maps lents links since busy asked →
     ((m : LabelMap) → slice_get maps label ≡ Some m → fit_all m.kinds (arrive (Some x) 0 ks) ≡ true) →
     ((l : ℕ) (xs : List ℕ) → slice_get after l ≡ Some (Some xs) → HasBut since label x.register l xs) →
-    IsKept ks maps lents named owners after
-keeps_seen_but ks maps lents named owners since after label x h fit other = record {
+    IsKept ks maps lents links after busy asked
+keeps_seen_but ks maps lents links since after busy asked label x h fit other = record {
   rise = h.rise;
   are_maps = h.are_maps;
   few = h.few;
   room = h.room;
-  lists = h.lists;
-  names = h.names;
-  owns = h.owns;
+  linked = h.linked;
+  counted = h.counted;
+  asks = h.asks;
   sees = λ l m xs a b q e.
       let o = other l xs b in
       elim (eqb_tells label l) [

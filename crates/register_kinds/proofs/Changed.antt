@@ -8,7 +8,7 @@ use Rattle.cell_code.specs.declared.kind.Kind.TheVariants.{Gone, Scalar, Owned, 
 use Rattle.sound_code.specs.Types.{numbers}
 use Rattle.sound_code.specs.Kinds.{at, has, from_of, is_lent_of}
 use Rattle.sound_code.specs.Changes.{become, forget, forget_from, written, goes, used_up, narrow, tested}
-use Rattle.register_kinds.specs.Kept.{is_lent, names}
+use Rattle.register_kinds.specs.Kept.{names}
 use Rattle.register_kinds.specs.Steps.{each, forgets, lose}
 use Rattle.register_kinds.proofs.Places.{at_set_same, at_set_other, at_map, same_at, set_long, map_long, at_past, each_all}
 use Rattle.register_kinds.proofs.Places.{pick, set_pick, set_same, at_set_gone}
@@ -66,24 +66,9 @@ forget_twice p (Owned t s) = refl
 forget_twice p (Lent t s root from) = ap (λ f. Lent t s root f) (from_twice p from)
 forget_twice p (Credit k) = refl
 
--- Kinds that aren't lent have nothing to forget.
-pub forget_other : (p : ℕ → Bool) (k : Kind) → is_lent k ≡ false → forget p k ≡ k
-forget_other p Gone e = refl
-forget_other p (Scalar t) e = refl
-forget_other p (Owned t s) e = refl
-forget_other p (Lent t s root from) e = absurd (cc)
-forget_other p (Credit k) e = refl
-
 pub not_true : (a b : Bool) → (a ≡ true → b ≡ true) → b ≡ false → a ≡ false
 not_true true b f e = absurd (let g = f refl in cc)
 not_true false b f e = refl
-
--- Where all that are lent are listed, forgetting in the list is forgetting in all.
-pub forget_listed : (p : ℕ → Bool) (ks : List Kind) (qs : List ℕ) →
-    ((q : ℕ) → is_lent (at ks q) ≡ true → has qs q ≡ true) → each (forget p) ks qs ≡ map (forget p) ks
-forget_listed p ks qs h =
-    each_all (forget p) refl (forget_twice p) qs ks
-    (λ q e. forget_other p (at ks q) (not_true (is_lent (at ks q)) (has qs q) (h q) e))
 
 from_same : (p r : ℕ → Bool) → ((q : ℕ) → p q ≡ r q) → (from : Option From) → forget_from p from ≡ forget_from r from
 from_same p r h None = refl
@@ -111,29 +96,6 @@ forgets_unnamed d (Owned t s) e = refl
 forgets_unnamed d (Lent t s root from) e = ap (λ f. Lent t s root f) (from_unnamed d from e)
 forgets_unnamed d (Credit k) e = refl
 
--- Where a from names no such register, nothing is to be forgotten.
-pub none_named : (d : ℕ) (ks : List Kind) → ((q : ℕ) → names d (from_of (at ks q)) ≡ false) → map (forgets d) ks ≡ ks
-none_named d [] h = refl
-none_named d (k ∷ ks) h =
-    let a = forgets_unnamed d k (h 0) in let b = none_named d ks (λ q. h (suc q)) in cc
-
-from_left : (d : ℕ) (from : Option From) → names d (forget_from (λ q. q == d) from) ≡ false
-from_left d None = refl
-from_left d (Some f) = elim (eqb_tells f.register d) [ inl g ↦ rw g.0 refl | inr g ↦ rw g.0 g.0 ]
-
-names_left : (d : ℕ) (k : Kind) → names d (from_of (forgets d k)) ≡ false
-names_left d Gone = refl
-names_left d (Scalar t) = refl
-names_left d (Owned t s) = refl
-names_left d (Lent t s root from) = from_left d from
-names_left d (Credit k) = refl
-
-pub none_left : (d : ℕ) (ks new : List Kind) → new ≡ map (forgets d) ks → (q : ℕ) →
-    names d (from_of (at new q)) ≡ false
-none_left d ks new e q =
-    ap (λ x. names d (from_of (at x q))) e ∙ ap (λ k. names d (from_of k)) (at_map (forgets d) refl ks q)
-    ∙ names_left d (at ks q)
-
 -- what a step that changes nothing leaves
 
 pub set_own : (f : Kind → Kind) (ks : List Kind) (q : ℕ) → f (at ks q) ≡ at ks q → ks ≡ set ks q (f (at ks q))
@@ -159,6 +121,11 @@ forget_kept p (Lent t s root (Some g)) f e h =
     let i : p g.register ≡ false = ap (λ x. p x.register) (some_from g f e) ∙ h in
     ap (λ x. Lent t s root x) (rw i refl)
 forget_kept p (Credit k) f e h = refl
+
+pub forget_by : (p : ℕ → Bool) (k : Kind) (o : Option From) → from_of k ≡ o →
+    ((f : From) → o ≡ Some f → p f.register ≡ false) → forget p k ≡ k
+forget_by p k None e h = forget_none p k e
+forget_by p k (Some f) e h = forget_kept p k f e (h f refl)
 
 pub lose_kept : (r : ℕ) (k : Kind) → is_lent_of r k ≡ false → lose r k ≡ k
 lose_kept r k e = rw e refl
@@ -211,13 +178,6 @@ going_step r x ks start new qs h e =
     ap (λ z. each (forget (goes start r)) z qs)
     (e ∙ ap (λ k. set ks x k) (forget_same (goes ks r) (goes start r) h (at ks x)))
 
-lose_other : (r : ℕ) (k : Kind) → is_lent k ≡ false → lose r k ≡ k
-lose_other r Gone e = refl
-lose_other r (Scalar t) e = refl
-lose_other r (Owned t s) e = refl
-lose_other r (Lent t s root from) e = absurd (cc)
-lose_other r (Credit k) e = refl
-
 lose_if : (r : ℕ) (k : Kind) (b : Bool) → is_lent_of r k ≡ b → lose r (if b then Gone else k) ≡ (if b then Gone else k)
 lose_if r k true e = refl
 lose_if r k false e = rw e refl
@@ -225,45 +185,11 @@ lose_if r k false e = rw e refl
 lose_twice : (r : ℕ) (k : Kind) → lose r (lose r k) ≡ lose r k
 lose_twice r k = lose_if r k (is_lent_of r k) refl
 
-pub lose_listed : (r : ℕ) (ks : List Kind) (qs : List ℕ) → ((q : ℕ) → is_lent (at ks q) ≡ true → has qs q ≡ true) →
+pub lose_listed : (r : ℕ) (ks : List Kind) (qs : List ℕ) → ((q : ℕ) → is_lent_of r (at ks q) ≡ true → has qs q ≡ true) →
     each (lose r) ks qs ≡ map (lose r) ks
 lose_listed r ks qs h =
     each_all (lose r) refl (lose_twice r) qs ks
-    (λ q e. lose_other r (at ks q) (not_true (is_lent (at ks q)) (has qs q) (h q) e))
-
-lose_unowned : (r : ℕ) (k : Kind) → is_lent_of r k ≡ false → lose r k ≡ k
-lose_unowned r k e = rw e refl
-
-none_lost : (r : ℕ) (ks : List Kind) → ((q : ℕ) → is_lent_of r (at ks q) ≡ false) → map (lose r) ks ≡ ks
-none_lost r [] h = refl
-none_lost r (k ∷ ks) h =
-    let a = lose_unowned r k (h 0) in let b = none_lost r ks (λ q. h (suc q)) in cc
-
-or_false : (b : Bool) → (b || false) ≡ b
-or_false true = refl
-or_false false = refl
-
-goes_alone : (ks : List Kind) (r : ℕ) → ((q : ℕ) → is_lent_of r (at ks q) ≡ false) → (q : ℕ) → (q == r) ≡ goes ks r q
-goes_alone ks r h q = sym (ap (λ b. (q == r) || b) (h q) ∙ or_false (q == r))
-
--- Where nothing is lent of a register, only its own name is forgotten.
-pub none_owned : (r : ℕ) (ks : List Kind) → ((q : ℕ) → is_lent_of r (at ks q) ≡ false) →
-    map (forgets r) ks ≡ map (lose r) (map (forget (goes ks r)) ks)
-none_owned r ks h =
-    map_same (forgets r) (forget (goes ks r)) (forget_same (λ q. q == r) (goes ks r) (goes_alone ks r h)) ks
-    ∙ sym (none_lost r (map (forget (goes ks r)) ks)
-    (λ q. ap (is_lent_of r) (at_map (forget (goes ks r)) refl ks q) ∙ lent_forget (goes ks r) r (at ks q) ∙ h q))
-
-lost_if : (r : ℕ) (k : Kind) (b : Bool) → is_lent_of r k ≡ b → is_lent_of r (if b then Gone else k) ≡ false
-lost_if r k true e = refl
-lost_if r k false e = e
-
-lent_lose : (r : ℕ) (k : Kind) → is_lent_of r (lose r k) ≡ false
-lent_lose r k = lost_if r k (is_lent_of r k) refl
-
-pub none_lent : (r : ℕ) (ks new : List Kind) → new ≡ map (lose r) ks → (q : ℕ) → is_lent_of r (at new q) ≡ false
-none_lent r ks new e q =
-    ap (λ z. is_lent_of r (at z q)) e ∙ ap (is_lent_of r) (at_map (lose r) refl ks q) ∙ lent_lose r (at ks q)
+    (λ q e. lose_kept r (at ks q) (not_true (is_lent_of r (at ks q)) (has qs q) (h q) e))
 
 used_at : (ks : List Kind) (r q : ℕ) → q < length ks →
     (((q == r) ≡ true) × (q ≡ r)) ⊎ (((q == r) ≡ false) × (q ≡ r → ⊥)) →

@@ -1,6 +1,6 @@
 -- What is kept where a function is entered, and where a label map is taken over.
 use Rattle.std.proofs.Common.{◌≡◌, ℕ, zero, suc, ◌+◌, ◌-◌, ◌<◌, ◌≤◌, ◌⊎◌, inl, inr, List, [], ◌∷◌, ◌++◌, length, map, set, take, drop, get_or, refl, sym, ap, ◌∙◌, subst, arith}
-use Rattle.std.specs.Prelude.{Bool, true, false, not, ◌&&◌, ◌==◌, nat_lt, if◌then◌else◌, Option, Some, None, slice_get}
+use Rattle.std.specs.Prelude.{Bool, true, false, not, ◌&&◌, ◌||◌, ◌==◌, nat_lt, if◌then◌else◌, Option, Some, None, slice_get}
 use Rattle.std.proofs.lemmas.Bool.{lt-ltb}
 use Rattle.std.proofs.lemmas.Bool.Decides.{eqb_tells}
 use Rattle.fip_language.specs.Table.{Table}
@@ -14,7 +14,9 @@ use Rattle.sound_code.specs.Entry.{entry, gones, param_kind}
 use Rattle.sound_code.specs.Headers.{is_formed, are_good_maps, are_good_kinds, is_good_kind, is_set, are_rising}
 use Rattle.sound_code.specs.Headers.{are_params, are_sizes, are_types}
 use Rattle.sound_code.specs.Limits.{most_registers, most_results, most_credits}
-use Rattle.register_kinds.specs.Kept.{Lents, IsKept, KindsRise, is_lent}
+use Rattle.register_kinds.specs.Kept.{Lents, Links, AreAsked, IsKept, KindsRise, leads, names}
+use Rattle.register_kinds.specs.declared.asked.Asked.{Asked}
+use Rattle.register_kinds.specs.Busy.{busy_in}
 use Rattle.register_kinds.specs.Rising.{Rise, RiseFrom}
 use Rattle.register_kinds.specs.State.{of_types}
 use Rattle.register_kinds.specs.declared.known.Known.{Known}
@@ -153,35 +155,24 @@ fresh_params w [] q = record { rise = tt; from = refl; root = λ o. refl }
 fresh_params w (p ∷ ps) zero = fresh_if w p (is_scalar_type w p.ty) p.lent
 fresh_params w (p ∷ ps) (suc q) = fresh_params w ps q
 
--- what is neither lent nor in need of a set
-record IsPlain (k : Kind) : Type 0 where
-  pub fresh : IsFresh k
-  pub lent : is_lent k ≡ false
+fresh_gone : IsFresh Gone
+fresh_gone = record { rise = tt; from = refl; root = λ o. refl }
 
-plain_gone : IsPlain Gone
-plain_gone = record { fresh = record { rise = tt; from = refl; root = λ o. refl }; lent = refl }
+fresh_credits : (ns : List ℕ) (q : ℕ) → IsFresh (at (map Credit ns) q)
+fresh_credits [] q = fresh_gone
+fresh_credits (n ∷ ns) zero = record { rise = tt; from = refl; root = λ o. refl }
+fresh_credits (n ∷ ns) (suc q) = fresh_credits ns q
 
-plain_credits : (ns : List ℕ) (q : ℕ) → IsPlain (at (map Credit ns) q)
-plain_credits [] q = plain_gone
-plain_credits (n ∷ ns) zero = record { fresh = record { rise = tt; from = refl; root = λ o. refl }; lent = refl }
-plain_credits (n ∷ ns) (suc q) = plain_credits ns q
-
-plain_gones : (n q : ℕ) → IsPlain (at (gones n) q)
-plain_gones zero q = plain_gone
-plain_gones (suc n) zero = plain_gone
-plain_gones (suc n) (suc q) = plain_gones n q
+fresh_gones : (n q : ℕ) → IsFresh (at (gones n) q)
+fresh_gones zero q = fresh_gone
+fresh_gones (suc n) zero = fresh_gone
+fresh_gones (suc n) (suc q) = fresh_gones n q
 
 either_part : (P : Kind → Type 0) (xs ys : List Kind) → ((q : ℕ) → P (at xs q)) → ((q : ℕ) → P (at ys q)) → (q : ℕ) →
     P (at (xs ++ ys) q)
 either_part P [] ys h g q = g q
 either_part P (x ∷ xs) ys h g zero = h zero
 either_part P (x ∷ xs) ys h g (suc q) = either_part P xs ys (λ p. h (suc p)) g q
-
-lent_first : (xs ys : List Kind) → ((q : ℕ) → IsPlain (at ys q)) → (q : ℕ) → is_lent (at (xs ++ ys) q) ≡ true →
-    q < length xs
-lent_first [] ys h q e = absurd (let g = h q in let l = g.lent in cc)
-lent_first (x ∷ xs) ys h zero e = omega arith
-lent_first (x ∷ xs) ys h (suc q) e = let g = lent_first xs ys h q e in omega arith
 
 append_long : (xs ys : List Kind) → length (xs ++ ys) ≡ length xs + length ys
 append_long [] ys = omega arith
@@ -207,10 +198,10 @@ gones_long (suc n) = ap suc (gones_long n)
 abbrev after_params : PlainFunction → List Kind
 after_params f = map Credit f.credits ++ gones (f.registers - (length f.params + length f.credits))
 
-plain_after : (f : PlainFunction) (q : ℕ) → IsPlain (at (after_params f) q)
-plain_after f q =
-    either_part IsPlain (map Credit f.credits) (gones (f.registers - (length f.params + length f.credits)))
-    (plain_credits f.credits) (plain_gones (f.registers - (length f.params + length f.credits))) q
+fresh_after : (f : PlainFunction) (q : ℕ) → IsFresh (at (after_params f) q)
+fresh_after f q =
+    either_part IsFresh (map Credit f.credits) (gones (f.registers - (length f.params + length f.credits)))
+    (fresh_credits f.credits) (fresh_gones (f.registers - (length f.params + length f.credits))) q
 
 entry_is : (w : Table) (f : PlainFunction) → entry (of_types w) f ≡ map (param_kind w) f.params ++ after_params f
 entry_is w f =
@@ -239,14 +230,17 @@ entry_fresh : (w : Table) (f : PlainFunction) (ks : List Kind) →
 entry_fresh w f ks h q =
     subst (λ z. IsFresh (at z q)) (sym h)
     (either_part IsFresh (map (param_kind w) f.params) (after_params f) (fresh_params w f.params)
-    (λ p. (plain_after f p).fresh) q)
+    (fresh_after f) q)
 
-pub entered : (w : Table) (f : PlainFunction) (ks : List Kind) (lents : Lents) (named owners : List Bool)
-    (since : List (Option (List ℕ))) → is_formed (of_types w) f ≡ true → ks ≡ entry (of_types w) f →
-    f.registers < 65536 → lents.room ≡ f.registers →
-    ((q : ℕ) → q < length f.params → q < f.registers → has lents.held q ≡ true) →
-    ((l : ℕ) (xs : List ℕ) → slice_get since l ≡ Some (Some xs) → ⊥) → IsKept ks f.labels lents named owners since
-entered w f ks lents named owners since e i small room held none =
+fresh_leads : (r : ℕ) (k : Kind) → IsFresh k → leads r k ≡ false
+fresh_leads r k h = ap (λ o. names r o || is_lent_of r k) h.from ∙ h.root r
+
+pub entered : (w : Table) (f : PlainFunction) (ks : List Kind) (lents : Lents) (links : Links)
+    (since : List (Option (List ℕ))) (busy : ℕ) (asked : List Asked) → is_formed (of_types w) f ≡ true →
+    ks ≡ entry (of_types w) f → f.registers < 65536 → lents.room ≡ f.registers →
+    ((l : ℕ) (xs : List ℕ) → slice_get since l ≡ Some (Some xs) → ⊥) → busy ≡ busy_in ks → AreAsked f.labels asked →
+    IsKept ks f.labels lents links since busy asked
+entered w f ks lents links since busy asked e i small room none count asks =
     let h = i ∙ entry_is w f in
     let long = entry_long w f ks e h in
     let fresh = entry_fresh w f ks h in
@@ -259,13 +253,8 @@ entered w f ks lents named owners since e i small room held none =
       };
       few = (omega arith);
       room = room ∙ sym long;
-      lists = λ q g.
-          let first = lent_first (map (param_kind w) f.params) (after_params f) (plain_after f) q
-          (sym (ap (λ z. is_lent (at z q)) h) ∙ g) in
-          let l = params_long w f.params in
-          let space = formed_room w f e in
-          held q (omega arith) (omega arith);
-      names = λ q x g. absurd (let y = (fresh q).from in cc);
-      owns = λ q o g. absurd (let y = (fresh q).root o in cc);
+      linked = λ r q g. absurd (let y = fresh_leads r (at ks q) (fresh q) in cc);
       sees = λ l m xs a b. absurd (none l xs b);
+      counted = count;
+      asks = asks;
     }

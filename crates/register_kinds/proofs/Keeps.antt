@@ -1,13 +1,16 @@
 -- What is kept beside the kinds goes on to hold as one register changes.
-use Rattle.std.proofs.Common.{◌≡◌, ℕ, zero, suc, ◌<◌, List, [], ◌∷◌, set, refl, sym, ap, ◌∙◌, subst, inl, inr}
-use Rattle.std.specs.Prelude.{Bool, true, false, Option, Some, None, slice_get, ◌==◌}
+use Rattle.std.proofs.Common.{◌≡◌, ℕ, zero, suc, ◌<◌, ◌⊎◌, List, [], ◌∷◌, set, refl, sym, ap, ◌∙◌, subst, inl, inr}
+use Rattle.std.specs.Prelude.{Bool, true, false, ◌||◌, Option, Some, slice_get, ◌==◌}
+use Rattle.std.proofs.lemmas.Bool.{eq-eqb}
 use Rattle.std.proofs.lemmas.Bool.Decides.{eqb_tells}
 use Rattle.cell_code.specs.declared.kind.From.{From}
 use Rattle.cell_code.specs.declared.kind.Kind.{Kind}
 use Rattle.sound_code.specs.Codes.{LabelMap}
 use Rattle.sound_code.specs.Kinds.{at, has, set_of, from_of, is_lent_of}
 use Rattle.sound_code.specs.Fitting.{fits}
-use Rattle.register_kinds.specs.Kept.{Lents, IsKept, AreSeen, AreMaps, Marked, is_lent, names}
+use Rattle.register_kinds.specs.Kept.{Lents, Links, Linked, Gathers, IsKept, AreSeen, AreMaps, leads, names}
+use Rattle.register_kinds.specs.declared.asked.Asked.{Asked}
+use Rattle.register_kinds.specs.Busy.{busy_in}
 use Rattle.register_kinds.specs.Rising.{Rise}
 use Rattle.register_kinds.specs.Sights.{HasBefore}
 use Rattle.register_kinds.proofs.Places.{at_set_other, set_long}
@@ -30,96 +33,108 @@ sees_one ks maps since after d k h g l m xs a b q e =
     ap (fits (at m.kinds q)) (at_set_other ks d q k (λ i. let n = ap (has xs) i in let y = before.new in cc))
     ∙ h l m before.before a before.is q (not_true (has before.before q) (has xs q) (before.more q) e)
 
-pub keeps_one : (ks : List Kind) (maps : List LabelMap) (lents more : Lents) (named named2 owners owners2 : List Bool)
-    (since after : List (Option (List ℕ))) (d : ℕ) (k : Kind) → IsKept ks maps lents named owners since →
-    Rise (set_of k) → more.room ≡ lents.room → ((q : ℕ) → has lents.held q ≡ true → has more.held q ≡ true) →
-    (is_lent k ≡ true → has more.held d ≡ true) → ((r : ℕ) → Marked named r → Marked named2 r) →
-    ((f : From) → from_of k ≡ Some f → Marked named2 f.register) → ((r : ℕ) → Marked owners r → Marked owners2 r) →
-    ((o : ℕ) → is_lent_of o k ≡ true → Marked owners2 o) →
+pub keeps_one : (ks : List Kind) (maps : List LabelMap) (lents : Lents) (links links2 : Links)
+    (since after : List (Option (List ℕ))) (busy busy2 : ℕ) (asked : List Asked) (d : ℕ) (k : Kind) →
+    IsKept ks maps lents links since busy asked → Rise (set_of k) → busy2 ≡ busy_in (set ks d k) →
+    ((r q : ℕ) → Linked links r q → Linked links2 r q) → ((r : ℕ) → leads r k ≡ true → Linked links2 r d) →
     ((l : ℕ) (xs : List ℕ) → slice_get after l ≡ Some (Some xs) → HasBefore since l xs d) →
-    IsKept (set ks d k) maps more named2 owners2 after
-keeps_one ks maps lents more named named2 owners owners2 since after d k h r room held new named_on names owners_on
-    owns log = record {
-      rise = either (λ q x. Rise (set_of x)) ks d k h.rise r;
-      are_maps = subst (λ n. AreMaps n maps) (sym (set_long ks d k)) h.are_maps;
-      few = subst (λ n. n < 65536) (sym (set_long ks d k)) h.few;
-      room = room ∙ h.room ∙ sym (set_long ks d k);
-      lists = either (λ q x. is_lent x ≡ true → has more.held q ≡ true) ks d k (λ q e. held q (h.lists q e)) new;
-      names = either (λ q x. (f : From) → from_of x ≡ Some f → Marked named2 f.register) ks d k
-          (λ q f e. named_on f.register (h.names q f e)) names;
-      owns = either (λ q x. (o : ℕ) → is_lent_of o x ≡ true → Marked owners2 o) ks d k
-          (λ q o e. owners_on o (h.owns q o e)) owns;
-      sees = sees_one ks maps since after d k h.sees log;
+    IsKept (set ks d k) maps lents links2 after busy2 asked
+keeps_one ks maps lents links links2 since after busy busy2 asked d k h r count keeps own log = record {
+  rise = either (λ q x. Rise (set_of x)) ks d k h.rise r;
+  are_maps = subst (λ n. AreMaps n maps) (sym (set_long ks d k)) h.are_maps;
+  few = subst (λ n. n < 65536) (sym (set_long ks d k)) h.few;
+  room = h.room ∙ sym (set_long ks d k);
+  linked = λ x. either (λ q z. leads x z ≡ true → Linked links2 x q) ks d k (λ q e. keeps x q (h.linked x q e)) (own x);
+  sees = sees_one ks maps since after d k h.sees log;
+  counted = count;
+  asks = h.asks;
+}
+
+pub keeps_listed : (ks : List Kind) (maps : List LabelMap) (lents more : Lents) (links : Links)
+    (since : List (Option (List ℕ))) (busy : ℕ) (asked : List Asked) → IsKept ks maps lents links since busy asked →
+    more.room ≡ lents.room → IsKept ks maps more links since busy asked
+keeps_listed ks maps lents more links since busy asked h e = record {
+  rise = h.rise;
+  are_maps = h.are_maps;
+  few = h.few;
+  room = e ∙ h.room;
+  linked = h.linked;
+  sees = h.sees;
+  counted = h.counted;
+  asks = h.asks;
+}
+
+-- Where nothing leads to a register, its list may go.
+pub keeps_cleared : (ks : List Kind) (maps : List LabelMap) (lents : Lents) (links links2 : Links)
+    (since : List (Option (List ℕ))) (busy : ℕ) (asked : List Asked) (d : ℕ) →
+    IsKept ks maps lents links since busy asked → ((q : ℕ) → leads d (at ks q) ≡ false) →
+    ((r q : ℕ) → (d ≡ r → ⊥) → Linked links r q → Linked links2 r q) → IsKept ks maps lents links2 since busy asked
+keeps_cleared ks maps lents links links2 since busy asked d h n m = record {
+  rise = h.rise;
+  are_maps = h.are_maps;
+  few = h.few;
+  room = h.room;
+  linked = λ r q e. m r q (λ i. let a = n q in let b = ap (λ x. leads x (at ks q)) i in cc) (h.linked r q e);
+  sees = h.sees;
+  counted = h.counted;
+  asks = h.asks;
+}
+
+-- a register that leads to another
+
+or_cases : (a b : Bool) → (a || b) ≡ true → (a ≡ true) ⊎ (b ≡ true)
+or_cases true b e = inl refl
+or_cases false b e = inr e
+
+or_first : (a b : Bool) → a ≡ true → (a || b) ≡ true
+or_first true b e = refl
+or_first false b e = absurd (cc)
+
+or_second : (a b : Bool) → b ≡ true → (a || b) ≡ true
+or_second true b e = refl
+or_second false b e = e
+
+or_neither : (a b : Bool) → (a || b) ≡ false → (a ≡ false) × (b ≡ false)
+or_neither true b e = absurd (cc)
+or_neither false b e = (refl, e)
+
+pub lent_leads : (r : ℕ) (k : Kind) → is_lent_of r k ≡ true → leads r k ≡ true
+lent_leads r k e = or_second (names r (from_of k)) (is_lent_of r k) e
+
+pub from_leads : (k : Kind) (f : From) → from_of k ≡ Some f → leads f.register k ≡ true
+from_leads k f e =
+    or_first (names f.register (from_of k)) (is_lent_of f.register k)
+    (ap (names f.register) e ∙ eq-eqb f.register f.register refl)
+
+pub unled : (r : ℕ) (k : Kind) → leads r k ≡ false → (names r (from_of k) ≡ false) × (is_lent_of r k ≡ false)
+unled r k e = or_neither (names r (from_of k)) (is_lent_of r k) e
+
+pub leads_to_source : (r : ℕ) (k : Kind) (source owner : Option ℕ) →
+    (names r (from_of k) ≡ true → source ≡ Some r) → (is_lent_of r k ≡ true → owner ≡ Some r) → leads r k ≡ true →
+    (source ≡ Some r) ⊎ (owner ≡ Some r)
+leads_to_source r k source owner f g e =
+    elim (or_cases (names r (from_of k)) (is_lent_of r k) e) [ inl h ↦ inl (f h) | inr h ↦ inr (g h) ]
+
+-- What a register that isn't listed came from isn't listed either.
+pub record IsApart (r p : ℕ) (ds qs : List ℕ) : Type 0 where
+  pub other : has ds p ≡ false
+  pub own : (p == r) ≡ false
+  pub listed : has qs p ≡ false
+
+pub unlisted_from : (ks : List Kind) (r : ℕ) (ds qs : List ℕ) (q : ℕ) (f : From) → Gathers ks r ds qs →
+    has qs q ≡ false → from_of (at ks q) ≡ Some f → IsApart r f.register ds qs
+unlisted_from ks r ds qs q f g e h =
+    let l = from_leads (at ks q) f h in
+    record {
+      other = not_true (has ds f.register) (has qs q) (λ i. g.others f.register q i l) e;
+      own = elim (eqb_tells f.register r) [
+        | inl i ↦ absurd (let j = g.own q (ap (λ x. leads x (at ks q)) (sym i.1) ∙ l) in cc)
+        | inr i ↦ i.0
+      ];
+      listed = not_true (has qs f.register) (has qs q) (λ i. g.further f.register q i l) e;
     }
 
--- marks
-
-not_true_false : (b : Bool) → (b ≡ true → ⊥) → b ≡ false
-not_true_false true h = absurd (h refl)
-not_true_false false h = refl
-
-from_unmarked : (named : List Bool) (d : ℕ) (from : Option From) → slice_get named d ≡ Some false →
-    ((f : From) → from ≡ Some f → Marked named f.register) → names d from ≡ false
-from_unmarked named d None e h = refl
-from_unmarked named d (Some f) e h =
-    not_true_false (f.register == d)
-    (λ g. elim (eqb_tells f.register d) [
-      | inl i ↦ h f refl (ap (slice_get named) i.1 ∙ e)
-      | inr i ↦ (let y = i.0 in cc)
-    ])
-
--- the register that a from names, or another
-abbrev option_or : ℕ → Option From → ℕ
-option_or d None = d
-option_or d (Some f) = f.register
-
-unnamed_one : (d : ℕ) (x f : From) → (x.register == d) ≡ false → Some x ≡ Some f → d ≡ f.register → ⊥
-unnamed_one d x f e g h =
-    let i = ap (option_or d) g in
-    elim (eqb_tells x.register d) [ inl j ↦ (let y = j.0 in cc) | inr j ↦ j.1 (i ∙ sym h) ]
-
-unnamed_kind : (d : ℕ) (from : Option From) (f : From) → names d from ≡ false → from ≡ Some f → d ≡ f.register → ⊥
-unnamed_kind d None f e g h = absurd (cc)
-unnamed_kind d (Some x) f e g h = unnamed_one d x f e g h
-
-pub keeps_unnamed : (ks : List Kind) (maps : List LabelMap) (lents : Lents) (named named2 owners : List Bool)
-    (since : List (Option (List ℕ))) (d : ℕ) → IsKept ks maps lents named owners since →
-    ((q : ℕ) → names d (from_of (at ks q)) ≡ false) →
-    ((r : ℕ) → (d ≡ r → ⊥) → Marked named r → Marked named2 r) → IsKept ks maps lents named2 owners since
-keeps_unnamed ks maps lents named named2 owners since d h n m = record {
-  rise = h.rise;
-  are_maps = h.are_maps;
-  few = h.few;
-  room = h.room;
-  lists = h.lists;
-  names = λ q f e. m f.register (unnamed_kind d (from_of (at ks q)) f (n q) e) (h.names q f e);
-  owns = h.owns;
-  sees = h.sees;
-}
-
-pub keeps_disowned : (ks : List Kind) (maps : List LabelMap) (lents : Lents) (named owners owners2 : List Bool)
-    (since : List (Option (List ℕ))) (d : ℕ) → IsKept ks maps lents named owners since →
-    ((q : ℕ) → is_lent_of d (at ks q) ≡ false) →
-    ((r : ℕ) → (d ≡ r → ⊥) → Marked owners r → Marked owners2 r) → IsKept ks maps lents named owners2 since
-keeps_disowned ks maps lents named owners owners2 since d h n m = record {
-  rise = h.rise;
-  are_maps = h.are_maps;
-  few = h.few;
-  room = h.room;
-  lists = h.lists;
-  names = h.names;
-  owns = λ q o e. m o (λ i. let a = n q in let b = ap (λ x. is_lent_of x (at ks q)) i in cc) (h.owns q o e);
-  sees = h.sees;
-}
-
--- what no mark tells
-pub none_named_by : (ks : List Kind) (maps : List LabelMap) (lents : Lents) (named owners : List Bool)
-    (since : List (Option (List ℕ))) (d : ℕ) → IsKept ks maps lents named owners since →
-    slice_get named d ≡ Some false → (q : ℕ) → names d (from_of (at ks q)) ≡ false
-none_named_by ks maps lents named owners since d h e q = from_unmarked named d (from_of (at ks q)) e (λ f. h.names q f)
-
-pub none_owned_by : (ks : List Kind) (maps : List LabelMap) (lents : Lents) (named owners : List Bool)
-    (since : List (Option (List ℕ))) (d : ℕ) → IsKept ks maps lents named owners since →
-    slice_get owners d ≡ Some false → (q : ℕ) → is_lent_of d (at ks q) ≡ false
-none_owned_by ks maps lents named owners since d h e q =
-    not_true_false (is_lent_of d (at ks q)) (λ g. h.owns q d g e)
+pub unlisted_lent : (ks : List Kind) (r : ℕ) (ds qs : List ℕ) (p : ℕ) → Gathers ks r ds qs → has qs p ≡ false →
+    is_lent_of r (at ks p) ≡ false
+unlisted_lent ks r ds qs p g e =
+    not_true (is_lent_of r (at ks p)) (has qs p) (λ i. g.own p (lent_leads r (at ks p) i)) e

@@ -3,11 +3,15 @@ pub mod Types
 pub mod Places
 pub mod Changed
 pub mod Keeps
+pub mod Gathered
 pub mod LentLists
+pub mod LinkLists
 pub mod Sights
 pub mod Short
 pub mod Subsets
 pub mod Arriving
+pub mod Sparse
+pub mod AskedMaps
 pub mod Entered
 pub mod Reaching
 pub mod TakenKinds

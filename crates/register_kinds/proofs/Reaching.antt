@@ -1,5 +1,5 @@
 -- Which heirs registers reach: what is kept of it while registers are looked at again and again.
-use Rattle.std.proofs.Common.{◌≡◌, ℕ, zero, suc, ◌<◌, ◌≤◌, ◌⊎◌, inl, inr, List, [], ◌∷◌, length, drop, set, get_or, refl, sym, ap, ◌∙◌, subst, arith}
+use Rattle.std.proofs.Common.{◌≡◌, ℕ, zero, suc, ◌<◌, ◌≤◌, ◌⊎◌, inl, inr, List, [], ◌∷◌, length, drop, take, set, get_or, refl, sym, ap, ◌∙◌, subst, arith}
 use Rattle.std.specs.Prelude.{Bool, true, false, ◌||◌, ◌==◌, if◌then◌else◌, Option, Some, None}
 use Rattle.std.proofs.lemmas.Bool.Decides.{eqb_tells}
 use Rattle.cell_code.specs.declared.kind.From.{From}
@@ -7,8 +7,11 @@ use Rattle.cell_code.specs.declared.kind.Kind.{Kind}
 use Rattle.cell_code.specs.declared.kind.Kind.TheVariants.{Gone, Scalar, Owned, Lent, Credit}
 use Rattle.sound_code.specs.Kinds.{at, has, from_of}
 use Rattle.sound_code.specs.Taking.{Chain, Reaches, IsReached}
-use Rattle.register_kinds.specs.Kept.{is_lent}
-use Rattle.register_kinds.specs.Takes.{kept_at, seen_by, seen_at, next_by, next_at, AreReached, AreSettled, nones}
+use Rattle.register_kinds.specs.Kept.{is_lent, leads, AreLents}
+use Rattle.register_kinds.proofs.Keeps.{from_leads}
+use Rattle.register_kinds.proofs.LentLists.{none_kept}
+use Rattle.register_kinds.specs.Takes.{seen_by, seen_at, next_by, next_at, AreReached, AreSettled, nones}
+use Rattle.register_kinds.specs.Kept.{kept_at}
 
 -- what is kept, by place
 
@@ -35,20 +38,24 @@ kept_own [] x o = inr refl
 kept_own (y ∷ os) zero o = inl refl
 kept_own (y ∷ os) (suc x) o = kept_own os x o
 
-pub kept_none : (os : List (Option ℕ)) (x q : ℕ) → (kept_at os q ≡ None) ⊎ (x ≡ q) → kept_at (set os x None) q ≡ None
-kept_none [] x q h = refl
-kept_none (y ∷ os) zero zero h = refl
-kept_none (y ∷ os) zero (suc q) (inl h) = h
-kept_none (y ∷ os) zero (suc q) (inr h) = absurd (omega arith)
-kept_none (y ∷ os) (suc x) zero (inl h) = h
-kept_none (y ∷ os) (suc x) zero (inr h) = absurd (omega arith)
-kept_none (y ∷ os) (suc x) (suc q) (inl h) = kept_none os x q (inl h)
-kept_none (y ∷ os) (suc x) (suc q) (inr h) = kept_none os x q (inr (omega arith))
-
 pub kept_long : (os : List (Option ℕ)) (x : ℕ) (o : Option ℕ) → length (set os x o) ≡ length os
 kept_long [] x o = refl
 kept_long (y ∷ os) zero o = refl
 kept_long (y ∷ os) (suc x) o = ap suc (kept_long os x o)
+
+-- An heir is kept for a register that is listed.
+pub lents_reach : (items : List ℕ) (top : ℕ) (listed : List Bool) (os : List (Option ℕ)) (r : ℕ) (o : Option ℕ) →
+    AreLents items top listed os → has (take top items) r ≡ true → AreLents items top listed (set os r o)
+lents_reach items top listed os r o h e = record {
+  reached_long = kept_long os r o ∙ h.reached_long;
+  long = h.long;
+  many = h.many;
+  lists = h.lists;
+  only = λ q d g. elim (eqb_tells r q) [
+    | inl i ↦ ap (has (take top items)) (sym i.1) ∙ e
+    | inr i ↦ h.only q d (sym (kept_other os r q o i.1) ∙ g)
+  ];
+}
 
 pub nones_fewer : (os : List (Option ℕ)) (x d : ℕ) → kept_at os x ≡ None → x < length os →
     nones (set os x (Some d)) < nones os
@@ -70,14 +77,6 @@ one_of x q xs e =
       | inl h ↦ inl (elim (eqb_tells x q) [ inl g ↦ g.1 | inr g ↦ absurd (let i = g.0 in cc) ])
       | inr h ↦ inr h
     ]
-
--- One register more has no heir kept.
-pub unreached_step : (os : List (Option ℕ)) (x q : ℕ) (xs : List ℕ) →
-    (has (x ∷ xs) q ≡ true) ⊎ (kept_at os q ≡ None) →
-    (has xs q ≡ true) ⊎ (kept_at (set os x None) q ≡ None)
-unreached_step os x q xs (inl h) =
-    elim (one_of x q xs h) [ inl e ↦ inr (kept_none os x q (inr e)) | inr e ↦ inl e ]
-unreached_step os x q xs (inr h) = inr (kept_none os x q (inl h))
 
 -- reaching
 
@@ -128,16 +127,14 @@ reached_more ks heir os x h n r q d e =
 
 -- where nothing is kept
 
-none_seen : (os : List (Option ℕ)) (q d : ℕ) (b : Bool) → (b ≡ true → kept_at os q ≡ None) →
+none_seen : (os : List (Option ℕ)) (q d : ℕ) (b : Bool) → kept_at os q ≡ None →
     (if b then kept_at os q else None) ≡ Some d → ⊥
-none_seen os q d true h e = let g = h refl in cc
+none_seen os q d true h e = cc
 none_seen os q d false h e = cc
 
-pub reached_none : (ks : List Kind) (heir : ℕ → Bool) (os : List (Option ℕ)) (qs : List ℕ) →
-    ((q : ℕ) → is_lent (at ks q) ≡ true → has qs q ≡ true) → ((q : ℕ) → has qs q ≡ true → kept_at os q ≡ None) →
+pub reached_none : (ks : List Kind) (heir : ℕ → Bool) (os : List (Option ℕ)) → ((q : ℕ) → kept_at os q ≡ None) →
     AreReached ks heir os
-reached_none ks heir os qs l n q d e =
-    absurd (none_seen os q d (is_lent (at ks q)) (λ h. n q (l q h)) e)
+reached_none ks heir os n q d e = absurd (none_seen os q d (is_lent (at ks q)) (n q) e)
 
 -- a register with a from is there
 
@@ -173,15 +170,38 @@ seen_lent : (os : List (Option ℕ)) (q : ℕ) (b : Bool) → b ≡ true → (if
 seen_lent os q true h e = e
 seen_lent os q false h e = absurd (cc)
 
--- A register that isn't seen to reach an heir has no next one.
+-- A register that isn't seen to reach an heir has no next one, where all that reach one are listed.
 next_none : (ks : List Kind) (heir : ℕ → Bool) (os : List (Option ℕ)) (qs : List ℕ) →
-    ((q : ℕ) → is_lent (at ks q) ≡ true → has qs q ≡ true) → AreSettled ks heir os qs → (q : ℕ) →
+    ((q d : ℕ) → Reaches ks heir q d → has qs q ≡ true) → AreReached ks heir os → AreSettled ks heir os qs → (q : ℕ) →
     seen_at ks os q ≡ None → next_at ks heir os q ≡ None
-next_none ks heir os qs l s q e =
-    elim (true_or_false (is_lent (at ks q))) [
-      | inl h ↦ s q (l q h) (seen_lent os q (is_lent (at ks q)) h e)
-      | inr h ↦ ap (next_by ks heir os) (unlent_from (at ks q) h)
+next_none ks heir os qs l r s q e =
+    elim (true_or_false (has qs q)) [
+      | inl i ↦ elim (true_or_false (is_lent (at ks q))) [
+        | inl h ↦ s q i (seen_lent os q (is_lent (at ks q)) h e)
+        | inr h ↦ ap (next_by ks heir os) (unlent_from (at ks q) h)
+      ]
+      | inr i ↦ none_kept (next_at ks heir os q)
+          (λ d g. let h = l q d (next_reaches ks heir os q d r g) in cc)
     ]
+
+-- Where all that lead to an heir, or to a listed register, are listed, all that reach an heir are.
+chain_listed : (ks : List Kind) (heir : ℕ → Bool) (qs : List ℕ) →
+    ((p q : ℕ) → heir p ≡ true → leads p (at ks q) ≡ true → has qs q ≡ true) →
+    ((p q : ℕ) → has qs p ≡ true → leads p (at ks q) ≡ true → has qs q ≡ true) → (n q d : ℕ) (o : Option From) →
+    from_of (at ks q) ≡ o → Chain ks heir n o d → has qs q ≡ true
+chain_listed ks heir qs one further zero q d None e c = absurd c
+chain_listed ks heir qs one further zero q d (Some f) e c = one f.register q c.0 (from_leads (at ks q) f e)
+chain_listed ks heir qs one further (suc n) q d None e c = absurd c
+chain_listed ks heir qs one further (suc n) q d (Some f) e c =
+    further f.register q
+    (chain_listed ks heir qs one further n f.register d (from_of (at ks f.register)) refl c.1)
+    (from_leads (at ks q) f e)
+
+pub reaches_listed : (ks : List Kind) (heir : ℕ → Bool) (qs : List ℕ) →
+    ((p q : ℕ) → heir p ≡ true → leads p (at ks q) ≡ true → has qs q ≡ true) →
+    ((p q : ℕ) → has qs p ≡ true → leads p (at ks q) ≡ true → has qs q ≡ true) → (q d : ℕ) → Reaches ks heir q d →
+    has qs q ≡ true
+reaches_listed ks heir qs one further q d r = chain_listed ks heir qs one further r.0 q d (from_of (at ks q)) refl r.1
 
 not_heir : (f : From) (o : Option ℕ) (b : Bool) → (if b then Some f.register else o) ≡ None →
     (b ≡ false) × (o ≡ None)
@@ -218,9 +238,9 @@ found_by ks heir os q (Some d) e r s = r q d e
 
 -- All is found that is reached.
 pub all_found : (ks : List Kind) (heir : ℕ → Bool) (os : List (Option ℕ)) (qs : List ℕ) →
-    ((q : ℕ) → is_lent (at ks q) ≡ true → has qs q ≡ true) → AreReached ks heir os → AreSettled ks heir os qs →
+    ((q d : ℕ) → Reaches ks heir q d → has qs q ≡ true) → AreReached ks heir os → AreSettled ks heir os qs →
     (q : ℕ) → IsReached ks heir q (seen_at ks os q)
-all_found ks heir os qs l r s q = found_by ks heir os q (seen_at ks os q) refl r (next_none ks heir os qs l s)
+all_found ks heir os qs l r s q = found_by ks heir os q (seen_at ks os q) refl r (next_none ks heir os qs l r s)
 
 -- One register more is settled, or has its heir kept.
 pub settled_step : (ks : List Kind) (heir : ℕ → Bool) (os : List (Option ℕ)) (x q : ℕ) (xs : List ℕ) →
@@ -244,11 +264,6 @@ past_end (x ∷ xs) (suc i) h = past_end xs i (omega arith)
 
 not_left : (xs : List ℕ) (i q : ℕ) → length xs ≤ i → has (drop i xs) q ≡ true → ⊥
 not_left xs i q l h = let e = ap (λ ys. has ys q) (past_end xs i l) in cc
-
-pub unreached_end : (os : List (Option ℕ)) (xs : List ℕ) (i q : ℕ) → length xs ≤ i →
-    (has (drop i xs) q ≡ true) ⊎ (kept_at os q ≡ None) → kept_at os q ≡ None
-unreached_end os xs i q l (inl h) = absurd (not_left xs i q l h)
-unreached_end os xs i q l (inr h) = h
 
 pub settled_end : (ks : List Kind) (heir : ℕ → Bool) (os : List (Option ℕ)) (xs : List ℕ) (i q : ℕ) → length xs ≤ i →
     (has (drop i xs) q ≡ true) ⊎ (next_at ks heir os q ≡ None) → next_at ks heir os q ≡ None

@@ -316,3 +316,115 @@ drop_one (x ∷ xs) zero h = refl
 drop_one (x ∷ xs) (suc i) h =
     let e : suc (i + 1) ≡ suc i + 1 = (omega arith) in
     drop_one xs i (omega arith) ∙ ap (λ n. get_or xs i 0 ∷ drop n (x ∷ xs)) e
+
+-- numbers between two
+
+same_or_above : (low x : ℕ) → low ≤ x → (low ≡ x) ⊎ (low < x)
+same_or_above low x h = grind arith
+
+less_apart : (a b : ℕ) → a ≤ b → (a ≡ b → ⊥) → suc a ≤ b
+less_apart a b h n = elim (same_or_above a b h) [ inl e ↦ absurd (n e) | inr e ↦ (omega arith) ]
+
+own_first : (x : ℕ) (xs : List ℕ) → has (x ∷ xs) x ≡ true
+own_first x xs = elim (eqb_tells x x) [ inl e ↦ rw e.0 refl | inr e ↦ absurd (e.1 refl) ]
+
+no_more : (xs : List ℕ) (x : ℕ) → length xs ≡ 0 → has xs x ≡ true → ⊥
+no_more [] x l e = cc
+no_more (y ∷ xs) x l e = omega arith
+
+in_numbers : (low n x : ℕ) → low ≤ x → x < low + n → has (numbers low n) x ≡ true
+in_numbers low zero x h g = absurd (omega arith)
+in_numbers low (suc n) x h g =
+    elim (eqb_tells low x) [
+      | inl i ↦ rw i.0 refl
+      | inr i ↦ or_more (low == x) (has (numbers (suc low) n) x)
+          (in_numbers (suc low) n x (let j = i.1 in less_apart low x h j) (omega arith))
+    ]
+
+subset_has : (cs xs : List ℕ) (x : ℕ) → is_subset cs xs ≡ true → has cs x ≡ true → has xs x ≡ true
+subset_has [] xs x e h = absurd (cc)
+subset_has (c ∷ cs) xs x e h =
+    let p = and_parts (has xs c) (is_subset cs xs) e in
+    elim (eqb_tells c x) [
+      | inl i ↦ ap (has xs) (sym i.1) ∙ p.0
+      | inr i ↦ (let f = (rw i.0 at h) in subset_has cs xs x p.1 f)
+    ]
+
+pub all_between : (low high : ℕ) (xs ys : List ℕ) (b : Bool) → has xs low ≡ true → ys ≡ beyond low xs →
+    b ≡ is_subset (numbers (low + 1) (high - low)) ys → b ≡ true → (x : ℕ) → low ≤ x → x ≤ high → has xs x ≡ true
+all_between low high xs ys b e f g t x h i =
+    elim (same_or_above low x h) [
+      | inl j ↦ ap (has xs) (sym j) ∙ e
+      | inr j ↦ sym (has_beyond low x xs j) ∙ ap (λ z. has z x) (sym f)
+          ∙ subset_has (numbers (low + 1) (high - low)) ys x (sym g ∙ t)
+          (in_numbers (low + 1) (high - low) x (omega arith) (omega arith))
+    ]
+
+pub one_between : (low high : ℕ) (xs : List ℕ) → has xs low ≡ true → high ≤ low → (x : ℕ) → low ≤ x → x ≤ high →
+    has xs x ≡ true
+one_between low high xs e l x h i = let j : low ≡ x = (omega arith) in ap (has xs) (sym j) ∙ e
+
+-- all of a list that lie between its ends
+
+subset_plain : (own others : List ℕ) → ((x : ℕ) → has own x ≡ true → has others x ≡ true) → is_subset own others ≡ true
+subset_plain [] others h = refl
+subset_plain (c ∷ cs) others h =
+    and_all (has others c) (is_subset cs others) (h c (own_first c cs))
+    (subset_plain cs others (λ x e. h x (or_more (c == x) (has cs x) e)))
+
+subset_without : (c : ℕ) (own others : List ℕ) → ((x : ℕ) → has own x ≡ true → (x == c) ≡ false → has others x ≡ true) →
+    is_subset (without c own) others ≡ true
+subset_without c [] others h = refl
+subset_without c (x ∷ xs) others h =
+    let rest = subset_without c xs others (λ y e n. h y (or_more (x == y) (has xs y) e) n) in
+    elim (eqb_tells x c) [
+      | inl i ↦ rw i.0 rest
+      | inr i ↦ rw i.0 (and_all (has others x) (is_subset (without c xs) others) (h x (own_first x xs) i.0) rest)
+    ]
+
+pub subset_by : (o : Option ℕ) (own others : List ℕ) →
+    ((x : ℕ) → has own x ≡ true → is_one o x ≡ false → has others x ≡ true) → is_subset (less o own) others ≡ true
+subset_by None own others h = subset_plain own others (λ x e. h x e refl)
+subset_by (Some c) own others h = subset_without c own others h
+
+pub none_subset : (o : Option ℕ) (own others : List ℕ) → length own ≡ 0 → is_subset (less o own) others ≡ true
+none_subset None [] others e = refl
+none_subset (Some c) [] others e = refl
+none_subset o (x ∷ own) others e = absurd (omega arith)
+
+least_is : (low : ℕ) (xs : List ℕ) (x : ℕ) → RiseFrom low xs → has xs x ≡ true → low ≤ x
+least_is low [] x r e = absurd (cc)
+least_is low (y ∷ xs) x r e =
+    let a = r.0 in
+    elim (eqb_tells y x) [
+      | inl i ↦ (let b = i.1 in omega arith)
+      | inr i ↦ (let f = (rw i.0 at e) in let b = least_is (suc y) xs x r.1 f in omega arith)
+    ]
+
+pub first_least : (low : ℕ) (xs : List ℕ) (x : ℕ) → RiseFrom low xs → has xs x ≡ true → get_or xs 0 0 ≤ x
+first_least low [] x r e = absurd (cc)
+first_least low (y ∷ xs) x r e =
+    elim (eqb_tells y x) [
+      | inl i ↦ (let b = i.1 in omega arith)
+      | inr i ↦ (let f = (rw i.0 at e) in let b = least_is (suc y) xs x r.1 f in omega arith)
+    ]
+
+last_at : (low : ℕ) (xs : List ℕ) (n x : ℕ) → RiseFrom low xs → length xs ≡ suc n → has xs x ≡ true → x ≤ get_or xs n 0
+last_at low [] n x r l e = absurd (cc)
+last_at low (y ∷ xs) zero x r l e =
+    elim (eqb_tells y x) [
+      | inl i ↦ (let b = i.1 in omega arith)
+      | inr i ↦ (let f = (rw i.0 at e) in absurd (no_more xs x (omega arith) f))
+    ]
+last_at low (y ∷ xs) (suc n) x r l e =
+    elim (eqb_tells y x) [
+      | inl i ↦ (let b = i.1 in let c = rise_high (suc y) xs n r.1 (omega arith) in omega arith)
+      | inr i ↦ (let f = (rw i.0 at e) in last_at (suc y) xs n x r.1 (omega arith) f)
+    ]
+
+pub last_most : (low : ℕ) (xs : List ℕ) (x : ℕ) → RiseFrom low xs → has xs x ≡ true →
+    x ≤ get_or xs (length xs - 1) 0
+last_most low [] x r e = absurd (cc)
+last_most low (y ∷ xs) x r e =
+    let n : length (y ∷ xs) - 1 ≡ length xs = (omega arith) in
+    subst (λ z. x ≤ get_or (y ∷ xs) z 0) (sym n) (last_at low (y ∷ xs) (length xs) x r refl e)

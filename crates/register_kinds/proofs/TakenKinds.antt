@@ -11,13 +11,15 @@ use Rattle.sound_code.specs.Kinds.{at, has, from_of, is_lent_of}
 use Rattle.sound_code.specs.Types.{is_scalar_type}
 use Rattle.sound_code.specs.Changes.{forget}
 use Rattle.sound_code.specs.Taking.{Part, part, part_from, is_heir, is_heir_by, fate, with_root, ends, part_kind, part_or, credit}
-use Rattle.sound_code.specs.Taking.{Chain, IsReached, IsTaken, is_field}
-use Rattle.register_kinds.specs.Kept.{is_lent, names}
-use Rattle.register_kinds.specs.Takes.{seen_by, seen_at, kept_at, is_used, forgotten, fated, filled_by, filled_at, emptied, in_turn, Alike}
-use Rattle.register_kinds.specs.Takes.{IsUnread, IsPassed}
+use Rattle.sound_code.specs.Taking.{Reaches, IsReached, IsTaken, is_field}
+use Rattle.register_kinds.specs.Kept.{Gathers, is_lent, kept_at, names}
+use Rattle.register_kinds.specs.Takes.{seen_by, seen_at, is_used, forgotten, fated, filled_by, filled_at, emptied, in_turn, Alike}
+use Rattle.register_kinds.specs.Takes.{IsPassed}
 use Rattle.register_kinds.proofs.Places.{at_set_same, at_set_other, set_long, set_same}
-use Rattle.register_kinds.proofs.Changed.{is_become, forget_other, forget_twice, forget_same, lent_forget, forget_none, forget_kept}
-use Rattle.register_kinds.proofs.Keeps.{either}
+use Rattle.register_kinds.proofs.Changed.{is_become, forget_by, forget_twice, forget_same, lent_forget}
+use Rattle.register_kinds.proofs.Keeps.{either, unlisted_from, unlisted_lent}
+use Rattle.register_kinds.proofs.LentLists.{none_kept}
+use Rattle.register_kinds.proofs.Reaching.{reaches_listed}
 
 -- registers in turn
 
@@ -122,32 +124,11 @@ part_within ds ts q p e = let h = part_there 0 ds ts q p e in let g = h.1 in ome
 pub part_names : (ds ts : List ℕ) (q : ℕ) (p : Part) → part ds ts q ≡ Some p → get_or ds p.field 0 ≡ q
 part_names ds ts q p e = (part_there 0 ds ts q p e).2 p.field (omega arith)
 
--- what isn't lent
-
-unlent_fate : (o : Option ℕ) (r : ℕ) (k : Kind) → is_lent k ≡ false → fate o r k ≡ k
-unlent_fate None r Gone e = refl
-unlent_fate None r (Scalar t) e = refl
-unlent_fate None r (Owned t s) e = refl
-unlent_fate None r (Lent t s root from) e = absurd (cc)
-unlent_fate None r (Credit n) e = refl
-unlent_fate (Some d) r Gone e = refl
-unlent_fate (Some d) r (Scalar t) e = refl
-unlent_fate (Some d) r (Owned t s) e = refl
-unlent_fate (Some d) r (Lent t s root from) e = absurd (cc)
-unlent_fate (Some d) r (Credit n) e = refl
+-- what forgetting leaves
 
 if_same : (b : Bool) (k l : Kind) → l ≡ k → (if b then k else l) ≡ k
 if_same true k l e = refl
 if_same false k l e = e
-
-pub unlent_forgotten : (r : ℕ) (parts : ℕ → Option Part) (ended : ℕ → Bool) (q : ℕ) (k : Kind) → is_lent k ≡ false →
-    forgotten r parts ended q k ≡ k
-unlent_forgotten r parts ended q k e = if_same (is_used r parts q) k (forget ended k) (forget_other ended k e)
-
-pub unlent_fated : (r : ℕ) (parts : ℕ → Option Part) (os : List (Option ℕ)) (q : ℕ) (k : Kind) → is_lent k ≡ false →
-    fated r parts os q k ≡ k
-unlent_fated r parts os q k e =
-    if_same (is_used r parts q) k (fate (seen_by os q k) r k) (unlent_fate (seen_by os q k) r k e)
 
 lent_forgets : (p : ℕ → Bool) (k : Kind) → is_lent (forget p k) ≡ is_lent k
 lent_forgets p Gone = refl
@@ -526,84 +507,9 @@ taken_is w r ds ts ks second third new passed fill long e =
           (passed.used q l) (passed.unused q l) (fill q (omega arith)) (eqb_tells q r)),
     )
 
-listed_or : (a b : Bool) → (a ≡ true → b ≡ true) → (b ≡ true) ⊎ (a ≡ false)
-listed_or true b h = inl (h refl)
-listed_or false b h = inr refl
-
-listed_forgotten : (r : ℕ) (parts : ℕ → Option Part) (ended : ℕ → Bool) (q : ℕ) (k : Kind) (b : Bool) →
-    (b ≡ true) ⊎ (is_lent k ≡ false) → (b ≡ true) ⊎ (forgotten r parts ended q k ≡ k)
-listed_forgotten r parts ended q k b (inl h) = inl h
-listed_forgotten r parts ended q k b (inr h) = inr (unlent_forgotten r parts ended q k h)
-
-listed_fated : (r : ℕ) (parts : ℕ → Option Part) (os : List (Option ℕ)) (ended : ℕ → Bool) (q : ℕ) (k l : Kind)
-    (b : Bool) → k ≡ forgotten r parts ended q l → (b ≡ true) ⊎ (is_lent l ≡ false) →
-    (b ≡ true) ⊎ (fated r parts os q k ≡ k)
-listed_fated r parts os ended q k l b e (inl h) = inl h
-listed_fated r parts os ended q k l b e (inr h) =
-    inr (unlent_fated r parts os q k (ap is_lent e ∙ lent_forgotten r parts ended q l ∙ h))
-
-unlent_not : (ks : List Kind) (qs : List ℕ) → ((q : ℕ) → is_lent (at ks q) ≡ true → has qs q ≡ true) → (q : ℕ) →
-    (has qs q ≡ true) ⊎ (is_lent (at ks q) ≡ false)
-unlent_not ks qs h q = listed_or (is_lent (at ks q)) (has qs q) (h q)
-
--- what all registers have, once they forgot and had their fates
-passed_at : (w : Table) (r : ℕ) (ds ts : List ℕ) (os : List (Option ℕ)) (ks first second : List Kind) (qs : List ℕ) →
-    ((q : ℕ) → is_lent (at ks q) ≡ true → has qs q ≡ true) →
-    first ≡ in_turn (forgotten r (part ds ts) (ends w ks r (part ds ts) (length ds) (seen_at ks os))) ks qs →
-    second ≡ in_turn (fated r (part ds ts) os) first qs → (q : ℕ) → q < length ks →
-    at second q ≡ fated r (part ds ts) os q
-    (forgotten r (part ds ts) (ends w ks r (part ds ts) (length ds) (seen_at ks os)) q (at ks q))
-passed_at w r ds ts os ks first second qs lists a b q l =
-    let one = ap length a
-    ∙ in_turn_long (forgotten r (part ds ts) (ends w ks r (part ds ts) (length ds) (seen_at ks os))) ks qs in
-    let here : at first q
-    ≡ forgotten r (part ds ts) (ends w ks r (part ds ts) (length ds) (seen_at ks os)) q (at ks q)
-    = (ap (λ z. at z q) a
-    ∙ turned (forgotten r (part ds ts) (ends w ks r (part ds ts) (length ds) (seen_at ks os)))
-    (forgotten_twice r (part ds ts) (ends w ks r (part ds ts) (length ds) (seen_at ks os))) qs ks q l
-    (listed_forgotten r (part ds ts) (ends w ks r (part ds ts) (length ds) (seen_at ks os)) q (at ks q) (has qs q)
-    (unlent_not ks qs lists q))) in
-    ap (λ z. at z q) b ∙ turned (fated r (part ds ts) os) (fated_twice r (part ds ts) os) qs first q (omega arith)
-    (listed_fated r (part ds ts) os (ends w ks r (part ds ts) (length ds) (seen_at ks os)) q (at first q) (at ks q)
-    (has qs q) here (unlent_not ks qs lists q)) ∙ ap (fated r (part ds ts) os q) here
-
-pub passed_is : (w : Table) (r : ℕ) (ds ts : List ℕ) (os : List (Option ℕ)) (ks first second : List Kind) (qs : List ℕ) →
-    ((q : ℕ) → is_lent (at ks q) ≡ true → has qs q ≡ true) →
-    ((q : ℕ) → IsReached ks (is_heir w ks r (part ds ts)) q (seen_at ks os q)) →
-    first ≡ in_turn (forgotten r (part ds ts) (ends w ks r (part ds ts) (length ds) (seen_at ks os))) ks qs →
-    second ≡ in_turn (fated r (part ds ts) os) first qs → IsPassed w ks r ds ts second
-passed_is w r ds ts os ks first second qs lists reaches a b = record {
-  reached = seen_at ks os;
-  reaches = reaches;
-  long = ap length b ∙ in_turn_long (fated r (part ds ts) os) first qs ∙ ap length a
-      ∙ in_turn_long (forgotten r (part ds ts) (ends w ks r (part ds ts) (length ds) (seen_at ks os))) ks qs;
-  used = λ q l u. passed_at w r ds ts os ks first second qs lists a b q l
-      ∙ two_used r (part ds ts) os (ends w ks r (part ds ts) (length ds) (seen_at ks os)) q (at ks q) u;
-  unused = λ q l u. passed_at w r ds ts os ks first second qs lists a b q l
-      ∙ two_unused r (part ds ts) os (ends w ks r (part ds ts) (length ds) (seen_at ks os)) q (at ks q) u;
-}
-
--- where nothing is read
-
-and_none : (a b : Bool) → b ≡ false → (a && b) ≡ false
-and_none true b e = e
-and_none false b e = refl
-
-unnamed_field : (r i : ℕ) (o : Option From) → names r o ≡ false → is_field r i o ≡ false
-unnamed_field r i None e = refl
-unnamed_field r i (Some f) e = rw e refl
-
-pub no_heir_by : (w : Table) (r : ℕ) (k : Kind) (o : Option Part) → names r (from_of k) ≡ false → is_heir_by w r k o ≡ false
-no_heir_by w r k None e = refl
-no_heir_by w r k (Some p) e =
-    and_none (not (is_scalar_type w p.ty)) (is_field r p.field (from_of k)) (unnamed_field r p.field (from_of k) e)
-
-no_chain : (ks : List Kind) (heir : ℕ → Bool) → ((q : ℕ) → heir q ≡ false) → (n d : ℕ) (o : Option From) →
-    Chain ks heir n o d → ⊥
-no_chain ks heir h zero d None c = c
-no_chain ks heir h zero d (Some f) c = let a = c.0 in let b = h f.register in cc
-no_chain ks heir h (suc n) d None c = c
-no_chain ks heir h (suc n) d (Some f) c = no_chain ks heir h n d (from_of (at ks f.register)) c.1
+true_or_false : (b : Bool) → (b ≡ true) ⊎ (b ≡ false)
+true_or_false true = inl refl
+true_or_false false = inr refl
 
 part_has : (i : ℕ) (ds ts : List ℕ) (q : ℕ) (p : Part) → part_from i ds ts q ≡ Some p → has ds q ≡ true
 part_has i [] ts q p e = absurd (cc)
@@ -614,42 +520,107 @@ part_has i (d ∷ ds) (t ∷ ts) q p e =
       | inr g ↦ (let f = (rw g.0 at e) in rw g.0 (part_has (suc i) ds ts q p f))
     ]
 
-own_name : (f : From) → names f.register (Some f) ≡ true
-own_name f = eq-eqb f.register f.register refl
+no_part : (ds ts : List ℕ) (q : ℕ) (o : Option Part) → part ds ts q ≡ o → has ds q ≡ false → is_some o ≡ false
+no_part ds ts q None e h = refl
+no_part ds ts q (Some p) e h = absurd (let g = part_has 0 ds ts q p e in cc)
 
-forget_by : (p : ℕ → Bool) (k : Kind) (o : Option From) → from_of k ≡ o →
-    ((f : From) → o ≡ Some f → p f.register ≡ false) → forget p k ≡ k
-forget_by p k None e h = forget_none p k e
-forget_by p k (Some f) e h = forget_kept p k f e (h f refl)
+heir_by_has : (w : Table) (r : ℕ) (ds ts : List ℕ) (q : ℕ) (k : Kind) (o : Option Part) → part ds ts q ≡ o →
+    is_heir_by w r k o ≡ true → has ds q ≡ true
+heir_by_has w r ds ts q k None e h = absurd (cc)
+heir_by_has w r ds ts q k (Some p) e h = part_has 0 ds ts q p e
 
-unread_part : (ks : List Kind) (ds ts : List ℕ) (q : ℕ) (f : From) (o : Option Part) → part ds ts f.register ≡ o →
-    ((p : ℕ) → has ds p ≡ true → (q : ℕ) → names p (from_of (at ks q)) ≡ false) → from_of (at ks q) ≡ Some f →
-    is_some o ≡ false
-unread_part ks ds ts q f None e h g = refl
-unread_part ks ds ts q f (Some p) e h g =
-    absurd (let a = h f.register (part_has 0 ds ts f.register p e) q in
-    let b = ap (names f.register) g ∙ own_name f in cc)
+-- All that reach an heir are listed.
+pub heirs_listed : (w : Table) (ks : List Kind) (r : ℕ) (ds ts qs : List ℕ) → Gathers ks r ds qs → (q d : ℕ) →
+    Reaches ks (is_heir w ks r (part ds ts)) q d → has qs q ≡ true
+heirs_listed w ks r ds ts qs g =
+    reaches_listed ks (is_heir w ks r (part ds ts)) qs
+    (λ p q e l. g.others p q (heir_by_has w r ds ts p (at ks p) (part ds ts p) refl e) l) g.further
 
-unread_ends : (w : Table) (ks : List Kind) (r : ℕ) (ds ts : List ℕ) (q : ℕ) (f : From) → IsUnread ks r ds →
-    from_of (at ks q) ≡ Some f → ends w ks r (part ds ts) (length ds) (λ x. None) f.register ≡ false
-unread_ends w ks r ds ts q f u g =
-    let a = unread_part ks ds ts q f (part ds ts f.register) refl u.parts g in
-    let b : (f.register == r) ≡ false
-    = (sym (ap (names r) g) ∙ u.own q) in
-    rw (a, b) (ap (λ z. z && true) (u.lent f.register))
+-- What a register that isn't listed came from doesn't end.
+not_ended : (w : Table) (ks : List Kind) (r : ℕ) (ds ts qs : List ℕ) (os : List (Option ℕ)) (q : ℕ) (f : From) →
+    Gathers ks r ds qs → has qs q ≡ false → from_of (at ks q) ≡ Some f →
+    ends w ks r (part ds ts) (length ds) (seen_at ks os) f.register ≡ false
+not_ended w ks r ds ts qs os q f g e h =
+    let a = unlisted_from ks r ds qs q f g e h in
+    let b = no_part ds ts f.register (part ds ts f.register) refl a.other in
+    let c = unlisted_lent ks r ds qs f.register g a.listed in
+    let d = a.own in
+    rw (b, d) (ap (λ z. z && not (is_some (seen_at ks os f.register))) c)
 
-pub unread_passed : (w : Table) (ks : List Kind) (r : ℕ) (ds ts : List ℕ) → IsUnread ks r ds → IsPassed w ks r ds ts ks
-unread_passed w ks r ds ts u = record {
-  reached = λ q. None;
-  reaches = λ q d c. no_chain ks (is_heir w ks r (part ds ts))
-      (λ p. no_heir_by w r (at ks p) (part ds ts p) (u.own p)) c.0 d (from_of (at ks q)) c.1;
-  long = refl;
-  used = λ q l e. refl;
-  unused = λ q l e. sym (ap (forget (ends w ks r (part ds ts) (length ds) (λ x. None)))
-      (lost_kept r (at ks q) (is_lent_of r (at ks q)) (u.lent q))
-      ∙ forget_by (ends w ks r (part ds ts) (length ds) (λ x. None)) (at ks q) (from_of (at ks q)) refl
-      (λ f g. unread_ends w ks r ds ts q f u g));
+unlisted_forgotten : (w : Table) (ks : List Kind) (r : ℕ) (ds ts qs : List ℕ) (os : List (Option ℕ)) (q : ℕ) →
+    Gathers ks r ds qs → has qs q ≡ false →
+    forgotten r (part ds ts) (ends w ks r (part ds ts) (length ds) (seen_at ks os)) q (at ks q) ≡ at ks q
+unlisted_forgotten w ks r ds ts qs os q g e =
+    unused_forgotten r (part ds ts) (ends w ks r (part ds ts) (length ds) (seen_at ks os)) q (at ks q)
+    (forget_by (ends w ks r (part ds ts) (length ds) (seen_at ks os)) (at ks q) (from_of (at ks q)) refl
+    (λ f h. not_ended w ks r ds ts qs os q f g e h))
+
+unlisted_fated : (w : Table) (ks : List Kind) (r : ℕ) (ds ts qs : List ℕ) (os : List (Option ℕ)) (q : ℕ) →
+    Gathers ks r ds qs → IsReached ks (is_heir w ks r (part ds ts)) q (seen_at ks os q) → has qs q ≡ false →
+    fated r (part ds ts) os q (at ks q) ≡ at ks q
+unlisted_fated w ks r ds ts qs os q g i e =
+    fated_kept r (part ds ts) os q (at ks q)
+    (none_kept (seen_at ks os q) (λ d h. let l = heirs_listed w ks r ds ts qs g q d
+    (subst (IsReached ks (is_heir w ks r (part ds ts)) q) h i) in cc))
+    (unlisted_lent ks r ds qs q g e)
+
+-- what all registers have, once they forgot and had their fates
+passed_at : (w : Table) (r : ℕ) (ds ts : List ℕ) (os : List (Option ℕ)) (ks first second : List Kind) (qs : List ℕ) →
+    Gathers ks r ds qs → ((q : ℕ) → IsReached ks (is_heir w ks r (part ds ts)) q (seen_at ks os q)) →
+    first ≡ in_turn (forgotten r (part ds ts) (ends w ks r (part ds ts) (length ds) (seen_at ks os))) ks qs →
+    second ≡ in_turn (fated r (part ds ts) os) first qs → (q : ℕ) → q < length ks →
+    at second q ≡ fated r (part ds ts) os q
+    (forgotten r (part ds ts) (ends w ks r (part ds ts) (length ds) (seen_at ks os)) q (at ks q))
+passed_at w r ds ts os ks first second qs g i a b q l =
+    let one = ap length a
+    ∙ in_turn_long (forgotten r (part ds ts) (ends w ks r (part ds ts) (length ds) (seen_at ks os))) ks qs in
+    let here : at first q
+    ≡ forgotten r (part ds ts) (ends w ks r (part ds ts) (length ds) (seen_at ks os)) q (at ks q)
+    = (ap (λ z. at z q) a
+    ∙ turned (forgotten r (part ds ts) (ends w ks r (part ds ts) (length ds) (seen_at ks os)))
+    (forgotten_twice r (part ds ts) (ends w ks r (part ds ts) (length ds) (seen_at ks os))) qs ks q l
+    (elim (true_or_false (has qs q)) [
+      | inl h ↦ inl h
+      | inr h ↦ inr (unlisted_forgotten w ks r ds ts qs os q g h)
+    ])) in
+    ap (λ z. at z q) b ∙ turned (fated r (part ds ts) os) (fated_twice r (part ds ts) os) qs first q (omega arith)
+    (elim (true_or_false (has qs q)) [
+      | inl h ↦ inl h
+      | inr h ↦ inr (subst (λ k. fated r (part ds ts) os q k ≡ k)
+          (sym (here ∙ unlisted_forgotten w ks r ds ts qs os q g h))
+          (unlisted_fated w ks r ds ts qs os q g (i q) h))
+    ]) ∙ ap (fated r (part ds ts) os q) here
+
+pub passed_is : (w : Table) (r : ℕ) (ds ts : List ℕ) (os : List (Option ℕ)) (ks first second : List Kind) (qs : List ℕ) →
+    Gathers ks r ds qs → ((q : ℕ) → IsReached ks (is_heir w ks r (part ds ts)) q (seen_at ks os q)) →
+    first ≡ in_turn (forgotten r (part ds ts) (ends w ks r (part ds ts) (length ds) (seen_at ks os))) ks qs →
+    second ≡ in_turn (fated r (part ds ts) os) first qs → IsPassed w ks r ds ts second
+passed_is w r ds ts os ks first second qs g reaches a b = record {
+  reached = seen_at ks os;
+  reaches = reaches;
+  long = ap length b ∙ in_turn_long (fated r (part ds ts) os) first qs ∙ ap length a
+      ∙ in_turn_long (forgotten r (part ds ts) (ends w ks r (part ds ts) (length ds) (seen_at ks os))) ks qs;
+  used = λ q l u. passed_at w r ds ts os ks first second qs g reaches a b q l
+      ∙ two_used r (part ds ts) os (ends w ks r (part ds ts) (length ds) (seen_at ks os)) q (at ks q) u;
+  unused = λ q l u. passed_at w r ds ts os ks first second qs g reaches a b q l
+      ∙ two_unused r (part ds ts) os (ends w ks r (part ds ts) (length ds) (seen_at ks os)) q (at ks q) u;
 }
+
+-- a register whose word didn't come from the one that owns the cell
+
+and_none : (a b : Bool) → b ≡ false → (a && b) ≡ false
+and_none true b e = e
+and_none false b e = refl
+
+unnamed_field : (r i : ℕ) (o : Option From) → names r o ≡ false → is_field r i o ≡ false
+unnamed_field r i None e = refl
+unnamed_field r i (Some f) e = rw e refl
+
+pub no_heir_by : (w : Table) (r : ℕ) (k : Kind) (o : Option Part) → names r (from_of k) ≡ false →
+    is_heir_by w r k o ≡ false
+no_heir_by w r k None e = refl
+no_heir_by w r k (Some p) e =
+    and_none (not (is_scalar_type w p.ty)) (is_field r p.field (from_of k)) (unnamed_field r p.field (from_of k) e)
 
 pub part_field : (o : Option Part) (a b : Part) → o ≡ Some a → o ≡ Some b → a.field ≡ b.field
 part_field o a b e f = ap (λ (p : Part). p.field) (part_some a b (sym e ∙ f))

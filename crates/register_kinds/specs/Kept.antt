@@ -1,8 +1,8 @@
--- Only what this crate keeps beside the kinds, so that a step needn't look at all registers: a list among which are all
--- that are lent, marks of those that a from names and of those that something is lent of, and, for each label map that
--- was seen to fit, the registers that have changed since.
-use Rattle.std.specs.Prelude.{◌≡◌, ℕ, suc, ◌+◌, ◌<◌, Bool, true, false, List, [], ◌∷◌, Option, Some, None, length}
-use Rattle.std.specs.Prelude.{slice_get, take, ◌==◌}
+-- Only what this crate keeps beside the kinds, so that a step needn't look at all registers: for each register a list
+-- among which are all that are lent of it or came from it, the registers that a step looks at, for each label map that
+-- was seen to fit the registers that have changed since, and what a label map asks at all.
+use Rattle.std.specs.Prelude.{◌≡◌, ℕ, zero, suc, ◌+◌, ◌<◌, Bool, true, false, List, [], ◌∷◌, ◌++◌, Option, Some, None}
+use Rattle.std.specs.Prelude.{length, slice_get, take, drop, ◌==◌, ◌||◌, ◌⊎◌}
 use Rattle.fip_language.specs.Table.{Table, is_scalar}
 use Rattle.cell_code.specs.declared.kind.From.{From}
 use Rattle.cell_code.specs.declared.kind.Kind.{Kind}
@@ -10,6 +10,8 @@ use Rattle.cell_code.specs.declared.kind.Kind.TheVariants.{Gone, Scalar, Owned, 
 use Rattle.sound_code.specs.Codes.{LabelMap}
 use Rattle.sound_code.specs.Kinds.{has, at, set_of, from_of, is_lent_of}
 use Rattle.sound_code.specs.Fitting.{fits}
+use Rattle.register_kinds.specs.declared.asked.Asked.{Asked}
+use Rattle.register_kinds.specs.Busy.{IsAsked, busy_in}
 use Rattle.register_kinds.specs.Rising.{Rise}
 
 -- A from names register r.
@@ -29,9 +31,23 @@ pub record IsMarked (w : Table) (xs : List Bool) : Type 0 where
   pub long : length xs ≡ length w + 1
   pub marks : (i : ℕ) → i < length w + 1 → slice_get xs i ≡ Some (is_scalar w i)
 
--- Register r isn't unmarked.
-abbrev pub Marked : List Bool → ℕ → Type 0
-Marked marks r = slice_get marks r ≡ Some false → ⊥
+-- A register of this kind leads to register r: it came from its cell, or is lent of it.
+abbrev pub leads : ℕ → Kind → Bool
+leads r k = names r (from_of k) || is_lent_of r k
+
+-- for each register those that may lead to it; with a gap not all that do are listed
+pub record Links : Type 0 where
+  pub lists : List (List ℕ)
+  pub gap : Bool
+
+abbrev pub list_at : List (List ℕ) → ℕ → List ℕ
+list_at [] r = []
+list_at (xs ∷ ls) zero = xs
+list_at (xs ∷ ls) (suc r) = list_at ls r
+
+-- Register q is listed for register r, unless there is a gap.
+abbrev pub Linked : Links → ℕ → ℕ → Type 0
+Linked links r q = links.gap ≡ false → has (list_at links.lists r) q ≡ true
 
 abbrev pub KindsRise : List Kind → Type 0
 KindsRise ks = (q : ℕ) → Rise (set_of (at ks q))
@@ -47,6 +63,12 @@ AreSeen ks maps since =
     (l : ℕ) (m : LabelMap) (xs : List ℕ) → slice_get maps l ≡ Some m → slice_get since l ≡ Some (Some xs) →
     (q : ℕ) → has xs q ≡ false → fits (at m.kinds q) (at ks q) ≡ true
 
+-- the heir that is kept for a register
+abbrev pub kept_at : List (Option ℕ) → ℕ → Option ℕ
+kept_at [] q = None
+kept_at (o ∷ os) zero = o
+kept_at (o ∷ os) (suc q) = kept_at os q
+
 -- registers that are listed, with room for so many; and, while a cell is taken apart, for each register the heir that
 -- it was seen to reach
 pub record Lents : Type 0 where
@@ -59,20 +81,43 @@ trues [] = 0
 trues (true ∷ bs) = suc (trues bs)
 trues (false ∷ bs) = trues bs
 
--- Each register that is marked as listed is among the first items, and there are as many of these as are marked.
+-- A list has grown at its end.
+abbrev pub Grows : List ℕ → List ℕ → Type 0
+Grows old new = (rest : List ℕ) × (new ≡ old ++ rest)
+
+-- Each register that is marked as listed is among the first items, and there are as many of these as are marked. Only
+-- for these an heir is kept.
 pub record AreLents (items : List ℕ) (top : ℕ) (listed : List Bool) (reached : List (Option ℕ)) : Type 0 where
   pub reached_long : length reached ≡ length items
   pub long : length listed ≡ length items
   pub many : top ≡ trues listed
   pub lists : (q : ℕ) → slice_get listed q ≡ Some true → has (take top items) q ≡ true
+  pub only : (q d : ℕ) → kept_at reached q ≡ Some d → has (take top items) q ≡ true
 
-pub record IsKept (ks : List Kind) (maps : List LabelMap) (lents : Lents) (named owners : List Bool)
-    (since : List (Option (List ℕ))) : Type 0 where
+-- A list has each register that leads to register r, to one of some others, or to one in the list.
+pub record Gathers (ks : List Kind) (r : ℕ) (ds qs : List ℕ) : Type 0 where
+  pub own : (q : ℕ) → leads r (at ks q) ≡ true → has qs q ≡ true
+  pub others : (p q : ℕ) → has ds p ≡ true → leads p (at ks q) ≡ true → has qs q ≡ true
+  pub further : (p q : ℕ) → has qs p ≡ true → leads p (at ks q) ≡ true → has qs q ≡ true
+
+-- What leads to a register of a list is in the list, unless that register stands from place n on.
+abbrev pub ClosedBelow : List Kind → List ℕ → ℕ → Type 0
+ClosedBelow ks qs n =
+    (p q : ℕ) → has qs p ≡ true → leads p (at ks q) ≡ true → (has (drop n qs) p ≡ true) ⊎ (has qs q ≡ true)
+
+-- What is kept of label maps for fewer than 65,536 registers is so.
+abbrev pub AreAsked : List LabelMap → List Asked → Type 0
+AreAsked maps asked =
+    (l : ℕ) (m : LabelMap) (a : Asked) → slice_get maps l ≡ Some m → slice_get asked l ≡ Some a →
+    length m.kinds < 65536 → IsAsked m.kinds a
+
+pub record IsKept (ks : List Kind) (maps : List LabelMap) (lents : Lents) (links : Links)
+    (since : List (Option (List ℕ))) (busy : ℕ) (asked : List Asked) : Type 0 where
   pub rise : KindsRise ks
   pub are_maps : AreMaps (length ks) maps
   pub few : length ks < 65536
   pub room : lents.room ≡ length ks
-  pub lists : (q : ℕ) → is_lent (at ks q) ≡ true → has lents.held q ≡ true
-  pub names : (q : ℕ) (f : From) → from_of (at ks q) ≡ Some f → Marked named f.register
-  pub owns : (q o : ℕ) → is_lent_of o (at ks q) ≡ true → Marked owners o
+  pub linked : (r q : ℕ) → leads r (at ks q) ≡ true → Linked links r q
   pub sees : AreSeen ks maps since
+  pub counted : busy ≡ busy_in ks
+  pub asks : AreAsked maps asked

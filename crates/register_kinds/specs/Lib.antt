@@ -1,6 +1,7 @@
 pub mod State
 pub mod Views
 pub mod Rising
+pub mod Busy
 pub mod Kept
 pub mod Sights
 pub mod Steps

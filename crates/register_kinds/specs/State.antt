@@ -1,6 +1,6 @@
 -- What the registers of a function are seen as: the kinds that are known of them, and the label maps of the function,
--- which stay as they are. `lent` and `reached` are what this crate alone keeps: registers among which are all that are
--- lent, and, while a cell is taken apart, the heirs that they reach.
+-- which stay as they are. `lent` and `reached` are what this crate alone keeps: the registers that a step looks at,
+-- and, while a cell is taken apart, the heirs that they reach.
 use Rattle.std.specs.Prelude.{ℕ, Bool, List, [], drop, length, Option, None, option_and_then, ◌+◌, ◌==◌}
 use Rattle.std.specs.Prelude.{if◌then◌else◌}
 use Rattle.fip_language.specs.Table.{Table}

@@ -1,6 +1,6 @@
 -- Only what this crate keeps while a cell is taken apart: for each register that is lent the heir that it was seen to
 -- reach; and what is made of each register in turn.
-use Rattle.std.specs.Prelude.{◌≡◌, ℕ, zero, suc, Bool, true, false, ◌||◌, is_some, List, [], ◌∷◌, Option, Some, None}
+use Rattle.std.specs.Prelude.{◌≡◌, ℕ, suc, Bool, true, false, ◌||◌, is_some, List, [], ◌∷◌, Option, Some, None}
 use Rattle.std.specs.Prelude.{◌<◌, length, set, if◌then◌else◌, ◌==◌, nat_lt}
 use Rattle.fip_language.specs.Table.{Table}
 use Rattle.cell_code.specs.declared.kind.From.{From}
@@ -9,18 +9,12 @@ use Rattle.sound_code.specs.Kinds.{at, has, from_of, is_lent_of}
 use Rattle.sound_code.specs.Changes.{forget}
 use Rattle.sound_code.specs.Taking.{Part, Reaches, IsReached, part, is_heir, ends, fate, part_kind, credit}
 use Rattle.register_kinds.specs.declared.take.Piece.{Piece}
-use Rattle.register_kinds.specs.Kept.{is_lent, names}
+use Rattle.register_kinds.specs.Kept.{is_lent, kept_at}
 
 -- the part that a piece stands for
 abbrev pub as_part : Option Piece → Option Part
 as_part None = None
 as_part (Some p) = Some (record { field = p.field; ty = p.ty })
-
--- the heir that is kept for a register
-abbrev pub kept_at : List (Option ℕ) → ℕ → Option ℕ
-kept_at [] q = None
-kept_at (o ∷ os) zero = o
-kept_at (o ∷ os) (suc q) = kept_at os q
 
 -- the heir that a register of this kind was seen to reach; none but a lent one reaches any
 abbrev pub seen_by : List (Option ℕ) → ℕ → Kind → Option ℕ
@@ -67,12 +61,6 @@ fated r parts os q k = if is_used r parts q then k else fate (seen_by os q k) r 
 abbrev pub filled_by : Table → ℕ → ℕ → Kind → Option Part → Kind
 filled_by w r n k None = k
 filled_by w r n k (Some p) = if nat_lt p.field n then part_kind w r k p else k
-
--- Nothing is lent of a register, and no from names it, or one of the parts.
-pub record IsUnread (ks : List Kind) (r : ℕ) (ds : List ℕ) : Type 0 where
-  pub lent : (q : ℕ) → is_lent_of r (at ks q) ≡ false
-  pub own : (q : ℕ) → names r (from_of (at ks q)) ≡ false
-  pub parts : (p : ℕ) → has ds p ≡ true → (q : ℕ) → names p (from_of (at ks q)) ≡ false
 
 -- Registers that aren't used have what was read through heirs, or are gone; those that are used stay.
 pub record IsPassed (w : Table) (ks : List Kind) (r : ℕ) (ds ts : List ℕ) (second : List Kind) : Type 0 where

@@ -1,5 +1,7 @@
 -- Only what this crate keeps: which kinds its own form of them stands for. It takes no memory for sets.
 use Rattle.std.specs.Prelude.{ℕ, List, [], ◌∷◌, map}
+use Rattle.std.specs.declared.vec.Vec.{Vec}
+use Rattle.std.specs.declared.alloc.Global.{Global}
 use Rattle.cell_code.specs.declared.kind.Kind.{Kind}
 use Rattle.cell_code.specs.declared.kind.Kind.TheVariants as K
 use Rattle.sound_code.specs.Types.{numbers}
@@ -23,3 +25,7 @@ kind_of (Credit k) = K.Credit k
 
 abbrev pub kinds_of : List Known → List Kind
 kinds_of = map kind_of
+
+-- the numbers of a vector
+abbrev pub row_of : Vec ℕ Global → List ℕ
+row_of v = v.items

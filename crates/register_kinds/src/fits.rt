@@ -1,14 +1,16 @@
 // Whether what is known fits a label map.
-ghost use Rattle.std.specs.Prelude.{◌≡◌, Some, slice_get};
+ghost use Rattle.std.specs.Prelude.{◌≡◌, Some, length, slice_get};
 ghost use Rattle.sound_code.specs.Changes.{tested, without};
 ghost use Rattle.sound_code.specs.Codes.{LabelMap};
 ghost use Rattle.sound_code.specs.Fitting.{fits, fit_all, takes_from};
 ghost use Rattle.sound_code.specs.Kinds.{at, set_of};
 ghost use Rattle.register_kinds.specs.Arrivals.{arrive, each_fits, fits_at, lacked_at, lessened, tested_fits};
+ghost use Rattle.register_kinds.specs.Busy.{IsAsked, busy_in};
 ghost use Rattle.register_kinds.specs.Kept.{KindsRise};
 ghost use Rattle.register_kinds.specs.Rising.{Rise};
 ghost use Rattle.register_kinds.specs.Views.{kind_of, kinds_of};
 
+use crate::asked::Asked;
 use crate::known::{Known, same_root};
 use crate::registers::{Registers, known_in, map_of};
 use cell_code::{From, Kind};
@@ -62,7 +64,7 @@ impl<'a> Registers<'a> {
         match map_of(self.labels, label) {
             None => true,
             Some(kinds) => match self.log.since(label) {
-                None => all_fit(&self.known, kinds, tested),
+                None => self.fits_anew(label, tested),
                 Some(changed) => {
                     if !each_fits(&self.known, kinds, tested, changed) {
                         return false;
@@ -72,6 +74,36 @@ impl<'a> Registers<'a> {
             },
         }
     }
+
+    // The same by all registers.
+    fn fits_anew(&self, label: usize, tested: Option<Tested>) -> bool
+        ensures is { (m : LabelMap) → slice_get self.now.maps label ≡ Some m →
+            result ≡ fit_all m.kinds (arrive tested 0 self.now.kinds) }
+    {
+        match map_of(self.labels, label) {
+            None => true,
+            Some(kinds) => match self.asked.get(label) {
+                None => all_fit(&self.known, kinds, tested),
+                Some(asked) => asked_fit(&self.known, kinds, tested, self.busy, asked),
+            },
+        }
+    }
+}
+
+// Whether all registers fit: those of which the map says more than Gone, and by their number the others.
+fn asked_fit(
+    known: &[Known],
+    kinds: &[Kind],
+    tested: Option<Tested>,
+    busy: usize,
+    asked: &Asked,
+) -> bool
+    requires known_rise { KindsRise (kinds_of known.now) }
+    requires kinds_rise { KindsRise kinds.now }
+    ensures is { length kinds.now ≡ length (kinds_of known.now) → busy ≡ busy_in (kinds_of known.now) →
+        IsAsked kinds.now asked.now → result ≡ fit_all kinds.now (arrive tested 0 (kinds_of known.now)) }
+{
+    busy == asked.busy && each_fits(known, kinds, tested, asked.places.as_slice())
 }
 
 // Whether all registers fit.

@@ -1,5 +1,5 @@
 // What is known of one register.
-ghost use Rattle.std.specs.Prelude.{◌≡◌, ◌==◌, ℕ, true, [], ◌∷◌, is_some, IfSome, List};
+ghost use Rattle.std.specs.Prelude.{◌≡◌, ◌==◌, ℕ, true, [], ◌∷◌, is_some, IfSome, List, Some};
 ghost use Rattle.cell_code.specs.declared.kind.Kind.TheVariants as K;
 ghost use Rattle.sound_code.specs.Asked.{may_have, known_fields, only_fields, can_take};
 ghost use Rattle.sound_code.specs.Changes.{forget, forget_from, narrow};
@@ -9,7 +9,7 @@ ghost use Rattle.sound_code.specs.Kinds.{is_credit_of, is_lent_of, same_root, fr
 ghost use Rattle.sound_code.specs.Leaves.{atom_kind};
 ghost use Rattle.sound_code.specs.Taking.{inherited, with_root};
 ghost use Rattle.sound_code.specs.Types.{field_kind, lent_kind};
-ghost use Rattle.register_kinds.specs.Kept.{is_lent, names};
+ghost use Rattle.register_kinds.specs.Kept.{is_lent, leads, names};
 ghost use Rattle.register_kinds.specs.Rising.{Rise};
 ghost use Rattle.register_kinds.specs.Views.{kind_of, constructors_in};
 
@@ -294,6 +294,36 @@ impl<'a> Known<'a> {
             Known::Owned { .. } => false,
             Known::Lent { root, .. } => same_root(root, Some(register)),
             Known::Credit { .. } => false,
+        }
+    }
+
+    /// Whether it leads to this register: it reads its tree, or a field of its cell.
+    pub fn leads_to(self, register: u16) -> bool
+        ensures is { result ≡ leads register (kind_of self.entry) }
+    {
+        self.came_from(register) || self.is_lent_of(register)
+    }
+
+    /// The register of whose cell its word is known to be a field.
+    pub fn source(self) -> Option<u16>
+        ensures is { (r : ℕ) → names r (from_of (kind_of self.entry)) ≡ true → result ≡ Some r }
+    {
+        match self.from() {
+            None => None,
+            Some(from) => Some(from.register),
+        }
+    }
+
+    /// The register whose tree it reads.
+    pub fn owner(self) -> Option<u16>
+        ensures is { (r : ℕ) → is_lent_of r (kind_of self.entry) ≡ true → result ≡ Some r }
+    {
+        match self {
+            Known::Gone => None,
+            Known::Scalar { .. } => None,
+            Known::Owned { .. } => None,
+            Known::Lent { root, .. } => root,
+            Known::Credit { .. } => None,
         }
     }
 

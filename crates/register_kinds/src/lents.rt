@@ -1,14 +1,14 @@
-// The registers that may be lent.
-ghost use Rattle.std.specs.Prelude.{◌≡◌, ℕ, ◌<◌, true, length, set, [], IfOk};
+// The registers that a step looks at.
+ghost use Rattle.std.specs.Prelude.{◌≡◌, ℕ, ◌<◌, ◌≤◌, true, length, set, [], None, Some, slice_get, IfOk};
 ghost use Rattle.sound_code.specs.Kinds.{has};
-ghost use Rattle.register_kinds.specs.Takes.{kept_at};
+ghost use Rattle.register_kinds.specs.Kept.{Grows, kept_at};
 
 use crate::marks::Marks;
 use fip_base::plain::NoMemory;
 use std::alloc::Global;
 use std::marker::Model;
 
-/// A list of registers, in which each stands once. It has room for all.
+/// A list of registers, in which each stands once. It has room for all. Beside each an heir may be kept.
 #[derive(Drop)]
 pub struct Lents {
     items: Vec<u16>,
@@ -49,14 +49,25 @@ impl Lents {
     /// The registers.
     pub fn as_slice(&self) -> &[u16]
         ensures same { result.now ≡ self.now.held }
+        ensures few { length result.now ≤ self.now.room }
     {
         &self.items[..self.top]
+    }
+
+    /// Lists none, and keeps no heir.
+    pub fn clear(&mut self)
+        ensures none { self.new.held ≡ [] }
+        ensures unreached { (q : ℕ) → kept_at self.new.reached q ≡ None }
+        ensures room { self.new.room ≡ self.old.room }
+    {
+        clear_each(&self.items[..self.top], &mut self.listed, &mut self.reached);
+        self.top = 0;
     }
 
     /// Lists a register, where there is room for it.
     pub fn add(&mut self, register: u16)
         ensures added { register < self.old.room → has self.new.held register ≡ true }
-        ensures keeps { (q : ℕ) → has self.old.held q ≡ true → has self.new.held q ≡ true }
+        ensures more { Grows self.old.held self.new.held }
         ensures room { self.new.room ≡ self.old.room }
         ensures reached { self.new.reached ≡ self.old.reached }
     {
@@ -80,23 +91,47 @@ impl Lents {
         }
     }
 
-    /// Keeps an heir for a register, or none.
+    /// Keeps an heir for a listed register, or none.
     pub fn reach(&mut self, register: u16, heir: Option<u16>)
+        requires listed { has self.now.held register ≡ true }
         ensures is { self.new.reached ≡ set self.old.reached register heir }
         ensures held { self.new.held ≡ self.old.held }
         ensures room { self.new.room ≡ self.old.room }
         ensures long { length self.new.reached ≡ self.new.room }
     {
-        let place = register as usize;
-        if place < self.reached.len() {
-            self.reached[place] = heir;
-        }
+        keep(&mut self.reached, register, heir);
+    }
+}
+
+// Takes the marks and the heirs of registers away.
+fn clear_each(registers: &[u16], listed: &mut Marks, reached: &mut Vec<Option<u16>>)
+    ensures marks { (q : ℕ) → slice_get listed.new q ≡ Some true → slice_get listed.old q ≡ Some true }
+    ensures unmarked { (q : ℕ) → slice_get listed.new q ≡ Some true → has registers.now q ≡ true → ⊥ }
+    ensures heirs { (q d : ℕ) → kept_at reached.new.items q ≡ Some d → kept_at reached.old.items q ≡ Some d }
+    ensures unreached { (q d : ℕ) → kept_at reached.new.items q ≡ Some d → has registers.now q ≡ true → ⊥ }
+    ensures marks_long { length listed.new ≡ length listed.old }
+    ensures heirs_long { length reached.new.items ≡ length reached.old.items }
+{
+    for register in registers {
+        listed.clear(*register);
+        keep(reached, *register, None);
+    }
+}
+
+// Keeps an heir for a register, or none.
+fn keep(reached: &mut Vec<Option<u16>>, register: u16, heir: Option<u16>)
+    ensures is { reached.new.items ≡ set reached.old.items register heir }
+{
+    let place = register as usize;
+    if place < reached.len() {
+        reached[place] = heir;
     }
 }
 
 // So many times no heir.
 fn nones(alloc: Global, count: usize) -> Result<Vec<Option<u16>>, NoMemory>
     ensures long { IfOk result (λ v. length v.items ≡ count) }
+    ensures none { IfOk result (λ v. (q d : ℕ) → slice_get v.items q ≡ Some (Some d) → ⊥) }
 {
     let mut reached = Vec::new(alloc);
     reached.resize(count, None)?;

@@ -1,13 +1,16 @@
 // What is known of each register as the instructions of a function go by: kinds. A kind says whether a register owns a
 // tree, reads one that another register owns, holds a scalar or names a cell to be filled. A step looks at the register
-// that it changes, and, where something may be lent of that or come from it, at the lent registers.
+// that it changes, and at those that are lent of it or came from it.
 #![tactic(auto)]
 
+mod asked;
 mod asks;
 mod fits;
 mod handing;
 mod known;
 mod lents;
+mod links;
+mod listing;
 mod log;
 mod marks;
 mod registers;
@@ -15,7 +18,6 @@ mod set;
 mod steps;
 mod table;
 mod take;
-mod trail;
 
 pub use registers::Registers;
 pub use table::Table;

@@ -1,6 +1,5 @@
 // A mark for each register.
 ghost use Rattle.std.specs.Prelude.{◌≡◌, ◌<◌, ℕ, true, false, length, Some, IfOk, set, slice_get};
-ghost use Rattle.register_kinds.specs.Kept.{Marked};
 
 use fip_base::plain::NoMemory;
 use std::alloc::Global;
@@ -45,8 +44,6 @@ impl Marks {
     /// Marks a register.
     pub fn mark(&mut self, register: u16)
         ensures is { self.new ≡ set self.old register true }
-        ensures marked { Marked self.new register }
-        ensures others { (r : ℕ) → Marked self.old r → Marked self.new r }
     {
         let place = register as usize;
         if place < self.marks.len() {
@@ -56,7 +53,7 @@ impl Marks {
 
     /// Takes the mark of a register away.
     pub fn clear(&mut self, register: u16)
-        ensures others { (r : ℕ) → (register ≡ r → ⊥) → Marked self.old r → Marked self.new r }
+        ensures is { self.new ≡ set self.old register false }
     {
         let place = register as usize;
         if place < self.marks.len() {

@@ -1,26 +1,25 @@
 // The registers of a function.
-ghost use Rattle.std.specs.Prelude.{◌≡◌, ◌<◌, ◌++◌, ℕ, true, false, set, length, Some, None, List, map};
+ghost use Rattle.std.specs.Prelude.{◌≡◌, ◌<◌, ◌≤◌, ◌++◌, ℕ, true, set, length, Some, None, map};
 ghost use Rattle.std.specs.Prelude.{IfOk, IfSome, OnOk};
 ghost use Rattle.std.specs.Prelude.{slice_get, slice_index};
-ghost use Rattle.cell_code.specs.declared.kind.From.{From};
 ghost use Rattle.cell_code.specs.declared.kind.Kind.TheVariants.{Credit};
 ghost use Rattle.sound_code.specs.Codes.{LabelMap, plain_function, plain_label};
 ghost use Rattle.sound_code.specs.Entry.{entry, gones, param_kind};
 ghost use Rattle.sound_code.specs.Headers.{is_formed};
-ghost use Rattle.sound_code.specs.Kinds.{at, has, from_of, is_lent_of, set_of};
-ghost use Rattle.register_kinds.specs.Kept.{KindsRise, Marked, is_lent, names};
+ghost use Rattle.sound_code.specs.Kinds.{at, has, set_of};
+ghost use Rattle.register_kinds.specs.Kept.{KindsRise, Linked, leads};
 ghost use Rattle.register_kinds.specs.Rising.{Rise};
 ghost use Rattle.register_kinds.specs.State.{of_types};
-ghost use Rattle.register_kinds.specs.Takes.{kept_at};
+ghost use Rattle.register_kinds.specs.Kept.{kept_at};
 ghost use Rattle.register_kinds.specs.Views.{kind_of, kinds_of};
 
+use crate::asked::{Asked, asked_by, count_known, recount};
 use crate::known::Known;
 use crate::lents::Lents;
+use crate::links::Links;
 use crate::log::Log;
-use crate::marks::Marks;
 use crate::set::Set;
 use crate::table::Table;
-use crate::trail::Trail;
 use cell_code::{Function, Kind, Label};
 use fip_base::plain::{NoMemory, Param};
 use std::alloc::Global;
@@ -32,10 +31,10 @@ pub struct Registers<'a> {
     pub(crate) known: Vec<Known<'a>>,
     pub(crate) labels: &'a [Label],
     pub(crate) lents: Lents,
-    pub(crate) named: Marks,
-    pub(crate) owners: Marks,
+    pub(crate) links: Links,
     pub(crate) log: Log,
-    pub(crate) trail: Trail,
+    pub(crate) busy: usize,
+    pub(crate) asked: Vec<Asked>,
 }
 
 impl<'a> Model for Registers<'a> {
@@ -54,8 +53,8 @@ impl<'a> Model for Registers<'a> {
       reached = v.lents.reached;
     } };
 
-    ghost invariant = { λ v. IsKept (kinds_of v.known.items) (map plain_label v.labels.now) v.lents v.named v.owners
-        v.log };
+    ghost invariant = { λ v. IsKept (kinds_of v.known.items) (map plain_label v.labels.now) v.lents v.links v.log v.busy
+        v.asked.items };
 }
 
 impl<'a> Registers<'a> {
@@ -70,16 +69,15 @@ impl<'a> Registers<'a> {
         ensures maps { IfOk result (λ s. s.maps ≡ (plain_function function.now).labels) }
     {
         let known = entry_kinds(alloc, table, function)?;
-        let mut lents = Lents::new(alloc, function.registers)?;
-        list_below(&mut lents, function.params.as_slice().len());
+        let busy = count_known(&known);
         Ok(Registers {
             known,
             labels: &function.labels,
-            lents,
-            named: Marks::new(alloc, function.registers as usize)?,
-            owners: Marks::new(alloc, function.registers as usize)?,
+            lents: Lents::new(alloc, function.registers)?,
+            links: Links::new(alloc, function.registers as usize)?,
             log: Log::new(alloc, function.registers as usize, function.labels.len())?,
-            trail: Trail::new(alloc, function.registers as usize)?,
+            busy,
+            asked: asked_by(alloc, &function.labels)?,
         })
     }
 
@@ -125,30 +123,13 @@ impl<'a> Registers<'a> {
         requires rises { Rise (set_of (kind_of known)) }
         ensures kinds { self.new.kinds ≡ set self.old.kinds register (kind_of known.entry) }
         ensures maps { self.new.maps ≡ self.old.maps }
-    {
-        let place = register as usize;
-        if place < self.known.len() {
-            self.lents.add(register);
-            mark_source(&mut self.named, known);
-            mark_root(&mut self.owners, known);
-            self.known[place] = known;
-            self.log.add(register);
-        }
-    }
-
-    // The same of one that is in the list of those that may be lent.
-    pub(crate) fn change(&mut self, register: u16, known: Known<'a>)
-        requires rises { Rise (set_of (kind_of known)) }
-        requires listed { has self.now.lent register ≡ true }
-        ensures kinds { self.new.kinds ≡ set self.old.kinds register (kind_of known.entry) }
-        ensures maps { self.new.maps ≡ self.old.maps }
         ensures lent { self.new.lent ≡ self.old.lent }
         ensures reached { self.new.reached ≡ self.old.reached }
     {
         let place = register as usize;
         if place < self.known.len() {
-            mark_source(&mut self.named, known);
-            mark_root(&mut self.owners, known);
+            link(&mut self.links, register, self.known[place], known);
+            self.busy = recount(self.busy, self.known[place].is_free(), known.is_free());
             self.known[place] = known;
             self.log.add(register);
         }
@@ -161,8 +142,9 @@ impl<'a> Registers<'a> {
         self.lents.reached(register)
     }
 
-    // Keeps an heir for a register, or none.
+    // Keeps an heir for a listed register, or none.
     pub(crate) fn reach(&mut self, register: u16, heir: Option<u16>)
+        requires listed { has self.now.lent register ≡ true }
         ensures is { self.new.reached ≡ set self.old.reached register heir }
         ensures long { length self.new.reached ≡ length self.new.kinds }
         ensures kinds { self.new.kinds ≡ self.old.kinds }
@@ -172,9 +154,10 @@ impl<'a> Registers<'a> {
         self.lents.reach(register, heir);
     }
 
-    // The number of registers in the list of those that may be lent.
+    // The number of registers in the list of those that a step looks at.
     pub(crate) fn lent_len(&self) -> usize
         ensures is { result ≡ length self.now.lent }
+        ensures few { result ≤ length self.now.kinds }
     {
         self.lents.as_slice().len()
     }
@@ -186,43 +169,6 @@ impl<'a> Registers<'a> {
         ensures listed { has self.now.lent result ≡ true }
     {
         self.lents.as_slice()[place]
-    }
-
-    // Each register that is lent is in that list.
-    pub(crate) fn all_lent_are_listed(&self)
-        ensures is { (q : ℕ) → is_lent (at self.now.kinds q) ≡ true → has self.now.lent q ≡ true }
-    {
-        let _ = &self.lents;
-    }
-
-    // Whether a from may name a register.
-    pub(crate) fn is_named(&self, register: u16) -> bool
-        ensures none { result ≡ false → (q : ℕ) → names register (from_of (at self.now.kinds q)) ≡ false }
-    {
-        self.named.is_marked(register)
-    }
-
-    // Whether something may be lent of a register.
-    pub(crate) fn is_owner(&self, register: u16) -> bool
-        ensures none { result ≡ false → (q : ℕ) → is_lent_of register (at self.now.kinds q) ≡ false }
-    {
-        self.owners.is_marked(register)
-    }
-
-    // No from names a register any more.
-    pub(crate) fn unname(&mut self, register: u16)
-        requires none { (q : ℕ) → names register (from_of (at self.now.kinds q)) ≡ false }
-        ensures same { self.new ≡ self.old }
-    {
-        self.named.clear(register);
-    }
-
-    // Nothing is lent of a register any more.
-    pub(crate) fn disown(&mut self, register: u16)
-        requires none { (q : ℕ) → is_lent_of register (at self.now.kinds q) ≡ false }
-        ensures same { self.new ≡ self.old }
-    {
-        self.owners.clear(register);
     }
 }
 
@@ -249,43 +195,29 @@ pub(crate) fn map_of(labels: &[Label], label: usize) -> Option<&[Kind]>
     }
 }
 
-// Lists all registers below a number.
-fn list_below(lents: &mut Lents, count: usize)
-    ensures listed { (q : ℕ) → q < count → q < lents.old.room → q < 65536 → has lents.new.held q ≡ true }
-    ensures room { lents.new.room ≡ lents.old.room }
+// What a register leads to by a kind that it gets. What it led to before is known.
+fn link(links: &mut Links, register: u16, before: Known, known: Known)
+    requires linked { (r : ℕ) → leads r (kind_of before) ≡ true → Linked links.old r register }
+    ensures linked { (r : ℕ) → leads r (kind_of known.entry) ≡ true → Linked links.new r register }
+    ensures others { (r q : ℕ) → Linked links.old r q → Linked links.new r q }
 {
-    for place in 0..count {
-        if let Ok(register) = u16::try_from(place) {
-            lents.add(register);
-        }
-    }
+    link_to(links, register, before, known.source());
+    link_to(links, register, before, known.owner());
 }
 
-// Marks the register that a from names.
-fn mark_source(named: &mut Marks, known: Known)
-    ensures marked { (f : From) → from_of (kind_of known.entry) ≡ Some f → Marked named.new f.register }
-    ensures others { (r : ℕ) → Marked named.old r → Marked named.new r }
+// A register leads to another, where there is one.
+fn link_to(links: &mut Links, register: u16, before: Known, target: Option<u16>)
+    requires linked { (r : ℕ) → leads r (kind_of before) ≡ true → Linked links.old r register }
+    ensures linked { (r : ℕ) → target ≡ Some r → Linked links.new r register }
+    ensures others { (r q : ℕ) → Linked links.old r q → Linked links.new r q }
 {
-    match known.from() {
+    match target {
         None => (),
-        Some(from) => named.mark(from.register),
-    }
-}
-
-// Marks the register that something is lent of.
-fn mark_root(owners: &mut Marks, known: Known)
-    ensures marked { (o : ℕ) → is_lent_of o (kind_of known.entry) ≡ true → Marked owners.new o }
-    ensures others { (r : ℕ) → Marked owners.old r → Marked owners.new r }
-{
-    match known {
-        Known::Gone => (),
-        Known::Scalar { .. } => (),
-        Known::Owned { .. } => (),
-        Known::Lent { root, .. } => match root {
-            None => (),
-            Some(root) => owners.mark(root),
-        },
-        Known::Credit { .. } => (),
+        Some(target) => {
+            if !before.leads_to(target) {
+                links.add(target, register);
+            }
+        }
     }
 }
 

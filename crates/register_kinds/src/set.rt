@@ -1,12 +1,15 @@
 // Sets of constructors of one type. None of them takes memory of its own: that of all constructors is a word, and a
 // longer one is that of a label.
-ghost use Rattle.std.specs.Prelude.{◌≡◌, ◌+◌, ℕ, suc, true, false, List, [], ◌∷◌, None, IfSome};
+ghost use Rattle.std.specs.Prelude.{◌≡◌, ◌+◌, ◌<◌, ◌≤◌, ℕ, suc, true, false, List, [], ◌∷◌, None, IfSome};
 ghost use Rattle.sound_code.specs.Changes.{without};
 ghost use Rattle.sound_code.specs.Fitting.{is_subset};
 ghost use Rattle.sound_code.specs.Kinds.{has};
 ghost use Rattle.sound_code.specs.Types.{numbers};
 ghost use Rattle.register_kinds.specs.Rising.{Rise, RiseFrom, less, beyond, is_one};
 ghost use Rattle.register_kinds.specs.Views.{constructors_in};
+
+// A list of no more is looked at one by one.
+const FEW: usize = 8;
 
 /// The constructors that a value may have.
 #[derive(Clone, Copy, Debug)]
@@ -53,7 +56,7 @@ impl<'a> Set<'a> {
         match self {
             Set::All(count) => are_all_among(count, lacked, others),
             Set::One(own) => is_among(own, lacked, others),
-            Set::Listed(own) => are_among(own, lacked, others),
+            Set::Listed(own) => is_listed_within(own, lacked, others),
         }
     }
 }
@@ -155,6 +158,80 @@ fn above(numbers: &[u32], number: u32) -> &[u32]
         Ok(place) => &numbers[place + 1..],
         Err(place) => &numbers[place..],
     }
+}
+
+// Whether all of these, but `lacked`, are among others; both lists rise. Where there are many, and the others have all
+// numbers from the first of them to the last, that is seen at once.
+fn is_listed_within(own: &[u32], lacked: Option<u32>, others: &[u32]) -> bool
+    requires own_rise { Rise own.now }
+    requires others_rise { Rise others.now }
+    ensures is { result ≡ is_subset (less lacked own.now) others.now }
+{
+    if own.len() > FEW && is_spanned(own, lacked, others) {
+        return true;
+    }
+    are_among(own, lacked, others)
+}
+
+// Whether others have all numbers from the first of these to the last, but `lacked`.
+fn is_spanned(own: &[u32], lacked: Option<u32>, others: &[u32]) -> bool
+    requires own_rise { Rise own.now }
+    requires others_rise { Rise others.now }
+    ensures yes { result ≡ true → is_subset (less lacked own.now) others.now ≡ true }
+{
+    let count = own.len();
+    if count == 0 {
+        return true;
+    }
+    has_all_but(others, lacked, own[0], own[count - 1])
+}
+
+// Whether rising numbers have all from one to another, but `lacked`. No may also be said where they do.
+fn has_all_but(numbers: &[u32], lacked: Option<u32>, low: u32, high: u32) -> bool
+    requires rise { Rise numbers.now }
+    ensures yes { result ≡ true → (x : ℕ) → low ≤ x → x ≤ high → is_one lacked x ≡ false →
+        has numbers.now x ≡ true }
+{
+    match lacked {
+        None => has_all(numbers, low, high),
+        Some(lacked) => has_below(numbers, low, lacked) && has_behind(numbers, lacked, high),
+    }
+}
+
+// Whether rising numbers have all from one to before another.
+fn has_below(numbers: &[u32], low: u32, end: u32) -> bool
+    requires rise { Rise numbers.now }
+    ensures yes { result ≡ true → (x : ℕ) → low ≤ x → x < end → has numbers.now x ≡ true }
+{
+    if end <= low {
+        return true;
+    }
+    has_all(numbers, low, end - 1)
+}
+
+// Whether rising numbers have all from behind one to another.
+fn has_behind(numbers: &[u32], start: u32, high: u32) -> bool
+    requires rise { Rise numbers.now }
+    ensures yes { result ≡ true → (x : ℕ) → start < x → x ≤ high → has numbers.now x ≡ true }
+{
+    if high <= start {
+        return true;
+    }
+    has_all(numbers, start + 1, high)
+}
+
+// Whether rising numbers have all from one to another.
+fn has_all(numbers: &[u32], low: u32, high: u32) -> bool
+    requires rise { Rise numbers.now }
+    ensures yes { result ≡ true → (x : ℕ) → low ≤ x → x ≤ high → has numbers.now x ≡ true }
+{
+    if !is_listed(numbers, low) {
+        return false;
+    }
+    if high <= low {
+        return true;
+    }
+    begin(low as usize + 1, (high - low) as usize, above(numbers, low))
 }
 
 // Whether all of these, but `lacked`, are among others; both lists rise.

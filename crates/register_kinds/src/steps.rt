@@ -1,8 +1,9 @@
 // What becomes of all registers where one is written, used up, moved or tested.
-ghost use Rattle.std.specs.Prelude.{◌≡◌, ◌==◌, [], ◌∷◌, true, map, set};
+ghost use Rattle.std.specs.Prelude.{◌≡◌, ◌==◌, ℕ, [], ◌∷◌, true, map, set};
 ghost use Rattle.cell_code.specs.declared.kind.Kind.TheVariants.{Gone, Scalar, Owned};
 ghost use Rattle.sound_code.specs.Changes.{written, used_up, moved, tested, forget, goes};
-ghost use Rattle.sound_code.specs.Kinds.{at, has, root_of, set_of};
+ghost use Rattle.sound_code.specs.Kinds.{at, has, is_lent_of, root_of, set_of};
+ghost use Rattle.register_kinds.specs.Kept.{Gathers, leads};
 ghost use Rattle.sound_code.specs.Leaves.{atom_kind, received};
 ghost use Rattle.sound_code.specs.Types.{field_kind, lent_kind};
 ghost use Rattle.register_kinds.specs.Rising.{Rise};
@@ -21,33 +22,32 @@ impl<'a> Registers<'a> {
         ensures kinds { self.new.kinds ≡ map (forgets register) self.old.kinds }
         ensures maps { self.new.maps ≡ self.old.maps }
     {
-        if self.is_named(register) {
-            self.forget_lent(register);
-            self.unname(register);
-        }
+        self.list_none();
+        self.list_to(register);
+        self.forget_listed(register);
+        self.tidy(register);
     }
 
-    // The same, register by register.
-    fn forget_lent(&mut self, register: u16)
+    // The same where all whose froms name it are listed.
+    fn forget_listed(&mut self, register: u16)
+        requires listed { (q : ℕ) → leads register (at self.now.kinds q) ≡ true → has self.now.lent q ≡ true }
         ensures kinds { self.new.kinds ≡ map (forgets register) self.old.kinds }
         ensures maps { self.new.maps ≡ self.old.maps }
     {
-        self.all_lent_are_listed();
         for place in 0..self.lent_len() {
             self.forget_in(self.lent_at(place), register);
         }
     }
 
-    // The from of a listed register doesn't name a register any more.
+    // The from of one register doesn't name another any more.
     fn forget_in(&mut self, lent: u16, register: u16)
-        requires listed { has self.now.lent lent ≡ true }
         ensures kinds { self.new.kinds ≡ set self.old.kinds lent (forgets register (at self.old.kinds lent)) }
         ensures maps { self.new.maps ≡ self.old.maps }
         ensures lent { self.new.lent ≡ self.old.lent }
     {
         let known = self.known(lent);
         if known.came_from(register) {
-            self.change(lent, known.forgetting(register));
+            self.put(lent, known.forgetting(register));
         }
     }
 
@@ -57,29 +57,26 @@ impl<'a> Registers<'a> {
             ≡ map (lose register) (map (forget (goes self.old.kinds register)) self.old.kinds) }
         ensures maps { self.new.maps ≡ self.old.maps }
     {
-        if self.is_owner(register) {
-            self.forget_going(register);
-            self.lose_lent(register);
-            self.disown(register);
-        } else {
-            self.forget(register);
-        }
+        self.gather(register, &[]);
+        self.forget_going(register);
+        self.lose_listed(register);
+        self.tidy(register);
     }
 
-    // No from names a register, or what is lent of it.
+    // No from names a register, or what is lent of it, where all that lead to these are listed.
     fn forget_going(&mut self, register: u16)
+        requires gathered { Gathers self.now.kinds register [] self.now.lent }
         ensures kinds { self.new.kinds ≡ map (forget (goes self.old.kinds register)) self.old.kinds }
         ensures maps { self.new.maps ≡ self.old.maps }
+        ensures lent { self.new.lent ≡ self.old.lent }
     {
-        self.all_lent_are_listed();
         for place in 0..self.lent_len() {
             self.forget_going_in(self.lent_at(place), register);
         }
     }
 
-    // The from of a listed register doesn't name a register, or what is lent of that.
+    // The from of one register doesn't name another, or what is lent of that.
     fn forget_going_in(&mut self, lent: u16, register: u16)
-        requires listed { has self.now.lent lent ≡ true }
         ensures kinds { self.new.kinds
             ≡ set self.old.kinds lent (forget (goes self.old.kinds register) (at self.old.kinds lent)) }
         ensures maps { self.new.maps ≡ self.old.maps }
@@ -90,7 +87,7 @@ impl<'a> Registers<'a> {
             None => (),
             Some(from) => {
                 if self.is_going(register, from.register) {
-                    self.change(lent, known.without_from());
+                    self.put(lent, known.without_from());
                 }
             }
         }
@@ -103,26 +100,25 @@ impl<'a> Registers<'a> {
         other == register || self.known(other).is_lent_of(register)
     }
 
-    // What is lent of a register is gone.
-    fn lose_lent(&mut self, register: u16)
+    // What is lent of a register is gone, where all that is lent of it is listed.
+    fn lose_listed(&mut self, register: u16)
+        requires listed { (q : ℕ) → is_lent_of register (at self.now.kinds q) ≡ true → has self.now.lent q ≡ true }
         ensures kinds { self.new.kinds ≡ map (lose register) self.old.kinds }
         ensures maps { self.new.maps ≡ self.old.maps }
     {
-        self.all_lent_are_listed();
         for place in 0..self.lent_len() {
             self.lose_in(self.lent_at(place), register);
         }
     }
 
-    // A listed register is gone where it is lent of a register.
+    // A register is gone where it is lent of another.
     fn lose_in(&mut self, lent: u16, register: u16)
-        requires listed { has self.now.lent lent ≡ true }
         ensures kinds { self.new.kinds ≡ set self.old.kinds lent (lose register (at self.old.kinds lent)) }
         ensures maps { self.new.maps ≡ self.old.maps }
         ensures lent { self.new.lent ≡ self.old.lent }
     {
         if self.known(lent).is_lent_of(register) {
-            self.change(lent, Known::Gone);
+            self.put(lent, Known::Gone);
         }
     }
 

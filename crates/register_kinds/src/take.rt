@@ -1,12 +1,12 @@
 // Taking a cell apart: its fields go into registers, and the register that owned it keeps it as a credit.
 ghost use Rattle.std.specs.Prelude.{◌≡◌, ◌⊎◌, ◌<◌, ℕ, true, false, None, set, length};
 ghost use Rattle.sound_code.specs.Asked.{known_fields};
-ghost use Rattle.sound_code.specs.Kinds.{at, from_of, has};
+ghost use Rattle.sound_code.specs.Kinds.{at, has};
 ghost use Rattle.sound_code.specs.Taking.{IsTaken, IsReached, part, is_heir, is_field, part_kind, credit, ends};
-ghost use Rattle.register_kinds.specs.Takes.{as_part, seen_at, next_at, AreReached, AreSettled, nones, kept_at};
+ghost use Rattle.register_kinds.specs.Takes.{as_part, seen_at, next_at, AreReached, AreSettled, nones};
 ghost use Rattle.register_kinds.specs.Takes.{is_used, forgotten, fated, filled_by, filled_at, emptied, in_turn};
-ghost use Rattle.register_kinds.specs.Takes.{IsUnread, IsPassed};
-ghost use Rattle.register_kinds.specs.Kept.{names};
+ghost use Rattle.register_kinds.specs.Takes.{IsPassed};
+ghost use Rattle.register_kinds.specs.Kept.{Gathers, kept_at, names};
 ghost use Rattle.register_kinds.specs.Rising.{Rise};
 ghost use Rattle.sound_code.specs.Kinds.{set_of};
 ghost use Rattle.register_kinds.specs.Views.{kind_of};
@@ -36,32 +36,7 @@ impl<'a> Registers<'a> {
         self.pass_all_on(table, register, parts, types);
         self.fill(table, register, parts, types);
         self.empty(register, parts, types);
-    }
-
-    // Whether something may be lent of a register, or a from name it or one of the parts.
-    fn is_read(&self, register: u16, parts: &[u16]) -> bool
-        ensures none { result ≡ false → IsUnread self.now.kinds register parts.now }
-    {
-        if self.is_owner(register) {
-            return true;
-        }
-        if self.is_named(register) {
-            return true;
-        }
-        self.is_one_named(parts)
-    }
-
-    // Whether a from may name one of these registers.
-    fn is_one_named(&self, registers: &[u16]) -> bool
-        ensures none { result ≡ false → (p : ℕ) → has registers.now p ≡ true → (q : ℕ) →
-            names p (from_of (at self.now.kinds q)) ≡ false }
-    {
-        for register in registers {
-            if self.is_named(*register) {
-                return true;
-            }
-        }
-        false
+        self.tidy(register);
     }
 
     // What was read through an heir goes on to be read in its tree, and all else that was read of the register's is
@@ -70,11 +45,8 @@ impl<'a> Registers<'a> {
         ensures passed { IsPassed table.now self.old.kinds register parts.now types.now self.new.kinds }
         ensures maps { self.new.maps ≡ self.old.maps }
     {
-        if !self.is_read(register, parts) {
-            return;
-        }
+        self.gather(register, parts);
         self.find_heirs(table, register, parts, types);
-        self.all_lent_are_listed();
         self.forget_ended(table, register, parts, types);
         self.pass_on(register, parts, types);
     }
@@ -135,8 +107,11 @@ impl<'a> Registers<'a> {
         }
     }
 
-    // Finds the heirs that registers reach.
+    // Finds the heirs that registers reach, where all that lead to the register, to its parts and to listed ones are
+    // listed.
     fn find_heirs(&mut self, table: &Table<'a>, register: u16, parts: &[u16], types: &[u32])
+        requires gathered { Gathers self.now.kinds register parts.now self.now.lent }
+        requires unreached { (q : ℕ) → kept_at self.now.reached q ≡ None }
         ensures reached { (q : ℕ) → IsReached self.old.kinds
             (is_heir table.now self.old.kinds register (part parts.now types.now)) q
             (seen_at self.old.kinds self.new.reached q) }
@@ -144,92 +119,7 @@ impl<'a> Registers<'a> {
         ensures maps { self.new.maps ≡ self.old.maps }
         ensures lent { self.new.lent ≡ self.old.lent }
     {
-        self.all_lent_are_listed();
-        self.clear_trail();
-        self.unreach();
-        self.follow(table, register, parts, types);
         while self.reach_more(table, register, parts, types) {}
-    }
-
-    // No register is seen to reach an heir.
-    fn unreach(&mut self)
-        ensures none { (q : ℕ) → has self.old.lent q ≡ true → kept_at self.new.reached q ≡ None }
-        ensures kinds { self.new.kinds ≡ self.old.kinds }
-        ensures maps { self.new.maps ≡ self.old.maps }
-        ensures lent { self.new.lent ≡ self.old.lent }
-    {
-        for place in 0..self.lent_len() {
-            let lent = self.lent_at(place);
-            self.reach(lent, None);
-        }
-    }
-
-    // Sees of registers that they reach an heir, each after those that its froms lead to, so that no further look is
-    // wanted.
-    fn follow(&mut self, table: &Table<'a>, register: u16, parts: &[u16], types: &[u32])
-        ensures reached { AreReached self.old.kinds
-            (is_heir table.now self.old.kinds register (part parts.now types.now)) self.old.reached →
-            AreReached self.old.kinds
-            (is_heir table.now self.old.kinds register (part parts.now types.now)) self.new.reached }
-        ensures kinds { self.new.kinds ≡ self.old.kinds }
-        ensures maps { self.new.maps ≡ self.old.maps }
-        ensures lent { self.new.lent ≡ self.old.lent }
-    {
-        for place in 0..self.lent_len() {
-            let lent = self.lent_at(place);
-            self.trace(lent);
-            self.follow_back(table, register, parts, types);
-        }
-    }
-
-    // The last register of the way, which it leaves.
-    fn last_met(&mut self) -> Option<u16>
-        ensures same { self.new ≡ self.old }
-    {
-        self.trail.leave()
-    }
-
-    // No register was met on the way.
-    fn clear_trail(&mut self)
-        ensures same { self.new ≡ self.old }
-    {
-        self.trail.clear();
-    }
-
-    // The registers that the froms of a register lead to, which aren't seen to reach an heir yet.
-    fn trace(&mut self, lent: u16)
-        ensures same { self.new ≡ self.old }
-    {
-        let mut here = lent;
-        for _ in 0..self.lent_len() {
-            if self.reached(here).is_some() || !self.trail.meet(here) {
-                return;
-            }
-            match self.known(here).from() {
-                None => return,
-                Some(from) => here = from.register,
-            }
-        }
-    }
-
-    // Sees of these registers, from the last one on, that they reach an heir.
-    fn follow_back(&mut self, table: &Table<'a>, register: u16, parts: &[u16], types: &[u32])
-        ensures reached { AreReached self.old.kinds
-            (is_heir table.now self.old.kinds register (part parts.now types.now)) self.old.reached →
-            AreReached self.old.kinds
-            (is_heir table.now self.old.kinds register (part parts.now types.now)) self.new.reached }
-        ensures kinds { self.new.kinds ≡ self.old.kinds }
-        ensures maps { self.new.maps ≡ self.old.maps }
-        ensures lent { self.new.lent ≡ self.old.lent }
-    {
-        for _ in 0..self.trail.len() {
-            match self.last_met() {
-                None => return,
-                Some(lent) => {
-                    self.reach_one(table, register, parts, types, lent);
-                }
-            }
-        }
     }
 
     // Sees of registers that they reach an heir. Whether there was one.
@@ -262,6 +152,7 @@ impl<'a> Registers<'a> {
         types: &[u32],
         lent: u16,
     ) -> bool
+        requires listed { has self.now.lent lent ≡ true }
         ensures reached { AreReached self.old.kinds
             (is_heir table.now self.old.kinds register (part parts.now types.now)) self.old.reached →
             AreReached self.old.kinds
@@ -321,7 +212,7 @@ impl<'a> Registers<'a> {
         }
     }
 
-    // A listed register that isn't used forgets what no from names any more.
+    // One register that isn't used forgets what no from names any more.
     fn forget_ended_in(
         &mut self,
         table: &Table<'a>,
@@ -330,7 +221,6 @@ impl<'a> Registers<'a> {
         types: &[u32],
         lent: u16,
     )
-        requires listed { has self.now.lent lent ≡ true }
         ensures kinds { self.new.kinds ≡ set self.old.kinds lent (forgotten register (part parts.now types.now)
             (ends table.now self.old.kinds register (part parts.now types.now) (length parts.now)
             (seen_at self.old.kinds self.old.reached)) lent (at self.old.kinds lent)) }
@@ -346,7 +236,7 @@ impl<'a> Registers<'a> {
             None => (),
             Some(from) => {
                 if self.ends(table, register, parts, types, from.register) {
-                    self.change(lent, known.without_from());
+                    self.put(lent, known.without_from());
                 }
             }
         }
@@ -364,9 +254,8 @@ impl<'a> Registers<'a> {
         }
     }
 
-    // The same of a listed register.
+    // The same of one register.
     fn pass_on_in(&mut self, register: u16, parts: &[u16], types: &[u32], lent: u16)
-        requires listed { has self.now.lent lent ≡ true }
         ensures kinds { self.new.kinds ≡ set self.old.kinds lent (fated register (part parts.now types.now)
             self.old.reached lent (at self.old.kinds lent)) }
         ensures maps { self.new.maps ≡ self.old.maps }
@@ -377,10 +266,10 @@ impl<'a> Registers<'a> {
             return;
         }
         match self.seen(lent) {
-            Some(heir) => self.change(lent, self.known(lent).with_root(heir)),
+            Some(heir) => self.put(lent, self.known(lent).with_root(heir)),
             None => {
                 if self.known(lent).is_lent_of(register) {
-                    self.change(lent, Known::Gone);
+                    self.put(lent, Known::Gone);
                 }
             }
         }

@@ -1,7 +1,7 @@
-use Rattle.std.proofs.Common.{sym, ap, arith, subst, ◌∙◌, ◌+◌, set}
+use Rattle.std.proofs.Common.{sym, ap, arith, subst, ◌∙◌, ◌+◌, set, take, refl}
 use Rattle.sound_code.specs.Kinds.{has}
-use Rattle.register_kinds.specs.Kept.{AreLents}
-use Rattle.register_kinds.proofs.LentLists.{all_true, lents_added, held_new, held_more}
+use Rattle.register_kinds.specs.Kept.{AreLents, Grows}
+use Rattle.register_kinds.proofs.LentLists.{all_true, lents_added, held_new, grows_one, grows_same}
 use Rattle.register_kinds.proofs.lents.Lents.add.Goals as goal
 
 pub invariant_of-self : goal.invariant_of-self
@@ -16,11 +16,18 @@ returns-then-not-is_marked-clause-added c =
     λ h. held_new c.self.inside.items.items c.self.inside.top c.args.register
     (let a = c.if-self-len.true in let b = c.len.ensures in omega arith)
 
-pub returns-then-not-is_marked-clause-keeps : goal.returns-then-not-is_marked-clause-keeps
-returns-then-not-is_marked-clause-keeps c =
-    λ q e. held_more c.self.inside.items.items c.self.inside.top c.args.register
-    (let a = c.if-self-len.true in let b = c.len.ensures in omega arith) q
-    (ap (λ v. has v.held q) c.self.view_is ∙ e)
+pub returns-then-not-is_marked-clause-more : goal.returns-then-not-is_marked-clause-more
+returns-then-not-is_marked-clause-more c =
+    subst (λ v. Grows v.held (take (c.self.inside.top + 1) (set c.self.inside.items.items c.self.inside.top
+    c.args.register))) c.self.view_is
+    (grows_one c.self.inside.items.items c.self.inside.top c.args.register
+    (let a = c.if-self-len.true in let b = c.len.ensures in omega arith))
+
+pub returns-else-not-is_marked-clause-more : goal.returns-else-not-is_marked-clause-more
+returns-else-not-is_marked-clause-more c = grows_same _ _ refl
+
+pub returns-else-self-len-clause-more : goal.returns-else-self-len-clause-more
+returns-else-self-len-clause-more c = grows_same _ _ refl
 
 pub returns-else-self-len-clause-added : goal.returns-else-self-len-clause-added
 returns-else-self-len-clause-added c =

@@ -1,6 +1,6 @@
 use Rattle.std.proofs.Common.{sym, ap, length, arith}
 use Rattle.std.proofs.lemmas.List.{length-take-le}
-use Rattle.register_kinds.proofs.LentLists.{trues_few}
+use Rattle.register_kinds.proofs.LentLists.{take_short, trues_few}
 use Rattle.register_kinds.proofs.lents.Lents.as_slice.Goals as goal
 
 pub slice_bounds-result-end : goal.slice_bounds-result-end
@@ -10,3 +10,10 @@ slice_bounds-result-end c =
     let long = c.self.invariant.long in
     let same = ap length c.deref.ensures.value in
     sym (length-take-le c.self.inside.top c.deref.result.now (omega arith))
+
+pub returns-clause-few : goal.returns-clause-few
+returns-clause-few c =
+    let long = ap length c.deref.ensures.value in
+    let room = ap (λ v. v.room) c.self.view_is in
+    let short = take_short c.self.inside.top c.deref.result.now in
+    omega arith

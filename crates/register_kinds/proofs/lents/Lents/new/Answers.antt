@@ -1,5 +1,5 @@
 use Rattle.std.proofs.Common.{sym, ◌∙◌}
-use Rattle.register_kinds.proofs.LentLists.{none_true}
+use Rattle.register_kinds.proofs.LentLists.{none_true, kept_got}
 use Rattle.register_kinds.proofs.lents.Lents.new.Goals as goal
 
 pub invariant_of-result : goal.invariant_of-result
@@ -8,4 +8,5 @@ invariant_of-result c = record {
   long = c.in_ok-new.ensures.long ∙ sym c.in_ok-zeros.ensures.long;
   many = sym (none_true c.in_ok-new.field-0 c.in_ok-new.ensures.unmarked);
   lists = λ q e. absurd (c.in_ok-new.ensures.unmarked q e);
+  only = λ q d e. absurd (c.in_ok-nones.ensures.none q d (kept_got _ q d e));
 }

@@ -7,11 +7,6 @@ use Rattle.register_kinds.specs.Views.{kinds_of}
 use Rattle.register_kinds.proofs.Arriving.{map_is, seen_case}
 use Rattle.register_kinds.proofs.registers.Registers.fits_map.Goals as goal
 
-pub all_fit-requires-clause-kinds_rise : goal.all_fit-requires-clause-kinds_rise
-all_fit-requires-clause-kinds_rise c =
-    let f = c.in-Some.ensures.found in
-    subst KindsRise f.2 (c.self.invariant.are_maps.rise c.args.label f.0 f.1)
-
 pub each_fits-requires-clause-kinds_rise : goal.each_fits-requires-clause-kinds_rise
 each_fits-requires-clause-kinds_rise c =
     let f = c.in-Some.ensures.found in
@@ -28,15 +23,7 @@ returns-in-None c = record {
 }
 
 pub returns-in-None-since : goal.returns-in-None-since
-returns-in-None-since c =
-    let f = c.in-Some.ensures.found in
-    record {
-      is = λ m e. c.all_fit.ensures.is
-          ∙ ap (λ ms. fit_all ms (arrive c.args.tested 0 (kinds_of c.deref.result.now)))
-          (sym f.2 ∙ ap (λ z. z.kinds) (map_is _ f.0 m f.1 (ap (λ s. slice_get s.maps c.args.label) c.self.view_is ∙ e)))
-          ∙ ap (λ ks. fit_all m.kinds (arrive c.args.tested 0 ks))
-          (ap kinds_of c.deref.ensures.value ∙ ap (λ s. s.kinds) c.self.view_is);
-    }
+returns-in-None-since c = record { is = c.fits_anew.ensures.is }
 
 pub returns-then-not-each_fits : goal.returns-then-not-each_fits
 returns-then-not-each_fits c =
@@ -44,11 +31,11 @@ returns-then-not-each_fits c =
     record {
       is = λ m e.
           let g = ap (λ s. slice_get s.maps c.args.label) c.self.view_is ∙ e in
-          let known = ap kinds_of c.deref-in-Some-since.ensures.value in
-          sym (ap (λ a. a && tested_fits c.args.tested c.in-Some.kinds.now (kinds_of c.deref-in-Some-since.result.now))
+          let known = ap kinds_of c.deref.ensures.value in
+          sym (ap (λ a. a && tested_fits c.args.tested c.in-Some.kinds.now (kinds_of c.deref.result.now))
           c.if-not-each_fits.true)
           ∙ seen_case c.args.tested m.kinds c.in-Some.kinds.now (kinds_of c.self.inside.known.items)
-          (kinds_of c.deref-in-Some-since.result.now) (kinds_of c.deref-in-Some-since.result.now)
+          (kinds_of c.deref.result.now) (kinds_of c.deref.result.now)
           c.in-Some-since.changed.now c.each_fits.result _
           (sym f.2 ∙ ap (λ z. z.kinds) (map_is _ f.0 m f.1 g)) known known (c.self.invariant.are_maps.long c.args.label m g)
           (c.self.invariant.sees c.args.label m c.in-Some-since.changed.now g c.in-Some-since.ensures.is)
@@ -62,11 +49,11 @@ returns-else-not-each_fits c =
     record {
       is = λ m e.
           let g = ap (λ s. slice_get s.maps c.args.label) c.self.view_is ∙ e in
-          let known = ap kinds_of c.deref-in-Some-since.ensures.value in
-          let known2 = ap kinds_of c.deref-in-Some-since-2.ensures.value in
+          let known = ap kinds_of c.deref.ensures.value in
+          let known2 = ap kinds_of c.deref-in-Some-since.ensures.value in
           sym (ap (λ a. a && c.tested_fits.result) c.if-not-each_fits.false)
           ∙ seen_case c.args.tested m.kinds c.in-Some.kinds.now (kinds_of c.self.inside.known.items)
-          (kinds_of c.deref-in-Some-since.result.now) (kinds_of c.deref-in-Some-since-2.result.now)
+          (kinds_of c.deref.result.now) (kinds_of c.deref-in-Some-since.result.now)
           c.in-Some-since.changed.now c.each_fits.result c.tested_fits.result
           (sym f.2 ∙ ap (λ z. z.kinds) (map_is _ f.0 m f.1 g)) known known2 (c.self.invariant.are_maps.long c.args.label m g)
           (c.self.invariant.sees c.args.label m c.in-Some-since.changed.now g c.in-Some-since.ensures.is)

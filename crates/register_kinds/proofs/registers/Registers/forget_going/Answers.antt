@@ -1,9 +1,10 @@
-use Rattle.std.proofs.Common.{sym, ◌∙◌, ◌+◌, ◌∷◌, ap, drop, arith}
+use Rattle.std.proofs.Common.{sym, ◌∙◌, ◌+◌, [], ◌∷◌, ap, drop, arith}
 use Rattle.std.specs.Prelude.{slice_index}
 use Rattle.sound_code.specs.Changes.{forget, goes}
 use Rattle.register_kinds.specs.Steps.{each}
 use Rattle.register_kinds.proofs.Places.{each_done, drop_index}
-use Rattle.register_kinds.proofs.Changed.{going_step, goes_still, forget_listed}
+use Rattle.register_kinds.proofs.Changed.{going_step, goes_still}
+use Rattle.register_kinds.proofs.Gathered.{going_listed}
 use Rattle.register_kinds.proofs.registers.Registers.forget_going.Goals as goal
 
 pub loop-place-preserved : goal.loop-place-preserved
@@ -30,5 +31,4 @@ returns-clause-kinds c =
     each_done (forget (goes c.args.self.now.kinds c.args.register)) c.loop-place.self.kinds c.args.self.now.lent
     c.loop-place.place (let h = c.loop-place-test.false in let g = c.lent_len-place-end.ensures.is in omega arith)
     ∙ c.loop-place.invariant.kinds
-    ∙ forget_listed (goes c.args.self.now.kinds c.args.register) c.args.self.now.kinds c.args.self.now.lent
-    c.all_lent_are_listed.ensures.is
+    ∙ going_listed c.args.register c.args.self.now.kinds [] c.args.self.now.lent c.requires.gathered

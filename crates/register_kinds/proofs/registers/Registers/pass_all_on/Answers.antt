@@ -1,21 +1,20 @@
 use Rattle.std.proofs.Common.{sym, ◌∙◌, ap, subst}
 use Rattle.sound_code.specs.Taking.{part, is_heir, IsReached}
+use Rattle.register_kinds.specs.Kept.{Gathers}
 use Rattle.register_kinds.specs.Takes.{fated, in_turn, seen_at, IsPassed}
-use Rattle.register_kinds.proofs.TakenKinds.{passed_is, unread_passed}
+use Rattle.register_kinds.proofs.TakenKinds.{passed_is}
 use Rattle.register_kinds.proofs.registers.Registers.pass_all_on.Goals as goal
-
-pub returns-then-not-is_read-clause-passed : goal.returns-then-not-is_read-clause-passed
-returns-then-not-is_read-clause-passed c =
-    unread_passed c.args.table.now c.args.self.now.kinds c.args.register c.args.parts.now c.args.types.now
-    (c.is_read.ensures.none c.if-not-is_read.true)
 
 pub returns-clause-passed : goal.returns-clause-passed
 returns-clause-passed c =
     subst (λ ks. IsPassed c.args.table.now ks c.args.register c.args.parts.now c.args.types.now
-    c.pass_on.new.self.kinds) c.find_heirs.ensures.kinds
+    c.pass_on.new.self.kinds) (c.find_heirs.ensures.kinds ∙ c.gather.ensures.kinds)
     (passed_is c.args.table.now c.args.register c.args.parts.now c.args.types.now c.find_heirs.new.self.reached
     c.find_heirs.new.self.kinds c.forget_ended.new.self.kinds c.pass_on.new.self.kinds c.find_heirs.new.self.lent
-    c.all_lent_are_listed.ensures.is
+    (subst (λ ks. Gathers ks c.args.register c.args.parts.now c.find_heirs.new.self.lent)
+    (sym (c.find_heirs.ensures.kinds ∙ c.gather.ensures.kinds))
+    (subst (Gathers c.args.self.now.kinds c.args.register c.args.parts.now) (sym c.find_heirs.ensures.lent)
+    c.gather.ensures.gathered))
     (subst (λ ks. (q : _) → IsReached ks (is_heir c.args.table.now ks c.args.register
     (part c.args.parts.now c.args.types.now)) q (seen_at ks c.find_heirs.new.self.reached q))
     (sym c.find_heirs.ensures.kinds) c.find_heirs.ensures.reached)
@@ -25,3 +24,8 @@ returns-clause-passed c =
     c.forget_ended.new.self.kinds c.forget_ended.new.self.lent) c.forget_ended.ensures.reached
     ∙ ap (in_turn (fated c.args.register (part c.args.parts.now c.args.types.now)
     c.find_heirs.new.self.reached) c.forget_ended.new.self.kinds) c.forget_ended.ensures.lent))
+
+pub find_heirs-requires-clause-gathered : goal.find_heirs-requires-clause-gathered
+find_heirs-requires-clause-gathered c =
+    subst (λ ks. Gathers ks c.args.register c.args.parts.now c.gather.new.self.lent) (sym c.gather.ensures.kinds)
+    c.gather.ensures.gathered

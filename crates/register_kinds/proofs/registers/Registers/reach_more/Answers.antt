@@ -2,7 +2,8 @@ use Rattle.std.proofs.Common.{◌≡◌, ◌⊎◌, inl, inr, ◌+◌, ◌∷◌
 use Rattle.std.specs.Prelude.{true, None, slice_index}
 use Rattle.sound_code.specs.Kinds.{has}
 use Rattle.sound_code.specs.Taking.{is_heir, part}
-use Rattle.register_kinds.specs.Takes.{AreReached, kept_at, next_at}
+use Rattle.register_kinds.specs.Takes.{AreReached, next_at}
+use Rattle.register_kinds.specs.Kept.{kept_at}
 use Rattle.register_kinds.proofs.Places.{drop_index}
 use Rattle.register_kinds.proofs.Reaching.{fewer_by, settled_step, settled_end}
 use Rattle.register_kinds.proofs.registers.Registers.reach_more.Goals as goal

@@ -1,4 +1,4 @@
-use Rattle.std.proofs.Common.{subst}
+use Rattle.std.proofs.Common.{ap, ◌∙◌, subst}
 use Rattle.sound_code.specs.Taking.{IsTaken}
 use Rattle.register_kinds.proofs.TakenKinds.{taken_is}
 use Rattle.register_kinds.proofs.registers.Registers.take.Goals as goal
@@ -6,7 +6,8 @@ use Rattle.register_kinds.proofs.registers.Registers.take.Goals as goal
 pub returns-clause-kinds : goal.returns-clause-kinds
 returns-clause-kinds c =
     subst (λ ts. IsTaken c.args.table.now c.args.self.now.kinds c.args.register c.args.parts.now ts
-    c.empty.new.self.kinds) c.known_fields-types.ensures.is
+    c.tidy.new.self.kinds) c.known_fields-types.ensures.is
     (taken_is c.args.table.now c.args.register c.args.parts.now c.known_fields-types.result.now
-    c.args.self.now.kinds c.pass_all_on.new.self.kinds c.fill.new.self.kinds c.empty.new.self.kinds
-    c.pass_all_on.ensures.passed c.fill.ensures.kinds c.fill.ensures.long c.empty.ensures.kinds)
+    c.args.self.now.kinds c.pass_all_on.new.self.kinds c.fill.new.self.kinds c.tidy.new.self.kinds
+    c.pass_all_on.ensures.passed c.fill.ensures.kinds c.fill.ensures.long
+    (ap (λ s. s.kinds) c.tidy.ensures.same ∙ c.empty.ensures.kinds))

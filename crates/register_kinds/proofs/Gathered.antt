@@ -1,0 +1,41 @@
+-- A change of all registers is one of those that are listed, where all that lead to the changed ones are.
+use Rattle.std.proofs.Common.{◌≡◌, ℕ, List, map, refl, sym, ap, ◌∙◌}
+use Rattle.std.specs.Prelude.{Bool, true, false, ◌||◌, ◌==◌, Some}
+use Rattle.cell_code.specs.declared.kind.From.{From}
+use Rattle.cell_code.specs.declared.kind.Kind.{Kind}
+use Rattle.sound_code.specs.Kinds.{at, has, from_of, is_lent_of}
+use Rattle.sound_code.specs.Changes.{forget, goes}
+use Rattle.register_kinds.specs.Kept.{Gathers, leads}
+use Rattle.register_kinds.specs.Steps.{each, forgets}
+use Rattle.register_kinds.proofs.Places.{at_map, each_all}
+use Rattle.register_kinds.proofs.Changed.{forget_by, forget_twice, forgets_unnamed, lent_forget, not_true}
+use Rattle.register_kinds.proofs.Keeps.{lent_leads, unled, unlisted_from, unlisted_lent}
+
+pub forget_listed : (d : ℕ) (ks : List Kind) (qs : List ℕ) → ((q : ℕ) → leads d (at ks q) ≡ true → has qs q ≡ true) →
+    each (forgets d) ks qs ≡ map (forgets d) ks
+forget_listed d ks qs h =
+    each_all (forgets d) refl (forget_twice (λ q. q == d)) qs ks
+    (λ q e. forgets_unnamed d (at ks q) (unled d (at ks q) (not_true (leads d (at ks q)) (has qs q) (h q) e)).0)
+
+or_not : (a b : Bool) → a ≡ false → b ≡ false → (a || b) ≡ false
+or_not true b e f = absurd (cc)
+or_not false b e f = f
+
+not_going : (r : ℕ) (ks : List Kind) (ds qs : List ℕ) (q : ℕ) (f : From) → Gathers ks r ds qs → has qs q ≡ false →
+    from_of (at ks q) ≡ Some f → goes ks r f.register ≡ false
+not_going r ks ds qs q f g e h =
+    let a = unlisted_from ks r ds qs q f g e h in
+    or_not (f.register == r) (is_lent_of r (at ks f.register)) a.own (unlisted_lent ks r ds qs f.register g a.listed)
+
+pub going_listed : (r : ℕ) (ks : List Kind) (ds qs : List ℕ) → Gathers ks r ds qs →
+    each (forget (goes ks r)) ks qs ≡ map (forget (goes ks r)) ks
+going_listed r ks ds qs g =
+    each_all (forget (goes ks r)) refl (forget_twice (goes ks r)) qs ks
+    (λ q e. forget_by (goes ks r) (at ks q) (from_of (at ks q)) refl (λ f h. not_going r ks ds qs q f g e h))
+
+-- Forgetting leaves what is lent of a register.
+pub still_listed : (r : ℕ) (p : ℕ → Bool) (ks new : List Kind) (qs : List ℕ) → new ≡ map (forget p) ks →
+    ((q : ℕ) → leads r (at ks q) ≡ true → has qs q ≡ true) → (q : ℕ) → is_lent_of r (at new q) ≡ true → has qs q ≡ true
+still_listed r p ks new qs e h q i =
+    h q (lent_leads r (at ks q) (sym (ap (λ z. is_lent_of r (at z q)) e ∙ ap (is_lent_of r) (at_map (forget p) refl ks q)
+    ∙ lent_forget p r (at ks q)) ∙ i))

@@ -1,0 +1,69 @@
+-- The lists of registers that may lead to others, by place.
+use Rattle.std.proofs.Common.{◌≡◌, ℕ, zero, suc, ◌<◌, ◌≤◌, inl, inr, List, [], ◌∷◌, ◌++◌, length, map, set, get_or, refl, sym, ap, ◌∙◌, subst, arith}
+use Rattle.std.specs.Prelude.{Bool, true, false}
+use Rattle.std.proofs.lemmas.Bool.Decides.{eqb_tells}
+use Rattle.std.specs.declared.vec.Vec.{Vec}
+use Rattle.std.specs.declared.alloc.Global.{Global}
+use Rattle.cell_code.specs.declared.kind.Kind.{Kind}
+use Rattle.sound_code.specs.Kinds.{at, has}
+use Rattle.register_kinds.specs.Kept.{leads, list_at}
+use Rattle.register_kinds.specs.Views.{row_of}
+use Rattle.register_kinds.proofs.LentLists.{has_more, has_new}
+
+pub list_past : (vs : List (Vec ℕ Global)) (r : ℕ) → length vs ≤ r → list_at (map row_of vs) r ≡ []
+list_past [] r h = refl
+list_past (v ∷ vs) zero h = absurd (omega arith)
+list_past (v ∷ vs) (suc r) h = list_past vs r (omega arith)
+
+pub list_get : (vs : List (Vec ℕ Global)) (r : ℕ) (d : Vec ℕ Global) → r < length vs →
+    list_at (map row_of vs) r ≡ row_of (get_or vs r d)
+list_get [] r d h = absurd (omega arith)
+list_get (v ∷ vs) zero d h = refl
+list_get (v ∷ vs) (suc r) d h = list_get vs r d (omega arith)
+
+pub list_own : (vs : List (Vec ℕ Global)) (r : ℕ) (v : Vec ℕ Global) → r < length vs →
+    list_at (map row_of (set vs r v)) r ≡ row_of v
+list_own [] r v h = absurd (omega arith)
+list_own (x ∷ vs) zero v h = refl
+list_own (x ∷ vs) (suc r) v h = list_own vs r v (omega arith)
+
+pub list_other : (vs : List (Vec ℕ Global)) (r q : ℕ) (v : Vec ℕ Global) → (r ≡ q → ⊥) →
+    list_at (map row_of (set vs r v)) q ≡ list_at (map row_of vs) q
+list_other [] r q v h = refl
+list_other (x ∷ vs) zero zero v h = absurd (h refl)
+list_other (x ∷ vs) zero (suc q) v h = refl
+list_other (x ∷ vs) (suc r) zero v h = refl
+list_other (x ∷ vs) (suc r) (suc q) v h = list_other vs r q v (λ e. h (ap suc e))
+
+-- One more is listed for a register.
+pub linked_new : (vs : List (Vec ℕ Global)) (r x : ℕ) (old v : Vec ℕ Global) → r < length vs →
+    v.items ≡ old.items ++ x ∷ [] → has (list_at (map row_of (set vs r v)) r) x ≡ true
+linked_new vs r x old v l e = ap (λ xs. has xs x) (list_own vs r v l ∙ e) ∙ has_new old.items x
+
+pub linked_more : (vs : List (Vec ℕ Global)) (r x : ℕ) (old v : Vec ℕ Global) → r < length vs → old ≡ get_or vs r old →
+    v.items ≡ old.items ++ x ∷ [] → (p q : ℕ) → has (list_at (map row_of vs) p) q ≡ true →
+    has (list_at (map row_of (set vs r v)) p) q ≡ true
+linked_more vs r x old v l g e p q h =
+    elim (eqb_tells r p) [
+      | inl i ↦ subst (λ z. has (list_at (map row_of (set vs r v)) z) q ≡ true) i.1
+          (ap (λ xs. has xs q) (list_own vs r v l ∙ e) ∙ has_more old.items x q
+          (ap (λ o. has (row_of o) q) g ∙ ap (λ xs. has xs q) (sym (list_get vs r old l))
+          ∙ ap (λ z. has (list_at (map row_of vs) z) q) i.1 ∙ h))
+      | inr i ↦ ap (λ xs. has xs q) (list_other vs r p v i.1) ∙ h
+    ]
+
+-- a register that leads to another is there
+
+pub leads_below : (r : ℕ) (ks : List Kind) (q : ℕ) → leads r (at ks q) ≡ true → q < length ks
+leads_below r [] q e = absurd (cc)
+leads_below r (k ∷ ks) zero e = omega arith
+leads_below r (k ∷ ks) (suc q) e = let h = leads_below r ks q e in omega arith
+
+alone_if : (b : Bool) → (b ≡ true → b ≡ false) → b ≡ false
+alone_if true h = h refl
+alone_if false h = refl
+
+-- Where none of the registers leads to one that are listed for it, none does.
+pub alone_by : (r : ℕ) (ks : List Kind) (xs : List ℕ) → ((q : ℕ) → leads r (at ks q) ≡ true → has xs q ≡ true) →
+    ((q : ℕ) → has xs q ≡ true → leads r (at ks q) ≡ false) → (q : ℕ) → leads r (at ks q) ≡ false
+alone_by r ks xs h f q = alone_if (leads r (at ks q)) (λ e. f q (h q e))

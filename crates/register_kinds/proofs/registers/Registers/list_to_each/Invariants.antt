@@ -1,0 +1,15 @@
+use Rattle.std.proofs.Common.{◌≡◌, ◌⊎◌, ℕ, drop}
+use Rattle.std.specs.Prelude.{true}
+use Rattle.sound_code.specs.Kinds.{at, has}
+use Rattle.register_kinds.specs.Kept.{Grows, leads}
+use Rattle.register_kinds.proofs.registers.Registers.list_to_each.Given as goal
+
+abbrev pub invariant-loop-register : goal.invariant-loop-register
+invariant-loop-register l = record {
+  listed : (p q : ℕ) → has l.registers p ≡ true → leads p (at l.initial.self.kinds q) ≡ true →
+      (has (drop l.register-index l.registers) p ≡ true) ⊎ (has l.self.lent q ≡ true);
+  more : Grows l.initial.self.lent l.self.lent;
+  kinds : l.self.kinds ≡ l.initial.self.kinds;
+  maps : l.self.maps ≡ l.initial.self.maps;
+  reached : l.self.reached ≡ l.initial.self.reached;
+}

@@ -1,0 +1,12 @@
+use Rattle.std.proofs.Common.{◌∙◌, arith}
+use Rattle.register_kinds.specs.Steps.{lose}
+use Rattle.register_kinds.proofs.Places.{each_done}
+use Rattle.register_kinds.proofs.Changed.{lose_listed}
+use Rattle.register_kinds.proofs.registers.Registers.lose_listed.Goals as goal
+
+pub returns-clause-kinds : goal.returns-clause-kinds
+returns-clause-kinds c =
+    each_done (lose c.args.register) c.loop-place.self.kinds c.args.self.now.lent c.loop-place.place
+    (let h = c.loop-place-test.false in let g = c.lent_len-place-end.ensures.is in omega arith)
+    ∙ c.loop-place.invariant.kinds
+    ∙ lose_listed c.args.register c.args.self.now.kinds c.args.self.now.lent c.requires.listed

@@ -1,0 +1,134 @@
+// What label maps ask of registers.
+ghost use Rattle.std.specs.Prelude.{◌≡◌, ◌<◌, ◌≤◌, ◌++◌, ◌+◌, ℕ, length, map, IfOk, OnOk};
+ghost use Rattle.sound_code.specs.Codes.{plain_label};
+ghost use Rattle.sound_code.specs.Kinds.{is_free};
+ghost use Rattle.register_kinds.specs.Busy.{IsAsked, asked_from, asks, busy_in, held, place_by};
+ghost use Rattle.register_kinds.specs.Kept.{AreAsked};
+ghost use Rattle.register_kinds.specs.Views.{kinds_of};
+
+use crate::known::Known;
+use cell_code::{Kind, Label};
+use fip_base::plain::NoMemory;
+use std::alloc::Global;
+
+/// What a label map asks: the registers of which it says more than Gone, and how many of them may not be overwritten.
+#[derive(Drop)]
+pub struct Asked {
+    pub places: Vec<u16>,
+    pub busy: usize,
+}
+
+/// What each of some label maps asks. NoMemory: no memory is left.
+pub fn asked_by(alloc: Global, labels: &[Label]) -> Result<Vec<Asked>, NoMemory>
+    ensures asks { IfOk result (λ v. AreAsked (map plain_label labels.now) v.items) }
+{
+    let mut asked = Vec::new(alloc);
+    for label in labels {
+        asked.push(asked_of(alloc, label)?)?;
+    }
+    Ok(asked)
+}
+
+// What a label map asks.
+fn asked_of(alloc: Global, label: &Label) -> Result<Asked, NoMemory>
+    ensures is { IfOk result (λ a. length (plain_label label.now).kinds < 65536 →
+        IsAsked (plain_label label.now).kinds a) }
+{
+    Ok(Asked {
+        places: places_of(alloc, &label.kinds)?,
+        busy: count_kinds(&label.kinds),
+    })
+}
+
+// The registers of which kinds say more than Gone.
+fn places_of(alloc: Global, kinds: &[Kind]) -> Result<Vec<u16>, NoMemory>
+    ensures is { IfOk result (λ v. length kinds.now < 65536 → v.items ≡ asked_from 0 kinds.now) }
+{
+    let mut places = Vec::new(alloc);
+    let mut register = 0u16;
+    for kind in kinds {
+        add_place(&mut places, register, kind)?;
+        register = register.saturating_add(1);
+    }
+    Ok(places)
+}
+
+// One register more, where its kind says more than Gone.
+fn add_place(places: &mut Vec<u16>, register: u16, kind: &Kind) -> Result<(), NoMemory>
+    ensures is { OnOk result (places.new.items ≡ places.old.items ++ place_by (asks kind.now) register) }
+{
+    if says_more(kind) {
+        places.push(register)?;
+    }
+    Ok(())
+}
+
+// Whether a kind says more than Gone.
+fn says_more(kind: &Kind) -> bool
+    ensures is { result ≡ asks kind.now }
+{
+    match kind {
+        Kind::Gone => false,
+        Kind::Scalar { .. } => true,
+        Kind::Owned { .. } => true,
+        Kind::Lent { .. } => true,
+        Kind::Credit { .. } => true,
+    }
+}
+
+// How many kinds may not be overwritten.
+fn count_kinds(kinds: &[Kind]) -> usize
+    ensures is { result ≡ busy_in kinds.now }
+{
+    let mut busy = 0usize;
+    for kind in kinds {
+        busy += one_if_held(is_free(kind));
+    }
+    busy
+}
+
+// Whether a kind may be overwritten.
+fn is_free(kind: &Kind) -> bool
+    ensures is { result ≡ is_free kind.now }
+{
+    match kind {
+        Kind::Gone => true,
+        Kind::Scalar { .. } => true,
+        Kind::Owned { .. } => false,
+        Kind::Lent { .. } => true,
+        Kind::Credit { .. } => false,
+    }
+}
+
+/// How many registers may not be overwritten.
+pub fn count_known(known: &[Known]) -> usize
+    ensures is { result ≡ busy_in (kinds_of known.now) }
+{
+    let mut busy = 0usize;
+    for one in known {
+        busy += one_if_held(one.is_free());
+    }
+    busy
+}
+
+// 1 for a register that may not be overwritten.
+fn one_if_held(is_free: bool) -> usize
+    ensures is { result ≡ held is_free }
+    ensures few { result ≤ 1 }
+{
+    if is_free { 0 } else { 1 }
+}
+
+/// How many registers may not be overwritten once one of them changes: whether it may be, before and after.
+pub fn recount(busy: usize, before: bool, after: bool) -> usize
+    requires few { busy < 65536 }
+    ensures is { (rest : ℕ) → busy ≡ held before + rest → result ≡ held after + rest }
+{
+    if before {
+        if after { busy } else { busy + 1 }
+    } else if after {
+        busy.saturating_sub(1)
+    } else {
+        busy
+    }
+}

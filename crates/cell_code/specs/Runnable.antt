@@ -1,7 +1,7 @@
 -- What a run relies on: from the first instruction of each function on, whatever way is taken, registers, targets,
 -- functions and lists are in range, and what a fip function needs of the stack covers what it calls. So a run tests
 -- none of them. A code that the verifier accepts is runnable. Instructions that no way reaches may be anything.
-use Rattle.std.specs.Prelude.{◌≡◌, ℕ, zero, suc, ◌+◌, ◌<◌, ◌≤◌, List, Option, length, All, Some, slice_get}
+use Rattle.std.specs.Prelude.{◌≡◌, ◌≢◌, ℕ, zero, suc, ◌+◌, ◌<◌, ◌≤◌, List, Option, length, All, Some, slice_get}
 use Rattle.fip_language.specs.declared.limits.TheConstants.{MOST_FIELDS, MOST_REGISTERS, MOST_RESULTS}
 use Rattle.fip_base.specs.declared.plain.Stack.{Stack}
 use Rattle.cell_code.specs.declared.code.Instr.{Instr}
@@ -31,6 +31,10 @@ body_of fs ss f g = record {
 abbrev pub AreBelow : ℕ → List ℕ → Type 0
 AreBelow n rs = All (λ r. r < n) rs
 
+-- registers other than this one
+abbrev pub AreOthers : ℕ → List ℕ → Type 0
+AreOthers r rs = All (λ q. q ≢ r) rs
+
 -- a function that has room for so many arguments and credits
 abbrev pub CanCall : List Function → ℕ → ℕ → Type 0
 CanCall fs f k = (g : Function) × (slice_get fs f ≡ Some g) × (k ≤ g.registers)
@@ -49,7 +53,8 @@ Row b i P (I.Arith d op x y line col) = (d < b.registers) × (x < b.registers) �
 Row b i P (I.Test r c target) = (r < b.registers) × P (i + 1) × (i < target) × P target
 Row b i P (I.TestInt r v target) = (r < b.registers) × P (i + 1) × (i < target) × P target
 Row b i P (I.Peek d r k) = (d < b.registers) × (r < b.registers) × P (i + 1)
-Row b i P (I.Take r ds) = (r < b.registers) × AreBelow b.registers ds × (length ds ≤ MOST_FIELDS) × P (i + 1)
+Row b i P (I.Take r ds) = (r < b.registers) × AreBelow b.registers ds × AreOthers r ds × (length ds ≤ MOST_FIELDS)
+    × P (i + 1)
 Row b i P (I.Put d t c ss) = (d < b.registers) × AreBelow b.registers ss × (length ss ≤ MOST_FIELDS) × P (i + 1)
 Row b i P (I.Drop r) = (r < b.registers) × P (i + 1)
 Row b i P (I.Free r) = (r < b.registers) × P (i + 1)

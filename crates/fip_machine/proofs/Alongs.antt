@@ -1,7 +1,7 @@
 -- A step of a task leads from a moment of the run that the definition says to the next one.
 -- The idea: what a step came to is told by what the definition says comes next; then each way that a next state may come
 -- about is a case. Where no call is left, a call ends the run, and nothing else does so.
-use Rattle.std.proofs.Common.{◌≡◌, ◌≢◌, ℕ, zero, suc, ◌-◌, ◌<◌, Bool, true, false, List, [], ◌∷◌, Option, Some, None, refl, sym, ap, subst, ◌∙◌, arith}
+use Rattle.std.proofs.Common.{◌≡◌, ◌≢◌, ◌⊎◌, inl, inr, ℕ, zero, suc, ◌+◌, ◌-◌, ◌<◌, ◌≤◌, length, take, Bool, true, false, List, [], ◌∷◌, Option, Some, None, refl, sym, ap, subst, ◌∙◌, arith}
 use Rattle.std.specs.Prelude.{option_and_then, not}
 use Rattle.fip_language.specs.declared.TrapKind.{TrapKind}
 use Rattle.cell_code.specs.declared.code.Instr.{Instr}
@@ -11,25 +11,30 @@ use Rattle.cell_store.specs.Made.{Stored}
 use Rattle.code_verify.specs.Checked.{Checked}
 use Rattle.code_runs.specs.Codes.{PlainFunction, PlainCode, plain, function_at}
 use Rattle.code_runs.specs.Cells.{Store}
-use Rattle.code_runs.specs.States.{Frame, Typed, State, Next, Went, Entered, Gave, Trapped, TooDeep, Stuck}
+use Rattle.code_runs.specs.States.{Frame, Typed, State, frames_held, words_held, Next, Went, Entered, Gave, Trapped, TooDeep, Stuck}
 use Rattle.code_runs.specs.Rows.{Done, read_all, write_all, operated, done, trap}
 use Rattle.code_runs.specs.Steps.{Kinds, went_with, went, called_with, called, replaced, destinations, resumed, returned, trapped, act_at, instr_of, kinds_of, next}
 use Rattle.code_runs.specs.Cells.{changed_by}
-use Rattle.code_runs.specs.Runs.{Value, Trap, Out, Deep, Unsound, Run, Going, Over, begun, comes, later, after}
+use Rattle.fip_language.specs.Gauge.{highest_frames, highest_words}
+use Rattle.code_runs.specs.Gauges.{seen}
+use Rattle.code_runs.specs.Runs.{Value, Trap, Out, Deep, Unsound, Run, Going, Over, state_of, begun, comes, later, after}
 use Rattle.machine_cells.specs.Small.{IsSmall, store_of}
+use Rattle.frame_stack.specs.Keeping.{Keeps}
+use Rattle.machine_rows.specs.declared.cursor.Bounds.{Bounds}
+use Rattle.machine_rows.specs.declared.cursor.Cursor.{Cursor}
+use Rattle.machine_rows.specs.declared.rows.Beside.{Beside}
 use Rattle.machine_rows.specs.declared.rows.Stepped.{Stepped}
 use Rattle.machine_rows.specs.declared.rows.Stepped.TheVariants as S
-use Rattle.machine_rows.specs.Coming.{Comes, Knows}
+use Rattle.machine_rows.specs.Coming.{Comes, KnowsAt}
+use Rattle.machine_rows.specs.Going.{Lead, ComesWithMore}
+use Rattle.machine_rows.specs.Placed.{weight}
 use Rattle.fip_machine.specs.declared.machine.Ended.{Ended}
 use Rattle.fip_machine.specs.declared.machine.Ended.TheVariants as M
-use Rattle.fip_machine.specs.Tasks.{Stand, state_with, ended_by}
-use Rattle.fip_machine.specs.Machines.{Seen}
-use Rattle.fip_machine.specs.Ending.{IsOver, RunsTo}
-use Rattle.fip_machine.specs.Along.{Origin, at_step, IsGoing, state_in, IsReady, IsAlong, HasRun, is_call_in, calls_next, HasEntered, IsDeep, CameTo, end_after}
-
-after_later : (kinds : Kinds) (code : PlainCode) (n : ℕ) (r : Run) → after kinds code (suc n) r ≡ later kinds code (after kinds code n r)
-after_later kinds code zero r = refl
-after_later kinds code (suc n) r = after_later kinds code n (later kinds code r)
+use Rattle.fip_machine.specs.Tasks.{Stand, IsMeasured, IsRaised, state_with, ended_by}
+use Rattle.fip_machine.specs.Ending.{KnowsRun, IsOver}
+use Rattle.fip_machine.specs.Along.{Origin, at_step, UnlessStuck, seen_to, HasMost, IsGoing, state_in, IsReady, IsAlong, HasRun, is_call_in, calls_next, HasEntered, IsDeep, CameTo, end_after, task_of}
+use Rattle.fip_machine.proofs.Mosts.{MostAre, after_later, always, going_state, over_state, stuck_on, most_next, most_stays, most_there, most_of}
+use Rattle.fip_machine.proofs.Tasked.{room_same}
 
 -- an instruction that is no call enters no function and asks no frame
 
@@ -129,41 +134,126 @@ came_along kinds code (Over Out s l k) left now r new given h c = absurd h
 came_along kinds code (Over Deep s l k) left now r new given h c = absurd h
 came_along kinds code (Over Unsound s l k) left now r new given h c = came_stuck s l k left (is_call_in (instr_of code now)) r new given
 
-pub stepped : (o : Origin) (t : Stand) (s : Stored) (left : ℕ) (r : Stepped) (u : Stand) (w : Stored) → IsAlong o t s left → u.code ≡ t.code → (IsSmall s.cells → IsSmall w.cells) → (s.pushed ≡ [] → w.pushed ≡ []) → (t.ended ≡ None → u.ended ≡ ended_by r) → (Knows t.code o.kinds → t.ended ≡ None → IsSmall s.cells → s.pushed ≡ [] → Comes (state_in o t s) (next o.kinds (plain t.code.code) (state_in o t s)) r (state_in o u w) u.given) → CameTo o left (calls_next t.code t) r u w
-stepped o t s left r u w a code small pushed ends told =
-    let old = state_in o t s in
-    let new = state_in o u w in
-    let knows : Knows t.code o.kinds = subst (λ (v : Checked). Knows v o.kinds) (sym a.code) a.knows in
-    let here : Comes old (next o.kinds (plain o.code.code) old) r new u.given = subst (λ (v : Checked). Comes old (next o.kinds (plain v.code) old) r new u.given) a.code (told knows a.going a.small a.empty) in
-    let on = came_along o.kinds (plain o.code.code) (at_step o a.steps) left old r new u.given a.run here in
-    let same : CameIn (at_step o (suc a.steps)) left (calls_next o.code t) r new u.given = subst (λ (m : Run). CameIn m left (calls_next o.code t) r new u.given) (sym (after_later o.kinds (plain o.code.code) a.steps (begun o.first o.calls))) on in
-    by r (subst (λ (v : Checked). CameIn (at_step o (suc a.steps)) left (calls_next v t) r new u.given) (sym a.code) same) (ends a.going)
+-- the task's moment after what a step came to
+came_to : (o : Origin) (t : Stand) (left steps : ℕ) (r : Stepped) (u : Stand) (w : Stored) → u.code ≡ o.code → KnowsRun o.code o.kinds o.first o.calls → IsSmall w.cells → w.pushed ≡ [] → IsMeasured u → (ended_by r ≡ None → u.ended ≡ None) → (UnlessStuck (at_step o steps) (state_of (at_step o steps) ≡ state_in o u w) → UnlessStuck (at_step o steps) (HasMost o steps u)) → CameIn (at_step o steps) left (calls_next o.code t) r (state_in o u w) u.given → CameTo o left (calls_next o.code t) r u w
+came_to o t left steps r u w code knows small empty measured ends most came = by r ends came
   where
-    along : (l : ℕ) → u.ended ≡ None → IsGoing (at_step o (suc a.steps)) (state_in o u w) l → IsAlong o u w l
+    along : (l : ℕ) → u.ended ≡ None → IsGoing (at_step o steps) (state_in o u w) l → IsAlong o u w l
     along l e h = record {
-      code = code ∙ a.code;
-      knows = a.knows;
+      code = code;
+      knows = knows;
       going = e;
-      small = small a.small;
-      empty = pushed a.empty;
-      steps = suc a.steps;
+      small = small;
+      empty = empty;
+      steps = steps;
       run = h;
+      most = most (going_state (at_step o steps) (state_in o u w) l h);
+      measured = measured;
     }
 
-    entered : (l : ℕ) (call : Bool) → u.ended ≡ None → EnteredIn (at_step o (suc a.steps)) l call (state_in o u w) u.given → HasEntered o l call u w
-    entered zero call e h = λ f. (suc a.steps, h f)
+    over : (e : Ended) → IsOver (at_step o steps) e (state_in o u w) u.given → HasRun o e u w
+    over e h = (steps, h, most (over_state (at_step o steps) e (state_in o u w) u.given h))
+
+    entered : (l : ℕ) (call : Bool) → u.ended ≡ None → EnteredIn (at_step o steps) l call (state_in o u w) u.given → HasEntered o l call u w
+    entered zero call e h = λ f. over M.Out (h f)
     entered (suc l) call e h = along l e h
 
-    deep : (l : ℕ) (call : Bool) → DeepIn (at_step o (suc a.steps)) l call (state_in o u w) u.given → IsDeep o l call u w
-    deep zero call h = λ f. (suc a.steps, h f)
-    deep (suc l) call h = (suc a.steps, h)
+    deep : (l : ℕ) (call : Bool) → DeepIn (at_step o steps) l call (state_in o u w) u.given → IsDeep o l call u w
+    deep zero call h = λ f. over M.Deep (h f)
+    deep (suc l) call h = over M.Deep h
 
-    by : (r : Stepped) → CameIn (at_step o (suc a.steps)) left (calls_next t.code t) r (state_in o u w) u.given → u.ended ≡ ended_by r → CameTo o left (calls_next t.code t) r u w
-    by S.Went h e = along left e h
-    by S.Entered h e = entered left (calls_next t.code t) e h
-    by S.Value h e = (suc a.steps, h)
-    by (S.Trap kind line col) h e = (suc a.steps, h)
-    by S.Deep h e = deep left (calls_next t.code t) h
+    by : (r : Stepped) → (ended_by r ≡ None → u.ended ≡ None) → CameIn (at_step o steps) left (calls_next o.code t) r (state_in o u w) u.given → CameTo o left (calls_next o.code t) r u w
+    by S.Went ends h = along left (ends refl) h
+    by S.Entered ends h = entered left (calls_next o.code t) (ends refl) h
+    by S.Value ends h = over M.Value h
+    by (S.Trap kind line col) ends h = over (M.Trap kind line col) h
+    by S.Deep ends h = deep left (calls_next o.code t) h
+
+-- the run after one more step
+came_next : (o : Origin) (steps left : ℕ) (old : State) (r : Stepped) (new : State) (given : List ℕ) → IsGoing (at_step o steps) old left → Comes old (next o.kinds (plain o.code.code) old) r new given → CameIn (at_step o (suc steps)) left (is_call_in (instr_of (plain o.code.code) old)) r new given
+came_next o steps left old r new given h c = subst (λ (m : Run). CameIn m left (is_call_in (instr_of (plain o.code.code) old)) r new given) (sym (after_later o.kinds (plain o.code.code) steps (begun o.first o.calls))) (came_along o.kinds (plain o.code.code) (at_step o steps) left old r new given h c)
+
+-- A moment with what its Drop releases, if it is at one; or one where an instruction could not be done.
+known_or_stuck : (o : Origin) (k left : ℕ) (old : State) → KnowsRun o.code o.kinds o.first o.calls → IsGoing (at_step o k) old left → KnowsAt o.code o.kinds old.running.function old.running.at ⊎ ((s : State) × (l : ℕ) × (n : ℕ) × (at_step o k ≡ Over Unsound s l n))
+known_or_stuck o k left old knows going = by (at_step o k) refl going
+  where
+    by : (m : Run) → at_step o k ≡ m → IsGoing m old left → KnowsAt o.code o.kinds old.running.function old.running.at ⊎ ((s : State) × (l : ℕ) × (n : ℕ) × (at_step o k ≡ Over Unsound s l n))
+    by (Going s l n) e h = inl (subst (λ (u : State). KnowsAt o.code o.kinds u.running.function u.running.at) (sym h.0) (knows k l n s e))
+    by (Over (Value ws) s l n) e h = absurd h
+    by (Over (Trap kind line col) s l n) e h = absurd h
+    by (Over Out s l n) e h = absurd h
+    by (Over Deep s l n) e h = absurd h
+    by (Over Unsound s l n) e h = inr (s, l, n, e)
+
+-- where it could not nothing is said of what comes
+stuck_to : (o : Origin) (t : Stand) (left k : ℕ) (r : Stepped) (u : Stand) (w : Stored) (s : State) (l n : ℕ) → at_step o k ≡ Over Unsound s l n → u.code ≡ o.code → KnowsRun o.code o.kinds o.first o.calls → IsSmall w.cells → w.pushed ≡ [] → IsMeasured u → (ended_by r ≡ None → u.ended ≡ None) → CameTo o left (calls_next o.code t) r u w
+stuck_to o t left k r u w s l n e code knows small empty measured ends =
+    let on : at_step o (suc k) ≡ Over Unsound s l n = after_later o.kinds (plain o.code.code) k (begun o.first o.calls) ∙ ap (later o.kinds (plain o.code.code)) e in
+    came_to o t left (suc k) r u w code knows small empty measured ends (λ same. stuck_on o k s l n (HasMost o (suc k) u) e) (subst (λ (m : Run). CameIn m left (calls_next o.code t) r (state_in o u w) u.given) (sym on) (came_stuck s l n left (calls_next o.code t) r (state_in o u w) u.given))
+
+pub stepped : (o : Origin) (t : Stand) (s : Stored) (left : ℕ) (r : Stepped) (u : Stand) (w : Stored) → IsAlong o t s left → u.code ≡ t.code → (IsSmall s.cells → IsSmall w.cells) → (s.pushed ≡ [] → w.pushed ≡ []) → IsMeasured u → (t.ended ≡ None → IsRaised t u) → (t.ended ≡ None → u.ended ≡ ended_by r) → (KnowsAt t.code o.kinds t.running.function t.running.at → t.ended ≡ None → IsSmall s.cells → s.pushed ≡ [] → Comes (state_in o t s) (next o.kinds (plain t.code.code) (state_in o t s)) r (state_in o u w) u.given) → CameTo o left (calls_next t.code t) r u w
+stepped o t s left r u w a code small pushed measured raised ends told =
+    let old = state_in o t s in
+    let new = state_in o u w in
+    let came : CameTo o left (calls_next o.code t) r u w = elim (known_or_stuck o a.steps left old a.knows a.run) [
+      | inl known ↦ (
+          let knows : KnowsAt t.code o.kinds t.running.function t.running.at = subst (λ (v : Checked). KnowsAt v o.kinds t.running.function t.running.at) (sym a.code) known in
+          let here : Comes old (next o.kinds (plain o.code.code) old) r new u.given = subst (λ (v : Checked). Comes old (next o.kinds (plain v.code) old) r new u.given) a.code (told knows a.going a.small a.empty) in
+          came_to o t left (suc a.steps) r u w (code ∙ a.code) a.knows (small a.small) (pushed a.empty) measured (λ e. ends a.going ∙ e) (most_next o a.steps left old t u w a.run a.most measured (raised a.going)) (came_next o a.steps left old r new u.given a.run here))
+      | inr z ↦ stuck_to o t left a.steps r u w z.0 z.1 z.2 z.3 (code ∙ a.code) a.knows (small a.small) (pushed a.empty) measured (λ e. ends a.going ∙ e)
+    ] in
+    subst (λ (v : Checked). CameTo o left (calls_next v t) r u w) (sym a.code) came
+
+-- turns in which more than one instruction may be done
+
+-- a moment, and the most frames and words that were seen until then
+record Moment (o : Origin) (left f w : ℕ) (now : State) : Type 0 where
+  pub steps : ℕ
+  pub run : IsGoing (at_step o steps) now left
+  pub most : UnlessStuck (at_step o steps) (MostAre o steps f w)
+
+one_on : (o : Origin) (left f w : ℕ) (old new : State) (given : List ℕ) → Moment o left f w old → Comes old (next o.kinds (plain o.code.code) old) S.Went new given → Moment o left f w new
+one_on o left f w old new given m c = record {
+  steps = suc m.steps;
+  run = came_next o m.steps left old S.Went new given m.run c;
+  most = most_stays o m.steps left f w old new given m.run m.most c;
+}
+
+led_on : (o : Origin) (left f w n : ℕ) (old new : State) → Moment o left f w old → Lead o.kinds (plain o.code.code) n old new → Moment o left f w new
+led_on o left f w zero old new m l = subst (λ (t : State). Moment o left f w t) (sym l) m
+led_on o left f w (suc n) old new m l = one_on o left f w l.0 new [] (led_on o left f w n old l.0 m l.1) l.2
+
+-- what such a turn came to
+turned_to : (o : Origin) (t : Stand) (left steps : ℕ) (r : Stepped) (u : Stand) (w : Stored) (old : State) → u.code ≡ o.code → KnowsRun o.code o.kinds o.first o.calls → IsSmall w.cells → w.pushed ≡ [] → IsMeasured u → IsRaised t u → u.ended ≡ None → is_call_in (instr_of (plain o.code.code) old) ≡ calls_next o.code t → IsGoing (at_step o steps) old left → UnlessStuck (at_step o steps) (HasMost o steps t) → ComesWithMore o.kinds (plain o.code.code) old (next o.kinds (plain o.code.code) old) r (state_in o u w) u.given → CameTo o left (calls_next o.code t) r u w
+turned_to o t left steps r u w old code knows small empty measured raised going call run most m = by r m
+  where
+    last : (r : Stepped) (m : ComesWithMore o.kinds (plain o.code.code) old (next o.kinds (plain o.code.code) old) r (state_in o u w) u.given) → (r ≡ S.Went → ⊥) → CameTo o left (calls_next o.code t) r u w
+    last r m n =
+        let comes : Comes old (next o.kinds (plain o.code.code) old) r (state_in o u w) u.given = subst (λ (x : State). Comes old (next o.kinds (plain o.code.code) old) r x u.given) (sym (m.last n)) m.comes in
+        came_to o t left (suc steps) r u w code knows small empty measured (λ e. going) (most_next o steps left old t u w run most measured raised) (subst (λ b. CameIn (at_step o (suc steps)) left b r (state_in o u w) u.given) call (came_next o steps left old r (state_in o u w) u.given run comes))
+
+    by : (r : Stepped) → ComesWithMore o.kinds (plain o.code.code) old (next o.kinds (plain o.code.code) old) r (state_in o u w) u.given → CameTo o left (calls_next o.code t) r u w
+    by S.Went m =
+        let first : Moment o left t.most_frames t.most_words old = record { steps = steps; run = run; most = most_of o steps t most } in
+        let mid = one_on o left t.most_frames t.most_words old m.mid u.given first m.comes in
+        let end = led_on o left t.most_frames t.most_words m.more.0 m.mid (state_in o u w) mid m.more.1 in
+        came_to o t left end.steps S.Went u w code knows small empty measured (λ e. going) (most_there o end.steps t u w end.most measured raised) end.run
+    by S.Entered m = last S.Entered m (λ e. cc)
+    by S.Value m = last S.Value m (λ e. cc)
+    by (S.Trap kind line col) m = last (S.Trap kind line col) m (λ e. cc)
+    by S.Deep m = last S.Deep m (λ e. cc)
+
+pub turned : (o : Origin) (t : Stand) (s : Stored) (left : ℕ) (r : Stepped) (u : Stand) (w : Stored) → IsAlong o t s left → u.code ≡ t.code → (IsSmall s.cells → IsSmall w.cells) → (s.pushed ≡ [] → w.pushed ≡ []) → IsMeasured u → IsRaised t u → u.ended ≡ None → (KnowsAt t.code o.kinds t.running.function t.running.at → IsSmall s.cells → s.pushed ≡ [] → ComesWithMore o.kinds (plain t.code.code) (state_in o t s) (next o.kinds (plain t.code.code) (state_in o t s)) r (state_in o u w) u.given) → CameTo o left (calls_next t.code t) r u w
+turned o t s left r u w a code small pushed measured raised going told =
+    let old = state_in o t s in
+    let came : CameTo o left (calls_next o.code t) r u w = elim (known_or_stuck o a.steps left old a.knows a.run) [
+      | inl known ↦ (
+          let knows : KnowsAt t.code o.kinds t.running.function t.running.at = subst (λ (v : Checked). KnowsAt v o.kinds t.running.function t.running.at) (sym a.code) known in
+          let here : ComesWithMore o.kinds (plain o.code.code) old (next o.kinds (plain o.code.code) old) r (state_in o u w) u.given = subst (λ (v : Checked). ComesWithMore o.kinds (plain v.code) old (next o.kinds (plain v.code) old) r (state_in o u w) u.given) a.code (told knows a.small a.empty) in
+          turned_to o t left a.steps r u w old (code ∙ a.code) a.knows (small a.small) (pushed a.empty) measured raised going refl a.run a.most here)
+      | inr z ↦ stuck_to o t left a.steps r u w z.0 z.1 z.2 z.3 (code ∙ a.code) a.knows (small a.small) (pushed a.empty) measured (λ e. going)
+    ] in
+    subst (λ (v : Checked). CameTo o left (calls_next v t) r u w) (sym a.code) came
 
 -- runs to the next call
 
@@ -257,12 +347,35 @@ pub is_out : (o : Origin) (t : Stand) (s : Stored) → IsAlong o t s 0 → calls
 is_out o t s a c =
     let call : calls_next o.code t ≡ true = subst (λ (v : Checked). calls_next v t ≡ true) a.code c in
     let on = out_along o.kinds (plain o.code.code) (at_step o a.steps) (state_in o t s) t.given a.run call in
-    (suc a.steps, subst (λ (m : Run). IsOver m M.Out (state_in o t s) t.given) (sym (after_later o.kinds (plain o.code.code) a.steps (begun o.first o.calls))) on)
+    let over : IsOver (at_step o (suc a.steps)) M.Out (state_in o t s) t.given = subst (λ (m : Run). IsOver m M.Out (state_in o t s) t.given) (sym (after_later o.kinds (plain o.code.code) a.steps (begun o.first o.calls))) on in
+    let m = a.measured in
+    let f = m.most_frames in
+    let w = m.most_words in
+    (suc a.steps, over, most_next o a.steps 0 (state_in o t s) t t s a.run a.most m (record { frames = omega (arith, f); words = omega (arith, w) }) (over_state (at_step o (suc a.steps)) M.Out (state_in o t s) t.given over))
 
 -- the beginning
 
+begun_most : (o : Origin) (t : Stand) (s : Stored) (given : ℕ) → IsReady o t s given → HasMost o 0 t
+begun_most o t s given r =
+    let m = r.measured in
+    let frames : highest_frames (seen_to o 0) ≡ t.frames = first_frames o.calls ∙ ap frames_held r.first ∙ sym m.frames in
+    let words : highest_words (seen_to o 0) ≡ t.words = first_words o.calls ∙ ap words_held r.first ∙ sym m.words in
+    let f = m.most_frames in
+    let w = m.most_words in
+    let a = r.most_frames in
+    let b = r.most_words in
+    record { frames = omega (arith, frames, f, a); words = omega (arith, words, w, b) }
+  where
+    first_frames : (calls : ℕ) → highest_frames (seen o.kinds (plain o.code.code) 0 (begun o.first calls)) ≡ frames_held o.first
+    first_frames zero = omega arith
+    first_frames (suc calls) = omega arith
+
+    first_words : (calls : ℕ) → highest_words (seen o.kinds (plain o.code.code) 0 (begun o.first calls)) ≡ words_held o.first
+    first_words zero = omega arith
+    first_words (suc calls) = omega arith
+
 pub ready_out : (o : Origin) (t : Stand) (s : Stored) (calls : ℕ) → calls ≡ 0 → IsReady o t s calls → HasRun o M.Out t s
-ready_out o t s calls none r = (0, subst (λ n. IsOver (begun o.first n) M.Out (state_in o t s) t.given) (sym (r.calls ∙ none)) (refl, sym r.first))
+ready_out o t s calls none r = (0, subst (λ n. IsOver (begun o.first n) M.Out (state_in o t s) t.given) (sym (r.calls ∙ none)) (refl, sym r.first), always (begun o.first o.calls) (HasMost o 0 t) (begun_most o t s calls r))
 
 pub ready_along : (o : Origin) (t : Stand) (s : Stored) (calls : ℕ) → calls ≢ 0 → IsReady o t s calls → IsAlong o t s (calls - 1)
 ready_along o t s calls some r = record {
@@ -273,29 +386,28 @@ ready_along o t s calls some r = record {
   empty = r.empty;
   steps = 0;
   run = begins calls some r.calls;
+  most = always (begun o.first o.calls) (HasMost o 0 t) (begun_most o t s calls r);
+  measured = r.measured;
 }
   where
     begins : (n : ℕ) → n ≢ 0 → o.calls ≡ n → IsGoing (begun o.first o.calls) (state_in o t s) (n - 1)
     begins zero some e = absurd (some refl)
     begins (suc n) some e = let less : suc n - 1 ≡ n = omega arith in subst (λ c. IsGoing (begun o.first c) (state_in o t s) (suc n - 1)) (sym e) (sym r.first, less)
 
--- the whole of it: a machine is taken apart, its task runs over a recorder, and it is put together again
-
-pub has_come : (m : Seen) (t : Stand) (s w : Stored) (calls : ℕ) (e : Ended) (u : Stand) (v x : Stored) (new : Seen) → t ≡ m.stack → store_of s.cells s.released ≡ m.store → s.pushed ≡ m.pushed → w ≡ s → ((o : Origin) → IsReady o t w calls → HasRun o e u v) → x ≡ v → new.stack ≡ u → new.store ≡ store_of x.cells x.released → (kinds : Kinds) → Knows m.stack.code kinds → m.stack.ended ≡ None → IsSmall m.store.cells → m.pushed ≡ [] → (lent : List Typed) → RunsTo kinds (plain m.stack.code.code) (state_with m.stack lent m.store) calls e (state_with new.stack lent new.store) new.stack.given
-has_come m t s w calls e u v x new stack store pushed same ran kept after cells kinds knows going small empty lent =
-    let first : State = state_with m.stack lent m.store in
-    let there : store_of w.cells w.released ≡ m.store = ap (λ (z : Stored). store_of z.cells z.released) same ∙ store in
-    let o : Origin = record { code = m.stack.code; kinds = kinds; lent = lent; first = first; calls = calls } in
-    let ready : IsReady o t w calls = record {
-      code = ap (λ (q : Stand). q.code) stack;
-      knows = knows;
-      going = ap (λ (q : Stand). q.ended) stack ∙ going;
-      small = subst (λ (q : Store). IsSmall q.cells) (sym there) small;
-      empty = ap (λ (z : Stored). z.pushed) same ∙ pushed ∙ empty;
-      first = λ i. state_with (sym stack i) lent (sym there i);
-      calls = refl;
-    } in
-    let told : RunsTo kinds (plain m.stack.code.code) first calls e (state_with u lent (store_of v.cells v.released)) u.given = ran o ready in
-    let stood : RunsTo kinds (plain m.stack.code.code) first calls e (state_with new.stack lent (store_of v.cells v.released)) new.stack.given = subst (λ (q : Stand). RunsTo kinds (plain m.stack.code.code) first calls e (state_with q lent (store_of v.cells v.released)) q.given) (sym after) told in
-    let stays : store_of v.cells v.released ≡ new.store = sym (cells ∙ ap (λ (z : Stored). store_of z.cells z.released) kept) in
-    subst (λ (q : Store). RunsTo kinds (plain m.stack.code.code) first calls e (state_with new.stack lent q) new.stack.given) stays stood
+-- a task stays where it is while its words reach further
+pub task_same : (v : Checked) (b : Bounds) (ws us : List ℕ) (c : Cursor) (beside : Beside) → c.base + c.registers ≤ length ws → length ws ≤ length us → Keeps (length ws) ws us → task_of v b us c beside ≡ task_of v b ws c beside
+task_same v b ws us c beside room more keeps =
+    let same = room_same v b [] (store_of [] []) ws us c room more keeps in
+    λ i. record {
+      code = v;
+      running = (same i).running;
+      waiting = (same i).waiting;
+      free = b.frames - c.frames;
+      given = take beside.given beside.results;
+      ended = None;
+      frames = c.frames;
+      words = c.base + c.registers + 2;
+      most_frames = c.highest.frames;
+      most_words = c.highest.words;
+      weight = weight c;
+    }

@@ -1,2 +1,6 @@
 pub mod Tasked
+pub mod Mosts
 pub mod Alongs
+pub mod Measured
+pub mod Bursts
+pub mod Wholes

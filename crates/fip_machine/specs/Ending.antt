@@ -3,12 +3,20 @@
 -- rev of two items and none, with 2 calls: the definition's run is over after 8 steps, out of calls, before the call
 -- that isn't left. So the machine answers Out, and stands before that call.
 use Rattle.std.specs.Prelude.{◌≡◌, ℕ, List}
-use Rattle.code_runs.specs.Codes.{PlainCode}
+use Rattle.code_verify.specs.Checked.{Checked}
+use Rattle.code_runs.specs.Codes.{PlainCode, plain}
 use Rattle.code_runs.specs.States.{State}
 use Rattle.code_runs.specs.Steps.{Kinds}
 use Rattle.code_runs.specs.Runs.{End, Value, Trap, Out, Deep, Unsound, Run, Going, Over, begun, after}
+use Rattle.machine_rows.specs.Coming.{KnowsAt}
 use Rattle.fip_machine.specs.declared.machine.Ended.{Ended}
 use Rattle.fip_machine.specs.declared.machine.Ended.TheVariants as M
+
+-- At each state of the run with so many calls, what a Drop releases by the kinds is what the verifier knows.
+abbrev pub KnowsRun : Checked → Kinds → State → ℕ → Type 0
+KnowsRun v kinds first calls = (n left steps : ℕ) (s : State) →
+    after kinds (plain v.code) n (begun first calls) ≡ Going s left steps →
+    KnowsAt v kinds s.running.function s.running.at
 
 -- The end in a last state is what was answered, with the state and the words that are left then.
 abbrev pub EndsAs : End → State → Ended → State → List ℕ → Type 0

@@ -1,7 +1,45 @@
--- What a gauge does with the number of held cells of a size that it sees.
-use Rattle.std.specs.Prelude.{ℕ, Bool, true, false, min}
+-- What a gauge tells of a run: over all its states, what the language's own definition of a gauge says of them.
+-- Of rev of Cons(1, Cons(2, Nil)) and Nil it tells 2 as the lowest and the highest number of held cells of size 2, no
+-- frame, and 9 words.
+use Rattle.std.specs.Prelude.{◌≡◌, ℕ, ◌-◌, ◌≤◌, Bool, true, false, List, min, slice_index_or}
+use Rattle.fip_language.specs.declared.limits.TheConstants.{MOST_FIELDS}
+use Rattle.fip_language.specs.Gauge.{Seen, lowest, highest, highest_frames, highest_words}
+use Rattle.code_runs.specs.Codes.{PlainCode}
+use Rattle.code_runs.specs.Gauges.{seen}
+use Rattle.code_runs.specs.States.{State}
+use Rattle.code_runs.specs.Steps.{Kinds}
+use Rattle.code_runs.specs.Runs.{Value, Trap, Out, Deep, Unsound, Run, Going, Over, begun, after}
+use Rattle.fip_machine.specs.declared.gauge.Gauge.{Gauge}
 
 -- the lowest number so far, with one more; the first is it
 abbrev pub lowered : Bool → ℕ → ℕ → ℕ
 lowered true old new = min old new
 lowered false old new = new
+
+-- It has seen no state.
+pub record IsUnseen (g : Gauge) : Type 0 where
+  pub seen : g.seen ≡ false
+  pub highest : (k : ℕ) → slice_index_or g.highest k 0 ≡ 0
+  pub frames : g.frames ≡ 0
+  pub words : g.words ≡ 0
+
+-- It tells of these states. A size has its numbers one place before it.
+pub record Tells (g : Gauge) (ss : List Seen) : Type 0 where
+  pub lowest : (k : ℕ) → 1 ≤ k → k ≤ MOST_FIELDS → slice_index_or g.lowest (k - 1) 0 ≡ lowest k ss
+  pub highest : (k : ℕ) → 1 ≤ k → k ≤ MOST_FIELDS → slice_index_or g.highest (k - 1) 0 ≡ highest k ss
+  pub frames : g.frames ≡ highest_frames ss
+  pub words : g.words ≡ highest_words ss
+
+-- The run is over, and it tells of these states. Where an instruction can't be done nothing is said.
+abbrev pub TellsOver : Run → Gauge → List Seen → Type 0
+TellsOver (Going s left n) g ss = ⊥
+TellsOver (Over (Value ws) s left n) g ss = Tells g ss
+TellsOver (Over (Trap kind line col) s left n) g ss = Tells g ss
+TellsOver (Over Out s left n) g ss = Tells g ss
+TellsOver (Over Deep s left n) g ss = Tells g ss
+TellsOver (Over Unsound s left n) g ss = Unit {0}
+
+-- The run from the first state, with so many calls, comes to an end, and the gauge tells of all its states.
+abbrev pub TellsRun : Kinds → PlainCode → State → ℕ → Gauge → Type 0
+TellsRun kinds code first calls g =
+    (n : ℕ) × TellsOver (after kinds code n (begun first calls)) g (seen kinds code n (begun first calls))

@@ -1,7 +1,7 @@
 -- What a task keeps to at every moment, and what callers see of it.
-use Rattle.std.specs.Prelude.{◌≢◌, ℕ, ◌<◌, ◌≤◌, List, Option, None, Some, length}
+use Rattle.std.specs.Prelude.{◌≡◌, ◌≢◌, ℕ, ◌<◌, ◌≤◌, List, ◌∷◌, Option, None, Some, length, map, max, sum}
 use Rattle.code_runs.specs.Cells.{Store}
-use Rattle.code_runs.specs.States.{Frame, Typed, State}
+use Rattle.code_runs.specs.States.{Frame, Typed, State, words_of_frame}
 use Rattle.code_verify.specs.Checked.{Checked}
 use Rattle.machine_rows.specs.declared.cursor.Bounds.{Bounds}
 use Rattle.machine_rows.specs.declared.cursor.Cursor.{Cursor}
@@ -9,6 +9,7 @@ use Rattle.machine_rows.specs.declared.rows.Stepped.{Stepped}
 use Rattle.machine_rows.specs.declared.rows.Stepped.TheVariants.{Went, Entered, Value, Trap, Deep}
 use Rattle.machine_rows.specs.Bounding.{AreAtMost}
 use Rattle.machine_rows.specs.Placed.{IsPlaced, Waiting}
+use Rattle.machine_rows.specs.Highest.{IsHigh}
 
 -- The words of all frames, how many the memory that was taken can hold, how many words are spare, and how the run
 -- ended.
@@ -20,11 +21,12 @@ pub record IsTask (v : Checked) (b : Bounds) (words : List ℕ) (capacity spare 
   pub small : b.largest < 100000
   pub beside : b.largest ≤ spare
   pub taken : b.words ≤ capacity
+  pub high : IsHigh c
   pub over : ended ≢ Some Went
 
 -- The code, the frame that runs and those that wait, how many frames are free, the words of the results that were
--- given, and how the run ended; the frames that wait below the running one, the words of all frames, and what can still
--- be done without a call.
+-- given, and how the run ended; the frames that wait below the running one and the words of all frames, now and the most
+-- since the start; and what can still be done without a call.
 pub record Stand : Type 0 where
   pub code : Checked
   pub running : Frame
@@ -34,7 +36,27 @@ pub record Stand : Type 0 where
   pub ended : Option Stepped
   pub frames : ℕ
   pub words : ℕ
+  pub most_frames : ℕ
+  pub most_words : ℕ
   pub weight : ℕ
+
+-- The frames and words that a task tells are those of its state, and no more than the most.
+pub record IsMeasured (t : Stand) : Type 0 where
+  pub frames : t.frames ≡ length t.waiting
+  pub words : t.words ≡ sum (map words_of_frame (t.running ∷ t.waiting))
+  pub most_frames : t.frames ≤ t.most_frames
+  pub most_words : t.words ≤ t.most_words
+
+-- The most frames and words become those of the new state, where it has more.
+pub record IsRaised (old new : Stand) : Type 0 where
+  pub frames : new.most_frames ≡ max old.most_frames new.frames
+  pub words : new.most_words ≡ max old.most_words new.words
+
+-- Nothing was done yet.
+pub record IsFresh (t : Stand) : Type 0 where
+  pub going : t.ended ≡ None
+  pub frames : t.most_frames ≡ t.frames
+  pub words : t.most_words ≡ t.words
 
 -- The state of a run, with these cells. The words of the entry's lent arguments are not kept: they are given.
 abbrev pub state_with : Stand → List Typed → Store → State

@@ -6,8 +6,10 @@ ghost use Rattle.code_runs.specs.States.{Typed, State};
 ghost use Rattle.code_runs.specs.Steps.{Kinds, next};
 ghost use Rattle.code_runs.specs.Runs.{loaded};
 ghost use Rattle.machine_cells.specs.Small.{IsSmall, store_of};
-ghost use Rattle.machine_rows.specs.Coming.{Comes, Knows};
-ghost use Rattle.fip_machine.specs.Tasks.{state_with, ended_by};
+ghost use Rattle.machine_rows.specs.Coming.{Comes, KnowsAt};
+ghost use Rattle.fip_machine.specs.Tasks.{state_with, ended_by, IsFresh};
+ghost use Rattle.fip_machine.specs.GaugeView.{IsUnseen, TellsRun};
+ghost use Rattle.fip_machine.specs.Ending.{KnowsRun, RunsTo};
 ghost use Rattle.fip_machine.specs.Along.{end_after};
 
 use crate::gauge::{Gauge, held};
@@ -84,6 +86,7 @@ impl<'a> Machine<'a> {
         requires frames { frames ≤ MOST_FRAMES }
         ensures code { IfOk result (λ m. m.stack.code ≡ verified.now) }
         ensures going { IfOk result (λ m. m.stack.ended ≡ None) }
+        ensures fresh { IfOk result (λ m. IsFresh m.stack) }
         ensures store { IfOk result (λ m. m.store ≡ store_of loader.cells loader.released) }
         ensures small { IfOk result (λ m. IsSmall m.store.cells) }
         ensures pushed { IfOk result (λ m. m.pushed ≡ []) }
@@ -104,7 +107,8 @@ impl<'a> Machine<'a> {
         ensures code { self.new.stack.code ≡ self.old.stack.code }
         ensures small { IsSmall self.old.store.cells → IsSmall self.new.store.cells }
         ensures pushed { self.old.pushed ≡ [] → self.new.pushed ≡ [] }
-        ensures next { (kinds : Kinds) → Knows self.old.stack.code kinds → self.old.stack.ended ≡ None →
+        ensures next { (kinds : Kinds) → KnowsAt self.old.stack.code kinds self.old.stack.running.function
+            self.old.stack.running.at → self.old.stack.ended ≡ None →
             IsSmall self.old.store.cells → self.old.pushed ≡ [] → (lent : List Typed) → Comes
             (state_with self.old.stack lent self.old.store) (next kinds (plain self.old.stack.code.code)
             (state_with self.old.stack lent self.old.store)) result
@@ -116,10 +120,21 @@ impl<'a> Machine<'a> {
         self.stack.step(&mut self.cells)
     }
 
-    /// Runs to the end, with so many calls: the entry takes one, and each Call and Tail one. Asks a machine that was
-    /// just started, and a gauge that has seen no state; it sees each state of the run. Cells are only released in a
-    /// run, so the first state has the highest numbers of them and the last one the lowest.
-    pub fn run(&mut self, calls: u64, gauge: &mut Gauge) -> Ended {
+    /// Runs to the end, with so many calls: the entry takes one, and each Call and Tail one. The end, the cells and the
+    /// results are those of the run that the definition says. Asks a machine that was just started, and a gauge that
+    /// has seen no state; it sees each state of the run. Cells are only released in a run, so the first state has the
+    /// highest numbers of them and the last one the lowest.
+    pub fn run(&mut self, calls: u64, gauge: &mut Gauge) -> Ended
+        ensures run { (kinds : Kinds) (lent : List Typed) → KnowsRun self.old.stack.code kinds
+            (state_with self.old.stack lent self.old.store) calls → self.old.stack.ended ≡ None →
+            IsSmall self.old.store.cells → self.old.pushed ≡ [] → RunsTo kinds (plain self.old.stack.code.code)
+            (state_with self.old.stack lent self.old.store) calls result
+            (state_with self.new.stack lent self.new.store) self.new.stack.given }
+        ensures gauge { IsUnseen gauge.old → (kinds : Kinds) (lent : List Typed) → KnowsRun self.old.stack.code kinds
+            (state_with self.old.stack lent self.old.store) calls → IsFresh self.old.stack →
+            IsSmall self.old.store.cells → self.old.pushed ≡ [] → TellsRun kinds (plain self.old.stack.code.code)
+            (state_with self.old.stack lent self.old.store) calls gauge.new }
+    {
         let frames = self.stack.frames();
         let words = self.stack.words();
         gauge.see(&held(&self.cells), frames, words);

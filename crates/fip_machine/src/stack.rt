@@ -8,14 +8,16 @@ ghost use Rattle.code_runs.specs.Steps.{Kinds, first_words, next};
 ghost use Rattle.code_runs.specs.Runs.{loaded};
 ghost use Rattle.frame_stack.specs.View.{frame_at};
 ghost use Rattle.machine_cells.specs.Small.{IsSmall, store_of};
-ghost use Rattle.machine_rows.specs.Coming.{Comes, Knows};
-ghost use Rattle.fip_machine.specs.Tasks.{state_with, ended_by};
-ghost use Rattle.fip_machine.specs.Along.{is_call, calls_next};
+ghost use Rattle.machine_rows.specs.Coming.{Comes, KnowsAt};
+ghost use Rattle.fip_machine.specs.Tasks.{state_with, ended_by, IsMeasured, IsRaised, IsFresh};
+ghost use Rattle.fip_machine.specs.Along.{Origin, IsAlong, HasRun, HasPaused, is_call, calls_next, end_after};
+ghost use Rattle.fip_machine.specs.Along.{task_of, stored};
 ghost use Rattle.std.specs.Vec.{vec_capacity};
 ghost use Rattle.fip_language.specs.declared.limits.TheConstants.{MOST_FIELDS, MOST_FRAMES, MOST_REGISTERS};
 ghost use Rattle.machine_rows.specs.Bounding.{AreAtMost, Fits};
 ghost use Rattle.frame_stack.specs.Keeping.{Keeps};
 ghost use Rattle.machine_rows.specs.Placed.{IsPlaced, IsRoomy, Waiting};
+ghost use Rattle.machine_rows.specs.Highest.{IsHigh};
 
 use cell_code::Instr;
 use cell_store::Cells;
@@ -57,6 +59,8 @@ impl<'a> Model for TaskStack<'a> {
       ended = t.ended;
       frames = t.cursor.frames;
       words = t.cursor.base + t.cursor.registers + 2;
+      most_frames = t.cursor.highest.frames;
+      most_words = t.cursor.highest.words;
       weight = weight t.cursor;
     } };
 
@@ -181,12 +185,18 @@ fn burst<'a, C: Cells>(
     requires few { bounds.largest < 100000 }
     requires spare { bounds.largest ≤ vec_len beside.old.spare }
     requires some { 0 < left.old }
+    requires high { IsHigh cursor.old }
     ensures placed { IsPlaced verified.now bounds (length words.new) cursor.new }
     ensures waiting { Waiting verified.now bounds words.new cursor.new.frames cursor.new.base }
     ensures spare { vec_len beside.new.spare ≡ vec_len beside.old.spare }
+    ensures high { IsHigh cursor.new }
     ensures short { result ≡ Pause.Short → left.new < left.old }
     ensures spent { result ≡ Pause.Spent → left.new ≡ 0 }
     ensures over { (s : _) → result ≡ Pause.Over s → s ≢ Stepped.Went }
+    ensures along { (o : Origin) → IsAlong o (task_of verified.now bounds words.old cursor.old beside.old)
+        (stored (C.cells cells.old) (C.released cells.old) (C.pushed cells.old)) left.old → HasPaused o result
+        (task_of verified.now bounds words.new cursor.new beside.new)
+        (stored (C.cells cells.new) (C.released cells.new) (C.pushed cells.new)) left.new }
 {
     let mut here = *cursor;
     let mut calls = *left;
@@ -232,6 +242,7 @@ impl<'a> TaskStack<'a> {
         ensures frames { IfOk result (λ t. t.frames ≡ 0) }
         ensures code { IfOk result (λ t. t.code ≡ verified.now) }
         ensures going { IfOk result (λ t. t.ended ≡ None) }
+        ensures fresh { IfOk result IsFresh }
         ensures loaded { IfOk result (λ t. (g : _) → slice_get verified.now.code.functions.items entry ≡ Some g →
             length words.items ≤ g.registers → (store : Store) (s : State) → loaded (plain verified.now.code) entry
             store words.items frames ≡ Some s → state_with t s.lent store ≡ s) }
@@ -273,13 +284,16 @@ impl<'a> TaskStack<'a> {
         ensures code { self.new.code ≡ self.old.code }
         ensures small { IsSmall (C.cells cells.old) → IsSmall (C.cells cells.new) }
         ensures pushed { C.pushed cells.old ≡ [] → C.pushed cells.new ≡ [] }
-        ensures next { (kinds : Kinds) → Knows self.old.code kinds → self.old.ended ≡ None →
+        ensures next { (kinds : Kinds) → KnowsAt self.old.code kinds self.old.running.function
+            self.old.running.at → self.old.ended ≡ None →
             IsSmall (C.cells cells.old) → C.pushed cells.old ≡ [] → (lent : List Typed) → Comes
             (state_with self.old lent (store_of (C.cells cells.old) (C.released cells.old)))
             (next kinds (plain self.old.code.code) (state_with self.old lent (store_of (C.cells cells.old)
             (C.released cells.old)))) result (state_with self.new lent (store_of (C.cells cells.new)
             (C.released cells.new))) self.new.given }
         ensures ends { self.old.ended ≡ None → self.new.ended ≡ ended_by result }
+        ensures measured { IsMeasured self.new }
+        ensures raised { self.old.ended ≡ None → IsRaised self.old self.new }
         ensures ended { (e : _) → self.old.ended ≡ Some e → (result ≡ e) × (self.new ≡ self.old)
             × (store_of (C.cells cells.new) (C.released cells.new)
             ≡ store_of (C.cells cells.old) (C.released cells.old)) }
@@ -301,7 +315,11 @@ impl<'a> TaskStack<'a> {
     }
 
     // Runs to the end, or until a call would come and none of so many is left.
-    pub(crate) fn run<C: Cells>(&mut self, cells: &mut C, calls: u64) -> Option<Stepped> {
+    pub(crate) fn run<C: Cells>(&mut self, cells: &mut C, calls: u64) -> Option<Stepped>
+        ensures run { (o : Origin) → IsAlong o self.old (stored (C.cells cells.old) (C.released cells.old)
+            (C.pushed cells.old)) calls → HasRun o (end_after result) self.new (stored (C.cells cells.new)
+            (C.released cells.new) (C.pushed cells.new)) }
+    {
         if self.ended.is_some() {
             return self.ended;
         }
@@ -326,7 +344,11 @@ impl<'a> TaskStack<'a> {
     }
 
     // Runs to the end, or to where a call would come.
-    fn run_to_call<C: Cells>(&mut self, cells: &mut C) -> Option<Stepped> {
+    fn run_to_call<C: Cells>(&mut self, cells: &mut C) -> Option<Stepped>
+        ensures run { (o : Origin) → IsAlong o self.old (stored (C.cells cells.old) (C.released cells.old)
+            (C.pushed cells.old)) 0 → HasRun o (end_after result) self.new (stored (C.cells cells.new)
+            (C.released cells.new) (C.pushed cells.new)) }
+    {
         while !self.at_call() {
             match self.step(cells) {
                 Stepped::Went => {}
@@ -366,19 +388,23 @@ impl<'a> TaskStack<'a> {
 
     /// The frames beside the running one.
     pub fn frames(&self) -> usize
-        ensures { result ≡ self.now.frames }
+        ensures frames { result ≡ self.now.frames }
+        ensures measured { IsMeasured self.now }
     {
         self.cursor.frames
     }
 
     // The most frames beside the running one, and the most words of all frames, since the start.
-    pub(crate) fn highest(&self) -> Highest {
+    pub(crate) fn highest(&self) -> Highest
+        ensures frames { result.frames ≡ self.now.most_frames }
+        ensures words { result.words ≡ self.now.most_words }
+    {
         self.cursor.highest
     }
 
     /// The words of all frames.
     pub fn words(&self) -> usize
-        ensures { result ≡ self.now.words }
+        ensures words { result ≡ self.now.words }
     {
         self.cursor.base + self.cursor.registers + 2
     }

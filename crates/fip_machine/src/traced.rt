@@ -1,12 +1,12 @@
 // Runs that keep what they write.
-ghost use Rattle.std.specs.Prelude.{◌≡◌, ◌≢◌, ℕ, ◌-◌, ◌<◌, List, [], IfOk, IfNone, IfSome, Some, None, not};
+ghost use Rattle.std.specs.Prelude.{◌≡◌, ◌≢◌, ℕ, ◌-◌, ◌<◌, List, [], IfOk, OnOk, IfNone, IfSome, Some, None, not};
 ghost use Rattle.code_runs.specs.Codes.{plain};
 ghost use Rattle.code_runs.specs.States.{Typed};
 ghost use Rattle.code_runs.specs.Steps.{Kinds};
 ghost use Rattle.machine_cells.specs.Small.{IsSmall};
-ghost use Rattle.machine_rows.specs.Coming.{Knows};
-ghost use Rattle.fip_machine.specs.Tasks.{state_with};
-ghost use Rattle.fip_machine.specs.Ending.{RunsTo};
+ghost use Rattle.fip_machine.specs.GaugeView.{IsUnseen, TellsRun};
+ghost use Rattle.fip_machine.specs.Tasks.{state_with, IsMeasured, IsFresh, IsRaised};
+ghost use Rattle.fip_machine.specs.Ending.{KnowsRun, RunsTo};
 ghost use Rattle.fip_machine.specs.Along.{Origin, IsReady, IsAlong, HasRun, CameTo, calls_next, end_after};
 
 use crate::gauge::{Gauge, held};
@@ -31,11 +31,16 @@ impl<'a> Machine<'a> {
         gauge: &mut Gauge,
         limit: usize,
     ) -> Result<(Machine<'a>, Ended, Option<Trace>), TraceError>
-        ensures run { IfOk result (λ r. (kinds : Kinds) → Knows self.entry.stack.code kinds →
-            self.entry.stack.ended ≡ None → IsSmall self.entry.store.cells → self.entry.pushed ≡ [] →
-            (lent : List Typed) → RunsTo kinds (plain self.entry.stack.code.code)
-            (state_with self.entry.stack lent self.entry.store) calls r.1
-            (state_with r.0.stack lent r.0.store) r.0.stack.given) }
+        ensures run { IfOk result (λ r. (kinds : Kinds) (lent : List Typed) → KnowsRun self.entry.stack.code kinds
+            (state_with self.entry.stack lent self.entry.store) calls → self.entry.stack.ended ≡ None →
+            IsSmall self.entry.store.cells → self.entry.pushed ≡ [] → RunsTo kinds (plain self.entry.stack.code.code)
+            (state_with self.entry.stack lent self.entry.store) calls r.1 (state_with r.0.stack lent r.0.store)
+            r.0.stack.given) }
+        ensures gauge { OnOk result (IsUnseen gauge.old → (kinds : Kinds) (lent : List Typed) →
+            KnowsRun self.entry.stack.code kinds (state_with self.entry.stack lent self.entry.store) calls →
+            IsFresh self.entry.stack → IsSmall self.entry.store.cells → self.entry.pushed ≡ [] →
+            TellsRun kinds (plain self.entry.stack.code.code) (state_with self.entry.stack lent self.entry.store) calls
+            gauge.new) }
         ensures trace { IfOk result (λ r. r.1 ≡ Ended.Value → r.2 ≢ None) }
         ensures none { IfOk result (λ r. r.1 ≢ Ended.Value → r.2 ≡ None) }
     {

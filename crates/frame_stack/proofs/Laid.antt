@@ -1,8 +1,9 @@
 -- Words that are cleared in two parts; and lists of words that are written one after another, seen from the rest.
-use Rattle.std.proofs.Common.{◌≡◌, ℕ, zero, suc, ◌+◌, ◌<◌, ◌≤◌, List, [], ◌∷◌, length, drop, take, get_or, refl, sym, subst, ap, inl, inr, ◌∙◌, arith}
+use Rattle.std.proofs.Common.{◌≡◌, ◌≢◌, ℕ, zero, suc, ◌+◌, ◌<◌, ◌≤◌, List, [], ◌∷◌, length, drop, take, get_or, refl, sym, subst, ap, inl, inr, ◌∙◌, arith}
 use Rattle.std.specs.Prelude.{slice_set}
 use Rattle.std.proofs.lemmas.Bool.{cases_lt}
 use Rattle.std.proofs.lemmas.List.{drop_more, drop_all, ext_get_or, get_or-take, get_or-set_same, get_or-set_other, length-take-le}
+use Rattle.cell_code.specs.Runnable.{AreOthers}
 use Rattle.frame_stack.specs.Keeping.{Keeps, Clears}
 use Rattle.frame_stack.specs.Words.{words_from, put_words, laid_at}
 
@@ -57,3 +58,11 @@ read_more xs f i h p j l = elim (cases_lt j i) [
   | inl t ↦ (get_or-set_other xs i j (f i) 0 (λ e. omega (arith, e, t)) ∙ p j t)
   | inr t ↦ (let e : i ≡ j = omega (arith, l, t) in subst (λ k. get_or (slice_set xs i (f i)) k 0 ≡ f k) e (get_or-set_same xs i (f i) 0 h))
 ]
+
+-- a register that gets no word keeps its own
+pub put_other : (base r : ℕ) (ws ds vs : List ℕ) → AreOthers r ds → get_or (put_words base ws ds vs) (base + r) 0 ≡ get_or ws (base + r) 0
+put_other base r ws [] vs o = refl
+put_other base r ws (d ∷ ds) [] o = refl
+put_other base r ws (d ∷ ds) (v ∷ vs) o =
+    put_other base r (slice_set ws (base + d) v) ds vs (λ k q l. o (suc k) q (omega (arith, l)))
+    ∙ get_or-set_other ws (base + d) (base + r) v 0 (λ e. let first : d ≢ r = o 0 0 (omega arith) in let same : d ≡ r = omega (arith, e) in first same)

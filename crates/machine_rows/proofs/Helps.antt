@@ -1,6 +1,7 @@
 -- Small facts of the rows' proofs.
 use Rattle.std.proofs.Common.{◌≡◌, ◌≢◌, ℕ, zero, suc, ◌+◌, ◌-◌, ◌/◌, ◌%◌, ◌<◌, ◌≤◌, ℤ, pos, negsuc, Bool, true, false, List, [], ◌∷◌, length, take, get_or, Option, Some, None, refl, sym, ap, subst, ◌∙◌, arith}
-use Rattle.std.specs.Prelude.{slice_get, slice_set, option_and_then, option_map, nat_eq, not, ◌==◌}
+use Rattle.std.specs.Prelude.{slice_get, slice_set, option_and_then, option_map, nat_eq, not, ◌==◌, if◌then◌else◌}
+use mir.Val.{bool_byte}
 use Rattle.std.specs.Int.{w64, cast_signed, cast_unsigned}
 use Rattle.std.proofs.lemmas.Bool.Decides.{nat_tests}
 use Rattle.std.proofs.lemmas.Option.{none-some, same_Some, slice_get_within}
@@ -36,6 +37,10 @@ same_instr code ks s r t given x y e h = subst (λ z. Comes s (act code ks s z) 
 pub no_loop : (v : ℕ) → not (nat_eq v 0) ≡ false → v ≢ 0 → ⊥
 no_loop zero once h = h refl
 no_loop (suc v) once h = grind (arith, nat_tests)
+
+pub byte_is : (b : Bool) → bool_byte b ≡ (if b then 1 else 0)
+byte_is true = refl
+byte_is false = refl
 
 pub int_word_is : (i : ℤ) → int_word i ≡ cast_unsigned w64 i
 int_word_is (pos n) = refl

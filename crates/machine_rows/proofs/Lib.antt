@@ -5,3 +5,6 @@ pub mod Nexts
 pub mod Calls
 pub mod RowNexts
 pub mod Helps
+pub mod Goings
+pub mod Highs
+pub mod Turns

@@ -48,7 +48,7 @@ abbrev pub KnowsDrop : Checked → Cursor → Instr → List Kind → Type 0
 KnowsDrop v c x ks = (r t : ℕ) → x ≡ I.Drop r → owned_type (slice_get ks r) ≡ Some t →
     ReleasesAt (V.plain v.code) c.function c.at t
 
--- So it is of each Drop.
-abbrev pub Knows : Checked → Kinds → Type 0
-Knows v kinds = (f i r t : ℕ) → instr_at (plain v.code) f i ≡ Some (I.Drop r) →
+-- So it is of the Drop, if it is one, that is instruction i of function f.
+abbrev pub KnowsAt : Checked → Kinds → ℕ → ℕ → Type 0
+KnowsAt v kinds f i = (r t : ℕ) → instr_at (plain v.code) f i ≡ Some (I.Drop r) →
     owned_type (slice_get (kinds f i) r) ≡ Some t → ReleasesAt (V.plain v.code) f i t

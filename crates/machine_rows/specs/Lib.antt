@@ -1,4 +1,6 @@
 pub mod Bounding
 pub mod Placed
 pub mod View
+pub mod Highest
 pub mod Coming
+pub mod Going

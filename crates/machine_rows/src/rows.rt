@@ -19,10 +19,13 @@ ghost use Rattle.code_runs.specs.States.{Typed};
 ghost use Rattle.code_runs.specs.Steps.{Kinds, next};
 ghost use Rattle.frame_stack.specs.Keeping.{Keeps};
 ghost use Rattle.frame_stack.specs.Words.{words_from, put_words};
+ghost use Rattle.machine_arithmetic.specs.Outcomes.{truth_word};
 ghost use Rattle.machine_cells.specs.Small.{IsSmall, store_of};
 ghost use Rattle.machine_rows.specs.Bounding.{AreAtMost, Fits};
-ghost use Rattle.machine_rows.specs.Coming.{IsNext, IsTold, KnowsDrop, Knows, moved};
+ghost use Rattle.machine_rows.specs.Coming.{IsNext, IsTold, KnowsDrop, KnowsAt, moved};
+ghost use Rattle.machine_rows.specs.Going.{IsDone, IsGone, IsToldWithMore, Names};
 ghost use Rattle.machine_rows.specs.Placed.{IsPlaced, IsRoomy, Waiting, body_at, weight};
+ghost use Rattle.machine_rows.specs.Highest.{IsHigh, IsRaised, IsSame};
 ghost use Rattle.machine_rows.specs.View.{words_of, state_of};
 
 use crate::cursor::{Bounds, Cursor};
@@ -103,6 +106,7 @@ fn go_to(verified: &Verified, bounds: Bounds, words: &[u64], cursor: &mut Cursor
     ensures less { weight cursor.new < weight cursor.old }
     ensures state { (lent : List Typed) (s : Store) → state_of verified.now bounds lent s words.now cursor.new ≡ moved
         target (words_of words.now cursor.old) (state_of verified.now bounds lent s words.now cursor.old) }
+    ensures same { IsSame cursor.old cursor.new }
 {
     cursor.at = target;
 }
@@ -130,6 +134,7 @@ fn write(
     ensures state { (lent : List Typed) (s : Store) → state_of verified.now bounds lent s words.new cursor.new ≡ moved
         (cursor.old.at + 1) (slice_set (words_of words.old cursor.old) register word) (state_of verified.now bounds
         lent s words.old cursor.old) }
+    ensures same { IsSame cursor.old cursor.new }
 {
     words[cursor.base + register as usize] = word;
     let next = cursor.at + 1;
@@ -161,6 +166,7 @@ fn branch(
     ensures state { (lent : List Typed) (s : Store) → state_of verified.now bounds lent s words.now cursor.new ≡ moved
         (if on then cursor.old.at + 1 else target) (words_of words.now cursor.old) (state_of verified.now bounds lent
         s words.now cursor.old) }
+    ensures same { IsSame cursor.old cursor.new }
 {
     if on {
         let next = cursor.at + 1;
@@ -185,6 +191,7 @@ fn go_on(verified: &Verified, bounds: Bounds, words: &[u64], cursor: &mut Cursor
     ensures went { result ≡ Stepped.Went }
     ensures state { (lent : List Typed) (s : Store) → state_of verified.now bounds lent s words.now cursor.new ≡ moved
         (cursor.old.at + 1) (words_of words.now cursor.old) (state_of verified.now bounds lent s words.now cursor.old) }
+    ensures same { IsSame cursor.old cursor.new }
 {
     let next = cursor.at + 1;
     go_to(verified, bounds, words, cursor, next);
@@ -214,10 +221,14 @@ fn test_flag<'a>(
     requires placed { IsPlaced verified.now bounds (length words.now) cursor.old }
     requires roomy { IsRoomy bounds (length words.now) cursor.old }
     requires waiting { Waiting verified.now bounds words.now cursor.old.frames cursor.old.base }
+    requires word { slice_get (words_of words.now cursor.old) register ≡ Some (truth_word holds) }
     ensures placed { IsPlaced verified.now bounds (length words.now) cursor.new }
     ensures roomy { IsRoomy bounds (length words.now) cursor.new }
     ensures waiting { Waiting verified.now bounds words.now cursor.new.frames cursor.new.base }
     ensures least { weight cursor.new ≤ weight cursor.old }
+    ensures gone { (kinds : Kinds) (s : Store) → IsGone verified.now bounds kinds s words.now cursor.old s words.now
+        cursor.new }
+    ensures same { IsSame cursor.old cursor.new }
 {
     if let Instr::Test {
         register: tested,
@@ -253,9 +264,10 @@ fn calculate<'a, const IN_LOOP: bool>(
     ensures waiting { Waiting verified.now bounds words.new cursor.new.frames cursor.new.base }
     ensures less { result ≡ Stepped.Went → weight cursor.new < weight cursor.old }
     ensures entered { result ≢ Stepped.Entered }
-    ensures next { (ks : List Kind) (s : Store) (given : List ℕ) → IN_LOOP ≡ false → IsNext verified.now bounds
-        (Instr.Arith register operation.operator operation.left operation.right operation.line operation.col) ks s
-        words.old cursor.old result s words.new cursor.new given }
+    ensures next { (kinds : Kinds) (ks : List Kind) (s : Store) (given : List ℕ) → IsDone IN_LOOP verified.now bounds
+        kinds (Instr.Arith register operation.operator operation.left operation.right operation.line operation.col) ks
+        s words.old cursor.old result s words.new cursor.new given }
+    ensures same { IsSame cursor.old cursor.new }
 {
     let left = words[cursor.base + operation.left as usize].cast_signed();
     let right = words[cursor.base + operation.right as usize].cast_signed();
@@ -311,10 +323,16 @@ fn test_again<'a, C: Cells>(
     requires roomy { IsRoomy bounds (length words.now) cursor.old }
     requires waiting { Waiting verified.now bounds words.now cursor.old.frames cursor.old.base }
     requires there { cell_at (C.cells cells.now) place ≢ None }
+    requires names { Names (C.cells cells.now) (words_of words.now cursor.old) register place }
     ensures placed { IsPlaced verified.now bounds (length words.now) cursor.new }
     ensures roomy { IsRoomy bounds (length words.now) cursor.new }
     ensures waiting { Waiting verified.now bounds words.now cursor.new.frames cursor.new.base }
     ensures least { weight cursor.new ≤ weight cursor.old }
+    ensures frame { words_of words.now cursor.new ≡ words_of words.now cursor.old }
+    ensures gone { (kinds : Kinds) → IsSmall (C.cells cells.now) → IsGone verified.now bounds kinds (store_of
+        (C.cells cells.now) (C.released cells.now)) words.now cursor.old (store_of (C.cells cells.now) (C.released
+        cells.now)) words.now cursor.new }
+    ensures same { IsSame cursor.old cursor.new }
 {
     if let Instr::Test {
         register: tested,
@@ -345,12 +363,17 @@ fn put_next<'a, C: Cells>(
     requires waiting { Waiting verified.now bounds words.now cursor.old.frames cursor.old.base }
     requires there { cell_at (C.cells cells.old) place ≢ None }
     requires size { size_in (cell_at (C.cells cells.old) place) ≡ size }
+    requires names { Names (C.cells cells.old) (words_of words.now cursor.old) register place }
     ensures placed { IsPlaced verified.now bounds (length words.now) cursor.new }
     ensures roomy { IsRoomy bounds (length words.now) cursor.new }
     ensures waiting { Waiting verified.now bounds words.now cursor.new.frames cursor.new.base }
     ensures least { weight cursor.new ≤ weight cursor.old }
     ensures small { IsSmall (C.cells cells.old) → IsSmall (C.cells cells.new) }
     ensures pushed { C.pushed cells.new ≡ C.pushed cells.old }
+    ensures gone { (kinds : Kinds) → IsSmall (C.cells cells.old) → IsGone verified.now bounds kinds (store_of
+        (C.cells cells.old) (C.released cells.old)) words.now cursor.old (store_of (C.cells cells.new) (C.released
+        cells.new)) words.now cursor.new }
+    ensures same { IsSame cursor.old cursor.new }
 {
     if let Instr::Put {
         register: credit,
@@ -392,12 +415,17 @@ fn take_next<'a, C: Cells>(
     requires roomy { IsRoomy bounds (length words.old) cursor.old }
     requires waiting { Waiting verified.now bounds words.old cursor.old.frames cursor.old.base }
     requires there { cell_at (C.cells cells.old) place ≢ None }
+    requires names { Names (C.cells cells.old) (words_of words.old cursor.old) register place }
     ensures placed { IsPlaced verified.now bounds (length words.new) cursor.new }
     ensures roomy { IsRoomy bounds (length words.new) cursor.new }
     ensures waiting { Waiting verified.now bounds words.new cursor.new.frames cursor.new.base }
     ensures least { weight cursor.new ≤ weight cursor.old }
     ensures small { IsSmall (C.cells cells.old) → IsSmall (C.cells cells.new) }
     ensures pushed { C.pushed cells.new ≡ C.pushed cells.old }
+    ensures gone { (kinds : Kinds) → IsSmall (C.cells cells.old) → IsGone verified.now bounds kinds (store_of
+        (C.cells cells.old) (C.released cells.old)) words.old cursor.old (store_of (C.cells cells.new) (C.released
+        cells.new)) words.new cursor.new }
+    ensures same { IsSame cursor.old cursor.new }
 {
     if let Instr::Take {
         register: taken,
@@ -442,12 +470,13 @@ fn test<'a, C: Cells, const IN_LOOP: bool>(
     ensures waiting { Waiting verified.now bounds words.new cursor.new.frames cursor.new.base }
     ensures less { weight cursor.new < weight cursor.old }
     ensures went { result ≡ Stepped.Went }
-    ensures next { (ks : List Kind) (given : List ℕ) → IN_LOOP ≡ false → IsSmall (C.cells cells.old) → IsNext
-        verified.now bounds (Instr.Test register constructor target) ks (store_of (C.cells cells.old) (C.released
-        cells.old)) words.old cursor.old result (store_of (C.cells cells.new) (C.released cells.new)) words.new
-        cursor.new given }
+    ensures next { (kinds : Kinds) (ks : List Kind) (given : List ℕ) → IsSmall (C.cells cells.old) → IsDone IN_LOOP
+        verified.now bounds kinds (Instr.Test register constructor target) ks (store_of (C.cells cells.old)
+        (C.released cells.old)) words.old cursor.old result (store_of (C.cells cells.new) (C.released cells.new))
+        words.new cursor.new given }
     ensures small { IsSmall (C.cells cells.old) → IsSmall (C.cells cells.new) }
     ensures pushed { C.pushed cells.new ≡ C.pushed cells.old }
+    ensures same { IsSame cursor.old cursor.new }
 {
     let word = words[cursor.base + register as usize];
     if word % 2 == 0 {
@@ -504,6 +533,7 @@ fn peek<C: Cells>(
     ensures next { (ks : List Kind) (given : List ℕ) → IsSmall (C.cells cells.now) → IsNext verified.now bounds
         (Instr.Peek destination register field) ks (store_of (C.cells cells.now) (C.released cells.now)) words.old
         cursor.old result (store_of (C.cells cells.now) (C.released cells.now)) words.new cursor.new given }
+    ensures same { IsSame cursor.old cursor.new }
 {
     let field = field as usize;
     match field_cell_of(cells, words[cursor.base + register as usize], field) {
@@ -569,6 +599,7 @@ fn take_cell<C: Cells>(
     ensures next { (ks : List Kind) (given : List ℕ) → IsSmall (C.cells cells.now) → IsNext verified.now bounds
         (Instr.Take register fields.now) ks (store_of (C.cells cells.now) (C.released cells.now)) words.old cursor.old
         result (store_of (C.cells cells.now) (C.released cells.now)) words.new cursor.new given }
+    ensures same { IsSame cursor.old cursor.new }
 {
     take_fields(
         cells,
@@ -610,6 +641,7 @@ fn put_cell<C: Cells>(
     ensures next { (ks : List Kind) (given : List ℕ) (ty : ℕ) → IsSmall (C.cells cells.old) → IsNext verified.now
         bounds (Instr.Put register ty constructor fields.now) ks (store_of (C.cells cells.old) (C.released cells.old))
         words.now cursor.old result (store_of (C.cells cells.new) (C.released cells.new)) words.now cursor.new given }
+    ensures same { IsSame cursor.old cursor.new }
 {
     let word = words[cursor.base + register as usize];
     if let Some(place) = sized_cell_of(cells, word, fields.len()) {
@@ -648,6 +680,7 @@ fn enter<'a>(
     ensures frames { cursor.new.frames ≡ frames }
     ensures function { cursor.new.function ≡ function }
     ensures at { cursor.new.at ≡ 0 }
+    ensures raised { IsRaised cursor.old cursor.new }
 {
     let callee = function_at(verified, function);
     cursor.instrs = callee.instrs.as_slice();
@@ -683,6 +716,7 @@ fn enter_again(
     ensures long { length spare.new ≡ length spare.old }
     ensures next { (ks : List Kind) (s : Store) (given : List ℕ) → IsNext verified.now bounds (Instr.Tail
         cursor.old.function arguments.now) ks s words.old cursor.old result s words.new cursor.new given }
+    ensures same { IsSame cursor.old cursor.new }
 {
     let base = cursor.base;
     let end = base + cursor.registers;
@@ -717,6 +751,7 @@ fn call<'a>(
     ensures frames { cursor.new.frames ≤ cursor.old.frames + 1 }
     ensures next { (ks : List Kind) (s : Store) (given : List ℕ) (ds : List ℕ) → IsNext verified.now bounds
         (Instr.Call function arguments.now ds) ks s words.old cursor.old result s words.new cursor.new given }
+    ensures raised { IsHigh cursor.old → IsRaised cursor.old cursor.new }
 {
     if cursor.frames >= bounds.frames {
         return Stepped::Deep;
@@ -767,6 +802,7 @@ fn enter_instead<'a>(
     ensures long { length spare.new ≡ length spare.old }
     ensures next { (ks : List Kind) (s : Store) (given : List ℕ) → IsNext verified.now bounds (Instr.Tail function
         arguments.now) ks s words.old cursor.old result s words.new cursor.new given }
+    ensures raised { IsHigh cursor.old → IsRaised cursor.old cursor.new }
 {
     let registers = function_at(verified, function as usize).registers as usize;
     let base = cursor.base;
@@ -811,6 +847,7 @@ fn tail<'a>(
     ensures long { length spare.new ≡ length spare.old }
     ensures next { (ks : List Kind) (s : Store) (given : List ℕ) → IsNext verified.now bounds (Instr.Tail function
         arguments.now) ks s words.old cursor.old result s words.new cursor.new given }
+    ensures raised { IsHigh cursor.old → IsRaised cursor.old cursor.new }
 {
     let number = function as usize;
     let _ = function_at(verified, number);
@@ -919,6 +956,7 @@ fn give_back<'a>(
     ensures spare { vec_len beside.new.spare ≡ vec_len beside.old.spare }
     ensures next { (ks : List Kind) (s : Store) → IsNext verified.now bounds (Instr.Ret results.now) ks s words.old
         cursor.old result s words.new cursor.new (take beside.new.given beside.new.results) }
+    ensures raised { IsHigh cursor.old → IsRaised cursor.old cursor.new }
 {
     if cursor.frames == 0 {
         keep_results(beside, words, cursor.base, cursor.registers, results);
@@ -1001,10 +1039,11 @@ fn act<'a, C: Cells, const IN_LOOP: bool>(
     ensures spare { vec_len beside.new.spare ≡ vec_len beside.old.spare }
     ensures small { IsSmall (C.cells cells.old) → IsSmall (C.cells cells.new) }
     ensures pushed { C.pushed cells.old ≡ [] → C.pushed cells.new ≡ [] }
-    ensures next { (ks : List Kind) → KnowsDrop verified.now cursor.old instr.now ks → IN_LOOP ≡ false → IsSmall
-        (C.cells cells.old) → C.pushed cells.old ≡ [] → IsNext verified.now bounds instr.now ks (store_of (C.cells
-        cells.old) (C.released cells.old)) words.old cursor.old result (store_of (C.cells cells.new) (C.released
-        cells.new)) words.new cursor.new (take beside.new.given beside.new.results) }
+    ensures next { (kinds : Kinds) (ks : List Kind) → KnowsDrop verified.now cursor.old instr.now ks → IsSmall
+        (C.cells cells.old) → C.pushed cells.old ≡ [] → IsDone IN_LOOP verified.now bounds kinds instr.now ks
+        (store_of (C.cells cells.old) (C.released cells.old)) words.old cursor.old result (store_of (C.cells
+        cells.new) (C.released cells.new)) words.new cursor.new (take beside.new.given beside.new.results) }
+    ensures raised { IsHigh cursor.old → IsRaised cursor.old cursor.new }
 {
     match instr {
         Instr::Const { destination, value } => {
@@ -1152,8 +1191,9 @@ fn act<'a, C: Cells, const IN_LOOP: bool>(
     }
 }
 
-/// Does the instruction that is next. The loop of a run and a single step have each a copy of it, so that each copy has
-/// one caller and is inlined there: in the loop the cursor is then registers of the processor.
+/// Does the instruction that is next; in the loop of a run also some that work on the same register or cell behind it,
+/// each of which goes on. The loop and a single step have each a copy of it, so that each copy has one caller and is
+/// inlined there: in the loop the cursor is then registers of the processor.
 #[inline(always)]
 pub fn advance<'a, C: Cells, const IN_LOOP: bool>(
     verified: &'a Verified,
@@ -1176,10 +1216,15 @@ pub fn advance<'a, C: Cells, const IN_LOOP: bool>(
     ensures spare { vec_len beside.new.spare ≡ vec_len beside.old.spare }
     ensures small { IsSmall (C.cells cells.old) → IsSmall (C.cells cells.new) }
     ensures pushed { C.pushed cells.old ≡ [] → C.pushed cells.new ≡ [] }
-    ensures next { (kinds : Kinds) → Knows verified.now kinds → IN_LOOP ≡ false → IsSmall (C.cells cells.old) →
-        C.pushed cells.old ≡ [] → IsTold verified.now bounds kinds (store_of (C.cells cells.old) (C.released
-        cells.old)) words.old cursor.old result (store_of (C.cells cells.new) (C.released cells.new)) words.new
-        cursor.new (take beside.new.given beside.new.results) }
+    ensures next { (kinds : Kinds) → KnowsAt verified.now kinds cursor.old.function cursor.old.at → IN_LOOP ≡ false →
+        IsSmall (C.cells cells.old) → C.pushed cells.old ≡ [] → IsTold verified.now bounds kinds (store_of (C.cells
+        cells.old) (C.released cells.old)) words.old cursor.old result (store_of (C.cells cells.new) (C.released
+        cells.new)) words.new cursor.new (take beside.new.given beside.new.results) }
+    ensures more { (kinds : Kinds) → KnowsAt verified.now kinds cursor.old.function cursor.old.at →
+        IsSmall (C.cells cells.old) → C.pushed cells.old ≡ [] → IsToldWithMore verified.now bounds kinds (store_of
+        (C.cells cells.old) (C.released cells.old)) words.old cursor.old result (store_of (C.cells cells.new)
+        (C.released cells.new)) words.new cursor.new (take beside.new.given beside.new.results) }
+    ensures raised { IsHigh cursor.old → IsRaised cursor.old cursor.new }
 {
     let instr = next_of(verified, bounds, words, cursor);
     act::<C, IN_LOOP>(verified, bounds, cells, words, beside, cursor, instr)

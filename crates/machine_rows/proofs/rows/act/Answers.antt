@@ -17,6 +17,8 @@ use Rattle.machine_rows.specs.View.{state_of}
 use Rattle.machine_rows.specs.Coming.{Comes}
 use Rattle.machine_rows.proofs.RowNexts.{const_next, atom_next, move_next, test_int_next, jump_next, free_next, drop_next}
 use Rattle.machine_rows.proofs.Helps.{same_instr, int_word_is}
+use Rattle.machine_rows.proofs.Goings.{alone, same_done}
+use Rattle.machine_rows.proofs.Highs.{raised_same}
 use Rattle.machine_rows.proofs.rows.act.Goals as goal
 
 pub call-requires-clause-callee : goal.call-requires-clause-callee
@@ -34,7 +36,7 @@ tail-requires-clause-callee g c =
     subst (λ rs. CanCall v.code.functions.items c.in-Tail.function (length rs)) (sym c.as_slice-in-Tail.ensures.same) row.1
 
 pub returns-in-Const-clause-next : goal.returns-in-Const-clause-next
-returns-in-Const-clause-next g c ks known once small empty lent =
+returns-in-Const-clause-next g c kinds ks known small empty lent =
     let v = c.args.verified.now in
     let b = c.args.bounds in
     let ws = c.args.words.now in
@@ -47,10 +49,10 @@ returns-in-Const-clause-next g c ks known once small empty lent =
     let row = subst (Row (body_at v cursor) cursor.at (IsSafe (body_at v cursor))) c.in-Const.is c.requires.row in
     let new = state_of v b lent s c.write.new.words c.write.new.cursor in
     let fits : SFits w64 c.in-Const.value = record { sfits = omega arith } in
-    same_instr (plain v.code) ks old c.write.result new given c.args.instr.now (I.Const c.in-Const.destination c.in-Const.value) c.in-Const.is (const_next v b ks lent s ws cursor c.write.result new given c.in-Const.destination c.in-Const.value c.cast_unsigned-word.result (int_word_is c.in-Const.value ∙ sym (c.cast_unsigned-word.ensures ∙ ap (of_z w64) (to_z-of_z w64 c.in-Const.value fits))) row.0 room c.write.ensures.went (c.write.ensures.state lent s))
+    alone kinds (plain v.code) _ old (act (plain v.code) ks old c.args.instr.now) _ new given (same_instr (plain v.code) ks old c.write.result new given c.args.instr.now (I.Const c.in-Const.destination c.in-Const.value) c.in-Const.is (const_next v b ks lent s ws cursor c.write.result new given c.in-Const.destination c.in-Const.value c.cast_unsigned-word.result (int_word_is c.in-Const.value ∙ sym (c.cast_unsigned-word.ensures ∙ ap (of_z w64) (to_z-of_z w64 c.in-Const.value fits))) row.0 room c.write.ensures.went (c.write.ensures.state lent s)))
 
 pub returns-in-Atom-clause-next : goal.returns-in-Atom-clause-next
-returns-in-Atom-clause-next g c ks known once small empty lent =
+returns-in-Atom-clause-next g c kinds ks known small empty lent =
     let v = c.args.verified.now in
     let b = c.args.bounds in
     let ws = c.args.words.now in
@@ -62,10 +64,10 @@ returns-in-Atom-clause-next g c ks known once small empty lent =
     let given = take c.args.beside.now.given c.args.beside.now.results in
     let row = subst (Row (body_at v cursor) cursor.at (IsSafe (body_at v cursor))) c.in-Atom.is c.requires.row in
     let new = state_of v b lent s c.write-in-Atom.new.words c.write-in-Atom.new.cursor in
-    same_instr (plain v.code) ks old c.write-in-Atom.result new given c.args.instr.now (I.Atom c.in-Atom.destination c.in-Atom.ty c.in-Atom.constructor) c.in-Atom.is (atom_next v b ks lent s ws cursor c.write-in-Atom.result new given c.in-Atom.destination c.in-Atom.ty c.in-Atom.constructor (2 * c.from-word.result) (ap (λ k. 2 * k) c.from-word.ensures) row.0 room c.write-in-Atom.ensures.went (c.write-in-Atom.ensures.state lent s))
+    alone kinds (plain v.code) _ old (act (plain v.code) ks old c.args.instr.now) _ new given (same_instr (plain v.code) ks old c.write-in-Atom.result new given c.args.instr.now (I.Atom c.in-Atom.destination c.in-Atom.ty c.in-Atom.constructor) c.in-Atom.is (atom_next v b ks lent s ws cursor c.write-in-Atom.result new given c.in-Atom.destination c.in-Atom.ty c.in-Atom.constructor (2 * c.from-word.result) (ap (λ k. 2 * k) c.from-word.ensures) row.0 room c.write-in-Atom.ensures.went (c.write-in-Atom.ensures.state lent s)))
 
 pub returns-in-Move-clause-next : goal.returns-in-Move-clause-next
-returns-in-Move-clause-next g c ks known once small empty lent =
+returns-in-Move-clause-next g c kinds ks known small empty lent =
     let v = c.args.verified.now in
     let b = c.args.bounds in
     let ws = c.args.words.now in
@@ -77,10 +79,10 @@ returns-in-Move-clause-next g c ks known once small empty lent =
     let given = take c.args.beside.now.given c.args.beside.now.results in
     let row = subst (Row (body_at v cursor) cursor.at (IsSafe (body_at v cursor))) c.in-Move.is c.requires.row in
     let new = state_of v b lent s c.write-in-Move.new.words c.write-in-Move.new.cursor in
-    same_instr (plain v.code) ks old c.write-in-Move.result new given c.args.instr.now (I.Move c.in-Move.destination c.in-Move.source) c.in-Move.is (move_next v b ks lent s ws cursor c.write-in-Move.result new given c.in-Move.destination c.in-Move.source row.0 row.1 room c.write-in-Move.ensures.went (c.write-in-Move.ensures.state lent s))
+    alone kinds (plain v.code) _ old (act (plain v.code) ks old c.args.instr.now) _ new given (same_instr (plain v.code) ks old c.write-in-Move.result new given c.args.instr.now (I.Move c.in-Move.destination c.in-Move.source) c.in-Move.is (move_next v b ks lent s ws cursor c.write-in-Move.result new given c.in-Move.destination c.in-Move.source row.0 row.1 room c.write-in-Move.ensures.went (c.write-in-Move.ensures.state lent s)))
 
 pub returns-in-Arith-clause-next : goal.returns-in-Arith-clause-next
-returns-in-Arith-clause-next g c ks known once small empty lent =
+returns-in-Arith-clause-next g c kinds ks known small empty lent =
     let v = c.args.verified.now in
     let b = c.args.bounds in
     let ws = c.args.words.now in
@@ -92,10 +94,10 @@ returns-in-Arith-clause-next g c ks known once small empty lent =
     let given = take c.args.beside.now.given c.args.beside.now.results in
     let row = subst (Row (body_at v cursor) cursor.at (IsSafe (body_at v cursor))) c.in-Arith.is c.requires.row in
     let new = state_of v b lent s c.calculate.new.words c.calculate.new.cursor in
-    same_instr (plain v.code) ks old c.calculate.result new given c.args.instr.now (I.Arith c.in-Arith.destination c.in-Arith.operator c.in-Arith.left c.in-Arith.right c.in-Arith.line c.in-Arith.col) c.in-Arith.is (c.calculate.ensures.next ks s given once lent)
+    same_done kinds (plain v.code) ks _ old c.calculate.result new given c.args.instr.now (I.Arith c.in-Arith.destination c.in-Arith.operator c.in-Arith.left c.in-Arith.right c.in-Arith.line c.in-Arith.col) c.in-Arith.is (c.calculate.ensures.next kinds ks s given lent)
 
 pub returns-in-Test-clause-next : goal.returns-in-Test-clause-next
-returns-in-Test-clause-next g c ks known once small empty lent =
+returns-in-Test-clause-next g c kinds ks known small empty lent =
     let v = c.args.verified.now in
     let b = c.args.bounds in
     let ws = c.args.words.now in
@@ -107,10 +109,10 @@ returns-in-Test-clause-next g c ks known once small empty lent =
     let given = take c.args.beside.now.given c.args.beside.now.results in
     let row = subst (Row (body_at v cursor) cursor.at (IsSafe (body_at v cursor))) c.in-Test.is c.requires.row in
     let new = state_of v b lent (store_of (g.C.Cells.cells c.test.new.cells) (g.C.Cells.released c.test.new.cells)) c.test.new.words c.test.new.cursor in
-    same_instr (plain v.code) ks old c.test.result new given c.args.instr.now (I.Test c.in-Test.register c.in-Test.constructor c.in-Test.target) c.in-Test.is (c.test.ensures.next ks given once small lent)
+    same_done kinds (plain v.code) ks _ old c.test.result new given c.args.instr.now (I.Test c.in-Test.register c.in-Test.constructor c.in-Test.target) c.in-Test.is (c.test.ensures.next kinds ks given small lent)
 
 pub returns-in-TestInt-clause-next : goal.returns-in-TestInt-clause-next
-returns-in-TestInt-clause-next g c ks known once small empty lent =
+returns-in-TestInt-clause-next g c kinds ks known small empty lent =
     let v = c.args.verified.now in
     let b = c.args.bounds in
     let ws = c.args.words.now in
@@ -123,10 +125,10 @@ returns-in-TestInt-clause-next g c ks known once small empty lent =
     let row = subst (Row (body_at v cursor) cursor.at (IsSafe (body_at v cursor))) c.in-TestInt.is c.requires.row in
     let new = state_of v b lent s ws c.branch-verified.new.cursor in
     let fits : SFits w64 c.in-TestInt.value = search rules in
-    same_instr (plain v.code) ks old c.branch-verified.result new given c.args.instr.now (I.TestInt c.in-TestInt.register c.in-TestInt.value c.in-TestInt.target) c.in-TestInt.is (test_int_next v b ks lent s ws cursor c.branch-verified.result new given c.in-TestInt.register c.in-TestInt.value c.in-TestInt.target c.is_int-on.result row.0 room (ap (same_int (int_of (get_or ws (cursor.base + c.in-TestInt.register) 0))) (sym (to_z-of_z w64 c.in-TestInt.value fits)) ∙ sym c.is_int-on.ensures) c.branch-verified.ensures.went (c.branch-verified.ensures.state lent s))
+    alone kinds (plain v.code) _ old (act (plain v.code) ks old c.args.instr.now) _ new given (same_instr (plain v.code) ks old c.branch-verified.result new given c.args.instr.now (I.TestInt c.in-TestInt.register c.in-TestInt.value c.in-TestInt.target) c.in-TestInt.is (test_int_next v b ks lent s ws cursor c.branch-verified.result new given c.in-TestInt.register c.in-TestInt.value c.in-TestInt.target c.is_int-on.result row.0 room (ap (same_int (int_of (get_or ws (cursor.base + c.in-TestInt.register) 0))) (sym (to_z-of_z w64 c.in-TestInt.value fits)) ∙ sym c.is_int-on.ensures) c.branch-verified.ensures.went (c.branch-verified.ensures.state lent s)))
 
 pub returns-in-Peek-clause-next : goal.returns-in-Peek-clause-next
-returns-in-Peek-clause-next g c ks known once small empty lent =
+returns-in-Peek-clause-next g c kinds ks known small empty lent =
     let v = c.args.verified.now in
     let b = c.args.bounds in
     let ws = c.args.words.now in
@@ -138,10 +140,10 @@ returns-in-Peek-clause-next g c ks known once small empty lent =
     let given = take c.args.beside.now.given c.args.beside.now.results in
     let row = subst (Row (body_at v cursor) cursor.at (IsSafe (body_at v cursor))) c.in-Peek.is c.requires.row in
     let new = state_of v b lent s c.peek.new.words c.peek.new.cursor in
-    same_instr (plain v.code) ks old c.peek.result new given c.args.instr.now (I.Peek c.in-Peek.destination c.in-Peek.register c.in-Peek.field) c.in-Peek.is (c.peek.ensures.next ks given small lent)
+    alone kinds (plain v.code) _ old (act (plain v.code) ks old c.args.instr.now) _ new given (same_instr (plain v.code) ks old c.peek.result new given c.args.instr.now (I.Peek c.in-Peek.destination c.in-Peek.register c.in-Peek.field) c.in-Peek.is (c.peek.ensures.next ks given small lent))
 
 pub returns-in-Take-clause-next : goal.returns-in-Take-clause-next
-returns-in-Take-clause-next g c ks known once small empty lent =
+returns-in-Take-clause-next g c kinds ks known small empty lent =
     let v = c.args.verified.now in
     let b = c.args.bounds in
     let ws = c.args.words.now in
@@ -153,10 +155,10 @@ returns-in-Take-clause-next g c ks known once small empty lent =
     let given = take c.args.beside.now.given c.args.beside.now.results in
     let row = subst (Row (body_at v cursor) cursor.at (IsSafe (body_at v cursor))) c.in-Take.is c.requires.row in
     let new = state_of v b lent s c.take_cell.new.words c.take_cell.new.cursor in
-    same_instr (plain v.code) ks old c.take_cell.result new given c.args.instr.now (I.Take c.in-Take.register c.in-Take.fields) c.in-Take.is (subst (λ (ds : List ℕ). Comes old (act (plain v.code) ks old (I.Take c.in-Take.register ds)) c.take_cell.result new given) c.as_slice.ensures.same (c.take_cell.ensures.next ks given small lent))
+    alone kinds (plain v.code) _ old (act (plain v.code) ks old c.args.instr.now) _ new given (same_instr (plain v.code) ks old c.take_cell.result new given c.args.instr.now (I.Take c.in-Take.register c.in-Take.fields) c.in-Take.is (subst (λ (ds : List ℕ). Comes old (act (plain v.code) ks old (I.Take c.in-Take.register ds)) c.take_cell.result new given) c.as_slice.ensures.same (c.take_cell.ensures.next ks given small lent)))
 
 pub returns-in-Put-clause-next : goal.returns-in-Put-clause-next
-returns-in-Put-clause-next g c ks known once small empty lent =
+returns-in-Put-clause-next g c kinds ks known small empty lent =
     let v = c.args.verified.now in
     let b = c.args.bounds in
     let ws = c.args.words.now in
@@ -168,10 +170,10 @@ returns-in-Put-clause-next g c ks known once small empty lent =
     let given = take c.args.beside.now.given c.args.beside.now.results in
     let row = subst (Row (body_at v cursor) cursor.at (IsSafe (body_at v cursor))) c.in-Put.is c.requires.row in
     let new = state_of v b lent (store_of (g.C.Cells.cells c.put_cell.new.cells) (g.C.Cells.released c.put_cell.new.cells)) ws c.put_cell.new.cursor in
-    same_instr (plain v.code) ks old c.put_cell.result new given c.args.instr.now (I.Put c.in-Put.register c.in-Put.ty c.in-Put.constructor c.in-Put.fields) c.in-Put.is (subst (λ (ds : List ℕ). Comes old (act (plain v.code) ks old (I.Put c.in-Put.register c.in-Put.ty c.in-Put.constructor ds)) c.put_cell.result new given) c.as_slice-in-Put.ensures.same (c.put_cell.ensures.next ks given c.in-Put.ty small lent))
+    alone kinds (plain v.code) _ old (act (plain v.code) ks old c.args.instr.now) _ new given (same_instr (plain v.code) ks old c.put_cell.result new given c.args.instr.now (I.Put c.in-Put.register c.in-Put.ty c.in-Put.constructor c.in-Put.fields) c.in-Put.is (subst (λ (ds : List ℕ). Comes old (act (plain v.code) ks old (I.Put c.in-Put.register c.in-Put.ty c.in-Put.constructor ds)) c.put_cell.result new given) c.as_slice-in-Put.ensures.same (c.put_cell.ensures.next ks given c.in-Put.ty small lent)))
 
 pub returns-in-Drop-clause-next : goal.returns-in-Drop-clause-next
-returns-in-Drop-clause-next g c ks known once small empty lent =
+returns-in-Drop-clause-next g c kinds ks known small empty lent =
     let v = c.args.verified.now in
     let b = c.args.bounds in
     let ws = c.args.words.now in
@@ -184,10 +186,10 @@ returns-in-Drop-clause-next g c ks known once small empty lent =
     let row = subst (Row (body_at v cursor) cursor.at (IsSafe (body_at v cursor))) c.in-Drop.is c.requires.row in
     let n = store_of (g.C.Cells.cells c.drop_tree.new.cells) (g.C.Cells.released c.drop_tree.new.cells) in
     let new = state_of v b lent n ws c.go_on.new.cursor in
-    same_instr (plain v.code) ks old c.go_on.result new given c.args.instr.now (I.Drop c.in-Drop.register) c.in-Drop.is (drop_next v b ks lent s ws cursor c.go_on.result new given c.in-Drop.register n row.0 room (λ ty y u owned tree goes. c.drop_tree.ensures.released ty (known c.in-Drop.register ty c.in-Drop.is owned) small empty y u tree goes) c.go_on.ensures.went (c.go_on.ensures.state lent n))
+    alone kinds (plain v.code) _ old (act (plain v.code) ks old c.args.instr.now) _ new given (same_instr (plain v.code) ks old c.go_on.result new given c.args.instr.now (I.Drop c.in-Drop.register) c.in-Drop.is (drop_next v b ks lent s ws cursor c.go_on.result new given c.in-Drop.register n row.0 room (λ ty y u owned tree goes. c.drop_tree.ensures.released ty (known c.in-Drop.register ty c.in-Drop.is owned) small empty y u tree goes) c.go_on.ensures.went (c.go_on.ensures.state lent n)))
 
 pub returns-in-Free-clause-next : goal.returns-in-Free-clause-next
-returns-in-Free-clause-next g c ks known once small empty lent =
+returns-in-Free-clause-next g c kinds ks known small empty lent =
     let v = c.args.verified.now in
     let b = c.args.bounds in
     let ws = c.args.words.now in
@@ -200,10 +202,10 @@ returns-in-Free-clause-next g c ks known once small empty lent =
     let row = subst (Row (body_at v cursor) cursor.at (IsSafe (body_at v cursor))) c.in-Free.is c.requires.row in
     let n = store_of (g.C.Cells.cells c.release_cell.new.cells) (g.C.Cells.released c.release_cell.new.cells) in
     let new = state_of v b lent n ws c.go_on-in-Free.new.cursor in
-    same_instr (plain v.code) ks old c.go_on-in-Free.result new given c.args.instr.now (I.Free c.in-Free.register) c.in-Free.is (free_next v b ks lent s ws cursor c.go_on-in-Free.result new given c.in-Free.register n row.0 room (λ u goes. c.release_cell.ensures.released small u goes) c.go_on-in-Free.ensures.went (c.go_on-in-Free.ensures.state lent n))
+    alone kinds (plain v.code) _ old (act (plain v.code) ks old c.args.instr.now) _ new given (same_instr (plain v.code) ks old c.go_on-in-Free.result new given c.args.instr.now (I.Free c.in-Free.register) c.in-Free.is (free_next v b ks lent s ws cursor c.go_on-in-Free.result new given c.in-Free.register n row.0 room (λ u goes. c.release_cell.ensures.released small u goes) c.go_on-in-Free.ensures.went (c.go_on-in-Free.ensures.state lent n)))
 
 pub returns-in-Call-clause-next : goal.returns-in-Call-clause-next
-returns-in-Call-clause-next g c ks known once small empty lent =
+returns-in-Call-clause-next g c kinds ks known small empty lent =
     let v = c.args.verified.now in
     let b = c.args.bounds in
     let ws = c.args.words.now in
@@ -215,10 +217,10 @@ returns-in-Call-clause-next g c ks known once small empty lent =
     let given = take c.args.beside.now.given c.args.beside.now.results in
     let row = subst (Row (body_at v cursor) cursor.at (IsSafe (body_at v cursor))) c.in-Call.is c.requires.row in
     let new = state_of v b lent s c.call.new.words c.call.new.cursor in
-    same_instr (plain v.code) ks old c.call.result new given c.args.instr.now (I.Call c.in-Call.function c.in-Call.arguments c.in-Call.destinations) c.in-Call.is (subst (λ (ss : List ℕ). Comes old (act (plain v.code) ks old (I.Call c.in-Call.function ss c.in-Call.destinations)) c.call.result new given) c.as_slice-in-Call.ensures.same (c.call.ensures.next ks s given c.in-Call.destinations lent))
+    alone kinds (plain v.code) _ old (act (plain v.code) ks old c.args.instr.now) _ new given (same_instr (plain v.code) ks old c.call.result new given c.args.instr.now (I.Call c.in-Call.function c.in-Call.arguments c.in-Call.destinations) c.in-Call.is (subst (λ (ss : List ℕ). Comes old (act (plain v.code) ks old (I.Call c.in-Call.function ss c.in-Call.destinations)) c.call.result new given) c.as_slice-in-Call.ensures.same (c.call.ensures.next ks s given c.in-Call.destinations lent)))
 
 pub returns-in-Tail-clause-next : goal.returns-in-Tail-clause-next
-returns-in-Tail-clause-next g c ks known once small empty lent =
+returns-in-Tail-clause-next g c kinds ks known small empty lent =
     let v = c.args.verified.now in
     let b = c.args.bounds in
     let ws = c.args.words.now in
@@ -230,10 +232,10 @@ returns-in-Tail-clause-next g c ks known once small empty lent =
     let given = take c.args.beside.now.given c.args.beside.now.results in
     let row = subst (Row (body_at v cursor) cursor.at (IsSafe (body_at v cursor))) c.in-Tail.is c.requires.row in
     let new = state_of v b lent s c.tail.new.words c.tail.new.cursor in
-    same_instr (plain v.code) ks old c.tail.result new given c.args.instr.now (I.Tail c.in-Tail.function c.in-Tail.arguments) c.in-Tail.is (subst (λ (ss : List ℕ). Comes old (act (plain v.code) ks old (I.Tail c.in-Tail.function ss)) c.tail.result new given) c.as_slice-in-Tail.ensures.same (c.tail.ensures.next ks s given lent))
+    alone kinds (plain v.code) _ old (act (plain v.code) ks old c.args.instr.now) _ new given (same_instr (plain v.code) ks old c.tail.result new given c.args.instr.now (I.Tail c.in-Tail.function c.in-Tail.arguments) c.in-Tail.is (subst (λ (ss : List ℕ). Comes old (act (plain v.code) ks old (I.Tail c.in-Tail.function ss)) c.tail.result new given) c.as_slice-in-Tail.ensures.same (c.tail.ensures.next ks s given lent)))
 
 pub returns-in-Ret-clause-next : goal.returns-in-Ret-clause-next
-returns-in-Ret-clause-next g c ks known once small empty lent =
+returns-in-Ret-clause-next g c kinds ks known small empty lent =
     let v = c.args.verified.now in
     let b = c.args.bounds in
     let ws = c.args.words.now in
@@ -245,10 +247,10 @@ returns-in-Ret-clause-next g c ks known once small empty lent =
     let given = take c.give_back.new.beside.given c.give_back.new.beside.results in
     let row = subst (Row (body_at v cursor) cursor.at (IsSafe (body_at v cursor))) c.in-Ret.is c.requires.row in
     let new = state_of v b lent s c.give_back.new.words c.give_back.new.cursor in
-    same_instr (plain v.code) ks old c.give_back.result new given c.args.instr.now (I.Ret c.in-Ret.results) c.in-Ret.is (subst (λ (rs : List ℕ). Comes old (act (plain v.code) ks old (I.Ret rs)) c.give_back.result new given) c.as_slice-in-Ret.ensures.same (c.give_back.ensures.next ks s lent))
+    alone kinds (plain v.code) _ old (act (plain v.code) ks old c.args.instr.now) _ new given (same_instr (plain v.code) ks old c.give_back.result new given c.args.instr.now (I.Ret c.in-Ret.results) c.in-Ret.is (subst (λ (rs : List ℕ). Comes old (act (plain v.code) ks old (I.Ret rs)) c.give_back.result new given) c.as_slice-in-Ret.ensures.same (c.give_back.ensures.next ks s lent)))
 
 pub returns-in-Jump-clause-next : goal.returns-in-Jump-clause-next
-returns-in-Jump-clause-next g c ks known once small empty lent =
+returns-in-Jump-clause-next g c kinds ks known small empty lent =
     let v = c.args.verified.now in
     let b = c.args.bounds in
     let ws = c.args.words.now in
@@ -260,4 +262,40 @@ returns-in-Jump-clause-next g c ks known once small empty lent =
     let given = take c.args.beside.now.given c.args.beside.now.results in
     let row = subst (Row (body_at v cursor) cursor.at (IsSafe (body_at v cursor))) c.in-Jump.is c.requires.row in
     let new = state_of v b lent s ws c.go_to.new.cursor in
-    same_instr (plain v.code) ks old S.Went new given c.args.instr.now (I.Jump c.in-Jump.target) c.in-Jump.is (jump_next v b ks lent s ws cursor S.Went new given c.in-Jump.target refl (c.go_to.ensures.state lent s))
+    alone kinds (plain v.code) _ old (act (plain v.code) ks old c.args.instr.now) _ new given (same_instr (plain v.code) ks old S.Went new given c.args.instr.now (I.Jump c.in-Jump.target) c.in-Jump.is (jump_next v b ks lent s ws cursor S.Went new given c.in-Jump.target refl (c.go_to.ensures.state lent s)))
+
+pub returns-in-Const-clause-raised : goal.returns-in-Const-clause-raised
+returns-in-Const-clause-raised g c high = raised_same c.args.cursor.now c.write.new.cursor c.write.ensures.same high
+
+pub returns-in-Atom-clause-raised : goal.returns-in-Atom-clause-raised
+returns-in-Atom-clause-raised g c high = raised_same c.args.cursor.now c.write-in-Atom.new.cursor c.write-in-Atom.ensures.same high
+
+pub returns-in-Move-clause-raised : goal.returns-in-Move-clause-raised
+returns-in-Move-clause-raised g c high = raised_same c.args.cursor.now c.write-in-Move.new.cursor c.write-in-Move.ensures.same high
+
+pub returns-in-Arith-clause-raised : goal.returns-in-Arith-clause-raised
+returns-in-Arith-clause-raised g c high = raised_same c.args.cursor.now c.calculate.new.cursor c.calculate.ensures.same high
+
+pub returns-in-Test-clause-raised : goal.returns-in-Test-clause-raised
+returns-in-Test-clause-raised g c high = raised_same c.args.cursor.now c.test.new.cursor c.test.ensures.same high
+
+pub returns-in-TestInt-clause-raised : goal.returns-in-TestInt-clause-raised
+returns-in-TestInt-clause-raised g c high = raised_same c.args.cursor.now c.branch-verified.new.cursor c.branch-verified.ensures.same high
+
+pub returns-in-Peek-clause-raised : goal.returns-in-Peek-clause-raised
+returns-in-Peek-clause-raised g c high = raised_same c.args.cursor.now c.peek.new.cursor c.peek.ensures.same high
+
+pub returns-in-Take-clause-raised : goal.returns-in-Take-clause-raised
+returns-in-Take-clause-raised g c high = raised_same c.args.cursor.now c.take_cell.new.cursor c.take_cell.ensures.same high
+
+pub returns-in-Put-clause-raised : goal.returns-in-Put-clause-raised
+returns-in-Put-clause-raised g c high = raised_same c.args.cursor.now c.put_cell.new.cursor c.put_cell.ensures.same high
+
+pub returns-in-Drop-clause-raised : goal.returns-in-Drop-clause-raised
+returns-in-Drop-clause-raised g c high = raised_same c.args.cursor.now c.go_on.new.cursor c.go_on.ensures.same high
+
+pub returns-in-Free-clause-raised : goal.returns-in-Free-clause-raised
+returns-in-Free-clause-raised g c high = raised_same c.args.cursor.now c.go_on-in-Free.new.cursor c.go_on-in-Free.ensures.same high
+
+pub returns-in-Jump-clause-raised : goal.returns-in-Jump-clause-raised
+returns-in-Jump-clause-raised g c high = raised_same c.args.cursor.now c.go_to.new.cursor c.go_to.ensures.same high

@@ -1,10 +1,21 @@
-use Rattle.std.proofs.Common.{vec_len}
+-- The task stays along the run, with as many calls left.
+use Rattle.std.proofs.Common.{◌≡◌, None, vec_len}
 use Rattle.std.specs.Vec.{vec_capacity}
 use Rattle.fip_machine.specs.Tasks.{IsTask}
+use Rattle.fip_machine.specs.Along.{Origin, IsAlong, task_of, stored}
 use Rattle.fip_machine.proofs.stack.TaskStack.run.Given as goal
 
 abbrev pub invariant-loop-left : goal.invariant-loop-left
-invariant-loop-left g l = IsTask l.self-inside.verified.now l.self-inside.bounds l.self-inside.words.items (vec_capacity l.self-inside.words) (vec_len l.self-inside.beside.spare) l.self-inside.cursor l.self-inside.ended
+invariant-loop-left g l =
+    let cells = g.C.Cells.cells in
+    let released = g.C.Cells.released in
+    let pushed = g.C.Cells.pushed in
+    let i = l.self-inside in
+    record {
+      task : IsTask i.verified.now i.bounds i.words.items (vec_capacity i.words) (vec_len i.beside.spare) i.cursor i.ended;
+      going : i.ended ≡ None;
+      along : (o : Origin) → IsAlong o l.fn.self (stored (cells l.fn.cells) (released l.fn.cells) (pushed l.fn.cells)) l.calls → IsAlong o (task_of i.verified.now i.bounds i.words.items i.cursor i.beside) (stored (cells l.cells) (released l.cells) (pushed l.cells)) l.left;
+    }
 
 abbrev pub decreases-loop-left : goal.decreases-loop-left
 decreases-loop-left g l = l.left

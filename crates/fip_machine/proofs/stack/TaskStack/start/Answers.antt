@@ -53,6 +53,7 @@ invariant_of-result c =
       small = c.bounds_of-bounds.ensures.few;
       beside = (let l = c.in_ok-from_elem.ensures.len in omega (arith, l));
       taken = c.in_ok-stack.ensures.taken;
+      high = record { frames = omega arith; words = omega arith };
       over = none-some Went;
     }
 

@@ -1,4 +1,4 @@
-use Rattle.std.proofs.Common.{◌≡◌, ◌≤◌, ◌∙◌, ℕ, List, rules, refl, sym, ap, subst, arith, length, take}
+use Rattle.std.proofs.Common.{◌≡◌, ◌+◌, ◌≤◌, ◌∙◌, ℕ, List, rules, refl, sym, ap, subst, arith, length, take}
 use Rattle.std.specs.Vec.{with_items}
 use Rattle.std.proofs.lemmas.List.{with_items_is}
 use Rattle.code_runs.specs.Codes.{plain}
@@ -6,8 +6,10 @@ use Rattle.code_runs.specs.States.{State}
 use Rattle.code_runs.specs.Steps.{next}
 use Rattle.machine_cells.specs.Small.{store_of}
 use Rattle.machine_rows.specs.View.{state_of}
-use Rattle.machine_rows.specs.Coming.{Comes, Knows}
-use Rattle.fip_machine.specs.Tasks.{Stand, state_with}
+use Rattle.machine_rows.specs.Coming.{Comes, KnowsAt}
+use Rattle.machine_rows.proofs.Highs.{high_raised}
+use Rattle.fip_machine.specs.Tasks.{Stand, IsMeasured, state_with}
+use Rattle.fip_machine.proofs.Measured.{measured_of}
 use Rattle.fip_machine.proofs.Tasked.{room_same}
 use Rattle.machine_rows.specs.Placed.{Waiting}
 use Rattle.machine_rows.proofs.Stacked.{keeps_less, waiting_keeps}
@@ -36,10 +38,29 @@ returns-clause-next g c kinds known going small empty lent =
     let given = take c.advance-stepped.new.beside.given c.advance-stepped.new.beside.results in
     let old = state_of v b lent s ws cursor in
     let mid = c.as_mut_slice.result.now in
-    let knows : Knows v kinds = subst (λ (w : Stand). Knows w.code kinds) (sym c.self.view_is) known in
+    let knows : KnowsAt v kinds cursor.function cursor.at = subst (λ (w : Stand). KnowsAt w.code kinds w.running.function w.running.at) (sym c.self.view_is) known in
     let told = c.advance-stepped.ensures.next kinds knows refl small empty lent in
     let same : state_of v b lent s mid cursor ≡ old = ap (λ xs. state_of v b lent s xs cursor) c.as_mut_slice.ensures.value ∙ room_same v b lent s ws c.make_room.new.words.items cursor c.self.invariant.placed.room c.make_room.ensures.more c.make_room.ensures.keeps in
     let first = subst (λ (st : State). Comes st (next kinds (plain v.code) st) r (state_of v b lent t us after) given) same told in
     let items : (with_items c.make_room.new.words us).items ≡ us = with_items_is c.make_room.new.words us (search rules) in
     let second = subst (λ (xs : List ℕ). Comes old (next kinds (plain v.code) old) r (state_of v b lent t xs after) given) (sym items) first in
     subst (λ (w : Stand). Comes (state_with w lent s) (next kinds (plain w.code.code) (state_with w lent s)) r (state_of v b lent t (with_items c.make_room.new.words us).items after) given) c.self.view_is second
+
+pub returns-in-Some-clause-measured : goal.returns-in-Some-clause-measured
+returns-in-Some-clause-measured g c =
+    let i = c.self.inside in
+    let m = measured_of i.verified.now i.bounds i.words.items i.cursor i.beside c.self.invariant.placed.room c.self.invariant.waiting c.self.invariant.high in
+    subst (λ (t : Stand). IsMeasured t) c.self.view_is (record { frames = m.frames; words = m.words; most_frames = m.most_frames; most_words = m.most_words })
+
+pub returns-clause-measured : goal.returns-clause-measured
+returns-clause-measured g c =
+    let i = c.self.inside in
+    let us = c.advance-stepped.new.words in
+    let after = c.advance-stepped.new.cursor in
+    let all = with_items c.make_room.new.words us in
+    let items : all.items ≡ us = with_items_is c.make_room.new.words us (search rules) in
+    let placed = c.advance-stepped.ensures.placed in
+    let room : after.base + after.registers ≤ length all.items = subst (λ (xs : List ℕ). after.base + after.registers ≤ length xs) (sym items) placed.room in
+    let waiting = subst (λ (xs : List ℕ). Waiting i.verified.now i.bounds xs after.frames after.base) (sym items) c.advance-stepped.ensures.waiting in
+    let m = measured_of i.verified.now i.bounds all.items after c.advance-stepped.new.beside room waiting (high_raised i.cursor after (c.advance-stepped.ensures.raised c.self.invariant.high)) in
+    record { frames = m.frames; words = m.words; most_frames = m.most_frames; most_words = m.most_words }

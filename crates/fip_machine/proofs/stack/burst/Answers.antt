@@ -1,0 +1,84 @@
+-- A turn leads from a moment of the run to the next one, or to its end.
+use Rattle.std.proofs.Common.{◌≡◌, ◌≢◌, ◌+◌, ◌-◌, ◌∙◌, ◌<◌, ◌≤◌, ℕ, rules, refl, sym, subst, arith}
+use Rattle.machine_rows.specs.declared.rows.Stepped.TheVariants as S
+use Rattle.machine_rows.proofs.Highs.{high_raised}
+use Rattle.fip_machine.specs.Along.{Origin, IsAlong, task_of, stored}
+use Rattle.fip_machine.proofs.Bursts.{turned_task, turned_on, turned_in, turned_out}
+use Rattle.fip_machine.proofs.stack.burst.Goals as goal
+
+pub steps-preserved-in-Went : goal.steps-preserved-in-Went
+steps-preserved-in-Went g c =
+    let s = stored (g.C.Cells.cells c.steps.cells) (g.C.Cells.released c.steps.cells) (g.C.Cells.pushed c.steps.cells) in
+    let w = stored (g.C.Cells.cells c.advance.new.cells) (g.C.Cells.released c.advance.new.cells) (g.C.Cells.pushed c.advance.new.cells) in
+    let v = c.args.verified.now in
+    let b = c.args.bounds in
+    let told = c.advance.ensures in
+    let inv = c.steps.invariant in
+    record {
+      placed = told.placed;
+      roomy = c.in-Went.ensures.roomy (λ e. cc);
+      waiting = told.waiting;
+      spare = told.spare ∙ inv.spare;
+      some = inv.some;
+      fewer = inv.fewer;
+      high = high_raised c.steps.here c.advance.new.cursor (told.raised inv.high);
+      along = λ o a. turned_on o v b c.steps.words c.advance.new.words c.steps.here c.advance.new.cursor c.steps.beside c.advance.new.beside s w c.steps.calls c.advance.result c.in-Went.is (turned_task o v b c.steps.words c.advance.new.words c.steps.here c.advance.new.cursor c.steps.beside c.advance.new.beside s w c.steps.calls c.advance.result (inv.along o a) told.placed.room told.waiting inv.high told.raised told.small told.pushed told.more);
+    }
+
+pub steps-preserved : goal.steps-preserved
+steps-preserved g c =
+    let s = stored (g.C.Cells.cells c.steps.cells) (g.C.Cells.released c.steps.cells) (g.C.Cells.pushed c.steps.cells) in
+    let w = stored (g.C.Cells.cells c.advance.new.cells) (g.C.Cells.released c.advance.new.cells) (g.C.Cells.pushed c.advance.new.cells) in
+    let v = c.args.verified.now in
+    let b = c.args.bounds in
+    let told = c.advance.ensures in
+    let inv = c.steps.invariant in
+    record {
+      placed = told.placed;
+      roomy = search rules;
+      waiting = told.waiting;
+      spare = told.spare ∙ inv.spare;
+      some = (let n = c.if-calls-eq0.false in omega (arith, n));
+      fewer = (let f = inv.fewer in omega (arith, f));
+      high = high_raised c.steps.here c.advance.new.cursor (told.raised inv.high);
+      along = λ o a. turned_in o v b c.steps.words c.advance.new.words c.steps.here c.advance.new.cursor c.steps.beside c.advance.new.beside s w c.steps.calls c.advance.result c.in-Entered.is inv.some (turned_task o v b c.steps.words c.advance.new.words c.steps.here c.advance.new.cursor c.steps.beside c.advance.new.beside s w c.steps.calls c.advance.result (inv.along o a) told.placed.room told.waiting inv.high told.raised told.small told.pushed told.more);
+    }
+
+pub returns-then-calls-eq0-clause-along : goal.returns-then-calls-eq0-clause-along
+returns-then-calls-eq0-clause-along g c o a =
+    let s = stored (g.C.Cells.cells c.steps.cells) (g.C.Cells.released c.steps.cells) (g.C.Cells.pushed c.steps.cells) in
+    let w = stored (g.C.Cells.cells c.advance.new.cells) (g.C.Cells.released c.advance.new.cells) (g.C.Cells.pushed c.advance.new.cells) in
+    let v = c.args.verified.now in
+    let b = c.args.bounds in
+    let told = c.advance.ensures in
+    let inv = c.steps.invariant in
+    turned_in o v b c.steps.words c.advance.new.words c.steps.here c.advance.new.cursor c.steps.beside c.advance.new.beside s w c.steps.calls c.advance.result c.in-Entered.is inv.some (turned_task o v b c.steps.words c.advance.new.words c.steps.here c.advance.new.cursor c.steps.beside c.advance.new.beside s w c.steps.calls c.advance.result (inv.along o a) told.placed.room told.waiting inv.high told.raised told.small told.pushed told.more)
+
+pub returns-then-here-stop-clause-along : goal.returns-then-here-stop-clause-along
+returns-then-here-stop-clause-along g c o a =
+    let s = stored (g.C.Cells.cells c.steps.cells) (g.C.Cells.released c.steps.cells) (g.C.Cells.pushed c.steps.cells) in
+    let w = stored (g.C.Cells.cells c.advance.new.cells) (g.C.Cells.released c.advance.new.cells) (g.C.Cells.pushed c.advance.new.cells) in
+    let v = c.args.verified.now in
+    let b = c.args.bounds in
+    let told = c.advance.ensures in
+    let inv = c.steps.invariant in
+    turned_in o v b c.steps.words c.advance.new.words c.steps.here c.advance.new.cursor c.steps.beside c.advance.new.beside s w c.steps.calls c.advance.result c.in-Entered.is inv.some (turned_task o v b c.steps.words c.advance.new.words c.steps.here c.advance.new.cursor c.steps.beside c.advance.new.beside s w c.steps.calls c.advance.result (inv.along o a) told.placed.room told.waiting inv.high told.raised told.small told.pushed told.more)
+
+pub returns-in_default : goal.returns-in_default
+returns-in_default g c =
+    let s = stored (g.C.Cells.cells c.steps.cells) (g.C.Cells.released c.steps.cells) (g.C.Cells.pushed c.steps.cells) in
+    let w = stored (g.C.Cells.cells c.advance.new.cells) (g.C.Cells.released c.advance.new.cells) (g.C.Cells.pushed c.advance.new.cells) in
+    let v = c.args.verified.now in
+    let b = c.args.bounds in
+    let told = c.advance.ensures in
+    let inv = c.steps.invariant in
+    record {
+      placed = told.placed;
+      waiting = told.waiting;
+      spare = told.spare ∙ inv.spare;
+      high = high_raised c.steps.here c.advance.new.cursor (told.raised inv.high);
+      short = search rules;
+      spent = search rules;
+      over = search rules;
+      along = λ o a. turned_out o v b c.steps.words c.advance.new.words c.steps.here c.advance.new.cursor c.steps.beside c.advance.new.beside s w c.steps.calls c.advance.result c.in_default.not-Went c.in_default.not-Entered inv.some (turned_task o v b c.steps.words c.advance.new.words c.steps.here c.advance.new.cursor c.steps.beside c.advance.new.beside s w c.steps.calls c.advance.result (inv.along o a) told.placed.room told.waiting inv.high told.raised told.small told.pushed told.more);
+    }

@@ -1,6 +1,9 @@
 -- The program of an accepted source has what the making of derivations asks, so what is made is a derivation of it.
 use Rattle.std.proofs.Common.{◌≡◌, ◌≤◌, ◌+◌, ℕ, suc, true, List, [], ◌∷◌, length, Some, slice_get, refl, arith}
 use Rattle.fip_trees.specs.Tree.{Instance, Program}
+use Rattle.fip_trees.specs.declared.needs.Need.{Need}
+use Rattle.credit_check.specs.Tallies.{all_needs}
+use Rattle.fip_proof.specs.Ready.{IsReady}
 use Rattle.fip_rules.specs.World.{is_ruled}
 use Rattle.type_check.specs.Typing.{IsFilled}
 use Rattle.static_params.proofs.TypeRows.{there_among}
@@ -58,3 +61,12 @@ derived source p h =
 
 pub lean : (source : List ℕ) (p : Program) → IsAccepted source p → AllLean (made_entries p 0 p.instances)
 lean source p h = program_lean p (are_sized source p h) (unbroken source p h)
+
+pub ready : (source : List ℕ) (p : Program) (needs : List (List Need)) → IsAccepted source p → needs ≡ all_needs p p.instances → IsReady p needs
+ready source p needs h e = record {
+  needs = e;
+  filled = is_filled source p h;
+  numbered = numbered source p h;
+  sized = are_sized source p h;
+  accepted = unbroken source p h;
+}

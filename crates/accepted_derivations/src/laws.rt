@@ -1,5 +1,6 @@
 // The laws on the derivations of accepted programs. Each is the contract of a function that does nothing.
-ghost use Rattle.std.specs.Prelude.{ℕ, List};
+ghost use Rattle.std.specs.Prelude.{◌≡◌, ℕ, List};
+ghost use Rattle.fip_trees.specs.declared.needs.Need.{Need};
 ghost use Rattle.fip_trees.specs.Tree.{Program};
 ghost use Rattle.type_check.specs.Typing.{IsFilled};
 ghost use Rattle.own_agreement.specs.Agreement.{AreSized, IsAccepted as BreaksNoRule};
@@ -7,6 +8,8 @@ ghost use Rattle.proof_check.specs.Accepted.{IsDerivation};
 ghost use Rattle.derivation_making.specs.Made.{made_entries};
 ghost use Rattle.derivation_making.specs.Numbered.{AllNumbered};
 ghost use Rattle.derivation_making.specs.Weakening.{AllLean};
+ghost use Rattle.credit_check.specs.Tallies.{all_needs};
+ghost use Rattle.fip_proof.specs.Ready.{IsReady};
 ghost use Rattle.source_report.specs.Report.{IsAccepted};
 
 /// What the making of derivations asks of a program, an accepted source's has: its slots are filled, its binders are
@@ -19,6 +22,14 @@ pub fn accepted_programs_are_numbered()
     ensures sized { (source : List ℕ) (program : Program) → IsAccepted source program →
         AreSized program program.instances }
     ensures unbroken { (source : List ℕ) (program : Program) → IsAccepted source program → BreaksNoRule program }
+{}
+
+/// The program of an accepted source is what `fip_proof::derive` asks for, with what its expressions need: so the
+/// clauses of `derive` say of an accepted source that its derivation is what is made for it, a derivation of it, and
+/// weakens no more than it must. For who derives a source.
+pub fn accepted_programs_are_ready()
+    ensures ready { (source : List ℕ) (program : Program) (needs : List (List Need)) → IsAccepted source program →
+        needs ≡ all_needs program program.instances → IsReady program needs }
 {}
 
 /// What is made for the program of an accepted source is a derivation of it, and weakens no more than it must. For who

@@ -3,4 +3,6 @@
 
 mod laws;
 
-pub use laws::{accepted_programs_are_numbered, accepted_programs_have_derivations};
+pub use laws::{
+    accepted_programs_are_numbered, accepted_programs_are_ready, accepted_programs_have_derivations,
+};

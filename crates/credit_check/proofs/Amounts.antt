@@ -15,21 +15,21 @@ use Rattle.credit_check.specs.Tallies.{made_from, made_all_from, nodes_from, nod
 abbrev pub Long : List ℕ → Type 0
 Long xs = length xs ≡ 17
 
-none_long : Long no_sizes
+pub none_long : Long no_sizes
 none_long = refl
 
 mutual
-  made_long : (xs : List ℕ) (a : Argument) → Long xs → Long (made_from xs a)
+  pub made_long : (xs : List ℕ) (a : Argument) → Long xs → Long (made_from xs a)
   made_long xs (Variable x n p) h = h
   made_long xs (Literal i p) h = h
   made_long xs (Constructor t d c n p as') h = made_all_long (one_more (count as') xs) as' (one_more_long (count as') xs ∙ h)
 
-  made_all_long : (xs : List ℕ) (as' : Arguments) → Long xs → Long (made_all_from xs as')
+  pub made_all_long : (xs : List ℕ) (as' : Arguments) → Long xs → Long (made_all_from xs as')
   made_all_long xs NoArguments h = h
   made_all_long xs (MoreArguments a as') h = made_all_long (made_from xs a) as' (made_long xs a h)
 
 mutual
-  nodes_long : (xs : List ℕ) (q : Pattern) → Long xs → Long (nodes_from xs q)
+  pub nodes_long : (xs : List ℕ) (q : Pattern) → Long xs → Long (nodes_from xs q)
   nodes_long xs (BinderPattern b) h = h
   nodes_long xs (LiteralPattern i p) h = h
   nodes_long xs (ConstructorPattern t d c n p ps) h = nodes_all_long (one_more (count_patterns ps) xs) ps (one_more_long (count_patterns ps) xs ∙ h)
@@ -42,7 +42,7 @@ pub marked_long : (xs js : List ℕ) → Long xs → Long (marked_from xs js)
 marked_long xs [] h = h
 marked_long xs (j ∷ js) h = marked_long (one_more j xs) js (one_more_long j xs ∙ h)
 
-both_long : (f : ℕ → ℕ → ℕ) (xs ys : List ℕ) → Long xs → Long ys → Long (by_size f xs ys)
+pub both_long : (f : ℕ → ℕ → ℕ) (xs ys : List ℕ) → Long xs → Long ys → Long (by_size f xs ys)
 both_long f xs ys h g = by_size_long f xs ys (h ∙ sym g) ∙ h
 
 asked_long : (xs : List ℕ) (o : Option Instance) → Long xs → Long (asked_from xs o)
@@ -54,7 +54,7 @@ given_long true q = nodes_long no_sizes q none_long
 given_long false q = none_long
 
 mutual
-  sizes_long : (p : Program) (e : Expression) → Long (sizes p e)
+  pub sizes_long : (p : Program) (e : Expression) → Long (sizes p e)
   sizes_long p (Give a) = made_long no_sizes a none_long
   sizes_long p (Tuple q as') = made_all_long no_sizes as' none_long
   sizes_long p (Operation o q l r) = made_long (made_from no_sizes l) r (made_long no_sizes l none_long)
@@ -62,7 +62,7 @@ mutual
   sizes_long p (Match d t q a r body cs) = clauses_long p (takes p d t) (minus (block_sizes p no_sizes body) (given_sizes (takes p d t) r)) cs (both_long (λ m n. m - n) (block_sizes p no_sizes body) (given_sizes (takes p d t) r) (block_long p no_sizes body none_long) (given_long (takes p d t) r))
   sizes_long p (Nested b) = block_long p no_sizes b none_long
 
-  block_long : (p : Program) (xs : List ℕ) (b : Block) → Long xs → Long (block_sizes p xs b)
+  pub block_long : (p : Program) (xs : List ℕ) (b : Block) → Long xs → Long (block_sizes p xs b)
   block_long p xs (Last e) h = both_long (λ m n. m + n) xs (sizes p e) h (sizes_long p e)
   block_long p xs (Let bs e rest) h = block_long p (plus xs (sizes p e)) rest (both_long (λ m n. m + n) xs (sizes p e) h (sizes_long p e))
 
@@ -76,17 +76,17 @@ sum_up : (x o m n : ℕ) → x ≡ n + o → x + m ≡ n + (o + m)
 sum_up x o m n h = omega arith
 
 mutual
-  made_at : (k : ℕ) → 0 < k → k < 17 → (xs : List ℕ) (a : Argument) → Long xs → number (made_from xs a) k ≡ number xs k + made k a
+  pub made_at : (k : ℕ) → 0 < k → k < 17 → (xs : List ℕ) (a : Argument) → Long xs → number (made_from xs a) k ≡ number xs k + made k a
   made_at k l u xs (Variable x n p) h = omega arith
   made_at k l u xs (Literal i p) h = omega arith
   made_at k l u xs (Constructor t d c n p as') h = made_all_at k l u (one_more (count as') xs) as' (one_more_long (count as') xs ∙ h) ∙ sum_up (number (one_more (count as') xs) k) (one_if (count as' == k)) (made_all k as') (number xs k) (one_more_at (count as') k xs l u h)
 
-  made_all_at : (k : ℕ) → 0 < k → k < 17 → (xs : List ℕ) (as' : Arguments) → Long xs → number (made_all_from xs as') k ≡ number xs k + made_all k as'
+  pub made_all_at : (k : ℕ) → 0 < k → k < 17 → (xs : List ℕ) (as' : Arguments) → Long xs → number (made_all_from xs as') k ≡ number xs k + made_all k as'
   made_all_at k l u xs NoArguments h = omega arith
   made_all_at k l u xs (MoreArguments a as') h = made_all_at k l u (made_from xs a) as' (made_long xs a h) ∙ sum_up (number (made_from xs a) k) (made k a) (made_all k as') (number xs k) (made_at k l u xs a h)
 
 mutual
-  nodes_at : (k : ℕ) → 0 < k → k < 17 → (xs : List ℕ) (q : Pattern) → Long xs → number (nodes_from xs q) k ≡ number xs k + nodes k q
+  pub nodes_at : (k : ℕ) → 0 < k → k < 17 → (xs : List ℕ) (q : Pattern) → Long xs → number (nodes_from xs q) k ≡ number xs k + nodes k q
   nodes_at k l u xs (BinderPattern b) h = omega arith
   nodes_at k l u xs (LiteralPattern i p) h = omega arith
   nodes_at k l u xs (ConstructorPattern t d c n p ps) h = nodes_all_at k l u (one_more (count_patterns ps) xs) ps (one_more_long (count_patterns ps) xs ∙ h) ∙ sum_up (number (one_more (count_patterns ps) xs) k) (one_if (count_patterns ps == k)) (nodes_all k ps) (number xs k) (one_more_at (count_patterns ps) k xs l u h)
@@ -99,16 +99,16 @@ marked_on : (k : ℕ) → 0 < k → k < 17 → (xs js : List ℕ) → Long xs �
 marked_on k l u xs [] h = omega arith
 marked_on k l u xs (j ∷ js) h = marked_on k l u (one_more j xs) js (one_more_long j xs ∙ h) ∙ sum_up (number (one_more j xs) k) (one_if (j == k)) (marked k js) (number xs k) (one_more_at j k xs l u h)
 
-none_at : (k : ℕ) → number no_sizes k ≡ 0
+pub none_at : (k : ℕ) → number no_sizes k ≡ 0
 none_at k = zeros_at 17 k
 
-from_none : (x m n : ℕ) → x ≡ m + n → m ≡ 0 → x ≡ n
+pub from_none : (x m n : ℕ) → x ≡ m + n → m ≡ 0 → x ≡ n
 from_none x m n h g = omega arith
 
 pub marked_at : (k : ℕ) → 0 < k → k < 17 → (js : List ℕ) → number (marked_from no_sizes js) k ≡ marked k js
 marked_at k l u js = from_none (number (marked_from no_sizes js) k) (number no_sizes k) (marked k js) (marked_on k l u no_sizes js none_long) (none_at k)
 
-both_at : (f : ℕ → ℕ → ℕ) (k : ℕ) (xs ys : List ℕ) → k < 17 → Long xs → Long ys → number (by_size f xs ys) k ≡ f (number xs k) (number ys k)
+pub both_at : (f : ℕ → ℕ → ℕ) (k : ℕ) (xs ys : List ℕ) → k < 17 → Long xs → Long ys → number (by_size f xs ys) k ≡ f (number xs k) (number ys k)
 both_at f k xs ys u h g = by_size_at f k xs ys (omega arith) (h ∙ sym g)
 
 asked_at : (k : ℕ) → 0 < k → k < 17 → (xs : List ℕ) (o : Option Instance) → Long xs → number (asked_from xs o) k ≡ number xs k + asked k o
@@ -129,7 +129,7 @@ greater_more : (x y z : ℕ) → greater (greater x y) z ≡ greater x (greater 
 greater_more x y z = grind (arith, nat_tests)
 
 mutual
-  sizes_at : (p : Program) (k : ℕ) → 0 < k → k < 17 → (e : Expression) → number (sizes p e) k ≡ need p k e
+  pub sizes_at : (p : Program) (k : ℕ) → 0 < k → k < 17 → (e : Expression) → number (sizes p e) k ≡ need p k e
   sizes_at p k l u (Give a) = from_none (number (made_from no_sizes a) k) (number no_sizes k) (made k a) (made_at k l u no_sizes a none_long) (none_at k)
   sizes_at p k l u (Tuple q as') = from_none (number (made_all_from no_sizes as') k) (number no_sizes k) (made_all k as') (made_all_at k l u no_sizes as' none_long) (none_at k)
   sizes_at p k l u (Operation o q a b) =

@@ -35,6 +35,8 @@ use std::alloc::Global;
 /// NoMemory: no memory is left, or a number of credits has no room in 32 bits.
 pub fn check_credits(alloc: Global, typed: &Typed) -> Result<Needs, PhaseError>
     ensures needs { IfOk result (λ n. Holds (V.program typed.now.program) n) }
+    ensures exact { IfOk result (λ n. n ≡
+        L.all_needs (V.program typed.now.program) (V.program typed.now.program).instances) }
     ensures credited { IfOk result (λ _. (v : Violation) → Violates (V.program typed.now.program) v → ⊥) }
     ensures least { IfErr result (λ e. Says (V.program typed.now.program) e) }
 {

@@ -1,7 +1,9 @@
 // Texts, and the derivations of small programs.
 use crate::{AuditError, audit, check, derivation_text, derive, write_derivation};
+use credit_check::check_credits;
 use fip_base::plain::{FunKind, Name, NoMemory, Param, Params, Place, Types};
 use fip_base::table::{Constructor, DataType, TypeTable};
+use fip_trees::needs::Needs;
 use fip_trees::program::{Argument, Binder, Binding, Block, Expression, Instance, Program, Typed};
 use std::alloc::Global;
 use std::test::Fail;
@@ -113,6 +115,14 @@ fn program(alloc: Global, instance: Instance) -> Result<Typed, NoMemory> {
     })
 }
 
+// What its expressions need. The programs here break no rule on credits.
+fn needs_of(alloc: Global, typed: &Typed) -> Result<Needs, NoMemory> {
+    match check_credits(alloc, typed) {
+        Ok(needs) => Ok(needs),
+        Err(_) => Err(NoMemory),
+    }
+}
+
 // `let z = (let y = x; y); z`, whose inner let has the lesser number in the core form.
 fn nested_lets(alloc: Global) -> Result<Typed, NoMemory> {
     let inner = let_in(alloc, 1, Expression::Give(variable(alloc, 0)?))?;
@@ -135,7 +145,8 @@ fn one_too_many(alloc: Global) -> Result<Typed, NoMemory> {
 fn a_let_comes_before_the_lets_that_it_binds(rt: HostRuntime) -> Result<(), Fail> {
     let alloc = rt.alloc();
     let typed = nested_lets(alloc)?;
-    let derivation = derive(alloc, &typed)?;
+    let needs = needs_of(alloc, &typed)?;
+    let derivation = derive(alloc, &typed, &needs)?;
     let text = write_derivation(alloc, &derivation)?;
     let wanted = b"0 LET[0|](LET[0|](VAR[0|],VAR[2|]),VAR[1|])\n".as_slice();
     assert_eq!(rt; text.as_slice(), wanted);
@@ -155,9 +166,10 @@ fn what_is_left_over_is_weakened_away(rt: HostRuntime) -> Result<(), Fail> {
     let alloc = rt.alloc();
     let typed = one_too_many(alloc)?;
     let wanted = b"0 WEAKEN[0|1:2](REUSE[0|1:1](VAR[0|]))\n".as_slice();
-    let text = derivation_text(alloc, &typed, 39)?;
+    let needs = needs_of(alloc, &typed)?;
+    let text = derivation_text(alloc, &typed, &needs, 39)?;
     assert_eq!(rt; text.as_slice(), wanted);
-    let is_long = derivation_text(alloc, &typed, 38).is_err();
+    let is_long = derivation_text(alloc, &typed, &needs, 38).is_err();
     assert!(rt; is_long);
     let twice = b"0 WEAKEN[0|1:2](WEAKEN[0|1:1](REUSE[0|1:1](VAR[0|])))\n".as_slice();
     assert_eq!(rt; audit(alloc, &typed, twice), Ok(()));

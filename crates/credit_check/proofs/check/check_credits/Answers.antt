@@ -13,3 +13,6 @@ returns-in-None-clause-credited c = accepted (program c.args.typed.now.program) 
 
 pub returns-in-Some-clause-least : goal.returns-in-Some-clause-least
 returns-in-Some-clause-least c = refused (program c.args.typed.now.program) c.in-Ok.checked.least c.in-Some.refusal c.in-Ok.ensures.noted (sym c.into_refusal.ensures.least ∙ c.in-Some.is)
+
+pub returns-in-None-clause-exact : goal.returns-in-None-clause-exact
+returns-in-None-clause-exact c = c.new.ensures.same ∙ c.in-Ok.ensures.needs

@@ -1,0 +1,5 @@
+pub mod Growing
+pub mod Whole
+pub mod Sorting
+pub mod Steps
+pub mod Rows

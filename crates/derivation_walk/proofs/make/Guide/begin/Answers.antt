@@ -1,0 +1,20 @@
+use Rattle.std.proofs.Common.{ℕ, ap, ◌∙◌}
+use Rattle.std.proofs.lemmas.Result.{IfOk-weaker}
+use Rattle.derivation_trees.specs.Building.{built}
+use Rattle.derivation_walk.specs.Growing.{Awaits}
+use Rattle.derivation_walk.specs.Guides.{guided, holding, asking}
+use Rattle.derivation_walk.specs.Walked.{those, node, begun}
+use Rattle.derivation_walk.proofs.Steps.{begun_by}
+use Rattle.derivation_walk.proofs.make.Guide.begin.Goals as goal
+
+pub returns-clause-awaits : goal.returns-clause-awaits
+returns-clause-awaits c =
+    let g = guided c.args.self.now in
+    let o = holding c.args.there in
+    let b0 = built c.args.walk.now.nodes in
+    let b1 = built c.enter.new.walk.nodes in
+    let b2 = built c.open_asked.new.walk.nodes in
+    let q = asking c.in_ok-asked.asked in
+    let xs = c.in_ok-variables.variables.items in
+    IfOk-weaker c.open_asked.result (λ (n : ℕ). Awaits n b1 b2 (node c.args.rule o xs q.need)) (λ (n : ℕ). Awaits n b0 b2 (begun g c.args.walk.now.next c.args.rule o))
+    (λ n h. begun_by g n c.args.walk.now.next b0 b1 b2 c.args.rule o q xs (ap built c.in_ok-asked.ensures.same) c.in_ok-asked.ensures.asked (c.in_ok-variables.ensures ∙ ap (those g q) c.deref.ensures.value) h) c.open_asked.ensures.awaits

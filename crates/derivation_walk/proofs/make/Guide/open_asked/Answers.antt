@@ -1,0 +1,29 @@
+use Rattle.std.proofs.Common.{◌≡◌, ◌∙◌, sym, length, true, false, arith}
+use Rattle.std.specs.Prelude.{◌==◌, ◌&&◌}
+use Rattle.derivation_trees.specs.Building.{built}
+use Rattle.derivation_walk.specs.Guides.{holding}
+use Rattle.derivation_walk.specs.Walked.{same_from}
+use Rattle.std.proofs.lemmas.Bool.{and_from, and_left, and_right, eq-eqb, ne_eqb}
+use Rattle.derivation_walk.proofs.Growing.{open_one, open_two}
+use Rattle.derivation_walk.proofs.make.Guide.open_asked.Goals.{else-len-via-then-len+else-are_same, else-len-via-else-len}
+use Rattle.derivation_walk.proofs.make.Guide.open_asked.Goals as goal
+
+pub returns-then-are_same-clause-awaits : goal.returns-then-are_same-clause-awaits
+returns-then-are_same-clause-awaits c =
+    let o = holding c.args.there in
+    let n = length c.args.variables.items in
+    let m = length c.args.there.variables.items in
+    let k : n ≡ m = sym c.args.variables.ok.0 ∙ sym c.len.ensures ∙ c.if-len.true ∙ c.len-2.ensures ∙ c.args.there.variables.ok.0 in
+    open_one (built c.args.walk.now.nodes) (built c.open.new.walk.nodes) c.args.rule o c.args.variables.items c.args.need.now c.in_ok-open.ensures.opened
+    (and_from (n == m) (same_from o.credits c.args.need.now 1 16) (eq-eqb n m k) (sym c.are_same.ensures.same ∙ c.if-are_same.true))
+
+pub returns-clause-awaits : goal.returns-clause-awaits
+returns-clause-awaits c =
+    let o = holding c.args.there in
+    let n = length c.args.variables.items in
+    let m = length c.args.there.variables.items in
+    let h : (n == m) && same_from o.credits c.args.need.now 1 16 ≡ false = elim c.else-len.branch [
+      | else-len-via-then-len+else-are_same w ↦ and_right (n == m) (same_from o.credits c.args.need.now 1 16) (sym w.are_same.ensures.same ∙ w.if-are_same.false)
+      | else-len-via-else-len w ↦ and_left (n == m) (same_from o.credits c.args.need.now 1 16) (ne_eqb n m (λ e. w.if-len.false (c.len.ensures ∙ c.args.variables.ok.0 ∙ e ∙ sym c.args.there.variables.ok.0 ∙ sym c.len-2.ensures)))
+    ] in
+    open_two (built c.args.walk.now.nodes) (built c.open-2.new.walk.nodes) (built c.open-3.new.walk.nodes) c.args.rule o c.args.variables.items c.args.need.now c.in_ok-open-2.ensures.opened c.in_ok-open-3.ensures.opened h

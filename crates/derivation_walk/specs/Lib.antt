@@ -1,0 +1,4 @@
+pub mod Growing
+pub mod Walked
+pub mod Guides
+pub mod Walks

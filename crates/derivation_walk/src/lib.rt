@@ -1,0 +1,9 @@
+// Derivations of programs, made in one walk.
+#![tactic(auto)]
+
+mod credits;
+mod error;
+mod make;
+
+pub use error::LineError;
+pub use make::{derive, line_of};

@@ -1,0 +1,17 @@
+-- What a derivation is made for: a typed program whose binders are numbered in the order of the text and which breaks
+-- none of the rules on ownership (E50 to E55) and credits (E56 to E58, E62), with what its expressions need. So it is
+-- with each program of an accepted source.
+use Rattle.std.specs.Prelude.{◌≡◌, List}
+use Rattle.fip_trees.specs.declared.needs.Need.{Need}
+use Rattle.fip_trees.specs.Tree.{Program}
+use Rattle.type_check.specs.Typing.{IsFilled}
+use Rattle.credit_check.specs.Tallies.{all_needs}
+use Rattle.own_agreement.specs.Agreement.{AreSized, IsAccepted}
+use Rattle.derivation_making.specs.Numbered.{AllNumbered}
+
+pub record IsReady (p : Program) (held : List (List Need)) : Type 0 where
+  pub needs : held ≡ all_needs p p.instances
+  pub filled : IsFilled p
+  pub numbered : AllNumbered p p.instances
+  pub sized : AreSized p p.instances
+  pub accepted : IsAccepted p

@@ -1,0 +1,4 @@
+pub mod Rows
+pub mod Searching
+pub mod Rising
+pub mod Steps

@@ -15,7 +15,7 @@ ghost use Rattle.cell_store.specs.Marks.{is_marked};
 
 use crate::loader::CellError;
 use crate::marks::{has_mark, mark, reach};
-use crate::places::{Places, count_of, put, reserve, take};
+use crate::places::{Places, count_of, has_places, put, reserve, take};
 use fip_language::limits::MOST_FIELDS;
 use std::alloc::{AllocError, Global};
 use std::marker::Model;
@@ -62,28 +62,101 @@ fn write_words(words: &mut Vec<u64>, start: usize, new: &[u64])
     }
 }
 
-// Puts the words of a cell behind the others, for which there is memory. The usual sizes are told apart, so that their
-// words are moved at once.
+// Puts the words of a cell behind the others.
+fn push_all(words: &mut Vec<u64>, header: u64, fields: &[u64]) -> Result<(), AllocError>
+    requires { length fields.now ≤ MOST_FIELDS }
+    ensures items { OnOk result (words.new.items ≡ words.old.items ++ header ∷ fields.now) }
+    ensures same { OnErr result (words.new.items ≡ words.old.items) }
+{
+    words.reserve(fields.len() + 1)?;
+    words.push(header).unwrap();
+    words.extend_from_slice(fields).unwrap();
+    Ok(())
+}
+
+// The same; the usual sizes are told apart, so that their words are moved at once.
 #[inline(always)]
-fn push_words(words: &mut Vec<u64>, header: u64, fields: &[u64])
-    requires { length words.old.items + (length fields.now + 1) ≤ vec_capacity words.old }
-    ensures { words.new.items ≡ words.old.items ++ header ∷ fields.now }
+fn push_words(words: &mut Vec<u64>, header: u64, fields: &[u64]) -> Result<(), AllocError>
+    requires { length fields.now ≤ MOST_FIELDS }
+    ensures items { OnOk result (words.new.items ≡ words.old.items ++ header ∷ fields.now) }
+    ensures same { OnErr result (words.new.items ≡ words.old.items) }
 {
     match fields {
-        [a] => words.extend_from_slice(&[header, *a]).unwrap(),
-        [a, b] => words.extend_from_slice(&[header, *a, *b]).unwrap(),
-        [a, b, c] => words.extend_from_slice(&[header, *a, *b, *c]).unwrap(),
-        [a, b, c, d] => words.extend_from_slice(&[header, *a, *b, *c, *d]).unwrap(),
-        _ => {
-            words.push(header).unwrap();
-            words.extend_from_slice(fields).unwrap();
-        }
+        [a] => words.extend_from_slice(&[header, *a]),
+        [a, b] => words.extend_from_slice(&[header, *a, *b]),
+        [a, b, c] => words.extend_from_slice(&[header, *a, *b, *c]),
+        [a, b, c, d] => words.extend_from_slice(&[header, *a, *b, *c, *d]),
+        _ => push_all(words, header, fields),
     }
 }
 
-// Takes the memory that a further cell needs beside its words: bits up to a number of places, room to push as many
-// words as there will be cells, and room for places of released cells of its size.
+// Whether the memory that a further cell needs beside its words is there.
+#[inline(always)]
+fn has_room(
+    marks: &[u64],
+    pushed: &Vec<u64>,
+    free: &[Places],
+    places: usize,
+    cells: usize,
+    size: usize,
+    more: usize,
+) -> bool
+    ensures marks { IsTrue result → places ≤ 64 * length marks.now }
+    ensures pushed { IsTrue result → cells ≤ vec_capacity pushed.now }
+    ensures free { IsTrue result → length (stack_at free.now size).places + more ≤ (stack_at free.now size).room }
+{
+    if marks.len() <= places / 64 {
+        return false;
+    }
+    if pushed.capacity() < cells {
+        return false;
+    }
+    has_places(free, size, more)
+}
+
+// Takes the memory that a further cell needs beside its words, where it is not there: bits up to a number of places,
+// room to push as many words as there will be cells, and room for places of released cells of its size.
+#[inline(always)]
 fn take_room(
+    alloc: Global,
+    marks: &mut Vec<u64>,
+    pushed: &mut Vec<u64>,
+    free: &mut Vec<Places>,
+    places: usize,
+    cells: usize,
+    size: usize,
+    more: usize,
+) -> Result<(), AllocError>
+    requires near { places ≤ 64 * vec_len marks.old + 64 }
+    requires small { size < 64 }
+    ensures marks { (q : ℕ) → is_marked marks.new.items q ≡ is_marked marks.old.items q }
+    ensures marks_more { length marks.old.items ≤ length marks.new.items }
+    ensures marks_wide { OnOk result (places ≤ 64 * length marks.new.items) }
+    ensures pushed { pushed.new.items ≡ pushed.old.items }
+    ensures pushed_room { vec_capacity pushed.old ≤ vec_capacity pushed.new }
+    ensures pushed_more { OnOk result (cells ≤ vec_capacity pushed.new) }
+    ensures free { KeepsPlaces free.old.items free.new.items }
+    ensures free_more { OnOk result (length (stack_at free.new.items size).places + more ≤ (stack_at free.new.items
+        size).room) }
+{
+    if has_room(
+        marks.as_slice(),
+        pushed,
+        free.as_slice(),
+        places,
+        cells,
+        size,
+        more,
+    ) {
+        return Ok(());
+    }
+    take_more(alloc, marks, pushed, free, places, cells, size, more)
+}
+
+// The same, where some of it is missing.
+#[cold]
+#[inline(never)]
+fn take_more(
     alloc: Global,
     marks: &mut Vec<u64>,
     pushed: &mut Vec<u64>,
@@ -364,8 +437,7 @@ impl Flat {
             size,
             self.counts[size] + 1,
         )?;
-        self.words.reserve(size + 1)?;
-        push_words(&mut self.words, 64 * tag as u64 + 2 * size as u64, fields);
+        push_words(&mut self.words, 64 * tag as u64 + 2 * size as u64, fields)?;
         mark(&mut self.marks, place);
         self.counts[size] += 1;
         self.made += 1;

@@ -1,5 +1,6 @@
 // Stacks of the places of released cells, one for each size.
-ghost use Rattle.std.specs.Prelude.{◌≡◌, ◌≢◌, ℕ, ◌+◌, ◌<◌, ◌≤◌, List, [], ◌∷◌, ◌++◌, length, OnOk, IfNone, MatchOption};
+ghost use Rattle.std.specs.Prelude.{◌≡◌, ◌≢◌, ℕ, ◌+◌, ◌<◌, ◌≤◌, List, [], ◌∷◌, ◌++◌, length, OnOk, IfNone};
+ghost use Rattle.std.specs.Prelude.{IsTrue, MatchOption};
 ghost use Rattle.std.specs.Vec.{vec_capacity};
 ghost use Rattle.cell_store.specs.Free.{Stack, KeepsPlaces, stack_at};
 
@@ -40,6 +41,14 @@ impl Places {
         ensures more { OnOk result (length self.new.places + more ≤ self.new.room) }
     {
         self.places.reserve(more)
+    }
+
+    /// Whether there is memory for so many more places.
+    #[inline(always)]
+    pub fn has_room(&self, more: usize) -> bool
+        ensures { IsTrue result → length self.now.places + more ≤ self.now.room }
+    {
+        more <= self.places.capacity() - self.places.len()
     }
 
     pub fn push(&mut self, place: u32)
@@ -94,6 +103,17 @@ pub fn take(stacks: &mut Vec<Places>, size: usize) -> Option<u32>
         stack.pop()
     } else {
         None
+    }
+}
+
+/// Whether there is memory for so many more places of a size.
+#[inline(always)]
+pub fn has_places(stacks: &[Places], size: usize, more: usize) -> bool
+    ensures { IsTrue result → length (stack_at stacks.now size).places + more ≤ (stack_at stacks.now size).room }
+{
+    match stacks.get(size) {
+        Some(stack) => stack.has_room(more),
+        None => false,
     }
 }
 

@@ -1,5 +1,5 @@
 -- A step of the builder, from what the reader read and what was put down.
-use Rattle.std.proofs.Common.{◌≡◌, ℕ, List, [], ◌∷◌, ◌++◌, Option, Some, None, refl, sym, ◌∙◌, subst}
+use Rattle.std.proofs.Common.{◌≡◌, ◌≤◌, ℕ, List, [], ◌∷◌, ◌++◌, length, Option, Some, None, refl, sym, ◌∙◌, subst}
 use Rattle.std.specs.Prelude.{Bool, true, false, Result, Ok, Err, OnOk, OnErr, IfOk, MatchOption}
 use Rattle.fip_language.specs.Table.{Table}
 use Rattle.cell_store.specs.Made.{Loading}
@@ -10,10 +10,10 @@ use Rattle.value_text.specs.declared.build.Stopped.{Stopped}
 use Rattle.value_text.specs.declared.build.Stopped.TheVariants as S
 use Rattle.fip_language.specs.SoundTable.{IsSoundTable}
 use Rattle.fip_language.specs.Values.{Values}
-use Rattle.value_text.proofs.Built.{building_room, is_read}
+use Rattle.value_text.proofs.Built.{building_room, is_read, building_on, building_ends, reading_goes, reading_ends}
 use Rattle.value_text.specs.declared.read.Event.TheVariants as E
 use Rattle.value_text.specs.Reading.{Outline, Spot, outline_at, Stepped, IsKnown, IsNarrow, IsReading, node_event, field_event, line_event}
-use Rattle.value_text.specs.Building.{Puts, IsPut, IsEvent, Advanced, IsRead, IsBuilding, Built, stopped_by, then_on}
+use Rattle.value_text.specs.Building.{Puts, IsPut, IsEvent, Advanced, IsRead, IsBuilding, IsBuilt, Built, IsGoing, HasGone, stopped_by, then_on}
 
 pub word_put : (e : Event) (ws ws' : List ℕ) (l : Loading) (w : ℕ) (r : Result (Unit {0}) Stopped) → (ws' ≡ ws ++ w ∷ [] → Puts e ws l ws' l) → OnOk r (ws' ≡ ws ++ w ∷ []) → OnErr r (r ≡ Err S.NoMemory) → IsPut e ws l ws' l r
 word_put e ws ws' l w (Ok u) f a b = f a
@@ -53,17 +53,37 @@ module _ (tb : Table) (bytes : List ℕ) (o : Outline) (at : ℕ) (o' : Outline)
   refused_advances (BadValue k) h = h
   refused_advances NoMemory h = tt
 
-  pub went_on : (more : Bool) → more ≡ true → Advanced tb bytes o at o' at' ws l ws' l' (Ok more) → (e : Event) × IsEvent tb bytes o at o' at' e × Puts e ws l ws' l'
-  went_on true q a = a
-  went_on false q a = cc
-
-  pub has_ended : (more : Bool) → more ≡ false → Advanced tb bytes o at o' at' ws l ws' l' (Ok more) → ((s : Spot) → o ≡ outline_at s → Stepped tb bytes s at (Ok None) o' at') × (ws' ≡ ws) × (l' ≡ l)
-  has_ended true q a = cc
-  has_ended false q a = a
-
-  pub has_stopped : (types : List ℕ) (first : Loading) (e : Stopped) → IsSoundTable tb → (s : Spot) × IsReading tb types bytes o at s → ((want : ℕ → ℕ) (vs : Values) → IsRead tb types bytes want first vs → IsBuilding tb types bytes want first l o at ws) → Advanced tb bytes o at o' at' ws l ws' l' (Err e) → Built tb types bytes first l' (Err e)
+  has_stopped : (types : List ℕ) (first : Loading) (e : Stopped) → IsSoundTable tb → (s : Spot) × IsReading tb types bytes o at s → ((want : ℕ → ℕ) (vs : Values) → IsRead tb types bytes want first vs → IsBuilding tb types bytes want first l o at ws) → Advanced tb bytes o at o' at' ws l ws' l' (Err e) → Built tb types bytes first l' (Err e)
   has_stopped types first (S.BadValue k) sound r b a = sym (r.1).reads ∙ a r.0 (r.1).outline
   has_stopped types first S.Full sound r b a = λ want vs room.
       let read = is_read tb types bytes want first vs room in
       a.2 (building_room tb sound types bytes want first l o o' at at' ws vs (b want vs read) read a.0 (a.1).steps (a.1).known (a.1).narrow room.fits)
   has_stopped types first S.NoMemory sound r b a = tt
+
+  -- where the step leads
+  pub gone_on : (types : List ℕ) (first : Loading) (r : Result Bool Stopped) → IsSoundTable tb → (r ≡ Ok true → at' ≤ length bytes) → IsGoing tb types bytes first o at ws l → Advanced tb bytes o at o' at' ws l ws' l' r → HasGone tb types bytes first o' at' ws' l' r
+  gone_on types first (Ok true) sound within g a =
+      let next = reading_goes tb types bytes o o' at at' a.0 (g.spot, g.reading) (a.1).steps (a.1).known (within refl) in
+      record {
+        spot = next.0;
+        reading = next.1;
+        building = λ want vs read. building_on tb sound types bytes want first l o o' at at' ws vs (g.building want vs read) read a.0 (a.1).steps (a.1).known (a.1).narrow l' ws' (within refl) a.2;
+      }
+  gone_on types first (Ok false) sound within g a =
+      let e = reading_ends tb types bytes o o' at at' (g.spot, g.reading) a.0 in (
+        e.0,
+        e.1,
+        λ want read.
+            subst (λ (l : Loading). IsBuilt want first l e.0 ws') (sym a.2) (subst (IsBuilt want first l e.0) (sym a.1)
+            (building_ends tb sound types bytes want first l o o' at at' ws e.0 (g.building want e.0 read) read a.0)),
+      )
+  gone_on types first (Err e) sound within g a = has_stopped types first e sound (g.spot, g.reading) g.building a
+
+module _ (tb : Table) (types bytes : List ℕ) (first : Loading) (o : Outline) (at : ℕ) (ws : List ℕ) (l : Loading) where
+  pub goes_on : (more : Bool) → more ≡ true → HasGone tb types bytes first o at ws l (Ok more) → IsGoing tb types bytes first o at ws l
+  goes_on true q h = h
+  goes_on false q h = cc
+
+  pub is_over : (more : Bool) → more ≡ false → HasGone tb types bytes first o at ws l (Ok more) → HasGone tb types bytes first o at ws l (Ok false)
+  is_over true q h = cc
+  is_over false q h = h

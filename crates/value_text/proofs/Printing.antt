@@ -1,5 +1,5 @@
 -- What the printer does, task by task.
-use Rattle.std.proofs.Common.{◌≡◌, ◌≢◌, ℕ, zero, suc, ◌+◌, ◌-◌, ◌*◌, ◌<◌, ◌≤◌, ◌/◌, ◌%◌, List, [], ◌∷◌, ◌++◌, length, take, drop, get_or, Option, Some, None, refl, sym, ap, ◌∙◌, subst, append_assoc, arith, length-drop}
+use Rattle.std.proofs.Common.{◌≡◌, ◌≢◌, ℕ, zero, suc, ◌+◌, ◌-◌, ◌*◌, ◌<◌, ◌≤◌, ◌/◌, ◌%◌, List, [], ◌∷◌, ◌++◌, length, take, drop, get_or, Option, Some, None, refl, sym, ap, ap₂, ◌∙◌, subst, append_assoc, arith, length-drop}
 use Rattle.std.specs.Prelude.{slice_set, ◌==◌, Bool, false, ℤ, pos, negsuc, slice_get, FitsSigned}
 use Rattle.std.specs.Int.{w64}
 use Rattle.std.specs.Fmt.{signed_decimal}
@@ -54,6 +54,18 @@ set_first (u ∷ v ∷ rs) (suc n) r l = ap (λ ts. ts ++ row_tasks u []) (set_f
 pub no_fields : (ks : List ℕ) (p : ℕ) → length ks ≡ 0 → fields_of ks p ≡ Close
 no_fields [] p z = refl
 no_fields (k ∷ ks) p z = absurd (omega (arith, z))
+
+pub first_task : (t u : Task) (ts us : List Task) → t ∷ ts ≡ u ∷ us → t ≡ u
+first_task t u ts us e = cc
+
+-- a row that keeps its place while its fields become fewer
+pub same_row : (ks js rest : List ℕ) (p q : ℕ) (ts us : List Task) → 0 < length ks → fields_of ks p ∷ ts ≡ fields_of js q ∷ us → fields_of rest q ∷ us ≡ fields_of rest p ∷ ts
+same_row [] js rest p q ts us l e = absurd (omega (arith, l))
+same_row (k ∷ ks) [] rest p q ts us l e = cc
+same_row (k ∷ ks) (j ∷ js) rest p q ts us l e =
+    let place : q ≡ p = cc in
+    let more : us ≡ ts = cc in
+    ap₂ (λ (q : ℕ) (us : List Task). fields_of rest q ∷ us) place more
 
 -- a row of which only the ) is left, and one more behind it
 pub closed_row : (rs : List Row) (n : ℕ) (r : Row) → suc n ≡ length rs → r ≡ get_or rs n r → length r.types.now ≡ 0 → last_first rs ≡ closes (suc r.behind) (last_first (take n rs))

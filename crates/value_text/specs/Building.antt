@@ -119,6 +119,14 @@ pub record IsRead (tb : Table) (types bytes : List ℕ) (want : ℕ → ℕ) (fi
   pub wanted : (k : ℕ) → cells_of_all k vs ≤ want k
   pub flags : length first.released ≡ length first.cells
 
+-- what is read so far, and what is built of it since the first store
+pub record IsGoing (tb : Table) (types bytes : List ℕ) (first : Loading) (o : Outline) (at : ℕ) (ws : List ℕ)
+    (now : Loading) : Type 0 where
+  pub spot : Spot
+  pub reading : IsReading tb types bytes o at spot
+  pub building : (want : ℕ → ℕ) (vs : Values) → IsRead tb types bytes want first vs →
+      IsBuilding tb types bytes want first now o at ws
+
 -- there is room for all that is wanted, of which the values are a part
 pub record HasRoom (tb : Table) (types bytes : List ℕ) (want : ℕ → ℕ) (first : Loading) (vs : Values) : Type 0 where
   pub reads : runs tb bytes (start types) 0 ≡ Accepted vs
@@ -134,3 +142,10 @@ Built tb types bytes first now (Err (S.BadValue k)) = runs tb bytes (start types
 Built tb types bytes first now (Err S.Full) = (want : ℕ → ℕ) → (vs : Values) →
     HasRoom tb types bytes want first vs → ⊥
 Built tb types bytes first now (Err S.NoMemory) = Unit {0}
+
+-- where steps of the builder lead: on, to the end of the text, or to why it stops
+abbrev pub HasGone : Table → List ℕ → List ℕ → Loading → Outline → ℕ → List ℕ → Loading → Result Bool Stopped → Type 0
+HasGone tb types bytes first o at ws now (Ok true) = IsGoing tb types bytes first o at ws now
+HasGone tb types bytes first o at ws now (Ok false) = (vs : Values) × (runs tb bytes (start types) 0 ≡ Accepted vs)
+    × ((want : ℕ → ℕ) → IsRead tb types bytes want first vs → IsBuilt want first now vs ws)
+HasGone tb types bytes first o at ws now (Err e) = Built tb types bytes first now (Err e)

@@ -8,12 +8,14 @@ ghost use Rattle.fip_language.specs.Values.{Values};
 ghost use Rattle.value_text.specs.Loaded.{types_of, free_in, wanted, AreCredits};
 ghost use Rattle.fip_language.specs.Table.{Table};
 ghost use Rattle.value_text.specs.Building.{IsMade, IsPut, Advanced, stopped_by, then_on, Built, IsBuilt, IsCrediting};
+ghost use Rattle.value_text.specs.Building.{IsGoing, HasGone};
 ghost use Rattle.value_text.specs.Reading.{outline, IsKnown};
 ghost use Rattle.value_text.specs.declared.read.Event.{Event};
 ghost use Rattle.value_text.specs.Loaded.{words_up_to};
 ghost use Rattle.cell_store.specs.Made.{Loading};
 
 use crate::read::{self, Cursor, Refused};
+use crate::room::push;
 use cell_store::{CellError, Loader};
 use fip_base::plain::Param;
 use fip_base::table::TypeTable;
@@ -71,10 +73,7 @@ fn close(tag: u32, size: usize, loader: &mut Loader, words: &mut Vec<u64>) -> Re
     match push_cell(tag, &words[start..], loader) {
         Ok(word) => {
             words.truncate(start);
-            match words.push(word) {
-                Ok(()) => Ok(()),
-                Err(_) => Err(Stopped::NoMemory),
-            }
+            push_word(words, word)
         }
         Err(e) => Err(e),
     }
@@ -86,7 +85,7 @@ fn push_word(words: &mut Vec<u64>, word: u64) -> Result<(), Stopped>
     ensures words { OnOk result (words.new.items ≡ words.old.items ++ word ∷ []) }
     ensures memory { OnErr result (result ≡ Err Stopped.NoMemory) }
 {
-    match words.push(word) {
+    match push(word, words) {
         Ok(()) => Ok(()),
         Err(_) => Err(Stopped::NoMemory),
     }
@@ -182,6 +181,7 @@ fn build_field<'a>(
 }
 
 // What stands behind the value of a line.
+#[inline(always)]
 fn build_line<'a>(bytes: &[u8], cursor: &mut Cursor<'a>) -> Result<bool, Stopped>
     requires place { cursor.old.at ≤ length bytes.now }
     requires next { cursor.old.next ≡ None }
@@ -193,6 +193,53 @@ fn build_line<'a>(bytes: &[u8], cursor: &mut Cursor<'a>) -> Result<bool, Stopped
     match read::read_line(bytes, cursor) {
         Ok(more) => Ok(more),
         Err(e) => Err(stop_of(e)),
+    }
+}
+
+// A value of a type, or the front of one.
+#[inline(always)]
+fn build_front<'a>(
+    table: &'a TypeTable,
+    ty: u32,
+    bytes: &[u8],
+    cursor: &mut Cursor<'a>,
+    words: &mut Vec<u64>,
+) -> Result<bool, Stopped>
+    requires place { cursor.old.at ≤ length bytes.now }
+    requires next { cursor.old.next ≡ Some ty }
+    ensures advances { IsSoundTable table.now → (l : Loading) → IsKnown table.now (outline cursor.old) →
+        Advanced table.now bytes.now (outline cursor.old) cursor.old.at (outline cursor.new) cursor.new.at
+        words.old.items l words.new.items l result }
+    ensures place { result ≡ Ok true → (cursor.old.at < cursor.new.at) × (cursor.new.at ≤ length bytes.now) }
+{
+    if ty == 0 {
+        build_int(bytes, cursor, words)
+    } else if ty as usize <= table.len() {
+        build_node(table, ty, bytes, cursor, words)
+    } else {
+        Err(Stopped::BadValue(cursor.at))
+    }
+}
+
+// What stands behind a value; false behind the last one.
+#[inline(always)]
+fn build_behind<'a>(
+    bytes: &[u8],
+    cursor: &mut Cursor<'a>,
+    loader: &mut Loader,
+    words: &mut Vec<u64>,
+) -> Result<bool, Stopped>
+    requires place { cursor.old.at ≤ length bytes.now }
+    requires next { cursor.old.next ≡ None }
+    ensures advances { (tb : Table) → IsKnown tb (outline cursor.old) →
+        Advanced tb bytes.now (outline cursor.old) cursor.old.at (outline cursor.new) cursor.new.at
+        words.old.items loader.old words.new.items loader.new result }
+    ensures place { result ≡ Ok true → (cursor.old.at < cursor.new.at) × (cursor.new.at ≤ length bytes.now) }
+{
+    if cursor.frames.is_empty() {
+        build_line(bytes, cursor)
+    } else {
+        build_field(bytes, cursor, loader, words)
     }
 }
 
@@ -213,21 +260,34 @@ pub fn advance<'a>(
     ensures place { result ≡ Ok true → (cursor.old.at < cursor.new.at) × (cursor.new.at ≤ length bytes.now) }
 {
     match cursor.next {
-        Some(ty) => {
-            if ty == 0 {
-                build_int(bytes, cursor, words)
-            } else if ty as usize <= table.len() {
-                build_node(table, ty, bytes, cursor, words)
-            } else {
-                Err(Stopped::BadValue(cursor.at))
-            }
+        Some(ty) => build_front(table, ty, bytes, cursor, words),
+        None => build_behind(bytes, cursor, loader, words),
+    }
+}
+
+// What stands behind a value, up to where the next one comes; false behind the last one.
+#[inline(always)]
+fn build_ends<'a>(
+    table: &'a TypeTable,
+    bytes: &[u8],
+    cursor: &mut Cursor<'a>,
+    loader: &mut Loader,
+    words: &mut Vec<u64>,
+) -> Result<bool, Stopped>
+    requires { cursor.old.at ≤ length bytes.now }
+    ensures goes { IsSoundTable table.now → (types : List ℕ) (first : Loading) →
+        IsGoing table.now types bytes.now first (outline cursor.old) cursor.old.at words.old.items loader.old →
+        HasGone table.now types bytes.now first (outline cursor.new) cursor.new.at words.new.items loader.new result }
+    ensures place { result ≡ Ok true → (cursor.old.at ≤ cursor.new.at) × (cursor.new.at ≤ length bytes.now) }
+{
+    'ends: loop {
+        if cursor.next.is_some() {
+            return Ok(true);
         }
-        None => {
-            if cursor.frames.is_empty() {
-                build_line(bytes, cursor)
-            } else {
-                build_field(bytes, cursor, loader, words)
-            }
+        match build_behind(bytes, cursor, loader, words) {
+            Ok(true) => {}
+            Ok(false) => return Ok(false),
+            Err(e) => return Err(e),
         }
     }
 }
@@ -245,8 +305,13 @@ pub fn build(
 {
     let mut cursor = read::begin(alloc, params);
     let mut words = Vec::new(alloc);
-    loop {
+    'values: loop {
         match advance(table, bytes, &mut cursor, loader, &mut words) {
+            Ok(true) => {}
+            Ok(false) => return Ok(words),
+            Err(e) => return Err(e),
+        }
+        match build_ends(table, bytes, &mut cursor, loader, &mut words) {
             Ok(true) => {}
             Ok(false) => return Ok(words),
             Err(e) => return Err(e),

@@ -11,10 +11,11 @@ mod counts;
 mod load;
 mod print;
 mod read;
+mod room;
 mod scan;
 mod single;
 
 pub use counts::Counts;
 pub use load::{LoadError, load_values};
-pub use print::print_value;
+pub use print::{print_behind, print_value};
 pub use single::{MakeError, ReadError, make_value, read_value};

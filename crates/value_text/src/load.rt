@@ -87,13 +87,15 @@ fn words_needed(loader: &Loader, counts: &Counts) -> usize
     needed
 }
 
-// The words of the values, and behind them those of the credits' cells.
+// The words of the values, and behind them those of the credits' cells. The memory that words took while they waited
+// for their cells is given back.
 fn with_credits(words: Vec<u64>, credits: &[u8], loader: &mut Loader) -> Result<Vec<u64>, Stopped>
     ensures { AreCredits credits.now → (first : Loading) (vs : Values) →
         IsBuilt (wanted credits.now vs) first loader.old vs words.items →
         Credited credits.now first loader.new vs result }
 {
     let mut words = words;
+    words.shrink_to_fit();
     match add_credits(credits, loader, &mut words) {
         Ok(()) => Ok(words),
         Err(e) => Err(e),

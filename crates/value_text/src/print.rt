@@ -12,9 +12,11 @@ ghost use Rattle.fip_language.specs.ValueText.{SpellsValues};
 ghost use Rattle.cell_store.specs.Cells.{cell_at};
 ghost use Rattle.value_text.specs.Standing.{Stands};
 ghost use Rattle.value_text.specs.Printing.{last_first, printed_tail, AreLast, Prints, Printing};
-ghost use Rattle.value_text.specs.Printing.{Task, fields_of, closes, row_tasks, then_tasks, then_field, one_task, Whole};
+ghost use Rattle.value_text.specs.Printing.{Task, fields_of, closes, row_tasks, then_tasks, then_field, one_task};
+ghost use Rattle.value_text.specs.Printing.{Whole, Close};
 
 use crate::read::split;
+use crate::room::{push, put, put_name};
 use cell_store::Cells;
 use fip_base::plain::NoMemory;
 use fip_base::table::{Constructor, TypeTable};
@@ -51,36 +53,7 @@ fn int_of_bits(word: u64) -> i64
     }
 }
 
-// Puts bytes behind the others; where their number is known to the compiler, with one test of the room.
 #[inline(always)]
-fn put(bytes: &[u8], out: &mut Vec<u8>) -> Result<(), AllocError>
-    ensures items { OnOk result (out.new.items ≡ out.old.items ++ bytes.now) }
-    ensures more { OnOk result (vec_len out.new ≡ vec_len out.old + length bytes.now) }
-{
-    out.extend_from_slice(bytes)?;
-    Ok(())
-}
-
-// Puts a few bytes behind the others. Up to eight are told apart, so that they are moved at once.
-#[inline(always)]
-fn put_bytes(bytes: &[u8], out: &mut Vec<u8>) -> Result<(), AllocError>
-    ensures items { OnOk result (out.new.items ≡ out.old.items ++ bytes.now) }
-    ensures more { OnOk result (vec_len out.new ≡ vec_len out.old + length bytes.now) }
-{
-    match bytes {
-        [] => Ok(()),
-        [a] => put(&[*a], out),
-        [a, b] => put(&[*a, *b], out),
-        [a, b, c] => put(&[*a, *b, *c], out),
-        [a, b, c, d] => put(&[*a, *b, *c, *d], out),
-        [a, b, c, d, e] => put(&[*a, *b, *c, *d, *e], out),
-        [a, b, c, d, e, f] => put(&[*a, *b, *c, *d, *e, *f], out),
-        [a, b, c, d, e, f, g] => put(&[*a, *b, *c, *d, *e, *f, *g], out),
-        [a, b, c, d, e, f, g, h] => put(&[*a, *b, *c, *d, *e, *f, *g, *h], out),
-        _ => put(bytes, out),
-    }
-}
-
 fn print_int(word: u64, out: &mut Vec<u8>) -> Result<(), AllocError>
     ensures text { OnOk result ((i : ℤ) → FitsSigned w64 i → int_word i ≡ word →
         out.new.items ≡ out.old.items ++ signed_decimal i) }
@@ -88,7 +61,7 @@ fn print_int(word: u64, out: &mut Vec<u8>) -> Result<(), AllocError>
 {
     let mut buffer = Buffer::new();
     let i = int_of_bits(word);
-    put_bytes(buffer.format(i).as_bytes(), out)
+    put(buffer.format(i).as_bytes(), out)
 }
 
 // How many cells wait behind a further one, where only the ) of this one is left.
@@ -125,7 +98,7 @@ fn push_row<'a>(rows: &mut Vec<Row<'a>>, row: Row<'a>) -> Result<(), AllocError>
     ensures added { OnOk result (last_first rows.new.items ≡ row_tasks row.entry (last_first rows.old.items)) }
     ensures one { OnOk result (vec_len rows.new ≡ vec_len rows.old + 1) }
 {
-    rows.push(row)?;
+    push(row, rows)?;
     Ok(())
 }
 
@@ -186,6 +159,21 @@ fn close<'a>(rows: &mut Vec<Row<'a>>, top: usize, behind: u32)
     }
 }
 
+// One of the cells of the top row, of which only the ) is left, is printed; those behind it wait on.
+#[inline(always)]
+fn close_one<'a>(rows: &mut Vec<Row<'a>>, top: usize, behind: u32)
+    requires top { suc top ≡ length rows.old.items }
+    requires tasks { last_first rows.old.items ≡ Close ∷ closes behind (last_first (take top rows.old.items)) }
+    ensures tasks { last_first rows.new.items ≡ closes behind (last_first (take top rows.old.items)) }
+    ensures fewer { vec_len rows.new ≤ vec_len rows.old }
+{
+    if behind == 0 {
+        rows.truncate(top);
+    } else {
+        rows[top].behind = behind - 1;
+    }
+}
+
 // The ) of the cell of the top row.
 #[inline(always)]
 fn print_close<'a>(
@@ -194,14 +182,15 @@ fn print_close<'a>(
     top: usize,
     behind: u32,
 ) -> Result<(), AllocError>
-    requires { suc top ≡ length rows.old.items }
+    requires top { suc top ≡ length rows.old.items }
+    requires tasks { last_first rows.old.items ≡ Close ∷ closes behind (last_first (take top rows.old.items)) }
     ensures tasks { OnOk result (last_first rows.new.items ≡ closes behind (last_first (take top rows.old.items))) }
     ensures fewer { OnOk result (vec_len rows.new ≤ vec_len rows.old) }
     ensures text { OnOk result (out.new.items ≡ out.old.items ++ 41 ∷ []) }
     ensures grows { OnOk result (vec_len out.old < vec_len out.new) }
 {
-    out.push(b')')?;
-    close(rows, top, behind);
+    push(b')', out)?;
+    close_one(rows, top, behind);
     Ok(())
 }
 
@@ -300,12 +289,12 @@ fn print_cell<'a, C: Cells>(
     let Some(constructor) = constructor_at(table, ty, tag as u64) else {
         return Ok(None);
     };
-    put_bytes(constructor.name(), out)?;
+    put_name(constructor.name(), out)?;
     let types = constructor.fields();
     if types.is_empty() {
         return Ok(None);
     }
-    out.push(b'(')?;
+    push(b'(', out)?;
     match first_field(cells, types, place) {
         None => Ok(None),
         Some(field) => {
@@ -325,7 +314,7 @@ fn print_bare(table: &TypeTable, ty: u32, tag: u64, out: &mut Vec<u8>) -> Result
 {
     match constructor_at(table, ty, tag) {
         None => Ok(()),
-        Some(constructor) => put_bytes(constructor.name(), out),
+        Some(constructor) => put_name(constructor.name(), out),
     }
 }
 
@@ -393,11 +382,7 @@ fn print_row<'a, C: Cells>(
     match print_field(cells, last, place, out)? {
         Some(field) => {
             let rest = field.rest;
-            rows[top] = Row {
-                types: rest,
-                place,
-                behind,
-            };
+            rows[top].types = rest;
             Ok(Some((field.ty, field.word)))
         }
         None => {
@@ -457,19 +442,20 @@ fn print_on<'a, C: Cells>(
     }
 }
 
-// The values, one after another. A value or a row that puts a further row behind itself prints a byte, so there is an
-// end to them.
+// The values, one after another, behind what stands in the text. A value or a row that puts a further row behind itself
+// prints a byte, so there is an end to them.
 fn print_values<C: Cells>(
     alloc: Global,
     table: &TypeTable,
     cells: &C,
     ty: u32,
     word: u64,
+    out: Vec<u8>,
 ) -> Result<Vec<u8>, AllocError>
     ensures { length (C.cells cells.now) ≤ 2 ^ 32 → (x : Placed) → Stands table.now (C.cells cells.now) ty x →
-        word_of x ≡ word → IfOk result (λ text. text.items ≡ printed table.now ty (value_of x) []) }
+        word_of x ≡ word → IfOk result (λ text. text.items ≡ out.items ++ printed table.now ty (value_of x) []) }
 {
-    let mut out = Vec::new(alloc);
+    let mut out = out;
     let mut rows = Vec::new(alloc);
     let mut ty = ty;
     let mut word = word;
@@ -502,5 +488,24 @@ pub fn print_value<C: Cells>(
         Stands table.now (C.cells cells.now) ty x → word_of x ≡ word →
         IfOk result (λ text. SpellsValues table.now (ty ∷ []) (text.items ++ 10 ∷ []) (More (value_of x) End)) }
 {
-    Ok(print_values(alloc, table, cells, ty, word)?)
+    Ok(print_values(alloc, table, cells, ty, word, Vec::new(alloc))?)
+}
+
+/// The same text, put behind what stands in another, which moves in and out.
+///
+/// The clause speaks of stores of at most 2^32 places, and of words that stand for a value of the type.
+pub fn print_behind<C: Cells>(
+    alloc: Global,
+    table: &TypeTable,
+    cells: &C,
+    ty: u32,
+    word: u64,
+    text: Vec<u8>,
+) -> Result<Vec<u8>, NoMemory>
+    // The text of the value of each tree that the word stands for; there is one at the most.
+    ensures canonical { length (C.cells cells.now) ≤ 2 ^ 32 → (x : Placed) →
+        Stands table.now (C.cells cells.now) ty x → word_of x ≡ word →
+        IfOk result (λ new. new.items ≡ text.items ++ printed table.now ty (value_of x) []) }
+{
+    Ok(print_values(alloc, table, cells, ty, word, text)?)
 }

@@ -12,6 +12,7 @@ ghost use Rattle.value_text.specs.Scan.{runs};
 ghost use Rattle.value_text.specs.Reading.{pending, outline, outline_at, state_at, IsKnown, Spot, Stepped, cost_of};
 ghost use Rattle.value_text.specs.Reading.{spot_of, IsNarrow, number_event, node_event, field_event, line_event};
 
+use crate::room::{cut, push};
 use crate::scan;
 use fip_base::plain::Param;
 use fip_base::table::{Constructor, TypeTable};
@@ -78,6 +79,7 @@ pub fn split(types: &[u32]) -> Option<(u32, &[u32])>
 }
 
 // The first of the parameters' types, and the other parameters.
+#[inline(always)]
 fn split_lines(params: &[Param]) -> Option<(u32, &[Param])>
     ensures { MatchOption result (types_of params.now ≡ []) (λ r. types_of params.now ≡ r.0 ∷ types_of r.1.now) }
 {
@@ -95,7 +97,7 @@ fn push_frame<'a>(cursor: &mut Cursor<'a>, frame: Frame<'a>) -> Result<(), Alloc
           pending frame.entry ∷ (outline cursor.old).frames;
     }) }
 {
-    cursor.frames.push(frame)?;
+    push(frame, &mut cursor.frames)?;
     Ok(())
 }
 
@@ -205,7 +207,7 @@ pub fn read_node<'a>(
 }
 
 /// The end of a line behind a value; false where it was the last one, and the text ends.
-#[inline(never)]
+#[inline(always)]
 pub fn read_line<'a>(bytes: &[u8], cursor: &mut Cursor<'a>) -> Result<bool, Refused>
     requires place { cursor.old.at ≤ length bytes.now }
     requires next { cursor.old.next ≡ None }
@@ -258,7 +260,7 @@ pub fn read_field<'a>(
     match field_at(frame.constructor, frame.begun) {
         None => match scan::sign(bytes, cursor.at, b')') {
             Ok(at) => {
-                cursor.frames.truncate(top);
+                cut(&mut cursor.frames, top);
                 cursor.at = at;
                 Ok(Some((frame.tag, frame.constructor.fields().len())))
             }
@@ -353,6 +355,7 @@ pub fn step<'a>(
 }
 
 /// The reader before the first value.
+#[inline(always)]
 pub fn begin<'a>(alloc: Global, params: &'a [Param]) -> Cursor<'a>
     ensures at { result.at ≡ 0 }
     ensures starts { outline result ≡ outline_at (spot_of (types_of params.now)) }

@@ -89,6 +89,7 @@ pub fn sign(bytes: &[u8], at: usize, byte: u8) -> Result<usize, usize>
 }
 
 // Only blanks and ends of lines come.
+#[inline(never)]
 pub fn end_of_text(bytes: &[u8], at: usize) -> Result<(), usize>
     requires { at ≤ length bytes.now }
     ensures { (tb : Table) (vs : Values) → MatchResult result (λ u. runs tb bytes.now (Over vs) at ≡ Accepted vs)
@@ -124,7 +125,7 @@ fn with_digit(n: u64, byte: u8) -> u64
     ensures number { result ≡ 10 * n + (byte - 48) }
     ensures range { result ≤ bound false }
 {
-    10 * n + (byte - 48) as u64
+    10 * n + (byte as u64 - 48)
 }
 
 // The number with one digit more, unless it leaves the range of an int.
@@ -256,6 +257,25 @@ fn alike(text: &[u8], other: &[u8]) -> bool
     requires { length text.now ≡ length other.now }
     ensures { IsTrue result → text.now ≡ other.now }
 {
+    match text {
+        [a, b, c] => match other {
+            [x, y, z] => *a == *x && *b == *y && *c == *z,
+            _ => false,
+        },
+        [a, b, c, d] => match other {
+            [x, y, z, w] => *a == *x && *b == *y && *c == *z && *d == *w,
+            _ => false,
+        },
+        _ => all_alike(text, other),
+    }
+}
+
+// The same, byte by byte.
+#[inline(always)]
+fn all_alike(text: &[u8], other: &[u8]) -> bool
+    requires { length text.now ≡ length other.now }
+    ensures { IsTrue result → text.now ≡ other.now }
+{
     for i in 0..text.len() {
         if text[i] != other[i] {
             return false;
@@ -276,6 +296,9 @@ fn stands(name: &[u8], bytes: &[u8], at: usize) -> bool
 {
     let size = name.len();
     if size == 0 || size > bytes.len() - at {
+        return false;
+    }
+    if name[0] != bytes[at] {
         return false;
     }
     let end = at + size;

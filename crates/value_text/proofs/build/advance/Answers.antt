@@ -1,21 +1,7 @@
-use Rattle.std.proofs.Common.{vec_len, arith}
-use Rattle.value_text.proofs.Steps.{no_rows, none_open, some_open}
 use Rattle.value_text.proofs.build.advance.Goals as goal
 
-pub build_line-requires-clause-frames : goal.build_line-requires-clause-frames
-build_line-requires-clause-frames c = no_rows c.args.cursor.now.frames.items (let z = none_open (vec_len c.args.cursor.now.frames) c.is_empty.result c.is_empty.ensures c.if-is_empty.true in omega (arith, z))
+pub returns-in-Some-clause-advances : goal.returns-in-Some-clause-advances
+returns-in-Some-clause-advances c = λ sound known. c.build_front.ensures.advances sound c.args.loader.now known
 
-pub build_field-requires-clause-open : goal.build_field-requires-clause-open
-build_field-requires-clause-open c = some_open (vec_len c.args.cursor.now.frames) c.is_empty.result c.is_empty.ensures c.if-is_empty.false
-
-pub returns-then-ty-eq0-clause-advances : goal.returns-then-ty-eq0-clause-advances
-returns-then-ty-eq0-clause-advances c = λ sound known. c.build_int.ensures.advances c.args.table.now c.args.loader.now known
-
-pub returns-then-ty-len-clause-advances : goal.returns-then-ty-len-clause-advances
-returns-then-ty-len-clause-advances c = λ sound known. c.build_node.ensures.advances sound c.args.loader.now known
-
-pub returns-then-is_empty-clause-advances : goal.returns-then-is_empty-clause-advances
-returns-then-is_empty-clause-advances c = λ sound known. c.build_line.ensures.advances c.args.table.now c.args.loader.now c.args.words.now.items known
-
-pub returns-else-is_empty-clause-advances : goal.returns-else-is_empty-clause-advances
-returns-else-is_empty-clause-advances c = λ sound known. c.build_field.ensures.advances c.args.table.now known
+pub returns-in-None-clause-advances : goal.returns-in-None-clause-advances
+returns-in-None-clause-advances c = λ sound known. c.build_behind.ensures.advances c.args.table.now known

@@ -12,14 +12,14 @@ printing-init g c =
     let e : last_first c.new-rows.result.items ≡ [] = ap last_first c.new-rows.ensures.items ∙ last_empty in
     λ few x h w.
     let text = printed tb c.args.ty (value_of x) [] in
-    (text, (x, h, w, [], refl, subst (λ (ts : List Task). Prints tb cs ts []) (sym e) refl), ap (λ (o : List ℕ). o ++ text) c.new-out.ensures.items)
+    (text, (x, h, w, [], refl, subst (λ (ts : List Task). Prints tb cs ts []) (sym e) refl), refl)
 
 pub printing-preserved : goal.printing-preserved
 printing-preserved g c =
     let tb = c.args.table.now in
     let cs = g.C.Cells.cells c.args.cells.now in
     λ few x h w.
-    let whole = printed tb c.args.ty (value_of x) [] in
+    let whole = c.args.out.items ++ printed tb c.args.ty (value_of x) [] in
     subst (λ (o : Option (ℕ × ℕ)). Printing tb cs (then_tasks o (last_first c.print_on.new.rows.items)) c.print_on.new.out.items whole) c.in-Some.is (c.in_ok-next.ensures.prints few whole (c.printing.invariant few x h w))
 
 pub returns-in-None : goal.returns-in-None
@@ -27,6 +27,6 @@ returns-in-None g c =
     let tb = c.args.table.now in
     let cs = g.C.Cells.cells c.args.cells.now in
     λ few x h w.
-    let whole = printed tb c.args.ty (value_of x) [] in
+    let whole = c.args.out.items ++ printed tb c.args.ty (value_of x) [] in
     printing_ends tb cs (last_first c.print_on.new.rows.items) c.print_on.new.out.items whole (none_left c.print_on.new.rows.items (let z = c.in_ok-next.ensures.last c.in-None.is in omega (arith, z)))
     (subst (λ (o : Option (ℕ × ℕ)). Printing tb cs (then_tasks o (last_first c.print_on.new.rows.items)) c.print_on.new.out.items whole) c.in-None.is (c.in_ok-next.ensures.prints few whole (c.printing.invariant few x h w)))

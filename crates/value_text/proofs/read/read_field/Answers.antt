@@ -19,7 +19,7 @@ returns-in-Ok-clause-reads c =
     let o₁ : Outline = record o { frames = ps } in
     let whole : record o { frames = pending frame ∷ ps } ≡ o = ap (λ (ps : List Pending). record o { frames = ps }) (sym rows) in
     λ tb known s e.
-    subst (λ (ps : List Pending). Stepped tb c.args.bytes.now s c.args.cursor.now.at (Ok (Some (E.Closed frame.tag (length c.fields.result.now)))) (record o { frames = ps }) c.in-Ok.at) (ap pending_rows (sym c.truncate.ensures.items))
+    subst (λ (ps : List Pending). Stepped tb c.args.bytes.now s c.args.cursor.now.at (Ok (Some (E.Closed frame.tag (length c.fields.result.now)))) (record o { frames = ps }) c.in-Ok.at) (ap pending_rows (sym c.cut.ensures))
     (subst (λ (n : ℕ). Stepped tb c.args.bytes.now s c.args.cursor.now.at (Ok (Some (E.Closed frame.tag n))) o₁ c.in-Ok.at) (sym (ap length c.fields.ensures.same))
     (close_step tb c.args.bytes.now c.args.cursor.now.at c.in-Ok.at o₁ (pending frame) s (whole ∙ e) c.requires.next c.in-None.ensures (λ s. c.in-Ok.ensures.reads tb s)))
 
@@ -81,7 +81,7 @@ returns-in-Ok-clause-known c =
     let whole : record o { frames = pending frame ∷ ps } ≡ o = ap (λ (ps : List Pending). record o { frames = ps }) (sym rows) in
     λ tb known.
     let k = subst (KnownRows tb) rows known.frames in
-    subst (λ (ps : List Pending). IsKnown tb (record o { frames = ps })) (ap pending_rows (sym c.truncate.ensures.items)) (record { next = known.next; frames = (k.1).1; lines = known.lines })
+    subst (λ (ps : List Pending). IsKnown tb (record o { frames = ps })) (ap pending_rows (sym c.cut.ensures)) (record { next = known.next; frames = (k.1).1; lines = known.lines })
 
 pub returns-in-Ok-clause-narrow : goal.returns-in-Ok-clause-narrow
 returns-in-Ok-clause-narrow c =

@@ -1,5 +1,5 @@
 -- The words end with the new cell's header and fields, and a bit marks its place.
-use Rattle.std.proofs.Common.{◌≡◌, ◌∙◌, ◌++◌, ◌∷◌, Some, None, true, false, nat_eq, arith, ap, length, ℕ, List}
+use Rattle.std.proofs.Common.{◌≡◌, ◌∙◌, ◌++◌, ◌∷◌, Some, None, true, false, nat_eq, arith, ap, length}
 use Rattle.std.specs.Prelude.{replicate, if◌then◌else◌}
 use Rattle.std.specs.Vec.{vec_capacity}
 use Rattle.fip_language.specs.Store.{Cell}
@@ -43,7 +43,7 @@ invariant_of-self-2 c =
     let old = i.words.items in
     let fs = c.args.fields.now in
     let h = header c.args.tag (length fs) in
-    let words : c.push_words.new.words.items ≡ old ++ h ∷ fs = c.push_words.ensures ∙ ap (λ (ws : List ℕ). ws ++ h ∷ fs) c.in_ok-reserve.ensures.items in
+    let words : c.push_words.new.words.items ≡ old ++ h ∷ fs = c.in_ok-push_words.ensures.items in
     let ok = i.words.ok.0 in
     let place = c.len-place.ensures in
     let length_is : c.len-place.result ≡ length old = omega (arith, ok, place) in
@@ -65,7 +65,7 @@ returns-clause-made c =
     let fs = c.args.fields.now in
     let d : Cell = record { tag = c.args.tag; fields = fs } in
     let h = header c.args.tag (length fs) in
-    let words : c.push_words.new.words.items ≡ old ++ h ∷ fs = c.push_words.ensures ∙ ap (λ (ws : List ℕ). ws ++ h ∷ fs) c.in_ok-reserve.ensures.items in
+    let words : c.push_words.new.words.items ≡ old ++ h ∷ fs = c.in_ok-push_words.ensures.items in
     let a = appended old c.args.tag fs i.counts c.self.invariant.laid c.self.invariant.counted c.requires.some c.requires.few c.ranges.tag.fits in
     let ok = i.words.ok.0 in
     let place = c.len-place.ensures in

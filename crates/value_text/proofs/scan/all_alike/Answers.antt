@@ -1,7 +1,7 @@
 use Rattle.std.proofs.Common.{◌∷◌, ◌++◌, [], ◌<◌, ◌≤◌, List, ℕ, length, sym, ap₂, ◌∙◌, arith}
 use Rattle.std.proofs.lemmas.List.{take_more}
 use Rattle.value_text.proofs.Credits.{take_whole}
-use Rattle.value_text.proofs.scan.alike.Goals as goal
+use Rattle.value_text.proofs.scan.all_alike.Goals as goal
 
 pub loop-i-preserved : goal.loop-i-preserved
 loop-i-preserved c =

@@ -3,7 +3,6 @@ use Rattle.std.proofs.Common.{◌≡◌, ◌∙◌, ℕ, Bool, true, false, List
 use Rattle.std.specs.Prelude.{Result, Err, bytes_eq}
 use Rattle.std.proofs.lemmas.Option.{none-some, same_Some}
 use Rattle.fip_language.specs.Core.{Core}
-use Rattle.fip_language.specs.CoreForm.{core_form}
 use Rattle.fip_language.specs.Every.{Among}
 use Rattle.fip_language.specs.Meaning.{Answer, Gives, Trap, Out, Deep, Stuck, meaning}
 use Rattle.fip_language.specs.Prefix.{IsPlace, Accepted}
@@ -13,7 +12,6 @@ use Rattle.fip_language.specs.Table.{Table}
 use Rattle.fip_language.specs.Values.{Values}
 use Rattle.fip_language.specs.ValueText.{SpellsValues}
 use Rattle.fip_language.proofs.OnePlace.{IsPlace-unique, IsPlace-not_spelt}
-use Rattle.fip_grammar.proofs.Least.{spelt_once}
 use Rattle.fip_trees.specs.Tree.{Instance, Program}
 use Rattle.command_outcome.specs.declared.failure.Failure.{Failure}
 use Rattle.command_outcome.specs.declared.failure.Failure.TheVariants as F
@@ -21,16 +19,13 @@ use Rattle.value_text.proofs.Exact.{accepts_text}
 use Rattle.value_text.proofs.Tables.{is_table, types_alive}
 use Rattle.type_soundness.specs.Soundness.{parameter_types}
 use Rattle.source_report.specs.Report.{IsParsed}
-use Rattle.source_report.proofs.Once.{accepted_once}
+use Rattle.source_report.proofs.Once.{parsed_once, accepted_once}
 use Rattle.source_report.proofs.Ready.{typed_formed}
 use Rattle.source_commands.specs.Roots.{root_named}
 use Rattle.source_commands.specs.Wanted.{Root, IsRoot, IsReady}
 use Rattle.eval_command.specs.EvalAnswer.{Entry, Evaluates, Misspelt, Answered, Spells, Tells}
 use Rattle.eval_command.proofs.Meant.{typed_of}
 use Rattle.eval_command.proofs.SoundTypes.{typed_sound}
-
-parsed_once : (source : List ℕ) (c d : Core) → IsParsed source c → IsParsed source d → c ≡ d
-parsed_once source c d h k = h.is ∙ ap core_form (spelt_once source h.tree k.tree h.spelt k.spelt) ∙ sym k.is
 
 -- a root is an instance
 root_among : (name : List ℕ) (ds : List Instance) (d : Instance) → root_named name ds ≡ Some d → Among d ds

@@ -12,7 +12,7 @@ use fip_language::limits::{MOST_FIELDS, MOST_FRAMES, MOST_STORE_WORDS};
 use fip_machine::{Ended, Gauge, Machine};
 use source_commands::Ready;
 use std::alloc::Global;
-use value_text::{LoadError, load_values, print_value};
+use value_text::{LoadError, load_values, print_behind};
 
 /// The arguments of a function in a new store of so many words, at most 16,777,216, and a cell for each of its
 /// credits. A bad input where the bytes are no text of the parameters' types; else too small where the cells need
@@ -98,8 +98,7 @@ pub(crate) fn values_text<C: Cells>(
 ) -> Result<Vec<u8>, NoMemory> {
     let mut text = Vec::new(alloc);
     for (ty, word) in types.iter().zip(words.iter()) {
-        let value = print_value(alloc, table, cells, *ty, *word)?;
-        text.extend_from_slice(value.as_slice())?;
+        text = print_behind(alloc, table, cells, *ty, *word, text)?;
         text.push(b'\n')?;
     }
     Ok(text)

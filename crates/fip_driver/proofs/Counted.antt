@@ -1,6 +1,7 @@
 -- A fault of a folder that tells nothing is named only where its count rose.
 use Rattle.std.proofs.Common.{◌≡◌, ◌≤◌, ℕ, List, subst, inl, inr}
 use Rattle.std.specs.Prelude.{◌⊎◌, Option, Some, None, Ok, Err, IfErr}
+use Rattle.fip_base.specs.declared.refusal.Refusal.{Refusal}
 use Rattle.fip_base.specs.Faults.{Rose}
 use Rattle.fip_base.specs.Files.{File, IsMissing}
 use Rattle.command_outcome.specs.Stages.{IsOfSource, IsOfReplay}
@@ -110,13 +111,13 @@ stored_counted files before mid now (Err (F.Fault O.Out)) le h = tt
 stored_counted files before mid now (Err (F.Fault O.Err)) le h = tt
 stored_counted files before mid now (Err f) le h = tt
 
-pub judged_counted : (files : Option (List File)) (name : List ℕ) (before now : ℕ) (o : Outcome) → IfErr o (JudgeFails files name before now) → IsCounted files (Rose before now) o
-judged_counted files name before now (Ok text) h = tt
-judged_counted files name before now (Err (F.Fault O.Folder)) h = risen files name (Rose before now) h.1
-judged_counted files name before now (Err (F.Fault O.Input)) h = tt
-judged_counted files name before now (Err (F.Fault O.Out)) h = tt
-judged_counted files name before now (Err (F.Fault O.Err)) h = tt
-judged_counted files name before now (Err f) h = tt
+pub judged_counted : (Rejects : List ℕ → Refusal → Type 0) (files : Option (List File)) (name : List ℕ) (before now : ℕ) (o : Outcome) → IfErr o (JudgeFails Rejects files name before now) → IsCounted files (Rose before now) o
+judged_counted Rejects files name before now (Ok text) h = tt
+judged_counted Rejects files name before now (Err (F.Fault O.Folder)) h = risen files name (Rose before now) h.1
+judged_counted Rejects files name before now (Err (F.Fault O.Input)) h = tt
+judged_counted Rejects files name before now (Err (F.Fault O.Out)) h = tt
+judged_counted Rejects files name before now (Err (F.Fault O.Err)) h = tt
+judged_counted Rejects files name before now (Err f) h = tt
 
 -- the same of a later call
 pub counted_later : (files later : Option (List File)) (before mid now : ℕ) (o : Outcome) → later ≡ files → before ≤ mid → IsCounted later (Rose mid now) o → IsCounted files (Rose before now) o

@@ -12,11 +12,15 @@ use Rattle.command_line.specs.Words.{Command, Check, Verify, Upgrade, Run, Audit
 use Rattle.command_outcome.specs.declared.failure.Failure.TheVariants as F
 use Rattle.eval_command.specs.EvalAnswer.{Evaluates}
 use Rattle.eval_command.proofs.Once.{evaluated_once, evaluated_ready}
+use Rattle.fip_trees.specs.Tree.{Program}
+use Rattle.source_report.specs.Report.{IsMatched}
+use Rattle.source_report.proofs.Once.{typed_once}
 use Rattle.source_commands.specs.Roots.{IsListing}
-use Rattle.source_commands.specs.Wanted.{Wanted, Lawful, Root, Refuses, IsReady}
-use Rattle.source_commands.proofs.Once.{listing_once, listing_ready, refused_once, refused_not_ready}
+use Rattle.source_commands.specs.Wanted.{Wanted, Lawful, Root, IsReady}
+use Rattle.source_commands.proofs.Judging.{rejected_once, accepted_not_rejected}
+use Rattle.source_commands.proofs.Once.{listing_once, listing_ready, report_once, refused_once, refused_not_ready}
 use Rattle.fip_driver.specs.Commands.{ReadsInput, fetched_name, wanted}
-use Rattle.fip_driver.specs.Ends.{End, SaysOf, Refused, Listed, LongInput, Evaluated, IsTaken, Checks, Says, Missing, OnSource, OnCode, OfLibrary, AsksCode, SaysOfCode, IsUnsaid, IsUnsaidOn, IsThere, IsOpen, OpenSource, OpenCode, OpenFile, OpenGen}
+use Rattle.fip_driver.specs.Ends.{End, SaysOf, Refused, Listed, LongInput, Evaluated, IsTaken, Checks, Says, Missing, OnSource, OnCode, OnAudit, OfLibrary, AsksCode, SaysOfCode, IsVerdict, SaysOfAudit, Reported, NoProof, Judged, IsUnsaidOn, IsThere, IsOpen, OpenSource, OpenCode, OpenTrace, OpenGen}
 use Rattle.fip_driver.proofs.OneCode.{says_asks, runs_asks, code_once, code_not_open}
 use Rattle.fip_driver.specs.Spelling.{Spelling}
 
@@ -86,6 +90,57 @@ source_not_open source input c w e (Listed file text same h) ready taken other =
 source_not_open source input c w e (LongInput r reads more) ready taken other = let le = taken reads in omega (arith, more, le)
 source_not_open source input c w e (Evaluated file entry calls frames f same le h) ready taken other = subst IsUnsaidOn same other
 
+-- ---- of `audit`
+
+verdict_once : (p : Program) (bytes : List ℕ) (d e : End) → IsVerdict p bytes d → IsVerdict p bytes e → d ≡ e
+verdict_once p bytes (Ok t) (Ok u) h k = ap (λ t. Ok t) (h.1 ∙ sym k.1)
+verdict_once p bytes (Ok t) (Err (F.Refused r)) h k = absurd (accepted_not_rejected bytes p r h.0 k)
+verdict_once p bytes (Ok t) (Err f) h k = absurd k
+verdict_once p bytes (Err (F.Refused q)) (Ok u) h k = absurd (accepted_not_rejected bytes p q k.0 h)
+verdict_once p bytes (Err (F.Refused q)) (Err (F.Refused r)) h k = ap (λ r. Err (F.Refused r)) (rejected_once bytes p q r h k)
+verdict_once p bytes (Err (F.Refused q)) (Err f) h k = absurd k
+verdict_once p bytes (Err f) e h k = absurd h
+
+-- a source's types and matches are right with one program
+judged_once : (source : List ℕ) (p q : Program) (a b : List ℕ) (d e : End) → IsMatched source p → IsMatched source q → a ≡ b → IsVerdict p a d → IsVerdict q b e → d ≡ e
+judged_once source p q a b d e m n same h k =
+    let one = typed_once source p q m.typed n.typed in
+    verdict_once q b d e (subst (λ x. IsVerdict q x d) same (subst (λ p. IsVerdict p a d) one h)) k
+
+audit_once : (source : List ℕ) (o u : Option (List ℕ)) (d e : End) → o ≡ u → SaysOfAudit source o d → SaysOfAudit source u e → d ≡ e
+audit_once source o u d e same (Reported q x h) (Reported r y k) = ap (λ r. Err (F.Refused r)) (report_once source q r h.0 k.0)
+audit_once source o u d e same (Reported q x h) (NoProof p m) = absurd (h.1 p m)
+audit_once source o u d e same (Reported q x h) (Judged p bytes f m v) = absurd (h.1 p m)
+audit_once source o u d e same (NoProof p m) (Reported r y k) = absurd (k.1 p m)
+audit_once source o u d e same (NoProof p m) (NoProof q n) = refl
+audit_once source o u d e same (NoProof p m) (Judged q bytes f n v) = absurd (none-some bytes same)
+audit_once source o u d e same (Judged p bytes f m v) (Reported r y k) = absurd (k.1 p m)
+audit_once source o u d e same (Judged p bytes f m v) (NoProof q n) = absurd (none-some bytes (sym same))
+audit_once source o u d e same (Judged p a f m v) (Judged q b g n w) = judged_once source p q a b f g m n (same_Some a b same) v w
+
+abbrev proof_of : Command → List ℕ
+proof_of (Audit file proof) = proof
+proof_of c = []
+
+pub audit_wants : (c : Command) (file proof : List ℕ) (w : Wanted) → c ≡ Audit file proof → wanted c ≡ Some w → ⊥
+audit_wants c file proof w same wants = none-some w (subst (λ c. wanted c ≡ Some w) same wants)
+
+audit_asks : (c : Command) (file proof : List ℕ) → c ≡ Audit file proof → AsksCode c → ⊥
+audit_asks c file proof same asks = subst AsksCode same asks
+
+pub replay_wants : (c : Command) (trace : List ℕ) (step : ℕ) (w : Wanted) → c ≡ Replay trace step → wanted c ≡ Some w → ⊥
+replay_wants c trace step w same wants = none-some w (subst (λ c. wanted c ≡ Some w) same wants)
+
+replay_asks : (c : Command) (trace : List ℕ) (step : ℕ) → c ≡ Replay trace step → AsksCode c → ⊥
+replay_asks c trace step same asks = subst AsksCode same asks
+
+abbrev is_audit : Command → ℕ
+is_audit (Audit file proof) = 1
+is_audit c = 0
+
+audit_or_replay : (c : Command) (file proof trace : List ℕ) (step : ℕ) → c ≡ Audit file proof → c ≡ Replay trace step → ⊥
+audit_or_replay c file proof trace step same other = let one : 1 ≡ 0 = sym (ap is_audit same) ∙ ap is_audit other in omega (arith, one)
+
 -- ---- the library
 
 -- the names differ by their first letters
@@ -124,18 +179,12 @@ library_or_gen c name seed count same other = let one : 1 ≡ 0 = sym (ap is_of_
 
 -- ---- on files
 
--- the commands that ask a code file ask no source, and are said of
+-- the commands that ask a code file ask no source
 asks_unwanted : (c : Command) (w : Wanted) → AsksCode c → wanted c ≡ Some w → ⊥
 asks_unwanted (Verify file) w a e = none-some w e
 asks_unwanted (Upgrade file out) w a e = none-some w e
 asks_unwanted (Run r) w a e = none-some w e
 asks_unwanted c w a e = a
-
-asks_said : (c : Command) → AsksCode c → IsUnsaid c → ⊥
-asks_said (Verify file) a u = u
-asks_said (Upgrade file out) a u = u
-asks_said (Run r) a u = u
-asks_said c a u = a
 
 module _ (spelling : Spelling) (files : List File) (input : List ℕ) (c : Command) where
   one_name : (m n : List ℕ) → fetched_name c ≡ Some m → fetched_name c ≡ Some n → m ≡ n
@@ -172,28 +221,38 @@ module _ (spelling : Spelling) (files : List File) (input : List ℕ) (c : Comma
   says_once d e (OfLibrary name text same k) (OnSource w source f checks h) = absurd (library_fetches c name checks.name same checks.names)
   says_once d e (OfLibrary name text same h) (OnCode bytes f there says) = absurd (library_fetches c name there.0 same there.1)
   says_once d e (OfLibrary name text same h) (OfLibrary other more is k) = ap (λ t. Ok t) (text_once name other text more (ap library_name (sym same ∙ is)) h k)
+  says_once d e (Missing m o names gone) (OnAudit file proof source f is there h) = absurd (there_or_missing m there.0 source names there.1 gone there.2)
+  says_once d e (OnSource w source f checks h) (OnAudit file proof s g is there k) = absurd (audit_wants c file proof w is checks.wants)
+  says_once d e (OnCode bytes f there says) (OnAudit file proof source g is also h) = absurd (audit_asks c file proof is (says_asks bytes input c f says))
+  says_once d e (OfLibrary name text same h) (OnAudit file proof source f is there k) = absurd (library_fetches c name there.0 same there.1)
+  says_once d e (OnAudit file proof source f is there h) (Missing m o names gone) = absurd (there_or_missing m there.0 source names there.1 gone there.2)
+  says_once d e (OnAudit file proof s g is there k) (OnSource w source f checks h) = absurd (audit_wants c file proof w is checks.wants)
+  says_once d e (OnAudit file proof source g is also h) (OnCode bytes f there says) = absurd (audit_asks c file proof is (says_asks bytes input c f says))
+  says_once d e (OnAudit file proof source f is there k) (OfLibrary name text same h) = absurd (library_fetches c name there.0 same there.1)
+  says_once d e (OnAudit file proof s f is there h) (OnAudit again other t g was also k) =
+      let one : proof ≡ other = ap proof_of (sym is ∙ was) in
+      audit_once t (file_of proof files) (file_of other files) f g (ap (λ n. file_of n files) one) (subst (λ x. SaysOfAudit x (file_of proof files) f) (one_file s t there also) h) k
   says_once d e (OnSource v s f h says) (OnSource w t g k others) = source_once t input c w f g k.wants (moved v w s t f h k says) others
-
-unsaid_unwanted : (c : Command) (w : Wanted) → IsUnsaid c → wanted c ≡ Some w → ⊥
-unsaid_unwanted (Audit file proof) w u e = none-some w e
-unsaid_unwanted (Replay trace step) w u e = none-some w e
-unsaid_unwanted c w u e = u
 
 module _ (spelling : Spelling) (files : List File) (input : List ℕ) (c : Command) where
   pub says_not_open : (e : End) → Says spelling files input c e → IsOpen spelling files input c → ⊥
   says_not_open e (Missing m o names gone) (OpenSource w source checks ready taken other) = there_or_missing spelling files input c m checks.name source names checks.names gone checks.there
-  says_not_open e (Missing m o names gone) (OpenFile bytes unsaid there) = there_or_missing spelling files input c m there.0 bytes names there.1 gone there.2
+  says_not_open e (Missing m o names gone) (OpenTrace trace step bytes is there) = there_or_missing spelling files input c m there.0 bytes names there.1 gone there.2
   says_not_open e (Missing m o names gone) (OpenGen seed count same) = gen_fetches c seed count m same names
   says_not_open e (OnSource v s f h says) (OpenSource w t k ready taken other) = source_not_open t input c w f (moved spelling files input c v w s t f h k says) ready taken other
-  says_not_open e (OnSource v s f h says) (OpenFile bytes unsaid there) = unsaid_unwanted c v unsaid h.wants
+  says_not_open e (OnSource v s f h says) (OpenTrace trace step bytes is there) = replay_wants c trace step v is h.wants
   says_not_open e (OnSource v s f h says) (OpenGen seed count same) = gen_fetches c seed count h.name same h.names
   says_not_open e (Missing m o names gone) (OpenCode bytes there runs) = there_or_missing spelling files input c m there.0 bytes names there.1 gone there.2
   says_not_open e (OnSource v s f h says) (OpenCode bytes there runs) = asks_unwanted c v (runs_asks bytes input c runs) h.wants
   says_not_open e (OnCode bytes f there says) (OpenSource w t k ready taken other) = asks_unwanted c w (says_asks bytes input c f says) k.wants
   says_not_open e (OnCode bytes f there says) (OpenCode again also runs) = code_not_open again input c f (subst (λ b. SaysOfCode b input c f) (one_file spelling files input c bytes again there also) says) runs
-  says_not_open e (OnCode bytes f there says) (OpenFile again unsaid also) = asks_said c (says_asks bytes input c f says) unsaid
+  says_not_open e (OnCode bytes f there says) (OpenTrace trace step again is also) = replay_asks c trace step is (says_asks bytes input c f says)
   says_not_open e (OnCode bytes f there says) (OpenGen seed count same) = gen_fetches c seed count there.0 same there.1
   says_not_open e (OfLibrary name text same h) (OpenSource w t k ready taken other) = library_fetches c name k.name same k.names
   says_not_open e (OfLibrary name text same h) (OpenCode bytes there runs) = library_fetches c name there.0 same there.1
-  says_not_open e (OfLibrary name text same h) (OpenFile bytes unsaid there) = library_fetches c name there.0 same there.1
+  says_not_open e (OfLibrary name text same h) (OpenTrace trace step bytes is there) = library_fetches c name there.0 same there.1
   says_not_open e (OfLibrary name text same h) (OpenGen seed count other) = library_or_gen c name seed count same other
+  says_not_open e (OnAudit file proof source f is there h) (OpenSource w t k ready taken other) = audit_wants c file proof w is k.wants
+  says_not_open e (OnAudit file proof source f is there h) (OpenCode bytes also runs) = audit_asks c file proof is (runs_asks bytes input c runs)
+  says_not_open e (OnAudit file proof source f is there h) (OpenTrace trace step bytes was also) = audit_or_replay c file proof trace step is was
+  says_not_open e (OnAudit file proof source f is there h) (OpenGen seed count other) = gen_fetches c seed count there.0 other there.1

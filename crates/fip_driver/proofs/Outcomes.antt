@@ -19,7 +19,7 @@ use Rattle.fip_driver.specs.Fronted.{HasEntry, FrontFails, IsFront, EntryOutcome
 use Rattle.fip_driver.specs.Answered.{IsTold, IsNoCommand, HasRightEntry, ComesToInput, Explained, Answered, plain_request}
 use Rattle.fip_driver.specs.Spelling.{source_spelling, IsOutside}
 use Rattle.fip_driver.specs.Explained.{ExplainedBy}
-use Rattle.fip_driver.specs.Outcome.{RequestOutcome, WordsOutcome, SourceOutcome, Closes, end_of}
+use Rattle.fip_driver.specs.Outcome.{RequestOutcome, WordsOutcome, SourceOutcome, IsUntoldAudit, Closes, end_of}
 use Rattle.command_outcome.specs.declared.failure.Failure.{Failure}
 use Rattle.command_outcome.specs.declared.failure.Failure.TheVariants as F
 use Rattle.fip_driver.proofs.Explaining.{explained_up, explained_fault, explained, fetch_explained, file_reply, core_reply, function_reply, spelling_explained, entry_explained, input_explained}
@@ -76,7 +76,7 @@ outside_outcome r files left fr rose source text again o holds le same twice h k
     let i = subst (λ x. SourceOutcome (Exec r) (Compiled r.entry) x left ⊥ rose (end_of o)) twice k in
     let checks : Checks source_spelling t.0 (Exec r) (Compiled r.entry) source = record { wants = refl; name = r.file; names = refl; there = t.2; beside = (le, out) } in
     let closes = checked_closes (Exec r) (Compiled r.entry) t.0 source i.0 ⊥ rose fr rose (end_of o) (λ b. absurd b) (λ x. x) checks i.2 in
-    (t.0, i.0, t.1, i.1, inr (Exec r, asked, closes))
+    (t.0, i.0, t.1, i.1, inr (inl (Exec r, asked, closes)))
 
 -- ---- the input
 
@@ -115,9 +115,10 @@ module _ (words : List (List ℕ)) (files : List File) (input : List ℕ) (out o
   abbrev Whole : List File → List ℕ → ℕ → Type 0
   Whole fs bytes s = Answered source_spelling words fs bytes out.written out'.written err.written err'.written s
 
-  told_whole : (folder_rose input_rose : Type 0) → (folder_rose → ⊥) → (input_rose → ⊥) → (Rose out.faults out'.faults → ⊥) → (Rose err.faults err'.faults → ⊥) → (o : Result (Vec ℕ Global) Failure) (s : ℕ) (fs : List File) (bytes : List ℕ) → Explained source_spelling words fs bytes folder_rose input_rose o ⊎ ((c : Command) × IsCommand words c × Closes source_spelling fs bytes c folder_rose input_rose (end_of o)) → Delivered out out' err err' o s → Whole fs bytes s
+  told_whole : (folder_rose input_rose : Type 0) → (folder_rose → ⊥) → (input_rose → ⊥) → (Rose out.faults out'.faults → ⊥) → (Rose err.faults err'.faults → ⊥) → (o : Result (Vec ℕ Global) Failure) (s : ℕ) (fs : List File) (bytes : List ℕ) → Explained source_spelling words fs bytes folder_rose input_rose o ⊎ ((c : Command) × IsCommand words c × Closes source_spelling fs bytes c folder_rose input_rose (end_of o)) ⊎ ((c : Command) × IsCommand words c × IsUntoldAudit (Some files) c (end_of o)) → Delivered out out' err err' o s → Whole fs bytes s
   told_whole fr ir no_f no_i no_out no_err o s fs bytes (inl h) d = whole_answer source_spelling words fs bytes out out' err err' no_out no_err fr ir no_f no_i o s h d
-  told_whole fr ir no_f no_i no_out no_err o s fs bytes (inr h) d = closed_answer source_spelling words fs bytes out out' err err' no_out no_err h.0 fr ir no_f no_i o s h.1 h.2 d
+  told_whole fr ir no_f no_i no_out no_err o s fs bytes (inr (inl h)) d = closed_answer source_spelling words fs bytes out out' err err' no_out no_err h.0 fr ir no_f no_i o s h.1 h.2 d
+  told_whole fr ir no_f no_i no_out no_err o s fs bytes (inr (inr h)) d = absurd h.2
 
   -- where no count of faults rose, and the folder and the input tell what they hold
   pub whole_outcome : (folder : Option (List File)) (left : Option (List ℕ)) (folder_rose input_rose : Type 0) → folder ≡ Some files → left ≡ Some input → (folder_rose → ⊥) → (input_rose → ⊥) → (Rose out.faults out'.faults → ⊥) → (Rose err.faults err'.faults → ⊥) → (o : Result (Vec ℕ Global) Failure) (s : ℕ) → WordsOutcome words folder left folder_rose input_rose o → Delivered out out' err err' o s → Whole files input s

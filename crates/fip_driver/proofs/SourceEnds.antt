@@ -1,7 +1,6 @@
 -- From what a part answered to what a command ends with: on an input, on a source, on the file, and for the words.
-use Rattle.std.proofs.Common.{◌≡◌, ◌∙◌, ◌<◌, ◌≤◌, ℕ, List, [], ◌∷◌, length, sym, ap, subst, refl, inl, inr, arith, if◌then◌else◌}
+use Rattle.std.proofs.Common.{◌≡◌, ◌∙◌, ◌<◌, ◌≤◌, ℕ, List, [], length, sym, ap, subst, refl, inl, inr, arith}
 use Rattle.std.specs.Prelude.{◌⊎◌, Option, Some, None, Result, Ok, Err, IfOk, IfErr, OnOk, IsSomeAnd}
-use Rattle.std.proofs.lemmas.Slice.Eq.{bytes_eq-Decides}
 use Rattle.std.specs.Io.KnownBytes.{Consumes, IsAtEnd}
 use Rattle.std.specs.declared.vec.Vec.{Vec}
 use Rattle.std.specs.declared.alloc.Global.{Global}
@@ -10,7 +9,6 @@ use Rattle.std.specs.Fmt.{decimal}
 use Rattle.fip_base.specs.declared.refusal.Refusal.{Refusal}
 use Rattle.fip_base.specs.Faults.{Rose}
 use Rattle.fip_base.specs.Files.{File, file_of, HoldsFile, HoldsLonger, IsMissing}
-use Rattle.fip_base.proofs.Stored.{bytes_eq-other}
 use Rattle.fip_trees.specs.Tree.{Program}
 use Rattle.command_line.specs.Words.{Command, Check, Compile, Exec, Trace, Derive, Audit, Eval, Replay, Library, Gen, IsTextName}
 use Rattle.command_outcome.specs.Stages.{IsOfSource, IsOfRun, IsOfTasks, IsOfTrace, IsOfReplay}
@@ -21,18 +19,18 @@ use Rattle.command_outcome.specs.declared.failure.Failure.TheVariants as F
 use Rattle.command_outcome.specs.declared.failure.Object.TheVariants as O
 use Rattle.source_report.specs.Report.{bare, IsMatched, TooLong}
 use Rattle.eval_command.specs.EvalAnswer.{Evaluates, OrNoMemory}
-use Rattle.source_commands.specs.Judged.{IsJudged, IsProofFile}
+use Rattle.source_commands.specs.Judged.{IsEarlyReport, IsBadProof, IsProofOf, IsRejectedOf}
 use Rattle.source_commands.specs.Roots.{IsListing}
-use Rattle.source_commands.specs.Wanted.{Wanted, Lawful, Root, IsReady, IsRefusedBy, IsReport, IsLongFor, KeepsFrom, KeepsFromVerified, of_entry}
+use Rattle.source_commands.specs.Wanted.{Wanted, Lawful, Root, IsReady, IsRefusedBy, IsLongFor, KeepsFrom, KeepsFromVerified, of_entry}
 use Rattle.source_commands.proofs.Once.{listing_ready}
 use Rattle.source_commands.specs.declared.files.Compiled.{Compiled as compiled_file}
 use Rattle.fip_driver.specs.Answered.{IsTold}
 use Rattle.fip_driver.specs.Commands.{IsOther, ReadsInput, CallsNoFolder, fetched_name, wanted}
-use Rattle.fip_driver.specs.Ends.{End, SaysOf, Refused, Listed, LongInput, Evaluated, MakesCode, ComesOf, Unsound, Ready, MayEnd, IsTaken, IsRunEnd, IsTraceEnd, IsTasksEnd, IsSessionEnd, IsBeside, Checks, Says, Missing, OnSource, OfLibrary, IsUnsaidOn, Comes, MayOnSource, MayOnFile, MayOfGen, IsThere, HoldsProof, IsAuditEnd, IsGenEnd}
+use Rattle.fip_driver.specs.Ends.{End, SaysOf, Refused, Listed, LongInput, Evaluated, MakesCode, ComesOf, Unsound, Ready, MayEnd, IsTaken, IsRunEnd, IsTraceEnd, IsTasksEnd, IsBeside, Checks, Says, Missing, OnSource, OnAudit, OfLibrary, IsUnsaidOn, Comes, MayOnSource, MayOnTrace, MayOfGen, IsThere, IsVerdict, SaysOfAudit, Reported, NoProof, Judged, IsGenEnd}
 use Rattle.fip_driver.specs.Fetched.{FetchFails, FileFails, StoreFails, JudgeFails, ReadFails}
-use Rattle.fip_driver.specs.Outcome.{end_of, compiled_end, IsFault, IsInputFault, ReadOutcome, InputOutcome, SourceOutcome, Closes, FileOutcome, CommandOutcome}
+use Rattle.fip_driver.specs.Outcome.{end_of, compiled_end, IsFault, IsInputFault, ReadOutcome, InputOutcome, SourceOutcome, Closes, FileOutcome, AuditOutcome, CommandOutcome}
 use Rattle.fip_driver.specs.Spelling.{Spelling, source_spelling}
-use Rattle.fip_driver.proofs.Telling.{any_told, held, own_name, bytes_of, longer, told_fetch, told_input, whole_of, more_left}
+use Rattle.fip_driver.proofs.Telling.{any_told, held, bytes_of, longer, told_fetch, told_input, whole_of, more_left}
 
 -- ---- faults
 
@@ -332,7 +330,7 @@ missed_ends c IsLong name files left before now ir f other names calls long h =
 
 pub long_trace : (trace : List ℕ) (step : ℕ) (all : List File) (input bytes : List ℕ) (e : Failure) → e ≡ F.BadTrace 16777216 → 16777216 < length bytes → IsThere all (Replay trace step) bytes → Says source_spelling all input (Replay trace step) (Err e) ⊎ Comes source_spelling all input (Replay trace step) (Err e)
 long_trace trace step all input bytes e same more there =
-    inr (subst (λ f. Comes source_spelling all input (Replay trace step) (Err f)) (sym same) (MayOnFile bytes (Err (F.BadTrace 16777216)) tt there (λ long. refl)))
+    inr (subst (λ f. Comes source_spelling all input (Replay trace step) (Err f)) (sym same) (MayOnTrace trace step bytes (Err (F.BadTrace 16777216)) refl there (λ long. refl)))
 
 pub replay_ends : (trace : List ℕ) (step : ℕ) (files : Option (List File)) (left : Option (List ℕ)) (fr ir : Type 0) (bytes text : List ℕ) (o : Result (Vec ℕ Global) Failure) → HoldsFile files trace bytes → text ≡ bytes → OnOk o (length text ≤ 16777216) → ((at : ℕ) → o ≡ Err (F.BadTrace at) → 16777216 < length text → at ≡ 16777216) → IfErr o IsOfReplay → FileOutcome (Replay trace step) files left fr ir (end_of o)
 replay_ends trace step files left fr ir bytes text o holds same short long stage =
@@ -341,113 +339,122 @@ replay_ends trace step files left fr ir bytes text o holds same short long stage
     (t.0, i.0, t.1, i.1, by o t.0 (trace, refl, t.2) i.0 (subst (λ xs. OnOk o (length xs ≤ 16777216)) same short) (subst (λ xs. (at : ℕ) → o ≡ Err (F.BadTrace at) → 16777216 < length xs → at ≡ 16777216) same long) stage)
   where
     by : (o : Result (Vec ℕ Global) Failure) (all : List File) → IsThere all (Replay trace step) bytes → (input : List ℕ) → OnOk o (length bytes ≤ 16777216) → ((at : ℕ) → o ≡ Err (F.BadTrace at) → 16777216 < length bytes → at ≡ 16777216) → IfErr o IsOfReplay → Closes source_spelling all input (Replay trace step) fr ir (end_of o)
-    by (Ok v) all there input short long stage = inr (inr (MayOnFile bytes (Ok v.items) tt there short))
-    by (Err (F.BadTrace at)) all there input short long stage = inr (inr (MayOnFile bytes (Err (F.BadTrace at)) tt there (long at refl)))
+    by (Ok v) all there input short long stage = inr (inr (MayOnTrace trace step bytes (Ok v.items) refl there short))
+    by (Err (F.BadTrace at)) all there input short long stage = inr (inr (MayOnTrace trace step bytes (Err (F.BadTrace at)) refl there (long at refl)))
     by (Err F.NoMemory) all there input short long stage = inl tt
     by (Err f) all there input short long stage = absurd stage
 
 -- ---- `audit`
 
--- files that are told, with the bytes of both files
-both_held : (files : Option (List File)) (file source proof bytes : List ℕ) → HoldsFile files file source → HoldsFile files proof bytes → (all : List File) × IsTold files all × (file_of file all ≡ Some source) × HoldsProof all file proof bytes
-both_held (Some all) file source proof bytes h k = (all, refl, h, λ differ. k)
-both_held None file source proof bytes h k = (record { name = file; bytes = source } ∷ record { name = proof; bytes = bytes } ∷ [], tt, own, other)
-  where
-    own : file_of file (record { name = file; bytes = source } ∷ record { name = proof; bytes = bytes } ∷ []) ≡ Some source
-    own = ap (λ b. if b then Some source else file_of file (record { name = proof; bytes = bytes } ∷ [])) ((bytes_eq-Decides file file).1 refl)
-
-    other : (proof ≡ file → ⊥) → file_of proof (record { name = file; bytes = source } ∷ record { name = proof; bytes = bytes } ∷ []) ≡ Some bytes
-    other differ = ap (λ b. if b then Some source else file_of proof (record { name = proof; bytes = bytes } ∷ [])) (bytes_eq-other file proof differ) ∙ own_name proof bytes
-
 -- what a proof file that is too long is told by
-pub long_judged : (files : Option (List File)) (name : List ℕ) (before now : ℕ) (f : Failure) → HoldsLonger files name 16777216 → IsRefusedBy (λ r. r ≡ of_entry E72 (decimal 16777216)) f → JudgeFails files name before now f
+pub long_judged : (files : Option (List File)) (name : List ℕ) (before now : ℕ) (f : Failure) → HoldsLonger files name 16777216 → IsRefusedBy (λ r. r ≡ of_entry E72 (decimal 16777216)) f → JudgeFails IsBadProof files name before now f
 long_judged files name before now (F.Refused r) h e = by files h
   where
-    told : (bytes : List ℕ) → 16777216 < length bytes → IsJudged bytes r
-    told bytes more = inl (16777216, inl (more, refl), e)
+    told : (bytes : List ℕ) → 16777216 < length bytes → IsBadProof bytes r
+    told bytes more = (16777216, inl (more, refl), e)
 
-    under : (o : Option (List ℕ)) (all : List File) → file_of name all ≡ o → IsSomeAnd o (λ bytes. 16777216 < length bytes) → (bytes : List ℕ) × (file_of name all ≡ Some bytes) × IsJudged bytes r
+    under : (o : Option (List ℕ)) (all : List File) → file_of name all ≡ o → IsSomeAnd o (λ bytes. 16777216 < length bytes) → (bytes : List ℕ) × (file_of name all ≡ Some bytes) × IsBadProof bytes r
     under None all same h = absurd h
     under (Some bytes) all same h = (bytes, same, told bytes h)
 
-    by : (files : Option (List File)) → HoldsLonger files name 16777216 → (bytes : List ℕ) × HoldsFile files name bytes × IsJudged bytes r
+    by : (files : Option (List File)) → HoldsLonger files name 16777216 → (bytes : List ℕ) × HoldsFile files name bytes × IsBadProof bytes r
     by (Some all) h = under (file_of name all) all refl h
     by None h = let b = bytes_of 16777217 in let n = b.1 in (b.0, tt, told b.0 (omega (arith, n)))
 long_judged files name before now F.NoMemory h e = tt
 long_judged files name before now f h e = absurd e
 
-judged_bytes : (files : Option (List File)) (name bytes : List ℕ) (before now : ℕ) (f : Failure) → HoldsFile files name bytes → IsRefusedBy (IsJudged bytes) f → JudgeFails files name before now f
-judged_bytes files name bytes before now (F.Refused r) h k = (bytes, h, k)
-judged_bytes files name bytes before now F.NoMemory h k = tt
-judged_bytes files name bytes before now f h k = absurd k
+-- a proof file, read and judged
+module _ (p : Program) (files : Option (List File)) (name bytes text : List ℕ) (holds : HoldsFile files name bytes) (same : text ≡ bytes) where
+  judged_bytes : (before now : ℕ) (f : Failure) → IsRefusedBy (IsRejectedOf bytes p) f → JudgeFails (λ xs. IsRejectedOf xs p) files name before now f
+  judged_bytes before now (F.Refused r) k = (bytes, holds, k)
+  judged_bytes before now F.NoMemory k = tt
+  judged_bytes before now f k = absurd k
 
-pub judged_failed : (files : Option (List File)) (name bytes text : List ℕ) (before now : ℕ) (o : Result (Vec ℕ Global) Failure) → HoldsFile files name bytes → text ≡ bytes → IfErr o (IsRefusedBy (IsJudged text)) → IfErr o (JudgeFails files name before now)
-judged_failed files name bytes text before now (Ok v) h same k = tt
-judged_failed files name bytes text before now (Err f) h same k = judged_bytes files name bytes before now f h (subst (λ xs. IsRefusedBy (IsJudged xs) f) same k)
+  pub judged_failed : (before now : ℕ) (o : Result (Vec ℕ Global) Failure) → IfErr o (IsRefusedBy (IsRejectedOf text p)) → IfErr o (JudgeFails (λ xs. IsRejectedOf xs p) files name before now)
+  judged_failed before now (Ok v) k = tt
+  judged_failed before now (Err f) k = judged_bytes before now f (subst (λ xs. IsRefusedBy (IsRejectedOf xs p) f) same k)
 
-pub judged_spelt : (files : Option (List File)) (name bytes text : List ℕ) (o : Result (Vec ℕ Global) Failure) → HoldsFile files name bytes → text ≡ bytes → OnOk o (IsProofFile text) → OnOk o ((xs : List ℕ) × HoldsFile files name xs × IsProofFile xs)
-judged_spelt files name bytes text (Ok v) h same k = (bytes, h, subst IsProofFile same k)
-judged_spelt files name bytes text (Err f) h same k = tt
+  pub judged_accepted : (o : Result (Vec ℕ Global) Failure) → OnOk o (IsProofOf text p) → OnOk o ((xs : List ℕ) × HoldsFile files name xs × IsProofOf xs p)
+  judged_accepted (Ok v) k = (bytes, holds, subst (λ xs. IsProofOf xs p) same k)
+  judged_accepted (Err f) k = tt
 
--- how `audit` may end on a source that is there
-audit_may : (file proof : List ℕ) (files : Option (List File)) (left : Option (List ℕ)) (fr ir : Type 0) (source : List ℕ) (all : List File) (e : End) → IsTold files all → file_of file all ≡ Some source → IsAuditEnd all file proof source e → FileOutcome (Audit file proof) files left fr ir e
-audit_may file proof files left fr ir source all e told there h = let i = any_told left [] in (all, i.0, told, i.1, inr (inr (MayOnFile source e tt (file, refl, there) h)))
+-- what is bad is rejected, whatever the program
+module _ (p : Program) (files : Option (List File)) (name : List ℕ) (before now : ℕ) where
+  pub bad_fails : (f : Failure) → JudgeFails IsBadProof files name before now f → JudgeFails (λ xs. IsRejectedOf xs p) files name before now f
+  bad_fails (F.Refused r) h = (h.0, h.1, inl h.2)
+  bad_fails (F.Fault object) h = h
+  bad_fails F.NoMemory h = tt
+  bad_fails f h = absurd h
 
-proof_missing : (file proof : List ℕ) (files : Option (List File)) (left : Option (List ℕ)) (fr ir : Type 0) (source : List ℕ) → HoldsFile files file source → ((p : Program) × IsMatched source p) → IsMissing files proof → FileOutcome (Audit file proof) files left fr ir (Err (F.Fault O.Folder))
-proof_missing file proof None left fr ir source holds matched gone = absurd gone
-proof_missing file proof (Some all) left fr ir source holds matched gone = audit_may file proof (Some all) left fr ir source all (Err (F.Fault O.Folder)) refl holds (matched, gone)
+-- the end of a file is that of `audit`
+audit_says : (file proof : List ℕ) (files : List File) (left : Option (List ℕ)) (fr ir : Type 0) (source : List ℕ) (e : End) → file_of file files ≡ Some source → SaysOfAudit source (file_of proof files) e → FileOutcome (Audit file proof) (Some files) left fr ir e
+audit_says file proof files left fr ir source e there h = let i = any_told left [] in (files, i.0, refl, i.1, inr (inl (OnAudit file proof source e refl (file, refl, there) h)))
+
+-- a proof file that was fetched and judged
+verdict_says : (file proof : List ℕ) (files : Option (List File)) (left : Option (List ℕ)) (fr ir : Type 0) (source bytes : List ℕ) (p : Program) (e : End) → HoldsFile files file source → HoldsFile files proof bytes → IsMatched source p → IsVerdict p bytes e → AuditOutcome (Audit file proof) files left fr ir e
+verdict_says file proof (Some all) left fr ir source bytes p e holds there right h =
+    inl (audit_says file proof all left fr ir source e holds (subst (λ o. SaysOfAudit source o e) (sym there) (Judged p bytes e right h)))
+verdict_says file proof None left fr ir source bytes p e holds there right h = inr (source, bytes, Judged p bytes e right h)
+
+proof_missing : (file proof : List ℕ) (files : Option (List File)) (left : Option (List ℕ)) (fr ir : Type 0) (source : List ℕ) (p : Program) → HoldsFile files file source → IsMatched source p → IsMissing files proof → AuditOutcome (Audit file proof) files left fr ir (Err (F.Fault O.Folder))
+proof_missing file proof None left fr ir source p holds right gone = absurd gone
+proof_missing file proof (Some all) left fr ir source p holds right gone =
+    inl (audit_says file proof all left fr ir source (Err (F.Fault O.Folder)) holds (subst (λ o. SaysOfAudit source o (Err (F.Fault O.Folder))) (sym gone) (NoProof p right)))
 
 -- a fault, or want of memory
-audit_fault : (file proof : List ℕ) (files : Option (List File)) (left : Option (List ℕ)) (fr ir : Type 0) (e : End) → IsFault (Audit file proof) fr ir e → FileOutcome (Audit file proof) files left fr ir e
-audit_fault file proof files left fr ir e h = let t = any_told files [] in let i = any_told left [] in (t.0, i.0, t.1, i.1, inl h)
+audit_fault : (file proof : List ℕ) (files : Option (List File)) (left : Option (List ℕ)) (fr ir : Type 0) (e : End) → IsFault (Audit file proof) fr ir e → AuditOutcome (Audit file proof) files left fr ir e
+audit_fault file proof files left fr ir e h = let t = any_told files [] in let i = any_told left [] in inl (t.0, i.0, t.1, i.1, inl h)
 
 -- a source whose types and matches are right
-pub judged_ends : (file proof : List ℕ) (files later : Option (List File)) (left : Option (List ℕ)) (ir : Type 0) (source text : List ℕ) (p : Program) (before mid now : ℕ) (o : Result (Vec ℕ Global) Failure) → HoldsFile files file source → later ≡ files → before ≤ mid → text ≡ source → IsMatched text p → IfOk o (λ v. v.items ≡ derived_text) → OnOk o ((bytes : List ℕ) × HoldsFile later proof bytes × IsProofFile bytes) → IfErr o (JudgeFails later proof mid now) → FileOutcome (Audit file proof) files left (Rose before now) ir (end_of o)
-judged_ends file proof files later left ir source text p before mid now o holds kept le same matched ok spelt err =
-    by o ok (subst (λ x. OnOk o ((bytes : List ℕ) × HoldsFile x proof bytes × IsProofFile bytes)) kept spelt) (subst (λ x. IfErr o (JudgeFails x proof mid now)) kept err)
+pub judged_ends : (file proof : List ℕ) (files later : Option (List File)) (left : Option (List ℕ)) (ir : Type 0) (source text : List ℕ) (p : Program) (before mid now : ℕ) (o : Result (Vec ℕ Global) Failure) → HoldsFile files file source → later ≡ files → before ≤ mid → text ≡ source → IsMatched text p → IfOk o (λ v. v.items ≡ derived_text) → OnOk o ((bytes : List ℕ) × HoldsFile later proof bytes × IsProofOf bytes p) → IfErr o (JudgeFails (λ xs. IsRejectedOf xs p) later proof mid now) → AuditOutcome (Audit file proof) files left (Rose before now) ir (end_of o)
+judged_ends file proof files later left ir source text p before mid now o holds kept le same matched ok accepted err =
+    by o ok (subst (λ x. OnOk o ((bytes : List ℕ) × HoldsFile x proof bytes × IsProofOf bytes p)) kept accepted) (subst (λ x. IfErr o (JudgeFails (λ xs. IsRejectedOf xs p) x proof mid now)) kept err)
   where
-    right : (p : Program) × IsMatched source p
-    right = (p, subst (λ s. IsMatched s p) same matched)
+    right : IsMatched source p
+    right = subst (λ s. IsMatched s p) same matched
 
-    by : (o : Result (Vec ℕ Global) Failure) → IfOk o (λ v. v.items ≡ derived_text) → OnOk o ((bytes : List ℕ) × HoldsFile files proof bytes × IsProofFile bytes) → IfErr o (JudgeFails files proof mid now) → FileOutcome (Audit file proof) files left (Rose before now) ir (end_of o)
-    by (Ok v) ok spelt err =
-        let t = both_held files file source proof spelt.0 holds spelt.1 in
-        audit_may file proof files left (Rose before now) ir source t.0 (Ok v.items) t.1 t.2 (right, (spelt.0, t.3, spelt.2), ok)
-    by (Err (F.Refused r)) ok spelt err =
-        let t = both_held files file source proof err.0 holds err.1 in
-        audit_may file proof files left (Rose before now) ir source t.0 (Err (F.Refused r)) t.1 t.2 (inr (right, (err.0, t.3, err.2)))
-    by (Err (F.Fault O.Folder)) ok spelt err = elim err.1 [
+    by : (o : Result (Vec ℕ Global) Failure) → IfOk o (λ v. v.items ≡ derived_text) → OnOk o ((bytes : List ℕ) × HoldsFile files proof bytes × IsProofOf bytes p) → IfErr o (JudgeFails (λ xs. IsRejectedOf xs p) files proof mid now) → AuditOutcome (Audit file proof) files left (Rose before now) ir (end_of o)
+    by (Ok v) ok accepted err = verdict_says file proof files left (Rose before now) ir source accepted.0 p (Ok v.items) holds accepted.1 right (accepted.2, ok)
+    by (Err (F.Refused r)) ok accepted err = verdict_says file proof files left (Rose before now) ir source err.0 p (Err (F.Refused r)) holds err.1 right err.2
+    by (Err (F.Fault O.Folder)) ok accepted err = elim err.1 [
       | inl up ↦ audit_fault file proof files left (Rose before now) ir (Err (F.Fault O.Folder)) (rose_later before mid now le up, λ r. r)
-      | inr gone ↦ proof_missing file proof files left (Rose before now) ir source holds right gone
+      | inr gone ↦ proof_missing file proof files left (Rose before now) ir source p holds right gone
     ]
-    by (Err (F.Fault O.Input)) ok spelt err = absurd (let same = err.0 in cc)
-    by (Err (F.Fault O.Out)) ok spelt err = absurd (let same = err.0 in cc)
-    by (Err (F.Fault O.Err)) ok spelt err = absurd (let same = err.0 in cc)
-    by (Err F.NoMemory) ok spelt err = audit_fault file proof files left (Rose before now) ir (Err F.NoMemory) tt
-    by (Err f) ok spelt err = absurd err
+    by (Err (F.Fault O.Input)) ok accepted err = absurd (let same = err.0 in cc)
+    by (Err (F.Fault O.Out)) ok accepted err = absurd (let same = err.0 in cc)
+    by (Err (F.Fault O.Err)) ok accepted err = absurd (let same = err.0 in cc)
+    by (Err F.NoMemory) ok accepted err = audit_fault file proof files left (Rose before now) ir (Err F.NoMemory) tt
+    by (Err f) ok accepted err = absurd err
 
 -- one whose report is among those that are asked
-pub reported_ends : (file proof : List ℕ) (files : Option (List File)) (left : Option (List ℕ)) (fr ir : Type 0) (source text : List ℕ) (f : Failure) → HoldsFile files file source → text ≡ source → IsRefusedBy (IsReport text) f → FileOutcome (Audit file proof) files left fr ir (Err f)
+pub reported_ends : (file proof : List ℕ) (files : Option (List File)) (left : Option (List ℕ)) (fr ir : Type 0) (source text : List ℕ) (f : Failure) → HoldsFile files file source → text ≡ source → IsRefusedBy (IsEarlyReport text) f → AuditOutcome (Audit file proof) files left fr ir (Err f)
 reported_ends file proof files left fr ir source text f holds same h =
     let t = held files file source holds in
     let i = any_told left [] in
-    (t.0, i.0, t.1, i.1, by f t.0 i.0 t.2 (subst (λ s. IsRefusedBy (IsReport s) f) same h))
+    inl (t.0, i.0, t.1, i.1, by f t.0 i.0 t.2 (subst (λ s. IsRefusedBy (IsEarlyReport s) f) same h))
   where
-    by : (f : Failure) (all : List File) (input : List ℕ) → file_of file all ≡ Some source → IsRefusedBy (IsReport source) f → Closes source_spelling all input (Audit file proof) fr ir (Err f)
-    by (F.Refused r) all input there h = inr (inr (MayOnFile source (Err (F.Refused r)) tt (file, refl, there) (inl h)))
+    by : (f : Failure) (all : List File) (input : List ℕ) → file_of file all ≡ Some source → IsRefusedBy (IsEarlyReport source) f → Closes source_spelling all input (Audit file proof) fr ir (Err f)
+    by (F.Refused r) all input there h = inr (inl (OnAudit file proof source (Err (F.Refused r)) refl (file, refl, there) (Reported r (file_of proof all) h)))
     by F.NoMemory all input there h = inl tt
     by failure all input there h = absurd h
 
+-- a source that is too long isn't right
+long_early : (source : List ℕ) → 1048576 < length source → IsEarlyReport source (bare E05)
+long_early source more = ((bare E05, TooLong more, refl), too_many)
+  where
+    too_many : (p : Program) → IsMatched source p → ⊥
+    too_many p m = let short : length source ≤ 1048576 = m.typed.flat.declared.parsed.short in omega (arith, short, more)
+
 -- one that wasn't fetched
-pub audit_unfetched : (file proof : List ℕ) (files : Option (List File)) (left : Option (List ℕ)) (before now : ℕ) (ir : Type 0) (f : Failure) → FetchFails files file before now f → FileOutcome (Audit file proof) files left (Rose before now) ir (Err f)
+pub audit_unfetched : (file proof : List ℕ) (files : Option (List File)) (left : Option (List ℕ)) (before now : ℕ) (ir : Type 0) (f : Failure) → FetchFails files file before now f → AuditOutcome (Audit file proof) files left (Rose before now) ir (Err f)
 audit_unfetched file proof files left before now ir f h =
     let t = told_fetch files file before now f h in
     let i = any_told left [] in
-    (t.0, i.0, t.1, i.1, by f t.0 i.0 t.2)
+    inl (t.0, i.0, t.1, i.1, by f t.0 i.0 t.2)
   where
     long : (r : Refusal) (all : List File) (input : List ℕ) (o : Option (List ℕ)) → file_of file all ≡ o → r ≡ bare E05 → IsSomeAnd o (λ bytes. 1048576 < length bytes) → Closes source_spelling all input (Audit file proof) (Rose before now) ir (Err (F.Refused r))
     long r all input None e same h = absurd h
-    long r all input (Some source) e same h = inr (inr (MayOnFile source (Err (F.Refused r)) tt (file, refl, e) (inl (subst (IsReport source) (sym same) (bare E05, TooLong h, refl)))))
+    long r all input (Some source) e same h = inr (inl (OnAudit file proof source (Err (F.Refused r)) refl (file, refl, e) (Reported r (file_of proof all) (subst (IsEarlyReport source) (sym same) (long_early source h)))))
 
     by : (f : Failure) (all : List File) (input : List ℕ) → FetchFails (Some all) file before now f → Closes source_spelling all input (Audit file proof) (Rose before now) ir (Err f)
     by (F.Refused r) all input h = long r all input (file_of file all) refl h.0 h.1
@@ -461,8 +468,15 @@ audit_unfetched file proof files left before now ir f h =
 -- ---- the words
 
 pub file_outcome : (c : Command) (files : Option (List File)) (left : Option (List ℕ)) (fr ir more_ir : Type 0) (o : Result (Vec ℕ Global) Failure) → (ir → more_ir) → FileOutcome c files left fr ir (end_of o) → CommandOutcome c files left fr more_ir o
-file_outcome c files left fr ir mi o up h words asked = (h.0, h.1, h.2, h.3, inr (c, asked, by h.4))
+file_outcome c files left fr ir mi o up h words asked = (h.0, h.1, h.2, h.3, inr (inl (c, asked, by h.4)))
   where
     by : Closes source_spelling h.0 h.1 c fr ir (end_of o) → Closes source_spelling h.0 h.1 c fr mi (end_of o)
     by (inl f) = inl (fault_up c fr ir fr mi (end_of o) (λ r. r) up f)
     by (inr k) = inr k
+
+pub audit_outcome : (c : Command) (files : Option (List File)) (left : Option (List ℕ)) (fr ir more_ir : Type 0) (o : Result (Vec ℕ Global) Failure) → (ir → more_ir) → AuditOutcome c files left fr ir (end_of o) → CommandOutcome c files left fr more_ir o
+audit_outcome c files left fr ir mi o up (inl h) words asked = file_outcome c files left fr ir mi o up h words asked
+audit_outcome c files left fr ir mi o up (inr h) words asked =
+    let t = any_told files [] in
+    let i = any_told left [] in
+    (t.0, i.0, t.1, i.1, inr (inr (c, asked, h)))

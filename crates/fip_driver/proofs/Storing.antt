@@ -1,37 +1,35 @@
 -- What a command that stores leaves of the files.
-use Rattle.std.proofs.Common.{◌≡◌, ℕ, List, sym, subst, refl}
-use Rattle.std.specs.Prelude.{Option, Some, None, Ok, Err}
-use Rattle.fip_base.specs.Files.{File, KeepsOthers}
+use Rattle.std.proofs.Common.{◌≡◌, ◌≤◌, ℕ, List, subst, refl, inl, inr}
+use Rattle.std.specs.Prelude.{Option, Some, None, Ok, Err, IfErr}
+use Rattle.fip_base.specs.Faults.{Rose}
+use Rattle.fip_base.specs.Files.{File}
 use Rattle.command_line.specs.Words.{Command}
 use Rattle.command_outcome.specs.declared.failure.Failure.{Failure}
 use Rattle.command_outcome.specs.declared.failure.Failure.TheVariants as F
 use Rattle.command_outcome.specs.declared.failure.Object.TheVariants as O
-use Rattle.fip_driver.specs.Fetched.{StoreKeeps}
+use Rattle.fip_driver.specs.Fetched.{StoreFails, StoreKeeps}
 use Rattle.fip_driver.specs.Unread.{Outcome, IsMadeBy, AreKept}
+use Rattle.fip_driver.proofs.SourceEnds.{rose_later}
 
-others_same : (files : Option (List File)) (name : List ℕ) → KeepsOthers files files name
-others_same None name = tt
-others_same (Some files) name = λ other differ. refl
-
-pub unstored : (c : Command) (name : List ℕ) (old new : Option (List File)) (f : Failure) → new ≡ old → AreKept c (Some name) old new (Err f)
-unstored c name old new (F.Fault O.Folder) e = subst (λ x. KeepsOthers old x name) (sym e) (others_same old name)
-unstored c name old new (F.Fault O.Input) e = e
-unstored c name old new (F.Fault O.Out) e = e
-unstored c name old new (F.Fault O.Err) e = e
-unstored c name old new f e = e
+pub unstored : (c : Command) (name : List ℕ) (rose : Type 0) (old new : Option (List File)) (f : Failure) → new ≡ old → AreKept c (Some name) rose old new (Err f)
+unstored c name rose old new (F.Fault O.Folder) e = inl e
+unstored c name rose old new (F.Fault O.Input) e = e
+unstored c name rose old new (F.Fault O.Out) e = e
+unstored c name rose old new (F.Fault O.Err) e = e
+unstored c name rose old new f e = e
 
 -- of no command's turn
-pub nothing_stored : (c : Command) (stored : Option (List ℕ)) (files : Option (List File)) (f : Failure) → AreKept c stored files files (Err f)
-nothing_stored c None files f = refl
-nothing_stored c (Some name) files f = unstored c name files files f refl
+pub nothing_stored : (c : Command) (stored : Option (List ℕ)) (rose : Type 0) (files : Option (List File)) (f : Failure) → AreKept c stored rose files files (Err f)
+nothing_stored c None rose files f = refl
+nothing_stored c (Some name) rose files f = unstored c name rose files files f refl
 
-pub stored_kept : (c : Command) (name bytes : List ℕ) (old mid new : Option (List File)) (o : Outcome) → mid ≡ old → IsMadeBy c old bytes → StoreKeeps name bytes mid new o → AreKept c (Some name) old new o
-stored_kept c name bytes old mid new o same made kept = by o (subst (λ x. StoreKeeps name bytes x new o) same kept)
+pub stored_kept : (c : Command) (name bytes : List ℕ) (old mid new : Option (List File)) (before between now : ℕ) (o : Outcome) → mid ≡ old → before ≤ between → IsMadeBy c old bytes → IfErr o (StoreFails between now) → StoreKeeps name bytes mid new o → AreKept c (Some name) (Rose before now) old new o
+stored_kept c name bytes old mid new before between now o same le made fails kept = by o fails (subst (λ x. StoreKeeps name bytes x new o) same kept)
   where
-    by : (o : Outcome) → StoreKeeps name bytes old new o → AreKept c (Some name) old new o
-    by (Ok text) k = record { others = k.0; bytes = bytes; there = k.1; made = made }
-    by (Err (F.Fault O.Folder)) k = k
-    by (Err (F.Fault O.Input)) k = k
-    by (Err (F.Fault O.Out)) k = k
-    by (Err (F.Fault O.Err)) k = k
-    by (Err f) k = k
+    by : (o : Outcome) → IfErr o (StoreFails between now) → StoreKeeps name bytes old new o → AreKept c (Some name) (Rose before now) old new o
+    by (Ok text) fails k = record { others = k.0; bytes = bytes; there = k.1; made = made }
+    by (Err (F.Fault O.Folder)) fails k = inr (rose_later before between now le fails.1, record { others = k; bytes = bytes; made = made })
+    by (Err (F.Fault O.Input)) fails k = k
+    by (Err (F.Fault O.Out)) fails k = k
+    by (Err (F.Fault O.Err)) fails k = k
+    by (Err f) fails k = k

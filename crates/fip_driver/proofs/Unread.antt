@@ -15,7 +15,7 @@ use Rattle.fip_driver.specs.Commands.{ReadsInput, CallsNoFolder}
 use Rattle.fip_driver.specs.Fetched.{FetchFails, StoreFails, ReadFails, IsEarlyFailure, IsLateFailure}
 use Rattle.fip_driver.specs.Fronted.{FrontFails}
 use Rattle.fip_driver.specs.LoopRun.{IsLoopRun}
-use Rattle.fip_driver.specs.Unread.{Outcome, IsBeforeSource, IsBeforeInput, IsBeforeTrace, IsBeforeInputOf, HadInput, HadFolder, LeavesInput, AreKept, IsEarly, MayHaveRead, HasRead, HasCalled, AreAfter}
+use Rattle.fip_driver.specs.Unread.{Outcome, IsBeforeSource, IsBeforeInput, IsBeforeTrace, IsBeforeInputOf, FindsSource, WaitsOr, HadInput, HadFolder, LeavesInput, AreKept, IsEarly, MayHaveRead, HasRead, HasCalled, AreAfter}
 use Rattle.command_outcome.specs.declared.failure.Failure.{Failure}
 use Rattle.command_outcome.specs.declared.failure.Failure.TheVariants as F
 use Rattle.command_outcome.specs.declared.failure.Object.TheVariants as O
@@ -197,10 +197,17 @@ calls_or_not (Library name) = inl tt
 calls_or_not (Gen seed count) = inl tt
 calls_or_not c = inr (λ b. b)
 
+waits_or_finds : (same : Type 0) (c : Command) (files : Option (List File)) → WaitsOr same c files → same ⊎ FindsSource c files
+waits_or_finds same (Trace file entry out room) files h = h
+waits_or_finds same c files h = inr tt
+
 module _ (words : List (List ℕ)) (c : Command) (asked : IsCommand words c) (o : Outcome) where
-  pub input_turn : (same : Type 0) → ((ReadsInput c → ⊥) → same) → (IsBeforeInputOf c o → same) → same ⊎ HadInput words o
-  input_turn same unread before = elim (reads_or_not c) [
-    | inl reads ↦ elim (before_or_not c o) [ inl b ↦ inl (before b) | inr late ↦ inr (c, asked, reads, late) ]
+  pub input_turn : (same : Type 0) (files : Option (List File)) → ((ReadsInput c → ⊥) → same) → (IsBeforeInputOf c o → same) → WaitsOr same c files → same ⊎ HadInput words files o
+  input_turn same files unread before waits = elim (reads_or_not c) [
+    | inl reads ↦ elim (before_or_not c o) [
+      | inl b ↦ inl (before b)
+      | inr late ↦ elim (waits_or_finds same c files waits) [ inl e ↦ inl e | inr finds ↦ inr (c, asked, reads, late, finds) ]
+    ]
     | inr never ↦ inl (unread never)
   ]
 
@@ -287,15 +294,16 @@ last_status out out' err err' (Ok text) s A d h e = h
 last_status out out' err err' (Err f) s A d h e = absurd (failure_last err err' f s d.1 e)
 
 -- the files after a command, by its status
-pub files_after : (out out' err err' : Seen) (c : Command) (stored : Option (List ℕ)) (old new : Option (List File)) (o : Outcome) (s : ℕ) → Delivered out out' err err' o s → AreKept c stored old new o → AreAfter c stored old new s
-files_after out out' err err' c None old new o s d h = h
-files_after out out' err err' c (Some name) old new (Ok text) s (inl d) h = inl (d.0, h)
-files_after out out' err err' c (Some name) old new (Ok text) s (inr d) h = inr (inl (d.0, h.others))
-files_after out out' err err' c (Some name) old new (Err (F.Fault O.Folder)) s d h = inr (inl (d.1.0, h))
-files_after out out' err err' c (Some name) old new (Err (F.Fault O.Input)) s d h = inr (inr (failure_last err err' (F.Fault O.Input) s d.1, h))
-files_after out out' err err' c (Some name) old new (Err (F.Fault O.Out)) s d h = inr (inr (failure_last err err' (F.Fault O.Out) s d.1, h))
-files_after out out' err err' c (Some name) old new (Err (F.Fault O.Err)) s d h = inr (inr (failure_last err err' (F.Fault O.Err) s d.1, h))
-files_after out out' err err' c (Some name) old new (Err f) s d h = inr (inr (failure_last err err' f s d.1, h))
+pub files_after : (out out' err err' : Seen) (c : Command) (stored : Option (List ℕ)) (rose : Type 0) (old new : Option (List File)) (o : Outcome) (s : ℕ) → Delivered out out' err err' o s → AreKept c stored rose old new o → AreAfter c stored rose out out' old new s
+files_after out out' err err' c None rose old new o s d h = h
+files_after out out' err err' c (Some name) rose old new (Ok text) s (inl d) h = inl (h, inl d.0)
+files_after out out' err err' c (Some name) rose old new (Ok text) s (inr d) h = inl (h, inr (d.0, d.1))
+files_after out out' err err' c (Some name) rose old new (Err (F.Fault O.Folder)) s d (inl same) = inr (d.0, inl (failure_last err err' (F.Fault O.Folder) s d.1, same))
+files_after out out' err err' c (Some name) rose old new (Err (F.Fault O.Folder)) s d (inr h) = inr (d.0, inr (d.1.0, h.0, h.1))
+files_after out out' err err' c (Some name) rose old new (Err (F.Fault O.Input)) s d h = inr (d.0, inl (failure_last err err' (F.Fault O.Input) s d.1, h))
+files_after out out' err err' c (Some name) rose old new (Err (F.Fault O.Out)) s d h = inr (d.0, inl (failure_last err err' (F.Fault O.Out) s d.1, h))
+files_after out out' err err' c (Some name) rose old new (Err (F.Fault O.Err)) s d h = inr (d.0, inl (failure_last err err' (F.Fault O.Err) s d.1, h))
+files_after out out' err err' c (Some name) rose old new (Err f) s d h = inr (d.0, inl (failure_last err err' f s d.1, h))
 
 -- the words come before the input of `trace`
 source_trace : (o : Outcome) → IsBeforeSource o → IsBeforeTrace o
@@ -323,9 +331,9 @@ module _ (words : List (List ℕ)) (out out' err err' : Seen) (o : Outcome) (s :
   may_have_read (Trace file entry to room) late' = λ e. elim e [ inl two ↦ late' (source_trace o (first_status out out' err err' o s d two)) | inr eight ↦ late' (eighth_status out out' err err' o s d eight) ]
   may_have_read c late' = λ e. late' (early_status out out' err err' o s d e)
 
-  pub input_read : (same : Type 0) → same ⊎ HadInput words o → same ⊎ HasRead words s
-  input_read same (inl e) = inl e
-  input_read same (inr h) = inr (h.0, h.1, h.2, may_have_read h.0 h.3)
+  pub input_read : (same : Type 0) (files : Option (List File)) → same ⊎ HadInput words files o → same ⊎ HasRead words files s
+  input_read same files (inl e) = inl e
+  input_read same files (inr h) = inr (h.0, h.1, h.2, may_have_read h.0 h.3, h.4)
 
   pub folder_called : (same : Type 0) → same ⊎ HadFolder words o → same ⊎ HasCalled words s
   folder_called same (inl e) = inl e

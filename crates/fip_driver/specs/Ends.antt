@@ -5,7 +5,8 @@
 -- The causes come in this order: the file is missing; the source or the code is refused, then the entry; the input has
 -- too many bytes. So `check list.fip3` ends with `fault: folder` where there is no such file, with the report of
 -- the source where it breaks a rule, and else with a line for each root; and `eval list.fip3 rev` with what the source
--- means, once the input is read.
+-- means, once the input is read. `audit list.fip3 list.proof` fetches the proof file once the types and the matches of
+-- the source are right; `audit list.fip3 list.fip3` judges the source's own bytes, which are no derivation's text.
 use Rattle.std.specs.Prelude.{◌≡◌, ◌⊎◌, ℕ, ◌<◌, ◌≤◌, false, List, length, Option, Some, None, Result, Ok, Err}
 use Rattle.std.specs.Io.KnownBytes.{Appends}
 use Rattle.fip_language.specs.declared.limits.TheConstants.{MOST_SOURCE_BYTES, MOST_FILE_BYTES}
@@ -26,9 +27,9 @@ use Rattle.source_commands.specs.Codes.{sound_view, IsSoundFile, RefusesCode, Is
 use Rattle.source_commands.specs.Codes.{names_one, HasFunction}
 use Rattle.eval_command.specs.EvalAnswer.{Evaluates}
 use Rattle.fip_library.specs.Texts.{IsText}
-use Rattle.source_commands.specs.Judged.{IsJudged, IsProofFile}
+use Rattle.source_commands.specs.Judged.{IsEarlyReport, IsProofOf, IsRejectedOf}
 use Rattle.source_commands.specs.Roots.{IsListing}
-use Rattle.source_commands.specs.Wanted.{Wanted, IsReport, Refuses, IsReady, of_entry}
+use Rattle.source_commands.specs.Wanted.{Wanted, Refuses, IsReady, of_entry}
 use Rattle.fip_driver.specs.Commands.{IsOther, ReadsInput, fetched_name, wanted}
 use Rattle.fip_driver.specs.Spelling.{Spelling, IsOutside}
 
@@ -136,6 +137,23 @@ pub record RunsCode (bytes input : List ℕ) (c : Command) : Type 0 where
   pub function : HasFunction bytes request.entry
   pub short : length input ≤ MOST_FILE_BYTES
 
+-- ---- what is said of `audit`
+
+-- A proof file is judged so for a program: it is derived just where these bytes are the text of a derivation of it.
+abbrev pub IsVerdict : Program → List ℕ → End → Type 0
+IsVerdict p bytes (Ok text) = IsProofOf bytes p × (text ≡ derived_text)
+IsVerdict p bytes (Err (F.Refused r)) = IsRejectedOf bytes p r
+IsVerdict p bytes (Err failure) = ⊥
+
+-- `audit` ends so on a source and the bytes of the proof file, where this is there. The report is told of a source
+-- whose types or matches aren't right, whatever the proof file is. No more rules are asked of one where they are: the
+-- proof file is missing, or it is judged.
+pub data SaysOfAudit (source : List ℕ) : Option (List ℕ) → End → Type 0 where
+  Reported : (r : _) (proof : Option (List ℕ)) → IsEarlyReport source r → SaysOfAudit source proof (Err (F.Refused r))
+  NoProof : (p : Program) → IsMatched source p → SaysOfAudit source None (Err (F.Fault O.Folder))
+  Judged : (p : Program) (bytes : List ℕ) (e : End) → IsMatched source p → IsVerdict p bytes e →
+      SaysOfAudit source (Some bytes) e
+
 -- ---- what is said of the files
 
 -- what `exec` asks first: that the source has no reply as a program of the loop form
@@ -163,42 +181,17 @@ pub data Says (spelling : Spelling) (files : List File) (input : List ℕ) (c : 
       SaysOf source input c w e → Says spelling files input c e
   OnCode : (bytes : List ℕ) (e : End) → IsThere files c bytes → SaysOfCode bytes input c e →
       Says spelling files input c e
+  OnAudit : (file proof source : List ℕ) (e : End) → c ≡ Audit file proof → IsThere files c source →
+      SaysOfAudit source (file_of proof files) e → Says spelling files input c e
   OfLibrary : (name text : List ℕ) → c ≡ Library name → IsText name text → Says spelling files input c (Ok text)
 
 -- ---- what isn't said of them yet
-
--- the commands on a file of which no more is said than that a missing one is told
-abbrev pub IsUnsaid : Command → Type 0
-IsUnsaid (Audit file proof) = Unit {0}
-IsUnsaid (Replay trace step) = Unit {0}
-IsUnsaid c = ⊥
-
--- The proof file has these bytes. (Under the source's own name a folder that tells nothing may give any others.)
-abbrev pub HoldsProof : List File → List ℕ → List ℕ → List ℕ → Type 0
-HoldsProof files file proof bytes = (proof ≡ file → ⊥) → file_of proof files ≡ Some bytes
-
--- A source whose types and matches are right is asked no more rules by `audit`: the proof file may be missing, and is
--- judged. Of one that is a derivation's text no clause says yet whether it is accepted.
-abbrev pub IsAuditEnd : List File → List ℕ → List ℕ → List ℕ → End → Type 0
-IsAuditEnd files file proof source (Ok text) = ((p : Program) × IsMatched source p)
-    × ((bytes : List ℕ) × HoldsProof files file proof bytes × IsProofFile bytes) × (text ≡ derived_text)
-IsAuditEnd files file proof source (Err (F.Refused r)) = IsReport source r ⊎ (((p : Program) × IsMatched source p)
-    × ((bytes : List ℕ) × HoldsProof files file proof bytes × IsJudged bytes r))
-IsAuditEnd files file proof source (Err (F.Fault O.Folder)) =
-    ((p : Program) × IsMatched source p) × (file_of proof files ≡ None)
-IsAuditEnd files file proof source (Err failure) = ⊥
 
 -- A trace that is too long is bad at that offset.
 abbrev pub IsReplayEnd : List ℕ → End → Type 0
 IsReplayEnd bytes (Ok text) = length bytes ≤ MOST_FILE_BYTES
 IsReplayEnd bytes (Err (F.BadTrace at)) = MOST_FILE_BYTES < length bytes → at ≡ MOST_FILE_BYTES
 IsReplayEnd bytes (Err failure) = ⊥
-
--- how such a command may end on a file that is there
-abbrev pub MayEndOn : List File → Command → List ℕ → End → Type 0
-MayEndOn files (Audit file proof) bytes e = IsAuditEnd files file proof bytes e
-MayEndOn files (Replay trace step) bytes e = IsReplayEnd bytes e
-MayEndOn files c bytes e = ⊥
 
 -- `gen` makes its tree by a run of a text of the library.
 abbrev pub IsGenEnd : End → Type 0
@@ -211,23 +204,24 @@ IsUnsaidOn (Check file) = ⊥
 IsUnsaidOn (Eval file entry calls frames) = ⊥
 IsUnsaidOn c = Unit {0}
 
--- The command may end so. It is never `check` or `eval`, whose ends are all said.
+-- The command may end so. It is never `check`, `eval` or `audit`, whose ends are all said.
 pub data Comes (spelling : Spelling) (files : List File) (input : List ℕ) (c : Command) : End → Type 0 where
   MayOnSource : (w : Wanted) (source : List ℕ) (e : End) → IsUnsaidOn c → Checks spelling files c w source →
       ComesOf source input c w e → Comes spelling files input c e
   MayOnCode : (bytes : List ℕ) (e : End) → IsThere files c bytes → RunsCode bytes input c → IsRunEnd e →
       Comes spelling files input c e
-  MayOnFile : (bytes : List ℕ) (e : End) → IsUnsaid c → IsThere files c bytes → MayEndOn files c bytes e →
-      Comes spelling files input c e
+  MayOnTrace : (trace : List ℕ) (step : ℕ) (bytes : List ℕ) (e : End) → c ≡ Replay trace step → IsThere files c bytes →
+      IsReplayEnd bytes e → Comes spelling files input c e
   MayOfGen : (seed count : ℕ) (e : End) → c ≡ Gen seed count → IsGenEnd e → Comes spelling files input c e
 
 -- The answer isn't said: the source has what a command other than `check` and `eval` wants, a function of a code file
--- is run, or it is `audit` or `replay` of a file that is there, or `gen`.
+-- is run, or it is `replay` of a file that is there, or `gen`.
 pub data IsOpen (spelling : Spelling) (files : List File) (input : List ℕ) (c : Command) : Type 0 where
   OpenSource : (w : Wanted) (source : List ℕ) → Checks spelling files c w source → IsReady source w → IsTaken c input →
       IsUnsaidOn c → IsOpen spelling files input c
   OpenCode : (bytes : List ℕ) → IsThere files c bytes → RunsCode bytes input c → IsOpen spelling files input c
-  OpenFile : (bytes : List ℕ) → IsUnsaid c → IsThere files c bytes → IsOpen spelling files input c
+  OpenTrace : (trace : List ℕ) (step : ℕ) (bytes : List ℕ) → c ≡ Replay trace step → IsThere files c bytes →
+      IsOpen spelling files input c
   OpenGen : (seed count : ℕ) → c ≡ Gen seed count → IsOpen spelling files input c
 
 -- ---- how an end is told

@@ -8,7 +8,6 @@ use Rattle.fip_language.specs.declared.rule.Rule.TheVariants.{E05, E70}
 use Rattle.fip_base.specs.Faults.{Rose}
 use Rattle.fip_base.specs.Files.{File, HoldsFile, HoldsLonger, IsMissing, KeepsOthers}
 use Rattle.fip_base.specs.Takes.{Takes}
-use Rattle.source_commands.specs.Judged.{IsJudged}
 use Rattle.command_outcome.specs.Stages.{IsOfSource, IsOfTrace}
 use Rattle.command_outcome.specs.declared.failure.Object.TheVariants as O
 use Rattle.command_outcome.specs.declared.failure.Failure.{Failure}
@@ -49,13 +48,14 @@ StoreKeeps name bytes old new (Ok text) = KeepsOthers old new name × HoldsFile 
 StoreKeeps name bytes old new (Err (F.Fault O.Folder)) = KeepsOthers old new name
 StoreKeeps name bytes old new (Err failure) = new ≡ old
 
--- why a proof file isn't accepted, or wasn't fetched
-abbrev pub JudgeFails : Option (List File) → List ℕ → ℕ → ℕ → Failure → Type 0
-JudgeFails files name before now (F.Refused r) = (bytes : List ℕ) × HoldsFile files name bytes × IsJudged bytes r
-JudgeFails files name before now (F.Fault object) =
+-- why a proof file isn't accepted, its bytes refused so, or wasn't fetched
+abbrev pub JudgeFails : (List ℕ → Refusal → Type 0) → Option (List File) → List ℕ → ℕ → ℕ → Failure → Type 0
+JudgeFails Rejects files name before now (F.Refused r) =
+    (bytes : List ℕ) × HoldsFile files name bytes × Rejects bytes r
+JudgeFails Rejects files name before now (F.Fault object) =
     (object ≡ O.Folder) × (Rose before now ⊎ IsMissing files name)
-JudgeFails files name before now F.NoMemory = Unit {0}
-JudgeFails files name before now failure = ⊥
+JudgeFails Rejects files name before now F.NoMemory = Unit {0}
+JudgeFails Rejects files name before now failure = ⊥
 
 -- why an input wasn't read, by what was left of it before and after, and the count of faults before and after
 abbrev pub ReadFails : Option (List ℕ) → Option (List ℕ) → ℕ → ℕ → Failure → Type 0

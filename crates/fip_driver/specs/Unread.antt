@@ -5,14 +5,17 @@ use Rattle.std.specs.Prelude.{◌≡◌, ◌⊎◌, ℕ, List, Option, Some, Non
 use Rattle.fip_language.specs.declared.rule.Rule.TheVariants.{E75}
 use Rattle.std.specs.declared.vec.Vec.{Vec}
 use Rattle.std.specs.declared.alloc.Global.{Global}
+use Rattle.fip_base.specs.Faults.{Rose}
 use Rattle.fip_base.specs.Files.{File, HoldsFile, KeepsOthers}
-use Rattle.command_line.specs.Words.{Command, Compile, Trace, Upgrade, IsCommand}
+use Rattle.command_line.specs.Words.{Command, Compile, Derive, Trace, Upgrade, IsCommand}
 use Rattle.command_outcome.specs.declared.failure.Failure.{Failure}
 use Rattle.command_outcome.specs.declared.failure.Failure.TheVariants as F
 use Rattle.command_outcome.specs.declared.failure.Object.TheVariants as O
 use Rattle.code_file.specs.Plain.{PlainCode}
 use Rattle.source_commands.specs.Codes.{IsSoundFile, IsUpgraded}
+use Rattle.source_commands.specs.Wanted.{Lawful, Compiled, IsReady}
 use Rattle.fip_driver.specs.Commands.{ReadsInput, CallsNoFolder}
+use Rattle.fip_driver.specs.Delivered.{Seen}
 
 abbrev pub Outcome : Type 0
 Outcome = Result (Vec ℕ Global) Failure
@@ -44,9 +47,22 @@ abbrev pub IsBeforeInputOf : Command → Outcome → Type 0
 IsBeforeInputOf (Trace file entry out room) o = IsBeforeTrace o
 IsBeforeInputOf c o = IsBeforeInput o
 
+-- What `trace` asks before it reads the input: that its file is there and has what is wanted. (Behind its input it may
+-- still fail at the folder, and by a rule; the other commands don't.)
+abbrev pub FindsSource : Command → Option (List File) → Type 0
+FindsSource (Trace file entry out room) files =
+    (source : List ℕ) × HoldsFile files file source × IsReady source (Compiled entry)
+FindsSource c files = Unit {0}
+
+-- an object is the same, or that was asked
+abbrev pub WaitsOr : Type 0 → Command → Option (List File) → Type 0
+WaitsOr same (Trace file entry out room) files = same ⊎ FindsSource (Trace file entry out room) files
+WaitsOr same c files = Unit {0}
+
 -- The words ask for a command that reads the input, and its turn had come.
-abbrev pub HadInput : List (List ℕ) → Outcome → Type 0
-HadInput words o = (c : Command) × IsCommand words c × ReadsInput c × (IsBeforeInputOf c o → ⊥)
+abbrev pub HadInput : List (List ℕ) → Option (List File) → Outcome → Type 0
+HadInput words files o =
+    (c : Command) × IsCommand words c × ReadsInput c × (IsBeforeInputOf c o → ⊥) × FindsSource c files
 
 -- The words ask for a command that calls the folder, and its turn had come.
 abbrev pub HadFolder : List (List ℕ) → Outcome → Type 0
@@ -56,11 +72,14 @@ HadFolder words o = (c : Command) × IsCommand words c × (CallsNoFolder c → �
 abbrev pub LeavesInput : List (List ℕ) → Type 0
 LeavesInput words = (c : Command) × IsCommand words c × (ReadsInput c → ⊥)
 
--- What is stored, as far as it is said, by the files before: `compile` stores the file of a sound code, `upgrade` that
--- of the second version of the code that it fetched.
+-- What is stored, as far as it is said, by the files before: its file is there and has what is wanted. `compile` stores
+-- the file of a sound code, `upgrade` that of the second version of the code that it fetched.
 abbrev pub IsMadeBy : Command → Option (List File) → List ℕ → Type 0
-IsMadeBy (Compile file out) files bytes = (code : PlainCode) × IsSoundFile bytes code
+IsMadeBy (Compile file out) files bytes = (source : List ℕ) × HoldsFile files file source × IsReady source Lawful
+    × ((code : PlainCode) × IsSoundFile bytes code)
 IsMadeBy (Upgrade file out) files bytes = (code : List ℕ) × HoldsFile files file code × IsUpgraded code bytes
+IsMadeBy (Derive file out) files bytes = (source : List ℕ) × HoldsFile files file source × IsReady source Lawful
+IsMadeBy (Trace file entry out room) files bytes = FindsSource (Trace file entry out room) files
 IsMadeBy c files bytes = Unit {0}
 
 -- The command's file is stored under this name; each other file is as it was.
@@ -70,12 +89,19 @@ pub record IsStored (c : Command) (name : List ℕ) (old new : Option (List File
   pub there : HoldsFile new name bytes
   pub made : IsMadeBy c old bytes
 
--- The files after a command that stores under this name, or under none.
-abbrev pub AreKept : Command → Option (List ℕ) → Option (List File) → Option (List File) → Outcome → Type 0
-AreKept c None old new o = new ≡ old
-AreKept c (Some name) old new (Ok text) = IsStored c name old new
-AreKept c (Some name) old new (Err (F.Fault O.Folder)) = KeepsOthers old new name
-AreKept c (Some name) old new (Err failure) = new ≡ old
+-- The command's file was made, and storing it failed: what this name has isn't known; each other file is as it was.
+pub record IsUnstored (c : Command) (name : List ℕ) (old new : Option (List File)) : Type 0 where
+  pub others : KeepsOthers old new name
+  pub bytes : List ℕ
+  pub made : IsMadeBy c old bytes
+
+-- The files after a command that stores under this name, or under none. A fault of the folder is one of fetching, and
+-- then all files are as they were; or, where its count rose, one of storing.
+abbrev pub AreKept : Command → Option (List ℕ) → Type 0 → Option (List File) → Option (List File) → Outcome → Type 0
+AreKept c None rose old new o = new ≡ old
+AreKept c (Some name) rose old new (Ok text) = IsStored c name old new
+AreKept c (Some name) rose old new (Err (F.Fault O.Folder)) = (new ≡ old) ⊎ (rose × IsUnstored c name old new)
+AreKept c (Some name) rose old new (Err failure) = new ≡ old
 
 -- ---- by the status
 
@@ -87,17 +113,22 @@ abbrev pub MayHaveRead : Command → ℕ → Type 0
 MayHaveRead (Trace file entry out room) s = ((s ≡ 2) ⊎ (s ≡ 8)) → ⊥
 MayHaveRead c s = IsEarly s → ⊥
 
--- The words ask for a command that reads the input, and weren't refused, nor was a source or a code.
-abbrev pub HasRead : List (List ℕ) → ℕ → Type 0
-HasRead words s = (c : Command) × IsCommand words c × ReadsInput c × MayHaveRead c s
+-- The words ask for a command that reads the input, and weren't refused, nor was a source or a code. So a trace of a
+-- source that breaks E40, or of a file that isn't there, leaves it.
+abbrev pub HasRead : List (List ℕ) → Option (List File) → ℕ → Type 0
+HasRead words files s = (c : Command) × IsCommand words c × ReadsInput c × MayHaveRead c s × FindsSource c files
 
 -- The words ask for a command that calls the folder, and weren't refused.
 abbrev pub HasCalled : List (List ℕ) → ℕ → Type 0
 HasCalled words s = (c : Command) × IsCommand words c × (CallsNoFolder c → ⊥) × (s ≡ 2 → ⊥)
 
--- The files after a command that stores under this name, or under none. At status 0 its file is stored; at 9, after a
--- fault, no more is said than that each other file is as it was; else all files are.
-abbrev pub AreAfter : Command → Option (List ℕ) → Option (List File) → Option (List File) → ℕ → Type 0
-AreAfter c None old new s = new ≡ old
-AreAfter c (Some name) old new s = ((s ≡ 0) × IsStored c name old new)
-    ⊎ (((s ≡ 9) × KeepsOthers old new name) ⊎ ((s ≡ 0 → ⊥) × (new ≡ old)))
+-- The files after a command that stores under this name, or under none. At status 0 its file is stored, and at 9 where
+-- out failed behind that. Else nothing was written to out, and all files are as they were; but at 9, where the file was
+-- made and the folder failed to store it, no more is said than that each other file is. So `compile missing.fp o`
+-- leaves o, and `compile rev.fp o` stores it, also where out fails.
+abbrev pub AreAfter : Command → Option (List ℕ) → Type 0 → Seen → Seen → Option (List File) → Option (List File) → ℕ →
+    Type 0
+AreAfter c None rose out out' old new s = new ≡ old
+AreAfter c (Some name) rose out out' old new s =
+    (IsStored c name old new × ((s ≡ 0) ⊎ ((s ≡ 9) × Rose out.faults out'.faults)))
+    ⊎ ((out' ≡ out) × (((s ≡ 0 → ⊥) × (new ≡ old)) ⊎ ((s ≡ 9) × rose × IsUnstored c name old new)))

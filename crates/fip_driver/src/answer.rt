@@ -6,7 +6,7 @@ ghost use Rattle.command_line.specs.Words.{IsCommand};
 ghost use Rattle.command_line.specs.View.{command_of};
 ghost use Rattle.fip_driver.specs.Commands.{ReadsInput, CallsNoFolder, stored_name};
 ghost use Rattle.fip_driver.specs.Outcome.{CommandOutcome, IsCounted};
-ghost use Rattle.fip_driver.specs.Unread.{IsBeforeSource, IsBeforeInputOf, AreKept};
+ghost use Rattle.fip_driver.specs.Unread.{IsBeforeSource, IsBeforeInputOf, AreKept, WaitsOr};
 
 use crate::commands::{check, compile, eval, upgrade, verify};
 use crate::derivations::{audit, derive};
@@ -31,10 +31,11 @@ pub fn answer<F: Folder, S: Source>(
     ensures read { OnOk result (ReadsInput (command_of command.now) → IsAtEnd (S.left input.new)) }
     ensures unread { (ReadsInput (command_of command.now) → ⊥) → input.new ≡ input.old }
     ensures before { IsBeforeInputOf (command_of command.now) result → input.new ≡ input.old }
+    ensures waits { WaitsOr (input.new ≡ input.old) (command_of command.now) (F.files folder.old) }
     ensures uncalled { CallsNoFolder (command_of command.now) → folder.new ≡ folder.old }
     ensures unfetched { IsBeforeSource result → folder.new ≡ folder.old }
-    ensures files { AreKept (command_of command.now) (stored_name (command_of command.now)) (F.files folder.old)
-        (F.files folder.new) result }
+    ensures files { AreKept (command_of command.now) (stored_name (command_of command.now))
+        (Rose (F.faults folder.old) (F.faults folder.new)) (F.files folder.old) (F.files folder.new) result }
     ensures counted { IsCounted (F.files folder.old) (Rose (F.faults folder.old) (F.faults folder.new)) result }
 {
     match command {

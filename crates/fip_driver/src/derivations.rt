@@ -4,9 +4,10 @@ ghost use Rattle.fip_base.specs.Faults.{Rose};
 ghost use Rattle.fip_base.specs.Files.{HoldsFile};
 ghost use Rattle.command_line.specs.Words as W;
 ghost use Rattle.command_outcome.specs.Successes.{derived_text};
-ghost use Rattle.source_commands.specs.Judged.{IsProofFile};
+ghost use Rattle.fip_trees.specs.TreeView as V;
+ghost use Rattle.source_commands.specs.Judged.{IsProofOf, IsRejectedOf};
 ghost use Rattle.fip_driver.specs.Fetched.{JudgeFails};
-ghost use Rattle.fip_driver.specs.Outcome.{FileOutcome, IsCounted, end_of};
+ghost use Rattle.fip_driver.specs.Outcome.{AuditOutcome, FileOutcome, IsCounted, end_of};
 ghost use Rattle.fip_driver.specs.Unread.{AreKept, IsBeforeSource};
 
 use crate::fetched::{fetch_proof, fetch_source};
@@ -25,7 +26,8 @@ pub fn derive<F: Folder>(
 ) -> Result<Vec<u8>, Failure>
     ensures outcome { (left : Option (List ℕ)) → FileOutcome (W.Derive file.now out.now) (F.files folder.old) left
         (Rose (F.faults folder.old) (F.faults folder.new)) ⊥ (end_of result) }
-    ensures kept { AreKept (W.Derive file.now out.now) (Some out.now) (F.files folder.old) (F.files folder.new) result }
+    ensures kept { AreKept (W.Derive file.now out.now) (Some out.now)
+        (Rose (F.faults folder.old) (F.faults folder.new)) (F.files folder.old) (F.files folder.new) result }
     ensures counted { IsCounted (F.files folder.old) (Rose (F.faults folder.old) (F.faults folder.new)) result }
     ensures understood { IsBeforeSource result → ⊥ }
 {
@@ -46,10 +48,10 @@ fn judge<F: Folder>(
     folder: &mut F,
 ) -> Result<Vec<u8>, Failure>
     ensures derived { IfOk result (λ v. v.items ≡ derived_text) }
-    ensures spelt { OnOk result ((bytes : List ℕ) × HoldsFile (F.files folder.old) proof.now bytes
-        × IsProofFile bytes) }
-    ensures fails { IfErr result (JudgeFails (F.files folder.old) proof.now (F.faults folder.old)
-        (F.faults folder.new)) }
+    ensures accepted { OnOk result ((bytes : List ℕ) × HoldsFile (F.files folder.old) proof.now bytes
+        × IsProofOf bytes (V.program typed.now.program)) }
+    ensures fails { IfErr result (JudgeFails (λ bytes. IsRejectedOf bytes (V.program typed.now.program))
+        (F.files folder.old) proof.now (F.faults folder.old) (F.faults folder.new)) }
     ensures later { F.faults folder.old ≤ F.faults folder.new }
     ensures counted { IsCounted (F.files folder.old) (Rose (F.faults folder.old) (F.faults folder.new)) result }
     ensures understood { IsBeforeSource result → ⊥ }
@@ -69,7 +71,7 @@ pub fn audit<F: Folder>(
     proof: &str,
     folder: &mut F,
 ) -> Result<Vec<u8>, Failure>
-    ensures outcome { (left : Option (List ℕ)) → FileOutcome (W.Audit file.now proof.now) (F.files folder.old) left
+    ensures outcome { (left : Option (List ℕ)) → AuditOutcome (W.Audit file.now proof.now) (F.files folder.old) left
         (Rose (F.faults folder.old) (F.faults folder.new)) ⊥ (end_of result) }
     ensures counted { IsCounted (F.files folder.old) (Rose (F.faults folder.old) (F.faults folder.new)) result }
     ensures understood { IsBeforeSource result → ⊥ }

@@ -4,6 +4,7 @@ ghost use Rattle.std.specs.Io.KnownBytes.{Consumes, IsAtEnd};
 ghost use Rattle.fip_language.specs.declared.limits.TheConstants.{MOST_FILE_BYTES, MOST_SOURCE_BYTES};
 ghost use Rattle.fip_base.specs.Files.{HoldsFile};
 ghost use Rattle.command_outcome.specs.declared.failure.Failure.TheVariants.{BadCode, BadTrace};
+ghost use Rattle.source_commands.specs.Judged.{IsBadProof};
 ghost use Rattle.fip_driver.specs.Fetched.{FetchFails, FileFails, JudgeFails, ReadFails, IsEarlyFailure};
 
 use command_outcome::{Failure, Object};
@@ -66,7 +67,7 @@ pub fn fetch_code<F: Folder>(folder: &mut F, name: &str) -> Result<Vec<u8>, Fail
 /// where it failed or has no file of that name.
 pub fn fetch_proof<F: Folder>(alloc: Global, folder: &mut F, name: &str) -> Result<Vec<u8>, Failure>
     ensures found { IfOk result (λ v. HoldsFile (F.files folder.old) name.now v.items) }
-    ensures fails { IfErr result (λ e. JudgeFails (F.files folder.old) name.now (F.faults folder.old)
+    ensures fails { IfErr result (λ e. JudgeFails IsBadProof (F.files folder.old) name.now (F.faults folder.old)
         (F.faults folder.new) e) }
     ensures early { IfErr result IsEarlyFailure }
     ensures same { F.files folder.new ≡ F.files folder.old }

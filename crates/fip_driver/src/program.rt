@@ -32,10 +32,11 @@ fn outcome<F: Folder, S: Source>(
     ensures outcome { WordsOutcome (map string_bytes words.now) (F.files folder.old) (S.left input.old)
         (Rose (F.faults folder.old) (F.faults folder.new)) (Rose (S.faults input.old) (S.faults input.new)) result }
     ensures read { OnOk result (IsAtEnd (S.left input.new) ⊎ LeavesInput (map string_bytes words.now)) }
-    ensures unread { (input.new ≡ input.old) ⊎ HadInput (map string_bytes words.now) result }
+    ensures unread { (input.new ≡ input.old) ⊎ HadInput (map string_bytes words.now) (F.files folder.old) result }
     ensures unfetched { (folder.new ≡ folder.old) ⊎ HadFolder (map string_bytes words.now) result }
     ensures files { (c : Command) → IsCommand (map string_bytes words.now) c →
-        AreKept c (stored_name c) (F.files folder.old) (F.files folder.new) result }
+        AreKept c (stored_name c) (Rose (F.faults folder.old) (F.faults folder.new)) (F.files folder.old)
+        (F.files folder.new) result }
     ensures counted { IsCounted (F.files folder.old) (Rose (F.faults folder.old) (F.faults folder.new)) result }
 {
     match read_words(alloc, words) {
@@ -61,16 +62,18 @@ pub fn fp2<F: Folder, S: Source, O: Sink, E: Sink>(
     // What the words come to, and that just this is delivered to the sinks; where it ended before the input's turn, the
     // input is as it was; and a fault of a folder that tells nothing is one that it counted.
     ensures answer { (o : Result (a_vec ℕ an_allocator) a_failure)
-        × ((input.new ≡ input.old) ⊎ HadInput (map string_bytes words.now) o)
+        × ((input.new ≡ input.old) ⊎ HadInput (map string_bytes words.now) (F.files folder.old) o)
         × WordsOutcome (map string_bytes words.now) (F.files folder.old) (S.left input.old)
         (Rose (F.faults folder.old) (F.faults folder.new)) (Rose (S.faults input.old) (S.faults input.new)) o
         × IsCounted (F.files folder.old) (Rose (F.faults folder.old) (F.faults folder.new)) o
         × Delivered (seen (O.written out.old) (O.faults out.old)) (seen (O.written out.new) (O.faults out.new))
         (seen (E.written err.old) (E.faults err.old)) (seen (E.written err.new) (E.faults err.new)) o result.0 }
-    // No file changes but the one under the name that the words ask to store. At status 0 it is stored; at a status
-    // other than 0 and 9 it is as it was.
+    // No file changes but the one under the name that the words ask to store. It is stored at status 0, and at 9 where
+    // out failed behind that. Else it is as it was, but at 9 where the folder failed to store it.
     ensures files { (c : Command) → IsCommand (map string_bytes words.now) c →
-        AreAfter c (stored_name c) (F.files folder.old) (F.files folder.new) result.0 }
+        AreAfter c (stored_name c) (Rose (F.faults folder.old) (F.faults folder.new))
+        (seen (O.written out.old) (O.faults out.old)) (seen (O.written out.new) (O.faults out.new))
+        (F.files folder.old) (F.files folder.new) result.0 }
     // Where no count of faults rose, and the folder and the input tell what they hold: the whole answer is the written
     // one, or want of memory; and where no definition says it yet, it is one that may come.
     ensures whole { (files : List File) (bytes : List ℕ) → F.files folder.old ≡ Some files →
@@ -84,7 +87,8 @@ pub fn fp2<F: Folder, S: Source, O: Sink, E: Sink>(
         IsAnswered source_spelling (map string_bytes words.now) files bytes a →
         IsAnswered source_spelling (map string_bytes words.now) files bytes b → a ≡ b }
     // Where the words, the source or the code are refused, or the command doesn't read it, the input waits untouched.
-    ensures unread { (input.new ≡ input.old) ⊎ HasRead (map string_bytes words.now) result.0 }
+    ensures unread { (input.new ≡ input.old)
+        ⊎ HasRead (map string_bytes words.now) (F.files folder.old) result.0 }
     // Where the words are refused, or the command doesn't call it, the folder does.
     ensures unfetched { (folder.new ≡ folder.old) ⊎ HasCalled (map string_bytes words.now) result.0 }
     // After status 0 the input was read to its end, where the command reads it.

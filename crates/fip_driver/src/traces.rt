@@ -7,7 +7,7 @@ ghost use Rattle.command_line.specs.Words as W;
 ghost use Rattle.fip_driver.specs.Ends.{IsTraceEnd};
 ghost use Rattle.fip_driver.specs.Fetched.{IsLateFailure};
 ghost use Rattle.fip_driver.specs.Outcome.{FileOutcome, InputOutcome, IsCounted, end_of, compiled_end};
-ghost use Rattle.fip_driver.specs.Unread.{AreKept, IsBeforeSource, IsBeforeTrace};
+ghost use Rattle.fip_driver.specs.Unread.{AreKept, IsBeforeSource, IsBeforeTrace, WaitsOr};
 
 use crate::fetched::{fetch_source, fetch_trace, read_input};
 use crate::stored::store;
@@ -50,8 +50,10 @@ pub fn trace<F: Folder, S: Source>(
         (Rose (S.faults input.old) (S.faults input.new)) (end_of result) }
     ensures read { OnOk result (IsAtEnd (S.left input.new)) }
     ensures before { IsBeforeTrace result → input.new ≡ input.old }
-    ensures kept { AreKept (W.Trace file.now entry.now out.now (room_of room)) (Some out.now) (F.files folder.old)
-        (F.files folder.new) result }
+    ensures waits { WaitsOr (input.new ≡ input.old) (W.Trace file.now entry.now out.now (room_of room))
+        (F.files folder.old) }
+    ensures kept { AreKept (W.Trace file.now entry.now out.now (room_of room)) (Some out.now)
+        (Rose (F.faults folder.old) (F.faults folder.new)) (F.files folder.old) (F.files folder.new) result }
     ensures counted { IsCounted (F.files folder.old) (Rose (F.faults folder.old) (F.faults folder.new)) result }
     ensures understood { IsBeforeSource result → ⊥ }
 {

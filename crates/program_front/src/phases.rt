@@ -4,8 +4,10 @@ ghost use Rattle.fip_language.specs.declared.rule.Rule.TheVariants.{E05};
 ghost use Rattle.fip_base.specs.CoreView as core_view;
 ghost use Rattle.fip_trees.specs.SoundProgram.{IsSoundProgram};
 ghost use Rattle.fip_trees.specs.TreeView as V;
+ghost use Rattle.credit_check.specs.Tallies.{all_needs};
 ghost use Rattle.tail_groups.specs.Members.{AreMembers};
 ghost use Rattle.source_report.specs.Report.{bare, IsParsed, IsFlat, IsMatched, IsAccepted, Says};
+ghost use Rattle.program_front.specs.Unmatched.{IsUnmatched};
 
 use cell_code::Code;
 use cell_lower::lower;
@@ -19,6 +21,7 @@ use fip_language::limits::MOST_SOURCE_BYTES;
 use fip_parser::parser::{ParseError, parse};
 use fip_rules::check_owned;
 use fip_trees::groups::Groups;
+use fip_trees::needs::Needs;
 use fip_trees::program::{Flat, Typed};
 use match_cover::cover;
 use static_params::specialise;
@@ -26,10 +29,11 @@ use std::alloc::Global;
 use tail_groups::groups;
 use type_check::check_types;
 
-/// A source that breaks no rule: its program, its call groups, and its code.
+/// A source that breaks no rule: its program, what its expressions need, its call groups, and its code.
 #[derive(Drop)]
 pub struct Lowered {
     pub typed: Typed,
+    pub needs: Needs,
     pub groups: Groups,
     pub code: Code,
 }
@@ -38,6 +42,8 @@ pub struct Lowered {
 /// ownership, E56 to E58 and E62 on credits, E59 on tail calls, E60 on the limits of code. NoMemory: no memory is left.
 pub fn front(alloc: Global, source: &[u8]) -> Result<Lowered, PhaseError>
     ensures accepted { IfOk result (λ l. IsAccepted source.now (V.program l.typed.program)) }
+    ensures needs { IfOk result (λ l. l.needs ≡
+        all_needs (V.program l.typed.program) (V.program l.typed.program).instances) }
     ensures groups { IfOk result (λ l. AreMembers (V.program l.typed.program).instances l.groups) }
     ensures reported { IfErr result (λ e. Says source.now e) }
 {
@@ -54,6 +60,7 @@ pub fn typed_of(alloc: Global, source: &[u8]) -> Result<Typed, PhaseError>
     ensures typed { IfOk result (λ t. IsMatched source.now (V.program t.program)) }
     ensures sound { IfOk result (λ t. IsSoundProgram (V.program t.program)) }
     ensures reported { IfErr result (λ e. Says source.now e) }
+    ensures unmatched { IfErr result (λ e. IsUnmatched source.now e) }
 {
     match core_form_of(alloc, source) {
         Err(error) => Err(error),
@@ -68,6 +75,7 @@ pub fn typed_of(alloc: Global, source: &[u8]) -> Result<Typed, PhaseError>
 fn core_form_of(alloc: Global, source: &[u8]) -> Result<Core, PhaseError>
     ensures parsed { IfOk result (λ c. IsParsed source.now (core_view.core c)) }
     ensures reported { IfErr result (λ e. Says source.now e) }
+    ensures unmatched { IfErr result (λ e. IsUnmatched source.now e) }
 {
     if source.len() > MOST_SOURCE_BYTES {
         return Err(PhaseError::Refused(too_long(alloc)));
@@ -100,6 +108,8 @@ fn flat_of(alloc: Global, core: &Core) -> Result<Flat, PhaseError>
         IfOk result (λ f. IsFlat source (V.program f)) }
     ensures reported { (source : List ℕ) → IsParsed source (core_view.core core.now) →
         IfErr result (λ e. Says source e) }
+    ensures unmatched { (source : List ℕ) → IsParsed source (core_view.core core.now) →
+        IfErr result (λ e. IsUnmatched source e) }
 {
     match declare(alloc, core) {
         Err(error) => Err(error),
@@ -114,6 +124,8 @@ fn matched_of(alloc: Global, flat: Flat) -> Result<Typed, PhaseError>
     ensures sound { IfOk result (λ t. IsSoundProgram (V.program t.program)) }
     ensures reported { (source : List ℕ) → IsFlat source (V.program flat) →
         IfErr result (λ e. Says source e) }
+    ensures unmatched { (source : List ℕ) → IsFlat source (V.program flat) →
+        IfErr result (λ e. IsUnmatched source e) }
 {
     match check_types(alloc, flat) {
         Err(error) => Err(error),
@@ -128,6 +140,8 @@ fn matched_of(alloc: Global, flat: Flat) -> Result<Typed, PhaseError>
 fn lowered_of(alloc: Global, typed: Typed) -> Result<Lowered, PhaseError>
     ensures accepted { (source : List ℕ) → IsMatched source (V.program typed.program) →
         IfOk result (λ l. IsAccepted source (V.program l.typed.program)) }
+    ensures needs { IfOk result (λ l. l.needs ≡
+        all_needs (V.program l.typed.program) (V.program l.typed.program).instances) }
     ensures groups { IfOk result (λ l. AreMembers (V.program l.typed.program).instances l.groups) }
     ensures reported { (source : List ℕ) → IsMatched source (V.program typed.program) →
         IfErr result (λ e. Says source e) }
@@ -142,6 +156,7 @@ fn lowered_of(alloc: Global, typed: Typed) -> Result<Lowered, PhaseError>
                     Err(error) => Err(error),
                     Ok(code) => Ok(Lowered {
                         typed,
+                        needs,
                         groups,
                         code,
                     }),

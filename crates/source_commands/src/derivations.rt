@@ -5,7 +5,10 @@ ghost use Rattle.fip_language.specs.declared.rule.Rule.TheVariants.{E72, E74};
 ghost use Rattle.command_outcome.specs.Stages.{IsOfSource};
 ghost use Rattle.command_outcome.specs.Successes.{derived_text};
 ghost use Rattle.source_report.specs.Report.{bare};
-ghost use Rattle.source_commands.specs.Judged.{IsJudged, IsProofFile};
+ghost use Rattle.derivation_trees.specs.Trees.{entries};
+ghost use Rattle.fip_trees.specs.TreeView as V;
+ghost use Rattle.proof_check.specs.Accepted.{IsDerivation};
+ghost use Rattle.source_commands.specs.Judged.{IsProofOf, IsRejectedOf, IsNoDerivation};
 ghost use Rattle.source_commands.specs.Wanted.{Lawful, IsReady, IsRefusedBy, IsLongFor, KeepsFrom, of_entry};
 
 use crate::files::Compiled;
@@ -14,7 +17,8 @@ use command_outcome::{Failure, derived_line};
 use fip_base::plain::{Detail, NoMemory};
 use fip_base::refusal::{Refusal, Rule};
 use fip_language::limits::MOST_FILE_BYTES;
-use fip_proof::{ProofError, TextError, check, derivation_text, read_derivation};
+use fip_proof::{Derivation, ProofError, TextError, check, derivation_text, read_derivation};
+use fip_trees::needs::Needs;
 use fip_trees::program::Typed;
 use std::alloc::Global;
 
@@ -26,12 +30,12 @@ fn derived(alloc: Global) -> Result<Vec<u8>, NoMemory>
 }
 
 // The text of the derivation of a program, and the line that it is derived; E74 where it is too long.
-fn derivation_of(alloc: Global, typed: &Typed) -> Result<Compiled, Failure>
+fn derivation_of(alloc: Global, typed: &Typed, needs: &Needs) -> Result<Compiled, Failure>
     ensures derived { IfOk result (λ c. c.text.items ≡ derived_text) }
     ensures long { IfErr result (IsRefusedBy (λ r. r ≡ bare E74)) }
     ensures stage { IfErr result IsOfSource }
 {
-    match derivation_text(alloc, typed, MOST_FILE_BYTES) {
+    match derivation_text(alloc, typed, needs, MOST_FILE_BYTES) {
         Ok(file) => {
             let text = derived(alloc)?;
             Ok(Compiled { file, text })
@@ -50,7 +54,7 @@ pub fn derive(alloc: Global, source: &[u8]) -> Result<Compiled, Failure>
     ensures stage { IfErr result IsOfSource }
 {
     match lawful(alloc, source) {
-        Ok(front) => derivation_of(alloc, &front.typed),
+        Ok(front) => derivation_of(alloc, &front.typed, &front.needs),
         Err(failure) => Err(failure),
     }
 }
@@ -72,25 +76,32 @@ pub fn bad_proof(alloc: Global, at: usize) -> Failure
     }
 }
 
+// The line that a program is derived, where this is a derivation of it; else E73.
+fn judge(alloc: Global, typed: &Typed, derivation: &Derivation) -> Result<Vec<u8>, Failure>
+    ensures derived { IfOk result (λ v. v.items ≡ derived_text) }
+    ensures right { OnOk result (IsDerivation (V.program typed.now.program) (entries derivation.now)) }
+    ensures wrong { IfErr result (IsRefusedBy (IsNoDerivation (V.program typed.now.program) (entries derivation.now))) }
+    ensures stage { IfErr result IsOfSource }
+{
+    if check(typed, derivation) {
+        return Ok(derived(alloc)?);
+    }
+    Err(Failure::Refused(bare_refusal(alloc, Rule::E73)))
+}
+
 /// Judges a proof file of a program whose types and matches are right: the line that the program is derived. E72 where
 /// the bytes are no derivation's text, or more than 16,777,216; E73 where they are no derivation of this program.
 pub fn audit(alloc: Global, typed: &Typed, proof: &[u8]) -> Result<Vec<u8>, Failure>
     ensures derived { IfOk result (λ v. v.items ≡ derived_text) }
-    ensures spelt { OnOk result (IsProofFile proof.now) }
-    ensures judged { IfErr result (IsRefusedBy (IsJudged proof.now)) }
+    ensures accepted { OnOk result (IsProofOf proof.now (V.program typed.now.program)) }
+    ensures rejected { IfErr result (IsRefusedBy (IsRejectedOf proof.now (V.program typed.now.program))) }
     ensures stage { IfErr result IsOfSource }
 {
     if proof.len() > MOST_FILE_BYTES {
         return Err(bad_proof(alloc, MOST_FILE_BYTES));
     }
     match read_derivation(alloc, proof) {
-        Ok(derivation) => {
-            if check(typed, &derivation) {
-                Ok(derived(alloc)?)
-            } else {
-                Err(Failure::Refused(bare_refusal(alloc, Rule::E73)))
-            }
-        }
+        Ok(derivation) => judge(alloc, typed, &derivation),
         Err(ProofError::BadProof { at }) => Err(bad_proof(alloc, at)),
         Err(ProofError::NoMemory) => Err(Failure::NoMemory),
     }

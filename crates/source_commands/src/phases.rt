@@ -6,8 +6,11 @@ ghost use Rattle.sound_code.specs.Codes.{plain};
 ghost use Rattle.source_commands.specs.Codes.{IsSoundFile, IsLeastOf, KeepsFromCode};
 ghost use Rattle.command_outcome.specs.Stages.{IsOfSource};
 ghost use Rattle.fip_trees.specs.TreeView as V;
+ghost use Rattle.credit_check.specs.Tallies.{all_needs};
 ghost use Rattle.source_report.specs.Report.{bare, IsAccepted, IsMatched, Says};
 ghost use Rattle.source_commands.specs.Wanted.{Wanted, Lawful, IsReport, KeepsFrom, KeepsFromVerified};
+ghost use Rattle.program_front.specs.Unmatched.{IsUnmatched};
+ghost use Rattle.source_commands.specs.Judged.{IsEarlyReport};
 ghost use Rattle.source_commands.specs.Wanted.{IsRefusedBy, IsUnsound};
 ghost use Rattle.tail_groups.specs.Members.{AreMembers};
 
@@ -39,7 +42,7 @@ pub(crate) fn bare_refusal(alloc: Global, rule: Rule) -> Refusal
 /// The program of a source whose types and matches are right; else the source's report (`program_front::typed_of`).
 pub fn typed_of(alloc: Global, source: &[u8]) -> Result<Typed, Failure>
     ensures typed { IfOk result (λ t. IsMatched source.now (V.program t.program)) }
-    ensures reported { IfErr result (IsRefusedBy (IsReport source.now)) }
+    ensures reported { IfErr result (IsRefusedBy (IsEarlyReport source.now)) }
     ensures stage { IfErr result IsOfSource }
 {
     match program_front::typed_of(alloc, source) {
@@ -51,6 +54,8 @@ pub fn typed_of(alloc: Global, source: &[u8]) -> Result<Typed, Failure>
 // How a source is told that a phase gives nothing of: its report, with the line and the column of its offset.
 fn failure_of(source: &[u8], error: PhaseError) -> Failure
     ensures told { Says source.now error → IsRefusedBy (IsReport source.now) result }
+    ensures early { Says source.now error → IsUnmatched source.now error →
+        IsRefusedBy (IsEarlyReport source.now) result }
     ensures stage { IsOfSource result }
 {
     match error {
@@ -63,6 +68,8 @@ fn failure_of(source: &[u8], error: PhaseError) -> Failure
 /// (`program_front::front`).
 pub(crate) fn lawful(alloc: Global, source: &[u8]) -> Result<Lowered, Failure>
     ensures accepted { IfOk result (λ l. IsAccepted source.now (V.program l.typed.program)) }
+    ensures needs { IfOk result (λ l. l.needs ≡
+        all_needs (V.program l.typed.program) (V.program l.typed.program).instances) }
     ensures groups { IfOk result (λ l. AreMembers (V.program l.typed.program).instances l.groups) }
     ensures kept { (w : Wanted) → IfErr result (KeepsFrom source.now w) }
     ensures stage { IfErr result IsOfSource }
@@ -100,6 +107,7 @@ pub(crate) fn verified_front(alloc: Global, lowered: Lowered) -> Result<Front, F
         typed,
         groups,
         code,
+        ..
     } = lowered;
     match verified_of(alloc, code) {
         Err(failure) => Err(failure),

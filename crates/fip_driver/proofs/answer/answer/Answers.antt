@@ -3,7 +3,7 @@ use Rattle.fip_base.specs.Faults.{Rose}
 use Rattle.command_line.specs.View.{command_of}
 use Rattle.fip_driver.specs.Outcome.{CommandOutcome}
 use Rattle.command_line.specs.Words.{IsCommand, IsTextName}
-use Rattle.fip_driver.proofs.SourceEnds.{file_outcome, library_ends, gen_ends}
+use Rattle.fip_driver.proofs.SourceEnds.{file_outcome, audit_outcome, library_ends, gen_ends}
 use Rattle.fip_driver.proofs.answer.answer.Goals as goal
 
 pub returns-in-Check-clause-outcome : goal.returns-in-Check-clause-outcome
@@ -40,7 +40,7 @@ pub returns-in-Audit-clause-outcome : goal.returns-in-Audit-clause-outcome
 returns-in-Audit-clause-outcome g c =
     let fr = Rose (g.F.Folder.faults c.args.folder.now) (g.F.Folder.faults c.audit.new.folder) in
     let ir = Rose (g.S.Source.faults c.args.input.now) (g.S.Source.faults c.args.input.now) in
-    subst (λ x. CommandOutcome (command_of x) (g.F.Folder.files c.args.folder.now) (g.S.Source.left c.args.input.now) fr ir c.audit.result) (sym c.in-Audit.is) (file_outcome _ (g.F.Folder.files c.args.folder.now) (g.S.Source.left c.args.input.now) fr ⊥ ir c.audit.result (λ r. absurd r) (c.audit.ensures.outcome (g.S.Source.left c.args.input.now)))
+    subst (λ x. CommandOutcome (command_of x) (g.F.Folder.files c.args.folder.now) (g.S.Source.left c.args.input.now) fr ir c.audit.result) (sym c.in-Audit.is) (audit_outcome _ (g.F.Folder.files c.args.folder.now) (g.S.Source.left c.args.input.now) fr ⊥ ir c.audit.result (λ r. absurd r) (c.audit.ensures.outcome (g.S.Source.left c.args.input.now)))
 
 pub returns-in-Replay-clause-outcome : goal.returns-in-Replay-clause-outcome
 returns-in-Replay-clause-outcome g c =

@@ -4,7 +4,7 @@ use Rattle.fip_driver.proofs.Counted.{counted_later, source_counted, fetch_count
 use Rattle.fip_driver.proofs.derivations.audit.Goals as goal
 
 pub returns-in-Ok-typed_of-clause-outcome : goal.returns-in-Ok-typed_of-clause-outcome
-returns-in-Ok-typed_of-clause-outcome g c = λ left. judged_ends c.args.file.now c.args.proof.now (g.F.Folder.files c.args.folder.now) _ left ⊥ c.in-Ok.source.items c.as_slice.result.now (program c.in-Ok-typed_of.typed.program) _ _ _ c.judge.result c.in-Ok.ensures.found c.in-Ok.ensures.same c.in-Ok.ensures.later c.as_slice.ensures.value c.in-Ok-typed_of.ensures.typed c.judge.ensures.derived c.judge.ensures.spelt c.judge.ensures.fails
+returns-in-Ok-typed_of-clause-outcome g c = λ left. judged_ends c.args.file.now c.args.proof.now (g.F.Folder.files c.args.folder.now) _ left ⊥ c.in-Ok.source.items c.as_slice.result.now (program c.in-Ok-typed_of.typed.program) _ _ _ c.judge.result c.in-Ok.ensures.found c.in-Ok.ensures.same c.in-Ok.ensures.later c.as_slice.ensures.value c.in-Ok-typed_of.ensures.typed c.judge.ensures.derived c.judge.ensures.accepted c.judge.ensures.fails
 
 pub returns-in-Ok-clause-outcome : goal.returns-in-Ok-clause-outcome
 returns-in-Ok-clause-outcome g c = λ left. reported_ends c.args.file.now c.args.proof.now (g.F.Folder.files c.args.folder.now) left _ _ c.in-Ok.source.items c.as_slice.result.now c.in-Err-typed_of.failure c.in-Ok.ensures.found c.as_slice.ensures.value c.in-Err-typed_of.ensures.reported

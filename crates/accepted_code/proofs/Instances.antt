@@ -2,7 +2,6 @@
 -- parameters.
 use Rattle.std.proofs.Common.{◌≡◌, inl, inr, ℕ, zero, suc, List, [], ◌∷◌, ◌++◌, Some, slice_get, refl, sym, ap, ◌∙◌, subst}
 use Rattle.fip_language.specs.Core.{Core}
-use Rattle.fip_language.specs.CoreForm.{core_form}
 use Rattle.fip_language.specs.Every.{Every, Among}
 use Rattle.fip_language.specs.Mentions.{all_of}
 use Rattle.fip_language.specs.Meaning.{meaning}
@@ -10,7 +9,6 @@ use Rattle.fip_language.specs.Statics.{Closeds}
 use Rattle.fip_language.specs.Values.{Values}
 use Rattle.fip_language.proofs.Search.{slice_get_there}
 use Rattle.fip_language.proofs.SoundTables.{map_at}
-use Rattle.fip_grammar.proofs.Least.{spelt_once}
 use Rattle.fip_trees.specs.Tree.{Instance, Program}
 use Rattle.static_params.specs.declared.closed.Head.TheVariants as H
 use Rattle.static_params.specs.Closed as Z
@@ -25,15 +23,12 @@ use Rattle.type_check.specs.World.{world}
 use Rattle.flat_meaning.specs.Meaning.{flat_meaning}
 use Rattle.type_soundness.proofs.FilledSlots.{filled_means}
 use Rattle.source_report.specs.Report.{IsParsed, IsFlat, IsTyped}
+use Rattle.source_report.proofs.Once.{parsed_once}
 use Rattle.specialised_meaning.specs.Declared.{BodyHasClauses, IsDeclared}
 use Rattle.specialised_meaning.specs.Named.{function_name, all_named}
 use Rattle.specialised_meaning.proofs.Specialised.{instance_means}
 use Rattle.source_meaning.proofs.CoreClauses.{core_has}
 use Rattle.source_meaning.proofs.SpeltClauses.{spelt_has}
-
--- a source has one core form
-parsed_once : (source : List ℕ) (c d : Core) → IsParsed source c → IsParsed source d → c ≡ d
-parsed_once source c d h k = h.is ∙ ap core_form (spelt_once source h.tree k.tree h.spelt k.spelt) ∙ sym k.is
 
 -- the item from which one of a list is
 of_one : {A B : Type 0} (f : A → List B) (xs : List A) → ((x : A) → Among x xs → (d : B) × (f x ≡ d ∷ [])) → (i : ℕ) (d : B) → slice_get (all_of f xs) i ≡ Some d → (x : A) × Among x xs × (slice_get xs i ≡ Some x) × (f x ≡ d ∷ [])

@@ -6,7 +6,6 @@ use Rattle.fip_language.specs.Meaning.{Answer, Gives, Trap, Out, Deep, Stuck, Pe
 use Rattle.fip_trees.specs.Tree.{Program}
 use Rattle.command_line.specs.Words.{Request, Command, Check, Compile, Verify, Upgrade, Exec, Run, Eval, Trace, Session}
 use Rattle.command_line.specs.Words.{Tasks, Derive, Audit, Replay, Library, Gen, Room}
-use Rattle.command_outcome.specs.Failures.{failure_status}
 use Rattle.code_runs.specs.Runs as R
 use Rattle.source_commands.specs.Wanted.{Wanted}
 use Rattle.command_answers.specs.Outcomes.{End, Left, Outcome}
@@ -25,11 +24,7 @@ use Rattle.command_answers.specs.Generating.{PrintsText, Generates}
 use Rattle.command_answers.specs.Answer as A
 use Rattle.command_answers.specs.Answer.{IsAnswer, NotUnderstood, Answered, Does, OnSource, DoesCode, OnCode, OnFile}
 use Rattle.command_answers.specs.Answer.{OnFound, OnNamed, DoesAlone, RunsFile, Verifies, Evals, ListsRoots, told, told_end}
-use Rattle.command_answers.specs.Facts.{IsRunStatus}
-
-abbrev end_status : End → ℕ
-end_status (Ok text) = 0
-end_status (Err f) = failure_status f
+use Rattle.command_answers.specs.Facts.{IsRunStatus, end_status}
 
 -- what is left is left behind a run
 abbrev Quiet : Outcome → Type 0

@@ -7,8 +7,8 @@
 -- does what it does: a run may end in a trap, 3, out of calls, 4, or out of frames, 7; a file may be too long to be
 -- stored, 1. Else it is done: status 0, a text on out, and the file that it stores.
 --
--- Where the status isn't 0, its text is on err, out is empty, and the files are as they were. What ran is left where the
--- status is 0, 3, 4 or 7.
+-- Where the status isn't 0, its text is on err, out is empty, and the files are as they were. What ran is left where
+-- the status is 0, 3, 4 or 7.
 --
 -- `exec list.fip3 rev` without that file has status 9 and `fault: folder` on err.
 use Rattle.std.specs.Prelude.{◌≡◌, ◌<◌, ◌≤◌, ℕ, false, List, [], length, Option, Some, None, Ok, Err}

@@ -1,5 +1,5 @@
--- For the theorem on `run`, that what is printed is what the rows of the instructions do, whoever wrote the code: what it
--- comes to on the file of a sound code that has the entry, once the input is read.
+-- For the theorem on `run`, that what is printed is what the rows of the instructions do, whoever wrote the code: what
+-- it comes to on the file of a sound code that has the entry, once the input is read.
 --
 -- The input is read as for `exec`, by the types of the code, and the store must have as many words. The run then ends:
 -- with words, which stand for values that are printed, and behind them the lines of the gauge over all its states; or

@@ -1,5 +1,5 @@
--- For the theorems on `exec` and `trace`, that what is printed is what evaluation on trees gives: what they come to on a
--- source whose entry has code, once the input is read.
+-- For the theorems on `exec` and `trace`, that what is printed is what evaluation on trees gives: what they come to on
+-- a source whose entry has code, once the input is read.
 --
 -- The input is the text of the entry's arguments, a line for each parameter; where it is none, it is bad at the least
 -- offset with which none goes on. The store must have the words for the cells of the arguments and of the header's

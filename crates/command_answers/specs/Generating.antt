@@ -2,13 +2,14 @@
 --
 -- `library` prints the text of a name. `gen` makes a tree of so many keys of a seed: it does as `exec` of the library's
 -- text rbtree, entry build, with the calls and frames that `exec` is given where nothing is said, and the greatest
--- store; were that text refused, its refusal would be told. Its input is three lines: the list of the keys, a list of as many pads Pad4(0, 0, 0, 0), and Leaf. The keys are
--- the numbers of the seed, as for the turns of tasks. In place of the tree four lines are printed: how many keys and
--- how many nodes, and the least and the greatest key of a node, `none` where there is no node.
+-- store; were that text refused, its refusal would be told. Its input is three lines: the list of the keys, a list of
+-- as many pads Pad4(0, 0, 0, 0), and Leaf. The keys are the numbers of the seed, as for the turns of tasks. In place of
+-- the tree four lines are printed: how many keys and how many nodes, and the least and the greatest key of a node,
+-- `none` where there is no node.
 --
 -- `gen 1 3` makes a tree of 1103527590, 377401575 and 662824084, and prints `keys 3`, `nodes 3`, `least 377401575` and
 -- `greatest 1103527590`.
-use Rattle.std.specs.Prelude.{◌≡◌, ◌≤◌, ℕ, zero, suc, ◌+◌, ℤ, false, List, [], ◌∷◌, ◌++◌, length, codes, int_le}
+use Rattle.std.specs.Prelude.{◌≡◌, ◌≤◌, ℕ, zero, suc, ℤ, false, List, [], ◌∷◌, ◌++◌, length, codes, int_le}
 use Rattle.std.specs.Prelude.{Option, Some, None, Ok, Err, if◌then◌else◌}
 use Rattle.std.specs.Fmt.{decimal}
 use Rattle.fip_language.specs.Meaning.{Gives}

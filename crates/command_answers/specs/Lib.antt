@@ -12,3 +12,4 @@ pub mod Asks
 pub mod Answer
 pub mod Example
 pub mod Facts
+pub mod Empty

@@ -1,6 +1,6 @@
 -- For the theorem on the whole program: what a command comes to, before anyone is told. That is a text for out, or what
--- keeps it from one; the bytes that it stores under its name, if it stores any; and the code that ran, with the cells as
--- its run left them, if one ran.
+-- keeps it from one; the bytes that it stores under its name, if it stores any; and the code that ran, with the cells
+-- as its run left them, if one ran.
 --
 -- `exec` that is out of calls comes to that failure, stores nothing, and leaves its code and cells; `compile` comes to
 -- the lines of the roots, stores a code file, and leaves nothing.

@@ -2,11 +2,11 @@
 -- accepted.
 --
 -- `compile` stores the file, of the second version, of a code of the program, and prints the lines of `check`; where no
--- such file of the code is short enough, it is refused by E61. `upgrade` does the same with the code of a file. `derive`
--- stores the text of a derivation of the program, in which each node that leaves something unused leaves out at least
--- one variable or credit, and none is a part of another; where the text is too long, it is refused by E74. `audit` asks
--- of the source what comes before ownership; it fetches the derivation behind that. Where this is no text of a
--- derivation, it is refused by E72 with the offset; where it is one, but not of this program, by E73.
+-- such file of the code is short enough, it is refused by E61. `upgrade` does the same with the code of a file.
+-- `derive` stores the text of a derivation of the program, in which each node that leaves something unused leaves out
+-- at least one variable or credit, and none is a part of another; where the text is too long, it is refused by E74.
+-- `audit` asks of the source what comes before ownership; it fetches the derivation behind that. Where this is no text
+-- of a derivation, it is refused by E72 with the offset; where it is one, but not of this program, by E73.
 --
 -- For the reversal of a list `derive` stores
 --     0 MATCH![0 1|](VAR[1|],CALL[1 3|2:1](VAR[3|],REUSE[1|2:1](SCALAR[|],VAR[1|])))

@@ -32,8 +32,8 @@ ghost use Rattle.command_answers.specs.GaugeText.{highest_of, lowest_of};
 ghost use Rattle.command_answers.specs.Exec.{TellsAll};
 ghost use Rattle.command_answers.specs.Stored.{Weakens};
 ghost use Rattle.command_answers.specs.Generating.{keys_line, pads_line, lines_of_tree};
-ghost use Rattle.command_answers.specs.Answer.{Answer, IsAnswer, OnSource, told};
-ghost use Rattle.command_answers.specs.Facts.{IsRunStatus};
+ghost use Rattle.command_answers.specs.Answer.{Answer, IsAnswer, ComesTo, OnSource, told};
+ghost use Rattle.command_answers.specs.Facts.{IsRunStatus, end_status, LeavesCells};
 ghost use Rattle.command_answers.specs.Example.{three_items, reversing, four_lines, increasing, increased_lines, cons};
 ghost use Rattle.command_answers.specs.Example.{nil, three_keys, weakened, weakened_in_vain, weakened_twice};
 
@@ -65,6 +65,14 @@ pub fn only_a_run_leaves_cells()
         (l : Left) → IsAnswer words files input a → a.left ≡ Some l → IsRunStatus a.status }
 {}
 
+/// A run that was done, or ended in a trap, out of calls or out of frames, leaves its code and cells. For a host that
+/// reads the cells after a run.
+#[tactic(auto, using(crate::proofs::Ran::is_left))]
+pub fn what_ran_is_left()
+    ensures law { (files : List File) (input : List ℕ) (c : Command) (o : Outcome) → LeavesCells c →
+        ComesTo files input c o → IsRunStatus (end_status o.end) → (l : Left) × (o.left ≡ Some l) }
+{}
+
 /// A source that is refused comes to nothing else, whatever the command does with accepted ones: the causes exclude
 /// each other. For who reads a report.
 pub fn a_refused_source_is_told()
@@ -77,9 +85,11 @@ pub fn a_refused_source_is_told()
 /// is not. An fbip function has no bound, and a call of it that waits holds a frame. For who wants to see the numbers.
 #[tactic(auto, using(crate::proofs::Examples::computed))]
 pub fn an_example_of_exec()
-    ensures lines { TellsAll reversing three_items 1000 0 true (flat_meaning lists 0 three_items 1000 0) (Ok four_lines) }
+    ensures lines { TellsAll reversing three_items 1000 0 true (flat_meaning lists 0 three_items 1000 0)
+        (Ok four_lines) }
     ensures enough { TellsAll reversing three_items 4 0 true (flat_meaning lists 0 three_items 4 0) (Ok four_lines) }
-    ensures out { TellsAll reversing three_items 3 0 true (flat_meaning lists 0 three_items 3 0) (Err (F.OutOfCalls 3)) }
+    ensures out { TellsAll reversing three_items 3 0 true (flat_meaning lists 0 three_items 3 0)
+        (Err (F.OutOfCalls 3)) }
     ensures fbip { TellsAll increasing (More (cons 1 nil) End) 1000 10 true
         (flat_meaning lists 1 (More (cons 1 nil) End) 1000 10) (Ok increased_lines) }
     ensures deep { TellsAll increasing (More (cons 1 nil) End) 1000 0 true

@@ -2,5 +2,6 @@
 // their laws; no code.
 #![tactic(auto)]
 
+pub mod empty;
 pub mod laws;
 pub mod members;

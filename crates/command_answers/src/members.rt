@@ -126,8 +126,8 @@ pub fn a_ready_entry_is_run()
         Does source input (Tasks name seed turns room) (ended e) }
 {}
 
-/// Of a code's file that is there: that it is too long, or no sound code's, is told; and else what the command does. For
-/// who keeps code files.
+/// Of a code's file that is there: that it is too long, or no sound code's, is told; and else what the command does.
+/// For who keeps code files.
 pub fn a_code_file_is_answered()
     ensures long { (files : List File) (bytes input name : List ℕ) → file_of name files ≡ Some bytes →
         MOST_FILE_BYTES < length bytes → ComesTo files input (Verify name) (failed (F.BadCode MOST_FILE_BYTES)) }
@@ -185,7 +185,8 @@ pub fn an_example_of_replay()
         ComesTo files input (Replay name step) (printed (replayed rewriting step)) }
 {}
 
-/// The text list is printed, and a tree is told by its keys, or why there is none. For who wants to see texts and trees.
+/// The text list is printed, and a tree is told by its keys, or why there is none. For who wants to see texts and
+/// trees.
 pub fn texts_and_trees_are_printed()
     ensures library { (files : List File) (input : List ℕ) →
         ComesTo files input (Library (codes "list")) (printed list.TEXT.now) }

@@ -1,7 +1,7 @@
 -- How many places the cells of values and of credits take: by induction on the values.
-use Rattle.std.proofs.Common.{◌≡◌, ℕ, suc, ◌+◌, List, [], ◌∷◌, ◌++◌, refl, sym, ap, ◌∙◌, arith, length-append}
+use Rattle.std.proofs.Common.{◌≡◌, ℕ, suc, ◌+◌, List, [], ◌∷◌, ◌++◌, refl, ap, ◌∙◌, arith, length-append}
 use Rattle.std.proofs.lemmas.List.{length-replicate}
-use Rattle.std.specs.Prelude.{length, replicate, None}
+use Rattle.std.specs.Prelude.{length}
 use Rattle.fip_language.specs.Store.{Cell}
 use Rattle.fip_language.specs.Values.{Value, Int, Node, Values, End, More, count_of, words_needed, words_needed_by_all}
 use Rattle.code_runs.specs.Cells.{size_of, credit_cell}

@@ -1,6 +1,6 @@
 -- The file of a trace is read as that trace. Each part of a text is read as what it was written of, and what stands
 -- behind is left; at which offset this is, doesn't matter.
-use Rattle.std.proofs.Common.{◌≡◌, ◌≢◌, ℕ, zero, suc, ◌+◌, ◌*◌, ◌/◌, ◌%◌, ◌^◌, ◌<◌, ◌≤◌, Bool, true, false, ◌&&◌, nat_le, nat_lt}
+use Rattle.std.proofs.Common.{◌≡◌, ◌≢◌, ℕ, zero, suc, ◌+◌, ◌*◌, ◌/◌, ◌%◌, ◌^◌, ◌<◌, ◌≤◌, Bool, true, ◌&&◌, nat_le, nat_lt}
 use Rattle.std.proofs.Common.{List, [], ◌∷◌, ◌++◌, length, Option, Some, None, refl, sym, ap, subst, ◌∙◌, arith, append_assoc, le-leb}
 use native.Mathlib.Nat.{pow-suc}
 use Rattle.fip_language.specs.declared.limits.TheConstants.{MOST_FIELDS}
@@ -10,9 +10,9 @@ use Rattle.code_runs.specs.Traces.{Event}
 use Rattle.loaded_runs.specs.TraceText.{Loaded, Trace, big_endian, words_text, cell_text, cells_text, change_text}
 use Rattle.loaded_runs.specs.TraceText.{events_text, trace_text, IsWord, IsCell, AreCells, size_at, left_by, IsChange}
 use Rattle.loaded_runs.specs.TraceText.{AreEvents, IsTrace}
-use Rattle.loaded_runs.specs.TraceReading.{Read, Got, Bad, then_read, asked, read_number, read_words, is_size, read_fields}
+use Rattle.loaded_runs.specs.TraceReading.{Read, Got, then_read, asked, read_number, read_words, is_size}
 use Rattle.loaded_runs.specs.TraceReading.{read_cell, read_cells, read_write, read_change, read_event, read_events}
-use Rattle.loaded_runs.specs.TraceReading.{last_step, read_end, read_steps, read_all_events, read_all_cells, read_trace}
+use Rattle.loaded_runs.specs.TraceReading.{last_step, read_steps, read_all_events, read_all_cells, read_trace}
 
 -- x is read, and the rest is left
 abbrev Gives : {A : Type 0} → Read A → A → List ℕ → Type 0
@@ -28,7 +28,7 @@ asked_gives b at r x rest h k = subst (λ q. Gives (asked q at r) x rest) (sym h
 
 -- ---- numbers
 
-number_next : (w n at : ℕ) (bytes : List ℕ) →
+pub number_next : (w n at : ℕ) (bytes : List ℕ) →
     read_number (suc w) n at bytes ≡ then_read (read_number w n at bytes) (λ k at' rest. read_number 1 k at' rest)
 unfolding read_number
 number_next zero n at bytes = refl
@@ -69,10 +69,10 @@ words_give (w ∷ ws) at rest h =
 
 -- ---- cells
 
-three : (a b c rest : List ℕ) → (a ++ (b ++ c)) ++ rest ≡ a ++ (b ++ (c ++ rest))
+pub three : (a b c rest : List ℕ) → (a ++ (b ++ c)) ++ rest ≡ a ++ (b ++ (c ++ rest))
 three a b c rest = append_assoc a (b ++ c) rest ∙ ap (λ x. a ++ x) (append_assoc b c rest)
 
-four : (a b c d rest : List ℕ) → (a ++ (b ++ (c ++ d))) ++ rest ≡ a ++ (b ++ (c ++ (d ++ rest)))
+pub four : (a b c d rest : List ℕ) → (a ++ (b ++ (c ++ d))) ++ rest ≡ a ++ (b ++ (c ++ (d ++ rest)))
 four a b c d rest = append_assoc a (b ++ (c ++ d)) rest ∙ ap (λ x. a ++ x) (three b c d rest)
 
 size_is : (k : ℕ) → 1 ≤ k → k ≤ MOST_FIELDS → is_size k ≡ true

@@ -8,7 +8,7 @@
 --
 -- Cons(1, Cons(2, Nil)) has Cons(2, Nil) at 0 and Cons(1, ..) at 3, and its word is 7; a credit of size 2 behind it has
 -- its cell at 6, and its word is 13.
-use Rattle.std.specs.Prelude.{ℕ, suc, ◌+◌, ◌*◌, false, List, [], ◌∷◌, ◌++◌, Option, Some, None, length, replicate}
+use Rattle.std.specs.Prelude.{ℕ, suc, ◌+◌, false, List, [], ◌∷◌, ◌++◌, Option, Some, None, length, replicate}
 use Rattle.fip_language.specs.Values.{Value, Int, Node, Values, End, More}
 use Rattle.fip_language.specs.Store.{Cell, int_word}
 use Rattle.code_runs.specs.Cells.{Store, size_of, credit_cell}

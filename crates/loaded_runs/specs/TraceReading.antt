@@ -8,9 +8,10 @@
 --
 -- A file of no bytes is bad at 0; that of the example with a 2 for the event's 0 is bad at 47.
 use Rattle.std.specs.Prelude.{◌≡◌, ◌⊎◌, ℕ, zero, suc, ◌+◌, ◌*◌, ◌<◌, ◌≤◌, Bool, true, false, ◌&&◌, nat_lt, nat_le, ◌==◌}
-use Rattle.std.specs.Prelude.{List, [], ◌∷◌, ◌++◌, length, codes, Option, Some, None, if◌then◌else◌}
+use Rattle.std.specs.Prelude.{List, [], ◌∷◌, ◌++◌, length, codes, Option, Some, None}
 use Rattle.fip_language.specs.declared.limits.TheConstants.{MOST_FIELDS, MOST_FILE_BYTES}
-use Rattle.code_runs.specs.Cells.{Change, Write, Release}
+use Rattle.fip_language.specs.Every.{Every}
+use Rattle.code_runs.specs.Cells.{Write, Release}
 use Rattle.code_runs.specs.Traces.{Event}
 use Rattle.loaded_runs.specs.TraceText.{Loaded, Trace, size_at, left_by}
 
@@ -119,6 +120,9 @@ read_all_cells at bytes = then_read (read_number 4 0 at bytes) (λ n at' rest.
 abbrev pub read_trace : List ℕ → Read Trace
 read_trace bytes = then_read (read_exactly (codes "FP2T" ++ (0 ∷ 1 ∷ [])) 0 bytes)
     (λ u at rest. read_all_cells at rest)
+
+abbrev pub AreBytes : List ℕ → Type 0
+AreBytes = Every (λ b. b < 256)
 
 -- The bytes are no trace's file, and this offset is named.
 abbrev pub IsBadTrace : List ℕ → ℕ → Type 0

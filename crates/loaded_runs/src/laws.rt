@@ -1,11 +1,16 @@
 // The laws of the definitions. Each is the contract of a function that does nothing.
-ghost use Rattle.std.specs.Prelude.{◌≡◌, ℕ, ◌+◌, List, [], ◌∷◌, length};
+ghost use Rattle.std.specs.Prelude.{◌≡◌, ◌⊎◌, ℕ, ◌+◌, ◌≤◌, List, [], ◌∷◌, length, Option};
 ghost use Rattle.fip_language.specs.Values.{Values, words_needed_by_all};
+ghost use Rattle.fip_language.specs.Store.{Cell};
+ghost use Rattle.code_runs.specs.Codes.{PlainCode};
 ghost use Rattle.code_runs.specs.Example.{flat};
-ghost use Rattle.loaded_runs.specs.Loading.{first_store, first_words, words_of_credits};
+ghost use Rattle.code_runs.specs.Runs.{begun, after, state_of};
+ghost use Rattle.code_runs.specs.States.{State};
+ghost use Rattle.code_runs.specs.Steps.{Kinds};
+ghost use Rattle.loaded_runs.specs.Loading.{first_store, first_words, words_of_credits, unreleased};
 ghost use Rattle.loaded_runs.specs.TraceText.{Trace, IsTrace, trace_text};
-ghost use Rattle.loaded_runs.specs.TraceReading.{Got, Bad, read_trace};
-ghost use Rattle.loaded_runs.specs.Replaying.{replayed, live_line, free_line};
+ghost use Rattle.loaded_runs.specs.TraceReading.{Got, Bad, read_trace, AreBytes, IsTraceFile, IsBadTrace};
+ghost use Rattle.loaded_runs.specs.Replaying.{replayed, store_text, trace_of, live_line, free_line};
 ghost use Rattle.loaded_runs.specs.Example.{arguments, cell, rewriting, releasing, file_with};
 
 /// A store has just as many words as the cells of the arguments and of the credits need. For who asks whether an input
@@ -31,6 +36,23 @@ pub fn a_trace_is_read_as_it_was_written()
     ensures law { (t : Trace) → IsTrace t → (end : ℕ) × (read_trace (trace_text t) ≡ Got t end []) }
 {}
 
+/// What is read to the end of a file is a trace, and the file's bytes are what is written of it: a trace has one file.
+/// For who reads traces of strangers.
+pub fn what_is_read_is_a_trace()
+    ensures trace { (bytes : List ℕ) (t : Trace) (end : ℕ) → AreBytes bytes → read_trace bytes ≡ Got t end [] →
+        IsTrace t }
+    ensures text { (bytes : List ℕ) (t : Trace) (end : ℕ) → AreBytes bytes → read_trace bytes ≡ Got t end [] →
+        bytes ≡ trace_text t }
+{}
+
+/// A file is that of one trace, or it is bad at one place, and never both. For who asks whether `replay` has an answer.
+pub fn a_file_is_a_traces_or_bad()
+    ensures some { (bytes : List ℕ) → ((t : Trace) × IsTraceFile bytes t) ⊎ ((at : ℕ) × IsBadTrace bytes at) }
+    ensures one { (bytes : List ℕ) (t u : Trace) → IsTraceFile bytes t → IsTraceFile bytes u → t ≡ u }
+    ensures apart { (bytes : List ℕ) (t : Trace) (at : ℕ) → IsTraceFile bytes t → IsBadTrace bytes at → ⊥ }
+    ensures place { (bytes : List ℕ) (at to : ℕ) → IsBadTrace bytes at → IsBadTrace bytes to → at ≡ to }
+{}
+
 /// The file of the example is written and read as it is said to be, and is bad at its event's byte where that is
 /// another. For who writes a reader of traces.
 #[tactic(auto, using(crate::proofs::Examples::computed))]
@@ -39,6 +61,16 @@ pub fn an_example_of_a_file()
     ensures read { read_trace (file_with 0) ≡ Got rewriting 80 [] }
     ensures another { read_trace (file_with 2) ≡ Bad 47 }
     ensures nothing { read_trace [] ≡ Bad 0 }
+{}
+
+/// The lines of a replay up to a step are those of the cells of the state after that step, where nothing is released
+/// before the first. For who reads `replay` in place of a run.
+#[tactic(auto, using(crate::proofs::Printing::replay_prints))]
+pub fn a_replay_shows_the_cells_of_the_run()
+    ensures law { (kinds : Kinds) (code : PlainCode) (s : State) (cells : List (Option Cell)) (calls steps i : ℕ) →
+        s.store ≡ unreleased cells → i ≤ steps →
+        replayed (trace_of kinds code s calls steps) i
+        ≡ store_text (state_of (after kinds code i (begun s calls))).store }
 {}
 
 /// The cell of the example has its first fields before its one step, and its last ones after it and after any later

@@ -1,13 +1,11 @@
 -- The program of a source is specialised, so it means what the source means; typing changes no meaning.
 use Rattle.std.proofs.Common.{◌≡◌, ℕ, List, [], true, Some, slice_get, sym, ap, ◌∙◌, subst}
 use Rattle.fip_language.specs.Core.{Function, Core}
-use Rattle.fip_language.specs.CoreForm.{core_form}
 use Rattle.fip_language.specs.Every.{Every}
 use Rattle.fip_language.specs.Meaning.{meaning}
 use Rattle.fip_language.specs.Statics as ByClosed
 use Rattle.fip_language.specs.Values.{Values}
 use Rattle.fip_language.proofs.Words.{slice_get-map}
-use Rattle.fip_grammar.proofs.Least.{spelt_once}
 use Rattle.fip_trees.specs.Tree as T
 use Rattle.type_check.specs.Faults.{fill_instance, filled}
 use Rattle.type_check.specs.World.{world}
@@ -16,6 +14,7 @@ use Rattle.flat_meaning.specs.Meaning.{flat_meaning}
 use Rattle.type_soundness.proofs.FilledSlots.{filled_means}
 use Rattle.static_params.specs.FlatSource.{flat_source}
 use Rattle.source_report.specs.Report.{IsParsed, IsFlat, IsTyped}
+use Rattle.source_report.proofs.Once.{parsed_once}
 use Rattle.specialised_meaning.specs.Declared.{BodyHasClauses, IsDeclared}
 use Rattle.specialised_meaning.specs.Means.{IsRun}
 use Rattle.specialised_meaning.proofs.Instances.{at_map}
@@ -25,10 +24,6 @@ use Rattle.source_meaning.proofs.SpeltClauses.{spelt_has}
 
 parsed_has : (source : List ℕ) (core : Core) → IsParsed source core → Every BodyHasClauses core.functions
 parsed_has source core h = subst (λ (c : Core). Every BodyHasClauses c.functions) (sym h.is) (core_has h.tree (spelt_has source h.tree h.spelt))
-
--- a source has one core form
-parsed_once : (source : List ℕ) (c d : Core) → IsParsed source c → IsParsed source d → c ≡ d
-parsed_once source c d h k = h.is ∙ ap core_form (spelt_once source h.tree k.tree h.spelt k.spelt) ∙ sym k.is
 
 module _ (source : List ℕ) (p : T.Program) (flat : IsFlat source p) where
   abbrev pub core : Core

@@ -116,18 +116,18 @@ least_of_once P v w h k = least_once v w (k.least v h.violated) (h.least w k.vio
 list_once : (vs : List Violation) (v w : Violation) → IsLeast vs v → IsLeast vs w → AreSame (refusal v) (refusal w)
 list_once vs v w h k = least_once v w (k.least v h.violated) (h.least w k.violated)
 
-none_in : (vs : List Violation) (v : Violation) → vs ≡ [] → IsLeast vs v → ⊥
+pub none_in : (vs : List Violation) (v : Violation) → vs ≡ [] → IsLeast vs v → ⊥
 none_in vs v e h = subst (λ l. In v l) e h.violated
 
 -- ---- what a source becomes is one
 
-parsed_once : (source : List ℕ) (c d : Core) → IsParsed source c → IsParsed source d → c ≡ d
+pub parsed_once : (source : List ℕ) (c d : Core) → IsParsed source c → IsParsed source d → c ≡ d
 parsed_once source c d h k = h.is ∙ ap core_form (spelt_once source h.tree k.tree h.spelt k.spelt) ∙ sym k.is
 
-instances_once : (s : Source) (is js : List Closed) → Statics.AreFewInstances s is → Statics.AreFewInstances s js → is ≡ js
+pub instances_once : (s : Source) (is js : List Closed) → Statics.AreFewInstances s is → Statics.AreFewInstances s js → is ≡ js
 instances_once s is js h k = numbered_once (roots s) (calls_from s) is js h.instances k.instances
 
-numbers_once : (s : Source) (m n : Numbers) → Statics.AreFew s m → Statics.AreFew s n → m ≡ n
+pub numbers_once : (s : Source) (m n : Numbers) → Statics.AreFew s m → Statics.AreFew s n → m ≡ n
 numbers_once s m n h k =
     let instances = instances_once s m.instances n.instances h.instances k.instances in
     let passed = numbered_once m.instances passed_to h.passed k.passed h.given (subst (λ is. Rattle.static_params.specs.Instances.ArePassed is k.passed) (sym instances) k.given) in
@@ -135,7 +135,7 @@ numbers_once s m n h k =
     (subst (λ ps. Rattle.static_params.specs.TypeInstances.AreTypes s m.instances ps n.types) (sym passed) (subst (λ is. Rattle.static_params.specs.TypeInstances.AreTypes s is k.passed n.types) (sym instances) k.types)) in
     λ i. record { instances = instances i; types = types i }
 
-flat_once : (source : List ℕ) (p q : Program) → IsFlat source p → IsFlat source q → p ≡ q
+pub flat_once : (source : List ℕ) (p q : Program) → IsFlat source p → IsFlat source q → p ≡ q
 flat_once source p q h k =
     let core = parsed_once source h.core k.core h.declared.parsed k.declared.parsed in
     let numbers = numbers_once (flat_source h.core) h.numbers k.numbers h.few (subst (λ c. Statics.AreFew (flat_source c) k.numbers) (sym core) k.few) in
@@ -152,10 +152,10 @@ accepted_once source p q h k = typed_once source p q (typed_of_tailed source p h
 
 -- ---- the rules on matches, of the program
 
-shapes_same : (p : Program) (ds es : List Instance) → AreOf p ds → AreOf p es → shape_faults 0 ds ≡ shape_faults 0 es
+pub shapes_same : (p : Program) (ds es : List Instance) → AreOf p ds → AreOf p es → shape_faults 0 ds ≡ shape_faults 0 es
 shapes_same p ds es h k = shapes_are 0 ds ∙ ap (plain_shapes 0) (h ∙ sym k) ∙ sym (shapes_are 0 es)
 
-fault_same : (p : Program) (ds es : List Instance) (v : Violation) → AreOf p ds → AreOf p es → CoverFault p.types 0 ds v → CoverFault p.types 0 es v
+pub fault_same : (p : Program) (ds es : List Instance) (v : Violation) → AreOf p ds → AreOf p es → CoverFault p.types 0 ds v → CoverFault p.types 0 es v
 fault_same p ds es v h k f = fault_back p.types 0 es v (subst (λ is. PlainFault p.types 0 is v) (h ∙ sym k) (fault_forth p.types 0 ds v f))
 
 -- ---- the limits of code don't depend on how the groups are numbered
@@ -230,7 +230,7 @@ Breaks source (suc (suc (suc (suc (suc (suc (suc (suc (suc (suc (suc n))))))))))
 
 -- ---- what breaks a phase doesn't pass it
 
-statics_broken : (s : Source) (v : Violation) (n : Numbers) → Statics.Names s v → Statics.AreFew s n → all_faults s n.instances ≡ [] → ⊥
+pub statics_broken : (s : Source) (v : Violation) (n : Numbers) → Statics.Names s v → Statics.AreFew s n → all_faults s n.instances ≡ [] → ⊥
 statics_broken s v n (inl h) few none = not_more (roots s) (calls_from s) MOST_INSTANCES n.instances few.instances.instances few.instances.few h.0
 statics_broken s v n (inr (inl h)) few none =
     let instances = instances_once s h.instances n.instances h.few few.instances in

@@ -4,7 +4,6 @@ use Rattle.std.proofs.Common.{◌≡◌, inl, inr, ℕ, zero, suc, ◌+◌, List
 use Rattle.fip_language.specs.declared.FunKind.TheVariants.{Fip}
 use Rattle.fip_language.specs.Core as C
 use Rattle.fip_language.specs.Core.{Static, Function, Core}
-use Rattle.fip_language.specs.CoreForm.{core_form}
 use Rattle.fip_language.specs.Every.{Every, Among}
 use Rattle.fip_language.specs.Mentions.{all_of}
 use Rattle.fip_language.proofs.SoundTables.{map_at}
@@ -12,7 +11,6 @@ use Rattle.fip_language.specs.Meaning.{meaning}
 use Rattle.fip_language.specs.Statics.{Closeds, NoClosed}
 use Rattle.fip_language.specs.Values.{Values}
 use Rattle.fip_language.proofs.Search.{slice_get_there}
-use Rattle.fip_grammar.proofs.Least.{spelt_once}
 use Rattle.fip_trees.specs.declared.groups.Member.{Member}
 use Rattle.fip_trees.specs.Tree.{Instance, Program}
 use Rattle.static_params.specs.declared.closed.Head.TheVariants as H
@@ -29,6 +27,7 @@ use Rattle.type_soundness.proofs.FilledSlots.{filled_means}
 use Rattle.in_place_runs.specs.InPlace.{RunsInPlace}
 use Rattle.static_params.specs.FlatSource.{flat_source}
 use Rattle.source_report.specs.Report.{IsParsed, IsFlat, IsAccepted}
+use Rattle.source_report.proofs.Once.{parsed_once}
 use Rattle.static_params.proofs.GoodTypes.{get_map, IsGoodFunction}
 use Rattle.static_params.proofs.GoodInstances.{instances_good}
 use Rattle.static_params.proofs.TypeRows.{among_left, among_right, root_numbered, number_there, one_at}
@@ -68,9 +67,6 @@ functions_have [] h = tt
 functions_have (f ∷ fs) h = (block_has f.body h.0, functions_have fs h.1)
 
 -- ---- the instance of a function
-
-parsed_once : (source : List ℕ) (c d : Core) → IsParsed source c → IsParsed source d → c ≡ d
-parsed_once source c d h k = h.is ∙ ap core_form (spelt_once source h.tree k.tree h.spelt k.spelt) ∙ sym k.is
 
 flat_declared : (source : List ℕ) (p : Program) (h : IsFlat source p) → IsDeclared h.core
 flat_declared source p h =

@@ -1,3 +1,4 @@
 pub mod Turns
 pub mod Examples
 pub mod Together
+pub mod Seen

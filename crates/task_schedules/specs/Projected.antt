@@ -7,7 +7,7 @@
 -- holds nothing, and of a cell that no tree has, no more is said than that its words are the same or renamed.
 --
 -- Where task 1 has its one cell at 0 alone and at 3 in the shared store, behind that of task 0, its word 1 is 7 there.
-use Rattle.std.specs.Prelude.{◌≡◌, ◌≢◌, ◌⊎◌, ℕ, ◌/◌, ◌<◌, List, [], ◌∷◌, Option, Some, None}
+use Rattle.std.specs.Prelude.{◌≡◌, ◌≢◌, ◌⊎◌, ℕ, zero, suc, ◌+◌, ◌/◌, ◌<◌, nat_eq, List, [], ◌∷◌, Option, Some, None}
 use Rattle.std.specs.Prelude.{length, slice_get, if◌then◌else◌}
 use Rattle.fip_language.specs.Table.{Table}
 use Rattle.fip_language.specs.Store.{Cell, Placed, PlacedInt, Bare, At, Parts, NoParts, MoreParts}
@@ -15,7 +15,7 @@ use Rattle.cell_code.specs.declared.kind.Kind.{Kind}
 use Rattle.cell_code.specs.declared.kind.Kind.TheVariants as K
 use Rattle.code_runs.specs.Codes.{PlainCode, results_of}
 use Rattle.code_runs.specs.Words.{is_place, place_word}
-use Rattle.code_runs.specs.Cells.{Store, IsStore, cell_at, released_at}
+use Rattle.code_runs.specs.Cells.{Store, IsStore, size_of, cell_at, released_at}
 use Rattle.code_runs.specs.Trees.{IsTree}
 use Rattle.code_runs.specs.States.{Frame, Typed, State}
 use Rattle.code_runs.specs.Steps.{Kinds}
@@ -185,3 +185,21 @@ EachKeepsItsCells before waits code = (tasks : List Begun) (first : Shared) → 
     (schedule : List ℕ) (j k p : ℕ) (t : Begun) → slice_get tasks j ≡ Some t → j ≢ k → IsThere t.state.store p →
     IsSameAt (turn before (run_code code) (scheduled before (run_code code) schedule first) k).store
     (scheduled before (run_code code) schedule first).store (t.places p)
+
+-- ---- what is seen of a task
+
+-- 1 for a cell of size k that isn't released
+abbrev pub one_among : ℕ → Option Cell → ℕ → ℕ
+one_among k None r = 0
+one_among k (Some c) zero = if nat_eq k (size_of c) then 1 else 0
+one_among k (Some c) (suc r) = 0
+
+abbrev pub held_among_from : ℕ → Renaming → Store → ℕ → List (Option Cell) → ℕ
+held_among_from k f shared p [] = 0
+held_among_from k f shared p (None ∷ os) = held_among_from k f shared (suc p) os
+held_among_from k f shared p (Some c ∷ os) =
+    one_among k (cell_at shared (f p)) (released_at shared (f p)) + held_among_from k f shared (suc p) os
+
+-- how many of a task's own cells are of size k, and not released in the shared store
+abbrev pub held_among : ℕ → Renaming → Store → Store → ℕ
+held_among k f own shared = held_among_from k f shared 0 own.cells

@@ -1,12 +1,13 @@
 // The laws of schedules. Each is the contract of a function that does nothing.
 ghost use Rattle.std.specs.Prelude.{◌≡◌, ◌≢◌, ℕ, List, [], ◌∷◌, ◌++◌, Some, slice_get, map, replicate};
 ghost use Rattle.code_runs.specs.Codes.{PlainCode};
-ghost use Rattle.code_runs.specs.States.{State};
+ghost use Rattle.code_runs.specs.Cells.{Store, IsStore, count_held};
+ghost use Rattle.code_runs.specs.States.{State, frames_held, words_held};
 ghost use Rattle.code_runs.specs.Steps.{Kinds};
 ghost use Rattle.code_runs.specs.Runs.{End, Value, Out, Run, Over, begun, state_of};
 ghost use Rattle.code_runs.specs.Example.{reversing, unknown, at_start};
 ghost use Rattle.task_schedules.specs.Draws.{drawn, numbers};
-ghost use Rattle.task_schedules.specs.Projected.{BeginTogether};
+ghost use Rattle.task_schedules.specs.Projected.{BeginTogether, Renaming, AreRenamed, IsProjected, held_among};
 ghost use Rattle.task_schedules.specs.Schedules.{Shared, turn, scheduled, alone, in_store};
 ghost use Rattle.task_schedules.specs.Example.{cells_of, store_of, both, both_done, rev_at, two_tasks, by_turns};
 ghost use Rattle.task_schedules.specs.Example.{second_first, tasks_alone};
@@ -72,4 +73,16 @@ pub fn an_example_of_draws()
 #[tactic(auto, using(crate::proofs::Together::begin))]
 pub fn an_example_begins_together()
     ensures law { BeginTogether at_start at_start reversing tasks_alone (two_tasks 2) }
+{}
+
+/// Of a task among others as much is seen as of it alone: as many held cells of each size, as many frames and words. So
+/// it has the gauge that it has alone, after every schedule after which it is where it would be alone. For who reads a
+/// task's gauge.
+pub fn a_task_is_seen_as_alone()
+    ensures held { (f : Renaming) (own shared : Store) (k : ℕ) → IsStore own → AreRenamed f own shared →
+        held_among k f own shared ≡ count_held k own }
+    ensures frames { (before waits : Kinds) (code : PlainCode) (f : Renaming) (a b : State) →
+        IsProjected before waits code f a b → frames_held b ≡ frames_held a }
+    ensures words { (before waits : Kinds) (code : PlainCode) (f : Renaming) (a b : State) →
+        IsProjected before waits code f a b → words_held b ≡ words_held a }
 {}

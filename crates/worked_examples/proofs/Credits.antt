@@ -1,5 +1,5 @@
 -- What the functions of the examples need, and what their headers break.
-use Rattle.std.proofs.Common.{◌≡◌, ℕ, suc, ◌+◌, ◌-◌, ◌<◌, Bool, [], ◌∷◌, refl, inl, inr, arith}
+use Rattle.std.proofs.Common.{◌≡◌, [], ◌∷◌, refl, inl, inr, arith}
 use Rattle.fip_language.specs.declared.rule.Rule.TheVariants.{E56, E62}
 use Rattle.fip_language.specs.Example.{here}
 use Rattle.fip_trees.specs.Least.{violation}

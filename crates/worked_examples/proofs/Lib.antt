@@ -5,3 +5,4 @@ pub mod Credits
 pub mod Stacks
 pub mod Registers
 pub mod Owning
+pub mod Empty

@@ -1,10 +1,10 @@
 -- The missing patterns of the examples: a value that no row matches is shown, and each lesser constructor or number is
 -- matched.
-use Rattle.std.proofs.Common.{◌≡◌, ℕ, zero, suc, ◌<◌, ℤ, pos, negsuc, Bool, true, false, true≢false, [], ◌∷◌, Some, refl, sym, subst, arith, FitsSigned}
+use Rattle.std.proofs.Common.{◌≡◌, ℕ, zero, suc, ◌<◌, pos, negsuc, Bool, true, false, true≢false, [], Some, refl, sym, subst, arith, FitsSigned}
 use Rattle.std.specs.Int.{w64}
 use Rattle.std.proofs.lemmas.Int.{fits_signed_from_abs}
 use Rattle.std.proofs.lemmas.Bool.Decides.{nat_tests}
-use Rattle.fip_language.specs.Values.{Value, Int, Node, Values, End, More}
+use Rattle.fip_language.specs.Values.{Value, Int, Node, End, More}
 use Rattle.std.specs.Prelude.{codes, ◌==◌, ◌&&◌}
 use Rattle.fip_language.specs.Table.{Shape, HasType, HaveTypes}
 use Rattle.match_knowledge.specs.declared.heads.Head.{Head}

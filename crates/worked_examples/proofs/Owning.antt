@@ -1,5 +1,5 @@
 -- What the calculus derives of the examples, by the rules without environments.
-use Rattle.std.proofs.Common.{◌≡◌, ℕ, ◌+◌, ◌≤◌, Bool, true, false, ◌||◌, if◌then◌else◌, [], ◌∷◌, refl, arith}
+use Rattle.std.proofs.Common.{◌≡◌, ◌+◌, ◌≤◌, Bool, true, false, ◌||◌, if◌then◌else◌, [], ◌∷◌, refl, arith}
 use Rattle.std.specs.Prelude.{◌==◌}
 use Rattle.own_calculus.specs.Functions.{Derived}
 use Rattle.own_calculus.proofs.Whole.{is_derived, is_accepted}

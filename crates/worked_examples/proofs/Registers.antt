@@ -1,5 +1,5 @@
 -- The kinds of the reversal before each instruction, as they are found from the entry on.
-use Rattle.std.proofs.Common.{◌≡◌, ℕ, zero, suc, [], ◌∷◌, refl}
+use Rattle.std.proofs.Common.{zero, suc, [], ◌∷◌, refl}
 use Rattle.cell_code.specs.declared.kind.Kind.TheVariants.{Gone, Scalar, Credit}
 use Rattle.sound_code.specs.Flow.{KnownAt}
 use Rattle.sound_code.specs.Example.{reversal}

@@ -1,6 +1,6 @@
 -- The stack numbers of push and top: they solve what the one call asks, and each is a frame's words, so they are the
 -- least.
-use Rattle.std.proofs.Common.{◌≡◌, ℕ, zero, suc, ◌+◌, ◌<◌, ◌≤◌, Bool, false, List, [], ◌∷◌, Option, Some, refl, sym, ap, subst, arith, slice_get}
+use Rattle.std.proofs.Common.{◌≡◌, ℕ, zero, suc, ◌+◌, ◌≤◌, Bool, false, List, [], ◌∷◌, Option, Some, refl, sym, ap, subst, arith, slice_get}
 use Rattle.tail_groups.specs.Registers.{registers}
 use Rattle.tail_groups.specs.Members.{frame}
 use Rattle.tail_groups.specs.Sites.{call_rows}

@@ -1,7 +1,7 @@
 -- What is known of the registers of the reversal of a list before each of its six instructions.
 use Rattle.std.specs.Prelude.{ℕ, List, [], ◌∷◌}
 use Rattle.cell_code.specs.declared.kind.Kind.{Kind}
-use Rattle.cell_code.specs.declared.kind.Kind.TheVariants.{Gone, Scalar, Owned, Credit}
+use Rattle.cell_code.specs.declared.kind.Kind.TheVariants.{Gone, Owned}
 use Rattle.sound_code.specs.Codes.{PlainFunction}
 use Rattle.sound_code.specs.Example.{function_of, rev_with, nil_taken, acc_given, cons_taken, cons_put, again}
 use Rattle.sound_code.specs.Example.{cons_known}

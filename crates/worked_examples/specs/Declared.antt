@@ -1,5 +1,5 @@
 -- Data types of the examples, each alone: one whose values are finite, and two that have none.
-use Rattle.std.specs.Prelude.{List, [], ◌∷◌}
+use Rattle.std.specs.Prelude.{[], ◌∷◌}
 use Rattle.data_types.specs.Types.{Ty, Parameter, Applied, Tys, NoTys, MoreTys, Declarations}
 
 abbrev pub only : Ty → Tys

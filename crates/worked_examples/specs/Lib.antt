@@ -3,3 +3,4 @@ pub mod Programs
 pub mod Matches
 pub mod Codes
 pub mod Terms
+pub mod Empty

@@ -1,11 +1,10 @@
 -- Small programs of the examples, over the types bool and ints of the program of lists.
-use Rattle.std.specs.Prelude.{ℕ, pos, true, false, List, [], ◌∷◌, Some, None, codes}
+use Rattle.std.specs.Prelude.{ℕ, pos, true, false, List, [], ◌∷◌, None, codes}
 use Rattle.fip_language.specs.declared.FunKind.TheVariants.{Fip}
 use Rattle.fip_language.specs.declared.Operator.TheVariants.{Add}
 use Rattle.fip_language.specs.Example.{at, here}
-use Rattle.fip_base.specs.declared.plain.Param.{Param}
 use Rattle.fip_base.specs.declared.plain.Stack.{Stack}
-use Rattle.fip_trees.specs.Tree.{Argument, Variable, Literal, NoArguments, MoreArguments, Give, Operation, Call, Block}
+use Rattle.fip_trees.specs.Tree.{Argument, Variable, Literal, NoArguments, MoreArguments, Give, Operation, Call}
 use Rattle.fip_trees.specs.Tree.{Last, Let, Instance, Program}
 use Rattle.flat_meaning.specs.Example.{lists, number, ints, bound, var, nil, cons, by_list, an_owned}
 

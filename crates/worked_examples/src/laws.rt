@@ -19,6 +19,8 @@ ghost use Rattle.cell_code.specs.declared.kind.Kind.TheVariants.{Gone, Scalar, O
 ghost use Rattle.sound_code.specs.Flow.{KnownAt};
 ghost use Rattle.sound_code.specs.Example.{reversal};
 ghost use Rattle.own_calculus.specs.Functions.{Derived};
+ghost use Rattle.source_report.specs.Report.{IsAccepted};
+ghost use Rattle.worked_examples.specs.Empty.{empty_program};
 ghost use Rattle.worked_examples.specs.Terms.{given_back, dropped, twice};
 ghost use Rattle.worked_examples.specs.Declared.{list_type, endless_type, growing_type};
 ghost use Rattle.worked_examples.specs.Programs.{number_with, unknown_variable, push, top, pushing, a_stack};
@@ -94,4 +96,11 @@ pub fn what_the_calculus_derives()
     ensures dropped { Derived true [] (0 ∷ []) [] dropped → ⊥ }
     ensures in_fbip { Derived false [] (0 ∷ []) [] dropped }
     ensures twice { (fip : Bool) → Derived fip [] (0 ∷ []) [] twice → ⊥ }
+{}
+
+/// The source without any text breaks no rule, and this is its program: what is said of accepted sources is said of
+/// one. For who asks whether any source is accepted.
+#[tactic(auto, using(crate::proofs::Empty::accepted))]
+pub fn an_empty_source_is_accepted()
+    ensures law { IsAccepted [] empty_program }
 {}

@@ -1,0 +1,20 @@
+use Rattle.std.proofs.Common.{Some, refl}
+use Rattle.command_line.specs.Words.{Verify, Upgrade, Run}
+use Rattle.command_answers.specs.Answer as A
+use Rattle.command_answers.specs.Stored as S
+use Rattle.command_answers.specs.Empty.{empty_code, empty_file}
+use Rattle.command_answers.proofs.Coming.{fetched}
+use Rattle.command_answers.proofs.EmptySource as E
+use Rattle.command_answers.proofs.empty.an_empty_code_is_answered.Goals as goal
+
+pub returns : goal.returns
+returns c = record {
+  verify = λ files input name f.
+      fetched files input name (Verify name) (Some empty_file) _ refl f (A.CodeSound _ (A.Verified _ E.code_listing));
+  upgrade = λ files input name out f.
+      fetched files input name (Upgrade name out) (Some empty_file) _ refl f
+      (A.CodeSound _ (S.Upgraded _ empty_file E.code_listing E.upgraded));
+  run = λ files input r f.
+      fetched files input r.file (Run r) (Some empty_file) _ refl f
+      (A.CodeSound _ (A.NoFunction empty_code E.file_sound (E.names_none r.entry)));
+}

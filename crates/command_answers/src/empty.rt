@@ -1,0 +1,85 @@
+// What commands come to on a source without any text, and on the file of its code: nothing is asked for them. Each law
+// is the contract of a function that does nothing.
+ghost use Rattle.std.specs.Prelude.{◌≡◌, ℕ, List, [], ◌∷◌, Some, None, codes};
+ghost use Rattle.fip_language.specs.declared.rule.Rule.TheVariants.{E70};
+ghost use Rattle.fip_base.specs.Files.{File, file_of};
+ghost use Rattle.command_line.specs.Words.{Request, Check, Compile, Verify, Upgrade, Exec, Run, Eval, Trace, Session};
+ghost use Rattle.command_line.specs.Words.{Tasks, Derive, Audit, Room};
+ghost use Rattle.command_outcome.specs.Successes.{derived_text};
+ghost use Rattle.command_outcome.specs.declared.failure.Failure.TheVariants as F;
+ghost use Rattle.source_commands.specs.Codes.{IsSoundFile};
+ghost use Rattle.source_commands.specs.Wanted.{of_entry};
+ghost use Rattle.command_answers.specs.Outcomes.{printed, failed, storing};
+ghost use Rattle.command_answers.specs.OfProgram.{IsCodeOf};
+ghost use Rattle.command_answers.specs.Answer.{IsAnswer, ComesTo};
+ghost use Rattle.worked_examples.specs.Empty.{empty_program};
+ghost use Rattle.command_answers.specs.Empty.{empty_code, empty_file, a_file};
+
+/// The program of the empty source has a code, which has a file. For who asks whether any code is one of a program.
+pub fn an_empty_program_has_a_code()
+    ensures code { IsCodeOf empty_program empty_code }
+    ensures file { IsSoundFile empty_file empty_code }
+{}
+
+/// The empty source has no lines and no entry. A session on it replies to nothing, and to an empty line as to a bad
+/// one; no task is a list of tasks, and an empty line is a bad task. For who wants to see an answer of each command.
+pub fn an_empty_source_is_answered()
+    ensures check { (files : List File) (input name : List ℕ) → file_of name files ≡ Some [] →
+        ComesTo files input (Check name) (printed []) }
+    ensures compile { (files : List File) (input name out : List ℕ) → file_of name files ≡ Some [] →
+        ComesTo files input (Compile name out) (storing [] empty_file) }
+    ensures exec { (files : List File) (input : List ℕ) (r : Request) → file_of r.file files ≡ Some [] →
+        ComesTo files input (Exec r) (failed (F.Refused (of_entry E70 r.entry))) }
+    ensures eval { (files : List File) (input name entry : List ℕ) (calls frames : ℕ) →
+        file_of name files ≡ Some [] →
+        ComesTo files input (Eval name entry calls frames) (failed (F.Refused (of_entry E70 entry))) }
+    ensures trace { (files : List File) (input name entry out : List ℕ) (room : Room) →
+        file_of name files ≡ Some [] →
+        ComesTo files input (Trace name entry out room) (failed (F.Refused (of_entry E70 entry))) }
+    ensures session { (files : List File) (name : List ℕ) (room : Room) → file_of name files ≡ Some [] →
+        ComesTo files [] (Session name room) (printed []) }
+    ensures bad_line { (files : List File) (name : List ℕ) (room : Room) → file_of name files ≡ Some [] →
+        ComesTo files (10 ∷ []) (Session name room) (printed (codes "bad line\n")) }
+    ensures tasks { (files : List File) (name : List ℕ) (seed turns : ℕ) (room : Room) →
+        file_of name files ≡ Some [] → ComesTo files [] (Tasks name seed turns room) (printed []) }
+    ensures bad_task { (files : List File) (name : List ℕ) (seed turns : ℕ) (room : Room) →
+        file_of name files ≡ Some [] → ComesTo files (10 ∷ []) (Tasks name seed turns room) (failed (F.BadTask 1)) }
+    ensures derive { (files : List File) (input name out : List ℕ) → file_of name files ≡ Some [] →
+        ComesTo files input (Derive name out) (storing derived_text []) }
+    ensures audit { (files : List File) (input name proof : List ℕ) → file_of name files ≡ Some [] →
+        file_of proof files ≡ Some [] → ComesTo files input (Audit name proof) (printed derived_text) }
+{}
+
+/// The file of its code has no named functions, is stored again as it is, and has no entry to run. For who wants to see
+/// an answer of each command on code.
+pub fn an_empty_code_is_answered()
+    ensures verify { (files : List File) (input name : List ℕ) → file_of name files ≡ Some empty_file →
+        ComesTo files input (Verify name) (printed []) }
+    ensures upgrade { (files : List File) (input name out : List ℕ) → file_of name files ≡ Some empty_file →
+        ComesTo files input (Upgrade name out) (storing [] empty_file) }
+    ensures run { (files : List File) (input : List ℕ) (r : Request) → file_of r.file files ≡ Some empty_file →
+        ComesTo files input (Run r) (failed (F.Refused (of_entry E70 r.entry))) }
+{}
+
+/// `fp2 check a`, where the file a is empty, prints nothing; `fp2 compile a b` stores the file of its code under b. For
+/// who wants to see whole answers, from words to files.
+#[tactic(auto, using(crate::proofs::Whole::checked, crate::proofs::Whole::compiled))]
+pub fn an_example_of_answers()
+    ensures check { (input : List ℕ) →
+        IsAnswer (codes "fp2" ∷ codes "check" ∷ codes "a" ∷ []) (a_file (codes "a") [] ∷ []) input (record {
+          status = 0;
+          out = [];
+          err = [];
+          files = a_file (codes "a") [] ∷ [];
+          left = None;
+        }) }
+    ensures compile { (input : List ℕ) →
+        IsAnswer (codes "fp2" ∷ codes "compile" ∷ codes "a" ∷ codes "b" ∷ []) (a_file (codes "a") [] ∷ []) input
+        (record {
+          status = 0;
+          out = [];
+          err = [];
+          files = a_file (codes "a") [] ∷ a_file (codes "b") empty_file ∷ [];
+          left = None;
+        }) }
+{}

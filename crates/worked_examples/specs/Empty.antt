@@ -1,0 +1,18 @@
+-- The program of a source without any text: it has no instances, and of types bool alone.
+use Rattle.std.specs.Prelude.{[], ◌∷◌}
+use Rattle.fip_language.specs.Table.{Table}
+use Rattle.fip_trees.specs.Tree.{Program}
+use Rattle.sound_code.specs.Tables.{bool_shapes}
+
+-- False and True, which have no fields
+abbrev pub bool_alone : Table
+bool_alone = bool_shapes ∷ []
+
+abbrev pub empty_program : Program
+empty_program = record {
+  types = bool_alone;
+  declaring = 1 ∷ [];
+  arities = 0 ∷ [];
+  field_counts = (0 ∷ 0 ∷ []) ∷ [];
+  instances = [];
+}

@@ -24,7 +24,7 @@ def main():
     found = refusals(pathlib.Path(sys.argv[1]).read_text()) if len(sys.argv) > 1 else {}
     print("| Crate | Edit | File | In place of | Stands | Refused at |")
     print("|---|---|---|---|---|---|")
-    for path in sorted(TOP.glob("crates/*/must-fail/*.edit")):
+    for path in sorted([*TOP.glob("crates/*/must-fail/*.edit"), *TOP.glob("crates/*/must-fail-further/*.edit")]):
         crate = path.parent.parent.name
         fields = {"file": [], "old": [], "new": []}
         for line in path.read_text().splitlines():

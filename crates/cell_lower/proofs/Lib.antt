@@ -1,2 +1,9 @@
 pub mod ExceededLimits
 pub mod Headers
+pub mod Frames
+pub mod Starts
+pub mod Labels
+pub mod Losing
+pub mod Writing
+pub mod Calling
+pub mod Blocks

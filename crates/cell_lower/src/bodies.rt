@@ -1,51 +1,89 @@
 // Bodies of functions.
+ghost use Rattle.std.specs.Prelude.{◌≡◌, IfOk, OnOk, slice_get};
+ghost use Rattle.fip_trees.specs.Tree as T;
+ghost use Rattle.fip_trees.specs.TreeView as V;
+ghost use Rattle.lowered_code.specs.Bodies as B;
+ghost use Rattle.cell_lower.specs.Writing.{setting, target_of, named_at, AppliesTo, GivesValues, Writes};
+
 use crate::calls::Applied;
 use crate::lowerer::{Lowerer, Target};
-use crate::matches::{Matching, Written};
+use crate::matches::{Matching, Progress, Written};
 use fip_base::core_form::MatchKind;
 use fip_base::plain::NoMemory;
-use fip_trees::program::{Binding, Block, Clause, Expression};
+use fip_trees::program::{Argument, Binder, Binding, Block, Clause, Expression};
 
 impl<'a> Lowerer<'a> {
     /// A block: what it binds, then its last expression.
     #[cycle(block)]
     pub fn block(&mut self, block: &Block, target: Target<'_>) -> Result<(), NoMemory> {
-        self.enter();
+        self.walk.enter();
         for binding in &block.bindings {
-            match &binding.bound {
-                Expression::Give(argument) => {
-                    self.enter();
-                    let register = self.value(argument)?;
-                    self.name_all(binding, &[register]);
-                }
-                Expression::Tuple { arguments, .. } => {
-                    self.enter();
-                    let registers = self.values(arguments.as_slice())?;
-                    self.name_all(binding, registers.as_slice());
-                }
-                bound => {
-                    let registers = self.bind_all(binding)?;
-                    self.expression(bound, Target::Into(registers.as_slice()))?;
-                }
+            self.binding(binding)?;
+        }
+        self.expression(&block.last, target)?;
+        Ok(())
+    }
+
+    // A let without its body.
+    #[cycle(block)]
+    fn binding(&mut self, binding: &Binding) -> Result<(), NoMemory> {
+        match &binding.bound {
+            Expression::Give(argument) => {
+                self.walk.enter();
+                let register = self.value(argument)?;
+                self.name_all(binding.binders.as_slice(), &[register]);
+                Ok(())
+            }
+            Expression::Tuple { arguments, .. } => {
+                self.walk.enter();
+                let registers = self.values(arguments.as_slice())?;
+                self.name_all(binding.binders.as_slice(), registers.as_slice());
+                Ok(())
+            }
+            bound => {
+                let registers = self.reserve(binding.binders.as_slice())?;
+                self.expression(bound, Target::Into(registers.as_slice()))?;
+                self.name_all(binding.binders.as_slice(), registers.as_slice());
+                Ok(())
             }
         }
-        self.expression(&block.last, target)
     }
 
-    // The variables of a let are other names of values that are in registers.
-    fn name_all(&mut self, binding: &Binding, registers: &[u16]) {
-        for (binder, register) in binding.binders.iter().zip(registers.iter()) {
-            self.bind(binder.number, *register);
+    // Variables get these registers.
+    #[tactic(auto, using(crate::proofs::Blocks::naming_all))]
+    fn name_all(&mut self, binders: &[Binder], registers: &[u16])
+        ensures named { self.new.frame ≡ B.with_names self.old.frame binders.now registers.now }
+        ensures context { self.new.context ≡ self.old.context }
+        ensures buffer { self.new.buffer ≡ self.old.buffer }
+    {
+        let mut place = 0;
+        for binder in binders {
+            self.name_one(binder, registers, place);
+            place += 1;
         }
     }
 
-    // The variables of a let get registers.
-    fn bind_all(&mut self, binding: &Binding) -> Result<Vec<u16>, NoMemory> {
+    fn name_one(&mut self, binder: &Binder, registers: &[u16], place: usize)
+        ensures named { self.new.frame ≡ named_at self.old.frame binder.now (slice_get registers.now place) }
+        ensures context { self.new.context ≡ self.old.context }
+        ensures buffer { self.new.buffer ≡ self.old.buffer }
+    {
+        if let Some(register) = registers.get(place) {
+            self.frame.bind(binder.number, *register);
+        }
+    }
+
+    // Registers for the variables of a let.
+    #[tactic(auto, using(crate::proofs::Blocks::reserving))]
+    fn reserve(&mut self, binders: &[Binder]) -> Result<Vec<u16>, NoMemory>
+        ensures registers { IfOk result (λ rs. rs.items ≡ B.registers_for self.old.frame.next binders.now) }
+        ensures reserved { OnOk result (self.new.frame ≡ B.reserved self.old.frame binders.now) }
+        ensures context { OnOk result (self.new.context ≡ self.old.context) }
+        ensures buffer { OnOk result (self.new.buffer ≡ self.old.buffer) }
+    {
         let mut registers = Vec::new(self.context.alloc);
-        for binder in &binding.binders {
-            let register = self.fresh()?;
-            self.bind(binder.number, register);
-            registers.push(register)?;
+        for _ in 0..binders.len() {
+            registers.push(self.frame.fresh()?)?;
         }
         Ok(registers)
     }
@@ -54,14 +92,12 @@ impl<'a> Lowerer<'a> {
     fn expression(&mut self, expression: &Expression, target: Target<'_>) -> Result<(), NoMemory> {
         match expression {
             Expression::Give(argument) => {
-                self.enter();
-                let register = self.value(argument)?;
-                self.give(&[register], target)
+                self.give_one(argument, target)?;
+                Ok(())
             }
             Expression::Tuple { arguments, .. } => {
-                self.enter();
-                let registers = self.values(arguments.as_slice())?;
-                self.give(registers.as_slice(), target)
+                self.give_all(arguments.as_slice(), target)?;
+                Ok(())
             }
             Expression::Operation {
                 operator,
@@ -69,20 +105,20 @@ impl<'a> Lowerer<'a> {
                 left,
                 right,
             } => {
-                self.enter();
                 let applied = Applied {
                     operator: *operator,
                     place: *place,
                 };
-                self.operation(applied, left, right, target)
+                self.operate(applied, left, right, target)?;
+                Ok(())
             }
             Expression::Call {
                 callee,
                 arguments,
                 ..
             } => {
-                self.enter();
-                self.call(*callee, arguments.as_slice(), target)
+                self.apply(*callee, arguments.as_slice(), target)?;
+                Ok(())
             }
             Expression::Match {
                 kind,
@@ -92,7 +128,6 @@ impl<'a> Lowerer<'a> {
                 others,
                 ..
             } => {
-                let need = self.enter();
                 let written = Written {
                     takes: *kind == MatchKind::Destructive && !self.is_scalar(*ty),
                     ty: *ty,
@@ -100,36 +135,107 @@ impl<'a> Lowerer<'a> {
                     first,
                     others: others.as_slice(),
                 };
-                let mut matching = self.start_match(&written, need, target)?;
-                self.clause(&mut matching, first, target)?;
-                self.clauses(&mut matching, others, target)?;
-                self.end_match(matching)
+                let need = self.walk.enter();
+                let matching = self.start_match(&written, need, target)?;
+                let mut progress = Progress::new(self.context.alloc)?;
+                self.clause(&matching, &mut progress, first, target)?;
+                self.clauses(&matching, &mut progress, others.as_slice(), target)?;
+                self.end_match(matching, progress)?;
+                Ok(())
             }
-            Expression::Nested(block) => self.block(block, target),
+            Expression::Nested(block) => {
+                self.block(block, target)?;
+                Ok(())
+            }
         }
+    }
+
+    #[tactic(auto, using(crate::proofs::Blocks::expressions))]
+    fn give_one(&mut self, argument: &Argument, target: Target<'_>) -> Result<(), NoMemory>
+        ensures writes { OnOk result (Writes (setting self.old.context.now) self.old.frame self.old.buffer
+            (T.Give (V.argument argument.now)) (target_of target.entry) self.new.frame self.new.buffer) }
+        ensures context { OnOk result (self.new.context ≡ self.old.context) }
+    {
+        self.walk.enter();
+        let register = self.value(argument)?;
+        self.give(&[register], target)?;
+        Ok(())
+    }
+
+    #[tactic(auto, using(crate::proofs::Blocks::expressions))]
+    fn give_all(&mut self, arguments: &[Argument], target: Target<'_>) -> Result<(), NoMemory>
+        ensures gives { OnOk result (GivesValues (setting self.old.context.now) self.old.frame self.old.buffer
+            (V.arguments arguments.now) (target_of target.entry) self.new.frame self.new.buffer) }
+        ensures context { OnOk result (self.new.context ≡ self.old.context) }
+    {
+        self.walk.enter();
+        let registers = self.values(arguments)?;
+        self.give(registers.as_slice(), target)?;
+        Ok(())
+    }
+
+    // A call.
+    #[tactic(auto, using(crate::proofs::Blocks::expressions))]
+    fn apply(
+        &mut self,
+        callee: u32,
+        arguments: &[Argument],
+        target: Target<'_>,
+    ) -> Result<(), NoMemory>
+        ensures applies { OnOk result (AppliesTo (setting self.old.context.now) self.old.frame self.old.buffer callee
+            (V.arguments arguments.now) (target_of target.entry) self.new.frame self.new.buffer) }
+        ensures context { OnOk result (self.new.context ≡ self.old.context) }
+    {
+        self.walk.enter();
+        let registers = self.values(arguments)?;
+        self.call(callee, registers, target)?;
+        Ok(())
+    }
+
+    #[tactic(auto, using(crate::proofs::Blocks::expressions))]
+    fn operate(
+        &mut self,
+        applied: Applied,
+        left: &Argument,
+        right: &Argument,
+        target: Target<'_>,
+    ) -> Result<(), NoMemory>
+        ensures writes { OnOk result (Writes (setting self.old.context.now) self.old.frame self.old.buffer
+            (T.Operation applied.operator applied.place (V.argument left.now) (V.argument right.now))
+            (target_of target.entry) self.new.frame self.new.buffer) }
+        ensures context { OnOk result (self.new.context ≡ self.old.context) }
+    {
+        self.walk.enter();
+        let first = self.value(left)?;
+        let second = self.value(right)?;
+        self.operation(applied, first, second, target)?;
+        Ok(())
     }
 
     #[cycle(block)]
     fn clause(
         &mut self,
-        matching: &mut Matching<'_>,
+        matching: &Matching<'_>,
+        progress: &mut Progress,
         clause: &Clause,
         target: Target<'_>,
     ) -> Result<(), NoMemory> {
-        self.start_clause(matching, clause)?;
+        self.start_clause(matching, progress, clause)?;
         self.block(&clause.body, target)?;
-        self.end_clause(matching, target)
+        self.end_clause(matching, progress, target)?;
+        Ok(())
     }
 
     #[cycle(block)]
     fn clauses(
         &mut self,
-        matching: &mut Matching<'_>,
+        matching: &Matching<'_>,
+        progress: &mut Progress,
         clauses: &[Clause],
         target: Target<'_>,
     ) -> Result<(), NoMemory> {
         for clause in clauses {
-            self.clause(matching, clause, target)?;
+            self.clause(matching, progress, clause, target)?;
         }
         Ok(())
     }

@@ -1,65 +1,90 @@
 // The code of a function while it is written.
+ghost use Rattle.std.specs.Prelude.{◌≡◌, [], ◌∷◌, ◌++◌, IfOk, OnOk, map};
+ghost use Rattle.match_code.specs.Written.{Written as Writing, Extends, IsAt, added, place_of, settled, size};
+
 use cell_code::{Instr, Kind, Label};
 use fip_base::plain::NoMemory;
 use std::alloc::Global;
+use std::marker::Model;
 
-/// A jump or a test whose target isn't known yet: the number of its instruction.
-#[derive(Clone, Copy, Debug)]
-pub struct OpenJump {
-    at: usize,
-}
-
-/// Instructions, and labels in rising order.
+/// Instructions, whose jumps and tests go to labels; the places of labels, where they are known; and what is known of
+/// the registers at some places, which rise. A contract sees the instructions and the labels' places.
 #[derive(Drop)]
 pub struct Buffer {
     instrs: Vec<Instr>,
+    places: Vec<Option<u32>>,
     labels: Vec<Label>,
+}
+
+impl Model for Buffer {
+    ghost Value = { Writing };
+
+    ghost view = { λ b. record { instrs = b.instrs.items; places = b.places.items } };
 }
 
 impl Buffer {
     /// Nothing is written yet.
-    pub fn new(alloc: Global) -> Buffer {
+    pub fn new(alloc: Global) -> Buffer
+        ensures empty { result ≡ record { instrs = []; places = [] } }
+    {
         Buffer {
             instrs: Vec::new(alloc),
+            places: Vec::new(alloc),
             labels: Vec::new(alloc),
         }
     }
 
     /// The number of the next instruction; an error where it is past the greatest.
-    pub fn here(&self) -> Result<u32, NoMemory> {
+    pub fn here(&self) -> Result<u32, NoMemory>
+        ensures here { IfOk result (λ p. p ≡ size self.now) }
+    {
         u32::try_from(self.instrs.len()).map_err(|_| NoMemory)
     }
 
-    /// Writes an instruction.
-    pub fn add(&mut self, instr: Instr) -> Result<(), NoMemory> {
+    /// Writes an instruction; a jump or a test names a label.
+    pub fn add(&mut self, instr: Instr) -> Result<(), NoMemory>
+        ensures added { OnOk result (self.new ≡ added self.old instr) }
+    {
         self.instrs.push(instr)?;
         Ok(())
     }
 
-    /// Writes a jump or a test whose target is settled later.
-    pub fn add_open(&mut self, instr: Instr) -> Result<OpenJump, NoMemory> {
-        let at = self.instrs.len();
-        self.instrs.push(instr)?;
-        Ok(OpenJump { at })
+    /// A label that has no place yet.
+    #[tactic(auto, using(crate::proofs::Labels::placing))]
+    pub fn new_label(&mut self) -> Result<u32, NoMemory>
+        ensures extends { OnOk result (Extends self.old self.new) }
+        ensures instrs { OnOk result (self.new.instrs ≡ self.old.instrs) }
+    {
+        let label = u32::try_from(self.places.len()).map_err(|_| NoMemory)?;
+        self.places.push(None)?;
+        Ok(label)
     }
 
-    /// Writes a jump whose target is settled later.
-    pub fn add_jump(&mut self) -> Result<OpenJump, NoMemory> {
-        self.add_open(Instr::Jump { target: 0 })
-    }
-
-    /// A jump or a test goes to the next instruction.
-    pub fn settle(&mut self, open: OpenJump) -> Result<(), NoMemory> {
+    /// The place of a label is that of the next instruction; an error where it has one.
+    #[tactic(auto, using(crate::proofs::Labels::placing))]
+    pub fn put_label(&mut self, label: u32) -> Result<(), NoMemory>
+        ensures extends { OnOk result (Extends self.old self.new) }
+        ensures instrs { OnOk result (self.new.instrs ≡ self.old.instrs) }
+        ensures placed { OnOk result (IsAt self.new label (size self.old)) }
+    {
         let here = self.here()?;
-        if let Some(instr) = self.instrs.get_mut(open.at) {
-            set_target(instr, here);
+        match self.places.get_mut(label as usize) {
+            None => Err(NoMemory),
+            Some(place) => match *place {
+                Some(_) => Err(NoMemory),
+                None => {
+                    *place = Some(here);
+                    Ok(())
+                }
+            },
         }
-        Ok(())
     }
 
-    /// The next instruction has a label with these kinds, in the place of one that it had with narrower ones. The first
+    /// At the next instruction these kinds are known, in the place of narrower ones that were told there. The first
     /// instruction of a function needs none, since no other goes there.
-    pub fn add_label(&mut self, kinds: Vec<Kind>) -> Result<(), NoMemory> {
+    pub fn tell(&mut self, kinds: Vec<Kind>) -> Result<(), NoMemory>
+        ensures same { OnOk result (self.new ≡ self.old) }
+    {
         let at = self.here()?;
         if at == 0 {
             return Ok(());
@@ -73,17 +98,50 @@ impl Buffer {
         Ok(())
     }
 
-    /// The instructions and the labels.
-    pub fn into_parts(self) -> (Vec<Instr>, Vec<Label>) {
-        (self.instrs, self.labels)
+    /// The instructions, with the places of labels for the labels, and what is known at places.
+    pub fn into_parts(self) -> Result<(Vec<Instr>, Vec<Label>), NoMemory>
+        ensures instrs { IfOk result (λ p. p.0.items ≡ map (settled (place_of self.places)) self.instrs) }
+    {
+        let Buffer {
+            mut instrs,
+            places,
+            labels,
+        } = self;
+        settle_all(&mut instrs, places.as_slice())?;
+        Ok((instrs, labels))
     }
 }
 
-fn set_target(instr: &mut Instr, to: u32) {
+#[tactic(auto, using(crate::proofs::Frames::mapping))]
+fn settle_all(instrs: &mut Vec<Instr>, places: &[Option<u32>]) -> Result<(), NoMemory>
+    ensures settled { OnOk result (instrs.new.items ≡ map (settled (place_of places.now)) instrs.old.items) }
+{
+    for instr in instrs.iter_mut() {
+        settle(instr, places)?;
+    }
+    Ok(())
+}
+
+// A jump or a test goes to the place of its label; an error where this has none.
+fn settle(instr: &mut Instr, places: &[Option<u32>]) -> Result<(), NoMemory>
+    ensures settled { OnOk result (instr.new ≡ settled (place_of places.now) instr.old) }
+{
     match instr {
-        Instr::Jump { target } => *target = to,
-        Instr::Test { target, .. } => *target = to,
-        Instr::TestInt { target, .. } => *target = to,
-        _ => {}
+        Instr::Jump { target } => set_target(target, places),
+        Instr::Test { target, .. } => set_target(target, places),
+        Instr::TestInt { target, .. } => set_target(target, places),
+        _ => Ok(()),
+    }
+}
+
+fn set_target(target: &mut u32, places: &[Option<u32>]) -> Result<(), NoMemory>
+    ensures set { OnOk result (target.new ≡ place_of places.now target.old) }
+{
+    match places.get(*target as usize) {
+        Some(Some(place)) => {
+            *target = *place;
+            Ok(())
+        }
+        _ => Err(NoMemory),
     }
 }

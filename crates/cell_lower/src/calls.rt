@@ -1,9 +1,17 @@
 // Operators and calls.
-use crate::frame::Held;
-use crate::lowerer::{Lowerer, Target};
+ghost use Rattle.std.specs.Prelude.{◌≡◌, IfOk, OnOk, Some, slice_get};
+ghost use Rattle.lowered_code.specs.declared.held.Held.{Held as a_held};
+ghost use Rattle.fip_trees.specs.TreeView as V;
+ghost use Rattle.lowered_code.specs.Bodies as B;
+ghost use Rattle.lowered_code.specs.Known as K;
+ghost use Rattle.cell_lower.specs.Writing.{setting, target_of, handed_at, received_at, CallsAt, EndsCall, Operates};
+ghost use Rattle.cell_lower.specs.Writing.{TakesAll, TakesOne};
+
+use crate::lowerer::{Context, Lowerer, Target};
 use cell_code::{Instr, Registers};
-use fip_base::plain::{NoMemory, Operator, Place};
-use fip_trees::program::{Argument, Instance};
+use fip_base::plain::{NoMemory, Operator, Param, Place};
+use fip_trees::program::Instance;
+use lowered_code::Held;
 
 /// An operator and where it stands.
 #[derive(Clone, Copy)]
@@ -13,58 +21,87 @@ pub struct Applied {
 }
 
 impl<'a> Lowerer<'a> {
-    /// An operator applied to two arguments.
+    /// An operator applied to two registers.
+    #[tactic(auto, using(crate::proofs::Calling::operating))]
     pub fn operation(
         &mut self,
         applied: Applied,
-        left: &Argument,
-        right: &Argument,
+        left: u16,
+        right: u16,
         target: Target<'_>,
-    ) -> Result<(), NoMemory> {
-        let left = self.value(left)?;
-        let right = self.value(right)?;
+    ) -> Result<(), NoMemory>
+        ensures operates { OnOk result (Operates self.old.frame self.old.buffer applied.operator applied.place left
+            right (target_of target.entry) self.new.frame self.new.buffer) }
+        ensures context { OnOk result (self.new.context ≡ self.old.context) }
+    {
         let destination = self.first_of(target)?;
         self.buffer.add(Instr::Arith {
             destination,
             operator: applied.operator,
             left,
             right,
-            line: u32::try_from(applied.place.line).map_err(|_| NoMemory)?,
-            col: u32::try_from(applied.place.col).map_err(|_| NoMemory)?,
+            line: narrow(applied.place.line)?,
+            col: narrow(applied.place.col)?,
         })?;
         let ty = result_of(applied.operator);
         self.frame.set(destination, Held::Scalar { ty });
-        self.give(&[destination], target)
+        self.give(&[destination], target)?;
+        Ok(())
     }
 
     // The register that a single result goes to.
-    fn first_of(&mut self, target: Target<'_>) -> Result<u16, NoMemory> {
+    fn first_of(&mut self, target: Target<'_>) -> Result<u16, NoMemory>
+        ensures goes { IfOk result (λ d. (h : a_held) → B.GoesTo (target_of target.entry) self.old.frame h d
+            (K.holding self.new.frame d h)) }
+        ensures context { OnOk result (self.new.context ≡ self.old.context) }
+        ensures buffer { OnOk result (self.new.buffer ≡ self.old.buffer) }
+    {
         match target {
-            Target::Return => self.fresh(),
+            Target::Return => self.frame.fresh(),
             Target::Into(registers) => match registers.first() {
                 Some(register) => Ok(*register),
-                None => self.fresh(),
+                None => self.frame.fresh(),
             },
         }
     }
 
-    /// A call of an instance; where its results are the function's own, its frame takes the place of this one.
+    /// A call of an instance with arguments in these registers; where its results are the function's own, its frame
+    /// takes the place of this one.
+    #[tactic(auto, using(crate::proofs::Calling::calling))]
     pub fn call(
         &mut self,
         callee: u32,
-        arguments: &[Argument],
+        arguments: Vec<u16>,
         target: Target<'_>,
-    ) -> Result<(), NoMemory> {
-        // No instance that keeps the rules calls a plain one.
-        let function = self.function_of(callee).ok_or(NoMemory)?;
-        let instance = self.context.program.instance(callee).ok_or(NoMemory)?;
-        let mut registers = self.values(arguments)?;
-        self.hand_over(instance, &registers);
-        for size in &instance.credits {
-            let credit = self.frame.take_credit(*size as usize).ok_or(NoMemory)?;
-            registers.push(credit)?;
-        }
-        let arguments = Registers::of(self.context.alloc, registers.as_slice())?;
+    ) -> Result<(), NoMemory>
+        ensures calls { OnOk result (CallsAt (setting self.old.context.now) self.old.frame self.old.buffer callee
+            arguments.items (target_of target.entry) self.new.frame self.new.buffer) }
+        ensures context { OnOk result (self.new.context ≡ self.old.context) }
+    {
+        let context = self.context;
+        let function = function_of(context, callee)?;
+        let instance = instance_of(context, callee)?;
+        let mut registers = arguments;
+        self.hand_over(instance.params.as_slice(), registers.as_slice());
+        self.take_credits(instance.credits.as_slice(), &mut registers)?;
+        let arguments = Registers::of(context.alloc, registers.as_slice())?;
+        self.end_call(function, arguments, instance, target)?;
+        Ok(())
+    }
+
+    // A call or a tail call, with these arguments and credits.
+    #[tactic(auto, using(crate::proofs::Calling::calling))]
+    fn end_call(
+        &mut self,
+        function: u32,
+        arguments: Registers,
+        instance: &Instance,
+        target: Target<'_>,
+    ) -> Result<(), NoMemory>
+        ensures ends { OnOk result (EndsCall (setting self.old.context.now) self.old.frame self.old.buffer function
+            arguments instance.now.results (target_of target.entry) self.new.frame self.new.buffer) }
+        ensures context { OnOk result (self.new.context ≡ self.old.context) }
+    {
         match target {
             Target::Return => {
                 self.end_bare()?;
@@ -72,7 +109,8 @@ impl<'a> Lowerer<'a> {
                 self.buffer.add(Instr::Tail {
                     function,
                     arguments,
-                })
+                })?;
+                Ok(())
             }
             Target::Into(destinations) => {
                 self.buffer.add(Instr::Call {
@@ -80,40 +118,128 @@ impl<'a> Lowerer<'a> {
                     arguments,
                     destinations: Registers::of(self.context.alloc, destinations)?,
                 })?;
-                self.receive(instance, destinations);
+                self.receive(instance.results.as_slice(), destinations);
                 Ok(())
             }
         }
     }
 
-    // The number of an instance's function.
-    fn function_of(&self, instance: u32) -> Option<u32> {
-        match self.context.functions.get(instance as usize) {
-            None => None,
-            Some(function) => *function,
+    // What isn't lent is used up.
+    #[tactic(auto, using(crate::proofs::Calling::handing))]
+    fn hand_over(&mut self, params: &[Param], registers: &[u16])
+        ensures handed { self.new.frame ≡ K.using self.old.frame
+            (B.handed self.old.frame.held params.now registers.now) }
+        ensures context { self.new.context ≡ self.old.context }
+        ensures buffer { self.new.buffer ≡ self.old.buffer }
+    {
+        let mut place = 0;
+        for param in params {
+            self.hand_one(param, registers, place);
+            place += 1;
         }
     }
 
-    // What isn't lent is used up.
-    fn hand_over(&mut self, instance: &Instance, registers: &[u16]) {
-        for (param, register) in instance.params.as_slice().iter().zip(registers.iter()) {
-            if !param.lent {
-                self.frame.use_up(*register);
-            }
+    fn hand_one(&mut self, param: &Param, registers: &[u16], place: usize)
+        ensures handed { self.new.frame ≡ K.using self.old.frame
+            (handed_at self.old.frame.held param.now (slice_get registers.now place)) }
+        ensures context { self.new.context ≡ self.old.context }
+        ensures buffer { self.new.buffer ≡ self.old.buffer }
+    {
+        if let Some(register) = registers.get(place)
+            && !param.lent
+        {
+            self.frame.use_up(*register);
         }
+    }
+
+    // Credits of these sizes are handed over too.
+    #[tactic(auto, using(crate::proofs::Calling::taking))]
+    fn take_credits(&mut self, sizes: &[u8], registers: &mut Vec<u16>) -> Result<(), NoMemory>
+        ensures taken { OnOk result (TakesAll self.old.frame sizes.now registers.old.items registers.new.items
+            self.new.frame) }
+        ensures context { OnOk result (self.new.context ≡ self.old.context) }
+        ensures buffer { OnOk result (self.new.buffer ≡ self.old.buffer) }
+    {
+        for size in sizes {
+            self.take_one(*size, registers)?;
+        }
+        Ok(())
+    }
+
+    fn take_one(&mut self, size: u8, registers: &mut Vec<u16>) -> Result<(), NoMemory>
+        ensures taken { OnOk result (TakesOne self.old.frame size registers.old.items registers.new.items
+            self.new.frame) }
+        ensures context { OnOk result (self.new.context ≡ self.old.context) }
+        ensures buffer { OnOk result (self.new.buffer ≡ self.old.buffer) }
+    {
+        let credit = self.frame.take_credit(size as usize).ok_or(NoMemory)?;
+        registers.push(credit)?;
+        Ok(())
     }
 
     // The results of a call are in these registers.
-    fn receive(&mut self, instance: &Instance, destinations: &[u16]) {
-        for (ty, register) in instance.results.as_slice().iter().zip(destinations.iter()) {
-            let held = self.given(*ty);
+    #[tactic(auto, using(crate::proofs::Calling::handing))]
+    fn receive(&mut self, types: &[u32], destinations: &[u16])
+        ensures received { self.new.frame ≡ K.using self.old.frame
+            (B.received (setting self.old.context.now) self.old.frame.held types.now destinations.now) }
+        ensures context { self.new.context ≡ self.old.context }
+        ensures buffer { self.new.buffer ≡ self.old.buffer }
+    {
+        let mut place = 0;
+        for ty in types {
+            self.receive_one(*ty, destinations, place);
+            place += 1;
+        }
+    }
+
+    fn receive_one(&mut self, ty: u32, destinations: &[u16], place: usize)
+        ensures received { self.new.frame ≡ K.using self.old.frame (received_at (setting self.old.context.now)
+            self.old.frame.held ty (slice_get destinations.now place)) }
+        ensures context { self.new.context ≡ self.old.context }
+        ensures buffer { self.new.buffer ≡ self.old.buffer }
+    {
+        if let Some(register) = destinations.get(place) {
+            let held = self.context.given(ty);
             self.frame.set(*register, held);
         }
     }
 }
 
+// The number of an instance's function. No instance that keeps the rules calls a plain one.
+fn function_of(context: &Context<'_>, instance: u32) -> Result<u32, NoMemory>
+    ensures numbered { IfOk result (λ f. K.joined (slice_get context.now.functions.items instance) ≡ Some f) }
+{
+    match context.functions.get(instance as usize) {
+        None => Err(NoMemory),
+        Some(function) => match *function {
+            None => Err(NoMemory),
+            Some(number) => Ok(number),
+        },
+    }
+}
+
+#[tactic(auto, using(crate::proofs::Calling::numbering))]
+fn instance_of<'a>(context: &Context<'a>, number: u32) -> Result<&'a Instance, NoMemory>
+    ensures there { IfOk result (λ d. slice_get (V.instances context.now.program.now.instances.items) number
+        ≡ Some (V.instance_of d.now)) }
+{
+    match context.program.instances.get(number as usize) {
+        None => Err(NoMemory),
+        Some(instance) => Ok(instance),
+    }
+}
+
+// A number that an instruction can hold.
+fn narrow(number: usize) -> Result<u32, NoMemory>
+    ensures same { IfOk result (λ n. n ≡ number) }
+{
+    u32::try_from(number).map_err(|_| NoMemory)
+}
+
 // The type of an operator's result: int, or bool.
-fn result_of(operator: Operator) -> u32 {
+fn result_of(operator: Operator) -> u32
+    ensures same { result ≡ B.result_type operator }
+{
     match operator {
         Operator::Add => 0,
         Operator::Subtract => 0,

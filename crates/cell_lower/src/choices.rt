@@ -8,33 +8,26 @@
 // The tests are written as far as the clauses ask for them: those that choose the next clause, and then its body, to
 // which the last of them goes on. In `match! xs { Nil -> a; Cons(x, t) -> b }` the test of Nil stands first, then a,
 // then what fails the test, and b.
-use crate::buffer::OpenJump;
-use crate::frame::{Frame, Held};
+
 use crate::lowerer::Lowerer;
-use crate::spots::Spot;
+use crate::spots::{Spot, field_at};
 use cell_code::{Constructors, From, Instr, Kind, Registers};
 use fip_base::plain::NoMemory;
 use fip_language::limits::MOST_PATTERN_NODES;
 use fip_trees::program::{Binder, Pattern, Program};
+use lowered_code::Held;
 use match_knowledge::{
     Head, Knowledge, Row, compare, is_asks, is_fits, is_last, open, same_head, side,
 };
 use std::alloc::Global;
 
-/// A jump to the body of a clause, which has this number.
-#[derive(Clone, Copy)]
-pub struct Leaf {
-    pub clause: usize,
-    pub jump: OpenJump,
-}
-
-// Where tests aren't written yet: what is known of the values that come there, the registers that were read on the way,
-// and the test that these values fail; none where all values come there.
+/// Where tests aren't written yet: what is known of the values that come there, the registers that were read on the
+/// way, and the label to which a test goes that these values fail; none where all values come there.
 #[derive(Drop)]
-struct Side {
+pub struct Side {
     known: Knowledge,
     read: Vec<u16>,
-    test: Option<OpenJump>,
+    label: Option<u32>,
 }
 
 /// A match, as far as its tests go.
@@ -47,10 +40,8 @@ pub struct Choice<'c> {
     pub root: Spot,
     ty: u32,
     pub takes: bool,
-    /// Where tests aren't written yet; the last one is next.
-    sides: Vec<Side>,
-    /// The jumps to the clauses' bodies.
-    pub leaves: Vec<Leaf>,
+    /// The labels of the clauses' bodies.
+    entries: Vec<u32>,
 }
 
 // The first clause that isn't ruled out: it matches all values, or it asks.
@@ -81,31 +72,44 @@ struct Below {
     from: Option<From>,
 }
 
+/// The start of a match, where tests aren't written yet: nothing is known.
+pub fn start_of(alloc: Global) -> Result<Vec<Side>, NoMemory> {
+    let mut sides = Vec::new(alloc);
+    sides.push(Side {
+        known: open(alloc),
+        read: Vec::new(alloc),
+        label: None,
+    })?;
+    Ok(sides)
+}
+
 impl<'c> Choice<'c> {
     /// A match without clauses yet.
-    pub fn new(alloc: Global, root: u16, ty: u32, takes: bool) -> Result<Choice<'c>, NoMemory> {
-        let mut sides = Vec::new(alloc);
-        sides.push(Side {
-            known: open(alloc),
-            read: Vec::new(alloc),
-            test: None,
-        })?;
-        Ok(Choice {
+    pub fn new(alloc: Global, root: u16, ty: u32, takes: bool) -> Choice<'c> {
+        Choice {
             patterns: Vec::new(alloc),
             rows: Vec::new(alloc),
             root: Spot::new(alloc, root),
             ty,
             takes,
-            sides,
-            leaves: Vec::new(alloc),
-        })
+            entries: Vec::new(alloc),
+        }
     }
 
-    /// Adds a clause: its pattern, and the same without names.
-    pub fn add(&mut self, pattern: &'c Pattern, row: Row) -> Result<(), NoMemory> {
+    /// Adds a clause: its pattern, the same without names, and the label of its body.
+    pub fn add(&mut self, pattern: &'c Pattern, row: Row, entry: u32) -> Result<(), NoMemory> {
         self.patterns.push(pattern)?;
         self.rows.push(row)?;
+        self.entries.push(entry)?;
         Ok(())
+    }
+
+    /// The label of a clause's body.
+    pub fn entry(&self, clause: usize) -> Result<u32, NoMemory> {
+        match self.entries.get(clause) {
+            None => Err(NoMemory),
+            Some(label) => Ok(*label),
+        }
     }
 
     /// How many clauses it has.
@@ -113,12 +117,20 @@ impl<'c> Choice<'c> {
         self.rows.len()
     }
 
+    // The first clause that isn't ruled out. The clauses cover all values, so there is one.
+    fn first_left(&self, known: &Knowledge) -> Result<First<'_>, NoMemory> {
+        match first_of(self.rows.as_slice(), known) {
+            None => Err(NoMemory),
+            Some(first) => Ok(first),
+        }
+    }
+
     // Whether a clause may be chosen where tests aren't written yet.
-    fn may_choose(&self, clause: usize) -> bool {
+    fn may_choose(&self, sides: &[Side], clause: usize) -> bool {
         let Some(row) = self.rows.get(clause) else {
             return false;
         };
-        for next in &self.sides {
+        for next in sides {
             let verdict = compare(row, &next.known);
             if is_fits(verdict) || is_asks(verdict) {
                 return true;
@@ -127,71 +139,164 @@ impl<'c> Choice<'c> {
         false
     }
 
-    // Whether the tests are written that choose a clause; for the last clause all.
-    fn is_written(&self, clause: usize) -> bool {
-        if clause >= self.rows.len().saturating_sub(1) {
-            self.sides.is_empty()
-        } else {
-            !self.may_choose(clause)
+    // Whether the tests are written that choose a clause; for the last clause all. At the start of the match they
+    // aren't: no clause is ruled out there.
+    fn is_written(&self, sides: &[Side], clause: usize) -> bool {
+        if is_start(sides) {
+            return false;
         }
+        if clause >= self.rows.len().saturating_sub(1) {
+            sides.is_empty()
+        } else {
+            !self.may_choose(sides, clause)
+        }
+    }
+}
+
+// Whether the side that is next is the start of the match.
+fn is_start(sides: &[Side]) -> bool {
+    match sides.first() {
+        None => false,
+        Some(side) => match side.label {
+            None => true,
+            Some(_) => false,
+        },
     }
 }
 
 impl<'a> Lowerer<'a> {
     /// Writes the tests of a match until all that choose this clause are there. Where the last of them chooses it, the
     /// code goes on to the next instruction, else there are jumps alone.
-    pub fn choose(&mut self, choice: &mut Choice<'_>, clause: usize) -> Result<(), NoMemory> {
+    pub fn choose(
+        &mut self,
+        choice: &Choice<'_>,
+        sides: &mut Vec<Side>,
+        clause: usize,
+    ) -> Result<(), NoMemory> {
         // Each turn but the last writes a jump, and code has fewer instructions than this.
         for _ in 0..u32::MAX {
-            if choice.is_written(clause) {
+            if self.choose_on(choice, sides, clause)? {
                 return Ok(());
             }
-            let Some(next) = choice.sides.pop() else {
-                return Ok(());
-            };
-            let chosen = self.follow(choice, next)?;
-            if chosen == clause && choice.is_written(clause) {
-                return Ok(());
-            }
-            let jump = self.buffer.add_jump()?;
-            choice.leaves.push(Leaf {
-                clause: chosen,
-                jump,
-            })?;
         }
         Err(NoMemory)
     }
 
+    // A turn: whether it was the last.
+    fn choose_on(
+        &mut self,
+        choice: &Choice<'_>,
+        sides: &mut Vec<Side>,
+        clause: usize,
+    ) -> Result<bool, NoMemory> {
+        if choice.is_written(sides.as_slice(), clause) {
+            return Ok(true);
+        }
+        match sides.pop() {
+            // Where no side is left, all is written.
+            None => Err(NoMemory),
+            Some(next) => {
+                let last = self.choose_from(choice, sides, next, clause)?;
+                Ok(last)
+            }
+        }
+    }
+
+    fn choose_from(
+        &mut self,
+        choice: &Choice<'_>,
+        sides: &mut Vec<Side>,
+        next: Side,
+        clause: usize,
+    ) -> Result<bool, NoMemory> {
+        let chosen = self.follow(choice, sides, next)?;
+        if chosen == clause && choice.is_written(sides.as_slice(), clause) {
+            return Ok(true);
+        }
+        let target = choice.entry(chosen)?;
+        self.buffer.add(Instr::Jump { target })?;
+        Ok(false)
+    }
+
     // Writes the tests from a side on, up to the clause that is chosen where all hold.
-    fn follow(&mut self, choice: &mut Choice<'_>, from: Side) -> Result<usize, NoMemory> {
-        let alloc = self.context.alloc;
+    fn follow(
+        &mut self,
+        choice: &Choice<'_>,
+        sides: &mut Vec<Side>,
+        from: Side,
+    ) -> Result<usize, NoMemory> {
         let Side {
             mut known,
             mut read,
-            test,
+            label,
         } = from;
-        if let Some(test) = test {
-            self.label_failed(choice, &known, read.as_slice(), test)?;
-        }
+        self.put_side(choice, &known, read.as_slice(), label)?;
         // Each step settles a pattern node, and no match that keeps the rules has more.
         for _ in 0..=MOST_PATTERN_NODES {
-            // The clauses cover all values, so one isn't ruled out.
-            match first_of(choice.rows.as_slice(), &known).ok_or(NoMemory)? {
-                First::Chosen(clause) => {
-                    self.settle(choice, clause, &mut read)?;
-                    return Ok(clause);
-                }
-                First::Asks(row) => {
-                    let yes = side(alloc, true, row, &known)?;
-                    if !is_last(&self.context.program.types, row, &known) {
-                        let failed = self.test(choice, row, &known, &mut read)?;
-                        choice.sides.push(failed)?;
-                    }
-                    known = yes;
-                }
+            match self.advance(choice, sides, &mut known, &mut read)? {
+                Some(clause) => return Ok(clause),
+                None => {}
             }
         }
         Err(NoMemory)
+    }
+
+    // The place of a side is here.
+    fn put_side(
+        &mut self,
+        choice: &Choice<'_>,
+        known: &Knowledge,
+        read: &[u16],
+        label: Option<u32>,
+    ) -> Result<(), NoMemory> {
+        match label {
+            None => Ok(()),
+            Some(label) => {
+                self.buffer.put_label(label)?;
+                self.tell_failed(choice, known, read)?;
+                Ok(())
+            }
+        }
+    }
+
+    // A step: what the first clause that isn't ruled out asks for is tested, or that clause is chosen.
+    fn advance(
+        &mut self,
+        choice: &Choice<'_>,
+        sides: &mut Vec<Side>,
+        known: &mut Knowledge,
+        read: &mut Vec<u16>,
+    ) -> Result<Option<usize>, NoMemory> {
+        match choice.first_left(known)? {
+            First::Chosen(clause) => {
+                self.settle(choice, clause, read)?;
+                Ok(Some(clause))
+            }
+            First::Asks(row) => {
+                self.ask(choice, sides, row, known, read)?;
+                Ok(None)
+            }
+        }
+    }
+
+    // A test, where some value fails it; then it is known that it holds.
+    fn ask(
+        &mut self,
+        choice: &Choice<'_>,
+        sides: &mut Vec<Side>,
+        row: &Row,
+        known: &mut Knowledge,
+        read: &mut Vec<u16>,
+    ) -> Result<(), NoMemory> {
+        let yes = side(self.context.alloc, true, row, known)?;
+        if is_last(&self.context.program.types, row, known) {
+            *known = yes;
+            return Ok(());
+        }
+        let failed = self.test(choice, row, known, read)?;
+        sides.push(failed)?;
+        *known = yes;
+        Ok(())
     }
 
     // A test; the side where it fails.
@@ -210,25 +315,14 @@ impl<'a> Lowerer<'a> {
             &choice.root,
             read,
         )?;
-        let instr = match head {
-            Head::Tag(constructor) => Instr::Test {
-                register,
-                constructor,
-                target: 0,
-            },
-            Head::Number(value) => Instr::TestInt {
-                register,
-                value,
-                target: 0,
-            },
-        };
-        let test = self.buffer.add_open(instr)?;
+        let target = self.buffer.new_label()?;
+        self.buffer.add(test_of(register, head, target))?;
         let mut seen = Vec::new(alloc);
         seen.extend_from_slice(read.as_slice())?;
         Ok(Side {
             known: side(alloc, false, row, known)?,
             read: seen,
-            test: Some(test),
+            label: Some(target),
         })
     }
 
@@ -259,7 +353,8 @@ impl<'a> Lowerer<'a> {
                 let part_known = knowns.get(field).ok_or(NoMemory)?;
                 let part_spot = spot.fields.get(field).ok_or(NoMemory)?;
                 self.read(spot.register, field, part_spot.register, read)?;
-                self.read_asked(depth - 1, part, part_known, part_spot, read)
+                let asked = self.read_asked(depth - 1, part, part_known, part_spot, read)?;
+                Ok(asked)
             }
         }
     }
@@ -272,7 +367,7 @@ impl<'a> Lowerer<'a> {
         destination: u16,
         read: &mut Vec<u16>,
     ) -> Result<(), NoMemory> {
-        if read.contains(&destination) {
+        if contains(read.as_slice(), destination) {
             return Ok(());
         }
         read.push(destination)?;
@@ -280,7 +375,8 @@ impl<'a> Lowerer<'a> {
             destination,
             register,
             field: u8::try_from(field).map_err(|_| NoMemory)?,
-        })
+        })?;
+        Ok(())
     }
 
     // A clause is chosen: its cells are taken apart, or what it names is read.
@@ -290,47 +386,86 @@ impl<'a> Lowerer<'a> {
         clause: usize,
         read: &mut Vec<u16>,
     ) -> Result<(), NoMemory> {
-        let pattern: &Pattern = match choice.patterns.get(clause) {
-            Some(pattern) => *pattern,
-            None => return Err(NoMemory),
-        };
-        if choice.takes {
-            self.take_apart(pattern, &choice.root)
+        match choice.patterns.get(clause) {
+            None => Err(NoMemory),
+            Some(pattern) => {
+                self.settle_by(choice.takes, pattern, &choice.root, read)?;
+                Ok(())
+            }
+        }
+    }
+
+    fn settle_by(
+        &mut self,
+        takes: bool,
+        pattern: &Pattern,
+        root: &Spot,
+        read: &mut Vec<u16>,
+    ) -> Result<(), NoMemory> {
+        if takes {
+            self.take_apart(pattern, root)?;
+            Ok(())
         } else {
-            self.read_named(pattern, &choice.root, read)
+            self.read_named(pattern, root, read)?;
+            Ok(())
         }
     }
 
     // Reads what a pattern names below a position.
+    #[cycle(naming)]
     fn read_named(
         &mut self,
         pattern: &Pattern,
         spot: &Spot,
         read: &mut Vec<u16>,
     ) -> Result<(), NoMemory> {
-        let Pattern::Constructor { patterns, .. } = pattern else {
-            return Ok(());
-        };
-        let mut number: usize = 0;
-        for (part, field) in patterns.iter().zip(spot.fields.iter()) {
-            if names_any(part) {
-                self.read(spot.register, number, field.register, read)?;
-                self.read_named(part, field, read)?;
+        match pattern {
+            Pattern::Binder(_) => Ok(()),
+            Pattern::Literal { .. } => Ok(()),
+            Pattern::Constructor { patterns, .. } => {
+                self.read_fields(patterns.as_slice(), spot, read)?;
+                Ok(())
             }
-            number = number.saturating_add(1);
+        }
+    }
+
+    #[cycle(naming)]
+    fn read_fields(
+        &mut self,
+        patterns: &[Pattern],
+        spot: &Spot,
+        read: &mut Vec<u16>,
+    ) -> Result<(), NoMemory> {
+        for (place, part) in patterns.iter().enumerate() {
+            self.read_field(part, spot, place, read)?;
         }
         Ok(())
     }
 
-    // The place where a test failed.
-    fn label_failed(
+    #[cycle(naming)]
+    fn read_field(
+        &mut self,
+        part: &Pattern,
+        spot: &Spot,
+        place: usize,
+        read: &mut Vec<u16>,
+    ) -> Result<(), NoMemory> {
+        let field = spot.field(place)?;
+        if !names_any(part) {
+            return Ok(());
+        }
+        self.read(spot.register, place, field.register, read)?;
+        self.read_named(part, field, read)?;
+        Ok(())
+    }
+
+    // What is known where a test failed.
+    fn tell_failed(
         &mut self,
         choice: &Choice<'_>,
         known: &Knowledge,
         read: &[u16],
-        test: OpenJump,
     ) -> Result<(), NoMemory> {
-        self.buffer.settle(test)?;
         let mut kinds = self.frame.kinds(self.context.alloc, self.context.program)?;
         let below = self.overlay_root(&mut kinds, choice, known)?;
         let overlay = Overlay {
@@ -338,7 +473,7 @@ impl<'a> Lowerer<'a> {
             read,
         };
         self.overlay_fields(&mut kinds, &choice.root, choice.ty, known, overlay)?;
-        self.buffer.add_label(kinds)
+        self.buffer.tell(kinds)
     }
 
     // What is known of the scrutinee, and how its fields are held.
@@ -441,25 +576,74 @@ impl<'a> Lowerer<'a> {
     }
 
     // Takes the cells of a pattern's constructors apart, from the root on. One without fields stays for its clause.
+    #[cycle(taking)]
     fn take_apart(&mut self, pattern: &Pattern, spot: &Spot) -> Result<(), NoMemory> {
-        let Pattern::Constructor { patterns, .. } = pattern else {
-            return Ok(());
-        };
+        match pattern {
+            Pattern::Binder(_) => Ok(()),
+            Pattern::Literal { .. } => Ok(()),
+            Pattern::Constructor { patterns, .. } => {
+                self.take_cell(patterns.as_slice(), spot)?;
+                self.take_all(patterns.as_slice(), spot.fields.as_slice())?;
+                Ok(())
+            }
+        }
+    }
+
+    #[cycle(taking)]
+    fn take_all(&mut self, patterns: &[Pattern], fields: &[Spot]) -> Result<(), NoMemory> {
+        for (place, part) in patterns.iter().enumerate() {
+            self.take_part(part, fields, place)?;
+        }
+        Ok(())
+    }
+
+    #[cycle(taking)]
+    fn take_part(&mut self, part: &Pattern, fields: &[Spot], place: usize) -> Result<(), NoMemory> {
+        let field = field_at(fields, place)?;
+        self.take_apart(part, field)?;
+        Ok(())
+    }
+
+    // Takes the cell of a constructor with fields apart.
+    fn take_cell(&mut self, patterns: &[Pattern], spot: &Spot) -> Result<(), NoMemory> {
         if patterns.is_empty() {
             return Ok(());
         }
-        let mut fields = Registers::new(self.context.alloc);
-        for field in spot.fields.iter().take(patterns.len()) {
-            fields.push(field.register)?;
-        }
         self.buffer.add(Instr::Take {
             register: spot.register,
-            fields,
+            fields: registers_of(self.context.alloc, patterns, spot.fields.as_slice())?,
         })?;
-        for (part, field) in patterns.iter().zip(spot.fields.iter()) {
-            self.take_apart(part, field)?;
-        }
         Ok(())
+    }
+}
+
+// The registers of the positions of these patterns.
+fn registers_of(
+    alloc: Global,
+    patterns: &[Pattern],
+    spots: &[Spot],
+) -> Result<Registers, NoMemory> {
+    let mut registers = Registers::new(alloc);
+    for (place, _part) in patterns.iter().enumerate() {
+        let spot = field_at(spots, place)?;
+        registers.push(spot.register)?;
+    }
+    Ok(registers)
+}
+
+// The test of a head, which goes to a label where it fails.
+fn test_of(register: u16, head: Head, target: u32) -> Instr {
+    match head {
+        Head::Tag(constructor) => Instr::Test {
+            register,
+            constructor,
+            target,
+        },
+        Head::Number(value) => Instr::TestInt {
+            register,
+            value,
+            target,
+        },
     }
 }
 
@@ -478,34 +662,57 @@ fn first_of<'r>(rows: &'r [Row], known: &Knowledge) -> Option<First<'r>> {
 }
 
 // Whether a pattern names a variable, or a part of it does.
+#[cycle(names)]
 fn names_any(pattern: &Pattern) -> bool {
     match pattern {
         Pattern::Binder(binder) => is_named(binder),
         Pattern::Literal { .. } => false,
-        Pattern::Constructor { patterns, .. } => {
-            for part in patterns {
-                if names_any(part) {
-                    return true;
-                }
-            }
-            false
+        Pattern::Constructor { patterns, .. } => any_named(patterns.as_slice()),
+    }
+}
+
+#[cycle(names)]
+fn any_named(patterns: &[Pattern]) -> bool {
+    for part in patterns {
+        if names_any(part) {
+            return true;
         }
     }
+    false
 }
 
 /// Whether a variable can be named.
 pub fn is_named(binder: &Binder) -> bool {
-    binder.name.as_slice() != b"_".as_slice()
+    !is_underscore(binder.name.as_slice())
+}
+
+fn is_underscore(name: &[u8]) -> bool {
+    name.len() == 1 && name[0] == b'_'
 }
 
 // The first of the fields whose pattern asks.
 fn first_asking(parts: &[Row], knowns: &[Knowledge]) -> Option<usize> {
-    for (field, (part, known)) in parts.iter().zip(knowns.iter()).enumerate() {
-        if is_asks(compare(part, known)) {
+    let mut field: usize = 0;
+    for part in parts {
+        if field >= knowns.len() {
+            return None;
+        }
+        if is_asks(compare(part, &knowns[field])) {
             return Some(field);
         }
+        field += 1;
     }
     None
+}
+
+// Whether a register was read.
+fn contains(read: &[u16], register: u16) -> bool {
+    for one in read {
+        if register == *one {
+            return true;
+        }
+    }
+    false
 }
 
 fn set_kind(kinds: &mut Vec<Kind>, register: u16, kind: Kind) {

@@ -147,7 +147,7 @@ fn function_of(
     let alloc = context.alloc;
     let mut lowerer = Lowerer::new(context, needs.of(number), instance, registers)?;
     lowerer.block(&instance.body, Target::Return)?;
-    let (instrs, labels) = lowerer.buffer.into_parts();
+    let (instrs, labels) = lowerer.buffer.into_parts()?;
     let mut credits = Vec::new(alloc);
     credits.extend_from_slice(instance.credits.as_slice())?;
     Ok(Function {

@@ -1,11 +1,21 @@
 // What the lowering of a function knows and has written.
+ghost use Rattle.std.specs.Prelude.{◌≡◌, [], IfOk, OnOk, slice_get};
+ghost use Rattle.fip_trees.specs.TreeView as V;
+ghost use Rattle.lowered_code.specs.Bodies as B;
+ghost use Rattle.lowered_code.specs.Functions as F;
+ghost use Rattle.lowered_code.specs.Values as S;
+ghost use Rattle.match_code.specs.Losing.{Loses};
+ghost use Rattle.cell_lower.specs.Frames.{param_at};
+ghost use Rattle.cell_lower.specs.Writing.{setting};
+
 use crate::buffer::Buffer;
-use crate::frame::{Frame, Held};
-use fip_base::plain::{FunKind, NoMemory};
+use crate::frame::Frame;
+use fip_base::plain::{FunKind, NoMemory, Param};
 use fip_trees::needs::Need;
-use fip_trees::program::{Instance, Program};
+use fip_trees::program::{Binder, Instance, Program};
 use fip_trees::scalars::Scalars;
 use fip_trees::sizes::Sizes;
+use lowered_code::Held;
 use std::alloc::Global;
 
 /// What all functions of a program share.
@@ -27,116 +37,16 @@ pub enum Target<'t> {
     Into(&'t [u16]),
 }
 
-/// A function that is being lowered.
+/// The expressions of a function, one after another.
 #[derive(Drop)]
-pub struct Lowerer<'a> {
-    pub context: &'a Context<'a>,
-    /// The needs of the function's expressions.
+pub struct Walk<'a> {
+    /// Their needs.
     needs: &'a [Need],
-    /// The number of the next expression, each before its parts.
+    /// The number of the next one, each before its parts.
     number: usize,
-    /// Whether what is left over is given up.
-    pub gives_up: bool,
-    /// The registers of the variables, by their binders' numbers.
-    variables: Vec<Option<u16>>,
-    /// The next register that isn't used yet.
-    pub next: u16,
-    pub frame: Frame,
-    pub buffer: Buffer,
 }
 
-impl<'a> Lowerer<'a> {
-    /// At the start of a function: its parameters and credits are in the first registers.
-    pub fn new(
-        context: &'a Context<'a>,
-        needs: &'a [Need],
-        instance: &Instance,
-        registers: usize,
-    ) -> Result<Lowerer<'a>, NoMemory> {
-        let alloc = context.alloc;
-        let mut variables = Vec::new(alloc);
-        for _ in 0..instance.variables {
-            variables.push(None)?;
-        }
-        let mut lowerer = Lowerer {
-            context,
-            needs,
-            number: 0,
-            gives_up: instance.kind == FunKind::Fbip,
-            variables,
-            next: 0,
-            frame: Frame::new(alloc, registers)?,
-            buffer: Buffer::new(alloc),
-        };
-        lowerer.start(instance)?;
-        Ok(lowerer)
-    }
-
-    fn start(&mut self, instance: &Instance) -> Result<(), NoMemory> {
-        for (param, binder) in instance
-            .params
-            .as_slice()
-            .iter()
-            .zip(instance.binders.iter())
-        {
-            let register = self.fresh()?;
-            self.bind(binder.number, register);
-            let held = if param.lent && !self.is_scalar(param.ty) {
-                Held::Lent {
-                    ty: param.ty,
-                    root: None,
-                }
-            } else {
-                self.given(param.ty)
-            };
-            self.frame.set(register, held);
-        }
-        for size in &instance.credits {
-            let register = self.fresh()?;
-            self.frame.add_credit(*size as usize, register)?;
-        }
-        Ok(())
-    }
-
-    /// Whether a type is scalar.
-    pub fn is_scalar(&self, ty: u32) -> bool {
-        self.context.scalars.is_scalar(ty)
-    }
-
-    /// What a register holds that was given a value of a type.
-    pub fn given(&self, ty: u32) -> Held {
-        if self.is_scalar(ty) {
-            Held::Scalar { ty }
-        } else {
-            Held::Owned { ty, built: None }
-        }
-    }
-
-    /// A register that isn't used yet.
-    pub fn fresh(&mut self) -> Result<u16, NoMemory> {
-        let register = self.next;
-        self.next = register.checked_add(1).ok_or(NoMemory)?;
-        Ok(register)
-    }
-
-    /// A variable has this register.
-    pub fn bind(&mut self, number: usize, register: u16) {
-        if let Some(place) = self.variables.get_mut(number) {
-            *place = Some(register);
-        }
-    }
-
-    /// The register of a variable; none where it has none yet.
-    pub fn register_of(&self, binder: Option<usize>) -> Option<u16> {
-        match binder {
-            None => None,
-            Some(number) => match self.variables.get(number) {
-                None => None,
-                Some(register) => *register,
-            },
-        }
-    }
-
+impl<'a> Walk<'a> {
     /// Goes on to the next expression; what it needs.
     pub fn enter(&mut self) -> Sizes {
         let sizes = match self.needs.get(self.number) {
@@ -146,11 +56,185 @@ impl<'a> Lowerer<'a> {
         self.number = self.number.saturating_add(1);
         sizes
     }
+}
 
-    /// Puts a label here that tells what the frame knows.
-    pub fn label(&mut self) -> Result<(), NoMemory> {
+/// A function that is being lowered.
+#[derive(Drop)]
+pub struct Lowerer<'a> {
+    pub context: &'a Context<'a>,
+    /// The function's expressions.
+    pub walk: Walk<'a>,
+    /// Whether what is left over is given up.
+    pub gives_up: bool,
+    pub frame: Frame,
+    pub buffer: Buffer,
+}
+
+impl<'a> Context<'a> {
+    /// Whether a type is scalar.
+    pub fn is_scalar(&self, ty: u32) -> bool
+        ensures same { result ≡ S.is_scalar (setting self.now) ty }
+    {
+        self.scalars.is_scalar(ty)
+    }
+
+    /// What a register holds that was given a value of a type.
+    pub fn given(&self, ty: u32) -> Held
+        ensures same { result ≡ B.given (setting self.now) ty }
+    {
+        if self.is_scalar(ty) {
+            Held::Scalar { ty }
+        } else {
+            Held::Owned { ty, built: None }
+        }
+    }
+
+    /// What a register holds that has just got a constructor without fields.
+    pub fn built(&self, ty: u32, constructor: u32) -> Held
+        ensures same { result ≡ S.built (setting self.now) ty constructor }
+    {
+        if self.is_scalar(ty) {
+            Held::Scalar { ty }
+        } else {
+            Held::Owned {
+                ty,
+                built: Some(constructor),
+            }
+        }
+    }
+
+    // What the register of a parameter holds.
+    fn param_held(&self, param: &Param) -> Held
+        ensures same { result ≡ F.param_held (setting self.now) param.now }
+    {
+        if param.lent && !self.is_scalar(param.ty) {
+            Held::Lent {
+                ty: param.ty,
+                root: None,
+            }
+        } else {
+            self.given(param.ty)
+        }
+    }
+
+    /// What is known at the start of the function of an instance with so many registers: its parameters and credits are
+    /// in the first ones.
+    pub fn start(&self, instance: &Instance, registers: usize) -> Result<Frame, NoMemory>
+        ensures start { IfOk result (λ f.
+            f ≡ F.known_at_start (setting self.now) registers (V.instance_of instance.now)) }
+    {
+        let mut frame = Frame::new(self.alloc, registers, instance.variables)?;
+        self.add_params(
+            &mut frame,
+            instance.params.as_slice(),
+            instance.binders.as_slice(),
+        )?;
+        add_credits(&mut frame, instance.credits.as_slice())?;
+        Ok(frame)
+    }
+
+    #[tactic(auto, using(crate::proofs::Starts::starting))]
+    fn add_params(
+        &self,
+        frame: &mut Frame,
+        params: &[Param],
+        binders: &[Binder],
+    ) -> Result<(), NoMemory>
+        ensures added { OnOk result (frame.new ≡ F.with_params (setting self.now) frame.old params.now binders.now) }
+    {
+        let mut place = 0;
+        for param in params {
+            self.add_param(frame, param, binders, place)?;
+            place += 1;
+        }
+        Ok(())
+    }
+
+    // A parameter, where it has a binder.
+    fn add_param(
+        &self,
+        frame: &mut Frame,
+        param: &Param,
+        binders: &[Binder],
+        place: usize,
+    ) -> Result<(), NoMemory>
+        ensures added { OnOk result (frame.new ≡ param_at (setting self.now) frame.old param.now
+            (slice_get binders.now place)) }
+    {
+        match binders.get(place) {
+            None => Ok(()),
+            Some(binder) => {
+                let register = frame.fresh()?;
+                frame.bind(binder.number, register);
+                frame.set(register, self.param_held(param));
+                Ok(())
+            }
+        }
+    }
+}
+
+#[tactic(auto, using(crate::proofs::Starts::starting))]
+fn add_credits(frame: &mut Frame, sizes: &[u8]) -> Result<(), NoMemory>
+    ensures added { OnOk result (frame.new ≡ F.with_credits frame.old sizes.now) }
+{
+    for size in sizes {
+        add_one_credit(frame, *size)?;
+    }
+    Ok(())
+}
+
+fn add_one_credit(frame: &mut Frame, size: u8) -> Result<(), NoMemory>
+    ensures added { OnOk result (frame.new ≡ F.with_next_credit frame.old size) }
+{
+    let register = frame.fresh()?;
+    frame.add_credit(size as usize, register)
+}
+
+impl<'a> Lowerer<'a> {
+    /// At the start of a function.
+    pub fn new(
+        context: &'a Context<'a>,
+        needs: &'a [Need],
+        instance: &Instance,
+        registers: usize,
+    ) -> Result<Lowerer<'a>, NoMemory>
+        ensures context { IfOk result (λ l. l.context.now ≡ context.now) }
+        ensures known { IfOk result (λ l.
+            l.frame ≡ F.known_at_start (setting context.now) registers (V.instance_of instance.now)) }
+        ensures empty { IfOk result (λ l. l.buffer ≡ record { instrs = []; places = [] }) }
+    {
+        Ok(Lowerer {
+            context,
+            walk: Walk { needs, number: 0 },
+            gives_up: instance.kind == FunKind::Fbip,
+            frame: context.start(instance, registers)?,
+            buffer: Buffer::new(context.alloc),
+        })
+    }
+
+    /// Whether a type is scalar.
+    pub fn is_scalar(&self, ty: u32) -> bool {
+        self.context.is_scalar(ty)
+    }
+
+    /// What a register holds that was given a value of a type.
+    pub fn given(&self, ty: u32) -> Held {
+        self.context.given(ty)
+    }
+
+    /// A register that isn't used yet.
+    pub fn fresh(&mut self) -> Result<u16, NoMemory> {
+        self.frame.fresh()
+    }
+
+    /// Tells what is known here, but for constructors that were built.
+    pub fn tell(&mut self) -> Result<(), NoMemory>
+        ensures loses { OnOk result (Loses self.old.frame self.new.frame) }
+        ensures buffer { OnOk result (self.new.buffer ≡ self.old.buffer) }
+        ensures context { OnOk result (self.new.context ≡ self.old.context) }
+    {
         self.frame.widen();
         let kinds = self.frame.kinds(self.context.alloc, self.context.program)?;
-        self.buffer.add_label(kinds)
+        self.buffer.tell(kinds)
     }
 }

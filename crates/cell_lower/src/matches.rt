@@ -1,12 +1,14 @@
 // Matches: for each clause the tests that choose it and its body, then the place where the clauses meet.
-use crate::buffer::OpenJump;
-use crate::choices::{Choice, is_named};
-use crate::frame::{Frame, Held};
+
+use crate::choices::{Choice, Side, is_named, start_of};
+use crate::frame::Frame;
 use crate::lowerer::{Lowerer, Target};
-use crate::spots::{Spot, add_spots};
+use crate::spots::{Spot, add_spots, field_at};
+use cell_code::Instr;
 use fip_base::plain::NoMemory;
-use fip_trees::program::{Argument, Clause, Pattern};
+use fip_trees::program::{Argument, Binder, Clause, Pattern};
 use fip_trees::sizes::Sizes;
+use lowered_code::Held;
 use match_knowledge::{Head, Row};
 use std::alloc::Global;
 
@@ -14,16 +16,35 @@ use std::alloc::Global;
 #[derive(Drop)]
 pub struct Matching<'c> {
     choice: Choice<'c>,
-    /// What is known at its start.
+    /// What is known at its start; the positions have registers.
     entry: Frame,
     /// The registers of trees that a clause may use up.
     used: Vec<bool>,
     need: Sizes,
+    /// The label of the place where the clauses meet.
+    end: u32,
+}
+
+/// How far a match is written.
+#[derive(Drop)]
+pub struct Progress {
+    /// Where tests aren't written yet; the last one is next.
+    sides: Vec<Side>,
     /// The number of the next clause.
     clause: usize,
-    /// The jumps from the clauses' ends, and what is known at all of them.
-    ends: Vec<OpenJump>,
+    /// What is known at the ends of all clauses so far.
     joined: Option<Frame>,
+}
+
+impl Progress {
+    /// At the start of a match.
+    pub fn new(alloc: Global) -> Result<Progress, NoMemory> {
+        Ok(Progress {
+            sides: start_of(alloc)?,
+            clause: 0,
+            joined: None,
+        })
+    }
 }
 
 /// A match as it is written.
@@ -36,6 +57,14 @@ pub struct Written<'t> {
     pub others: &'t [Clause],
 }
 
+// A constructor of a pattern, and the register of its position.
+#[derive(Clone, Copy)]
+struct Cell {
+    ty: u32,
+    constructor: u32,
+    register: u16,
+}
+
 impl<'a> Lowerer<'a> {
     /// Begins a match that needs so many credits.
     pub fn start_match<'t>(
@@ -44,32 +73,39 @@ impl<'a> Lowerer<'a> {
         need: Sizes,
         target: Target<'_>,
     ) -> Result<Matching<'t>, NoMemory> {
-        let alloc = self.context.alloc;
         let register = self.value(written.scrutinee)?;
-        if let Target::Into(_) = target {
-            self.end_bare()?;
+        // A value is in a register that is used.
+        if register >= self.frame.next() {
+            return Err(NoMemory);
         }
+        self.end_matched(target)?;
         self.forget_built(register)?;
-        let entry = self.frame.copy(alloc)?;
         let used = self.used_by(written, target)?;
         let choice = self.choice_of(written, register)?;
+        let end = self.buffer.new_label()?;
         Ok(Matching {
             choice,
-            entry,
+            entry: self.frame.copy(self.context.alloc)?,
             used,
             need,
-            clause: 0,
-            ends: Vec::new(alloc),
-            joined: None,
+            end,
         })
+    }
+
+    // Where the clauses meet, no constructor that was matched before is used in them.
+    fn end_matched(&mut self, target: Target<'_>) -> Result<(), NoMemory> {
+        match target {
+            Target::Return => Ok(()),
+            Target::Into(_) => self.end_bare(),
+        }
     }
 
     // A tree that was just built has one constructor; tests ask for others too, so a label stands before them.
     fn forget_built(&mut self, register: u16) -> Result<(), NoMemory> {
-        if let Held::Owned { built: Some(_), .. } = self.frame.at(register) {
-            self.label()?;
+        match self.frame.at(register) {
+            Held::Owned { built: Some(_), .. } => self.tell(),
+            _ => Ok(()),
         }
-        Ok(())
     }
 
     // The registers of trees that a clause may use up, where the clauses meet again and may leave something.
@@ -81,7 +117,7 @@ impl<'a> Lowerer<'a> {
         if !self.gives_up {
             return Ok(used);
         }
-        for _ in 0..self.next {
+        for _ in 0..self.frame.next() {
             used.push(false)?;
         }
         if written.takes {
@@ -99,7 +135,7 @@ impl<'a> Lowerer<'a> {
         written: &Written<'t>,
         register: u16,
     ) -> Result<Choice<'t>, NoMemory> {
-        let mut choice = Choice::new(self.context.alloc, register, written.ty, written.takes)?;
+        let mut choice = Choice::new(self.context.alloc, register, written.ty, written.takes);
         self.add_pattern(&mut choice, &written.first.pattern)?;
         for clause in written.others {
             self.add_pattern(&mut choice, &clause.pattern)?;
@@ -113,53 +149,60 @@ impl<'a> Lowerer<'a> {
         pattern: &'t Pattern,
     ) -> Result<(), NoMemory> {
         let alloc = self.context.alloc;
-        add_spots(alloc, pattern, &mut choice.root, &mut self.next)?;
-        choice.add(pattern, row_of(alloc, pattern)?)
+        add_spots(alloc, pattern, &mut choice.root, &mut self.frame)?;
+        let entry = self.buffer.new_label()?;
+        choice.add(pattern, row_of(alloc, pattern)?, entry)?;
+        Ok(())
     }
 
     /// Writes the tests that choose the next clause, and begins its body, with its variables and credits.
     pub fn start_clause(
         &mut self,
-        matching: &mut Matching<'_>,
+        matching: &Matching<'_>,
+        progress: &mut Progress,
         clause: &Clause,
     ) -> Result<(), NoMemory> {
-        let number = matching.clause;
-        matching.clause = number.saturating_add(1);
-        self.frame = matching.entry.copy(self.context.alloc)?;
-        self.choose(&mut matching.choice, number)?;
-        self.open_root(&matching.choice, &clause.pattern)?;
-        for leaf in &matching.choice.leaves {
-            if leaf.clause == number {
-                self.buffer.settle(leaf.jump)?;
-            }
-        }
-        self.label()
+        let number = progress.clause;
+        progress.clause = number.checked_add(1).ok_or(NoMemory)?;
+        self.frame.resume(matching.entry.copy(self.context.alloc)?);
+        self.choose(&matching.choice, &mut progress.sides, number)?;
+        self.open_root(
+            matching.choice.takes,
+            &clause.pattern,
+            &matching.choice.root,
+        )?;
+        let entry = matching.choice.entry(number)?;
+        self.buffer.put_label(entry)?;
+        self.tell()?;
+        Ok(())
     }
 
     // What a clause knows of the scrutinee. A variable is another name of it.
-    fn open_root(&mut self, choice: &Choice<'_>, pattern: &Pattern) -> Result<(), NoMemory> {
-        let register = choice.root.register;
+    fn open_root(&mut self, takes: bool, pattern: &Pattern, root: &Spot) -> Result<(), NoMemory> {
         match pattern {
             Pattern::Binder(binder) => {
-                self.bind(binder.number, register);
+                self.frame.bind(binder.number, root.register);
                 Ok(())
             }
             Pattern::Literal { .. } => Ok(()),
             Pattern::Constructor { .. } => {
-                let root = match self.frame.at(register) {
-                    Held::Owned { .. } => Some(register),
-                    Held::Lent { root, .. } => root,
-                    _ => None,
-                };
-                if choice.takes {
-                    self.frame.use_up(register);
-                }
-                self.open_part(choice.takes, root, pattern, &choice.root)
+                let within = root_within(root.register, self.frame.at(root.register));
+                self.spend(takes, root.register);
+                self.open_part(takes, within, pattern, root)?;
+                Ok(())
             }
         }
     }
 
+    // Where the cells of the scrutinee are taken apart, it is used up.
+    fn spend(&mut self, takes: bool, register: u16) {
+        if takes {
+            self.frame.use_up(register);
+        }
+    }
+
     // What a clause knows below the scrutinee.
+    #[cycle(opening)]
     fn open_part(
         &mut self,
         takes: bool,
@@ -169,19 +212,7 @@ impl<'a> Lowerer<'a> {
     ) -> Result<(), NoMemory> {
         match pattern {
             Pattern::Binder(binder) => {
-                if !takes && !is_named(binder) {
-                    return Ok(());
-                }
-                self.bind(binder.number, spot.register);
-                let held = if takes || self.is_scalar(binder.ty) {
-                    self.given(binder.ty)
-                } else {
-                    Held::Lent {
-                        ty: binder.ty,
-                        root,
-                    }
-                };
-                self.frame.set(spot.register, held);
+                self.open_variable(takes, root, binder, spot.register);
                 Ok(())
             }
             Pattern::Literal { .. } => Ok(()),
@@ -191,34 +222,106 @@ impl<'a> Lowerer<'a> {
                 patterns,
                 ..
             } => {
-                if takes && !patterns.is_empty() {
-                    self.frame.add_credit(patterns.len(), spot.register)?;
-                }
-                if takes && patterns.is_empty() && !self.is_scalar(*ty) {
-                    let held = Held::Bare {
-                        ty: *ty,
-                        constructor: *number,
-                    };
-                    self.frame.set(spot.register, held);
-                }
-                for (part, field) in patterns.iter().zip(spot.fields.iter()) {
-                    self.open_part(takes, root, part, field)?;
-                }
+                let cell = Cell {
+                    ty: *ty,
+                    constructor: *number,
+                    register: spot.register,
+                };
+                self.open_cell(takes, cell, patterns.as_slice())?;
+                self.open_all(takes, root, patterns.as_slice(), spot.fields.as_slice())?;
                 Ok(())
             }
         }
+    }
+
+    #[cycle(opening)]
+    fn open_all(
+        &mut self,
+        takes: bool,
+        root: Option<u16>,
+        patterns: &[Pattern],
+        fields: &[Spot],
+    ) -> Result<(), NoMemory> {
+        for (place, part) in patterns.iter().enumerate() {
+            self.open_field(takes, root, part, fields, place)?;
+        }
+        Ok(())
+    }
+
+    #[cycle(opening)]
+    fn open_field(
+        &mut self,
+        takes: bool,
+        root: Option<u16>,
+        part: &Pattern,
+        fields: &[Spot],
+        place: usize,
+    ) -> Result<(), NoMemory> {
+        let field = field_at(fields, place)?;
+        self.open_part(takes, root, part, field)?;
+        Ok(())
+    }
+
+    // A variable has the register of its position. In a match that takes no cells apart, _ has none.
+    fn open_variable(&mut self, takes: bool, root: Option<u16>, binder: &Binder, register: u16) {
+        if takes || is_named(binder) {
+            let held = self.variable_held(takes, root, binder.ty);
+            self.frame.bind(binder.number, register);
+            self.frame.set(register, held);
+        } else {
+            self.frame.unbind(binder.number);
+        }
+    }
+
+    fn variable_held(&self, takes: bool, root: Option<u16>, ty: u32) -> Held {
+        if takes || self.context.is_scalar(ty) {
+            self.context.given(ty)
+        } else {
+            Held::Lent { ty, root }
+        }
+    }
+
+    // A cell that was taken apart is a credit; a constructor without fields can be used again.
+    fn open_cell(&mut self, takes: bool, cell: Cell, patterns: &[Pattern]) -> Result<(), NoMemory> {
+        if !takes {
+            return Ok(());
+        }
+        if !patterns.is_empty() {
+            self.frame.add_credit(patterns.len(), cell.register)?;
+            return Ok(());
+        }
+        if self.context.is_scalar(cell.ty) {
+            return Ok(());
+        }
+        let held = Held::Bare {
+            ty: cell.ty,
+            constructor: cell.constructor,
+        };
+        self.frame.set(cell.register, held);
+        Ok(())
     }
 
     /// Ends the body of a clause: where the match gives its value to what follows, the code goes there, which stands
     /// behind the last clause.
     pub fn end_clause(
         &mut self,
-        matching: &mut Matching<'_>,
+        matching: &Matching<'_>,
+        progress: &mut Progress,
         target: Target<'_>,
     ) -> Result<(), NoMemory> {
-        let Target::Into(given) = target else {
-            return Ok(());
-        };
+        match target {
+            Target::Return => Ok(()),
+            Target::Into(given) => {
+                self.leave(matching, given)?;
+                self.go_to_end(matching, progress.clause)?;
+                progress.joined = Some(self.joined(&progress.joined)?);
+                Ok(())
+            }
+        }
+    }
+
+    // Gives up what a clause leaves and another doesn't.
+    fn leave(&mut self, matching: &Matching<'_>, given: &[u16]) -> Result<(), NoMemory> {
         self.end_bare()?;
         self.give_up_to(
             &matching.entry,
@@ -227,34 +330,68 @@ impl<'a> Lowerer<'a> {
             given,
         )?;
         self.frame.widen();
-        if matching.clause < matching.choice.len() {
-            let jump = self.buffer.add_jump()?;
-            matching.ends.push(jump)?;
-        }
-        match &mut matching.joined {
-            Some(joined) => joined.meet(&self.frame),
-            None => matching.joined = Some(self.frame.copy(self.context.alloc)?),
-        }
         Ok(())
     }
 
+    // Behind the last clause the code goes on.
+    fn go_to_end(&mut self, matching: &Matching<'_>, next: usize) -> Result<(), NoMemory> {
+        if next < matching.choice.len() {
+            let target = matching.end;
+            self.buffer.add(Instr::Jump { target })?;
+            Ok(())
+        } else {
+            Ok(())
+        }
+    }
+
+    // What is known at the ends of the clauses so far and of this one.
+    fn joined(&self, before: &Option<Frame>) -> Result<Frame, NoMemory> {
+        match before {
+            None => {
+                let met = self.frame.copy(self.context.alloc)?;
+                Ok(met)
+            }
+            Some(frame) => {
+                let met = frame.meet(self.context.alloc, &self.frame)?;
+                Ok(met)
+            }
+        }
+    }
+
     /// The place where the clauses meet.
-    pub fn end_match(&mut self, matching: Matching<'_>) -> Result<(), NoMemory> {
-        let Matching { ends, joined, .. } = matching;
+    pub fn end_match(
+        &mut self,
+        matching: Matching<'_>,
+        progress: Progress,
+    ) -> Result<(), NoMemory> {
+        let Matching { end, .. } = matching;
+        let Progress { joined, .. } = progress;
         match joined {
             None => Ok(()),
             Some(frame) => {
-                for jump in &ends {
-                    self.buffer.settle(*jump)?;
-                }
-                self.frame = frame;
-                self.label()
+                self.buffer.put_label(end)?;
+                self.frame.resume(frame);
+                self.tell()?;
+                Ok(())
             }
         }
     }
 }
 
+// The register in whose tree lies what is read of the tree in a register.
+fn root_within(register: u16, held: Held) -> Option<u16> {
+    match held {
+        Held::Nothing => None,
+        Held::Scalar { .. } => None,
+        Held::Owned { .. } => Some(register),
+        Held::Lent { root, .. } => root,
+        Held::Credit { .. } => None,
+        Held::Bare { .. } => None,
+    }
+}
+
 // A pattern without names. A literal is a test of an int, type 0.
+#[cycle(rows)]
 fn row_of(alloc: Global, pattern: &Pattern) -> Result<Row, NoMemory> {
     match pattern {
         Pattern::Binder(_) => Ok(Row::Any),
@@ -269,10 +406,7 @@ fn row_of(alloc: Global, pattern: &Pattern) -> Result<Row, NoMemory> {
             patterns,
             ..
         } => {
-            let mut parts = Vec::new(alloc);
-            for part in patterns {
-                parts.push(row_of(alloc, part)?)?;
-            }
+            let parts = rows_of(alloc, patterns.as_slice())?;
             Ok(Row::Test {
                 ty: *ty,
                 head: Head::Tag(*number),
@@ -280,4 +414,13 @@ fn row_of(alloc: Global, pattern: &Pattern) -> Result<Row, NoMemory> {
             })
         }
     }
+}
+
+#[cycle(rows)]
+fn rows_of(alloc: Global, patterns: &[Pattern]) -> Result<Vec<Row>, NoMemory> {
+    let mut rows = Vec::new(alloc);
+    for pattern in patterns {
+        rows.push(row_of(alloc, pattern)?)?;
+    }
+    Ok(rows)
 }

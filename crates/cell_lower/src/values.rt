@@ -1,34 +1,58 @@
 // Values of arguments, and where they go.
-use crate::frame::Held;
+ghost use Rattle.std.specs.Prelude.{◌≡◌, [], IfOk, OnOk, slice_get};
+ghost use Rattle.fip_trees.specs.TreeView as V;
+ghost use Rattle.cell_code.specs.declared.code.Instr.TheVariants as I;
+ghost use Rattle.lowered_code.specs.declared.held.Held.TheVariants as H;
+ghost use Rattle.lowered_code.specs.Known as K;
+ghost use Rattle.match_code.specs.Losing.{Loses};
+ghost use Rattle.match_code.specs.Written.{GivesUp, added};
+ghost use Rattle.cell_lower.specs.Writing.{setting, target_of, Builds, Computes, ComputesAll, Gives, Moves};
+ghost use Rattle.cell_lower.specs.Writing.{MovesOne, MovesTo};
+
+use crate::frame::as_value;
 use crate::lowerer::{Lowerer, Target};
 use cell_code::{Instr, Registers};
 use fip_base::plain::NoMemory;
 use fip_trees::program::Argument;
+use lowered_code::Held;
 
 impl<'a> Lowerer<'a> {
     /// The register that holds the value of an argument: a variable's own, or that of what is built.
-    pub fn value(&mut self, argument: &Argument) -> Result<u16, NoMemory> {
+    #[cycle(value)]
+    #[tactic(auto, using(crate::proofs::Writing::writing))]
+    pub fn value(&mut self, argument: &Argument) -> Result<u16, NoMemory>
+        ensures computes { IfOk result (λ r. Computes (setting self.old.context.now) self.old.frame self.old.buffer
+            (V.argument argument.now) r self.new.frame self.new.buffer) }
+        ensures context { OnOk result (self.new.context ≡ self.old.context) }
+    {
         match argument {
             // A variable of a typed program is bound before it is used.
-            Argument::Variable { binder, .. } => self.register_of(*binder).ok_or(NoMemory),
-            Argument::Literal { value, .. } => self.literal(*value),
+            Argument::Variable { binder, .. } => self.frame.register_of(*binder).ok_or(NoMemory),
+            Argument::Literal { value, .. } => {
+                let register = self.literal(*value)?;
+                Ok(register)
+            }
             Argument::Constructor {
                 ty,
                 number,
                 arguments,
                 ..
             } => {
-                let mut fields = Vec::new(self.context.alloc);
-                for part in arguments {
-                    fields.push(self.value(part)?)?;
-                }
-                self.construct(*ty, *number, fields.as_slice())
+                let fields = self.values(arguments.as_slice())?;
+                let register = self.construct(*ty, *number, fields.as_slice())?;
+                Ok(register)
             }
         }
     }
 
     /// The registers that hold the values of arguments.
-    pub fn values(&mut self, arguments: &[Argument]) -> Result<Vec<u16>, NoMemory> {
+    #[cycle(value)]
+    #[tactic(auto, using(crate::proofs::Writing::following))]
+    pub fn values(&mut self, arguments: &[Argument]) -> Result<Vec<u16>, NoMemory>
+        ensures computes { IfOk result (λ rs. ComputesAll (setting self.old.context.now) self.old.frame
+            self.old.buffer (V.arguments arguments.now) rs.items self.new.frame self.new.buffer) }
+        ensures context { OnOk result (self.new.context ≡ self.old.context) }
+    {
         let mut registers = Vec::new(self.context.alloc);
         for argument in arguments {
             registers.push(self.value(argument)?)?;
@@ -36,8 +60,13 @@ impl<'a> Lowerer<'a> {
         Ok(registers)
     }
 
-    fn literal(&mut self, value: i64) -> Result<u16, NoMemory> {
-        let destination = self.fresh()?;
+    fn literal(&mut self, value: i64) -> Result<u16, NoMemory>
+        ensures register { IfOk result (λ r. r ≡ self.old.frame.next) }
+        ensures known { OnOk result (self.new.frame ≡ K.with_next self.old.frame (H.Scalar 0)) }
+        ensures written { OnOk result (self.new.buffer ≡ added self.old.buffer (I.Const self.old.frame.next value)) }
+        ensures context { OnOk result (self.new.context ≡ self.old.context) }
+    {
+        let destination = self.frame.fresh()?;
         self.buffer.add(Instr::Const { destination, value })?;
         self.frame.set(destination, Held::Scalar { ty: 0 });
         Ok(destination)
@@ -45,7 +74,12 @@ impl<'a> Lowerer<'a> {
 
     // A constructor of these fields. One with fields is put into the cell of the last credit of its size, which is
     // there since no body needs more than it has.
-    fn construct(&mut self, ty: u32, constructor: u32, fields: &[u16]) -> Result<u16, NoMemory> {
+    #[tactic(auto, using(crate::proofs::Writing::writing))]
+    fn construct(&mut self, ty: u32, constructor: u32, fields: &[u16]) -> Result<u16, NoMemory>
+        ensures builds { IfOk result (λ r. Builds (setting self.old.context.now) self.old.frame self.old.buffer ty
+            constructor fields.now r self.new.frame self.new.buffer) }
+        ensures context { OnOk result (self.new.context ≡ self.old.context) }
+    {
         if fields.is_empty() {
             return self.atom(ty, constructor);
         }
@@ -57,64 +91,86 @@ impl<'a> Lowerer<'a> {
             fields: Registers::of(self.context.alloc, fields)?,
         })?;
         self.use_up_all(fields);
-        self.frame.set(
-            register,
-            Held::Owned {
-                ty,
-                built: Some(constructor),
-            },
-        );
+        let built = Some(constructor);
+        self.frame.set(register, Held::Owned { ty, built });
         Ok(register)
     }
 
     // A constructor without fields: one that was matched, or a new one.
-    fn atom(&mut self, ty: u32, constructor: u32) -> Result<u16, NoMemory> {
-        if let Some(register) = self.frame.take_bare(ty, constructor) {
-            let built = Some(constructor);
-            self.frame.set(register, Held::Owned { ty, built });
-            return Ok(register);
-        }
-        let destination = self.fresh()?;
-        self.buffer.add(Instr::Atom {
-            destination,
-            ty,
-            constructor,
-        })?;
-        let held = if self.is_scalar(ty) {
-            Held::Scalar { ty }
-        } else {
-            Held::Owned {
-                ty,
-                built: Some(constructor),
+    #[tactic(auto, using(crate::proofs::Writing::writing))]
+    fn atom(&mut self, ty: u32, constructor: u32) -> Result<u16, NoMemory>
+        ensures builds { IfOk result (λ r. Builds (setting self.old.context.now) self.old.frame self.old.buffer ty
+            constructor [] r self.new.frame self.new.buffer) }
+        ensures context { OnOk result (self.new.context ≡ self.old.context) }
+    {
+        match self.frame.take_bare(ty, constructor) {
+            Some(register) => {
+                let built = Some(constructor);
+                self.frame.set(register, Held::Owned { ty, built });
+                Ok(register)
             }
-        };
-        self.frame.set(destination, held);
-        Ok(destination)
+            None => {
+                let destination = self.frame.fresh()?;
+                self.buffer.add(Instr::Atom {
+                    destination,
+                    ty,
+                    constructor,
+                })?;
+                let held = self.context.built(ty, constructor);
+                self.frame.set(destination, held);
+                Ok(destination)
+            }
+        }
     }
 
     /// What these registers own is used up.
-    pub fn use_up_all(&mut self, registers: &[u16]) {
+    #[tactic(auto, using(crate::proofs::Writing::using_up))]
+    pub fn use_up_all(&mut self, registers: &[u16])
+        ensures used { self.new.frame ≡ K.using self.old.frame (K.used_all self.old.frame.held registers.now) }
+        ensures context { self.new.context ≡ self.old.context }
+        ensures buffer { self.new.buffer ≡ self.old.buffer }
+    {
         for register in registers {
             self.frame.use_up(*register);
         }
     }
 
     /// Uses up each constructor without fields that was matched and is not used.
-    pub fn end_bare(&mut self) -> Result<(), NoMemory> {
-        for register in 0..self.next {
-            if self.frame.is_bare(register) {
-                self.frame.set(register, Held::Nothing);
-                self.buffer.add(Instr::Take {
-                    register,
-                    fields: Registers::new(self.context.alloc),
-                })?;
-            }
+    #[tactic(auto, using(crate::proofs::Losing::giving_up))]
+    pub fn end_bare(&mut self) -> Result<(), NoMemory>
+        ensures given_up { OnOk result (GivesUp self.old.buffer self.new.buffer) }
+        ensures loses { OnOk result (Loses self.old.frame self.new.frame) }
+        ensures context { OnOk result (self.new.context ≡ self.old.context) }
+    {
+        for register in 0..self.frame.next() {
+            self.end_one(register)?;
+        }
+        Ok(())
+    }
+
+    #[tactic(auto, using(crate::proofs::Losing::giving_up))]
+    fn end_one(&mut self, register: u16) -> Result<(), NoMemory>
+        ensures given_up { OnOk result (GivesUp self.old.buffer self.new.buffer) }
+        ensures loses { OnOk result (Loses self.old.frame self.new.frame) }
+        ensures context { OnOk result (self.new.context ≡ self.old.context) }
+    {
+        if self.frame.is_bare(register) {
+            self.frame.set(register, Held::Nothing);
+            self.buffer.add(Instr::Take {
+                register,
+                fields: Registers::new(self.context.alloc),
+            })?;
         }
         Ok(())
     }
 
     /// Hands results on.
-    pub fn give(&mut self, results: &[u16], target: Target<'_>) -> Result<(), NoMemory> {
+    #[tactic(auto, using(crate::proofs::Writing::giving))]
+    pub fn give(&mut self, results: &[u16], target: Target<'_>) -> Result<(), NoMemory>
+        ensures gives { OnOk result (Gives self.old.frame self.old.buffer results.now (target_of target.entry)
+            self.new.frame self.new.buffer) }
+        ensures context { OnOk result (self.new.context ≡ self.old.context) }
+    {
         match target {
             Target::Return => {
                 self.use_up_all(results);
@@ -122,19 +178,50 @@ impl<'a> Lowerer<'a> {
                 self.give_up_all()?;
                 self.buffer.add(Instr::Ret {
                     results: Registers::of(self.context.alloc, results)?,
-                })
+                })?;
+                Ok(())
             }
             Target::Into(destinations) => {
-                for (source, destination) in results.iter().zip(destinations.iter()) {
-                    self.move_word(*source, *destination)?;
-                }
+                self.move_all(results, destinations)?;
                 Ok(())
             }
         }
     }
 
+    // Registers get the words of others.
+    #[tactic(auto, using(crate::proofs::Writing::moving))]
+    fn move_all(&mut self, sources: &[u16], destinations: &[u16]) -> Result<(), NoMemory>
+        ensures moves { OnOk result (Moves self.old.frame self.old.buffer sources.now destinations.now
+            self.new.frame self.new.buffer) }
+        ensures context { OnOk result (self.new.context ≡ self.old.context) }
+    {
+        let mut place = 0;
+        for source in sources {
+            self.move_to(*source, destinations, place)?;
+            place += 1;
+        }
+        Ok(())
+    }
+
+    // A register's word goes to the destination at a place, where there is one.
+    fn move_to(&mut self, source: u16, destinations: &[u16], place: usize) -> Result<(), NoMemory>
+        ensures moves { OnOk result (MovesTo self.old.frame self.old.buffer source (slice_get destinations.now place)
+            self.new.frame self.new.buffer) }
+        ensures context { OnOk result (self.new.context ≡ self.old.context) }
+    {
+        match destinations.get(place) {
+            None => Ok(()),
+            Some(destination) => self.move_word(source, *destination),
+        }
+    }
+
     // A register gets the word of another.
-    fn move_word(&mut self, source: u16, destination: u16) -> Result<(), NoMemory> {
+    #[tactic(auto, using(crate::proofs::Writing::moving))]
+    fn move_word(&mut self, source: u16, destination: u16) -> Result<(), NoMemory>
+        ensures moves { OnOk result (MovesOne self.old.frame self.old.buffer source destination
+            self.new.frame self.new.buffer) }
+        ensures context { OnOk result (self.new.context ≡ self.old.context) }
+    {
         if source == destination {
             return Ok(());
         }
@@ -142,7 +229,7 @@ impl<'a> Lowerer<'a> {
             destination,
             source,
         })?;
-        let held = self.frame.at(source);
+        let held = as_value(self.frame.at(source));
         self.frame.use_up(source);
         self.frame.set(destination, held);
         Ok(())

@@ -1,5 +1,9 @@
 // What is left over in an fbip function is given up: trees are dropped, cells of credits are freed.
-use crate::frame::{Frame, is_owned};
+ghost use Rattle.std.specs.Prelude.{◌≡◌, OnOk};
+ghost use Rattle.match_code.specs.Losing.{Loses};
+ghost use Rattle.match_code.specs.Written.{GivesUp};
+
+use crate::frame::Frame;
 use crate::lowerer::Lowerer;
 use cell_code::Instr;
 use fip_base::core_form::MatchKind;
@@ -10,15 +14,39 @@ use fip_trees::sizes::Sizes;
 
 impl<'a> Lowerer<'a> {
     /// Gives up all that is left when the function ends.
-    pub fn give_up_all(&mut self) -> Result<(), NoMemory> {
+    #[tactic(auto, using(crate::proofs::Losing::giving_up))]
+    pub fn give_up_all(&mut self) -> Result<(), NoMemory>
+        ensures given_up { OnOk result (GivesUp self.old.buffer self.new.buffer) }
+        ensures loses { OnOk result (Loses self.old.frame self.new.frame) }
+        ensures context { OnOk result (self.new.context ≡ self.old.context) }
+    {
         if !self.gives_up {
             return Ok(());
         }
-        for register in 0..self.next {
+        self.drop_all()?;
+        self.free_all()
+    }
+
+    #[tactic(auto, using(crate::proofs::Losing::giving_up))]
+    fn drop_all(&mut self) -> Result<(), NoMemory>
+        ensures given_up { OnOk result (GivesUp self.old.buffer self.new.buffer) }
+        ensures loses { OnOk result (Loses self.old.frame self.new.frame) }
+        ensures context { OnOk result (self.new.context ≡ self.old.context) }
+    {
+        for register in 0..self.frame.next() {
             self.drop_tree(register)?;
         }
-        for size in 1..=MOST_FIELDS {
-            self.free_past(size, 0)?;
+        Ok(())
+    }
+
+    #[tactic(auto, using(crate::proofs::Losing::giving_up))]
+    fn free_all(&mut self) -> Result<(), NoMemory>
+        ensures given_up { OnOk result (GivesUp self.old.buffer self.new.buffer) }
+        ensures loses { OnOk result (Loses self.old.frame self.new.frame) }
+        ensures context { OnOk result (self.new.context ≡ self.old.context) }
+    {
+        for below in 0..MOST_FIELDS {
+            self.free_past(below + 1, 0)?;
         }
         Ok(())
     }
@@ -26,30 +54,72 @@ impl<'a> Lowerer<'a> {
     /// Gives up what a clause leaves and another doesn't: trees that weren't there at the entry of its match or that a
     /// clause may use up, and credits past those that are left where the match took what it needs. What the clause
     /// gives is kept.
+    #[tactic(auto, using(crate::proofs::Losing::giving_up))]
     pub fn give_up_to(
         &mut self,
         entry: &Frame,
         used: &[bool],
         need: &Sizes,
         given: &[u16],
-    ) -> Result<(), NoMemory> {
+    ) -> Result<(), NoMemory>
+        ensures given_up { OnOk result (GivesUp self.old.buffer self.new.buffer) }
+        ensures loses { OnOk result (Loses self.old.frame self.new.frame) }
+        ensures context { OnOk result (self.new.context ≡ self.old.context) }
+    {
         if !self.gives_up {
             return Ok(());
         }
-        for register in 0..self.next {
+        self.drop_but(entry, used, given)?;
+        self.free_but(entry, need)
+    }
+
+    // Drops what wasn't there at the entry of the match, or what a clause may use up, but not what the clause gives.
+    #[tactic(auto, using(crate::proofs::Losing::giving_up))]
+    fn drop_but(&mut self, entry: &Frame, used: &[bool], given: &[u16]) -> Result<(), NoMemory>
+        ensures given_up { OnOk result (GivesUp self.old.buffer self.new.buffer) }
+        ensures loses { OnOk result (Loses self.old.frame self.new.frame) }
+        ensures context { OnOk result (self.new.context ≡ self.old.context) }
+    {
+        for register in 0..self.frame.next() {
             let stays = entry.is_owned(register) && !is_marked(used, register);
-            if !stays && !given.contains(&register) {
-                self.drop_tree(register)?;
-            }
+            self.drop_unless(register, stays || given.contains(&register))?;
         }
-        for size in 1..=MOST_FIELDS {
+        Ok(())
+    }
+
+    #[tactic(auto, using(crate::proofs::Losing::giving_up))]
+    fn drop_unless(&mut self, register: u16, stays: bool) -> Result<(), NoMemory>
+        ensures given_up { OnOk result (GivesUp self.old.buffer self.new.buffer) }
+        ensures loses { OnOk result (Loses self.old.frame self.new.frame) }
+        ensures context { OnOk result (self.new.context ≡ self.old.context) }
+    {
+        if stays {
+            return Ok(());
+        }
+        self.drop_tree(register)
+    }
+
+    // Frees the credits past those that are left where the match took what it needs.
+    #[tactic(auto, using(crate::proofs::Losing::giving_up))]
+    fn free_but(&mut self, entry: &Frame, need: &Sizes) -> Result<(), NoMemory>
+        ensures given_up { OnOk result (GivesUp self.old.buffer self.new.buffer) }
+        ensures loses { OnOk result (Loses self.old.frame self.new.frame) }
+        ensures context { OnOk result (self.new.context ≡ self.old.context) }
+    {
+        for below in 0..MOST_FIELDS {
+            let size = below + 1;
             let kept = entry.count(size).saturating_sub(need.of(size) as usize);
             self.free_past(size, kept)?;
         }
         Ok(())
     }
 
-    fn drop_tree(&mut self, register: u16) -> Result<(), NoMemory> {
+    #[tactic(auto, using(crate::proofs::Losing::giving_up))]
+    fn drop_tree(&mut self, register: u16) -> Result<(), NoMemory>
+        ensures given_up { OnOk result (GivesUp self.old.buffer self.new.buffer) }
+        ensures loses { OnOk result (Loses self.old.frame self.new.frame) }
+        ensures context { OnOk result (self.new.context ≡ self.old.context) }
+    {
         if !self.frame.is_owned(register) {
             return Ok(());
         }
@@ -58,13 +128,28 @@ impl<'a> Lowerer<'a> {
     }
 
     // Frees all credits of a size but so many.
-    fn free_past(&mut self, size: usize, kept: usize) -> Result<(), NoMemory> {
+    #[tactic(auto, using(crate::proofs::Losing::giving_up))]
+    fn free_past(&mut self, size: usize, kept: usize) -> Result<(), NoMemory>
+        ensures given_up { OnOk result (GivesUp self.old.buffer self.new.buffer) }
+        ensures loses { OnOk result (Loses self.old.frame self.new.frame) }
+        ensures context { OnOk result (self.new.context ≡ self.old.context) }
+    {
         for _ in kept..self.frame.count(size) {
-            if let Some(register) = self.frame.take_credit(size) {
-                self.buffer.add(Instr::Free { register })?;
-            }
+            self.free_one(size)?;
         }
         Ok(())
+    }
+
+    #[tactic(auto, using(crate::proofs::Losing::giving_up))]
+    fn free_one(&mut self, size: usize) -> Result<(), NoMemory>
+        ensures given_up { OnOk result (GivesUp self.old.buffer self.new.buffer) }
+        ensures loses { OnOk result (Loses self.old.frame self.new.frame) }
+        ensures context { OnOk result (self.new.context ≡ self.old.context) }
+    {
+        match self.frame.take_credit(size) {
+            Some(register) => self.buffer.add(Instr::Free { register }),
+            None => Ok(()),
+        }
     }
 
     /// Which registers hold a tree that a block may use up.
@@ -137,7 +222,7 @@ impl<'a> Lowerer<'a> {
     pub fn mark(&self, marks: &mut Vec<bool>, argument: &Argument) {
         match argument {
             Argument::Variable { binder, .. } => {
-                if let Some(register) = self.register_of(*binder) {
+                if let Some(register) = self.frame.register_of(*binder) {
                     set_mark(marks, register);
                 }
             }

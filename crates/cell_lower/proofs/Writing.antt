@@ -1,0 +1,300 @@
+-- What the lowering of arguments has written, and how values are handed on, a case at a time.
+use Rattle.std.proofs.Common.{◌≡◌, inl, inr, refl, sym, ap, ◌∙◌, subst, arith, ℕ, zero, suc, ◌+◌, ◌≤◌, ℤ, List, [], ◌∷◌, ◌++◌, length, drop, Option, Some, None, slice_get}
+use Rattle.fip_language.specs.declared.Place.{Place}
+use Rattle.fip_trees.specs.Tree.{Name, Argument, Variable, Literal, Constructor, Arguments, NoArguments, MoreArguments}
+use Rattle.fip_trees.specs.declared.program.Argument.{Argument as Tree}
+use Rattle.fip_trees.specs.declared.program.Argument.TheOpen as AO
+use Rattle.fip_trees.specs.declared.program.Argument.TheVariants as AV
+use Rattle.fip_trees.specs.declared.program.Argument.TheFolds.{fold-roll-Argument}
+use Rattle.fip_trees.specs.TreeView.{argument, argument_step, arguments}
+use Rattle.cell_code.specs.declared.code.Instr.{Instr}
+use Rattle.cell_code.specs.declared.code.Instr.TheVariants as I
+use Rattle.lowered_code.specs.declared.held.Held.{Held}
+use Rattle.lowered_code.specs.declared.held.Held.TheVariants as H
+use Rattle.lowered_code.specs.Known.{Known, register_of, holding, with_next, using, used, used_all}
+use Rattle.lowered_code.specs.Values.{Setting, built}
+use Rattle.lowered_code.specs.Bodies.{Return, Into, moved}
+use Rattle.cell_lower.specs.Frames.{Takes, TakesBare}
+use Rattle.match_code.specs.Written.{Written, size, added, GivesUp}
+use Rattle.cell_lower.specs.Writing.{Computes, ComputesAll, Builds, Follow, Gives, Moves, MovesOne, MovesTo, FollowMoves}
+use Rattle.match_code.proofs.Placing.{same_extends, extends_on, added_extends, one_longer, front, back, stands, up_to, given_up}
+
+-- equal values may stand for one another
+pub three : {A B C : Type 0} (P : A → B → C → Type 0) (a b : A) (c d : B) (e f : C) → b ≡ a → d ≡ c → f ≡ e → P a c e → P b d f
+three P a b c d e f x y z h = subst (λ u. P u d f) (sym x) (subst (λ u. P a u f) (sym y) (subst (λ u. P a c u) (sym z) h))
+
+-- arguments
+
+pub argument_literal : (i : ℤ) (p : Place) → argument (AV.Literal i p) ≡ Literal i p
+argument_literal i p = ap argument (sym (AV.rolls-Literal i p)) ∙ fold-roll-Argument Argument argument_step (AO.Literal i p)
+
+pub computes_variable : (s : Setting) (k l : Known) (v w : Written) (x : Option ℕ) (n : Name) (p : Place) (r : ℕ) → register_of k.names x ≡ Some r → l ≡ k → w ≡ v → Computes s k v (Variable x n p) r l w
+computes_variable s k l v w x n p r h e f =
+    three (λ (u : ℕ) y z. Computes s k v (Variable x n p) r y z) 0 0 k l v w refl e f
+    (record { extends = same_extends v; code = λ to code h'. record { named = h; nothing = refl; known = refl } })
+
+pub computes_literal : (s : Setting) (k l : Known) (v w : Written) (i : ℤ) (p : Place) (r : ℕ) → r ≡ k.next → l ≡ with_next k (H.Scalar 0) → w ≡ added v (I.Const k.next i) → Computes s k v (Literal i p) r l w
+computes_literal s k l v w i p r e f g =
+    three (λ x y z. Computes s k v (Literal i p) x y z) k.next r (with_next k (H.Scalar 0)) l (added v (I.Const k.next i)) w e f g
+    (record {
+      extends = added_extends v (I.Const k.next i);
+      code = λ to code h. record {
+        written = stands v (I.Const k.next i) (size v) to code (omega arith) h;
+        fresh = refl;
+        one = one_longer v (I.Const k.next i);
+        known = refl;
+      };
+    })
+
+pub computes_constructor : (s : Setting) (k : Known) (v : Written) (t d c : ℕ) (n : Name) (p : Place) (as' : Arguments) (rs : List ℕ) (m : Known) (w : Written) (r : ℕ) (l : Known) (z : Written) → ComputesAll s k v as' rs m w → Builds s m w t c rs r l z → Computes s k v (Constructor t d c n p as') r l z
+computes_constructor s k v t d c n p as' rs m w r l z a b = record {
+  extends = extends_on v w z a.extends b.extends;
+  code = λ to code h. (
+    rs,
+    size w,
+    m,
+    a.code to code (front (size v) w z to code b.extends h),
+    b.code to code (back (size v) (size w) z to code a.extends.grows h),
+  );
+}
+
+pub computes_none : (s : Setting) (k : Known) (v : Written) → ComputesAll s k v NoArguments [] k v
+computes_none s k v = record { extends = same_extends v; code = λ to code h. (refl, refl) }
+
+pub computes_more : (s : Setting) (k : Known) (v : Written) (a : Argument) (as' : Arguments) (r : ℕ) (m : Known) (w : Written) (rs : List ℕ) (l : Known) (z : Written) → Computes s k v a r m w → ComputesAll s m w as' rs l z → ComputesAll s k v (MoreArguments a as') (r ∷ rs) l z
+computes_more s k v a as' r m w rs l z p q = record {
+  extends = extends_on v w z p.extends q.extends;
+  code = λ to code h. (
+    size w,
+    m,
+    p.code to code (front (size v) w z to code q.extends h),
+    q.code to code (back (size v) (size w) z to code p.extends.grows h),
+  );
+}
+
+pub follow_start : (s : Setting) (k : Known) (v : Written) (as' : Arguments) → Follow s k v as' k v as' []
+follow_start s k v as' = record { by = λ rs l w h. h }
+
+append_one : (before : List ℕ) (r : ℕ) (rs : List ℕ) → before ++ (r ∷ rs) ≡ (before ++ r ∷ []) ++ rs
+append_one [] r rs = refl
+append_one (b ∷ before) r rs = ap (λ x. b ∷ x) (append_one before r rs)
+
+append_none : (before : List ℕ) → before ++ [] ≡ before
+append_none [] = refl
+append_none (b ∷ before) = ap (λ x. b ∷ x) (append_none before)
+
+pub follow_next : (s : Setting) (k0 : Known) (v0 : Written) (as0 : Arguments) (k : Known) (v : Written) (a : Argument) (as' : Arguments) (before : List ℕ) (r : ℕ) (m : Known) (w : Written) → Follow s k0 v0 as0 k v (MoreArguments a as') before → Computes s k v a r m w → Follow s k0 v0 as0 m w as' (before ++ r ∷ [])
+follow_next s k0 v0 as0 k v a as' before r m w f c = record {
+  by = λ rs l z h. subst (λ qs. ComputesAll s k0 v0 as0 qs l z) (append_one before r rs) (f.by (r ∷ rs) l z (computes_more s k v a as' r m w rs l z c h));
+}
+
+pub follow_end : (s : Setting) (k0 : Known) (v0 : Written) (as0 : Arguments) (k : Known) (v : Written) (before : List ℕ) → Follow s k0 v0 as0 k v NoArguments before → ComputesAll s k0 v0 as0 before k v
+follow_end s k0 v0 as0 k v before f = subst (λ qs. ComputesAll s k0 v0 as0 qs k v) (append_none before) (f.by [] k v (computes_none s k v))
+
+-- the arguments from place i on
+
+pub arguments_at : (ts : List Tree) (i : ℕ) (t : Tree) → slice_get ts i ≡ Some t → arguments (drop i ts) ≡ MoreArguments (argument t) (arguments (drop (suc i) ts))
+arguments_at [] i t e = absurd (cc)
+arguments_at (u ∷ ts) zero t e = ap (λ x. MoreArguments (argument x) (arguments ts)) (same_some u t e)
+  where
+    same_some : (x y : Tree) → Some x ≡ Some y → x ≡ y
+    same_some x y h = cc
+arguments_at (u ∷ ts) (suc i) t e = arguments_at ts i t e
+
+pub follow_at : (s : Setting) (k0 : Known) (v0 : Written) (as0 : Arguments) (k : Known) (v : Written) (ts : List Tree) (i : ℕ) (t : Tree) (before : List ℕ) (r : ℕ) (m : Known) (w : Written) → slice_get ts i ≡ Some t → Follow s k0 v0 as0 k v (arguments (drop i ts)) before → Computes s k v (argument t) r m w → Follow s k0 v0 as0 m w (arguments (drop (suc i) ts)) (before ++ r ∷ [])
+follow_at s k0 v0 as0 k v ts i t before r m w e f c =
+    follow_next s k0 v0 as0 k v (argument t) (arguments (drop (suc i) ts)) before r m w (subst (λ x. Follow s k0 v0 as0 k v x before) (arguments_at ts i t e) f) c
+
+-- constructors
+
+pub builds_reused : (s : Setting) (k m l : Known) (v w : Written) (t c r : ℕ) → TakesBare k t c r m → l ≡ holding m r (H.Owned t (Some c)) → w ≡ v → Builds s k v t c [] r l w
+builds_reused s k m l v w t c r h e f =
+    three (λ (u : ℕ) y z. Builds s k v t c [] r y z) 0 0 (holding m r (H.Owned t (Some c))) l v w refl e f
+    (record {
+      extends = same_extends v;
+      code = λ to code h'. inl (record { held = h.there; nothing = refl; known = ap (λ x. holding x r (H.Owned t (Some c))) h.known });
+    })
+
+pub builds_atom : (s : Setting) (k l : Known) (v w : Written) (t c r : ℕ) → r ≡ k.next → l ≡ with_next k (built s t c) → w ≡ added v (I.Atom k.next t c) → Builds s k v t c [] r l w
+builds_atom s k l v w t c r e f g =
+    three (λ x y z. Builds s k v t c [] x y z) k.next r (with_next k (built s t c)) l (added v (I.Atom k.next t c)) w e f g
+    (record {
+      extends = added_extends v (I.Atom k.next t c);
+      code = λ to code h. inr (record {
+        written = stands v (I.Atom k.next t c) (size v) to code (omega arith) h;
+        fresh = refl;
+        one = one_longer v (I.Atom k.next t c);
+        known = refl;
+      });
+    })
+
+pub builds_put : (s : Setting) (k m l : Known) (v w : Written) (t c f : ℕ) (fs : List ℕ) (r : ℕ) → Takes k (length (f ∷ fs)) r m → l ≡ holding (using m (used_all m.held (f ∷ fs))) r (H.Owned t (Some c)) → w ≡ added v (I.Put r t c (f ∷ fs)) → Builds s k v t c (f ∷ fs) r l w
+builds_put s k m l v w t c f fs r h e g =
+    three (λ (u : ℕ) y z. Builds s k v t c (f ∷ fs) r y z) 0 0 (holding (using m (used_all m.held (f ∷ fs))) r (H.Owned t (Some c))) l (added v (I.Put r t c (f ∷ fs))) w refl e g
+    (record {
+      extends = added_extends v (I.Put r t c (f ∷ fs));
+      code = λ to code h'. record {
+        credits = h.rest;
+        taken = h.taken;
+        written = stands v (I.Put r t c (f ∷ fs)) (size v) to code (omega arith) h';
+        one = one_longer v (I.Put r t c (f ∷ fs));
+        known = ap (λ x. holding (using x (used_all x.held (f ∷ fs))) r (H.Owned t (Some c))) h.known;
+      };
+    })
+
+pub builds_fields : (s : Setting) (k m l : Known) (v w : Written) (t c : ℕ) (fs : List ℕ) (r : ℕ) → (length fs ≡ 0 → ⊥) → Takes k (length fs) r m → l ≡ holding (using m (used_all m.held fs)) r (H.Owned t (Some c)) → w ≡ added v (I.Put r t c fs) → Builds s k v t c fs r l w
+builds_fields s k m l v w t c [] r n h e g = absurd (n refl)
+builds_fields s k m l v w t c (f ∷ fs) r n h e g = builds_put s k m l v w t c f fs r h e g
+
+-- registers that are used up
+
+pub used_next : (hs : List Held) (rs : List ℕ) (i r : ℕ) → slice_get rs i ≡ Some r → used_all (used hs r) (drop (suc i) rs) ≡ used_all hs (drop i rs)
+used_next hs [] i r e = absurd (cc)
+used_next hs (q ∷ rs) zero r e = ap (λ x. used_all (used hs x) rs) (sym (same_some q r e))
+  where
+    same_some : (x y : ℕ) → Some x ≡ Some y → x ≡ y
+    same_some x y h = cc
+used_next hs (q ∷ rs) (suc i) r e = used_next hs rs i r e
+
+-- results
+
+pub gives_return : (k l : Known) (v w1 w2 w : Written) (rs : List ℕ) → GivesUp v w1 → GivesUp w1 w2 → w ≡ added w2 (I.Ret rs) → Gives k v rs Return l w
+gives_return k l v w1 w2 w rs a b e = subst (Gives k v rs Return l) (sym e) whole
+  where
+    last : Instr
+    last = I.Ret rs
+
+    both : GivesUp v w2
+    both = Rattle.match_code.proofs.Placing.gives_up_on v w1 w2 a b
+
+    number : (n : ℕ) × (size v + n ≡ size w2)
+    number = up_to (size v) (size w2) both.extends.grows
+
+    whole : Gives k v rs Return l (added w2 last)
+    whole = record {
+      extends = extends_on v w2 (added w2 last) both.extends (added_extends w2 last);
+      code = λ to code h. record {
+        given_up = number.0;
+        give_up = given_up v w2 (added w2 last) (size v) number.0 to code both (added_extends w2 last) h (omega arith) number.1;
+        written = ap (slice_get code) number.1 ∙ stands w2 last (size v) to code both.extends.grows h;
+        one = one_longer w2 last ∙ ap suc (sym number.1);
+      };
+    }
+
+pub gives_into : (k l : Known) (v w : Written) (rs ds : List ℕ) → Moves k v rs ds l w → Gives k v rs (Into ds) l w
+gives_into k l v w rs ds m = record { extends = m.extends; code = m.code }
+
+pub moves_there : (k l : Known) (v w : Written) (r d : ℕ) → r ≡ d → l ≡ k → w ≡ v → MovesOne k v r d l w
+moves_there k l v w r d e f g =
+    three (λ (u : ℕ) y z. MovesOne k v r d y z) 0 0 k l v w refl f g
+    (record { extends = same_extends v; code = λ to code h. inr (record { same = e; nothing = refl; known = refl }) })
+
+pub moves_word : (k l : Known) (v w : Written) (r d : ℕ) → l ≡ moved k d r → w ≡ added v (I.Move d r) → MovesOne k v r d l w
+moves_word k l v w r d f g =
+    three (λ (u : ℕ) y z. MovesOne k v r d y z) 0 0 (moved k d r) l (added v (I.Move d r)) w refl f g
+    (record {
+      extends = added_extends v (I.Move d r);
+      code = λ to code h. inl (record {
+        written = stands v (I.Move d r) (size v) to code (omega arith) h;
+        one = one_longer v (I.Move d r);
+        known = refl;
+      });
+    })
+
+moves_none : (k : Known) (v : Written) (rs : List ℕ) → Moves k v rs [] k v
+moves_none k v [] = record { extends = same_extends v; code = λ to code h'. (refl, refl) }
+moves_none k v (r ∷ rs) = record { extends = same_extends v; code = λ to code h'. (refl, refl) }
+
+moves_over : (k : Known) (v : Written) (ds : List ℕ) → Moves k v [] ds k v
+moves_over k v ds = record { extends = same_extends v; code = λ to code h'. (refl, refl) }
+
+-- without destinations nothing is moved
+moves_any : (k l : Known) (v w : Written) (rs qs : List ℕ) → Moves k v rs [] l w → Moves k v qs [] l w
+moves_any k l v w [] [] m = record { extends = m.extends; code = m.code }
+moves_any k l v w [] (q ∷ qs) m = record { extends = m.extends; code = m.code }
+moves_any k l v w (r ∷ rs) [] m = record { extends = m.extends; code = m.code }
+moves_any k l v w (r ∷ rs) (q ∷ qs) m = record { extends = m.extends; code = m.code }
+
+moves_more : (k m l : Known) (v w z : Written) (r d : ℕ) (rs ds : List ℕ) → MovesOne k v r d m w → Moves m w rs ds l z → Moves k v (r ∷ rs) (d ∷ ds) l z
+moves_more k m l v w z r d rs ds a b = record {
+  extends = extends_on v w z a.extends b.extends;
+  code = λ to code h. (
+    size w,
+    m,
+    a.code to code (front (size v) w z to code b.extends h),
+    b.code to code (back (size v) (size w) z to code a.extends.grows h),
+  );
+}
+
+pub moves_start : (k : Known) (v : Written) (rs ds : List ℕ) → FollowMoves k v rs ds k v rs ds
+moves_start k v rs ds = record { by = λ l w h. h }
+
+pub moves_next : (k0 : Known) (v0 : Written) (rs0 ds0 : List ℕ) (k m : Known) (v w : Written) (r d : ℕ) (rs ds : List ℕ) → FollowMoves k0 v0 rs0 ds0 k v (r ∷ rs) (d ∷ ds) → MovesOne k v r d m w → FollowMoves k0 v0 rs0 ds0 m w rs ds
+moves_next k0 v0 rs0 ds0 k m v w r d rs ds f a = record { by = λ l z h. f.by l z (moves_more k m l v w z r d rs ds a h) }
+
+at_drop : {A : Type 0} (xs : List A) (i : ℕ) (x : A) → slice_get xs i ≡ Some x → drop i xs ≡ x ∷ drop (suc i) xs
+at_drop [] i x e = absurd (cc)
+at_drop (y ∷ xs) zero x e = ap (λ z. z ∷ xs) (same_some y x e)
+  where
+    same_some : {A : Type 0} (x y : A) → Some x ≡ Some y → x ≡ y
+    same_some x y h = cc
+at_drop (y ∷ xs) (suc i) x e = at_drop xs i x e
+
+pub moves_at : (k0 : Known) (v0 : Written) (rs0 ds0 : List ℕ) (k m : Known) (v w : Written) (rs ds : List ℕ) (i r d : ℕ) → slice_get rs i ≡ Some r → slice_get ds i ≡ Some d → FollowMoves k0 v0 rs0 ds0 k v (drop i rs) (drop i ds) → MovesOne k v r d m w → FollowMoves k0 v0 rs0 ds0 m w (drop (suc i) rs) (drop (suc i) ds)
+moves_at k0 v0 rs0 ds0 k m v w rs ds i r d e f h a =
+    moves_next k0 v0 rs0 ds0 k m v w r d (drop (suc i) rs) (drop (suc i) ds)
+    (subst (λ x. FollowMoves k0 v0 rs0 ds0 k v x (d ∷ drop (suc i) ds)) (at_drop rs i r e) (subst (λ x. FollowMoves k0 v0 rs0 ds0 k v (drop i rs) x) (at_drop ds i d f) h)) a
+
+drop_none : {A : Type 0} (xs : List A) (i : ℕ) → slice_get xs i ≡ None → (drop i xs ≡ []) × (drop (suc i) xs ≡ [])
+drop_none [] zero e = (refl, refl)
+drop_none [] (suc i) e = (refl, refl)
+drop_none (x ∷ xs) zero e = absurd (cc)
+drop_none (x ∷ xs) (suc i) e = drop_none xs i e
+
+pub moves_step : (k0 : Known) (v0 : Written) (rs0 ds0 : List ℕ) (k m : Known) (v w : Written) (rs ds : List ℕ) (i r : ℕ) → slice_get rs i ≡ Some r → FollowMoves k0 v0 rs0 ds0 k v (drop i rs) (drop i ds) → MovesTo k v r (slice_get ds i) m w → FollowMoves k0 v0 rs0 ds0 m w (drop (suc i) rs) (drop (suc i) ds)
+moves_step k0 v0 rs0 ds0 k m v w rs ds i r e h t = by_get (slice_get ds i) refl t
+  where
+    by_get : (o : Option ℕ) → slice_get ds i ≡ o → MovesTo k v r o m w → FollowMoves k0 v0 rs0 ds0 m w (drop (suc i) rs) (drop (suc i) ds)
+    by_get None f t' =
+        let none = drop_none ds i f in
+        subst (λ x. FollowMoves k0 v0 rs0 ds0 m w (drop (suc i) rs) x) (sym none.1)
+        (three (λ (u : ℕ) x y. FollowMoves k0 v0 rs0 ds0 x y (drop (suc i) rs) []) 0 0 k m v w refl t'.0 t'.1
+        (record { by = λ l z n. (subst (λ x. FollowMoves k0 v0 rs0 ds0 k v (drop i rs) x) none.0 h).by l z (moves_any k l v z (drop (suc i) rs) (drop i rs) n) }))
+    by_get (Some d) f t' = moves_at k0 v0 rs0 ds0 k m v w rs ds i r d e f h t'
+
+pub moves_end : (k0 : Known) (v0 : Written) (rs0 ds0 : List ℕ) (k : Known) (v : Written) (ds : List ℕ) → FollowMoves k0 v0 rs0 ds0 k v [] ds → Moves k0 v0 rs0 ds0 k v
+moves_end k0 v0 rs0 ds0 k v ds f = f.by k v (moves_over k v ds)
+
+-- behind the last one
+drop_done : {A : Type 0} (xs : List A) (i : ℕ) → length xs ≤ i → drop i xs ≡ []
+drop_done [] zero e = refl
+drop_done [] (suc i) e = refl
+drop_done (x ∷ xs) zero e = absurd (omega (arith, e))
+drop_done (x ∷ xs) (suc i) e = drop_done xs i (omega (arith, e))
+
+pub follow_done : (s : Setting) (k0 : Known) (v0 : Written) (as0 : Arguments) (k : Known) (v : Written) (ts : List Tree) (i : ℕ) (before : List ℕ) → length ts ≤ i → Follow s k0 v0 as0 k v (arguments (drop i ts)) before → ComputesAll s k0 v0 as0 before k v
+follow_done s k0 v0 as0 k v ts i before e f = follow_end s k0 v0 as0 k v before (subst (λ x. Follow s k0 v0 as0 k v (arguments x) before) (drop_done ts i e) f)
+
+pub moves_done : (k0 : Known) (v0 : Written) (rs0 ds0 : List ℕ) (k : Known) (v : Written) (rs ds : List ℕ) (i : ℕ) → length rs ≤ i → FollowMoves k0 v0 rs0 ds0 k v (drop i rs) ds → Moves k0 v0 rs0 ds0 k v
+moves_done k0 v0 rs0 ds0 k v rs ds i e f = moves_end k0 v0 rs0 ds0 k v ds (subst (λ x. FollowMoves k0 v0 rs0 ds0 k v x ds) (drop_done rs i e) f)
+
+pub used_on : (k m : Known) (rs : List ℕ) (i r : ℕ) → slice_get rs i ≡ Some r → m ≡ using k (used k.held r) → using m (used_all m.held (drop (suc i) rs)) ≡ using k (used_all k.held (drop i rs))
+used_on k m rs i r e f = ap (λ x. using x (used_all x.held (drop (suc i) rs))) f ∙ ap (using k) (used_next k.held rs i r e)
+
+-- the place is counted beside the loop
+pub moves_to : (k0 : Known) (v0 : Written) (rs0 ds0 : List ℕ) (k m : Known) (v w : Written) (rs ds : List ℕ) (i j n r : ℕ) → j ≡ i → n ≡ suc j → slice_get rs i ≡ Some r → FollowMoves k0 v0 rs0 ds0 k v (drop j rs) (drop j ds) → MovesTo k v r (slice_get ds j) m w → FollowMoves k0 v0 rs0 ds0 m w (drop n rs) (drop n ds)
+moves_to k0 v0 rs0 ds0 k m v w rs ds i j n r a b e f t = subst (λ z. FollowMoves k0 v0 rs0 ds0 m w (drop z rs) (drop z ds)) (sym b) (moves_step k0 v0 rs0 ds0 k m v w rs ds j r (ap (slice_get rs) a ∙ e) f t)
+
+pub follow_to : (s : Setting) (k0 : Known) (v0 : Written) (as0 : Arguments) (k : Known) (v : Written) (ts : List Tree) (i j : ℕ) (t : Tree) (before rs : List ℕ) (r : ℕ) (m : Known) (w : Written) → j ≡ suc i → slice_get ts i ≡ Some t → Follow s k0 v0 as0 k v (arguments (drop i ts)) before → Computes s k v (argument t) r m w → rs ≡ before ++ r ∷ [] → Follow s k0 v0 as0 m w (arguments (drop j ts)) rs
+follow_to s k0 v0 as0 k v ts i j t before rs r m w a e f c g =
+    subst (λ z. Follow s k0 v0 as0 m w (arguments (drop z ts)) rs) (sym a) (subst (Follow s k0 v0 as0 m w (arguments (drop (suc i) ts))) (sym g) (follow_at s k0 v0 as0 k v ts i t before r m w e f c))
+
+pub ruleset writing = (computes_variable, computes_literal, computes_constructor, builds_reused, builds_atom, builds_fields)
+
+pub ruleset following = (follow_start, follow_at, follow_done)
+
+pub ruleset using_up = (used_on)
+
+pub ruleset moving = (moves_there, moves_word, moves_start, moves_step, moves_done)
+
+pub ruleset giving = (gives_return, gives_into)

@@ -1,0 +1,10 @@
+use Rattle.std.proofs.Common.{◌≡◌, drop}
+use Rattle.fip_trees.specs.TreeView.{arguments}
+use Rattle.cell_lower.specs.Writing.{setting, Follow}
+use Rattle.cell_lower.proofs.lowerer.Lowerer.+value.Given as goal
+
+abbrev pub invariant-values-loop-argument : goal.invariant-values-loop-argument
+invariant-values-loop-argument l = record {
+  context : l.self.context ≡ l.initial.self.context;
+  rest : Follow (setting l.initial.self.context.now) l.initial.self.frame l.initial.self.buffer (arguments l.arguments) l.self.frame l.self.buffer (arguments (drop l.argument-index l.arguments)) l.registers.items;
+}

@@ -1,0 +1,10 @@
+use Rattle.std.proofs.Common.{subst}
+use Rattle.std.specs.Borrow.{Bor}
+use Rattle.cell_lower.specs.declared.lowerer.Context.{Context}
+use Rattle.cell_lower.specs.Writing.{setting, target_of, CallsAt}
+use Rattle.fip_trees.specs.TreeView.{arguments}
+use Rattle.cell_lower.proofs.Blocks.{applies_to}
+use Rattle.cell_lower.proofs.lowerer.Lowerer.apply.Goals as goal
+
+pub returns-clause-applies : goal.returns-clause-applies
+returns-clause-applies c = applies_to (setting c.args.self.now.context.now) c.args.self.now.frame c.values.new.self.frame c.call.new.self.frame c.args.self.now.buffer c.values.new.self.buffer c.call.new.self.buffer c.args.callee (arguments c.args.arguments.now) c.in_ok-registers.registers.items (target_of c.args.target) c.in_ok-registers.ensures.computes (subst (λ (x : Bor Context). CallsAt (setting x.now) c.values.new.self.frame c.values.new.self.buffer c.args.callee c.in_ok-registers.registers.items (target_of c.args.target) c.call.new.self.frame c.call.new.self.buffer) c.in_ok-registers.ensures.context c.in_ok-call.ensures.calls)

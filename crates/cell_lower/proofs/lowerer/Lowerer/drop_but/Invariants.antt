@@ -1,0 +1,11 @@
+use Rattle.std.proofs.Common.{◌≡◌}
+use Rattle.match_code.specs.Losing.{Loses}
+use Rattle.match_code.specs.Written.{GivesUp}
+use Rattle.cell_lower.proofs.lowerer.Lowerer.drop_but.Given as goal
+
+abbrev pub invariant-loop-register : goal.invariant-loop-register
+invariant-loop-register l = record {
+  given_up : GivesUp l.initial.self.buffer l.self.buffer;
+  loses : Loses l.initial.self.frame l.self.frame;
+  context : l.self.context ≡ l.initial.self.context;
+}

@@ -1,0 +1,12 @@
+use Rattle.std.proofs.Common.{◌≡◌, drop}
+use Rattle.lowered_code.specs.Known.{using}
+use Rattle.lowered_code.specs.Bodies.{handed}
+use Rattle.cell_lower.proofs.lowerer.Lowerer.hand_over.Given as goal
+
+abbrev pub invariant-loop-param : goal.invariant-loop-param
+invariant-loop-param l = record {
+  place : l.place ≡ l.param-index;
+  handed : using l.self.frame (handed l.self.frame.held (drop l.place l.params) (drop l.place l.registers)) ≡ using l.initial.self.frame (handed l.initial.self.frame.held l.params l.registers);
+  context : l.self.context ≡ l.initial.self.context;
+  buffer : l.self.buffer ≡ l.initial.self.buffer;
+}

@@ -1,0 +1,10 @@
+use Rattle.std.proofs.Common.{◌≡◌, drop}
+use Rattle.cell_lower.specs.Writing.{FollowMoves}
+use Rattle.cell_lower.proofs.lowerer.Lowerer.move_all.Given as goal
+
+abbrev pub invariant-loop-source : goal.invariant-loop-source
+invariant-loop-source l = record {
+  place : l.place ≡ l.source-index;
+  rest : FollowMoves l.initial.self.frame l.initial.self.buffer l.sources l.destinations l.self.frame l.self.buffer (drop l.place l.sources) (drop l.place l.destinations);
+  context : l.self.context ≡ l.initial.self.context;
+}

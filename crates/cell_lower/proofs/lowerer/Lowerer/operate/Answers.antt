@@ -1,0 +1,13 @@
+use Rattle.std.proofs.Common.{subst}
+use Rattle.std.specs.Borrow.{Bor}
+use Rattle.cell_lower.specs.declared.lowerer.Context.{Context}
+use Rattle.cell_lower.specs.Writing.{setting, target_of, Computes}
+use Rattle.fip_trees.specs.TreeView.{argument}
+use Rattle.cell_lower.proofs.Blocks.{writes_operation}
+use Rattle.cell_lower.proofs.lowerer.Lowerer.operate.Goals as goal
+
+pub returns-clause-writes : goal.returns-clause-writes
+returns-clause-writes c =
+    writes_operation (setting c.args.self.now.context.now) c.args.self.now.frame c.value.new.self.frame c.value-2.new.self.frame c.operation.new.self.frame c.args.self.now.buffer c.value.new.self.buffer c.value-2.new.self.buffer c.operation.new.self.buffer c.args.applied.operator c.args.applied.place (argument c.args.left.now) (argument c.args.right.now) c.in_ok-first.first c.in_ok-second.second (target_of c.args.target) c.in_ok-first.ensures.computes
+    (subst (λ (x : Bor Context). Computes (setting x.now) c.value.new.self.frame c.value.new.self.buffer (argument c.args.right.now) c.in_ok-second.second c.value-2.new.self.frame c.value-2.new.self.buffer) c.in_ok-first.ensures.context c.in_ok-second.ensures.computes)
+    c.in_ok-operation.ensures.operates

@@ -1,0 +1,10 @@
+use Rattle.std.proofs.Common.{◌≡◌, drop}
+use Rattle.cell_lower.specs.Writing.{FollowCredits}
+use Rattle.cell_lower.proofs.lowerer.Lowerer.take_credits.Given as goal
+
+abbrev pub invariant-loop-size : goal.invariant-loop-size
+invariant-loop-size l = record {
+  rest : FollowCredits l.initial.self.frame l.sizes l.initial.registers.items l.self.frame (drop l.size-index l.sizes) l.registers.items;
+  context : l.self.context ≡ l.initial.self.context;
+  buffer : l.self.buffer ≡ l.initial.self.buffer;
+}

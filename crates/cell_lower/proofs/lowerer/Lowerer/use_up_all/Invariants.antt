@@ -1,0 +1,10 @@
+use Rattle.std.proofs.Common.{◌≡◌, drop}
+use Rattle.lowered_code.specs.Known.{using, used_all}
+use Rattle.cell_lower.proofs.lowerer.Lowerer.use_up_all.Given as goal
+
+abbrev pub invariant-loop-register : goal.invariant-loop-register
+invariant-loop-register l = record {
+  used : using l.self.frame (used_all l.self.frame.held (drop l.register-index l.registers)) ≡ using l.initial.self.frame (used_all l.initial.self.frame.held l.registers);
+  context : l.self.context ≡ l.initial.self.context;
+  buffer : l.self.buffer ≡ l.initial.self.buffer;
+}

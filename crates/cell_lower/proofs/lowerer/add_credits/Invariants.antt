@@ -1,0 +1,6 @@
+use Rattle.std.proofs.Common.{◌≡◌, drop}
+use Rattle.lowered_code.specs.Functions.{with_credits}
+use Rattle.cell_lower.proofs.lowerer.add_credits.Given as goal
+
+abbrev pub invariant-loop-size : goal.invariant-loop-size
+invariant-loop-size l = with_credits l.frame (drop l.size-index l.sizes) ≡ with_credits l.initial.frame l.sizes

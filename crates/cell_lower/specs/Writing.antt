@@ -1,0 +1,159 @@
+-- It serves the proofs on lowered code: what each part of the lowering of a function has written, in the words of
+-- lowered code: v is what was written before it and k what was known, w and l those behind it.
+use Rattle.std.specs.Prelude.{◌≡◌, ◌⊎◌, ℕ, List, [], ◌∷◌, ◌++◌, Option, Some, None, slice_set, if◌then◌else◌}
+use Rattle.fip_language.specs.declared.Operator.{Operator}
+use Rattle.fip_language.specs.declared.Place.{Place}
+use Rattle.fip_trees.specs.declared.program.Binder.{Binder}
+use Rattle.fip_trees.specs.Tree.{Name, Argument, Arguments, Expression, Call, Block, Let}
+use Rattle.fip_trees.specs.TreeView.{instances}
+use Rattle.fip_base.specs.declared.plain.Param.{Param}
+use Rattle.lowered_code.specs.declared.held.Held.{Held}
+use Rattle.lowered_code.specs.Known.{Known, naming, used}
+use Rattle.lowered_code.specs.Values.{Setting, BuiltAt, ArgumentAt, ArgumentsAt}
+use Rattle.lowered_code.specs.Bodies as B
+use Rattle.cell_lower.specs.Frames.{Takes}
+use Rattle.match_code.specs.Written.{Written, size, Extends, InCode}
+use Rattle.cell_lower.specs.declared.lowerer.Context.{Context}
+use Rattle.cell_lower.specs.declared.lowerer.Target.{Target}
+use Rattle.cell_lower.specs.declared.lowerer.Target.TheVariants as T
+
+abbrev pub setting : Context → Setting
+setting c = record {
+  scalar = c.scalars;
+  functions = c.functions.items;
+  instances = instances c.program.now.instances.items;
+  types = c.program.now.types;
+}
+
+abbrev pub target_of : Target → B.Target
+target_of T.Return = B.Return
+target_of (T.Into ds) = B.Into ds.now
+
+-- after v was written and k was known, an argument was computed into r: now w is written and l is known
+pub record Computes (s : Setting) (k : Known) (v : Written) (a : Argument) (r : ℕ) (l : Known) (w : Written) :
+    Type 0 where
+  pub extends : Extends v w
+  pub code : InCode v w (λ code. ArgumentAt s code (size v) k a r (size w) l)
+
+pub record ComputesAll (s : Setting) (k : Known) (v : Written) (as' : Arguments) (rs : List ℕ) (l : Known)
+    (w : Written) : Type 0 where
+  pub extends : Extends v w
+  pub code : InCode v w (λ code. ArgumentsAt s code (size v) k as' rs (size w) l)
+
+-- a constructor of fields in registers
+pub record Builds (s : Setting) (k : Known) (v : Written) (t c : ℕ) (rs : List ℕ) (r : ℕ) (l : Known)
+    (w : Written) : Type 0 where
+  pub extends : Extends v w
+  pub code : InCode v w (λ code. BuiltAt s code (size v) k t c rs r (size w) l)
+
+-- after the arguments so far, the others follow
+pub record Follow (s : Setting) (k0 : Known) (v0 : Written) (as0 : Arguments) (k : Known) (v : Written)
+    (as' : Arguments) (before : List ℕ) : Type 0 where
+  pub by : (rs : List ℕ) (l : Known) (w : Written) → ComputesAll s k v as' rs l w →
+      ComputesAll s k0 v0 as0 (before ++ rs) l w
+
+-- results in registers are handed on
+pub record Gives (k : Known) (v : Written) (rs : List ℕ) (target : B.Target) (l : Known) (w : Written) :
+    Type 0 where
+  pub extends : Extends v w
+  pub code : InCode v w (λ code. B.GivenAt code (size v) k rs target (size w) l)
+
+pub record Moves (k : Known) (v : Written) (rs ds : List ℕ) (l : Known) (w : Written) : Type 0 where
+  pub extends : Extends v w
+  pub code : InCode v w (λ code. B.MovedAt code (size v) k rs ds (size w) l)
+
+pub record MovesOne (k : Known) (v : Written) (r d : ℕ) (l : Known) (w : Written) : Type 0 where
+  pub extends : Extends v w
+  pub code : InCode v w (λ code. B.IsMove code (size v) k r d (size w) l ⊎ B.IsThere (size v) k r d (size w) l)
+
+-- a register's word goes to a destination, where there is one
+abbrev pub MovesTo : Known → Written → ℕ → Option ℕ → Known → Written → Type 0
+MovesTo k v r None l w = (l ≡ k) × (w ≡ v)
+MovesTo k v r (Some d) l w = MovesOne k v r d l w
+
+-- after the moves so far, the others follow
+pub record FollowMoves (k0 : Known) (v0 : Written) (rs0 ds0 : List ℕ) (k : Known) (v : Written)
+    (rs ds : List ℕ) : Type 0 where
+  pub by : (l : Known) (w : Written) → Moves k v rs ds l w → Moves k0 v0 rs0 ds0 l w
+
+pub record Writes (s : Setting) (k : Known) (v : Written) (e : Expression) (target : B.Target) (l : Known)
+    (w : Written) : Type 0 where
+  pub extends : Extends v w
+  pub code : InCode v w (λ code. B.ExpressionAt s code (size v) k e target (size w) l)
+
+pub record WritesBlock (s : Setting) (k : Known) (v : Written) (b : Block) (target : B.Target) (l : Known)
+    (w : Written) : Type 0 where
+  pub extends : Extends v w
+  pub code : InCode v w (λ code. B.BlockAt s code (size v) k b target (size w) l)
+
+-- after the bindings so far, the rest of a block follows
+pub record FollowBlock (s : Setting) (k0 : Known) (v0 : Written) (b0 : Block) (k : Known) (v : Written)
+    (b : Block) (target : B.Target) : Type 0 where
+  pub by : (l : Known) (w : Written) → WritesBlock s k v b target l w → WritesBlock s k0 v0 b0 target l w
+
+-- an operator of two registers
+pub record Operates (k : Known) (v : Written) (o : Operator) (p : Place) (x y : ℕ) (target : B.Target) (l : Known)
+    (w : Written) : Type 0 where
+  pub extends : Extends v w
+  pub code : InCode v w (λ code. B.IsOperation code (size v) k o p x y target (size w) l)
+
+-- what a register holds after it was handed over for a parameter, where there is a register
+abbrev pub handed_at : List Held → Param → Option ℕ → List Held
+handed_at hs p None = hs
+handed_at hs p (Some r) = if p.lent then hs else used hs r
+
+-- what registers hold after a result of type t came to a destination, where there is one
+abbrev pub received_at : Setting → List Held → ℕ → Option ℕ → List Held
+received_at s hs t None = hs
+received_at s hs t (Some d) = slice_set hs d (B.given s t)
+
+-- a variable has a register, where there is one
+abbrev pub named_at : Known → Binder → Option ℕ → Known
+named_at k b None = k
+named_at k b (Some r) = naming k b.number r
+
+-- a credit of size n is taken, and its register put behind others
+pub record TakesOne (k : Known) (n : ℕ) (before rs : List ℕ) (l : Known) : Type 0 where
+  pub credit : ℕ
+  pub behind : rs ≡ before ++ credit ∷ []
+  pub taken : Takes k n credit l
+
+-- credits of these sizes are taken, and their registers put behind others
+pub record TakesAll (k : Known) (ns before rs : List ℕ) (l : Known) : Type 0 where
+  pub credits : List ℕ
+  pub behind : rs ≡ before ++ credits
+  pub taken : B.AreTaken k ns credits l
+
+-- after those so far, the others follow
+pub record FollowCredits (k0 : Known) (ns0 before0 : List ℕ) (k : Known) (ns before : List ℕ) : Type 0 where
+  pub by : (rs : List ℕ) (l : Known) → TakesAll k ns before rs l → TakesAll k0 ns0 before0 rs l
+
+pub record EndsCall (s : Setting) (k : Known) (v : Written) (f : ℕ) (rs results : List ℕ) (target : B.Target)
+    (l : Known) (w : Written) : Type 0 where
+  pub extends : Extends v w
+  pub code : InCode v w (λ code. B.EndsCall s code (size v) k f rs results target (size w) l)
+
+-- a call of instance g with arguments in registers
+pub record CallsAt (s : Setting) (k : Known) (v : Written) (g : ℕ) (rs : List ℕ) (target : B.Target) (l : Known)
+    (w : Written) : Type 0 where
+  pub extends : Extends v w
+  pub code : InCode v w (λ code. B.IsCall s code (size v) k g rs target (size w) l)
+
+-- arguments whose values are handed on
+pub record GivesValues (s : Setting) (k : Known) (v : Written) (as' : Arguments) (target : B.Target) (l : Known)
+    (w : Written) : Type 0 where
+  pub extends : Extends v w
+  pub code : InCode v w (λ code.
+      (rs : List ℕ) × (mid : ℕ) × (m : Known) × ArgumentsAt s code (size v) k as' rs mid m
+      × B.GivenAt code mid m rs target (size w) l)
+
+-- a call of instance g with these arguments, whatever its name and place
+pub record AppliesTo (s : Setting) (k : Known) (v : Written) (g : ℕ) (as' : Arguments) (target : B.Target) (l : Known)
+    (w : Written) : Type 0 where
+  pub by : (n : Name) (p : Place) → Writes s k v (Call g n p as') target l w
+
+-- a let without its body: whatever follows, it is that of the whole
+pub record Binds (s : Setting) (k : Known) (v : Written) (bs : List Binder) (e : Expression) (l : Known)
+    (w : Written) : Type 0 where
+  pub by : (rest : Block) (target : B.Target) (m : Known) (z : Written) → WritesBlock s l w rest target m z →
+      WritesBlock s k v (Let bs e rest) target m z

@@ -1,11 +1,11 @@
 -- A file is that of one trace, or it is bad at one place: the reader comes to one or the other, and reads to the end.
-use Rattle.std.proofs.Common.{◌≡◌, ℕ, ◌+◌, ◌<◌, ◌≤◌, ◌⊎◌, Bool, true, false, nat_lt, nat_le, List, [], ◌∷◌, ◌++◌, length, refl, sym, subst, ◌∙◌, inl, inr, arith}
+use Rattle.std.proofs.Common.{◌≡◌, ℕ, ◌≤◌, ◌⊎◌, Bool, true, false, nat_lt, nat_le, List, [], ◌∷◌, ◌++◌, length, refl, sym, subst, ◌∙◌, inl, inr, arith}
 use Rattle.std.specs.Prelude.{codes}
 use Rattle.std.proofs.lemmas.Bool.Decides.{nat_tests}
 use Rattle.fip_language.specs.declared.limits.TheConstants.{MOST_FILE_BYTES}
 use Rattle.code_runs.specs.Traces.{Event}
 use Rattle.loaded_runs.specs.TraceText.{Loaded, Trace}
-use Rattle.loaded_runs.specs.TraceReading.{Read, Got, Bad, then_read, asked, read_number, read_exactly, read_cells}
+use Rattle.loaded_runs.specs.TraceReading.{Read, Got, Bad, read_number, read_exactly, read_cells}
 use Rattle.loaded_runs.specs.TraceReading.{read_events, last_step, read_end, read_steps, read_all_events, read_all_cells}
 use Rattle.loaded_runs.specs.TraceReading.{read_trace, IsTraceFile, IsBadTrace}
 use Rattle.loaded_runs.proofs.Inverse.{same_got, not_bad, back_then, back_asked, of_lt}

@@ -4,3 +4,7 @@ pub mod Reading
 pub mod Inverse
 pub mod Printing
 pub mod Either
+pub mod StepChanges
+pub mod RunTraces
+pub mod Small
+pub mod Begins

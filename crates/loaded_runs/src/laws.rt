@@ -1,15 +1,23 @@
 // The laws of the definitions. Each is the contract of a function that does nothing.
-ghost use Rattle.std.specs.Prelude.{◌≡◌, ◌⊎◌, ℕ, ◌+◌, ◌≤◌, List, [], ◌∷◌, length, Option};
+ghost use Rattle.std.specs.Prelude.{◌≡◌, ◌⊎◌, ℕ, ◌+◌, ◌^◌, ◌<◌, ◌≤◌, List, [], ◌∷◌, length, map, Option, Some};
+ghost use Rattle.fip_language.specs.Table.{Table, HaveTypes};
 ghost use Rattle.fip_language.specs.Values.{Values, words_needed_by_all};
 ghost use Rattle.fip_language.specs.Store.{Cell};
 ghost use Rattle.code_runs.specs.Codes.{PlainCode};
 ghost use Rattle.code_runs.specs.Example.{flat};
-ghost use Rattle.code_runs.specs.Runs.{begun, after, state_of};
+ghost use Rattle.code_runs.specs.Runs.{loaded, begun, after, state_of};
 ghost use Rattle.code_runs.specs.States.{State};
 ghost use Rattle.code_runs.specs.Steps.{Kinds};
+ghost use Rattle.code_runs.specs.Traces.{events};
+ghost use Rattle.sound_code.specs.Codes as S;
+ghost use Rattle.sound_code.specs.Breaks.{IsSound};
+ghost use Rattle.code_separation.specs.Codes.{run_code, HasLiterals, AreKinds};
+ghost use Rattle.code_separation.specs.Starts.{IsStart};
+ghost use Rattle.tree_agreement.specs.Runs.{BeginsWith};
 ghost use Rattle.loaded_runs.specs.Loading.{first_store, first_words, words_of_credits, unreleased};
 ghost use Rattle.loaded_runs.specs.TraceText.{Trace, IsTrace, trace_text};
 ghost use Rattle.loaded_runs.specs.TraceReading.{Got, Bad, read_trace, AreBytes, IsTraceFile, IsBadTrace};
+ghost use Rattle.loaded_runs.specs.Writable.{HaveFewConstructors, IsWritable};
 ghost use Rattle.loaded_runs.specs.Replaying.{replayed, store_text, trace_of, live_line, free_line};
 ghost use Rattle.loaded_runs.specs.Example.{arguments, cell, rewriting, releasing, file_with};
 
@@ -61,6 +69,37 @@ pub fn an_example_of_a_file()
     ensures read { read_trace (file_with 0) ≡ Got rewriting 80 [] }
     ensures another { read_trace (file_with 2) ≡ Bad 47 }
     ensures nothing { read_trace [] ≡ Bad 0 }
+{}
+
+/// A function of sound code is loaded with any arguments of its parameters' types, and a run begins in this state: the
+/// cells of these and of its credits are all cells, and its first registers stand for the arguments. For who runs a
+/// function on the text of its arguments.
+pub fn a_loaded_run_begins()
+    ensures there { (c : S.PlainCode) (n : ℕ) (f : S.PlainFunction) (vs : Values) (frames : ℕ) →
+        S.function_at c n ≡ Some f → (s : State)
+        × (loaded (run_code c) n (first_store vs f.credits) (first_words vs f.credits) frames ≡ Some s) }
+    ensures starts { (c : S.PlainCode) (before waits : Kinds) (n : ℕ) (f : S.PlainFunction) (vs : Values)
+        (frames : ℕ) (s : State) → IsSound c → HasLiterals c → AreKinds c before waits → S.function_at c n ≡ Some f →
+        HaveTypes c.types (map (λ p. p.ty) f.params) vs →
+        loaded (run_code c) n (first_store vs f.credits) (first_words vs f.credits) frames ≡ Some s →
+        IsStart c before waits n [] s }
+    ensures stands { (c : S.PlainCode) (before waits : Kinds) (n : ℕ) (f : S.PlainFunction) (vs : Values)
+        (frames : ℕ) (s : State) → IsSound c → HasLiterals c → AreKinds c before waits → S.function_at c n ≡ Some f →
+        HaveTypes c.types (map (λ p. p.ty) f.params) vs →
+        loaded (run_code c) n (first_store vs f.credits) (first_words vs f.credits) frames ≡ Some s →
+        BeginsWith c n s vs }
+{}
+
+/// What a run of sound code did to its cells is a trace, which can be written down, unless there are too many events or
+/// steps to count; for a run begins in a store that can be written down. For who asks why a trace is refused.
+pub fn what_a_run_did_is_a_trace()
+    ensures run { (c : S.PlainCode) (before waits : Kinds) (n : ℕ) (kept : List ℕ) (s : State)
+        (calls steps : ℕ) → IsStart c before waits n kept s → HaveFewConstructors c.types → IsWritable s.store →
+        length (events before (run_code c) steps (begun s calls)) < 2 ^ 32 → steps < 2 ^ 64 →
+        IsTrace (trace_of before (run_code c) s calls steps) }
+    ensures loaded { (types : Table) (ts : List ℕ) (vs : Values) (credits : List ℕ) → HaveFewConstructors types →
+        HaveTypes types ts vs → length (first_store vs credits).cells < 2 ^ 32 →
+        IsWritable (first_store vs credits) }
 {}
 
 /// The lines of a replay up to a step are those of the cells of the state after that step, where nothing is released

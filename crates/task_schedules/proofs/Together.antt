@@ -1,14 +1,25 @@
 -- The two tasks of the examples begin together: by cases on the places of their cells, which are 0 and 3 of six.
-use Rattle.std.proofs.Common.{◌≡◌, ◌≢◌, ◌<◌, ℕ, zero, suc, ◌+◌, pos, false, Some, refl, sym, subst, inl, arith, replicate, ◌∙◌}
+use Rattle.std.proofs.Common.{◌≡◌, ◌≢◌, ◌<◌, ℕ, zero, suc, ◌+◌, pos, false, [], ◌∷◌, Some, refl, sym, subst, inl, arith, replicate, ◌∙◌}
 use Rattle.std.specs.Prelude.{slice_get, FitsSigned, ◌^◌}
 use Rattle.std.specs.Int.{w64}
 use Rattle.std.proofs.lemmas.Option.{same_Some, none-some}
-use Rattle.fip_language.specs.Store.{PlacedInt, Bare, At, NoParts, MoreParts, word_of}
-use Rattle.code_runs.specs.Cells.{Store, IsStore, cell_at, one_if_true}
+use Rattle.fip_language.specs.Store.{PlacedInt, Bare, At, Parts, NoParts, MoreParts, word_of, uses_of_all, count}
+use Rattle.code_runs.specs.Cells.{Store, IsStore, cell_at, there, one_if_true, released_at}
+use Rattle.code_runs.specs.Steps.{Kinds}
+use Rattle.code_runs.specs.Apart.{IsGiven}
 use Rattle.code_runs.specs.Example.{reversing, at_start, types, cons, nil_shape, cons_shape}
 use Rattle.code_runs.specs.Runs.{Run, begun}
 use Rattle.task_schedules.specs.Schedules.{in_store}
-use Rattle.task_schedules.specs.Projected.{Renaming, IsThere, IsLikeCell, AreRenamed, IsRenamedTree, IsProjected, IsSameRun, Begun, AreApart, BeginTogether}
+use Rattle.sound_code.specs.Codes.{PlainFunction}
+use Rattle.sound_code.specs.Entry.{entry}
+use Rattle.sound_code.specs.Example.{reversal, function_of, rev_with, nil_taken, acc_given, cons_taken, cons_put, again, cons_known}
+use Rattle.kind_soundness.proofs.Agree.{one_apart}
+use Rattle.code_separation.specs.Codes.{run_function, run_code, AreKinds}
+use Rattle.code_separation.specs.Starts.{IsStart}
+use Rattle.code_separation.proofs.Sound.{formed, has_form}
+use Rattle.code_separation.proofs.Calling.{known_entry}
+use Rattle.code_separation.proofs.Examples.{reversal_starts}
+use Rattle.task_schedules.specs.Projected.{Renaming, IsThere, IsLikeCell, AreRenamed, IsRenamedTree, IsRenamedFrame, IsProjected, IsSameRun, Begun, AreApart, BeginTogether, AreLoaded}
 use Rattle.task_schedules.specs.Example.{cells_of, store_of, both, rev_at, two_tasks, first_task, second_task, tasks_alone}
 
 none_released : (n p : ℕ) → one_if_true (slice_get (replicate n false) p) ≡ 0
@@ -71,40 +82,50 @@ one_item f own p n w v a b fits h k = record {
 small : (n : ℕ) → n < 2 ^ 63 → FitsSigned w64 (pos n)
 small n h = record { sfits = h }
 
-first_projected : IsProjected at_start at_start reversing (λ p. p) first_task.state (rev_at 0 both 1 7 0)
-first_projected = record {
+-- the two tasks, where these are the kinds before the first instruction
+abbrev AtStart : Kinds → Type 0
+AtStart before = before 0 0 ≡ at_start 0 0
+
+first_running : IsRenamedFrame types (λ p. p) first_task.state.store both (at_start 0 0) first_task.state.running (rev_at 0 both 1 7 0).running
+first_running = record {
+  function = refl;
+  at = refl;
+  words = (one_item (λ p. p) (store_of (cells_of 1 0 3)) 0 1 1 1 refl refl (small 1 (omega arith)) refl refl, (one_item (λ p. p) (store_of (cells_of 1 0 3)) 3 3 7 7 refl refl (small 3 (omega arith)) refl refl, (inl refl, (inl refl, (inl refl, (inl refl, (inl refl, tt)))))));
+}
+
+first_projected : (before waits : Kinds) → AtStart before → IsProjected before waits reversing (λ p. p) first_task.state (rev_at 0 both 1 7 0)
+first_projected before waits e = record {
   cells = first_cells;
-  running = record {
-    function = refl;
-    at = refl;
-    words = (one_item (λ p. p) (store_of (cells_of 1 0 3)) 0 1 1 1 refl refl (small 1 (omega arith)) refl refl, (one_item (λ p. p) (store_of (cells_of 1 0 3)) 3 3 7 7 refl refl (small 3 (omega arith)) refl refl, (inl refl, (inl refl, (inl refl, (inl refl, (inl refl, tt)))))));
-  };
+  running = subst (λ ks. IsRenamedFrame types (λ p. p) first_task.state.store both ks first_task.state.running (rev_at 0 both 1 7 0).running) (sym e) first_running;
   waiting = tt;
   free = refl;
   lent = tt;
 }
 
-second_projected : IsProjected at_start at_start reversing (λ p. 6 + p) second_task.state (rev_at 0 both 13 19 0)
-second_projected = record {
+second_running : IsRenamedFrame types (λ p. 6 + p) second_task.state.store both (at_start 0 0) second_task.state.running (rev_at 0 both 13 19 0).running
+second_running = record {
+  function = refl;
+  at = refl;
+  words = (one_item (λ p. 6 + p) (store_of (cells_of 2 0 4)) 0 2 1 13 refl refl (small 2 (omega arith)) refl refl, (one_item (λ p. 6 + p) (store_of (cells_of 2 0 4)) 3 4 7 19 refl refl (small 4 (omega arith)) refl refl, (inl refl, (inl refl, (inl refl, (inl refl, (inl refl, tt)))))));
+}
+
+second_projected : (before waits : Kinds) → AtStart before → IsProjected before waits reversing (λ p. 6 + p) second_task.state (rev_at 0 both 13 19 0)
+second_projected before waits e = record {
   cells = second_cells;
-  running = record {
-    function = refl;
-    at = refl;
-    words = (one_item (λ p. 6 + p) (store_of (cells_of 2 0 4)) 0 2 1 13 refl refl (small 2 (omega arith)) refl refl, (one_item (λ p. 6 + p) (store_of (cells_of 2 0 4)) 3 4 7 19 refl refl (small 4 (omega arith)) refl refl, (inl refl, (inl refl, (inl refl, (inl refl, (inl refl, tt)))))));
-  };
+  running = subst (λ ks. IsRenamedFrame types (λ p. 6 + p) second_task.state.store both ks second_task.state.running (rev_at 0 both 13 19 0).running) (sym e) second_running;
   waiting = tt;
   free = refl;
   lent = tt;
 }
 
-same : (k : ℕ) (t : Begun) (r : Run) → slice_get tasks_alone k ≡ Some t → slice_get (two_tasks 2).runs k ≡ Some r → IsSameRun at_start at_start reversing t.function t.places (begun t.state t.calls) (in_store both r)
-same zero t r e f =
-    subst (λ (x : Begun). IsSameRun at_start at_start reversing x.function x.places (begun x.state x.calls) (in_store both r)) (same_Some first_task t e)
-    (subst (λ x. IsSameRun at_start at_start reversing 0 (λ p. p) (begun first_task.state 2) (in_store both x)) (same_Some _ r f) (first_projected, refl, refl))
-same (suc zero) t r e f =
-    subst (λ (x : Begun). IsSameRun at_start at_start reversing x.function x.places (begun x.state x.calls) (in_store both r)) (same_Some second_task t e)
-    (subst (λ x. IsSameRun at_start at_start reversing 0 (λ p. 6 + p) (begun second_task.state 2) (in_store both x)) (same_Some _ r f) (second_projected, refl, refl))
-same (suc (suc k)) t r e f = absurd (none-some t e)
+same : (before waits : Kinds) → AtStart before → (k : ℕ) (t : Begun) (r : Run) → slice_get tasks_alone k ≡ Some t → slice_get (two_tasks 2).runs k ≡ Some r → IsSameRun before waits reversing t.function t.places (begun t.state t.calls) (in_store both r)
+same before waits s zero t r e f =
+    subst (λ (x : Begun). IsSameRun before waits reversing x.function x.places (begun x.state x.calls) (in_store both r)) (same_Some first_task t e)
+    (subst (λ x. IsSameRun before waits reversing 0 (λ p. p) (begun first_task.state 2) (in_store both x)) (same_Some _ r f) (first_projected before waits s, refl, refl))
+same before waits s (suc zero) t r e f =
+    subst (λ (x : Begun). IsSameRun before waits reversing x.function x.places (begun x.state x.calls) (in_store both r)) (same_Some second_task t e)
+    (subst (λ x. IsSameRun before waits reversing 0 (λ p. 6 + p) (begun second_task.state 2) (in_store both x)) (same_Some _ r f) (second_projected before waits s, refl, refl))
+same before waits s (suc (suc k)) t r e f = absurd (none-some t e)
 
 apart_there : (p q : ℕ) → p < 6 → p ≢ 6 + q
 apart_there p q h e = absurd (omega (arith, h, e))
@@ -122,5 +143,72 @@ apart zero (suc (suc j)) p q a b e f n h k = absurd (none-some b f)
 apart (suc zero) (suc (suc j)) p q a b e f n h k = absurd (none-some b f)
 apart (suc (suc i)) j p q a b e f n h k = absurd (none-some a e)
 
+begin_by : (before waits : Kinds) → AtStart before → BeginTogether before waits reversing tasks_alone (two_tasks 2)
+begin_by before waits e = record { store = both_is_store; apart = apart; number = refl; same = same before waits e }
+
 pub begin : BeginTogether at_start at_start reversing tasks_alone (two_tasks 2)
-begin = record { store = both_is_store; apart = apart; number = refl; same = same }
+begin = begin_by at_start at_start refl
+
+-- ---- the code is sound
+
+abbrev rev : PlainFunction
+rev = function_of (2 ∷ []) (rev_with nil_taken acc_given cons_taken cons_put again) cons_known
+
+known : (before waits : Kinds) → AreKinds reversal before waits → AtStart before
+known before waits kinds = kinds.known 0 0 rev (entry reversal rev) refl (known_entry reversal rev (has_form reversal rev (formed reversal 0 rev (reversal_starts before waits kinds).sound refl)))
+
+pub begins : (before waits : Kinds) → AreKinds reversal before waits → BeginTogether before waits (run_code reversal) tasks_alone (two_tasks 2)
+begins before waits kinds = begin_by before waits (known before waits kinds)
+
+-- two lists of one item each
+abbrev lists : ℕ → ℕ → Parts
+lists item other = MoreParts (At 0 1 (MoreParts (PlacedInt (pos item)) (MoreParts (Bare 0) NoParts))) (MoreParts (At 3 1 (MoreParts (PlacedInt (pos other)) (MoreParts (Bare 0) NoParts))) NoParts)
+
+once : (item other q : ℕ) → uses_of_all q (lists item other) + (count q [] + (count q [] + released_at (store_of (cells_of item 0 other)) q)) ≡ there (store_of (cells_of item 0 other)) q
+once item other zero = refl
+once item other (suc zero) = refl
+once item other (suc (suc zero)) = refl
+once item other (suc (suc (suc zero))) = refl
+once item other (suc (suc (suc (suc zero)))) = refl
+once item other (suc (suc (suc (suc (suc zero))))) = refl
+once item other (suc (suc (suc (suc (suc (suc q)))))) =
+    let a = one_apart (suc (suc (suc (suc (suc (suc q)))))) 0 (λ e. absurd (let z : ⊥ = omega arith in z)) in
+    let b = one_apart (suc (suc (suc (suc (suc (suc q)))))) 3 (λ e. absurd (let z : ⊥ = omega arith in z)) in
+    let n = none_released 6 (suc (suc (suc (suc (suc (suc q)))))) in
+    omega arith
+
+task_is_store : (item other : ℕ) → IsStore (store_of (cells_of item 0 other))
+task_is_store item other = record {
+  sized = ((omega arith, omega arith), (tt, (tt, ((omega arith, omega arith), (tt, (tt, tt))))));
+  wide = refl;
+  of_cells = λ p. let e = none_released 6 p in omega (arith, e);
+}
+
+given : (item other : ℕ) → item < 2 ^ 63 → other < 2 ^ 63 → IsGiven types (run_function rev) (store_of (cells_of item 0 other)) [] (1 ∷ 7 ∷ [])
+given item other h k = record {
+  store = task_is_store item other;
+  arguments = lists item other;
+  spares = [];
+  words = refl;
+  stand = ((refl, tt, cons_shape, refl, (small item h, ((nil_shape, refl, refl), tt))), ((refl, tt, cons_shape, refl, (small other k, ((nil_shape, refl, refl), tt))), tt));
+  credits = tt;
+  once = once item other;
+}
+
+starts : (before waits : Kinds) → AreKinds reversal before waits → (item other : ℕ) → item < 2 ^ 63 → other < 2 ^ 63 → IsStart reversal before waits 0 [] (rev_at 0 (store_of (cells_of item 0 other)) 1 7 0)
+starts before waits kinds item other h k = let s = reversal_starts before waits kinds in record {
+  sound = s.sound;
+  literals = s.literals;
+  kinds = kinds;
+  function = rev;
+  is = refl;
+  words = 1 ∷ 7 ∷ [];
+  given = given item other h k;
+  free = 0;
+  loaded = refl;
+}
+
+pub loaded : (before waits : Kinds) → AreKinds reversal before waits → AreLoaded before waits reversal tasks_alone
+loaded before waits kinds zero t e = subst (λ (x : Begun). IsStart reversal before waits x.function [] x.state) (same_Some first_task t e) (starts before waits kinds 1 3 (omega arith) (omega arith))
+loaded before waits kinds (suc zero) t e = subst (λ (x : Begun). IsStart reversal before waits x.function [] x.state) (same_Some second_task t e) (starts before waits kinds 2 4 (omega arith) (omega arith))
+loaded before waits kinds (suc (suc k)) t e = absurd (none-some t e)

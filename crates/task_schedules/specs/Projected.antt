@@ -1,5 +1,5 @@
--- For the theorem on schedules, which it states and doesn't prove: after every schedule each task is, up to the places
--- of its cells, where it would be alone; and no turn of one task changes a cell of another.
+-- For the theorem on schedules: after every schedule each task is, up to the places of its cells, where it would be
+-- alone; and no turn of one task changes a cell of another.
 --
 -- The places of a task's own cells, in the store that it would have alone, are renamed to places of the shared store;
 -- the renaming keeps their order, and gives no place to two tasks. A word that stands for a scalar is the same, and one
@@ -15,11 +15,11 @@ use Rattle.cell_code.specs.declared.kind.Kind.{Kind}
 use Rattle.cell_code.specs.declared.kind.Kind.TheVariants as K
 use Rattle.code_runs.specs.Codes.{PlainCode, results_of}
 use Rattle.code_runs.specs.Words.{is_place, place_word}
-use Rattle.code_runs.specs.Cells.{Store, IsStore, size_of, cell_at, released_at}
+use Rattle.code_runs.specs.Cells.{Store, IsStore, size_of, cell_at, released_at, count_held}
 use Rattle.code_runs.specs.Trees.{IsTree}
-use Rattle.code_runs.specs.States.{Frame, Typed, State}
+use Rattle.code_runs.specs.States.{Frame, Typed, State, frames_held, words_held}
 use Rattle.code_runs.specs.Steps.{Kinds}
-use Rattle.code_runs.specs.Runs.{End, Value, Trap, Out, Deep, Run, Going, Over, begun}
+use Rattle.code_runs.specs.Runs.{End, Value, Trap, Out, Deep, Run, Going, Over, begun, state_of}
 use Rattle.sound_code.specs.Codes as S
 use Rattle.code_separation.specs.Codes.{run_code}
 use Rattle.code_separation.specs.Starts.{IsStart}
@@ -203,3 +203,19 @@ held_among_from k f shared p (Some c ∷ os) =
 -- how many of a task's own cells are of size k, and not released in the shared store
 abbrev pub held_among : ℕ → Renaming → Store → Store → ℕ
 held_among k f own shared = held_among_from k f shared 0 own.cells
+
+-- as much is seen of a task's state b among others as of its state a alone
+pub record IsSeenAs (f : Renaming) (shared : Store) (a b : State) : Type 0 where
+  pub held : (k : ℕ) → held_among k f a.store shared ≡ count_held k a.store
+  pub frames : frames_held b ≡ frames_held a
+  pub words : words_held b ≡ words_held a
+
+-- After every schedule as much is seen of each task as of it alone. So its gauge, which tells of all its states, is
+-- that of the task alone.
+abbrev pub EachIsSeenAsAlone : Kinds → Kinds → S.PlainCode → Type 0
+EachIsSeenAsAlone before waits code = (tasks : List Begun) (first : Shared) → AreLoaded before waits code tasks →
+    BeginTogether before waits (run_code code) tasks first →
+    (schedule : List ℕ) (k : ℕ) (t : Begun) (r : Run) → slice_get tasks k ≡ Some t →
+    slice_get (scheduled before (run_code code) schedule first).runs k ≡ Some r →
+    IsSeenAs t.places (scheduled before (run_code code) schedule first).store
+    (state_of (alone before (run_code code) k schedule (begun t.state t.calls))) (state_of r)

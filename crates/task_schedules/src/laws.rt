@@ -6,8 +6,12 @@ ghost use Rattle.code_runs.specs.States.{State, frames_held, words_held};
 ghost use Rattle.code_runs.specs.Steps.{Kinds};
 ghost use Rattle.code_runs.specs.Runs.{End, Value, Out, Run, Over, begun, state_of};
 ghost use Rattle.code_runs.specs.Example.{reversing, unknown, at_start};
+ghost use Rattle.sound_code.specs.Codes as S;
+ghost use Rattle.sound_code.specs.Example.{reversal};
+ghost use Rattle.code_separation.specs.Codes.{run_code, AreKinds};
 ghost use Rattle.task_schedules.specs.Draws.{drawn, numbers};
 ghost use Rattle.task_schedules.specs.Projected.{BeginTogether, Renaming, AreRenamed, IsProjected, held_among};
+ghost use Rattle.task_schedules.specs.Projected.{AreLoaded, EachIsAlone, EachKeepsItsCells, EachIsSeenAsAlone};
 ghost use Rattle.task_schedules.specs.Schedules.{Shared, turn, scheduled, alone, in_store};
 ghost use Rattle.task_schedules.specs.Example.{cells_of, store_of, both, both_done, rev_at, two_tasks, by_turns};
 ghost use Rattle.task_schedules.specs.Example.{second_first, tasks_alone};
@@ -68,11 +72,14 @@ pub fn an_example_of_draws()
     ensures none { drawn 1 3 0 ≡ [] }
 {}
 
-/// The two tasks of the examples begin together, each at places of its own. For who wants to see that what is asked of
-/// tasks can be met.
-#[tactic(auto, using(crate::proofs::Together::begin))]
+/// The two tasks of the examples begin together, each at places of its own; and by the kinds of their code, which is
+/// sound, each of them is loaded. For who wants to see that what is asked of tasks can be met.
 pub fn an_example_begins_together()
     ensures law { BeginTogether at_start at_start reversing tasks_alone (two_tasks 2) }
+    ensures together { (before waits : Kinds) → AreKinds reversal before waits →
+        BeginTogether before waits (run_code reversal) tasks_alone (two_tasks 2) }
+    ensures loaded { (before waits : Kinds) → AreKinds reversal before waits →
+        AreLoaded before waits reversal tasks_alone }
 {}
 
 /// Of a task among others as much is seen as of it alone: as many held cells of each size, as many frames and words. So
@@ -85,4 +92,13 @@ pub fn a_task_is_seen_as_alone()
         IsProjected before waits code f a b → frames_held b ≡ frames_held a }
     ensures words { (before waits : Kinds) (code : PlainCode) (f : Renaming) (a b : State) →
         IsProjected before waits code f a b → words_held b ≡ words_held a }
+{}
+
+/// Loaded tasks that begin together are each where they would be alone, after every schedule: the same frames, words,
+/// cells, calls and steps at the task's places, and the same end with the same results. No turn of one task changes a
+/// cell of another, and as much is seen of each as of it alone. For who gives turns to tasks that share a store.
+pub fn tasks_do_as_alone()
+    ensures alone { (before waits : Kinds) (code : S.PlainCode) → EachIsAlone before waits code }
+    ensures cells { (before waits : Kinds) (code : S.PlainCode) → EachKeepsItsCells before waits code }
+    ensures seen { (before waits : Kinds) (code : S.PlainCode) → EachIsSeenAsAlone before waits code }
 {}

@@ -177,6 +177,14 @@ seen_case t ms kinds ks known known2 qs a b e f f2 l h i j =
     ∙ ap (λ x. each_fits t ms ks qs && x) (j ∙ ap (λ z. tested_fits t z known2) e ∙ ap (λ z. tested_fits t ms z) f2)
     ∙ seen_fits t ms ks qs l h
 
+pub with_no : (a : Bool) → false ≡ (a && false)
+with_no true = refl
+with_no false = refl
+
+pub with_yes : (a : Bool) → a ≡ (a && true)
+with_yes true = refl
+with_yes false = refl
+
 -- a label map that was seen to fit
 
 pub keeps_seen : (ks : List Kind) (maps : List LabelMap) (lents : Lents) (links : Links)

@@ -9,6 +9,7 @@ pub mod LinkLists
 pub mod Sights
 pub mod Short
 pub mod Subsets
+pub mod Pieces
 pub mod Arriving
 pub mod Sparse
 pub mod AskedMaps

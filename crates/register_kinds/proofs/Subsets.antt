@@ -221,7 +221,7 @@ cut_beyond n (suc p) (x ∷ xs) a b =
 
 -- a rising list among another
 
-less_has : (own : List ℕ) (low : ℕ) (lacked : Option ℕ) (n : ℕ) (xs : List ℕ) → RiseFrom low own → n < low →
+pub less_has : (own : List ℕ) (low : ℕ) (lacked : Option ℕ) (n : ℕ) (xs : List ℕ) → RiseFrom low own → n < low →
     is_subset (less lacked own) (beyond n xs) ≡ is_subset (less lacked own) xs
 less_has [] low None n xs r h = refl
 less_has [] low (Some c) n xs r h = refl
@@ -325,7 +325,7 @@ same_or_above low x h = grind arith
 less_apart : (a b : ℕ) → a ≤ b → (a ≡ b → ⊥) → suc a ≤ b
 less_apart a b h n = elim (same_or_above a b h) [ inl e ↦ absurd (n e) | inr e ↦ (omega arith) ]
 
-own_first : (x : ℕ) (xs : List ℕ) → has (x ∷ xs) x ≡ true
+pub own_first : (x : ℕ) (xs : List ℕ) → has (x ∷ xs) x ≡ true
 own_first x xs = elim (eqb_tells x x) [ inl e ↦ rw e.0 refl | inr e ↦ absurd (e.1 refl) ]
 
 no_more : (xs : List ℕ) (x : ℕ) → length xs ≡ 0 → has xs x ≡ true → ⊥

@@ -1,5 +1,6 @@
 // Whether what is known fits a label map.
-ghost use Rattle.std.specs.Prelude.{◌≡◌, Some, length, slice_get};
+ghost use Rattle.std.specs.Prelude.{◌≡◌, ℕ, List, true, Some, length, slice_get};
+ghost use Rattle.cell_code.specs.declared.kind.Kind.{Kind as a_kind};
 ghost use Rattle.sound_code.specs.Changes.{tested, without};
 ghost use Rattle.sound_code.specs.Codes.{LabelMap};
 ghost use Rattle.sound_code.specs.Fitting.{fits, fit_all, takes_from};
@@ -66,10 +67,10 @@ impl<'a> Registers<'a> {
             Some(kinds) => match self.log.since(label) {
                 None => self.fits_anew(label, tested),
                 Some(changed) => {
-                    if !each_fits(&self.known, kinds, tested, changed) {
+                    if !tested_fits(&self.known, kinds, tested) {
                         return false;
                     }
-                    tested_fits(&self.known, kinds, tested)
+                    each_fits(&self.known, kinds, tested, changed, register_of(tested))
                 }
             },
         }
@@ -103,7 +104,7 @@ fn asked_fit(
     ensures is { length kinds.now ≡ length (kinds_of known.now) → busy ≡ busy_in (kinds_of known.now) →
         IsAsked kinds.now asked.now → result ≡ fit_all kinds.now (arrive tested 0 (kinds_of known.now)) }
 {
-    busy == asked.busy && each_fits(known, kinds, tested, asked.places.as_slice())
+    busy == asked.busy && each_fits(known, kinds, tested, asked.places.as_slice(), None)
 }
 
 // Whether all registers fit.
@@ -128,18 +129,50 @@ fn all_fit(known: &[Known], kinds: &[Kind], tested: Option<Tested>) -> bool
     known.get(place).is_none()
 }
 
-// Whether these registers fit.
-fn each_fits(known: &[Known], kinds: &[Kind], tested: Option<Tested>, changed: &[u16]) -> bool
+// Whether these registers fit, where one is already known to fit. One that stands several times on end is looked at once.
+fn each_fits(
+    known: &[Known],
+    kinds: &[Kind],
+    tested: Option<Tested>,
+    changed: &[u16],
+    fitting: Option<u16>,
+) -> bool
     requires known_rise { KindsRise (kinds_of known.now) }
     requires kinds_rise { KindsRise kinds.now }
+    requires fitting { (r : ℕ) → fitting ≡ Some r → fits_at tested kinds.now (kinds_of known.now) r ≡ true }
     ensures is { result ≡ each_fits tested kinds.now (kinds_of known.now) changed.now }
 {
+    let mut last = fitting;
     for register in changed {
-        if !fits_at(known, kinds, tested, *register) {
-            return false;
+        if !is_same(last, *register) {
+            if !fits_at(known, kinds, tested, *register) {
+                return false;
+            }
+            last = Some(*register);
         }
     }
     true
+}
+
+// The register that was tested.
+fn register_of(tested: Option<Tested>) -> Option<u16>
+    ensures fits { (ms ks : List a_kind) (r : ℕ) → tested_fits tested ms ks ≡ true → result ≡ Some r →
+        fits_at tested ms ks r ≡ true }
+{
+    match tested {
+        None => None,
+        Some(test) => Some(test.register),
+    }
+}
+
+// Whether a register is one that is there.
+fn is_same(last: Option<u16>, register: u16) -> bool
+    ensures yes { result ≡ true → last ≡ Some register }
+{
+    match last {
+        None => false,
+        Some(last) => last == register,
+    }
 }
 
 // Whether the register fits that was tested.

@@ -1,6 +1,7 @@
 // Sets of constructors of one type. None of them takes memory of its own: that of all constructors is a word, and a
 // longer one is that of a label.
 ghost use Rattle.std.specs.Prelude.{◌≡◌, ◌+◌, ◌<◌, ◌≤◌, ℕ, suc, true, false, List, [], ◌∷◌, None, IfSome};
+ghost use Rattle.std.specs.Prelude.{drop, get_or, length, take};
 ghost use Rattle.sound_code.specs.Changes.{without};
 ghost use Rattle.sound_code.specs.Fitting.{is_subset};
 ghost use Rattle.sound_code.specs.Kinds.{has};
@@ -10,6 +11,9 @@ ghost use Rattle.register_kinds.specs.Views.{constructors_in};
 
 // A list of no more is looked at one by one.
 const FEW: usize = 8;
+
+// So many numbers of a list are compared at once.
+const PIECE: usize = 256;
 
 /// The constructors that a value may have.
 #[derive(Clone, Copy, Debug)]
@@ -234,20 +238,92 @@ fn has_all(numbers: &[u32], low: u32, high: u32) -> bool
     begin(low as usize + 1, (high - low) as usize, above(numbers, low))
 }
 
-// Whether all of these, but `lacked`, are among others; both lists rise.
+// Whether all of these, but `lacked`, are among others; both lists rise. They are looked at piece by piece.
 fn are_among(own: &[u32], lacked: Option<u32>, others: &[u32]) -> bool
     requires own_rise { Rise own.now }
     requires others_rise { Rise others.now }
     ensures is { result ≡ is_subset (less lacked own.now) others.now }
 {
+    let mut start = 0usize;
     let mut rest = others;
-    for constructor in own {
-        match after(rest, lacked, *constructor) {
+    while start < own.len() {
+        let end = start + PIECE.min(own.len() - start);
+        match after_piece(rest, lacked, own, start, end) {
             Some(next) => rest = next,
             None => return false,
         }
+        start = end;
     }
     true
+}
+
+// Where the numbers of a piece of a list, but `lacked`, are among others, those among which the numbers behind the piece
+// can be looked for. Where others begin with the same numbers as the piece, that is seen at once.
+fn after_piece<'b>(
+    others: &'b [u32],
+    lacked: Option<u32>,
+    own: &[u32],
+    start: usize,
+    end: usize,
+) -> Option<&'b [u32]>
+    requires within { start ≤ end }
+    requires there { end ≤ length own.now }
+    requires own_rise { Rise (drop start own.now) }
+    requires others_rise { Rise others.now }
+    ensures rise { IfSome result (λ r. Rise r.now) }
+    ensures found { IfSome result (λ r. is_subset (less lacked (drop end own.now)) r.now
+        ≡ is_subset (less lacked (drop start own.now)) others.now) }
+    ensures none { result ≡ None → is_subset (less lacked (drop start own.now)) others.now ≡ false }
+{
+    if begin_with(others, &own[start..end]) {
+        return Some(&others[end - start..]);
+    }
+    after_each(others, lacked, own, start, end)
+}
+
+// The same number by number.
+fn after_each<'b>(
+    others: &'b [u32],
+    lacked: Option<u32>,
+    own: &[u32],
+    start: usize,
+    end: usize,
+) -> Option<&'b [u32]>
+    requires within { start ≤ end }
+    requires there { end ≤ length own.now }
+    requires own_rise { Rise (drop start own.now) }
+    requires others_rise { Rise others.now }
+    ensures rise { IfSome result (λ r. Rise r.now) }
+    ensures found { IfSome result (λ r. is_subset (less lacked (drop end own.now)) r.now
+        ≡ is_subset (less lacked (drop start own.now)) others.now) }
+    ensures none { result ≡ None → is_subset (less lacked (drop start own.now)) others.now ≡ false }
+{
+    let mut rest = others;
+    let mut place = start;
+    while place < end {
+        match after(rest, lacked, own[place]) {
+            Some(next) => rest = next,
+            None => return None,
+        }
+        place += 1;
+    }
+    Some(rest)
+}
+
+// Whether numbers begin with others. All are looked at in any case, which is quick.
+fn begin_with(numbers: &[u32], others: &[u32]) -> bool
+    ensures yes { result ≡ true → take (length others.now) numbers.now ≡ others.now }
+{
+    if numbers.len() < others.len() {
+        return false;
+    }
+    let mut same = true;
+    for place in 0..others.len() {
+        if numbers[place] != others[place] {
+            same = false;
+        }
+    }
+    same
 }
 
 // Where a number, if it isn't `lacked`, is among others, those among which greater ones can be looked for.
@@ -296,15 +372,30 @@ fn behind(numbers: &[u32], number: u32) -> Option<&[u32]>
     }
 }
 
-// The same by a search.
+// The same by a search, among the first of the numbers where these suffice.
 fn search(numbers: &[u32], number: u32) -> Option<&[u32]>
     requires rise { Rise numbers.now }
     ensures found { IfSome result (λ r. (has numbers.now number ≡ true) × (r.now ≡ beyond number numbers.now)) }
     ensures none { result ≡ None → has numbers.now number ≡ false }
 {
-    if is_listed(numbers, number) {
-        Some(above(numbers, number))
-    } else {
-        None
+    match numbers[..enough(numbers, number)].binary_search(&number) {
+        Ok(place) => Some(&numbers[place + 1..]),
+        Err(_) => None,
     }
+}
+
+// Among how many of rising numbers one has to be looked for: all behind these are greater. It is at most twice the place
+// where it stands, but for one.
+fn enough(numbers: &[u32], number: u32) -> usize
+    ensures within { result ≤ length numbers.now }
+    ensures greater { result < length numbers.now → number < get_or numbers.now result 0 }
+{
+    let mut end = 1usize;
+    while end < numbers.len() {
+        if number < numbers[end] {
+            return end;
+        }
+        end += end;
+    }
+    numbers.len()
 }

@@ -1,11 +1,13 @@
-use Rattle.std.proofs.Common.{◌≡◌, drop}
+use Rattle.std.proofs.Common.{◌≡◌, ◌-◌, drop, length}
 use Rattle.sound_code.specs.Fitting.{is_subset}
 use Rattle.register_kinds.specs.Rising.{Rise, less}
 use Rattle.register_kinds.proofs.set.are_among.Given as goal
 
-abbrev pub invariant-loop-constructor : goal.invariant-loop-constructor
-invariant-loop-constructor l = record {
-  own : Rise (drop l.constructor-index l.own);
+abbrev pub invariant-loop-start : goal.invariant-loop-start
+invariant-loop-start l = record {
   rest : Rise l.rest;
-  same : is_subset (less l.lacked (drop l.constructor-index l.own)) l.rest ≡ is_subset (less l.lacked l.own) l.others;
+  same : is_subset (less l.lacked (drop l.start l.own)) l.rest ≡ is_subset (less l.lacked l.own) l.others;
 }
+
+abbrev pub decreases-loop-start : goal.decreases-loop-start
+decreases-loop-start l = length l.own - l.start

@@ -15,6 +15,3 @@ pub use access::Cells;
 pub use loader::{CellError, Loader, seal};
 pub use rows::{RowLoader, RowSealed, seal_rows};
 pub use sealed::Sealed;
-
-#[cfg(test)]
-mod tests;

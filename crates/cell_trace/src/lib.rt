@@ -6,7 +6,6 @@ mod read;
 mod reader;
 mod recorder;
 mod replay;
-mod tests;
 mod trace;
 mod write;
 

@@ -372,24 +372,3 @@ pub fn lex<'a>(alloc: Global, source: &'a [u8]) -> Result<Tokens<'a>, LexError>
     }
     Ok(Tokens { tokens, end: place })
 }
-
-#[cfg(test)]
-mod tests {
-    use super::*;
-    use std::test::Fail;
-
-    #[test]
-    fn a_source_is_cut_into_four_tokens(rt: HostRuntime) -> Result<(), Fail> {
-        let cut = lex(rt.alloc(), b"match! x1 // y\n<=12")?;
-        assert_eq!(rt; cut.tokens.len(), 4);
-        assert_eq!(rt;
-            cut.end,
-            Place {
-                line: 2,
-                col: 5,
-                at: 19
-            }
-        );
-        Ok(())
-    }
-}

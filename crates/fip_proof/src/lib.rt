@@ -22,8 +22,6 @@
 mod error;
 mod files;
 mod make;
-#[cfg(test)]
-mod tests;
 
 pub use derivation_trees::{Credit, Derivation, Line, Node, RuleName};
 pub use error::AuditError;

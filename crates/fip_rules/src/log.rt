@@ -196,33 +196,3 @@ fn put_place(table: &mut Vec<Option<usize>>, number: usize, place: Option<usize>
         table[number] = place;
     }
 }
-
-#[cfg(test)]
-mod tests {
-    use super::*;
-    use std::test::Fail;
-
-    #[test]
-    fn what_leaves_uncovers_what_stood_before(rt: HostRuntime) -> Result<(), Fail> {
-        let alloc = rt.alloc();
-        let mut log = Log::new(alloc);
-        log.extend(&[4, 7, 4, 9])?;
-        let rows = [(4, 2, true), (7, 1, false), (9, 3, true)];
-        for (number, place, is_late) in rows {
-            assert_eq!(rt; log.last_place(number), Some(place));
-            assert_eq!(rt; log.has_since(2, number), is_late);
-        }
-        assert_eq!(rt;
-            log.distinct_since(alloc, 0)?.as_slice(),
-            [7, 4, 9].as_slice()
-        );
-        log.leave(2);
-        assert_eq!(rt; log.last_place(4), Some(0));
-        assert_eq!(rt; log.has(9), false);
-        assert_eq!(rt;
-            log.common_since(alloc, 1, &[4, 7, 9])?.as_slice(),
-            [7].as_slice()
-        );
-        Ok(())
-    }
-}

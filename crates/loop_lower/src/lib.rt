@@ -10,8 +10,6 @@ ghost use Rattle.loop_lower.specs.Correct.{Behaves, IsShort};
 ghost use Rattle.loop_lower.specs.Lower.{lowered, owned, ops, instructions};
 
 mod emit;
-#[cfg(test)]
-mod tests;
 
 use crate::emit::emit_clauses;
 use fip_base::plain::{FunKind, NoMemory, Param, Params, Types};

@@ -8,6 +8,3 @@ mod scan;
 
 pub use load::{LoadError, load_values};
 pub use print::print_value;
-
-#[cfg(test)]
-mod tests;

@@ -12,6 +12,3 @@ mod variables;
 
 pub use evaluate::{PlainEnded, eval, print_rows};
 pub use plain_rows::Rows;
-
-#[cfg(test)]
-mod tests;

@@ -10,6 +10,3 @@ mod store;
 pub use load::Rows;
 pub use print::print_values;
 pub use store::{Store, Value};
-
-#[cfg(test)]
-mod tests;

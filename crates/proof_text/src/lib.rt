@@ -16,8 +16,6 @@ mod read;
 mod reader;
 mod rules;
 mod spot;
-#[cfg(test)]
-mod tests;
 mod text;
 mod write;
 

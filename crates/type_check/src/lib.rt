@@ -14,8 +14,6 @@ mod patterns;
 mod results;
 mod scope;
 mod tables;
-#[cfg(test)]
-mod tests;
 mod walk;
 
 pub use check::check_types;

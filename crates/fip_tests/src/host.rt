@@ -1,0 +1,13 @@
+// A host in memory, over which the whole program runs: what it hands in, what it finds afterwards, and tables of runs
+// with what each must end with.
+
+mod faults;
+mod memory;
+pub mod programs;
+mod rows;
+mod texts;
+
+pub use faults::{FaultRow, first_wrong_faults, untold_runs};
+pub use memory::{Host, Seen, host_of, run};
+pub use rows::{Row, first_understood, first_wrong_code, first_wrong_refusal, first_wrong_run};
+pub use texts::{bytes_of, numbered, repeated};

@@ -62,8 +62,10 @@ fn write_words(words: &mut Vec<u64>, start: usize, new: &[u64])
     }
 }
 
-// Puts the words of a cell behind the others.
-fn push_all(words: &mut Vec<u64>, header: u64, fields: &[u64]) -> Result<(), AllocError>
+// Puts the words of a cell behind the others, which may have to grow.
+#[cold]
+#[inline(never)]
+fn push_growing(words: &mut Vec<u64>, header: u64, fields: &[u64]) -> Result<(), AllocError>
     requires { length fields.now ≤ MOST_FIELDS }
     ensures items { OnOk result (words.new.items ≡ words.old.items ++ header ∷ fields.now) }
     ensures same { OnErr result (words.new.items ≡ words.old.items) }
@@ -74,20 +76,50 @@ fn push_all(words: &mut Vec<u64>, header: u64, fields: &[u64]) -> Result<(), All
     Ok(())
 }
 
-// The same; the usual sizes are told apart, so that their words are moved at once.
+// Puts words behind the others, for which there is room.
+#[inline(always)]
+fn put_within(words: &mut Vec<u64>, new: &[u64])
+    requires { vec_len words.old + length new.now ≤ vec_capacity words.old }
+    ensures items { words.new.items ≡ words.old.items ++ new.now }
+    ensures more { vec_len words.new ≡ vec_len words.old + length new.now }
+    ensures room { vec_capacity words.new ≡ vec_capacity words.old }
+{
+    for word in new {
+        words.push_reserved(*word);
+    }
+}
+
+// Puts the words of a cell behind the others, for which there is room. The usual sizes are told apart, so that their
+// words are moved at once.
+#[inline(always)]
+fn put_words(words: &mut Vec<u64>, header: u64, fields: &[u64])
+    requires { vec_len words.old + length fields.now < vec_capacity words.old }
+    ensures { words.new.items ≡ words.old.items ++ header ∷ fields.now }
+{
+    match fields {
+        [a] => put_within(words, &[header, *a]),
+        [a, b] => put_within(words, &[header, *a, *b]),
+        [a, b, c] => put_within(words, &[header, *a, *b, *c]),
+        [a, b, c, d] => put_within(words, &[header, *a, *b, *c, *d]),
+        _ => {
+            put_within(words, &[header]);
+            put_within(words, fields);
+        }
+    }
+}
+
+// Puts the words of a cell behind the others.
 #[inline(always)]
 fn push_words(words: &mut Vec<u64>, header: u64, fields: &[u64]) -> Result<(), AllocError>
     requires { length fields.now ≤ MOST_FIELDS }
     ensures items { OnOk result (words.new.items ≡ words.old.items ++ header ∷ fields.now) }
     ensures same { OnErr result (words.new.items ≡ words.old.items) }
 {
-    match fields {
-        [a] => words.extend_from_slice(&[header, *a]),
-        [a, b] => words.extend_from_slice(&[header, *a, *b]),
-        [a, b, c] => words.extend_from_slice(&[header, *a, *b, *c]),
-        [a, b, c, d] => words.extend_from_slice(&[header, *a, *b, *c, *d]),
-        _ => push_all(words, header, fields),
+    if fields.len() >= words.capacity() - words.len() {
+        return push_growing(words, header, fields);
     }
+    put_words(words, header, fields);
+    Ok(())
 }
 
 // Whether the memory that a further cell needs beside its words is there.
@@ -390,6 +422,7 @@ impl Flat {
     }
 
     // Gives a released cell of the size this constructor and these words. `None` where there is no such cell.
+    #[inline(always)]
     fn retake(&mut self, tag: u32, fields: &[u64]) -> Option<u32>
         requires few { length fields.now ≤ MOST_FIELDS }
         ensures none { IfNone result ((count_free (length fields.now) self.old.cells self.old.released ≡ 0)
@@ -413,6 +446,7 @@ impl Flat {
     }
 
     // Makes a cell behind the others.
+    #[inline(always)]
     fn append(&mut self, tag: u32, fields: &[u64]) -> Result<u32, CellError>
         requires some { 0 < length fields.now }
         requires few { length fields.now ≤ MOST_FIELDS }
@@ -438,15 +472,16 @@ impl Flat {
             self.counts[size] + 1,
         )?;
         push_words(&mut self.words, 64 * tag as u64 + 2 * size as u64, fields)?;
+        self.made += 1;
         mark(&mut self.marks, place);
         self.counts[size] += 1;
-        self.made += 1;
         self.left -= size + 1;
         Ok(place as u32)
     }
 
     /// Makes a cell of 1 to 16 fields and answers its place: a released cell of that size, or else one behind the
     /// others.
+    #[inline(always)]
     pub fn cell(&mut self, tag: u32, fields: &[u64]) -> Result<u32, CellError>
         requires some { 0 < length fields.now }
         requires few { length fields.now ≤ MOST_FIELDS }

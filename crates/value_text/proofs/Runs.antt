@@ -1,5 +1,5 @@
 -- The machine at a place of the bytes: how it goes on, and where it stops.
-use Rattle.std.proofs.Common.{◌≡◌, ℕ, zero, suc, ◌+◌, ◌-◌, ◌*◌, ◌<◌, ◌≤◌, List, [], ◌∷◌, length, take, drop, get_or, Some, None, Bool, true, false, ◌≢◌, length-drop, refl, sym, ap, ap₂, ◌∙◌, subst, arith}
+use Rattle.std.proofs.Common.{◌≡◌, ℕ, zero, suc, ◌+◌, ◌-◌, ◌*◌, ◌^◌, ◌<◌, ◌≤◌, List, [], ◌∷◌, length, take, drop, get_or, Some, None, Bool, true, false, ◌≢◌, length-drop, lit≤, refl, sym, ap, ap₂, ◌∙◌, subst, arith}
 use Rattle.std.specs.Prelude.{nat_le, ◌==◌, ◌||◌, ◌&&◌, if◌then◌else◌, ℤ, Result, Ok, Err, MatchResult}
 use Rattle.std.proofs.lemmas.Bool.{eqb-true, le-leb, leb-true, and_parts}
 use Rattle.std.proofs.lemmas.Bool.Decides.{nat_tests}
@@ -8,6 +8,7 @@ use Rattle.std.specs.Int.{w64}
 use Rattle.std.proofs.Common.{to_z, of_z}
 use Rattle.std.proofs.lemmas.Int.{to_z-of_z}
 use Rattle.std.proofs.lemmas.List.{drop_more, get_or-drop}
+use Rattle.std.proofs.Math.Nat.{pow-suc, pow-le-pow_right}
 use Rattle.std.proofs.Math.Seq.{drop-length}
 use Rattle.fip_language.specs.Prefix.{run, Accepted, Stopped, or_stop, end_outcome}
 use Rattle.fip_language.specs.Values.{Value, Int, Values}
@@ -189,10 +190,23 @@ before_end tb false around = refl
 pub first_short : (tb : Table) (bytes : List ℕ) (neg : Bool) (around : Around) (i : ℕ) → i ≡ length bytes → runs tb bytes (before_digits neg around) i ≡ Stopped i
 first_short tb bytes neg around i e = ends_short tb bytes (before_digits neg around) i e (before_end tb neg around)
 
+-- so few digits stay far below the bound
+digits_below : (n k m : ℕ) → n < 10 ^ k → k ≤ m → n < 10 ^ m
+digits_below n k m a b = let p : 10 ^ k ≤ 10 ^ m = pow-le-pow_right (lit≤ tt) b in omega (arith, a, p)
+
+pub digit_room : (n k : ℕ) → n < 10 ^ k → k ≤ 17 → n < 922337203685477580
+digit_room n k a b = let p : n < 100000000000000000 = digits_below n k 17 a b in omega (arith, p)
+
+pub digit_more : (n d k : ℕ) → n < 10 ^ k → d ≤ 9 → 10 * n + d < 10 ^ suc k
+digit_more n d k a b = let p : 10 ^ suc k ≡ 10 ^ k * 10 = pow-suc 10 k in omega (arith, a, b, p)
+
 -- an int without a sign has one number less
 pub within_bound : (neg : Bool) (m : ℕ) → m ≤ bound false → m ≤ bound neg
 within_bound false m l = l
 within_bound true m l = omega (arith, l)
+
+pub digits_bound : (neg : Bool) (n k : ℕ) → n < 10 ^ k → k ≤ 18 → n ≤ bound neg
+digits_bound neg n k a b = within_bound neg n (let p : n < 1000000000000000000 = digits_below n k 18 a b in omega (arith, p))
 
 pub digit_goes : (tb : Table) (bytes : List ℕ) (neg : Bool) (n : ℕ) (around : Around) (i : ℕ) → i < length bytes → is_digit (get_or bytes i 0) ≡ true → 10 * n + digit_at bytes i ≤ bound neg → runs tb bytes (Number neg n around) i ≡ runs tb bytes (Number neg (10 * n + digit_at bytes i) around) (i + 1)
 digit_goes tb bytes neg n around i lt e le =

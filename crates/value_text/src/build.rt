@@ -45,19 +45,17 @@ fn int_bits(i: i64) -> u64
 
 // The word of a new cell, twice its place and 1, is put behind the others.
 #[inline(always)]
-fn push_cell(tag: u32, fields: &[u64], loader: &mut Loader) -> Result<u64, Stopped>
+fn push_cell(tag: u32, fields: &[u64], loader: &mut Loader) -> Result<u64, CellError>
     requires some { 0 < length fields.now }
     requires few { length fields.now ≤ MOST_FIELDS }
     ensures made { IfOk result (λ w. (p : ℕ) × (w ≡ 2 * p + 1)
         × IsMade loader.old loader.new p (record { tag = tag; fields = fields.now })) }
-    ensures full { result ≡ Err Stopped.Full → (free_in loader.old (length fields.now) ≡ 0)
+    ensures full { result ≡ Err CellError.Full → (free_in loader.old (length fields.now) ≡ 0)
         × (loader.old.left < length fields.now + 1) }
-    ensures value { (k : ℕ) → result ≡ Err (Stopped.BadValue k) → ⊥ }
 {
     match loader.cell(tag, fields) {
         Ok(place) => Ok(2 * place as u64 + 1),
-        Err(CellError::Full) => Err(Stopped::Full),
-        Err(CellError::NoMemory) => Err(Stopped::NoMemory),
+        Err(e) => Err(e),
     }
 }
 
@@ -75,7 +73,8 @@ fn close(tag: u32, size: usize, loader: &mut Loader, words: &mut Vec<u64>) -> Re
             words.truncate(start);
             push_word(words, word)
         }
-        Err(e) => Err(e),
+        Err(CellError::Full) => Err(Stopped::Full),
+        Err(CellError::NoMemory) => Err(Stopped::NoMemory),
     }
 }
 
@@ -334,7 +333,8 @@ fn add_credit(size: u8, loader: &mut Loader, words: &mut Vec<u64>) -> Result<(),
     }
     match push_cell(0, &zeros[..k], loader) {
         Ok(word) => push_word(words, word),
-        Err(e) => Err(e),
+        Err(CellError::Full) => Err(Stopped::Full),
+        Err(CellError::NoMemory) => Err(Stopped::NoMemory),
     }
 }
 

@@ -232,21 +232,21 @@ fn load_counting(
 // and so two for each ( and one for each comma.
 fn words_of_text(bytes: &[u8]) -> usize {
     let mut words = 0usize;
-    for chunk in bytes.chunks(64) {
-        words = words.wrapping_add(words_of_chunk(chunk) as usize);
+    for chunk in bytes.chunks(224) {
+        words = words.wrapping_add(words_of_chunk(chunk));
     }
     words
 }
 
-// The same of so few bytes that a byte holds it.
-fn words_of_chunk(chunk: &[u8]) -> u8 {
-    let mut words = 0u8;
+// The same of so few bytes that a byte counts either.
+fn words_of_chunk(chunk: &[u8]) -> usize {
+    let mut opened = 0u8;
+    let mut commas = 0u8;
     for b in chunk {
-        let opened = if *b == b'(' { 2 } else { 0 };
-        let comma = if *b == b',' { 1 } else { 0 };
-        words = words.wrapping_add(opened).wrapping_add(comma);
+        opened = opened.wrapping_add(if *b == b'(' { 1 } else { 0 });
+        commas = commas.wrapping_add(if *b == b',' { 1 } else { 0 });
     }
-    words
+    2 * opened as usize + commas as usize
 }
 
 // Read once, into a loader of its own.

@@ -1,6 +1,6 @@
 // A text of values, read in steps: a leaf, an opened or closed constructor, a comma or an end of a line each.
 // Open constructors are a list, so that nesting costs no stack.
-ghost use Rattle.std.specs.Prelude.{◌≡◌, ℕ, suc, ◌+◌, ◌<◌, ◌≤◌, length, drop, List, [], ◌∷◌, Some, None, IfOk};
+ghost use Rattle.std.specs.Prelude.{◌≡◌, ℕ, suc, ◌+◌, ◌<◌, ◌≤◌, ◌^◌, length, drop, List, [], ◌∷◌, Some, None, IfOk};
 ghost use Rattle.std.specs.Prelude.{OnOk, MatchOption, MatchResult, slice_get, FitsSigned, vec_len};
 ghost use Rattle.std.specs.Int.{w64};
 ghost use Rattle.fip_language.specs.declared.limits.TheConstants.{MOST_FIELDS};
@@ -103,12 +103,13 @@ fn push_frame<'a>(cursor: &mut Cursor<'a>, frame: Frame<'a>) -> Result<(), Alloc
 
 // The constructor of this number.
 #[inline(always)]
-fn constructor_of<'a>(table: &'a TypeTable, ty: u32, tag: u32) -> &'a Constructor
+fn constructor_of<'a>(table: &'a TypeTable, ty: u32, tag: usize) -> &'a Constructor
     requires of_table { ty ≤ length table.now }
     requires there { (s : Shape) × (slice_get (constructors table.now ty) tag ≡ Some s) }
-    ensures { slice_get (constructors table.now ty) tag ≡ Some result.now }
+    ensures there { slice_get (constructors table.now ty) tag ≡ Some result.now }
+    ensures few { tag < 2 ^ 32 }
 {
-    &table.constructors_of(ty)[tag as usize]
+    &table.constructors_of(ty)[tag]
 }
 
 // The type of a field, where the constructor has so many.
@@ -184,10 +185,11 @@ pub fn read_node<'a>(
         None => {
             cursor.at = behind;
             cursor.next = None;
-            Ok(Some(tag))
+            Ok(Some(tag as u32))
         }
         Some(k) => match scan::sign(bytes, behind, b'(') {
             Ok(at) => {
+                let tag = tag as u32;
                 let begun = 1;
                 push_frame(
                     cursor,

@@ -28,6 +28,18 @@ fn push_growing<T: Copy>(item: T, items: &mut Vec<T>) -> Result<(), AllocError>
     Ok(())
 }
 
+// The same, the vector at a place of its own meanwhile.
+#[inline(always)]
+fn push_last<T: Copy>(item: T, items: &mut Vec<T>) -> Result<(), AllocError>
+    ensures items { OnOk result (items.new.items ≡ items.old.items ++ item ∷ []) }
+    ensures more { OnOk result (vec_len items.new ≡ vec_len items.old + 1) }
+{
+    let mut full = move_out(items);
+    let pushed = push_growing(item, &mut full);
+    let _ = replace(items, full);
+    pushed
+}
+
 /// Puts an element behind the others. An error where memory is wanting.
 #[inline(always)]
 pub fn push<T: Copy>(item: T, items: &mut Vec<T>) -> Result<(), AllocError>
@@ -38,10 +50,7 @@ pub fn push<T: Copy>(item: T, items: &mut Vec<T>) -> Result<(), AllocError>
         items.push_reserved(item);
         return Ok(());
     }
-    let mut full = move_out(items);
-    let pushed = push_growing(item, &mut full);
-    let _ = replace(items, full);
-    pushed
+    push_last(item, items)
 }
 
 // Gives half of the memory of many elements back, where three quarters of it are free.

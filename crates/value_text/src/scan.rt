@@ -48,9 +48,31 @@ fn name_byte(b: u8) -> bool
     digit(b) || 65 <= b && b <= 90 || 97 <= b && b <= 122 || b == b'_'
 }
 
-// The place behind the blanks.
+// The place behind the blanks; most often there is none, or one space.
 #[inline(always)]
 fn skip_blanks(bytes: &[u8], at: usize) -> usize
+    requires { at ≤ length bytes.now }
+    ensures from { at ≤ result }
+    ensures within { result ≤ length bytes.now }
+    ensures skips { (tb : Table) (s : State) → act tb s Blank ≡ Some s →
+        runs tb bytes.now s at ≡ runs tb bytes.now s result }
+    ensures behind { result < length bytes.now → is_blank (slice_index_or bytes.now result 0) ≡ false }
+{
+    if at < bytes.len() {
+        if bytes[at] > b' ' {
+            return at;
+        }
+        if bytes[at] == b' ' && at + 1 < bytes.len() && bytes[at + 1] > b' ' {
+            return at + 1;
+        }
+    }
+    skip_all_blanks(bytes, at)
+}
+
+// The same, one by one.
+#[cold]
+#[inline(never)]
+fn skip_all_blanks(bytes: &[u8], at: usize) -> usize
     requires { at ≤ length bytes.now }
     ensures from { at ≤ result }
     ensures within { result ≤ length bytes.now }
@@ -81,7 +103,7 @@ pub fn sign(bytes: &[u8], at: usize, byte: u8) -> Result<usize, usize>
             return Ok(at + 1);
         }
     }
-    let i = skip_blanks(bytes, at);
+    let i = skip_all_blanks(bytes, at);
     if i >= bytes.len() {
         return Err(i);
     }
@@ -117,31 +139,44 @@ fn int_from(negative: bool, n: u64) -> i64
     }
 }
 
+// So many digits never leave the range of an int.
+const SAFE_DIGITS: usize = 18;
+
+// The number of a digit; none of another byte.
+#[inline(always)]
+fn figure(byte: u8) -> Option<u64>
+    ensures { MatchOption result (is_digit byte ≡ false)
+        (λ d. (is_digit byte ≡ true) × (d ≡ byte - 48) × (d ≤ 9)) }
+{
+    let d = (byte as u64).wrapping_sub(48);
+    if d <= 9 { Some(d) } else { None }
+}
+
 // The number with one digit more, which no digit takes out of the range of an int.
 #[inline(always)]
-fn with_digit(n: u64, byte: u8) -> u64
+fn with_digit(n: u64, d: u64) -> u64
     requires small { n < 922337203685477580 }
-    requires digit { is_digit byte ≡ true }
-    ensures number { result ≡ 10 * n + (byte - 48) }
+    requires digit { d ≤ 9 }
+    ensures number { result ≡ 10 * n + d }
     ensures range { result ≤ bound false }
 {
-    10 * n + (byte as u64 - 48)
+    10 * n + d
 }
 
 // The number with one digit more, unless it leaves the range of an int.
 #[inline(never)]
-fn with_last_digit(negative: bool, n: u64, byte: u8) -> Option<u64>
+fn with_last_digit(negative: bool, n: u64, d: u64) -> Option<u64>
     requires range { n ≤ bound negative }
-    requires digit { is_digit byte ≡ true }
-    ensures { MatchOption result (nat_le (10 * n + (byte - 48)) (bound negative) ≡ false)
-        (λ m. (m ≡ 10 * n + (byte - 48)) × (m ≤ bound negative)) }
+    requires digit { d ≤ 9 }
+    ensures { MatchOption result (nat_le (10 * n + d) (bound negative) ≡ false)
+        (λ m. (m ≡ 10 * n + d) × (m ≤ bound negative)) }
 {
     let most = if negative {
         9223372036854775808
     } else {
         9223372036854775807
     };
-    let m = 10 * n as u128 + (byte - 48) as u128;
+    let m = 10 * n as u128 + d as u128;
     if m <= most { Some(m as u64) } else { None }
 }
 
@@ -160,19 +195,56 @@ fn digits(bytes: &[u8], at: usize, negative: bool) -> Result<(i64, usize), usize
     if at >= bytes.len() {
         return Err(at);
     }
-    if !digit(bytes[at]) {
+    let Some(first) = figure(bytes[at]) else {
         return Err(at);
-    }
-    let mut n = (bytes[at] - 48) as u64;
-    for i in at + 1..bytes.len() {
-        if !digit(bytes[i]) {
+    };
+    let mut n = first;
+    let few = bytes.len().min(at + SAFE_DIGITS);
+    for i in at + 1..few {
+        let Some(d) = figure(bytes[i]) else {
             return Ok((int_from(negative, n), i));
-        }
-        if n < 922337203685477580 {
-            n = with_digit(n, bytes[i]);
-            continue;
-        }
-        match with_last_digit(negative, n, bytes[i]) {
+        };
+        n = with_digit(n, d);
+    }
+    further_digits(bytes, few, negative, n)
+}
+
+// The rest of a number, of which so much is read. The answer has a place of its own here, so that that of a short
+// number stays in registers.
+#[inline(always)]
+fn further_digits(bytes: &[u8], at: usize, negative: bool, n: u64) -> Result<(i64, usize), usize>
+    requires place { at ≤ length bytes.now }
+    requires range { n ≤ bound negative }
+    ensures within { MatchResult result (λ r. (at ≤ r.1) × (r.1 ≤ length bytes.now)) (λ k. ℕ) }
+    ensures fits { MatchResult result (λ r. FitsSigned w64 r.0) (λ k. ℕ) }
+    ensures reads { (tb : Table) (around : Around) → MatchResult result
+        (λ r. runs tb bytes.now (Number negative n around) at ≡ runs tb bytes.now (filled around (Int r.0)) r.1)
+        (λ k. runs tb bytes.now (Number negative n around) at ≡ Stopped k) }
+{
+    match last_digits(bytes, at, negative, n) {
+        Ok(number) => Ok(number),
+        Err(place) => Err(place),
+    }
+}
+
+// The same.
+#[cold]
+#[inline(never)]
+fn last_digits(bytes: &[u8], at: usize, negative: bool, n: u64) -> Result<(i64, usize), usize>
+    requires place { at ≤ length bytes.now }
+    requires range { n ≤ bound negative }
+    ensures within { MatchResult result (λ r. (at ≤ r.1) × (r.1 ≤ length bytes.now)) (λ k. ℕ) }
+    ensures fits { MatchResult result (λ r. FitsSigned w64 r.0) (λ k. ℕ) }
+    ensures reads { (tb : Table) (around : Around) → MatchResult result
+        (λ r. runs tb bytes.now (Number negative n around) at ≡ runs tb bytes.now (filled around (Int r.0)) r.1)
+        (λ k. runs tb bytes.now (Number negative n around) at ≡ Stopped k) }
+{
+    let mut n = n;
+    for i in at..bytes.len() {
+        let Some(d) = figure(bytes[i]) else {
+            return Ok((int_from(negative, n), i));
+        };
+        match with_last_digit(negative, n, d) {
             Some(m) => n = m,
             None => return Err(i),
         }
@@ -194,11 +266,13 @@ pub fn int(bytes: &[u8], at: usize) -> Result<(i64, usize), usize>
     if start >= bytes.len() {
         return Err(start);
     }
-    if bytes[start] == b'-' {
-        digits(bytes, start + 1, true)
-    } else {
-        digits(bytes, start, false)
+    if digit(bytes[start]) {
+        return digits(bytes, start, false);
     }
+    if bytes[start] != b'-' {
+        return Err(start);
+    }
+    digits(bytes, start + 1, true)
 }
 
 // The place behind the name that begins here.
@@ -258,12 +332,12 @@ fn alike(text: &[u8], other: &[u8]) -> bool
     ensures { IsTrue result → text.now ≡ other.now }
 {
     match text {
-        [a, b, c] => match other {
-            [x, y, z] => *a == *x && *b == *y && *c == *z,
-            _ => false,
-        },
         [a, b, c, d] => match other {
             [x, y, z, w] => *a == *x && *b == *y && *c == *z && *d == *w,
+            _ => false,
+        },
+        [a, b, c] => match other {
+            [x, y, z] => *a == *x && *b == *y && *c == *z,
             _ => false,
         },
         _ => all_alike(text, other),
@@ -307,9 +381,8 @@ fn stands(name: &[u8], bytes: &[u8], at: usize) -> bool
 
 // The constructor whose name stands at a place, and the place behind the name.
 #[inline(always)]
-fn constructor_here(constructors: &[Constructor], bytes: &[u8], at: usize) -> Option<(u32, usize)>
-    requires place { at ≤ length bytes.now }
-    requires few { length constructors.now < 2 ^ 32 }
+fn constructor_here(constructors: &[Constructor], bytes: &[u8], at: usize) -> Option<(usize, usize)>
+    requires { at ≤ length bytes.now }
     ensures within { IfSome result (λ r. (at < r.1) × (r.1 ≤ length bytes.now)) }
     ensures named { IfSome result (λ r. IsNamed constructors.now (take (r.1 - at) (drop at bytes.now)) r.0) }
     ensures behind { IfSome result (λ r. r.1 < length bytes.now →
@@ -318,7 +391,7 @@ fn constructor_here(constructors: &[Constructor], bytes: &[u8], at: usize) -> Op
     for i in 0..constructors.len() {
         let name = constructors[i].name();
         if stands(name, bytes, at) {
-            return Some((i as u32, at + name.len()));
+            return Some((i, at + name.len()));
         }
     }
     None
@@ -326,7 +399,7 @@ fn constructor_here(constructors: &[Constructor], bytes: &[u8], at: usize) -> Op
 
 // The constructor whose name comes behind blanks, and the place behind the name.
 #[inline(always)]
-pub fn name(table: &TypeTable, ty: u32, bytes: &[u8], at: usize) -> Result<(u32, usize), usize>
+pub fn name(table: &TypeTable, ty: u32, bytes: &[u8], at: usize) -> Result<(usize, usize), usize>
     requires known { ty ≤ length table.now }
     requires data { 0 < ty }
     requires place { at ≤ length bytes.now }
@@ -341,13 +414,44 @@ pub fn name(table: &TypeTable, ty: u32, bytes: &[u8], at: usize) -> Result<(u32,
     let start = skip_blanks(bytes, at);
     match constructor_here(table.constructors_of(ty), bytes, start) {
         Some(found) => Ok(found),
-        None => name_or_place(table, ty, bytes, at),
+        None => name_otherwise(table, ty, bytes, at),
+    }
+}
+
+// The same where no name of the type stands behind the blanks. The answer has a place of its own here, so that where a
+// name is found it stays in registers.
+#[inline(always)]
+fn name_otherwise(
+    table: &TypeTable,
+    ty: u32,
+    bytes: &[u8],
+    at: usize,
+) -> Result<(usize, usize), usize>
+    requires known { ty ≤ length table.now }
+    requires data { 0 < ty }
+    requires place { at ≤ length bytes.now }
+    ensures within { MatchResult result (λ r. (at < r.1) × (r.1 ≤ length bytes.now)) (λ k. ℕ) }
+    ensures there { MatchResult result (λ r. (s : Shape) × (slice_get (constructors table.now ty) r.0 ≡ Some s))
+        (λ k. ℕ) }
+    ensures reads { IsSoundTable table.now → MatchResult result (λ r. (s : Shape)
+        × (slice_get (constructors table.now ty) r.0 ≡ Some s) × ((around : Around) →
+        runs table.now bytes.now (Want ty around) at ≡ runs table.now bytes.now (named r.0 s.fields around) r.1))
+        (λ k. (around : Around) → runs table.now bytes.now (Want ty around) at ≡ Stopped k) }
+{
+    match name_or_place(table, ty, bytes, at) {
+        Ok(found) => Ok(found),
+        Err(place) => Err(place),
     }
 }
 
 // The same by the longest name that comes, and where no constructor has it, the place that tells so.
 #[inline(never)]
-fn name_or_place(table: &TypeTable, ty: u32, bytes: &[u8], at: usize) -> Result<(u32, usize), usize>
+fn name_or_place(
+    table: &TypeTable,
+    ty: u32,
+    bytes: &[u8],
+    at: usize,
+) -> Result<(usize, usize), usize>
     requires known { ty ≤ length table.now }
     requires data { 0 < ty }
     requires place { at ≤ length bytes.now }
@@ -363,7 +467,7 @@ fn name_or_place(table: &TypeTable, ty: u32, bytes: &[u8], at: usize) -> Result<
     let end = name_end(bytes, start);
     let name = &bytes[start..end];
     match table.find(ty, name) {
-        Some(c) => Ok((c, end)),
+        Some(c) => Ok((c as usize, end)),
         None => Err(start + longest_front(table.constructors_of(ty), name)),
     }
 }

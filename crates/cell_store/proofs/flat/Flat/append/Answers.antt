@@ -28,8 +28,8 @@ take_room-requires-clause-near c =
     let few = c.requires.few in
     omega (arith, wide, n, ok, bits, place, few)
 
-pub overflow_add-self : goal.overflow_add-self
-overflow_add-self c =
+pub overflow_add-self-2 : goal.overflow_add-self-2
+overflow_add-self-2 c =
     let i = c.self.inside in
     let e = c.self.invariant.counted.exact (length c.args.fields.now) c.requires.few in
     let l = count_le (length c.args.fields.now) (parse 0 i.words.items) (flags 0 i.words.items) in

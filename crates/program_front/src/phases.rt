@@ -1,9 +1,10 @@
 // The phases, one after another.
-ghost use Rattle.std.specs.Prelude.{◌≡◌, ℕ, List, IfOk, IfErr};
+ghost use Rattle.std.specs.Prelude.{◌≡◌, ℕ, List, map, IfOk, IfErr};
 ghost use Rattle.fip_language.specs.declared.rule.Rule.TheVariants.{E05};
 ghost use Rattle.fip_base.specs.CoreView as core_view;
 ghost use Rattle.fip_trees.specs.SoundProgram.{IsSoundProgram};
 ghost use Rattle.fip_trees.specs.TreeView as V;
+ghost use Rattle.cell_lower.specs.Shape.{header, headers};
 ghost use Rattle.credit_check.specs.Tallies.{all_needs};
 ghost use Rattle.tail_groups.specs.Members.{AreMembers};
 ghost use Rattle.source_report.specs.Report.{bare, IsParsed, IsFlat, IsMatched, IsAccepted, Says};
@@ -45,6 +46,9 @@ pub fn front(alloc: Global, source: &[u8]) -> Result<Lowered, PhaseError>
     ensures needs { IfOk result (λ l. l.needs ≡
         all_needs (V.program l.typed.program) (V.program l.typed.program).instances) }
     ensures groups { IfOk result (λ l. AreMembers (V.program l.typed.program).instances l.groups) }
+    ensures types { IfOk result (λ l. l.code.types ≡ (V.program l.typed.program).types) }
+    ensures functions { IfOk result (λ l.
+        map header l.code.functions.items ≡ headers l.groups (V.program l.typed.program).instances) }
     ensures reported { IfErr result (λ e. Says source.now e) }
 {
     match typed_of(alloc, source) {
@@ -143,6 +147,9 @@ fn lowered_of(alloc: Global, typed: Typed) -> Result<Lowered, PhaseError>
     ensures needs { IfOk result (λ l. l.needs ≡
         all_needs (V.program l.typed.program) (V.program l.typed.program).instances) }
     ensures groups { IfOk result (λ l. AreMembers (V.program l.typed.program).instances l.groups) }
+    ensures types { IfOk result (λ l. l.code.types ≡ (V.program l.typed.program).types) }
+    ensures functions { IfOk result (λ l.
+        map header l.code.functions.items ≡ headers l.groups (V.program l.typed.program).instances) }
     ensures reported { (source : List ℕ) → IsMatched source (V.program typed.program) →
         IfErr result (λ e. Says source e) }
 {

@@ -1,7 +1,8 @@
 // The laws on lowered code of accepted sources. Each is the contract of a function that does nothing.
-ghost use Rattle.std.specs.Prelude.{◌≡◌, ℕ, List, true, Some, slice_get};
+ghost use Rattle.std.specs.Prelude.{◌≡◌, ◌<◌, ◌≤◌, ℕ, List, length, true, Some, slice_get};
 ghost use Rattle.fip_language.specs.Core.{Core};
 ghost use Rattle.fip_language.specs.Meaning.{meaning};
+ghost use Rattle.fip_language.specs.Table.{constructors};
 ghost use Rattle.fip_language.specs.Statics.{Closeds, NoClosed};
 ghost use Rattle.fip_language.specs.Values.{Values};
 ghost use Rattle.fip_trees.specs.Tree.{Instance, Program};
@@ -9,7 +10,9 @@ ghost use Rattle.flat_meaning.specs.Meaning.{flat_meaning};
 ghost use Rattle.code_runs.specs.Codes.{PlainCode as TreeCode};
 ghost use Rattle.code_runs.specs.States.{State};
 ghost use Rattle.code_runs.specs.Steps.{Kinds};
-ghost use Rattle.sound_code.specs.Codes.{PlainCode};
+ghost use Rattle.sound_code.specs.Codes.{PlainCode, PlainFunction, function_at};
+ghost use Rattle.sound_code.specs.Limits.{most_functions};
+ghost use Rattle.sound_code.specs.Tables.{bool_shapes, AreSoundTables};
 ghost use Rattle.tree_runs.specs.Runs.{begun, entry};
 ghost use Rattle.code_separation.specs.Codes.{run_code};
 ghost use Rattle.code_separation.specs.Starts.{IsStart};
@@ -20,12 +23,12 @@ ghost use Rattle.lowered_runs.specs.Ends.{EndsIn};
 ghost use Rattle.lowered_runs.specs.Guarded.{Takes};
 ghost use Rattle.lowered_runs.specs.Lowered.{all_instrs};
 ghost use Rattle.lowered_cells.specs.Ends.{EndsAs, IsFunctionOf};
-ghost use Rattle.source_report.specs.Report.{IsParsed, IsAccepted};
+ghost use Rattle.source_report.specs.Report.{IsParsed, IsTyped, IsAccepted};
 
 /// Where code is lowered from the program of an accepted source, its runs on arguments of the parameters' types end as
-/// the program means: with the same values and calls left, in the same trap, or out of calls or frames. So it is of runs
-/// on trees; and where the code is sound, of runs on cells that stand for the arguments. For who runs code in place of
-/// its program.
+/// the program means: with the same values and calls left, in the same trap, or out of calls or frames. So it is of
+/// runs on trees; and where the code is sound, of runs on cells that stand for the arguments. For who runs code in place
+/// of its program.
 pub fn accepted_code_means_its_program()
     ensures trees { (source : List ℕ) (program : Program) (code : TreeCode) → IsAccepted source program →
         AreLowered program (all_instrs code) → (i f : ℕ) (arguments : Values) (calls frames : ℕ) →
@@ -63,4 +66,15 @@ pub fn accepted_code_means_its_source()
         (given : Closeds) × ((arguments : Values) (calls frames : ℕ) → Takes program i arguments →
         EndsIn code (begun (entry f arguments frames) calls)
         (meaning core instance.name given arguments calls frames).answer) }
+{}
+
+/// The types of the typed program of a source begin with bool, and code over them has sound tables (S0), as long as its
+/// functions are few and have names of their own. For who asks which rules lowered code may break.
+pub fn the_types_of_a_source_are_sound()
+    ensures bool { (source : List ℕ) (program : Program) → IsTyped source program →
+        constructors program.types 1 ≡ bool_shapes }
+    ensures tables { (source : List ℕ) (program : Program) (code : PlainCode) → IsTyped source program →
+        code.types ≡ program.types → length code.functions ≤ most_functions →
+        ((m n : ℕ) (f g : PlainFunction) → function_at code m ≡ Some f → function_at code n ≡ Some g →
+        0 < length f.name → f.name ≡ g.name → m ≡ n) → AreSoundTables code }
 {}

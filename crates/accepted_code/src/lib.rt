@@ -3,4 +3,7 @@
 
 mod laws;
 
-pub use laws::{accepted_code_means_its_program, accepted_code_means_its_source};
+pub use laws::{
+    accepted_code_means_its_program, accepted_code_means_its_source,
+    the_types_of_a_source_are_sound,
+};

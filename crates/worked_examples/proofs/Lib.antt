@@ -6,3 +6,4 @@ pub mod Stacks
 pub mod Registers
 pub mod Owning
 pub mod Empty
+pub mod Declaring

@@ -4,3 +4,4 @@ pub mod Matches
 pub mod Codes
 pub mod Terms
 pub mod Empty
+pub mod Declaring

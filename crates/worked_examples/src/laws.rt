@@ -1,11 +1,13 @@
 // What the definitions say of small programs and codes. Each law is the contract of a function that does nothing.
 ghost use Rattle.std.specs.Prelude.{◌≡◌, ℕ, pos, Bool, true, false, List, [], ◌∷◌, Some, codes};
-ghost use Rattle.fip_language.specs.declared.rule.Rule.TheVariants.{E30, E31, E56, E62};
+ghost use Rattle.fip_language.specs.declared.rule.Rule.TheVariants.{E10, E11, E12, E13, E30, E31, E56, E62};
 ghost use Rattle.fip_language.specs.Example.{at, here};
 ghost use Rattle.fip_trees.specs.declared.least.Violation.{Violation};
 ghost use Rattle.fip_trees.specs.Least.{violation};
 ghost use Rattle.fip_trees.specs.Tree.{Literal};
 ghost use Rattle.flat_meaning.specs.Example.{lists, nil};
+ghost use Rattle.data_types.specs.Answers as D;
+ghost use Rattle.data_types.specs.Faults.{broken, written_violations};
 ghost use Rattle.data_types.specs.Types.{IsValued};
 ghost use Rattle.type_check.specs.Faults.{type_faults, filled};
 ghost use Rattle.match_cover.specs.Missing.{IsMissingOf};
@@ -23,6 +25,8 @@ ghost use Rattle.source_report.specs.Report.{IsAccepted};
 ghost use Rattle.worked_examples.specs.Empty.{empty_program};
 ghost use Rattle.worked_examples.specs.Terms.{given_back, dropped, twice};
 ghost use Rattle.worked_examples.specs.Declared.{list_type, endless_type, growing_type};
+ghost use Rattle.worked_examples.specs.Declaring.{list_with, with_brackets, without_brackets, endless, unknown};
+ghost use Rattle.worked_examples.specs.Declaring.{with_two};
 ghost use Rattle.worked_examples.specs.Programs.{number_with, unknown_variable, push, top, pushing, a_stack};
 ghost use Rattle.worked_examples.specs.Matches.{two_or_none, just_one, one_or_two, literal};
 ghost use Rattle.worked_examples.specs.Codes.{rev, four_known, a_list, any_list};
@@ -34,6 +38,19 @@ pub fn which_types_have_a_value()
     ensures list { IsValued list_type 0 }
     ensures endless { IsValued endless_type 0 → ⊥ }
     ensures growing { IsValued growing_type 0 → ⊥ }
+{}
+
+/// Lists of anything break no rule on declarations; without brackets the list in Cons has too few arguments (E12). A
+/// type that holds itself has no value (E13), which is all that it breaks; a type that is unknown breaks E11 alone; and
+/// a second constructor of a name breaks E10. For who reads what declarations break.
+pub fn what_small_declarations_break()
+    ensures none { (v : Violation) → D.Violates (list_with with_brackets) v → ⊥ }
+    ensures brackets { written_violations (list_with without_brackets) ≡ broken E12 (at 1 29) (codes "list") ∷ [] }
+    ensures endless { D.IsFirst endless (broken E13 (at 1 6) (codes "inf")) }
+    ensures just_endless { (v : Violation) → D.Violates endless v → v ≡ broken E13 (at 1 6) (codes "inf") }
+    ensures unknown { (v : Violation) → D.Violates unknown v → v ≡ broken E11 (at 1 12) (codes "nat") }
+    ensures named { written_violations unknown ≡ broken E11 (at 1 12) (codes "nat") ∷ [] }
+    ensures twice { written_violations with_two ≡ broken E10 (at 2 13) (codes "X") ∷ [] }
 {}
 
 /// The program of lists breaks no rule on types, and filling in its types changes nothing; with another body one of its

@@ -100,8 +100,8 @@ same_ruled Fun = refl
 exceeds_by : (tb : Table) (n : ℕ) (d : Instance) → is_ruled d.kind ≡ true → nat_lt MOST_REGISTERS n ≡ true → exceeds tb n d ≡ true
 exceeds_by tb n d r m = ap (λ b. b && (nat_lt MOST_REGISTERS n || matches_wide tb d)) r ∙ ap (λ b. b || matches_wide tb d) m
 
-pub few_binders : (source : List ℕ) (p : Program) → IsAccepted source p → (j : ℕ) (d : Instance) → slice_get p.instances j ≡ Some d → O.is_ruled d.kind ≡ true → length d.params + within_block d.body ≤ 4294967296
-few_binders source p h j d at ruled =
+pub few_registers : (source : List ℕ) (p : Program) → IsAccepted source p → (j : ℕ) (d : Instance) → slice_get p.instances j ≡ Some d → O.is_ruled d.kind ≡ true → R.registers d ≤ MOST_REGISTERS
+few_registers source p h j d at ruled =
     let inside = below p.instances j d at in
     let size = h.groups.size in
     let member = there h.members j (omega (arith, inside, size)) in
@@ -110,5 +110,10 @@ few_binders source p h j d at ruled =
     let few = not_many (registers h.members j) (λ m. h.unbroken (violation E60 d.place (0 + j) 0 d.name)
     (breaks_at p.types h.members 0 p.instances j d at
     (subst (λ k. exceeds p.types (registers h.members k) d ≡ true) (sym zeroth) (exceeds_by p.types (registers h.members j) d (sym (same_ruled d.kind) ∙ ruled) m)))) in
+    omega (arith, own, few)
+
+pub few_binders : (source : List ℕ) (p : Program) → IsAccepted source p → (j : ℕ) (d : Instance) → slice_get p.instances j ≡ Some d → O.is_ruled d.kind ≡ true → length d.params + within_block d.body ≤ 4294967296
+few_binders source p h j d at ruled =
+    let few = few_registers source p h j d at ruled in
     let body = block_few d.body in
-    omega (arith, own, few, body)
+    omega (arith, few, body)

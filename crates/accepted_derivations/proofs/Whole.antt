@@ -1,5 +1,7 @@
 -- The program of an accepted source has what the making of derivations asks, so what is made is a derivation of it.
-use Rattle.std.proofs.Common.{◌≡◌, ◌≤◌, ◌+◌, ℕ, suc, true, List, [], ◌∷◌, length, Some, slice_get, refl, arith}
+use Rattle.std.proofs.Common.{◌≡◌, ◌≤◌, ◌+◌, ℕ, suc, true, List, [], ◌∷◌, length, Some, slice_get, refl, sym, subst, arith}
+use Rattle.fip_language.specs.declared.limits.TheConstants.{MOST_INSTANCES}
+use Rattle.fip_trees.specs.SoundProgram.{IsSoundProgram}
 use Rattle.fip_trees.specs.Tree.{Instance, Program}
 use Rattle.fip_trees.specs.declared.needs.Need.{Need}
 use Rattle.credit_check.specs.Tallies.{all_needs}
@@ -7,13 +9,18 @@ use Rattle.fip_proof.specs.Ready.{IsReady}
 use Rattle.fip_rules.specs.World.{is_ruled}
 use Rattle.type_check.specs.Typing.{IsFilled}
 use Rattle.static_params.proofs.TypeRows.{there_among}
+use Rattle.static_params.proofs.Sounding.{flat_is_sound}
+use Rattle.type_check.proofs.Filling.{stays_sound}
 use Rattle.own_agreement.specs.Agreement.{AreSized, IsAccepted as BreaksNoRule}
 use Rattle.proof_check.specs.Scopes.{within_block}
 use Rattle.proof_check.specs.Accepted.{IsDerivation}
+use Rattle.proof_text.specs.ProofText.{lines_text, IsProofText}
 use Rattle.derivation_making.specs.Made.{made_entries}
 use Rattle.derivation_making.specs.Numbered.{IsNumbered, AllNumbered}
 use Rattle.derivation_making.specs.Weakening.{AllLean}
 use Rattle.derivation_making.proofs.Programs.{program_derived, program_lean}
+use Rattle.derivation_spelling.specs.Limits.{KeepsLimits}
+use Rattle.derivation_spelling.proofs.Whole.{made_is_read}
 use Rattle.source_report.specs.Report.{IsTyped, IsAccepted}
 use Rattle.source_report.specs.WellFormed.{IsKnownInstance}
 use Rattle.source_report.proofs.Ready.{typed_formed}
@@ -21,7 +28,7 @@ use Rattle.source_report.proofs.Sizing.{typed_filled, typed_sized}
 use Rattle.accepted_programs.specs.Order.{IsOrdered}
 use Rattle.accepted_programs.proofs.TypedOrder.{typed_in_order}
 use Rattle.accepted_derivations.proofs.Counted.{from_numbered, block_numbered}
-use Rattle.accepted_derivations.proofs.Few.{few_binders}
+use Rattle.accepted_derivations.proofs.Few.{few_binders, few_registers}
 
 instance_numbered : (p : Program) (d : Instance) → IsOrdered d → IsKnownInstance p d → length d.params + within_block d.body ≤ 4294967296 → IsNumbered p d
 instance_numbered p d h k few =
@@ -70,3 +77,22 @@ ready source p needs h e = record {
   sized = are_sized source p h;
   accepted = unbroken source p h;
 }
+
+-- ---- the text of its derivation
+
+-- it has few instances
+few_instances : (source : List ℕ) (p : Program) → IsTyped source p → length p.instances ≤ MOST_INSTANCES
+few_instances source p h =
+    let f = h.flat in
+    let sound : IsSoundProgram h.untyped = subst IsSoundProgram (sym f.is) (flat_is_sound f.core f.declared.unbroken f.declared.valued f.numbers f.few) in
+    let stays : IsSoundProgram p = subst IsSoundProgram (sym h.is) (stays_sound h.untyped sound) in
+    stays.few
+
+pub keeps_limits : (source : List ℕ) (p : Program) → IsAccepted source p → KeepsLimits p
+keeps_limits source p h = record {
+  instances = few_instances source p (typed_of source p h);
+  registers = λ i d at r. few_registers source p h i d at r;
+}
+
+pub is_read : (source : List ℕ) (p : Program) → IsAccepted source p → IsProofText (lines_text (made_entries p 0 p.instances)) (made_entries p 0 p.instances)
+is_read source p h = made_is_read p (is_filled source p h) (numbered source p h) (are_sized source p h) (unbroken source p h) (keeps_limits source p h)

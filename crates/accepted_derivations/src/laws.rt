@@ -5,16 +5,18 @@ ghost use Rattle.fip_trees.specs.Tree.{Program};
 ghost use Rattle.type_check.specs.Typing.{IsFilled};
 ghost use Rattle.own_agreement.specs.Agreement.{AreSized, IsAccepted as BreaksNoRule};
 ghost use Rattle.proof_check.specs.Accepted.{IsDerivation};
+ghost use Rattle.proof_text.specs.ProofText.{lines_text, IsProofText};
 ghost use Rattle.derivation_making.specs.Made.{made_entries};
 ghost use Rattle.derivation_making.specs.Numbered.{AllNumbered};
 ghost use Rattle.derivation_making.specs.Weakening.{AllLean};
 ghost use Rattle.credit_check.specs.Tallies.{all_needs};
+ghost use Rattle.derivation_spelling.specs.Limits.{KeepsLimits};
 ghost use Rattle.fip_proof.specs.Ready.{IsReady};
 ghost use Rattle.source_report.specs.Report.{IsAccepted};
 
 /// What the making of derivations asks of a program, an accepted source's has: its slots are filled, its binders are
-/// numbered in order, below 2^32, it is what the calculus of ownership speaks of, and it breaks no rule on ownership and
-/// on credits. For who joins the laws.
+/// numbered in order, below 2^32, it is what the calculus of ownership speaks of, and it breaks no rule on ownership
+/// and on credits. For who joins the laws.
 pub fn accepted_programs_are_numbered()
     ensures numbered { (source : List ℕ) (program : Program) → IsAccepted source program →
         AllNumbered program program.instances }
@@ -30,6 +32,16 @@ pub fn accepted_programs_are_numbered()
 pub fn accepted_programs_are_ready()
     ensures ready { (source : List ℕ) (program : Program) (needs : List (List Need)) → IsAccepted source program →
         needs ≡ all_needs program program.instances → IsReady program needs }
+{}
+
+/// The program of an accepted source keeps the limits that its derivation's text asks for, so the clauses of
+/// `fip_proof::derivation_text` say of an accepted source that its text is read again as what is made for it: no node
+/// lies too deep, and no number is too great. For who derives a source.
+pub fn accepted_derivations_are_read()
+    ensures limits { (source : List ℕ) (program : Program) → IsAccepted source program → KeepsLimits program }
+    ensures read { (source : List ℕ) (program : Program) → IsAccepted source program →
+        IsProofText (lines_text (made_entries program 0 program.instances))
+        (made_entries program 0 program.instances) }
 {}
 
 /// What is made for the program of an accepted source is a derivation of it, and weakens no more than it must. For who

@@ -3,3 +3,5 @@ pub mod Whole
 pub mod Sorting
 pub mod Steps
 pub mod Rows
+pub mod Costs
+pub mod Short

@@ -1,5 +1,5 @@
 -- The arms of the walk, over plain variables.
-use Rattle.std.proofs.Common.{◌≡◌, ℕ, zero, suc, ◌<◌, ◌≤◌, ◌+◌, ◌-◌, refl, sym, ap, ap₂, ◌∙◌, List, [], ◌∷◌, ◌++◌, drop, get_or, length, map, append_assoc, Vec, Global, Bool, true, false, not, nat_lt, Option, if◌then◌else◌, arith}
+use Rattle.std.proofs.Common.{◌≡◌, ℕ, suc, ◌<◌, ◌≤◌, ◌+◌, ◌-◌, refl, sym, ap, ap₂, ◌∙◌, List, [], ◌∷◌, ◌++◌, drop, length, map, append_assoc, Vec, Global, Bool, true, false, nat_lt, Option, if◌then◌else◌, arith}
 use Rattle.std.specs.Prelude.{filter, ◌==◌, ◌&&◌}
 use Rattle.std.specs.declared.boxed.Box.{Box}
 use Rattle.std.proofs.lemmas.Grind.{common_steps}
@@ -20,7 +20,6 @@ use Rattle.fip_trees.specs.declared.program.Expression.TheFolds.{fold-roll-Expre
 use Rattle.fip_trees.specs.declared.program.Block.{Block, out-Block}
 use Rattle.fip_trees.specs.declared.program.Binding.{Binding, out-Binding}
 use Rattle.fip_trees.specs.declared.program.Clause.{Clause}
-use Rattle.fip_trees.specs.declared.program.Binder.{Binder}
 use Rattle.fip_trees.proofs.TreeViews.{argument_constructor, expression_match, block_is, binding_is}
 use Rattle.fip_rules.specs.Shapes.{takes}
 use Rattle.derivation_trees.specs.declared.derivation.RuleName.{RuleName}
@@ -29,7 +28,7 @@ use Rattle.derivation_trees.specs.declared.derivation.Credit as D
 use Rattle.derivation_trees.specs.Building.{Built, opened, closed}
 use Rattle.derivation_trees.specs.Trees.{Tree, Branch, Trees, NoTrees, MoreTrees}
 use Rattle.derivation_walk.specs.Growing.{grown, grown_all, closed_times, Awaits, AwaitsOne}
-use Rattle.derivation_walk.specs.Walked.{Guided, Owned, Asked, asked, those, behind, rest_owned, node, credits_from, credits, same_from, match_rule, binder_of, walked, walked_block, walked_parts, walked_clause, walked_clauses, let_node, size, size_parts, size_clauses, used, rule_of, constructor_rule, owning, sorted, value, fields, passed, begun}
+use Rattle.derivation_walk.specs.Walked.{Guided, Owned, Asked, asked, those, behind, rest_owned, node, credits_from, credits, same_from, match_rule, binder_of, walked, walked_block, walked_parts, walked_clause, walked_clauses, let_node, size, size_parts, used, rule_of, constructor_rule, owning, sorted, value, fields, passed, begun}
 use Rattle.derivation_walk.proofs.Growing.{node_done, awaited, waits_more}
 
 -- ---- credits
@@ -121,8 +120,8 @@ pub clause_more : (g : Guided) (b c w : Built) (i j : ℕ) (taken : Bool) (x : O
 clause_more g b c w i j taken x o d cs e h inv =
     ap₂ (λ z k. grown_all z (walked_clauses g k taken x o cs)) e h ∙ inv
 
-pub match_grown : (g : Guided) (n : ℕ) (b0 b1 b2 b3 b4 : Built) (i j k : ℕ) (e : Expression) (kind : MatchKind) (u : ℕ) (p : Place) (a : Argument) (c : Box Clause Global) (cs : Vec Clause Global) (taken : Bool) (x : Option ℕ) (o : Owned) (xs has : List ℕ) (q : Asked) → e ≡ EV.Match kind u p a c cs → taken ≡ takes g.world (is_destructive kind) u → x ≡ binder_of (argument a) → q ≡ asked g i → xs ≡ those g q o.variables → has ≡ xs → j ≡ i + 1 → Awaits n b0 b1 (node (match_rule taken) o has q.need) → b2 ≡ grown b1 (walked_clause g j taken x record { variables = xs; credits = q.need } (clause c.value)) → k ≡ j + (size_parts (clause c.value).body + 1) → b3 ≡ grown_all b2 (walked_clauses g k taken x record { variables = xs; credits = q.need } (clauses cs.items)) → b4 ≡ closed_times n b3 → b4 ≡ grown b0 (walked g i o (expression e))
-match_grown g n b0 b1 b2 b3 b4 i j k e kind u p a c cs taken x o xs has q h t hb hq hx hh hj aw e2 hk e3 e4 =
+pub match_is : (g : Guided) (i j k : ℕ) (e : Expression) (kind : MatchKind) (u : ℕ) (p : Place) (a : Argument) (c : Box Clause Global) (cs : Vec Clause Global) (taken : Bool) (x : Option ℕ) (o : Owned) (xs has : List ℕ) (q : Asked) → e ≡ EV.Match kind u p a c cs → taken ≡ takes g.world (is_destructive kind) u → x ≡ binder_of (argument a) → q ≡ asked g i → xs ≡ those g q o.variables → has ≡ xs → j ≡ i + 1 → k ≡ j + (size_parts (clause c.value).body + 1) → node (match_rule taken) o has q.need (MoreTrees (walked_clause g j taken x record { variables = xs; credits = q.need } (clause c.value)) (walked_clauses g k taken x record { variables = xs; credits = q.need } (clauses cs.items))) ≡ walked g i o (expression e)
+match_is g i j k e kind u p a c cs taken x o xs has q h t hb hq hx hh hj hk =
     let S : List ℕ → Asked → Owned = λ ys z. record { variables = ys; credits = z.need } in
     let P : ℕ → ℕ → Bool → Option ℕ → List ℕ → Asked → Trees = λ m y f v ys z.
     MoreTrees (walked_clause g m f v (S ys z) (clause c.value)) (walked_clauses g y f v (S ys z) (clauses cs.items)) in
@@ -130,15 +129,20 @@ match_grown g n b0 b1 b2 b3 b4 i j k e kind u p a c cs taken x o xs has q h t hb
     let B = size_parts (clause c.value).body + 1 in
     let K = takes g.world (is_destructive kind) u in
     let X = binder_of (argument a) in
-    awaited n b0 b1 b3 b4 (node (match_rule taken) o has q.need) (P j k taken x xs q) aw (e3 ∙ ap (λ z. grown_all z (walked_clauses g k taken x (S xs q) (clauses cs.items))) e2) e4
-    ∙ ap (λ zs. grown b0 (N j k taken x zs xs q)) hh
-    ∙ ap (λ y. grown b0 (N j y taken x xs xs q)) hk
-    ∙ ap (λ m. grown b0 (N m (m + B) taken x xs xs q)) hj
-    ∙ ap (λ f. grown b0 (N (i + 1) (i + 1 + B) f x xs xs q)) t
-    ∙ ap (λ v. grown b0 (N (i + 1) (i + 1 + B) K v xs xs q)) hb
-    ∙ ap (λ ys. grown b0 (N (i + 1) (i + 1 + B) K X ys ys q)) hx
-    ∙ ap (λ z. grown b0 (N (i + 1) (i + 1 + B) K X (those g z o.variables) (those g z o.variables) z)) hq
-    ∙ sym (ap (λ z. grown b0 (walked g i o z)) (ap expression h ∙ expression_match kind u p a c cs))
+    ap (λ zs. N j k taken x zs xs q) hh
+    ∙ ap (λ y. N j y taken x xs xs q) hk
+    ∙ ap (λ m. N m (m + B) taken x xs xs q) hj
+    ∙ ap (λ f. N (i + 1) (i + 1 + B) f x xs xs q) t
+    ∙ ap (λ v. N (i + 1) (i + 1 + B) K v xs xs q) hb
+    ∙ ap (λ ys. N (i + 1) (i + 1 + B) K X ys ys q) hx
+    ∙ ap (λ z. N (i + 1) (i + 1 + B) K X (those g z o.variables) (those g z o.variables) z) hq
+    ∙ sym (ap (λ z. walked g i o z) (ap expression h ∙ expression_match kind u p a c cs))
+
+pub match_grown : (g : Guided) (n : ℕ) (b0 b1 b2 b3 b4 : Built) (i j k : ℕ) (e : Expression) (kind : MatchKind) (u : ℕ) (p : Place) (a : Argument) (c : Box Clause Global) (cs : Vec Clause Global) (taken : Bool) (x : Option ℕ) (o : Owned) (xs has : List ℕ) (q : Asked) → e ≡ EV.Match kind u p a c cs → taken ≡ takes g.world (is_destructive kind) u → x ≡ binder_of (argument a) → q ≡ asked g i → xs ≡ those g q o.variables → has ≡ xs → j ≡ i + 1 → Awaits n b0 b1 (node (match_rule taken) o has q.need) → b2 ≡ grown b1 (walked_clause g j taken x record { variables = xs; credits = q.need } (clause c.value)) → k ≡ j + (size_parts (clause c.value).body + 1) → b3 ≡ grown_all b2 (walked_clauses g k taken x record { variables = xs; credits = q.need } (clauses cs.items)) → b4 ≡ closed_times n b3 → b4 ≡ grown b0 (walked g i o (expression e))
+match_grown g n b0 b1 b2 b3 b4 i j k e kind u p a c cs taken x o xs has q h t hb hq hx hh hj aw e2 hk e3 e4 =
+    let S : Owned = record { variables = xs; credits = q.need } in
+    awaited n b0 b1 b3 b4 (node (match_rule taken) o has q.need) (MoreTrees (walked_clause g j taken x S (clause c.value)) (walked_clauses g k taken x S (clauses cs.items))) aw (e3 ∙ ap (λ z. grown_all z (walked_clauses g k taken x S (clauses cs.items))) e2) e4
+    ∙ ap (grown b0) (match_is g i j k e kind u p a c cs taken x o xs has q h t hb hq hx hh hj hk)
 
 -- ---- arguments
 

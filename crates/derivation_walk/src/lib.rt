@@ -6,4 +6,4 @@ mod error;
 mod make;
 
 pub use error::LineError;
-pub use make::{derive, line_of};
+pub use make::{derive, is_ruled, line_of};

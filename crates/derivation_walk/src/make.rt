@@ -4,20 +4,22 @@
 // The walk goes down from what a function owns. Of what is there an expression asks for the variables that occur in it
 // and for the credits that it needs. Of a let's own variables those that the bound expression uses up go there, all
 // others to the rest, and the bound expression may lend them.
-ghost use Rattle.std.specs.Prelude.{◌≡◌, ◌+◌, [], slice_get, filter, not, IfOk, OnOk};
+ghost use Rattle.std.specs.Prelude.{◌≡◌, ◌+◌, ◌<◌, [], slice_get, filter, length, not, IfOk, OnOk, Err};
 ghost use Rattle.fip_trees.specs.TreeView as V;
 ghost use Rattle.fip_trees.specs.Sizes.{no_sizes};
 ghost use Rattle.fip_trees.specs.Tree as T;
 ghost use Rattle.credit_check.specs.Tallies as L;
 ghost use Rattle.fip_rules.specs.World.{is_ruled};
 ghost use Rattle.derivation_trees.specs.Building.{built, nothing_built, opened};
-ghost use Rattle.derivation_trees.specs.Trees.{NoTrees, entry, entries};
-ghost use Rattle.derivation_trees.specs.WholeTrees.{IsTree, AreTrees};
+ghost use Rattle.derivation_trees.specs.Trees.{Tree, Trees, NoTrees, entry, entries};
+ghost use Rattle.derivation_trees.specs.WholeTrees.{IsTree, IsWhole, AreTrees};
 ghost use Rattle.derivation_walk.specs.Growing.{closed_times, grown, grown_all, Awaits, AwaitsOne};
 ghost use Rattle.derivation_walk.specs.Guides.{guided, holding, asking, IsWalked};
 ghost use Rattle.variable_uses.specs.Seen.{world_of};
 ghost use Rattle.derivation_walk.specs.Walked as W;
 ghost use Rattle.derivation_walk.specs.Walks.{AreWalked};
+ghost use Rattle.derivation_walk.specs.Costs.{cost, cost_all, total};
+ghost use Rattle.derivation_walk.specs.declared.error.LineError.TheVariants.{TooLong};
 
 use crate::credits::{add_argument, add_pattern, are_same, credits_of, marked};
 use crate::error::LineError;
@@ -65,9 +67,9 @@ pub fn derive(alloc: Global, typed: &Typed, needs: &Needs) -> Result<Derivation,
     Ok(Derivation::new(lines))
 }
 
-// The rules speak of fip and fbip instances.
-fn is_ruled(kind: FunKind) -> bool
-    ensures { result ≡ is_ruled kind }
+/// Whether the rules speak of an instance of this kind: fip and fbip ones have derivations.
+pub fn is_ruled(kind: FunKind) -> bool
+    ensures ruled { result ≡ is_ruled kind }
 {
     match kind {
         FunKind::Fip => true,
@@ -90,6 +92,8 @@ pub fn line_of(
     ensures instance { IfOk result (λ l. l.instance ≡ number) }
     ensures walked { IfOk result (λ l. IsWalked (world_of context.now) needs.now (V.instance_of instance.now)
         (entry l).tree) }
+    ensures long { result ≡ Err TooLong → (t : Tree) × IsWhole t × IsWalked (world_of context.now) needs.now
+        (V.instance_of instance.now) t × (room < cost t) }
 {
     let uses = Uses::of(alloc, context, instance)?;
     let guide = Guide {
@@ -139,8 +143,10 @@ struct Walk {
 impl Guide<'_> {
     // The nodes of an instance.
     fn nodes_of(&self, instance: &Instance, room: usize) -> Result<Builder, LineError>
-        ensures { IfOk result (λ b. built b ≡
+        ensures grows { IfOk result (λ b. built b ≡
             grown nothing_built (W.walked_instance (guided self.now) (V.instance_of instance.now))) }
+        ensures short { result ≡ Err TooLong →
+            room < cost (W.walked_instance (guided self.now) (V.instance_of instance.now)) }
     {
         let mut walk = Walk {
             next: 0,
@@ -201,6 +207,7 @@ impl Guide<'_> {
         ensures asked { IfOk result (λ a. asking a ≡ W.asked (guided self.now) walk.old.next) }
         ensures next { OnOk result (walk.new.next ≡ walk.old.next + 1) }
         ensures same { walk.new.nodes ≡ walk.old.nodes }
+        ensures room { walk.new.room ≡ walk.old.room }
     {
         let asked = self.asked_by(walk.next)?;
         walk.next = walk.next.checked_add(1).ok_or(NoMemory)?;
@@ -217,10 +224,15 @@ impl Guide<'_> {
     ) -> Result<(), LineError>
         ensures opened { OnOk result (built walk.new.nodes ≡
             opened (built walk.old.nodes) rule variables.items (W.credits credits.now)) }
+        ensures kept { OnOk result (total walk.new ≡ total walk.old) }
+        ensures short { result ≡ Err TooLong → walk.old.room < length variables.items + 1 }
         ensures next { walk.new.next ≡ walk.old.next }
     {
-        let cost = variables.len().saturating_add(1);
-        walk.room = walk.room.checked_sub(cost).ok_or(LineError::TooLong)?;
+        walk.room = walk
+            .room
+            .checked_sub(variables.len())
+            .ok_or(LineError::TooLong)?;
+        walk.room = walk.room.checked_sub(1).ok_or(LineError::TooLong)?;
         let credits = credits_of(self.alloc, credits)?;
         walk.nodes.open(rule, variables, credits)?;
         Ok(())
@@ -237,6 +249,9 @@ impl Guide<'_> {
     ) -> Result<usize, LineError>
         ensures awaits { IfOk result (λ n. Awaits n (built walk.old.nodes) (built walk.new.nodes)
             (W.node rule (holding there) variables.items need.now)) }
+        ensures kept { OnOk result (total walk.new ≡ total walk.old) }
+        ensures short { result ≡ Err TooLong → (ts : Trees) →
+            walk.old.room < cost (W.node rule (holding there) variables.items need.now ts) }
         ensures next { walk.new.next ≡ walk.old.next }
     {
         if variables.len() == there.variables.len() && are_same(&there.credits, need) {
@@ -252,6 +267,9 @@ impl Guide<'_> {
     fn begin(&self, walk: &mut Walk, rule: RuleName, there: Owned) -> Result<usize, LineError>
         ensures awaits { IfOk result (λ n. Awaits n (built walk.old.nodes) (built walk.new.nodes)
             (W.begun (guided self.now) walk.old.next rule (holding there))) }
+        ensures kept { OnOk result (total walk.new ≡ total walk.old) }
+        ensures short { result ≡ Err TooLong → (ts : Trees) →
+            walk.old.room < cost (W.begun (guided self.now) walk.old.next rule (holding there) ts) }
         ensures next { OnOk result (walk.new.next ≡ walk.old.next + 1) }
     {
         let asked = self.enter(walk)?;
@@ -344,6 +362,9 @@ impl Guide<'_> {
     fn block(&self, walk: &mut Walk, block: &Block, owned: Owned) -> Result<(), LineError>
         ensures grows { OnOk result (built walk.new.nodes ≡ grown (built walk.old.nodes)
             (W.walked_block (guided self.now) walk.old.next (holding owned) (V.block block.now))) }
+        ensures kept { OnOk result (total walk.new ≡ total walk.old) }
+        ensures short { result ≡ Err TooLong → walk.old.room < cost
+            (W.walked_block (guided self.now) walk.old.next (holding owned) (V.block block.now)) }
         ensures next { OnOk result (walk.new.next ≡ walk.old.next + (W.size_parts (V.block block.now) + 1)) }
     {
         let asked = self.enter(walk)?;
@@ -364,6 +385,10 @@ impl Guide<'_> {
         ensures grows { OnOk result (built walk.new.nodes ≡ grown (built walk.old.nodes)
             (W.walked_parts (guided self.now) walk.old.next
             record { variables = variables.items; credits = credits } (asking asked) (V.block block.now))) }
+        ensures kept { OnOk result (total walk.new ≡ total walk.old) }
+        ensures short { result ≡ Err TooLong → walk.old.room < cost
+            (W.walked_parts (guided self.now) walk.old.next
+            record { variables = variables.items; credits = credits } (asking asked) (V.block block.now)) }
         ensures next { OnOk result (walk.new.next ≡ walk.old.next + W.size_parts (V.block block.now)) }
     {
         let mut numbers = variables;
@@ -412,6 +437,10 @@ impl Guide<'_> {
         ensures awaits { IfOk result (λ r. AwaitsOne r.0 (built walk.old.nodes) (built walk.new.nodes)
             (W.let_node (guided self.now) walk.old.next (holding there) (asking asked.now) (asking bound.now)
             (V.binding binding.now).bound)) }
+        ensures kept { OnOk result (total walk.new ≡ total walk.old) }
+        ensures short { result ≡ Err TooLong → (t : Tree) → walk.old.room < cost
+            (W.let_node (guided self.now) walk.old.next (holding there) (asking asked.now) (asking bound.now)
+            (V.binding binding.now).bound t) }
         ensures rest { IfOk result (λ r. holding r.1 ≡ W.rest_owned (guided self.now) (asking asked.now)
             (asking bound.now) (holding there) (V.binding binding.now).binders) }
         ensures next { OnOk result (walk.new.next ≡ walk.old.next + W.size (V.binding binding.now).bound) }
@@ -449,6 +478,9 @@ impl Guide<'_> {
     ) -> Result<(), LineError>
         ensures grows { OnOk result (built walk.new.nodes ≡ grown (built walk.old.nodes)
             (W.walked (guided self.now) walk.old.next (holding owned) (V.expression expression.now))) }
+        ensures kept { OnOk result (total walk.new ≡ total walk.old) }
+        ensures short { result ≡ Err TooLong → walk.old.room < cost
+            (W.walked (guided self.now) walk.old.next (holding owned) (V.expression expression.now)) }
         ensures next { OnOk result (walk.new.next ≡ walk.old.next + W.size (V.expression expression.now)) }
     {
         match expression {
@@ -487,6 +519,9 @@ impl Guide<'_> {
     fn operation(&self, walk: &mut Walk, owned: Owned) -> Result<(), LineError>
         ensures grows { OnOk result (built walk.new.nodes ≡ grown (built walk.old.nodes)
             (W.begun (guided self.now) walk.old.next RuleName.Scalar (holding owned) NoTrees)) }
+        ensures kept { OnOk result (total walk.new ≡ total walk.old) }
+        ensures short { result ≡ Err TooLong → walk.old.room < cost
+            (W.begun (guided self.now) walk.old.next RuleName.Scalar (holding owned) NoTrees) }
         ensures next { OnOk result (walk.new.next ≡ walk.old.next + 1) }
     {
         let opened = self.begin(walk, RuleName::Scalar, owned)?;
@@ -498,6 +533,10 @@ impl Guide<'_> {
         ensures grows { OnOk result (built walk.new.nodes ≡ grown (built walk.old.nodes)
             (W.begun (guided self.now) walk.old.next RuleName.Tuple (holding owned)
             (W.values (guided self.now) (V.arguments arguments.now)))) }
+        ensures kept { OnOk result (total walk.new ≡ total walk.old) }
+        ensures short { result ≡ Err TooLong → walk.old.room < cost
+            (W.begun (guided self.now) walk.old.next RuleName.Tuple (holding owned)
+            (W.values (guided self.now) (V.arguments arguments.now))) }
         ensures next { OnOk result (walk.new.next ≡ walk.old.next + 1) }
     {
         let opened = self.begin(walk, RuleName::Tuple, owned)?;
@@ -520,6 +559,10 @@ impl Guide<'_> {
         ensures grows { OnOk result (built walk.new.nodes ≡ grown (built walk.old.nodes)
             (W.walked_clause (guided self.now) walk.old.next is_taken binder
             record { variables = variables.now; credits = credits.now } (V.clause clause.now))) }
+        ensures kept { OnOk result (total walk.new ≡ total walk.old) }
+        ensures short { result ≡ Err TooLong → walk.old.room < cost
+            (W.walked_clause (guided self.now) walk.old.next is_taken binder
+            record { variables = variables.now; credits = credits.now } (V.clause clause.now)) }
         ensures next { OnOk result (walk.new.next ≡
             walk.old.next + (W.size_parts (V.clause clause.now).body + 1)) }
     {
@@ -591,6 +634,10 @@ impl Guide<'_> {
         ensures grows { OnOk result (built walk.new.nodes ≡ grown_all (built walk.old.nodes)
             (W.walked_clauses (guided self.now) walk.old.next is_taken binder
             record { variables = variables.now; credits = credits.now } (V.clauses clauses.now))) }
+        ensures kept { OnOk result (total walk.new ≡ total walk.old) }
+        ensures short { result ≡ Err TooLong → walk.old.room < cost_all
+            (W.walked_clauses (guided self.now) walk.old.next is_taken binder
+            record { variables = variables.now; credits = credits.now } (V.clauses clauses.now)) }
         ensures next { OnOk result (walk.new.next ≡ walk.old.next + W.size_clauses (V.clauses clauses.now)) }
     {
         for next in clauses {
@@ -610,6 +657,11 @@ impl Guide<'_> {
             (W.begun (guided self.now) walk.old.next RuleName.Call (holding owned)
             (W.passed (guided self.now) (W.params_of (slice_get (guided self.now).world.instances callee))
             (V.arguments arguments.now)))) }
+        ensures kept { OnOk result (total walk.new ≡ total walk.old) }
+        ensures short { result ≡ Err TooLong → walk.old.room < cost
+            (W.begun (guided self.now) walk.old.next RuleName.Call (holding owned)
+            (W.passed (guided self.now) (W.params_of (slice_get (guided self.now).world.instances callee))
+            (V.arguments arguments.now))) }
         ensures next { OnOk result (walk.new.next ≡ walk.old.next + 1) }
     {
         let opened = self.begin(walk, RuleName::Call, owned)?;
@@ -627,6 +679,10 @@ impl Guide<'_> {
         ensures grows { OnOk result (built walk.new.nodes ≡ grown_all (built walk.old.nodes)
             (W.passed (guided self.now) (W.params_of (slice_get (guided self.now).world.instances callee))
             (V.arguments arguments.now))) }
+        ensures kept { OnOk result (total walk.new ≡ total walk.old) }
+        ensures short { result ≡ Err TooLong → walk.old.room < cost_all
+            (W.passed (guided self.now) (W.params_of (slice_get (guided self.now).world.instances callee))
+            (V.arguments arguments.now)) }
         ensures next { walk.new.next ≡ walk.old.next }
     {
         match self.context.program.instances.get(callee as usize) {
@@ -644,6 +700,9 @@ impl Guide<'_> {
     ) -> Result<(), LineError>
         ensures grows { OnOk result (built walk.new.nodes ≡ grown_all (built walk.old.nodes)
             (W.passed (guided self.now) params.now (V.arguments arguments.now))) }
+        ensures kept { OnOk result (total walk.new ≡ total walk.old) }
+        ensures short { result ≡ Err TooLong → walk.old.room < cost_all
+            (W.passed (guided self.now) params.now (V.arguments arguments.now)) }
         ensures next { walk.new.next ≡ walk.old.next }
     {
         let mut place: usize = 0;
@@ -666,6 +725,10 @@ impl Guide<'_> {
         ensures grows { OnOk result (built walk.new.nodes ≡ grown (built walk.old.nodes)
             (W.begun (guided self.now) walk.old.next (W.rule_of (guided self.now) (V.argument argument.now))
             (holding owned) (W.fields (guided self.now) (V.argument argument.now)))) }
+        ensures kept { OnOk result (total walk.new ≡ total walk.old) }
+        ensures short { result ≡ Err TooLong → walk.old.room < cost
+            (W.begun (guided self.now) walk.old.next (W.rule_of (guided self.now) (V.argument argument.now))
+            (holding owned) (W.fields (guided self.now) (V.argument argument.now))) }
         ensures next { OnOk result (walk.new.next ≡ walk.old.next + 1) }
     {
         let opened = self.begin(walk, self.rule_of(argument), owned)?;
@@ -679,6 +742,9 @@ impl Guide<'_> {
     fn fields(&self, walk: &mut Walk, argument: &Argument) -> Result<(), LineError>
         ensures grows { OnOk result (built walk.new.nodes ≡ grown_all (built walk.old.nodes)
             (W.fields (guided self.now) (V.argument argument.now))) }
+        ensures kept { OnOk result (total walk.new ≡ total walk.old) }
+        ensures short { result ≡ Err TooLong → walk.old.room < cost_all
+            (W.fields (guided self.now) (V.argument argument.now)) }
         ensures next { walk.new.next ≡ walk.old.next }
     {
         match argument {
@@ -725,6 +791,9 @@ impl Guide<'_> {
     fn values(&self, walk: &mut Walk, arguments: &[Argument]) -> Result<(), LineError>
         ensures grows { OnOk result (built walk.new.nodes ≡ grown_all (built walk.old.nodes)
             (W.values (guided self.now) (V.arguments arguments.now))) }
+        ensures kept { OnOk result (total walk.new ≡ total walk.old) }
+        ensures short { result ≡ Err TooLong → walk.old.room < cost_all
+            (W.values (guided self.now) (V.arguments arguments.now)) }
         ensures next { walk.new.next ≡ walk.old.next }
     {
         for argument in arguments {
@@ -737,6 +806,9 @@ impl Guide<'_> {
     fn value(&self, walk: &mut Walk, argument: &Argument) -> Result<(), LineError>
         ensures grows { OnOk result (built walk.new.nodes ≡ grown (built walk.old.nodes)
             (W.value (guided self.now) (V.argument argument.now))) }
+        ensures kept { OnOk result (total walk.new ≡ total walk.old) }
+        ensures short { result ≡ Err TooLong → walk.old.room < cost
+            (W.value (guided self.now) (V.argument argument.now)) }
         ensures next { walk.new.next ≡ walk.old.next }
     {
         let variables = self.owning(argument)?;
@@ -826,6 +898,7 @@ fn match_rule(is_taken: bool) -> RuleName
 // So many nodes have all their parts.
 fn close(walk: &mut Walk, nodes: usize)
     ensures closed { built walk.new.nodes ≡ closed_times nodes (built walk.old.nodes) }
+    ensures room { walk.new.room ≡ walk.old.room }
     ensures next { walk.new.next ≡ walk.old.next }
 {
     for i in 0..nodes {

@@ -1,10 +1,23 @@
 // A program with its proof file: what is made for one, and how one is judged.
+ghost use Rattle.std.specs.Prelude.{◌≡◌, ◌<◌, ◌≤◌, List, length, IfOk, OnOk, Err};
+ghost use Rattle.fip_trees.specs.TreeView as V;
+ghost use Rattle.derivation_trees.specs.Trees.{Entry};
+ghost use Rattle.proof_check.specs.Accepted.{IsDerivation};
+ghost use Rattle.proof_text.specs.declared.error.TextError.TheVariants.{TooLong};
+ghost use Rattle.proof_text.specs.Limited.{Limited};
+ghost use Rattle.proof_text.specs.ProofText.{lines_text, IsProofText};
+ghost use Rattle.derivation_making.specs.Made.{made_entries};
+ghost use Rattle.derivation_making.specs.Weakening.{AllLean};
+ghost use Rattle.derivation_spelling.specs.Limits.{KeepsLimits};
+ghost use Rattle.variable_uses.specs.Seen.{world_of};
+ghost use Rattle.fip_proof.specs.Ready.{IsReady};
+ghost use Rattle.fip_proof.specs.Lines.{IsLine};
+
 use crate::error::AuditError;
-use derivation_walk::{LineError, line_of};
-use fip_base::plain::FunKind;
+use derivation_walk::{LineError, is_ruled, line_of};
 use fip_language::limits::MOST_FILE_BYTES;
-use fip_trees::needs::Needs;
-use fip_trees::program::Typed;
+use fip_trees::needs::{Need, Needs};
+use fip_trees::program::{Instance, Typed};
 use fip_trees::scalars::Scalars;
 use proof_check::check;
 use proof_text::{Text, TextError, read_derivation};
@@ -19,26 +32,67 @@ pub fn derivation_text(
     typed: &Typed,
     needs: &Needs,
     limit: usize,
-) -> Result<Vec<u8>, TextError> {
+) -> Result<Vec<u8>, TextError>
+    // Of a program that is asked for it is the text of what is made.
+    ensures text { IfOk result (λ t. IsReady (V.program typed.now.program) needs.now →
+        t.items ≡ lines_text (made_entries (V.program typed.now.program) 0 (V.program typed.now.program).instances)) }
+    // Where the program keeps the limits on registers and instances, too, it is read again as that.
+    ensures read { IfOk result (λ t. IsReady (V.program typed.now.program) needs.now →
+        KeepsLimits (V.program typed.now.program) → IsProofText t.items
+        (made_entries (V.program typed.now.program) 0 (V.program typed.now.program).instances)) }
+    // What it is the text of is a derivation of the program, and weakens no more than it must.
+    ensures derived { IfOk result (λ t. IsReady (V.program typed.now.program) needs.now →
+        KeepsLimits (V.program typed.now.program) → (es : List Entry) → IsProofText t.items es →
+        IsDerivation (V.program typed.now.program) es × AllLean es) }
+    // It has no more bytes than it may.
+    ensures within { IfOk result (λ t. length t.items ≤ limit) }
+    // TooLong: the text of what is made has more.
+    ensures long { result ≡ Err TooLong → IsReady (V.program typed.now.program) needs.now → limit < length
+        (lines_text (made_entries (V.program typed.now.program) 0 (V.program typed.now.program).instances)) }
+{
     let program = &typed.program;
     let scalars = Scalars::of(alloc, &program.types)?;
     let mut text = Text::new(alloc, limit);
     for (number, instance) in program.instances.iter().enumerate() {
-        if instance.kind != FunKind::Fun {
+        if is_ruled(instance.kind) {
             let context = Context {
                 program,
                 scalars: &scalars,
                 kind: instance.kind,
             };
-            let room = text.room();
-            match line_of(alloc, &context, needs.of(number), number, instance, room) {
-                Ok(line) => text.line(&line)?,
-                Err(LineError::TooLong) => return Err(TextError::TooLong),
-                Err(LineError::NoMemory) => return Err(TextError::NoMemory),
-            }
+            add_line(
+                alloc,
+                &context,
+                needs.of(number),
+                number,
+                instance,
+                &mut text,
+            )?;
         }
     }
     Ok(text.into_bytes())
+}
+
+// The line of an instance comes behind a text.
+fn add_line(
+    alloc: Global,
+    context: &Context<'_>,
+    needs: &[Need],
+    number: usize,
+    instance: &Instance,
+    text: &mut Text,
+) -> Result<(), TextError>
+    ensures line { OnOk result (IsLine (world_of context.now) needs.now (V.instance_of instance.now) number
+        text.old text.new) }
+    ensures within { OnOk result (length text.new.bytes ≤ text.new.limit) }
+    ensures long { result ≡ Err TooLong → (new : Limited) × IsLine (world_of context.now) needs.now
+        (V.instance_of instance.now) number text.old new × (text.old.limit < length new.bytes) }
+{
+    match line_of(alloc, context, needs, number, instance, text.room()) {
+        Ok(line) => text.line(&line),
+        Err(LineError::TooLong) => Err(TextError::TooLong),
+        Err(LineError::NoMemory) => Err(TextError::NoMemory),
+    }
 }
 
 /// Judges a proof file of a typed program. BadProof: its bytes are no derivation's text, or more than 16,777,216.

@@ -1,6 +1,6 @@
 // Derivations of the ownership calculus: made, checked (`proof_check`), written and read. A derivation says for each
-// fip and fbip instance, rule by rule, which owned variables and credits each of its expressions uses up. Whoever has a program and
-// a derivation needs no rule of the checkers to see that the program keeps the discipline.
+// fip and fbip instance, rule by rule, which owned variables and credits each of its expressions uses up. Whoever has a
+// program and a derivation needs no rule of the checkers to see that the program keeps the discipline.
 //
 // `Derives(B, O, e)` holds of variables B that are lent or scalar, of owned variables and credits O, and of an
 // expression e. O splits where each of its variables and credits goes to exactly one part.

@@ -121,6 +121,12 @@ ruled_needs p Fun d r = absurd (cc)
 one_entry : (e f : Entry) → e.instance ≡ f.instance → e.tree ≡ f.tree → e ≡ f
 one_entry e f a b = ap₂ (λ n t. record { instance = n; tree = t }) a b
 
+-- of an instance that stands at a place of the program
+pub walked_is : (p : Program) (nss : List (List Need)) (n : ℕ) (d : Instance) (ds : List Instance) (t : Tree) → nss ≡ all_needs p p.instances → Piece p.instances (d ∷ ds) n → is_ruled d.kind ≡ true → IsNumbered p d → IsSized p d → DerivesInstance (world p d.kind) d (made_instance p (world p d.kind) d) → IsWalked (world p d.kind) (needs_of nss n) d t → t ≡ made_instance p (world p d.kind) d
+walked_is p nss n d ds t same pi r an az h k =
+    let nn = needs_at p n nss p.instances d same (piece_get p.instances ds d n pi) ∙ ruled_needs p d.kind d r in
+    instance_is p (world p d.kind) d (needs_of nss n) t an az.body nn h k
+
 module _ (p : Program) (nss : List (List Need)) (same : nss ≡ all_needs p p.instances) where
   entries_is : (n : ℕ) (ds : List Instance) (es : List Entry) → Piece p.instances ds n → AllNumbered p ds → AreSized p ds → AreDerived p n ds (made_entries p n ds) → AreWalked p nss n ds es → es ≡ made_entries p n ds
   entries_is n [] [] pi an az h k = refl
@@ -134,8 +140,7 @@ module _ (p : Program) (nss : List (List Need)) (same : nss ≡ all_needs p p.in
           → es ≡ (if b then record { instance = n; tree = made_instance p (world p d.kind) d } ∷ made_entries p (n + 1) ds else made_entries p (n + 1) ds)
       step true r [] h k f = absurd k
       step true r (e ∷ es) h k f =
-          let nn = needs_at p n nss p.instances d same (piece_get p.instances ds d n pi) ∙ ruled_needs p d.kind d r in
-          let t = instance_is p (world p d.kind) d (needs_of nss n) e.tree (an.0 r) az.0.body nn h.1 k.1 in
+          let t = walked_is p nss n d ds e.tree same pi r (an.0 r) az.0 h.1 k.1 in
           ap₂ (λ x xs. x ∷ xs) (one_entry e (record { instance = n; tree = made_instance p (world p d.kind) d }) k.0 t) (f es h.2 k.2)
       step false r es h k f = f es h k
 

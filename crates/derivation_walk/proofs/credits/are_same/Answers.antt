@@ -1,5 +1,3 @@
-use Rattle.std.proofs.Common.{◌≡◌, ◌∙◌, refl, ap, true}
-use Rattle.std.specs.Prelude.{◌==◌}
 use Rattle.std.proofs.lemmas.Bool.{eq-eqb}
 use Rattle.derivation_walk.specs.Walked.{same_from}
 use Rattle.derivation_walk.proofs.Steps.{same_more}

@@ -7,4 +7,5 @@ abbrev pub invariant-loop-i : goal.invariant-loop-i
 invariant-loop-i l = record {
   closed : closed_times (l.nodes - l.i) (built l.walk.nodes) ≡ closed_times l.nodes (built l.fn.walk.nodes);
   next : l.walk.next ≡ l.fn.walk.next;
+  room : l.walk.room ≡ l.fn.walk.room;
 }

@@ -1,6 +1,5 @@
 use Rattle.std.proofs.Common.{rules, ◌≡◌, ◌+◌, ◌∙◌, List, [], ◌∷◌, ◌++◌, map, drop, sym, subst}
 use Rattle.fip_trees.specs.TreeView as V
-use Rattle.fip_trees.specs.NeedsView.{needs_of}
 use Rattle.fip_trees.specs.declared.program.Instance as A
 use Rattle.fip_rules.specs.World.{world}
 use Rattle.credit_check.proofs.Steps.{drop_item}
@@ -39,13 +38,13 @@ loop-number-preserved c =
           let h = subst (λ z. IsWalked (world P c.instance-item.result.kind) z d (entry w.in-Ok.line).tree) w.of-then-is_ruled.ensures.held w.in-Ok.ensures.walked in
           record {
             trees = trees_more ls ms w.in-Ok.line c.loop-number.invariant.trees w.in-Ok.ensures.tree e;
-            walked = ruled_more P nss n d ds all ls ms w.in-Ok.line (sym c.is_ruled.ensures ∙ w.if-is_ruled.true) w.in-Ok.ensures.instance h e inv;
+            walked = ruled_more P nss n d ds all ls ms w.in-Ok.line (sym c.is_ruled.ensures.ruled ∙ w.if-is_ruled.true) w.in-Ok.ensures.instance h e inv;
           }
       | else-is_ruled w ↦
           let e : ms ≡ ls = search rules in
           record {
             trees = subst (λ (xs : List Line). AreTrees xs) (sym e) c.loop-number.invariant.trees;
-            walked = plain_more P nss n d ds all ls ms (sym c.is_ruled.ensures ∙ w.if-is_ruled.false) e inv;
+            walked = plain_more P nss n d ds all ls ms (sym c.is_ruled.ensures.ruled ∙ w.if-is_ruled.false) e inv;
           }
     ]
 

@@ -1,4 +1,4 @@
-use Rattle.std.proofs.Common.{[], ◌∙◌, ap}
+use Rattle.std.proofs.Common.{◌∙◌, ap}
 use Rattle.fip_trees.specs.TreeView.{argument}
 use Rattle.derivation_walk.specs.Guides.{guided}
 use Rattle.derivation_walk.specs.Walked.{owning, sorted}

@@ -1,0 +1,5 @@
+pub mod Spelt
+pub mod Callees
+pub mod Amounts
+pub mod Depths
+pub mod Whole

@@ -6,3 +6,4 @@ pub mod Falling
 pub mod FewSteps
 pub mod Weights
 pub mod GivenBack
+pub mod Ending

@@ -6,11 +6,11 @@ ghost use Rattle.fip_base.specs.declared.plain.Stack.{Stack};
 ghost use Rattle.code_runs.specs.Cells.{count_held};
 ghost use Rattle.code_runs.specs.States.{State, frames_held, words_held};
 ghost use Rattle.code_runs.specs.Steps.{Kinds};
-ghost use Rattle.code_runs.specs.Runs.{Value, Deep, Over, state_of, begun, after};
+ghost use Rattle.code_runs.specs.Runs.{End, Ends, Value, Deep, Over, state_of, begun, after};
 ghost use Rattle.code_runs.specs.Apart.{GivesApart};
 ghost use Rattle.sound_code.specs.Codes.{PlainCode};
 ghost use Rattle.sound_code.specs.StackNumbers.{IsFip, IsStack};
-ghost use Rattle.code_separation.specs.Codes.{run_code};
+ghost use Rattle.code_separation.specs.Codes.{run_code, AreKinds};
 ghost use Rattle.code_separation.specs.Starts.{IsStart};
 ghost use Rattle.code_bounds.specs.ByTrees.{cells_of_trees, cells_at};
 ghost use Rattle.code_bounds.specs.Held.{IsHeld};
@@ -67,6 +67,18 @@ pub fn a_run_takes_few_steps()
     ensures law { (c : PlainCode) (before waits : Kinds) (n : ℕ) (kept : List ℕ) (s : State)
         (calls steps most : ℕ) → IsStart c before waits n kept s → AreAtMost c most →
         steps_of (after before (run_code c) steps (begun s calls)) ≤ calls * most }
+{}
+
+/// A run of sound code ends, with any number of calls; and in one way, whichever kinds are given. For who waits for its
+/// results.
+pub fn a_run_ends()
+    ensures some { (c : PlainCode) (before waits : Kinds) (n : ℕ) (kept : List ℕ) (s : State) (calls : ℕ) →
+        IsStart c before waits n kept s → (e : End) × (last : State) × (left : ℕ) × (steps : ℕ)
+        × Ends before (run_code c) s calls e last left steps }
+    ensures one { (c : PlainCode) (before waits first other : Kinds) (n : ℕ) (kept : List ℕ) (s : State)
+        (calls : ℕ) (e d : End) (last end : State) (left more steps done : ℕ) → IsStart c before waits n kept s →
+        AreKinds c first other → Ends before (run_code c) s calls e last left steps →
+        Ends first (run_code c) s calls d end more done → Over e last left steps ≡ Over d end more done }
 {}
 
 /// The held cells of each size are, in the first state, those of the arguments' values, the credits and the kept cells,

@@ -27,8 +27,8 @@ ghost use Rattle.source_report.specs.Report.{IsParsed, IsTyped, IsAccepted};
 
 /// Where code is lowered from the program of an accepted source, its runs on arguments of the parameters' types end as
 /// the program means: with the same values and calls left, in the same trap, or out of calls or frames. So it is of
-/// runs on trees; and where the code is sound, of runs on cells that stand for the arguments. For who runs code in place
-/// of its program.
+/// runs on trees; and where the code is sound, of runs on cells that stand for the arguments. For who runs code in
+/// place of its program.
 pub fn accepted_code_means_its_program()
     ensures trees { (source : List ℕ) (program : Program) (code : TreeCode) → IsAccepted source program →
         AreLowered program (all_instrs code) → (i f : ℕ) (arguments : Values) (calls frames : ℕ) →

@@ -1,5 +1,5 @@
--- It serves the proof that a derivation is made: what is asked of a body, beside that it breaks no rule on ownership and
--- credits. Each typed body keeps to it whose binders are numbered in the order of the text.
+-- It serves the proof that a derivation is made: what is asked of a body, beside that it breaks no rule on ownership
+-- and credits. Each typed body keeps to it whose binders are numbered in the order of the text.
 --
 -- Each occurrence means a variable in scope; an operand and an argument for a parameter of a scalar type is scalar; an
 -- argument in a borrowed position is no literal; a scrutinee is a variable of the match's type; a let binds something.

@@ -1,5 +1,5 @@
--- Derivations that weaken no more than they must: a node that weakens leaves out a variable or a credit, and its part is
--- no such node. For example WEAKEN[0 1|](VAR[1|]) is so, and WEAKEN[1|](VAR[1|]) is not.
+-- Derivations that weaken no more than they must: a node that weakens leaves out a variable or a credit, and its part
+-- is no such node. For example WEAKEN[0 1|](VAR[1|]) is so, and WEAKEN[1|](VAR[1|]) is not.
 use Rattle.std.specs.Prelude.{◌≡◌, ◌<◌, ℕ, Bool, false, List, [], ◌∷◌}
 use Rattle.own_calculus.specs.Terms.{Item}
 use Rattle.derivation_trees.specs.declared.derivation.Credit as D

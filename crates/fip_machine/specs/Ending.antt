@@ -1,7 +1,7 @@
--- How a run came out, against the run that the definition says: it ended so, in this state, with these words of results.
--- Where an instruction can't be done nothing is said: of sound code this never happens.
--- rev of two items and none, with 2 calls: the definition's run is over after 8 steps, out of calls, before the call
--- that isn't left. So the machine answers Out, and stands before that call.
+-- How a run came out, against the run that the definition says: it ended so, in this state, with these words of
+-- results. Where an instruction can't be done nothing is said: of sound code this never happens. rev of two items and
+-- none, with 2 calls: the definition's run is over after 8 steps, out of calls, before the call that isn't left. So
+-- the machine answers Out, and stands before that call.
 use Rattle.std.specs.Prelude.{◌≡◌, ℕ, List}
 use Rattle.code_verify.specs.Checked.{Checked}
 use Rattle.code_runs.specs.Codes.{PlainCode, plain}

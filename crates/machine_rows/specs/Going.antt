@@ -1,6 +1,7 @@
 -- Instructions that a machine does in one turn, against what the definition says comes next.
--- A run may test a register, take its cell apart and put the cell together again in one turn, so that the cell is looked
--- up once. From the state before the Test the definition's Test, Take and Put then lead to the state after the turn.
+-- A run may test a register, take its cell apart and put the cell together again in one turn, so that the cell is
+-- looked up once. From the state before the Test the definition's Test, Take and Put then lead to the state after the
+-- turn.
 use Rattle.std.specs.Prelude.{◌≡◌, ◌≢◌, ℕ, zero, suc, ◌%◌, ◌/◌, Bool, false, List, [], Some, None, slice_get}
 use Rattle.cell_code.specs.declared.code.Instr.{Instr}
 use Rattle.cell_code.specs.declared.code.Instr.TheVariants as I

@@ -51,7 +51,8 @@ SameBelow low cs ds = (z : ℕ) → z < low → ds z ≡ cs z
 pub record IsFirst (s : Scene) (v : Value) (i : ℕ) (q : Pattern) : Type 0 where
   pub there : slice_get s.patterns i ≡ Some q
   pub fits : fits (row_of q) v ≡ true
-  pub before : (j : ℕ) (p : Pattern) → j < i → slice_get s.patterns j ≡ Some p → Rattle.match_knowledge.specs.Patterns.fits (row_of p) v ≡ false
+  pub before : (j : ℕ) (p : Pattern) → j < i → slice_get s.patterns j ≡ Some p →
+      Rattle.match_knowledge.specs.Patterns.fits (row_of p) v ≡ false
 
 -- from p, where registers hold cs, the label of the first clause that matches is reached; before the match they held c0
 pub record Lands (s : Scene) (to : ℕ → ℕ) (code : List Instr) (p : ℕ) (c0 cs : Contents) : Type 0 where

@@ -1,5 +1,5 @@
--- It serves the proofs on lowered code: which instructions take the cells of a value apart, or read what a pattern names,
--- and what registers hold then.
+-- It serves the proofs on lowered code: which instructions take the cells of a value apart, or read what a pattern
+-- names, and what registers hold then.
 use Rattle.std.specs.Prelude.{◌≡◌, ℕ, suc, Bool, true, false, ◌||◌, not, nat_eq, List, [], ◌∷◌}
 use Rattle.std.specs.Prelude.{if◌then◌else◌}
 use Rattle.fip_language.specs.Values.{Value, Values, End, More}

@@ -1,8 +1,8 @@
--- It serves the proofs on lowered code: what the lowering of a function has written so far. Instructions are only added,
--- one after another. A jump or a test goes to a label, a number that gets its place once, before or after; in the code
--- the place stands for it. So what is said of a part is said of each code that has what was written there, for each
--- choice of places that keeps those that labels have.
--- Test 0 1 5; Ret [0] where label 5 has the place 2 is in the code Test 0 1 2; Ret [0].
+-- It serves the proofs on lowered code: what the lowering of a function has written so far. Instructions are only
+-- added, one after another. A jump or a test goes to a label, a number that gets its place once, before or after; in
+-- the code the place stands for it. So what is said of a part is said of each code that has what was written there,
+-- for each choice of places that keeps those that labels have. Test 0 1 5; Ret [0] where label 5 has the place 2 is in
+-- the code Test 0 1 2; Ret [0].
 use Rattle.std.specs.Prelude.{◌≡◌, ◌≤◌, ◌<◌, ℕ, List, [], ◌∷◌, ◌++◌, Option, Some, None, length, slice_get}
 use Rattle.cell_code.specs.declared.code.Instr.{Instr}
 use Rattle.cell_code.specs.declared.code.Instr.TheVariants as I

@@ -109,11 +109,13 @@ impl<'a> Walk<'a> {
             ≡ numbers (world (V.program self.now.program.now) self.now.kind) at.next
             (binders (V.pattern pattern.now) ++ bs)) }
         ensures down { IfSome result (λ r. (bs : List B.Binder) → drop at.place owned.now
-            ≡ numbers (world (V.program self.now.program.now) self.now.kind) at.next (binders (V.pattern pattern.now) ++ bs) →
+            ≡ numbers (world (V.program self.now.program.now) self.now.kind)
+            at.next (binders (V.pattern pattern.now) ++ bs) →
             drop r.place owned.now ≡ numbers (world (V.program self.now.program.now) self.now.kind) r.next bs) }
         ensures within { IfSome result (λ r. at.place ≤ length owned.now → r.place ≤ length owned.now) }
         ensures other { IfNone result ((bs : List B.Binder) → drop at.place owned.now
-            ≡ numbers (world (V.program self.now.program.now) self.now.kind) at.next (binders (V.pattern pattern.now) ++ bs) → ⊥) }
+            ≡ numbers (world (V.program self.now.program.now) self.now.kind)
+            at.next (binders (V.pattern pattern.now) ++ bs) → ⊥) }
     {
         match pattern {
             Pattern::Binder(binder) => match self.owns(binder, owned, at) {
@@ -135,11 +137,13 @@ impl<'a> Walk<'a> {
             ≡ numbers (world (V.program self.now.program.now) self.now.kind) at.next
             (binders_all (V.patterns patterns.now) ++ bs)) }
         ensures down { IfSome result (λ r. (bs : List B.Binder) → drop at.place owned.now
-            ≡ numbers (world (V.program self.now.program.now) self.now.kind) at.next (binders_all (V.patterns patterns.now) ++ bs) →
+            ≡ numbers (world (V.program self.now.program.now) self.now.kind)
+            at.next (binders_all (V.patterns patterns.now) ++ bs) →
             drop r.place owned.now ≡ numbers (world (V.program self.now.program.now) self.now.kind) r.next bs) }
         ensures within { IfSome result (λ r. at.place ≤ length owned.now → r.place ≤ length owned.now) }
         ensures other { IfNone result ((bs : List B.Binder) → drop at.place owned.now
-            ≡ numbers (world (V.program self.now.program.now) self.now.kind) at.next (binders_all (V.patterns patterns.now) ++ bs) → ⊥) }
+            ≡ numbers (world (V.program self.now.program.now) self.now.kind)
+            at.next (binders_all (V.patterns patterns.now) ++ bs) → ⊥) }
     {
         let mut here = at;
         for pattern in patterns {

@@ -253,7 +253,8 @@ impl<'a> Walk<'a> {
     pub fn goes_on(&self, head: &Head<'_>, next: usize, place: usize, pattern: &Pattern) -> bool
         requires room { next + length (binders (V.pattern pattern.now)) ≤ 4294967296 }
         requires owned { IsOwned (next + length (binders (V.pattern pattern.now))) (at self.now.nodes.now place) }
-        ensures sound { IsTrue result → GoesOn (world (V.program self.now.program.now) self.now.kind) next head.now.taken
+        ensures sound { IsTrue result → GoesOn (world (V.program self.now.program.now) self.now.kind)
+            next head.now.taken
             (owned head.now.found.node.now.variables.items head.now.found.node.now.credits.items)
             (V.pattern pattern.now) (at self.now.nodes.now place) }
         ensures complete { Rising 0 next head.now.found.node.now.variables.items →
@@ -342,7 +343,8 @@ impl<'a> Walk<'a> {
         ensures only { IfSome result (λ h. (k : ℕ) (xs : List ℕ) (cs : List D.Credit) (ts : Trees) →
             IsTaking (world (V.program self.now.program.now) self.now.kind) (scope_of (frames scope.now)) next
             (V.argument scrutinee.now) (at self.now.nodes.now place) k xs cs ts →
-            (h.taken ≡ Some k) × (node_with self.now.nodes.now h.found.first h.found.node.now ≡ Branch R.TakingMatch xs cs ts)) }
+            (h.taken ≡ Some k) × (node_with self.now.nodes.now h.found.first h.found.node.now
+            ≡ Branch R.TakingMatch xs cs ts)) }
         ensures other { IfNone result ((k : ℕ) (xs : List ℕ) (cs : List D.Credit) (ts : Trees) →
             IsTaking (world (V.program self.now.program.now) self.now.kind) (scope_of (frames scope.now)) next
             (V.argument scrutinee.now) (at self.now.nodes.now place) k xs cs ts → ⊥) }
@@ -377,10 +379,12 @@ impl<'a> Walk<'a> {
         ensures below { IfSome result (λ h. h.below ≡ next) }
         ensures whole { IfSome result (λ h. Rising 0 h.below h.found.node.now.variables.items) }
         ensures inside { IfSome result (λ h. IfSome h.taken (λ k. k < h.below)) }
-        ensures only_taking { takes ≡ true → IfSome result (λ h. (k : ℕ) (xs : List ℕ) (cs : List D.Credit) (ts : Trees) →
+        ensures only_taking { takes ≡ true → IfSome result (λ h. (k : ℕ) (xs : List ℕ) (cs : List D.Credit)
+            (ts : Trees) →
             IsTaking (world (V.program self.now.program.now) self.now.kind) (scope_of (frames scope.now)) next
             (V.argument scrutinee.now) (at self.now.nodes.now place) k xs cs ts →
-            (h.taken ≡ Some k) × (node_with self.now.nodes.now h.found.first h.found.node.now ≡ Branch R.TakingMatch xs cs ts)) }
+            (h.taken ≡ Some k) × (node_with self.now.nodes.now h.found.first h.found.node.now
+            ≡ Branch R.TakingMatch xs cs ts)) }
         ensures only_lending { takes ≡ false → IfSome result (λ h. (xs : List ℕ) (cs : List D.Credit) (ts : Trees) →
             IsLending (world (V.program self.now.program.now) self.now.kind) (scope_of (frames scope.now)) next
             (V.argument scrutinee.now) (at self.now.nodes.now place) xs cs ts →
@@ -422,7 +426,8 @@ impl<'a> Walk<'a> {
         ensures only { IfSome result (λ h. (k : ℕ) (xs : List ℕ) (cs : List D.Credit) (ts : Trees) →
             TakenNode (world (V.program self.now.program.now) self.now.kind) next
             (S.meant (scope_of (frames scope.now)).variables binder) (at self.now.nodes.now place) k xs cs ts →
-            (h.taken ≡ Some k) × (node_with self.now.nodes.now h.found.first h.found.node.now ≡ Branch R.TakingMatch xs cs ts)) }
+            (h.taken ≡ Some k) × (node_with self.now.nodes.now h.found.first h.found.node.now
+            ≡ Branch R.TakingMatch xs cs ts)) }
         ensures other { IfNone result ((k : ℕ) (xs : List ℕ) (cs : List D.Credit) (ts : Trees) →
             TakenNode (world (V.program self.now.program.now) self.now.kind) next
             (S.meant (scope_of (frames scope.now)).variables binder) (at self.now.nodes.now place) k xs cs ts → ⊥) }

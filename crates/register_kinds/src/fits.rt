@@ -129,7 +129,8 @@ fn all_fit(known: &[Known], kinds: &[Kind], tested: Option<Tested>) -> bool
     known.get(place).is_none()
 }
 
-// Whether these registers fit, where one is already known to fit. One that stands several times on end is looked at once.
+// Whether these registers fit, where one is already known to fit. One that stands several times on end is looked at
+// once.
 fn each_fits(
     known: &[Known],
     kinds: &[Kind],

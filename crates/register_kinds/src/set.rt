@@ -257,8 +257,8 @@ fn are_among(own: &[u32], lacked: Option<u32>, others: &[u32]) -> bool
     true
 }
 
-// Where the numbers of a piece of a list, but `lacked`, are among others, those among which the numbers behind the piece
-// can be looked for. Where others begin with the same numbers as the piece, that is seen at once.
+// Where the numbers of a piece of a list, but `lacked`, are among others, those among which the numbers behind the
+// piece can be looked for. Where others begin with the same numbers as the piece, that is seen at once.
 fn after_piece<'b>(
     others: &'b [u32],
     lacked: Option<u32>,
@@ -384,8 +384,8 @@ fn search(numbers: &[u32], number: u32) -> Option<&[u32]>
     }
 }
 
-// Among how many of rising numbers one has to be looked for: all behind these are greater. It is at most twice the place
-// where it stands, but for one.
+// Among how many of rising numbers one has to be looked for: all behind these are greater. It is at most twice the
+// place where it stands, but for one.
 fn enough(numbers: &[u32], number: u32) -> usize
     ensures within { result ≤ length numbers.now }
     ensures greater { result < length numbers.now → number < get_or numbers.now result 0 }

@@ -1,5 +1,5 @@
--- What `audit` tells. Of a source whose types or matches aren't right it is the report. Else no more rules are asked, and
--- a proof file is judged for the source's program: its bytes are the text of a derivation of it; or they are no
+-- What `audit` tells. Of a source whose types or matches aren't right it is the report. Else no more rules are asked,
+-- and a proof file is judged for the source's program: its bytes are the text of a derivation of it; or they are no
 -- derivation's text (E72, whose detail is an offset); or they are the text of one, but none of this program (E73).
 --
 -- `audit list.fip3 list.proof` of a file that begins with `0 VAX` is refused by `E72: 4`: some text begins with `0 VA`,

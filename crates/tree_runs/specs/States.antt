@@ -6,8 +6,8 @@ use Rattle.fip_language.specs.declared.TrapKind.{TrapKind}
 use Rattle.fip_language.specs.Values.{Values}
 use Rattle.tree_runs.specs.Contents.{Contents}
 
--- a frame: a function, the number of the instruction that is to be done, and what the registers hold. A frame that waits
--- is at its Call.
+-- a frame: a function, the number of the instruction that is to be done, and what the registers hold. A frame that
+-- waits is at its Call.
 pub record Frame : Type 0 where
   pub function : ℕ
   pub at : ℕ

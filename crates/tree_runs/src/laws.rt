@@ -26,8 +26,8 @@ pub fn an_ended_tree_run_has_no_step()
 {}
 
 /// The code of `rev` and `inc`. `rev` of three items with 10 calls leaves 6 after 15 steps; `inc` of them waits in
-/// three frames, and with two it is too deep, unless it is out of calls before; a sum that is too great is a trap at its
-/// `+`. So these runs end as the meaning of the two does. For who wants to see the numbers.
+/// three frames, and with two it is too deep, unless it is out of calls before; a sum that is too great is a trap at
+/// its `+`. So these runs end as the meaning of the two does. For who wants to see the numbers.
 pub fn an_example_runs_on_trees()
     ensures reversed { ending (after lists 15 (begun (entry 0 (pair three empty) 0) 10))
         ≡ Some (record { answer = Gives (More three_reversed End) 6; steps = 15 }) }

@@ -9,8 +9,8 @@ use Rattle.value_text.specs.Standing.{Stands, StandAll}
 use Rattle.value_text.specs.declared.print.Field.{Field}
 use Rattle.value_text.specs.declared.print.Row.{Row}
 
--- what is to be printed: a value of a type, by its word; the last fields of the cell at a place, of these types; or the )
--- of a cell
+-- what is to be printed: a value of a type, by its word; the last fields of the cell at a place, of these types; or
+-- the ) of a cell
 pub data Task : Type 0 where
   Whole : (ty w : ℕ) → Task
   Fields : (types : List ℕ) (p : ℕ) → Task

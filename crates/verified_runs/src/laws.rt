@@ -1,4 +1,5 @@
-// The laws that join the machine with what is known of sound code. Each is the contract of a function that does nothing.
+// The laws that join the machine with what is known of sound code. Each is the contract of a function that does
+// nothing.
 ghost use Rattle.std.specs.Prelude.{ℕ, List};
 ghost use Rattle.code_runs.specs.Codes as R;
 ghost use Rattle.code_runs.specs.States.{State};

@@ -15,8 +15,9 @@ ghost use Rattle.derivation_spelling.specs.Within.{AreWithin};
 ghost use Rattle.derivation_spelling.specs.Limits.{KeepsLimits};
 
 /// A derivation of a program is read again from its text, where its nodes nest at most 10,000 deep and its numbers are
-/// below 2^32. What is made for a program is so where the program keeps the limits on registers and instances: then its
-/// derivation has a text. For who stores derivations.
+/// below 2^32. What is made for a program that is numbered in the order of the text and breaks no rule on ownership and
+/// credits is so where the program keeps the limits on registers and instances: then its derivation has a text. For who
+/// stores derivations.
 pub fn spelling()
     ensures read { (p : Program) (es : List Entry) → IsDerivation p es → AreWithin es →
         IsProofText (lines_text es) es }

@@ -159,7 +159,7 @@ pub record BeginTogether (before waits : Kinds) (code : PlainCode) (tasks : List
       IsSameRun before waits code t.function t.places (begun t.state t.calls) (in_store first.store r)
 
 -- Each task begins alone in a state that is loaded: the code is sound, these are its kinds, the words that the function
--- is given stand for arguments and credits that are apart, and the store of the task has no other cells.
+-- is given stand for arguments and credits that are apart, and of the store's other cells none is unreleased.
 abbrev pub AreLoaded : Kinds → Kinds → S.PlainCode → List Begun → Type 0
 AreLoaded before waits code tasks =
     (k : ℕ) (t : Begun) → slice_get tasks k ≡ Some t → IsStart code before waits t.function [] t.state

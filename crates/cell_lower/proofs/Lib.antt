@@ -7,3 +7,12 @@ pub mod Losing
 pub mod Writing
 pub mod Calling
 pub mod Blocks
+pub mod Expressions
+pub mod Growing
+pub mod Folding
+pub mod Choosing
+pub mod Beginning
+pub mod Matching
+pub mod Clauses
+pub mod Programs
+pub mod Parts

@@ -2,4 +2,8 @@ pub mod Limits
 pub mod LimitNotes
 pub mod Shape
 pub mod Frames
+pub mod Positions
+pub mod Scenes
 pub mod Writing
+pub mod Clauses
+pub mod Lowered

@@ -3,7 +3,10 @@ ghost use Rattle.std.specs.Prelude.{◌≡◌, IfOk, OnOk, slice_get};
 ghost use Rattle.fip_trees.specs.Tree as T;
 ghost use Rattle.fip_trees.specs.TreeView as V;
 ghost use Rattle.lowered_code.specs.Bodies as B;
-ghost use Rattle.cell_lower.specs.Writing.{setting, target_of, named_at, AppliesTo, GivesValues, Writes};
+ghost use Rattle.match_code.specs.WellMatched.{WellMatched, WellMatchedBlock};
+ghost use Rattle.cell_lower.specs.Clauses.{WritesClause, WritesClauses};
+ghost use Rattle.cell_lower.specs.Writing.{setting, target_of, named_at, AppliesTo, Binds, GivesValues, Writes};
+ghost use Rattle.cell_lower.specs.Writing.{WritesBlock};
 
 use crate::calls::Applied;
 use crate::lowerer::{Lowerer, Target};
@@ -15,7 +18,13 @@ use fip_trees::program::{Argument, Binder, Binding, Block, Clause, Expression};
 impl<'a> Lowerer<'a> {
     /// A block: what it binds, then its last expression.
     #[cycle(block)]
-    pub fn block(&mut self, block: &Block, target: Target<'_>) -> Result<(), NoMemory> {
+    #[tactic(auto, using(crate::proofs::Blocks::blocks))]
+    pub fn block(&mut self, block: &Block, target: Target<'_>) -> Result<(), NoMemory>
+        ensures writes { OnOk result (WellMatchedBlock self.old.context.now.program.now.types (V.block block.now) →
+            WritesBlock (setting self.old.context.now) self.old.frame self.old.buffer (V.block block.now)
+            (target_of target.entry) self.new.frame self.new.buffer) }
+        ensures context { OnOk result (self.new.context ≡ self.old.context) }
+    {
         self.walk.enter();
         for binding in &block.bindings {
             self.binding(binding)?;
@@ -26,7 +35,13 @@ impl<'a> Lowerer<'a> {
 
     // A let without its body.
     #[cycle(block)]
-    fn binding(&mut self, binding: &Binding) -> Result<(), NoMemory> {
+    #[tactic(auto, using(crate::proofs::Blocks::binding_one))]
+    fn binding(&mut self, binding: &Binding) -> Result<(), NoMemory>
+        ensures binds { OnOk result (WellMatched self.old.context.now.program.now.types (V.binding binding.now).bound →
+            Binds (setting self.old.context.now) self.old.frame self.old.buffer (V.binding binding.now).binders
+            (V.binding binding.now).bound self.new.frame self.new.buffer) }
+        ensures context { OnOk result (self.new.context ≡ self.old.context) }
+    {
         match &binding.bound {
             Expression::Give(argument) => {
                 self.walk.enter();
@@ -89,7 +104,13 @@ impl<'a> Lowerer<'a> {
     }
 
     #[cycle(block)]
-    fn expression(&mut self, expression: &Expression, target: Target<'_>) -> Result<(), NoMemory> {
+    #[tactic(auto, using(crate::proofs::Blocks::expressions))]
+    fn expression(&mut self, expression: &Expression, target: Target<'_>) -> Result<(), NoMemory>
+        ensures writes { OnOk result (WellMatched self.old.context.now.program.now.types (V.expression expression.now) →
+            Writes (setting self.old.context.now) self.old.frame self.old.buffer (V.expression expression.now)
+            (target_of target.entry) self.new.frame self.new.buffer) }
+        ensures context { OnOk result (self.new.context ≡ self.old.context) }
+    {
         match expression {
             Expression::Give(argument) => {
                 self.give_one(argument, target)?;
@@ -219,7 +240,11 @@ impl<'a> Lowerer<'a> {
         progress: &mut Progress,
         clause: &Clause,
         target: Target<'_>,
-    ) -> Result<(), NoMemory> {
+    ) -> Result<(), NoMemory>
+        ensures writes { OnOk result (WritesClause (setting self.old.context.now) matching.now (V.clause clause.now)
+            (target_of target.entry) progress.old self.old.buffer progress.new self.new.buffer) }
+        ensures context { OnOk result (self.new.context ≡ self.old.context) }
+    {
         self.start_clause(matching, progress, clause)?;
         self.block(&clause.body, target)?;
         self.end_clause(matching, progress, target)?;
@@ -233,7 +258,12 @@ impl<'a> Lowerer<'a> {
         progress: &mut Progress,
         clauses: &[Clause],
         target: Target<'_>,
-    ) -> Result<(), NoMemory> {
+    ) -> Result<(), NoMemory>
+        ensures writes { OnOk result (WritesClauses (setting self.old.context.now) matching.now
+            (V.clauses clauses.now) (target_of target.entry) progress.old self.old.buffer progress.new
+            self.new.buffer) }
+        ensures context { OnOk result (self.new.context ≡ self.old.context) }
+    {
         for clause in clauses {
             self.clause(matching, progress, clause, target)?;
         }

@@ -8,6 +8,22 @@
 // The tests are written as far as the clauses ask for them: those that choose the next clause, and then its body, to
 // which the last of them goes on. In `match! xs { Nil -> a; Cons(x, t) -> b }` the test of Nil stands first, then a,
 // then what fails the test, and b.
+ghost use Rattle.std.specs.Prelude.{◌≡◌, ◌≤◌, ℕ, suc, true, [], ◌∷◌, ◌++◌, IfOk, IfSome, OnOk, Some};
+ghost use Rattle.std.specs.Prelude.{get_or, length, slice_get};
+ghost use Rattle.fip_language.specs.Every.{Every};
+ghost use Rattle.fip_language.specs.Table.{Table};
+ghost use Rattle.fip_trees.specs.TreeView as V;
+ghost use Rattle.match_knowledge.specs.View as View;
+ghost use Rattle.match_code.specs.Spots as S;
+ghost use Rattle.match_code.specs.Rows.{row_of};
+ghost use Rattle.match_code.specs.Reading.{asked, contains, read_one, reading};
+ghost use Rattle.match_code.specs.Opening as O;
+ghost use Rattle.match_code.specs.Opening.{as_many, naming, naming_all, take_if, taking, taking_all};
+ghost use Rattle.match_code.specs.Landing.{IsScene, test_of};
+ghost use Rattle.cell_lower.specs.Positions.{spot_of, spots_of};
+ghost use Rattle.cell_lower.specs.Scenes.{asked_of, asking, first_side, patterns_of, reading_of, scene, side_of};
+ghost use Rattle.cell_lower.specs.Scenes.{Advances, AtSpot, ChoosesIf, Follows, HasRows, IsFirstOf, Settles};
+ghost use Rattle.cell_lower.specs.Scenes.{Asks, NotFirst, PlacesSide, SettlesBy, Tests, naming_part, sides_of};
 
 use crate::lowerer::Lowerer;
 use crate::spots::{Spot, field_at};
@@ -73,7 +89,9 @@ struct Below {
 }
 
 /// The start of a match, where tests aren't written yet: nothing is known.
-pub fn start_of(alloc: Global) -> Result<Vec<Side>, NoMemory> {
+pub fn start_of(alloc: Global) -> Result<Vec<Side>, NoMemory>
+    ensures start { IfOk result (λ ds. sides_of ds.items ≡ first_side ∷ []) }
+{
     let mut sides = Vec::new(alloc);
     sides.push(Side {
         known: open(alloc),
@@ -85,7 +103,12 @@ pub fn start_of(alloc: Global) -> Result<Vec<Side>, NoMemory> {
 
 impl<'c> Choice<'c> {
     /// A match without clauses yet.
-    pub fn new(alloc: Global, root: u16, ty: u32, takes: bool) -> Choice<'c> {
+    pub fn new(alloc: Global, root: u16, ty: u32, takes: bool) -> Choice<'c>
+        ensures root { spot_of result.root ≡ S.At root S.NoSpots }
+        ensures of_type { result.ty ≡ ty }
+        ensures patterns { patterns_of result ≡ [] }
+        ensures rows { HasRows result }
+    {
         Choice {
             patterns: Vec::new(alloc),
             rows: Vec::new(alloc),
@@ -97,7 +120,14 @@ impl<'c> Choice<'c> {
     }
 
     /// Adds a clause: its pattern, the same without names, and the label of its body.
-    pub fn add(&mut self, pattern: &'c Pattern, row: Row, entry: u32) -> Result<(), NoMemory> {
+    #[tactic(auto, using(crate::proofs::Choosing::adding))]
+    pub fn add(&mut self, pattern: &'c Pattern, row: Row, entry: u32) -> Result<(), NoMemory>
+        ensures root { OnOk result (self.new.root ≡ self.old.root) }
+        ensures of_type { OnOk result (self.new.ty ≡ self.old.ty) }
+        ensures patterns { OnOk result (patterns_of self.new ≡ patterns_of self.old ++ V.pattern pattern.now ∷ []) }
+        ensures rows { OnOk result (View.row row ≡ row_of (V.pattern pattern.now) → HasRows self.old →
+            HasRows self.new) }
+    {
         self.patterns.push(pattern)?;
         self.rows.push(row)?;
         self.entries.push(entry)?;
@@ -105,7 +135,9 @@ impl<'c> Choice<'c> {
     }
 
     /// The label of a clause's body.
-    pub fn entry(&self, clause: usize) -> Result<u32, NoMemory> {
+    pub fn entry(&self, clause: usize) -> Result<u32, NoMemory>
+        ensures entry { IfOk result (λ l. l ≡ get_or self.now.entries.items clause 0) }
+    {
         match self.entries.get(clause) {
             None => Err(NoMemory),
             Some(label) => Ok(*label),
@@ -113,12 +145,16 @@ impl<'c> Choice<'c> {
     }
 
     /// How many clauses it has.
-    pub fn len(&self) -> usize {
+    pub fn len(&self) -> usize
+        ensures count { result ≡ length self.now.rows.items }
+    {
         self.rows.len()
     }
 
     // The first clause that isn't ruled out. The clauses cover all values, so there is one.
-    fn first_left(&self, known: &Knowledge) -> Result<First<'_>, NoMemory> {
+    fn first_left(&self, known: &Knowledge) -> Result<First<'_>, NoMemory>
+        ensures first { IfOk result (IsFirstOf (View.rows self.now.rows.items) (View.known known.now)) }
+    {
         match first_of(self.rows.as_slice(), known) {
             None => Err(NoMemory),
             Some(first) => Ok(first),
@@ -141,7 +177,10 @@ impl<'c> Choice<'c> {
 
     // Whether the tests are written that choose a clause; for the last clause all. At the start of the match they
     // aren't: no clause is ruled out there.
-    fn is_written(&self, sides: &[Side], clause: usize) -> bool {
+    fn is_written(&self, sides: &[Side], clause: usize) -> bool
+        ensures all { result ≡ true → length self.now.rows.items ≤ suc clause → sides.now ≡ [] }
+        ensures begun { result ≡ true → NotFirst (sides_of sides.now) }
+    {
         if is_start(sides) {
             return false;
         }
@@ -154,7 +193,9 @@ impl<'c> Choice<'c> {
 }
 
 // Whether the side that is next is the start of the match.
-fn is_start(sides: &[Side]) -> bool {
+fn is_start(sides: &[Side]) -> bool
+    ensures start { sides_of sides.now ≡ first_side ∷ [] → result ≡ true }
+{
     match sides.first() {
         None => false,
         Some(side) => match side.label {
@@ -172,7 +213,13 @@ impl<'a> Lowerer<'a> {
         choice: &Choice<'_>,
         sides: &mut Vec<Side>,
         clause: usize,
-    ) -> Result<(), NoMemory> {
+    ) -> Result<(), NoMemory>
+        ensures chooses { OnOk result (ChoosesIf self.old.context.now.program.now.types choice.now clause
+            self.old.buffer (sides_of sides.old.items) self.new.buffer (sides_of sides.new.items) true) }
+        ensures all { OnOk result (length choice.now.rows.items ≤ suc clause → sides.new.items ≡ []) }
+        ensures frame { OnOk result (self.new.frame ≡ self.old.frame) }
+        ensures context { OnOk result (self.new.context ≡ self.old.context) }
+    {
         // Each turn but the last writes a jump, and code has fewer instructions than this.
         for _ in 0..u32::MAX {
             if self.choose_on(choice, sides, clause)? {
@@ -183,12 +230,19 @@ impl<'a> Lowerer<'a> {
     }
 
     // A turn: whether it was the last.
+    #[tactic(auto, using(crate::proofs::Choosing::turning))]
     fn choose_on(
         &mut self,
         choice: &Choice<'_>,
         sides: &mut Vec<Side>,
         clause: usize,
-    ) -> Result<bool, NoMemory> {
+    ) -> Result<bool, NoMemory>
+        ensures turn { IfOk result (ChoosesIf self.old.context.now.program.now.types choice.now clause
+            self.old.buffer (sides_of sides.old.items) self.new.buffer (sides_of sides.new.items)) }
+        ensures all { IfOk result (λ b. b ≡ true → length choice.now.rows.items ≤ suc clause → sides.new.items ≡ []) }
+        ensures frame { OnOk result (self.new.frame ≡ self.old.frame) }
+        ensures context { OnOk result (self.new.context ≡ self.old.context) }
+    {
         if choice.is_written(sides.as_slice(), clause) {
             return Ok(true);
         }
@@ -208,7 +262,14 @@ impl<'a> Lowerer<'a> {
         sides: &mut Vec<Side>,
         next: Side,
         clause: usize,
-    ) -> Result<bool, NoMemory> {
+    ) -> Result<bool, NoMemory>
+        ensures turn { IfOk result (ChoosesIf self.old.context.now.program.now.types choice.now clause
+            self.old.buffer (sides_of sides.old.items ++ side_of next ∷ []) self.new.buffer
+            (sides_of sides.new.items)) }
+        ensures all { IfOk result (λ b. b ≡ true → length choice.now.rows.items ≤ suc clause → sides.new.items ≡ []) }
+        ensures frame { OnOk result (self.new.frame ≡ self.old.frame) }
+        ensures context { OnOk result (self.new.context ≡ self.old.context) }
+    {
         let chosen = self.follow(choice, sides, next)?;
         if chosen == clause && choice.is_written(sides.as_slice(), clause) {
             return Ok(true);
@@ -224,7 +285,12 @@ impl<'a> Lowerer<'a> {
         choice: &Choice<'_>,
         sides: &mut Vec<Side>,
         from: Side,
-    ) -> Result<usize, NoMemory> {
+    ) -> Result<usize, NoMemory>
+        ensures follows { IfOk result (Follows self.old.context.now.program.now.types choice.now self.old.buffer
+            (side_of from) (sides_of sides.old.items) self.new.buffer (sides_of sides.new.items)) }
+        ensures frame { OnOk result (self.new.frame ≡ self.old.frame) }
+        ensures context { OnOk result (self.new.context ≡ self.old.context) }
+    {
         let Side {
             mut known,
             mut read,
@@ -248,7 +314,11 @@ impl<'a> Lowerer<'a> {
         known: &Knowledge,
         read: &[u16],
         label: Option<u32>,
-    ) -> Result<(), NoMemory> {
+    ) -> Result<(), NoMemory>
+        ensures placed { OnOk result (PlacesSide self.old.buffer label self.new.buffer) }
+        ensures frame { OnOk result (self.new.frame ≡ self.old.frame) }
+        ensures context { OnOk result (self.new.context ≡ self.old.context) }
+    {
         match label {
             None => Ok(()),
             Some(label) => {
@@ -266,7 +336,13 @@ impl<'a> Lowerer<'a> {
         sides: &mut Vec<Side>,
         known: &mut Knowledge,
         read: &mut Vec<u16>,
-    ) -> Result<Option<usize>, NoMemory> {
+    ) -> Result<Option<usize>, NoMemory>
+        ensures advances { IfOk result (Advances self.old.context.now.program.now.types choice.now
+            self.old.buffer (View.known known.old) read.old.items (sides_of sides.old.items)
+            self.new.buffer (View.known known.new) read.new.items (sides_of sides.new.items)) }
+        ensures frame { OnOk result (self.new.frame ≡ self.old.frame) }
+        ensures context { OnOk result (self.new.context ≡ self.old.context) }
+    {
         match choice.first_left(known)? {
             First::Chosen(clause) => {
                 self.settle(choice, clause, read)?;
@@ -287,7 +363,13 @@ impl<'a> Lowerer<'a> {
         row: &Row,
         known: &mut Knowledge,
         read: &mut Vec<u16>,
-    ) -> Result<(), NoMemory> {
+    ) -> Result<(), NoMemory>
+        ensures asks { OnOk result (Asks self.old.context.now.program.now.types choice.now (View.row row.now)
+            self.old.buffer (View.known known.old) read.old.items (sides_of sides.old.items)
+            self.new.buffer (View.known known.new) read.new.items (sides_of sides.new.items)) }
+        ensures frame { OnOk result (self.new.frame ≡ self.old.frame) }
+        ensures context { OnOk result (self.new.context ≡ self.old.context) }
+    {
         let yes = side(self.context.alloc, true, row, known)?;
         if is_last(&self.context.program.types, row, known) {
             *known = yes;
@@ -300,13 +382,19 @@ impl<'a> Lowerer<'a> {
     }
 
     // A test; the side where it fails.
+    #[tactic(auto, using(crate::proofs::Choosing::testing))]
     fn test(
         &mut self,
         choice: &Choice<'_>,
         row: &Row,
         known: &Knowledge,
         read: &mut Vec<u16>,
-    ) -> Result<Side, NoMemory> {
+    ) -> Result<Side, NoMemory>
+        ensures tests { IfOk result (λ d. Tests (View.row row.now) (View.known known.now) (spot_of choice.now.root)
+            (reading_of self.old.buffer read.old.items) self.new.buffer read.new.items (side_of d)) }
+        ensures frame { OnOk result (self.new.frame ≡ self.old.frame) }
+        ensures context { OnOk result (self.new.context ≡ self.old.context) }
+    {
         let alloc = self.context.alloc;
         let Asked { register, head } = self.read_asked(
             MOST_PATTERN_NODES,
@@ -335,7 +423,14 @@ impl<'a> Lowerer<'a> {
         known: &Knowledge,
         spot: &Spot,
         read: &mut Vec<u16>,
-    ) -> Result<Asked, NoMemory> {
+    ) -> Result<Asked, NoMemory>
+        ensures asks { IfOk result (λ a. asked (View.row row.now) (View.known known.now) (spot_of spot.now)
+            ≡ Some (asked_of a)) }
+        ensures reads { OnOk result (reading_of self.new.buffer read.new.items ≡ reading (View.row row.now)
+            (View.known known.now) (spot_of spot.now) (reading_of self.old.buffer read.old.items)) }
+        ensures frame { OnOk result (self.new.frame ≡ self.old.frame) }
+        ensures context { OnOk result (self.new.context ≡ self.old.context) }
+    {
         if depth == 0 {
             return Err(NoMemory);
         }
@@ -348,10 +443,10 @@ impl<'a> Lowerer<'a> {
                 head: *head,
             }),
             Knowledge::Is(_, knowns) => {
-                let field = first_asking(parts.as_slice(), knowns.as_slice()).ok_or(NoMemory)?;
-                let part = parts.get(field).ok_or(NoMemory)?;
-                let part_known = knowns.get(field).ok_or(NoMemory)?;
-                let part_spot = spot.fields.get(field).ok_or(NoMemory)?;
+                let field = asking_at(parts.as_slice(), knowns.as_slice())?;
+                let part = row_at(parts.as_slice(), field)?;
+                let part_known = known_at(knowns.as_slice(), field)?;
+                let part_spot = spot.field(field)?;
                 self.read(spot.register, field, part_spot.register, read)?;
                 let asked = self.read_asked(depth - 1, part, part_known, part_spot, read)?;
                 Ok(asked)
@@ -366,7 +461,12 @@ impl<'a> Lowerer<'a> {
         field: usize,
         destination: u16,
         read: &mut Vec<u16>,
-    ) -> Result<(), NoMemory> {
+    ) -> Result<(), NoMemory>
+        ensures reads { OnOk result (reading_of self.new.buffer read.new.items ≡ read_one
+            (reading_of self.old.buffer read.old.items) register field destination) }
+        ensures frame { OnOk result (self.new.frame ≡ self.old.frame) }
+        ensures context { OnOk result (self.new.context ≡ self.old.context) }
+    {
         if contains(read.as_slice(), destination) {
             return Ok(());
         }
@@ -385,7 +485,12 @@ impl<'a> Lowerer<'a> {
         choice: &Choice<'_>,
         clause: usize,
         read: &mut Vec<u16>,
-    ) -> Result<(), NoMemory> {
+    ) -> Result<(), NoMemory>
+        ensures settles { OnOk result (Settles choice.now clause (reading_of self.old.buffer read.old.items)
+            (reading_of self.new.buffer read.new.items)) }
+        ensures frame { OnOk result (self.new.frame ≡ self.old.frame) }
+        ensures context { OnOk result (self.new.context ≡ self.old.context) }
+    {
         match choice.patterns.get(clause) {
             None => Err(NoMemory),
             Some(pattern) => {
@@ -401,7 +506,12 @@ impl<'a> Lowerer<'a> {
         pattern: &Pattern,
         root: &Spot,
         read: &mut Vec<u16>,
-    ) -> Result<(), NoMemory> {
+    ) -> Result<(), NoMemory>
+        ensures settles { OnOk result (SettlesBy takes (V.pattern pattern.now) (spot_of root.now)
+            (reading_of self.old.buffer read.old.items) (reading_of self.new.buffer read.new.items)) }
+        ensures frame { OnOk result (self.new.frame ≡ self.old.frame) }
+        ensures context { OnOk result (self.new.context ≡ self.old.context) }
+    {
         if takes {
             self.take_apart(pattern, root)?;
             Ok(())
@@ -418,7 +528,12 @@ impl<'a> Lowerer<'a> {
         pattern: &Pattern,
         spot: &Spot,
         read: &mut Vec<u16>,
-    ) -> Result<(), NoMemory> {
+    ) -> Result<(), NoMemory>
+        ensures reads { OnOk result (reading_of self.new.buffer read.new.items ≡ naming (V.pattern pattern.now)
+            (spot_of spot.now) (reading_of self.old.buffer read.old.items)) }
+        ensures frame { OnOk result (self.new.frame ≡ self.old.frame) }
+        ensures context { OnOk result (self.new.context ≡ self.old.context) }
+    {
         match pattern {
             Pattern::Binder(_) => Ok(()),
             Pattern::Literal { .. } => Ok(()),
@@ -435,9 +550,17 @@ impl<'a> Lowerer<'a> {
         patterns: &[Pattern],
         spot: &Spot,
         read: &mut Vec<u16>,
-    ) -> Result<(), NoMemory> {
-        for (place, part) in patterns.iter().enumerate() {
+    ) -> Result<(), NoMemory>
+        ensures reads { OnOk result (reading_of self.new.buffer read.new.items ≡ naming_all (V.patterns patterns.now)
+            (S.fields (spot_of spot.now)) (S.register (spot_of spot.now)) 0
+            (reading_of self.old.buffer read.old.items)) }
+        ensures frame { OnOk result (self.new.frame ≡ self.old.frame) }
+        ensures context { OnOk result (self.new.context ≡ self.old.context) }
+    {
+        let mut place: usize = 0;
+        for part in patterns {
             self.read_field(part, spot, place, read)?;
+            place += 1;
         }
         Ok(())
     }
@@ -449,7 +572,13 @@ impl<'a> Lowerer<'a> {
         spot: &Spot,
         place: usize,
         read: &mut Vec<u16>,
-    ) -> Result<(), NoMemory> {
+    ) -> Result<(), NoMemory>
+        ensures reads { OnOk result (AtSpot (naming_part (S.register (spot_of spot.now)) place (V.pattern part.now))
+            (S.fields (spot_of spot.now)) place (reading_of self.old.buffer read.old.items)
+            (reading_of self.new.buffer read.new.items)) }
+        ensures frame { OnOk result (self.new.frame ≡ self.old.frame) }
+        ensures context { OnOk result (self.new.context ≡ self.old.context) }
+    {
         let field = spot.field(place)?;
         if !names_any(part) {
             return Ok(());
@@ -465,7 +594,11 @@ impl<'a> Lowerer<'a> {
         choice: &Choice<'_>,
         known: &Knowledge,
         read: &[u16],
-    ) -> Result<(), NoMemory> {
+    ) -> Result<(), NoMemory>
+        ensures buffer { OnOk result (self.new.buffer ≡ self.old.buffer) }
+        ensures frame { OnOk result (self.new.frame ≡ self.old.frame) }
+        ensures context { OnOk result (self.new.context ≡ self.old.context) }
+    {
         let mut kinds = self.frame.kinds(self.context.alloc, self.context.program)?;
         let below = self.overlay_root(&mut kinds, choice, known)?;
         let overlay = Overlay {
@@ -577,7 +710,12 @@ impl<'a> Lowerer<'a> {
 
     // Takes the cells of a pattern's constructors apart, from the root on. One without fields stays for its clause.
     #[cycle(taking)]
-    fn take_apart(&mut self, pattern: &Pattern, spot: &Spot) -> Result<(), NoMemory> {
+    fn take_apart(&mut self, pattern: &Pattern, spot: &Spot) -> Result<(), NoMemory>
+        ensures takes { OnOk result (self.new.buffer ≡ taking (V.pattern pattern.now) (spot_of spot.now)
+            self.old.buffer) }
+        ensures frame { OnOk result (self.new.frame ≡ self.old.frame) }
+        ensures context { OnOk result (self.new.context ≡ self.old.context) }
+    {
         match pattern {
             Pattern::Binder(_) => Ok(()),
             Pattern::Literal { .. } => Ok(()),
@@ -590,22 +728,39 @@ impl<'a> Lowerer<'a> {
     }
 
     #[cycle(taking)]
-    fn take_all(&mut self, patterns: &[Pattern], fields: &[Spot]) -> Result<(), NoMemory> {
-        for (place, part) in patterns.iter().enumerate() {
+    fn take_all(&mut self, patterns: &[Pattern], fields: &[Spot]) -> Result<(), NoMemory>
+        ensures takes { OnOk result (self.new.buffer ≡ taking_all (V.patterns patterns.now) (spots_of fields.now)
+            self.old.buffer) }
+        ensures frame { OnOk result (self.new.frame ≡ self.old.frame) }
+        ensures context { OnOk result (self.new.context ≡ self.old.context) }
+    {
+        let mut place: usize = 0;
+        for part in patterns {
             self.take_part(part, fields, place)?;
+            place += 1;
         }
         Ok(())
     }
 
     #[cycle(taking)]
-    fn take_part(&mut self, part: &Pattern, fields: &[Spot], place: usize) -> Result<(), NoMemory> {
+    fn take_part(&mut self, part: &Pattern, fields: &[Spot], place: usize) -> Result<(), NoMemory>
+        ensures takes { OnOk result (AtSpot (taking (V.pattern part.now)) (spots_of fields.now) place self.old.buffer
+            self.new.buffer) }
+        ensures frame { OnOk result (self.new.frame ≡ self.old.frame) }
+        ensures context { OnOk result (self.new.context ≡ self.old.context) }
+    {
         let field = field_at(fields, place)?;
         self.take_apart(part, field)?;
         Ok(())
     }
 
     // Takes the cell of a constructor with fields apart.
-    fn take_cell(&mut self, patterns: &[Pattern], spot: &Spot) -> Result<(), NoMemory> {
+    fn take_cell(&mut self, patterns: &[Pattern], spot: &Spot) -> Result<(), NoMemory>
+        ensures takes { OnOk result (self.new.buffer ≡ take_if (S.register (spot_of spot.now))
+            (V.patterns patterns.now) (S.fields (spot_of spot.now)) self.old.buffer) }
+        ensures frame { OnOk result (self.new.frame ≡ self.old.frame) }
+        ensures context { OnOk result (self.new.context ≡ self.old.context) }
+    {
         if patterns.is_empty() {
             return Ok(());
         }
@@ -618,11 +773,9 @@ impl<'a> Lowerer<'a> {
 }
 
 // The registers of the positions of these patterns.
-fn registers_of(
-    alloc: Global,
-    patterns: &[Pattern],
-    spots: &[Spot],
-) -> Result<Registers, NoMemory> {
+fn registers_of(alloc: Global, patterns: &[Pattern], spots: &[Spot]) -> Result<Registers, NoMemory>
+    ensures registers { IfOk result (λ rs. rs ≡ as_many (V.patterns patterns.now) (spots_of spots.now)) }
+{
     let mut registers = Registers::new(alloc);
     for (place, _part) in patterns.iter().enumerate() {
         let spot = field_at(spots, place)?;
@@ -632,7 +785,9 @@ fn registers_of(
 }
 
 // The test of a head, which goes to a label where it fails.
-fn test_of(register: u16, head: Head, target: u32) -> Instr {
+fn test_of(register: u16, head: Head, target: u32) -> Instr
+    ensures { result ≡ test_of register head target }
+{
     match head {
         Head::Tag(constructor) => Instr::Test {
             register,
@@ -648,7 +803,9 @@ fn test_of(register: u16, head: Head, target: u32) -> Instr {
 }
 
 // The first clause that isn't ruled out; none where each is.
-fn first_of<'r>(rows: &'r [Row], known: &Knowledge) -> Option<First<'r>> {
+fn first_of<'r>(rows: &'r [Row], known: &Knowledge) -> Option<First<'r>>
+    ensures first { IfSome result (IsFirstOf (View.rows rows.now) (View.known known.now)) }
+{
     for (number, row) in rows.iter().enumerate() {
         let verdict = compare(row, known);
         if is_fits(verdict) {
@@ -663,7 +820,9 @@ fn first_of<'r>(rows: &'r [Row], known: &Knowledge) -> Option<First<'r>> {
 
 // Whether a pattern names a variable, or a part of it does.
 #[cycle(names)]
-fn names_any(pattern: &Pattern) -> bool {
+fn names_any(pattern: &Pattern) -> bool
+    ensures { result ≡ O.names_any (V.pattern pattern.now) }
+{
     match pattern {
         Pattern::Binder(binder) => is_named(binder),
         Pattern::Literal { .. } => false,
@@ -672,7 +831,9 @@ fn names_any(pattern: &Pattern) -> bool {
 }
 
 #[cycle(names)]
-fn any_named(patterns: &[Pattern]) -> bool {
+fn any_named(patterns: &[Pattern]) -> bool
+    ensures { result ≡ O.any_named (V.patterns patterns.now) }
+{
     for part in patterns {
         if names_any(part) {
             return true;
@@ -682,16 +843,22 @@ fn any_named(patterns: &[Pattern]) -> bool {
 }
 
 /// Whether a variable can be named.
-pub fn is_named(binder: &Binder) -> bool {
+pub fn is_named(binder: &Binder) -> bool
+    ensures { result ≡ O.is_named binder.now }
+{
     !is_underscore(binder.name.as_slice())
 }
 
-fn is_underscore(name: &[u8]) -> bool {
+fn is_underscore(name: &[u8]) -> bool
+    ensures { result ≡ O.is_underscore name.now }
+{
     name.len() == 1 && name[0] == b'_'
 }
 
 // The first of the fields whose pattern asks.
-fn first_asking(parts: &[Row], knowns: &[Knowledge]) -> Option<usize> {
+fn first_asking(parts: &[Row], knowns: &[Knowledge]) -> Option<usize>
+    ensures first { result ≡ asking (View.parts parts.now) (View.knowns knowns.now) 0 }
+{
     let mut field: usize = 0;
     for part in parts {
         if field >= knowns.len() {
@@ -705,8 +872,38 @@ fn first_asking(parts: &[Row], knowns: &[Knowledge]) -> Option<usize> {
     None
 }
 
+// The same, where one asks.
+fn asking_at(parts: &[Row], knowns: &[Knowledge]) -> Result<usize, NoMemory>
+    ensures first { IfOk result (λ f. asking (View.parts parts.now) (View.knowns knowns.now) 0 ≡ Some f) }
+{
+    match first_asking(parts, knowns) {
+        None => Err(NoMemory),
+        Some(field) => Ok(field),
+    }
+}
+
+fn row_at(rows: &[Row], place: usize) -> Result<&Row, NoMemory>
+    ensures row { IfOk result (λ r. slice_get rows.now place ≡ Some r.now) }
+{
+    match rows.get(place) {
+        None => Err(NoMemory),
+        Some(row) => Ok(row),
+    }
+}
+
+fn known_at(knowns: &[Knowledge], place: usize) -> Result<&Knowledge, NoMemory>
+    ensures known { IfOk result (λ k. slice_get knowns.now place ≡ Some k.now) }
+{
+    match knowns.get(place) {
+        None => Err(NoMemory),
+        Some(known) => Ok(known),
+    }
+}
+
 // Whether a register was read.
-fn contains(read: &[u16], register: u16) -> bool {
+fn contains(read: &[u16], register: u16) -> bool
+    ensures { result ≡ contains register read.now }
+{
     for one in read {
         if register == *one {
             return true;

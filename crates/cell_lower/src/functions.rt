@@ -1,10 +1,16 @@
 // The code of a program.
-ghost use Rattle.std.specs.Prelude.{◌≡◌, [], ◌∷◌, ◌++◌, map, IfOk, IfErr, OnOk, Ok};
+ghost use Rattle.std.specs.Prelude.{◌≡◌, ℕ, [], ◌∷◌, ◌++◌, map, IfOk, IfErr, OnOk, Ok, slice_get};
 ghost use Rattle.fip_base.specs.declared.refusal.PhaseError.TheVariants as PhaseError;
 ghost use Rattle.fip_trees.specs.TreeView as V;
 ghost use Rattle.fip_trees.specs.declared.least.Violation.{Violation};
-ghost use Rattle.cell_lower.specs.Limits.{Breaks, Says};
+ghost use Rattle.cell_lower.specs.Limits.{Breaks, Says, is_ruled};
 ghost use Rattle.cell_lower.specs.Shape.{header, header_of, headers, headers_from, entry_name};
+ghost use Rattle.lowered_code.specs.Bodies.{function_of};
+ghost use Rattle.lowered_code.specs.Functions.{AreLowered};
+ghost use Rattle.lowered_code.specs.Known.{joined};
+ghost use Rattle.match_code.specs.WellMatched.{IsWellMatched};
+ghost use Rattle.cell_lower.specs.Lowered.{AddsCode, HaveCodes, IsCodeOf, all_instrs, function_instrs};
+ghost use Rattle.cell_lower.specs.Writing.{setting};
 
 use crate::copies::table_of;
 use crate::limits::{is_ruled, note_limits};
@@ -36,6 +42,8 @@ pub fn lower(
     ensures types { IfOk result (λ c. c.types ≡ (V.program typed.now.program).types) }
     ensures functions { IfOk result (λ c.
         map header c.functions.items ≡ headers groups.now (V.program typed.now.program).instances) }
+    ensures lowered { IfOk result (λ c. IsWellMatched (V.program typed.now.program) →
+        AreLowered (V.program typed.now.program) (all_instrs c)) }
 {
     match note_limits(alloc, &typed.program, groups) {
         Err(NoMemory) => Err(PhaseError::NoMemory),
@@ -66,6 +74,8 @@ fn code_of(
     ensures types { IfOk result (λ c. c.types ≡ (V.program program.now).types) }
     ensures functions { IfOk result (λ c.
         map header c.functions.items ≡ headers groups.now (V.program program.now).instances) }
+    ensures lowered { IfOk result (λ c. IsWellMatched (V.program program.now) →
+        AreLowered (V.program program.now) (all_instrs c)) }
 {
     let context = Context {
         alloc,
@@ -89,6 +99,8 @@ fn functions_of(
     groups: &Groups,
 ) -> Result<Vec<Function>, NoMemory>
     ensures all { IfOk result (λ fs. map header fs.items ≡ headers groups.now (V.instances instances.now)) }
+    ensures codes { IfOk result (λ fs. HaveCodes (setting context.now) (V.instances instances.now) 0
+        (map function_instrs fs.items)) }
 {
     let mut functions = Vec::new(context.alloc);
     let mut number = 0;
@@ -111,6 +123,9 @@ fn add_function(
 ) -> Result<(), NoMemory>
     ensures added { OnOk result (map header functions.new.items ≡ map header functions.old.items
         ++ headers_from groups.now number (V.instance_of instance.now ∷ [])) }
+    ensures code { OnOk result (AddsCode (setting context.now) (is_ruled instance.now.kind)
+        (V.instance_of instance.now) (map function_instrs functions.old.items)
+        (map function_instrs functions.new.items)) }
 {
     if is_ruled(instance.kind) {
         let registers = groups.registers_of(number).ok_or(NoMemory)?;
@@ -121,7 +136,10 @@ fn add_function(
 }
 
 // The number of each instance's function; a plain one has none.
-fn numbers_of(alloc: Global, program: &Program) -> Result<Vec<Option<u32>>, NoMemory> {
+fn numbers_of(alloc: Global, program: &Program) -> Result<Vec<Option<u32>>, NoMemory>
+    ensures numbered { IfOk result (λ ns. (g : ℕ) →
+        joined (slice_get ns.items g) ≡ function_of (V.program program.now).instances g) }
+{
     let mut numbers = Vec::new(alloc);
     let mut next: u32 = 0;
     for instance in &program.instances {
@@ -143,6 +161,7 @@ fn function_of(
     registers: usize,
 ) -> Result<Function, NoMemory>
     ensures header { IfOk result (λ f. header f ≡ header_of registers (V.instance_of instance.now)) }
+    ensures code { IfOk result (λ f. IsCodeOf (setting context.now) (V.instance_of instance.now) f.instrs.items) }
 {
     let alloc = context.alloc;
     let mut lowerer = Lowerer::new(context, needs.of(number), instance, registers)?;

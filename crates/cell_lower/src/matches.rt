@@ -1,4 +1,18 @@
 // Matches: for each clause the tests that choose it and its body, then the place where the clauses meet.
+ghost use Rattle.std.specs.Prelude.{◌≡◌, suc, [], ◌∷◌, None, Some, IfOk, OnOk};
+ghost use Rattle.fip_trees.specs.TreeView as V;
+ghost use Rattle.match_knowledge.specs.View as View;
+ghost use Rattle.match_code.specs.Entering.{entering, entering_all, entering_root, root_of, variable_held, with_cell};
+ghost use Rattle.match_code.specs.Entering.{with_variable, spent_if};
+ghost use Rattle.match_code.specs.Losing.{Loses};
+ghost use Rattle.match_code.specs.Rows.{row_of, rows_of};
+ghost use Rattle.match_code.specs.Written.{Extends, GivesUp, size};
+ghost use Rattle.cell_lower.specs.Positions.{reaching, spot_of, spots_of};
+ghost use Rattle.cell_lower.specs.Scenes.{AtSpot, first_side, patterns_of, sides_of};
+ghost use Rattle.cell_lower.specs.Clauses.{AddsPattern, Begins, EndsIn, EndsMatch, GoesToEnd, HasPositions};
+ghost use Rattle.cell_lower.specs.Clauses.{JoinsKnown, StartsIn};
+ghost use Rattle.match_code.proofs.Choices.{patterns_in};
+ghost use Rattle.cell_lower.specs.Writing.{setting, target_of};
 
 use crate::choices::{Choice, Side, is_named, start_of};
 use crate::frame::Frame;
@@ -38,7 +52,11 @@ pub struct Progress {
 
 impl Progress {
     /// At the start of a match.
-    pub fn new(alloc: Global) -> Result<Progress, NoMemory> {
+    pub fn new(alloc: Global) -> Result<Progress, NoMemory>
+        ensures sides { IfOk result (λ p. sides_of p.sides.items ≡ first_side ∷ []) }
+        ensures clause { IfOk result (λ p. p.clause ≡ 0) }
+        ensures joined { IfOk result (λ p. p.joined ≡ None) }
+    {
         Ok(Progress {
             sides: start_of(alloc)?,
             clause: 0,
@@ -72,7 +90,12 @@ impl<'a> Lowerer<'a> {
         written: &Written<'t>,
         need: Sizes,
         target: Target<'_>,
-    ) -> Result<Matching<'t>, NoMemory> {
+    ) -> Result<Matching<'t>, NoMemory>
+        ensures begins { IfOk result (λ g. Begins (setting self.old.context.now) self.old.frame self.old.buffer
+            (V.argument written.now.scrutinee.now) written.now.ty (V.clause written.now.first.now).pattern
+            (V.clauses written.now.others.now) g self.new.buffer) }
+        ensures context { OnOk result (self.new.context ≡ self.old.context) }
+    {
         let register = self.value(written.scrutinee)?;
         // A value is in a register that is used.
         if register >= self.frame.next() {
@@ -93,7 +116,12 @@ impl<'a> Lowerer<'a> {
     }
 
     // Where the clauses meet, no constructor that was matched before is used in them.
-    fn end_matched(&mut self, target: Target<'_>) -> Result<(), NoMemory> {
+    #[tactic(auto, using(crate::proofs::Losing::giving_up))]
+    fn end_matched(&mut self, target: Target<'_>) -> Result<(), NoMemory>
+        ensures given_up { OnOk result (GivesUp self.old.buffer self.new.buffer) }
+        ensures loses { OnOk result (Loses self.old.frame self.new.frame) }
+        ensures context { OnOk result (self.new.context ≡ self.old.context) }
+    {
         match target {
             Target::Return => Ok(()),
             Target::Into(_) => self.end_bare(),
@@ -101,7 +129,12 @@ impl<'a> Lowerer<'a> {
     }
 
     // A tree that was just built has one constructor; tests ask for others too, so a label stands before them.
-    fn forget_built(&mut self, register: u16) -> Result<(), NoMemory> {
+    #[tactic(auto, using(crate::proofs::Losing::giving_up))]
+    fn forget_built(&mut self, register: u16) -> Result<(), NoMemory>
+        ensures loses { OnOk result (Loses self.old.frame self.new.frame) }
+        ensures buffer { OnOk result (self.new.buffer ≡ self.old.buffer) }
+        ensures context { OnOk result (self.new.context ≡ self.old.context) }
+    {
         match self.frame.at(register) {
             Held::Owned { built: Some(_), .. } => self.tell(),
             _ => Ok(()),
@@ -134,7 +167,16 @@ impl<'a> Lowerer<'a> {
         &mut self,
         written: &Written<'t>,
         register: u16,
-    ) -> Result<Choice<'t>, NoMemory> {
+    ) -> Result<Choice<'t>, NoMemory>
+        ensures positions { IfOk result (λ c. HasPositions c register written.now.ty self.old.frame.next
+            self.new.frame.next) }
+        ensures patterns { IfOk result (λ c. patterns_of c ≡ (V.clause written.now.first.now).pattern
+            ∷ patterns_in (V.clauses written.now.others.now)) }
+        ensures frame { OnOk result (self.new.frame ≡ reaching self.old.frame self.new.frame.next) }
+        ensures extends { OnOk result (Extends self.old.buffer self.new.buffer) }
+        ensures as_long { OnOk result (size self.new.buffer ≡ size self.old.buffer) }
+        ensures context { OnOk result (self.new.context ≡ self.old.context) }
+    {
         let mut choice = Choice::new(self.context.alloc, register, written.ty, written.takes);
         self.add_pattern(&mut choice, &written.first.pattern)?;
         for clause in written.others {
@@ -143,11 +185,19 @@ impl<'a> Lowerer<'a> {
         Ok(choice)
     }
 
+    #[tactic(auto, using(crate::proofs::Beginning::adding))]
     fn add_pattern<'t>(
         &mut self,
         choice: &mut Choice<'t>,
         pattern: &'t Pattern,
-    ) -> Result<(), NoMemory> {
+    ) -> Result<(), NoMemory>
+        ensures adds { OnOk result (AddsPattern choice.old choice.new (V.pattern pattern.now) self.old.frame.next
+            self.new.frame.next) }
+        ensures frame { OnOk result (self.new.frame ≡ reaching self.old.frame self.new.frame.next) }
+        ensures extends { OnOk result (Extends self.old.buffer self.new.buffer) }
+        ensures as_long { OnOk result (size self.new.buffer ≡ size self.old.buffer) }
+        ensures context { OnOk result (self.new.context ≡ self.old.context) }
+    {
         let alloc = self.context.alloc;
         add_spots(alloc, pattern, &mut choice.root, &mut self.frame)?;
         let entry = self.buffer.new_label()?;
@@ -161,7 +211,14 @@ impl<'a> Lowerer<'a> {
         matching: &Matching<'_>,
         progress: &mut Progress,
         clause: &Clause,
-    ) -> Result<(), NoMemory> {
+    ) -> Result<(), NoMemory>
+        ensures starts { OnOk result (StartsIn (setting self.old.context.now) matching.now
+            (V.clause clause.now).pattern progress.old.clause self.old.buffer (sides_of progress.old.sides.items)
+            self.new.frame self.new.buffer (sides_of progress.new.sides.items)) }
+        ensures next { OnOk result (progress.new.clause ≡ suc progress.old.clause) }
+        ensures joined { OnOk result (progress.new.joined ≡ progress.old.joined) }
+        ensures context { OnOk result (self.new.context ≡ self.old.context) }
+    {
         let number = progress.clause;
         progress.clause = number.checked_add(1).ok_or(NoMemory)?;
         self.frame.resume(matching.entry.copy(self.context.alloc)?);
@@ -178,7 +235,12 @@ impl<'a> Lowerer<'a> {
     }
 
     // What a clause knows of the scrutinee. A variable is another name of it.
-    fn open_root(&mut self, takes: bool, pattern: &Pattern, root: &Spot) -> Result<(), NoMemory> {
+    fn open_root(&mut self, takes: bool, pattern: &Pattern, root: &Spot) -> Result<(), NoMemory>
+        ensures opens { OnOk result (self.new.frame ≡ entering_root (setting self.old.context.now) takes
+            (V.pattern pattern.now) (spot_of root.now) self.old.frame) }
+        ensures buffer { OnOk result (self.new.buffer ≡ self.old.buffer) }
+        ensures context { OnOk result (self.new.context ≡ self.old.context) }
+    {
         match pattern {
             Pattern::Binder(binder) => {
                 self.frame.bind(binder.number, root.register);
@@ -195,7 +257,11 @@ impl<'a> Lowerer<'a> {
     }
 
     // Where the cells of the scrutinee are taken apart, it is used up.
-    fn spend(&mut self, takes: bool, register: u16) {
+    fn spend(&mut self, takes: bool, register: u16)
+        ensures spent { self.new.frame ≡ spent_if takes register self.old.frame }
+        ensures buffer { self.new.buffer ≡ self.old.buffer }
+        ensures context { self.new.context ≡ self.old.context }
+    {
         if takes {
             self.frame.use_up(register);
         }
@@ -209,7 +275,12 @@ impl<'a> Lowerer<'a> {
         root: Option<u16>,
         pattern: &Pattern,
         spot: &Spot,
-    ) -> Result<(), NoMemory> {
+    ) -> Result<(), NoMemory>
+        ensures opens { OnOk result (self.new.frame ≡ entering (setting self.old.context.now) takes root
+            (V.pattern pattern.now) (spot_of spot.now) self.old.frame) }
+        ensures buffer { OnOk result (self.new.buffer ≡ self.old.buffer) }
+        ensures context { OnOk result (self.new.context ≡ self.old.context) }
+    {
         match pattern {
             Pattern::Binder(binder) => {
                 self.open_variable(takes, root, binder, spot.register);
@@ -241,9 +312,16 @@ impl<'a> Lowerer<'a> {
         root: Option<u16>,
         patterns: &[Pattern],
         fields: &[Spot],
-    ) -> Result<(), NoMemory> {
-        for (place, part) in patterns.iter().enumerate() {
+    ) -> Result<(), NoMemory>
+        ensures opens { OnOk result (self.new.frame ≡ entering_all (setting self.old.context.now) takes root
+            (V.patterns patterns.now) (spots_of fields.now) self.old.frame) }
+        ensures buffer { OnOk result (self.new.buffer ≡ self.old.buffer) }
+        ensures context { OnOk result (self.new.context ≡ self.old.context) }
+    {
+        let mut place: usize = 0;
+        for part in patterns {
             self.open_field(takes, root, part, fields, place)?;
+            place += 1;
         }
         Ok(())
     }
@@ -256,14 +334,24 @@ impl<'a> Lowerer<'a> {
         part: &Pattern,
         fields: &[Spot],
         place: usize,
-    ) -> Result<(), NoMemory> {
+    ) -> Result<(), NoMemory>
+        ensures opens { OnOk result (AtSpot (entering (setting self.old.context.now) takes root
+            (V.pattern part.now)) (spots_of fields.now) place self.old.frame self.new.frame) }
+        ensures buffer { OnOk result (self.new.buffer ≡ self.old.buffer) }
+        ensures context { OnOk result (self.new.context ≡ self.old.context) }
+    {
         let field = field_at(fields, place)?;
         self.open_part(takes, root, part, field)?;
         Ok(())
     }
 
     // A variable has the register of its position. In a match that takes no cells apart, _ has none.
-    fn open_variable(&mut self, takes: bool, root: Option<u16>, binder: &Binder, register: u16) {
+    fn open_variable(&mut self, takes: bool, root: Option<u16>, binder: &Binder, register: u16)
+        ensures opens { self.new.frame ≡ with_variable (setting self.old.context.now) takes root binder.now register
+            self.old.frame }
+        ensures buffer { self.new.buffer ≡ self.old.buffer }
+        ensures context { self.new.context ≡ self.old.context }
+    {
         if takes || is_named(binder) {
             let held = self.variable_held(takes, root, binder.ty);
             self.frame.bind(binder.number, register);
@@ -273,7 +361,9 @@ impl<'a> Lowerer<'a> {
         }
     }
 
-    fn variable_held(&self, takes: bool, root: Option<u16>, ty: u32) -> Held {
+    fn variable_held(&self, takes: bool, root: Option<u16>, ty: u32) -> Held
+        ensures held { result ≡ variable_held (setting self.now.context.now) takes root ty }
+    {
         if takes || self.context.is_scalar(ty) {
             self.context.given(ty)
         } else {
@@ -282,7 +372,13 @@ impl<'a> Lowerer<'a> {
     }
 
     // A cell that was taken apart is a credit; a constructor without fields can be used again.
-    fn open_cell(&mut self, takes: bool, cell: Cell, patterns: &[Pattern]) -> Result<(), NoMemory> {
+    #[tactic(auto, using(crate::proofs::Beginning::cells))]
+    fn open_cell(&mut self, takes: bool, cell: Cell, patterns: &[Pattern]) -> Result<(), NoMemory>
+        ensures opens { OnOk result (self.new.frame ≡ with_cell (setting self.old.context.now) takes cell.ty
+            cell.constructor (V.patterns patterns.now) cell.register self.old.frame) }
+        ensures buffer { OnOk result (self.new.buffer ≡ self.old.buffer) }
+        ensures context { OnOk result (self.new.context ≡ self.old.context) }
+    {
         if !takes {
             return Ok(());
         }
@@ -308,7 +404,13 @@ impl<'a> Lowerer<'a> {
         matching: &Matching<'_>,
         progress: &mut Progress,
         target: Target<'_>,
-    ) -> Result<(), NoMemory> {
+    ) -> Result<(), NoMemory>
+        ensures ends { OnOk result (EndsIn matching.now (target_of target.entry) progress.old.clause self.old.frame
+            self.old.buffer progress.old.joined self.new.buffer progress.new.joined) }
+        ensures clause { OnOk result (progress.new.clause ≡ progress.old.clause) }
+        ensures sides { OnOk result (progress.new.sides ≡ progress.old.sides) }
+        ensures context { OnOk result (self.new.context ≡ self.old.context) }
+    {
         match target {
             Target::Return => Ok(()),
             Target::Into(given) => {
@@ -321,7 +423,12 @@ impl<'a> Lowerer<'a> {
     }
 
     // Gives up what a clause leaves and another doesn't.
-    fn leave(&mut self, matching: &Matching<'_>, given: &[u16]) -> Result<(), NoMemory> {
+    #[tactic(auto, using(crate::proofs::Losing::leaving))]
+    fn leave(&mut self, matching: &Matching<'_>, given: &[u16]) -> Result<(), NoMemory>
+        ensures given_up { OnOk result (GivesUp self.old.buffer self.new.buffer) }
+        ensures loses { OnOk result (Loses self.old.frame self.new.frame) }
+        ensures context { OnOk result (self.new.context ≡ self.old.context) }
+    {
         self.end_bare()?;
         self.give_up_to(
             &matching.entry,
@@ -334,7 +441,11 @@ impl<'a> Lowerer<'a> {
     }
 
     // Behind the last clause the code goes on.
-    fn go_to_end(&mut self, matching: &Matching<'_>, next: usize) -> Result<(), NoMemory> {
+    fn go_to_end(&mut self, matching: &Matching<'_>, next: usize) -> Result<(), NoMemory>
+        ensures goes { OnOk result (GoesToEnd matching.now next self.old.buffer self.new.buffer) }
+        ensures frame { OnOk result (self.new.frame ≡ self.old.frame) }
+        ensures context { OnOk result (self.new.context ≡ self.old.context) }
+    {
         if next < matching.choice.len() {
             let target = matching.end;
             self.buffer.add(Instr::Jump { target })?;
@@ -345,7 +456,10 @@ impl<'a> Lowerer<'a> {
     }
 
     // What is known at the ends of the clauses so far and of this one.
-    fn joined(&self, before: &Option<Frame>) -> Result<Frame, NoMemory> {
+    #[tactic(auto, using(crate::proofs::Clauses::joining))]
+    fn joined(&self, before: &Option<Frame>) -> Result<Frame, NoMemory>
+        ensures joins { IfOk result (λ f. JoinsKnown self.now.frame before.now (Some f)) }
+    {
         match before {
             None => {
                 let met = self.frame.copy(self.context.alloc)?;
@@ -359,11 +473,12 @@ impl<'a> Lowerer<'a> {
     }
 
     /// The place where the clauses meet.
-    pub fn end_match(
-        &mut self,
-        matching: Matching<'_>,
-        progress: Progress,
-    ) -> Result<(), NoMemory> {
+    #[tactic(auto, using(crate::proofs::Losing::losing))]
+    pub fn end_match(&mut self, matching: Matching<'_>, progress: Progress) -> Result<(), NoMemory>
+        ensures ends { OnOk result (EndsMatch matching.entry progress.joined self.old.buffer
+            self.new.frame self.new.buffer) }
+        ensures context { OnOk result (self.new.context ≡ self.old.context) }
+    {
         let Matching { end, .. } = matching;
         let Progress { joined, .. } = progress;
         match joined {
@@ -379,7 +494,9 @@ impl<'a> Lowerer<'a> {
 }
 
 // The register in whose tree lies what is read of the tree in a register.
-fn root_within(register: u16, held: Held) -> Option<u16> {
+fn root_within(register: u16, held: Held) -> Option<u16>
+    ensures { result ≡ root_of register held }
+{
     match held {
         Held::Nothing => None,
         Held::Scalar { .. } => None,
@@ -392,7 +509,9 @@ fn root_within(register: u16, held: Held) -> Option<u16> {
 
 // A pattern without names. A literal is a test of an int, type 0.
 #[cycle(rows)]
-fn row_of(alloc: Global, pattern: &Pattern) -> Result<Row, NoMemory> {
+fn row_of(alloc: Global, pattern: &Pattern) -> Result<Row, NoMemory>
+    ensures row { IfOk result (λ r. View.row r ≡ row_of (V.pattern pattern.now)) }
+{
     match pattern {
         Pattern::Binder(_) => Ok(Row::Any),
         Pattern::Literal { value, .. } => Ok(Row::Test {
@@ -417,7 +536,9 @@ fn row_of(alloc: Global, pattern: &Pattern) -> Result<Row, NoMemory> {
 }
 
 #[cycle(rows)]
-fn rows_of(alloc: Global, patterns: &[Pattern]) -> Result<Vec<Row>, NoMemory> {
+fn rows_of(alloc: Global, patterns: &[Pattern]) -> Result<Vec<Row>, NoMemory>
+    ensures rows { IfOk result (λ rs. View.parts rs.items ≡ rows_of (V.patterns patterns.now)) }
+{
     let mut rows = Vec::new(alloc);
     for pattern in patterns {
         rows.push(row_of(alloc, pattern)?)?;

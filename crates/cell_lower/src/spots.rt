@@ -1,4 +1,11 @@
 // The positions of a match and their registers.
+ghost use Rattle.std.specs.Prelude.{◌≡◌, IfOk, OnOk, Some, slice_get};
+ghost use Rattle.fip_trees.specs.TreeView as V;
+ghost use Rattle.match_code.specs.Spots as S;
+ghost use Rattle.match_code.specs.Growing.{AllGrow, Grows};
+ghost use Rattle.match_code.specs.Opening.{AllRoomy, Roomy};
+ghost use Rattle.cell_lower.specs.declared.spots.Spot.{out-Spot};
+ghost use Rattle.cell_lower.specs.Positions.{reaching, spot_of, spots_of, RoomyAt};
 
 use crate::frame::Frame;
 use fip_base::plain::NoMemory;
@@ -14,7 +21,9 @@ pub struct Spot {
 
 impl Spot {
     /// A position without fields.
-    pub fn new(alloc: Global, register: u16) -> Spot {
+    pub fn new(alloc: Global, register: u16) -> Spot
+        ensures alone { spot_of result ≡ S.At register S.NoSpots }
+    {
         Spot {
             register,
             fields: Vec::new(alloc),
@@ -22,16 +31,17 @@ impl Spot {
     }
 
     /// The position of a field; an error where there are fewer.
-    pub fn field(&self, place: usize) -> Result<&Spot, NoMemory> {
-        match self.fields.get(place) {
-            None => Err(NoMemory),
-            Some(spot) => Ok(spot),
-        }
+    pub fn field(&self, place: usize) -> Result<&Spot, NoMemory>
+        ensures there { IfOk result (λ s. slice_get (out-Spot self.now).fields.items place ≡ Some s.now) }
+    {
+        field_at(self.fields.as_slice(), place)
     }
 }
 
 /// The position at a place among others; an error where there are fewer.
-pub fn field_at(spots: &[Spot], place: usize) -> Result<&Spot, NoMemory> {
+pub fn field_at(spots: &[Spot], place: usize) -> Result<&Spot, NoMemory>
+    ensures there { IfOk result (λ s. slice_get spots.now place ≡ Some s.now) }
+{
     match spots.get(place) {
         None => Err(NoMemory),
         Some(spot) => Ok(spot),
@@ -46,16 +56,37 @@ pub fn add_spots(
     pattern: &Pattern,
     spot: &mut Spot,
     frame: &mut Frame,
-) -> Result<(), NoMemory> {
+) -> Result<(), NoMemory>
+    ensures grows { OnOk result (Grows (spot_of spot.old) (spot_of spot.new) frame.old.next frame.new.next) }
+    ensures roomy { OnOk result (Roomy (V.pattern pattern.now) (spot_of spot.new)) }
+    ensures frame { OnOk result (frame.new ≡ reaching frame.old frame.new.next) }
+{
     match pattern {
         Pattern::Binder(_) => Ok(()),
         Pattern::Literal { .. } => Ok(()),
         Pattern::Constructor { patterns, .. } => {
-            add_fields(alloc, patterns.len(), &mut spot.fields, frame)?;
-            add_all(alloc, patterns.as_slice(), &mut spot.fields, frame)?;
+            add_parts(alloc, patterns.as_slice(), &mut spot.fields, frame)?;
             Ok(())
         }
     }
+}
+
+#[cycle(spots)]
+#[tactic(auto, using(crate::proofs::Growing::growing))]
+fn add_parts(
+    alloc: Global,
+    patterns: &[Pattern],
+    fields: &mut Vec<Spot>,
+    frame: &mut Frame,
+) -> Result<(), NoMemory>
+    ensures grow { OnOk result (AllGrow (spots_of fields.old.items) (spots_of fields.new.items) frame.old.next
+        frame.new.next) }
+    ensures roomy { OnOk result (AllRoomy (V.patterns patterns.now) (spots_of fields.new.items)) }
+    ensures frame { OnOk result (frame.new ≡ reaching frame.old frame.new.next) }
+{
+    add_fields(alloc, patterns.len(), fields, frame)?;
+    add_all(alloc, patterns, fields, frame)?;
+    Ok(())
 }
 
 #[cycle(spots)]
@@ -64,9 +95,16 @@ fn add_all(
     patterns: &[Pattern],
     fields: &mut Vec<Spot>,
     frame: &mut Frame,
-) -> Result<(), NoMemory> {
-    for (place, part) in patterns.iter().enumerate() {
+) -> Result<(), NoMemory>
+    ensures grow { OnOk result (AllGrow (spots_of fields.old.items) (spots_of fields.new.items) frame.old.next
+        frame.new.next) }
+    ensures roomy { OnOk result (AllRoomy (V.patterns patterns.now) (spots_of fields.new.items)) }
+    ensures frame { OnOk result (frame.new ≡ reaching frame.old frame.new.next) }
+{
+    let mut place: usize = 0;
+    for part in patterns {
         add_part(alloc, part, fields, place, frame)?;
+        place += 1;
     }
     Ok(())
 }
@@ -79,7 +117,12 @@ fn add_part(
     fields: &mut Vec<Spot>,
     place: usize,
     frame: &mut Frame,
-) -> Result<(), NoMemory> {
+) -> Result<(), NoMemory>
+    ensures grow { OnOk result (AllGrow (spots_of fields.old.items) (spots_of fields.new.items) frame.old.next
+        frame.new.next) }
+    ensures roomy { OnOk result (RoomyAt (V.pattern part.now) place (spots_of fields.new.items)) }
+    ensures frame { OnOk result (frame.new ≡ reaching frame.old frame.new.next) }
+{
     match fields.get_mut(place) {
         None => Err(NoMemory),
         Some(field) => {
@@ -90,19 +133,29 @@ fn add_part(
 }
 
 // As many fields as this at least.
+#[tactic(auto, using(crate::proofs::Growing::growing))]
 fn add_fields(
     alloc: Global,
     number: usize,
     fields: &mut Vec<Spot>,
     frame: &mut Frame,
-) -> Result<(), NoMemory> {
+) -> Result<(), NoMemory>
+    ensures grow { OnOk result (AllGrow (spots_of fields.old.items) (spots_of fields.new.items) frame.old.next
+        frame.new.next) }
+    ensures frame { OnOk result (frame.new ≡ reaching frame.old frame.new.next) }
+{
     for _ in fields.len()..number {
         add_field(alloc, fields, frame)?;
     }
     Ok(())
 }
 
-fn add_field(alloc: Global, fields: &mut Vec<Spot>, frame: &mut Frame) -> Result<(), NoMemory> {
+#[tactic(auto, using(crate::proofs::Growing::growing))]
+fn add_field(alloc: Global, fields: &mut Vec<Spot>, frame: &mut Frame) -> Result<(), NoMemory>
+    ensures grow { OnOk result (AllGrow (spots_of fields.old.items) (spots_of fields.new.items) frame.old.next
+        frame.new.next) }
+    ensures frame { OnOk result (frame.new ≡ reaching frame.old frame.new.next) }
+{
     let register = frame.fresh()?;
     fields.push(Spot::new(alloc, register))?;
     Ok(())

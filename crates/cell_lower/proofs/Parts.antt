@@ -1,0 +1,60 @@
+-- From what the calls of a function say, one after another, to what it has written: a clause's start, a let into
+-- registers, a match and an instance.
+use Rattle.std.proofs.Common.{◌≡◌, sym, ap, ◌∙◌, subst, ℕ, ◌≤◌, suc, true, List, [], ◌∷◌, length, map, get_or, None}
+use Rattle.std.specs.declared.vec.Vec.{Vec}
+use Rattle.std.specs.declared.alloc.Global.{Global}
+use Rattle.std.specs.declared.boxed.Box.{Box}
+use Rattle.fip_language.specs.declared.Place.{Place}
+use Rattle.fip_base.specs.declared.core_form.MatchKind.{MatchKind}
+use Rattle.fip_trees.specs.declared.program.Argument.{Argument}
+use Rattle.fip_trees.specs.declared.program.Binder.{Binder}
+use Rattle.fip_trees.specs.declared.program.Binding.{Binding, out-Binding}
+use Rattle.fip_trees.specs.declared.program.Clause.{Clause}
+use Rattle.fip_trees.specs.declared.program.Expression.{Expression}
+use Rattle.fip_trees.specs.declared.program.Expression.TheVariants as EV
+use Rattle.fip_trees.specs.Tree.{Pattern, Instance}
+use Rattle.fip_trees.specs.TreeView.{argument, expression, binding, clause, clauses}
+use Rattle.cell_code.specs.declared.code.Instr.{Instr}
+use Rattle.lowered_code.specs.Known.{Known}
+use Rattle.lowered_code.specs.Values.{Setting}
+use Rattle.lowered_code.specs.Bodies.{Target, Into, Return, with_names, reserved, registers_for}
+use Rattle.lowered_code.specs.Functions.{known_at_start}
+use Rattle.match_code.specs.Landing.{Side}
+use Rattle.match_code.specs.Losing.{Loses, Resumes}
+use Rattle.match_code.specs.Entering.{entering_root}
+use Rattle.match_code.specs.Written.{Written, size, Extends, IsAt, settled, place_of}
+use Rattle.match_code.specs.WellMatched.{WellMatched, WellMatchedBlock}
+use Rattle.cell_lower.specs.declared.matches.Matching.{Matching}
+use Rattle.cell_lower.specs.declared.matches.Progress.{Progress}
+use Rattle.cell_lower.specs.Positions.{spot_of}
+use Rattle.cell_lower.specs.Scenes.{ChoosesIf, first_side, sides_of}
+use Rattle.cell_lower.specs.Clauses.{Begins, EndsMatch, StartsIn, WritesClause, WritesClauses}
+use Rattle.cell_lower.specs.Lowered.{IsCodeOf}
+use Rattle.cell_lower.specs.Writing.{Binds, Writes, WritesBlock}
+use Rattle.cell_lower.proofs.Beginning.{starts_in}
+use Rattle.cell_lower.proofs.Clauses.{match_written}
+use Rattle.cell_lower.proofs.Expressions.{bound_into, written_match}
+use Rattle.cell_lower.proofs.Programs.{is_code}
+
+pub starts_from : (s s' : Setting) (g : Matching) (q q' : Pattern) (i label : ℕ) (v chosen shown put w : Written) (ds es : List Side) (copied resumed tested opened l : Known) → s' ≡ s → q ≡ q' → ChoosesIf s.types g.choice i v ds chosen es true → (length g.choice.rows.items ≤ suc i → es ≡ []) → tested ≡ resumed → shown ≡ chosen → Extends shown put → put.instrs ≡ shown.instrs → IsAt put label (size shown) → w ≡ put → label ≡ get_or g.choice.entries.items i 0 → copied ≡ g.entry → Resumes copied resumed → opened ≡ entering_root s' g.choice.takes q' (spot_of g.choice.root) tested → Loses opened l → StartsIn s g q i v ds l w es
+starts_from s s' g q q' i label v chosen shown put w ds es copied resumed tested opened l same qs c a fr sh e f p written at cp r o lost =
+    starts_in s g q i label v chosen put w ds es copied resumed opened l c a
+    (subst (λ x. Extends x put) sh e) (f ∙ ap (λ (x : Written). x.instrs) sh) (subst (λ x. IsAt put label (size x)) sh p) written at cp r
+    (o ∙ ap (λ x. entering_root x g.choice.takes q' (spot_of g.choice.root) tested) same ∙ ap (λ x. entering_root s g.choice.takes x (spot_of g.choice.root) tested) (sym qs) ∙ ap (entering_root s g.choice.takes q (spot_of g.choice.root)) fr) lost
+
+pub bound_from : (s s' : Setting) (k k0 m l : Known) (v v0 u z : Written) (b : Binding) (e : Expression) (rs ds names : List ℕ) (xs ys : List Binder) → s' ≡ s → e ≡ (out-Binding b).bound → xs ≡ (out-Binding b).binders.items → ys ≡ (out-Binding b).binders.items → ds ≡ rs → names ≡ rs → rs ≡ registers_for k.next xs → k0 ≡ reserved k xs → v0 ≡ v → (WellMatched s'.types (expression e) → Writes s' k0 v0 (expression e) (Into ds) m u) → l ≡ with_names m ys names → z ≡ u → WellMatched s.types (binding b).bound → Binds s k v (binding b).binders (binding b).bound l z
+bound_from s s' k k0 m l v v0 u z b e rs ds names xs ys same is ex ey ed en to at from w n kept well =
+    bound_into s.types s k k0 m l v v0 u z b e rs is (at ∙ ap (reserved k) ex) from (to ∙ ap (registers_for k.next) ex)
+    (subst (λ (x : Setting). WellMatched x.types (expression e) → Writes x k0 v0 (expression e) (Into rs) m u) same (subst (λ x. WellMatched s'.types (expression e) → Writes s' k0 v0 (expression e) (Into x) m u) ed w))
+    (n ∙ ap (λ x. with_names m x names) ey ∙ ap (with_names m (out-Binding b).binders.items) en) kept well
+
+pub match_from : (s s1 s2 : Setting) (k : Known) (v : Written) (e : Expression) (d : MatchKind) (t : ℕ) (p : Place) (a : Argument) (c : Box Clause Global) (cs : Vec Clause Global) (c1 c2 : Clause) (ds1 ds2 : List Clause) (g : Matching) (w0 : Written) (target : Target) (p0 p1 p2 : Progress) (w1 w2 : Written) (l : Known) (w : Written) → e ≡ EV.Match d t p a c cs → s1 ≡ s → s2 ≡ s → c1 ≡ c.value → c2 ≡ c.value → ds1 ≡ cs.items → ds2 ≡ cs.items → Begins s k v (argument a) t (clause c1).pattern (clauses ds1) g w0 → sides_of p0.sides.items ≡ first_side ∷ [] → p0.clause ≡ 0 → p0.joined ≡ None → WritesClause s1 g (clause c2) target p0 w0 p1 w1 → WritesClauses s2 g (clauses ds2) target p1 w1 p2 w2 → EndsMatch g p2.joined w2 l w → WellMatched s.types (expression e) → Writes s k v (expression e) target l w
+match_from s s1 s2 k v e d t p a c cs c1 c2 ds1 ds2 g w0 target p0 p1 p2 w1 w2 l w is e1 e2 ec1 ec2 ed1 ed2 begun start none unjoined first others ended =
+    written_match s k l v w e d t p a c cs target is
+    (match_written s k v (argument a) t (clause c.value) (clauses cs.items) g w0 target p0 p1 p2 w1 w2 l w
+    (subst (λ x. Begins s k v (argument a) t (clause x).pattern (clauses cs.items) g w0) ec1 (subst (λ x. Begins s k v (argument a) t (clause c1).pattern (clauses x) g w0) ed1 begun)) start none unjoined
+    (subst (λ x. WritesClause s g (clause x) target p0 w0 p1 w1) ec2 (subst (λ x. WritesClause x g (clause c2) target p0 w0 p1 w1) e1 first))
+    (subst (λ x. WritesClauses s g (clauses x) target p1 w1 p2 w2) ed2 (subst (λ x. WritesClauses x g (clauses ds2) target p1 w1 p2 w2) e2 others)) ended)
+
+pub code_from : (s s' : Setting) (n : ℕ) (d : Instance) (k l : Known) (v w : Written) (code : List Instr) → s' ≡ s → k ≡ known_at_start s n d → v ≡ record { instrs = []; places = [] } → (WellMatchedBlock s'.types d.body → WritesBlock s' k v d.body Return l w) → code ≡ map (settled (place_of w.places)) w.instrs → IsCodeOf s d code
+code_from s s' n d k l v w code same e f b h = is_code s n d k l v w code e f (subst (λ (x : Setting). WellMatchedBlock x.types d.body → WritesBlock x k v d.body Return l w) same b) h

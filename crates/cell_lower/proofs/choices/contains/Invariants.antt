@@ -1,0 +1,6 @@
+use Rattle.std.proofs.Common.{◌≡◌, drop}
+use Rattle.match_code.specs.Reading.{contains}
+use Rattle.cell_lower.proofs.choices.contains.Given as goal
+
+abbrev pub invariant-loop-one : goal.invariant-loop-one
+invariant-loop-one l = contains l.register (drop l.one-index l.read) ≡ contains l.register l.read

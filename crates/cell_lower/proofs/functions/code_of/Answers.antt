@@ -1,0 +1,13 @@
+use Rattle.std.proofs.Common.{refl, subst, map}
+use Rattle.fip_trees.specs.TreeView.{program, instances}
+use Rattle.lowered_code.specs.Values.{Setting}
+use Rattle.cell_lower.specs.Lowered.{function_instrs, HaveCodes}
+use Rattle.cell_lower.specs.Writing.{setting}
+use Rattle.cell_lower.proofs.Programs.{functions_lowered}
+use Rattle.cell_lower.proofs.functions.code_of.Goals as goal
+
+pub returns-clause-lowered : goal.returns-clause-lowered
+returns-clause-lowered c =
+    let s : Setting = setting record { alloc = c.args.alloc; program = c.args.program; scalars = c.in_ok-of.field-0; functions = c.in_ok-numbers_of.field-0 } in
+    functions_lowered (program c.args.program.now) s c.in_ok-functions.functions.items (record { scalar = c.in_ok-of.ensures.exact; functions = c.in_ok-numbers_of.ensures.numbered; instances = refl; types = refl })
+    (subst (λ x. HaveCodes s (instances x) 0 (map function_instrs c.in_ok-functions.functions.items)) c.as_slice.ensures.value c.in_ok-functions.ensures.codes)

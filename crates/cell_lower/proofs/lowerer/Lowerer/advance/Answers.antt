@@ -1,0 +1,11 @@
+use Rattle.std.proofs.Common.{subst}
+use Rattle.match_knowledge.specs.View.{rows, known}
+use Rattle.cell_lower.specs.Scenes.{sides_of, IsFirstOf}
+use Rattle.cell_lower.proofs.Choosing.{advances_asks, advances_chosen}
+use Rattle.cell_lower.proofs.lowerer.Lowerer.advance.Goals as goal
+
+pub returns-in_ok-settle-in-Chosen-clause-advances : goal.returns-in_ok-settle-in-Chosen-clause-advances
+returns-in_ok-settle-in-Chosen-clause-advances c = advances_chosen c.args.self.now.context.now.program.now.types c.args.choice.now c.args.self.now.buffer c.settle.new.self.buffer (known c.args.known.now) c.args.read.now.items c.settle.new.read.items (sides_of c.args.sides.now.items) c.in-Chosen.clause (subst (IsFirstOf (rows c.args.choice.now.rows.items) (known c.args.known.now)) c.in-Chosen.is c.in_ok-clause.ensures.first) c.in_ok-settle-in-Chosen.ensures.settles
+
+pub returns-in_ok-ask-in-Asks-clause-advances : goal.returns-in_ok-ask-in-Asks-clause-advances
+returns-in_ok-ask-in-Asks-clause-advances c = advances_asks c.args.self.now.context.now.program.now.types c.args.choice.now c.args.self.now.buffer c.ask.new.self.buffer (known c.args.known.now) (known c.ask.new.known) c.args.read.now.items c.ask.new.read.items (sides_of c.args.sides.now.items) (sides_of c.ask.new.sides.items) c.in-Asks.row (subst (IsFirstOf (rows c.args.choice.now.rows.items) (known c.args.known.now)) c.in-Asks.is c.in_ok-clause.ensures.first) c.in_ok-ask-in-Asks.ensures.asks

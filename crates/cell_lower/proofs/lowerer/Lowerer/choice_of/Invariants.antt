@@ -1,0 +1,18 @@
+use Rattle.std.proofs.Common.{◌≡◌, drop, ◌++◌, ◌∷◌}
+use Rattle.fip_trees.specs.TreeView as V
+use Rattle.match_code.specs.Written.{Extends, size}
+use Rattle.match_code.proofs.Choices.{patterns_in}
+use Rattle.cell_lower.specs.Positions.{reaching}
+use Rattle.cell_lower.specs.Scenes.{patterns_of}
+use Rattle.cell_lower.specs.Clauses.{HasPositions}
+use Rattle.cell_lower.proofs.lowerer.Lowerer.choice_of.Given as goal
+
+abbrev pub invariant-loop-clause : goal.invariant-loop-clause
+invariant-loop-clause l = record {
+  positions : HasPositions l.choice l.register l.written.ty l.fn.self.frame.next l.self.frame.next;
+  patterns : patterns_of l.choice ++ patterns_in (V.clauses (drop l.clause-index l.written.others.now)) ≡ (V.clause l.written.first.now).pattern ∷ patterns_in (V.clauses l.written.others.now);
+  frame : l.self.frame ≡ reaching l.fn.self.frame l.self.frame.next;
+  extends : Extends l.fn.self.buffer l.self.buffer;
+  as_long : size l.self.buffer ≡ size l.fn.self.buffer;
+  context : l.self.context ≡ l.fn.self.context;
+}

@@ -1,0 +1,25 @@
+use Rattle.std.proofs.Common.{refl, subst, ◌∙◌}
+use Rattle.std.specs.Borrow.{Bor}
+use Rattle.cell_lower.specs.declared.lowerer.Context.{Context}
+use Rattle.cell_lower.specs.Scenes.{sides_of, ChoosesIf}
+use Rattle.cell_lower.proofs.Choosing.{turns_start, turns_next, turns_end}
+use Rattle.cell_lower.proofs.lowerer.Lowerer.choose.Goals as goal
+
+pub loop-init : goal.loop-init
+loop-init c = record {
+  turns = turns_start c.args.self.now.context.now.program.now.types c.args.choice.now c.args.clause c.args.self.now.buffer (sides_of c.args.sides.now.items);
+  frame = refl;
+  context = refl;
+}
+
+pub loop-preserved : goal.loop-preserved
+loop-preserved c = record {
+  turns = turns_next c.args.self.now.context.now.program.now.types c.args.choice.now c.args.clause c.args.self.now.buffer c.loop.self.buffer c.choose_on.new.self.buffer (sides_of c.args.sides.now.items) (sides_of c.loop.sides.items) (sides_of c.choose_on.new.sides.items) c.in_ok-choose_on.field-0 c.if-branch.false c.loop.invariant.turns
+      (subst (λ (x : Bor Context). ChoosesIf x.now.program.now.types c.args.choice.now c.args.clause c.loop.self.buffer (sides_of c.loop.sides.items) c.choose_on.new.self.buffer (sides_of c.choose_on.new.sides.items) c.in_ok-choose_on.field-0) c.loop.invariant.context c.in_ok-choose_on.ensures.turn);
+  frame = c.in_ok-choose_on.ensures.frame ∙ c.loop.invariant.frame;
+  context = c.in_ok-choose_on.ensures.context ∙ c.loop.invariant.context;
+}
+
+pub returns-then-branch-clause-chooses : goal.returns-then-branch-clause-chooses
+returns-then-branch-clause-chooses c = turns_end c.args.self.now.context.now.program.now.types c.args.choice.now c.args.clause c.args.self.now.buffer c.loop.self.buffer c.choose_on.new.self.buffer (sides_of c.args.sides.now.items) (sides_of c.loop.sides.items) (sides_of c.choose_on.new.sides.items) c.in_ok-choose_on.field-0 c.if-branch.true c.loop.invariant.turns
+    (subst (λ (x : Bor Context). ChoosesIf x.now.program.now.types c.args.choice.now c.args.clause c.loop.self.buffer (sides_of c.loop.sides.items) c.choose_on.new.self.buffer (sides_of c.choose_on.new.sides.items) c.in_ok-choose_on.field-0) c.loop.invariant.context c.in_ok-choose_on.ensures.turn)

@@ -1,0 +1,12 @@
+use Rattle.std.proofs.Common.{◌≡◌}
+use Rattle.match_knowledge.specs.View.{known}
+use Rattle.cell_lower.specs.Scenes.{sides_of}
+use Rattle.cell_lower.proofs.Choosing.{Goes}
+use Rattle.cell_lower.proofs.lowerer.Lowerer.follow.Given as goal
+
+abbrev pub invariant-loop : goal.invariant-loop
+invariant-loop l = record {
+  goes : Goes l.initial.self.context.now.program.now.types l.choice l.initial.self.buffer (known l.initial.known) l.initial.read.items (sides_of l.initial.sides.items) l.self.buffer (known l.known) l.read.items (sides_of l.sides.items);
+  frame : l.self.frame ≡ l.initial.self.frame;
+  context : l.self.context ≡ l.initial.self.context;
+}

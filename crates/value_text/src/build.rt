@@ -43,7 +43,7 @@ fn int_bits(i: i64) -> u64
     }
 }
 
-// The word of a new cell, twice its place and 1, is put behind the others.
+// Makes a cell, and gives its word: twice its place, and 1.
 #[inline(always)]
 fn push_cell(tag: u32, fields: &[u64], loader: &mut Loader) -> Result<u64, CellError>
     requires some { 0 < length fields.now }

@@ -2,7 +2,7 @@
 // or the place of the first byte that doesn't fit, where the end counts as one.
 ghost use Rattle.std.specs.Prelude.{◌≡◌, ◌↔◌, ℕ, suc, ◌+◌, ◌*◌, ◌-◌, ◌<◌, ◌≤◌, ◌||◌, Bool, true, false, IsTrue};
 ghost use Rattle.std.specs.Prelude.{MatchOption, MatchResult, Some, None, length, take, drop, slice_get};
-ghost use Rattle.std.specs.Prelude.{slice_index_or, nat_le, nat_eq, max, FitsSigned, [], List, IfSome, ◌^◌};
+ghost use Rattle.std.specs.Prelude.{slice_index_or, nat_le, nat_eq, max, FitsSigned, [], List, IfSome};
 ghost use Rattle.fip_base.specs.TableView.{IsNamed};
 ghost use Rattle.std.specs.Int.{w64};
 ghost use Rattle.fip_language.specs.Prefix.{Accepted, Stopped};

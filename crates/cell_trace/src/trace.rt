@@ -32,13 +32,6 @@ impl Event {
             Event::Put { step, .. } | Event::Release { step, .. } => *step,
         }
     }
-
-    /// The place of its cell.
-    pub fn place(&self) -> u32 {
-        match self {
-            Event::Put { place, .. } | Event::Release { place, .. } => *place,
-        }
-    }
 }
 
 /// What a run wrote: the cells before it in order of place, what happened to them in order of steps, and the number of

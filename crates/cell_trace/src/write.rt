@@ -4,14 +4,14 @@ use byteorder::{BigEndian, ByteOrder};
 use fip_base::plain::NoMemory;
 use std::alloc::Global;
 
-/// The bytes with which a trace begins: its magic and its version.
-pub const HEAD: &[u8] = b"FP2T\x00\x01";
+// The bytes with which a trace begins: its magic and its version.
+const HEAD: &[u8] = b"FP2T\x00\x01";
 
-/// The operation of an event that gives a cell its words.
-pub const PUT: u8 = 0;
+// The operation of an event that gives a cell its words.
+const PUT: u8 = 0;
 
-/// The operation of an event that releases a cell.
-pub const RELEASE: u8 = 1;
+// The operation of an event that releases a cell.
+const RELEASE: u8 = 1;
 
 /// The most events of a trace.
 pub const MOST_EVENTS: usize = 4_294_967_295;

@@ -1,9 +1,11 @@
 // The texts of the library, and a tree that is made of a seed's keys.
-ghost use Rattle.std.specs.Prelude.{◌≡◌, ◌⊎◌, IfOk, IfErr};
+ghost use Rattle.std.specs.Prelude.{◌≡◌, ◌⊎◌, ℕ, List, IfOk, IfErr, OnOk};
 ghost use Rattle.fip_library.specs.Names.{IsTextName};
 ghost use Rattle.fip_library.specs.Texts.{IsText};
 ghost use Rattle.command_outcome.specs.Stages.{IsOfSource, IsOfRun};
 ghost use Rattle.command_outcome.specs.declared.failure.Failure.TheVariants.{NotUnderstood, NoMemory as no_memory};
+ghost use Rattle.source_commands.specs.Wanted.{IsReady};
+ghost use Rattle.fip_commands.specs.Generated.{IsTreeSource, build, IsTreeText, KeepsFromTree};
 
 use crate::running::{failure_of, started};
 use cell_store::Cells;
@@ -13,7 +15,7 @@ use fip_base::plain::NoMemory;
 use fip_language::limits::MOST_STORE_WORDS;
 use fip_library::text;
 use fip_machine::Gauge;
-use source_commands::exec_entry;
+use source_commands::{Ready, exec_entry};
 use std::alloc::Global;
 
 // The room of a run that makes a tree.
@@ -131,27 +133,51 @@ fn survey<C: Cells>(alloc: Global, cells: &C, root: u64) -> Result<(u64, Option<
     Ok((nodes, ends))
 }
 
-/// The four lines of the red-black tree that is made of so many keys of a seed: how many keys and nodes, the least
-/// and the greatest key. It is what `build` of the library's text `rbtree` gives for these keys, a pad for each, and
-/// no node.
-pub fn generate(alloc: Global, seed: u64, count: u64) -> Result<Vec<u8>, Failure>
-    ensures stage { IfErr result (λ f. IsOfSource f ⊎ IsOfRun f) }
+// The lines of the tree that a run of the entry makes of so many keys of a seed.
+fn tree_of(alloc: Global, ready: &Ready, seed: u64, count: u64) -> Result<Vec<u8>, Failure>
+    ensures lines { IfOk result (λ v. IsTreeText count v.items) }
+    ensures stage { IfErr result IsOfRun }
 {
-    let source = library(alloc, "rbtree")?;
-    let ready = exec_entry(alloc, source.as_slice(), "build")?;
     let input = arguments(alloc, seed, count)?;
     let room = Room {
         calls: CALLS,
         frames: FRAMES,
         words: WORDS,
     };
-    let mut machine = started(alloc, &ready, input.as_slice(), room)?;
+    let mut machine = started(alloc, ready, input.as_slice(), room)?;
     match failure_of(machine.run(CALLS, &mut Gauge::new()), CALLS, FRAMES) {
         Some(failure) => Err(failure),
         None => {
             let root = machine.results().first().copied().unwrap_or(0);
             let (nodes, ends) = survey(alloc, machine.cells(), root)?;
-            Ok(tree_lines(alloc, count, nodes, ends)?.into_bytes())
+            Ok(lines_of(alloc, count, nodes, ends)?)
         }
+    }
+}
+
+// The lines of a tree.
+#[tactic(auto, using(crate::proofs::TreeMaking::told))]
+fn lines_of(alloc: Global, count: u64, nodes: u64, ends: Option<Ends>) -> Result<Vec<u8>, NoMemory>
+    ensures lines { IfOk result (λ v. IsTreeText count v.items) }
+{
+    Ok(tree_lines(alloc, count, nodes, ends)?.into_bytes())
+}
+
+/// The four lines of the red-black tree that is made of so many keys of a seed: how many keys and nodes, the least
+/// and the greatest key. It is what `build` of the library's text `rbtree` gives for these keys, a pad for each, and
+/// no node.
+pub fn generate(alloc: Global, seed: u64, count: u64) -> Result<Vec<u8>, Failure>
+    ensures lines { IfOk result (λ v. IsTreeText count v.items) }
+    ensures ready { OnOk result ((source : List ℕ) × IsTreeSource source × IsReady source build) }
+    ensures kept { IfErr result (λ f. (f ≡ no_memory)
+        ⊎ ((source : List ℕ) × IsTreeSource source × KeepsFromTree source f)) }
+    ensures stage { IfErr result (λ f. IsOfSource f ⊎ IsOfRun f) }
+{
+    match library(alloc, "rbtree") {
+        Ok(source) => match exec_entry(alloc, source.as_slice(), "build") {
+            Ok(ready) => tree_of(alloc, &ready, seed, count),
+            Err(failure) => Err(failure),
+        },
+        Err(failure) => Err(failure),
     }
 }

@@ -1,14 +1,15 @@
 // Runs whose writes to the cells are kept, and what these writes make of the cells.
-ghost use Rattle.std.specs.Prelude.{◌≡◌, ◌≤◌, ◌<◌, ℕ, length, Err, IfErr, OnOk};
+ghost use Rattle.std.specs.Prelude.{◌≡◌, ◌≤◌, ◌<◌, ℕ, length, Err, IfOk, IfErr, OnOk};
 ghost use Rattle.fip_language.specs.declared.limits.TheConstants.{MOST_FILE_BYTES};
 ghost use Rattle.fip_language.specs.declared.rule.Rule.TheVariants.{E75};
 ghost use Rattle.fip_base.specs.declared.refusal.Refusal.{Refusal as a_refusal};
 ghost use Rattle.command_outcome.specs.declared.failure.Failure.TheVariants.{BadTrace, Refused};
 ghost use Rattle.source_report.specs.Report.{bare};
 ghost use Rattle.command_outcome.specs.Stages.{IsOfReplay, IsOfRun, IsOfTrace};
+ghost use Rattle.fip_commands.specs.Replayed.{IsReplayed, KeepsFromReplay};
 
 use crate::running::{failure_of, started, types_of, values_text};
-use cell_trace::{ReadTraceError, Trace, TraceError, cells_after, read_trace, write_trace};
+use cell_trace::{ReadTraceError, Trace, TraceError, write_trace};
 use command_line::Room;
 use command_outcome::Failure;
 use fip_base::plain::{Detail, NoMemory};
@@ -17,6 +18,7 @@ use fip_language::limits::MOST_FILE_BYTES;
 use fip_machine::{Ended, Gauge, Machine};
 use source_commands::{Compiled, Ready};
 use std::alloc::Global;
+use trace_files::{cells_after, read_trace};
 
 // The refusal of a trace that is too long.
 fn too_long(alloc: Global) -> Failure
@@ -79,6 +81,8 @@ pub fn trace(alloc: Global, ready: Ready, input: &[u8], room: Room) -> Result<Co
 /// A line for each cell of a trace's file, in order of place, as it is after so many steps, or after the last. A bad
 /// trace where the bytes are no trace, or more than 16,777,216.
 pub fn replay(alloc: Global, bytes: &[u8], step: u64) -> Result<Vec<u8>, Failure>
+    ensures shown { IfOk result (λ v. IsReplayed bytes.now step v.items) }
+    ensures bad { IfErr result (KeepsFromReplay bytes.now) }
     ensures short { OnOk result (length bytes.now ≤ MOST_FILE_BYTES) }
     ensures long { (at : ℕ) → result ≡ Err (BadTrace at) → MOST_FILE_BYTES < length bytes.now →
         at ≡ MOST_FILE_BYTES }

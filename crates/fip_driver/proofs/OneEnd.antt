@@ -1,26 +1,31 @@
 -- A command ends with one thing at most, where it is said; and then its answer isn't open.
 use Rattle.std.proofs.Common.{◌≡◌, ◌∙◌, ◌==◌, ℕ, List, sym, ap, subst, refl, arith, [], slice_index, if◌then◌else◌}
-use Rattle.std.specs.Prelude.{Option, Some, None, Ok, Err}
+use Rattle.std.specs.Prelude.{Option, Some, None, Ok, Err, codes}
 use Rattle.std.proofs.lemmas.Option.{none-some, same_Some}
 use Rattle.fip_base.specs.Files.{File, file_of}
+use Rattle.fip_base.specs.declared.refusal.Refusal.{Refusal}
+use Rattle.fip_commands.specs.Generated.{IsTreeSource, build}
 use Rattle.fip_library.specs.Texts.{IsText, OfList, OfTree, OfRedBlackTree, OfFingerTree}
 use Rattle.fip_library.specs.declared.list.TheConstants as List'
 use Rattle.fip_library.specs.declared.tree.TheConstants as Tree
 use Rattle.fip_library.specs.declared.rbtree.TheConstants as RedBlackTree
 use Rattle.fip_library.specs.declared.finger.TheConstants as FingerTree
-use Rattle.command_line.specs.Words.{Command, Check, Verify, Upgrade, Run, Audit, Replay, Library, Gen, Eval}
+use Rattle.command_line.specs.Words.{Command, Check, Verify, Upgrade, Run, Derive, Audit, Replay, Library, Gen, Eval}
 use Rattle.command_outcome.specs.declared.failure.Failure.TheVariants as F
 use Rattle.eval_command.specs.EvalAnswer.{Evaluates}
 use Rattle.eval_command.proofs.Once.{evaluated_once, evaluated_ready}
 use Rattle.fip_trees.specs.Tree.{Program}
 use Rattle.source_report.specs.Report.{IsMatched}
 use Rattle.source_report.proofs.Once.{typed_once}
+use Rattle.loaded_runs.proofs.Either.{one_trace, not_both, one_place}
+use Rattle.loaded_runs.specs.Replaying.{replayed}
 use Rattle.source_commands.specs.Roots.{IsListing}
-use Rattle.source_commands.specs.Wanted.{Wanted, Lawful, Root, IsReady}
+use Rattle.source_commands.specs.Wanted.{Wanted, Lawful, Root, IsReady, Refuses}
+use Rattle.source_commands.proofs.Deriving.{derived_ready, underived_ready, derived_or_underived}
 use Rattle.source_commands.proofs.Judging.{rejected_once, accepted_not_rejected}
 use Rattle.source_commands.proofs.Once.{listing_once, listing_ready, report_once, refused_once, refused_not_ready}
 use Rattle.fip_driver.specs.Commands.{ReadsInput, fetched_name, wanted}
-use Rattle.fip_driver.specs.Ends.{End, SaysOf, Refused, Listed, LongInput, Evaluated, IsTaken, Checks, Says, Missing, OnSource, OnCode, OnAudit, OfLibrary, AsksCode, SaysOfCode, IsVerdict, SaysOfAudit, Reported, NoProof, Judged, IsUnsaidOn, IsThere, IsOpen, OpenSource, OpenCode, OpenTrace, OpenGen}
+use Rattle.fip_driver.specs.Ends.{End, SaysOf, Refused, Listed, LongInput, Evaluated, Derived, Underived, IsTaken, Checks, Says, Missing, OnSource, OnCode, OnAudit, OfLibrary, AsksCode, SaysOfCode, IsVerdict, SaysOfAudit, Reported, NoProof, Judged, IsUnsaidOn, IsThere, OnTrace, SaysOfTrace, IsOpen, OpenSource, OpenCode, OpenGen, GenRefused}
 use Rattle.fip_driver.proofs.OneCode.{says_asks, runs_asks, code_once, code_not_open}
 use Rattle.fip_driver.specs.Spelling.{Spelling}
 
@@ -65,6 +70,23 @@ evaluated_same source input file entry other name calls frames m n c e same is h
 evaluated_reads : (c : Command) (file entry : List ℕ) (calls frames : ℕ) → c ≡ Eval file entry calls frames → ReadsInput c
 evaluated_reads c file entry calls frames same = subst ReadsInput (sym same) tt
 
+-- what the words of `derive` ask for
+derived_wants : (c : Command) (w : Wanted) (file out : List ℕ) → c ≡ Derive file out → wanted c ≡ Some w → w ≡ Lawful
+derived_wants c w file out same wants = sym (same_Some Lawful w (subst (λ c. wanted c ≡ Some w) same wants))
+
+derived_reads : (c : Command) (file out : List ℕ) → c ≡ Derive file out → ReadsInput c → ⊥
+derived_reads c file out same reads = subst ReadsInput same reads
+
+derived_fits : (source : List ℕ) (c : Command) (w : Wanted) (file out : List ℕ) → c ≡ Derive file out → wanted c ≡ Some w → IsReady source Lawful → IsReady source w
+derived_fits source c w file out same wants h = subst (IsReady source) (sym (derived_wants c w file out same wants)) h
+
+abbrev is_derive : Command → ℕ
+is_derive (Derive file out) = 1
+is_derive c = 0
+
+check_or_derive : (c : Command) (file other out : List ℕ) → c ≡ Check file → c ≡ Derive other out → ⊥
+check_or_derive c file other out same is = let one : 0 ≡ 1 = sym (ap is_derive same) ∙ ap is_derive is in omega (arith, one)
+
 source_once : (source input : List ℕ) (c : Command) (w : Wanted) (d e : End) → wanted c ≡ Some w → SaysOf source input c w d → SaysOf source input c w e → d ≡ e
 source_once source input c w d e wants (Refused q h) (Refused r k) = ap (λ r. Err (F.Refused r)) (refused_once source w q r h k)
 source_once source input c w d e wants (Refused q h) (Listed file text same k) = absurd (refused_not_ready source w q h (listed_fits source text c w file same wants k))
@@ -81,6 +103,26 @@ source_once source input c w d e wants (LongInput ready reads more) (Evaluated f
 source_once source input c w d e wants (Evaluated file entry calls frames f same le h) (Refused r k) = absurd (refused_not_ready source w r k (evaluated_fits source input c w file entry calls frames f same wants h))
 source_once source input c w d e wants (Evaluated file entry calls frames f same le h) (Listed other text is k) = absurd (listed_reads c other is (evaluated_reads c file entry calls frames same))
 source_once source input c w d e wants (Evaluated file entry calls frames f same le h) (LongInput ready reads more) = absurd (omega (arith, more, le))
+source_once source input c w d e wants (Derived file out bytes same h) (Refused r k) = absurd (refused_not_ready source w r k (derived_fits source c w file out same wants (derived_ready source bytes h)))
+source_once source input c w d e wants (Derived file out bytes same h) (Listed other text is k) = absurd (check_or_derive c other file out is same)
+source_once source input c w d e wants (Derived file out bytes same h) (LongInput ready reads more) = absurd (derived_reads c file out same reads)
+source_once source input c w d e wants (Derived file out bytes same h) (Evaluated other entry calls frames f is le k) = absurd (derived_reads c file out same (evaluated_reads c other entry calls frames is))
+source_once source input c w d e wants (Derived file out bytes same h) (Derived other to more is k) = refl
+source_once source input c w d e wants (Derived file out bytes same h) (Underived other to is k) = absurd (derived_or_underived source bytes h k)
+source_once source input c w d e wants (Underived file out same h) (Refused r k) = absurd (refused_not_ready source w r k (derived_fits source c w file out same wants (underived_ready source h)))
+source_once source input c w d e wants (Underived file out same h) (Listed other text is k) = absurd (check_or_derive c other file out is same)
+source_once source input c w d e wants (Underived file out same h) (LongInput ready reads more) = absurd (derived_reads c file out same reads)
+source_once source input c w d e wants (Underived file out same h) (Evaluated other entry calls frames f is le k) = absurd (derived_reads c file out same (evaluated_reads c other entry calls frames is))
+source_once source input c w d e wants (Underived file out same h) (Derived other to more is k) = absurd (derived_or_underived source more k h)
+source_once source input c w d e wants (Underived file out same h) (Underived other to is k) = refl
+source_once source input c w d e wants (Refused r k) (Derived file out bytes same h) = absurd (refused_not_ready source w r k (derived_fits source c w file out same wants (derived_ready source bytes h)))
+source_once source input c w d e wants (Listed other text is k) (Derived file out bytes same h) = absurd (check_or_derive c other file out is same)
+source_once source input c w d e wants (LongInput ready reads more) (Derived file out bytes same h) = absurd (derived_reads c file out same reads)
+source_once source input c w d e wants (Evaluated other entry calls frames f is le k) (Derived file out bytes same h) = absurd (derived_reads c file out same (evaluated_reads c other entry calls frames is))
+source_once source input c w d e wants (Refused r k) (Underived file out same h) = absurd (refused_not_ready source w r k (derived_fits source c w file out same wants (underived_ready source h)))
+source_once source input c w d e wants (Listed other text is k) (Underived file out same h) = absurd (check_or_derive c other file out is same)
+source_once source input c w d e wants (LongInput ready reads more) (Underived file out same h) = absurd (derived_reads c file out same reads)
+source_once source input c w d e wants (Evaluated other entry calls frames f is le k) (Underived file out same h) = absurd (derived_reads c file out same (evaluated_reads c other entry calls frames is))
 source_once source input c w d e wants (Evaluated file entry calls frames f same le h) (Evaluated other name m n g is ge k) =
     evaluated_once source name input m n f g (evaluated_same source input file entry other name calls frames m n c f same is h) k
 
@@ -89,6 +131,8 @@ source_not_open source input c w e (Refused r h) ready taken other = refused_not
 source_not_open source input c w e (Listed file text same h) ready taken other = subst IsUnsaidOn same other
 source_not_open source input c w e (LongInput r reads more) ready taken other = let le = taken reads in omega (arith, more, le)
 source_not_open source input c w e (Evaluated file entry calls frames f same le h) ready taken other = subst IsUnsaidOn same other
+source_not_open source input c w e (Derived file out bytes same h) ready taken other = subst IsUnsaidOn same other
+source_not_open source input c w e (Underived file out same h) ready taken other = subst IsUnsaidOn same other
 
 -- ---- of `audit`
 
@@ -177,6 +221,34 @@ gen_fetches c seed count m same names = none-some m (subst (λ c. fetched_name c
 library_or_gen : (c : Command) (name : List ℕ) (seed count : ℕ) → c ≡ Library name → c ≡ Gen seed count → ⊥
 library_or_gen c name seed count same other = let one : 1 ≡ 0 = sym (ap is_of_library same) ∙ ap is_of_library other in omega (arith, one)
 
+-- the text of `gen` is one
+tree_source_once : (s t : List ℕ) → IsTreeSource s → IsTreeSource t → s ≡ t
+tree_source_once s t h k = text_once (codes "rbtree") (codes "rbtree") s t refl h k
+
+tree_refused_once : (s t : List ℕ) (q r : Refusal) → IsTreeSource s → IsTreeSource t → Refuses s build q → Refuses t build r → q ≡ r
+tree_refused_once s t q r is was h k = refused_once t build q r (subst (λ x. Refuses x build q) (tree_source_once s t is was) h) k
+
+tree_refused_not_ready : (s t : List ℕ) (r : Refusal) → IsTreeSource s → IsTreeSource t → Refuses s build r → IsReady t build → ⊥
+tree_refused_not_ready s t r is was h k = refused_not_ready t build r (subst (λ x. Refuses x build r) (tree_source_once s t is was) h) k
+
+-- ---- of `replay`
+
+trace_once : (bytes : List ℕ) (step : ℕ) (d e : End) → SaysOfTrace bytes step d → SaysOfTrace bytes step e → d ≡ e
+trace_once bytes step (Ok t) (Ok u) h k = ap (λ t. Ok t) (h.2 ∙ ap (λ t. replayed t step) (one_trace bytes h.0 k.0 h.1 k.1) ∙ sym k.2)
+trace_once bytes step (Ok t) (Err (F.BadTrace at)) h k = absurd (not_both bytes h.0 at h.1 k)
+trace_once bytes step (Ok t) (Err f) h k = absurd k
+trace_once bytes step (Err (F.BadTrace at)) (Ok u) h k = absurd (not_both bytes k.0 at k.1 h)
+trace_once bytes step (Err (F.BadTrace at)) (Err (F.BadTrace to)) h k = ap (λ n. Err (F.BadTrace n)) (one_place bytes at to h k)
+trace_once bytes step (Err (F.BadTrace at)) (Err f) h k = absurd k
+trace_once bytes step (Err f) e h k = absurd h
+
+abbrev step_of : Command → ℕ
+step_of (Replay trace step) = step
+step_of c = 0
+
+replayed_once : (x y : List ℕ) (m n : ℕ) (d e : End) → x ≡ y → m ≡ n → SaysOfTrace x m d → SaysOfTrace y n e → d ≡ e
+replayed_once x y m n d e same equal h k = trace_once y n d e (subst (λ i. SaysOfTrace y i d) equal (subst (λ b. SaysOfTrace b m d) same h)) k
+
 -- ---- on files
 
 -- the commands that ask a code file ask no source
@@ -232,27 +304,52 @@ module _ (spelling : Spelling) (files : List File) (input : List ℕ) (c : Comma
   says_once d e (OnAudit file proof s f is there h) (OnAudit again other t g was also k) =
       let one : proof ≡ other = ap proof_of (sym is ∙ was) in
       audit_once t (file_of proof files) (file_of other files) f g (ap (λ n. file_of n files) one) (subst (λ x. SaysOfAudit x (file_of proof files) f) (one_file s t there also) h) k
+  says_once d e (GenRefused seed count source r same is h) (Missing m o names gone) = absurd (gen_fetches c seed count m same names)
+  says_once d e (GenRefused seed count source r same is h) (OnSource w t g k others) = absurd (gen_fetches c seed count k.name same k.names)
+  says_once d e (GenRefused seed count source r same is h) (OnCode bytes g there says) = absurd (gen_fetches c seed count there.0 same there.1)
+  says_once d e (GenRefused seed count source r same is h) (OfLibrary name text other k) = absurd (library_or_gen c name seed count other same)
+  says_once d e (GenRefused seed count source r same is h) (OnAudit file proof t g other there k) = absurd (gen_fetches c seed count there.0 same there.1)
+  says_once d e (Missing m o names gone) (GenRefused seed count source r same is h) = absurd (gen_fetches c seed count m same names)
+  says_once d e (OnSource w t g k others) (GenRefused seed count source r same is h) = absurd (gen_fetches c seed count k.name same k.names)
+  says_once d e (OnCode bytes g there says) (GenRefused seed count source r same is h) = absurd (gen_fetches c seed count there.0 same there.1)
+  says_once d e (OfLibrary name text other k) (GenRefused seed count source r same is h) = absurd (library_or_gen c name seed count other same)
+  says_once d e (OnAudit file proof t g other there k) (GenRefused seed count source r same is h) = absurd (gen_fetches c seed count there.0 same there.1)
+  says_once d e (GenRefused seed count s q same is h) (GenRefused m n t r other was k) = ap (λ r. Err (F.Refused r)) (tree_refused_once s t q r is was h k)
+  says_once d e (OnTrace trace step bytes f is there h) (Missing m o names gone) = absurd (there_or_missing m there.0 bytes names there.1 gone there.2)
+  says_once d e (OnTrace trace step bytes f is there h) (OnSource w t g k others) = absurd (replay_wants c trace step w is k.wants)
+  says_once d e (OnTrace trace step bytes f is there h) (OnCode x g also says) = absurd (replay_asks c trace step is (says_asks x input c g says))
+  says_once d e (OnTrace trace step bytes f is there h) (OfLibrary name text same k) = absurd (library_fetches c name there.0 same there.1)
+  says_once d e (OnTrace trace step bytes f is there h) (OnAudit file proof t g was also k) = absurd (audit_or_replay c file proof trace step was is)
+  says_once d e (OnTrace trace step bytes f is there h) (GenRefused seed count source r same also k) = absurd (gen_fetches c seed count there.0 same there.1)
+  says_once d e (Missing m o names gone) (OnTrace trace step bytes f is there h) = absurd (there_or_missing m there.0 bytes names there.1 gone there.2)
+  says_once d e (OnSource w t g k others) (OnTrace trace step bytes f is there h) = absurd (replay_wants c trace step w is k.wants)
+  says_once d e (OnCode x g also says) (OnTrace trace step bytes f is there h) = absurd (replay_asks c trace step is (says_asks x input c g says))
+  says_once d e (OfLibrary name text same k) (OnTrace trace step bytes f is there h) = absurd (library_fetches c name there.0 same there.1)
+  says_once d e (OnAudit file proof t g was also k) (OnTrace trace step bytes f is there h) = absurd (audit_or_replay c file proof trace step was is)
+  says_once d e (GenRefused seed count source r same also k) (OnTrace trace step bytes f is there h) = absurd (gen_fetches c seed count there.0 same there.1)
+  says_once d e (OnTrace trace step x f is there h) (OnTrace other n y g was also k) = replayed_once x y step n f g (one_file x y there also) (ap step_of (sym is ∙ was)) h k
   says_once d e (OnSource v s f h says) (OnSource w t g k others) = source_once t input c w f g k.wants (moved v w s t f h k says) others
 
 module _ (spelling : Spelling) (files : List File) (input : List ℕ) (c : Command) where
   pub says_not_open : (e : End) → Says spelling files input c e → IsOpen spelling files input c → ⊥
   says_not_open e (Missing m o names gone) (OpenSource w source checks ready taken other) = there_or_missing spelling files input c m checks.name source names checks.names gone checks.there
-  says_not_open e (Missing m o names gone) (OpenTrace trace step bytes is there) = there_or_missing spelling files input c m there.0 bytes names there.1 gone there.2
-  says_not_open e (Missing m o names gone) (OpenGen seed count same) = gen_fetches c seed count m same names
+  says_not_open e (Missing m o names gone) (OpenGen seed count source same is ready) = gen_fetches c seed count m same names
   says_not_open e (OnSource v s f h says) (OpenSource w t k ready taken other) = source_not_open t input c w f (moved spelling files input c v w s t f h k says) ready taken other
-  says_not_open e (OnSource v s f h says) (OpenTrace trace step bytes is there) = replay_wants c trace step v is h.wants
-  says_not_open e (OnSource v s f h says) (OpenGen seed count same) = gen_fetches c seed count h.name same h.names
+  says_not_open e (OnSource v s f h says) (OpenGen seed count source same is ready) = gen_fetches c seed count h.name same h.names
   says_not_open e (Missing m o names gone) (OpenCode bytes there runs) = there_or_missing spelling files input c m there.0 bytes names there.1 gone there.2
   says_not_open e (OnSource v s f h says) (OpenCode bytes there runs) = asks_unwanted c v (runs_asks bytes input c runs) h.wants
   says_not_open e (OnCode bytes f there says) (OpenSource w t k ready taken other) = asks_unwanted c w (says_asks bytes input c f says) k.wants
   says_not_open e (OnCode bytes f there says) (OpenCode again also runs) = code_not_open again input c f (subst (λ b. SaysOfCode b input c f) (one_file spelling files input c bytes again there also) says) runs
-  says_not_open e (OnCode bytes f there says) (OpenTrace trace step again is also) = replay_asks c trace step is (says_asks bytes input c f says)
-  says_not_open e (OnCode bytes f there says) (OpenGen seed count same) = gen_fetches c seed count there.0 same there.1
+  says_not_open e (OnCode bytes f there says) (OpenGen seed count source same is ready) = gen_fetches c seed count there.0 same there.1
   says_not_open e (OfLibrary name text same h) (OpenSource w t k ready taken other) = library_fetches c name k.name same k.names
   says_not_open e (OfLibrary name text same h) (OpenCode bytes there runs) = library_fetches c name there.0 same there.1
-  says_not_open e (OfLibrary name text same h) (OpenTrace trace step bytes is there) = library_fetches c name there.0 same there.1
-  says_not_open e (OfLibrary name text same h) (OpenGen seed count other) = library_or_gen c name seed count same other
+  says_not_open e (OfLibrary name text same h) (OpenGen seed count source other is ready) = library_or_gen c name seed count same other
   says_not_open e (OnAudit file proof source f is there h) (OpenSource w t k ready taken other) = audit_wants c file proof w is k.wants
   says_not_open e (OnAudit file proof source f is there h) (OpenCode bytes also runs) = audit_asks c file proof is (runs_asks bytes input c runs)
-  says_not_open e (OnAudit file proof source f is there h) (OpenTrace trace step bytes was also) = audit_or_replay c file proof trace step is was
-  says_not_open e (OnAudit file proof source f is there h) (OpenGen seed count other) = gen_fetches c seed count there.0 other there.1
+  says_not_open e (OnAudit file proof source f is there h) (OpenGen seed count s other was ready) = gen_fetches c seed count there.0 other there.1
+  says_not_open e (OnTrace trace step bytes f is there h) (OpenSource w t k ready taken other) = replay_wants c trace step w is k.wants
+  says_not_open e (OnTrace trace step bytes f is there h) (OpenCode x also runs) = replay_asks c trace step is (runs_asks x input c runs)
+  says_not_open e (OnTrace trace step bytes f is there h) (OpenGen seed count source same was ready) = gen_fetches c seed count there.0 same there.1
+  says_not_open e (GenRefused seed count source r same is h) (OpenSource w t k ready taken other) = gen_fetches c seed count k.name same k.names
+  says_not_open e (GenRefused seed count source r same is h) (OpenCode bytes there runs) = gen_fetches c seed count there.0 same there.1
+  says_not_open e (GenRefused seed count s r same is h) (OpenGen m n t other was ready) = tree_refused_not_ready s t r is was h ready

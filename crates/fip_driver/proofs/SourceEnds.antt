@@ -11,7 +11,9 @@ use Rattle.fip_base.specs.Faults.{Rose}
 use Rattle.fip_base.specs.Files.{File, file_of, HoldsFile, HoldsLonger, IsMissing}
 use Rattle.fip_trees.specs.Tree.{Program}
 use Rattle.command_line.specs.Words.{Command, Check, Compile, Exec, Trace, Derive, Audit, Eval, Replay, Library, Gen, IsTextName}
-use Rattle.command_outcome.specs.Stages.{IsOfSource, IsOfRun, IsOfTasks, IsOfTrace, IsOfReplay}
+use Rattle.command_outcome.specs.Stages.{IsOfRun, IsOfTasks, IsOfTrace}
+use Rattle.fip_commands.specs.Generated.{IsTreeSource, build, IsTreeText, KeepsFromTree}
+use Rattle.fip_commands.specs.Replayed.{IsReplayed, KeepsFromReplay}
 use Rattle.fip_library.specs.Texts.{IsText}
 use Rattle.command_outcome.specs.Successes.{derived_text}
 use Rattle.command_outcome.specs.declared.failure.Failure.{Failure}
@@ -20,13 +22,16 @@ use Rattle.command_outcome.specs.declared.failure.Object.TheVariants as O
 use Rattle.source_report.specs.Report.{bare, IsMatched, TooLong}
 use Rattle.eval_command.specs.EvalAnswer.{Evaluates, OrNoMemory}
 use Rattle.source_commands.specs.Judged.{IsEarlyReport, IsBadProof, IsProofOf, IsRejectedOf}
+use Rattle.source_commands.specs.Derived.{IsDerivedFile, KeepsFromDerive}
+use Rattle.source_commands.specs.ProgramCode.{KeepsFromCompile}
 use Rattle.source_commands.specs.Roots.{IsListing}
-use Rattle.source_commands.specs.Wanted.{Wanted, Lawful, Root, IsReady, IsRefusedBy, IsLongFor, KeepsFrom, KeepsFromVerified, of_entry}
+use Rattle.source_commands.specs.Wanted.{Wanted, Lawful, Root, IsReady, IsRefusedBy, KeepsFrom, KeepsFromVerified, of_entry}
 use Rattle.source_commands.proofs.Once.{listing_ready}
+use Rattle.source_commands.proofs.Compiling.{uncompiled_ready}
 use Rattle.source_commands.specs.declared.files.Compiled.{Compiled as compiled_file}
 use Rattle.fip_driver.specs.Answered.{IsTold}
 use Rattle.fip_driver.specs.Commands.{IsOther, ReadsInput, CallsNoFolder, fetched_name, wanted}
-use Rattle.fip_driver.specs.Ends.{End, SaysOf, Refused, Listed, LongInput, Evaluated, MakesCode, ComesOf, Unsound, Ready, MayEnd, IsTaken, IsRunEnd, IsTraceEnd, IsTasksEnd, IsBeside, Checks, Says, Missing, OnSource, OnAudit, OfLibrary, IsUnsaidOn, Comes, MayOnSource, MayOnTrace, MayOfGen, IsThere, IsVerdict, SaysOfAudit, Reported, NoProof, Judged, IsGenEnd}
+use Rattle.fip_driver.specs.Ends.{End, SaysOf, Refused, Listed, LongInput, Evaluated, Derived, Underived, MakesCode, ComesOf, Unsound, Ready, MayEnd, IsTaken, IsRunEnd, IsTraceEnd, IsTasksEnd, IsBeside, Checks, Says, Missing, OnSource, OnAudit, OnTrace, OfLibrary, IsUnsaidOn, Comes, MayOnSource, MayOfGen, IsThere, IsVerdict, SaysOfAudit, Reported, NoProof, Judged, GenRefused}
 use Rattle.fip_driver.specs.Fetched.{FetchFails, FileFails, StoreFails, JudgeFails, ReadFails}
 use Rattle.fip_driver.specs.Outcome.{end_of, compiled_end, IsFault, IsInputFault, ReadOutcome, InputOutcome, SourceOutcome, Closes, FileOutcome, AuditOutcome, CommandOutcome}
 use Rattle.fip_driver.specs.Spelling.{Spelling, source_spelling}
@@ -128,15 +133,6 @@ pub check_ends : (file source : List ℕ) (left : Option (List ℕ)) (fr ir : Ty
 check_ends file source left fr ir (Ok v) h k = let i = any_told left [] in (i.0, i.1, inr (inl (Listed file v.items refl h)))
 check_ends file source left fr ir (Err f) h k = kept_ends (Check file) Lawful source left fr ir f k
 
--- a file that is too long, by a rule of its own
-long_ends : (c : Command) (source : List ℕ) (left : Option (List ℕ)) (fr ir : Type 0) (rule : _) (f : Failure) → (ReadsInput c → ⊥) → ((r : Refusal) → r ≡ bare rule → MayEnd c source (Err (F.Refused r))) → IsLongFor source rule f → SourceOutcome c Lawful source left fr ir (Err f)
-long_ends c source left fr ir rule f never may h = let i = any_told left [] in (i.0, i.1, by f i.0 h.1)
-  where
-    by : (f : Failure) (input : List ℕ) → IsRefusedBy (λ r. r ≡ bare rule) f → IsFault c fr ir (Err f) ⊎ (SaysOf source input c Lawful (Err f) ⊎ ComesOf source input c Lawful (Err f))
-    by (F.Refused r) input e = inr (inr (Ready (Err (F.Refused r)) h.0 (no_input c input never) (may r e)))
-    by F.NoMemory input e = inl tt
-    by failure input e = absurd e
-
 -- what was made of a source is stored, and its text is told
 stored_ends : (c : Command) (source : List ℕ) (left : Option (List ℕ)) (ir : Type 0) (before mid now : ℕ) (o : Result (Vec ℕ Global) Failure) → (CallsNoFolder c → ⊥) → (ReadsInput c → ⊥) → before ≤ mid → IsReady source Lawful → IfOk o (λ v. MayEnd c source (Ok v.items)) → IfErr o (StoreFails mid now) → SourceOutcome c Lawful source left (Rose before now) ir (end_of o)
 stored_ends c source left ir before mid now o calls never le ready ok err = let i = any_told left [] in (i.0, i.1, by o i.0 ok err)
@@ -151,9 +147,17 @@ stored_ends c source left ir before mid now o calls never le ready ok err = let 
     by (Err failure) input ok err = absurd err
 
 -- `compile`
-pub compile_refused : (file out source : List ℕ) (left : Option (List ℕ)) (fr ir : Type 0) (f : Failure) → KeepsFromVerified source Lawful f ⊎ IsLongFor source E61 f → SourceOutcome (Compile file out) Lawful source left fr ir (Err f)
+pub compile_refused : (file out source : List ℕ) (left : Option (List ℕ)) (fr ir : Type 0) (f : Failure) → KeepsFromCompile source f → SourceOutcome (Compile file out) Lawful source left fr ir (Err f)
 compile_refused file out source left fr ir f (inl h) = verified_ends (Compile file out) Lawful source left fr ir f tt h
-compile_refused file out source left fr ir f (inr h) = long_ends (Compile file out) source left fr ir E61 f (λ r. r) (λ r e. ap F.Refused e) h
+compile_refused file out source left fr ir f (inr h) = let i = any_told left [] in (i.0, i.1, by f i.0 h.1)
+  where
+    ready : IsReady source Lawful
+    ready = uncompiled_ready source h.0
+
+    by : (f : Failure) (input : List ℕ) → IsRefusedBy (λ r. r ≡ bare E61) f → IsFault (Compile file out) fr ir (Err f) ⊎ (SaysOf source input (Compile file out) Lawful (Err f) ⊎ ComesOf source input (Compile file out) Lawful (Err f))
+    by (F.Refused r) input e = inr (inr (Ready (Err (F.Refused r)) ready (no_input (Compile file out) input (λ r. r)) (h.0, ap F.Refused e)))
+    by F.NoMemory input e = inl tt
+    by failure input e = absurd e
 
 pub compile_ends : (file out source text : List ℕ) (left : Option (List ℕ)) (ir : Type 0) (before mid now : ℕ) (o : Result (Vec ℕ Global) Failure) → before ≤ mid → IsListing source text → IfOk o (λ v. v.items ≡ text) → IfErr o (StoreFails mid now) → SourceOutcome (Compile file out) Lawful source left (Rose before now) ir (end_of o)
 compile_ends file out source text left ir before mid now o le listing ok err =
@@ -164,17 +168,26 @@ compile_ends file out source text left ir before mid now o le listing ok err =
     by (Err f) e = tt
 
 -- `derive`
-pub derive_refused : (file out source : List ℕ) (left : Option (List ℕ)) (fr ir : Type 0) (f : Failure) → KeepsFrom source Lawful f ⊎ IsLongFor source E74 f → SourceOutcome (Derive file out) Lawful source left fr ir (Err f)
+pub derive_refused : (file out source : List ℕ) (left : Option (List ℕ)) (fr ir : Type 0) (f : Failure) → KeepsFromDerive source f → SourceOutcome (Derive file out) Lawful source left fr ir (Err f)
 derive_refused file out source left fr ir f (inl h) = kept_ends (Derive file out) Lawful source left fr ir f h
-derive_refused file out source left fr ir f (inr h) = long_ends (Derive file out) source left fr ir E74 f (λ r. r) (λ r e. ap F.Refused e) h
-
-pub derive_ends : (file out source text : List ℕ) (left : Option (List ℕ)) (ir : Type 0) (before mid now : ℕ) (o : Result (Vec ℕ Global) Failure) → before ≤ mid → IsReady source Lawful → text ≡ derived_text → IfOk o (λ v. v.items ≡ text) → IfErr o (StoreFails mid now) → SourceOutcome (Derive file out) Lawful source left (Rose before now) ir (end_of o)
-derive_ends file out source text left ir before mid now o le ready derived ok err =
-    stored_ends (Derive file out) source left ir before mid now o (λ r. r) (λ r. r) le ready (by o ok) err
+derive_refused file out source left fr ir f (inr h) = let i = any_told left [] in (i.0, i.1, by f i.0 h.1)
   where
-    by : (o : Result (Vec ℕ Global) Failure) → IfOk o (λ v. v.items ≡ text) → IfOk o (λ v. v.items ≡ derived_text)
-    by (Ok v) e = e ∙ derived
-    by (Err f) e = tt
+    by : (f : Failure) (input : List ℕ) → IsRefusedBy (λ r. r ≡ bare E74) f → IsFault (Derive file out) fr ir (Err f) ⊎ (SaysOf source input (Derive file out) Lawful (Err f) ⊎ ComesOf source input (Derive file out) Lawful (Err f))
+    by (F.Refused r) input e = inr (inl (subst (λ q. SaysOf source input (Derive file out) Lawful (Err (F.Refused q))) (sym e) (Underived file out refl h.0)))
+    by F.NoMemory input e = inl tt
+    by failure input e = absurd e
+
+pub derive_ends : (file out source text bytes : List ℕ) (left : Option (List ℕ)) (ir : Type 0) (before mid now : ℕ) (o : Result (Vec ℕ Global) Failure) → before ≤ mid → IsDerivedFile source bytes → text ≡ derived_text → IfOk o (λ v. v.items ≡ text) → IfErr o (StoreFails mid now) → SourceOutcome (Derive file out) Lawful source left (Rose before now) ir (end_of o)
+derive_ends file out source text bytes left ir before mid now o le made derived ok err = let i = any_told left [] in (i.0, i.1, by o i.0 ok err)
+  where
+    by : (o : Result (Vec ℕ Global) Failure) (input : List ℕ) → IfOk o (λ v. v.items ≡ text) → IfErr o (StoreFails mid now) → IsFault (Derive file out) (Rose before now) ir (end_of o) ⊎ (SaysOf source input (Derive file out) Lawful (end_of o) ⊎ ComesOf source input (Derive file out) Lawful (end_of o))
+    by (Ok v) input ok err = inr (inl (subst (λ t. SaysOf source input (Derive file out) Lawful (Ok t)) (sym (ok ∙ derived)) (Derived file out bytes refl made)))
+    by (Err (F.Fault O.Folder)) input ok err = inl (rose_later before mid now le err.1, λ r. r)
+    by (Err (F.Fault O.Input)) input ok err = absurd (let same = err.0 in cc)
+    by (Err (F.Fault O.Out)) input ok err = absurd (let same = err.0 in cc)
+    by (Err (F.Fault O.Err)) input ok err = absurd (let same = err.0 in cc)
+    by (Err F.NoMemory) input ok err = inl tt
+    by (Err failure) input ok err = absurd err
 
 -- what comes of an input, of a source that has what is wanted
 pub input_ends : (c : Command) (w : Wanted) (source : List ℕ) (left : Option (List ℕ)) (fr rose : Type 0) (May : End → Type 0) (e : End) → IsReady source w → ReadsInput c → ((d : End) → May d → MayEnd c source d) → InputOutcome May left rose e → SourceOutcome c w source left fr rose e
@@ -220,15 +233,17 @@ trace_stored left rose file entry out source text room before mid now w o le rea
 
 -- ---- the file
 
--- what may come of a source is never of `check` or `eval`
+-- what may come of a source is never of `check`, `eval` or `derive`
 makes_unsaid : (c : Command) → MakesCode c → IsUnsaidOn c
 makes_unsaid (Check file) h = h
 makes_unsaid (Eval file entry calls frames) h = h
+makes_unsaid (Derive file out) h = h
 makes_unsaid c h = tt
 
 ends_unsaid : (c : Command) (source : List ℕ) (e : End) → MayEnd c source e → IsUnsaidOn c
 ends_unsaid (Check file) source e h = h
 ends_unsaid (Eval file entry calls frames) source e h = h
+ends_unsaid (Derive file out) source e h = h
 ends_unsaid c source e h = tt
 
 comes_unsaid : (source input : List ℕ) (c : Command) (w : Wanted) (e : End) → ComesOf source input c w e → IsUnsaidOn c
@@ -288,15 +303,26 @@ library_ends name files left fr ir o known ok err =
     by (Err f) ok (inl same) = inl (subst (λ x. IsFault (Library name) fr ir (Err x)) (sym same) tt)
     by (Err f) ok (inr none) = absurd (none.1 known)
 
-gen_end : (o : Result (Vec ℕ Global) Failure) → IfErr o (λ f. IsOfSource f ⊎ IsOfRun f) → IsGenEnd (end_of o)
-gen_end (Ok v) h = tt
-gen_end (Err f) h = h
+-- what keeps the text of `gen` from its lines
+gen_kept : (seed count : ℕ) (files : List File) (input : List ℕ) (fr ir : Type 0) (source : List ℕ) (f : Failure) → IsTreeSource source → KeepsFromTree source f → Closes source_spelling files input (Gen seed count) fr ir (Err f)
+gen_kept seed count files input fr ir source (F.Refused r) is (inl h) = inr (inl (GenRefused seed count source r refl is h))
+gen_kept seed count files input fr ir source (F.Unsound function at rule) is (inl h) = inr (inr (MayOfGen seed count source (Err (F.Unsound function at rule)) refl is h tt))
+gen_kept seed count files input fr ir source F.NoMemory is (inl h) = inl tt
+gen_kept seed count files input fr ir source f is (inl h) = absurd h
+gen_kept seed count files input fr ir source (F.Refused r) is (inr h) = absurd (h.1)
+gen_kept seed count files input fr ir source (F.Unsound function at rule) is (inr h) = absurd (h.1)
+gen_kept seed count files input fr ir source f is (inr h) = inr (inr (MayOfGen seed count source (Err f) refl is h.0 h.1))
 
-pub gen_ends : (seed count : ℕ) (files : Option (List File)) (left : Option (List ℕ)) (fr ir : Type 0) (o : Result (Vec ℕ Global) Failure) → IfErr o (λ f. IsOfSource f ⊎ IsOfRun f) → FileOutcome (Gen seed count) files left fr ir (end_of o)
-gen_ends seed count files left fr ir o h =
+pub gen_ends : (seed count : ℕ) (files : Option (List File)) (left : Option (List ℕ)) (fr ir : Type 0) (o : Result (Vec ℕ Global) Failure) → IfOk o (λ v. IsTreeText count v.items) → OnOk o ((source : List ℕ) × IsTreeSource source × IsReady source build) → IfErr o (λ f. (f ≡ F.NoMemory) ⊎ ((source : List ℕ) × IsTreeSource source × KeepsFromTree source f)) → FileOutcome (Gen seed count) files left fr ir (end_of o)
+gen_ends seed count files left fr ir o lines ready kept =
     let t = any_told files [] in
     let i = any_told left [] in
-    (t.0, i.0, t.1, i.1, inr (inr (MayOfGen seed count (end_of o) refl (gen_end o h))))
+    (t.0, i.0, t.1, i.1, by o lines ready kept)
+  where
+    by : (o : Result (Vec ℕ Global) Failure) → IfOk o (λ v. IsTreeText count v.items) → OnOk o ((source : List ℕ) × IsTreeSource source × IsReady source build) → IfErr o (λ f. (f ≡ F.NoMemory) ⊎ ((source : List ℕ) × IsTreeSource source × KeepsFromTree source f)) → Closes source_spelling (any_told files []).0 (any_told left []).0 (Gen seed count) fr ir (end_of o)
+    by (Ok v) lines ready kept = inr (inr (MayOfGen seed count ready.0 (Ok v.items) refl ready.1 ready.2 lines))
+    by (Err f) lines ready (inl same) = inl (subst (λ x. IsFault (Gen seed count) fr ir (Err x)) (sym same) tt)
+    by (Err f) lines ready (inr kept) = gen_kept seed count (any_told files []).0 (any_told left []).0 fr ir kept.0 f kept.1 kept.2
 
 -- ---- other files
 
@@ -330,19 +356,19 @@ missed_ends c IsLong name files left before now ir f other names calls long h =
 
 pub long_trace : (trace : List ℕ) (step : ℕ) (all : List File) (input bytes : List ℕ) (e : Failure) → e ≡ F.BadTrace 16777216 → 16777216 < length bytes → IsThere all (Replay trace step) bytes → Says source_spelling all input (Replay trace step) (Err e) ⊎ Comes source_spelling all input (Replay trace step) (Err e)
 long_trace trace step all input bytes e same more there =
-    inr (subst (λ f. Comes source_spelling all input (Replay trace step) (Err f)) (sym same) (MayOnTrace trace step bytes (Err (F.BadTrace 16777216)) refl there (λ long. refl)))
+    inl (subst (λ f. Says source_spelling all input (Replay trace step) (Err f)) (sym same) (OnTrace trace step bytes (Err (F.BadTrace 16777216)) refl there (inl (more, refl))))
 
-pub replay_ends : (trace : List ℕ) (step : ℕ) (files : Option (List File)) (left : Option (List ℕ)) (fr ir : Type 0) (bytes text : List ℕ) (o : Result (Vec ℕ Global) Failure) → HoldsFile files trace bytes → text ≡ bytes → OnOk o (length text ≤ 16777216) → ((at : ℕ) → o ≡ Err (F.BadTrace at) → 16777216 < length text → at ≡ 16777216) → IfErr o IsOfReplay → FileOutcome (Replay trace step) files left fr ir (end_of o)
-replay_ends trace step files left fr ir bytes text o holds same short long stage =
+pub replay_ends : (trace : List ℕ) (step : ℕ) (files : Option (List File)) (left : Option (List ℕ)) (fr ir : Type 0) (bytes text : List ℕ) (o : Result (Vec ℕ Global) Failure) → HoldsFile files trace bytes → text ≡ bytes → IfOk o (λ v. IsReplayed text step v.items) → IfErr o (KeepsFromReplay text) → FileOutcome (Replay trace step) files left fr ir (end_of o)
+replay_ends trace step files left fr ir bytes text o holds same shown bad =
     let t = held files trace bytes holds in
     let i = any_told left [] in
-    (t.0, i.0, t.1, i.1, by o t.0 (trace, refl, t.2) i.0 (subst (λ xs. OnOk o (length xs ≤ 16777216)) same short) (subst (λ xs. (at : ℕ) → o ≡ Err (F.BadTrace at) → 16777216 < length xs → at ≡ 16777216) same long) stage)
+    (t.0, i.0, t.1, i.1, by o t.0 (trace, refl, t.2) i.0 (subst (λ xs. IfOk o (λ v. IsReplayed xs step v.items)) same shown) (subst (λ xs. IfErr o (KeepsFromReplay xs)) same bad))
   where
-    by : (o : Result (Vec ℕ Global) Failure) (all : List File) → IsThere all (Replay trace step) bytes → (input : List ℕ) → OnOk o (length bytes ≤ 16777216) → ((at : ℕ) → o ≡ Err (F.BadTrace at) → 16777216 < length bytes → at ≡ 16777216) → IfErr o IsOfReplay → Closes source_spelling all input (Replay trace step) fr ir (end_of o)
-    by (Ok v) all there input short long stage = inr (inr (MayOnTrace trace step bytes (Ok v.items) refl there short))
-    by (Err (F.BadTrace at)) all there input short long stage = inr (inr (MayOnTrace trace step bytes (Err (F.BadTrace at)) refl there (long at refl)))
-    by (Err F.NoMemory) all there input short long stage = inl tt
-    by (Err f) all there input short long stage = absurd stage
+    by : (o : Result (Vec ℕ Global) Failure) (all : List File) → IsThere all (Replay trace step) bytes → (input : List ℕ) → IfOk o (λ v. IsReplayed bytes step v.items) → IfErr o (KeepsFromReplay bytes) → Closes source_spelling all input (Replay trace step) fr ir (end_of o)
+    by (Ok v) all there input shown bad = inr (inl (OnTrace trace step bytes (Ok v.items) refl there shown))
+    by (Err (F.BadTrace at)) all there input shown bad = inr (inl (OnTrace trace step bytes (Err (F.BadTrace at)) refl there bad))
+    by (Err F.NoMemory) all there input shown bad = inl tt
+    by (Err f) all there input shown bad = absurd bad
 
 -- ---- `audit`
 

@@ -15,7 +15,7 @@ use Rattle.fip_base.specs.Files.{File, file_of}
 use Rattle.command_line.specs.Words.{Request, Command, Check, Compile, Verify, Upgrade, Exec, Run, Eval, Trace, Session}
 use Rattle.command_line.specs.Words.{Tasks, Derive, Audit, Replay, Library, Gen}
 use Rattle.command_outcome.specs.Failures.{failure_status, failure_text}
-use Rattle.command_outcome.specs.Stages.{IsOfSource, IsOfRun, IsOfTasks}
+use Rattle.command_outcome.specs.Stages.{IsOfRun, IsOfTasks}
 use Rattle.command_outcome.specs.Successes.{derived_text}
 use Rattle.command_outcome.specs.declared.failure.Failure.{Failure}
 use Rattle.command_outcome.specs.declared.failure.Failure.TheVariants as F
@@ -26,8 +26,13 @@ use Rattle.code_file.specs.Plain.{PlainCode}
 use Rattle.source_commands.specs.Codes.{sound_view, IsSoundFile, RefusesCode, IsCodeListing, IsUpgraded, IsUnspelt}
 use Rattle.source_commands.specs.Codes.{names_one, HasFunction}
 use Rattle.eval_command.specs.EvalAnswer.{Evaluates}
+use Rattle.fip_commands.specs.Generated.{IsTreeSource, build, IsTreeText}
+use Rattle.fip_commands.specs.Replayed.{IsReplayed}
 use Rattle.fip_library.specs.Texts.{IsText}
+use Rattle.loaded_runs.specs.TraceReading.{IsBadTrace}
+use Rattle.source_commands.specs.Derived.{IsDerivedFile, IsUnderived}
 use Rattle.source_commands.specs.Judged.{IsEarlyReport, IsProofOf, IsRejectedOf}
+use Rattle.source_commands.specs.ProgramCode.{IsUncompiled}
 use Rattle.source_commands.specs.Roots.{IsListing}
 use Rattle.source_commands.specs.Wanted.{Wanted, Refuses, IsReady, of_entry}
 use Rattle.fip_driver.specs.Commands.{IsOther, ReadsInput, fetched_name, wanted}
@@ -39,7 +44,8 @@ End = Result (List ℕ) Failure
 -- ---- what is said of a source of which all rules are asked
 
 -- The command ends so on this source: it is refused; or it has what is wanted, and `check` lists its roots, the input
--- has too many bytes, or `eval` tells what the source means on the input.
+-- has too many bytes, or `eval` tells what the source means on the input; or `derive` has made its derivation, or the
+-- text of this has too many bytes.
 pub data SaysOf (source input : List ℕ) (c : Command) (w : Wanted) : End → Type 0 where
   Refused : (r : _) → Refuses source w r → SaysOf source input c w (Err (F.Refused r))
   Listed : (file text : List ℕ) → c ≡ Check file → IsListing source text → SaysOf source input c w (Ok text)
@@ -47,6 +53,10 @@ pub data SaysOf (source input : List ℕ) (c : Command) (w : Wanted) : End → T
       SaysOf source input c w (Err (F.BadInput MOST_FILE_BYTES))
   Evaluated : (file entry : List ℕ) (calls frames : ℕ) (e : End) → c ≡ Eval file entry calls frames →
       length input ≤ MOST_FILE_BYTES → Evaluates source entry input calls frames e → SaysOf source input c w e
+  Derived : (file out bytes : List ℕ) → c ≡ Derive file out → IsDerivedFile source bytes →
+      SaysOf source input c w (Ok derived_text)
+  Underived : (file out : List ℕ) → c ≡ Derive file out → IsUnderived source →
+      SaysOf source input c w (Err (F.Refused (bare E74)))
 
 -- ---- what isn't said yet, and how it may be
 
@@ -67,13 +77,10 @@ abbrev pub IsSessionEnd : End → Type 0
 IsSessionEnd (Ok text) = Unit {0}
 IsSessionEnd (Err failure) = ⊥
 
+-- the lines of `check`; or E61, of a source with some code that no short enough file spells, which most have
 abbrev pub IsCompileEnd : List ℕ → End → Type 0
 IsCompileEnd source (Ok text) = IsListing source text
-IsCompileEnd source (Err failure) = failure ≡ F.Refused (bare E61)
-
-abbrev pub IsDeriveEnd : End → Type 0
-IsDeriveEnd (Ok text) = text ≡ derived_text
-IsDeriveEnd (Err failure) = failure ≡ F.Refused (bare E74)
+IsCompileEnd source (Err failure) = IsUncompiled source × (failure ≡ F.Refused (bare E61))
 
 -- how a command may end on a source that has what is wanted
 abbrev pub MayEnd : Command → List ℕ → End → Type 0
@@ -82,7 +89,6 @@ MayEnd (Exec r) source e = IsRunEnd e
 MayEnd (Trace file entry out room) source e = IsTraceEnd e
 MayEnd (Session file room) source e = IsSessionEnd e
 MayEnd (Tasks file seed turns room) source e = IsTasksEnd e
-MayEnd (Derive file out) source e = IsDeriveEnd e
 MayEnd c source e = ⊥
 
 -- an input that isn't read, or hasn't too many bytes
@@ -115,8 +121,8 @@ AsksCode (Run r) = Unit {0}
 AsksCode c = ⊥
 
 -- The command ends so on these bytes: they are no code file, or its code isn't sound; or it is, and its functions are
--- listed, or no file of the second version spells it, or no function has the entry's name, or the input has too many
--- bytes.
+-- listed, or no file of the second version that isn't too long spells it, or no function has the entry's name, or the
+-- input has too many bytes.
 pub data SaysOfCode (bytes input : List ℕ) (c : Command) : End → Type 0 where
   CodeRefused : (failure : Failure) → AsksCode c → RefusesCode bytes failure → SaysOfCode bytes input c (Err failure)
   CodeListed : (file text : List ℕ) → c ≡ Verify file → IsCodeListing bytes text → SaysOfCode bytes input c (Ok text)
@@ -154,6 +160,15 @@ pub data SaysOfAudit (source : List ℕ) : Option (List ℕ) → End → Type 0 
   Judged : (p : Program) (bytes : List ℕ) (e : End) → IsMatched source p → IsVerdict p bytes e →
       SaysOfAudit source (Some bytes) e
 
+-- ---- what is said of a trace
+
+-- `replay` ends so on these bytes: with the lines of the cells of their trace after so many steps; or they are no
+-- trace's, and bad at this offset.
+abbrev pub SaysOfTrace : List ℕ → ℕ → End → Type 0
+SaysOfTrace bytes step (Ok text) = IsReplayed bytes step text
+SaysOfTrace bytes step (Err (F.BadTrace at)) = IsBadTrace bytes at
+SaysOfTrace bytes step (Err failure) = ⊥
+
 -- ---- what is said of the files
 
 -- what `exec` asks first: that the source has no reply as a program of the loop form
@@ -173,7 +188,8 @@ pub record Checks (spelling : Spelling) (files : List File) (c : Command) (w : W
 abbrev pub IsThere : List File → Command → List ℕ → Type 0
 IsThere files c bytes = (name : List ℕ) × (fetched_name c ≡ Some name) × (file_of name files ≡ Some bytes)
 
--- The command ends so. A missing file of `exec` has a reply of its own. `library` prints a text of the library.
+-- The command ends so. A missing file of `exec` has a reply of its own. `library` prints a text of the library, and
+-- `gen` tells what its text breaks, were it refused.
 pub data Says (spelling : Spelling) (files : List File) (input : List ℕ) (c : Command) : End → Type 0 where
   Missing : (name : List ℕ) → IsOther c → fetched_name c ≡ Some name → file_of name files ≡ None →
       Says spelling files input c (Err (F.Fault O.Folder))
@@ -183,46 +199,44 @@ pub data Says (spelling : Spelling) (files : List File) (input : List ℕ) (c : 
       Says spelling files input c e
   OnAudit : (file proof source : List ℕ) (e : End) → c ≡ Audit file proof → IsThere files c source →
       SaysOfAudit source (file_of proof files) e → Says spelling files input c e
+  OnTrace : (trace : List ℕ) (step : ℕ) (bytes : List ℕ) (e : End) → c ≡ Replay trace step → IsThere files c bytes →
+      SaysOfTrace bytes step e → Says spelling files input c e
   OfLibrary : (name text : List ℕ) → c ≡ Library name → IsText name text → Says spelling files input c (Ok text)
+  GenRefused : (seed count : ℕ) (source : List ℕ) (r : _) → c ≡ Gen seed count → IsTreeSource source →
+      Refuses source build r → Says spelling files input c (Err (F.Refused r))
 
 -- ---- what isn't said of them yet
 
--- A trace that is too long is bad at that offset.
-abbrev pub IsReplayEnd : List ℕ → End → Type 0
-IsReplayEnd bytes (Ok text) = length bytes ≤ MOST_FILE_BYTES
-IsReplayEnd bytes (Err (F.BadTrace at)) = MOST_FILE_BYTES < length bytes → at ≡ MOST_FILE_BYTES
-IsReplayEnd bytes (Err failure) = ⊥
-
--- `gen` makes its tree by a run of a text of the library.
-abbrev pub IsGenEnd : End → Type 0
-IsGenEnd (Ok text) = Unit {0}
-IsGenEnd (Err failure) = IsOfSource failure ⊎ IsOfRun failure
+-- `gen` prints four lines on a tree of so many keys; or the code of its text isn't sound, or its run ends otherwise.
+abbrev pub IsGenEnd : ℕ → End → Type 0
+IsGenEnd count (Ok text) = IsTreeText count text
+IsGenEnd count (Err (F.Unsound function at rule)) = Unit {0}
+IsGenEnd count (Err failure) = IsOfRun failure
 
 -- the commands whose end isn't said on a source that has what they want
 abbrev pub IsUnsaidOn : Command → Type 0
 IsUnsaidOn (Check file) = ⊥
 IsUnsaidOn (Eval file entry calls frames) = ⊥
+IsUnsaidOn (Derive file out) = ⊥
 IsUnsaidOn c = Unit {0}
 
--- The command may end so. It is never `check`, `eval` or `audit`, whose ends are all said.
+-- The command may end so. It is never `check`, `eval`, `derive`, `audit` or `replay`, whose ends are all said.
 pub data Comes (spelling : Spelling) (files : List File) (input : List ℕ) (c : Command) : End → Type 0 where
   MayOnSource : (w : Wanted) (source : List ℕ) (e : End) → IsUnsaidOn c → Checks spelling files c w source →
       ComesOf source input c w e → Comes spelling files input c e
   MayOnCode : (bytes : List ℕ) (e : End) → IsThere files c bytes → RunsCode bytes input c → IsRunEnd e →
       Comes spelling files input c e
-  MayOnTrace : (trace : List ℕ) (step : ℕ) (bytes : List ℕ) (e : End) → c ≡ Replay trace step → IsThere files c bytes →
-      IsReplayEnd bytes e → Comes spelling files input c e
-  MayOfGen : (seed count : ℕ) (e : End) → c ≡ Gen seed count → IsGenEnd e → Comes spelling files input c e
+  MayOfGen : (seed count : ℕ) (source : List ℕ) (e : End) → c ≡ Gen seed count → IsTreeSource source →
+      IsReady source build → IsGenEnd count e → Comes spelling files input c e
 
--- The answer isn't said: the source has what a command other than `check` and `eval` wants, a function of a code file
--- is run, or it is `replay` of a file that is there, or `gen`.
+-- The answer isn't said: the source has what a command other than `check`, `eval` and `derive` wants, a function of a
+-- code file is run, or it is `gen` whose text is right.
 pub data IsOpen (spelling : Spelling) (files : List File) (input : List ℕ) (c : Command) : Type 0 where
   OpenSource : (w : Wanted) (source : List ℕ) → Checks spelling files c w source → IsReady source w → IsTaken c input →
       IsUnsaidOn c → IsOpen spelling files input c
   OpenCode : (bytes : List ℕ) → IsThere files c bytes → RunsCode bytes input c → IsOpen spelling files input c
-  OpenTrace : (trace : List ℕ) (step : ℕ) (bytes : List ℕ) → c ≡ Replay trace step → IsThere files c bytes →
+  OpenGen : (seed count : ℕ) (source : List ℕ) → c ≡ Gen seed count → IsTreeSource source → IsReady source build →
       IsOpen spelling files input c
-  OpenGen : (seed count : ℕ) → c ≡ Gen seed count → IsOpen spelling files input c
 
 -- ---- how an end is told
 

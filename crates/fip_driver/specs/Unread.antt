@@ -11,9 +11,10 @@ use Rattle.command_line.specs.Words.{Command, Compile, Derive, Trace, Upgrade, I
 use Rattle.command_outcome.specs.declared.failure.Failure.{Failure}
 use Rattle.command_outcome.specs.declared.failure.Failure.TheVariants as F
 use Rattle.command_outcome.specs.declared.failure.Object.TheVariants as O
-use Rattle.code_file.specs.Plain.{PlainCode}
-use Rattle.source_commands.specs.Codes.{IsSoundFile, IsUpgraded}
-use Rattle.source_commands.specs.Wanted.{Lawful, Compiled, IsReady}
+use Rattle.source_commands.specs.Codes.{IsUpgraded}
+use Rattle.source_commands.specs.Derived.{IsDerivedFile}
+use Rattle.source_commands.specs.ProgramCode.{IsCompiledFile}
+use Rattle.source_commands.specs.Wanted.{Compiled, IsReady}
 use Rattle.fip_driver.specs.Commands.{ReadsInput, CallsNoFolder}
 use Rattle.fip_driver.specs.Delivered.{Seen}
 
@@ -73,12 +74,14 @@ abbrev pub LeavesInput : List (List ℕ) → Type 0
 LeavesInput words = (c : Command) × IsCommand words c × (ReadsInput c → ⊥)
 
 -- What is stored, as far as it is said, by the files before: its file is there and has what is wanted. `compile` stores
--- the file of a sound code, `upgrade` that of the second version of the code that it fetched.
+-- the file of a code of its source, `upgrade` that of the second version of the code that it fetched, and `derive` the
+-- text of the derivation that is made for its source.
 abbrev pub IsMadeBy : Command → Option (List File) → List ℕ → Type 0
-IsMadeBy (Compile file out) files bytes = (source : List ℕ) × HoldsFile files file source × IsReady source Lawful
-    × ((code : PlainCode) × IsSoundFile bytes code)
+IsMadeBy (Compile file out) files bytes =
+    (source : List ℕ) × HoldsFile files file source × IsCompiledFile source bytes
 IsMadeBy (Upgrade file out) files bytes = (code : List ℕ) × HoldsFile files file code × IsUpgraded code bytes
-IsMadeBy (Derive file out) files bytes = (source : List ℕ) × HoldsFile files file source × IsReady source Lawful
+IsMadeBy (Derive file out) files bytes =
+    (source : List ℕ) × HoldsFile files file source × IsDerivedFile source bytes
 IsMadeBy (Trace file entry out room) files bytes = FindsSource (Trace file entry out room) files
 IsMadeBy c files bytes = Unit {0}
 

@@ -4,3 +4,5 @@ pub mod Wanted
 pub mod Entries
 pub mod Judged
 pub mod Codes
+pub mod ProgramCode
+pub mod Derived

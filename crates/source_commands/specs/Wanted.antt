@@ -10,7 +10,7 @@ use Rattle.fip_base.specs.declared.refusal.Refusal.{Refusal}
 use Rattle.fip_trees.specs.Tree.{Instance, Program}
 use Rattle.command_outcome.specs.declared.failure.Failure.{Failure}
 use Rattle.command_outcome.specs.declared.failure.Failure.TheVariants as F
-use Rattle.source_report.specs.Report.{bare, IsAccepted, Reports}
+use Rattle.source_report.specs.Report.{IsAccepted, Reports}
 use Rattle.source_commands.specs.Places.{placed}
 use Rattle.source_commands.specs.Roots.{root_named}
 
@@ -89,14 +89,10 @@ IsUnsound failure = ⊥
 abbrev pub KeepsFrom : List ℕ → Wanted → Failure → Type 0
 KeepsFrom source w failure = IsRefusedBy (Refuses source w) failure
 
--- The same of what is wanted with its code verified. No clause says yet that the code of an accepted source is sound
--- and has a function for each root that isn't plain: were it not so, it would be told as unsound.
+-- The same of what is wanted with its code verified. No clause says yet that the code of an accepted source is sound:
+-- were it not so, it would be told as unsound.
 abbrev pub KeepsFromVerified : List ℕ → Wanted → Failure → Type 0
 KeepsFromVerified source w (F.Refused r) = Refuses source w r
 KeepsFromVerified source w (F.Unsound function at rule) = IsReady source w
 KeepsFromVerified source w F.NoMemory = Unit {0}
 KeepsFromVerified source w failure = ⊥
-
--- The source has all, and what is made of it is too long a file, by this rule; or memory is wanting.
-abbrev pub IsLongFor : List ℕ → Rule → Failure → Type 0
-IsLongFor source rule failure = IsReady source Lawful × IsRefusedBy (λ r. r ≡ bare rule) failure

@@ -1,15 +1,19 @@
 // Derivations that a program keeps the discipline of ownership: made for it, and judged.
-ghost use Rattle.std.specs.Prelude.{◌≡◌, ◌⊎◌, OnOk, IfOk, IfErr};
+ghost use Rattle.std.specs.Prelude.{◌≡◌, ℕ, List, Err, OnOk, IfOk, IfErr};
 ghost use Rattle.std.specs.Fmt.{decimal};
 ghost use Rattle.fip_language.specs.declared.rule.Rule.TheVariants.{E72, E74};
 ghost use Rattle.command_outcome.specs.Stages.{IsOfSource};
 ghost use Rattle.command_outcome.specs.Successes.{derived_text};
-ghost use Rattle.source_report.specs.Report.{bare};
+ghost use Rattle.fip_base.specs.declared.refusal.Refusal.{Refusal as a_refusal};
+ghost use Rattle.command_outcome.specs.declared.failure.Failure.TheVariants.{Refused};
+ghost use Rattle.source_report.specs.Report.{bare, IsAccepted};
+ghost use Rattle.credit_check.specs.Tallies.{all_needs};
 ghost use Rattle.derivation_trees.specs.Trees.{entries};
 ghost use Rattle.fip_trees.specs.TreeView as V;
 ghost use Rattle.proof_check.specs.Accepted.{IsDerivation};
+ghost use Rattle.source_commands.specs.Derived.{IsDerivedFile, IsUnderived, KeepsFromDerive};
 ghost use Rattle.source_commands.specs.Judged.{IsProofOf, IsRejectedOf, IsNoDerivation};
-ghost use Rattle.source_commands.specs.Wanted.{Lawful, IsReady, IsRefusedBy, IsLongFor, KeepsFrom, of_entry};
+ghost use Rattle.source_commands.specs.Wanted.{Lawful, IsReady, IsRefusedBy, of_entry};
 
 use crate::files::Compiled;
 use crate::phases::{bare_refusal, lawful};
@@ -32,6 +36,12 @@ fn derived(alloc: Global) -> Result<Vec<u8>, NoMemory>
 // The text of the derivation of a program, and the line that it is derived; E74 where it is too long.
 fn derivation_of(alloc: Global, typed: &Typed, needs: &Needs) -> Result<Compiled, Failure>
     ensures derived { IfOk result (λ c. c.text.items ≡ derived_text) }
+    ensures stored { (source : List ℕ) → IsAccepted source (V.program typed.now.program) →
+        needs.now ≡ all_needs (V.program typed.now.program) (V.program typed.now.program).instances →
+        IfOk result (λ c. IsDerivedFile source c.file.items) }
+    ensures underived { (source : List ℕ) → IsAccepted source (V.program typed.now.program) →
+        needs.now ≡ all_needs (V.program typed.now.program) (V.program typed.now.program).instances →
+        (r : a_refusal) → result ≡ Err (Refused r) → IsUnderived source }
     ensures long { IfErr result (IsRefusedBy (λ r. r ≡ bare E74)) }
     ensures stage { IfErr result IsOfSource }
 {
@@ -50,7 +60,8 @@ fn derivation_of(alloc: Global, typed: &Typed, needs: &Needs) -> Result<Compiled
 pub fn derive(alloc: Global, source: &[u8]) -> Result<Compiled, Failure>
     ensures ready { IfOk result (λ _. IsReady source.now Lawful) }
     ensures derived { IfOk result (λ c. c.text.items ≡ derived_text) }
-    ensures kept { IfErr result (λ f. KeepsFrom source.now Lawful f ⊎ IsLongFor source.now E74 f) }
+    ensures stored { IfOk result (λ c. IsDerivedFile source.now c.file.items) }
+    ensures kept { IfErr result (KeepsFromDerive source.now) }
     ensures stage { IfErr result IsOfSource }
 {
     match lawful(alloc, source) {

@@ -1,5 +1,5 @@
 // The commands that check a source or a code, and store a code.
-ghost use Rattle.std.specs.Prelude.{◌≡◌, ◌⊎◌, ◌≤◌, length, Err, IfOk, IfErr};
+ghost use Rattle.std.specs.Prelude.{◌≡◌, ◌≤◌, length, Err, IfOk, IfErr};
 ghost use Rattle.code_file.specs.CodeText.{CodeText};
 ghost use Rattle.code_file.specs.Plain.{PlainCode, plain_code};
 ghost use Rattle.code_file.specs.declared.tags.Version.TheVariants.{Second};
@@ -8,11 +8,12 @@ ghost use Rattle.fip_language.specs.declared.limits.TheConstants.{MOST_FILE_BYTE
 ghost use Rattle.command_outcome.specs.declared.failure.Failure.TheVariants.{Refused};
 ghost use Rattle.source_commands.specs.Codes.{IsCodeListing, IsSoundFile, IsUpgraded, IsUnspelt};
 ghost use Rattle.source_commands.specs.Codes.{KeepsFromCode, KeepsFromUpgrade};
+ghost use Rattle.source_commands.specs.ProgramCode.{IsCompiledFile, KeepsFromCompile};
 ghost use Rattle.fip_language.specs.declared.rule.Rule.TheVariants.{E61};
 ghost use Rattle.command_outcome.specs.Stages.{IsOfSource};
 ghost use Rattle.source_report.specs.Report.{bare};
 ghost use Rattle.source_commands.specs.Roots.{IsListing};
-ghost use Rattle.source_commands.specs.Wanted.{Lawful, IsRefusedBy, IsLongFor, KeepsFrom, KeepsFromVerified};
+ghost use Rattle.source_commands.specs.Wanted.{Lawful, IsRefusedBy, KeepsFrom};
 
 use crate::listing::{functions_text, roots_text};
 use crate::phases::{bare_refusal, code_of, front, lawful};
@@ -63,7 +64,8 @@ pub fn check(alloc: Global, source: &[u8]) -> Result<Vec<u8>, Failure>
 pub fn compile(alloc: Global, source: &[u8]) -> Result<Compiled, Failure>
     ensures listed { IfOk result (λ c. IsListing source.now c.text.items) }
     ensures sound { IfOk result (λ c. (code : PlainCode) × IsSoundFile c.file.items code) }
-    ensures kept { IfErr result (λ f. KeepsFromVerified source.now Lawful f ⊎ IsLongFor source.now E61 f) }
+    ensures stored { IfOk result (λ c. IsCompiledFile source.now c.file.items) }
+    ensures kept { IfErr result (KeepsFromCompile source.now) }
     ensures stage { IfErr result IsOfSource }
 {
     match front(alloc, source) {

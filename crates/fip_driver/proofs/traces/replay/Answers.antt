@@ -6,7 +6,7 @@ use Rattle.fip_driver.proofs.Counted.{replay_counted, file_counted}
 use Rattle.fip_driver.proofs.traces.replay.Goals as goal
 
 pub returns-in-Ok-clause-outcome : goal.returns-in-Ok-clause-outcome
-returns-in-Ok-clause-outcome g c = λ left. replay_ends c.args.name.now c.args.step (g.F.Folder.files c.args.folder.now) left _ _ c.in-Ok.bytes.items c.as_slice.result.now c.replay.result c.in-Ok.ensures.found c.as_slice.ensures.value c.replay.ensures.short c.replay.ensures.long c.replay.ensures.stage
+returns-in-Ok-clause-outcome g c = λ left. replay_ends c.args.name.now c.args.step (g.F.Folder.files c.args.folder.now) left _ _ c.in-Ok.bytes.items c.as_slice.result.now c.replay.result c.in-Ok.ensures.found c.as_slice.ensures.value c.replay.ensures.shown c.replay.ensures.bad
 
 pub returns-in-Ok-clause-counted : goal.returns-in-Ok-clause-counted
 returns-in-Ok-clause-counted g c = replay_counted (g.F.Folder.files c.args.folder.now) _ c.replay.result c.replay.ensures.stage

@@ -1,0 +1,56 @@
+-- From what was lowered, verified and written to what is said of a code that is made of a source, and of its file.
+use Rattle.std.proofs.Common.{◌≡◌, ◌∙◌, ◌≤◌, ℕ, List, [], ◌∷◌, map, length, refl, sym, ap, subst, inl, inr}
+use Rattle.std.specs.Prelude.{Result, Ok, Err, IfOk}
+use Rattle.cell_code.specs.declared.code.Code.{Code}
+use Rattle.cell_code.specs.declared.code.Function.{Function}
+use Rattle.cell_lower.specs.Shape.{header, headers}
+use Rattle.code_file.specs.CodeText.{CodeText}
+use Rattle.code_file.specs.Plain.{plain_code, plain_function}
+use Rattle.code_file.specs.declared.tags.Version.TheVariants.{Second}
+use Rattle.fip_base.specs.declared.refusal.Refusal.{Refusal}
+use Rattle.fip_language.specs.declared.rule.Rule.TheVariants.{E61}
+use Rattle.fip_trees.specs.declared.groups.Member.{Member}
+use Rattle.fip_trees.specs.Tree.{Program}
+use Rattle.fip_trees.specs.TreeView.{program}
+use Rattle.sound_code.specs.Breaks.{IsSound}
+use Rattle.sound_code.specs.Codes as S
+use Rattle.tail_groups.specs.Members.{AreMembers}
+use Rattle.source_report.specs.Report.{bare, IsAccepted}
+use Rattle.command_outcome.specs.declared.failure.Failure.{Failure}
+use Rattle.command_outcome.specs.declared.failure.Failure.TheVariants as F
+use Rattle.source_commands.specs.Codes.{IsUnspelt}
+use Rattle.source_commands.specs.ProgramCode.{plain_header, IsHeadedBy, IsCodeOfSource, IsCompiledFile, IsUncompiled, KeepsFromCompile}
+use Rattle.source_commands.specs.Wanted.{Lawful, IsReady, IsRefusedBy}
+use Rattle.source_commands.specs.declared.known.Front.{Front}
+use Rattle.source_commands.proofs.CodeFiles.{view_same}
+
+headers_same : (fs : List Function) → map plain_header (map plain_function fs) ≡ map header fs
+headers_same [] = refl
+headers_same (f ∷ fs) = ap (λ hs. header f ∷ hs) (headers_same fs)
+
+pub headed : (p : Program) (code : Code) (ms : List Member) → AreMembers p.instances ms → code.types ≡ p.types → map header code.functions.items ≡ headers ms p.instances → IsHeadedBy p (plain_code code)
+headed p code ms found types functions =
+    record { types = types; members = ms; found = found; functions = headers_same code.functions.items ∙ functions }
+
+-- the code is verified, and it is the same
+pub headed_verified : (p : Program) (code : Code) (o : Result Front Failure) → IsHeadedBy p (plain_code code) → IfOk o (λ f. program f.typed.program ≡ p) → IfOk o (λ f. f.verified.code ≡ code) → IfOk o (λ f. IsHeadedBy (program f.typed.program) (plain_code f.verified.code))
+headed_verified p code (Ok f) h typed same = subst (λ c. IsHeadedBy (program f.typed.program) (plain_code c)) (sym same) (subst (λ q. IsHeadedBy q (plain_code code)) (sym typed) h)
+headed_verified p code (Err f) h typed same = tt
+
+code_of_source : (source : List ℕ) (p : Program) (code : Code) → IsAccepted source p → IsHeadedBy p (plain_code code) → IsSound (S.plain code) → IsCodeOfSource source (plain_code code)
+code_of_source source p code accepted headed sound =
+    record { program = p; accepted = accepted; headed = headed; sound = subst IsSound (sym (view_same code)) sound }
+
+pub compiled_file : (source file : List ℕ) (p : Program) (code : Code) → IsAccepted source p → IsHeadedBy p (plain_code code) → IsSound (S.plain code) → CodeText file Second (plain_code code) → length file ≤ 16777216 → IsCompiledFile source file
+compiled_file source file p code accepted headed sound spelt short =
+    record { code = plain_code code; of' = code_of_source source p code accepted headed sound; spelt = spelt; short = short }
+
+pub uncompiled : (source : List ℕ) (p : Program) (code : Code) (f : Failure) → IsAccepted source p → IsHeadedBy p (plain_code code) → IsSound (S.plain code) → ((r : Refusal) → ◌≡◌ {A = Failure} f (F.Refused r) → IsUnspelt (plain_code code)) → IsRefusedBy (λ r. r ≡ bare E61) f → KeepsFromCompile source f
+uncompiled source p code (F.Refused r) accepted headed sound unspelt h =
+    inr ((plain_code code, code_of_source source p code accepted headed sound, unspelt r refl), h)
+uncompiled source p code F.NoMemory accepted headed sound unspelt h = inl tt
+uncompiled source p code f accepted headed sound unspelt h = absurd h
+
+-- a source of such a code breaks no rule
+pub uncompiled_ready : (source : List ℕ) → IsUncompiled source → IsReady source Lawful
+uncompiled_ready source h = record { program = h.1.program; accepted = h.1.accepted; has = tt }

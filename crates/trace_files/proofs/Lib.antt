@@ -1,0 +1,7 @@
+pub mod Steps
+pub mod Live
+pub mod Lasts
+pub mod Events
+pub mod Shown
+pub mod Told
+pub mod Traces

@@ -1,1 +1,2 @@
 pub mod Unmatched
+pub mod WellMatched

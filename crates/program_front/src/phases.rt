@@ -5,7 +5,9 @@ ghost use Rattle.fip_base.specs.CoreView as core_view;
 ghost use Rattle.fip_trees.specs.SoundProgram.{IsSoundProgram};
 ghost use Rattle.fip_trees.specs.TreeView as V;
 ghost use Rattle.cell_lower.specs.Shape.{header, headers};
+ghost use Rattle.cell_lower.specs.Lowered.{all_instrs};
 ghost use Rattle.credit_check.specs.Tallies.{all_needs};
+ghost use Rattle.lowered_code.specs.Functions.{AreLowered};
 ghost use Rattle.tail_groups.specs.Members.{AreMembers};
 ghost use Rattle.source_report.specs.Report.{bare, IsParsed, IsFlat, IsMatched, IsAccepted, Says};
 ghost use Rattle.program_front.specs.Unmatched.{IsUnmatched};
@@ -49,6 +51,7 @@ pub fn front(alloc: Global, source: &[u8]) -> Result<Lowered, PhaseError>
     ensures types { IfOk result (λ l. l.code.types ≡ (V.program l.typed.program).types) }
     ensures functions { IfOk result (λ l.
         map header l.code.functions.items ≡ headers l.groups (V.program l.typed.program).instances) }
+    ensures lowered { IfOk result (λ l. AreLowered (V.program l.typed.program) (all_instrs l.code)) }
     ensures reported { IfErr result (λ e. Says source.now e) }
 {
     match typed_of(alloc, source) {
@@ -150,6 +153,8 @@ fn lowered_of(alloc: Global, typed: Typed) -> Result<Lowered, PhaseError>
     ensures types { IfOk result (λ l. l.code.types ≡ (V.program l.typed.program).types) }
     ensures functions { IfOk result (λ l.
         map header l.code.functions.items ≡ headers l.groups (V.program l.typed.program).instances) }
+    ensures lowered { (source : List ℕ) → IsMatched source (V.program typed.program) →
+        IfOk result (λ l. AreLowered (V.program l.typed.program) (all_instrs l.code)) }
     ensures reported { (source : List ℕ) → IsMatched source (V.program typed.program) →
         IfErr result (λ e. Says source e) }
 {

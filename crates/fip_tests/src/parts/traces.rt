@@ -1,5 +1,5 @@
 // A trace from outside.
 
 use cell_trace::write_trace;
-use std::test::{Fail, Fail};
+use std::test::Fail;
 use trace_files::{cells_after, read_trace};

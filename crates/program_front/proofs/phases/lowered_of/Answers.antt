@@ -1,5 +1,6 @@
 use Rattle.fip_trees.specs.TreeView.{program}
 use Rattle.source_report.proofs.Phases.{by_ownership, by_credits, by_calls, by_limits}
+use Rattle.program_front.proofs.WellMatched.{typed_well_matched}
 use Rattle.program_front.proofs.phases.lowered_of.Goals as goal
 
 pub returns-in-Err-clause-reported : goal.returns-in-Err-clause-reported
@@ -22,3 +23,7 @@ returns-in-Err-lower-clause-reported c = λ source matched.
       credited = record { owned = record { matched = matched; unbroken = c.in-Ok.ensures.owned }; unbroken = c.in-Ok-check_credits.ensures.credited };
       unbroken = c.in-Ok-groups.ensures.tail;
     }) c.in-Ok-groups.ensures.members c.in-Err-lower.ensures.least
+
+pub returns-in-Ok-lower-clause-lowered : goal.returns-in-Ok-lower-clause-lowered
+returns-in-Ok-lower-clause-lowered c = λ source matched.
+    c.in-Ok-lower.ensures.lowered (typed_well_matched source (program c.args.typed.program) matched.typed)

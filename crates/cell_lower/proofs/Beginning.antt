@@ -4,7 +4,7 @@ use Rattle.std.specs.Prelude.{if◌then◌else◌}
 use Rattle.fip_trees.specs.declared.program.Clause.{Clause}
 use Rattle.fip_trees.specs.declared.program.Pattern.{Pattern as Tree}
 use Rattle.fip_trees.specs.Tree.{Pattern, count_patterns}
-use Rattle.fip_trees.specs.TreeView.{pattern, patterns, clause, clauses}
+use Rattle.fip_trees.specs.TreeView.{patterns, clause, clauses}
 use Rattle.match_knowledge.specs.declared.rows.Row.{Row}
 use Rattle.match_knowledge.specs.View.{row}
 use Rattle.lowered_code.specs.declared.held.Held.TheVariants as H

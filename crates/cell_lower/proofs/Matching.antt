@@ -21,7 +21,7 @@ use Rattle.lowered_code.proofs.Lists.{fewer_on, barer_on}
 use Rattle.match_code.specs.Written.{Written, size, Extends, HasFrom, IsAt}
 use Rattle.match_code.specs.Spots as S
 use Rattle.match_code.specs.Rows.{row_of}
-use Rattle.match_code.specs.Landing.{Scene, IsScene, Good, AllGood, Lands, LeadsTo, entry}
+use Rattle.match_code.specs.Landing.{Scene, IsScene, Good, AllGood, Lands, LeadsTo}
 use Rattle.match_code.specs.Entering.{entering_root}
 use Rattle.match_code.specs.Losing.{Loses, Resumes}
 use Rattle.match_code.specs.WellMatched.{WellMatchedClauses}

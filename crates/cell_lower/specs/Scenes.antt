@@ -1,7 +1,7 @@
 -- It serves the proofs on lowered code: matches and the sides of their tests, as the code keeps them, and what each
 -- part of the lowering of tests has written: v was written before it and w behind it, with ds and es the sides that
 -- were still to be written.
-use Rattle.std.specs.Prelude.{◌≡◌, ◌⊎◌, ◌<◌, ◌≤◌, ℕ, zero, suc, Bool, true, false, List, [], ◌∷◌, ◌++◌, Option, Some}
+use Rattle.std.specs.Prelude.{◌≡◌, ◌⊎◌, ◌<◌, ℕ, suc, Bool, true, false, List, [], ◌∷◌, ◌++◌, Option, Some}
 use Rattle.std.specs.Prelude.{None, map, slice_get, if◌then◌else◌}
 use Rattle.std.specs.Borrow.{Bor}
 use Rattle.fip_language.specs.Every.{Every}
@@ -10,7 +10,6 @@ use Rattle.fip_trees.specs.declared.program.Pattern.{Pattern as Tree}
 use Rattle.fip_trees.specs.Tree.{Pattern}
 use Rattle.fip_trees.specs.TreeView as V
 use Rattle.cell_code.specs.declared.code.Instr.{Instr}
-use Rattle.match_knowledge.specs.declared.rows.Row.{Row}
 use Rattle.match_knowledge.specs.declared.verdicts.Verdict.TheVariants as D
 use Rattle.match_knowledge.specs.Patterns as M
 use Rattle.match_knowledge.specs.Known.{Known, Open, Knowns, NoKnowns, MoreKnowns, compare, is_asks, side}
@@ -19,7 +18,7 @@ use Rattle.match_code.specs.Spots as S
 use Rattle.match_code.specs.Rows.{row_of}
 use Rattle.match_code.specs.Reading.{Reading, Asked, asked, reading, read_one}
 use Rattle.match_code.specs.Opening.{names_any, naming, taking}
-use Rattle.match_code.specs.Landing.{Scene, Side, IsScene, Good, AllGood, LeadsTo, Continues, place_of_side, test_of}
+use Rattle.match_code.specs.Landing.{Scene, Side, IsScene, Good, AllGood, LeadsTo, place_of_side, test_of}
 use Rattle.match_code.specs.Written.{Written, size, Extends, HasFrom, IsAt, added}
 use Rattle.cell_lower.specs.declared.choices.Choice.{Choice}
 use Rattle.cell_lower.specs.declared.choices.Side.{Side as Kept}

@@ -1,5 +1,5 @@
 -- From what was read and played again to what `replay` comes to.
-use Rattle.std.proofs.Common.{◌≡◌, ◌≤◌, ◌<◌, ℕ, List, [], length, sym, subst, inl, inr, refl}
+use Rattle.std.proofs.Common.{◌≡◌, ◌≤◌, ◌<◌, ℕ, List, [], length, inl, inr, refl}
 use Rattle.loaded_runs.specs.TraceText.{Trace, IsTrace}
 use Rattle.loaded_runs.specs.TraceReading.{Got, Bad, read_trace, IsBadTrace}
 use Rattle.loaded_runs.specs.Replaying.{replayed}

@@ -1,6 +1,6 @@
 -- From what the library, the source and a run told to what `gen` comes to.
-use Rattle.std.proofs.Common.{◌≡◌, ℕ, List, codes, sym, subst, refl, inl, inr}
-use Rattle.std.specs.Prelude.{◌⊎◌, Option, Result, Ok, Err, IfOk, IfErr, OnOk}
+use Rattle.std.proofs.Common.{◌≡◌, ℕ, List, codes, subst, refl, inl, inr}
+use Rattle.std.specs.Prelude.{◌⊎◌, Option, Result, Ok, Err, IfErr, OnOk}
 use Rattle.command_outcome.specs.Stages.{IsOfRun}
 use Rattle.command_outcome.specs.Successes.{tree_text}
 use Rattle.command_outcome.specs.declared.failure.Failure.{Failure}

@@ -7,7 +7,7 @@
 -- the source where it breaks a rule, and else with a line for each root; and `eval list.fip3 rev` with what the source
 -- means, once the input is read. `audit list.fip3 list.proof` fetches the proof file once the types and the matches of
 -- the source are right; `audit list.fip3 list.fip3` judges the source's own bytes, which are no derivation's text.
-use Rattle.std.specs.Prelude.{◌≡◌, ◌⊎◌, ℕ, ◌<◌, ◌≤◌, false, List, length, Option, Some, None, Result, Ok, Err}
+use Rattle.std.specs.Prelude.{◌≡◌, ℕ, ◌<◌, ◌≤◌, false, List, length, Option, Some, None, Result, Ok, Err}
 use Rattle.std.specs.Io.KnownBytes.{Appends}
 use Rattle.fip_language.specs.declared.limits.TheConstants.{MOST_SOURCE_BYTES, MOST_FILE_BYTES}
 use Rattle.fip_language.specs.declared.rule.Rule.TheVariants.{E61, E70, E74, E75}

@@ -1,10 +1,8 @@
 -- From what was read and verified to what is said of a code file.
-use Rattle.std.proofs.Common.{◌≡◌, ◌∙◌, ◌<◌, ◌≤◌, ◌++◌, ◌+◌, ℕ, zero, suc, Bool, true, false, List, [], ◌∷◌, map, length, refl, sym, ap, ap₂, subst, inl, inr, append-nil, append_assoc, drop, get_or, arith}
-use Rattle.std.specs.Prelude.{◌⊎◌, Option, Some, None, Result, Ok, Err, IfOk, IfErr, OnOk}
+use Rattle.std.proofs.Common.{◌≡◌, ◌<◌, ◌≤◌, ◌++◌, ℕ, zero, suc, true, false, List, [], ◌∷◌, map, length, refl, sym, ap, ap₂, subst, inl, inr, append-nil, append_assoc, drop, get_or, arith}
+use Rattle.std.specs.Prelude.{◌⊎◌, Result, Ok, Err, IfOk, IfErr, OnOk}
 use Rattle.fip_language.specs.declared.rule.Rule.TheVariants.{E61, E70}
-use Rattle.fip_base.specs.declared.plain.Stack.{Stack}
 use Rattle.fip_base.specs.declared.refusal.Refusal.{Refusal}
-use Rattle.fip_language.specs.Prefix.{IsPlace}
 use Rattle.cell_code.specs.declared.code.Code.{Code}
 use Rattle.cell_code.specs.declared.code.Function.{Function}
 use Rattle.cell_code.specs.declared.kind.Label.{Label}
@@ -14,11 +12,10 @@ use Rattle.code_file.specs.Plain.{PlainCode, plain_code, plain_function, plain_l
 use Rattle.code_verify.specs.Checked.{Checked}
 use Rattle.sound_code.specs.Breaks.{IsLeast, IsSound}
 use Rattle.sound_code.specs.Codes as S
-use Rattle.sound_code.specs.StackNumbers.{HasStack}
 use Rattle.command_outcome.specs.declared.failure.Failure.{Failure}
 use Rattle.command_outcome.specs.declared.failure.Failure.TheVariants as F
 use Rattle.source_report.specs.Report.{bare}
-use Rattle.source_commands.specs.Codes.{sound_label, sound_function, sound_view, IsSoundFile, RefusesCode, UnsoundFile, KeepsFromCode, KeepsFromUpgrade, KeepsFromRun, IsLeastOf, IsLine, AreLines, IsCodeListing, IsUnspelt, HasFunction, names_one}
+use Rattle.source_commands.specs.Codes.{sound_label, sound_function, sound_view, IsSoundFile, UnsoundFile, KeepsFromCode, KeepsFromUpgrade, KeepsFromRun, IsLeastOf, IsLine, AreLines, IsCodeListing, IsUnspelt, HasFunction, names_one}
 use Rattle.source_commands.specs.Wanted.{IsRefusedBy, of_entry}
 
 -- ---- the two views of a code

@@ -15,7 +15,7 @@ use Rattle.source_report.specs.Report.{bare, IsAccepted}
 use Rattle.source_report.proofs.Once.{accepted_once}
 use Rattle.accepted_derivations.proofs.Whole.{ready, is_read, derived, lean}
 use Rattle.source_commands.specs.Derived.{made, IsDerivedFile, IsUnderived, KeepsFromDerive}
-use Rattle.source_commands.specs.Wanted.{Lawful, IsReady, IsRefusedBy, KeepsFrom}
+use Rattle.source_commands.specs.Wanted.{Lawful, IsReady, IsRefusedBy}
 
 pub derived_file : (source file : List ℕ) (p : Program) (needs : List (List Need)) → IsAccepted source p → needs ≡ all_needs p p.instances → (IsReadyToDerive p needs → file ≡ lines_text (made p)) → length file ≤ 16777216 → IsDerivedFile source file
 derived_file source file p needs accepted all text short =

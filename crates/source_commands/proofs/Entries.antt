@@ -1,6 +1,6 @@
 -- What an accepted program's root is asked.
 use Rattle.std.proofs.Common.{◌≡◌, ℕ, List, slice_get, sym, subst, inr}
-use Rattle.std.specs.Prelude.{Option, Some, None, Result, Ok, Err, OnOk}
+use Rattle.std.specs.Prelude.{Some, None, Result, Ok, Err, OnOk}
 use Rattle.fip_language.proofs.Words.{slice_get-map}
 use Rattle.fip_language.specs.declared.rule.Rule.TheVariants.{E70}
 use Rattle.fip_trees.specs.Tree.{Program}

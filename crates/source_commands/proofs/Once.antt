@@ -1,16 +1,15 @@
 -- A source has one refusal at most, none where it is ready, and one listing.
 -- Idea: what runs hold of the stack are least numbers, so they don't depend on how the groups are numbered.
-use Rattle.std.proofs.Common.{◌≡◌, ◌∙◌, ◌≤◌, ℕ, zero, suc, List, [], ◌∷◌, ◌++◌, map, refl, sym, ap, ap₂, subst, inl, inr, arith, get_or, slice_get}
-use Rattle.std.specs.Prelude.{Option, Some, None, if◌then◌else◌}
+use Rattle.std.proofs.Common.{◌≡◌, ◌∙◌, ℕ, zero, suc, List, [], ◌∷◌, ◌++◌, map, refl, sym, ap, ap₂, subst, inl, inr, arith, get_or, slice_get}
+use Rattle.std.specs.Prelude.{Option, Some, None}
 use Rattle.fip_base.specs.declared.plain.Stack.{Stack}
 use Rattle.fip_base.specs.declared.refusal.Refusal.{Refusal}
 use Rattle.fip_trees.specs.declared.groups.Member.{Member}
 use Rattle.fip_trees.specs.Tree.{Instance, Program}
 use Rattle.call_groups.specs.declared.search.Call.{Call}
-use Rattle.call_groups.specs.Stacks.{AreStacks, HasFrame, frames_in, words_in, number_of}
+use Rattle.call_groups.specs.Stacks.{AreStacks, frames_in, words_in, number_of}
 use Rattle.tail_groups.specs.Members.{AreMembers, FipCallsFip, frame, stack}
 use Rattle.tail_groups.specs.Sites.{call_rows}
-use Rattle.source_report.specs.Report.{IsAccepted, Reports}
 use Rattle.fip_language.specs.declared.Place.{Place}
 use Rattle.source_report.specs.Same.{AreSame, offset}
 use Rattle.source_report.proofs.FipCalls.{fip_calls}

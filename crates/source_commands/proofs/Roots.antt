@@ -1,6 +1,6 @@
 -- The root of a name is the first one.
 use Rattle.std.proofs.Common.{◌≡◌, ◌∙◌, ℕ, zero, suc, Bool, true, false, List, [], ◌∷◌, drop, refl, sym, ap, subst, if◌then◌else◌}
-use Rattle.std.specs.Prelude.{Option, Some, None, bytes_eq, slice_get}
+use Rattle.std.specs.Prelude.{Some, bytes_eq, slice_get}
 use Rattle.std.proofs.lemmas.Option.{none-some, same_Some}
 use Rattle.fip_trees.specs.TreeView as V
 use Rattle.fip_trees.specs.Tree as T

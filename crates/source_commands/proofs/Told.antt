@@ -1,5 +1,5 @@
 -- What a phase says is what its failure tells.
-use Rattle.std.proofs.Common.{◌≡◌, ℕ, List, inl}
+use Rattle.std.proofs.Common.{ℕ, List, inl}
 use Rattle.std.specs.Prelude.{Result, Ok, Err, IfErr}
 use Rattle.source_commands.specs.Wanted.{Wanted, IsReady, IsRefusedBy, IsReport, IsUnsound, KeepsFrom, KeepsFromVerified}
 use Rattle.command_outcome.specs.declared.failure.Failure.{Failure}

@@ -2,7 +2,7 @@
 --
 -- `exec list.fip3 dup` of a source that breaks E40 at 3:5 is refused by E40; where no rule is broken, by E70 where no
 -- root is named dup, and else by E71, since dup is plain and has no code.
-use Rattle.std.specs.Prelude.{◌≡◌, ◌⊎◌, ℕ, List, [], Option, Some, None}
+use Rattle.std.specs.Prelude.{◌≡◌, ◌⊎◌, ℕ, List, Option, Some, None}
 use Rattle.fip_language.specs.declared.FunKind.TheVariants.{Fun}
 use Rattle.fip_language.specs.declared.rule.Rule.{Rule}
 use Rattle.fip_language.specs.declared.rule.Rule.TheVariants.{E70, E71}

@@ -1,6 +1,6 @@
 -- What a trace in memory says, without where its lists lie: as the definitions of traces speak of it. The cell at place
 -- 0 with the constructor 1 and the words 1 and 0, as Cons(1, Nil) has it, is the same cell there.
-use Rattle.std.specs.Prelude.{List, map}
+use Rattle.std.specs.Prelude.{map}
 use Rattle.code_runs.specs.Cells.{Write, Release}
 use Rattle.code_runs.specs.Traces as D
 use Rattle.cell_trace.specs.declared.trace.LoadedCell.{LoadedCell}

@@ -9,7 +9,7 @@ use Rattle.cell_trace.specs.declared.error.ReadTraceError.TheVariants as E
 use Rattle.cell_trace.specs.declared.trace.LoadedCell.{LoadedCell}
 use Rattle.cell_trace.specs.declared.trace.Event.{Event}
 use Rattle.loaded_runs.specs.TraceReading.{Read, Got, Bad}
-use Rattle.loaded_runs.specs.TraceText.{Loaded}
+use Rattle.loaded_runs.specs.TraceText.{Loaded, Trace}
 use Rattle.trace_files.specs.Plain.{plain_cell, plain_event}
 
 -- the bytes that are left, and the offset of the first of them
@@ -64,3 +64,7 @@ pub record IsLive (cs : List Loaded) (rs : List Bool) (place k : ℕ) : Type 0 w
   pub there : slice_get cs k ≡ Some cell
   pub at : cell.place ≡ place
   pub held : slice_get rs k ≡ Some false
+
+-- the trace of these cells and events with so many steps
+abbrev pub trace_with : List Loaded → List D.Event → ℕ → Trace
+trace_with cs es n = record { cells = cs; events = es; steps = n }

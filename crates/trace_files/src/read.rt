@@ -7,7 +7,7 @@ ghost use Rattle.loaded_runs.specs.TraceText.{IsTrace, Loaded, left_by, size_at}
 ghost use Rattle.cell_trace.specs.declared.error.ReadTraceError.TheVariants.{BadTrace};
 ghost use Rattle.trace_files.specs.Lines.{place_of as change_place};
 ghost use Rattle.trace_files.specs.Plain.{plain_cell, plain_event, plain_trace};
-ghost use Rattle.trace_files.specs.Reading.{Reads, ReadsAll, cells_of, events_of, AreRising, left, IsLive};
+ghost use Rattle.trace_files.specs.Reading.{Reads, ReadsAll, cells_of, events_of, AreRising, left, IsLive, trace_with};
 
 use crate::reader::Reader;
 use cell_trace::{Event, LoadedCell, ReadTraceError, Trace};
@@ -48,11 +48,8 @@ fn whole(alloc: Global, bytes: &[u8]) -> Result<Trace, ReadTraceError>
 
 // The number of steps, and the end.
 fn read_steps(reader: &mut Reader<'_>, events: &[Event]) -> Result<u64, ReadTraceError>
-    ensures reads { (cells : List Loaded) → ReadsAll (λ n. record {
-      cells = cells;
-      events = map plain_event events.now;
-      steps = n;
-    }) result (S.read_steps cells (map plain_event events.now) reader.old.at reader.old.rest) }
+    ensures reads { (cells : List Loaded) → ReadsAll (trace_with cells (map plain_event events.now)) result
+        (S.read_steps cells (map plain_event events.now) reader.old.at reader.old.rest) }
 {
     let at = reader.at();
     let steps = reader.u64()?;

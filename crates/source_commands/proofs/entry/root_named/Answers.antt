@@ -1,6 +1,5 @@
 use Rattle.std.proofs.Common.{◌≡◌, ◌∙◌, Some, slice_get, ap, sym}
 use Rattle.std.proofs.lemmas.Option.{slice_get-get_or}
-use Rattle.fip_trees.specs.TreeView as V
 use Rattle.source_commands.proofs.Roots.{first_root}
 use Rattle.source_commands.proofs.entry.root_named.Goals as goal
 

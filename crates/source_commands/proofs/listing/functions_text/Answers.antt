@@ -1,4 +1,4 @@
-use Rattle.std.proofs.Common.{◌≡◌, ◌∙◌, ◌++◌, ℕ, suc, List, [], ◌∷◌, map, drop, sym, ap, subst, add-one}
+use Rattle.std.proofs.Common.{◌∙◌, ◌++◌, ℕ, suc, List, map, drop, sym, ap, subst, add-one}
 use Rattle.sound_code.specs.Codes.{plain, plain_function}
 use Rattle.source_commands.specs.Codes.{AreLines}
 use Rattle.source_commands.proofs.CodeFiles.{more_lines, all_lines, drop_at, drop_end}

@@ -1,4 +1,4 @@
-use Rattle.std.proofs.Common.{◌≡◌, ◌++◌, ℕ, List, drop, map}
+use Rattle.std.proofs.Common.{◌++◌, ℕ, List, drop, map}
 use Rattle.sound_code.specs.Codes.{plain, plain_function}
 use Rattle.source_commands.specs.Codes.{AreLines}
 use Rattle.source_commands.proofs.listing.functions_text.Given as goal

@@ -1,4 +1,4 @@
-use Rattle.std.proofs.Common.{◌∙◌, sym, ap}
+use Rattle.std.proofs.Common.{◌∙◌, sym}
 use Rattle.trace_files.proofs.Lasts.{last_is, last_none}
 use Rattle.trace_files.proofs.read.last_step.Goals as goal
 

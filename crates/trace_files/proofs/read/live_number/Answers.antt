@@ -1,4 +1,4 @@
-use Rattle.std.proofs.Common.{◌∙◌, Some, false, length, map, ap, arith}
+use Rattle.std.proofs.Common.{◌∙◌, Some, false, map, ap, arith}
 use Rattle.std.proofs.lemmas.Option.{slice_get-get_or}
 use Rattle.trace_files.specs.Plain.{plain_cell}
 use Rattle.trace_files.proofs.Live.{places_differ, not_there, gone, to_map, get_below}

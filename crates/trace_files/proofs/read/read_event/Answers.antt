@@ -1,4 +1,4 @@
-use Rattle.std.proofs.Common.{◌≡◌, ◌∙◌, ◌<◌, ℕ, List, length, map, ap, sym, subst, arith}
+use Rattle.std.proofs.Common.{◌≡◌, ◌∙◌, length, map, ap, sym, subst}
 use Rattle.trace_files.specs.Plain.{plain_cell, plain_event}
 use Rattle.trace_files.specs.Reading.{Reads, IsLive}
 use Rattle.trace_files.proofs.Events.{release_read, write_read}

@@ -1,4 +1,4 @@
-use Rattle.std.proofs.Common.{◌≡◌, ◌∙◌, [], ◌∷◌, length, map, ap}
+use Rattle.std.proofs.Common.{◌∙◌, [], ◌∷◌, length, map, ap}
 use Rattle.std.proofs.lemmas.List.{map-append}
 use Rattle.std.proofs.lemmas.Result.{err_from_is_err_and}
 use Rattle.trace_files.specs.Plain.{plain_cell, plain_event}

@@ -1,4 +1,3 @@
-use Rattle.std.proofs.Common.{ap}
 use Rattle.trace_files.proofs.Told.{after_is}
 use Rattle.trace_files.proofs.replay.cells_after.Goals as goal
 

@@ -1,4 +1,4 @@
-use Rattle.std.proofs.Common.{◌∙◌, Some, map, ap, sym, subst, arith, length, ◌<◌}
+use Rattle.std.proofs.Common.{◌∙◌, Some, map, ap, sym, arith, length, ◌<◌}
 use Rattle.std.proofs.lemmas.Option.{slice_get-get_or}
 use Rattle.trace_files.specs.Plain.{plain_cell, plain_event}
 use Rattle.trace_files.proofs.Live.{to_map}

@@ -1,4 +1,4 @@
-use Rattle.std.proofs.Common.{List, ℕ, Global}
+use Rattle.std.proofs.Common.{ℕ, Global}
 use Rattle.std.specs.Prelude.{vec_items}
 use Rattle.std.proofs.lemmas.Result.{err_from_is_err_and}
 use Rattle.loaded_runs.specs.TraceReading.{read_words}

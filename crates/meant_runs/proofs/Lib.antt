@@ -1,0 +1,5 @@
+pub mod Entries
+pub mod Starting
+pub mod Texts
+pub mod Ends
+pub mod Flat

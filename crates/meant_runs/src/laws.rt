@@ -1,0 +1,105 @@
+// The laws on runs of an accepted source's code. Each is the contract of a function that does nothing.
+ghost use Rattle.std.specs.Prelude.{◌≡◌, ◌≢◌, ◌<◌, ◌≤◌, ◌+◌, ℕ, List, [], true, length, map, Some};
+ghost use Rattle.fip_language.specs.Core.{Core};
+ghost use Rattle.fip_language.specs.Meaning.{Deep, meaning};
+ghost use Rattle.fip_language.specs.Statics.{NoClosed};
+ghost use Rattle.fip_language.specs.Store.{count, values_of};
+ghost use Rattle.fip_language.specs.Table.{Table, HaveTypes};
+ghost use Rattle.fip_language.specs.Values.{Values, cells_of_all};
+ghost use Rattle.fip_base.specs.declared.plain.Stack.{Stack};
+ghost use Rattle.cell_code.specs.declared.code.Code.{Code};
+ghost use Rattle.cell_store.specs.Made.{Loading};
+ghost use Rattle.code_runs.specs.Cells.{IsStore, count_held};
+ghost use Rattle.code_runs.specs.Codes as R;
+ghost use Rattle.code_runs.specs.Runs.{loaded, state_of, begun, after};
+ghost use Rattle.code_runs.specs.States.{State, frames_held, words_held};
+ghost use Rattle.code_runs.specs.Steps.{Kinds};
+ghost use Rattle.sound_code.specs.Codes.{PlainFunction, plain, function_at, is_fip};
+ghost use Rattle.sound_code.specs.StackNumbers.{IsStack};
+ghost use Rattle.code_separation.specs.Codes.{AreKinds};
+ghost use Rattle.tree_agreement.specs.Agreement.{AreWordsOf};
+ghost use Rattle.code_verify.specs.Checked.{Checked};
+ghost use Rattle.fip_machine.specs.declared.gauge.Gauge.{Gauge};
+ghost use Rattle.fip_machine.specs.declared.machine.Ended.{Ended};
+ghost use Rattle.fip_machine.specs.Ending.{KnowsRun, RunsTo};
+ghost use Rattle.fip_machine.specs.GaugeView.{TellsRun};
+ghost use Rattle.loaded_runs.specs.Loading.{first_store, first_words};
+ghost use Rattle.machine_cells.specs.Small.{store_of};
+ghost use Rattle.value_text.specs.Loaded.{types_of, IsLoaded};
+ghost use Rattle.meant_runs.specs.Gauges.{IsFlat};
+ghost use Rattle.meant_runs.specs.Meant.{IsMeant, ArePrintable};
+ghost use Rattle.meant_runs.specs.Starts.{IsSoundCode, IsCodeOf, Begins};
+
+/// A function of sound code begins on any arguments of its parameters' types, where they lie in a new store. For who
+/// doubts that a run can begin.
+pub fn a_loaded_function_begins()
+    ensures law { (code : Code) (n : ℕ) (f : PlainFunction) (vs : Values) (frames : ℕ) (s : State) →
+        IsSoundCode code → function_at (plain code) n ≡ Some f →
+        HaveTypes code.types (map (λ p. p.ty) f.params) vs →
+        loaded (R.plain code) n (first_store vs f.credits) (first_words vs f.credits) frames ≡ Some s →
+        Begins code n f vs frames s }
+{}
+
+/// A function begins on the values that a text spells, where they were loaded from it into an empty store, with the
+/// cells of its credits. For who runs a function on the text of its arguments.
+pub fn what_is_loaded_from_a_text_begins()
+    ensures law { (code : Code) (n : ℕ) (f : PlainFunction) (bytes : List ℕ) (old new : Loading) (words : List ℕ)
+        (frames : ℕ) (s : State) → function_at (plain code) n ≡ Some f → old.cells ≡ [] →
+        IsStore (store_of new.cells new.released) →
+        (l : IsLoaded code.types (types_of f.params) f.credits bytes old new words) →
+        loaded (R.plain code) n (store_of new.cells new.released) words frames ≡ Some s →
+        Begins code n f (values_of l.trees) frames s }
+{}
+
+/// Where a function of an accepted source's code begins on arguments, the machine's run ends as the source means by the
+/// function of that name: with words that stand for its values, in the same trap, or out of calls or of frames; for
+/// want of frames no fip entry ends that has as many as its stack number says. What the machine asks of such a run is
+/// so of sound code. For who prints what a machine answers.
+pub fn a_machine_ends_as_the_source_means()
+    ensures knows { (v : Checked) (before waits : Kinds) (n : ℕ) (f : PlainFunction) (vs : Values) (frames : ℕ)
+        (s : State) (calls : ℕ) → IsSoundCode v.code → AreKinds (plain v.code) before waits →
+        Begins v.code n f vs frames s → KnowsRun v before s calls }
+    ensures ends { (source : List ℕ) (core : Core) (v : Checked) (before waits : Kinds) (n : ℕ) (f : PlainFunction)
+        (vs : Values) (frames : ℕ) (s : State) (calls : ℕ) (e : Ended) (last : State) (given : List ℕ) →
+        IsCodeOf source core v.code → AreKinds (plain v.code) before waits → Begins v.code n f vs frames s →
+        0 < length f.name → RunsTo before (R.plain v.code) s calls e last given →
+        IsMeant v.code.types f.results e last given (meaning core f.name NoClosed vs calls frames).answer }
+    ensures deep { (source : List ℕ) (core : Core) (code : Code) (n : ℕ) (f : PlainFunction) (vs : Values)
+        (frames : ℕ) (s : State) (calls : ℕ) (stack : Stack) → IsCodeOf source core code →
+        Begins code n f vs frames s → 0 < length f.name → is_fip f.kind ≡ true → IsStack (plain code) n stack →
+        stack.frames ≤ frames → (meaning core f.name NoClosed vs calls frames).answer ≢ Deep }
+{}
+
+/// Words that stand for values in a state can be printed from its cells. For who prints results.
+pub fn meant_words_can_be_printed()
+    ensures law { (tb : Table) (s : State) (types words : List ℕ) (vs : Values) →
+        AreWordsOf tb s.store types words vs → ArePrintable tb s.store.cells types words vs }
+{}
+
+/// In each state of the run of a fip function that begins on arguments, as many cells of each size are held as the
+/// arguments and the header's credits have, and the frames beside the entry's and the words of all frames are at most
+/// those of its stack number. It is said of sound code, whoever made it. For who gives a run its memory.
+pub fn a_fip_entry_runs_in_place()
+    ensures cells { (code : Code) (before waits : Kinds) (n : ℕ) (f : PlainFunction) (vs : Values) (frames : ℕ)
+        (s : State) (calls steps size : ℕ) → IsSoundCode code → AreKinds (plain code) before waits →
+        Begins code n f vs frames s → is_fip f.kind ≡ true →
+        count_held size (state_of (after before (R.plain code) steps (begun s calls))).store
+        ≡ cells_of_all size vs + count size f.credits }
+    ensures frames { (code : Code) (before waits : Kinds) (n : ℕ) (f : PlainFunction) (vs : Values) (frames : ℕ)
+        (s : State) (calls steps : ℕ) (stack : Stack) → IsSoundCode code → AreKinds (plain code) before waits →
+        Begins code n f vs frames s → is_fip f.kind ≡ true → IsStack (plain code) n stack →
+        frames_held (state_of (after before (R.plain code) steps (begun s calls))) ≤ stack.frames }
+    ensures words { (code : Code) (before waits : Kinds) (n : ℕ) (f : PlainFunction) (vs : Values) (frames : ℕ)
+        (s : State) (calls steps : ℕ) (stack : Stack) → IsSoundCode code → AreKinds (plain code) before waits →
+        Begins code n f vs frames s → is_fip f.kind ≡ true → IsStack (plain code) n stack →
+        words_held (state_of (after before (R.plain code) steps (begun s calls))) ≤ stack.words }
+{}
+
+/// What the gauge tells of such a run: for each size the lowest and the highest number of held cells are both those of
+/// the arguments and of the header's credits, and its stack is within the stack number. For who prints the gauge.
+pub fn a_gauge_of_a_fip_entry_is_flat()
+    ensures law { (v : Checked) (before waits : Kinds) (n : ℕ) (f : PlainFunction) (vs : Values) (frames : ℕ)
+        (s : State) (calls : ℕ) (stack : Stack) (g : Gauge) → IsSoundCode v.code →
+        AreKinds (plain v.code) before waits → Begins v.code n f vs frames s → is_fip f.kind ≡ true →
+        IsStack (plain v.code) n stack → TellsRun before (R.plain v.code) s calls g → IsFlat g vs f.credits stack }
+{}

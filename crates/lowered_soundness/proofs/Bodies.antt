@@ -1,0 +1,379 @@
+-- Expressions and blocks: their instructions keep the rules, and what is known behind them goes with the variables.
+use Rattle.std.proofs.Common.{◌≡◌, inl, inr, ℕ, suc, ◌+◌, ◌≤◌, Bool, true, false, ◌||◌, List, [], ◌∷◌, ◌++◌, length, map, Option, Some, refl, sym, ap, ◌∙◌, subst, arith, if◌then◌else◌}
+use Rattle.fip_language.specs.Every.{Among}
+use Rattle.fip_trees.specs.declared.program.Binder.{Binder}
+use Rattle.fip_trees.specs.Tree.{NoArguments, MoreArguments}
+use Rattle.fip_trees.specs.Tree.{Expression, Give, Tuple, Operation, Call, Match, Nested, Block, Last, Let}
+use Rattle.fip_rules.specs.World as R
+use Rattle.fip_rules.specs.Shapes.{Names, behind, shape}
+use Rattle.type_check.specs.Binders.{all_annotated, entries}
+use Rattle.type_check.specs.Scope.{Scope, of_binder}
+use Rattle.type_check.specs.World as W
+use Rattle.type_check.specs.Typing.{Types, TypesBlock, Bind}
+use Rattle.own_calculus.specs.Terms.{Item, Own, has}
+use Rattle.own_calculus.specs.Rules.{Fits, lending}
+use Rattle.own_calculus.specs.Rules as O
+use Rattle.own_calculus.specs.ByCases.{Derives, Opens}
+use Rattle.own_calculus.proofs.Fit.{fits_le, fits_same, fits_sum}
+use Rattle.own_agreement.specs.Bodies.{Scalars, variables, entering, inside, term, term_block}
+use Rattle.own_agreement.proofs.Basics.{not_owned}
+use Rattle.derivation_making.proofs.Linking.{next_inside}
+use Rattle.derivation_making.proofs.Reading.{next_behind}
+use Rattle.sound_code.specs.Codes.{PlainCode, PlainFunction}
+use Rattle.kind_soundness.proofs.Basics.{refused}
+use Rattle.lowered_code.specs.declared.held.Held.TheVariants as H
+use Rattle.lowered_code.specs.Known.{Known}
+use Rattle.lowered_code.specs.Values.{Setting}
+use Rattle.lowered_code.specs.Bodies.{Return, Into, registers_for, reserved, with_names, all_named}
+use Rattle.lowered_soundness.specs.Describing.{held_at}
+use Rattle.lowered_soundness.specs.Parts.{LastPart}
+use Rattle.lowered_soundness.specs.Ties.{AllHold, owed, Ties}
+use Rattle.lowered_soundness.specs.Laid.{told, Shares}
+use Rattle.lowered_soundness.specs.Computed.{Computed}
+use Rattle.lowered_soundness.specs.Delivered.{Waiting, Delivered}
+use Rattle.lowered_soundness.specs.Placed.{Placed, NoneFrom, InOrder, Numbered, NumberedBlock, AreTypes, Callees}
+use Rattle.lowered_soundness.specs.Bodies.{NamedLaid, ExpressionLaid, BlockLaid}
+use Rattle.lowered_soundness.proofs.Parts.{both_parts, part_and_last}
+use Rattle.lowered_soundness.proofs.Tying.{ties_fits}
+use Rattle.lowered_soundness.proofs.Arguments.{ties_worth}
+use Rattle.lowered_soundness.proofs.Scoping.{entries_of, some_placed}
+use Rattle.lowered_soundness.proofs.Naming.{soles, length_named, name_all}
+use Rattle.lowered_soundness.proofs.Lets.{ties_within, lent_in, ties_lending, scope_later, entries_same, bind_many, bind_slots, opens_fits, unborrowed}
+use Rattle.lowered_soundness.proofs.Typed.{expression_types}
+use Rattle.lowered_soundness.proofs.Leaves.{values_done, give_into, give_ends, operator_into, operator_ends, called_into, called_ends}
+
+length_all_named : (names : List (Option ℕ)) (bs : List Binder) (rs : List ℕ) → length (all_named names bs rs) ≡ length names
+length_all_named names [] rs = refl
+length_all_named names (b ∷ bs) [] = refl
+length_all_named names (b ∷ bs) (r ∷ rs) = length_all_named (Rattle.lowered_code.specs.Known.named names b.number r) bs rs ∙ length_named names b.number r
+
+length_registers : (r : ℕ) (bs : List Binder) → length (registers_for r bs) ≡ length bs
+length_registers r [] = refl
+length_registers r (b ∷ bs) = ap suc (length_registers (suc r) bs)
+
+among_registers : (r q : ℕ) (bs : List Binder) → Among q (registers_for r bs) → r ≤ q
+among_registers r q [] m = absurd m
+among_registers r q (b ∷ bs) (inl e) = omega (arith, e)
+among_registers r q (b ∷ bs) (inr m) = let z = among_registers (suc r) q bs m in omega (arith, z)
+
+-- registers that were never used wait
+registers_wait : (k : Known) (r n : ℕ) (bs : List Binder) → ((q : ℕ) → r ≤ q → held_at k.held q ≡ H.Nothing) → r + length bs ≤ n → Waiting (record k { next = n }) (registers_for r bs)
+registers_wait k r n [] fresh room = tt
+registers_wait k r n (b ∷ bs) fresh room = (
+  fresh r (omega arith),
+  omega (arith, room),
+  (λ m. absurd (let z = among_registers (suc r) r bs m in let y : ⊥ = omega (arith, z) in y)),
+  registers_wait k (suc r) n bs (λ q low. fresh q (omega (arith, low))) (omega (arith, room)),
+)
+
+-- where more registers are used nothing else is known
+ties_reserved : (fip : Bool) (w : Rattle.fip_language.specs.Table.Table) (s : Scope) (B : ℕ → Bool) (K : ℕ → Item → ℕ) (T : Item → ℕ) (e : ℕ → ℕ) (k : Known) (n : ℕ) → k.next ≤ n → Ties fip w s B K T e k → Ties fip w s B K T e (record k { next = n })
+ties_reserved fip w s B K T e k n more t = record {
+  variables = t.variables;
+  trees = t.trees;
+  lent = t.lent;
+  rooted = t.rooted;
+  bares = t.bares;
+  sizes = t.sizes;
+  credits = t.credits;
+  fresh = λ r low. t.fresh r (omega (arith, low, more));
+  named = λ x r h. (let z = t.named x r h in omega (arith, z, more));
+}
+
+waits_on : (k l : Known) (ds : List ℕ) → Waiting k ds → k.next ≤ l.next → ((r : ℕ) → Among r ds → held_at l.held r ≡ H.Nothing) → Waiting l ds
+waits_on k l [] w grows empty = tt
+waits_on k l (d ∷ ds) w grows empty = (empty d (inl refl), (let z = w.1 in omega (arith, z, grows)), w.2, waits_on k l ds w.3 grows (λ r m. empty r (inr m)))
+
+waiting_among : (k : Known) (ds : List ℕ) (r : ℕ) → Waiting k ds → Among r ds → (held_at k.held r ≡ H.Nothing) × (suc r ≤ k.next)
+waiting_among k [] r w m = absurd m
+waiting_among k (d ∷ ds) r w (inl e) = (ap (held_at k.held) e ∙ w.0, (let z = w.1 in omega (arith, z, e)))
+waiting_among k (d ∷ ds) r w (inr m) = waiting_among k ds r w.3 m
+
+module _ (c : PlainCode) (f : PlainFunction) (st : Setting) (wd : W.World) (w : R.World) (fip : Bool) (shares : Shares c st wd) (callees : Callees c st wd w) (N : ℕ) where
+  -- ---- what a let binds is behind, and its variables come into scope
+
+  record Entered (s : Scope) (sc : Scalars) (n : Names) (bs : List Binder) (us : List ℕ) (B : ℕ → Bool) (K : ℕ → Item → ℕ) (Q X : Item → ℕ) (l : Known) : Type 0 where
+    pub placed : Placed c (s ++ entries bs (map Some us)) (entering w n.next sc bs) (inside w true n bs)
+    pub ties : Ties fip c.types (s ++ entries bs (map Some us)) (O.setting (variables w n.next bs) false B) K (λ i. Q i + X i) (λ q. 0) l
+    pub none : NoneFrom (inside w true n bs).next (λ i. Q i + X i)
+    pub back : (x u : ℕ) → of_binder s (Some x) ≡ Some (Some u) → of_binder (s ++ entries bs (map Some us)) (Some x) ≡ Some (Some u)
+    pub same : (x u : ℕ) → of_binder s (Some x) ≡ Some (Some u) → O.setting (variables w n.next bs) false B x ≡ B x
+
+  enter : (s : Scope) (sc : Scalars) (n : Names) (bs : List Binder) (us : List ℕ) (B : ℕ → Bool) (K : ℕ → Item → ℕ) (R Q X : Item → ℕ) (m : Known) (rs : List ℕ) → Placed c s sc n → InOrder n.next bs → n.next + length bs ≤ length m.names → Bind true bs us → AreTypes c us → Opens fip true (variables w n.next bs) [] R Q → NoneFrom n.next (λ i. R i + X i) → ((z y : ℕ) → K z (Own y) ≤ X (Own y)) → Ties fip c.types s B K (λ i. R i + X i) (λ q. owed c.types rs us q + 0) m → AllHold c.types (held_at m.held) rs us → Entered s sc n bs us B K Q X (with_names m bs rs)
+  enter s sc n bs us B K R Q X m rs placed order within bind types opens none kept ties hold =
+      let slots = bind_slots c bs us bind types in
+      let es = entries_same bs us bind in
+      let D = O.setting (variables w n.next bs) false B in
+      let R_none : NoneFrom n.next R = λ y low. (let z = none y low in omega (arith, z)) in
+      let named = name_all fip c.types D K s (λ i. R i + X i) (λ q. 0) m bs n.next rs us
+      (ties_within fip c.types s s B D K K (λ i. R i + X i) (λ q. owed c.types rs us q + 0) m ties (λ x u h. h) (λ x u h b. (sym (unchanged x u h) ∙ b, refl)))
+      hold placed.before none (λ z y. let a = kept z y in omega (arith, a)) (unborrowed c w callees.scalars fip K B n.next bs us slots) within order (bind_many bs us bind) in
+      record {
+        placed = subst (λ es. Placed c (s ++ es) (entering w n.next sc bs) (inside w true n bs)) (sym es) (some_placed c w callees.scalars true s sc n bs us placed order slots);
+        ties = subst (λ es. Ties fip c.types (s ++ es) D K (λ i. Q i + X i) (λ q. 0) (with_names m bs rs)) (sym es)
+            (ties_fits fip c.types (s ++ entries_of bs us) D K (λ i. (R i + X i) + soles c.types n.next us i) (λ i. Q i + X i) (λ q. 0) (with_names m bs rs) named
+            (λ i. (let a : (R i + X i) + soles c.types n.next us i ≡ (R i + soles c.types n.next us i) + X i = omega arith in
+            subst (λ m. Fits fip m (Q i + X i)) (sym a) (fits_sum fip ((R i + soles c.types n.next us i) + X i) (R i + soles c.types n.next us i) (X i) (Q i) (X i) (fits_same fip ((R i + soles c.types n.next us i) + X i)) (opens_fits c w callees.scalars fip n.next bs us R Q opens R_none slots i) (fits_same fip (X i))))));
+        none = λ y low. (let next = next_inside w true n bs in let a = none y (omega (arith, low, next)) in let q = fewer y (omega (arith, low, next)) R_none in omega (arith, a, q));
+        back = λ x u h. ap (λ es. of_binder (s ++ es) (Some x)) es ∙ (scope_later s n.next bs us x order (placed.before x u h) ∙ h);
+        same = unchanged;
+      }
+    where
+      unchanged : (x u : ℕ) → of_binder s (Some x) ≡ Some (Some u) → O.setting (variables w n.next bs) false B x ≡ B x
+      unchanged x u h = refused (has (variables w n.next bs) x) false (B x) (not_owned w n.next x bs (placed.before x u h))
+
+      -- behind the binders' numbers nothing is owned
+      beyond : (y m : ℕ) (ds : List Binder) → m + length ds ≤ y → has (variables w m ds) y ≡ false
+      beyond y m [] low = refl
+      beyond y m (d ∷ ds) low = one (w.scalar d.ty) (beyond y (suc m) ds (omega (arith, low)))
+        where
+          one : (b : Bool) → has (variables w (suc m) ds) y ≡ false → has (if b then variables w (suc m) ds else m ∷ variables w (suc m) ds) y ≡ false
+          one true h = h
+          one false h = ap (λ b. b || has (variables w (suc m) ds) y) (Rattle.kind_soundness.proofs.Basics.unequal_is m y (λ e. absurd (let z : ⊥ = omega (arith, e, low) in z))) ∙ h
+
+      fewer : (y : ℕ) → n.next + length bs ≤ y → NoneFrom n.next R → Q (Own y) ≡ 0
+      fewer y low none = (let a = fits_le fip (R (Own y)) (Q (Own y)) (opens.others y (beyond y n.next bs low)) in let b = none y (omega (arith, low)) in omega (arith, a, b))
+
+  -- ---- names behind a part
+
+  behind_placed : (s : Scope) (sc : Scalars) (n : Names) (e : Expression) → n.next ≤ (behind n (shape w n e)).next → Placed c s sc n → Placed c s sc (behind n (shape w n e))
+  behind_placed s sc n e more p = record {
+    seen = p.seen;
+    scalar = p.scalar;
+    before = λ x t h. (let z = p.before x t h in omega (arith, z, more));
+    typed = p.typed;
+  }
+
+  later : (n : Names) (e : Expression) → n.next ≤ (behind n (shape w n e)).next
+  later n e = let z = next_behind w n e in omega (arith, z)
+
+  none_later : (n : Names) (e : Expression) (T : Item → ℕ) → NoneFrom n.next T → NoneFrom (behind n (shape w n e)).next T
+  none_later n e T h y low = h y (let z = later n e in omega (arith, z, low))
+
+  -- what is owned in three parts
+  let_split : (s : Scope) (B : ℕ → Bool) (K : ℕ → Item → ℕ) (O P R X : Item → ℕ) (k : Known) → ((i : Item) → Fits fip (O i) (P i + R i)) → Ties fip c.types s B K (λ i. O i + X i) (λ q. 0) k → Ties fip c.types s B K (λ i. P i + (R i + X i)) (λ q. 0) k
+  let_split s B K O P R X k split ties =
+      ties_worth fip c.types s B K (λ i. (P i + R i) + X i) (λ i. P i + (R i + X i)) (λ q. 0) k (λ i. omega arith)
+      (ties_fits fip c.types s B K (λ i. O i + X i) (λ i. (P i + R i) + X i) (λ q. 0) k ties (λ i. fits_sum fip (O i + X i) (O i) (X i) (P i + R i) (X i) (fits_same fip (O i + X i)) (split i) (fits_same fip (X i))))
+
+  split_none : (n : ℕ) (O P R X : Item → ℕ) → ((i : Item) → Fits fip (O i) (P i + R i)) → NoneFrom n (λ i. O i + X i) → NoneFrom n (λ i. P i + (R i + X i))
+  split_none n O P R X split none y low =
+      let a = none y low in
+      let b = fits_le fip (O (Own y)) (P (Own y) + R (Own y)) (split (Own y)) in
+      omega (arith, a, b)
+
+  rest_none : (n : ℕ) (P R X : Item → ℕ) → NoneFrom n (λ i. P i + (R i + X i)) → NoneFrom n (λ i. R i + X i)
+  rest_none n P R X none y low = let a = none y low in omega (arith, a)
+
+  lent_kept : (B : ℕ → Bool) (K : ℕ → Item → ℕ) (R X : Item → ℕ) → ((z y : ℕ) → K z (Own y) ≤ X (Own y)) → (z y : ℕ) → lent_in B K R z (Own y) ≤ R (Own y) + X (Own y)
+  lent_kept B K R X kept z y = by (B z)
+    where
+      by : (b : Bool) → (if b then K z else R) (Own y) ≤ R (Own y) + X (Own y)
+      by true = let a = kept z y in omega (arith, a)
+      by false = omega arith
+
+  unlent : (s : Scope) (B : ℕ → Bool) (K : ℕ → Item → ℕ) (R T : Item → ℕ) (e : ℕ → ℕ) (k : Known) → Ties fip c.types s (lending B R) (lent_in B K R) T e k → Ties fip c.types s B K T e k
+  unlent s B K R T e k t =
+      ties_within fip c.types s s (lending B R) B (lent_in B K R) K T e k t (λ x u h. h)
+      (λ x u h b. (ap (λ b. b || Rattle.std.specs.Prelude.nat_lt 0 (R (Own x))) b, sym (Rattle.kind_soundness.proofs.Basics.chosen (B x) (K x) R b)))
+
+  -- ---- what is behind an expression
+
+  -- the same, where less is borrowed
+  comp_plain : (s : Scope) (C B : ℕ → Bool) (L K : ℕ → Item → ℕ) (Y : Item → ℕ) (at : ℕ) (k : Known) (rs us : List ℕ) (mid : ℕ) (m : Known) → Computed c f fip s C L Y (λ q. 0) at k rs us mid m → Ties fip c.types s B K Y (λ q. owed c.types rs us q + 0) m → Computed c f fip s B K Y (λ q. 0) at k rs us mid m
+  comp_plain s C B L K Y at k rs us mid m h ties = record {
+    grows = h.grows;
+    still = h.still;
+    part = h.part;
+    names = h.names;
+    next = h.next;
+    width = h.width;
+    ties = ties;
+    hold = h.hold;
+    empty = h.empty;
+    stays = h.stays;
+  }
+
+  -- values get names, and the rest follows
+  computed_rest : (s z : Scope) (B D : ℕ → Bool) (K : ℕ → Item → ℕ) (Y X : Item → ℕ) (at : ℕ) (k : Known) (rs us : List ℕ) (mid : ℕ) (m : Known) (bs : List Binder) (ds ts : List ℕ) (end : ℕ) (l : Known) → Computed c f fip s B K Y (λ q. 0) at k rs us mid m → Delivered c f fip z D K X mid (with_names m bs rs) ds ts end l → ((x u : ℕ) → of_binder s (Some x) ≡ Some (Some u) → of_binder z (Some x) ≡ Some (Some u)) → ((x u : ℕ) → of_binder s (Some x) ≡ Some (Some u) → D x ≡ B x) → Delivered c f fip s B K X at k ds ts end l
+  computed_rest s z B D K Y X at k rs us mid m bs ds ts end l h rest back same =
+      let a = h.grows in
+      let b = rest.grows in
+      record {
+        grows = omega (arith, a, b);
+        still = λ e r. (let x : at ≡ mid = omega (arith, a, b, e) in let y : mid ≡ end = omega (arith, a, b, e) in h.still x r ∙ rest.still y r);
+        part = both_parts c f at mid end (told c k) (told c m) (told c l) h.part rest.part;
+        next = (let x = h.next in let y = rest.next in omega (arith, x, y));
+        width = rest.width ∙ h.width;
+        names = rest.names ∙ (length_all_named m.names bs rs ∙ ap length h.names);
+        ties = ties_within fip c.types z s D B K K X (λ q. owed c.types ds ts q + 0) l rest.ties back (λ x u o b. (same x u o ∙ b, refl));
+        hold = rest.hold;
+        empty = λ r low y ne. rest.empty r (let n = h.next in omega (arith, low, n)) (h.empty r low y) ne;
+      }
+
+  delivered_rest : (s z : Scope) (B C D : ℕ → Bool) (K L : ℕ → Item → ℕ) (Y X : Item → ℕ) (at : ℕ) (k : Known) (n : ℕ) (rs us : List ℕ) (mid : ℕ) (m : Known) (bs : List Binder) (ds ts : List ℕ) (end : ℕ) (l : Known) → k.next ≤ n → Delivered c f fip s C L Y at (record k { next = n }) rs us mid m → Delivered c f fip z D K X mid (with_names m bs rs) ds ts end l → ((r : ℕ) → suc r ≤ k.next → Among r rs → ⊥) → ((x u : ℕ) → of_binder s (Some x) ≡ Some (Some u) → of_binder z (Some x) ≡ Some (Some u)) → ((x u : ℕ) → of_binder s (Some x) ≡ Some (Some u) → D x ≡ B x) → Delivered c f fip s B K X at k ds ts end l
+  delivered_rest s z B C D K L Y X at k n rs us mid m bs ds ts end l more h rest apart back same =
+      let a = h.grows in
+      let b = rest.grows in
+      record {
+        grows = omega (arith, a, b);
+        still = λ e r. (let x : at ≡ mid = omega (arith, a, b, e) in let y : mid ≡ end = omega (arith, a, b, e) in h.still x r ∙ rest.still y r);
+        part = both_parts c f at mid end (told c k) (told c m) (told c l) h.part rest.part;
+        next = (let x = h.next in let y = rest.next in omega (arith, x, y, more));
+        width = rest.width ∙ h.width;
+        names = rest.names ∙ (length_all_named m.names bs rs ∙ h.names);
+        ties = ties_within fip c.types z s D B K K X (λ q. owed c.types ds ts q + 0) l rest.ties back (λ x u o b. (same x u o ∙ b, refl));
+        hold = rest.hold;
+        empty = λ r low y ne. rest.empty r (let z = h.next in omega (arith, low, z, more)) (h.empty r (omega (arith, low, more)) y (apart r low)) ne;
+      }
+
+  -- values that only get names
+  named_done : (s : Scope) (sc : Scalars) (n : Names) (B : ℕ → Bool) (K : ℕ → Item → ℕ) → Placed c s sc n → (P X : Item → ℕ) (at : ℕ) (k : Known) (e : Expression) (rs : List ℕ) (mid : ℕ) (m : Known) (b : Bool) (us : List ℕ) → NamedLaid c st f at k e rs mid m → Types true wd s b e us → Derives fip B P (term w sc n e) → ((z y : ℕ) → K z (Own y) ≤ X (Own y)) → Ties fip c.types s B K (λ i. P i + X i) (λ q. 0) k → length k.held ≡ f.registers → Computed c f fip s B K X (λ q. 0) at k rs us mid m
+  named_done s sc n B K placed P X at k (Give a) rs mid m b us h typed d kept ties wide =
+      subst (λ us. Computed c f fip s B K X (λ q. 0) at k rs us mid m) (sym typed.1)
+      (values_done c f st wd w fip shares callees s sc n B K placed P X at k (MoreArguments a NoArguments) rs mid m b (typed.0 ∷ []) h.values (typed.2, tt) d kept ties h.quiet wide)
+  named_done s sc n B K placed P X at k (Tuple p as') rs mid m b us h typed d kept ties wide =
+      values_done c f st wd w fip shares callees s sc n B K placed P X at k as' rs mid m b us h.values typed.1 d kept ties h.quiet wide
+  named_done s sc n B K placed P X at k (Operation o p x y) rs mid m b us h typed d kept ties wide = absurd h
+  named_done s sc n B K placed P X at k (Call g l p as') rs mid m b us h typed d kept ties wide = absurd h
+  named_done s sc n B K placed P X at k (Match g t p a q body cs) rs mid m b us h typed d kept ties wide = absurd h
+  named_done s sc n B K placed P X at k (Nested body) rs mid m b us h typed d kept ties wide = absurd h
+
+  registers_apart : (k : Known) (bs : List Binder) (r : ℕ) → suc r ≤ k.next → Among r (registers_for k.next bs) → ⊥
+  registers_apart k bs r low m = let z = among_registers k.next r bs m in let y : ⊥ = omega (arith, low, z) in y
+
+  mutual
+    pub into : (s : Scope) (sc : Scalars) (n : Names) (B : ℕ → Bool) (K : ℕ → Item → ℕ) → Placed c s sc n → (P X : Item → ℕ) (at : ℕ) (k : Known) (e : Expression) (ds : List ℕ) (end : ℕ) (l : Known) (b : Bool) (ts : List ℕ) → ExpressionLaid c st fip f at k e (Into ds) end l → Types true wd s b e ts → Derives fip B P (term w sc n e) → Numbered w N n e → ((z y : ℕ) → K z (Own y) ≤ X (Own y)) → NoneFrom n.next (λ i. P i + X i) → Ties fip c.types s B K (λ i. P i + X i) (λ q. 0) k → Waiting k ds → length ds ≡ length ts → length k.names ≡ N → length k.held ≡ f.registers → Delivered c f fip s B K X at k ds ts end l
+    into s sc n B K placed P X at k (Give a) ds end l b ts h typed d num kept none ties wait many names wide =
+        subst (λ ts. Delivered c f fip s B K X at k ds ts end l) (sym typed.1)
+        (give_into c f st wd w fip shares callees s sc n B K placed P X at k (MoreArguments a NoArguments) ds end l b (typed.0 ∷ []) h (typed.2, tt) d kept ties wait (many ∙ ap length typed.1) wide)
+    into s sc n B K placed P X at k (Tuple p as') ds end l b ts h typed d num kept none ties wait many names wide =
+        give_into c f st wd w fip shares callees s sc n B K placed P X at k as' ds end l b ts h typed.1 d kept ties wait many wide
+    into s sc n B K placed P X at k (Operation o p x y) ds end l b ts h typed d num kept none ties wait many names wide =
+        subst (λ ts. Delivered c f fip s B K X at k ds ts end l) (sym typed.0)
+        (operator_into c f st wd w fip shares callees s sc n B K placed P X at k o p x y ds end l h typed.1 typed.2 d kept ties wait (many ∙ ap length typed.0) wide)
+    into s sc n B K placed P X at k (Call g nm p as') ds end l b ts h typed d num kept none ties wait many names wide =
+        subst (λ ts. Delivered c f fip s B K X at k ds ts end l) (sym typed.0)
+        (called_into c f st wd w fip shares callees s sc n B K placed P X at k g as' ds end l h typed.1 d.1 kept ties wait (many ∙ ap length typed.0) wide)
+    into s sc n B K placed P X at k (Match g t p a q body cs) ds end l b ts h typed d num kept none ties wait many names wide = absurd h
+    into s sc n B K placed P X at k (Nested body) ds end l b ts h typed d num kept none ties wait many names wide =
+        block_into s sc n B K placed P X at k body ds end l b ts h typed d num kept none ties wait many names wide
+
+    pub block_into : (s : Scope) (sc : Scalars) (n : Names) (B : ℕ → Bool) (K : ℕ → Item → ℕ) → Placed c s sc n → (P X : Item → ℕ) (at : ℕ) (k : Known) (d : Block) (ds : List ℕ) (end : ℕ) (l : Known) (b : Bool) (ts : List ℕ) → BlockLaid c st fip f at k d (Into ds) end l → TypesBlock true wd s b d ts → Derives fip B P (term_block w sc n d) → NumberedBlock w N n d → ((z y : ℕ) → K z (Own y) ≤ X (Own y)) → NoneFrom n.next (λ i. P i + X i) → Ties fip c.types s B K (λ i. P i + X i) (λ q. 0) k → Waiting k ds → length ds ≡ length ts → length k.names ≡ N → length k.held ≡ f.registers → Delivered c f fip s B K X at k ds ts end l
+    block_into s sc n B K placed P X at k (Last e) ds end l b ts h typed d num kept none ties wait many names wide =
+        into s sc n B K placed P X at k e ds end l b ts h typed d num kept none ties wait many names wide
+    block_into s sc n B K placed A X at k (Let bs e rest) ds end l b ts (inl h) typed d num kept none ties wait many names wide =
+        let P = d.0 in
+        let R = d.1 in
+        let Q = d.2 in
+        let rs = h.0 in
+        let mid = h.1 in
+        let m = h.2 in
+        let us = typed.0 in
+        let n1 = behind n (shape w n e) in
+        let D = O.setting (variables w n1.next bs) false B in
+        let types = expression_types c st wd w shares callees s (all_annotated bs) e us placed.typed typed.1 in
+        let parts = let_split s B K A P R X k d.3 ties in
+        let comp = named_done s sc n (lending B R) (lent_in B K R) placed P (λ i. R i + X i) at k e rs mid m (all_annotated bs) us h.3 typed.1 d.5 (lent_kept B K R X kept)
+        (ties_lending fip c.types s B K (λ i. P i + (R i + X i)) R (λ q. 0) k (λ x. omega arith) parts) wide in
+        let same_names = ap length comp.names in
+        let room = num.1 in
+        let ent = enter s sc n1 bs us B K R Q X m rs (behind_placed s sc n e (later n e) placed) num.0 (omega (arith, room, names, same_names)) typed.2 types d.4
+        (none_later n e (λ i. R i + X i) (rest_none n.next P R X (split_none n.next A P R X d.3 none))) kept (unlent s B K R (λ i. R i + X i) (λ q. owed c.types rs us q + 0) m comp.ties) comp.hold in
+        let after = with_names m bs rs in
+        let waits = waits_on k after ds wait comp.next (λ r i. let a = waiting_among k ds r wait i in comp.empty r a.1 a.0) in
+        let more = block_into (s ++ entries bs (map Some us)) (entering w n1.next sc bs) (inside w true n1 bs) D K ent.placed Q X mid after rest ds end l b ts h.4 typed.3 d.6 num.3 kept ent.none ent.ties waits many (length_all_named m.names bs rs ∙ (same_names ∙ names)) (comp.width ∙ wide) in
+        computed_rest s (s ++ entries bs (map Some us)) B D K (λ i. R i + X i) X at k rs us mid m bs ds ts end l (comp_plain s (lending B R) B (lent_in B K R) K (λ i. R i + X i) at k rs us mid m comp (unlent s B K R (λ i. R i + X i) (λ q. owed c.types rs us q + 0) m comp.ties)) more ent.back ent.same
+    block_into s sc n B K placed A X at k (Let bs e rest) ds end l b ts (inr h) typed d num kept none ties wait many names wide =
+        let P = d.0 in
+        let R = d.1 in
+        let Q = d.2 in
+        let rs = registers_for k.next bs in
+        let mid = h.0 in
+        let m = h.1 in
+        let us = typed.0 in
+        let n1 = behind n (shape w n e) in
+        let D = O.setting (variables w n1.next bs) false B in
+        let types = expression_types c st wd w shares callees s (all_annotated bs) e us placed.typed typed.1 in
+        let parts = let_split s B K A P R X k d.3 ties in
+        let more_next : k.next ≤ k.next + length bs = omega arith in
+        let got = into s sc n (lending B R) (lent_in B K R) placed P (λ i. R i + X i) at (reserved k bs) e rs mid m (all_annotated bs) us h.2 typed.1 d.5 num.2 (lent_kept B K R X kept)
+        (split_none n.next A P R X d.3 none)
+        (ties_reserved fip c.types s (lending B R) (lent_in B K R) (λ i. P i + (R i + X i)) (λ q. 0) k (k.next + length bs) more_next (ties_lending fip c.types s B K (λ i. P i + (R i + X i)) R (λ q. 0) k (λ x. omega arith) parts))
+        (registers_wait k k.next (k.next + length bs) bs ties.fresh (omega arith)) (length_registers k.next bs ∙ bind_many bs us typed.2) names wide in
+        let same_names = got.names in
+        let room = num.1 in
+        let ent = enter s sc n1 bs us B K R Q X m rs (behind_placed s sc n e (later n e) placed) num.0 (omega (arith, room, names, same_names)) typed.2 types d.4
+        (none_later n e (λ i. R i + X i) (rest_none n.next P R X (split_none n.next A P R X d.3 none))) kept (unlent s B K R (λ i. R i + X i) (λ q. owed c.types rs us q + 0) m got.ties) got.hold in
+        let after = with_names m bs rs in
+        let waits = waits_on k after ds wait (let z = got.next in omega (arith, z)) (λ r i. let a = waiting_among k ds r wait i in let low = a.1 in got.empty r (omega (arith, low)) a.0 (registers_apart k bs r a.1)) in
+        let more = block_into (s ++ entries bs (map Some us)) (entering w n1.next sc bs) (inside w true n1 bs) D K ent.placed Q X mid after rest ds end l b ts h.3 typed.3 d.6 num.3 kept ent.none ent.ties waits many (length_all_named m.names bs rs ∙ (same_names ∙ names)) (got.width ∙ wide) in
+        delivered_rest s (s ++ entries bs (map Some us)) B (lending B R) D K (lent_in B K R) (λ i. R i + X i) X at k (k.next + length bs) rs us mid m bs ds ts end l more_next got more (registers_apart k bs) ent.back ent.same
+
+  -- ---- the function's results
+
+  none_zero : (n : ℕ) (A P R : Item → ℕ) → ((i : Item) → Fits fip (A i) (P i + R i)) → NoneFrom n (λ i. A i + 0) → NoneFrom n (λ i. P i + (R i + 0))
+  none_zero n A P R split none = split_none n A P R (λ i. 0) split none
+
+  mutual
+    pub ends : (s : Scope) (sc : Scalars) (n : Names) (B : ℕ → Bool) (K : ℕ → Item → ℕ) → Placed c s sc n → (P : Item → ℕ) (at : ℕ) (k : Known) (e : Expression) (end : ℕ) (l : Known) (b : Bool) (ts : List ℕ) → ExpressionLaid c st fip f at k e Return end l → Types true wd s b e ts → Derives fip B P (term w sc n e) → Numbered w N n e → ((z y : ℕ) → K z (Own y) ≤ 0) → NoneFrom n.next (λ i. P i + 0) → Ties fip c.types s B K (λ i. P i + 0) (λ q. 0) k → f.results ≡ ts → length k.names ≡ N → length k.held ≡ f.registers → LastPart c f at (told c k) end
+    ends s sc n B K placed P at k (Give a) end l b ts h typed d num kept none ties results names wide =
+        give_ends c f st wd w fip shares callees s sc n B K placed P at k (MoreArguments a NoArguments) end l b (typed.0 ∷ []) h (typed.2, tt) d kept ties (results ∙ typed.1) wide
+    ends s sc n B K placed P at k (Tuple p as') end l b ts h typed d num kept none ties results names wide =
+        give_ends c f st wd w fip shares callees s sc n B K placed P at k as' end l b ts h typed.1 d kept ties results wide
+    ends s sc n B K placed P at k (Operation o p x y) end l b ts h typed d num kept none ties results names wide =
+        operator_ends c f st wd w fip shares callees s sc n B K placed P at k o p x y end l h typed.1 typed.2 d kept ties (results ∙ typed.0) wide
+    ends s sc n B K placed P at k (Call g nm p as') end l b ts h typed d num kept none ties results names wide =
+        called_ends c f st wd w fip shares callees s sc n B K placed P at k g as' end l h typed.1 d.1 kept ties (results ∙ typed.0) wide
+    ends s sc n B K placed P at k (Match g t p a q body cs) end l b ts h typed d num kept none ties results names wide = absurd h
+    ends s sc n B K placed P at k (Nested body) end l b ts h typed d num kept none ties results names wide =
+        block_ends s sc n B K placed P at k body end l b ts h typed d num kept none ties results names wide
+
+    pub block_ends : (s : Scope) (sc : Scalars) (n : Names) (B : ℕ → Bool) (K : ℕ → Item → ℕ) → Placed c s sc n → (P : Item → ℕ) (at : ℕ) (k : Known) (d : Block) (end : ℕ) (l : Known) (b : Bool) (ts : List ℕ) → BlockLaid c st fip f at k d Return end l → TypesBlock true wd s b d ts → Derives fip B P (term_block w sc n d) → NumberedBlock w N n d → ((z y : ℕ) → K z (Own y) ≤ 0) → NoneFrom n.next (λ i. P i + 0) → Ties fip c.types s B K (λ i. P i + 0) (λ q. 0) k → f.results ≡ ts → length k.names ≡ N → length k.held ≡ f.registers → LastPart c f at (told c k) end
+    block_ends s sc n B K placed P at k (Last e) end l b ts h typed d num kept none ties results names wide =
+        ends s sc n B K placed P at k e end l b ts h typed d num kept none ties results names wide
+    block_ends s sc n B K placed A at k (Let bs e rest) end l b ts (inl h) typed d num kept none ties results names wide =
+        let P = d.0 in
+        let R = d.1 in
+        let Q = d.2 in
+        let X : Item → ℕ = λ i. 0 in
+        let rs = h.0 in
+        let mid = h.1 in
+        let m = h.2 in
+        let us = typed.0 in
+        let n1 = behind n (shape w n e) in
+        let D = O.setting (variables w n1.next bs) false B in
+        let types = expression_types c st wd w shares callees s (all_annotated bs) e us placed.typed typed.1 in
+        let parts = let_split s B K A P R X k d.3 ties in
+        let comp = named_done s sc n (lending B R) (lent_in B K R) placed P (λ i. R i + X i) at k e rs mid m (all_annotated bs) us h.3 typed.1 d.5 (lent_kept B K R X kept)
+        (ties_lending fip c.types s B K (λ i. P i + (R i + X i)) R (λ q. 0) k (λ x. omega arith) parts) wide in
+        let same_names = ap length comp.names in
+        let room = num.1 in
+        let ent = enter s sc n1 bs us B K R Q X m rs (behind_placed s sc n e (later n e) placed) num.0 (omega (arith, room, names, same_names)) typed.2 types d.4
+        (none_later n e (λ i. R i + X i) (rest_none n.next P R X (split_none n.next A P R X d.3 none))) kept (unlent s B K R (λ i. R i + X i) (λ q. owed c.types rs us q + 0) m comp.ties) comp.hold in
+        part_and_last c f at mid end (told c k) (told c m) comp.part
+        (block_ends (s ++ entries bs (map Some us)) (entering w n1.next sc bs) (inside w true n1 bs) D K ent.placed Q mid (with_names m bs rs) rest end l b ts h.4 typed.3 d.6 num.3 kept ent.none ent.ties results (length_all_named m.names bs rs ∙ (same_names ∙ names)) (comp.width ∙ wide))
+    block_ends s sc n B K placed A at k (Let bs e rest) end l b ts (inr h) typed d num kept none ties results names wide =
+        let P = d.0 in
+        let R = d.1 in
+        let Q = d.2 in
+        let X : Item → ℕ = λ i. 0 in
+        let rs = registers_for k.next bs in
+        let mid = h.0 in
+        let m = h.1 in
+        let us = typed.0 in
+        let n1 = behind n (shape w n e) in
+        let D = O.setting (variables w n1.next bs) false B in
+        let types = expression_types c st wd w shares callees s (all_annotated bs) e us placed.typed typed.1 in
+        let parts = let_split s B K A P R X k d.3 ties in
+        let more_next : k.next ≤ k.next + length bs = omega arith in
+        let got = into s sc n (lending B R) (lent_in B K R) placed P (λ i. R i + X i) at (reserved k bs) e rs mid m (all_annotated bs) us h.2 typed.1 d.5 num.2 (lent_kept B K R X kept)
+        (split_none n.next A P R X d.3 none)
+        (ties_reserved fip c.types s (lending B R) (lent_in B K R) (λ i. P i + (R i + X i)) (λ q. 0) k (k.next + length bs) more_next (ties_lending fip c.types s B K (λ i. P i + (R i + X i)) R (λ q. 0) k (λ x. omega arith) parts))
+        (registers_wait k k.next (k.next + length bs) bs ties.fresh (omega arith)) (length_registers k.next bs ∙ bind_many bs us typed.2) names wide in
+        let same_names = got.names in
+        let room = num.1 in
+        let ent = enter s sc n1 bs us B K R Q X m rs (behind_placed s sc n e (later n e) placed) num.0 (omega (arith, room, names, same_names)) typed.2 types d.4
+        (none_later n e (λ i. R i + X i) (rest_none n.next P R X (split_none n.next A P R X d.3 none))) kept (unlent s B K R (λ i. R i + X i) (λ q. owed c.types rs us q + 0) m got.ties) got.hold in
+        part_and_last c f at mid end (told c k) (told c m) got.part
+        (block_ends (s ++ entries bs (map Some us)) (entering w n1.next sc bs) (inside w true n1 bs) D K ent.placed Q mid (with_names m bs rs) rest end l b ts h.3 typed.3 d.6 num.3 kept ent.none ent.ties results (length_all_named m.names bs rs ∙ (same_names ∙ names)) (got.width ∙ wide))

@@ -1,0 +1,89 @@
+-- It serves the proof that lowered code is sound: which instructions compute an expression or a block, with the labels
+-- and the instructions that give up what is left. Of a match it says nothing: there is no code of one.
+use Rattle.std.specs.Prelude.{◌⊎◌, ◌≤◌, ℕ, suc, Bool, List, [], ◌∷◌}
+use Rattle.fip_language.specs.declared.Place.{Place}
+use Rattle.fip_language.specs.declared.Operator.{Operator}
+use Rattle.fip_trees.specs.Tree.{Expression, Give, Tuple, Operation, Call, Match, Nested, Block, Last, Let}
+use Rattle.fip_trees.specs.Tree.{Argument, Arguments, NoArguments, MoreArguments}
+use Rattle.sound_code.specs.Codes.{PlainCode, PlainFunction}
+use Rattle.lowered_code.specs.Known.{Known}
+use Rattle.lowered_code.specs.Values.{Setting, ArgumentsAt}
+use Rattle.lowered_code.specs.Bodies.{Target, Into, registers_for, reserved, with_names}
+use Rattle.lowered_soundness.specs.Laid.{told, Quiet}
+use Rattle.lowered_soundness.specs.Handed.{GivenLaid, OperationLaid, CallLaid}
+
+-- Values are computed into registers, and nothing else stands there.
+pub record ValuesLaid (c : PlainCode) (st : Setting) (f : PlainFunction) (at : ℕ) (k : Known) (as' : Arguments)
+    (rs : List ℕ) (mid : ℕ) (m : Known) : Type 0 where
+  pub arguments : ArgumentsAt st f.instrs at k as' rs mid m
+  pub room : m.next ≤ f.registers
+
+-- values that go to the target
+pub record GiveLaid (c : PlainCode) (st : Setting) (fip : Bool) (f : PlainFunction) (at : ℕ) (k : Known)
+    (as' : Arguments) (target : Target) (end : ℕ) (after : Known) : Type 0 where
+  pub registers : List ℕ
+  pub mid : ℕ
+  pub m : Known
+  pub values : ValuesLaid c st f at k as' registers mid m
+  pub given : GivenLaid fip f mid m registers target end after
+  pub quiet : Quiet f at end (told c k)
+
+-- an operator of two values
+pub record OperatorLaid (c : PlainCode) (st : Setting) (fip : Bool) (f : PlainFunction) (at : ℕ) (k : Known)
+    (o : Operator) (p : Place) (a b : Argument) (target : Target) (end : ℕ) (after : Known) : Type 0 where
+  pub left : ℕ
+  pub right : ℕ
+  pub mid : ℕ
+  pub m : Known
+  pub values : ValuesLaid c st f at k (MoreArguments a (MoreArguments b NoArguments)) (left ∷ right ∷ []) mid m
+  pub one_more : suc m.next ≤ f.registers
+  pub operation : OperationLaid fip f mid m o p left right target end after
+  pub quiet : Quiet f at end (told c k)
+
+-- a call of instance g
+pub record CalledLaid (c : PlainCode) (st : Setting) (fip : Bool) (f : PlainFunction) (at : ℕ) (k : Known)
+    (g : ℕ) (as' : Arguments) (target : Target) (end : ℕ) (after : Known) : Type 0 where
+  pub registers : List ℕ
+  pub mid : ℕ
+  pub m : Known
+  pub values : ValuesLaid c st f at k as' registers mid m
+  pub call : CallLaid st fip f mid m g registers target end after
+  pub quiet : Quiet f at end (told c k)
+
+-- values that only get names
+pub record BoundLaid (c : PlainCode) (st : Setting) (f : PlainFunction) (at : ℕ) (k : Known) (as' : Arguments)
+    (rs : List ℕ) (mid : ℕ) (m : Known) : Type 0 where
+  pub values : ValuesLaid c st f at k as' rs mid m
+  pub quiet : Quiet f at mid (told c k)
+
+abbrev pub NamedLaid :
+    PlainCode → Setting → PlainFunction → ℕ → Known → Expression → List ℕ → ℕ → Known → Type 0
+NamedLaid c st f at k (Give a) rs mid m = BoundLaid c st f at k (MoreArguments a NoArguments) rs mid m
+NamedLaid c st f at k (Tuple p as') rs mid m = BoundLaid c st f at k as' rs mid m
+NamedLaid c st f at k (Operation o p a b) rs mid m = ⊥
+NamedLaid c st f at k (Call g n p as') rs mid m = ⊥
+NamedLaid c st f at k (Match ds t p a q b cs) rs mid m = ⊥
+NamedLaid c st f at k (Nested b) rs mid m = ⊥
+
+-- from `at`, where k is known, to `end`
+abbrev mutual
+  pub ExpressionLaid :
+      PlainCode → Setting → Bool → PlainFunction → ℕ → Known → Expression → Target → ℕ → Known → Type 0
+  ExpressionLaid c st fip f at k (Give a) target end after =
+      GiveLaid c st fip f at k (MoreArguments a NoArguments) target end after
+  ExpressionLaid c st fip f at k (Tuple p as') target end after = GiveLaid c st fip f at k as' target end after
+  ExpressionLaid c st fip f at k (Operation o p a b) target end after =
+      OperatorLaid c st fip f at k o p a b target end after
+  ExpressionLaid c st fip f at k (Call g n p as') target end after =
+      CalledLaid c st fip f at k g as' target end after
+  ExpressionLaid c st fip f at k (Match ds t p a q b cs) target end after = ⊥
+  ExpressionLaid c st fip f at k (Nested b) target end after = BlockLaid c st fip f at k b target end after
+
+  pub BlockLaid : PlainCode → Setting → Bool → PlainFunction → ℕ → Known → Block → Target → ℕ → Known → Type 0
+  BlockLaid c st fip f at k (Last e) target end after = ExpressionLaid c st fip f at k e target end after
+  BlockLaid c st fip f at k (Let bs e rest) target end after =
+      ((rs : List ℕ) × (mid : ℕ) × (m : Known) × NamedLaid c st f at k e rs mid m
+      × BlockLaid c st fip f mid (with_names m bs rs) rest target end after)
+      ⊎ ((mid : ℕ) × (m : Known)
+      × ExpressionLaid c st fip f at (reserved k bs) e (Into (registers_for k.next bs)) mid m
+      × BlockLaid c st fip f mid (with_names m bs (registers_for k.next bs)) rest target end after)

@@ -1,0 +1,84 @@
+-- It serves the proof that lowered code is sound: what lowering knows of the registers, against the kinds that a
+-- verifier knows. Where a register holds nothing that is used any more, its kind may be any that may be overwritten.
+-- Where register 0 holds Owned 2 None and register 1 nothing, the kinds Owned 2 (0 ∷ 1 ∷ []) and Scalar 0 are covered.
+use Rattle.std.specs.Prelude.{◌≡◌, ℕ, zero, suc, Bool, true, false, List, [], ◌∷◌, Option, Some, None, length}
+use Rattle.std.specs.Prelude.{if◌then◌else◌, ◌==◌}
+use Rattle.fip_language.specs.Table.{Table}
+use Rattle.cell_code.specs.declared.kind.From.{From}
+use Rattle.cell_code.specs.declared.kind.Kind.{Kind}
+use Rattle.cell_code.specs.declared.kind.Kind.TheVariants as K
+use Rattle.sound_code.specs.Types.{all}
+use Rattle.sound_code.specs.Kinds.{at, is_free}
+use Rattle.lowered_code.specs.declared.held.Held.{Held}
+use Rattle.lowered_code.specs.declared.held.Held.TheVariants as H
+use Rattle.lowered_code.specs.Known.{without}
+
+-- what each register holds
+abbrev pub Holding : Type 0
+Holding = ℕ → Held
+
+-- as the list of what is known says; a register past its end holds nothing
+abbrev pub held_at : List Held → Holding
+held_at [] r = H.Nothing
+held_at (h ∷ hs) zero = h
+held_at (h ∷ hs) (suc r) = held_at hs r
+
+-- which constructors an owned tree may have, of which this is known
+abbrev pub set_of : Table → ℕ → Option ℕ → List ℕ
+set_of w t None = all w t
+set_of w t (Some c) = c ∷ []
+
+-- the narrowest kind of a register that holds this; a from is never known
+abbrev pub kind_of : Table → Held → Kind
+kind_of w H.Nothing = K.Gone
+kind_of w (H.Scalar t) = K.Scalar t
+kind_of w (H.Owned t b) = K.Owned t (set_of w t b)
+kind_of w (H.Lent t root) = K.Lent t (all w t) root None
+kind_of w (H.Credit n) = K.Credit n
+kind_of w (H.Bare t c) = K.Owned t (c ∷ [])
+
+abbrev pub kinds_of : Table → Holding → ℕ → Kind
+kinds_of w g r = kind_of w (g r)
+
+-- Where the first kind is told, the second is known: the same, but for what Gone takes, and for froms that aren't told.
+abbrev pub Covers : Kind → Kind → Type 0
+Covers K.Gone k = is_free k ≡ true
+Covers (K.Scalar t) k = k ≡ K.Scalar t
+Covers (K.Owned t s) k = k ≡ K.Owned t s
+Covers (K.Lent t s root None) k = (from : Option From) × (k ≡ K.Lent t s root from)
+Covers (K.Lent t s root (Some f)) k = k ≡ K.Lent t s root (Some f)
+Covers (K.Credit n) k = k ≡ K.Credit n
+
+-- the kinds of n registers, as they are told
+pub record Covered (n : ℕ) (m : ℕ → Kind) (ks : List Kind) : Type 0 where
+  pub wide : length ks ≡ n
+  pub each : (r : ℕ) → Covers (m r) (at ks r)
+
+-- register d holds this from now on
+abbrev pub setting : Holding → ℕ → Held → Holding
+setting g d h q = if q == d then h else g q
+
+abbrev pub is_tree : Held → Bool
+is_tree H.Nothing = false
+is_tree (H.Scalar t) = false
+is_tree (H.Owned t b) = true
+is_tree (H.Lent t root) = false
+is_tree (H.Credit n) = false
+is_tree (H.Bare t c) = false
+
+-- where register r holds an owned tree, this is used up, and what was lent of it isn't read any more
+abbrev pub using : Holding → ℕ → Holding
+using g r q = if is_tree (g r) then (if q == r then H.Nothing else without r (g q)) else g q
+
+abbrev pub using_all : Holding → List ℕ → Holding
+using_all g [] = g
+using_all g (r ∷ rs) = using_all (using g r) rs
+
+-- It may be overwritten.
+abbrev pub is_spare : Held → Bool
+is_spare H.Nothing = true
+is_spare (H.Scalar t) = true
+is_spare (H.Owned t b) = false
+is_spare (H.Lent t root) = true
+is_spare (H.Credit n) = false
+is_spare (H.Bare t c) = false

@@ -1,0 +1,15 @@
+pub mod Describing
+pub mod Giving
+pub mod Rows
+pub mod Parts
+pub mod Ties
+pub mod Whole
+pub mod Laid
+pub mod Computed
+pub mod GivenUp
+pub mod Delivered
+pub mod Handed
+pub mod Passed
+pub mod Placed
+pub mod Bodies
+pub mod Functions

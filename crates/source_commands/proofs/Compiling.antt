@@ -1,9 +1,13 @@
 -- From what was lowered, verified and written to what is said of a code that is made of a source, and of its file.
-use Rattle.std.proofs.Common.{◌≡◌, ◌∙◌, ◌≤◌, ℕ, List, [], ◌∷◌, map, length, refl, sym, ap, subst, inl, inr}
-use Rattle.std.specs.Prelude.{Result, Ok, Err, IfOk}
+use Rattle.std.proofs.Common.{◌≡◌, ◌∙◌, ◌<◌, ◌≤◌, Option, Some, None, slice_get, ℕ, List, [], ◌∷◌, map, length, refl, sym, ap, subst, inl, inr}
+use Rattle.std.specs.Prelude.{Result, Ok, Err, IfOk, IfSome}
 use Rattle.cell_code.specs.declared.code.Code.{Code}
 use Rattle.cell_code.specs.declared.code.Function.{Function}
+use Rattle.cell_lower.specs.Lowered as L
+use Rattle.cell_lower.specs.Lowered.{all_instrs}
 use Rattle.cell_lower.specs.Shape.{header, headers}
+use Rattle.code_runs.specs.Codes as R
+use Rattle.lowered_code.specs.Functions.{AreLowered}
 use Rattle.code_file.specs.CodeText.{CodeText}
 use Rattle.code_file.specs.Plain.{plain_code, plain_function}
 use Rattle.code_file.specs.declared.tags.Version.TheVariants.{Second}
@@ -19,7 +23,8 @@ use Rattle.source_report.specs.Report.{bare, IsAccepted}
 use Rattle.command_outcome.specs.declared.failure.Failure.{Failure}
 use Rattle.command_outcome.specs.declared.failure.Failure.TheVariants as F
 use Rattle.source_commands.specs.Codes.{IsUnspelt}
-use Rattle.source_commands.specs.ProgramCode.{plain_header, IsHeadedBy, IsCodeOfSource, IsCompiledFile, IsUncompiled, KeepsFromCompile}
+use Rattle.source_commands.specs.ProgramCode.{plain_header, instrs_of, IsNamed, IsLoweredFrom, IsCodeOfSource, IsEntryOf, IsCompiledFile, IsUncompiled, KeepsFromCompile}
+use Rattle.source_commands.specs.Entries.{Chosen}
 use Rattle.source_commands.specs.Wanted.{Lawful, IsReady, IsRefusedBy}
 use Rattle.source_commands.specs.declared.known.Front.{Front}
 use Rattle.source_commands.proofs.CodeFiles.{view_same}
@@ -28,24 +33,28 @@ headers_same : (fs : List Function) → map plain_header (map plain_function fs)
 headers_same [] = refl
 headers_same (f ∷ fs) = ap (λ hs. header f ∷ hs) (headers_same fs)
 
-pub headed : (p : Program) (code : Code) (ms : List Member) → AreMembers p.instances ms → code.types ≡ p.types → map header code.functions.items ≡ headers ms p.instances → IsHeadedBy p (plain_code code)
-headed p code ms found types functions =
-    record { types = types; members = ms; found = found; functions = headers_same code.functions.items ∙ functions }
+instrs_same : (fs : List Function) → map instrs_of (map plain_function fs) ≡ map L.instrs_of (map R.plain_function fs)
+instrs_same [] = refl
+instrs_same (f ∷ fs) = ap (λ is. f.instrs.items ∷ is) (instrs_same fs)
+
+pub headed : (p : Program) (code : Code) (ms : List Member) → AreMembers p.instances ms → code.types ≡ p.types → map header code.functions.items ≡ headers ms p.instances → AreLowered p (all_instrs code) → IsLoweredFrom p (plain_code code)
+headed p code ms found types functions lowered =
+    record { types = types; members = ms; found = found; functions = headers_same code.functions.items ∙ functions; lowered = subst (AreLowered p) (sym (instrs_same code.functions.items)) lowered }
 
 -- the code is verified, and it is the same
-pub headed_verified : (p : Program) (code : Code) (o : Result Front Failure) → IsHeadedBy p (plain_code code) → IfOk o (λ f. program f.typed.program ≡ p) → IfOk o (λ f. f.verified.code ≡ code) → IfOk o (λ f. IsHeadedBy (program f.typed.program) (plain_code f.verified.code))
-headed_verified p code (Ok f) h typed same = subst (λ c. IsHeadedBy (program f.typed.program) (plain_code c)) (sym same) (subst (λ q. IsHeadedBy q (plain_code code)) (sym typed) h)
+pub headed_verified : (p : Program) (code : Code) (o : Result Front Failure) → IsLoweredFrom p (plain_code code) → IfOk o (λ f. program f.typed.program ≡ p) → IfOk o (λ f. f.verified.code ≡ code) → IfOk o (λ f. IsLoweredFrom (program f.typed.program) (plain_code f.verified.code))
+headed_verified p code (Ok f) h typed same = subst (λ c. IsLoweredFrom (program f.typed.program) (plain_code c)) (sym same) (subst (λ q. IsLoweredFrom q (plain_code code)) (sym typed) h)
 headed_verified p code (Err f) h typed same = tt
 
-code_of_source : (source : List ℕ) (p : Program) (code : Code) → IsAccepted source p → IsHeadedBy p (plain_code code) → IsSound (S.plain code) → IsCodeOfSource source (plain_code code)
+code_of_source : (source : List ℕ) (p : Program) (code : Code) → IsAccepted source p → IsLoweredFrom p (plain_code code) → IsSound (S.plain code) → IsCodeOfSource source (plain_code code)
 code_of_source source p code accepted headed sound =
-    record { program = p; accepted = accepted; headed = headed; sound = subst IsSound (sym (view_same code)) sound }
+    record { program = p; accepted = accepted; lowered = headed; sound = subst IsSound (sym (view_same code)) sound }
 
-pub compiled_file : (source file : List ℕ) (p : Program) (code : Code) → IsAccepted source p → IsHeadedBy p (plain_code code) → IsSound (S.plain code) → CodeText file Second (plain_code code) → length file ≤ 16777216 → IsCompiledFile source file
+pub compiled_file : (source file : List ℕ) (p : Program) (code : Code) → IsAccepted source p → IsLoweredFrom p (plain_code code) → IsSound (S.plain code) → CodeText file Second (plain_code code) → length file ≤ 16777216 → IsCompiledFile source file
 compiled_file source file p code accepted headed sound spelt short =
     record { code = plain_code code; of' = code_of_source source p code accepted headed sound; spelt = spelt; short = short }
 
-pub uncompiled : (source : List ℕ) (p : Program) (code : Code) (f : Failure) → IsAccepted source p → IsHeadedBy p (plain_code code) → IsSound (S.plain code) → ((r : Refusal) → ◌≡◌ {A = Failure} f (F.Refused r) → IsUnspelt (plain_code code)) → IsRefusedBy (λ r. r ≡ bare E61) f → KeepsFromCompile source f
+pub uncompiled : (source : List ℕ) (p : Program) (code : Code) (f : Failure) → IsAccepted source p → IsLoweredFrom p (plain_code code) → IsSound (S.plain code) → ((r : Refusal) → ◌≡◌ {A = Failure} f (F.Refused r) → IsUnspelt (plain_code code)) → IsRefusedBy (λ r. r ≡ bare E61) f → KeepsFromCompile source f
 uncompiled source p code (F.Refused r) accepted headed sound unspelt h =
     inr ((plain_code code, code_of_source source p code accepted headed sound, unspelt r refl), h)
 uncompiled source p code F.NoMemory accepted headed sound unspelt h = inl tt
@@ -54,3 +63,18 @@ uncompiled source p code f accepted headed sound unspelt h = absurd h
 -- a source of such a code breaks no rule
 pub uncompiled_ready : (source : List ℕ) → IsUncompiled source → IsReady source Lawful
 uncompiled_ready source h = record { program = h.1.program; accepted = h.1.accepted; has = tt }
+
+-- ---- the function that is run
+
+-- a code that was lowered and verified, and its function of a name
+pub entry_of : (source name : List ℕ) (p : Program) (code : Code) (o : Result Chosen Failure) → IsAccepted source p → IsLoweredFrom p (plain_code code) → IfOk o (λ r. r.checked.code ≡ code) → IfOk o (λ r. IsSound (S.plain r.checked.code)) → IfOk o (λ r. IsNamed name r.checked.code.functions.items r.entry) → IfOk o (IsEntryOf source name)
+entry_of source name p code (Ok r) h lowered same sound named = record { code = code_of_source source p r.checked.code h (subst (λ c. IsLoweredFrom p (plain_code c)) (sym same) lowered) sound; named = named }
+entry_of source name p code (Err f) h lowered same sound named = tt
+
+pub sound_kept : (code : Code) (o : Result Chosen Failure) → IsSound (S.plain code) → IfOk o (λ r. r.checked.code ≡ code) → IfOk o (λ r. IsSound (S.plain r.checked.code))
+sound_kept code (Ok r) sound same = subst (λ c. IsSound (S.plain c)) (sym same) sound
+sound_kept code (Err f) sound same = tt
+
+pub named_one : (name : List ℕ) (fs : List Function) (o : Option ℕ) → 0 < length name → IfSome o (λ i. (f : Function) × (slice_get fs i ≡ Some f) × (f.name ≡ name)) → IfSome o (IsNamed name fs)
+named_one name fs None some h = tt
+named_one name fs (Some i) some h = record { some = some; function = h.0; there = h.1; named = h.2 }

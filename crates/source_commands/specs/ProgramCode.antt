@@ -1,26 +1,31 @@
 -- The code that `compile` stores of a source, as far as it is said. It is sound, and its types are those of the
 -- source's program. It has a function for each fip and fbip instance, in the order of their numbers: of the instance's
 -- kind, with its parameters, header credits and results, with as many registers as the groups tell, and with the
--- instance's name where this is a root. What its instructions do isn't said here.
+-- instance's name where this is a root. Its instructions are such as the instance is lowered to, so each of its runs
+-- ends as the source means.
 --
 -- Of the source
 --     fip fun rev(xs: list, acc: list): list { .. }
 --     fun dup(^xs: list): pair { .. }
 -- it has one function, which is fip, named rev, and has two parameters and one result; and
 -- `compile list.fip3 list.code` stores the second version's file of this code.
-use Rattle.std.specs.Prelude.{◌≡◌, ◌⊎◌, ◌≤◌, ℕ, List, map, length}
+use Rattle.std.specs.Prelude.{◌≡◌, ◌⊎◌, ◌<◌, ◌≤◌, ℕ, List, map, length, Some, slice_get}
 use Rattle.fip_language.specs.declared.limits.TheConstants.{MOST_FILE_BYTES}
 use Rattle.fip_language.specs.declared.rule.Rule.TheVariants.{E61}
 use Rattle.fip_trees.specs.declared.groups.Member.{Member}
 use Rattle.fip_trees.specs.Tree.{Program}
 use Rattle.tail_groups.specs.Members.{AreMembers}
+use Rattle.cell_code.specs.declared.code.Function.{Function}
+use Rattle.cell_code.specs.declared.code.Instr.{Instr}
 use Rattle.cell_lower.specs.Shape.{Header, headers}
 use Rattle.code_file.specs.CodeText.{CodeText}
-use Rattle.code_file.specs.Plain.{PlainFunction, PlainCode}
+use Rattle.code_file.specs.Plain.{PlainFunction, PlainCode, plain_code}
 use Rattle.code_file.specs.declared.tags.Version.TheVariants.{Second}
+use Rattle.lowered_code.specs.Functions.{AreLowered}
 use Rattle.sound_code.specs.Breaks.{IsSound}
 use Rattle.source_report.specs.Report.{bare, IsAccepted}
 use Rattle.source_commands.specs.Codes.{sound_view, IsUnspelt}
+use Rattle.source_commands.specs.Entries.{Chosen}
 use Rattle.source_commands.specs.Wanted.{Lawful, IsRefusedBy, KeepsFromVerified}
 use Rattle.command_outcome.specs.declared.failure.Failure.{Failure}
 
@@ -32,19 +37,36 @@ plain_header f = record {
   registers = f.registers;
 }
 
--- The code's types are the program's, and its functions are headed as the program's instances tell.
-pub record IsHeadedBy (p : Program) (code : PlainCode) : Type 0 where
+abbrev pub instrs_of : PlainFunction → List Instr
+instrs_of f = f.instrs
+
+-- The code's types are the program's, its functions are headed as the program's instances tell, and their instructions
+-- are lowered from these.
+pub record IsLoweredFrom (p : Program) (code : PlainCode) : Type 0 where
   pub types : code.types ≡ p.types
   pub members : List Member
   pub found : AreMembers p.instances members
   pub functions : map plain_header code.functions ≡ headers members p.instances
+  pub lowered : AreLowered p (map instrs_of code.functions)
+
+-- function n has this name, which isn't empty
+pub record IsNamed (name : List ℕ) (functions : List Function) (n : ℕ) : Type 0 where
+  pub some : 0 < length name
+  pub function : Function
+  pub there : slice_get functions n ≡ Some function
+  pub named : function.name ≡ name
 
 -- a code that is made of this source, which breaks no rule
 pub record IsCodeOfSource (source : List ℕ) (code : PlainCode) : Type 0 where
   pub program : Program
   pub accepted : IsAccepted source program
-  pub headed : IsHeadedBy program code
+  pub lowered : IsLoweredFrom program code
   pub sound : IsSound (sound_view code)
+
+-- What is run by this name: such a code, and its function of this name, which isn't empty.
+pub record IsEntryOf (source name : List ℕ) (r : Chosen) : Type 0 where
+  pub code : IsCodeOfSource source (plain_code r.checked.code)
+  pub named : IsNamed name r.checked.code.functions.items r.entry
 
 -- The file is that of the second version of such a code.
 pub record IsCompiledFile (source file : List ℕ) : Type 0 where
@@ -53,8 +75,9 @@ pub record IsCompiledFile (source file : List ℕ) : Type 0 where
   pub spelt : CodeText file Second code
   pub short : length file ≤ MOST_FILE_BYTES
 
--- No file of the second version that isn't too long spells some such code. As nothing bounds its instructions here, a
--- source with a function may have one: that `compile` spells its code isn't said yet.
+-- No file of the second version that isn't too long spells some such code. As nothing bounds how many instructions
+-- stand beside those that are asked for, a source with a function may have one: that `compile` spells its code isn't
+-- said yet.
 abbrev pub IsUncompiled : List ℕ → Type 0
 IsUncompiled source = (code : PlainCode) × IsCodeOfSource source code × IsUnspelt code
 

@@ -3,6 +3,9 @@ ghost use Rattle.std.specs.Prelude.{◌≡◌, ◌<◌, ℕ, List, IfOk, IfErr, 
 ghost use Rattle.std.specs.Prelude.{length};
 ghost use Rattle.std.specs.Prelude.{◌⊎◌, true, map, slice_get, bytes_eq, if◌then◌else◌};
 ghost use Rattle.fip_language.specs.declared.rule.Rule.TheVariants.{E70};
+ghost use Rattle.cell_code.specs.declared.code.Function.{Function as a_function};
+ghost use Rattle.code_file.specs.Plain.{plain_code};
+ghost use Rattle.sound_code.specs.Breaks.{IsSound};
 ghost use Rattle.sound_code.specs.Codes.{plain, plain_function};
 ghost use Rattle.command_outcome.specs.declared.failure.Failure.TheVariants.{NoMemory};
 ghost use Rattle.source_commands.specs.Codes.{HasFunction, KeepsFromRun, has_named, names_one};
@@ -11,6 +14,7 @@ ghost use Rattle.fip_trees.specs.TreeView as V;
 ghost use Rattle.fip_trees.specs.declared.program.Instance.{Instance as an_instance};
 ghost use Rattle.source_report.specs.Report.{IsAccepted};
 ghost use Rattle.source_commands.specs.Entries.{IsRootedIn};
+ghost use Rattle.source_commands.specs.ProgramCode.{IsLoweredFrom, IsEntryOf, IsNamed};
 ghost use Rattle.source_commands.specs.Roots as R;
 ghost use Rattle.source_commands.specs.Wanted.{Root, Compiled, MissesRoot, MissesCode, IsRoot, IsCompiled, IsReady};
 ghost use Rattle.source_commands.specs.Wanted.{IsRefusedBy, IsUnsound, KeepsFrom, KeepsFromVerified, of_entry};
@@ -164,6 +168,7 @@ fn first_named(functions: &[Function], name: &[u8]) -> Option<usize>
     ensures within { IfSome result (λ f. f < length functions.now) }
     ensures named { MatchOption result (has_named name.now (map plain_function functions.now) ≡ false)
         (λ f. has_named name.now (map plain_function functions.now) ≡ true) }
+    ensures is { IfSome result (λ i. (f : a_function) × (slice_get functions.now i ≡ Some f) × (f.name ≡ name.now)) }
 {
     for (number, function) in functions.iter().enumerate() {
         if is_named(function, name) {
@@ -178,6 +183,7 @@ fn function_named(functions: &[Function], name: &[u8]) -> Option<usize>
     ensures within { IfSome result (λ f. f < length functions.now) }
     ensures named { MatchOption result (names_one name.now (map plain_function functions.now) ≡ false)
         (λ f. names_one name.now (map plain_function functions.now) ≡ true) }
+    ensures is { IfSome result (IsNamed name.now functions.now) }
 {
     if name.is_empty() {
         return None;
@@ -207,6 +213,8 @@ fn ask_compiled(alloc: Global, instances: &[Instance], entry: &str) -> Result<()
 // The function of a root's name. That a code that was lowered has it is a test alone: else it is told as unsound, at
 // the function that would stand behind its last one.
 fn chosen(verified: Verified, entry: &str) -> Result<Ready, Failure>
+    ensures same { IfOk result (λ r. r.checked.code ≡ verified.code) }
+    ensures named { IfOk result (λ r. IsNamed entry.now r.checked.code.functions.items r.entry) }
     ensures told { IfErr result IsUnsound }
     ensures stage { IfErr result IsOfSource }
 {
@@ -225,6 +233,9 @@ fn chosen(verified: Verified, entry: &str) -> Result<Ready, Failure>
 
 // A code that is verified, and the function of a root's name in it.
 fn verified_entry(alloc: Global, lowered: Lowered, entry: &str) -> Result<Ready, Failure>
+    ensures same { IfOk result (λ r. r.checked.code ≡ lowered.code) }
+    ensures sound { IfOk result (λ r. IsSound (plain r.checked.code)) }
+    ensures named { IfOk result (λ r. IsNamed entry.now r.checked.code.functions.items r.entry) }
     ensures told { IfErr result IsUnsound }
     ensures stage { IfErr result IsOfSource }
 {
@@ -238,6 +249,9 @@ fn verified_entry(alloc: Global, lowered: Lowered, entry: &str) -> Result<Ready,
 fn compiled(alloc: Global, lowered: Lowered, entry: &str) -> Result<Ready, Failure>
     ensures ready { (source : List ℕ) → IsAccepted source (V.program lowered.typed.program) →
         OnOk result (IsReady source (Compiled entry.now)) }
+    ensures code { (source : List ℕ) → IsAccepted source (V.program lowered.typed.program) →
+        IsLoweredFrom (V.program lowered.typed.program) (plain_code lowered.code) →
+        IfOk result (IsEntryOf source entry.now) }
     ensures kept { (source : List ℕ) → IsAccepted source (V.program lowered.typed.program) →
         IfErr result (KeepsFromVerified source (Compiled entry.now)) }
     ensures stage { IfErr result IsOfSource }
@@ -252,6 +266,7 @@ fn compiled(alloc: Global, lowered: Lowered, entry: &str) -> Result<Ready, Failu
 /// where no root has the entry's name, E71 where the root is plain.
 pub fn exec_entry(alloc: Global, source: &[u8], entry: &str) -> Result<Ready, Failure>
     ensures ready { OnOk result (IsReady source.now (Compiled entry.now)) }
+    ensures code { IfOk result (IsEntryOf source.now entry.now) }
     ensures kept { IfErr result (KeepsFromVerified source.now (Compiled entry.now)) }
     ensures stage { IfErr result IsOfSource }
 {

@@ -4,7 +4,7 @@ ghost use Rattle.code_file.specs.Plain.{plain_code};
 ghost use Rattle.sound_code.specs.Breaks.{IsSound};
 ghost use Rattle.sound_code.specs.Codes.{plain};
 ghost use Rattle.source_commands.specs.Codes.{IsSoundFile, IsLeastOf, KeepsFromCode};
-ghost use Rattle.source_commands.specs.ProgramCode.{IsHeadedBy};
+ghost use Rattle.source_commands.specs.ProgramCode.{IsLoweredFrom};
 ghost use Rattle.command_outcome.specs.Stages.{IsOfSource};
 ghost use Rattle.fip_trees.specs.TreeView as V;
 ghost use Rattle.credit_check.specs.Tallies.{all_needs};
@@ -72,7 +72,7 @@ pub(crate) fn lawful(alloc: Global, source: &[u8]) -> Result<Lowered, Failure>
     ensures needs { IfOk result (λ l. l.needs ≡
         all_needs (V.program l.typed.program) (V.program l.typed.program).instances) }
     ensures groups { IfOk result (λ l. AreMembers (V.program l.typed.program).instances l.groups) }
-    ensures code { IfOk result (λ l. IsHeadedBy (V.program l.typed.program) (plain_code l.code)) }
+    ensures code { IfOk result (λ l. IsLoweredFrom (V.program l.typed.program) (plain_code l.code)) }
     ensures kept { (w : Wanted) → IfErr result (KeepsFrom source.now w) }
     ensures stage { IfErr result IsOfSource }
 {
@@ -88,7 +88,7 @@ pub fn front(alloc: Global, source: &[u8]) -> Result<Front, Failure>
     ensures accepted { IfOk result (λ f. IsAccepted source.now (V.program f.typed.program)) }
     ensures groups { IfOk result (λ f. AreMembers (V.program f.typed.program).instances f.groups) }
     ensures sound { IfOk result (λ f. IsSound (plain f.verified.code)) }
-    ensures code { IfOk result (λ f. IsHeadedBy (V.program f.typed.program) (plain_code f.verified.code)) }
+    ensures code { IfOk result (λ f. IsLoweredFrom (V.program f.typed.program) (plain_code f.verified.code)) }
     ensures kept { IfErr result (KeepsFromVerified source.now Lawful) }
     ensures stage { IfErr result IsOfSource }
 {

@@ -4,6 +4,7 @@ use Rattle.source_commands.specs.Roots.{root_named}
 use Rattle.source_commands.specs.Wanted.{Compiled, IsCompiled}
 use Rattle.source_commands.proofs.Entries.{ready}
 use Rattle.source_commands.proofs.Told.{unsound_kept}
+use Rattle.source_commands.proofs.Compiling.{entry_of}
 use Rattle.source_commands.proofs.entry.compiled.Goals as goal
 
 pub returns-in-Ok-clause-ready : goal.returns-in-Ok-clause-ready
@@ -11,3 +12,6 @@ returns-in-Ok-clause-ready c = λ source accepted. ready source (Compiled c.args
 
 pub returns-in-Ok-clause-kept : goal.returns-in-Ok-clause-kept
 returns-in-Ok-clause-kept c = λ source accepted. unsound_kept source (Compiled c.args.entry.now) c.verified_entry.result (record { program = program c.args.lowered.typed.program; accepted = accepted; has = subst (λ ds. IsCompiled (root_named c.args.entry.now (instances ds))) c.as_slice.ensures.value c.in-Ok.ensures.compiled }) c.verified_entry.ensures.told
+
+pub returns-in-Ok-clause-code : goal.returns-in-Ok-clause-code
+returns-in-Ok-clause-code c = λ source accepted lowered. entry_of source c.args.entry.now (program c.args.lowered.typed.program) c.args.lowered.code c.verified_entry.result accepted lowered c.verified_entry.ensures.same c.verified_entry.ensures.sound c.verified_entry.ensures.named

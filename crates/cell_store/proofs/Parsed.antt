@@ -306,6 +306,14 @@ pub record Known (n : ℕ) (ws : List ℕ) (p : ℕ) : Type 0 where
 pub known : (n : ℕ) (ws : List ℕ) (p : ℕ) → Laid n ws → cell_at (parse n ws) p ≢ None → Known n ws p
 known n ws p l h = let t = there (cell_at (parse n ws) p) h in record { cell = t.0; is = t.1; found = found n ws p t.0 l t.1 }
 
+-- only cells are released
+pub released_there : (n : ℕ) (ws : List ℕ) (p : ℕ) → slice_get (flags n ws) p ≡ Some true → cell_at (parse n ws) p ≢ None
+released_there n [] p e = absurd (none-some true e)
+released_there zero (h ∷ ws) zero e = λ z. none-some (record { tag = h / 64; fields = take (size h) ws }) (sym z)
+released_there zero (h ∷ ws) (suc p) e = released_there (size h) ws p e
+released_there (suc n) (w ∷ ws) zero e = absurd cc
+released_there (suc n) (w ∷ ws) (suc p) e = released_there n ws p e
+
 -- a cell is released where its header is odd
 pub even : (h : ℕ) → Some (nat_eq (h % 2) 1) ≡ Some false → h % 2 ≡ 0
 even h e = let b = same_Some (nat_eq (h % 2) 1) false e in grind (arith, nat_tests)

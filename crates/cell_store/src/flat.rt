@@ -242,6 +242,9 @@ impl Flat {
         ensures left { result ≡ self.now.left }
         ensures few { length self.now.cells + self.now.left ≤ MOST_STORE_WORDS }
         ensures flags { length self.now.released ≡ length self.now.cells }
+        ensures sized { (p : ℕ) (c : Cell) → cell_at self.now.cells p ≡ Some c →
+            (0 < size_of c) × (size_of c ≤ MOST_FIELDS) }
+        ensures of_cells { (p : ℕ) → slice_get self.now.released p ≡ Some true → cell_at self.now.cells p ≢ None }
     {
         self.left
     }

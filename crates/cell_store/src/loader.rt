@@ -1,9 +1,9 @@
 // A store that takes cells.
-ghost use Rattle.std.specs.Prelude.{◌≡◌, ℕ, ◌+◌, ◌*◌, ◌<◌, ◌≤◌, ◌↔◌, [], ◌∷◌, ◌++◌, false, None, Some, Err, IfOk, OnOk};
-ghost use Rattle.std.specs.Prelude.{IsTrue, OnErr, length, replicate};
+ghost use Rattle.std.specs.Prelude.{◌≡◌, ◌≢◌, ℕ, ◌+◌, ◌<◌, ◌≤◌, ◌↔◌, [], true, None, Some, Err, IfOk, IsTrue, OnErr};
+ghost use Rattle.std.specs.Prelude.{length, slice_get};
 ghost use Rattle.fip_language.specs.declared.limits.TheConstants.{MOST_FIELDS, MOST_STORE_WORDS};
 ghost use Rattle.fip_language.specs.Store.{Cell};
-ghost use Rattle.cell_store.specs.Cells.{count_free};
+ghost use Rattle.cell_store.specs.Cells.{cell_at, size_of, count_free};
 ghost use Rattle.cell_store.specs.Made.{Loading, IsRetaken, IsAppended, loading};
 
 use crate::flat::Flat;
@@ -75,6 +75,9 @@ impl Loader {
         ensures left { result ≡ self.now.left }
         ensures few { length self.now.cells + self.now.left ≤ MOST_STORE_WORDS }
         ensures flags { length self.now.released ≡ length self.now.cells }
+        ensures sized { (p : ℕ) (c : Cell) → cell_at self.now.cells p ≡ Some c →
+            (0 < size_of c) × (size_of c ≤ MOST_FIELDS) }
+        ensures of_cells { (p : ℕ) → slice_get self.now.released p ≡ Some true → cell_at self.now.cells p ≢ None }
     {
         self.flat.left()
     }

@@ -21,7 +21,7 @@ use Rattle.code_rows.specs.Noting.{noted_unless, InKept, Answers}
 use Rattle.code_rows.proofs.Noted.{OrKept, answers_same, answers_noted}
 use Rattle.code_verify.specs.declared.walk.Waiting.{Waiting}
 use Rattle.code_verify.specs.declared.walk.DropType.{DropType}
-use Rattle.code_verify.specs.Checked.{ReleasesAt}
+use Rattle.code_verify.specs.Checked.{HasMachineInts, ReleasesAt}
 use Rattle.code_verify.specs.Releasing.{AreReleases}
 use Rattle.code_verify.specs.Steps.{call_to, waits_at, drops_at}
 use Rattle.code_verify.specs.Finding.{BreaksAlone, AreInOrder}
@@ -267,3 +267,7 @@ survey_releases c cs ws ds a = record { are = λ n i t. (there n i t, back n i t
 
 pub survey_flows : (c : PlainCode) (cs : List (Vec Call Global)) (ws : List (Vec Waiting Global)) (ds : List (Vec DropType Global)) → AreRowsBelow c (length c.functions) cs ws ds → (n : ℕ) → Flows c n
 survey_flows c cs ws ds a n f is = (a.rows n (slice_get_within c.functions n f is)).flows f is
+
+-- Each function of a sound code keeps S9, so what each writes was read.
+pub survey_literals : (c : PlainCode) (cs : List (Vec Call Global)) (ws : List (Vec Waiting Global)) (ds : List (Vec DropType Global)) → AreRowsBelow c (length c.functions) cs ws ds → ((n : ℕ) (f : PlainFunction) → function_at c n ≡ Some f → is_formed c f ≡ true) → HasMachineInts c
+survey_literals c cs ws ds a formed n i f x is at = (a.rows n (slice_get_within c.functions n f is)).literals f is (formed n f is) i x at

@@ -11,7 +11,7 @@ use Rattle.sound_code.specs.declared.rule.SoundRule.{SoundRule}
 use Rattle.sound_code.specs.declared.rule.SoundRule.TheVariants.{S0, S1, S2, S3, S4, S5, S6, S7, S8, S9}
 use Rattle.sound_code.specs.Codes.{PlainCode, PlainFunction, function_at}
 use Rattle.sound_code.specs.Headers.{is_formed}
-use Rattle.sound_code.specs.Flow.{is_as_asked, IsReachedAt}
+use Rattle.sound_code.specs.Flow.{is_as_asked, IsInstr, IsReachedAt}
 use Rattle.sound_code.specs.Calls.{Calls, CallsAt}
 use Rattle.sound_code.specs.Breaks.{digit, IsBefore}
 use Rattle.code_rows.specs.declared.least.Violation.{Violation}
@@ -22,8 +22,8 @@ use Rattle.code_verify.specs.declared.walk.DropType.{DropType}
 use Rattle.code_verify.specs.declared.walk.Found.{Found}
 use Rattle.code_verify.specs.Checked.{ReachedDrop, ReleasesAt}
 use Rattle.code_verify.specs.Steps.{call_to, waits_at, drops_at}
-use Rattle.code_verify.specs.Finding.{BreaksAlone, ReachedCall, BrokenBelow, AreInOrder, IsFound}
-use Rattle.code_verify.specs.Surveying.{BreaksOther, Flows, IsRow, IsFoundOf, row_at, AreRowsBelow, OtherBelow}
+use Rattle.code_verify.specs.Finding.{BreaksAlone, ReachedCall, BrokenBelow, AreInOrder, HasMachineIntsBelow, IsFound}
+use Rattle.code_verify.specs.Surveying.{BreaksOther, Flows, HasMachineIntsAt, IsRow, IsFoundOf, row_at, AreRowsBelow, OtherBelow}
 use Rattle.code_verify.proofs.InstrFacts.{in_nil}
 
 alone_within : (c : PlainCode) (f : PlainFunction) (i : ℕ) (r : SoundRule) → BreaksAlone c f i r → i < length f.instrs
@@ -52,8 +52,8 @@ at_call c n f i g w is a =
     let r : IsReachedAt c f i a.kinds a.instr = subst (λ h. IsReachedAt c h i a.kinds a.instr) e a.reached in
     (slice_get_within f.instrs i a.instr r.instr, record { kinds = a.kinds; instr = a.instr; reached = r; call = a.call; there = a.there })
 
-pub found_formed : (c : PlainCode) (n : ℕ) (f : PlainFunction) (r : Found) → function_at c n ≡ Some f → is_formed c f ≡ true → IsFound c n f (length f.instrs) r → IsFoundOf c n r
-found_formed c n f r is formed a = record {
+pub found_formed : (c : PlainCode) (n : ℕ) (f : PlainFunction) (r : Found) → function_at c n ≡ Some f → is_formed c f ≡ true → IsFound c n f (length f.instrs) r → HasMachineIntsBelow f (length f.instrs) → IsFoundOf c n r
+found_formed c n f r is formed a fit = record {
   least = answers_same (BrokenBelow c n f (length f.instrs)) (λ m i rule. (m ≡ n) × BreaksOther c n i rule) r.least.first (λ m i q p. (p.0, (f, is, inr (formed, p.2)))) back a.least;
   row = record {
     calls_are = λ g w. (λ m. calls_tell g w ((a.calls g w).0 m), λ q. (a.calls g w).1 (calls_from g w q));
@@ -61,6 +61,7 @@ found_formed c n f r is formed a = record {
     drops_are = λ i t. (λ m. (f, is, formed, ((a.drops i t).0 m).1), λ q. (a.drops i t).1 (drops_from i t q));
     in_order = a.in_order;
     flows = flows;
+    literals = literals;
   };
 }
   where
@@ -85,6 +86,11 @@ found_formed c n f r is formed a = record {
         let d : ReachedDrop c f i t = subst (λ h. ReachedDrop c h i t) (same_function c n q.0 f q.1 is) q.3 in
         (slice_get_within f.instrs i _ d.reached.instr, d)
 
+    literals : HasMachineIntsAt c n
+    literals g h k i x at =
+        let here : IsInstr f i x = subst (λ y. IsInstr y i x) (same_function c n g f h is) at in
+        fit i x (slice_get_within f.instrs i x here) here
+
     flows : Flows c n
     flows g h k i ks x q e z =
         let same : g ≡ f = same_function c n g f h is in
@@ -102,6 +108,7 @@ found_unformed c n f r is unformed l k w d = record {
     drops_are = λ i t. (λ m. absurd (in_nil (drops_at i t) (subst (In (drops_at i t)) d m)), λ q. absurd (never q.0 q.1 q.2));
     in_order = subst AreInOrder (sym d) (λ j q e h p s. absurd (none-some e s));
     flows = λ g h e. absurd (never g h e);
+    literals = λ g h e. absurd (never g h e);
   };
 }
   where

@@ -24,8 +24,8 @@ use Rattle.code_rows.proofs.Noted.{OrKept, answers_same, answers_noted}
 use Rattle.code_verify.specs.declared.walk.DropType.{DropType}
 use Rattle.code_verify.specs.declared.walk.Found.{Found}
 use Rattle.code_verify.specs.Steps.{here, known_kept, fits_next, asked, GoesFrom, GoesAfter, call_to, waits_at, drops_at, calls_of_instr, waiting_of_instr, drops_of_instr, TookKnown, TookUnknown, Took}
-use Rattle.code_verify.specs.Checked.{ReachedDrop}
-use Rattle.code_verify.specs.Finding.{BreaksAlone, ReachedCall, Coming, Knowing, BrokenBelow, AreInOrder, IsFound}
+use Rattle.code_verify.specs.Checked.{HasMachineInt, ReachedDrop}
+use Rattle.code_verify.specs.Finding.{BreaksAlone, ReachedCall, Coming, Knowing, BrokenBelow, AreInOrder, HasMachineIntsBelow, IsFound}
 use Rattle.code_verify.proofs.InstrFacts.{end_leaves, in_left, in_right, in_parts, in_nil, in_calls, calls_in, in_waiting, waiting_in, IsDropOf, in_drops, drops_in, drops_cases}
 use Rattle.code_verify.proofs.Breaking.{known_tells, unknown_tells, next_tells, known_finds, unknown_finds}
 
@@ -291,3 +291,15 @@ first_found c n f r l k w d = record {
   in_order = subst AreInOrder (sym d) (λ j q e f h p s. absurd (none-some e p));
   flows = λ j qs y h. absurd (omega (arith, h));
 }
+
+-- ---- ints that are written
+
+pub first_literals : (f : PlainFunction) → HasMachineIntsBelow f 0
+first_literals f i x h = absurd (omega (arith, h))
+
+pub next_literals : (f : PlainFunction) (i k : ℕ) (x : Instr) → suc i ≡ k → IsInstr f i x → HasMachineInt x → HasMachineIntsBelow f i → HasMachineIntsBelow f k
+next_literals f i k x next is fits below j y h at = by (below_or_at i j (omega (arith, next, h)))
+  where
+    by : (j < i) ⊎ (j ≡ i) → HasMachineInt y
+    by (inl l) = below j y l at
+    by (inr e) = subst HasMachineInt (same_instr f i x y is (subst (λ k. IsInstr f k y) e at)) fits

@@ -1,20 +1,32 @@
 -- What callers see of a code that was verified: the code, and for each function what it needs of the stack, where it is
--- fip; and which tree an instruction releases.
-use Rattle.std.specs.Prelude.{◌≡◌, ℕ, true, List, Option, Some, None, slice_get}
+-- fip; which tree an instruction releases; and that ints have 64 bits.
+use Rattle.std.specs.Prelude.{◌≡◌, ℕ, ℤ, true, List, Option, Some, None, slice_get, FitsSigned}
+use Rattle.std.specs.Int.{w64}
 use Rattle.fip_base.specs.declared.plain.Stack.{Stack}
 use Rattle.cell_code.specs.declared.code.Code.{Code}
 use Rattle.sound_code.specs.Codes.{PlainCode, PlainFunction, function_at}
 use Rattle.sound_code.specs.Headers.{is_formed}
 use Rattle.sound_code.specs.StackNumbers.{HasStack}
+use Rattle.cell_code.specs.declared.code.Instr.{Instr}
 use Rattle.cell_code.specs.declared.code.Instr.TheVariants as I
 use Rattle.cell_code.specs.declared.kind.Kind.{Kind}
 use Rattle.cell_code.specs.declared.kind.Kind.TheVariants.{Owned}
 use Rattle.sound_code.specs.Kinds.{at}
-use Rattle.sound_code.specs.Flow.{IsReachedAt}
+use Rattle.sound_code.specs.Flow.{IsInstr, IsReachedAt}
 
 pub record Checked : Type 0 where
   pub code : Code
   pub stacks : List (Option Stack)
+
+-- An int that the instruction writes has 64 bits.
+abbrev pub HasMachineInt : Instr → Type 0
+HasMachineInt x = (d : ℕ) (v : ℤ) → x ≡ I.Const d v → FitsSigned w64 v
+
+-- Each int that an instruction of the code writes has 64 bits, whether the instruction is reached or not: a code that
+-- is in memory has no Const 0 9223372036854775808.
+abbrev pub HasMachineInts : PlainCode → Type 0
+HasMachineInts c =
+    (n i : ℕ) (f : PlainFunction) (x : Instr) → function_at c n ≡ Some f → IsInstr f i x → HasMachineInt x
 
 -- Instruction i is reached, and releases a tree of type t.
 pub record ReachedDrop (c : PlainCode) (f : PlainFunction) (i t : ℕ) : Type 0 where

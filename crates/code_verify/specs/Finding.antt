@@ -9,14 +9,14 @@ use Rattle.sound_code.specs.declared.rule.SoundRule.{SoundRule}
 use Rattle.sound_code.specs.declared.rule.SoundRule.TheVariants.{S0, S1, S2, S3, S4, S5, S6, S7, S8, S9}
 use Rattle.sound_code.specs.Codes.{PlainCode, PlainFunction}
 use Rattle.sound_code.specs.Leaves.{Leaves}
-use Rattle.sound_code.specs.Flow.{is_as_asked, Comes, KnownAt, IsReachedAt}
+use Rattle.sound_code.specs.Flow.{is_as_asked, IsInstr, Comes, KnownAt, IsReachedAt}
 use Rattle.sound_code.specs.Endings.{is_end}
 use Rattle.sound_code.specs.Calls.{IsCall}
 use Rattle.sound_code.specs.Breaks.{BreaksWithin}
 use Rattle.code_rows.specs.Noting.{Answers}
 use Rattle.code_verify.specs.declared.walk.DropType.{DropType}
 use Rattle.code_verify.specs.declared.walk.Found.{Found}
-use Rattle.code_verify.specs.Checked.{ReachedDrop}
+use Rattle.code_verify.specs.Checked.{HasMachineInt, ReachedDrop}
 use Rattle.code_verify.specs.Steps.{call_to, waits_at, drops_at}
 
 -- A rule is broken that a function can be asked by itself: any but S8.
@@ -56,6 +56,10 @@ BrokenBelow c n f below m i rule = (m ≡ n) × (i < below) × BreaksAlone c f i
 abbrev pub AreInOrder : List DropType → Type 0
 AreInOrder ds =
     (j k : ℕ) (d e : DropType) → j < k → slice_get ds j ≡ Some d → slice_get ds k ≡ Some e → d.at < e.at
+
+-- Ints that instructions below a number write have 64 bits.
+abbrev pub HasMachineIntsBelow : PlainFunction → ℕ → Type 0
+HasMachineIntsBelow f below = (i : ℕ) (x : Instr) → i < below → IsInstr f i x → HasMachineInt x
 
 pub record IsFound (c : PlainCode) (n : ℕ) (f : PlainFunction) (below : ℕ) (r : Found) : Type 0 where
   pub least : Answers (BrokenBelow c n f below) r.least.first

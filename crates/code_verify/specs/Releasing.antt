@@ -12,7 +12,7 @@ use Rattle.sound_code.specs.Breaks.{IsSound}
 use Rattle.code_verify.specs.declared.walk.DropType.{DropType}
 use Rattle.code_verify.specs.Steps.{drops_at}
 use Rattle.code_verify.specs.Finding.{AreInOrder}
-use Rattle.code_verify.specs.Checked.{ReleasesAt, HaveStacks}
+use Rattle.code_verify.specs.Checked.{HasMachineInts, ReleasesAt, HaveStacks}
 use Rattle.code_verify.specs.Surveying.{row_at}
 
 -- for each function the types at its Drops, in order
@@ -26,6 +26,7 @@ AreShort fs = (n : ℕ) (g : Function) → slice_get fs n ≡ Some g → length 
 
 pub record IsVerified (code : Code) (stacks : List (Option Stack)) (drops : List (Vec DropType Global)) : Type 0 where
   pub sound : IsSound (plain code)
+  pub literals : HasMachineInts (plain code)
   pub runnable : IsRunnable code.functions.items stacks
   pub stacks_are : HaveStacks (plain code) stacks
   pub releases : AreReleases (plain code) drops

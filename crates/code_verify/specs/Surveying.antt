@@ -15,7 +15,7 @@ use Rattle.sound_code.specs.Codes.{PlainCode, PlainFunction, function_at, is_fip
 use Rattle.sound_code.specs.Limits.{frame_words}
 use Rattle.sound_code.specs.Headers.{is_formed}
 use Rattle.sound_code.specs.Leaves.{Leaves}
-use Rattle.sound_code.specs.Flow.{is_as_asked, IsReachedAt}
+use Rattle.sound_code.specs.Flow.{is_as_asked, IsInstr, IsReachedAt}
 use Rattle.sound_code.specs.Endings.{is_end}
 use Rattle.sound_code.specs.Calls.{Calls, CallsAt}
 use Rattle.sound_code.specs.Breaks.{BreaksGroup}
@@ -26,7 +26,7 @@ use Rattle.code_verify.specs.declared.walk.DropType.{DropType}
 use Rattle.code_verify.specs.declared.walk.Found.{Found}
 use Rattle.code_verify.specs.Steps.{call_to, waits_at, drops_at}
 use Rattle.code_verify.specs.Finding.{BreaksAlone, AreInOrder}
-use Rattle.code_verify.specs.Checked.{ReleasesAt}
+use Rattle.code_verify.specs.Checked.{HasMachineInt, ReleasesAt}
 
 -- S9 alone, or the rules but S8 that function n breaks
 abbrev pub BreaksOther : PlainCode → ℕ → ℕ → SoundRule → Type 0
@@ -44,6 +44,12 @@ Flows c n =
     (f : PlainFunction) → function_at c n ≡ Some f → is_formed c f ≡ true → (i : ℕ) (ks : List Kind) (x : Instr) →
     IsReachedAt c f i ks x → is_as_asked c f i ks x ≡ true → is_end x ≡ false → (left : List Kind) × Leaves c ks x left
 
+-- Each int that function n writes has 64 bits, where the function keeps S9.
+abbrev pub HasMachineIntsAt : PlainCode → ℕ → Type 0
+HasMachineIntsAt c n =
+    (f : PlainFunction) → function_at c n ≡ Some f → is_formed c f ≡ true → (i : ℕ) (x : Instr) → IsInstr f i x →
+    HasMachineInt x
+
 -- what is found of function n
 pub record IsRow (c : PlainCode) (n : ℕ) (calls : List Call) (waiting : List Waiting) (drops : List DropType)
     : Type 0 where
@@ -52,6 +58,7 @@ pub record IsRow (c : PlainCode) (n : ℕ) (calls : List Call) (waiting : List W
   pub drops_are : (i t : ℕ) → (In (drops_at i t) drops ↔ ReleasesAt c n i t)
   pub in_order : AreInOrder drops
   pub flows : Flows c n
+  pub literals : HasMachineIntsAt c n
 
 pub record IsFoundOf (c : PlainCode) (n : ℕ) (r : Found) : Type 0 where
   pub least : Answers (λ m i rule. (m ≡ n) × BreaksOther c n i rule) r.least.first

@@ -1,17 +1,19 @@
 // A walk over a function's instructions.
-ghost use Rattle.std.specs.Prelude.{◌≡◌, ◌<◌, ◌++◌, [], slice_get, length, None, Some, IfOk, OnOk, true};
+ghost use Rattle.std.specs.Prelude.{◌≡◌, ◌<◌, ◌++◌, [], slice_get, length, None, Some, IfOk, OnOk, true, FitsSigned};
+ghost use Rattle.std.specs.Int.{w64};
 ghost use Rattle.sound_code.specs.Codes.{plain, plain_function, label_at};
 ghost use Rattle.sound_code.specs.Kinds.{at};
 ghost use Rattle.sound_code.specs.Ranges.{in_range};
 ghost use Rattle.sound_code.specs.Headers as headers;
 ghost use Rattle.sound_code.specs.Handing.{kept_if};
+ghost use Rattle.code_verify.specs.Checked.{HasMachineInt};
 ghost use Rattle.sound_code.specs.declared.rule.SoundRule.TheVariants.{S1};
 ghost use Rattle.code_rows.specs.Noting.{noted_unless};
 ghost use Rattle.code_rows.specs.Placing.{code_of, function_of};
 ghost use Rattle.code_verify.specs.Steps.{last_kept, fip_kept, asked, GoesAfter, here, Took};
 ghost use Rattle.code_verify.specs.Steps.{calls_of_instr, waiting_of_instr, drops_of_instr};
 ghost use Rattle.code_verify.specs.Steps.{call_if, waiting_if, drop_if};
-ghost use Rattle.code_verify.specs.Finding.{IsFound};
+ghost use Rattle.code_verify.specs.Finding.{IsFound, HasMachineIntsBelow};
 
 use call_groups::Call;
 use cell_code::{Code, Function, Instr};
@@ -59,6 +61,8 @@ pub fn walk<'a>(
     requires formed { headers.is_formed (plain code.now) (plain_function function.now) ≡ true }
     ensures found { IfOk result (λ r. IsFound (plain code.now) number (plain_function function.now)
         (length function.now.instrs.items) r) }
+    ensures literals { OnOk result (HasMachineIntsBelow (plain_function function.now)
+        (length function.now.instrs.items)) }
 {
     let labels = Labels::of(alloc, function)?;
     walk_over(alloc, code, table, function, &labels, number)
@@ -78,6 +82,8 @@ fn walk_over<'a>(
     requires labels { labels.now ≡ (plain_function function.now).labels }
     ensures found { IfOk result (λ r. IsFound (plain code.now) number (plain_function function.now)
         (length function.now.instrs.items) r) }
+    ensures literals { OnOk result (HasMachineIntsBelow (plain_function function.now)
+        (length function.now.instrs.items)) }
 {
     let mut registers = Registers::enter(alloc, table, function)?;
     let mut found = nothing(alloc);
@@ -103,12 +109,23 @@ fn walk_over<'a>(
     Ok(found)
 }
 
+// An instruction. An int that it writes has 64 bits by its type.
 fn instr_at(function: &Function, at: usize) -> &Instr
     requires within { at < length function.now.instrs.items }
     ensures is { slice_get function.now.instrs.items at ≡ Some result.now }
+    ensures literal { HasMachineInt result.now }
 {
-    &function.instrs[at]
+    let instr = &function.instrs[at];
+    if let Instr::Const { value, .. } = instr {
+        has_64_bits(*value);
+    }
+    instr
 }
+
+// For the proof of `instr_at` alone: an int has 64 bits.
+fn has_64_bits(value: i64)
+    ensures { FitsSigned w64 value }
+{}
 
 // Nothing was found.
 fn nothing(alloc: Global) -> Found

@@ -1,8 +1,8 @@
 use Rattle.std.proofs.Common.{subst}
 use Rattle.sound_code.specs.Codes.{plain}
 use Rattle.code_verify.specs.Releasing.{AreShort}
-use Rattle.code_verify.proofs.OwnCalls.{survey_releases, survey_flows}
-use Rattle.code_verify.proofs.Running.{runnable}
+use Rattle.code_verify.proofs.OwnCalls.{survey_releases, survey_flows, survey_literals}
+use Rattle.code_verify.proofs.Running.{runnable, formed_at}
 use Rattle.code_verify.proofs.accept.settle.Goals as goal
 
 pub new-requires : goal.new-requires
@@ -14,6 +14,9 @@ new-requires c =
     record {
       verified = record {
         sound = c.requires.sound;
+        literals =
+            survey_literals (plain code) s.calls.items s.waiting.items s.drops.items rows
+            (formed_at (plain code) c.requires.tables c.requires.sound);
         runnable =
             runnable code c.args.stacks.items c.requires.tables c.requires.sound c.requires.stacks
             (survey_flows (plain code) s.calls.items s.waiting.items s.drops.items rows) short;

@@ -2,8 +2,8 @@ use Rattle.std.proofs.Common.{◌≡◌, ◌∙◌, ◌+◌, length, subst, arit
 use Rattle.std.proofs.lemmas.Grind.{common_steps}
 use Rattle.sound_code.specs.Codes.{plain, plain_function}
 use Rattle.code_rows.specs.Placing.{code_in, with_maps}
-use Rattle.code_verify.specs.Finding.{IsFound}
-use Rattle.code_verify.proofs.Walking.{first_found}
+use Rattle.code_verify.specs.Finding.{IsFound, HasMachineIntsBelow}
+use Rattle.code_verify.proofs.Walking.{first_found, first_literals, next_literals}
 use Rattle.code_verify.proofs.Looping.{turn, code_same, function_same, entry_same}
 use Rattle.code_verify.proofs.walk.walk_over.Goals as goal
 
@@ -16,6 +16,7 @@ loop-at-init c =
       maps = c.in_ok-registers.ensures.maps;
       coming = c.in_ok-registers.ensures.kinds ∙ entry_same code c.args.table.now f c.requires.types;
       found = first_found (plain code) c.args.number f c.nothing-found.result nothing.least nothing.calls nothing.waiting nothing.drops;
+      literals = first_literals f;
     }
 
 pub loop-at-preserved : goal.loop-at-preserved
@@ -35,6 +36,7 @@ loop-at-preserved c =
       maps = c.in_ok-known.ensures.maps ∙ (c.enter-known.ensures.maps ∙ c.loop-at.invariant.maps);
       coming = turned.coming;
       found = turned.found;
+      literals = next_literals f at (at + 1) c.instr_at.result.now (omega arith) c.instr_at.ensures.is c.instr_at.ensures.literal c.loop-at.invariant.literals;
     }
 
 pub returns : goal.returns
@@ -44,4 +46,5 @@ returns c =
       found =
           subst (λ n. IsFound (plain c.args.code.now) c.args.number (plain_function c.args.function.now) n c.loop-at.found) all
           c.loop-at.invariant.found;
+      literals = subst (HasMachineIntsBelow (plain_function c.args.function.now)) all c.loop-at.invariant.literals;
     }

@@ -8,6 +8,7 @@ use Rattle.cell_code.specs.Runnable.{IsRunnable}
 use Rattle.cell_code.specs.declared.code.Code.{Code}
 use Rattle.cell_code.specs.declared.code.Function.{Function}
 use Rattle.sound_code.specs.Codes.{PlainCode, plain}
+use Rattle.sound_code.specs.Tables.{AreSoundTables}
 use Rattle.sound_code.specs.Breaks.{IsSound}
 use Rattle.code_verify.specs.declared.walk.DropType.{DropType}
 use Rattle.code_verify.specs.Steps.{drops_at}
@@ -25,6 +26,7 @@ abbrev pub AreShort : List Function → Type 0
 AreShort fs = (n : ℕ) (g : Function) → slice_get fs n ≡ Some g → length g.instrs.items < 4294967296
 
 pub record IsVerified (code : Code) (stacks : List (Option Stack)) (drops : List (Vec DropType Global)) : Type 0 where
+  pub tables : AreSoundTables (plain code)
   pub sound : IsSound (plain code)
   pub literals : HasMachineInts (plain code)
   pub runnable : IsRunnable code.functions.items stacks

@@ -24,7 +24,7 @@ use fip_base::plain::{NoMemory, Stack};
 use fip_language::limits::FRAME_WORDS;
 use register_kinds::Table;
 use sound_code::SoundRule;
-use std::alloc::{AllocError, AllocFailed, Global};
+use std::alloc::Global;
 use thiserror::Error;
 
 /// Why a code isn't accepted.
@@ -40,24 +40,6 @@ pub enum VerifyError {
     /// No memory was left.
     #[error("no memory is left")]
     NoMemory,
-}
-
-impl From<NoMemory> for VerifyError {
-    fn from(_: NoMemory) -> VerifyError {
-        VerifyError::NoMemory
-    }
-}
-
-impl From<AllocError> for VerifyError {
-    fn from(_: AllocError) -> VerifyError {
-        VerifyError::NoMemory
-    }
-}
-
-impl<T: Drop> From<AllocFailed<T>> for VerifyError {
-    fn from(_: AllocFailed<T>) -> VerifyError {
-        VerifyError::NoMemory
-    }
 }
 
 /// Accepts a code exactly where it is sound. It takes memory in proportion to the code, and no stack. It takes time in

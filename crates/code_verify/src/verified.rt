@@ -5,6 +5,7 @@ ghost use Rattle.cell_code.specs.Runnable.{IsRunnable};
 ghost use Rattle.sound_code.specs.Breaks.{IsSound};
 ghost use Rattle.sound_code.specs.Codes.{plain};
 ghost use Rattle.sound_code.specs.StackNumbers.{HasStack};
+ghost use Rattle.sound_code.specs.Tables.{AreSoundTables};
 ghost use Rattle.code_verify.specs.Checked.{HasMachineInts, ReleasesAt, stack_at};
 ghost use Rattle.code_verify.specs.Surveying.{row_at};
 ghost use Rattle.code_verify.specs.Finding.{AreInOrder};
@@ -54,6 +55,7 @@ impl Verified {
     #[inline(always)]
     pub fn code(&self) -> &Code
         ensures same { result.now ≡ self.now.code }
+        ensures tables { AreSoundTables (plain self.now.code) }
         ensures sound { IsSound (plain self.now.code) }
         ensures literals { HasMachineInts (plain self.now.code) }
         ensures runnable { IsRunnable self.now.code.functions.items self.now.stacks }

@@ -13,6 +13,7 @@ new-requires c =
     let short = subst AreShort c.deref.ensures.value (c.are_short.ensures c.if-not-are_short.false) in
     record {
       verified = record {
+        tables = c.requires.tables;
         sound = c.requires.sound;
         literals =
             survey_literals (plain code) s.calls.items s.waiting.items s.drops.items rows

@@ -10,16 +10,16 @@ use Rattle.fip_language.specs.Store.{Cell, Placed, PlacedInt, Bare, At, Parts, N
 use Rattle.cell_store.specs.Cells.{Cells, size_of}
 use Rattle.cell_store.specs.Made.{Loading}
 use Rattle.cell_store.proofs.Freed.{one_size}
-use Rattle.value_text.specs.Machine.{start, join, snoc}
+use Rattle.value_text.specs.Machine.{join, snoc, Alone}
 use Rattle.value_text.specs.Scan.{runs}
 use Rattle.value_text.specs.declared.read.Event.{Event}
 use Rattle.value_text.specs.declared.read.Event.TheVariants as E
-use Rattle.value_text.specs.Reading.{Outline, IsKnown, Spot, state_at, outline_at, spot_of, Moves, Stepped, IsNarrow, IsReading}
+use Rattle.value_text.specs.Reading.{Outline, IsKnown, Spot, Before, state_at, outline_at, spot_of, GoesOn, Origin, whole, alone, Moves, Stepped, IsNarrow, IsReading}
 use Rattle.value_text.specs.Counting.{values_to}
 use Rattle.value_text.specs.Loaded.{words_up_to, free_in}
 use Rattle.value_text.specs.Standing.{Holds, HoldAll}
 use Rattle.value_text.specs.Building.{Puts, CanPut, IsTaken, IsBuilt, IsBuilding, IsRead, HasRoom}
-use Rattle.value_text.proofs.Counted.{Grows, values_grow, cells_grow, count_join, reading_starts, no_values, values_last, cells_fit}
+use Rattle.value_text.proofs.Counted.{Grows, values_grow, cells_grow, count_join, reading_starts, alone_starts, reading_on, no_values, values_last, cells_fit}
 use Rattle.value_text.proofs.Taken.{Made, made, taken_on, room_for, hold_all_on, one_here, words_same}
 
 -- trees in a row
@@ -208,8 +208,8 @@ can_put want first now vs vs' ws E.Comma h g n f w = tt
 can_put want first now vs vs' ws E.Line h g n f w = tt
 
 -- the builder begins, goes on and ends
-pub building_starts : (tb : Table) (types bytes : List ℕ) (want : ℕ → ℕ) (first now : Loading) (o : Outline) (at : ℕ) (ws : List ℕ) (vs : Values) → AreTypes tb types → at ≡ 0 → o ≡ outline_at (spot_of types) → now ≡ first → ws ≡ [] → IsRead tb types bytes want first vs → IsBuilding tb types bytes want first now o at ws
-building_starts tb types bytes want first now o at ws vs t z e n w r = subst (λ at. IsBuilding tb types bytes want first now o at ws) (sym z) (record {
+pub building_starts : (tb : Table) (types bytes : List ℕ) (want : ℕ → ℕ) (first now : Loading) (o : Outline) (at : ℕ) (ws : List ℕ) (vs : Values) → AreTypes tb types → at ≡ 0 → o ≡ outline_at (spot_of types) → now ≡ first → ws ≡ [] → IsRead tb (whole types) bytes want first vs → IsBuilding tb (whole types) bytes want first now o at ws
+building_starts tb types bytes want first now o at ws vs t z e n w r = subst (λ at. IsBuilding tb (whole types) bytes want first now o at ws) (sym z) (record {
   spot = spot_of types;
   reading = reading_starts tb types bytes o t e;
   built = record {
@@ -221,10 +221,23 @@ building_starts tb types bytes want first now o at ws vs t z e n w r = subst (λ
   };
 })
 
-module _ (tb : Table) (sound : IsSoundTable tb) (types bytes : List ℕ) (want : ℕ → ℕ) (first now : Loading) (o o' : Outline) (at at' : ℕ) (ws : List ℕ) (vs : Values) (h : IsBuilding tb types bytes want first now o at ws) (r : IsRead tb types bytes want first vs) where
-  module _ (e : Event) (step : (s : Spot) → o ≡ outline_at s → Stepped tb bytes s at (Ok (Some e)) o' at') (known : IsKnown tb o') (narrow : IsNarrow e) where
+pub alone_builds : (tb : Table) (k at n : ℕ) (bytes : List ℕ) (want : ℕ → ℕ) (first now : Loading) (o : Outline) (ws : List ℕ) (vs : Values) → k ≤ length tb → at ≤ length bytes → o ≡ outline_at (spot_of (k ∷ [])) → now ≡ first → ws ≡ [] → IsRead tb (alone k at n) bytes want first vs → IsBuilding tb (alone k at n) bytes want first now o at ws
+alone_builds tb k at n bytes want first now o ws vs t l e m w r = record {
+  spot = Before k (Alone n);
+  reading = alone_starts tb k at n bytes o t l e;
+  built = record {
+    trees = NoParts;
+    values = refl;
+    words = w;
+    held = tt;
+    taken = taken_starts want (λ k. 0) (λ p. 0) first now m r.flags (λ k. refl) (λ q. refl);
+  };
+}
+
+module _ (tb : Table) (sound : IsSoundTable tb) (from : Origin) (bytes : List ℕ) (want : ℕ → ℕ) (first now : Loading) (o o' : Outline) (at at' : ℕ) (ws : List ℕ) (vs : Values) (h : IsBuilding tb from bytes want first now o at ws) (r : IsRead tb from bytes want first vs) where
+  module _ (go : GoesOn h.spot) (e : Event) (step : (s : Spot) → GoesOn s → o ≡ outline_at s → Stepped tb bytes s at (Ok (Some e)) o' at') (known : IsKnown tb o') (narrow : IsNarrow e) where
     abbrev moved : (s' : Spot) × Moves e h.spot s' × (o' ≡ outline_at s') × (runs tb bytes (state_at h.spot) at ≡ runs tb bytes (state_at s') at')
-    moved = step h.spot (h.reading).outline
+    moved = step h.spot go (h.reading).outline
 
     grown : Grows e (values_to h.spot) (values_to moved.0)
     grown = values_grow e h.spot moved.0 moved.1
@@ -238,34 +251,34 @@ module _ (tb : Table) (sound : IsSoundTable tb) (types bytes : List ℕ) (want :
     pub building_room : words_up_to 16 want (free_in first) ≤ first.left → CanPut e ws now
     building_room fits = can_put want first now (values_to h.spot) (values_to moved.0) ws e h.built grown narrow fits in_want
 
-    pub building_on : (new : Loading) (ws' : List ℕ) → at' ≤ length bytes → Puts e ws now ws' new → IsBuilding tb types bytes want first new o' at' ws'
+    pub building_on : (new : Loading) (ws' : List ℕ) → at' ≤ length bytes → Puts e ws now ws' new → IsBuilding tb from bytes want first new o' at' ws'
     building_on new ws' within u = record {
       spot = moved.0;
-      reading = record { outline = moved.2; reads = sym moved.3 ∙ (h.reading).reads; known = known; within = within };
+      reading = reading_on tb from bytes o o' at at' e h.spot moved.0 h.reading moved.1 moved.2 moved.3 known within;
       built = built_on want first now new (values_to h.spot) (values_to moved.0) ws ws' e h.built grown u narrow in_want;
     }
 
   accepted_same : (a b : Values) → Accepted a ≡ Accepted b → a ≡ b
   accepted_same a b e = cc
 
-  pub building_ends : ((s : Spot) → o ≡ outline_at s → Stepped tb bytes s at (Ok None) o' at') → IsBuilt want first now vs ws
-  building_ends step =
-      let m = step h.spot (h.reading).outline in
+  pub building_ends : GoesOn h.spot → ((s : Spot) → GoesOn s → o ≡ outline_at s → Stepped tb bytes s at (Ok None) o' at') → IsBuilt want first now vs ws
+  building_ends go step =
+      let m = step h.spot go (h.reading).outline in
       let same : m.0 ≡ vs = accepted_same m.0 vs (sym m.2 ∙ (h.reading).reads ∙ r.reads) in
       subst (λ vs. IsBuilt want first now vs ws) (values_last h.spot m.0 m.1 ∙ same) h.built
 
 -- a text of which all was read so far, whatever it is of
-pub reading_goes : (tb : Table) (types bytes : List ℕ) (o o' : Outline) (at at' : ℕ) (e : Event) → (s : Spot) × IsReading tb types bytes o at s → ((s : Spot) → o ≡ outline_at s → Stepped tb bytes s at (Ok (Some e)) o' at') → IsKnown tb o' → at' ≤ length bytes → (s : Spot) × IsReading tb types bytes o' at' s
-reading_goes tb types bytes o o' at at' e h step known within =
+pub reading_goes : (tb : Table) (from : Origin) (bytes : List ℕ) (o o' : Outline) (at at' : ℕ) (e : Event) → (h : (s : Spot) × IsReading tb from bytes o at s) → GoesOn h.0 → ((s : Spot) → GoesOn s → o ≡ outline_at s → Stepped tb bytes s at (Ok (Some e)) o' at') → IsKnown tb o' → at' ≤ length bytes → (s : Spot) × IsReading tb from bytes o' at' s
+reading_goes tb from bytes o o' at at' e h go step known within =
     let r = h.1 in
-    let m = step h.0 r.outline in
-    (m.0, record { outline = m.2; reads = sym m.3 ∙ r.reads; known = known; within = within })
+    let m = step h.0 go r.outline in
+    (m.0, reading_on tb from bytes o o' at at' e h.0 m.0 r m.1 m.2 m.3 known within)
 
-pub reading_ends : (tb : Table) (types bytes : List ℕ) (o o' : Outline) (at at' : ℕ) → (s : Spot) × IsReading tb types bytes o at s → ((s : Spot) → o ≡ outline_at s → Stepped tb bytes s at (Ok None) o' at') → (vs : Values) × (runs tb bytes (start types) 0 ≡ Accepted vs)
-reading_ends tb types bytes o o' at at' h step =
+pub reading_ends : (tb : Table) (from : Origin) (bytes : List ℕ) (o o' : Outline) (at at' : ℕ) → (h : (s : Spot) × IsReading tb from bytes o at s) → GoesOn h.0 → ((s : Spot) → GoesOn s → o ≡ outline_at s → Stepped tb bytes s at (Ok None) o' at') → (vs : Values) × (runs tb bytes from.state from.place ≡ Accepted vs)
+reading_ends tb from bytes o o' at at' h go step =
     let r = h.1 in
-    let m = step h.0 r.outline in
+    let m = step h.0 go r.outline in
     (m.0, sym r.reads ∙ m.2)
 
-pub is_read : (tb : Table) (types bytes : List ℕ) (want : ℕ → ℕ) (first : Loading) (vs : Values) → HasRoom tb types bytes want first vs → IsRead tb types bytes want first vs
-is_read tb types bytes want first vs r = record { reads = r.reads; wanted = r.wanted; flags = r.flags }
+pub is_read : (tb : Table) (from : Origin) (bytes : List ℕ) (want : ℕ → ℕ) (first : Loading) (vs : Values) → HasRoom tb from bytes want first vs → IsRead tb from bytes want first vs
+is_read tb from bytes want first vs r = record { reads = r.reads; wanted = r.wanted; flags = r.flags }

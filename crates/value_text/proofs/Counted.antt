@@ -7,7 +7,7 @@ use Rattle.fip_language.specs.Table.{Table}
 use Rattle.fip_language.specs.SoundTable.{AreTypes, IsSoundTable}
 use Rattle.fip_language.specs.Character.{Character, characters}
 use Rattle.fip_language.proofs.Prefix.{accepted}
-use Rattle.value_text.specs.Machine.{join, snoc, Around, Lines, Field, start, step, final}
+use Rattle.value_text.specs.Machine.{join, snoc, Around, Alone, Lines, Field, step, final}
 use Rattle.value_text.specs.Scan.{runs}
 use Rattle.value_text.proofs.Tables.{is_table, types_alive}
 use Rattle.value_text.proofs.Residual.{Ends, Completes, filled_gives, join-assoc}
@@ -16,7 +16,7 @@ use Rattle.value_text.specs.declared.counts.Counts.{Counts}
 use Rattle.value_text.specs.declared.read.Event.{Event}
 use Rattle.value_text.specs.declared.read.Event.TheVariants as E
 use Rattle.value_text.specs.declared.read.Refused.TheVariants.{BadValue}
-use Rattle.value_text.specs.Reading.{Outline, KnownRows, IsKnown, Spot, Before, Behind, Nowhere, state_at, rows_of, lines_of, outline_at, spot_of, Moves, IsLast, Stepped, cost_of, IsReading}
+use Rattle.value_text.specs.Reading.{Outline, KnownRows, IsKnown, Spot, Before, Behind, Nowhere, state_at, rows_of, lines_of, outline_at, spot_of, GoesOn, behind_at, Origin, whole, alone, Moves, IsLast, Stepped, cost_of, IsReading}
 use Rattle.value_text.specs.Counting.{closes, values_before, values_to, spent, spent_at, count_at, IsCounting}
 
 -- cells and words of values in a row
@@ -145,6 +145,7 @@ mutual
   cells_le_all k (More v vs) = let h = cells_le k v in let r = cells_le_all k vs in omega (arith, h, r)
 
 before_le : (k : ℕ) (a : Around) → cells_of_all k (values_before a) ≤ spent a
+before_le k (Alone n) = omega arith
 before_le k (Lines done rest) = cells_le_all k done
 before_le k (Field c done rest a) =
     let h = before_le k a in
@@ -161,44 +162,70 @@ cells_spent k (Behind a v) =
     omega (arith, h, j, r)
 cells_spent k Nowhere = omega arith
 
--- reading begins, goes on and stops
-pub reading_starts : (tb : Table) (types bytes : List ℕ) (o : Outline) → AreTypes tb types → o ≡ outline_at (spot_of types) → IsReading tb types bytes o 0 (spot_of types)
-reading_starts tb [] bytes o t e = record { outline = e; reads = refl; known = subst (IsKnown tb) (sym e) (record { next = tt; frames = tt; lines = tt }); within = omega arith }
-reading_starts tb (k ∷ ks) bytes o t e = record { outline = e; reads = refl; known = subst (IsKnown tb) (sym e) (record { next = t.0; frames = tt; lines = t.1 }); within = omega arith }
+-- an event keeps what stands behind
+pub moves_behind : (e : Event) (s s' : Spot) → Moves e s s' → behind_at s' ≡ behind_at s
+moves_behind (E.Number i) s s' m = ap behind_at m.2 ∙ sym (ap behind_at m.1)
+moves_behind (E.Bare c) s s' m = ap behind_at m.3 ∙ sym (ap behind_at m.2)
+moves_behind E.Opened s s' m = ap behind_at m.6 ∙ sym (ap behind_at m.5)
+moves_behind E.Comma s s' m = ap behind_at m.7 ∙ sym (ap behind_at m.6)
+moves_behind (E.Closed c n) s s' m = ap behind_at m.4 ∙ sym (ap behind_at m.3)
+moves_behind E.Line s s' m = ap behind_at m.5 ∙ sym (ap behind_at m.4)
 
-pub reading_stops : (tb : Table) (types bytes : List ℕ) (o o' : Outline) (at at' k : ℕ) (s : Spot) → IsReading tb types bytes o at s → ((s : Spot) → o ≡ outline_at s → Stepped tb bytes s at (Err (BadValue k)) o' at') → runs tb bytes (start types) 0 ≡ Stopped k
-reading_stops tb types bytes o o' at at' k s r step = sym r.reads ∙ step s r.outline
+-- lines are read to the end of the text
+pub lines_go : (s : Spot) → behind_at s ≡ None → GoesOn s
+lines_go (Before k a) e = tt
+lines_go (Behind (Alone n) v) e = cc
+lines_go (Behind (Lines done rest) v) e = tt
+lines_go (Behind (Field c done rest a) v) e = tt
+lines_go Nowhere e = tt
+
+-- reading begins, goes on and stops
+pub reading_starts : (tb : Table) (types bytes : List ℕ) (o : Outline) → AreTypes tb types → o ≡ outline_at (spot_of types) → IsReading tb (whole types) bytes o 0 (spot_of types)
+reading_starts tb [] bytes o t e = record { outline = e; behind = refl; reads = refl; known = subst (IsKnown tb) (sym e) (record { next = tt; frames = tt; lines = tt }); within = omega arith }
+reading_starts tb (k ∷ ks) bytes o t e = record { outline = e; behind = refl; reads = refl; known = subst (IsKnown tb) (sym e) (record { next = t.0; frames = tt; lines = t.1 }); within = omega arith }
+
+pub alone_starts : (tb : Table) (k at n : ℕ) (bytes : List ℕ) (o : Outline) → k ≤ length tb → at ≤ length bytes → o ≡ outline_at (spot_of (k ∷ [])) → IsReading tb (alone k at n) bytes o at (Before k (Alone n))
+alone_starts tb k at n bytes o t w e = record { outline = e; behind = refl; reads = refl; known = subst (IsKnown tb) (sym e) (record { next = t; frames = tt; lines = tt }); within = w }
+
+pub reading_on : (tb : Table) (from : Origin) (bytes : List ℕ) (o o' : Outline) (at at' : ℕ) (e : Event) (s s' : Spot) → IsReading tb from bytes o at s → Moves e s s' → o' ≡ outline_at s' → runs tb bytes (state_at s) at ≡ runs tb bytes (state_at s') at' → IsKnown tb o' → at' ≤ length bytes → IsReading tb from bytes o' at' s'
+reading_on tb from bytes o o' at at' e s s' r m q reads known within = record { outline = q; behind = moves_behind e s s' m ∙ r.behind; reads = sym reads ∙ r.reads; known = known; within = within }
+
+pub reading_stops : (tb : Table) (from : Origin) (bytes : List ℕ) (o o' : Outline) (at at' k : ℕ) (s : Spot) → IsReading tb from bytes o at s → GoesOn s → ((s : Spot) → GoesOn s → o ≡ outline_at s → Stepped tb bytes s at (Err (BadValue k)) o' at') → runs tb bytes from.state from.place ≡ Stopped k
+reading_stops tb from bytes o o' at at' k s r go step = sym r.reads ∙ step s go r.outline
 
 pub no_values : (types : List ℕ) → values_to (spot_of types) ≡ End
 no_values [] = refl
 no_values (k ∷ ks) = refl
 
-pub counting_starts : (tb : Table) (types bytes : List ℕ) (o : Outline) (at : ℕ) (counts : Counts) → at ≡ 0 → ((k : ℕ) → count_at counts k ≡ 0) → AreTypes tb types → o ≡ outline_at (spot_of types) → IsCounting tb types bytes o at counts
-counting_starts tb types bytes o at counts z n t e = subst (λ at. IsCounting tb types bytes o at counts) (sym z) (record { spot = spot_of types; reading = reading_starts tb types bytes o t e; exact = λ k le. n k ∙ sym (ap (cells_of_all k) (no_values types)); few = nothing types }) where
+pub counting_starts : (tb : Table) (types bytes : List ℕ) (o : Outline) (at : ℕ) (counts : Counts) → at ≡ 0 → ((k : ℕ) → count_at counts k ≡ 0) → AreTypes tb types → o ≡ outline_at (spot_of types) → IsCounting tb (whole types) bytes o at counts
+counting_starts tb types bytes o at counts z n t e = subst (λ at. IsCounting tb (whole types) bytes o at counts) (sym z) (record { spot = spot_of types; reading = reading_starts tb types bytes o t e; exact = λ k le. n k ∙ sym (ap (cells_of_all k) (no_values types)); few = nothing types }) where
   nothing : (types : List ℕ) → spent_at (spot_of types) ≤ 0
   nothing [] = omega arith
   nothing (k ∷ ks) = omega arith
 
-pub counting_few : (tb : Table) (types bytes : List ℕ) (o : Outline) (at : ℕ) (counts : Counts) → IsCounting tb types bytes o at counts → (k : ℕ) → k ≤ 16 → count_at counts k ≤ at
-counting_few tb types bytes o at counts h k le = let a = h.exact k le in let b = cells_spent k h.spot in let c = h.few in omega (arith, a, b, c)
+pub counting_alone : (tb : Table) (k at n : ℕ) (bytes : List ℕ) (o : Outline) (counts : Counts) → ((j : ℕ) → count_at counts j ≡ 0) → k ≤ length tb → at ≤ length bytes → o ≡ outline_at (spot_of (k ∷ [])) → IsCounting tb (alone k at n) bytes o at counts
+counting_alone tb k at n bytes o counts z t w e = record { spot = Before k (Alone n); reading = alone_starts tb k at n bytes o t w e; exact = λ j le. z j; few = omega arith }
 
-pub counting_on : (tb : Table) (types bytes : List ℕ) (o o' : Outline) (at at' : ℕ) (counts counts' : Counts) (e : Event) → (h : IsCounting tb types bytes o at counts) → ((s : Spot) → o ≡ outline_at s → Stepped tb bytes s at (Ok (Some e)) o' at') → IsKnown tb o' → at + cost_of e ≤ at' → at' ≤ length bytes → ((k : ℕ) → k ≤ 16 → count_at counts' k ≡ count_at counts k + closes k e) → IsCounting tb types bytes o' at' counts'
-counting_on tb types bytes o o' at at' counts counts' e h step known far within more =
+pub counting_few : (tb : Table) (from : Origin) (bytes : List ℕ) (o : Outline) (at : ℕ) (counts : Counts) → IsCounting tb from bytes o at counts → (k : ℕ) → k ≤ 16 → count_at counts k ≤ at
+counting_few tb from bytes o at counts h k le = let a = h.exact k le in let b = cells_spent k h.spot in let c = h.few in omega (arith, a, b, c)
+
+pub counting_on : (tb : Table) (from : Origin) (bytes : List ℕ) (o o' : Outline) (at at' : ℕ) (counts counts' : Counts) (e : Event) → (h : IsCounting tb from bytes o at counts) → GoesOn h.spot → ((s : Spot) → GoesOn s → o ≡ outline_at s → Stepped tb bytes s at (Ok (Some e)) o' at') → IsKnown tb o' → at + cost_of e ≤ at' → at' ≤ length bytes → ((k : ℕ) → k ≤ 16 → count_at counts' k ≡ count_at counts k + closes k e) → IsCounting tb from bytes o' at' counts'
+counting_on tb from bytes o o' at at' counts counts' e h go step known far within more =
     let r = h.reading in
-    let m = step h.spot r.outline in
+    let m = step h.spot go r.outline in
     let fw = h.few in
     let sp = spent_moves e h.spot m.0 m.1 in
     record {
       spot = m.0;
-      reading = record { outline = m.2; reads = sym m.3 ∙ r.reads; known = known; within = within };
+      reading = reading_on tb from bytes o o' at at' e h.spot m.0 r m.1 m.2 m.3 known within;
       exact = λ k le. more k le ∙ ap (λ n. n + closes k e) (h.exact k le) ∙ sym (cells_grow e (values_to h.spot) (values_to m.0) (values_grow e h.spot m.0 m.1) k);
       few = omega (arith, far, fw, sp);
     }
 
-pub counting_ends : (tb : Table) (types bytes : List ℕ) (o o' : Outline) (at at' : ℕ) (counts : Counts) → (h : IsCounting tb types bytes o at counts) → ((s : Spot) → o ≡ outline_at s → Stepped tb bytes s at (Ok None) o' at') → (vs : Values) × (runs tb bytes (start types) 0 ≡ Accepted vs) × ((k : ℕ) → k ≤ 16 → count_at counts k ≡ cells_of_all k vs) × (words_needed_by_all vs ≤ length bytes)
-counting_ends tb types bytes o o' at at' counts h step =
+pub counting_ends : (tb : Table) (from : Origin) (bytes : List ℕ) (o o' : Outline) (at at' : ℕ) (counts : Counts) → (h : IsCounting tb from bytes o at counts) → GoesOn h.spot → ((s : Spot) → GoesOn s → o ≡ outline_at s → Stepped tb bytes s at (Ok None) o' at') → (vs : Values) × (runs tb bytes from.state from.place ≡ Accepted vs) × ((k : ℕ) → k ≤ 16 → count_at counts k ≡ cells_of_all k vs) × (words_needed_by_all vs ≤ length bytes)
+counting_ends tb from bytes o o' at at' counts h go step =
     let r = h.reading in
-    let m = step h.spot r.outline in
+    let m = step h.spot go r.outline in
     let sp = spent_last h.spot m.0 m.1 in
     let fw = h.few in
     let w = r.within in
@@ -206,6 +233,7 @@ counting_ends tb types bytes o o' at at' counts h step =
 
 -- what was read has no more cells than the whole text
 ends_fit : (k : ℕ) (tb : Table) (a : Around) (v : Value) (cs : List Character) (x : Values) → Ends tb a v cs x → cells_of_all k (values_before a) + cells k v ≤ cells_of_all k x
+ends_fit k tb (Alone n) v cs x h = let e = ap (cells_of_all k) h.1 in omega (arith, e)
 ends_fit k tb (Lines done rest) v cs x h = let n = cells_join k done (More v h.0) in let e = ap (cells_of_all k) h.2 in omega (arith, n, e)
 ends_fit k tb (Field c done rest a) v cs x h =
     let n = cells_join k done (More v h.0) in
@@ -214,6 +242,7 @@ ends_fit k tb (Field c done rest a) v cs x h =
     omega (arith, n, j, i)
 
 known_around : (tb : Table) → IsSoundTable tb → (a : Around) → KnownRows tb (rows_of a) → AreTypes tb (lines_of a) → GoodAround tb a
+known_around tb sound (Alone n) r l = tt
 known_around tb sound (Lines done rest) r l = types_alive tb sound rest l
 known_around tb sound (Field c done rest a) r l = let q = r.1 in (types_alive tb sound rest r.0, known_around tb sound a q.1 l)
 

@@ -1,6 +1,6 @@
 -- Each state can be completed, so the machine stops at the least place.
-use Rattle.std.proofs.Common.{◌≡◌, ℕ, zero, suc, ◌+◌, ◌*◌, ◌≤◌, List, [], ◌∷◌, ◌++◌, Option, Some, None, Bool, true, false, refl, sym, ap, ap₂, ◌∙◌, subst, arith}
-use Rattle.std.specs.Prelude.{nat_le, if◌then◌else◌}
+use Rattle.std.proofs.Common.{◌≡◌, ℕ, zero, suc, ◌+◌, ◌*◌, ◌≤◌, List, [], ◌∷◌, ◌++◌, length, Option, Some, None, Bool, true, false, refl, sym, ap, ap₂, ◌∙◌, subst, arith}
+use Rattle.std.specs.Prelude.{nat_le, replicate, if◌then◌else◌}
 use Rattle.std.proofs.lemmas.Bool.{leb-true, and_parts}
 use Rattle.std.proofs.lemmas.List.{map-append, append-nil}
 use Rattle.std.proofs.lemmas.Option.{same_Some, cond_some}
@@ -12,12 +12,13 @@ use Rattle.fip_language.specs.Table.{Shape, Table, shapes, HasType, HaveTypes}
 use Rattle.fip_language.specs.Character.{Character, Blank, Line, Open, Close, Comma, Minus, Digit, Letter, Other, character, characters}
 use Rattle.fip_language.specs.ValueText.{skip, number, after_number, bound, int_of, ValueText, FieldsText, LinesText, InputText, SpellsValues}
 use Rattle.fip_language.specs.PrintedText.{printed, printed_fields, printed_more, printed_lines}
-use Rattle.value_text.specs.Machine.{same_character, same_text, begins, lookup, join, snoc, Around, Lines, Field, State, Want, Naming, Signed, Number, Await, Over, filled, named, any_begins, is_sign, pass, naming, pass_named, in_name, numbered, act, over, over_named, final, start, step}
+use Rattle.value_text.specs.Machine.{same_character, same_text, begins, lookup, join, snoc, Around, Alone, Lines, Field, State, Want, Naming, Signed, Number, Await, Over, Past, filled, named, any_begins, is_sign, pass, naming, pass_named, in_name, numbered, act, over, over_named, final, start, step}
 use Rattle.value_text.proofs.Tables.{same_refl, same_is, name_chars_of, AreNameChars, IsName, AreNames, Alive, AllAlive, IsTable}
 use Rattle.value_text.proofs.Residual.{node_text, Ends, Completes, IsPass, InBound, filled_takes, filled_is_pass, named_takes, named_gives, named_is_pass, filled_gives, takes, gives}
 use Rattle.value_text.proofs.Reread.{IsBreak, value_reads, fields_read, more_read, fields_break, name_reads}
 
 abbrev pub GoodAround : Table → Around → Type 0
+GoodAround tb (Alone n) = Unit {0}
 GoodAround tb (Lines done rest) = Alive tb rest
 GoodAround tb (Field c done rest around) = Alive tb rest × GoodAround tb around
 
@@ -28,9 +29,11 @@ Good tb (Signed around) = GoodAround tb around
 Good tb (Number neg n around) = (n ≤ bound neg) × GoodAround tb around
 Good tb (Await sign next) = (is_sign sign sign ≡ true) × Good tb next
 Good tb (Over vs) = Unit {0}
+Good tb (Past n vs) = Unit {0}
 
 -- keeps
 pub good_filled : (tb : Table) (around : Around) (v : Value) → GoodAround tb around → Good tb (filled around v)
+good_filled tb (Alone n) v g = tt
 good_filled tb (Lines done []) v g = tt
 good_filled tb (Lines done (k ∷ ks)) v g = (refl, (g.0, g.1))
 good_filled tb (Field c done [] around) v g = (refl, good_filled tb around (Node c (snoc done v)) g.1)
@@ -64,6 +67,8 @@ pass_keeps tb (Await sign next) Other s' g e = sign_keeps tb sign next s' Other 
 pass_keeps tb (Over vs) Blank s' g e = subst (Good tb) (same_Some (Over vs) s' e) g
 pass_keeps tb (Over vs) Line s' g e = subst (Good tb) (same_Some (Over vs) s' e) g
 pass_keeps tb (Over vs) _ s' g e = cc
+pass_keeps tb (Past zero vs) c s' g e = cc
+pass_keeps tb (Past (suc n) vs) c s' g e = subst (Good tb) (same_Some (Past n vs) s' e) tt
 pass_keeps tb (Want k around) c s' g e = cc
 pass_keeps tb (Naming t front around) c s' g e = cc
 pass_keeps tb (Signed around) c s' g e = cc
@@ -131,6 +136,7 @@ keeps tb table (Signed around) c s' g e = signed_keeps tb around c s' g e
 keeps tb table (Number neg n around) c s' g e = number_keeps tb neg n around c s' g.1 e
 keeps tb table (Await sign next) c s' g e = pass_keeps tb (Await sign next) c s' g e
 keeps tb table (Over vs) c s' g e = pass_keeps tb (Over vs) c s' g e
+keeps tb table (Past n vs) c s' g e = pass_keeps tb (Past n vs) c s' g e
 
 -- alive
 pub values_of : (tb : Table) (ks : List ℕ) → Alive tb ks → (vs : Values) × HaveTypes tb ks vs
@@ -165,7 +171,20 @@ more_is_break tb [] vs rest = tt
 more_is_break tb (k ∷ ks) End rest = tt
 more_is_break tb (k ∷ ks) (More v vs) rest = tt
 
+-- so many characters, blanks
+abbrev blanks : ℕ → List ℕ
+blanks n = replicate n 32
+
+length_blanks : (n : ℕ) → length (characters (blanks n)) ≡ n
+length_blanks zero = refl
+length_blanks (suc n) = ap suc (length_blanks n)
+
+blanks_break : (n : ℕ) → IsBreak (characters (blanks n))
+blanks_break zero = tt
+blanks_break (suc n) = tt
+
 ends_alive : (tb : Table) (table : IsTable tb) (around : Around) (v : Value) → GoodAround tb around → AliveEnds tb around v
+ends_alive tb table (Alone n) v g = (blanks n, More v End, (length_blanks n, refl), blanks_break n)
 ends_alive tb table (Lines done rest) v g =
     let r = values_of tb rest g in
     (more_lines tb rest r.0, join done (More v r.0), (r.0, lines_read tb table rest r.0 r.1, refl), more_lines_break tb rest r.0)
@@ -267,11 +286,14 @@ alive tb table (Signed around) g =
 alive tb table (Number neg n around) g = number_alive tb table neg n around g.0 g.1
 alive tb table (Await sign next) g = await_alive tb sign next g.0 (alive tb table next g.1)
 alive tb table (Over vs) g = ([], vs, (tt, refl))
+alive tb table (Past n vs) g = (blanks n, vs, (length_blanks n, refl))
 
 -- ends
 pass_ends : (tb : Table) (s : State) (x : Values) → IsPass s → Completes tb s [] x → over s ≡ Some x
 pass_ends tb (Await sign next) x p h = let e = h.2 in cc
 pass_ends tb (Over vs) x p h = ap Some h.1
+pass_ends tb (Past zero vs) x p h = ap Some h.1
+pass_ends tb (Past (suc n) vs) x p h = let e = h.0 in absurd (omega (arith, e))
 pass_ends tb (Want k around) x p h = absurd p
 pass_ends tb (Naming t front around) x p h = absurd p
 pass_ends tb (Signed around) x p h = absurd p
@@ -279,6 +301,8 @@ pass_ends tb (Number neg n around) x p h = absurd p
 
 over_ends : (tb : Table) (s : State) (x : Values) → over s ≡ Some x → Completes tb s [] x
 over_ends tb (Over vs) x e = (tt, same_Some vs x e)
+over_ends tb (Past zero vs) x e = (refl, same_Some vs x e)
+over_ends tb (Past (suc n) vs) x e = cc
 over_ends tb (Await sign next) x e = cc
 over_ends tb (Want k around) x e = cc
 over_ends tb (Naming t front around) x e = cc
@@ -312,6 +336,7 @@ ends tb table (Signed around) x h = absurd h.2
 ends tb table (Number neg n around) x h = pass_ends tb (filled around (Int (int_of neg n))) x (filled_is_pass around (Int (int_of neg n))) (filled_takes tb around (Int (int_of neg n)) [] x h.1)
 ends tb table (Await sign next) x h = let e = h.2 in cc
 ends tb table (Over vs) x h = ap Some h.1
+ends tb table (Past n vs) x h = pass_ends tb (Past n vs) x tt h
 
 pub ended : (tb : Table) (s : State) (x : Values) → Good tb s → final tb s ≡ Some x → Completes tb s [] x
 ended tb (Want zero around) x g e = cc
@@ -323,6 +348,7 @@ ended tb (Signed around) x g e = cc
 ended tb (Number neg n around) x g e = (g.0, filled_gives tb around (Int (int_of neg n)) [] x (over_ends tb (filled around (Int (int_of neg n))) x e))
 ended tb (Await sign next) x g e = cc
 ended tb (Over vs) x g e = (tt, same_Some vs x e)
+ended tb (Past n vs) x g e = over_ends tb (Past n vs) x e
 
 in_bound : (tb : Table) (s : State) → Good tb s → InBound s
 in_bound tb (Number neg n around) g = g.0
@@ -331,6 +357,7 @@ in_bound tb (Naming t front around) g = tt
 in_bound tb (Signed around) g = tt
 in_bound tb (Await sign next) g = tt
 in_bound tb (Over vs) g = tt
+in_bound tb (Past n vs) g = tt
 
 abbrev pub Reads : Table → State → List ℕ → Values → Type 0
 Reads tb s bs x = Completes tb s (characters bs) x

@@ -18,3 +18,4 @@ pub mod Fields
 pub mod Printing
 pub mod Printed
 pub mod Results
+pub mod OneValue

@@ -1,5 +1,5 @@
 -- What may follow in each state, and that the machine takes just that.
-use Rattle.std.proofs.Common.{◌≡◌, ℕ, zero, suc, ◌+◌, ◌*◌, ◌≤◌, List, [], ◌∷◌, ◌++◌, Option, Some, None, Bool, true, false, refl, sym, ap, ◌∙◌, subst, append_assoc, arith}
+use Rattle.std.proofs.Common.{◌≡◌, ℕ, zero, suc, ◌+◌, ◌*◌, ◌≤◌, List, [], ◌∷◌, ◌++◌, length, Option, Some, None, Bool, true, false, refl, sym, ap, ◌∙◌, subst, append_assoc, arith}
 use Rattle.std.specs.Prelude.{slice_get, nat_le, if◌then◌else◌}
 use Rattle.std.proofs.lemmas.Bool.{le-leb}
 use Rattle.std.proofs.lemmas.List.{append-nil}
@@ -8,12 +8,13 @@ use Rattle.fip_language.specs.Values.{Value, Int, Node, Values, End, More}
 use Rattle.fip_language.specs.Table.{Shape, Table, shapes}
 use Rattle.fip_language.specs.Character.{Character, Blank, Line, Open, Close, Comma, Minus, Digit, Letter, Other, characters}
 use Rattle.fip_language.specs.ValueText.{skip, name_of, after_name, number, after_number, bound, int_of, Digits, ValueText, FieldsText, MoreText, AllBlank, LinesText}
-use Rattle.value_text.specs.Machine.{lookup, join, snoc, Around, Lines, Field, State, Want, Naming, Signed, Number, Await, Over, filled, named, any_begins, is_sign, pass, naming, pass_named, in_name, numbered, act}
+use Rattle.value_text.specs.Machine.{lookup, join, snoc, Around, Alone, Lines, Field, State, Want, Naming, Signed, Number, Await, Over, Past, filled, named, any_begins, is_sign, pass, naming, pass_named, in_name, numbered, act}
 use Rattle.value_text.proofs.Tables.{found_shape, IsTable}
 use Rattle.value_text.proofs.Text.{guarded, lookup_begins, number_grows, is_sign_same}
 
 -- what may follow a value
 abbrev pub Ends : Table → Around → Value → List Character → Values → Type 0
+Ends tb (Alone n) v cs x = (length cs ≡ n) × (More v End ≡ x)
 Ends tb (Lines done rest) v cs x = (vs : Values) × LinesText tb rest cs vs × (join done (More v vs) ≡ x)
 Ends tb (Field c done rest around) v cs x = (vs : Values) × (after : List Character) × MoreText tb rest cs vs after × Ends tb around (Node c (join done (More v vs))) after x
 
@@ -25,6 +26,7 @@ Completes tb (Signed around) cs x = (i : _) × (rest : List Character) × Digits
 Completes tb (Number neg n around) cs x = (number n cs ≤ bound neg) × Ends tb around (Int (int_of neg (number n cs))) (after_number cs) x
 Completes tb (Await sign next) cs x = (is_sign sign sign ≡ true) × (rest : List Character) × (skip cs ≡ sign ∷ rest) × Completes tb next rest x
 Completes tb (Over vs) cs x = AllBlank cs × (vs ≡ x)
+Completes tb (Past n vs) cs x = (length cs ≡ n) × (vs ≡ x)
 
 pub join-assoc : (xs ys zs : Values) → join (join xs ys) zs ≡ join xs (join ys zs)
 join-assoc End ys zs = refl
@@ -48,12 +50,14 @@ next_field tb c done around v k ks End cs after x h e = absurd h
 next_field tb c done around v k ks (More w vs) cs after x h e = (refl, h.0, h.2, (w, h.1, h.3, (vs, after, h.4, subst (λ l. Ends tb around (Node c l) after x) (sym (join-assoc done (More v End) (More w vs))) e)))
 
 pub filled_takes : (tb : Table) (around : Around) (v : Value) (cs : List Character) (x : Values) → Ends tb around v cs x → Completes tb (filled around v) cs x
+filled_takes tb (Alone n) v cs x h = h
 filled_takes tb (Lines done []) v cs x h = last_line tb done v h.0 cs x h.1 h.2
 filled_takes tb (Lines done (k ∷ ks)) v cs x h = next_line tb done v k ks h.0 cs x h.1 h.2
 filled_takes tb (Field c done [] around) v cs x h = last_field tb c done around v h.0 cs h.1 x h.2 h.3 (filled_takes tb around (Node c (snoc done v)) h.1 x)
 filled_takes tb (Field c done (k ∷ ks) around) v cs x h = next_field tb c done around v k ks h.0 cs h.1 x h.2 h.3
 
 pub filled_gives : (tb : Table) (around : Around) (v : Value) (cs : List Character) (x : Values) → Completes tb (filled around v) cs x → Ends tb around v cs x
+filled_gives tb (Alone n) v cs x h = h
 filled_gives tb (Lines done []) v cs x h = (End, h.0, h.1)
 filled_gives tb (Lines done (k ∷ ks)) v cs x h =
     let w = h.3 in
@@ -83,9 +87,11 @@ named_gives tb c (k ∷ ks) around cs x h =
 abbrev pub IsPass : State → Type 0
 IsPass (Await sign next) = Unit {0}
 IsPass (Over vs) = Unit {0}
+IsPass (Past n vs) = Unit {0}
 IsPass _ = ⊥
 
 pub filled_is_pass : (around : Around) (v : Value) → IsPass (filled around v)
+filled_is_pass (Alone n) v = tt
 filled_is_pass (Lines done []) v = tt
 filled_is_pass (Lines done (k ∷ ks)) v = tt
 filled_is_pass (Field c done [] around) v = tt
@@ -117,6 +123,8 @@ pass_takes tb (Await sign next) Other cs x p h = await_takes tb sign next Other 
 pass_takes tb (Over vs) Blank cs x p h = (Over vs, refl, h)
 pass_takes tb (Over vs) Line cs x p h = (Over vs, refl, h)
 pass_takes tb (Over vs) _ cs x p h = absurd h.0
+pass_takes tb (Past zero vs) c cs x p h = let e = h.0 in absurd (omega (arith, e))
+pass_takes tb (Past (suc n) vs) c cs x p h = let e = h.0 in (Past n vs, refl, (omega (arith, e), h.1))
 pass_takes tb (Want k around) c cs x p h = absurd p
 pass_takes tb (Naming t front around) c cs x p h = absurd p
 pass_takes tb (Signed around) c cs x p h = absurd p
@@ -141,6 +149,8 @@ pass_gives tb (Await sign next) Other s' cs x e h = await_gives tb sign next Oth
 pass_gives tb (Over vs) Blank s' cs x e h = subst (λ s. Completes tb s cs x) (sym (same_Some (Over vs) s' e)) h
 pass_gives tb (Over vs) Line s' cs x e h = subst (λ s. Completes tb s cs x) (sym (same_Some (Over vs) s' e)) h
 pass_gives tb (Over vs) _ s' cs x e h = cc
+pass_gives tb (Past zero vs) c s' cs x e h = cc
+pass_gives tb (Past (suc n) vs) c s' cs x e h = let k = subst (λ s. Completes tb s cs x) (sym (same_Some (Past n vs) s' e)) h in (ap suc k.0, k.1)
 pass_gives tb (Want k around) c s' cs x e h = cc
 pass_gives tb (Naming t front around) c s' cs x e h = cc
 pass_gives tb (Signed around) c s' cs x e h = cc
@@ -293,6 +303,7 @@ takes tb table (Signed around) c cs x h = signed_takes tb around h.0 h.1 c cs x 
 takes tb table (Number neg n around) c cs x h = number_takes tb neg n around c cs x h
 takes tb table (Await sign next) c cs x h = pass_takes tb (Await sign next) c cs x tt h
 takes tb table (Over vs) c cs x h = pass_takes tb (Over vs) c cs x tt h
+takes tb table (Past n vs) c cs x h = pass_takes tb (Past n vs) c cs x tt h
 
 want_gives : (tb : Table) (t : ℕ) (around : Around) (c : Character) (s' : State) (cs : List Character) (x : Values) → act tb (Want (suc t) around) c ≡ Some s' → Completes tb s' cs x → Completes tb (Want (suc t) around) (c ∷ cs) x
 want_gives tb t around Blank s' cs x e k =
@@ -350,3 +361,4 @@ gives tb (Signed around) c s' cs x b e h = signed_gives tb around c s' cs x e h
 gives tb (Number neg n around) c s' cs x b e h = number_gives tb neg n around c s' cs x b e h
 gives tb (Await sign next) c s' cs x b e h = pass_gives tb (Await sign next) c s' cs x e h
 gives tb (Over vs) c s' cs x b e h = pass_gives tb (Over vs) c s' cs x e h
+gives tb (Past n vs) c s' cs x b e h = pass_gives tb (Past n vs) c s' cs x e h

@@ -6,6 +6,7 @@ use Rattle.fip_language.specs.Table.{Table}
 use Rattle.cell_store.specs.Made.{Loading}
 use Rattle.value_text.specs.declared.build.Stopped as B
 use Rattle.value_text.specs.declared.build.Stopped.TheVariants as S
+use Rattle.value_text.specs.Reading.{Origin}
 use Rattle.value_text.specs.Building.{IsMade, HasRoom, Built}
 use Rattle.value_text.specs.Answered.{AllBuilt}
 
@@ -20,10 +21,10 @@ credit_result size old new ws ws' w fs (Ok a) z m e = (m.0, e ∙ ap (λ w. ws +
 credit_result size old new ws ws' w fs (Err a) z m e = tt
 
 -- an event is put down, where there is room
-pub put_fails : (tb : Table) (types bytes : List ℕ) (first now : Loading) (e : B.Stopped) → ((k : ℕ) → e ≡ S.BadValue k → ⊥) → (e ≡ S.Full → (want : ℕ → ℕ) (vs : Values) → HasRoom tb types bytes want first vs → ⊥) → Built tb types bytes first now (Err e)
-put_fails tb types bytes first now (S.BadValue k) v f = absurd (v k refl)
-put_fails tb types bytes first now S.Full v f = λ want vs room. f refl want vs room
-put_fails tb types bytes first now S.NoMemory v f = tt
+pub put_fails : (tb : Table) (from : Origin) (bytes : List ℕ) (first now : Loading) (e : B.Stopped) → ((k : ℕ) → e ≡ S.BadValue k → ⊥) → (e ≡ S.Full → (want : ℕ → ℕ) (vs : Values) → HasRoom tb from bytes want first vs → ⊥) → Built tb from bytes first now (Err e)
+put_fails tb from bytes first now (S.BadValue k) v f = absurd (v k refl)
+put_fails tb from bytes first now S.Full v f = λ want vs room. f refl want vs room
+put_fails tb from bytes first now S.NoMemory v f = tt
 
 -- what was built is not refused
 pub never_value : (credits : List ℕ) (first now : Loading) (vs : Values) (e : B.Stopped) (k : ℕ) → AllBuilt credits first now vs (Err e) → e ≡ S.BadValue k → ⊥

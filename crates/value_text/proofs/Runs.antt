@@ -15,7 +15,7 @@ use Rattle.fip_language.specs.Values.{Value, Int, Values}
 use Rattle.fip_language.specs.Table.{Table}
 use Rattle.fip_language.specs.Character.{Character, Blank, Line, Open, Close, Comma, Minus, Digit, Letter, Other, is_blank, is_digit, is_letter, character, are_name_bytes}
 use Rattle.fip_language.specs.ValueText.{bound, int_of}
-use Rattle.value_text.specs.Machine.{Around, Lines, Field, State, Want, Signed, Number, Await, Over, filled, is_sign, pass, numbered, act, over, final, step}
+use Rattle.value_text.specs.Machine.{Around, Alone, Lines, Field, State, Want, Signed, Number, Await, Over, filled, is_sign, pass, numbered, act, over, final, step}
 use Rattle.value_text.specs.Scan.{runs, is_name_byte, before_digits}
 use Rattle.value_text.proofs.Tables.{character_is_digit, digit_small}
 
@@ -219,12 +219,14 @@ digit_stops tb bytes neg n around i lt e le =
     stops tb bytes (Number neg n around) i lt (ap (λ c. act tb (Number neg n around) c) (character_is_digit b e) ∙ ap (λ (t : Bool). if t then Some (Number neg (10 * n + (b - 48)) around) else None) le)
 
 pub pass_filled : (tb : Table) (around : Around) (v : Value) (c : Character) → pass (filled around v) c ≡ act tb (filled around v) c
+pass_filled tb (Alone n) v c = refl
 pass_filled tb (Lines done []) v c = refl
 pass_filled tb (Lines done (k ∷ ks)) v c = refl
 pass_filled tb (Field n done [] around) v c = refl
 pass_filled tb (Field n done (k ∷ ks) around) v c = refl
 
 pub over_filled : (tb : Table) (around : Around) (v : Value) → over (filled around v) ≡ final tb (filled around v)
+over_filled tb (Alone n) v = refl
 over_filled tb (Lines done []) v = refl
 over_filled tb (Lines done (k ∷ ks)) v = refl
 over_filled tb (Field n done [] around) v = refl

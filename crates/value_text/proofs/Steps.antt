@@ -1,5 +1,5 @@
 -- Each step of the reader, from spot to spot.
-use Rattle.std.proofs.Common.{◌≡◌, ℕ, zero, suc, ◌+◌, ◌<◌, ◌≤◌, List, [], ◌∷◌, ◌++◌, length, take, drop, get_or, Option, Some, None, refl, sym, ap, ap₂, ◌∙◌, arith}
+use Rattle.std.proofs.Common.{◌≡◌, ℕ, zero, suc, ◌+◌, ◌<◌, ◌≤◌, List, [], ◌∷◌, ◌++◌, length, length-append, take, drop, get_or, Option, Some, None, refl, sym, ap, ap₂, ◌∙◌, arith}
 use Rattle.std.specs.Prelude.{ℤ, slice_get, slice_set, Ok, Bool, true, false, ◌==◌}
 use Rattle.std.proofs.lemmas.Option.{none-some}
 use Rattle.std.proofs.lemmas.Bool.{eqb-true}
@@ -10,9 +10,9 @@ use Rattle.fip_language.specs.SoundTable.{AreTypes, IsSoundTable}
 use Rattle.fip_language.specs.Character.{Open, Close, Comma, Line}
 use Rattle.value_text.specs.declared.read.Frame.{Frame}
 use Rattle.value_text.specs.declared.read.Event.TheVariants as E
-use Rattle.value_text.specs.Machine.{snoc, Around, Lines, Field, State, Want, Await, Over, filled, named}
+use Rattle.value_text.specs.Machine.{snoc, Around, Alone, Lines, Field, State, Want, Await, Over, filled, named}
 use Rattle.value_text.specs.Scan.{runs}
-use Rattle.value_text.specs.Reading.{Pending, Outline, pending, pending_rows, Spot, Before, Behind, Nowhere, state_at, rows_of, lines_of, outline_at, spot_of, Stepped}
+use Rattle.value_text.specs.Reading.{Pending, Outline, pending, pending_rows, Spot, Before, Behind, Nowhere, state_at, rows_of, lines_of, outline_at, spot_of, GoesOn, Stepped}
 use Rattle.fip_base.specs.TableView.{fields_at}
 
 pub rows_push : (fs : List Frame) (f : Frame) → pending_rows (fs ++ f ∷ []) ≡ pending f ∷ pending_rows fs
@@ -98,6 +98,7 @@ open_bad tb bytes at mid ty c k p ks fields f r q a = r a ∙ ap (λ f. runs tb 
 -- behind the last field
 pub close_step : (tb : Table) (bytes : List ℕ) (at at' : ℕ) (o : Outline) (p : Pending) (s : Spot) → record o { frames = p ∷ o.frames } ≡ outline_at s → o.next ≡ None → p.rest ≡ [] → ((s : State) → runs tb bytes (Await Close s) at ≡ runs tb bytes s at') → Stepped tb bytes s at (Ok (Some (E.Closed p.c p.size))) o at'
 close_step tb bytes at at' o p (Before k a) e n f q = absurd (none-some k (sym n ∙ ap (λ (o : Outline). o.next) e))
+close_step tb bytes at at' o p (Behind (Alone m) v) e n f q = let z : (p ∷ o.frames) ≡ [] = ap (λ (o : Outline). o.frames) e in cc
 close_step tb bytes at at' o p (Behind (Lines done rest) v) e n f q = let z : (p ∷ o.frames) ≡ [] = ap (λ (o : Outline). o.frames) e in cc
 close_step tb bytes at at' o p (Behind (Field c done (k ∷ ks) a) v) e n f q =
     let z : (p ∷ o.frames) ≡ record { c = c; rest = k ∷ ks; size = suc (count_of done) + length (k ∷ ks) } ∷ rows_of a = ap (λ (o : Outline). o.frames) e in
@@ -119,6 +120,7 @@ close_step tb bytes at at' o p Nowhere e n f q = let z : (p ∷ o.frames) ≡ []
 -- behind another field
 pub comma_step : (tb : Table) (bytes : List ℕ) (at at' k : ℕ) (ks : List ℕ) (o : Outline) (p : Pending) (frames : List Pending) (s : Spot) → record o { frames = p ∷ o.frames } ≡ outline_at s → o.next ≡ None → p.rest ≡ k ∷ ks → frames ≡ record { c = p.c; rest = ks; size = p.size } ∷ o.frames → ((s : State) → runs tb bytes (Await Comma s) at ≡ runs tb bytes s at') → Stepped tb bytes s at (Ok (Some E.Comma)) (record { next = Some k; frames = frames; lines = o.lines }) at'
 comma_step tb bytes at at' k ks o p frames (Before j a) e n f fr q = absurd (none-some j (sym n ∙ ap (λ (o : Outline). o.next) e))
+comma_step tb bytes at at' k ks o p frames (Behind (Alone m) v) e n f fr q = let z : (p ∷ o.frames) ≡ [] = ap (λ (o : Outline). o.frames) e in cc
 comma_step tb bytes at at' k ks o p frames (Behind (Lines done rest) v) e n f fr q = let z : (p ∷ o.frames) ≡ [] = ap (λ (o : Outline). o.frames) e in cc
 comma_step tb bytes at at' k ks o p frames (Behind (Field c done [] a) v) e n f fr q =
     let z : (p ∷ o.frames) ≡ record { c = c; rest = []; size = suc (count_of done) + 0 } ∷ rows_of a = ap (λ (o : Outline). o.frames) e in
@@ -143,6 +145,7 @@ comma_step tb bytes at at' k ks o p frames Nowhere e n f fr q = let z : (p ∷ o
 -- a sign is missing behind a field
 pub field_bad : (tb : Table) (bytes : List ℕ) (at k : ℕ) (o : Outline) (p : Pending) (s : Spot) → record o { frames = p ∷ o.frames } ≡ outline_at s → o.next ≡ None → (p.rest ≡ [] → (s : State) → runs tb bytes (Await Close s) at ≡ Stopped k) → ((j : ℕ) (js : List ℕ) → p.rest ≡ j ∷ js → (s : State) → runs tb bytes (Await Comma s) at ≡ Stopped k) → runs tb bytes (state_at s) at ≡ Stopped k
 field_bad tb bytes at k o p (Before j a) e n f g = absurd (none-some j (sym n ∙ ap (λ (o : Outline). o.next) e))
+field_bad tb bytes at k o p (Behind (Alone m) v) e n f g = let z : (p ∷ o.frames) ≡ [] = ap (λ (o : Outline). o.frames) e in cc
 field_bad tb bytes at k o p (Behind (Lines done rest) v) e n f g = let z : (p ∷ o.frames) ≡ [] = ap (λ (o : Outline). o.frames) e in cc
 field_bad tb bytes at k o p (Behind (Field c done [] a) v) e n f g =
     let z : (p ∷ o.frames) ≡ record { c = c; rest = []; size = suc (count_of done) + 0 } ∷ rows_of a = ap (λ (o : Outline). o.frames) e in
@@ -158,6 +161,7 @@ field_bad tb bytes at k o p Nowhere e n f g = let z : (p ∷ o.frames) ≡ [] = 
 pub line_step : (tb : Table) (bytes : List ℕ) (at at' k : ℕ) (ks : List ℕ) (o : Outline) (lines : List ℕ) (s : Spot) → o ≡ outline_at s → o.next ≡ None → o.frames ≡ [] → o.lines ≡ k ∷ ks → ks ≡ lines → ((s : State) → runs tb bytes (Await Line s) at ≡ runs tb bytes s at') → Stepped tb bytes s at (Ok (Some E.Line)) (record { next = Some k; frames = o.frames; lines = lines }) at'
 line_step tb bytes at at' k ks o lines (Before j a) e n f l w q = absurd (none-some j (sym n ∙ ap (λ (o : Outline). o.next) e))
 line_step tb bytes at at' k ks o lines (Behind (Field c done rest a) v) e n f l w q = let z = sym f ∙ ap (λ (o : Outline). o.frames) e in cc
+line_step tb bytes at at' k ks o lines (Behind (Alone m) v) e n f l w q = let z = sym l ∙ ap (λ (o : Outline). o.lines) e in cc
 line_step tb bytes at at' k ks o lines (Behind (Lines done []) v) e n f l w q = let z = sym l ∙ ap (λ (o : Outline). o.lines) e in cc
 line_step tb bytes at at' k ks o lines (Behind (Lines done (j ∷ js)) v) e n f l w q =
     let z : k ∷ ks ≡ j ∷ js = sym l ∙ ap (λ (o : Outline). o.lines) e in
@@ -169,24 +173,27 @@ line_step tb bytes at at' k ks o lines Nowhere e n f l w q = let z = sym l ∙ a
 pub line_bad : (tb : Table) (bytes : List ℕ) (at k : ℕ) (o : Outline) (s : Spot) (p : ℕ) (ks : List ℕ) → o ≡ outline_at s → o.next ≡ None → o.frames ≡ [] → o.lines ≡ p ∷ ks → ((s : State) → runs tb bytes (Await Line s) at ≡ Stopped k) → runs tb bytes (state_at s) at ≡ Stopped k
 line_bad tb bytes at k o (Before j a) p ks e n f l q = absurd (none-some j (sym n ∙ ap (λ (o : Outline). o.next) e))
 line_bad tb bytes at k o (Behind (Field c done rest a) v) p ks e n f l q = let z = sym f ∙ ap (λ (o : Outline). o.frames) e in cc
+line_bad tb bytes at k o (Behind (Alone m) v) p ks e n f l q = let z = sym l ∙ ap (λ (o : Outline). o.lines) e in cc
 line_bad tb bytes at k o (Behind (Lines done []) v) p ks e n f l q = let z = sym l ∙ ap (λ (o : Outline). o.lines) e in cc
 line_bad tb bytes at k o (Behind (Lines done (j ∷ js)) v) p ks e n f l q = q (Want j (Lines (snoc done v) js))
 line_bad tb bytes at k o Nowhere p ks e n f l q = let z = sym l ∙ ap (λ (o : Outline). o.lines) e in cc
 
 -- the end
-pub end_step : (tb : Table) (bytes : List ℕ) (at at' : ℕ) (o o' : Outline) (s : Spot) → o ≡ outline_at s → o.next ≡ None → o.frames ≡ [] → o.lines ≡ [] → ((vs : Values) → runs tb bytes (Over vs) at ≡ Accepted vs) → Stepped tb bytes s at (Ok None) o' at'
-end_step tb bytes at at' o o' (Before j a) e n f l q = absurd (none-some j (sym n ∙ ap (λ (o : Outline). o.next) e))
-end_step tb bytes at at' o o' (Behind (Field c done rest a) v) e n f l q = let z = sym f ∙ ap (λ (o : Outline). o.frames) e in cc
-end_step tb bytes at at' o o' (Behind (Lines done []) v) e n f l q = (snoc done v, (done, refl, refl), q (snoc done v))
-end_step tb bytes at at' o o' (Behind (Lines done (j ∷ js)) v) e n f l q = let z = sym l ∙ ap (λ (o : Outline). o.lines) e in cc
-end_step tb bytes at at' o o' Nowhere e n f l q = (End, refl, q End)
+pub end_step : (tb : Table) (bytes : List ℕ) (at at' : ℕ) (o o' : Outline) (s : Spot) → GoesOn s → o ≡ outline_at s → o.next ≡ None → o.frames ≡ [] → o.lines ≡ [] → ((vs : Values) → runs tb bytes (Over vs) at ≡ Accepted vs) → Stepped tb bytes s at (Ok None) o' at'
+end_step tb bytes at at' o o' (Before j a) g e n f l q = absurd (none-some j (sym n ∙ ap (λ (o : Outline). o.next) e))
+end_step tb bytes at at' o o' (Behind (Alone m) v) g e n f l q = absurd g
+end_step tb bytes at at' o o' (Behind (Field c done rest a) v) g e n f l q = let z = sym f ∙ ap (λ (o : Outline). o.frames) e in cc
+end_step tb bytes at at' o o' (Behind (Lines done []) v) g e n f l q = (snoc done v, (done, refl, refl), q (snoc done v))
+end_step tb bytes at at' o o' (Behind (Lines done (j ∷ js)) v) g e n f l q = let z = sym l ∙ ap (λ (o : Outline). o.lines) e in cc
+end_step tb bytes at at' o o' Nowhere g e n f l q = (End, refl, q End)
 
-pub end_bad : (tb : Table) (bytes : List ℕ) (at k : ℕ) (o : Outline) (s : Spot) → o ≡ outline_at s → o.next ≡ None → o.frames ≡ [] → o.lines ≡ [] → ((vs : Values) → runs tb bytes (Over vs) at ≡ Stopped k) → runs tb bytes (state_at s) at ≡ Stopped k
-end_bad tb bytes at k o (Before j a) e n f l q = absurd (none-some j (sym n ∙ ap (λ (o : Outline). o.next) e))
-end_bad tb bytes at k o (Behind (Field c done rest a) v) e n f l q = let z = sym f ∙ ap (λ (o : Outline). o.frames) e in cc
-end_bad tb bytes at k o (Behind (Lines done []) v) e n f l q = q (snoc done v)
-end_bad tb bytes at k o (Behind (Lines done (j ∷ js)) v) e n f l q = let z = sym l ∙ ap (λ (o : Outline). o.lines) e in cc
-end_bad tb bytes at k o Nowhere e n f l q = q End
+pub end_bad : (tb : Table) (bytes : List ℕ) (at k : ℕ) (o : Outline) (s : Spot) → GoesOn s → o ≡ outline_at s → o.next ≡ None → o.frames ≡ [] → o.lines ≡ [] → ((vs : Values) → runs tb bytes (Over vs) at ≡ Stopped k) → runs tb bytes (state_at s) at ≡ Stopped k
+end_bad tb bytes at k o (Before j a) g e n f l q = absurd (none-some j (sym n ∙ ap (λ (o : Outline). o.next) e))
+end_bad tb bytes at k o (Behind (Alone m) v) g e n f l q = absurd g
+end_bad tb bytes at k o (Behind (Field c done rest a) v) g e n f l q = let z = sym f ∙ ap (λ (o : Outline). o.frames) e in cc
+end_bad tb bytes at k o (Behind (Lines done []) v) g e n f l q = q (snoc done v)
+end_bad tb bytes at k o (Behind (Lines done (j ∷ js)) v) g e n f l q = let z = sym l ∙ ap (λ (o : Outline). o.lines) e in cc
+end_bad tb bytes at k o Nowhere g e n f l q = q End
 
 -- the fields behind the first ones
 pub drop_next : (fs : List ℕ) (n k : ℕ) (ks : List ℕ) → drop n fs ≡ k ∷ ks → (n < length fs) × (drop (suc n) fs ≡ ks)
@@ -225,6 +232,14 @@ none_open n b e f = eqb-true n 0 (sym e ∙ f)
 pub some_open : (n : ℕ) (b : Bool) → b ≡ (n == 0) → b ≡ false → 0 < n
 some_open zero b e f = cc
 some_open (suc n) b e f = omega arith
+
+pub none_empty : (n : ℕ) (b : Bool) → b ≡ (n == 0) → n ≡ 0 → b ≡ true
+none_empty n b e z = e ∙ ap (λ n. n == 0) z
+
+pub no_open : (fs : List Frame) → pending_rows fs ≡ [] → length fs ≡ 0
+unfolding pending_rows
+no_open [] e = refl
+no_open (f ∷ fs) e = let n = ap length e in let a = length-append (pending_rows fs) (pending f ∷ []) in absurd (omega (arith, n, a))
 
 pub no_rows : (fs : List Frame) → length fs ≡ 0 → pending_rows fs ≡ []
 no_rows [] e = rows_empty

@@ -20,7 +20,7 @@ int_typed (Digit d ∷ cs) i rest h = digits_typed false (Digit d ∷ cs) i rest
 int_typed (_ ∷ cs) i rest h = absurd h
 
 mutual
-  value_typed : (tb : Table) (k : ℕ) (cs : List Character) (v : Value) (rest : List Character) → ValueText tb k cs v rest → HasType tb k v
+  pub value_typed : (tb : Table) (k : ℕ) (cs : List Character) (v : Value) (rest : List Character) → ValueText tb k cs v rest → HasType tb k v
   value_typed tb zero cs (Int i) rest h = int_typed (skip cs) i rest h
   value_typed tb zero cs (Node c vs) rest h = absurd h
   value_typed tb (suc t) cs (Int i) rest h = absurd h

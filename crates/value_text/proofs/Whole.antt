@@ -12,6 +12,7 @@ use Rattle.cell_store.specs.Cells.{Cells}
 use Rattle.cell_store.specs.Made.{Loading}
 use Rattle.value_text.specs.Machine.{start}
 use Rattle.value_text.specs.Scan.{runs}
+use Rattle.value_text.specs.Reading.{whole}
 use Rattle.value_text.specs.declared.build.Stopped as B
 use Rattle.value_text.specs.declared.build.Stopped.TheVariants as S
 use Rattle.value_text.specs.declared.counts.Counts.{Counts}
@@ -23,10 +24,10 @@ use Rattle.value_text.proofs.Taken.{words_zero, words_suc}
 use Rattle.value_text.proofs.Counted.{cells_le_all}
 use Rattle.value_text.proofs.Credits.{wanted_sum, counted_words}
 
-pub room_of : (tb : Table) (types credits bytes : List ℕ) (first : Loading) (vs : Values) → CanLoad tb types credits bytes first vs → HasRoom tb types bytes (wanted credits vs) first vs
+pub room_of : (tb : Table) (types credits bytes : List ℕ) (first : Loading) (vs : Values) → CanLoad tb types credits bytes first vs → HasRoom tb (whole types) bytes (wanted credits vs) first vs
 room_of tb types credits bytes first vs can = record { reads = can.reads; wanted = λ k. omega arith; fits = can.fits; flags = can.flags }
 
-pub read_of : (tb : Table) (types credits bytes : List ℕ) (first : Loading) (vs : Values) → runs tb bytes (start types) 0 ≡ Accepted vs → length first.released ≡ length first.cells → IsRead tb types bytes (wanted credits vs) first vs
+pub read_of : (tb : Table) (types credits bytes : List ℕ) (first : Loading) (vs : Values) → runs tb bytes (start types) 0 ≡ Accepted vs → length first.released ≡ length first.cells → IsRead tb (whole types) bytes (wanted credits vs) first vs
 read_of tb types credits bytes first vs reads flags = record { reads = reads; wanted = λ k. omega arith; flags = flags }
 
 pub accepted_same : (a b : Values) → Accepted a ≡ Accepted b → a ≡ b
@@ -42,7 +43,7 @@ credited_whole tb types credits bytes first now vs (Err (S.BadValue k)) reads h 
 credited_whole tb types credits bytes first now vs (Err S.Full) reads h = λ us can. h (subst (λ vs. needed first credits vs ≤ first.left) (same_values tb types bytes us vs can.reads reads) can.fits)
 credited_whole tb types credits bytes first now vs (Err S.NoMemory) reads h = tt
 
-pub not_whole : (tb : Table) (types credits bytes : List ℕ) (first now : Loading) (e : B.Stopped) → Built tb types bytes first now (Err e) → WholeBuilt tb types credits bytes first now (Err e)
+pub not_whole : (tb : Table) (types credits bytes : List ℕ) (first now : Loading) (e : B.Stopped) → Built tb (whole types) bytes first now (Err e) → WholeBuilt tb types credits bytes first now (Err e)
 not_whole tb types credits bytes first now (S.BadValue k) h = h
 not_whole tb types credits bytes first now S.Full h = λ vs can. h (wanted credits vs) vs (room_of tb types credits bytes first vs can)
 not_whole tb types credits bytes first now S.NoMemory h = tt

@@ -10,7 +10,6 @@ use Rattle.fip_language.specs.declared.limits.TheConstants.{MOST_FIELDS}
 use Rattle.fip_language.specs.Store.{Cell, Parts, int_word, values_of, words_of, count, uses_of_all}
 use Rattle.cell_store.specs.Cells.{cell_at, size_of}
 use Rattle.cell_store.specs.Made.{Loading, IsRetaken, IsAppended}
-use Rattle.value_text.specs.Machine.{start}
 use Rattle.value_text.specs.Scan.{runs}
 use Rattle.value_text.specs.declared.read.Event.{Event}
 use Rattle.value_text.specs.declared.read.Event.TheVariants.{Number, Bare, Closed}
@@ -20,7 +19,8 @@ use Rattle.value_text.specs.declared.build.Stopped.TheVariants as S
 use Rattle.value_text.specs.Loaded.{live, words_up_to, free_in, cell_words, wanted, AreZero}
 use Rattle.value_text.specs.declared.read.Refused.{Refused}
 use Rattle.value_text.specs.declared.read.Refused.TheVariants.{BadValue, NoMemory}
-use Rattle.value_text.specs.Reading.{Outline, Spot, state_at, outline_at, Stepped, IsKnown, IsNarrow, IsReading}
+use Rattle.value_text.specs.Reading.{Outline, Spot, state_at, outline_at, Stepped, IsKnown, IsNarrow, GoesOn}
+use Rattle.value_text.specs.Reading.{Origin, IsReading}
 use Rattle.value_text.specs.Standing.{HoldAll}
 
 -- A cell was made at place p: a released one where there is one of its size.
@@ -62,7 +62,7 @@ then_on (Err e) = Err e
 -- an event leads the reader from here to there
 pub record IsEvent (tb : Table) (bytes : List ℕ) (o : Outline) (at : ℕ) (o' : Outline) (at' : ℕ) (e : Event) :
     Type 0 where
-  pub steps : (s : Spot) → o ≡ outline_at s → Stepped tb bytes s at (Ok (Some e)) o' at'
+  pub steps : (s : Spot) → GoesOn s → o ≡ outline_at s → Stepped tb bytes s at (Ok (Some e)) o' at'
   pub known : IsKnown tb o'
   pub narrow : IsNarrow e
 
@@ -70,9 +70,9 @@ pub record IsEvent (tb : Table) (bytes : List ℕ) (o : Outline) (at : ℕ) (o' 
 abbrev pub Advanced : Table → List ℕ → Outline → ℕ → Outline → ℕ → List ℕ → Loading → List ℕ → Loading →
     Result Bool Stopped → Type 0
 Advanced tb bytes o at o' at' ws l ws' l' (Ok true) = (e : Event) × IsEvent tb bytes o at o' at' e × Puts e ws l ws' l'
-Advanced tb bytes o at o' at' ws l ws' l' (Ok false) = ((s : Spot) → o ≡ outline_at s →
+Advanced tb bytes o at o' at' ws l ws' l' (Ok false) = ((s : Spot) → GoesOn s → o ≡ outline_at s →
     Stepped tb bytes s at (Ok None) o' at') × (ws' ≡ ws) × (l' ≡ l)
-Advanced tb bytes o at o' at' ws l ws' l' (Err (S.BadValue k)) = (s : Spot) → o ≡ outline_at s →
+Advanced tb bytes o at o' at' ws l ws' l' (Err (S.BadValue k)) = (s : Spot) → GoesOn s → o ≡ outline_at s →
     runs tb bytes (state_at s) at ≡ Halted k
 Advanced tb bytes o at o' at' ws l ws' l' (Err S.Full) = (e : Event) × IsEvent tb bytes o at o' at' e
     × (CanPut e ws l → ⊥)
@@ -96,10 +96,10 @@ pub record IsBuilt (want : ℕ → ℕ) (first now : Loading) (vs : Values) (ws 
   pub taken : IsTaken want (λ k. cells_of_all k vs) (λ p. uses_of_all p trees) first now
 
 -- where the reader is, and what was built of the values before
-pub record IsBuilding (tb : Table) (types bytes : List ℕ) (want : ℕ → ℕ) (first now : Loading) (o : Outline) (at : ℕ)
-    (ws : List ℕ) : Type 0 where
+pub record IsBuilding (tb : Table) (from : Origin) (bytes : List ℕ) (want : ℕ → ℕ) (first now : Loading)
+    (o : Outline) (at : ℕ) (ws : List ℕ) : Type 0 where
   pub spot : Spot
-  pub reading : IsReading tb types bytes o at spot
+  pub reading : IsReading tb from bytes o at spot
   pub built : IsBuilt want first now (values_to spot) ws
 
 -- the values, and behind them the cells of so many credits
@@ -113,39 +113,41 @@ pub record IsCrediting (credits : List ℕ) (want : ℕ → ℕ) (first now : Lo
   pub zero : AreZero now.cells places credits
   pub taken : IsTaken want (wanted credits vs) (λ p. uses_of_all p trees + count p places) first now
 
--- the text is of these values, which are a part of what is wanted
-pub record IsRead (tb : Table) (types bytes : List ℕ) (want : ℕ → ℕ) (first : Loading) (vs : Values) : Type 0 where
-  pub reads : runs tb bytes (start types) 0 ≡ Accepted vs
+-- what is read is of these values, which are a part of what is wanted
+pub record IsRead (tb : Table) (from : Origin) (bytes : List ℕ) (want : ℕ → ℕ) (first : Loading) (vs : Values) :
+    Type 0 where
+  pub reads : runs tb bytes from.state from.place ≡ Accepted vs
   pub wanted : (k : ℕ) → cells_of_all k vs ≤ want k
   pub flags : length first.released ≡ length first.cells
 
 -- what is read so far, and what is built of it since the first store
-pub record IsGoing (tb : Table) (types bytes : List ℕ) (first : Loading) (o : Outline) (at : ℕ) (ws : List ℕ)
-    (now : Loading) : Type 0 where
+pub record IsGoing (tb : Table) (from : Origin) (bytes : List ℕ) (first : Loading) (o : Outline) (at : ℕ)
+    (ws : List ℕ) (now : Loading) : Type 0 where
   pub spot : Spot
-  pub reading : IsReading tb types bytes o at spot
-  pub building : (want : ℕ → ℕ) (vs : Values) → IsRead tb types bytes want first vs →
-      IsBuilding tb types bytes want first now o at ws
+  pub reading : IsReading tb from bytes o at spot
+  pub building : (want : ℕ → ℕ) (vs : Values) → IsRead tb from bytes want first vs →
+      IsBuilding tb from bytes want first now o at ws
 
 -- there is room for all that is wanted, of which the values are a part
-pub record HasRoom (tb : Table) (types bytes : List ℕ) (want : ℕ → ℕ) (first : Loading) (vs : Values) : Type 0 where
-  pub reads : runs tb bytes (start types) 0 ≡ Accepted vs
+pub record HasRoom (tb : Table) (from : Origin) (bytes : List ℕ) (want : ℕ → ℕ) (first : Loading) (vs : Values) :
+    Type 0 where
+  pub reads : runs tb bytes from.state from.place ≡ Accepted vs
   pub wanted : (k : ℕ) → cells_of_all k vs ≤ want k
   pub fits : words_up_to MOST_FIELDS want (free_in first) ≤ first.left
   pub flags : length first.released ≡ length first.cells
 
--- what the builder of a whole text gives
-abbrev pub Built : Table → List ℕ → List ℕ → Loading → Loading → Result (Vec ℕ Global) Stopped → Type 0
-Built tb types bytes first now (Ok ws) = (vs : Values) × (runs tb bytes (start types) 0 ≡ Accepted vs)
-    × ((want : ℕ → ℕ) → IsRead tb types bytes want first vs → IsBuilt want first now vs ws.items)
-Built tb types bytes first now (Err (S.BadValue k)) = runs tb bytes (start types) 0 ≡ Halted k
-Built tb types bytes first now (Err S.Full) = (want : ℕ → ℕ) → (vs : Values) →
-    HasRoom tb types bytes want first vs → ⊥
-Built tb types bytes first now (Err S.NoMemory) = Unit {0}
+-- what the builder gives of all that is read
+abbrev pub Built : Table → Origin → List ℕ → Loading → Loading → Result (Vec ℕ Global) Stopped → Type 0
+Built tb from bytes first now (Ok ws) = (vs : Values) × (runs tb bytes from.state from.place ≡ Accepted vs)
+    × ((want : ℕ → ℕ) → IsRead tb from bytes want first vs → IsBuilt want first now vs ws.items)
+Built tb from bytes first now (Err (S.BadValue k)) = runs tb bytes from.state from.place ≡ Halted k
+Built tb from bytes first now (Err S.Full) = (want : ℕ → ℕ) → (vs : Values) →
+    HasRoom tb from bytes want first vs → ⊥
+Built tb from bytes first now (Err S.NoMemory) = Unit {0}
 
 -- where steps of the builder lead: on, to the end of the text, or to why it stops
-abbrev pub HasGone : Table → List ℕ → List ℕ → Loading → Outline → ℕ → List ℕ → Loading → Result Bool Stopped → Type 0
-HasGone tb types bytes first o at ws now (Ok true) = IsGoing tb types bytes first o at ws now
-HasGone tb types bytes first o at ws now (Ok false) = (vs : Values) × (runs tb bytes (start types) 0 ≡ Accepted vs)
-    × ((want : ℕ → ℕ) → IsRead tb types bytes want first vs → IsBuilt want first now vs ws)
-HasGone tb types bytes first o at ws now (Err e) = Built tb types bytes first now (Err e)
+abbrev pub HasGone : Table → Origin → List ℕ → Loading → Outline → ℕ → List ℕ → Loading → Result Bool Stopped → Type 0
+HasGone tb from bytes first o at ws now (Ok true) = IsGoing tb from bytes first o at ws now
+HasGone tb from bytes first o at ws now (Ok false) = (vs : Values) × (runs tb bytes from.state from.place ≡ Accepted vs)
+    × ((want : ℕ → ℕ) → IsRead tb from bytes want first vs → IsBuilt want first now vs ws)
+HasGone tb from bytes first o at ws now (Err e) = Built tb from bytes first now (Err e)

@@ -5,14 +5,14 @@ use Rattle.fip_language.specs.Values.{Values, End, count_of, one_of_size, cells_
 use Rattle.fip_language.specs.Values.{words_needed_by_all}
 use Rattle.fip_language.specs.Table.{Table}
 use Rattle.fip_language.specs.declared.limits.TheConstants.{MOST_FIELDS}
-use Rattle.value_text.specs.Machine.{start, join, snoc, Around, Lines, Field}
+use Rattle.value_text.specs.Machine.{start, join, snoc, Around, Alone, Lines, Field}
 use Rattle.value_text.specs.Scan.{runs}
 use Rattle.value_text.specs.declared.counts.Counts.{Counts}
 use Rattle.value_text.specs.declared.read.Event.{Event}
 use Rattle.value_text.specs.declared.read.Event.TheVariants.{Closed}
 use Rattle.value_text.specs.declared.read.Refused.{Refused}
 use Rattle.value_text.specs.declared.read.Refused.TheVariants.{BadValue, NoMemory}
-use Rattle.value_text.specs.Reading.{Outline, Spot, Before, Behind, Nowhere, IsReading}
+use Rattle.value_text.specs.Reading.{Outline, Spot, Before, Behind, Nowhere, Origin, IsReading}
 
 -- how many cells of size k an event closes
 abbrev pub closes : ℕ → Event → ℕ
@@ -21,6 +21,7 @@ closes k _ = 0
 
 -- the values that are whole, those inside of open constructors too, in the order in which they were read
 abbrev pub values_before : Around → Values
+values_before (Alone n) = End
 values_before (Lines done rest) = done
 values_before (Field c done rest a) = join (values_before a) done
 
@@ -31,6 +32,7 @@ values_to Nowhere = End
 
 -- the words of the cells of the values before, and of the cells that are open as far as their fields go
 abbrev pub spent : Around → ℕ
+spent (Alone n) = 0
 spent (Lines done rest) = words_needed_by_all done
 spent (Field c done rest a) = spent a + (suc (suc (count_of done)) + words_needed_by_all done)
 
@@ -44,9 +46,10 @@ abbrev pub count_at : Counts → ℕ → ℕ
 count_at counts k = slice_index_or counts.numbers k 0
 
 -- the cells so far
-pub record IsCounting (tb : Table) (types bytes : List ℕ) (o : Outline) (at : ℕ) (counts : Counts) : Type 0 where
+pub record IsCounting (tb : Table) (from : Origin) (bytes : List ℕ) (o : Outline) (at : ℕ) (counts : Counts) :
+    Type 0 where
   pub spot : Spot
-  pub reading : IsReading tb types bytes o at spot
+  pub reading : IsReading tb from bytes o at spot
   pub exact : (k : ℕ) → k ≤ MOST_FIELDS → count_at counts k ≡ cells_of_all k (values_to spot)
   pub few : spent_at spot ≤ at
 

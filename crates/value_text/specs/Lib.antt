@@ -7,3 +7,5 @@ pub mod Counting
 pub mod Building
 pub mod Answered
 pub mod Printing
+pub mod Single
+pub mod Alone

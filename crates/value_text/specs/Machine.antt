@@ -41,8 +41,10 @@ join (More x xs) ys = More x (join xs ys)
 abbrev pub snoc : Values → Value → Values
 snoc xs x = join xs (More x End)
 
--- what is around a value: the values before it, and the types of those after it
+-- what is around a value: the values before it, and the types of those after it; or the value is read alone, and so
+-- many characters stand behind it, whatever they are
 pub data Around : Type 0 where
+  Alone : (n : ℕ) → Around
   Lines : (done : Values) (rest : List ℕ) → Around
   Field : (c : ℕ) (done : Values) (rest : List ℕ) (around : Around) → Around
 
@@ -59,9 +61,12 @@ pub data State : Type 0 where
   Await : (sign : Character) (next : State) → State
   -- all values are there
   Over : (vs : Values) → State
+  -- a value is there that is read alone, and so many characters come
+  Past : (n : ℕ) (vs : Values) → State
 
 -- behind a value
 abbrev pub filled : Around → Value → State
+filled (Alone n) v = Past n (More v End)
 filled (Lines done []) v = Over (snoc done v)
 filled (Lines done (k ∷ ks)) v = Await Line (Want k (Lines (snoc done v) ks))
 filled (Field c done [] around) v = Await Close (filled around (Node c (snoc done v)))
@@ -86,6 +91,8 @@ pass (Await sign next) c = if is_sign sign c then Some next else None
 pass (Over vs) Blank = Some (Over vs)
 pass (Over vs) Line = Some (Over vs)
 pass (Over vs) c = None
+pass (Past zero vs) c = None
+pass (Past (suc n) vs) c = Some (Past n vs)
 pass s c = None
 
 abbrev pub naming : Table → ℕ → List Character → Around → Option State
@@ -117,9 +124,11 @@ act tb (Number neg n around) (Digit d) = numbered neg (10 * n + d) around
 act tb (Number neg n around) c = pass (filled around (Int (int_of neg n))) c
 act tb (Await sign next) c = pass (Await sign next) c
 act tb (Over vs) c = pass (Over vs) c
+act tb (Past n vs) c = pass (Past n vs) c
 
 abbrev pub over : State → Option Values
 over (Over vs) = Some vs
+over (Past zero vs) = Some vs
 over _ = None
 
 abbrev pub over_named : Option (ℕ × List ℕ) → Around → Option Values
@@ -134,6 +143,7 @@ final tb (Signed around) = None
 final tb (Number neg n around) = over (filled around (Int (int_of neg n)))
 final tb (Await sign next) = None
 final tb (Over vs) = Some vs
+final tb (Past n vs) = over (Past n vs)
 
 abbrev pub start : List ℕ → State
 start [] = Over End

@@ -14,7 +14,7 @@ use Rattle.value_text.specs.declared.read.Event.{Event}
 use Rattle.value_text.specs.declared.read.Event.TheVariants.{Number, Bare, Opened, Comma, Closed, Line}
 use Rattle.value_text.specs.declared.read.Refused.{Refused}
 use Rattle.value_text.specs.declared.read.Refused.TheVariants.{BadValue, NoMemory}
-use Rattle.value_text.specs.Machine.{start, snoc, Around, Lines, Field, State, Want, Over, filled}
+use Rattle.value_text.specs.Machine.{start, snoc, Around, Alone, Lines, Field, State, Want, Over, filled}
 use Rattle.value_text.specs.Loaded.{types_of}
 use Rattle.value_text.specs.Scan.{runs}
 
@@ -72,11 +72,13 @@ state_at (Behind a v) = filled a v
 state_at Nowhere = Over End
 
 abbrev pub rows_of : Around → List Pending
+rows_of (Alone n) = []
 rows_of (Lines done rest) = []
 rows_of (Field c done rest around) = record { c = c; rest = rest; size = suc (count_of done) + length rest }
     ∷ rows_of around
 
 abbrev pub lines_of : Around → List ℕ
+lines_of (Alone n) = []
 lines_of (Lines done rest) = rest
 lines_of (Field c done rest around) = lines_of around
 
@@ -84,6 +86,37 @@ abbrev pub outline_at : Spot → Outline
 outline_at (Before k a) = record { next = Some k; frames = rows_of a; lines = lines_of a }
 outline_at (Behind a v) = record { next = None; frames = rows_of a; lines = lines_of a }
 outline_at Nowhere = record { next = None; frames = []; lines = [] }
+
+-- Reading goes on from here: a value that is read alone isn't whole yet.
+abbrev pub GoesOn : Spot → Type 0
+GoesOn (Behind (Alone n) v) = ⊥
+GoesOn _ = Unit {0}
+
+-- the number of characters that stand behind a value that is read alone
+abbrev pub behind_of : Around → Option ℕ
+behind_of (Alone n) = Some n
+behind_of (Lines done rest) = None
+behind_of (Field c done rest around) = behind_of around
+
+abbrev pub behind_at : Spot → Option ℕ
+behind_at (Before k a) = behind_of a
+behind_at (Behind a v) = behind_of a
+behind_at Nowhere = None
+
+-- where reading begins: the machine's state, the place in the text, and how many characters stand behind a value that
+-- is read alone
+pub record Origin : Type 0 where
+  pub state : State
+  pub place : ℕ
+  pub behind : Option ℕ
+
+-- a whole text, a line for each type
+abbrev pub whole : List ℕ → Origin
+whole types = record { state = start types; place = 0; behind = None }
+
+-- one value of a type, from a place on, behind which so many characters stand
+abbrev pub alone : ℕ → ℕ → ℕ → Origin
+alone k at n = record { state = Want k (Alone n); place = at; behind = Some n }
 
 -- an event leads from a spot to a spot
 abbrev pub Moves : Event → Spot → Spot → Type 0
@@ -152,9 +185,10 @@ abbrev pub IsNarrow : Event → Type 0
 IsNarrow (Closed c n) = n ≤ MOST_FIELDS
 IsNarrow _ = Unit {0}
 
--- what is read is all read so far, from the start of the text
-pub record IsReading (tb : Table) (types bytes : List ℕ) (o : Outline) (at : ℕ) (s : Spot) : Type 0 where
+-- what is read is all read so far, from where reading begins
+pub record IsReading (tb : Table) (from : Origin) (bytes : List ℕ) (o : Outline) (at : ℕ) (s : Spot) : Type 0 where
   pub outline : o ≡ outline_at s
-  pub reads : runs tb bytes (state_at s) at ≡ runs tb bytes (start types) 0
+  pub behind : behind_at s ≡ from.behind
+  pub reads : runs tb bytes (state_at s) at ≡ runs tb bytes from.state from.place
   pub known : IsKnown tb o
   pub within : at ≤ length bytes

@@ -9,7 +9,7 @@ ghost use Rattle.value_text.specs.Loaded.{types_of, free_in, wanted, AreCredits}
 ghost use Rattle.fip_language.specs.Table.{Table};
 ghost use Rattle.value_text.specs.Building.{IsMade, IsPut, Advanced, stopped_by, then_on, Built, IsBuilt, IsCrediting};
 ghost use Rattle.value_text.specs.Building.{IsGoing, HasGone};
-ghost use Rattle.value_text.specs.Reading.{outline, IsKnown};
+ghost use Rattle.value_text.specs.Reading.{outline, whole, IsKnown};
 ghost use Rattle.value_text.specs.declared.read.Event.{Event};
 ghost use Rattle.value_text.specs.Loaded.{words_up_to};
 ghost use Rattle.cell_store.specs.Made.{Loading};
@@ -275,8 +275,9 @@ fn build_ends<'a>(
 ) -> Result<bool, Stopped>
     requires { cursor.old.at ≤ length bytes.now }
     ensures goes { IsSoundTable table.now → (types : List ℕ) (first : Loading) →
-        IsGoing table.now types bytes.now first (outline cursor.old) cursor.old.at words.old.items loader.old →
-        HasGone table.now types bytes.now first (outline cursor.new) cursor.new.at words.new.items loader.new result }
+        IsGoing table.now (whole types) bytes.now first (outline cursor.old) cursor.old.at words.old.items loader.old →
+        HasGone table.now (whole types) bytes.now first (outline cursor.new) cursor.new.at words.new.items loader.new
+        result }
     ensures place { result ≡ Ok true → (cursor.old.at ≤ cursor.new.at) × (cursor.new.at ≤ length bytes.now) }
 {
     'ends: loop {
@@ -300,7 +301,7 @@ pub fn build(
     loader: &mut Loader,
 ) -> Result<Vec<u64>, Stopped>
     ensures { IsSoundTable table.now → AreTypes table.now (types_of params.now) →
-        Built table.now (types_of params.now) bytes.now loader.old loader.new result }
+        Built table.now (whole (types_of params.now)) bytes.now loader.old loader.new result }
 {
     let mut cursor = read::begin(alloc, params);
     let mut words = Vec::new(alloc);

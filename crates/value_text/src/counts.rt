@@ -1,5 +1,5 @@
 // How many cells of each size there are.
-ghost use Rattle.std.specs.Prelude.{◌≡◌, ◌≢◌, ℕ, suc, ◌+◌, ◌-◌, ◌<◌, ◌≤◌, ◌^◌, slice_index_or};
+ghost use Rattle.std.specs.Prelude.{◌≡◌, ◌≢◌, ℕ, suc, ◌+◌, ◌-◌, ◌<◌, ◌≤◌, ◌^◌, slice_index_or, min};
 ghost use Rattle.fip_language.specs.declared.limits.TheConstants.{MOST_FIELDS};
 ghost use Rattle.value_text.specs.Counting.{closes};
 
@@ -37,6 +37,8 @@ impl Counts {
         ensures one { 0 < k → k ≤ MOST_FIELDS → slice_index_or self.old.numbers k 0 < 2 ^ 64 - 1 →
             slice_index_or self.new.numbers k 0 ≡ suc (slice_index_or self.old.numbers k 0) }
         ensures others { (i : ℕ) → i ≢ k → slice_index_or self.new.numbers i 0 ≡ slice_index_or self.old.numbers i 0 }
+        ensures most { slice_index_or self.old.numbers k 0 ≡ 2 ^ 64 - 1 →
+            slice_index_or self.new.numbers k 0 ≡ slice_index_or self.old.numbers k 0 }
         ensures zero { slice_index_or self.new.numbers 0 0 ≡ slice_index_or self.old.numbers 0 0 }
     {
         if 0 < k && k < SIZES {
@@ -44,8 +46,11 @@ impl Counts {
         }
     }
 
-    /// As many more of each size as the other has.
-    pub fn add(&mut self, other: &Counts) {
+    /// As many more of each size as the other has, up to 2^64 - 1.
+    pub fn add(&mut self, other: &Counts)
+        ensures { (k : ℕ) → slice_index_or self.new.numbers k 0 ≡
+            min (slice_index_or self.old.numbers k 0 + slice_index_or other.now.numbers k 0) (2 ^ 64 - 1) }
+    {
         for k in 0..SIZES {
             self.numbers[k] = self.numbers[k].saturating_add(other.numbers[k]);
         }

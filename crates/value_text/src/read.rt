@@ -1,7 +1,7 @@
 // A text of values, read in steps: a leaf, an opened or closed constructor, a comma or an end of a line each.
 // Open constructors are a list, so that nesting costs no stack.
-ghost use Rattle.std.specs.Prelude.{◌≡◌, ℕ, suc, ◌+◌, ◌<◌, ◌≤◌, ◌^◌, length, drop, List, [], ◌∷◌, Some, None, IfOk};
-ghost use Rattle.std.specs.Prelude.{OnOk, MatchOption, MatchResult, slice_get, FitsSigned, vec_len};
+ghost use Rattle.std.specs.Prelude.{◌≡◌, ◌↔◌, ℕ, suc, ◌+◌, ◌<◌, ◌≤◌, ◌^◌, length, drop, List, [], ◌∷◌, Some, None};
+ghost use Rattle.std.specs.Prelude.{IfOk, IsTrue, OnOk, MatchOption, MatchResult, slice_get, FitsSigned, vec_len};
 ghost use Rattle.std.specs.Int.{w64};
 ghost use Rattle.fip_language.specs.declared.limits.TheConstants.{MOST_FIELDS};
 ghost use Rattle.fip_language.specs.Values.{Values};
@@ -9,8 +9,9 @@ ghost use Rattle.fip_language.specs.Table.{Table, Shape, constructors};
 ghost use Rattle.fip_language.specs.SoundTable.{IsSoundTable, AreTypes};
 ghost use Rattle.value_text.specs.Loaded.{types_of};
 ghost use Rattle.value_text.specs.Scan.{runs};
-ghost use Rattle.value_text.specs.Reading.{pending, outline, outline_at, state_at, IsKnown, Spot, Stepped, cost_of};
-ghost use Rattle.value_text.specs.Reading.{spot_of, IsNarrow, number_event, node_event, field_event, line_event};
+ghost use Rattle.value_text.specs.Reading.{pending, outline, outline_at, state_at, IsKnown, Spot, GoesOn, Stepped};
+ghost use Rattle.value_text.specs.Reading.{spot_of, cost_of, IsNarrow, number_event, node_event, field_event};
+ghost use Rattle.value_text.specs.Reading.{line_event};
 
 use crate::room::{cut, push};
 use crate::scan;
@@ -214,7 +215,7 @@ pub fn read_line<'a>(bytes: &[u8], cursor: &mut Cursor<'a>) -> Result<bool, Refu
     requires place { cursor.old.at ≤ length bytes.now }
     requires next { cursor.old.next ≡ None }
     requires frames { (outline cursor.old).frames ≡ [] }
-    ensures reads { (tb : Table) (s : Spot) → outline cursor.old ≡ outline_at s →
+    ensures reads { (tb : Table) (s : Spot) → GoesOn s → outline cursor.old ≡ outline_at s →
         Stepped tb bytes.now s cursor.old.at (line_event result) (outline cursor.new) cursor.new.at }
     ensures place { IfOk (line_event result) (λ e. MatchOption e ℕ (λ e. (cursor.old.at < cursor.new.at)
         × (cursor.old.at + cost_of e ≤ cursor.new.at) × (cursor.new.at ≤ length bytes.now))) }
@@ -327,7 +328,7 @@ pub fn step<'a>(
     cursor: &mut Cursor<'a>,
 ) -> Result<Option<Event>, Refused>
     requires place { cursor.old.at ≤ length bytes.now }
-    ensures reads { IsSoundTable table.now → IsKnown table.now (outline cursor.old) → (s : Spot) →
+    ensures reads { IsSoundTable table.now → IsKnown table.now (outline cursor.old) → (s : Spot) → GoesOn s →
         outline cursor.old ≡ outline_at s →
         Stepped table.now bytes.now s cursor.old.at result (outline cursor.new) cursor.new.at }
     ensures place { IfOk result (λ e. MatchOption e ℕ (λ e. (cursor.old.at < cursor.new.at)
@@ -393,8 +394,13 @@ pub fn begin_value<'a>(alloc: Global, ty: u32, at: usize) -> Cursor<'a>
 }
 
 /// Whether the last value is read whole.
-pub fn is_whole(cursor: &Cursor) -> bool {
-    cursor.next.is_none() && cursor.frames.is_empty()
+pub fn is_whole(cursor: &Cursor) -> bool
+    ensures { IsTrue result ↔ (((outline cursor.now).next ≡ None) × ((outline cursor.now).frames ≡ [])) }
+{
+    match cursor.next {
+        Some(_) => false,
+        None => cursor.frames.is_empty(),
+    }
 }
 
 /// The place behind what was read.

@@ -1,6 +1,7 @@
 use Rattle.std.proofs.Common.{ap, arith}
 use Rattle.std.specs.Prelude.{Ok, Err}
-use Rattle.value_text.specs.Reading.{outline}
+use Rattle.value_text.specs.Reading.{outline, whole}
+use Rattle.value_text.proofs.Counted.{lines_go}
 use Rattle.value_text.proofs.Advanced.{gone_on, goes_on, is_over}
 use Rattle.value_text.proofs.build.build_ends.Goals as goal
 
@@ -20,8 +21,8 @@ ends-preserved c =
       within = place.1;
       going = λ sound types first g.
           let here = c.ends.invariant.going sound types first g in
-          goes_on tb types bytes first (outline new) new.at ws' l' c.in-Ok-true.field-0 c.in-Ok-true.field-0-test
-          (gone_on tb bytes (outline old) old.at (outline new) new.at ws l ws' l' types first (Ok c.in-Ok-true.field-0) sound (λ q. (c.in-Ok-true.ensures.place q).1) here (c.in-Ok-true.ensures.advances tb (here.reading).known));
+          goes_on tb (whole types) bytes first (outline new) new.at ws' l' c.in-Ok-true.field-0 c.in-Ok-true.field-0-test
+          (gone_on tb bytes (outline old) old.at (outline new) new.at ws l ws' l' (whole types) first (Ok c.in-Ok-true.field-0) sound (λ s r. lines_go s r.behind) (λ q. (c.in-Ok-true.ensures.place q).1) here (c.in-Ok-true.ensures.advances tb (here.reading).known));
     }
 
 pub returns-in-Ok-false-clause-goes : goal.returns-in-Ok-false-clause-goes
@@ -35,8 +36,8 @@ returns-in-Ok-false-clause-goes c = λ sound types first g.
     let l = c.ends.loader in
     let l' = c.build_behind.new.loader in
     let here = c.ends.invariant.going sound types first g in
-    is_over tb types bytes first (outline new) new.at ws' l' c.in-Ok-false.field-0 c.in-Ok-false.field-0-test
-    (gone_on tb bytes (outline old) old.at (outline new) new.at ws l ws' l' types first (Ok c.in-Ok-false.field-0) sound (λ q. (c.in-Ok-false.ensures.place q).1) here (c.in-Ok-false.ensures.advances tb (here.reading).known))
+    is_over tb (whole types) bytes first (outline new) new.at ws' l' c.in-Ok-false.field-0 c.in-Ok-false.field-0-test
+    (gone_on tb bytes (outline old) old.at (outline new) new.at ws l ws' l' (whole types) first (Ok c.in-Ok-false.field-0) sound (λ s r. lines_go s r.behind) (λ q. (c.in-Ok-false.ensures.place q).1) here (c.in-Ok-false.ensures.advances tb (here.reading).known))
 
 pub returns-in-Err-clause-goes : goal.returns-in-Err-clause-goes
 returns-in-Err-clause-goes c = λ sound types first g.
@@ -49,4 +50,4 @@ returns-in-Err-clause-goes c = λ sound types first g.
     let l = c.ends.loader in
     let l' = c.build_behind.new.loader in
     let here = c.ends.invariant.going sound types first g in
-    gone_on tb bytes (outline old) old.at (outline new) new.at ws l ws' l' types first (Err c.in-Err.e) sound (λ q. cc) here (c.in-Err.ensures.advances tb (here.reading).known)
+    gone_on tb bytes (outline old) old.at (outline new) new.at ws l ws' l' (whole types) first (Err c.in-Err.e) sound (λ s r. lines_go s r.behind) (λ q. cc) here (c.in-Err.ensures.advances tb (here.reading).known)

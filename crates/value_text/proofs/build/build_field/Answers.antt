@@ -22,7 +22,7 @@ returns-in-Ok-Some-clause-advances c = λ tb known.
     let size = c.in-Ok-Some.size in
     subst (λ (r : Result Bool Stopped). Advanced tb bytes o at o' at' ws l ws' l' r) (sym c.goes_on.ensures)
     (put_advances tb bytes o at o' at' ws l ws' l' (E.Closed tag size) c.close.result
-    (closed_event tb bytes o at o' at' tag size c.in-Ok-Some.field-0 c.in-Ok-Some.field-0-is (c.in-Ok-Some.ensures.reads tb known) (c.in-Ok-Some.ensures.known tb known) (c.in-Ok-Some.ensures.narrow tb known))
+    (closed_event tb bytes o at o' at' tag size c.in-Ok-Some.field-0 c.in-Ok-Some.field-0-is (λ s g e. c.in-Ok-Some.ensures.reads tb known s e) (c.in-Ok-Some.ensures.known tb known) (c.in-Ok-Some.ensures.narrow tb known))
     c.close.ensures)
 
 pub returns-in-Ok-None-clause-advances : goal.returns-in-Ok-None-clause-advances
@@ -34,7 +34,7 @@ returns-in-Ok-None-clause-advances c = λ tb known.
     let at' = c.read_field.new.cursor.at in
     let ws = c.args.words.now.items in
     let l = c.args.loader.now in
-    (E.Comma, comma_event tb bytes o at o' at' c.in-Ok-None.field-0 c.in-Ok-None.field-0-is (c.in-Ok-None.ensures.reads tb known) (c.in-Ok-None.ensures.known tb known), (refl, refl))
+    (E.Comma, comma_event tb bytes o at o' at' c.in-Ok-None.field-0 c.in-Ok-None.field-0-is (λ s g e. c.in-Ok-None.ensures.reads tb known s e) (c.in-Ok-None.ensures.known tb known), (refl, refl))
 
 pub returns-in-Err-clause-advances : goal.returns-in-Err-clause-advances
 returns-in-Err-clause-advances c = λ tb known.
@@ -46,4 +46,4 @@ returns-in-Err-clause-advances c = λ tb known.
     let ws = c.args.words.now.items in
     let l = c.args.loader.now in
     subst (λ (e : Stopped). Advanced tb bytes o at o' at' ws l ws l (Err e)) (sym c.stop_of.ensures)
-    (refused_advances tb bytes o at o' at' ws l ws l c.in-Err.e (c.in-Err.ensures.reads tb known))
+    (refused_advances tb bytes o at o' at' ws l ws l c.in-Err.e (λ s g e. c.in-Err.ensures.reads tb known s e))

@@ -20,7 +20,7 @@ returns-in-Ok-clause-advances c = λ tb l known.
     let ws' = c.push_word.new.words.items in
     subst (λ (r : Result Bool Stopped). Advanced tb c.args.bytes.now o at o' at' ws l ws' l r) (sym c.goes_on.ensures)
     (put_advances tb c.args.bytes.now o at o' at' ws l ws' l (E.Number c.in-Ok.i) c.push_word.result
-    (record { steps = λ s e. c.in-Ok.ensures.reads tb s e; known = c.in-Ok.ensures.known tb known; narrow = tt })
+    (record { steps = λ s g e. c.in-Ok.ensures.reads tb s e; known = c.in-Ok.ensures.known tb known; narrow = tt })
     (word_put (E.Number c.in-Ok.i) ws ws' l c.int_bits.result c.push_word.result (λ w. (subst (λ b. ws' ≡ ws ++ b ∷ []) (c.int_bits.ensures ∙ ap int_word (to_z-of_z w64 c.in-Ok.i c.in-Ok.ensures.fits)) w, refl)) c.push_word.ensures.words c.push_word.ensures.memory))
 
 pub returns-in-Err-clause-advances : goal.returns-in-Err-clause-advances
@@ -31,4 +31,4 @@ returns-in-Err-clause-advances c = λ tb l known.
     let at' = c.read_int.new.cursor.at in
     let ws = c.args.words.now.items in
     subst (λ (e : Stopped). Advanced tb c.args.bytes.now o at o' at' ws l ws l (Err e)) (sym c.stop_of.ensures)
-    (refused_advances tb c.args.bytes.now o at o' at' ws l ws l c.in-Err.e (λ s e. c.in-Err.ensures.reads tb s e))
+    (refused_advances tb c.args.bytes.now o at o' at' ws l ws l c.in-Err.e (λ s g e. c.in-Err.ensures.reads tb s e))

@@ -12,4 +12,4 @@ returns-in-Ok-clause-advances c = λ tb l ws known. line_advances tb c.args.byte
 pub returns-in-Err-clause-advances : goal.returns-in-Err-clause-advances
 returns-in-Err-clause-advances c = λ tb l ws known.
     subst (λ (e : Stopped). Advanced tb c.args.bytes.now (outline c.args.cursor.now) c.args.cursor.now.at (outline c.read_line.new.cursor) c.read_line.new.cursor.at ws l ws l (Err e)) (sym c.stop_of.ensures)
-    (refused_advances tb c.args.bytes.now (outline c.args.cursor.now) c.args.cursor.now.at (outline c.read_line.new.cursor) c.read_line.new.cursor.at ws l ws l c.in-Err.e (λ s e. c.in-Err.ensures.reads tb s e))
+    (refused_advances tb c.args.bytes.now (outline c.args.cursor.now) c.args.cursor.now.at (outline c.read_line.new.cursor) c.read_line.new.cursor.at ws l ws l c.in-Err.e (c.in-Err.ensures.reads tb))

@@ -1,9 +1,9 @@
 use Rattle.std.proofs.Common.{ℕ, ◌+◌, ◌<◌, ◌≤◌, Option, subst, length, arith}
 use Rattle.std.specs.Prelude.{Ok, MatchOption}
 use Rattle.value_text.specs.declared.read.Event.{Event}
-use Rattle.value_text.specs.Reading.{outline, Stepped, cost_of}
+use Rattle.value_text.specs.Reading.{outline, whole, Stepped, cost_of}
 use Rattle.value_text.specs.Loaded.{types_of}
-use Rattle.value_text.proofs.Counted.{counting_starts, counting_few, counting_on, counting_ends}
+use Rattle.value_text.proofs.Counted.{lines_go, counting_starts, counting_few, counting_on, counting_ends}
 use Rattle.value_text.proofs.load.count.Goals as goal
 
 pub loop-event-init : goal.loop-event-init
@@ -25,8 +25,8 @@ loop-event-preserved c =
       counting = λ sound types short.
           let i = c.loop-event.invariant.counting sound types short in
           let known = (i.reading).known in
-          counting_on tb (types_of c.args.params.now) bytes (outline old) (outline new) old.at new.at c.loop-event.counts c.add_closed.new.self e i (λ s q. subst (λ (o : Option Event). Stepped tb bytes s old.at (Ok o) (outline new) new.at) c.in-Ok-Some.field-0-is (c.in-Ok-Some.ensures.reads sound known s q)) (c.in-Ok-Some.ensures.known sound known) p.1 p.2
-          (c.add_closed.ensures (λ k le. let f = counting_few tb (types_of c.args.params.now) bytes (outline old) old.at c.loop-event.counts i k le in omega (arith, f, p.0, p.2, short)));
+          counting_on tb (whole (types_of c.args.params.now)) bytes (outline old) (outline new) old.at new.at c.loop-event.counts c.add_closed.new.self e i (lines_go i.spot (i.reading).behind) (λ s g q. subst (λ (o : Option Event). Stepped tb bytes s old.at (Ok o) (outline new) new.at) c.in-Ok-Some.field-0-is (c.in-Ok-Some.ensures.reads sound known s g q)) (c.in-Ok-Some.ensures.known sound known) p.1 p.2
+          (c.add_closed.ensures (λ k le. let f = counting_few tb (whole (types_of c.args.params.now)) bytes (outline old) old.at c.loop-event.counts i k le in omega (arith, f, p.0, p.2, short)));
     }
 
 pub returns-in-Ok-None : goal.returns-in-Ok-None
@@ -37,4 +37,4 @@ returns-in-Ok-None c = λ sound types short.
     let new = c.step.new.cursor in
     let i = c.loop-event.invariant.counting sound types short in
     let known = (i.reading).known in
-    counting_ends tb (types_of c.args.params.now) bytes (outline old) (outline new) old.at new.at c.loop-event.counts i (λ s q. subst (λ (o : Option Event). Stepped tb bytes s old.at (Ok o) (outline new) new.at) c.in-Ok-None.field-0-is (c.in-Ok-None.ensures.reads sound known s q))
+    counting_ends tb (whole (types_of c.args.params.now)) bytes (outline old) (outline new) old.at new.at c.loop-event.counts i (lines_go i.spot (i.reading).behind) (λ s g q. subst (λ (o : Option Event). Stepped tb bytes s old.at (Ok o) (outline new) new.at) c.in-Ok-None.field-0-is (c.in-Ok-None.ensures.reads sound known s g q))

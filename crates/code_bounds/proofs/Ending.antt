@@ -1,9 +1,10 @@
 -- A run of sound code ends: it takes at most as many steps for each of its calls as the longest function has
 -- instructions, and a run that goes on has taken as many steps as were asked for. And it ends in one way, whichever
 -- kinds are given: before each instruction that a run comes to they are the same.
-use Rattle.std.proofs.Common.{◌≡◌, ℕ, zero, suc, ◌+◌, ◌*◌, ◌≤◌, List, [], ◌∷◌, length, Some, slice_get, refl, sym, ap, ◌∙◌, subst, arith}
+use Rattle.std.proofs.Common.{◌≡◌, ℕ, zero, suc, ◌+◌, ◌*◌, ◌≤◌, List, [], ◌∷◌, length, map, Some, slice_get, refl, sym, ap, ◌∙◌, subst, arith}
 use Rattle.std.proofs.lemmas.Option.{none-some, same_Some}
 use Rattle.code_runs.specs.Codes as R
+use Rattle.code_runs.specs.Gauges.{seen_of, states, seen}
 use Rattle.code_runs.specs.States.{State, Next, Went, Entered, Gave, Trapped, TooDeep, Stuck}
 use Rattle.code_runs.specs.Steps.{Kinds, act_at, instr_of, next}
 use Rattle.code_runs.specs.Runs.{Run, End, Going, Over, Ends, begun, comes, later, after}
@@ -128,3 +129,18 @@ ends_once c before waits first other n kept s calls e d last end left more steps
     let good = begun_good c (results c n) kept s calls (start_alive c before waits n kept s t) in
     let same = same_after c before waits first other (results c n) kept x.enough (begun s calls) t.sound t.literals t.kinds again good in
     both_over first (run_code c) x.enough y.enough (begun s calls) (Over e last left steps) (Over d end more done) (e, last, left, steps, refl) (d, end, more, done, refl) (sym same ∙ x.is) y.is
+
+-- ---- and as much is seen of it
+
+same_states : (c : PlainCode) (before waits first other : Kinds) (types kept : List ℕ) (k : ℕ) (r : Run) → IsSound c → HasLiterals c → AreKinds c before waits → AreKinds c first other → GoodRun c types kept r → states before (run_code c) k r ≡ states first (run_code c) k r
+same_states c before waits first other types kept zero (Going s left n) sound literals kinds again g = refl
+same_states c before waits first other types kept zero (Over e s left n) sound literals kinds again g = refl
+same_states c before waits first other types kept (suc k) (Going s left n) sound literals kinds again g =
+    ap (λ ss. s ∷ ss) (
+    same_states c before waits first other types kept k (later before (run_code c) (Going s left n)) sound literals kinds again (later_good c before waits types kept (Going s left n) sound literals kinds g)
+    ∙ ap (states first (run_code c) k) (same_later c before waits first other types kept (Going s left n) kinds again g))
+same_states c before waits first other types kept (suc k) (Over e s left n) sound literals kinds again g = refl
+
+pub seen_once : (c : PlainCode) (before waits first other : Kinds) (n : ℕ) (kept : List ℕ) (s : State) (calls steps : ℕ) → IsStart c before waits n kept s → AreKinds c first other → seen before (run_code c) steps (begun s calls) ≡ seen first (run_code c) steps (begun s calls)
+seen_once c before waits first other n kept s calls steps t again =
+    ap (λ ss. map seen_of ss) (same_states c before waits first other (results c n) kept steps (begun s calls) t.sound t.literals t.kinds again (begun_good c (results c n) kept s calls (start_alive c before waits n kept s t)))

@@ -4,6 +4,7 @@ ghost use Rattle.fip_language.specs.Values.{cells_of_all};
 ghost use Rattle.fip_language.specs.Store.{values_of, count};
 ghost use Rattle.fip_base.specs.declared.plain.Stack.{Stack};
 ghost use Rattle.code_runs.specs.Cells.{count_held};
+ghost use Rattle.code_runs.specs.Gauges.{seen};
 ghost use Rattle.code_runs.specs.States.{State, frames_held, words_held};
 ghost use Rattle.code_runs.specs.Steps.{Kinds};
 ghost use Rattle.code_runs.specs.Runs.{End, Ends, Value, Deep, Over, state_of, begun, after};
@@ -69,8 +70,8 @@ pub fn a_run_takes_few_steps()
         steps_of (after before (run_code c) steps (begun s calls)) ≤ calls * most }
 {}
 
-/// A run of sound code ends, with any number of calls; and in one way, whichever kinds are given. For who waits for its
-/// results.
+/// A run of sound code ends, with any number of calls; and in one way, whichever kinds are given, and as much is seen of
+/// its states. For who waits for its results.
 pub fn a_run_ends()
     ensures some { (c : PlainCode) (before waits : Kinds) (n : ℕ) (kept : List ℕ) (s : State) (calls : ℕ) →
         IsStart c before waits n kept s → (e : End) × (last : State) × (left : ℕ) × (steps : ℕ)
@@ -79,6 +80,9 @@ pub fn a_run_ends()
         (calls : ℕ) (e d : End) (last end : State) (left more steps done : ℕ) → IsStart c before waits n kept s →
         AreKinds c first other → Ends before (run_code c) s calls e last left steps →
         Ends first (run_code c) s calls d end more done → Over e last left steps ≡ Over d end more done }
+    ensures seen { (c : PlainCode) (before waits first other : Kinds) (n : ℕ) (kept : List ℕ) (s : State)
+        (calls steps : ℕ) → IsStart c before waits n kept s → AreKinds c first other →
+        seen before (run_code c) steps (begun s calls) ≡ seen first (run_code c) steps (begun s calls) }
 {}
 
 /// The held cells of each size are, in the first state, those of the arguments' values, the credits and the kept cells,

@@ -6,3 +6,8 @@ pub mod Coming
 pub mod EmptySource
 pub mod Whole
 pub mod Ran
+pub mod FileTexts
+pub mod RunTables
+pub mod SomeRun
+pub mod OneRun
+pub mod RunAnswers

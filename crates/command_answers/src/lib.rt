@@ -5,3 +5,4 @@
 pub mod empty;
 pub mod laws;
 pub mod members;
+pub mod runs;

@@ -35,12 +35,12 @@ use Rattle.loaded_runs.specs.Loading.{places_of, value_places, all_places, value
 -- ---- the trees of arguments
 
 abbrev mutual
-  placed : ℕ → Value → Placed
+  pub placed : ℕ → Value → Placed
   placed n (Int i) = PlacedInt i
   placed n (Node c End) = Bare c
   placed n (Node c (More v vs)) = At (n + length (value_places n v ++ all_places (n + length (value_places n v)) vs)) c (MoreParts (placed n v) (placed_all (n + length (value_places n v)) vs))
 
-  placed_all : ℕ → Values → Parts
+  pub placed_all : ℕ → Values → Parts
   placed_all n End = NoParts
   placed_all n (More v vs) = MoreParts (placed n v) (placed_all (n + length (value_places n v)) vs)
 
@@ -49,7 +49,7 @@ placed_word n (Int i) = refl
 placed_word n (Node c End) = refl
 placed_word n (Node c (More v vs)) = refl
 
-placed_words : (n : ℕ) (vs : Values) → words_of (placed_all n vs) ≡ all_words n vs
+pub placed_words : (n : ℕ) (vs : Values) → words_of (placed_all n vs) ≡ all_words n vs
 placed_words n End = refl
 placed_words n (More v vs) = ap₂ (λ w ws. w ∷ ws) (placed_word n v) (placed_words (n + length (value_places n v)) vs)
 
@@ -66,7 +66,7 @@ mutual
 -- ---- they stand in a store that has their places
 
 -- the store has these places from number n on
-abbrev Has : Store → ℕ → List (Option Cell) → Type 0
+abbrev pub Has : Store → ℕ → List (Option Cell) → Type 0
 Has s n os = (j : ℕ) (c : Cell) → cell_in os j ≡ Some c → cell_at s (n + j) ≡ Some c
 
 cell_left : (os us : List (Option Cell)) (j : ℕ) (c : Cell) → cell_in os j ≡ Some c → cell_in (os ++ us) j ≡ Some c
@@ -78,10 +78,10 @@ cell_right : (os us : List (Option Cell)) (j : ℕ) (c : Cell) → cell_in us j 
 cell_right [] us j c e = let z : j ≡ 0 + j = omega arith in subst (λ j. cell_in us j ≡ Some c) z e
 cell_right (o ∷ os) us j c e = let z : suc (length os + j) ≡ suc (length os) + j = omega arith in subst (λ i. cell_in ((o ∷ os) ++ us) i ≡ Some c) z (cell_right os us j c e)
 
-has_left : (s : Store) (n : ℕ) (os us : List (Option Cell)) → Has s n (os ++ us) → Has s n os
+pub has_left : (s : Store) (n : ℕ) (os us : List (Option Cell)) → Has s n (os ++ us) → Has s n os
 has_left s n os us h j c e = h j c (cell_left os us j c e)
 
-has_right : (s : Store) (n : ℕ) (os us : List (Option Cell)) → Has s n (os ++ us) → Has s (n + length os) us
+pub has_right : (s : Store) (n : ℕ) (os us : List (Option Cell)) → Has s n (os ++ us) → Has s (n + length os) us
 has_right s n os us h j c e = let z : n + (length os + j) ≡ (n + length os) + j = omega arith in subst (λ i. cell_at s i ≡ Some c) z (h (length os + j) c (cell_right os us j c e))
 
 mutual
@@ -110,7 +110,7 @@ mutual
         placed_stand tb s h.0.fields n (More v vs) h.2 parts,
       )
 
-  placed_stand : (tb : Table) (s : Store) (ts : List ℕ) (n : ℕ) (vs : Values) → HaveTypes tb ts vs → Has s n (all_places n vs) → StandAll tb s ts (placed_all n vs)
+  pub placed_stand : (tb : Table) (s : Store) (ts : List ℕ) (n : ℕ) (vs : Values) → HaveTypes tb ts vs → Has s n (all_places n vs) → StandAll tb s ts (placed_all n vs)
   placed_stand tb s [] n End h k = tt
   placed_stand tb s [] n (More v vs) h k = absurd h
   placed_stand tb s (t ∷ ts) n End h k = absurd h
@@ -189,14 +189,14 @@ at_index q n (suc j) (Some c ∷ os) e =
 -- ---- credits
 
 -- the places of their cells
-abbrev spots : ℕ → List ℕ → List ℕ
+abbrev pub spots : ℕ → List ℕ → List ℕ
 spots n [] = []
 spots n (k ∷ ks) = n ∷ spots (n + suc k) ks
 
 credit_long : (k : ℕ) → length (places_of (credit_cell k)) ≡ suc k
 credit_long k = ap suc (length-replicate (size_of (credit_cell k)) None ∙ length-replicate k 0)
 
-spot_words : (n : ℕ) (ks : List ℕ) → map (λ p. place_word p) (spots n ks) ≡ credit_words n ks
+pub spot_words : (n : ℕ) (ks : List ℕ) → map (λ p. place_word p) (spots n ks) ≡ credit_words n ks
 spot_words n [] = refl
 spot_words n (k ∷ ks) = ap (λ ws. place_word n ∷ ws) (spot_words (n + suc k) ks)
 
@@ -221,7 +221,7 @@ spots_count q n (k ∷ ks) =
 
 -- ---- sizes
 
-sized_append : (os us : List (Option Cell)) → Every IsSized os → Every IsSized us → Every IsSized (os ++ us)
+pub sized_append : (os us : List (Option Cell)) → Every IsSized os → Every IsSized us → Every IsSized (os ++ us)
 sized_append [] us h k = k
 sized_append (o ∷ os) us h k = (h.0, sized_append os us h.1 k)
 
@@ -238,10 +238,10 @@ shapes_within (row ∷ rows) zero k s e = omega arith
 shapes_within (row ∷ rows) (suc t) k s e = let h = shapes_within rows t k s e in omega arith
 
 -- a constructor of sound code has few fields
-abbrev HaveFewFields : Table → Type 0
+abbrev pub HaveFewFields : Table → Type 0
 HaveFewFields tb = (t k : ℕ) (s : Shape) → slice_get (shapes tb t) k ≡ Some s → length s.fields ≤ most_fields
 
-few_fields : (c : PlainCode) → IsSound c → HaveFewFields c.types
+pub few_fields : (c : PlainCode) → IsSound c → HaveFewFields c.types
 few_fields c sound t k s e = elim (less_or_not most_fields (length s.fields)) as (λ v. length s.fields ≤ most_fields) [
   | inl more ↦ never c 0 0 S0 sound (λ tables. absurd (
       let within = shapes_within c.types t k s e in
@@ -284,13 +284,13 @@ mutual
       (sized_append (value_places n v) (all_places m vs) (value_sized tb g.type n v few g.first) (all_sized tb g.types m vs few g.others))
       (places_sized cell (omega arith, omega arith))
 
-  all_sized : (tb : Table) (ts : List ℕ) (n : ℕ) (vs : Values) → HaveFewFields tb → HaveTypes tb ts vs → Every IsSized (all_places n vs)
+  pub all_sized : (tb : Table) (ts : List ℕ) (n : ℕ) (vs : Values) → HaveFewFields tb → HaveTypes tb ts vs → Every IsSized (all_places n vs)
   all_sized tb [] n End few h = tt
   all_sized tb [] n (More v vs) few h = absurd h
   all_sized tb (t ∷ ts) n End few h = absurd h
   all_sized tb (t ∷ ts) n (More v vs) few h = sized_append (value_places n v) (all_places (n + length (value_places n v)) vs) (value_sized tb t n v few h.0) (all_sized tb ts (n + length (value_places n v)) vs few h.1)
 
-credits_sized : (ks : List ℕ) → are_sizes ks ≡ true → Every IsSized (credit_places ks)
+pub credits_sized : (ks : List ℕ) → are_sizes ks ≡ true → Every IsSized (credit_places ks)
 credits_sized [] e = tt
 credits_sized (k ∷ ks) e =
     let a = both (is_size k) (are_sizes ks) e in
@@ -300,7 +300,7 @@ credits_sized (k ∷ ks) e =
     let size : size_of (credit_cell k) ≡ k = length-replicate k 0 in
     sized_append (places_of (credit_cell k)) (credit_places ks) (places_sized (credit_cell k) (omega arith, omega arith)) (credits_sized ks a.1)
 
-sizes_formed : (c : PlainCode) (f : PlainFunction) → is_formed c f ≡ true → are_sizes f.credits ≡ true
+pub sizes_formed : (c : PlainCode) (f : PlainFunction) → is_formed c f ≡ true → are_sizes f.credits ≡ true
 sizes_formed c f e =
     let a = both (not (length f.instrs == 0)) _ e in
     let b = both (not (nat_lt f.registers (length f.params + length f.credits))) _ a.1 in
@@ -313,12 +313,12 @@ sizes_formed c f e =
 
 -- ---- the store, and the start
 
-none_released : (n p : ℕ) → one_if_true (slice_get (replicate n false) p) ≡ 0
+pub none_released : (n p : ℕ) → one_if_true (slice_get (replicate n false) p) ≡ 0
 none_released zero p = refl
 none_released (suc n) zero = refl
 none_released (suc n) (suc p) = none_released n p
 
-has_all : (s : Store) → Has s 0 s.cells
+pub has_all : (s : Store) → Has s 0 s.cells
 has_all s j c e = let z : j ≡ 0 + j = omega arith in subst (λ i. cell_at s i ≡ Some c) z e
 
 abbrev given : (c : PlainCode) (n : ℕ) (f : PlainFunction) (vs : Values) → IsSound c → function_at c n ≡ Some f → HaveTypes c.types (map (λ p. p.ty) f.params) vs → IsGiven c.types (run_function f) (first_store vs f.credits) [] (first_words vs f.credits)

@@ -19,7 +19,7 @@ sum : (p q a b c k : ℕ) → p ≡ q + a → q ≡ b + c → a ≡ suc k → p 
 sum p q a b c k h i j = omega arith
 
 mutual
-  value_length : (n : ℕ) (v : Value) → length (value_places n v) ≡ words_needed v
+  pub value_length : (n : ℕ) (v : Value) → length (value_places n v) ≡ words_needed v
   value_length n (Int i) = refl
   value_length n (Node c End) = refl
   value_length n (Node c (More v vs)) =
@@ -28,7 +28,7 @@ mutual
       sum _ _ _ _ _ _ (length-append (value_places n v ++ all_places m vs) (places_of cell)) (all_length n (More v vs))
       (cell_length cell ∙ ap (λ k. suc (suc k)) (words_length m vs))
 
-  all_length : (n : ℕ) (vs : Values) → length (all_places n vs) ≡ words_needed_by_all vs
+  pub all_length : (n : ℕ) (vs : Values) → length (all_places n vs) ≡ words_needed_by_all vs
   all_length n End = refl
   all_length n (More v vs) =
       length-append (value_places n v) (all_places (n + length (value_places n v)) vs)

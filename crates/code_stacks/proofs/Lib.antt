@@ -1,0 +1,4 @@
+pub mod Sums
+pub mod Bounds
+pub mod Solving
+pub mod Numbers

@@ -1,0 +1,231 @@
+-- `run` has one outcome: bytes spell one code, which has one function of a name and one stack number of it; a text has
+-- one meaning, and a run one end, whichever kinds are given.
+-- The idea: an outcome is said by the code, the function and its number, and the stack that is held, which are each one.
+use Rattle.std.proofs.Common.{◌≡◌, ℕ, ◌<◌, ◌≤◌, Bool, List, [], ◌∷◌, ◌++◌, Option, Some, length, refl, sym, ap, ap₂, ◌∙◌, subst, arith}
+use Rattle.std.specs.Prelude.{Ok, Err}
+use Rattle.std.proofs.lemmas.Option.{same_Some}
+use Rattle.fip_base.specs.declared.plain.Stack.{Stack}
+use Rattle.fip_language.proofs.OnePlace.{IsPlace-unique, IsPlace-not_spelt}
+use Rattle.fip_language.proofs.Search.{same_unless}
+use Rattle.fip_language.specs.Character.{characters}
+use Rattle.fip_language.specs.Gauge.{Seen}
+use Rattle.fip_language.specs.Prefix.{IsPlace, Accepted}
+use Rattle.fip_language.specs.PrintedText.{printed_lines}
+use Rattle.fip_language.specs.Store.{values_of}
+use Rattle.fip_language.specs.Values.{Values}
+use Rattle.fip_language.specs.ValueText.{SpellsValues}
+use Rattle.command_line.specs.Words.{Room}
+use Rattle.command_outcome.specs.declared.failure.Failure.TheVariants as F
+use Rattle.code_file.specs.Plain.{PlainCode}
+use Rattle.code_file.proofs.Whole.{one_code}
+use Rattle.code_runs.specs.Cells.{Store}
+use Rattle.code_runs.specs.Gauges.{seen}
+use Rattle.code_runs.specs.Runs as R
+use Rattle.code_runs.specs.States.{State}
+use Rattle.sound_code.specs.Codes as S
+use Rattle.sound_code.specs.StackNumbers.{HasStack}
+use Rattle.sound_code.specs.Tables.{AreSoundTables}
+use Rattle.sound_code.proofs.Numbers.{has_once}
+use Rattle.code_separation.specs.Codes.{run_code}
+use Rattle.code_separation.specs.Starts.{IsStart}
+use Rattle.code_separation.proofs.Sound.{formed, has_form}
+use Rattle.code_bounds.proofs.Ending.{ends_once, seen_once}
+use Rattle.tree_agreement.specs.Agreement.{AreWordsOf}
+use Rattle.tree_agreement.proofs.Values.{same_parts}
+use Rattle.loaded_runs.proofs.Begins.{begins}
+use Rattle.session_meaning.specs.Talk.{frames_of}
+use Rattle.value_text.specs.Loaded.{types_of}
+use Rattle.value_text.proofs.Exact.{accepts_text}
+use Rattle.value_text.proofs.Tables.{is_table, types_alive}
+use Rattle.value_text.proofs.Typed.{input_typed}
+use Rattle.source_commands.specs.Codes.{sound_view, IsSoundFile}
+use Rattle.command_answers.specs.CodeRun as C
+use Rattle.command_answers.specs.CodeRun.{Chosen, gauge_by_states, TellsCode, RunsCode}
+use Rattle.command_answers.specs.GaugeText.{if_asked}
+use Rattle.command_answers.specs.Outcomes.{End, Outcome, failed, ran}
+use Rattle.command_answers.specs.Runs.{words_for, Run, all_seen}
+use Rattle.command_answers.proofs.FileTexts.{literals, upper_names}
+use Rattle.command_answers.proofs.RunTables.{tables, sound_table, params_known, values_unless}
+
+-- ---- what an outcome is said by
+
+-- a function of the code of some bytes, its number, and the stack that its runs hold
+record What : Type 0 where
+  code : PlainCode
+  number : ℕ
+  function : S.PlainFunction
+  held : Option Stack
+
+abbrev what : {bytes name : List ℕ} → Chosen bytes name → What
+what c = record { code = c.code; number = c.number; function = c.function; held = c.held }
+
+abbrev Spelt : What → List ℕ → Values → Type 0
+Spelt w input vs = SpellsValues (w.code).types (types_of (w.function).params) input vs
+
+abbrev words_of : What → Values → ℕ
+words_of w vs = words_for vs (w.function).credits
+
+abbrev RunBy : What → Values → Room → Type 0
+RunBy w vs room = Run w.code w.number vs (w.function).credits room.calls (frames_of room.frames w.held)
+
+record Prints (w : What) (gauge : Bool) (last : Store) (ss : List Seen) (words : List ℕ) (e : End) : Type 0 where
+  results : Values
+  stand : AreWordsOf (w.code).types last (w.function).results words results
+  is : e ≡ Ok (printed_lines (w.code).types (w.function).results results ++ if_asked gauge (gauge_by_states ss w.held))
+
+abbrev Told : What → Room → Bool → Store → List Seen → R.End → End → Type 0
+Told w room gauge last ss (R.Value words) e = Prints w gauge last ss words e
+Told w room gauge last ss (R.Trap kind line col) e = e ≡ Err (F.Trap kind line col)
+Told w room gauge last ss R.Out e = e ≡ Err (F.OutOfCalls room.calls)
+Told w room gauge last ss R.Deep e = e ≡ Err (F.OutOfFrames (frames_of room.frames w.held))
+Told w room gauge last ss R.Unsound e = ⊥
+
+-- the run on these values ends with this outcome
+record IsDone (w : What) (room : Room) (gauge : Bool) (vs : Values) (o : Outcome) : Type 0 where
+  run : RunBy w vs room
+  end : End
+  told : Told w room gauge (run.last).store (all_seen run) run.end end
+  is : o ≡ ran end (record { code = w.code; store = (run.last).store })
+
+data Came (w : What) (input : List ℕ) (room : Room) (gauge : Bool) (o : Outcome) : Type 0 where
+  Bad : (at : ℕ) → IsPlace (Spelt w) input at → o ≡ failed (F.BadInput at) → Came w input room gauge o
+  Few : (vs : Values) → Spelt w input vs → room.words < words_of w vs → o ≡ failed (F.TooSmall (words_of w vs) room.words) → Came w input room gauge o
+  Done : (vs : Values) → Spelt w input vs → words_of w vs ≤ room.words → IsDone w room gauge vs o → Came w input room gauge o
+
+told_of : {bytes name : List ℕ} (c : Chosen bytes name) (vs : Values) (room : Room) (r : C.RunOf c vs room) (gauge : Bool) (end : R.End) (e : End) → TellsCode c vs room r gauge end e → Told (what c) room gauge (r.last).store (all_seen r) end e
+told_of c vs room r gauge (R.Value words) e h = record { results = h.1.results; stand = h.1.stand; is = h.2 ∙ ap (λ t. Ok t) h.1.is }
+told_of c vs room r gauge (R.Trap kind line col) e h = h
+told_of c vs room r gauge R.Out e h = h
+told_of c vs room r gauge R.Deep e h = h
+told_of c vs room r gauge R.Unsound e h = h
+
+-- ---- what was chosen is one
+
+record IsWhat (bytes name : List ℕ) (w : What) : Type 0 where
+  file : IsSoundFile bytes w.code
+  there : S.function_at (sound_view w.code) w.number ≡ Some w.function
+  named : (w.function).name ≡ name
+  some : name ≡ [] → ⊥
+  stack : HasStack (sound_view w.code) w.number w.held
+
+what_is : {bytes name : List ℕ} (c : Chosen bytes name) → IsWhat bytes name (what c)
+what_is c = record { file = c.file; there = c.there; named = c.named; some = c.some; stack = c.stack }
+
+long : (name : List ℕ) → (name ≡ [] → ⊥) → 0 < length name
+long [] h = absurd (h refl)
+long (b ∷ name) h = omega arith
+
+same_what : (bytes name : List ℕ) (w x : What) → IsWhat bytes name w → IsWhat bytes name x → w ≡ x
+same_what bytes name w x h k =
+    let code : w.code ≡ x.code = (one_code bytes (h.file).spelt.0 (k.file).spelt.0 w.code x.code (h.file).spelt.1 (k.file).spelt.1).1 in
+    let there : S.function_at (sound_view w.code) x.number ≡ Some x.function = ap (λ (c : PlainCode). S.function_at (sound_view c) x.number) code ∙ k.there in
+    let number : w.number ≡ x.number = same_unless w.number x.number (λ off. tables (sound_view w.code) (h.file).sound (λ t.
+    off (t.names w.number x.number w.function x.function h.there there (subst (λ n. 0 < length n) (sym h.named) (long name h.some)) (h.named ∙ sym k.named)))) in
+    let function : w.function ≡ x.function = same_Some w.function x.function (sym h.there ∙ ap (λ n. S.function_at (sound_view w.code) n) number ∙ there) in
+    let stack : HasStack (sound_view w.code) w.number x.held =
+    subst (λ n. HasStack (sound_view w.code) n x.held) (sym number) (subst (λ (c : PlainCode). HasStack (sound_view c) x.number x.held) (sym code) k.stack) in
+    let held : w.held ≡ x.held = has_once (sound_view w.code) w.number w.held x.held h.stack stack in
+    (λ k. record { code = code k; number = number k; function = function k; held = held k })
+
+came : (bytes name input : List ℕ) (room : Room) (gauge : Bool) (o : Outcome) → RunsCode bytes name input room gauge o → (w : What) × IsWhat bytes name w × Came w input room gauge o
+came bytes name input room gauge o (C.BadText c at place) = (what c, what_is c, Bad at place refl)
+came bytes name input room gauge o (C.Small c vs spelt less) = (what c, what_is c, Few vs spelt less refl)
+came bytes name input room gauge o (C.Ran c vs r e spelt fits told) = (what c, what_is c, Done vs spelt fits (record { run = r; end = e; told = told_of c vs room r gauge r.end e told; is = refl }))
+
+-- ---- the values are one
+
+module _ (bytes name : List ℕ) (w : What) (is : IsWhat bytes name w) where
+  abbrev code : S.PlainCode
+  code = sound_view w.code
+
+  abbrev types : List ℕ
+  types = types_of (w.function).params
+
+  values_by : AreSoundTables code → (input : List ℕ) (vs us : Values) → Spelt w input vs → Spelt w input us → vs ≡ us
+  values_by t input vs us h k =
+      let table = sound_table code t (upper_names bytes w.code (is.file).spelt) in
+      let known = params_known code.types (w.function).params (has_form code w.function (formed code w.number w.function (is.file).sound is.there)).params in
+      let a = accepts_text code.types (is_table code.types table) types (types_alive code.types table types known) input vs h in
+      let b = accepts_text code.types (is_table code.types table) types (types_alive code.types table types known) input us k in
+      let same : Accepted vs ≡ Accepted us = sym a ∙ b in
+      cc
+
+  values_once : (input : List ℕ) (vs us : Values) → Spelt w input vs → Spelt w input us → vs ≡ us
+  values_once input vs us h k = values_unless vs us (λ off. tables code (is.file).sound (λ t. off (values_by t input vs us h k)))
+
+  -- ---- the end is one
+
+  results_once : (s : Store) (ws : List ℕ) (vs us : Values) → AreWordsOf code.types s (w.function).results ws vs → AreWordsOf code.types s (w.function).results ws us → vs ≡ us
+  results_once s ws vs us h k =
+      sym h.3 ∙ (ap values_of (same_parts code.types s (w.function).results h.0 k.0 h.2 k.2 (sym h.1 ∙ k.1)) ∙ k.3)
+
+  told_once : (room : Room) (gauge : Bool) (last : Store) (ss : List Seen) (end : R.End) (d e : End) → Told w room gauge last ss end d → Told w room gauge last ss end e → d ≡ e
+  told_once room gauge last ss (R.Value words) d e h k =
+      let same = results_once last words h.results k.results h.stand k.stand in
+      h.is ∙ (ap (λ vs. Ok (printed_lines code.types (w.function).results vs ++ if_asked gauge (gauge_by_states ss w.held))) same ∙ sym k.is)
+  told_once room gauge last ss (R.Trap kind line col) d e h k = h ∙ sym k
+  told_once room gauge last ss R.Out d e h k = h ∙ sym k
+  told_once room gauge last ss R.Deep d e h k = h ∙ sym k
+  told_once room gauge last ss R.Unsound d e h k = absurd h
+
+  abbrev end_in : R.Run → R.End
+  end_in (R.Going s left steps) = R.Unsound
+  end_in (R.Over e s left steps) = e
+
+  abbrev steps_in : R.Run → ℕ
+  steps_in (R.Going s left steps) = steps
+  steps_in (R.Over e s left steps) = steps
+
+  module _ (input : List ℕ) (room : Room) (gauge : Bool) (vs : Values) (spelt : Spelt w input vs) (r q : RunBy w vs room) where
+    first_once : q.first ≡ r.first
+    first_once = same_Some q.first r.first (sym q.begins ∙ r.begins)
+
+    starts : IsStart code r.before r.waits w.number [] r.first
+    starts = (begins code r.before r.waits w.number w.function vs (frames_of room.frames w.held) r.first (is.file).sound (literals bytes w.code (is.file).spelt) r.kinds is.there (input_typed code.types types (characters input) vs spelt) r.begins).0
+
+    q_ends : R.Ends q.before (run_code code) r.first room.calls q.end q.last q.left q.steps
+    q_ends = subst (λ (s : State). R.Ends q.before (run_code code) s room.calls q.end q.last q.left q.steps) first_once q.ends
+
+    over_once : R.Over r.end r.last r.left r.steps ≡ R.Over q.end q.last q.left q.steps
+    over_once = ends_once code r.before r.waits q.before q.waits w.number [] r.first room.calls r.end q.end r.last q.last r.left q.left r.steps q.steps starts q.kinds r.ends q_ends
+
+    all_once : all_seen q ≡ all_seen r
+    all_once =
+        let steps : r.steps ≡ q.steps = ap steps_in over_once in
+        ap₂ (λ (n : ℕ) (s : State). seen q.before (run_code code) n (R.begun s room.calls)) (sym steps) first_once
+        ∙ sym (seen_once code r.before r.waits q.before q.waits w.number [] r.first room.calls r.steps starts q.kinds)
+
+    done_once : (d e : End) → Told w room gauge (r.last).store (all_seen r) r.end d → Told w room gauge (q.last).store (all_seen q) q.end e → ran d (record { code = w.code; store = (r.last).store }) ≡ ran e (record { code = w.code; store = (q.last).store })
+    done_once d e h k =
+        let ends : q.end ≡ r.end = sym (ap end_in over_once) in
+        let lasts : q.last ≡ r.last = sym (ap R.state_of over_once) in
+        let there : Told w room gauge (r.last).store (all_seen r) r.end e =
+        subst (λ (s : State). Told w room gauge s.store (all_seen r) r.end e) lasts
+        (subst (λ ss. Told w room gauge (q.last).store ss r.end e) all_once
+        (subst (λ end. Told w room gauge (q.last).store (all_seen q) end e) ends k)) in
+        let same = told_once room gauge (r.last).store (all_seen r) r.end d e h there in
+        ap₂ (λ (e : End) (s : State). ran e (record { code = w.code; store = s.store })) same (sym lasts)
+
+  came_once : (input : List ℕ) (room : Room) (gauge : Bool) (o u : Outcome) → Came w input room gauge o → Came w input room gauge u → o ≡ u
+  came_once input room gauge o u (Bad at place e) (Bad to other f) = e ∙ (ap (λ n. failed (F.BadInput n)) (IsPlace-unique (Spelt w) input at to place other) ∙ sym f)
+  came_once input room gauge o u (Bad at place e) (Few us spelt less f) = absurd (IsPlace-not_spelt (Spelt w) input at us place spelt)
+  came_once input room gauge o u (Bad at place e) (Done us spelt fits done) = absurd (IsPlace-not_spelt (Spelt w) input at us place spelt)
+  came_once input room gauge o u (Few vs spelt less e) (Bad to other f) = absurd (IsPlace-not_spelt (Spelt w) input to vs other spelt)
+  came_once input room gauge o u (Few vs spelt less e) (Few us also more f) = e ∙ (ap (λ vs. failed (F.TooSmall (words_of w vs) room.words)) (values_once input vs us spelt also) ∙ sym f)
+  came_once input room gauge o u (Few vs spelt less e) (Done us also fits done) =
+      let same = ap (words_of w) (values_once input vs us spelt also) in
+      absurd (omega (arith, less, fits, same))
+  came_once input room gauge o u (Done vs spelt fits done) (Bad to other f) = absurd (IsPlace-not_spelt (Spelt w) input to vs other spelt)
+  came_once input room gauge o u (Done vs spelt fits done) (Few us also less f) =
+      let same = ap (words_of w) (values_once input vs us spelt also) in
+      absurd (omega (arith, less, fits, same))
+  came_once input room gauge o u (Done vs spelt fits done) (Done us also more other) =
+      let there : IsDone w room gauge vs u = subst (λ vs. IsDone w room gauge vs u) (sym (values_once input vs us spelt also)) other in
+      done.is ∙ (done_once input room gauge vs spelt done.run there.run done.end there.end done.told there.told ∙ sym there.is)
+
+pub one_run : (bytes name input : List ℕ) (room : Room) (gauge : Bool) (o u : Outcome) → RunsCode bytes name input room gauge o → RunsCode bytes name input room gauge u → o ≡ u
+one_run bytes name input room gauge o u h k =
+    let a = came bytes name input room gauge o h in
+    let b = came bytes name input room gauge u k in
+    let same = same_what bytes name b.0 a.0 b.1 a.1 in
+    came_once bytes name a.0 a.1 input room gauge o u a.2 (subst (λ (w : What). Came w input room gauge u) same b.2)

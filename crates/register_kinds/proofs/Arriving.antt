@@ -4,7 +4,7 @@ use Rattle.std.specs.Prelude.{Bool, true, false, ◌&&◌, ◌==◌, if◌then�
 use Rattle.std.proofs.lemmas.Bool.Decides.{eqb_tells}
 use Rattle.cell_code.specs.declared.kind.Kind.{Kind}
 use Rattle.cell_code.specs.declared.kind.Kind.TheVariants.{Gone, Scalar, Owned, Lent, Credit}
-use Rattle.sound_code.specs.Kinds.{at, has, set_of}
+use Rattle.sound_code.specs.Kinds.{at, has, is_free, set_of}
 use Rattle.sound_code.specs.Changes.{narrow, without, tested}
 use Rattle.sound_code.specs.Fitting.{fits, fit_all}
 use Rattle.register_kinds.specs.declared.fits.Tested.{Tested}
@@ -13,12 +13,14 @@ use Rattle.sound_code.specs.Codes.{LabelMap, plain_label}
 use Rattle.cell_code.specs.declared.kind.Label.{Label}
 use Rattle.register_kinds.specs.Arrivals.{HasBut}
 use Rattle.register_kinds.specs.Kept.{Lents, Links, IsKept, KindsRise}
+use Rattle.register_kinds.specs.LabelSets.{LabelSets}
 use Rattle.register_kinds.specs.declared.asked.Asked.{Asked}
 use Rattle.register_kinds.specs.Rising.{Rise}
 use Rattle.register_kinds.specs.declared.known.Known.{Known}
 use Rattle.register_kinds.specs.Views.{kind_of, kinds_of}
 use Rattle.register_kinds.proofs.Places.{kinds_get}
 use Rattle.register_kinds.proofs.Changed.{is_become, not_true}
+use Rattle.register_kinds.proofs.Less.{free}
 
 none_lessened : (k : Kind) → lessened None k ≡ k
 none_lessened Gone = refl
@@ -188,13 +190,13 @@ with_yes false = refl
 -- a label map that was seen to fit
 
 pub keeps_seen : (ks : List Kind) (maps : List LabelMap) (lents : Lents) (links : Links)
-    (since after : List (Option (List ℕ))) (busy : ℕ) (asked : List Asked) (label : ℕ) →
-    IsKept ks maps lents links since busy asked →
+    (since after : List (Option (List ℕ))) (busy : ℕ) (asked : List Asked) (sets : LabelSets) (label : ℕ) →
+    IsKept ks maps lents links since busy asked sets →
     ((m : LabelMap) → slice_get maps label ≡ Some m → fit_all m.kinds ks ≡ true) →
     ((l : ℕ) (xs : List ℕ) → slice_get after l ≡ Some (Some xs) → (label ≡ l → ⊥) →
     slice_get since l ≡ Some (Some xs)) →
-    IsKept ks maps lents links after busy asked
-keeps_seen ks maps lents links since after busy asked label h fit other = record {
+    IsKept ks maps lents links after busy asked sets
+keeps_seen ks maps lents links since after busy asked sets label h fit other = record {
   rise = h.rise;
   are_maps = h.are_maps;
   few = h.few;
@@ -202,6 +204,8 @@ keeps_seen ks maps lents links since after busy asked label h fit other = record
   linked = h.linked;
   counted = h.counted;
   asks = h.asks;
+  set_maps = h.set_maps;
+  origins = h.origins;
   sees = λ l m xs a b q e. elim (eqb_tells label l) [
     | inl g ↦ all_each m.kinds ks (fit m (ap (slice_get maps) g.1 ∙ a)) q
     | inr g ↦ h.sees l m xs a (other l xs b g.1) q e
@@ -209,12 +213,12 @@ keeps_seen ks maps lents links since after busy asked label h fit other = record
 }
 
 pub keeps_seen_but : (ks : List Kind) (maps : List LabelMap) (lents : Lents) (links : Links)
-    (since after : List (Option (List ℕ))) (busy : ℕ) (asked : List Asked) (label : ℕ) (x : Tested) →
-    IsKept ks maps lents links since busy asked →
+    (since after : List (Option (List ℕ))) (busy : ℕ) (asked : List Asked) (sets : LabelSets) (label : ℕ) (x : Tested) →
+    IsKept ks maps lents links since busy asked sets →
     ((m : LabelMap) → slice_get maps label ≡ Some m → fit_all m.kinds (arrive (Some x) 0 ks) ≡ true) →
     ((l : ℕ) (xs : List ℕ) → slice_get after l ≡ Some (Some xs) → HasBut since label x.register l xs) →
-    IsKept ks maps lents links after busy asked
-keeps_seen_but ks maps lents links since after busy asked label x h fit other = record {
+    IsKept ks maps lents links after busy asked sets
+keeps_seen_but ks maps lents links since after busy asked sets label x h fit other = record {
   rise = h.rise;
   are_maps = h.are_maps;
   few = h.few;
@@ -222,6 +226,8 @@ keeps_seen_but ks maps lents links since after busy asked label x h fit other = 
   linked = h.linked;
   counted = h.counted;
   asks = h.asks;
+  set_maps = h.set_maps;
+  origins = h.origins;
   sees = λ l m xs a b q e.
       let o = other l xs b in
       elim (eqb_tells label l) [
@@ -239,7 +245,7 @@ pub rise_known : (ks : List Known) (i : ℕ) (k d : Known) → KindsRise (kinds_
 rise_known ks i k d r h e =
     subst (λ z. Rise (set_of z)) (kinds_get ks i d h ∙ ap kind_of (sym e)) (r i)
 
-at_get : (ms : List Kind) (i : ℕ) (d : Kind) → i < length ms → at ms i ≡ get_or ms i d
+pub at_get : (ms : List Kind) (i : ℕ) (d : Kind) → i < length ms → at ms i ≡ get_or ms i d
 at_get [] i d h = absurd (omega arith)
 at_get (m ∷ ms) zero d h = refl
 at_get (m ∷ ms) (suc i) d h = at_get ms i d (omega arith)
@@ -247,6 +253,20 @@ at_get (m ∷ ms) (suc i) d h = at_get ms i d (omega arith)
 pub rise_kind : (ms : List Kind) (i : ℕ) (k d : Kind) → KindsRise ms → i < length ms → k ≡ get_or ms i d →
     Rise (set_of k)
 rise_kind ms i k d r h e = subst (λ z. Rise (set_of z)) (at_get ms i d h ∙ sym e) (r i)
+
+-- one register of those that fit a label map
+
+pub fits_from : (t : Option Tested) (ms ks : List Kind) (q : ℕ) (m k : Kind) (l : Option ℕ) (b : Bool) →
+    b ≡ fits m (lessened l k) → l ≡ lacked_at t q → at ms q ≡ m → at ks q ≡ k → b ≡ fits_at t ms ks q
+fits_from t ms ks q m k l b h e f g =
+    h ∙ ap (λ x. fits m (lessened x k)) e ∙ ap (λ x. fits x (lessened (lacked_at t q) k)) (sym f)
+    ∙ ap (λ x. fits (at ms q) (lessened (lacked_at t q) x)) (sym g)
+
+pub free_from : (t : Option Tested) (ms ks : List Kind) (q : ℕ) (k : Kind) (b : Bool) → b ≡ is_free k →
+    k ≡ at ks q → at ms q ≡ Gone → b ≡ fits_at t ms ks q
+free_from t ms ks q k b h e f =
+    h ∙ ap is_free e ∙ sym (free (lacked_at t q) (at ks q))
+    ∙ ap (λ m. fits m (lessened (lacked_at t q) (at ks q))) (sym f)
 
 pub label_get : (ls : List Label) (i : ℕ) (x d : Label) → i < length ls → x ≡ get_or ls i d →
     slice_get (map plain_label ls) i ≡ Some (plain_label x)

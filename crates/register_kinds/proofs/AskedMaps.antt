@@ -1,5 +1,5 @@
 -- What is kept of label maps, as one after another is gone through.
-use Rattle.std.proofs.Common.{◌≡◌, ℕ, zero, suc, ◌+◌, ◌<◌, ◌⊎◌, inl, inr, List, [], ◌∷◌, ◌++◌, length, refl, sym, ap, ◌∙◌, subst, arith}
+use Rattle.std.proofs.Common.{◌≡◌, ℕ, zero, suc, ◌+◌, ◌<◌, ◌⊎◌, inl, inr, List, [], ◌∷◌, ◌++◌, length, get_or, refl, sym, ap, ◌∙◌, subst, arith}
 use Rattle.std.specs.Prelude.{Some, slice_get}
 use Rattle.sound_code.specs.Codes.{LabelMap}
 use Rattle.register_kinds.specs.declared.asked.Asked.{Asked}
@@ -39,3 +39,8 @@ asked_more maps xs x m h e f l n a g i s =
 pub long_one : (xs : List Asked) (x : Asked) → length (xs ++ x ∷ []) ≡ length xs + 1
 long_one [] x = omega arith
 long_one (y ∷ xs) x = let h = long_one xs x in omega arith
+
+pub got_asked : (xs : List Asked) (i : ℕ) (x d : Asked) → i < length xs → x ≡ get_or xs i d → slice_get xs i ≡ Some x
+got_asked [] i x d h e = absurd (omega arith)
+got_asked (y ∷ xs) zero x d h e = ap (λ z. Some z) (sym e)
+got_asked (y ∷ xs) (suc i) x d h e = got_asked xs i x d (omega arith) e

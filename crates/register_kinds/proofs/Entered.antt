@@ -9,13 +9,15 @@ use Rattle.cell_code.specs.declared.kind.Kind.{Kind}
 use Rattle.cell_code.specs.declared.kind.Kind.TheVariants.{Gone, Scalar, Owned, Lent, Credit}
 use Rattle.sound_code.specs.Codes.{PlainFunction, LabelMap}
 use Rattle.sound_code.specs.Types.{all, count, is_scalar_type}
-use Rattle.sound_code.specs.Kinds.{at, has, set_of, from_of, is_lent_of}
+use Rattle.sound_code.specs.Kinds.{at, set_of, from_of, is_lent_of}
 use Rattle.sound_code.specs.Entry.{entry, gones, param_kind}
 use Rattle.sound_code.specs.Headers.{is_formed, are_good_maps, are_good_kinds, is_good_kind, is_set, are_rising}
 use Rattle.sound_code.specs.Headers.{are_params, are_sizes, are_types}
 use Rattle.sound_code.specs.Limits.{most_registers, most_results, most_credits}
 use Rattle.register_kinds.specs.Kept.{Lents, Links, AreAsked, IsKept, KindsRise, leads, names}
 use Rattle.register_kinds.specs.declared.asked.Asked.{Asked}
+use Rattle.register_kinds.specs.declared.label_sets.Origin.{Origin}
+use Rattle.register_kinds.specs.LabelSets.{LabelSets, origin_at}
 use Rattle.register_kinds.specs.Busy.{busy_in}
 use Rattle.register_kinds.specs.Rising.{Rise, RiseFrom}
 use Rattle.register_kinds.specs.State.{of_types}
@@ -236,11 +238,13 @@ fresh_leads : (r : ℕ) (k : Kind) → IsFresh k → leads r k ≡ false
 fresh_leads r k h = ap (λ o. names r o || is_lent_of r k) h.from ∙ h.root r
 
 pub entered : (w : Table) (f : PlainFunction) (ks : List Kind) (lents : Lents) (links : Links)
-    (since : List (Option (List ℕ))) (busy : ℕ) (asked : List Asked) → is_formed (of_types w) f ≡ true →
+    (since : List (Option (List ℕ))) (busy : ℕ) (asked : List Asked) (sets : LabelSets) →
+    is_formed (of_types w) f ≡ true →
     ks ≡ entry (of_types w) f → f.registers < 65536 → lents.room ≡ f.registers →
     ((l : ℕ) (xs : List ℕ) → slice_get since l ≡ Some (Some xs) → ⊥) → busy ≡ busy_in ks → AreAsked f.labels asked →
-    IsKept ks f.labels lents links since busy asked
-entered w f ks lents links since busy asked e i small room none count asks =
+    sets.maps ≡ f.labels → ((q : ℕ) (o : Origin) → origin_at sets.origins q ≡ Some o → ⊥) →
+    IsKept ks f.labels lents links since busy asked sets
+entered w f ks lents links since busy asked sets e i small room none count asks maps unknown =
     let h = i ∙ entry_is w f in
     let long = entry_long w f ks e h in
     let fresh = entry_fresh w f ks h in
@@ -257,4 +261,6 @@ entered w f ks lents links since busy asked e i small room none count asks =
       sees = λ l m xs a b. absurd (none l xs b);
       counted = count;
       asks = asks;
+      set_maps = maps;
+      origins = λ q o x. absurd (unknown q o x);
     }

@@ -1,5 +1,5 @@
 -- What is kept beside the kinds goes on to hold as one register changes.
-use Rattle.std.proofs.Common.{◌≡◌, ℕ, zero, suc, ◌<◌, ◌⊎◌, List, [], ◌∷◌, set, refl, sym, ap, ◌∙◌, subst, inl, inr}
+use Rattle.std.proofs.Common.{◌≡◌, ℕ, zero, suc, ◌<◌, ◌⊎◌, List, [], ◌∷◌, length, set, refl, sym, ap, ◌∙◌, subst, inl, inr}
 use Rattle.std.specs.Prelude.{Bool, true, false, ◌||◌, Option, Some, slice_get, ◌==◌}
 use Rattle.std.proofs.lemmas.Bool.{eq-eqb}
 use Rattle.std.proofs.lemmas.Bool.Decides.{eqb_tells}
@@ -11,10 +11,13 @@ use Rattle.sound_code.specs.Fitting.{fits}
 use Rattle.register_kinds.specs.Kept.{Lents, Links, Linked, Gathers, IsKept, AreSeen, AreMaps, leads, names}
 use Rattle.register_kinds.specs.declared.asked.Asked.{Asked}
 use Rattle.register_kinds.specs.Busy.{busy_in}
+use Rattle.register_kinds.specs.declared.label_sets.Origin.{Origin}
+use Rattle.register_kinds.specs.LabelSets.{LabelSets, set_at}
 use Rattle.register_kinds.specs.Rising.{Rise}
 use Rattle.register_kinds.specs.Sights.{HasBefore}
 use Rattle.register_kinds.proofs.Places.{at_set_other, set_long}
 use Rattle.register_kinds.proofs.Changed.{not_true}
+use Rattle.register_kinds.proofs.SetsCompared.{origins_one}
 
 -- a change of register d, seen at each place
 pub either : (P : ℕ → Kind → Type 0) (ks : List Kind) (d : ℕ) (k : Kind) → ((q : ℕ) → P q (at ks q)) → P d k →
@@ -34,26 +37,34 @@ sees_one ks maps since after d k h g l m xs a b q e =
     ∙ h l m before.before a before.is q (not_true (has before.before q) (has xs q) (before.more q) e)
 
 pub keeps_one : (ks : List Kind) (maps : List LabelMap) (lents : Lents) (links links2 : Links)
-    (since after : List (Option (List ℕ))) (busy busy2 : ℕ) (asked : List Asked) (d : ℕ) (k : Kind) →
-    IsKept ks maps lents links since busy asked → Rise (set_of k) → busy2 ≡ busy_in (set ks d k) →
+    (since after : List (Option (List ℕ))) (busy busy2 : ℕ) (asked : List Asked) (sets sets2 : LabelSets) (d : ℕ)
+    (k : Kind) (o : Option Origin) →
+    IsKept ks maps lents links since busy asked sets → Rise (set_of k) → busy2 ≡ busy_in (set ks d k) →
     ((r q : ℕ) → Linked links r q → Linked links2 r q) → ((r : ℕ) → leads r k ≡ true → Linked links2 r d) →
-    ((l : ℕ) (xs : List ℕ) → slice_get after l ≡ Some (Some xs) → HasBefore since l xs d) →
-    IsKept (set ks d k) maps lents links2 after busy2 asked
-keeps_one ks maps lents links links2 since after busy busy2 asked d k h r count keeps own log = record {
-  rise = either (λ q x. Rise (set_of x)) ks d k h.rise r;
-  are_maps = subst (λ n. AreMaps n maps) (sym (set_long ks d k)) h.are_maps;
-  few = subst (λ n. n < 65536) (sym (set_long ks d k)) h.few;
-  room = h.room ∙ sym (set_long ks d k);
-  linked = λ x. either (λ q z. leads x z ≡ true → Linked links2 x q) ks d k (λ q e. keeps x q (h.linked x q e)) (own x);
-  sees = sees_one ks maps since after d k h.sees log;
-  counted = count;
-  asks = h.asks;
-}
+    ((l : ℕ) (xs : List ℕ) → slice_get after l ≡ Some (Some xs) → HasBefore since l xs d) → d < length ks →
+    sets2.maps ≡ sets.maps → sets2.origins ≡ set sets.origins d o →
+    ((p : Origin) → o ≡ Some p → set_of k ≡ set_at maps p) →
+    IsKept (set ks d k) maps lents links2 after busy2 asked sets2
+keeps_one ks maps lents links links2 since after busy busy2 asked sets sets2 d k o h r count keeps own log l m e g =
+    record {
+      rise = either (λ q x. Rise (set_of x)) ks d k h.rise r;
+      are_maps = subst (λ n. AreMaps n maps) (sym (set_long ks d k)) h.are_maps;
+      few = subst (λ n. n < 65536) (sym (set_long ks d k)) h.few;
+      room = h.room ∙ sym (set_long ks d k);
+      linked = λ x. either (λ q z. leads x z ≡ true → Linked links2 x q) ks d k (λ q e. keeps x q (h.linked x q e)) (own x);
+      sees = sees_one ks maps since after d k h.sees log;
+      counted = count;
+      asks = h.asks;
+      set_maps = m ∙ h.set_maps;
+      origins = origins_one ks sets sets2 d k o l h.origins m e
+          (λ p f. g p f ∙ ap (λ ms. set_at ms p) (sym h.set_maps));
+    }
 
 pub keeps_listed : (ks : List Kind) (maps : List LabelMap) (lents more : Lents) (links : Links)
-    (since : List (Option (List ℕ))) (busy : ℕ) (asked : List Asked) → IsKept ks maps lents links since busy asked →
-    more.room ≡ lents.room → IsKept ks maps more links since busy asked
-keeps_listed ks maps lents more links since busy asked h e = record {
+    (since : List (Option (List ℕ))) (busy : ℕ) (asked : List Asked) (sets : LabelSets) →
+    IsKept ks maps lents links since busy asked sets → more.room ≡ lents.room →
+    IsKept ks maps more links since busy asked sets
+keeps_listed ks maps lents more links since busy asked sets h e = record {
   rise = h.rise;
   are_maps = h.are_maps;
   few = h.few;
@@ -62,14 +73,17 @@ keeps_listed ks maps lents more links since busy asked h e = record {
   sees = h.sees;
   counted = h.counted;
   asks = h.asks;
+  set_maps = h.set_maps;
+  origins = h.origins;
 }
 
 -- Where nothing leads to a register, its list may go.
 pub keeps_cleared : (ks : List Kind) (maps : List LabelMap) (lents : Lents) (links links2 : Links)
-    (since : List (Option (List ℕ))) (busy : ℕ) (asked : List Asked) (d : ℕ) →
-    IsKept ks maps lents links since busy asked → ((q : ℕ) → leads d (at ks q) ≡ false) →
-    ((r q : ℕ) → (d ≡ r → ⊥) → Linked links r q → Linked links2 r q) → IsKept ks maps lents links2 since busy asked
-keeps_cleared ks maps lents links links2 since busy asked d h n m = record {
+    (since : List (Option (List ℕ))) (busy : ℕ) (asked : List Asked) (sets : LabelSets) (d : ℕ) →
+    IsKept ks maps lents links since busy asked sets → ((q : ℕ) → leads d (at ks q) ≡ false) →
+    ((r q : ℕ) → (d ≡ r → ⊥) → Linked links r q → Linked links2 r q) →
+    IsKept ks maps lents links2 since busy asked sets
+keeps_cleared ks maps lents links links2 since busy asked sets d h n m = record {
   rise = h.rise;
   are_maps = h.are_maps;
   few = h.few;
@@ -78,6 +92,8 @@ keeps_cleared ks maps lents links links2 since busy asked d h n m = record {
   sees = h.sees;
   counted = h.counted;
   asks = h.asks;
+  set_maps = h.set_maps;
+  origins = h.origins;
 }
 
 -- a register that leads to another

@@ -10,6 +10,7 @@ pub mod Sights
 pub mod Short
 pub mod Subsets
 pub mod Pieces
+pub mod SetsCompared
 pub mod Arriving
 pub mod Sparse
 pub mod AskedMaps

@@ -1,16 +1,46 @@
 -- All kinds fit a label map where those do of which it says more than Gone, and as many may not be overwritten.
-use Rattle.std.proofs.Common.{◌≡◌, ℕ, zero, suc, ◌+◌, ◌<◌, ◌≤◌, inl, inr, List, [], ◌∷◌, ◌++◌, length, set, refl, sym, ap, ◌∙◌, arith}
-use Rattle.std.specs.Prelude.{Bool, true, false, ◌&&◌, ◌==◌, Option}
+use Rattle.std.proofs.Common.{◌≡◌, ℕ, zero, suc, ◌+◌, ◌<◌, ◌≤◌, inl, inr, List, [], ◌∷◌, ◌++◌, length, drop, get_or, set, refl, sym, ap, ◌∙◌, subst, arith}
+use Rattle.std.specs.Prelude.{Bool, true, false, ◌&&◌, ◌==◌, Option, Some}
 use Rattle.std.proofs.lemmas.Bool.{eq-eqb, ne_eqb}
 use Rattle.std.proofs.lemmas.Bool.Decides.{eqb_tells}
 use Rattle.cell_code.specs.declared.kind.Kind.{Kind}
 use Rattle.cell_code.specs.declared.kind.Kind.TheVariants.{Gone, Scalar, Owned, Lent, Credit}
-use Rattle.sound_code.specs.Kinds.{at, is_free}
+use Rattle.sound_code.specs.Kinds.{at, is_credit_of, is_free, is_scalar_of}
 use Rattle.sound_code.specs.Fitting.{fits, fit_all}
 use Rattle.register_kinds.specs.declared.fits.Tested.{Tested}
 use Rattle.register_kinds.specs.Arrivals.{lessened, lacked_at, arrive, fits_at, each_fits}
-use Rattle.register_kinds.specs.Busy.{asked_from, asks, busy_in, held, place_by}
+use Rattle.register_kinds.specs.declared.asked.Ask.{Ask}
+use Rattle.register_kinds.specs.declared.asked.Asked.{Asked}
+use Rattle.register_kinds.specs.declared.asked.Says.{Says}
+use Rattle.register_kinds.specs.declared.asked.Says.TheVariants as S
+use Rattle.register_kinds.specs.Busy.{AllSay, IsAsked, asks_from, busy_in, held, registers_of, says_of}
 use Rattle.register_kinds.proofs.Arriving.{arrive_long}
+use Rattle.register_kinds.proofs.Less.{credit, scalar}
+
+-- the registers of which a map says more than Gone
+
+abbrev asks : Kind → Bool
+asks Gone = false
+asks (Scalar t) = true
+asks (Owned t s) = true
+asks (Lent t s root from) = true
+asks (Credit k) = true
+
+abbrev place_by : Bool → ℕ → List ℕ
+place_by true i = i ∷ []
+place_by false i = []
+
+abbrev asked_from : ℕ → List Kind → List ℕ
+asked_from i [] = []
+asked_from i (k ∷ ks) = place_by (asks k) i ++ asked_from (suc i) ks
+
+registers_from : (i : ℕ) (ms : List Kind) → registers_of (asks_from i ms) ≡ asked_from i ms
+registers_from i [] = refl
+registers_from i (Gone ∷ ms) = registers_from (suc i) ms
+registers_from i (Scalar t ∷ ms) = ap (λ z. i ∷ z) (registers_from (suc i) ms)
+registers_from i (Owned t s ∷ ms) = ap (λ z. i ∷ z) (registers_from (suc i) ms)
+registers_from i (Lent t s root from ∷ ms) = ap (λ z. i ∷ z) (registers_from (suc i) ms)
+registers_from i (Credit k ∷ ms) = ap (λ z. i ∷ z) (registers_from (suc i) ms)
 
 -- one register
 
@@ -202,17 +232,69 @@ sparse t ms ks places b a l e f g =
     ∙ each_asked t ms ks ms ks 0 l (at_plus ms) (at_plus ks))
     ∙ asked_all ms (arrive t 0 ks) (l ∙ sym (arrive_long t 0 ks))
 
-pub sparse_then : (t : Option Tested) (ms ks : List Kind) (places : List ℕ) (b a : ℕ) → length ms ≡ length ks →
-    b ≡ busy_in ks → a ≡ busy_in ms → places ≡ asked_from 0 ms → b ≡ a →
-    each_fits t ms ks places ≡ fit_all ms (arrive t 0 ks)
-sparse_then t ms ks places b a l e f g h =
-    sym (ap (λ z. z && each_fits t ms ks places) (eq-eqb b a h)) ∙ sparse t ms ks places b a l e f g
+pub sparse_then : (t : Option Tested) (ms ks : List Kind) (xs : List Ask) (b a : ℕ) → length ms ≡ length ks →
+    b ≡ busy_in ks → a ≡ busy_in ms → xs ≡ asks_from 0 ms → b ≡ a →
+    each_fits t ms ks (registers_of xs) ≡ fit_all ms (arrive t 0 ks)
+sparse_then t ms ks xs b a l e f g h =
+    sym (ap (λ z. z && each_fits t ms ks (registers_of xs)) (eq-eqb b a h))
+    ∙ sparse t ms ks (registers_of xs) b a l e f (ap registers_of g ∙ registers_from 0 ms)
 
 pub sparse_else : (t : Option Tested) (ms ks : List Kind) (b a : ℕ) → length ms ≡ length ks → b ≡ busy_in ks →
     a ≡ busy_in ms → (b ≡ a → ⊥) → (b == a) ≡ fit_all ms (arrive t 0 ks)
 sparse_else t ms ks b a l e f h =
     ne_eqb b a h ∙ sym (ap (λ z. z && each_fits t ms ks (asked_from 0 ms)) (ne_eqb b a h))
     ∙ sparse t ms ks (asked_from 0 ms) b a l e f refl
+
+-- what a label map says
+
+say_from : (all ms : List Kind) (i : ℕ) → ((q : ℕ) → at all (i + q) ≡ at ms q) → AllSay all (asks_from i ms)
+say_from all [] i h = tt
+say_from all (Gone ∷ ms) i h = say_from all ms (suc i) (later all ms Gone i h)
+say_from all (Scalar t ∷ ms) i h =
+    (ap says_of (here all (Scalar t ∷ ms) i h), say_from all ms (suc i) (later all ms (Scalar t) i h))
+say_from all (Owned t s ∷ ms) i h =
+    (ap says_of (here all (Owned t s ∷ ms) i h), say_from all ms (suc i) (later all ms (Owned t s) i h))
+say_from all (Lent t s root from ∷ ms) i h =
+    (ap says_of (here all (Lent t s root from ∷ ms) i h), say_from all ms (suc i) (later all ms (Lent t s root from) i h))
+say_from all (Credit k ∷ ms) i h =
+    (ap says_of (here all (Credit k ∷ ms) i h), say_from all ms (suc i) (later all ms (Credit k) i h))
+
+pub said_by : (ms : List Kind) (a : Asked) → IsAsked ms a → AllSay ms a.asks.items
+said_by ms a h = subst (AllSay ms) (sym h.asks) (say_from ms ms 0 (at_plus ms))
+
+scalar_said : (m : Kind) (u : ℕ) → says_of m ≡ Some (S.Scalar u) → m ≡ Scalar u
+scalar_said Gone u e = absurd (cc)
+scalar_said (Scalar t) u e = let f : t ≡ u = (cc) in ap (λ z. Scalar z) f
+scalar_said (Owned t s) u e = absurd (cc)
+scalar_said (Lent t s root from) u e = absurd (cc)
+scalar_said (Credit k) u e = absurd (cc)
+
+credit_said : (m : Kind) (u : ℕ) → says_of m ≡ Some (S.Credit u) → m ≡ Credit u
+credit_said Gone u e = absurd (cc)
+credit_said (Scalar t) u e = absurd (cc)
+credit_said (Owned t s) u e = absurd (cc)
+credit_said (Lent t s root from) u e = absurd (cc)
+credit_said (Credit k) u e = let f : k ≡ u = (cc) in ap (λ z. Credit z) f
+
+pub scalar_fits : (t : Option Tested) (ms ks : List Kind) (q u : ℕ) (k : Kind) (b : Bool) (s : Says) →
+    says_of (at ms q) ≡ Some s → s ≡ S.Scalar u → b ≡ is_scalar_of u k → k ≡ at ks q → b ≡ fits_at t ms ks q
+scalar_fits t ms ks q u k b s h i e f =
+    e ∙ ap (is_scalar_of u) f ∙ sym (scalar u (lacked_at t q) (at ks q))
+    ∙ ap (λ m. fits m (lessened (lacked_at t q) (at ks q))) (sym (scalar_said (at ms q) u (h ∙ ap (λ z. Some z) i)))
+
+pub credit_fits : (t : Option Tested) (ms ks : List Kind) (q u : ℕ) (k : Kind) (b : Bool) (s : Says) →
+    says_of (at ms q) ≡ Some s → s ≡ S.Credit u → b ≡ is_credit_of u k → k ≡ at ks q → b ≡ fits_at t ms ks q
+credit_fits t ms ks q u k b s h i e f =
+    e ∙ ap (is_credit_of u) f ∙ sym (credit u (lacked_at t q) (at ks q))
+    ∙ ap (λ m. fits m (lessened (lacked_at t q) (at ks q))) (sym (credit_said (at ms q) u (h ∙ ap (λ z. Some z) i)))
+
+pub next_ask : (xs : List Ask) (i : ℕ) (x d : Ask) → i < length xs → x ≡ get_or xs i d →
+    drop i xs ≡ x ∷ drop (i + 1) xs
+next_ask [] i x d h e = absurd (omega arith)
+next_ask (y ∷ xs) zero x d h e = ap (λ z. z ∷ xs) (sym e)
+next_ask (y ∷ xs) (suc i) x d h e =
+    let n : suc (i + 1) ≡ suc i + 1 = (omega arith) in
+    next_ask xs i x d (omega arith) e ∙ ap (λ n. x ∷ drop n (y ∷ xs)) n
 
 -- a register changes
 

@@ -43,7 +43,7 @@ and_all : (a b : Bool) → a ≡ true → b ≡ true → (a && b) ≡ true
 and_all true b e f = f
 and_all false b e f = absurd (cc)
 
-or_more : (a b : Bool) → b ≡ true → (a || b) ≡ true
+pub or_more : (a b : Bool) → b ≡ true → (a || b) ≡ true
 or_more true b e = refl
 or_more false b e = e
 
@@ -341,7 +341,7 @@ in_numbers low (suc n) x h g =
           (in_numbers (suc low) n x (let j = i.1 in less_apart low x h j) (omega arith))
     ]
 
-subset_has : (cs xs : List ℕ) (x : ℕ) → is_subset cs xs ≡ true → has cs x ≡ true → has xs x ≡ true
+pub subset_has : (cs xs : List ℕ) (x : ℕ) → is_subset cs xs ≡ true → has cs x ≡ true → has xs x ≡ true
 subset_has [] xs x e h = absurd (cc)
 subset_has (c ∷ cs) xs x e h =
     let p = and_parts (has xs c) (is_subset cs xs) e in
@@ -392,7 +392,7 @@ none_subset None [] others e = refl
 none_subset (Some c) [] others e = refl
 none_subset o (x ∷ own) others e = absurd (omega arith)
 
-least_is : (low : ℕ) (xs : List ℕ) (x : ℕ) → RiseFrom low xs → has xs x ≡ true → low ≤ x
+pub least_is : (low : ℕ) (xs : List ℕ) (x : ℕ) → RiseFrom low xs → has xs x ≡ true → low ≤ x
 least_is low [] x r e = absurd (cc)
 least_is low (y ∷ xs) x r e =
     let a = r.0 in

@@ -1,10 +1,13 @@
 -- Only what this crate keeps: how many registers may not be overwritten, and of which registers a label map says more
 -- than Gone. Where these fit, the others do exactly where as many may not be overwritten as the map says.
-use Rattle.std.specs.Prelude.{◌≡◌, ℕ, suc, ◌+◌, Bool, true, false, List, [], ◌∷◌, ◌++◌}
+use Rattle.std.specs.Prelude.{◌≡◌, ℕ, suc, ◌+◌, Bool, true, false, List, [], ◌∷◌, ◌++◌, Option, Some, None}
 use Rattle.cell_code.specs.declared.kind.Kind.{Kind}
 use Rattle.cell_code.specs.declared.kind.Kind.TheVariants.{Gone, Scalar, Owned, Lent, Credit}
-use Rattle.sound_code.specs.Kinds.{is_free}
+use Rattle.sound_code.specs.Kinds.{at, is_free}
+use Rattle.register_kinds.specs.declared.asked.Ask.{Ask}
 use Rattle.register_kinds.specs.declared.asked.Asked.{Asked}
+use Rattle.register_kinds.specs.declared.asked.Says.{Says}
+use Rattle.register_kinds.specs.declared.asked.Says.TheVariants as S
 
 -- 1 where a register may not be overwritten
 abbrev pub held : Bool → ℕ
@@ -15,24 +18,33 @@ abbrev pub busy_in : List Kind → ℕ
 busy_in [] = 0
 busy_in (k ∷ ks) = held (is_free k) + busy_in ks
 
--- It says more than Gone.
-abbrev pub asks : Kind → Bool
-asks Gone = false
-asks (Scalar t) = true
-asks (Owned t s) = true
-asks (Lent t s root from) = true
-asks (Credit k) = true
+-- what a kind says, where that is more than Gone
+abbrev pub says_of : Kind → Option Says
+says_of Gone = None
+says_of (Scalar t) = Some (S.Scalar t)
+says_of (Owned t s) = Some S.Tree
+says_of (Lent t s root from) = Some S.Tree
+says_of (Credit k) = Some (S.Credit k)
 
-abbrev pub place_by : Bool → ℕ → List ℕ
-place_by true i = i ∷ []
-place_by false i = []
+abbrev pub ask_by : Option Says → ℕ → List Ask
+ask_by None i = []
+ask_by (Some s) i = record { register = i; says = s } ∷ []
 
--- the registers from i on whose kinds say more than Gone
-abbrev pub asked_from : ℕ → List Kind → List ℕ
-asked_from i [] = []
-asked_from i (k ∷ ks) = place_by (asks k) i ++ asked_from (suc i) ks
+-- the registers from i on whose kinds say more than Gone, and what these say
+abbrev pub asks_from : ℕ → List Kind → List Ask
+asks_from i [] = []
+asks_from i (k ∷ ks) = ask_by (says_of k) i ++ asks_from (suc i) ks
+
+abbrev pub registers_of : List Ask → List ℕ
+registers_of [] = []
+registers_of (x ∷ xs) = x.register ∷ registers_of xs
+
+-- Each says what the kind of its register does.
+abbrev pub AllSay : List Kind → List Ask → Type 0
+AllSay ms [] = Unit {0}
+AllSay ms (x ∷ xs) = (says_of (at ms x.register) ≡ Some x.says) × AllSay ms xs
 
 -- what is kept of a label map with these kinds
 pub record IsAsked (ms : List Kind) (a : Asked) : Type 0 where
-  pub places : a.places.items ≡ asked_from 0 ms
+  pub asks : a.asks.items ≡ asks_from 0 ms
   pub busy : a.busy ≡ busy_in ms

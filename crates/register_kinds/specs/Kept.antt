@@ -1,6 +1,7 @@
 -- Only what this crate keeps beside the kinds, so that a step needn't look at all registers: for each register a list
 -- among which are all that are lent of it or came from it, the registers that a step looks at, for each label map that
--- was seen to fit the registers that have changed since, and what a label map asks at all.
+-- was seen to fit the registers that have changed since, what a label map asks at all, and which registers have the set
+-- of one.
 use Rattle.std.specs.Prelude.{◌≡◌, ℕ, zero, suc, ◌+◌, ◌<◌, Bool, true, false, List, [], ◌∷◌, ◌++◌, Option, Some, None}
 use Rattle.std.specs.Prelude.{length, slice_get, take, drop, ◌==◌, ◌||◌, ◌⊎◌}
 use Rattle.fip_language.specs.Table.{Table, is_scalar}
@@ -12,6 +13,7 @@ use Rattle.sound_code.specs.Kinds.{has, at, set_of, from_of, is_lent_of}
 use Rattle.sound_code.specs.Fitting.{fits}
 use Rattle.register_kinds.specs.declared.asked.Asked.{Asked}
 use Rattle.register_kinds.specs.Busy.{IsAsked, busy_in}
+use Rattle.register_kinds.specs.LabelSets.{LabelSets, AreOrigins}
 use Rattle.register_kinds.specs.Rising.{Rise}
 
 -- A from names register r.
@@ -112,7 +114,7 @@ AreAsked maps asked =
     length m.kinds < 65536 → IsAsked m.kinds a
 
 pub record IsKept (ks : List Kind) (maps : List LabelMap) (lents : Lents) (links : Links)
-    (since : List (Option (List ℕ))) (busy : ℕ) (asked : List Asked) : Type 0 where
+    (since : List (Option (List ℕ))) (busy : ℕ) (asked : List Asked) (sets : LabelSets) : Type 0 where
   pub rise : KindsRise ks
   pub are_maps : AreMaps (length ks) maps
   pub few : length ks < 65536
@@ -121,3 +123,5 @@ pub record IsKept (ks : List Kind) (maps : List LabelMap) (lents : Lents) (links
   pub sees : AreSeen ks maps since
   pub counted : busy ≡ busy_in ks
   pub asks : AreAsked maps asked
+  pub set_maps : sets.maps ≡ maps
+  pub origins : AreOrigins ks sets

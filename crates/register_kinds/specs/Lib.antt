@@ -2,6 +2,7 @@ pub mod State
 pub mod Views
 pub mod Rising
 pub mod Busy
+pub mod LabelSets
 pub mod Kept
 pub mod Sights
 pub mod Steps

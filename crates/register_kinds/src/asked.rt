@@ -2,7 +2,7 @@
 ghost use Rattle.std.specs.Prelude.{◌≡◌, ◌<◌, ◌≤◌, ◌++◌, ◌+◌, ℕ, length, map, IfOk, OnOk};
 ghost use Rattle.sound_code.specs.Codes.{plain_label};
 ghost use Rattle.sound_code.specs.Kinds.{is_free};
-ghost use Rattle.register_kinds.specs.Busy.{IsAsked, asked_from, asks, busy_in, held, place_by};
+ghost use Rattle.register_kinds.specs.Busy.{IsAsked, ask_by, asks_from, busy_in, held, says_of};
 ghost use Rattle.register_kinds.specs.Kept.{AreAsked};
 ghost use Rattle.register_kinds.specs.Views.{kinds_of};
 
@@ -11,10 +11,28 @@ use cell_code::{Kind, Label};
 use fip_base::plain::NoMemory;
 use std::alloc::Global;
 
+/// What a label map says of a register, where that is more than Gone; of a tree it says more than this.
+#[derive(Clone, Copy, Debug)]
+pub enum Says {
+    /// It holds a value of this scalar type.
+    Scalar(u32),
+    /// It names a cell of this size.
+    Credit(u8),
+    /// It owns or reads a tree.
+    Tree,
+}
+
+/// A register of which a label map says more than Gone.
+#[derive(Clone, Copy, Debug)]
+pub struct Ask {
+    pub register: u16,
+    pub says: Says,
+}
+
 /// What a label map asks: the registers of which it says more than Gone, and how many of them may not be overwritten.
 #[derive(Drop)]
 pub struct Asked {
-    pub places: Vec<u16>,
+    pub asks: Vec<Ask>,
     pub busy: usize,
 }
 
@@ -35,44 +53,45 @@ fn asked_of(alloc: Global, label: &Label) -> Result<Asked, NoMemory>
         IsAsked (plain_label label.now).kinds a) }
 {
     Ok(Asked {
-        places: places_of(alloc, &label.kinds)?,
+        asks: asks_of(alloc, &label.kinds)?,
         busy: count_kinds(&label.kinds),
     })
 }
 
-// The registers of which kinds say more than Gone.
-fn places_of(alloc: Global, kinds: &[Kind]) -> Result<Vec<u16>, NoMemory>
-    ensures is { IfOk result (λ v. length kinds.now < 65536 → v.items ≡ asked_from 0 kinds.now) }
+// What kinds say, where that is more than Gone.
+fn asks_of(alloc: Global, kinds: &[Kind]) -> Result<Vec<Ask>, NoMemory>
+    ensures is { IfOk result (λ v. length kinds.now < 65536 → v.items ≡ asks_from 0 kinds.now) }
 {
-    let mut places = Vec::new(alloc);
+    let mut asks = Vec::new(alloc);
     let mut register = 0u16;
     for kind in kinds {
-        add_place(&mut places, register, kind)?;
+        add_ask(&mut asks, register, kind)?;
         register = register.saturating_add(1);
     }
-    Ok(places)
+    Ok(asks)
 }
 
 // One register more, where its kind says more than Gone.
-fn add_place(places: &mut Vec<u16>, register: u16, kind: &Kind) -> Result<(), NoMemory>
-    ensures is { OnOk result (places.new.items ≡ places.old.items ++ place_by (asks kind.now) register) }
+fn add_ask(asks: &mut Vec<Ask>, register: u16, kind: &Kind) -> Result<(), NoMemory>
+    ensures is { OnOk result (asks.new.items ≡ asks.old.items ++ ask_by (says_of kind.now) register) }
 {
-    if says_more(kind) {
-        places.push(register)?;
+    match says_of(kind) {
+        None => (),
+        Some(says) => asks.push(Ask { register, says })?,
     }
     Ok(())
 }
 
-// Whether a kind says more than Gone.
-fn says_more(kind: &Kind) -> bool
-    ensures is { result ≡ asks kind.now }
+// What a kind says, where that is more than Gone.
+fn says_of(kind: &Kind) -> Option<Says>
+    ensures is { result ≡ says_of kind.now }
 {
     match kind {
-        Kind::Gone => false,
-        Kind::Scalar { .. } => true,
-        Kind::Owned { .. } => true,
-        Kind::Lent { .. } => true,
-        Kind::Credit { .. } => true,
+        Kind::Gone => None,
+        Kind::Scalar { ty } => Some(Says::Scalar(*ty)),
+        Kind::Owned { .. } => Some(Says::Tree),
+        Kind::Lent { .. } => Some(Says::Tree),
+        Kind::Credit { size } => Some(Says::Credit(*size)),
     }
 }
 

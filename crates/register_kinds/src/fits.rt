@@ -1,19 +1,23 @@
 // Whether what is known fits a label map.
-ghost use Rattle.std.specs.Prelude.{◌≡◌, ℕ, List, true, Some, length, slice_get};
+ghost use Rattle.std.specs.Prelude.{◌≡◌, ◌&&◌, ℕ, Bool, List, true, Some, IfSome, length, slice_get};
 ghost use Rattle.cell_code.specs.declared.kind.Kind.{Kind as a_kind};
 ghost use Rattle.sound_code.specs.Changes.{tested, without};
 ghost use Rattle.sound_code.specs.Codes.{LabelMap};
-ghost use Rattle.sound_code.specs.Fitting.{fits, fit_all, takes_from};
+ghost use Rattle.sound_code.specs.Fitting.{fits, fit_all, is_subset, takes_from};
 ghost use Rattle.sound_code.specs.Kinds.{at, set_of};
 ghost use Rattle.register_kinds.specs.Arrivals.{arrive, each_fits, fits_at, lacked_at, lessened, tested_fits};
-ghost use Rattle.register_kinds.specs.Busy.{IsAsked, busy_in};
+ghost use Rattle.register_kinds.specs.Busy.{AllSay, IsAsked, busy_in, registers_of, says_of};
 ghost use Rattle.register_kinds.specs.Kept.{KindsRise};
-ghost use Rattle.register_kinds.specs.Rising.{Rise};
-ghost use Rattle.register_kinds.specs.Views.{kind_of, kinds_of};
+ghost use Rattle.register_kinds.specs.declared.label_sets.Origin.{Origin};
+ghost use Rattle.register_kinds.specs.LabelSets.{AreComparable, MapsRise, origin_at, set_at};
+ghost use Rattle.register_kinds.specs.Rising.{Rise, less};
+ghost use Rattle.register_kinds.specs.Views.{constructors_in, kind_of, kinds_of};
 
-use crate::asked::Asked;
+use crate::asked::{Ask, Asked, Says};
 use crate::known::{Known, same_root};
+use crate::label_sets::{LabelSets, Origin};
 use crate::registers::{Registers, known_in, map_of};
+use crate::set::Set;
 use cell_code::{From, Kind};
 
 /// A register that was tested, and a constructor that its value doesn't have.
@@ -58,35 +62,68 @@ impl<'a> Registers<'a> {
     }
 
     // Whether what is known fits a label map, where a register may have been tested.
-    fn fits_map(&self, label: usize, tested: Option<Tested>) -> bool
-        ensures is { (m : LabelMap) → slice_get self.now.maps label ≡ Some m →
-            result ≡ fit_all m.kinds (arrive tested 0 self.now.kinds) }
+    fn fits_map(&mut self, label: usize, tested: Option<Tested>) -> bool
+        ensures is { (m : LabelMap) → slice_get self.old.maps label ≡ Some m →
+            result ≡ fit_all m.kinds (arrive tested 0 self.old.kinds) }
+        ensures same { self.new ≡ self.old }
     {
-        match map_of(self.labels, label) {
+        let labels = self.labels;
+        match map_of(labels, label) {
             None => true,
-            Some(kinds) => match self.log.since(label) {
-                None => self.fits_anew(label, tested),
-                Some(changed) => {
-                    if !tested_fits(&self.known, kinds, tested) {
-                        return false;
-                    }
-                    each_fits(&self.known, kinds, tested, changed, register_of(tested))
-                }
+            Some(kinds) => self.fits_kinds(label, kinds, tested),
+        }
+    }
+
+    // The same where the kinds of the label map are given.
+    fn fits_kinds(&mut self, label: usize, kinds: &[Kind], tested: Option<Tested>) -> bool
+        requires map { (m : LabelMap) × (slice_get self.now.maps label ≡ Some m) × (m.kinds ≡ kinds.now) }
+        ensures is { result ≡ fit_all kinds.now (arrive tested 0 self.old.kinds) }
+        ensures same { self.new ≡ self.old }
+    {
+        if self.asks_less(label) {
+            return self.fits_anew(label, kinds, tested);
+        }
+        match self.log.since(label) {
+            None => self.fits_anew(label, kinds, tested),
+            Some(changed) => changed_fit(
+                &self.known,
+                kinds,
+                tested,
+                changed,
+                &mut self.sets,
+                label,
+            ),
+        }
+    }
+
+    // Whether the label map of a number asks less than has changed since it was seen to fit.
+    fn asks_less(&self, label: usize) -> bool {
+        match self.log.since(label) {
+            None => false,
+            Some(changed) => match self.asked.get(label) {
+                None => false,
+                Some(asked) => asked.asks.len() < changed.len(),
             },
         }
     }
 
     // The same by all registers.
-    fn fits_anew(&self, label: usize, tested: Option<Tested>) -> bool
-        ensures is { (m : LabelMap) → slice_get self.now.maps label ≡ Some m →
-            result ≡ fit_all m.kinds (arrive tested 0 self.now.kinds) }
+    fn fits_anew(&mut self, label: usize, kinds: &[Kind], tested: Option<Tested>) -> bool
+        requires map { (m : LabelMap) × (slice_get self.now.maps label ≡ Some m) × (m.kinds ≡ kinds.now) }
+        ensures is { result ≡ fit_all kinds.now (arrive tested 0 self.old.kinds) }
+        ensures same { self.new ≡ self.old }
     {
-        match map_of(self.labels, label) {
-            None => true,
-            Some(kinds) => match self.asked.get(label) {
-                None => all_fit(&self.known, kinds, tested),
-                Some(asked) => asked_fit(&self.known, kinds, tested, self.busy, asked),
-            },
+        match self.asked.get(label) {
+            None => all_fit(&self.known, kinds, tested),
+            Some(asked) => asked_fit(
+                &self.known,
+                kinds,
+                tested,
+                self.busy,
+                asked,
+                &mut self.sets,
+                label,
+            ),
         }
     }
 }
@@ -98,13 +135,91 @@ fn asked_fit(
     tested: Option<Tested>,
     busy: usize,
     asked: &Asked,
+    sets: &mut LabelSets,
+    label: usize,
 ) -> bool
     requires known_rise { KindsRise (kinds_of known.now) }
     requires kinds_rise { KindsRise kinds.now }
+    requires comparable { AreComparable sets.old (kinds_of known.now) kinds.now label }
+    requires said { AllSay kinds.now asked.now.asks.items }
     ensures is { length kinds.now ≡ length (kinds_of known.now) → busy ≡ busy_in (kinds_of known.now) →
         IsAsked kinds.now asked.now → result ≡ fit_all kinds.now (arrive tested 0 (kinds_of known.now)) }
+    ensures same { sets.new ≡ sets.old }
 {
-    busy == asked.busy && each_fits(known, kinds, tested, asked.places.as_slice(), None)
+    if busy != asked.busy {
+        return false;
+    }
+    asks_fit(known, kinds, tested, asked.asks.as_slice(), sets, label)
+}
+
+// Whether all registers fit of which a label map says more than Gone. What it says of a tree stands in its kinds.
+fn asks_fit(
+    known: &[Known],
+    kinds: &[Kind],
+    tested: Option<Tested>,
+    asks: &[Ask],
+    sets: &mut LabelSets,
+    label: usize,
+) -> bool
+    requires known_rise { KindsRise (kinds_of known.now) }
+    requires kinds_rise { KindsRise kinds.now }
+    requires comparable { AreComparable sets.old (kinds_of known.now) kinds.now label }
+    requires said { AllSay kinds.now asks.now }
+    ensures is { result ≡ each_fits tested kinds.now (kinds_of known.now) (registers_of asks.now) }
+    ensures same { sets.new ≡ sets.old }
+{
+    for ask in asks {
+        if !ask_fits(known, kinds, tested, *ask, sets, label) {
+            return false;
+        }
+    }
+    true
+}
+
+// Whether one of them fits.
+fn ask_fits(
+    known: &[Known],
+    kinds: &[Kind],
+    tested: Option<Tested>,
+    ask: Ask,
+    sets: &mut LabelSets,
+    label: usize,
+) -> bool
+    requires known_rise { KindsRise (kinds_of known.now) }
+    requires kinds_rise { KindsRise kinds.now }
+    requires comparable { AreComparable sets.old (kinds_of known.now) kinds.now label }
+    requires said { says_of (at kinds.now ask.register) ≡ Some ask.says }
+    ensures is { result ≡ fits_at tested kinds.now (kinds_of known.now) ask.register }
+    ensures same { sets.new ≡ sets.old }
+{
+    match ask.says {
+        Says::Scalar(ty) => known_in(known, ask.register).is_scalar_of(ty),
+        Says::Credit(size) => known_in(known, ask.register).is_credit_of(size as usize),
+        Says::Tree => fits_at(known, kinds, tested, ask.register, sets, label),
+    }
+}
+
+// Whether what was seen to fit fits still, where these registers have changed since.
+fn changed_fit(
+    known: &[Known],
+    kinds: &[Kind],
+    tested: Option<Tested>,
+    changed: &[u16],
+    sets: &mut LabelSets,
+    label: usize,
+) -> bool
+    requires known_rise { KindsRise (kinds_of known.now) }
+    requires kinds_rise { KindsRise kinds.now }
+    requires comparable { AreComparable sets.old (kinds_of known.now) kinds.now label }
+    ensures is { result ≡ (each_fits tested kinds.now (kinds_of known.now) changed.now
+        && tested_fits tested kinds.now (kinds_of known.now)) }
+    ensures same { sets.new ≡ sets.old }
+{
+    if !tested_fits(known, kinds, tested, sets, label) {
+        return false;
+    }
+    let fitting = register_of(tested);
+    each_fits(known, kinds, tested, changed, fitting, sets, label)
 }
 
 // Whether all registers fit.
@@ -119,7 +234,7 @@ fn all_fit(known: &[Known], kinds: &[Kind], tested: Option<Tested>) -> bool
         match known.get(place) {
             None => return false,
             Some(one) => {
-                if !fits(*one, kind, lacked_at(tested, place)) {
+                if !fits(one, kind, lacked_at(tested, place), None) {
                     return false;
                 }
             }
@@ -137,16 +252,20 @@ fn each_fits(
     tested: Option<Tested>,
     changed: &[u16],
     fitting: Option<u16>,
+    sets: &mut LabelSets,
+    label: usize,
 ) -> bool
     requires known_rise { KindsRise (kinds_of known.now) }
     requires kinds_rise { KindsRise kinds.now }
+    requires comparable { AreComparable sets.old (kinds_of known.now) kinds.now label }
     requires fitting { (r : ℕ) → fitting ≡ Some r → fits_at tested kinds.now (kinds_of known.now) r ≡ true }
     ensures is { result ≡ each_fits tested kinds.now (kinds_of known.now) changed.now }
+    ensures same { sets.new ≡ sets.old }
 {
     let mut last = fitting;
     for register in changed {
         if !is_same(last, *register) {
-            if !fits_at(known, kinds, tested, *register) {
+            if !fits_at(known, kinds, tested, *register, sets, label) {
                 return false;
             }
             last = Some(*register);
@@ -177,31 +296,75 @@ fn is_same(last: Option<u16>, register: u16) -> bool
 }
 
 // Whether the register fits that was tested.
-fn tested_fits(known: &[Known], kinds: &[Kind], tested: Option<Tested>) -> bool
+fn tested_fits(
+    known: &[Known],
+    kinds: &[Kind],
+    tested: Option<Tested>,
+    sets: &mut LabelSets,
+    label: usize,
+) -> bool
     requires known_rise { KindsRise (kinds_of known.now) }
     requires kinds_rise { KindsRise kinds.now }
+    requires comparable { AreComparable sets.old (kinds_of known.now) kinds.now label }
     ensures is { result ≡ tested_fits tested kinds.now (kinds_of known.now) }
+    ensures same { sets.new ≡ sets.old }
 {
     match tested {
         None => true,
-        Some(test) => fits_at(known, kinds, Some(test), test.register),
+        Some(test) => fits_at(known, kinds, Some(test), test.register, sets, label),
     }
 }
 
 // Whether one register fits.
-fn fits_at(known: &[Known], kinds: &[Kind], tested: Option<Tested>, register: u16) -> bool
+fn fits_at(
+    known: &[Known],
+    kinds: &[Kind],
+    tested: Option<Tested>,
+    register: u16,
+    sets: &mut LabelSets,
+    label: usize,
+) -> bool
     requires known_rise { KindsRise (kinds_of known.now) }
     requires kinds_rise { KindsRise kinds.now }
+    requires comparable { AreComparable sets.old (kinds_of known.now) kinds.now label }
     ensures is { result ≡ fits_at tested kinds.now (kinds_of known.now) register }
+    ensures same { sets.new ≡ sets.old }
 {
-    match kinds.get(register as usize) {
+    let place = register as usize;
+    match kinds.get(place) {
         None => known_in(known, register).is_free(),
-        Some(kind) => fits(
-            known_in(known, register),
-            kind,
-            lacked_at(tested, register as usize),
-        ),
+        Some(kind) => {
+            let lacked = lacked_at(tested, place);
+            match known.get(place) {
+                None => fits(&Known::Gone, kind, lacked, None),
+                Some(one) => {
+                    let within = found_within(one, register, lacked, sets, label);
+                    fits(one, kind, lacked, within)
+                }
+            }
+        }
     }
+}
+
+// Whether the set of a register, but `lacked`, is among the one that a label map asks of it, where that is found among
+// what is kept of label maps. Short sets aren't looked for.
+fn found_within(
+    known: &Known,
+    register: u16,
+    lacked: Option<u32>,
+    sets: &mut LabelSets,
+    label: usize,
+) -> Option<bool>
+    requires rise { MapsRise sets.old.maps }
+    ensures is { IfSome result (λ b. (o : Origin) × (origin_at sets.old.origins register ≡ Some o)
+        × (b ≡ is_subset (less lacked (set_at sets.old.maps o))
+        (set_at sets.old.maps (record { label = label; register = register })))) }
+    ensures same { sets.new ≡ sets.old }
+{
+    if !known.is_long() {
+        return None;
+    }
+    sets.is_within(register, lacked, Origin { label, register })
 }
 
 // The constructor that a register was tested not to have.
@@ -221,11 +384,14 @@ fn lacked_at(tested: Option<Tested>, place: usize) -> Option<u32>
 }
 
 // Whether what is known of a register, whose tree doesn't have the constructor `lacked`, fits what a label says of it.
+// Whether its set is among the label's may be known.
 #[tactic(auto, using(crate::proofs::Less::free, crate::proofs::Less::scalar, crate::proofs::Less::credit))]
-fn fits(known: Known, kind: &Kind, lacked: Option<u32>) -> bool
-    requires known_rises { Rise (set_of (kind_of known)) }
+fn fits(known: &Known, kind: &Kind, lacked: Option<u32>, within: Option<bool>) -> bool
+    requires known_rises { Rise (set_of (kind_of known.now)) }
     requires kind_rises { Rise (set_of kind.now) }
-    ensures is { result ≡ fits kind.now (lessened lacked (kind_of known.entry)) }
+    requires within { (b : Bool) → within ≡ Some b →
+        b ≡ is_subset (less lacked (set_of (kind_of known.now))) (set_of kind.now) }
+    ensures is { result ≡ fits kind.now (lessened lacked (kind_of known.now)) }
 {
     match kind {
         Kind::Gone => known.is_free(),
@@ -233,7 +399,7 @@ fn fits(known: Known, kind: &Kind, lacked: Option<u32>) -> bool
         Kind::Credit { size } => known.is_credit_of(*size as usize),
         Kind::Owned { ty, constructors } => match known {
             Known::Owned { ty: own, set } => {
-                own == *ty && set.is_within(lacked, constructors.as_slice())
+                *own == *ty && is_within(*set, lacked, constructors.as_slice(), within)
             }
             Known::Gone => false,
             Known::Scalar { .. } => false,
@@ -252,16 +418,29 @@ fn fits(known: Known, kind: &Kind, lacked: Option<u32>) -> bool
                 root: known_root,
                 from: known_from,
             } => {
-                own == *ty
-                    && set.is_within(lacked, constructors.as_slice())
-                    && same_root(known_root, *root)
-                    && takes_from(*from, known_from)
+                *own == *ty
+                    && is_within(*set, lacked, constructors.as_slice(), within)
+                    && same_root(*known_root, *root)
+                    && takes_from(*from, *known_from)
             }
             Known::Gone => false,
             Known::Scalar { .. } => false,
             Known::Owned { .. } => false,
             Known::Credit { .. } => false,
         },
+    }
+}
+
+// Whether a set, but `lacked`, is among others, where that may be known.
+fn is_within(set: Set, lacked: Option<u32>, others: &[u32], known: Option<bool>) -> bool
+    requires own_rise { Rise (constructors_in set) }
+    requires others_rise { Rise others.now }
+    requires known { (b : Bool) → known ≡ Some b → b ≡ is_subset (less lacked (constructors_in set)) others.now }
+    ensures is { result ≡ is_subset (less lacked (constructors_in set.entry)) others.now }
+{
+    match known {
+        Some(within) => within,
+        None => set.is_within(lacked, others),
     }
 }
 

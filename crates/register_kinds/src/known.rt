@@ -206,6 +206,17 @@ impl<'a> Known<'a> {
         }
     }
 
+    /// Whether its constructors are a long list, which is compared with another once.
+    pub fn is_long(self) -> bool {
+        match self {
+            Known::Gone => false,
+            Known::Scalar { .. } => false,
+            Known::Owned { set, .. } => set.is_long(),
+            Known::Lent { set, .. } => set.is_long(),
+            Known::Credit { .. } => false,
+        }
+    }
+
     /// Whether its value may have a constructor.
     pub fn may_have(self, table: &Table<'a>, constructor: u32) -> bool
         ensures is { Rise (set_of (kind_of self.entry)) →

@@ -8,6 +8,8 @@ ghost use Rattle.sound_code.specs.Entry.{entry, gones, param_kind};
 ghost use Rattle.sound_code.specs.Headers.{is_formed};
 ghost use Rattle.sound_code.specs.Kinds.{at, has, set_of};
 ghost use Rattle.register_kinds.specs.Kept.{KindsRise, Linked, leads};
+ghost use Rattle.register_kinds.specs.declared.label_sets.Origin.{Origin};
+ghost use Rattle.register_kinds.specs.LabelSets.{set_at};
 ghost use Rattle.register_kinds.specs.Rising.{Rise};
 ghost use Rattle.register_kinds.specs.State.{of_types};
 ghost use Rattle.register_kinds.specs.Kept.{kept_at};
@@ -15,6 +17,7 @@ ghost use Rattle.register_kinds.specs.Views.{kind_of, kinds_of};
 
 use crate::asked::{Asked, asked_by, count_known, recount};
 use crate::known::Known;
+use crate::label_sets::{LabelSets, Origin};
 use crate::lents::Lents;
 use crate::links::Links;
 use crate::log::Log;
@@ -35,6 +38,7 @@ pub struct Registers<'a> {
     pub(crate) log: Log,
     pub(crate) busy: usize,
     pub(crate) asked: Vec<Asked>,
+    pub(crate) sets: LabelSets<'a>,
 }
 
 impl<'a> Model for Registers<'a> {
@@ -54,7 +58,7 @@ impl<'a> Model for Registers<'a> {
     } };
 
     ghost invariant = { λ v. IsKept (kinds_of v.known.items) (map plain_label v.labels.now) v.lents v.links v.log v.busy
-        v.asked.items };
+        v.asked.items v.sets };
 }
 
 impl<'a> Registers<'a> {
@@ -78,6 +82,7 @@ impl<'a> Registers<'a> {
             log: Log::new(alloc, function.registers as usize, function.labels.len())?,
             busy,
             asked: asked_by(alloc, &function.labels)?,
+            sets: LabelSets::new(alloc, &function.labels, function.registers as usize)?,
         })
     }
 
@@ -89,21 +94,24 @@ impl<'a> Registers<'a> {
         let labels = self.labels;
         match map_of(labels, label) {
             None => (),
-            Some(kinds) => self.put_all(kinds),
+            Some(kinds) => self.put_all(label, kinds),
         }
     }
 
-    // What a label map says of each register holds.
-    fn put_all(&mut self, kinds: &'a [Kind])
+    // What the label map of a number says of each register holds.
+    fn put_all(&mut self, label: usize, kinds: &'a [Kind])
+        requires map { (m : LabelMap) × (slice_get self.now.maps label ≡ Some m) × (m.kinds ≡ kinds.now) }
         requires rise { KindsRise kinds.now }
         requires long { length kinds.now ≡ length self.now.kinds }
         requires few { length kinds.now < 65536 }
         ensures kinds { self.new.kinds ≡ kinds.now }
         ensures maps { self.new.maps ≡ self.old.maps }
     {
+        self.sets.start();
         let mut register = 0u16;
         for kind in kinds {
-            self.put(register, Known::of(kind));
+            let origin = Origin { label, register };
+            self.change(register, Known::of(kind), Some(origin));
             register += 1;
         }
     }
@@ -118,9 +126,43 @@ impl<'a> Registers<'a> {
         known_in(&self.known, register)
     }
 
+    // The register of a label map whose set a register has, where that is known.
+    pub(crate) fn origin(&self, register: u16) -> Option<Origin>
+        ensures is { (o : Origin) → result ≡ Some o →
+            set_of (at self.now.kinds register) ≡ set_at self.now.maps o }
+    {
+        self.sets.origin(register)
+    }
+
     // Another thing is known of a register.
     pub(crate) fn put(&mut self, register: u16, known: Known<'a>)
         requires rises { Rise (set_of (kind_of known)) }
+        ensures kinds { self.new.kinds ≡ set self.old.kinds register (kind_of known.entry) }
+        ensures maps { self.new.maps ≡ self.old.maps }
+        ensures lent { self.new.lent ≡ self.old.lent }
+        ensures reached { self.new.reached ≡ self.old.reached }
+    {
+        self.change(register, known, None);
+    }
+
+    // Another thing is known of a register, with the same set of constructors.
+    pub(crate) fn put_alike(&mut self, register: u16, known: Known<'a>)
+        requires rises { Rise (set_of (kind_of known)) }
+        requires same { set_of (kind_of known) ≡ set_of (at self.now.kinds register) }
+        ensures kinds { self.new.kinds ≡ set self.old.kinds register (kind_of known.entry) }
+        ensures maps { self.new.maps ≡ self.old.maps }
+        ensures lent { self.new.lent ≡ self.old.lent }
+        ensures reached { self.new.reached ≡ self.old.reached }
+    {
+        let origin = self.origin(register);
+        self.change(register, known, origin);
+    }
+
+    // Another thing is known of a register. Where an origin is told, its set is the one of that register of a label
+    // map.
+    pub(crate) fn change(&mut self, register: u16, known: Known<'a>, origin: Option<Origin>)
+        requires rises { Rise (set_of (kind_of known)) }
+        requires origin { (o : Origin) → origin ≡ Some o → set_of (kind_of known) ≡ set_at self.now.maps o }
         ensures kinds { self.new.kinds ≡ set self.old.kinds register (kind_of known.entry) }
         ensures maps { self.new.maps ≡ self.old.maps }
         ensures lent { self.new.lent ≡ self.old.lent }
@@ -132,6 +174,7 @@ impl<'a> Registers<'a> {
             self.busy = recount(self.busy, self.known[place].is_free(), known.is_free());
             self.known[place] = known;
             self.log.add(register);
+            self.sets.set(register, origin);
         }
     }
 

@@ -12,6 +12,9 @@ ghost use Rattle.register_kinds.specs.Views.{constructors_in};
 // A list of no more is looked at one by one.
 const FEW: usize = 8;
 
+// Where a list has more, it is kept what came of a comparison with another.
+const MANY: usize = 64;
+
 // So many numbers of a list are compared at once.
 const PIECE: usize = 256;
 
@@ -48,6 +51,15 @@ impl<'a> Set<'a> {
             Set::One(own) => Some(own),
             Set::Listed([own]) => Some(*own),
             Set::Listed(_) => None,
+        }
+    }
+
+    /// Whether it is a long list, which is compared with another once.
+    pub fn is_long(self) -> bool {
+        match self {
+            Set::All(_) => false,
+            Set::One(_) => false,
+            Set::Listed(own) => own.len() > MANY,
         }
     }
 
@@ -166,7 +178,7 @@ fn above(numbers: &[u32], number: u32) -> &[u32]
 
 // Whether all of these, but `lacked`, are among others; both lists rise. Where there are many, and the others have all
 // numbers from the first of them to the last, that is seen at once.
-fn is_listed_within(own: &[u32], lacked: Option<u32>, others: &[u32]) -> bool
+pub(crate) fn is_listed_within(own: &[u32], lacked: Option<u32>, others: &[u32]) -> bool
     requires own_rise { Rise own.now }
     requires others_rise { Rise others.now }
     ensures is { result ≡ is_subset (less lacked own.now) others.now }
@@ -344,7 +356,7 @@ fn after(others: &[u32], lacked: Option<u32>, number: u32) -> Option<&[u32]>
 }
 
 // Whether a number is `lacked`.
-fn is_lacked(lacked: Option<u32>, number: u32) -> bool
+pub(crate) fn is_lacked(lacked: Option<u32>, number: u32) -> bool
     ensures is { result ≡ is_one lacked number }
 {
     match lacked {
@@ -355,7 +367,7 @@ fn is_lacked(lacked: Option<u32>, number: u32) -> bool
 
 // What stands behind a number in a rising list; none where it isn't there. Numbers that follow one another are found at
 // once.
-fn behind(numbers: &[u32], number: u32) -> Option<&[u32]>
+pub(crate) fn behind(numbers: &[u32], number: u32) -> Option<&[u32]>
     requires rise { Rise numbers.now }
     ensures found { IfSome result (λ r. (has numbers.now number ≡ true) × (r.now ≡ beyond number numbers.now)) }
     ensures none { result ≡ None → has numbers.now number ≡ false }

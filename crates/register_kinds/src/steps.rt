@@ -1,9 +1,11 @@
 // What becomes of all registers where one is written, used up, moved or tested.
-ghost use Rattle.std.specs.Prelude.{◌≡◌, ◌==◌, ℕ, [], ◌∷◌, true, map, set};
+ghost use Rattle.std.specs.Prelude.{◌≡◌, ◌==◌, ℕ, [], ◌∷◌, true, Some, map, set};
 ghost use Rattle.cell_code.specs.declared.kind.Kind.TheVariants.{Gone, Scalar, Owned};
 ghost use Rattle.sound_code.specs.Changes.{written, used_up, moved, tested, forget, goes};
 ghost use Rattle.sound_code.specs.Kinds.{at, has, is_lent_of, root_of, set_of};
 ghost use Rattle.register_kinds.specs.Kept.{Gathers, leads};
+ghost use Rattle.register_kinds.specs.declared.label_sets.Origin.{Origin};
+ghost use Rattle.register_kinds.specs.LabelSets.{set_at};
 ghost use Rattle.sound_code.specs.Leaves.{atom_kind, received};
 ghost use Rattle.sound_code.specs.Types.{field_kind, lent_kind};
 ghost use Rattle.register_kinds.specs.Rising.{Rise};
@@ -11,6 +13,7 @@ ghost use Rattle.register_kinds.specs.Steps.{forgets, lose};
 ghost use Rattle.register_kinds.specs.Views.{kind_of};
 
 use crate::known::{Known, atom, part_of, whole};
+use crate::label_sets::Origin;
 use crate::registers::Registers;
 use crate::set::Set;
 use crate::table::Table;
@@ -47,7 +50,7 @@ impl<'a> Registers<'a> {
     {
         let known = self.known(lent);
         if known.came_from(register) {
-            self.put(lent, known.forgetting(register));
+            self.put_alike(lent, known.forgetting(register));
         }
     }
 
@@ -87,7 +90,7 @@ impl<'a> Registers<'a> {
             None => (),
             Some(from) => {
                 if self.is_going(register, from.register) {
-                    self.put(lent, known.without_from());
+                    self.put_alike(lent, known.without_from());
                 }
             }
         }
@@ -128,8 +131,18 @@ impl<'a> Registers<'a> {
         ensures kinds { self.new.kinds ≡ written self.old.kinds register (kind_of known.entry) }
         ensures maps { self.new.maps ≡ self.old.maps }
     {
+        self.write_from(register, known, None);
+    }
+
+    // The same, where the set may be that of a register of a label map.
+    fn write_from(&mut self, register: u16, known: Known<'a>, origin: Option<Origin>)
+        requires rises { Rise (set_of (kind_of known)) }
+        requires origin { (o : Origin) → origin ≡ Some o → set_of (kind_of known) ≡ set_at self.now.maps o }
+        ensures kinds { self.new.kinds ≡ written self.old.kinds register (kind_of known.entry) }
+        ensures maps { self.new.maps ≡ self.old.maps }
+    {
         self.forget(register);
-        self.put(register, known.forgetting(register));
+        self.change(register, known.forgetting(register), origin);
     }
 
     /// A register gets a scalar of a type.
@@ -212,6 +225,7 @@ impl<'a> Registers<'a> {
         ensures maps { self.new.maps ≡ self.old.maps }
     {
         let known = self.known(source);
+        let origin = self.origin(source);
         match known {
             Known::Gone => (),
             Known::Scalar { .. } => (),
@@ -219,7 +233,7 @@ impl<'a> Registers<'a> {
             Known::Lent { .. } => (),
             Known::Credit { .. } => self.write_gone(source),
         }
-        self.write(destination, known)
+        self.write_from(destination, known, origin)
     }
 
     /// A register was tested: the root of the tree that it owns or reads has this constructor.

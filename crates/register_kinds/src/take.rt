@@ -1,5 +1,5 @@
 // Taking a cell apart: its fields go into registers, and the register that owned it keeps it as a credit.
-ghost use Rattle.std.specs.Prelude.{◌≡◌, ◌⊎◌, ◌<◌, ℕ, true, false, None, set, length};
+ghost use Rattle.std.specs.Prelude.{◌≡◌, ◌⊎◌, ◌<◌, ℕ, true, false, None, Some, set, length};
 ghost use Rattle.sound_code.specs.Asked.{known_fields};
 ghost use Rattle.sound_code.specs.Kinds.{at, has};
 ghost use Rattle.sound_code.specs.Taking.{IsTaken, IsReached, part, is_heir, is_field, part_kind, credit, ends};
@@ -7,11 +7,14 @@ ghost use Rattle.register_kinds.specs.Takes.{as_part, seen_at, next_at, AreReach
 ghost use Rattle.register_kinds.specs.Takes.{is_used, forgotten, fated, filled_by, filled_at, emptied, in_turn};
 ghost use Rattle.register_kinds.specs.Takes.{IsPassed};
 ghost use Rattle.register_kinds.specs.Kept.{Gathers, kept_at, names};
+ghost use Rattle.register_kinds.specs.declared.label_sets.Origin.{Origin};
+ghost use Rattle.register_kinds.specs.LabelSets.{set_at};
 ghost use Rattle.register_kinds.specs.Rising.{Rise};
 ghost use Rattle.sound_code.specs.Kinds.{set_of};
 ghost use Rattle.register_kinds.specs.Views.{kind_of};
 
 use crate::known::{Known, whole};
+use crate::label_sets::Origin;
 use crate::registers::Registers;
 use crate::table::Table;
 use cell_code::From;
@@ -236,7 +239,7 @@ impl<'a> Registers<'a> {
             None => (),
             Some(from) => {
                 if self.ends(table, register, parts, types, from.register) {
-                    self.put(lent, known.without_from());
+                    self.put_alike(lent, known.without_from());
                 }
             }
         }
@@ -266,7 +269,7 @@ impl<'a> Registers<'a> {
             return;
         }
         match self.seen(lent) {
-            Some(heir) => self.put(lent, self.known(lent).with_root(heir)),
+            Some(heir) => self.put_alike(lent, self.known(lent).with_root(heir)),
             None => {
                 if self.known(lent).is_lent_of(register) {
                     self.put(lent, Known::Gone);
@@ -308,9 +311,30 @@ impl<'a> Registers<'a> {
             Some(piece) => {
                 if piece.field == place {
                     let known = part_known(table, register, self.known(destination), piece);
-                    self.put(destination, known);
+                    let origin = self.part_origin(table, register, destination, piece);
+                    self.change(destination, known, origin);
                 }
             }
+        }
+    }
+
+    // The register of a label map whose set a register has once it gets a part, where that is known.
+    fn part_origin(
+        &self,
+        table: &Table<'a>,
+        register: u16,
+        destination: u16,
+        piece: Piece,
+    ) -> Option<Origin>
+        ensures is { (o : Origin) → result ≡ Some o → set_of (part_kind table.now register
+            (at self.now.kinds destination) (record { field = piece.field; ty = piece.ty }))
+            ≡ set_at self.now.maps o }
+    {
+        let from = self.known(destination).from();
+        if !table.is_scalar(piece.ty) && is_field(register, piece.field, from) {
+            self.origin(destination)
+        } else {
+            None
         }
     }
 

@@ -9,12 +9,14 @@ use Rattle.register_kinds.proofs.registers.Registers.enter.Goals as goal
 pub invariant_of-result : goal.invariant_of-result
 invariant_of-result c =
     subst (λ ls. IsKept (kinds_of c.in_ok-known.known.items) (map plain_label ls) c.in_ok-new.field-0
-    c.in_ok-new-2.field-0 c.in_ok-new-3.field-0 c.count_known-busy.result c.in_ok-asked_by.field-0.items)
+    c.in_ok-new-2.field-0 c.in_ok-new-3.field-0 c.count_known-busy.result c.in_ok-asked_by.field-0.items
+    c.in_ok-new-4.field-0)
     (sym c.deref-2.ensures.value)
     (entered c.args.table.now (plain_function c.args.function.now) (kinds_of c.in_ok-known.known.items)
     c.in_ok-new.field-0 c.in_ok-new-2.field-0 c.in_ok-new-3.field-0 c.count_known-busy.result
-    c.in_ok-asked_by.field-0.items c.requires.formed
+    c.in_ok-asked_by.field-0.items c.in_ok-new-4.field-0 c.requires.formed
     c.in_ok-known.ensures.is (omega arith) c.in_ok-new.ensures.room c.in_ok-new-3.ensures.none
     (c.count_known-busy.ensures.is ∙ ap (λ ks. busy_in (kinds_of ks)) c.deref.ensures.value)
     (subst (λ ls. AreAsked (map plain_label ls) c.in_ok-asked_by.field-0.items) c.deref-3.ensures.value
-    c.in_ok-asked_by.ensures.asks))
+    c.in_ok-asked_by.ensures.asks)
+    (c.in_ok-new-4.ensures.maps ∙ ap (map plain_label) c.deref-4.ensures.value) c.in_ok-new-4.ensures.none)

@@ -21,10 +21,10 @@ returns-else-piece-place-clause-kinds c =
 
 pub returns-then-piece-place-clause-kinds : goal.returns-then-piece-place-clause-kinds
 returns-then-piece-place-clause-kinds c =
-    fill_put c.args.table.now c.args.register c.args.place c.args.self.now.kinds c.put.new.self.kinds
+    fill_put c.args.table.now c.args.register c.args.place c.args.self.now.kinds c.change.new.self.kinds
     c.args.parts.now c.args.types.now (get_or c.args.parts.now c.args.place 0)
     (record { field = c.in-Some.piece.field; ty = c.in-Some.piece.ty }) refl
     (sym c.piece_of.ensures.is ∙ ap as_part c.in-Some.is) c.if-piece-place.true
-    (c.put.ensures.kinds ∙ ap (set c.args.self.now.kinds (get_or c.args.parts.now c.args.place 0))
+    (c.change.ensures.kinds ∙ ap (set c.args.self.now.kinds (get_or c.args.parts.now c.args.place 0))
     (c.part_known-known.ensures.is ∙ ap (λ k. part_kind c.args.table.now c.args.register k
     (record { field = c.in-Some.piece.field; ty = c.in-Some.piece.ty })) c.known.ensures.is))

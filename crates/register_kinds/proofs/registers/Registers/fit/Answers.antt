@@ -8,10 +8,11 @@ use Rattle.register_kinds.proofs.registers.Registers.fit.Goals as goal
 pub invariant_of-self : goal.invariant_of-self
 invariant_of-self c =
     keeps_seen (kinds_of c.self.inside.known.items) (map plain_label c.self.inside.labels.now) c.self.inside.lents
-    c.self.inside.links c.self.inside.log c.see.new.self c.self.inside.busy c.self.inside.asked.items c.args.label c.self.invariant
-    (λ m e. ap (λ s. fit_all m.kinds s.kinds) c.self.view_is
+    c.self.inside.links c.self.inside.log c.see.new.self c.self.inside.busy c.self.inside.asked.items
+    c.self.inside.sets c.args.label c.self.invariant
+    (λ m e. ap (λ s. fit_all m.kinds s.kinds) (c.self.view_is ∙ c.fits_map-fits.ensures.same)
     ∙ ap (fit_all m.kinds) (sym (arrive_none 0 c.args.self.now.kinds))
-    ∙ sym (c.fits_map-fits.ensures.is m (ap (λ s. slice_get s.maps c.args.label) (sym c.self.view_is) ∙ e))
+    ∙ sym (c.fits_map-fits.ensures.is m (ap (λ s. slice_get s.maps c.args.label) (sym (c.self.view_is ∙ c.fits_map-fits.ensures.same)) ∙ e))
     ∙ c.if-fits.true)
     c.see.ensures.seen
 

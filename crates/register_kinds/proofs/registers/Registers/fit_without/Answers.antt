@@ -10,13 +10,14 @@ use Rattle.register_kinds.proofs.registers.Registers.fit_without.Goals as goal
 pub invariant_of-self : goal.invariant_of-self
 invariant_of-self c =
     keeps_seen_but (kinds_of c.self.inside.known.items) (map plain_label c.self.inside.labels.now) c.self.inside.lents
-    c.self.inside.links c.self.inside.log c.see_but.new.self c.self.inside.busy c.self.inside.asked.items c.args.label
+    c.self.inside.links c.self.inside.log c.see_but.new.self c.self.inside.busy c.self.inside.asked.items
+    c.self.inside.sets c.args.label
     (record { register = c.args.register; constructor = c.args.constructor }) c.self.invariant
     (λ m e. ap (λ s. fit_all m.kinds (arrive (Some (record {
       register = c.args.register;
       constructor = c.args.constructor;
-    })) 0 s.kinds)) c.self.view_is
-    ∙ sym (c.fits_map-fits.ensures.is m (ap (λ s. slice_get s.maps c.args.label) (sym c.self.view_is) ∙ e))
+    })) 0 s.kinds)) (c.self.view_is ∙ c.fits_map-fits.ensures.same)
+    ∙ sym (c.fits_map-fits.ensures.is m (ap (λ s. slice_get s.maps c.args.label) (sym (c.self.view_is ∙ c.fits_map-fits.ensures.same)) ∙ e))
     ∙ c.if-fits.true)
     c.see_but.ensures.seen
 

@@ -14,14 +14,14 @@ returns-then-is_used-clause-kinds c =
 
 pub returns-in-Some-clause-kinds : goal.returns-in-Some-clause-kinds
 returns-in-Some-clause-kinds c =
-    c.put.ensures.kinds ∙ ap (set c.args.self.now.kinds c.args.lent)
+    c.put_alike.ensures.kinds ∙ ap (set c.args.self.now.kinds c.args.lent)
     (c.with_root.ensures.is ∙ ap (with_root c.in-Some.heir) c.known.ensures.is
     ∙ fated_some c.args.register (part c.args.parts.now c.args.types.now) c.args.self.now.reached c.args.lent
     c.in-Some.heir _ (sym c.is_used.ensures.is ∙ c.if-is_used.false) (sym c.seen.ensures.is ∙ c.in-Some.is))
 
 pub returns-then-is_lent_of-clause-kinds : goal.returns-then-is_lent_of-clause-kinds
 returns-then-is_lent_of-clause-kinds c =
-    c.put-then-is_lent_of.ensures.kinds ∙ ap (set c.args.self.now.kinds c.args.lent)
+    c.put.ensures.kinds ∙ ap (set c.args.self.now.kinds c.args.lent)
     (fated_gone c.args.register (part c.args.parts.now c.args.types.now) c.args.self.now.reached c.args.lent _
     (sym c.is_used.ensures.is ∙ c.if-is_used.false) (sym c.seen.ensures.is ∙ c.in-None.is)
     (ap (is_lent_of c.args.register) (sym c.known-in-None.ensures.is) ∙ sym c.is_lent_of.ensures.is ∙ c.if-is_lent_of.true))

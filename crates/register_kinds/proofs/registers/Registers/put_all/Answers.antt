@@ -1,16 +1,16 @@
-use Rattle.std.proofs.Common.{◌∙◌, ◌+◌, ◌++◌, ap, set, take, drop}
-use Rattle.register_kinds.specs.Views.{kind_of}
+use Rattle.std.proofs.Common.{sym, ◌∙◌, ◌+◌, ◌++◌, ap, length, set, take, drop}
+use Rattle.register_kinds.specs.Views.{kind_of, kinds_of}
 use Rattle.register_kinds.proofs.Entered.{set_next}
 use Rattle.register_kinds.proofs.registers.Registers.put_all.Goals as goal
 
 pub loop-kind-preserved : goal.loop-kind-preserved
 loop-kind-preserved c = record {
   step = ap (λ n. n + 1) c.loop-kind.invariant.step;
-  kinds = c.put.ensures.kinds
+  kinds = c.change.ensures.kinds
       ∙ ap (λ ks. set ks c.loop-kind.register (kind_of c.of.result)) c.loop-kind.invariant.kinds
-      ∙ ap (λ n. set (take c.loop-kind.kind-index c.args.kinds.now ++ drop c.loop-kind.kind-index c.args.self.now.kinds) n
+      ∙ ap (λ n. set (take c.loop-kind.kind-index c.args.kinds.now ++ drop c.loop-kind.kind-index (kinds_of c.self.inside.known.items)) n
       (kind_of c.of.result)) c.loop-kind.invariant.step
-      ∙ set_next c.args.kinds.now c.args.self.now.kinds c.loop-kind.kind-index (kind_of c.of.result) _
-      c.loop-kind-test.true c.requires.long (c.of.ensures.same ∙ c.kind-item.is);
-  maps = c.put.ensures.maps ∙ c.loop-kind.invariant.maps;
+      ∙ set_next c.args.kinds.now (kinds_of c.self.inside.known.items) c.loop-kind.kind-index (kind_of c.of.result) _
+      c.loop-kind-test.true (c.requires.long ∙ ap (λ s. length s.kinds) (sym c.self.view_is)) (c.of.ensures.same ∙ c.kind-item.is);
+  maps = c.change.ensures.maps ∙ c.loop-kind.invariant.maps;
 }

@@ -1,10 +1,10 @@
 use Rattle.std.proofs.Common.{◌≡◌, ◌<◌, ◌++◌, drop, length}
-use Rattle.register_kinds.specs.Busy.{asked_from}
-use Rattle.register_kinds.proofs.asked.places_of.Given as goal
+use Rattle.register_kinds.specs.Busy.{asks_from}
+use Rattle.register_kinds.proofs.asked.asks_of.Given as goal
 
 abbrev pub invariant-loop-kind : goal.invariant-loop-kind
 invariant-loop-kind l = record {
   step : length l.kinds < 65536 → l.register ≡ l.kind-index;
   rest : length l.kinds < 65536 →
-      l.places.items ++ asked_from l.kind-index (drop l.kind-index l.kinds) ≡ asked_from 0 l.kinds;
+      l.asks.items ++ asks_from l.kind-index (drop l.kind-index l.kinds) ≡ asks_from 0 l.kinds;
 }

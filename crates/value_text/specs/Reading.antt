@@ -1,4 +1,4 @@
--- How far the reader of a whole text is, in the machine's words. No public clause speaks of it.
+-- How far the reader of a text is, in the machine's words. No public clause speaks of it.
 -- The reader keeps the open constructors and the types that are still to come; the values before are known to the
 -- machine alone. It goes in steps from spot to spot: a spot lies before a value or behind one.
 use Rattle.std.specs.Prelude.{◌≡◌, ℕ, suc, ◌+◌, ◌≤◌, List, [], ◌∷◌, ◌++◌, length, drop, Option}

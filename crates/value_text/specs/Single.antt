@@ -2,7 +2,7 @@
 -- made.
 -- In the text `f(Cons(1, Nil), 7)` a list of ints stands at place 2 and ends at 14, where the comma is; at place 15 the
 -- int 7 stands behind a blank, and ends at 17.
-use Rattle.std.specs.Prelude.{◌≡◌, ℕ, ◌+◌, ◌^◌, ◌≤◌, List, [], length, drop}
+use Rattle.std.specs.Prelude.{◌≡◌, ℕ, ◌+◌, ◌^◌, ◌≤◌, List, [], length, drop, slice_index_or}
 use Rattle.fip_language.specs.Character.{Character, characters}
 use Rattle.fip_language.specs.Values.{Value, End, More, cells}
 use Rattle.fip_language.specs.Table.{Table}
@@ -12,7 +12,6 @@ use Rattle.fip_language.specs.Store.{Placed, value_of, word_of, uses}
 use Rattle.fip_language.specs.ValueText.{ValueText}
 use Rattle.cell_store.specs.Cells.{cell_at}
 use Rattle.cell_store.specs.Made.{Loading}
-use Rattle.value_text.specs.Counting.{count_at}
 use Rattle.value_text.specs.Loaded.{live, needed}
 use Rattle.value_text.specs.Standing.{Stands}
 use Rattle.value_text.specs.declared.counts.Counts.{Counts}
@@ -34,9 +33,9 @@ pub record IsPlaced (tb : Table) (k : ℕ) (bytes : List ℕ) (at : ℕ) : Type 
   pub within : at ≤ length bytes
   pub short : length bytes ≤ 2 ^ 63
 
--- so many cells of each size has the value
+-- the counts of cells by size are those of the value
 abbrev pub AreCellsOf : Counts → Value → Type 0
-AreCellsOf counts v = (k : ℕ) → k ≤ MOST_FIELDS → count_at counts k ≡ cells k v
+AreCellsOf counts v = (k : ℕ) → k ≤ MOST_FIELDS → slice_index_or counts.numbers k 0 ≡ cells k v
 
 -- the words that the cells of a value need of a store
 abbrev pub needed_by : Loading → Value → ℕ

@@ -1,12 +1,12 @@
-// What a run writes to the cells of its store: kept while it runs, and written as a file.
+// What a run writes to the cells of its store: kept while it runs.
 #![tactic(auto)]
 
 mod error;
 mod recorder;
+mod tape;
 mod trace;
-mod write;
 
 pub use error::{ReadTraceError, TraceError};
 pub use recorder::Recorder;
+pub use tape::MOST_EVENTS;
 pub use trace::{Event, LoadedCell, Trace};
-pub use write::{MOST_EVENTS, write_trace};

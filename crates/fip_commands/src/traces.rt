@@ -9,7 +9,7 @@ ghost use Rattle.command_outcome.specs.Stages.{IsOfReplay, IsOfRun, IsOfTrace};
 ghost use Rattle.fip_commands.specs.Replayed.{IsReplayed, KeepsFromReplay};
 
 use crate::running::{failure_of, started, types_of, values_text};
-use cell_trace::{ReadTraceError, Trace, TraceError, write_trace};
+use cell_trace::{ReadTraceError, Trace, TraceError};
 use command_line::Room;
 use command_outcome::Failure;
 use fip_base::plain::{Detail, NoMemory};
@@ -18,7 +18,7 @@ use fip_language::limits::MOST_FILE_BYTES;
 use fip_machine::{Ended, Gauge, Machine};
 use source_commands::{Compiled, Ready};
 use std::alloc::Global;
-use trace_files::{cells_after, read_trace};
+use trace_files::{cells_after, read_trace, write_trace};
 
 // The refusal of a trace that is too long.
 fn too_long(alloc: Global) -> Failure

@@ -11,13 +11,13 @@ use Rattle.cell_store.specs.Made.{Stored}
 use Rattle.code_verify.specs.Checked.{Checked}
 use Rattle.code_runs.specs.Codes.{PlainFunction, PlainCode, plain, function_at}
 use Rattle.code_runs.specs.Cells.{Store}
-use Rattle.code_runs.specs.States.{Frame, Typed, State, frames_held, words_held, Next, Went, Entered, Gave, Trapped, TooDeep, Stuck}
+use Rattle.code_runs.specs.States.{Frame, State, frames_held, words_held, Next, Went, Entered, Gave, Trapped, TooDeep, Stuck}
 use Rattle.code_runs.specs.Rows.{Done, read_all, write_all, operated, done, trap}
 use Rattle.code_runs.specs.Steps.{Kinds, went_with, went, called_with, called, replaced, destinations, resumed, returned, trapped, act_at, instr_of, kinds_of, next}
 use Rattle.code_runs.specs.Cells.{changed_by}
 use Rattle.fip_language.specs.Gauge.{highest_frames, highest_words}
 use Rattle.code_runs.specs.Gauges.{seen}
-use Rattle.code_runs.specs.Runs.{Value, Trap, Out, Deep, Unsound, Run, Going, Over, state_of, begun, comes, later, after}
+use Rattle.code_runs.specs.Runs.{Value, Trap, Out, Deep, Unsound, Run, Going, Over, state_of, begun, comes, later}
 use Rattle.machine_cells.specs.Small.{IsSmall, store_of}
 use Rattle.frame_stack.specs.Keeping.{Keeps}
 use Rattle.machine_rows.specs.declared.cursor.Bounds.{Bounds}
@@ -30,9 +30,10 @@ use Rattle.machine_rows.specs.Going.{Lead, ComesWithMore}
 use Rattle.machine_rows.specs.Placed.{weight}
 use Rattle.fip_machine.specs.declared.machine.Ended.{Ended}
 use Rattle.fip_machine.specs.declared.machine.Ended.TheVariants as M
-use Rattle.fip_machine.specs.Tasks.{Stand, IsMeasured, IsRaised, state_with, ended_by}
+use Rattle.fip_machine.specs.Tasks.{Stand, IsMeasured, IsRaised, ended_by}
 use Rattle.fip_machine.specs.Ending.{KnowsRun, IsOver}
 use Rattle.fip_machine.specs.Along.{Origin, at_step, UnlessStuck, seen_to, HasMost, IsGoing, state_in, IsReady, IsAlong, HasRun, is_call_in, calls_next, HasEntered, IsDeep, CameTo, end_after, task_of}
+use Rattle.fip_machine.specs.Taped.{AlongWith, IfValue, RunWith, EnteredWith, DeepWith, CameWith}
 use Rattle.fip_machine.proofs.Mosts.{MostAre, after_later, always, going_state, over_state, stuck_on, most_next, most_stays, most_there, most_of}
 use Rattle.fip_machine.proofs.Tasked.{room_same}
 
@@ -169,6 +170,50 @@ came_to o t left steps r u w code knows small empty measured ends most came = by
     by (S.Trap kind line col) ends h = over (M.Trap kind line col) h
     by S.Deep ends h = deep left (calls_next o.code t) h
 
+-- the same, with something that is said of the steps
+came_with : (X : ℕ → Type 0) (o : Origin) (t : Stand) (left steps : ℕ) (r : Stepped) (u : Stand) (w : Stored) → u.code ≡ o.code → KnowsRun o.code o.kinds o.first o.calls → IsSmall w.cells → w.pushed ≡ [] → IsMeasured u → (ended_by r ≡ None → u.ended ≡ None) → (UnlessStuck (at_step o steps) (state_of (at_step o steps) ≡ state_in o u w) → UnlessStuck (at_step o steps) (HasMost o steps u)) → X steps → CameIn (at_step o steps) left (calls_next o.code t) r (state_in o u w) u.given → CameWith X o left (calls_next o.code t) r u w
+came_with X o t left steps r u w code knows small empty measured ends most x came = by r ends came
+  where
+    along : (l : ℕ) → u.ended ≡ None → IsGoing (at_step o steps) (state_in o u w) l → AlongWith X o u w l
+    along l e h = record {
+      along = record {
+        code = code;
+        knows = knows;
+        going = e;
+        small = small;
+        empty = empty;
+        steps = steps;
+        run = h;
+        most = most (going_state (at_step o steps) (state_in o u w) l h);
+        measured = measured;
+      };
+      beside = x;
+    }
+
+    said : (e : Ended) → IfValue e (X steps)
+    said M.Value = x
+    said (M.Trap kind line col) = tt
+    said M.Out = tt
+    said M.Deep = tt
+
+    over : (e : Ended) → IsOver (at_step o steps) e (state_in o u w) u.given → RunWith X o e u w
+    over e h = record { run = (steps, h, most (over_state (at_step o steps) e (state_in o u w) u.given h)); beside = said e }
+
+    entered : (l : ℕ) (call : Bool) → u.ended ≡ None → EnteredIn (at_step o steps) l call (state_in o u w) u.given → EnteredWith X o l call u w
+    entered zero call e h = λ f. over M.Out (h f)
+    entered (suc l) call e h = along l e h
+
+    deep : (l : ℕ) (call : Bool) → DeepIn (at_step o steps) l call (state_in o u w) u.given → DeepWith X o l call u w
+    deep zero call h = λ f. over M.Deep (h f)
+    deep (suc l) call h = over M.Deep h
+
+    by : (r : Stepped) → (ended_by r ≡ None → u.ended ≡ None) → CameIn (at_step o steps) left (calls_next o.code t) r (state_in o u w) u.given → CameWith X o left (calls_next o.code t) r u w
+    by S.Went ends h = along left (ends refl) h
+    by S.Entered ends h = entered left (calls_next o.code t) (ends refl) h
+    by S.Value ends h = over M.Value h
+    by (S.Trap kind line col) ends h = over (M.Trap kind line col) h
+    by S.Deep ends h = deep left (calls_next o.code t) h
+
 -- the run after one more step
 came_next : (o : Origin) (steps left : ℕ) (old : State) (r : Stepped) (new : State) (given : List ℕ) → IsGoing (at_step o steps) old left → Comes old (next o.kinds (plain o.code.code) old) r new given → CameIn (at_step o (suc steps)) left (is_call_in (instr_of (plain o.code.code) old)) r new given
 came_next o steps left old r new given h c = subst (λ (m : Run). CameIn m left (is_call_in (instr_of (plain o.code.code) old)) r new given) (sym (after_later o.kinds (plain o.code.code) steps (begun o.first o.calls))) (came_along o.kinds (plain o.code.code) (at_step o steps) left old r new given h c)
@@ -203,6 +248,23 @@ stepped o t s left r u w a code small pushed measured raised ends told =
       | inr z ↦ stuck_to o t left a.steps r u w z.0 z.1 z.2 z.3 (code ∙ a.code) a.knows (small a.small) (pushed a.empty) measured (λ e. ends a.going ∙ e)
     ] in
     subst (λ (v : Checked). CameTo o left (calls_next v t) r u w) (sym a.code) came
+
+-- a step, with something that is said of the steps after it: where its Drop was known, or an instruction could not be
+-- done
+pub stepped_with : (X : ℕ → Type 0) (o : Origin) (t : Stand) (s : Stored) (left : ℕ) (r : Stepped) (u : Stand) (w : Stored) (a : IsAlong o t s left) → u.code ≡ t.code → (IsSmall s.cells → IsSmall w.cells) → (s.pushed ≡ [] → w.pushed ≡ []) → IsMeasured u → (t.ended ≡ None → IsRaised t u) → (t.ended ≡ None → u.ended ≡ ended_by r) → (KnowsAt t.code o.kinds t.running.function t.running.at → t.ended ≡ None → IsSmall s.cells → s.pushed ≡ [] → Comes (state_in o t s) (next o.kinds (plain t.code.code) (state_in o t s)) r (state_in o u w) u.given) → (KnowsAt t.code o.kinds t.running.function t.running.at → X (suc a.steps)) → ((z : State) (l n : ℕ) → at_step o a.steps ≡ Over Unsound z l n → X (suc a.steps)) → CameWith X o left (calls_next t.code t) r u w
+stepped_with X o t s left r u w a code small pushed measured raised ends told said stuck =
+    let old = state_in o t s in
+    let new = state_in o u w in
+    let came : CameWith X o left (calls_next o.code t) r u w = elim (known_or_stuck o a.steps left old a.knows a.run) [
+      | inl known ↦ (
+          let knows : KnowsAt t.code o.kinds t.running.function t.running.at = subst (λ (v : Checked). KnowsAt v o.kinds t.running.function t.running.at) (sym a.code) known in
+          let here : Comes old (next o.kinds (plain o.code.code) old) r new u.given = subst (λ (v : Checked). Comes old (next o.kinds (plain v.code) old) r new u.given) a.code (told knows a.going a.small a.empty) in
+          came_with X o t left (suc a.steps) r u w (code ∙ a.code) a.knows (small a.small) (pushed a.empty) measured (λ e. ends a.going ∙ e) (most_next o a.steps left old t u w a.run a.most measured (raised a.going)) (said knows) (came_next o a.steps left old r new u.given a.run here))
+      | inr z ↦ (
+          let on : at_step o (suc a.steps) ≡ Over Unsound z.0 z.1 z.2 = after_later o.kinds (plain o.code.code) a.steps (begun o.first o.calls) ∙ ap (later o.kinds (plain o.code.code)) z.3 in
+          came_with X o t left (suc a.steps) r u w (code ∙ a.code) a.knows (small a.small) (pushed a.empty) measured (λ e. ends a.going ∙ e) (λ same. stuck_on o a.steps z.0 z.1 z.2 (HasMost o (suc a.steps) u) z.3) (stuck z.0 z.1 z.2 z.3) (subst (λ (m : Run). CameIn m left (calls_next o.code t) r (state_in o u w) u.given) (sym on) (came_stuck z.0 z.1 z.2 left (calls_next o.code t) r (state_in o u w) u.given)))
+    ] in
+    subst (λ (v : Checked). CameWith X o left (calls_next v t) r u w) (sym a.code) came
 
 -- turns in which more than one instruction may be done
 
@@ -353,6 +415,39 @@ is_out o t s a c =
     let w = m.most_words in
     (suc a.steps, over, most_next o a.steps 0 (state_in o t s) t t s a.run a.most m (record { frames = omega (arith, f); words = omega (arith, w) }) (over_state (at_step o (suc a.steps)) M.Out (state_in o t s) t.given over))
 
+-- and with what is said of the steps
+
+pub went_with_more : (X : ℕ → Type 0) (o : Origin) (left : ℕ) (call : Bool) (r : Stepped) (u : Stand) (w : Stored) → r ≡ S.Went → CameWith X o left call r u w → AlongWith X o u w left
+went_with_more X o left call r u w e h = subst (λ q. CameWith X o left call q u w) e h
+
+entered_less_with : (X : ℕ → Type 0) (o : Origin) (left : ℕ) (call : Bool) (u : Stand) (w : Stored) → 0 < left → EnteredWith X o left call u w → AlongWith X o u w (left - 1)
+entered_less_with X o zero call u w some h = absurd (omega (arith, some))
+entered_less_with X o (suc left) call u w some h = let less : suc left - 1 ≡ left = omega arith in subst (λ n. AlongWith X o u w n) (sym less) h
+
+pub entered_with_more : (X : ℕ → Type 0) (o : Origin) (left : ℕ) (call : Bool) (r : Stepped) (u : Stand) (w : Stored) → r ≡ S.Entered → 0 < left → CameWith X o left call r u w → AlongWith X o u w (left - 1)
+entered_with_more X o left call r u w e some h = entered_less_with X o left call u w some (subst (λ q. CameWith X o left call q u w) e h)
+
+deep_with : (X : ℕ → Type 0) (o : Origin) (left : ℕ) (call : Bool) (u : Stand) (w : Stored) → 0 < left → DeepWith X o left call u w → RunWith X o M.Deep u w
+deep_with X o zero call u w some h = absurd (omega (arith, some))
+deep_with X o (suc left) call u w some h = h
+
+pub ended_with_more : (X : ℕ → Type 0) (o : Origin) (left : ℕ) (call : Bool) (r : Stepped) (u : Stand) (w : Stored) → r ≢ S.Went → r ≢ S.Entered → 0 < left → CameWith X o left call r u w → RunWith X o (end_after (Some r)) u w
+ended_with_more X o left call S.Went u w n m some h = absurd (n refl)
+ended_with_more X o left call S.Entered u w n m some h = absurd (m refl)
+ended_with_more X o left call S.Value u w n m some h = h
+ended_with_more X o left call (S.Trap kind line col) u w n m some h = h
+ended_with_more X o left call S.Deep u w n m some h = deep_with X o left call u w some h
+
+pub ended_late_with : (X : ℕ → Type 0) (o : Origin) (r : Stepped) (u : Stand) (w : Stored) → r ≢ S.Went → CameWith X o 0 false r u w → RunWith X o (end_after (Some r)) u w
+ended_late_with X o S.Went u w n h = absurd (n refl)
+ended_late_with X o S.Entered u w n h = h refl
+ended_late_with X o S.Value u w n h = h
+ended_late_with X o (S.Trap kind line col) u w n h = h
+ended_late_with X o S.Deep u w n h = h refl
+
+pub out_with : (X : ℕ → Type 0) (o : Origin) (t : Stand) (s : Stored) → AlongWith X o t s 0 → calls_next t.code t ≡ true → RunWith X o M.Out t s
+out_with X o t s a c = record { run = is_out o t s a.along c; beside = tt }
+
 -- the beginning
 
 begun_most : (o : Origin) (t : Stand) (s : Stored) (given : ℕ) → IsReady o t s given → HasMost o 0 t
@@ -393,6 +488,26 @@ ready_along o t s calls some r = record {
     begins : (n : ℕ) → n ≢ 0 → o.calls ≡ n → IsGoing (begun o.first o.calls) (state_in o t s) (n - 1)
     begins zero some e = absurd (some refl)
     begins (suc n) some e = let less : suc n - 1 ≡ n = omega arith in subst (λ c. IsGoing (begun o.first c) (state_in o t s) (suc n - 1)) (sym e) (sym r.first, less)
+
+begins_at : (o : Origin) (t : Stand) (s : Stored) (calls : ℕ) → IsReady o t s calls → (n : ℕ) → n ≢ 0 → o.calls ≡ n → IsGoing (begun o.first o.calls) (state_in o t s) (n - 1)
+begins_at o t s calls r zero some e = absurd (some refl)
+begins_at o t s calls r (suc n) some e = let less : suc n - 1 ≡ n = omega arith in subst (λ c. IsGoing (begun o.first c) (state_in o t s) (suc n - 1)) (sym e) (sym r.first, less)
+
+pub ready_along_with : (X : ℕ → Type 0) (o : Origin) (t : Stand) (s : Stored) (calls : ℕ) → calls ≢ 0 → IsReady o t s calls → X 0 → AlongWith X o t s (calls - 1)
+ready_along_with X o t s calls some r x = record {
+  along = record {
+    code = r.code;
+    knows = r.knows;
+    going = r.going;
+    small = r.small;
+    empty = r.empty;
+    steps = 0;
+    run = begins_at o t s calls r calls some r.calls;
+    most = always (begun o.first o.calls) (HasMost o 0 t) (begun_most o t s calls r);
+    measured = r.measured;
+  };
+  beside = x;
+}
 
 -- a task stays where it is while its words reach further
 pub task_same : (v : Checked) (b : Bounds) (ws us : List ℕ) (c : Cursor) (beside : Beside) → c.base + c.registers ≤ length ws → length ws ≤ length us → Keeps (length ws) ws us → task_of v b us c beside ≡ task_of v b ws c beside

@@ -3,4 +3,5 @@ pub mod Mosts
 pub mod Alongs
 pub mod Measured
 pub mod Bursts
+pub mod Tapings
 pub mod Wholes

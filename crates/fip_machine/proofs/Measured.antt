@@ -1,7 +1,7 @@
 -- The frames and the words of a task are those of its state.
 -- The idea: the frames that wait tile the words below the running one, each with two words more than its registers.
-use Rattle.std.proofs.Common.{◌≡◌, ℕ, zero, suc, ◌+◌, ◌-◌, ◌≤◌, List, [], ◌∷◌, length, map, take, get_or, Some, refl, sym, ap, ◌∙◌, arith}
-use Rattle.std.specs.Prelude.{sum, slice_get}
+use Rattle.std.proofs.Common.{◌≡◌, ℕ, zero, suc, ◌+◌, ◌-◌, ◌≤◌, List, ◌∷◌, length, map, take, get_or, refl, sym, ap, ◌∙◌, arith}
+use Rattle.std.specs.Prelude.{sum}
 use Rattle.code_verify.specs.Checked.{Checked}
 use Rattle.code_runs.specs.States.{Frame, words_of_frame}
 use Rattle.code_runs.proofs.Falling.{all_words}

@@ -1,18 +1,15 @@
 -- The most frames and words over the states of a run.
 -- The idea: an instruction that goes on in its frame, and a return, raise neither. So only where a function is entered
 -- they may rise, and what is done in one turn without a call leaves them.
-use Rattle.std.proofs.Common.{◌≡◌, ℕ, zero, suc, ◌+◌, ◌≤◌, max, List, [], ◌∷◌, length, map, refl, sym, ap, subst, ◌∙◌, arith}
-use Rattle.std.specs.Prelude.{sum}
+use Rattle.std.proofs.Common.{◌≡◌, ℕ, zero, suc, ◌≤◌, max, List, refl, sym, ap, subst, ◌∙◌, arith}
 use Rattle.fip_language.specs.Gauge.{highest_frames, highest_words}
 use Rattle.cell_store.specs.Made.{Stored}
 use Rattle.code_runs.specs.Codes.{PlainCode, plain}
-use Rattle.code_runs.specs.States.{State, Next, Went, Entered, Gave, Trapped, TooDeep, Stuck, frames_held, words_held, words_of_frame}
+use Rattle.code_runs.specs.States.{State, Next, Went, Entered, Gave, Trapped, TooDeep, Stuck, frames_held, words_held}
 use Rattle.code_runs.specs.Steps.{Kinds, next}
 use Rattle.code_runs.specs.Runs.{Value, Trap, Out, Deep, Unsound, Run, Going, Over, state_of, begun, comes, later, after}
-use Rattle.code_runs.specs.Gauges.{seen}
 use Rattle.code_runs.proofs.Falling.{IsLower, went_is_lower}
 use Rattle.code_runs.proofs.Gauged.{frames_more, words_more, frames_last, words_last}
-use Rattle.machine_rows.specs.declared.rows.Stepped.{Stepped}
 use Rattle.machine_rows.specs.declared.rows.Stepped.TheVariants as S
 use Rattle.machine_rows.specs.Coming.{Comes}
 use Rattle.fip_machine.specs.declared.machine.Ended.{Ended}

@@ -1,10 +1,9 @@
 -- A whole run of a machine: its task runs over its cells, or over a recorder of them, and its gauge sees the first state
 -- and the last one.
 -- The idea: of each size the first state has the most held cells and the last one the least; so two looks tell of all.
-use Rattle.std.proofs.Common.{◌≡◌, ◌≢◌, ℕ, zero, suc, ◌+◌, ◌-◌, ◌<◌, ◌≤◌, Bool, true, false, List, [], ◌∷◌, Option, Some, None, min, max, refl, sym, ap, subst, ◌∙◌, arith}
-use Rattle.std.specs.Prelude.{slice_index_or, nat_eq, if◌then◌else◌}
+use Rattle.std.proofs.Common.{◌≡◌, ◌≢◌, ℕ, zero, suc, ◌+◌, ◌-◌, ◌<◌, ◌≤◌, Bool, true, false, List, [], ◌∷◌, Some, None, max, refl, sym, ap, subst, ◌∙◌, arith}
+use Rattle.std.specs.Prelude.{Result, Err, IsErrAnd, slice_index_or, nat_eq, if◌then◌else◌}
 use Rattle.fip_language.specs.declared.limits.TheConstants.{MOST_FIELDS}
-use Rattle.fip_language.specs.Store.{Cell}
 use Rattle.fip_language.specs.Gauge as G
 use Rattle.cell_store.specs.Cells.{Cells, size_of, count_live}
 use Rattle.cell_store.specs.Made.{Stored}
@@ -24,7 +23,14 @@ use Rattle.fip_machine.specs.Tasks.{Stand, IsMeasured, IsFresh, state_with}
 use Rattle.fip_machine.specs.Machines.{Seen}
 use Rattle.fip_machine.specs.Ending.{KnowsRun, IsOver, RunsTo}
 use Rattle.fip_machine.specs.GaugeView.{lowered, IsUnseen, Tells, TellsOver, TellsRun}
-use Rattle.fip_machine.specs.Along.{Origin, at_step, UnlessStuck, seen_to, HasMost, state_in, IsReady, IsAlong, HasRun, stored}
+use Rattle.fip_machine.specs.Along.{Origin, at_step, UnlessStuck, seen_to, HasMost, state_in, IsReady, IsAlong, HasRun}
+use Rattle.cell_trace.specs.declared.error.TraceError.{TraceError}
+use Rattle.cell_trace.specs.declared.trace.Trace.{Trace}
+use Rattle.cell_trace.specs.Traced.{Standing, Noted, IsTraced, standing_from}
+use Rattle.cell_trace.specs.Taped.{Recorded, IsTape}
+use Rattle.fip_machine.specs.Traces.{notes, AtValue}
+use Rattle.fip_machine.specs.Taped.{IfValue, HasTape, RunTaped, IsFirstTape}
+use Rattle.fip_machine.proofs.Tapings.{first_of, at_value}
 use Rattle.fip_machine.proofs.Mosts.{over_state}
 use Rattle.fip_machine.proofs.Alongs.{ready_out, ready_along}
 
@@ -234,3 +240,36 @@ has_come m t s w calls e u v x new stack store pushed same measured ran kept aft
 
 pub has_told : (m : Seen) (t : Stand) (s w : Stored) (calls : ℕ) (e : Ended) (u : Stand) (v : Stored) (g h i : Gauge) → t ≡ m.stack → store_of s.cells s.released ≡ m.store → s.pushed ≡ m.pushed → w ≡ s → IsMeasured t → HasRan t w calls e u v → Saw g h w.cells w.released t.frames t.words → Saw h i v.cells v.released u.most_frames u.most_words → IsUnseen g → (kinds : Kinds) (lent : List Typed) → KnowsRun m.stack.code kinds (state_with m.stack lent m.store) calls → IsFresh m.stack → IsSmall m.store.cells → m.pushed ≡ [] → TellsRun kinds (plain m.stack.code.code) (state_with m.stack lent m.store) calls i
 has_told m t s w calls e u v g h i stack store pushed same measured ran first last unseen = tells_run m t w calls e u v g h i (same_parts m t s w stack store pushed same) measured ran first last unseen
+
+-- the trace of the run
+
+-- The run gives a value, and this is what is answered of its trace.
+abbrev pub AtTraced : Seen → Kinds → List Typed → (calls limit : ℕ) → Result Trace TraceError → Type 0
+AtTraced m kinds lent calls limit answer = (n : ℕ) × AtValue (after kinds (plain m.stack.code.code) n (begun (state_with m.stack lent m.store) calls)) (λ steps. IsTraced (standing_from 0 m.store.cells) (notes kinds (plain m.stack.code.code) (state_with m.stack lent m.store) calls n) steps limit answer)
+
+pub recorded_ran : (t : Stand) (s : Stored) (r w : Recorded) (calls limit : ℕ) (e : Ended) (u : Stand) → r.store ≡ s → IsTape (standing_from 0 s.cells) [] 0 limit r.tape → ((o : Origin) (limit : ℕ) → IsReady o t r.store calls → IsFirstTape o limit r.tape → RunTaped o limit e u w) → HasRan t r.store calls e u w.store
+recorded_ran t s r w calls limit e u same loaded ran o ready = (ran o limit ready (first_of o t r s limit calls same loaded ready)).run
+
+pub has_traced : (m : Seen) (t : Stand) (s : Stored) (r w : Recorded) (calls limit : ℕ) (e : Ended) (u : Stand) (answer : Result Trace TraceError) → t ≡ m.stack → store_of s.cells s.released ≡ m.store → s.pushed ≡ m.pushed → r.store ≡ s → IsMeasured t → IsTape (standing_from 0 s.cells) [] 0 limit r.tape → ((o : Origin) (limit : ℕ) → IsReady o t r.store calls → IsFirstTape o limit r.tape → RunTaped o limit e u w) → ((cells : List Standing) (es : List Noted) (n l : ℕ) → IsTape cells es n l w.tape → IsTraced cells es n l answer) → e ≡ M.Value → (kinds : Kinds) (lent : List Typed) → KnowsRun m.stack.code kinds (state_with m.stack lent m.store) calls → m.stack.ended ≡ None → IsSmall m.store.cells → m.pushed ≡ [] → AtTraced m kinds lent calls limit answer
+has_traced m t s r w calls limit e u answer stack store pushed same measured loaded ran traced is kinds lent = subst (λ (q : Seen). KnowsRun q.stack.code kinds (state_with q.stack lent q.store) calls → q.stack.ended ≡ None → IsSmall q.store.cells → q.pushed ≡ [] → AtTraced q kinds lent calls limit answer) (same_parts m t s r.store stack store pushed same) (λ knows going small empty.
+    let o = origin_of kinds lent t r.store calls in
+    let ready : IsReady o t r.store calls = record {
+      code = refl;
+      knows = knows;
+      going = going;
+      small = small;
+      empty = empty;
+      first = refl;
+      calls = refl;
+      most_frames = refl;
+      most_words = refl;
+      measured = measured;
+    } in
+    let h = ran o limit ready (first_of o t r s limit calls same loaded ready) in
+    let n = h.run.0 in
+    let beside : HasTape o limit w.tape n = subst (λ (f : Ended). IfValue f (HasTape o limit w.tape n)) is h.beside in
+    (n, at_value o limit n e (state_in o u w.store) u.given w.tape (λ steps. IsTraced (standing_from 0 o.first.store.cells) (notes o.kinds (plain o.code.code) o.first o.calls n) steps limit answer) is h.run.1 beside (λ tape. traced (standing_from 0 o.first.store.cells) (notes o.kinds (plain o.code.code) o.first o.calls n) n limit tape)))
+
+-- an error that was handed on
+pub error_is : {A B : Type 0} (r : Result A B) (P : B → Type 0) (x : B) → r ≡ Err x → IsErrAnd r P → P x
+error_is {A} {B} r P x e h = subst (λ q. IsErrAnd q P) e h

@@ -3,3 +3,5 @@ pub mod Machines
 pub mod GaugeView
 pub mod Ending
 pub mod Along
+pub mod Traces
+pub mod Taped

@@ -1,5 +1,5 @@
 // The frames of a task.
-ghost use Rattle.std.specs.Prelude.{◌≡◌, ◌≢◌, ℕ, ◌+◌, ◌*◌, ◌<◌, ◌≤◌, List, [], length, vec_len, IfOk, None, Some};
+ghost use Rattle.std.specs.Prelude.{◌≡◌, ◌≢◌, ℕ, ◌+◌, ◌*◌, ◌<◌, ◌≤◌, List, [], ◌++◌, length, vec_len, IfOk, None, Some};
 ghost use Rattle.std.specs.Prelude.{slice_get, false};
 ghost use Rattle.code_runs.specs.Codes.{plain};
 ghost use Rattle.code_runs.specs.Cells.{Store};
@@ -8,7 +8,9 @@ ghost use Rattle.code_runs.specs.Steps.{Kinds, first_words, next};
 ghost use Rattle.code_runs.specs.Runs.{loaded};
 ghost use Rattle.frame_stack.specs.View.{frame_at};
 ghost use Rattle.machine_cells.specs.Small.{IsSmall, store_of};
+ghost use Rattle.cell_store.specs.Told.{Told};
 ghost use Rattle.machine_rows.specs.Coming.{Comes, KnowsAt};
+ghost use Rattle.machine_rows.specs.Telling.{IsKnown, next_tells};
 ghost use Rattle.fip_machine.specs.Tasks.{state_with, ended_by, IsMeasured, IsRaised, IsFresh};
 ghost use Rattle.fip_machine.specs.Along.{Origin, IsAlong, HasRun, HasPaused, is_call, calls_next, end_after};
 ghost use Rattle.fip_machine.specs.Along.{task_of, stored};
@@ -297,6 +299,12 @@ impl<'a> TaskStack<'a> {
         ensures ended { (e : _) → self.old.ended ≡ Some e → (result ≡ e) × (self.new ≡ self.old)
             × (store_of (C.cells cells.new) (C.released cells.new)
             ≡ store_of (C.cells cells.old) (C.released cells.old)) }
+        ensures told { (kinds : Kinds) (lent : List Typed) → KnowsAt self.old.code kinds self.old.running.function
+            self.old.running.at → self.old.ended ≡ None → IsSmall (C.cells cells.old) → C.pushed cells.old ≡ [] →
+            IsKnown (next kinds (plain self.old.code.code) (state_with self.old lent (store_of (C.cells cells.old)
+            (C.released cells.old)))) → (first : C) (ts : List Told) → C.was_told first ts cells.old →
+            C.was_told first (ts ++ next_tells kinds (plain self.old.code.code) (state_with self.old lent (store_of
+            (C.cells cells.old) (C.released cells.old)))) cells.new }
     {
         if let Some(ended) = self.ended {
             return ended;

@@ -1,5 +1,5 @@
 // Runs that keep what they write.
-ghost use Rattle.std.specs.Prelude.{◌≡◌, ◌≢◌, ℕ, ◌-◌, ◌<◌, List, [], IfOk, OnOk, IfNone, IfSome, Some, None, not};
+ghost use Rattle.std.specs.Prelude.{◌≡◌, ◌≢◌, ℕ, ◌-◌, ◌<◌, List, [], IfOk, OnOk, IfNone, IfSome, Some, None, Err, not};
 ghost use Rattle.code_runs.specs.Codes.{plain};
 ghost use Rattle.code_runs.specs.States.{Typed};
 ghost use Rattle.code_runs.specs.Steps.{Kinds};
@@ -7,7 +7,9 @@ ghost use Rattle.machine_cells.specs.Small.{IsSmall};
 ghost use Rattle.fip_machine.specs.GaugeView.{IsUnseen, TellsRun};
 ghost use Rattle.fip_machine.specs.Tasks.{state_with, IsMeasured, IsFresh, IsRaised};
 ghost use Rattle.fip_machine.specs.Ending.{KnowsRun, RunsTo};
-ghost use Rattle.fip_machine.specs.Along.{Origin, IsReady, IsAlong, HasRun, CameTo, calls_next, end_after};
+ghost use Rattle.fip_machine.specs.Along.{Origin, IsReady, calls_next, end_after};
+ghost use Rattle.fip_machine.specs.Taped.{AlongTaped, RunTaped, CameTaped, IsFirstTape};
+ghost use Rattle.fip_machine.specs.Traces.{HasTrace, HasLongTrace};
 
 use crate::gauge::{Gauge, held};
 use crate::machine::{Ended, Machine, ended_of};
@@ -43,6 +45,14 @@ impl<'a> Machine<'a> {
             gauge.new) }
         ensures trace { IfOk result (λ r. r.1 ≡ Ended.Value → r.2 ≢ None) }
         ensures none { IfOk result (λ r. r.1 ≢ Ended.Value → r.2 ≡ None) }
+        ensures traced { IfOk result (λ r. IfSome r.2 (λ t. (kinds : Kinds) (lent : List Typed) → KnowsRun
+            self.entry.stack.code kinds (state_with self.entry.stack lent self.entry.store) calls →
+            self.entry.stack.ended ≡ None → IsSmall self.entry.store.cells → self.entry.pushed ≡ [] → HasTrace kinds
+            (plain self.entry.stack.code.code) (state_with self.entry.stack lent self.entry.store) calls limit t)) }
+        ensures long { result ≡ Err TraceError.TooLong → (kinds : Kinds) (lent : List Typed) → KnowsRun
+            self.entry.stack.code kinds (state_with self.entry.stack lent self.entry.store) calls →
+            self.entry.stack.ended ≡ None → IsSmall self.entry.store.cells → self.entry.pushed ≡ [] → HasLongTrace
+            kinds (plain self.entry.stack.code.code) (state_with self.entry.stack lent self.entry.store) calls limit }
     {
         let (mut stack, cells) = self.into_parts();
         let mut recorder = Recorder::new(alloc, cells, limit)?;
@@ -61,7 +71,8 @@ impl<'a> Machine<'a> {
 
 // Runs to the end, with so many calls.
 fn run_recorded(stack: &mut TaskStack, recorder: &mut Recorder, calls: u64) -> Ended
-    ensures run { (o : Origin) → IsReady o stack.old recorder.old calls → HasRun o result stack.new recorder.new }
+    ensures run { (o : Origin) (limit : ℕ) → IsReady o stack.old recorder.old.store calls → IsFirstTape o limit
+        recorder.old.tape → RunTaped o limit result stack.new recorder.new }
 {
     if calls == 0 {
         return Ended::Out;
@@ -78,10 +89,10 @@ fn run_recorded(stack: &mut TaskStack, recorder: &mut Recorder, calls: u64) -> E
 
 // Runs until a function is entered, or to the end.
 fn run_to_entry(stack: &mut TaskStack, recorder: &mut Recorder) -> Option<Stepped>
-    ensures entered { IfNone result ((o : Origin) (left : ℕ) → 0 < left → IsAlong o stack.old recorder.old left →
-        IsAlong o stack.new recorder.new (left - 1)) }
-    ensures over { IfSome result (λ r. (o : Origin) (left : ℕ) → 0 < left → IsAlong o stack.old recorder.old left →
-        HasRun o (end_after (Some r)) stack.new recorder.new) }
+    ensures entered { IfNone result ((o : Origin) (limit left : ℕ) → 0 < left → AlongTaped o limit stack.old
+        recorder.old left → AlongTaped o limit stack.new recorder.new (left - 1)) }
+    ensures over { IfSome result (λ r. (o : Origin) (limit left : ℕ) → 0 < left → AlongTaped o limit stack.old
+        recorder.old left → RunTaped o limit (end_after (Some r)) stack.new recorder.new) }
 {
     loop {
         match step(stack, recorder) {
@@ -94,8 +105,8 @@ fn run_to_entry(stack: &mut TaskStack, recorder: &mut Recorder) -> Option<Steppe
 
 // Runs to where a call would come, or to the end.
 fn run_to_call(stack: &mut TaskStack, recorder: &mut Recorder) -> Option<Stepped>
-    ensures run { (o : Origin) → IsAlong o stack.old recorder.old 0 → HasRun o (end_after result) stack.new
-        recorder.new }
+    ensures run { (o : Origin) (limit : ℕ) → AlongTaped o limit stack.old recorder.old 0 → RunTaped o limit
+        (end_after result) stack.new recorder.new }
 {
     while has_no_call(stack) {
         match step(stack, recorder) {
@@ -117,8 +128,8 @@ fn has_no_call(stack: &TaskStack) -> bool
 // One step.
 fn step(stack: &mut TaskStack, recorder: &mut Recorder) -> Stepped
     ensures less { result ≡ Stepped.Went → stack.new.weight < stack.old.weight }
-    ensures came { (o : Origin) (left : ℕ) → IsAlong o stack.old recorder.old left → CameTo o left
-        (calls_next stack.old.code stack.old) result stack.new recorder.new }
+    ensures came { (o : Origin) (limit left : ℕ) → AlongTaped o limit stack.old recorder.old left → CameTaped o limit
+        left (calls_next stack.old.code stack.old) result stack.new recorder.new }
 {
     recorder.next_step();
     stack.step(recorder)

@@ -4,7 +4,7 @@ use Rattle.std.specs.Prelude.{slice_set}
 use Rattle.std.proofs.lemmas.Bool.{cases_lt}
 use Rattle.std.proofs.lemmas.List.{drop_more, drop_all, ext_get_or, get_or-take, get_or-set_same, get_or-set_other, length-take-le}
 use Rattle.cell_code.specs.Runnable.{AreOthers}
-use Rattle.frame_stack.specs.Keeping.{Keeps, Clears}
+use Rattle.frame_stack.specs.Keeping.{Clears}
 use Rattle.frame_stack.specs.Words.{words_from, put_words, laid_at}
 
 pub clears_both : (a b c d : ℕ) (ws us xs : List ℕ) → a ≤ c → c ≤ b → b ≤ d → Clears a b ws us → Clears c d us xs → Clears a d ws xs

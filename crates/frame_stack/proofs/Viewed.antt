@@ -1,5 +1,5 @@
 -- Frames in one list of words, read and written: what that is for the frames of a run.
-use Rattle.std.proofs.Common.{◌≡◌, ℕ, zero, suc, ◌+◌, ◌-◌, ◌<◌, ◌≤◌, List, [], ◌∷◌, ◌++◌, Option, None, Some, length, drop, take, get_or, replicate, refl, sym, subst, ap, inl, inr, ◌∙◌, arith, length-append}
+use Rattle.std.proofs.Common.{◌≡◌, ℕ, zero, suc, ◌+◌, ◌-◌, ◌<◌, ◌≤◌, List, [], ◌∷◌, None, Some, length, drop, take, get_or, replicate, refl, sym, ap, inl, inr, ◌∙◌, arith, length-append}
 use Rattle.std.specs.Prelude.{slice_get, slice_set, nat_lt, true, option_and_then, if◌then◌else◌}
 use Rattle.std.proofs.lemmas.Bool.{cases_lt}
 use Rattle.std.proofs.lemmas.Bool.Decides.{nat_tests}
@@ -7,13 +7,11 @@ use Rattle.std.proofs.lemmas.List.{ext_get_or, get_or-take, get_or-drop, get_or-
 use Rattle.std.proofs.lemmas.Option.{slice_get-get_or}
 use Rattle.cell_code.specs.Runnable.{AreBelow}
 use Rattle.cell_code.specs.declared.code.Function.{Function}
-use Rattle.code_runs.specs.States.{Frame}
 use Rattle.code_runs.specs.Rows.{read_all, write, write_all, and_word}
 use Rattle.code_runs.specs.Steps.{first_words}
 use Rattle.frame_stack.specs.Keeping.{Keeps, Clears}
 use Rattle.frame_stack.specs.Words.{words_from, put_words, laid_at}
 use Rattle.frame_stack.specs.View.{registers_of, frame_at, top_function, top_call, top_base, top_frame, waiting_in}
-use Rattle.frame_stack.proofs.Laid.{words_long}
 
 pub kept : (n : ℕ) (ws us : List ℕ) → n ≤ length ws → n ≤ length us → Keeps n ws us → take n us ≡ take n ws
 kept n ws us h l k =

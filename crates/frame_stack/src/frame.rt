@@ -1,11 +1,12 @@
 // What instructions do to the words of frames. Lists of at most four registers are matched, the commonest lengths
 // first, so that each length is straight code: a list is read first and then written, since the store and the frames
 // may not be known to lie apart.
-ghost use Rattle.std.specs.Prelude.{◌≡◌, ◌≢◌, ℕ, ◌+◌, ◌<◌, ◌≤◌, None, Some, length, slice_set};
+ghost use Rattle.std.specs.Prelude.{◌≡◌, ◌≢◌, ℕ, ◌+◌, ◌<◌, ◌≤◌, List, [], ◌∷◌, ◌++◌, None, Some, length, slice_set};
 ghost use Rattle.fip_language.specs.declared.limits.TheConstants.{MOST_FIELDS, MOST_RESULTS};
 ghost use Rattle.fip_language.specs.Store.{Cell};
 ghost use Rattle.cell_code.specs.Runnable.{AreBelow};
 ghost use Rattle.cell_store.specs.Cells.{cell_at, size_in};
+ghost use Rattle.cell_store.specs.Told.{Told, Overwritten};
 ghost use Rattle.frame_stack.specs.Keeping.{Keeps, Clears};
 ghost use Rattle.frame_stack.specs.Words.{words_from, put_words, laid_at};
 
@@ -102,6 +103,8 @@ fn put_all<C: Cells>(
     })) }
     ensures released { C.released cells.new ≡ C.released cells.old }
     ensures pushed { C.pushed cells.new ≡ C.pushed cells.old }
+    ensures told { (first : C) (ts : List Told) → C.was_told first ts cells.old → C.was_told first
+        (ts ++ Overwritten place tag (words_from base words.now registers.now) ∷ []) cells.new }
 {
     let mut fields = [0; MOST_FIELDS];
     for (i, register) in registers.iter().enumerate() {
@@ -132,6 +135,8 @@ pub fn put<C: Cells>(
     })) }
     ensures released { C.released cells.new ≡ C.released cells.old }
     ensures pushed { C.pushed cells.new ≡ C.pushed cells.old }
+    ensures told { (first : C) (ts : List Told) → C.was_told first ts cells.old → C.was_told first
+        (ts ++ Overwritten place tag (words_from base words.now registers.now) ∷ []) cells.new }
 {
     match registers {
         [a, b] => cells.overwrite(

@@ -1,11 +1,11 @@
 -- What is on the stack while a tree is released.
-use Rattle.std.proofs.Common.{◌≡◌, ◌≢◌, ℕ, zero, suc, ◌+◌, ◌*◌, ◌/◌, ◌%◌, ◌<◌, ◌≤◌, Bool, true, false, List, [], ◌∷◌, ◌++◌, length, length-append, drop, get_or, map, Option, Some, None, refl, sym, ap, subst, ◌∙◌, arith}
+use Rattle.std.proofs.Common.{◌≡◌, ◌≢◌, ℕ, zero, suc, ◌+◌, ◌*◌, ◌/◌, ◌%◌, ◌<◌, ◌≤◌, Bool, true, false, List, [], ◌∷◌, ◌++◌, length, length-append, drop, map, Option, Some, None, refl, sym, ap, subst, ◌∙◌, arith}
 use Rattle.std.specs.Prelude.{slice_get, slice_set, option_and_then, nat_eq, if◌then◌else◌}
 use Rattle.std.proofs.lemmas.Bool.Decides.{nat_tests}
 use Rattle.std.proofs.lemmas.Option.{none-some, same_Some}
-use Rattle.std.proofs.lemmas.List.{append_assoc, append-nil, map-append, same_from_push}
-use Rattle.fip_language.specs.Table.{Shape, Table, shapes, constructors}
-use Rattle.fip_language.specs.Store.{Cell, Placed, PlacedInt, Bare, At, Parts, NoParts, MoreParts, word_of, words_of, places, places_of_all}
+use Rattle.std.proofs.lemmas.List.{append_assoc, append-nil, same_from_push}
+use Rattle.fip_language.specs.Table.{Shape, Table, constructors}
+use Rattle.fip_language.specs.Store.{Cell, Placed, PlacedInt, Bare, At, Parts, NoParts, MoreParts, words_of, places, places_of_all}
 use Rattle.fip_base.specs.TableView.{fields_at}
 use Rattle.cell_store.specs.Cells.{Cells, cell_at, number}
 use Rattle.code_runs.specs.Cells.{Store, Change, Release, cell_in, given_up, changed, changed_by}
@@ -205,40 +205,38 @@ nodes_few [] = omega arith
 nodes_few (n ∷ ns) = let a = length-append (places (tree n)) (all_places ns) in let h = nodes_few ns in omega (arith, a, h)
 
 -- what was on top
-pub popped : (tb : Table) (first now last : Store) (rest : List ℕ) (e : ℕ) (pushed : List ℕ) → pushed ≡ rest ++ e ∷ [] → Held tb first now last pushed → HeldBut tb first now last rest e
-popped tb first now last rest e pushed is ([], p) = let z = ap length (sym p.on_stack ∙ is) in let l = length-append rest (e ∷ []) in absurd (omega (arith, z, l))
-popped tb first now last rest e pushed is (n ∷ ns, p) =
+pub popped : (tb : Table) (first now last : Store) (rest : List ℕ) (e : ℕ) (pushed ps : List ℕ) → pushed ≡ rest ++ e ∷ [] → Held tb first now last pushed ps → (p : ℕ) × (qs : List ℕ) × (p ∷ qs ≡ ps) × HeldBut tb first now last rest e p qs
+popped tb first now last rest e pushed ps is ([], o, p) = let z = ap length (sym p.on_stack ∙ is) in let l = length-append rest (e ∷ []) in absurd (omega (arith, z, l))
+popped tb first now last rest e pushed ps is (n ∷ ns, o, p) =
     let same = same_from_push (words ns) rest (word n) e (sym p.on_stack ∙ is) in
-    (n, ns, same.1, record { cells = p.cells; stand = p.stand; on_stack = sym same.0; goes = p.goes })
+    (n.place, places_of_all n.parts ++ all_places ns, o, (n, ns, same.1, refl, refl, record { cells = p.cells; stand = p.stand; on_stack = sym same.0; goes = p.goes }))
 
-pub all_done : (tb : Table) (first now last : Store) (pushed : List ℕ) → pushed ≡ [] → Held tb first now last pushed → now ≡ last
-all_done tb first now last pushed is ([], p) = same_Some now last p.goes
-all_done tb first now last pushed is (n ∷ ns, p) = let z = ap length (sym is ∙ p.on_stack) in let l = words_long (n ∷ ns) in absurd (omega (arith, z, l))
+pub all_done : (tb : Table) (first now last : Store) (pushed ps : List ℕ) → pushed ≡ [] → Held tb first now last pushed ps → (now ≡ last) × ([] ≡ ps)
+all_done tb first now last pushed ps is ([], o, p) = (same_Some now last p.goes, o)
+all_done tb first now last pushed ps is (n ∷ ns, o, p) = let z = ap length (sym is ∙ p.on_stack) in let l = words_long (n ∷ ns) in absurd (omega (arith, z, l))
 
 -- at the start
-pub first_held : (tb : Table) (s last : Store) (t w e : ℕ) (x : Placed) → IsTree tb s t w x → changed_by (releases (places x)) s ≡ Some last → entry t w ≡ Some e → HeldBut tb s s last [] e
+pub first_held : (tb : Table) (s last : Store) (t w e : ℕ) (x : Placed) → IsTree tb s t w x → changed_by (releases (places x)) s ≡ Some last → entry t w ≡ Some e → (p : ℕ) × (ps : List ℕ) × (p ∷ ps ≡ places x) × HeldBut tb s s last [] e p ps
 first_held tb s last zero w e (PlacedInt i) h g is = absurd (none-some e is)
 first_held tb s last zero w e (Bare c) h g is = absurd h.stands
 first_held tb s last zero w e (At p c xs) h g is = absurd h.stands
 first_held tb s last (suc t) w e (PlacedInt i) h g is = absurd h.stands
 first_held tb s last (suc t) w e (Bare c) h g is = absurd (none-some e (sym (entry_bare t c) ∙ ap (entry (suc t)) h.word ∙ is))
 first_held tb s last (suc t) w e (At p c xs) h g is =
-    let one = same_Some (suc t * 4294967296 + p % 4294967296) e (sym (entry_at t p) ∙ ap (entry (suc t)) h.word ∙ is) in (
-      record { type = suc t; place = p; tag = c; parts = xs },
-      [],
-      one,
-      record {
-        cells = refl;
-        stand = (h.stands, tt);
-        on_stack = refl;
-        goes = subst (λ ps. changed_by (releases ps) s ≡ Some last) (sym (append-nil (places (At p c xs)))) g;
-      },
-    )
+    let one = same_Some (suc t * 4294967296 + p % 4294967296) e (sym (entry_at t p) ∙ ap (entry (suc t)) h.word ∙ is) in
+    let n : Node = record { type = suc t; place = p; tag = c; parts = xs } in
+    let pending : Pending tb s s last [] (n ∷ []) [] = record {
+      cells = refl;
+      stand = (h.stands, tt);
+      on_stack = refl;
+      goes = subst (λ ps. changed_by (releases ps) s ≡ Some last) (sym (append-nil (places (At p c xs)))) g;
+    } in
+    (p, places_of_all xs ++ [], ap (λ qs. p ∷ qs) (append-nil (places_of_all xs)), (n, [], one, refl, refl, pending))
 
 -- a tree without a cell releases none
-pub none_held : (tb : Table) (s last : Store) (t w : ℕ) (x : Placed) → IsTree tb s t w x → changed_by (releases (places x)) s ≡ Some last → entry t w ≡ None → s ≡ last
-none_held tb s last t w (PlacedInt i) h g is = same_Some s last g
-none_held tb s last t w (Bare c) h g is = same_Some s last g
+pub none_held : (tb : Table) (s last : Store) (t w : ℕ) (x : Placed) → IsTree tb s t w x → changed_by (releases (places x)) s ≡ Some last → entry t w ≡ None → (s ≡ last) × (places x ≡ [])
+none_held tb s last t w (PlacedInt i) h g is = (same_Some s last g, refl)
+none_held tb s last t w (Bare c) h g is = (same_Some s last g, refl)
 none_held tb s last zero w (At p c xs) h g is = absurd h.stands
 none_held tb s last (suc t) w (At p c xs) h g is = absurd (none-some (suc t * 4294967296 + p % 4294967296) (sym is ∙ sym (ap (entry (suc t)) h.word) ∙ entry_at t p))
 
@@ -268,7 +266,7 @@ root_of tb first now last rest e n ns p =
     }
 
 -- there is room for the fields, and then they are on the stack
-pub fields_held : (tb : Table) (first now last : Store) (pushed : List ℕ) (n : Node) (ns : List Node) (k : Shape) → Pending tb first now last pushed (n ∷ ns) ns → slice_get (constructors tb n.type) n.tag ≡ Some k → changed_by (releases (places_of_all n.parts ++ all_places ns)) (store_of now.cells (slice_set now.released n.place true)) ≡ Some last → Held tb first (store_of now.cells (slice_set now.released n.place true)) last (pushed ++ entries k.fields (words_of n.parts)) × (length pushed + length (entries k.fields (words_of n.parts)) ≤ number now.cells) × (length k.fields ≡ length (words_of n.parts))
+pub fields_held : (tb : Table) (first now last : Store) (pushed : List ℕ) (n : Node) (ns : List Node) (k : Shape) → Pending tb first now last pushed (n ∷ ns) ns → slice_get (constructors tb n.type) n.tag ≡ Some k → changed_by (releases (places_of_all n.parts ++ all_places ns)) (store_of now.cells (slice_set now.released n.place true)) ≡ Some last → Held tb first (store_of now.cells (slice_set now.released n.place true)) last (pushed ++ entries k.fields (words_of n.parts)) (places_of_all n.parts ++ all_places ns) × (length pushed + length (entries k.fields (words_of n.parts)) ≤ number now.cells) × (length k.fields ≡ length (words_of n.parts))
 fields_held tb first now last pushed n ns k p is goes =
     let h = stand_cell tb first n.type n.place n.tag n.parts p.stand.0 in
     let same : h.1 ≡ k = same_Some h.1 k (sym h.2 ∙ is) in
@@ -289,7 +287,7 @@ fields_held tb first now last pushed n ns k p is goes =
     let nodes = nodes_few (fs ++ ns) in
     let long = ap length on ∙ words_long (fs ++ ns) in
     let parts = length-append pushed (entries k.fields (words_of n.parts)) in
-    ((fs ++ ns, held), omega (arith, few, live, nodes, long, parts), stand_long tb first k.fields n.parts stand)
+    ((fs ++ ns, sym ps, held), omega (arith, few, live, nodes, long, parts), stand_long tb first k.fields n.parts stand)
 
 -- the types of a constructor's fields
 pub shape_fields : (ks : List Shape) (c : ℕ) (k : Shape) → slice_get ks c ≡ Some k → fields_at ks c ≡ k.fields

@@ -1,3 +1,4 @@
 pub mod Small
 pub mod Live
 pub mod Pending
+pub mod Telling

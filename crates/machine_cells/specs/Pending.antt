@@ -2,10 +2,10 @@
 -- place of a root in one word.
 -- Of a cell with an int, a list in cell 5 and an empty list, lists being of type 2, the fields leave one word, 2 * 2^32
 -- + 5.
-use Rattle.std.specs.Prelude.{◌≡◌, ℕ, zero, suc, ◌+◌, ◌*◌, ◌/◌, ◌%◌, ◌^◌, Bool, true, false, List, [], ◌∷◌, ◌++◌}
+use Rattle.std.specs.Prelude.{◌≡◌, ℕ, ◌+◌, ◌*◌, ◌/◌, ◌%◌, List, [], ◌∷◌, ◌++◌}
 use Rattle.std.specs.Prelude.{Option, Some, None, nat_eq, map, slice_index_or, if◌then◌else◌}
 use Rattle.fip_language.specs.Table.{Table}
-use Rattle.fip_language.specs.Store.{Placed, PlacedInt, Bare, At, Parts, NoParts, MoreParts, places}
+use Rattle.fip_language.specs.Store.{Placed, At, Parts, places, places_of_all}
 use Rattle.code_runs.specs.Cells.{Store, Release, changed_by}
 use Rattle.code_runs.specs.Trees.{Stands}
 
@@ -59,11 +59,11 @@ pub record Pending (tb : Table) (first now last : Store) (stack : List ℕ) (ns 
   pub on_stack : stack ≡ words rest
   pub goes : changed_by (map (λ p. Release p) (all_places ns)) now ≡ Some last
 
--- All that is to be released is on the stack.
-abbrev pub Held : Table → Store → Store → Store → List ℕ → Type 0
-Held tb first now last pushed = (ns : List Node) × Pending tb first now last pushed ns ns
+-- All that is to be released is on the stack: the cells at these places, in this order.
+abbrev pub Held : Table → Store → Store → Store → List ℕ → List ℕ → Type 0
+Held tb first now last pushed ps = (ns : List Node) × (all_places ns ≡ ps) × Pending tb first now last pushed ns ns
 
--- The tree that this word stands for is to be released next.
-abbrev pub HeldBut : Table → Store → Store → Store → List ℕ → ℕ → Type 0
-HeldBut tb first now last pushed e =
-    (n : Node) × (ns : List Node) × (word n ≡ e) × Pending tb first now last pushed (n ∷ ns) ns
+-- The tree that this word stands for is to be released next, its root first of all.
+abbrev pub HeldBut : Table → Store → Store → Store → List ℕ → ℕ → ℕ → List ℕ → Type 0
+HeldBut tb first now last pushed e p ps = (n : Node) × (ns : List Node) × (word n ≡ e) × (n.place ≡ p)
+    × (places_of_all n.parts ++ all_places ns ≡ ps) × Pending tb first now last pushed (n ∷ ns) ns

@@ -1,20 +1,18 @@
 -- Calls and returns, by what was done to the words of all frames.
-use Rattle.std.proofs.Common.{◌≡◌, ◌≢◌, ℕ, zero, suc, ◌+◌, ◌-◌, ◌<◌, ◌≤◌, List, [], ◌∷◌, length, take, get_or, map, Option, Some, None, refl, sym, ap, subst, ◌∙◌, arith}
-use Rattle.std.specs.Prelude.{slice_get, slice_set, option_and_then}
+use Rattle.std.proofs.Common.{◌≡◌, ℕ, zero, suc, ◌+◌, ◌-◌, ◌<◌, ◌≤◌, List, [], ◌∷◌, length, take, get_or, map, Option, Some, None, refl, sym, ap, subst, ◌∙◌, arith}
+use Rattle.std.specs.Prelude.{slice_get, option_and_then}
 use Rattle.std.proofs.lemmas.Option.{none-some, same_Some}
 use Rattle.cell_code.specs.declared.code.Function.{Function}
 use Rattle.cell_code.specs.declared.code.Instr.{Instr}
 use Rattle.cell_code.specs.declared.code.Instr.TheVariants as I
-use Rattle.cell_code.specs.Runnable.{AreBelow}
 use Rattle.code_verify.specs.Checked.{Checked}
-use Rattle.code_runs.specs.Codes.{PlainFunction, PlainCode, plain_function, plain, function_at, instr_in, instr_at}
+use Rattle.code_runs.specs.Codes.{PlainFunction, PlainCode, plain_function, instr_at}
 use Rattle.code_runs.specs.Cells.{Store}
-use Rattle.code_runs.specs.States.{Typed, Frame, State, Next, Went, Entered, Gave, Trapped, TooDeep, Stuck}
-use Rattle.code_runs.specs.Rows.{read_all, write, write_all}
-use Rattle.code_runs.specs.Steps.{first_words, first_frame, called_with, called, replaced, destinations_in, destinations, resumed, returned}
-use Rattle.frame_stack.specs.Keeping.{Keeps}
+use Rattle.code_runs.specs.States.{Typed, Frame, State}
+use Rattle.code_runs.specs.Rows.{write, write_all}
+use Rattle.code_runs.specs.Steps.{first_words, first_frame, called_with, called, replaced, destinations_in, resumed, returned}
 use Rattle.frame_stack.specs.View.{registers_of, frame_at, waiting_in}
-use Rattle.frame_stack.proofs.Viewed.{kept, waiting_at}
+use Rattle.frame_stack.proofs.Viewed.{waiting_at}
 use Rattle.machine_rows.specs.declared.cursor.Bounds.{Bounds}
 use Rattle.machine_rows.specs.declared.cursor.Cursor.{Cursor}
 use Rattle.machine_rows.specs.declared.rows.Stepped.{Stepped}

@@ -1,23 +1,19 @@
 -- Instructions that a machine does in one turn, each told by what the definition says comes next.
-use Rattle.std.proofs.Common.{◌≡◌, ◌≢◌, ℕ, zero, suc, ◌+◌, ◌/◌, ◌%◌, ◌<◌, ◌≤◌, Bool, true, false, List, [], ◌∷◌, length, get_or, Option, Some, None, refl, sym, ap, subst, ◌∙◌, arith}
-use Rattle.std.specs.Prelude.{slice_get, slice_set, nat_eq, ◌==◌, if◌then◌else◌}
-use Rattle.std.proofs.lemmas.Option.{none-some, same_Some, slice_get-get_or}
+use Rattle.std.proofs.Common.{◌≡◌, ◌≢◌, ℕ, zero, suc, ◌+◌, ◌<◌, ◌≤◌, Bool, true, false, List, [], length, get_or, Option, Some, None, refl, sym, ap, subst, ◌∙◌, arith}
+use Rattle.std.specs.Prelude.{slice_get, slice_set, if◌then◌else◌}
+use Rattle.std.proofs.lemmas.Option.{same_Some, slice_get-get_or}
 use Rattle.std.proofs.lemmas.List.{get_or-set_same, length-set}
 use Rattle.cell_code.specs.declared.code.Instr.{Instr}
 use Rattle.cell_code.specs.declared.kind.Kind.{Kind}
-use Rattle.cell_code.specs.Runnable.{AreBelow, AreOthers}
-use Rattle.cell_store.specs.Cells.{Cells, cell_at}
+use Rattle.cell_store.specs.Cells.{Cells}
 use Rattle.code_verify.specs.Checked.{Checked}
 use Rattle.code_runs.specs.Codes.{PlainCode, plain, instr_at, instr_in}
 use Rattle.code_runs.specs.Cells.{Store}
 use Rattle.code_runs.specs.Rows.{constructor_of}
 use Rattle.code_runs.specs.States.{Typed, State, Next}
 use Rattle.code_runs.specs.Steps.{Kinds, act, act_at, next}
-use Rattle.frame_stack.specs.Words.{put_words}
-use Rattle.frame_stack.specs.View.{frame_at}
-use Rattle.frame_stack.proofs.Viewed.{frame_get, put_long}
+use Rattle.frame_stack.proofs.Viewed.{frame_get}
 use Rattle.machine_arithmetic.specs.Outcomes.{truth_word}
-use Rattle.machine_cells.specs.Small.{IsSmall}
 use Rattle.machine_rows.specs.declared.cursor.Bounds.{Bounds}
 use Rattle.machine_rows.specs.declared.cursor.Cursor.{Cursor}
 use Rattle.machine_rows.specs.declared.rows.Stepped.{Stepped}

@@ -1,5 +1,5 @@
 -- The most frames and words, from place to place.
-use Rattle.std.proofs.Common.{◌≡◌, ℕ, ◌+◌, ◌≤◌, max, refl, sym, ap, ◌∙◌, arith}
+use Rattle.std.proofs.Common.{◌≡◌, ℕ, ◌≤◌, max, ap, ◌∙◌, arith}
 use Rattle.machine_rows.specs.declared.cursor.Cursor.{Cursor}
 use Rattle.machine_rows.specs.declared.cursor.Highest.{Highest}
 use Rattle.machine_rows.specs.Highest.{words_now, IsHigh, IsRaised, IsSame}

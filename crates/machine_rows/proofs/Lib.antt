@@ -8,3 +8,4 @@ pub mod Helps
 pub mod Goings
 pub mod Highs
 pub mod Turns
+pub mod Tellings

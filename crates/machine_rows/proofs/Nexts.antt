@@ -1,22 +1,19 @@
 -- What the definition says of an instruction, by what was done: the frame, the cells, where it goes on.
-use Rattle.std.proofs.Common.{◌≡◌, ◌≢◌, ℕ, zero, suc, ◌+◌, ◌-◌, ◌/◌, ◌%◌, ◌<◌, ◌≤◌, Bool, true, false, List, [], ◌∷◌, length, take, get_or, map, Option, Some, None, refl, sym, ap, subst, ◌∙◌, arith}
-use Rattle.std.specs.Prelude.{slice_get, slice_set, option_map, option_and_then, nat_eq, if◌then◌else◌}
+use Rattle.std.proofs.Common.{◌≡◌, ℕ, ◌+◌, ◌-◌, ◌/◌, ◌<◌, ◌≤◌, Bool, true, false, List, length, take, Option, Some, None, refl, sym, ◌∙◌, arith}
+use Rattle.std.specs.Prelude.{slice_set, if◌then◌else◌}
 use Rattle.std.proofs.lemmas.Option.{none-some, same_Some}
-use Rattle.std.proofs.lemmas.List.{take-set-le, length-set}
+use Rattle.std.proofs.lemmas.List.{take-set-le}
 use Rattle.fip_language.specs.declared.TrapKind.{TrapKind}
 use Rattle.fip_language.specs.Arithmetic.{Operated, Is, Fails}
-use Rattle.fip_language.specs.Store.{Cell, places}
-use Rattle.cell_code.specs.Runnable.{AreBelow}
-use Rattle.cell_store.specs.Cells.{Cells, cell_at}
 use Rattle.code_verify.specs.Checked.{Checked}
 use Rattle.code_runs.specs.Words.{scalar_word, is_place, half_if, place_of}
-use Rattle.code_runs.specs.Cells.{Store, Change, Write, Release, cell_in, written, given_up, changed, changed_by}
-use Rattle.code_runs.specs.States.{Typed, Frame, State, Next, Went, Entered, Gave, Trapped, TooDeep, Stuck}
-use Rattle.code_runs.specs.Rows.{Done, on, on_with, branch, calculated, trap, write}
+use Rattle.code_runs.specs.Cells.{Store, Change, changed_by}
+use Rattle.code_runs.specs.States.{Typed, State}
+use Rattle.code_runs.specs.Rows.{on, on_with, branch, calculated, trap, write}
 use Rattle.code_runs.specs.Steps.{went, went_with, trapped}
 use Rattle.frame_stack.specs.Keeping.{Keeps}
-use Rattle.frame_stack.specs.View.{frame_at, waiting_in}
-use Rattle.frame_stack.proofs.Viewed.{kept, frame_set, frame_long, write_one}
+use Rattle.frame_stack.specs.View.{waiting_in}
+use Rattle.frame_stack.proofs.Viewed.{kept, frame_set, write_one}
 use Rattle.machine_rows.specs.declared.cursor.Bounds.{Bounds}
 use Rattle.machine_rows.specs.declared.cursor.Cursor.{Cursor}
 use Rattle.machine_rows.specs.declared.rows.Stepped.{Stepped}

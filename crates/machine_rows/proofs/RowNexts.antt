@@ -1,37 +1,40 @@
 -- What the definition says of each instruction that is no call, by what was done to the words and the cells.
-use Rattle.std.proofs.Common.{◌≡◌, ◌≢◌, ℕ, zero, suc, ◌+◌, ◌-◌, ◌*◌, ◌/◌, ◌%◌, ◌<◌, ◌≤◌, ℤ, Bool, true, false, List, [], ◌∷◌, length, take, get_or, map, Option, Some, None, refl, sym, ap, subst, ◌∙◌, arith}
+use Rattle.std.proofs.Common.{◌≡◌, ◌≢◌, ℕ, ◌+◌, ◌*◌, ◌/◌, ◌<◌, ◌≤◌, ℤ, Bool, true, false, List, [], ◌∷◌, length, get_or, map, Option, Some, None, refl, sym, ap, ◌∙◌, arith}
 use Rattle.std.specs.Prelude.{slice_get, slice_set, option_map, option_and_then, nat_eq, ◌==◌, if◌then◌else◌}
 use Rattle.std.proofs.lemmas.Bool.Decides.{nat_tests}
 use Rattle.std.proofs.lemmas.Option.{none-some, same_Some}
 use Rattle.fip_language.specs.declared.Operator.{Operator}
 use Rattle.fip_language.specs.declared.TrapKind.{TrapKind}
-use Rattle.fip_language.specs.Arithmetic.{Operated, Is, Fails, operate}
+use Rattle.fip_language.specs.Arithmetic.{Is, Fails, operate}
 use Rattle.fip_language.specs.Matching.{same_int}
 use Rattle.fip_language.specs.Store.{Cell, Placed, places, int_word}
 use Rattle.fip_language.specs.Values.{Value}
-use Rattle.cell_code.specs.declared.code.Instr.{Instr}
 use Rattle.cell_code.specs.declared.code.Instr.TheVariants as I
 use Rattle.cell_code.specs.declared.kind.Kind.{Kind}
 use Rattle.cell_code.specs.Runnable.{AreBelow}
 use Rattle.code_verify.specs.Checked.{Checked}
 use Rattle.code_runs.specs.Codes.{plain}
 use Rattle.code_runs.specs.Words.{scalar_word, int_of, is_place, place_of, half_if}
-use Rattle.code_runs.specs.Cells.{Store, Change, Write, Release, cell_in, size_of, written, changed, changed_by}
+use Rattle.code_runs.specs.Cells.{Store, Change, Write, Release, cell_in, written, changed, changed_by}
 use Rattle.code_runs.specs.Trees.{tree_of}
 use Rattle.code_runs.specs.States.{Typed, State}
-use Rattle.code_runs.specs.Rows.{named, cell_if, constructor_if, constructor_of, operated, owned_type, dropped, read_all, write, write_all}
+use Rattle.code_runs.specs.Rows.{named, cell_if, constructor_of, operated, owned_type, dropped, read_all, write, write_all}
 use Rattle.code_runs.specs.Steps.{act}
 use Rattle.frame_stack.specs.Keeping.{Keeps}
 use Rattle.frame_stack.specs.Words.{words_from, put_words}
 use Rattle.frame_stack.proofs.Laid.{words_long}
-use Rattle.frame_stack.proofs.Viewed.{frame_get, frame_long, frame_read, frame_write, frame_set, write_one}
+use Rattle.frame_stack.proofs.Viewed.{frame_get, frame_long, frame_read, frame_write, write_one}
 use Rattle.machine_rows.specs.declared.cursor.Bounds.{Bounds}
 use Rattle.machine_rows.specs.declared.cursor.Cursor.{Cursor}
 use Rattle.machine_rows.specs.declared.rows.Stepped.{Stepped}
 use Rattle.machine_rows.specs.declared.rows.Stepped.TheVariants as S
 use Rattle.machine_rows.specs.View.{words_of, state_of}
 use Rattle.machine_rows.specs.Coming.{Comes, moved}
-use Rattle.machine_rows.proofs.Nexts.{stored, went_words, went_branch, went_changes, went_operated, frame_moved, set_moved, odd_place}
+use Rattle.machine_rows.proofs.Nexts.{went_words, went_branch, went_changes, went_operated, frame_moved, odd_place}
+use Rattle.cell_store.specs.Told.{Overwritten, Released}
+use Rattle.machine_cells.specs.Telling.{as_told}
+use Rattle.machine_rows.specs.Telling.{IsKnown, act_tells}
+use Rattle.machine_rows.proofs.Tellings.{changing, releases_told}
 use Rattle.machine_rows.proofs.Calls.{written_long}
 
 pub record Known {A B : Type 0} (f : A → Option B) (o : Option A) (y : B) : Type 0 where
@@ -160,6 +163,18 @@ module _ (v : Checked) (b : Bounds) (ks : List Kind) (lent : List Typed) (s : St
       let w : q.value ≡ word x = same_Some q.value (word x) (sym q.is ∙ register_is x h l) in
       odd_place q.value p q.gives ∙ ap (λ w. w / 2) w
 
+  -- a write that can be done
+  write_known : (p k : ℕ) (us : List ℕ) (m : Store) → changed (Write p k us) s ≡ Some m → (u : Cell) × (cell_in s.cells p ≡ Some u) × (length u.fields ≡ length us) × (m ≡ record s { cells = slice_set s.cells p (Some (record { tag = k; fields = us })) })
+  write_known p k us m e = by (cell_in s.cells p) refl e
+    where
+      by : (o : Option Cell) → cell_in s.cells p ≡ o → written s p (record { tag = k; fields = us }) o ≡ Some m → (u : Cell) × (cell_in s.cells p ≡ Some u) × (length u.fields ≡ length us) × (m ≡ record s { cells = slice_set s.cells p (Some (record { tag = k; fields = us })) })
+      by None a e = absurd (none-some m e)
+      by (Some u) a e = sized (nat_eq (length u.fields) (length us)) refl e
+        where
+          sized : (q : Bool) → nat_eq (length u.fields) (length us) ≡ q → (if q then Some (record s { cells = slice_set s.cells p (Some (record { tag = k; fields = us })) }) else None) ≡ Some m → (u : Cell) × (cell_in s.cells p ≡ Some u) × (length u.fields ≡ length us) × (m ≡ record s { cells = slice_set s.cells p (Some (record { tag = k; fields = us })) })
+          sized true z e = (u, a, grind (arith, nat_tests), sym (same_Some (record s { cells = slice_set s.cells p (Some (record { tag = k; fields = us })) }) m e))
+          sized false z e = absurd (none-some m e)
+
   pub put_next : (x ty k : ℕ) (ss : List ℕ) (n : Store) → x < c.registers → c.base + c.registers ≤ length ws → AreBelow c.registers ss → ((u : Cell) → cell_in s.cells (word x / 2) ≡ Some u → length u.fields ≡ length ss → n ≡ record s { cells = slice_set s.cells (word x / 2) (Some (record { tag = k; fields = words_from c.base ws ss })) }) → r ≡ S.Went → t ≡ moved (c.at + 1) now (state_of v b lent n ws c) → Comes old (act (plain v.code) ks old (I.Put x ty k ss)) r t given
   put_next x ty k ss n h l below f went to =
       let places = option_and_then (λ w. place_of w) (slice_get now x) in
@@ -175,17 +190,6 @@ module _ (v : Checked) (b : Bounds) (ks : List Kind) (lent : List Typed) (s : St
       let one = write_known (word x / 2) k args z.value z.is in
       let size : length one.0.fields ≡ length ss = one.2 ∙ words_long c.base ws ss in
       to ∙ ap (λ m. moved (c.at + 1) now (state_of v b lent m ws c)) (f one.0 one.1 size ∙ sym one.3 ∙ same_Some z.value u z.gives))
-    where
-      write_known : (p k : ℕ) (us : List ℕ) (m : Store) → changed (Write p k us) s ≡ Some m → (u : Cell) × (cell_in s.cells p ≡ Some u) × (length u.fields ≡ length us) × (m ≡ record s { cells = slice_set s.cells p (Some (record { tag = k; fields = us })) })
-      write_known p k us m e = by (cell_in s.cells p) refl e
-        where
-          by : (o : Option Cell) → cell_in s.cells p ≡ o → written s p (record { tag = k; fields = us }) o ≡ Some m → (u : Cell) × (cell_in s.cells p ≡ Some u) × (length u.fields ≡ length us) × (m ≡ record s { cells = slice_set s.cells p (Some (record { tag = k; fields = us })) })
-          by None a e = absurd (none-some m e)
-          by (Some u) a e = sized (nat_eq (length u.fields) (length us)) refl e
-            where
-              sized : (q : Bool) → nat_eq (length u.fields) (length us) ≡ q → (if q then Some (record s { cells = slice_set s.cells p (Some (record { tag = k; fields = us })) }) else None) ≡ Some m → (u : Cell) × (cell_in s.cells p ≡ Some u) × (length u.fields ≡ length us) × (m ≡ record s { cells = slice_set s.cells p (Some (record { tag = k; fields = us })) })
-              sized true z e = (u, a, grind (arith, nat_tests), sym (same_Some (record s { cells = slice_set s.cells p (Some (record { tag = k; fields = us })) }) m e))
-              sized false z e = absurd (none-some m e)
 
   pub free_next : (x : ℕ) (n : Store) → x < c.registers → c.base + c.registers ≤ length ws → ((u : Store) → changed (Release (word x / 2)) s ≡ Some u → n ≡ u) → r ≡ S.Went → t ≡ moved (c.at + 1) now (state_of v b lent n ws c) → Comes old (act (plain v.code) ks old (I.Free x)) r t given
   free_next x n h l f went to =
@@ -197,14 +201,51 @@ module _ (v : Checked) (b : Bounds) (ks : List Kind) (lent : List Typed) (s : St
       let z = then_known (λ (m : Store). Some m) (changed (Release (word x / 2)) s) u done in
       to ∙ ap (λ m. moved (c.at + 1) now (state_of v b lent m ws c)) (f z.value z.is ∙ same_Some z.value u z.gives))
 
+  -- an owned tree
+  owned : (x : ℕ) (o : Option ℕ) → owned_type (slice_get ks x) ≡ o → (cs : List Change) → dropped v.code.types old (word x) o ≡ Some cs → (ty : ℕ) × (y : Placed) × (owned_type (slice_get ks x) ≡ Some ty) × (tree_of v.code.types s ty (word x) ≡ Some y) × (map (λ p. Release p) (places y) ≡ cs)
+  owned x None a cs e = absurd (none-some cs e)
+  owned x (Some ty) a cs e = let m = map_known (λ y. map (λ p. Release p) (places y)) (tree_of v.code.types s ty (word x)) cs e in (ty, m.value, a, m.is, m.gives)
+
   pub drop_next : (x : ℕ) (n : Store) → x < c.registers → c.base + c.registers ≤ length ws → ((ty : ℕ) (y : Placed) (u : Store) → owned_type (slice_get ks x) ≡ Some ty → tree_of v.code.types s ty (word x) ≡ Some y → changed_by (map (λ p. Release p) (places y)) s ≡ Some u → n ≡ u) → r ≡ S.Went → t ≡ moved (c.at + 1) now (state_of v b lent n ws c) → Comes old (act (plain v.code) ks old (I.Drop x)) r t given
   drop_next x n h l f went to =
       went_changes old (option_and_then (λ w. dropped v.code.types old w (owned_type (slice_get ks x))) (slice_get now x)) r t given went (λ cs u e g.
       let q = then_known (λ w. dropped v.code.types old w (owned_type (slice_get ks x))) (slice_get now x) cs e in
       let w : q.value ≡ word x = same_Some q.value (word x) (sym q.is ∙ register_is x h l) in
-      let o = owned (owned_type (slice_get ks x)) refl cs (ap (λ w. dropped v.code.types old w (owned_type (slice_get ks x))) (sym w) ∙ q.gives) in
+      let o = owned x (owned_type (slice_get ks x)) refl cs (ap (λ w. dropped v.code.types old w (owned_type (slice_get ks x))) (sym w) ∙ q.gives) in
       to ∙ ap (λ m. moved (c.at + 1) now (state_of v b lent m ws c)) (f o.0 o.1 u o.2 o.3 (ap (λ cs. changed_by cs s) o.4 ∙ g)))
-    where
-      owned : (o : Option ℕ) → owned_type (slice_get ks x) ≡ o → (cs : List Change) → dropped v.code.types old (word x) o ≡ Some cs → (ty : ℕ) × (y : Placed) × (owned_type (slice_get ks x) ≡ Some ty) × (tree_of v.code.types s ty (word x) ≡ Some y) × (map (λ p. Release p) (places y) ≡ cs)
-      owned None a cs e = absurd (none-some cs e)
-      owned (Some ty) a cs e = let m = map_known (λ y. map (λ p. Release p) (places y)) (tree_of v.code.types s ty (word x)) cs e in (ty, m.value, a, m.is, m.gives)
+
+  -- what the store is told
+
+  pub put_told : (x ty k : ℕ) (ss : List ℕ) → x < c.registers → c.base + c.registers ≤ length ws → AreBelow c.registers ss → IsKnown (act (plain v.code) ks old (I.Put x ty k ss)) → (u : Cell) × (cell_in s.cells (word x / 2) ≡ Some u) × (length u.fields ≡ length ss) × (act_tells (plain v.code) ks old (I.Put x ty k ss) ≡ Overwritten (word x / 2) k (words_from c.base ws ss) ∷ [])
+  put_told x ty k ss h l below known =
+      let places = option_and_then (λ w. place_of w) (slice_get now x) in
+      let args = words_from c.base ws ss in
+      let m = changing old (option_and_then (λ p. option_map (λ us. Write p k us ∷ []) (read_all now ss)) places) known in
+      let p = then_known (λ p. option_map (λ us. Write p k us ∷ []) (read_all now ss)) places m.changes m.are in
+      let q = map_known (λ us. Write p.value k us ∷ []) (read_all now ss) m.changes p.gives in
+      let place = place_known x p.value h l p.is in
+      let words : q.value ≡ args = same_Some q.value args (sym q.is ∙ frame_read c.base c.registers ws ss below l) in
+      let change : Write (word x / 2) k args ∷ [] ≡ m.changes = (λ i. Write (sym place i) k (sym words i) ∷ []) ∙ q.gives in
+      let done : changed_by (Write (word x / 2) k args ∷ []) s ≡ Some m.store = ap (λ cs. changed_by cs s) change ∙ m.goes in
+      let z = then_known (λ (m : Store). Some m) (changed (Write (word x / 2) k args) s) m.store done in
+      let one = write_known (word x / 2) k args z.value z.is in
+      (one.0, one.1, one.2 ∙ words_long c.base ws ss, m.told ∙ ap (map as_told) (sym change))
+
+  pub free_told : (x : ℕ) → x < c.registers → c.base + c.registers ≤ length ws → IsKnown (act (plain v.code) ks old (I.Free x)) → (u : Store) × (changed (Release (word x / 2)) s ≡ Some u) × (act_tells (plain v.code) ks old (I.Free x) ≡ Released (word x / 2) ∷ [])
+  free_told x h l known =
+      let places = option_and_then (λ w. place_of w) (slice_get now x) in
+      let m = changing old (option_map (λ p. Release p ∷ []) places) known in
+      let q = map_known (λ p. Release p ∷ []) places m.changes m.are in
+      let place = place_known x q.value h l q.is in
+      let change : Release (word x / 2) ∷ [] ≡ m.changes = ap (λ p. Release p ∷ []) (sym place) ∙ q.gives in
+      let done : changed_by (Release (word x / 2) ∷ []) s ≡ Some m.store = ap (λ cs. changed_by cs s) change ∙ m.goes in
+      let z = then_known (λ (m : Store). Some m) (changed (Release (word x / 2)) s) m.store done in
+      (z.value, z.is, m.told ∙ ap (map as_told) (sym change))
+
+  pub drop_told : (x : ℕ) → x < c.registers → c.base + c.registers ≤ length ws → IsKnown (act (plain v.code) ks old (I.Drop x)) → (ty : ℕ) × (y : Placed) × (u : Store) × (owned_type (slice_get ks x) ≡ Some ty) × (tree_of v.code.types s ty (word x) ≡ Some y) × (changed_by (map (λ p. Release p) (places y)) s ≡ Some u) × (act_tells (plain v.code) ks old (I.Drop x) ≡ map (λ p. Released p) (places y))
+  drop_told x h l known =
+      let m = changing old (option_and_then (λ w. dropped v.code.types old w (owned_type (slice_get ks x))) (slice_get now x)) known in
+      let q = then_known (λ w. dropped v.code.types old w (owned_type (slice_get ks x))) (slice_get now x) m.changes m.are in
+      let w : q.value ≡ word x = same_Some q.value (word x) (sym q.is ∙ register_is x h l) in
+      let o = owned x (owned_type (slice_get ks x)) refl m.changes (ap (λ w. dropped v.code.types old w (owned_type (slice_get ks x))) (sym w) ∙ q.gives) in
+      (o.0, o.1, m.store, o.2, o.3, ap (λ cs. changed_by cs s) o.4 ∙ m.goes, m.told ∙ ap (map as_told) (sym o.4) ∙ releases_told (places o.1))

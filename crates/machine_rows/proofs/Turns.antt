@@ -1,17 +1,17 @@
 -- What each instruction of a turn is by the definition: a test of a bool that was just written, and a test, a Take and a
 -- Put of a cell that was looked up.
-use Rattle.std.proofs.Common.{◌≡◌, ◌≢◌, ℕ, zero, suc, ◌+◌, ◌/◌, ◌%◌, ◌<◌, ◌≤◌, Bool, true, false, List, [], ◌∷◌, length, get_or, Option, Some, None, refl, sym, ap, subst, ◌∙◌, arith}
-use Rattle.std.specs.Prelude.{slice_get, slice_set, option_map, nat_eq, ◌==◌, if◌then◌else◌}
+use Rattle.std.proofs.Common.{◌≡◌, ◌≢◌, ℕ, ◌+◌, ◌/◌, ◌%◌, ◌<◌, ◌≤◌, Bool, List, [], length, get_or, Some, None, refl, sym, ap, subst, ◌∙◌, arith}
+use Rattle.std.specs.Prelude.{slice_get, slice_set, option_map, nat_eq, if◌then◌else◌}
 use Rattle.std.proofs.lemmas.Bool.Decides.{nat_tests}
-use Rattle.std.proofs.lemmas.Option.{none-some, same_Some}
+use Rattle.std.proofs.lemmas.Option.{same_Some}
 use Rattle.fip_language.specs.Store.{Cell}
 use Rattle.cell_code.specs.declared.code.Instr.{Instr}
 use Rattle.cell_code.specs.declared.code.Instr.TheVariants as I
 use Rattle.cell_code.specs.Runnable.{AreBelow, AreOthers}
-use Rattle.cell_store.specs.Cells.{Cells, cell_at, size_in}
+use Rattle.cell_store.specs.Cells.{Cells, cell_at}
 use Rattle.code_verify.specs.Checked.{Checked}
 use Rattle.code_runs.specs.Codes.{plain}
-use Rattle.code_runs.specs.Cells.{Store, cell_in}
+use Rattle.code_runs.specs.Cells.{Store}
 use Rattle.code_runs.specs.Rows.{constructor_of}
 use Rattle.code_runs.specs.States.{Typed, State}
 use Rattle.code_runs.specs.Steps.{Kinds}

@@ -4,3 +4,4 @@ pub mod View
 pub mod Highest
 pub mod Coming
 pub mod Going
+pub mod Telling

@@ -1,13 +1,14 @@
 // One function for each instruction, each inlined into `act`, and `act` into the loop of a run. What an instruction
 // asks of registers, targets, functions and room holds of a verified code, and isn't tested; what it asks of cells is
 // tested in `machine_cells`.
-ghost use Rattle.std.specs.Prelude.{◌≡◌, ◌≢◌, ℕ, ◌+◌, ◌-◌, ◌*◌, ◌/◌, ◌<◌, ◌≤◌, ◌^◌, Bool, false, List, [], length};
-ghost use Rattle.std.specs.Prelude.{vec_len, Some, IfSome, None, slice_get, slice_set, slice_index_or, take, map};
-ghost use Rattle.std.specs.Prelude.{if◌then◌else◌};
+ghost use Rattle.std.specs.Prelude.{◌≡◌, ◌≢◌, ℕ, ◌+◌, ◌-◌, ◌*◌, ◌/◌, ◌<◌, ◌≤◌, ◌^◌, Bool, false, List, [], ◌++◌};
+ghost use Rattle.std.specs.Prelude.{length, vec_len, Some, IfSome, None, slice_get, slice_set, slice_index_or, take};
+ghost use Rattle.std.specs.Prelude.{map, if◌then◌else◌};
 ghost use Rattle.fip_language.specs.declared.limits.TheConstants.{MOST_FIELDS, MOST_RESULTS};
 ghost use Rattle.fip_language.specs.Matching.{same_int};
 ghost use Rattle.fip_language.specs.Store.{Cell, Placed, places};
 ghost use Rattle.cell_store.specs.Cells.{cell_at, size_in};
+ghost use Rattle.cell_store.specs.Told.{Told, Released};
 ghost use Rattle.cell_code.specs.Runnable.{AreBelow, CanCall, Covers, Row, IsSafe, IsRunnable, body_of};
 ghost use Rattle.cell_code.specs.declared.kind.Kind.{Kind};
 ghost use Rattle.sound_code.specs.Codes as V;
@@ -16,7 +17,8 @@ ghost use Rattle.code_runs.specs.Cells.{Store, Release, changed_by};
 ghost use Rattle.code_runs.specs.Trees.{tree_of};
 ghost use Rattle.code_runs.specs.Words.{int_of};
 ghost use Rattle.code_runs.specs.States.{Typed};
-ghost use Rattle.code_runs.specs.Steps.{Kinds, next};
+ghost use Rattle.code_runs.specs.Codes.{plain};
+ghost use Rattle.code_runs.specs.Steps.{Kinds, act, next};
 ghost use Rattle.frame_stack.specs.Keeping.{Keeps};
 ghost use Rattle.frame_stack.specs.Words.{words_from, put_words};
 ghost use Rattle.machine_arithmetic.specs.Outcomes.{truth_word};
@@ -25,6 +27,7 @@ ghost use Rattle.machine_rows.specs.Bounding.{AreAtMost, Fits};
 ghost use Rattle.machine_rows.specs.Coming.{IsNext, IsTold, KnowsDrop, KnowsAt, moved};
 ghost use Rattle.machine_rows.specs.Going.{IsDone, IsGone, IsToldWithMore, Names};
 ghost use Rattle.machine_rows.specs.Placed.{IsPlaced, IsRoomy, Waiting, body_at, weight};
+ghost use Rattle.machine_rows.specs.Telling.{IsKnown, act_tells, next_tells};
 ghost use Rattle.machine_rows.specs.Highest.{IsHigh, IsRaised, IsSame};
 ghost use Rattle.machine_rows.specs.View.{words_of, state_of};
 
@@ -476,6 +479,7 @@ fn test<'a, C: Cells, const IN_LOOP: bool>(
         words.new cursor.new given }
     ensures small { IsSmall (C.cells cells.old) → IsSmall (C.cells cells.new) }
     ensures pushed { C.pushed cells.new ≡ C.pushed cells.old }
+    ensures once { IN_LOOP ≡ false → cells.new ≡ cells.old }
     ensures same { IsSame cursor.old cursor.new }
 {
     let word = words[cursor.base + register as usize];
@@ -641,6 +645,12 @@ fn put_cell<C: Cells>(
     ensures next { (ks : List Kind) (given : List ℕ) (ty : ℕ) → IsSmall (C.cells cells.old) → IsNext verified.now
         bounds (Instr.Put register ty constructor fields.now) ks (store_of (C.cells cells.old) (C.released cells.old))
         words.now cursor.old result (store_of (C.cells cells.new) (C.released cells.new)) words.now cursor.new given }
+    ensures told { (ks : List Kind) (lent : List Typed) (ty : ℕ) → IsSmall (C.cells cells.old) → IsKnown (act (plain
+        verified.now.code) ks (state_of verified.now bounds lent (store_of (C.cells cells.old) (C.released cells.old))
+        words.now cursor.old) (Instr.Put register ty constructor fields.now)) → (first : C) (ts : List Told) →
+        C.was_told first ts cells.old → C.was_told first (ts ++ act_tells (plain verified.now.code) ks (state_of
+        verified.now bounds lent (store_of (C.cells cells.old) (C.released cells.old)) words.now cursor.old)
+        (Instr.Put register ty constructor fields.now)) cells.new }
     ensures same { IsSame cursor.old cursor.new }
 {
     let word = words[cursor.base + register as usize];
@@ -999,6 +1009,12 @@ fn drop_tree<C: Cells>(
         tree_of verified.now.code.types (store_of (C.cells cells.old) (C.released cells.old)) t word ≡ Some x →
         changed_by (map (λ p. Release p) (places x)) (store_of (C.cells cells.old) (C.released cells.old)) ≡ Some s →
         store_of (C.cells cells.new) (C.released cells.new) ≡ s }
+    ensures told { (t : ℕ) → ReleasesAt (V.plain verified.now.code) cursor.now.function cursor.now.at t →
+        IsSmall (C.cells cells.old) → C.pushed cells.old ≡ [] → (x : Placed) (s : Store) →
+        tree_of verified.now.code.types (store_of (C.cells cells.old) (C.released cells.old)) t word ≡ Some x →
+        changed_by (map (λ p. Release p) (places x)) (store_of (C.cells cells.old) (C.released cells.old)) ≡ Some s →
+        (first : C) (ts : List Told) → C.was_told first ts cells.old → C.was_told first
+        (ts ++ map (λ p. Released p) (places x)) cells.new }
 {
     if let Some(ty) = verified.drop_type(cursor.function, cursor.at) {
         release_tree(&verified.code().types, cells, &mut beside.freed, ty, word);
@@ -1043,6 +1059,12 @@ fn act<'a, C: Cells, const IN_LOOP: bool>(
         (C.cells cells.old) → C.pushed cells.old ≡ [] → IsDone IN_LOOP verified.now bounds kinds instr.now ks
         (store_of (C.cells cells.old) (C.released cells.old)) words.old cursor.old result (store_of (C.cells
         cells.new) (C.released cells.new)) words.new cursor.new (take beside.new.given beside.new.results) }
+    ensures told { (ks : List Kind) (lent : List Typed) → KnowsDrop verified.now cursor.old instr.now ks → IN_LOOP ≡
+        false → IsSmall (C.cells cells.old) → C.pushed cells.old ≡ [] → IsKnown (act (plain verified.now.code) ks
+        (state_of verified.now bounds lent (store_of (C.cells cells.old) (C.released cells.old)) words.old cursor.old)
+        instr.now) → (first : C) (ts : List Told) → C.was_told first ts cells.old → C.was_told first
+        (ts ++ act_tells (plain verified.now.code) ks (state_of verified.now bounds lent (store_of (C.cells
+        cells.old) (C.released cells.old)) words.old cursor.old) instr.now) cells.new }
     ensures raised { IsHigh cursor.old → IsRaised cursor.old cursor.new }
 {
     match instr {
@@ -1224,6 +1246,12 @@ pub fn advance<'a, C: Cells, const IN_LOOP: bool>(
         IsSmall (C.cells cells.old) → C.pushed cells.old ≡ [] → IsToldWithMore verified.now bounds kinds (store_of
         (C.cells cells.old) (C.released cells.old)) words.old cursor.old result (store_of (C.cells cells.new)
         (C.released cells.new)) words.new cursor.new (take beside.new.given beside.new.results) }
+    ensures told { (kinds : Kinds) (lent : List Typed) → KnowsAt verified.now kinds cursor.old.function cursor.old.at →
+        IN_LOOP ≡ false → IsSmall (C.cells cells.old) → C.pushed cells.old ≡ [] → IsKnown (next kinds (plain
+        verified.now.code) (state_of verified.now bounds lent (store_of (C.cells cells.old) (C.released cells.old))
+        words.old cursor.old)) → (first : C) (ts : List Told) → C.was_told first ts cells.old → C.was_told first
+        (ts ++ next_tells kinds (plain verified.now.code) (state_of verified.now bounds lent (store_of (C.cells
+        cells.old) (C.released cells.old)) words.old cursor.old)) cells.new }
     ensures raised { IsHigh cursor.old → IsRaised cursor.old cursor.new }
 {
     let instr = next_of(verified, bounds, words, cursor);

@@ -5,3 +5,4 @@ pub mod Events
 pub mod Shown
 pub mod Told
 pub mod Traces
+pub mod Writing

@@ -1,5 +1,4 @@
 // A trace from outside.
 
-use cell_trace::write_trace;
 use std::test::Fail;
-use trace_files::{cells_after, read_trace};
+use trace_files::{cells_after, read_trace, write_trace};

@@ -1,5 +1,5 @@
 -- What is left to write gives the words at the end.
-use Rattle.std.proofs.Common.{◌≡◌, ◌+◌, drop, length}
+use Rattle.std.proofs.Common.{◌≡◌, ◌+◌, drop}
 use Rattle.frame_stack.specs.Keeping.{Keeps}
 use Rattle.frame_stack.specs.Words.{words_from, laid_at}
 use Rattle.frame_stack.proofs.frame.pass_all.Given as goal

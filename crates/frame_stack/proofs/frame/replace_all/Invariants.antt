@@ -1,5 +1,5 @@
 -- The words are read first; then what is left to write gives the words at the end.
-use Rattle.std.proofs.Common.{◌≡◌, ℕ, ◌+◌, ◌<◌, drop, get_or, length}
+use Rattle.std.proofs.Common.{◌≡◌, ℕ, ◌+◌, ◌<◌, drop, get_or}
 use Rattle.frame_stack.specs.Keeping.{Keeps}
 use Rattle.frame_stack.specs.Words.{words_from, laid_at}
 use Rattle.frame_stack.proofs.frame.replace_all.Given as goal

@@ -1,9 +1,8 @@
-use Rattle.std.proofs.Common.{◌≡◌, ◌+◌, ◌<◌, ◌∙◌, ℕ, Some, drop, sym, ap, subst, arith, get_or, length}
+use Rattle.std.proofs.Common.{◌≡◌, ◌+◌, ◌∙◌, Some, drop, sym, ap, subst, arith, get_or, length}
 use Rattle.std.specs.Prelude.{slice_set, slice_get, option_and_then}
 use Rattle.std.proofs.lemmas.List.{get_or-set_other}
 use Rattle.std.proofs.lemmas.Option.{get_or_from_slice_get}
-use Rattle.fip_language.specs.Store.{Cell}
-use Rattle.cell_store.specs.Cells.{cell_at, size_in}
+use Rattle.cell_store.specs.Cells.{size_in}
 use Rattle.frame_stack.specs.Words.{put_words}
 use Rattle.frame_stack.proofs.Laid.{put_more}
 use Rattle.frame_stack.proofs.frame.take_all.Goals as goal

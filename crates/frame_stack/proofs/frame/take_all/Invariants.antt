@@ -1,5 +1,5 @@
 -- What is left to write gives the words at the end.
-use Rattle.std.proofs.Common.{◌≡◌, ℕ, Some, drop, length}
+use Rattle.std.proofs.Common.{◌≡◌, Some, drop}
 use Rattle.fip_language.specs.Store.{Cell}
 use Rattle.cell_store.specs.Cells.{cell_at}
 use Rattle.frame_stack.specs.Keeping.{Keeps}

@@ -1,4 +1,4 @@
-use Rattle.std.proofs.Common.{◌≡◌, ◌≢◌, ◌/◌, None, Some, sym, ap, subst, arith}
+use Rattle.std.proofs.Common.{◌≢◌, ◌/◌, None, Some, sym, ap, subst, arith}
 use Rattle.cell_store.specs.Cells.{cell_at}
 use Rattle.machine_cells.proofs.Pendings.{place_within}
 use Rattle.machine_cells.proofs.named.cell_of.Goals as goal

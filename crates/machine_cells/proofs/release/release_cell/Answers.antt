@@ -1,7 +1,7 @@
-use Rattle.std.proofs.Common.{◌≡◌, ◌≢◌, ◌/◌, ◌∙◌, None, Some, true, false, sym, ap, subst, arith}
+use Rattle.std.proofs.Common.{◌≡◌, ◌≢◌, ◌/◌, ◌∙◌, [], ◌∷◌, ◌++◌, None, Some, true, false, sym, ap, subst, arith}
 use Rattle.std.specs.Prelude.{slice_get, slice_set}
-use Rattle.std.proofs.lemmas.Option.{none-some, same_Some}
 use Rattle.cell_store.specs.Cells.{cell_at}
+use Rattle.cell_store.specs.Told.{Released}
 use Rattle.machine_cells.specs.Small.{store_of}
 use Rattle.machine_cells.proofs.Pendings.{place_within, same_cell, is_there, given}
 use Rattle.machine_cells.proofs.release.release_cell.Goals as goal
@@ -20,6 +20,28 @@ returns-in-Some-clause-released g c small s is =
 
 pub returns-in_default-clause-released : goal.returns-in_default-clause-released
 returns-in_default-clause-released g c small s is =
+    let cs = g.C.Cells.cells c.args.cells.now in
+    let rs = g.C.Cells.released c.args.cells.now in
+    let p = c.args.word / 2 in
+    let up = given (store_of cs rs) p s is in
+    let there = is_there (cell_at cs p) up.cell (same_cell cs p ∙ up.at) in
+    let within = place_within cs p there in
+    let place = c.place_of.ensures (omega (arith, within, small)) in
+    absurd (c.in_default.not-Some c.place_of.result (c.live_cell_at.ensures.found (subst (λ q. cell_at cs q ≢ None) (sym place) there) (subst (λ q. slice_get rs q ≡ Some false) (sym place) up.live)))
+
+pub returns-in-Some-clause-told : goal.returns-in-Some-clause-told
+returns-in-Some-clause-told g c small s is first ts told =
+    let cs = g.C.Cells.cells c.args.cells.now in
+    let rs = g.C.Cells.released c.args.cells.now in
+    let p = c.args.word / 2 in
+    let up = given (store_of cs rs) p s is in
+    let there = is_there (cell_at cs p) up.cell (same_cell cs p ∙ up.at) in
+    let within = place_within cs p there in
+    let place = c.place_of.ensures (omega (arith, within, small)) in
+    subst (λ q. g.C.Cells.was_told first (ts ++ Released q ∷ []) c.release.new.self) (c.in-Some.ensures.same ∙ place) (c.release.ensures.told first ts told)
+
+pub returns-in_default-clause-told : goal.returns-in_default-clause-told
+returns-in_default-clause-told g c small s is first ts told =
     let cs = g.C.Cells.cells c.args.cells.now in
     let rs = g.C.Cells.released c.args.cells.now in
     let p = c.args.word / 2 in

@@ -1,6 +1,7 @@
--- What is left to release is on the stack, and falls with each tree that is taken off it.
-use Rattle.std.proofs.Common.{◌≡◌, [], Some, map}
+-- The cells of the tree are those that were released and then those that are on the stack, which falls with each tree that is taken off it.
+use Rattle.std.proofs.Common.{◌≡◌, ℕ, List, [], ◌++◌, Some, map}
 use Rattle.fip_language.specs.Store.{Placed, places}
+use Rattle.cell_store.specs.Told.{Told, Released}
 use Rattle.code_runs.specs.Cells.{Store, Release, changed_by}
 use Rattle.code_runs.specs.Trees.{tree_of}
 use Rattle.machine_cells.specs.Live.{work}
@@ -14,7 +15,9 @@ invariant-loop-next g l = record {
   held : IsSmall (g.C.Cells.cells l.fn.cells) → g.C.Cells.pushed l.fn.cells ≡ [] → (x : Placed) (s : Store) →
       tree_of l.types (store_of (g.C.Cells.cells l.fn.cells) (g.C.Cells.released l.fn.cells)) l.ty l.word ≡ Some x →
       changed_by (map (λ p. Release p) (places x)) (store_of (g.C.Cells.cells l.fn.cells) (g.C.Cells.released l.fn.cells)) ≡ Some s →
-      Held l.types (store_of (g.C.Cells.cells l.fn.cells) (g.C.Cells.released l.fn.cells)) (store_of (g.C.Cells.cells l.cells) (g.C.Cells.released l.cells)) s (g.C.Cells.pushed l.cells);
+      (done left : List ℕ) × (done ++ left ≡ places x)
+      × Held l.types (store_of (g.C.Cells.cells l.fn.cells) (g.C.Cells.released l.fn.cells)) (store_of (g.C.Cells.cells l.cells) (g.C.Cells.released l.cells)) s (g.C.Cells.pushed l.cells) left
+      × ((first : g.row.C.Denot) (ts : List Told) → g.C.Cells.was_told first ts l.fn.cells → g.C.Cells.was_told first (ts ++ map (λ p. Released p) done) l.cells);
 }
 
 abbrev pub decreases-loop-next : goal.decreases-loop-next

@@ -1,8 +1,11 @@
-use Rattle.std.proofs.Common.{◌≡◌, ◌≢◌, ℕ, ◌+◌, ◌-◌, ◌/◌, ◌%◌, ◌<◌, ◌≤◌, ◌∙◌, Bool, true, false, List, [], ◌∷◌, None, Some, refl, sym, ap, subst, arith, length, take, get_or}
-use Rattle.std.specs.Prelude.{slice_get, slice_set, nat_eq, ◌==◌, if◌then◌else◌}
+use Rattle.std.proofs.Common.{◌≡◌, ◌∙◌, ◌++◌, map, Option, Some, refl, sym, ap, subst, length, take}
 use Rattle.code_runs.specs.Codes.{plain}
 use Rattle.code_runs.specs.States.{State}
-use Rattle.code_runs.specs.Steps.{next}
+use Rattle.cell_code.specs.declared.code.Instr.{Instr}
+use Rattle.code_runs.specs.Steps.{act, act_at, changes_at, instr_of, next}
+use Rattle.code_runs.specs.Traces.{done_changes}
+use Rattle.machine_cells.specs.Telling.{as_told}
+use Rattle.machine_rows.specs.Telling.{IsKnown, act_tells, next_tells}
 use Rattle.machine_cells.specs.Small.{store_of}
 use Rattle.machine_rows.specs.View.{state_of}
 use Rattle.machine_rows.specs.Coming.{Comes}
@@ -44,3 +47,18 @@ returns-clause-more g c kinds known small empty lent =
       more = m.0.more;
       last = m.0.last;
     }
+
+pub returns-clause-told : goal.returns-clause-told
+returns-clause-told g c kinds lent known once small empty goes first ts told =
+    let v = c.args.verified.now in
+    let b = c.args.bounds in
+    let ws = c.args.words.now in
+    let cursor = c.args.cursor.now in
+    let s = store_of (g.C.Cells.cells c.args.cells.now) (g.C.Cells.released c.args.cells.now) in
+    let old = state_of v b lent s ws cursor in
+    let x = c.next_of-instr.result.now in
+    let at = instr_is v b (length ws) cursor x c.requires.placed c.next_of-instr.ensures.is in
+    let ks = kinds cursor.function cursor.at in
+    let acts : act_at (plain v.code) ks old (instr_of (plain v.code) old) ≡ act (plain v.code) ks old x = ap (act_at (plain v.code) ks old) (at ∙ refl) in
+    let tells : next_tells kinds (plain v.code) old ≡ act_tells (plain v.code) ks old x = ap (λ (o : Option Instr). map as_told (done_changes (changes_at (plain v.code) ks old o) (act_at (plain v.code) ks old o))) at in
+    subst (λ us. g.C.Cells.was_told first (ts ++ us) c.act.new.cells) (sym tells) (c.act.ensures.told ks lent (λ r t e owned. known r t (at ∙ ap Some e) owned) once small empty (subst IsKnown acts goes) first ts told)

@@ -1,4 +1,4 @@
-use Rattle.std.proofs.Common.{◌≡◌, ◌+◌, ◌≤◌, ◌∙◌, refl, sym, ap, subst, arith, length}
+use Rattle.std.proofs.Common.{◌≡◌, ◌+◌, ◌≤◌, ◌∙◌, refl, sym, subst, arith, length}
 use Rattle.machine_rows.proofs.Stacked.{keeps_both, keeps_less, waiting_keeps}
 use Rattle.machine_rows.proofs.Starting.{starts_again}
 use Rattle.code_runs.specs.Codes.{plain_function, plain, function_at}

@@ -5,7 +5,7 @@ use Rattle.cell_code.specs.Runnable.{Body, IsSafe}
 use Rattle.cell_code.proofs.Following.{safe_here}
 use Rattle.machine_rows.proofs.Stacked.{waiting_keeps}
 use Rattle.std.specs.Prelude.{slice_get}
-use Rattle.code_runs.specs.Codes.{plain_function, plain, instr_in, instr_at}
+use Rattle.code_runs.specs.Codes.{plain, instr_in}
 use Rattle.code_runs.specs.Rows.{read_all}
 use Rattle.frame_stack.specs.View.{registers_of, frame_at, waiting_in}
 use Rattle.frame_stack.specs.Words.{words_from, put_words}

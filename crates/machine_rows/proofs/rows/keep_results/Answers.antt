@@ -1,5 +1,4 @@
-use Rattle.std.proofs.Common.{◌≡◌, ◌≢◌, ℕ, ◌+◌, ◌-◌, ◌/◌, ◌%◌, ◌<◌, ◌≤◌, ◌∙◌, Bool, true, false, List, [], ◌∷◌, None, Some, refl, sym, ap, subst, arith, length, take, get_or}
-use Rattle.std.specs.Prelude.{slice_get, slice_set, nat_eq, ◌==◌, if◌then◌else◌}
+use Rattle.std.proofs.Common.{ℕ, ◌+◌, ◌∙◌, arith, get_or}
 use Rattle.std.proofs.lemmas.List.{length-set}
 use Rattle.frame_stack.proofs.Laid.{read_more, all_read}
 use Rattle.machine_rows.proofs.rows.keep_results.Goals as goal

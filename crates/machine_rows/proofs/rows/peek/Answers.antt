@@ -1,5 +1,5 @@
-use Rattle.std.proofs.Common.{◌≡◌, ◌≢◌, ℕ, ◌+◌, ◌-◌, ◌/◌, ◌%◌, ◌<◌, ◌≤◌, ◌∙◌, Bool, true, false, List, [], ◌∷◌, None, Some, refl, sym, ap, subst, arith, length, take, get_or}
-use Rattle.std.specs.Prelude.{slice_get, slice_set, nat_eq, ◌==◌, if◌then◌else◌}
+use Rattle.std.proofs.Common.{◌+◌, ◌/◌, ◌∙◌, sym, ap, get_or}
+use Rattle.std.specs.Prelude.{slice_set}
 use Rattle.std.proofs.lemmas.Option.{none-some}
 use Rattle.machine_cells.specs.Small.{store_of}
 use Rattle.machine_rows.specs.View.{words_of, state_of}

@@ -1,6 +1,4 @@
-use Rattle.std.proofs.Common.{◌≡◌, ◌≢◌, ℕ, ◌+◌, ◌-◌, ◌/◌, ◌%◌, ◌<◌, ◌≤◌, ◌∙◌, Bool, true, false, List, [], ◌∷◌, None, Some, refl, sym, ap, subst, arith, length, take, get_or}
-use Rattle.std.specs.Prelude.{slice_get, slice_set, nat_eq, ◌==◌, if◌then◌else◌}
-use Rattle.std.specs.Prelude.{nat_eq}
+use Rattle.std.proofs.Common.{sym, subst}
 use Rattle.machine_rows.specs.View.{state_of}
 use Rattle.machine_rows.specs.Coming.{Comes}
 use Rattle.cell_code.specs.declared.code.Instr.TheVariants as I

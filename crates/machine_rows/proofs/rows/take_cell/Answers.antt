@@ -1,5 +1,4 @@
-use Rattle.std.proofs.Common.{◌≡◌, ◌≢◌, ℕ, ◌+◌, ◌-◌, ◌/◌, ◌%◌, ◌<◌, ◌≤◌, ◌∙◌, Bool, true, false, List, [], ◌∷◌, None, Some, refl, sym, ap, subst, arith, length, take, get_or}
-use Rattle.std.specs.Prelude.{slice_get, slice_set, nat_eq, ◌==◌, if◌then◌else◌}
+use Rattle.std.proofs.Common.{◌+◌, ◌/◌, ◌∙◌, get_or}
 use Rattle.machine_cells.specs.Small.{store_of}
 use Rattle.machine_cells.proofs.Pendings.{same_cell}
 use Rattle.machine_rows.specs.View.{state_of}

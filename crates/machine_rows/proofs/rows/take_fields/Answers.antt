@@ -1,5 +1,4 @@
-use Rattle.std.proofs.Common.{◌≡◌, ◌≢◌, ℕ, ◌+◌, ◌-◌, ◌/◌, ◌%◌, ◌<◌, ◌≤◌, ◌∙◌, Bool, true, false, List, [], ◌∷◌, None, Some, refl, sym, ap, subst, arith, length, take, get_or}
-use Rattle.std.specs.Prelude.{slice_get, slice_set, nat_eq, ◌==◌, if◌then◌else◌}
+use Rattle.std.proofs.Common.{◌+◌, ◌/◌, ◌∙◌, sym, ap, get_or}
 use Rattle.std.proofs.lemmas.Option.{none-some}
 use Rattle.cell_store.specs.Cells.{cell_at, size_in}
 use Rattle.machine_cells.proofs.Pendings.{is_there}

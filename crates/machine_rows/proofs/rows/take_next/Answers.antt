@@ -1,5 +1,5 @@
 -- The fields come into registers, and the cell may be put together again.
-use Rattle.std.proofs.Common.{◌≡◌, ◌∙◌, ◌<◌, List, ℕ, ap, subst, sym}
+use Rattle.std.proofs.Common.{◌∙◌, ◌<◌, List, ℕ, ap, subst, sym}
 use Rattle.cell_code.specs.Runnable.{AreBelow, AreOthers, Row, IsSafe}
 use Rattle.cell_code.specs.declared.code.Instr.TheVariants as I
 use Rattle.cell_store.specs.Cells.{cell_at}

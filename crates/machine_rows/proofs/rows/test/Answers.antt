@@ -1,7 +1,6 @@
-use Rattle.std.proofs.Common.{◌≡◌, ◌≢◌, ℕ, ◌+◌, ◌-◌, ◌/◌, ◌%◌, ◌<◌, ◌≤◌, ◌∙◌, Bool, true, false, List, [], ◌∷◌, None, Some, refl, sym, ap, subst, arith, length, take, get_or}
-use Rattle.std.specs.Prelude.{slice_get, slice_set, nat_eq, ◌==◌, if◌then◌else◌}
+use Rattle.std.proofs.Common.{◌≡◌, ◌+◌, ◌/◌, ◌∙◌, false, [], Some, refl, sym, ap, get_or}
+use Rattle.std.specs.Prelude.{slice_get, nat_eq}
 use Rattle.std.specs.Prelude.{option_map}
-use Rattle.std.proofs.lemmas.Bool.Decides.{nat_tests}
 use Rattle.std.proofs.lemmas.Option.{none-some, same_Some}
 use Rattle.fip_language.specs.Store.{Cell}
 use Rattle.cell_store.specs.Cells.{cell_at}
@@ -13,7 +12,6 @@ use Rattle.code_runs.specs.Cells.{Store}
 use Rattle.code_runs.specs.States.{State}
 use Rattle.frame_stack.proofs.Viewed.{frame_get}
 use Rattle.machine_rows.specs.View.{words_of, state_of}
-use Rattle.machine_rows.specs.Going.{Names}
 use Rattle.machine_rows.proofs.RowNexts.{test_next}
 use Rattle.machine_rows.proofs.Goings.{alone, with_more, both_gone}
 use Rattle.machine_rows.proofs.Helps.{no_loop, same_place, even_constructor, odd_constructor}

@@ -1,11 +1,11 @@
 -- Between bursts the words reach further; the task stays where it is.
-use Rattle.std.proofs.Common.{◌≡◌, ◌+◌, ◌≤◌, ◌∙◌, ℕ, List, Some, rules, sym, subst, arith, length, refl}
+use Rattle.std.proofs.Common.{◌≡◌, ◌≤◌, ◌∙◌, ℕ, List, Some, rules, sym, subst, arith, length, refl}
 use Rattle.std.specs.Vec.{with_items}
 use Rattle.std.proofs.lemmas.List.{with_items_is}
 use Rattle.machine_rows.specs.Placed.{IsPlaced, Waiting}
 use Rattle.machine_rows.proofs.Stacked.{keeps_less, waiting_keeps}
 use Rattle.fip_machine.specs.Tasks.{Stand}
-use Rattle.fip_machine.specs.Along.{Origin, IsAlong, HasRun, task_of, stored, end_after}
+use Rattle.fip_machine.specs.Along.{IsAlong, HasRun, task_of, stored, end_after}
 use Rattle.fip_machine.proofs.Alongs.{task_same}
 use Rattle.fip_machine.proofs.Bursts.{paused_along, run_ended, along_ended}
 use Rattle.fip_machine.proofs.stack.TaskStack.run.Goals as goal

@@ -1,4 +1,4 @@
-use Rattle.std.proofs.Common.{◌≡◌, ◌+◌, ◌≤◌, ◌∙◌, ℕ, List, rules, refl, sym, ap, subst, arith, length, take}
+use Rattle.std.proofs.Common.{◌≡◌, ◌+◌, ◌≤◌, ◌∙◌, ◌++◌, ℕ, List, rules, refl, sym, ap, subst, arith, length, take}
 use Rattle.std.specs.Vec.{with_items}
 use Rattle.std.proofs.lemmas.List.{with_items_is}
 use Rattle.code_runs.specs.Codes.{plain}
@@ -7,6 +7,7 @@ use Rattle.code_runs.specs.Steps.{next}
 use Rattle.machine_cells.specs.Small.{store_of}
 use Rattle.machine_rows.specs.View.{state_of}
 use Rattle.machine_rows.specs.Coming.{Comes, KnowsAt}
+use Rattle.machine_rows.specs.Telling.{IsKnown, next_tells}
 use Rattle.machine_rows.proofs.Highs.{high_raised}
 use Rattle.fip_machine.specs.Tasks.{Stand, IsMeasured, state_with}
 use Rattle.fip_machine.proofs.Measured.{measured_of}
@@ -64,3 +65,20 @@ returns-clause-measured g c =
     let waiting = subst (λ (xs : List ℕ). Waiting i.verified.now i.bounds xs after.frames after.base) (sym items) c.advance-stepped.ensures.waiting in
     let m = measured_of i.verified.now i.bounds all.items after c.advance-stepped.new.beside room waiting (high_raised i.cursor after (c.advance-stepped.ensures.raised c.self.invariant.high)) in
     record { frames = m.frames; words = m.words; most_frames = m.most_frames; most_words = m.most_words }
+
+pub returns-clause-told : goal.returns-clause-told
+returns-clause-told g c kinds lent known going small empty goes first ts told =
+    let i = c.self.inside in
+    let v = i.verified.now in
+    let b = i.bounds in
+    let ws = i.words.items in
+    let cursor = i.cursor in
+    let s = store_of (g.C.Cells.cells c.args.cells.now) (g.C.Cells.released c.args.cells.now) in
+    let old = state_of v b lent s ws cursor in
+    let mid = c.as_mut_slice.result.now in
+    let knows : KnowsAt v kinds cursor.function cursor.at = subst (λ (w : Stand). KnowsAt w.code kinds w.running.function w.running.at) (sym c.self.view_is) known in
+    let next_is : IsKnown (next kinds (plain v.code) old) = subst (λ (w : Stand). IsKnown (next kinds (plain w.code.code) (state_with w lent s))) (sym c.self.view_is) goes in
+    let same : state_of v b lent s mid cursor ≡ old = ap (λ xs. state_of v b lent s xs cursor) c.as_mut_slice.ensures.value ∙ room_same v b lent s ws c.make_room.new.words.items cursor c.self.invariant.placed.room c.make_room.ensures.more c.make_room.ensures.keeps in
+    let done = c.advance-stepped.ensures.told kinds lent knows refl small empty (subst (λ (st : State). IsKnown (next kinds (plain v.code) st)) (sym same) next_is) first ts told in
+    let here = subst (λ (st : State). g.C.Cells.was_told first (ts ++ next_tells kinds (plain v.code) st) c.advance-stepped.new.cells) same done in
+    subst (λ (w : Stand). g.C.Cells.was_told first (ts ++ next_tells kinds (plain w.code.code) (state_with w lent s)) c.advance-stepped.new.cells) c.self.view_is here

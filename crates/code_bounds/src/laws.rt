@@ -70,8 +70,8 @@ pub fn a_run_takes_few_steps()
         steps_of (after before (run_code c) steps (begun s calls)) ≤ calls * most }
 {}
 
-/// A run of sound code ends, with any number of calls; and in one way, whichever kinds are given, and as much is seen of
-/// its states. For who waits for its results.
+/// A run of sound code ends, with any number of calls; and in one way, whichever kinds are given, and as much is seen
+/// of its states. For who waits for its results.
 pub fn a_run_ends()
     ensures some { (c : PlainCode) (before waits : Kinds) (n : ℕ) (kept : List ℕ) (s : State) (calls : ℕ) →
         IsStart c before waits n kept s → (e : End) × (last : State) × (left : ℕ) × (steps : ℕ)

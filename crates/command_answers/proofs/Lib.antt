@@ -11,3 +11,4 @@ pub mod RunTables
 pub mod SomeRun
 pub mod OneRun
 pub mod RunAnswers
+pub mod CodeAnswers

@@ -74,7 +74,7 @@ file_read bytes short refused sound = by (read_all code_reader bytes) refl
         sound y.1 (record { short = short; spelt = spelt; sound = right })
     by (Stop left) e = refused (F.BadCode (length bytes - left)) (BadFile (length bytes - left) short (read_place bytes left e))
 
-refused_or_sound : (bytes : List ℕ) → ((f : Failure) → RefusesCode bytes f → ⊥) → ((code : PlainCode) → IsSoundFile bytes code → ⊥) → ⊥
+pub refused_or_sound : (bytes : List ℕ) → ((f : Failure) → RefusesCode bytes f → ⊥) → ((code : PlainCode) → IsSoundFile bytes code → ⊥) → ⊥
 refused_or_sound bytes refused sound = elim (le_or_less (length bytes) MOST_FILE_BYTES) as (λ v. ⊥) [
   | inl short ↦ file_read bytes short refused sound
   | inr long ↦ refused (F.BadCode MOST_FILE_BYTES) (LongFile long)
@@ -101,17 +101,17 @@ some_answer files input r = by (file_of r.file files)
 
 -- ---- one answer
 
-code_same : (bytes : List ℕ) (c d : PlainCode) → IsFileOf bytes c → IsFileOf bytes d → c ≡ d
+pub code_same : (bytes : List ℕ) (c d : PlainCode) → IsFileOf bytes c → IsFileOf bytes d → c ≡ d
 code_same bytes c d h k = (one_code bytes h.0 k.0 c d h.1 k.1).1
 
-refused_not_sound : (bytes : List ℕ) (f : Failure) (c : PlainCode) → RefusesCode bytes f → IsSoundFile bytes c → ⊥
+pub refused_not_sound : (bytes : List ℕ) (f : Failure) (c : PlainCode) → RefusesCode bytes f → IsSoundFile bytes c → ⊥
 refused_not_sound bytes f c (LongFile more) h = let le = h.short in omega (arith, more, le)
 refused_not_sound bytes f c (BadFile at le place) h = IsPlace-not_spelt IsFileOf bytes at c place h.spelt
 refused_not_sound bytes f c (UnsoundFile code function at rule le spelt least) h =
     let same = code_same bytes code c spelt h.spelt in
     h.sound function at rule (subst (λ c. IsLeast (sound_view c) function at rule) same least).breaks
 
-refused_once : (bytes : List ℕ) (f g : Failure) → RefusesCode bytes f → RefusesCode bytes g → f ≡ g
+pub refused_once : (bytes : List ℕ) (f g : Failure) → RefusesCode bytes f → RefusesCode bytes g → f ≡ g
 refused_once bytes f g (LongFile more) (LongFile other) = refl
 refused_once bytes f g (LongFile more) (BadFile at le place) = absurd (omega (arith, more, le))
 refused_once bytes f g (LongFile more) (UnsoundFile code function at rule le spelt least) = absurd (omega (arith, more, le))

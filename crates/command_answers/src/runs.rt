@@ -1,7 +1,8 @@
-// The laws on what `run` comes to on the file of a sound code. Each is the contract of a function that does nothing.
+// The laws that commands on the files of codes and of traces have one answer. Each is the contract of a function that
+// does nothing.
 ghost use Rattle.std.specs.Prelude.{◌≡◌, ℕ, Bool, List};
 ghost use Rattle.fip_base.specs.Files.{File};
-ghost use Rattle.command_line.specs.Words.{Request, Run, Room};
+ghost use Rattle.command_line.specs.Words.{Request, Run, Room, Verify, Upgrade, Replay};
 ghost use Rattle.source_commands.specs.Codes.{HasFunction};
 ghost use Rattle.command_answers.specs.Answer.{ComesTo};
 ghost use Rattle.command_answers.specs.CodeRun.{RunsCode};
@@ -23,4 +24,25 @@ pub fn run_has_one_answer()
         ((o : Outcome) → ComesTo files input (Run r) o → ⊥) → ⊥ }
     ensures one { (files : List File) (input : List ℕ) (r : Request) (o u : Outcome) →
         ComesTo files input (Run r) o → ComesTo files input (Run r) u → o ≡ u }
+{}
+
+/// `verify` and `upgrade` are never without an answer, whatever files there are, and have one. For who keeps code
+/// files.
+pub fn codes_have_one_answer()
+    ensures verified { (files : List File) (input file : List ℕ) →
+        ((o : Outcome) → ComesTo files input (Verify file) o → ⊥) → ⊥ }
+    ensures one { (files : List File) (input file : List ℕ) (o u : Outcome) → ComesTo files input (Verify file) o →
+        ComesTo files input (Verify file) u → o ≡ u }
+    ensures upgraded { (files : List File) (input file out : List ℕ) →
+        ((o : Outcome) → ComesTo files input (Upgrade file out) o → ⊥) → ⊥ }
+    ensures one_upgrade { (files : List File) (input file out : List ℕ) (o u : Outcome) →
+        ComesTo files input (Upgrade file out) o → ComesTo files input (Upgrade file out) u → o ≡ u }
+{}
+
+/// `replay` has an answer, whatever files there are, and one alone. For who keeps files of traces.
+pub fn replay_has_one_answer()
+    ensures some { (files : List File) (input trace : List ℕ) (step : ℕ) →
+        (o : Outcome) × ComesTo files input (Replay trace step) o }
+    ensures one { (files : List File) (input trace : List ℕ) (step : ℕ) (o u : Outcome) →
+        ComesTo files input (Replay trace step) o → ComesTo files input (Replay trace step) u → o ≡ u }
 {}

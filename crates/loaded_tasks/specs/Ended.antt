@@ -1,7 +1,7 @@
 -- For the theorem on schedules: how a task that has ended among others ended alone, and how its function ends on trees.
 --
--- rev(Cons(2, Nil), Cons(4, Nil)), the second of two tasks, ends with the word 13 and alone with the word 1, after seven
--- steps. Each of these stands for Cons(2, Cons(4, Nil)) in its store, and on trees the end is this value.
+-- rev(Cons(2, Nil), Cons(4, Nil)), the second of two tasks, ends with the word 13, and alone with the word 1, after
+-- seven steps. Each of these stands for Cons(2, Cons(4, Nil)) in its store, and on trees the end is this value.
 use Rattle.std.specs.Prelude.{◌≡◌, ℕ}
 use Rattle.fip_language.specs.Meaning.{Answer}
 use Rattle.code_runs.specs.Cells.{Store}

@@ -3,7 +3,8 @@
 use Rattle.std.specs.Prelude.{ℤ, pos, List, [], ◌∷◌}
 use Rattle.fip_language.specs.Example.{empty, item, pair}
 use Rattle.sound_code.specs.Codes.{PlainFunction}
-use Rattle.sound_code.specs.Example.{function_of, rev_with, nil_taken, acc_given, cons_taken, cons_put, again, cons_known}
+use Rattle.sound_code.specs.Example.{function_of, rev_with, nil_taken, acc_given, cons_taken, cons_put, again}
+use Rattle.sound_code.specs.Example.{cons_known}
 use Rattle.loaded_tasks.specs.Laid.{Task}
 
 -- the function of the reversal

@@ -47,16 +47,16 @@ pub fn what_tasks_come_to()
         EndsOnTrees c t (record last { store = (scheduled before (run_code c) schedule first).store }) e left steps }
 {}
 
-/// Whatever turns are drawn, each task comes to an end where it then has turns enough: some schedule that begins with the
-/// drawn turns, and gives turns to the tasks in order behind them, ends all. For who runs tasks to their ends.
+/// Whatever turns are drawn, each task comes to an end where it then has turns enough: some schedule that begins with
+/// the drawn turns, and gives turns to the tasks in order behind them, ends all. For who runs tasks to their ends.
 pub fn all_tasks_end()
     ensures law { (c : PlainCode) (before waits : Kinds) (tasks : List Task) (alone : List Begun) (first : Shared)
         (drawn : List ℕ) → IsSound c → HasLiterals c → AreKinds c before waits → AreLaid c tasks alone first →
         (schedule : List ℕ) × EndsAll before (run_code c) first drawn schedule }
 {}
 
-/// The two tasks of the examples of schedules are loaded so: the second has its cells behind those of the first, and its
-/// words name them. For who wants to see the numbers.
+/// The two tasks of the examples of schedules are loaded so: the second has its cells behind those of the first, and
+/// its words name them. For who wants to see the numbers.
 pub fn an_example_is_laid()
     ensures store { shared_store two_calls ≡ both }
     ensures words { task_words 6 (rev_of (pos 2) (pos 4)) ≡ 13 ∷ 19 ∷ [] }

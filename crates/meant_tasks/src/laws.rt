@@ -1,0 +1,31 @@
+// The law on tasks of an accepted source's code. It is the contract of a function that does nothing.
+ghost use Rattle.std.specs.Prelude.{◌≡◌, ◌<◌, ℕ, List, Some, length, slice_get};
+ghost use Rattle.fip_language.specs.Core.{Core};
+ghost use Rattle.fip_language.specs.Meaning.{meaning};
+ghost use Rattle.fip_language.specs.Statics.{NoClosed};
+ghost use Rattle.cell_code.specs.declared.code.Code.{Code};
+ghost use Rattle.code_runs.specs.Runs.{End, Over};
+ghost use Rattle.code_runs.specs.States.{State};
+ghost use Rattle.code_runs.specs.Steps.{Kinds};
+ghost use Rattle.sound_code.specs.Codes.{plain};
+ghost use Rattle.code_separation.specs.Codes.{run_code, AreKinds};
+ghost use Rattle.tree_agreement.specs.Runs.{IsSameEnd};
+ghost use Rattle.task_schedules.specs.Projected.{Begun};
+ghost use Rattle.task_schedules.specs.Schedules.{Shared, scheduled};
+ghost use Rattle.loaded_tasks.specs.Laid.{Task, AreLaid};
+ghost use Rattle.meant_runs.specs.Starts.{IsCodeOf};
+
+/// Where calls of functions of an accepted source's code are loaded one behind another, a task that has ended, whatever
+/// turns were taken, ended as the source means by the function of its name on its arguments, with its calls and
+/// frames: with words that stand in the shared store for the values that are meant, in the same trap, or out of calls
+/// or frames. For who prints what the tasks of a list came to.
+pub fn tasks_end_as_the_source_means()
+    ensures law { (source : List ℕ) (core : Core) (code : Code) (before waits : Kinds) (tasks : List Task)
+        (alone : List Begun) (first : Shared) (schedule : List ℕ) (k : ℕ) (t : Task) (e : End) (last : State)
+        (left steps : ℕ) → IsCodeOf source core code → AreKinds (plain code) before waits →
+        AreLaid (plain code) tasks alone first → slice_get tasks k ≡ Some t → 0 < length t.header.name →
+        slice_get (scheduled before (run_code (plain code)) schedule first).runs k ≡ Some (Over e last left steps) →
+        IsSameEnd code.types t.header.results
+        (record last { store = (scheduled before (run_code (plain code)) schedule first).store }) left e
+        (meaning core t.header.name NoClosed t.arguments t.calls t.frames).answer }
+{}

@@ -37,6 +37,9 @@ pub fn compare(own: &[u32], others: &[u32]) -> Missing
     requires others_rise { Rise others.now }
     ensures is { IsMissing own.now others.now result }
 {
+    if is_listed_within(own, None, others) {
+        return Missing::Nothing;
+    }
     match first_missing(own, others) {
         None => Missing::Nothing,
         Some(number) => {

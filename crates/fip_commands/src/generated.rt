@@ -7,7 +7,6 @@ ghost use Rattle.command_outcome.specs.declared.failure.Failure.TheVariants.{Not
 ghost use Rattle.source_commands.specs.Wanted.{IsReady};
 ghost use Rattle.fip_commands.specs.Generated.{IsTreeSource, build, IsTreeText, KeepsFromTree};
 
-use crate::running::{failure_of, started};
 use cell_store::Cells;
 use command_line::Room;
 use command_outcome::{Ends, Failure, tree_lines};
@@ -15,6 +14,7 @@ use fip_base::plain::NoMemory;
 use fip_language::limits::MOST_STORE_WORDS;
 use fip_library::text;
 use fip_machine::Gauge;
+use run_command::{failure_of, started};
 use source_commands::{Ready, exec_entry};
 use std::alloc::Global;
 

@@ -1,16 +1,15 @@
 // What the commands do with an input: runs, evaluations, sessions, tasks and traces, from bytes to bytes, or to what
-// keeps them from them. What they do before, to a source or to a code, is in `source_commands`, and the evaluation in
-// `eval_command`; their calls stand here too.
+// keeps them from them. What they do before, to a source or to a code, is in `source_commands`, the evaluation in
+// `eval_command` and the run in `run_command`; their calls stand here too.
 #![tactic(auto)]
 
 mod generated;
-mod running;
 mod sessions;
 mod traces;
 
 pub use eval_command::evaluate;
 pub use generated::{generate, library};
-pub use running::run;
+pub use run_command::run;
 pub use sessions::{session, tasks};
 pub use source_commands::{
     Compiled, Evaluable, Front, Ready, audit, bad_proof, check, compile, derive, eval_entry,

@@ -8,7 +8,6 @@ ghost use Rattle.source_report.specs.Report.{bare};
 ghost use Rattle.command_outcome.specs.Stages.{IsOfReplay, IsOfRun, IsOfTrace};
 ghost use Rattle.fip_commands.specs.Replayed.{IsReplayed, KeepsFromReplay};
 
-use crate::running::{failure_of, started, types_of, values_text};
 use cell_trace::{ReadTraceError, Trace, TraceError};
 use command_line::Room;
 use command_outcome::Failure;
@@ -16,6 +15,7 @@ use fip_base::plain::{Detail, NoMemory};
 use fip_base::refusal::{Refusal, Rule};
 use fip_language::limits::MOST_FILE_BYTES;
 use fip_machine::{Ended, Gauge, Machine};
+use run_command::{failure_of, started, types_of, values_text};
 use source_commands::{Compiled, Ready};
 use std::alloc::Global;
 use trace_files::{cells_after, read_trace, write_trace};

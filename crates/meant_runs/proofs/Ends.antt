@@ -79,7 +79,7 @@ meant_by tb types C.Deep l left e new given Stuck h same = absurd same
 meant_by tb types C.Unsound l left e new given a h same = absurd h
 
 -- the end of a run that is over
-record IsEnded (r : Run) (e : Ended) (new : State) (given : List ℕ) : Type 0 where
+pub record IsEnded (r : Run) (e : Ended) (new : State) (given : List ℕ) : Type 0 where
   pub end : End
   pub last : State
   pub left : ℕ
@@ -87,7 +87,7 @@ record IsEnded (r : Run) (e : Ended) (new : State) (given : List ℕ) : Type 0 w
   pub is : r ≡ Over end last left steps
   pub as' : EndsJustAs end last e new given
 
-ended : (r : Run) (e : Ended) (new : State) (given : List ℕ) → IsOverJust r e new given → IsEnded r e new given
+pub ended : (r : Run) (e : Ended) (new : State) (given : List ℕ) → IsOverJust r e new given → IsEnded r e new given
 ended (Going s left n) e new given h = absurd h
 ended (Over end s left n) e new given h = record { end = end; last = s; left = left; steps = n; is = refl; as' = h }
 

@@ -35,7 +35,7 @@ use Rattle.meant_runs.proofs.Starting.{read}
 
 -- ---- cells
 
-same_cell : (cs : List (Option Cell)) (p : ℕ) → L.cell_at cs p ≡ cell_in cs p
+pub same_cell : (cs : List (Option Cell)) (p : ℕ) → L.cell_at cs p ≡ cell_in cs p
 same_cell [] p = refl
 same_cell (o ∷ os) zero = refl
 same_cell (o ∷ os) (suc p) = same_cell os p

@@ -22,18 +22,18 @@ use Rattle.tail_groups.specs.Members.{AreMembers}
 use Rattle.source_report.specs.Report.{bare, IsAccepted}
 use Rattle.command_outcome.specs.declared.failure.Failure.{Failure}
 use Rattle.command_outcome.specs.declared.failure.Failure.TheVariants as F
-use Rattle.source_commands.specs.Codes.{IsUnspelt}
-use Rattle.source_commands.specs.ProgramCode.{plain_header, instrs_of, IsNamed, IsLoweredFrom, IsCodeOfSource, IsEntryOf, IsCompiledFile, IsUncompiled, KeepsFromCompile}
-use Rattle.source_commands.specs.Entries.{Chosen}
+use Rattle.source_commands.specs.Codes.{IsSoundFile, IsUnspelt}
+use Rattle.source_commands.specs.ProgramCode.{plain_header, instrs_of, IsLoweredFrom, IsCodeOfSource, IsEntryOf, IsCompiledFile, IsUncompiled, KeepsFromCompile}
+use Rattle.source_commands.specs.Entries.{Chosen, IsNamed, IsFunctionOf}
 use Rattle.source_commands.specs.Wanted.{Lawful, IsReady, IsRefusedBy}
 use Rattle.source_commands.specs.declared.known.Front.{Front}
 use Rattle.source_commands.proofs.CodeFiles.{view_same}
 
-headers_same : (fs : List Function) → map plain_header (map plain_function fs) ≡ map header fs
+pub headers_same : (fs : List Function) → map plain_header (map plain_function fs) ≡ map header fs
 headers_same [] = refl
 headers_same (f ∷ fs) = ap (λ hs. header f ∷ hs) (headers_same fs)
 
-instrs_same : (fs : List Function) → map instrs_of (map plain_function fs) ≡ map L.instrs_of (map R.plain_function fs)
+pub instrs_same : (fs : List Function) → map instrs_of (map plain_function fs) ≡ map L.instrs_of (map R.plain_function fs)
 instrs_same [] = refl
 instrs_same (f ∷ fs) = ap (λ is. f.instrs.items ∷ is) (instrs_same fs)
 
@@ -78,3 +78,8 @@ sound_kept code (Err f) sound same = tt
 pub named_one : (name : List ℕ) (fs : List Function) (o : Option ℕ) → 0 < length name → IfSome o (λ i. (f : Function) × (slice_get fs i ≡ Some f) × (f.name ≡ name)) → IfSome o (IsNamed name fs)
 named_one name fs None some h = tt
 named_one name fs (Some i) some h = record { some = some; function = h.0; there = h.1; named = h.2 }
+
+-- a code of a file, and its function of a name
+pub function_of : (bytes name : List ℕ) (code : Code) (o : Result Chosen Failure) → IsSoundFile bytes (plain_code code) → IfOk o (λ r. r.checked.code ≡ code) → IfOk o (λ r. IsNamed name r.checked.code.functions.items r.entry) → IfOk o (IsFunctionOf bytes name)
+function_of bytes name code (Ok r) file same named = record { file = subst (λ c. IsSoundFile bytes (plain_code c)) (sym same) file; named = named }
+function_of bytes name code (Err f) file same named = tt

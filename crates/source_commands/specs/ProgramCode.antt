@@ -9,13 +9,12 @@
 --     fun dup(^xs: list): pair { .. }
 -- it has one function, which is fip, named rev, and has two parameters and one result; and
 -- `compile list.fip3 list.code` stores the second version's file of this code.
-use Rattle.std.specs.Prelude.{◌≡◌, ◌⊎◌, ◌<◌, ◌≤◌, ℕ, List, map, length, Some, slice_get}
+use Rattle.std.specs.Prelude.{◌≡◌, ◌⊎◌, ◌≤◌, ℕ, List, map, length}
 use Rattle.fip_language.specs.declared.limits.TheConstants.{MOST_FILE_BYTES}
 use Rattle.fip_language.specs.declared.rule.Rule.TheVariants.{E61}
 use Rattle.fip_trees.specs.declared.groups.Member.{Member}
 use Rattle.fip_trees.specs.Tree.{Program}
 use Rattle.tail_groups.specs.Members.{AreMembers}
-use Rattle.cell_code.specs.declared.code.Function.{Function}
 use Rattle.cell_code.specs.declared.code.Instr.{Instr}
 use Rattle.cell_lower.specs.Shape.{Header, headers}
 use Rattle.code_file.specs.CodeText.{CodeText}
@@ -25,7 +24,7 @@ use Rattle.lowered_code.specs.Functions.{AreLowered}
 use Rattle.sound_code.specs.Breaks.{IsSound}
 use Rattle.source_report.specs.Report.{bare, IsAccepted}
 use Rattle.source_commands.specs.Codes.{sound_view, IsUnspelt}
-use Rattle.source_commands.specs.Entries.{Chosen}
+use Rattle.source_commands.specs.Entries.{Chosen, IsNamed}
 use Rattle.source_commands.specs.Wanted.{Lawful, IsRefusedBy, KeepsFromVerified}
 use Rattle.command_outcome.specs.declared.failure.Failure.{Failure}
 
@@ -48,13 +47,6 @@ pub record IsLoweredFrom (p : Program) (code : PlainCode) : Type 0 where
   pub found : AreMembers p.instances members
   pub functions : map plain_header code.functions ≡ headers members p.instances
   pub lowered : AreLowered p (map instrs_of code.functions)
-
--- function n has this name, which isn't empty
-pub record IsNamed (name : List ℕ) (functions : List Function) (n : ℕ) : Type 0 where
-  pub some : 0 < length name
-  pub function : Function
-  pub there : slice_get functions n ≡ Some function
-  pub named : function.name ≡ name
 
 -- a code that is made of this source, which breaks no rule
 pub record IsCodeOfSource (source : List ℕ) (code : PlainCode) : Type 0 where

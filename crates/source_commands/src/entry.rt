@@ -13,8 +13,8 @@ ghost use Rattle.command_outcome.specs.Stages.{IsOfSource};
 ghost use Rattle.fip_trees.specs.TreeView as V;
 ghost use Rattle.fip_trees.specs.declared.program.Instance.{Instance as an_instance};
 ghost use Rattle.source_report.specs.Report.{IsAccepted};
-ghost use Rattle.source_commands.specs.Entries.{IsRootedIn};
-ghost use Rattle.source_commands.specs.ProgramCode.{IsLoweredFrom, IsEntryOf, IsNamed};
+ghost use Rattle.source_commands.specs.Entries.{IsFunctionOf, IsNamed, IsRootedIn};
+ghost use Rattle.source_commands.specs.ProgramCode.{IsLoweredFrom, IsEntryOf};
 ghost use Rattle.source_commands.specs.Roots as R;
 ghost use Rattle.source_commands.specs.Wanted.{Root, Compiled, MissesRoot, MissesCode, IsRoot, IsCompiled, IsReady};
 ghost use Rattle.source_commands.specs.Wanted.{IsRefusedBy, IsUnsound, KeepsFrom, KeepsFromVerified, of_entry};
@@ -280,6 +280,7 @@ pub fn exec_entry(alloc: Global, source: &[u8], entry: &str) -> Result<Ready, Fa
 /// its code isn't sound; E70 where no function has the entry's name, or it is empty.
 pub fn run_entry(alloc: Global, bytes: &[u8], entry: &str) -> Result<Ready, Failure>
     ensures ready { OnOk result (HasFunction bytes.now entry.now) }
+    ensures code { IfOk result (IsFunctionOf bytes.now entry.now) }
     ensures kept { IfErr result (KeepsFromRun bytes.now entry.now) }
     ensures stage { IfErr result IsOfSource }
 {
@@ -292,6 +293,8 @@ pub fn run_entry(alloc: Global, bytes: &[u8], entry: &str) -> Result<Ready, Fail
 // The function of a name, of a sound code.
 fn named_in(alloc: Global, verified: Verified, entry: &str) -> Result<Ready, Failure>
     ensures ready { OnOk result (names_one entry.now (plain verified.code).functions ≡ true) }
+    ensures same { IfOk result (λ r. r.checked.code ≡ verified.code) }
+    ensures named { IfOk result (λ r. IsNamed entry.now r.checked.code.functions.items r.entry) }
     ensures missed { IfErr result (IsRefusedBy (λ r. r ≡ of_entry E70 entry.now)) }
     ensures none { IfErr result (λ f. (names_one entry.now (plain verified.code).functions ≡ false) ⊎ (f ≡ NoMemory)) }
     ensures stage { IfErr result IsOfSource }

@@ -1,0 +1,14 @@
+pub mod Words
+pub mod Gauging
+pub mod Lines
+pub mod Bounded
+pub mod Loaded
+pub mod Beginning
+pub mod Small
+pub mod Came
+pub mod Ran
+pub mod Told
+pub mod Entry
+pub mod RunsCode
+pub mod Execs
+pub mod FileTypes

@@ -1,0 +1,5 @@
+pub mod GaugeText
+pub mod CodeRun
+pub mod ExecAnswer
+pub mod Rooms
+pub mod Starting

@@ -1,0 +1,10 @@
+// The run of a function of a verified code on an input: from the bytes of its arguments to the lines of its results.
+#![tactic(auto)]
+
+mod loading;
+mod printing;
+mod running;
+
+pub use loading::started;
+pub use printing::values_text;
+pub use running::{failure_of, run, types_of};

@@ -6,54 +6,23 @@
 -- with a trap, or out of calls or frames. A fip function has the frames that it needs.
 --
 -- The file of the reversal of a list, with the input and options of `exec`, gives the lines of `exec`.
-use Rattle.std.specs.Prelude.{◌≡◌, ◌<◌, ◌≤◌, ℕ, Bool, List, [], ◌++◌, Option, Some, Ok, Err}
-use Rattle.fip_language.specs.Gauge.{Seen, lowest, highest}
+use Rattle.std.specs.Prelude.{◌≡◌, ◌<◌, ◌≤◌, ℕ, Bool, List, ◌++◌, Ok, Err}
 use Rattle.fip_language.specs.Prefix.{IsPlace}
 use Rattle.fip_language.specs.PrintedText.{printed_lines}
 use Rattle.fip_language.specs.Values.{Values}
-use Rattle.fip_language.specs.ValueText.{SpellsValues}
-use Rattle.fip_base.specs.declared.plain.Stack.{Stack}
 use Rattle.command_line.specs.Words.{Room}
 use Rattle.command_outcome.specs.declared.failure.Failure.TheVariants as F
-use Rattle.code_file.specs.Plain.{PlainCode}
 use Rattle.code_runs.specs.Runs.{Value, Trap, Out, Deep, Unsound}
 use Rattle.code_runs.specs.Runs as R
-use Rattle.sound_code.specs.Codes.{PlainFunction, function_at}
-use Rattle.sound_code.specs.StackNumbers.{HasStack}
-use Rattle.source_commands.specs.Codes.{sound_view, IsSoundFile}
-use Rattle.session_meaning.specs.Talk.{frames_of}
 use Rattle.tree_agreement.specs.Agreement.{AreWordsOf}
-use Rattle.value_text.specs.Loaded.{types_of}
+pub use Rattle.run_command.specs.CodeRun.{Chosen, SpellsFor, frames_for}
+pub use Rattle.run_command.specs.GaugeText.{gauge_by_states}
 use Rattle.command_answers.specs.Outcomes.{End, Outcome, failed, ran}
-use Rattle.command_answers.specs.GaugeText.{gauge_text, if_asked}
-use Rattle.command_answers.specs.OfProgram.{highest_stack}
+use Rattle.command_answers.specs.GaugeText.{if_asked}
 use Rattle.command_answers.specs.Runs.{words_for, Run, all_seen}
-
--- a code file, and its function of a name that isn't empty
-pub record Chosen (bytes name : List ℕ) : Type 0 where
-  pub code : PlainCode
-  pub file : IsSoundFile bytes code
-  pub number : ℕ
-  pub function : PlainFunction
-  pub there : function_at (sound_view code) number ≡ Some function
-  pub named : function.name ≡ name
-  pub some : name ≡ [] → ⊥
-  pub held : Option Stack
-  pub stack : HasStack (sound_view code) number held
-
-abbrev pub SpellsFor : {bytes name : List ℕ} → Chosen bytes name → List ℕ → Values → Type 0
-SpellsFor c input vs = SpellsValues (c.code).types (types_of (c.function).params) input vs
-
--- the frames of the run
-abbrev pub frames_for : {bytes name : List ℕ} → Chosen bytes name → Room → ℕ
-frames_for c room = frames_of room.frames c.held
 
 abbrev pub RunOf : {bytes name : List ℕ} → Chosen bytes name → Values → Room → Type 0
 RunOf c vs room = Run c.code c.number vs (c.function).credits room.calls (frames_for c room)
-
--- the lines of the gauge, by what is seen of the states
-abbrev pub gauge_by_states : List Seen → Option Stack → List ℕ
-gauge_by_states ss bound = gauge_text (λ k. lowest k ss) (λ k. highest k ss) (highest_stack ss) bound
 
 -- the words stand for values, which are printed
 pub record PrintsWords {bytes name : List ℕ} (c : Chosen bytes name) (vs : Values) (room : Room) (r : RunOf c vs room)

@@ -11,7 +11,6 @@
 use Rattle.std.specs.Prelude.{◌≡◌, ℕ, List, map, length, Some, slice_get}
 use Rattle.fip_language.specs.Table.{HaveTypes}
 use Rattle.fip_language.specs.Values.{Values}
-use Rattle.fip_language.specs.Gauge.{Seen, highest_frames, highest_words}
 use Rattle.fip_language.specs.Meaning.{Peak}
 use Rattle.fip_base.specs.declared.plain.Stack.{Stack}
 use Rattle.fip_trees.specs.declared.groups.Member.{Member}
@@ -36,6 +35,7 @@ use Rattle.lowered_cells.specs.Ends.{EndsAs}
 use Rattle.type_soundness.specs.Soundness.{parameter_types}
 use Rattle.source_commands.specs.Codes.{sound_view}
 use Rattle.loaded_runs.specs.Loading.{first_store, first_words}
+pub use Rattle.run_command.specs.GaugeText.{highest_stack}
 
 abbrev pub plain_header : PlainFunction → Header
 plain_header f = record {
@@ -62,9 +62,6 @@ pub record IsLoaded (p : Program) (c : S.PlainCode) (i n : ℕ) (vs : Values) (f
 abbrev pub Means : Program → S.PlainCode → Type 0
 Means p c = (before waits : Kinds) → AreKinds c before waits → (i n : ℕ) (vs : Values) (calls frames : ℕ) (s : State) →
     IsLoaded p c i n vs frames s → EndsAs c before n s calls (flat_meaning p i vs calls frames).answer
-
-abbrev pub highest_stack : List Seen → Stack
-highest_stack ss = record { frames = highest_frames ss; words = highest_words ss }
 
 abbrev pub stack_of_peak : Peak → Stack
 stack_of_peak peak = record { frames = peak.frames; words = peak.words }

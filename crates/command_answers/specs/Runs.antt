@@ -3,9 +3,9 @@
 --
 -- The reversal of Cons(1, Cons(2, Nil)) and Nil begins with two cells and the words 7 and 0, and ends after 11 steps
 -- with the word 1, the cell at 0, which then holds 2.
-use Rattle.std.specs.Prelude.{◌≡◌, ◌+◌, ℕ, List, Some}
+use Rattle.std.specs.Prelude.{◌≡◌, ℕ, List, Some}
 use Rattle.fip_language.specs.Gauge.{Seen}
-use Rattle.fip_language.specs.Values.{Values, words_needed_by_all}
+use Rattle.fip_language.specs.Values.{Values}
 use Rattle.code_file.specs.Plain.{PlainCode}
 use Rattle.code_runs.specs.States.{State}
 use Rattle.code_runs.specs.Steps.{Kinds}
@@ -13,14 +13,11 @@ use Rattle.code_runs.specs.Runs.{End, Ends, loaded, begun}
 use Rattle.code_runs.specs.Gauges.{seen}
 use Rattle.code_separation.specs.Codes.{run_code, AreKinds}
 use Rattle.source_commands.specs.Codes.{sound_view}
-use Rattle.loaded_runs.specs.Loading.{first_store, first_words, words_of_credits}
+use Rattle.loaded_runs.specs.Loading.{first_store, first_words}
 use Rattle.loaded_runs.specs.TraceText.{Trace}
 use Rattle.loaded_runs.specs.Replaying.{trace_of}
+pub use Rattle.run_command.specs.CodeRun.{words_for}
 use Rattle.command_answers.specs.Outcomes.{Left}
-
--- the words that a store must have for these arguments and credits
-abbrev pub words_for : Values → List ℕ → ℕ
-words_for vs credits = words_needed_by_all vs + words_of_credits credits
 
 -- function n of the code runs on these arguments, with cells for these credits, so many calls and free frames
 pub record Run (code : PlainCode) (n : ℕ) (vs : Values) (credits : List ℕ) (calls frames : ℕ) : Type 0 where

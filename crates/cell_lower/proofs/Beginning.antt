@@ -1,9 +1,9 @@
 -- What is known of a match when it begins: its patterns, positions and cells.
-use Rattle.std.proofs.Common.{◌≡◌, ◌⊎◌, inl, inr, refl, sym, ap, ◌∙◌, subst, ⊎_elim, arith, ℕ, zero, suc, ◌<◌, ◌≤◌, Bool, true, false, List, [], ◌∷◌, ◌++◌, length, drop, Option, Some, None, slice_get, get_or}
+use Rattle.std.proofs.Common.{◌≡◌, ◌⊎◌, inl, inr, refl, sym, ap, ◌∙◌, subst, ⊎_elim, arith, ℕ, zero, suc, ◌+◌, ◌<◌, ◌≤◌, Bool, true, false, List, [], ◌∷◌, ◌++◌, length, length-append, drop, Option, Some, None, slice_get, get_or}
 use Rattle.std.specs.Prelude.{if◌then◌else◌}
 use Rattle.fip_trees.specs.declared.program.Clause.{Clause}
 use Rattle.fip_trees.specs.declared.program.Pattern.{Pattern as Tree}
-use Rattle.fip_trees.specs.Tree.{Pattern, count_patterns}
+use Rattle.fip_trees.specs.Tree.{Argument, Pattern, count_patterns}
 use Rattle.fip_trees.specs.TreeView.{patterns, clause, clauses}
 use Rattle.match_knowledge.specs.declared.rows.Row.{Row}
 use Rattle.match_knowledge.specs.View.{row}
@@ -29,6 +29,9 @@ use Rattle.cell_lower.specs.Clauses.{Spotted, AddsPattern, HasPositions, StartsI
 use Rattle.match_code.specs.Written.{Written, size, Extends, IsAt}
 use Rattle.match_code.specs.Landing.{Side}
 use Rattle.match_code.specs.Entering.{entering_root}
+use Rattle.code_size.specs.Places.{argument_places}
+use Rattle.cell_lower.specs.Growth.{Adds, HasRoom, Sheds, labels, registers}
+use Rattle.cell_lower.proofs.Shedding.{full_most, root_length}
 
 same_some : {A : Type 0} (x y : A) → Some x ≡ Some y → x ≡ y
 same_some x y e = cc
@@ -107,6 +110,14 @@ patterns_next c d q a b cs i n x all h e f g k =
 pub patterns_end : (c : Choice) (cs : List Clause) (i : ℕ) (all : List Pattern) → length cs ≤ i → patterns_of c ++ patterns_in (clauses (drop i cs)) ≡ all → patterns_of c ≡ all
 patterns_end c cs i all e k = sym (append_none (patterns_of c)) ∙ sym (ap (λ z. patterns_of c ++ z) (clauses_past cs i e)) ∙ k
 
+-- a label for each
+
+pub labels_next : (c d : Choice) (q : Pattern) (a b : ℕ) (v u w : Written) → AddsPattern c d q a b → labels u ≡ labels v + length (patterns_of c) → labels w ≡ suc (labels u) → labels w ≡ labels v + length (patterns_of d)
+labels_next c d q a b v u w h e f = let n : length (patterns_of d) ≡ length (patterns_of c ++ q ∷ []) = ap length h.patterns in omega (arith, n, length-append (patterns_of c) (q ∷ []), e, f)
+
+pub labels_first : (c d : Choice) (q : Pattern) (a b : ℕ) (v w : Written) → patterns_of c ≡ [] → AddsPattern c d q a b → labels w ≡ suc (labels v) → labels w ≡ labels v + length (patterns_of d)
+labels_first c d q a b v w p h f = labels_next c d q a b v v w h (let n : length (patterns_of c) ≡ 0 = ap length p in omega (arith, n)) f
+
 -- cells
 
 counted : (ps : List Tree) → count_patterns (patterns ps) ≡ length ps
@@ -153,9 +164,19 @@ loses_then k l m p q = record {
   barer = barer_on k.held l.held m.held p.barer q.barer;
 }
 
+pub entry_room : (k l m o : Known) → l.next ≡ k.next → registers l ≡ registers k → HasRoom l m → o ≡ m → HasRoom k o
+entry_room k l m o e f h g = let n : o.next ≡ m.next = ap (λ (x : Known). x.next) g in omega (arith, e, f, h, n)
+
+-- how much is written before the first clause
+pub begun_few : (k m n : Known) (v u x y z w : Written) (a : Argument) (p : ℕ) → registers m ≡ registers k → Adds (argument_places a) 0 v u → Sheds m u n x → labels y ≤ suc (labels x) → labels z ≡ labels y + p → labels w ≡ suc (labels z) → size w ≡ size x → Adds (argument_places a + registers k) (2 + p) v w
+begun_few k m n v u x y z w a p e f g h i j l = record {
+  more_instructions = let c = f.more_instructions in let d = g.emptied in omega (arith, c, d, full_most m.held, e, l);
+  more_labels = let c = f.more_labels in let d = g.same_labels in omega (arith, c, d, h, i, j);
+}
+
 -- a clause begins
-pub starts_in : (s : Setting) (g : Matching) (q : Pattern) (i label : ℕ) (v chosen put w : Written) (ds es : List Side) (copied opened known l : Known) → ChoosesIf s.types g.choice i v ds chosen es true → (length g.choice.rows.items ≤ suc i → es ≡ []) → Extends chosen put → put.instrs ≡ chosen.instrs → IsAt put label (size chosen) → w ≡ put → label ≡ get_or g.choice.entries.items i 0 → copied ≡ g.entry → Resumes copied opened → known ≡ entering_root s g.choice.takes q (spot_of g.choice.root) opened → Loses known l → StartsIn s g q i v ds l w es
-starts_in s g q i label v chosen put w ds es copied opened known l c a e f p same at cp r o lost = record {
+pub starts_in : (s : Setting) (g : Matching) (q : Pattern) (i label : ℕ) (v chosen put w : Written) (ds es : List Side) (copied opened known l : Known) → ChoosesIf s.types g.choice i v ds chosen es true → (length g.choice.rows.items ≤ suc i → es ≡ []) → Extends chosen put → put.instrs ≡ chosen.instrs → IsAt put label (size chosen) → w ≡ put → label ≡ get_or g.choice.entries.items i 0 → copied ≡ g.entry → Resumes copied opened → known ≡ entering_root s g.choice.takes q (spot_of g.choice.root) opened → Loses known l → registers opened ≡ registers copied → registers l ≡ registers known → labels put ≡ labels chosen → StartsIn s g q i v ds l w es
+starts_in s g q i label v chosen put w ds es copied opened known l c a e f p same at cp r o lost ro rl ll = record {
   chosen = chosen;
   opened = opened;
   chooses = c;
@@ -165,4 +186,6 @@ starts_in s g q i label v chosen put w ds es copied opened known l c a e f p sam
   placed = subst (λ z. IsAt w z (size w)) at (subst (λ z. IsAt z label (size z)) (sym same) (subst (IsAt put label) (sym (ap length f)) p));
   resumes = subst (λ z. Resumes z opened) cp r;
   opens = subst (λ z. Loses z l) o lost;
+  as_many = rl ∙ ap registers o ∙ root_length s g.choice.takes q (spot_of g.choice.root) opened ∙ ro ∙ ap registers cp;
+  same_labels = ap labels same ∙ ll;
 }

@@ -1,5 +1,5 @@
 -- What expressions and blocks have written.
-use Rattle.std.proofs.Common.{◌≡◌, inl, inr, refl, sym, ap, ◌∙◌, subst, arith, ℕ, zero, suc, ◌<◌, ◌≤◌, List, [], ◌∷◌, ◌++◌, length, drop, Option, Some, None, slice_get}
+use Rattle.std.proofs.Common.{◌≡◌, inl, inr, refl, sym, ap, ◌∙◌, subst, arith, ℕ, zero, suc, ◌+◌, ◌<◌, ◌≤◌, List, [], ◌∷◌, ◌++◌, length, drop, Option, Some, None, slice_get}
 use Rattle.fip_language.specs.declared.Operator.{Operator}
 use Rattle.fip_language.specs.declared.Place.{Place}
 use Rattle.fip_language.specs.Table.{Table}
@@ -15,6 +15,12 @@ use Rattle.match_code.specs.Written.{Written, size, Extends, HasFrom}
 use Rattle.match_code.specs.WellMatched.{WellMatched, WellMatchedBlock}
 use Rattle.cell_lower.specs.Writing.{Computes, ComputesAll, Gives, Operates, CallsAt, AppliesTo, GivesValues, Writes, WritesBlock, FollowBlock, Binds, named_at}
 use Rattle.match_code.proofs.Placing.{extends_on, front, back}
+use Rattle.code_size.specs.Bounds.{most_for}
+use Rattle.code_size.specs.Places.{argument_places, arguments_places, expression_places, block_places}
+use Rattle.cell_lower.specs.Growth.{registers, Adds}
+use Rattle.cell_lower.proofs.Shedding.{adds_on, adds_less, adds_within, adds_both}
+use Rattle.cell_lower.proofs.Writing.{argument_one}
+use Rattle.cell_lower.proofs.Calling.{stay_on}
 
 same_some : {A : Type 0} (x y : A) → Some x ≡ Some y → x ≡ y
 same_some x y e = cc
@@ -67,6 +73,8 @@ writes_give s k m l v u w a r target p q = record {
     p.code to code (front (size v) u w to code q.extends h),
     q.code to code (back (size v) (size u) w to code p.extends.grows h),
   );
+  stay = stay_on target k m l p.as_many q.stay;
+  few = adds_within (registers k) (argument_places a) (argument_places a + (suc (registers m) + 1)) v w (argument_one a) (let e = p.as_many in omega (arith, e, argument_one a)) (adds_on (argument_places a) 0 (suc (registers m) + 1) 0 v u w p.few q.few);
 }
 
 pub gives_values : (s : Setting) (k m l : Known) (v u w : Written) (as' : Arguments) (rs : List ℕ) (target : Target) → ComputesAll s k v as' rs m u → Gives m u rs target l w → GivesValues s k v as' target l w
@@ -79,10 +87,17 @@ gives_values s k m l v u w as' rs target p q = record {
     p.code to code (front (size v) u w to code q.extends h),
     q.code to code (back (size v) (size u) w to code p.extends.grows h),
   );
+  stay = stay_on target k m l p.as_many q.stay;
+  few = adds_less (arguments_places as' + (suc (registers m) + length rs)) (0 + 0) (suc (registers k) + (arguments_places as' + arguments_places as')) 0 v w (let e = p.as_many in let n = p.a_register_each in omega (arith, e, n)) (omega arith) (adds_on (arguments_places as') 0 (suc (registers m) + length rs) 0 v u w p.few q.few);
 }
 
 pub writes_tuple : (s : Setting) (k l : Known) (v w : Written) (p : Place) (as' : Arguments) (target : Target) → GivesValues s k v as' target l w → Writes s k v (Tuple p as') target l w
-writes_tuple s k l v w p as' target g = record { extends = g.extends; code = g.code }
+writes_tuple s k l v w p as' target g = record {
+  extends = g.extends;
+  code = g.code;
+  stay = g.stay;
+  few = adds_within (registers k) (suc (arguments_places as')) (suc (registers k) + (arguments_places as' + arguments_places as')) v w (omega arith) (omega arith) g.few;
+}
 
 pub writes_operation : (s : Setting) (k m n l : Known) (v u x w : Written) (o : Operator) (p : Place) (a b : Argument) (q r : ℕ) (target : Target) → Computes s k v a q m u → Computes s m u b r n x → Operates n x o p q r target l w → Writes s k v (Operation o p a b) target l w
 writes_operation s k m n l v u x w o p a b q r target f g c = record {
@@ -98,7 +113,12 @@ writes_operation s k m n l v u x w o p a b q r target f g c = record {
     g.code to code (front (size u) x w to code c.extends (back (size v) (size u) w to code f.extends.grows h)),
     c.code to code (back (size v) (size x) w to code (extends_on v u x f.extends g.extends).grows h),
   );
+  stay = stay_on target k n l many c.stay;
+  few = adds_within (registers k) (suc (argument_places a + argument_places b)) (argument_places a + (argument_places b + (registers n + 3))) v w (omega arith) (omega (arith, many)) (adds_on (argument_places a) 0 (argument_places b + (registers n + 3)) 0 v u w f.few (adds_on (argument_places b) 0 (registers n + 3) 0 u x w g.few c.few));
 }
+  where
+    many : registers n ≡ registers k
+    many = g.as_many ∙ f.as_many
 
 pub writes_call : (s : Setting) (k m l : Known) (v u w : Written) (g : ℕ) (n : Name) (p : Place) (as' : Arguments) (rs : List ℕ) (target : Target) → ComputesAll s k v as' rs m u → CallsAt s m u g rs target l w → Writes s k v (Call g n p as') target l w
 writes_call s k m l v u w g n p as' rs target a c = record {
@@ -110,20 +130,22 @@ writes_call s k m l v u w g n p as' rs target a c = record {
     a.code to code (front (size v) u w to code c.extends h),
     c.code to code (back (size v) (size u) w to code a.extends.grows h),
   );
+  stay = stay_on target k m l a.as_many c.stay;
+  few = adds_within (registers k) (suc (arguments_places as')) (arguments_places as' + suc (registers m)) v w (omega arith) (let e = a.as_many in omega (arith, e)) (adds_on (arguments_places as') 0 (suc (registers m)) 0 v u w a.few c.few);
 }
 
 pub applies_to : (s : Setting) (k m l : Known) (v u w : Written) (g : ℕ) (as' : Arguments) (rs : List ℕ) (target : Target) → ComputesAll s k v as' rs m u → CallsAt s m u g rs target l w → AppliesTo s k v g as' target l w
 applies_to s k m l v u w g as' rs target a c = record { by = λ n p. writes_call s k m l v u w g n p as' rs target a c }
 
 pub writes_nested : (s : Setting) (k l : Known) (v w : Written) (b : Block) (target : Target) → WritesBlock s k v b target l w → Writes s k v (Nested b) target l w
-writes_nested s k l v w b target h = record { extends = h.extends; code = h.code }
+writes_nested s k l v w b target h = record { extends = h.extends; code = h.code; stay = h.stay; few = h.few }
 
 pub ruleset expressions = (writes_give, gives_values, writes_tuple, writes_operation, applies_to, writes_nested)
 
 -- lets
 
-binds_values : (s : Setting) (k m : Known) (v u : Written) (bs : List Binder) (e : Expression) (rs : List ℕ) → Extends v u → ((to : ℕ → ℕ) (code : List Instr) → HasFrom (size v) u to code → ValuesAt s code (size v) k e rs (size u) m) → Binds s k v bs e (with_names m bs rs) u
-binds_values s k m v u bs e rs x a = record {
+binds_values : (s : Setting) (k m : Known) (v u : Written) (bs : List Binder) (e : Expression) (rs : List ℕ) → Extends v u → registers m ≡ registers k → Adds (expression_places s.types e) 0 v u → ((to : ℕ → ℕ) (code : List Instr) → HasFrom (size v) u to code → ValuesAt s code (size v) k e rs (size u) m) → Binds s k v bs e (with_names m bs rs) u
+binds_values s k m v u bs e rs x many few a = record {
   by = λ rest target l z h. record {
     extends = extends_on v u z x h.extends;
     code = λ to code f. inl (
@@ -133,14 +155,17 @@ binds_values s k m v u bs e rs x a = record {
       a to code (front (size v) u z to code h.extends f),
       h.code to code (back (size v) (size u) z to code x.grows f),
     );
+    stay = stay_on target k (with_names m bs rs) l many h.stay;
+    few = adds_both (registers k) (registers m) (expression_places s.types e) (block_places s.types rest) v u z many
+        (adds_less (expression_places s.types e) 0 (most_for (registers k) (expression_places s.types e)) (expression_places s.types e) v u (omega arith) (omega arith) few) h.few;
   };
 }
 
 pub binds_give : (s : Setting) (k m l : Known) (v u : Written) (bs : List Binder) (a : Argument) (r : ℕ) → Computes s k v a r m u → l ≡ with_names m bs (r ∷ []) → Binds s k v bs (Give a) l u
-binds_give s k m l v u bs a r c e = subst (λ x. Binds s k v bs (Give a) x u) (sym e) (binds_values s k m v u bs (Give a) (r ∷ []) c.extends c.code)
+binds_give s k m l v u bs a r c e = subst (λ x. Binds s k v bs (Give a) x u) (sym e) (binds_values s k m v u bs (Give a) (r ∷ []) c.extends c.as_many c.few c.code)
 
 pub binds_tuple : (s : Setting) (k m l : Known) (v u : Written) (bs : List Binder) (p : Place) (as' : Arguments) (rs : List ℕ) → ComputesAll s k v as' rs m u → l ≡ with_names m bs rs → Binds s k v bs (Tuple p as') l u
-binds_tuple s k m l v u bs p as' rs c e = subst (λ x. Binds s k v bs (Tuple p as') x u) (sym e) (binds_values s k m v u bs (Tuple p as') rs c.extends c.code)
+binds_tuple s k m l v u bs p as' rs c e = subst (λ x. Binds s k v bs (Tuple p as') x u) (sym e) (binds_values s k m v u bs (Tuple p as') rs c.extends c.as_many (adds_less (arguments_places as') 0 (suc (arguments_places as')) 0 v u (omega arith) (omega arith) c.few) c.code)
 
 pub binds_into : (s : Setting) (k k0 m l : Known) (v u : Written) (bs : List Binder) (e : Expression) (rs : List ℕ) → k0 ≡ reserved k bs → rs ≡ registers_for k.next bs → Writes s k0 v e (Into rs) m u → l ≡ with_names m bs rs → Binds s k v bs e l u
 binds_into s k k0 m l v u bs e rs a b c d =
@@ -160,6 +185,8 @@ binds_into s k k0 m l v u bs e rs a b c d =
           w.code to code (front (size v) u z to code h.extends f),
           h.code to code (back (size v) (size u) z to code w.extends.grows f),
         );
+        stay = stay_on target k (with_names m bs regs) o w.stay h.stay;
+        few = adds_both (registers k) (registers m) (expression_places s.types e) (block_places s.types rest) v u z w.stay w.few h.few;
       };
     }
 
@@ -168,7 +195,7 @@ pub ruleset binding_one = (binds_give, binds_tuple, binds_into)
 -- blocks
 
 pub writes_last : (s : Setting) (k l : Known) (v w : Written) (e : Expression) (target : Target) → Writes s k v e target l w → WritesBlock s k v (Last e) target l w
-writes_last s k l v w e target h = record { extends = h.extends; code = h.code }
+writes_last s k l v w e target h = record { extends = h.extends; code = h.code; stay = h.stay; few = h.few }
 
 abbrev pub rest_of : List Binding → ℕ → Expression → Block
 rest_of bs i e = block_of (bindings (drop i bs)) e

@@ -18,9 +18,16 @@ use Rattle.cell_lower.specs.Frames.{Takes}
 use Rattle.match_code.specs.Written.{Written, size, added, GivesUp}
 use Rattle.cell_lower.specs.Writing.{Gives, Operates, handed_at, received_at, TakesOne, TakesAll, FollowCredits, EndsCall, CallsAt}
 use Rattle.match_code.proofs.Placing.{extends_on, added_extends, one_longer, front, back, stands, up_to, given_up, gives_up_on}
+use Rattle.cell_lower.specs.Growth.{registers, Sheds, Stay}
+use Rattle.cell_lower.proofs.Shedding.{goes_length, taken_length, handed_length, received_length, sheds_on, adds_shed, adds_one, adds_on, adds_less}
 
 same_some : {A : Type 0} (x y : A) → Some x ≡ Some y → x ≡ y
 same_some x y e = cc
+
+-- as many registers before
+pub stay_on : (target : Target) (k m l : Known) → registers m ≡ registers k → Stay target m l → Stay target k l
+stay_on Return k m l e s = tt
+stay_on (Into ds) k m l e s = s ∙ e
 
 -- operators
 
@@ -41,6 +48,8 @@ operates k h l v u w o p x y d target g e b = on (subst (λ z. Gives h z (d ∷ 
         given = subst (λ n. GivenAt code n h (d ∷ []) target (size w) l) (one_longer v i)
             (c.code to code (back (size v) (size (added v i)) w to code (added_extends v i).grows f));
       };
+      stay = stay_on target k h l (goes_length target k (H.Scalar (result_type o)) d h g) c.stay;
+      few = adds_less (1 + (suc (registers h) + 1)) (0 + 0) (registers k + 3) 0 v w (let e = goes_length target k (H.Scalar (result_type o)) d h g in omega (arith, e)) (omega arith) (adds_on 1 0 (suc (registers h) + 1) 0 v (added v i) w (adds_one v i) c.few);
     }
 
 pub ruleset operating = (operates)
@@ -172,8 +181,8 @@ pub ruleset taking = (takes_start, takes_step, takes_done, takes_one)
 
 -- calls
 
-pub ends_tail : (s : Setting) (k l : Known) (v w1 w2 w : Written) (f : ℕ) (rs results : List ℕ) → GivesUp v w1 → GivesUp w1 w2 → w ≡ added w2 (I.Tail f rs) → EndsCall s k v f rs results Return l w
-ends_tail s k l v w1 w2 w f rs results a b e = subst (EndsCall s k v f rs results Return l) (sym e) whole
+pub ends_tail : (s : Setting) (k k2 l : Known) (v w1 w2 w : Written) (f : ℕ) (rs results : List ℕ) → GivesUp v w1 → GivesUp w1 w2 → w ≡ added w2 (I.Tail f rs) → Sheds k v k2 w1 → Sheds k2 w1 l w2 → EndsCall s k v f rs results Return l w
+ends_tail s k k2 l v w1 w2 w f rs results a b e p q = subst (EndsCall s k v f rs results Return l) (sym e) whole
   where
     last : Instr
     last = I.Tail f rs
@@ -193,6 +202,8 @@ ends_tail s k l v w1 w2 w f rs results a b e = subst (EndsCall s k v f rs result
         written = ap (slice_get code) number.1 ∙ stands w2 last (size v) to code both.extends.grows h;
         one = one_longer w2 last ∙ ap suc (sym number.1);
       };
+      stay = tt;
+      few = adds_less (registers k + 1) (0 + 0) (suc (registers k)) 0 v (added w2 last) (omega arith) (omega arith) (adds_on (registers k) 0 1 0 v w2 (added w2 last) (adds_shed k v l w2 (sheds_on k v k2 w1 l w2 p q)) (adds_one w2 last));
     }
 
 pub ends_call : (s : Setting) (k l : Known) (v w : Written) (f : ℕ) (rs results ds : List ℕ) → w ≡ added v (I.Call f rs ds) → l ≡ using k (received s k.held results ds) → EndsCall s k v f rs results (Into ds) l w
@@ -204,6 +215,8 @@ ends_call s k l v w f rs results ds e g =
         one = one_longer v (I.Call f rs ds);
         known = g;
       };
+      stay = ap registers g ∙ received_length s k.held results ds;
+      few = adds_less 1 0 (suc (registers k)) 0 v (added v (I.Call f rs ds)) (omega arith) (omega arith) (adds_one v (I.Call f rs ds));
     })
 
 pub calls_at : (s : Setting) (k m1 m l : Known) (v w : Written) (g f : ℕ) (d : Instance) (rs qs : List ℕ) (target : Target) → joined (slice_get s.functions g) ≡ Some f → slice_get s.instances g ≡ Some d → m1 ≡ using k (handed k.held d.params rs) → TakesAll m1 d.credits rs qs m → EndsCall s m v f qs d.results target l w → CallsAt s k v g rs target l w
@@ -219,6 +232,11 @@ calls_at s k m1 m l v w g f d rs qs target a b e t c = record {
     taken = subst (λ x. AreTaken x d.credits t.credits m) e t.taken;
     ends = subst (λ x. EndsSo s code (size v) m f x d.results target (size w) l) t.behind (c.code to code h);
   };
+  stay = stay_on target k m l many c.stay;
+  few = adds_less (suc (registers m)) 0 (suc (registers k)) 0 v w (omega (arith, many)) (omega arith) c.few;
 }
+  where
+    many : registers m ≡ registers k
+    many = taken_length m1 d.credits t.credits m t.taken ∙ ap registers e ∙ handed_length k.held d.params rs
 
 pub ruleset calling = (ends_tail, ends_call, calls_at)

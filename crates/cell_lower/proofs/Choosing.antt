@@ -22,9 +22,10 @@ use Rattle.lowered_code.specs.Choosing.{place}
 use Rattle.match_code.specs.Written.{Written, size, Extends, HasFrom, added}
 use Rattle.match_code.specs.Spots as S
 use Rattle.match_code.specs.Rows.{row_of}
+use Rattle.match_code.specs.Opening.{naming}
 use Rattle.match_code.specs.Reading.{Reading, reading}
 use Rattle.match_code.specs.Landing.{Scene, Side, IsScene, Good, SideGood, AllGood, LeadsTo, RuledOut, place_of_side, test_of, entry}
-use Rattle.match_code.proofs.Placing.{same_extends, extends_on, added_extends, front, back, stands}
+use Rattle.match_code.proofs.Placing.{same_extends, extends_on, added_extends, one_longer, front, back, stands}
 use Rattle.match_code.proofs.Running.{goes_one}
 use Rattle.match_code.proofs.Readings.{reading_extends}
 use Rattle.match_code.proofs.Openings.{taking_extends, naming_extends}
@@ -32,6 +33,8 @@ use Rattle.match_code.proofs.Goods.{good_last, good_tested, good_taken, good_nam
 use Rattle.cell_lower.specs.declared.choices.Choice.{Choice}
 use Rattle.cell_lower.specs.declared.choices.Side.{Side as Kept}
 use Rattle.cell_lower.specs.declared.choices.First.TheVariants as F
+use Rattle.cell_lower.specs.Growth.{labels, IsRoom, left, Spends, sides_cost, sides_left, way_cost, way_left}
+use Rattle.cell_lower.proofs.Paying.{live_split, left_last, left_branch, reading_pays, naming_pays, pays_last, pays_test, pays_taken, pays_named, pays_side, spends_on, spends_none, spends_less, spends_one}
 use Rattle.cell_lower.specs.Positions.{spot_of}
 use Rattle.cell_lower.specs.Scenes.{pattern_at, patterns_of, scene, HasRows, side_of, sides_of, first_side, HasLabel, Labelled, Ready, NotFirst, reading_of, IsFirstOf, SettlesBy, Settles, Tests, Then, Advances, Asks, PlacesSide, FollowsIn, Follows, ChoosesIf}
 
@@ -91,8 +94,8 @@ missed_next rs k i n r v e lt f g x y m j p less at = ⊎_elim (λ a. m j p a at
 pub first_chosen : (rs : List Row) (k : Known) (i : ℕ) (r : Row) (v : Verdict) → i < length rs → r ≡ get_or rs i r → v ≡ compare (row r) k → is_fits v ≡ true → MissedUpTo (rows rs) k i → IsFirstOf (rows rs) k (F.Chosen i)
 first_chosen rs k i r v lt f g x m = ((row r, row_at rs i r lt ∙ ap (λ z. Some (row z)) (sym f), sym g ∙ fits_by v x), m)
 
-pub first_asks : (rs : List Row) (k : Known) (i : ℕ) (b : Bor Row) (v : Verdict) → i < length rs → b.now ≡ get_or rs i b.now → v ≡ compare (row b.now) k → is_asks v ≡ true → IsFirstOf (rows rs) k (F.Asks b)
-first_asks rs k i b v lt f g x = (i, row_at rs i b.now lt ∙ ap (λ z. Some (row z)) (sym f), sym g ∙ asks_by v x)
+pub first_asks : (rs : List Row) (k : Known) (i : ℕ) (b : Bor Row) (v : Verdict) → i < length rs → b.now ≡ get_or rs i b.now → v ≡ compare (row b.now) k → is_asks v ≡ true → MissedUpTo (rows rs) k i → IsFirstOf (rows rs) k (F.Asks b)
+first_asks rs k i b v lt f g x m = (i, row_at rs i b.now lt ∙ ap (λ z. Some (row z)) (sym f), sym g ∙ asks_by v x, m)
 
 -- the pattern that a row stands for
 named_row : (qs : List Pattern) (i : ℕ) (p : M.Pattern) → slice_get (map row_of qs) i ≡ Some p → (q : Pattern) × (slice_get qs i ≡ Some q) × (p ≡ row_of q)
@@ -138,8 +141,8 @@ label_before v w i e f = record {
   placed = λ l p h. e.placed l p h;
 }
 
-pub tested : (p : M.Pattern) (k : Known) (root : S.Spot) (x y : Reading) (w z : Written) (read : List ℕ) (a : Rattle.match_code.specs.Reading.Asked) (l : ℕ) (d : Side) → Rattle.match_code.specs.Reading.asked p k root ≡ Some a → y ≡ reading p k root x → Extends y.written w → w.instrs ≡ y.written.instrs → z ≡ added w (test_of a.register a.head l) → read ≡ y.read → d.known ≡ side false p k → d.read ≡ y.read → d.label ≡ Some l → Tests p k root x z read d
-tested p k root x y w z read a l d as' e f g h r dk dr dl = record {
+pub tested : (p : M.Pattern) (k : Known) (root : S.Spot) (x y : Reading) (w z : Written) (read : List ℕ) (a : Rattle.match_code.specs.Reading.Asked) (l : ℕ) (d : Side) → Rattle.match_code.specs.Reading.asked p k root ≡ Some a → y ≡ reading p k root x → Extends y.written w → w.instrs ≡ y.written.instrs → z ≡ added w (test_of a.register a.head l) → read ≡ y.read → d.known ≡ side false p k → d.read ≡ y.read → d.label ≡ Some l → labels w ≡ suc (labels y.written) → Tests p k root x z read d
+tested p k root x y w z read a l d as' e f g h r dk dr dl ll = record {
   found = a;
   target = l;
   asks = as';
@@ -149,6 +152,7 @@ tested p k root x y w z read a l d as' e f g h r dk dr dl = record {
   read_on = r ∙ ap (λ (u : Reading). u.read) e;
   extends = subst (λ u. Extends (added u.written i) z) e (subst (Extends (added y.written i)) (sym h) (label_before y.written w i f g));
   as_long = ap size h ∙ ap (λ u. length (u ++ i ∷ [])) (g ∙ ap (λ (u : Reading). u.written.instrs) e);
+  one_label = ap labels h ∙ ll ∙ ap (λ (u : Reading). suc (labels u.written)) e;
 }
   where
     i : Instr
@@ -173,10 +177,11 @@ asks_last tb c p v k l read ds last e = record {
         good_last (scene tb low c) is to code (size v) k read i q there (ap (λ z. compare z k) (sym same) ∙ asks) (ap (λ z. is_last tb z k) (sym same) ∙ last)
         (subst (λ z. Good (scene tb low c) to code (size v) z read) (e ∙ ap (λ z. side true z k) same) good);
   };
+  few = λ i at live asks n room. pays_last n tb (rows c.rows.items) k l read ds v (subst (λ z. left tb (rows c.rows.items) z ≤ left tb (rows c.rows.items) k) (sym e) (left_last tb c.rows.items k i p at asks live last));
 }
 
-pub asks_test : (tb : Table) (c : Choice) (p : M.Pattern) (v w : Written) (k l : Known) (read read_on : List ℕ) (ds es : List Side) (d : Side) → Tests p k (spot_of c.root) (reading_of v read) w read_on d → es ≡ ds ++ d ∷ [] → l ≡ side true p k → Asks tb c p v k read ds w l read_on es
-asks_test tb c p v w k l read read_on ds es d t e f = record {
+pub asks_test : (tb : Table) (c : Choice) (p : M.Pattern) (v w : Written) (k l : Known) (read read_on : List ℕ) (ds es : List Side) (d : Side) → is_last tb p k ≡ false → Tests p k (spot_of c.root) (reading_of v read) w read_on d → es ≡ ds ++ d ∷ [] → l ≡ side true p k → Asks tb c p v k read ds w l read_on es
+asks_test tb c p v w k l read read_on ds es d unsettled t e f = record {
   by = λ low i q is there same asks. record {
     new = d ∷ [];
     behind = e;
@@ -184,6 +189,10 @@ asks_test tb c p v w k l read read_on ds es d t e f = record {
     extends = extends_on v (added y.written test) w (extends_on v y.written (added y.written test) (reading_extends p k (spot_of c.root) x) (added_extends y.written test)) t.extends;
     by = λ to code h good others. by_row low i q is there same asks to code h good others;
   };
+  few = λ i at live asks n room.
+      subst (λ z. Spends (way_cost n tb (rows c.rows.items) None k read ds) (way_left n tb (rows c.rows.items) None k ds) v (way_cost n tb (rows c.rows.items) None z read_on es) (way_left n tb (rows c.rows.items) None z es) w) (sym f)
+      (pays_test n tb (rows c.rows.items) k (side true p k) (side false p k) read read_on ds es d x y v w (left_branch tb c.rows.items k i p at asks live unsettled) e t.known (reading_pays n p k (spot_of c.root) x room.within) refl refl (sym t.read_on)
+      (t.as_long ∙ one_longer y.written test) t.one_label);
 }
   where
     x : Reading
@@ -214,6 +223,7 @@ asks_test tb c p v w k l read read_on ds es d t e f = record {
 pub advances_asks : (tb : Table) (c : Choice) (v w : Written) (k l : Known) (read read_on : List ℕ) (ds es : List Side) (b : Bor Row) → IsFirstOf (rows c.rows.items) k (F.Asks b) → Asks tb c (row b.now) v k read ds w l read_on es → Advances tb c v k read ds w l read_on es None
 advances_asks tb c v w k l read read_on ds es b f a = record {
   by = λ low is has. let q = row_pattern c f.0 (row b.now) has f.1 in a.by low f.0 q.0 is q.1 q.2 f.2;
+  few = a.few f.0 f.1 (live_split (rows c.rows.items) k f.0 0 (row b.now) f.1 f.2 f.3) f.2;
 }
 
 pub advances_chosen : (tb : Table) (c : Choice) (v w : Written) (k : Known) (read read_on : List ℕ) (ds : List Side) (i : ℕ) → IsFirstOf (rows c.rows.items) k (F.Chosen i) → Settles c i (reading_of v read) (reading_of w read_on) → Advances tb c v k read ds w k read_on ds (Some i)
@@ -225,6 +235,7 @@ advances_chosen tb c v w k read read_on ds i f t = record {
     extends = settled_extends c.takes t.by;
     by = λ to code h leads none. by_takes low is has to code h leads c.takes refl t.by;
   };
+  few = λ n room. paid n room c.takes t.by;
 }
   where
     q : Pattern
@@ -235,6 +246,10 @@ advances_chosen tb c v w k read read_on ds i f t = record {
 
     x : Reading
     x = reading_of v read
+
+    paid : (n : ℕ) → IsRoom n root → (b : Bool) → SettlesBy b q root x (reading_of w read_on) → Spends (way_cost n tb (rows c.rows.items) None k read ds) (way_left n tb (rows c.rows.items) None k ds) v (way_cost n tb (rows c.rows.items) (Some i) k read_on ds) (way_left n tb (rows c.rows.items) (Some i) k ds) w
+    paid n room true e = pays_taken n tb (rows c.rows.items) k read read_on ds i q root v w room e
+    paid n room false e = pays_named n tb (rows c.rows.items) k read read_on ds i x (naming q root x) v w (naming_pays n q root x room.within) refl refl (ap (λ (u : Reading). u.written) (sym e))
 
     settled_extends : (b : Bool) → SettlesBy b q root x (reading_of w read_on) → Extends v w
     settled_extends true e = subst (Extends v) (sym e) (taking_extends q root v)
@@ -274,6 +289,7 @@ advances_on tb c v w z k l m ra rb rc ds es fs o a b = record {
         let two = every_split (SideGood (scene tb low c) to code 0) p.new q.new good in
         p.by to code (front (size v) w z to code q.extends h) (q.by to code (back (size v) (size w) z to code p.extends.grows h) next two.1) two.0;
   };
+  few = λ n room. spends_on _ _ _ _ _ _ v w z (a.few n room) (b.few n room);
 }
 
 pub goes_next : (tb : Table) (c : Choice) (v0 : Written) (k0 : Known) (read0 : List ℕ) (ds0 : List Side) (v : Written) (k : Known) (read : List ℕ) (ds : List Side) (w : Written) (l : Known) (read_on : List ℕ) (es : List Side) (o : Option ℕ) → o ≡ None → Goes tb c v0 k0 read0 ds0 v k read ds → Advances tb c v k read ds w l read_on es o → Goes tb c v0 k0 read0 ds0 w l read_on es
@@ -294,11 +310,21 @@ follows_to tb c v u w d k l ra rb ds es i o p e f g a = record {
         (subst (λ z. Good (scene tb low c) to code (size u) d.known z) g (subst (λ z. Good (scene tb low c) to code (size u) z ra) f
         (q.by to code (back (size v) (size u) w to code (side_extends d.label p).grows h) (subst (Then (scene tb low c) to code w l rb) (sym e) leads) good)));
   };
+  few = λ n room. pays_side n tb (rows c.rows.items) d k ra ds es (way_cost n tb (rows c.rows.items) o l rb es) (way_left n tb (rows c.rows.items) o l es) v u w f (side_long d.label p) (side_labels d.label p)
+      (ap (λ z. way_cost n tb (rows c.rows.items) z l rb es) e) (ap (λ z. way_left n tb (rows c.rows.items) z l es) e) (a.few n room);
 }
   where
     side_extends : (o' : Option ℕ) → PlacesSide v o' u → Extends v u
     side_extends None x = subst (Extends v) (sym x) (same_extends v)
     side_extends (Some n) x = x.0
+
+    side_long : (o' : Option ℕ) → PlacesSide v o' u → size u ≡ size v
+    side_long None x = ap size x
+    side_long (Some n) x = x.1
+
+    side_labels : (o' : Option ℕ) → PlacesSide v o' u → labels u ≡ labels v
+    side_labels None x = ap labels x
+    side_labels (Some n) x = x.3
 
     at_label : (low : ℕ) (to : ℕ → ℕ) (code : List Instr) (o' : Option ℕ) → PlacesSide v o' u → HasFrom (size v) u to code → Good (scene tb low c) to code (size u) d.known d.read → Good (scene tb low c) to code (place_of_side to (size v) o') d.known d.read
     at_label low to code None x h good = subst (λ z. Good (scene tb low c) to code (size z) d.known d.read) x good
@@ -317,6 +343,7 @@ module _ (tb : Table) (c : Choice) where
       extends = same_extends v;
       by = λ to code h here good. good;
     };
+    few = λ n room. spends_none _ _ _ _ v (omega arith) (omega arith);
   }
 
   module _ (low start : ℕ) (is : IsScene (scene tb low c)) (has : HasRows c) where
@@ -357,6 +384,7 @@ module _ (tb : Table) (c : Choice) where
           extends = g.extends;
           by = λ to code h here good. subst (AllGood (scene tb low c) to code start) (sym e) (t.1 to code h here good);
         };
+    few = λ n room. subst (λ z. Spends (sides_cost n tb (rows c.rows.items) z) (sides_left n tb (rows c.rows.items) z) v (sides_cost n tb (rows c.rows.items) es) (sides_left n tb (rows c.rows.items) es) w) (sym e) (spends_less _ _ _ _ v w (f.few n room));
   }
 
   pub chooses_on : (i j label : ℕ) (v w z : Written) (ds ds0 : List Side) (d : Side) (es : List Side) → ds0 ≡ ds ++ d ∷ [] → Follows tb c v d ds w es j → label ≡ get_or c.entries.items j 0 → z ≡ added w (I.Jump label) → ChoosesIf tb c i v ds0 z es false
@@ -372,6 +400,8 @@ module _ (tb : Table) (c : Choice) where
               subst (AllGood (scene tb low c) to code start) (sym e)
               (t.1 to code (front (size v) w (added w jump) to code (added_extends w jump) h') (leads_jump (scene tb low c) w to code (size v) j g.extends.grows h') good);
         };
+    few = λ n room. subst (λ q. Spends (sides_cost n tb (rows c.rows.items) q) (sides_left n tb (rows c.rows.items) q) v (sides_cost n tb (rows c.rows.items) es) (sides_left n tb (rows c.rows.items) es) z) (sym e)
+        (spends_one _ _ _ _ v w z (ap size jumped ∙ one_longer w jump) (ap labels jumped) (f.few n room));
   }
     where
       jump : Instr
@@ -398,6 +428,7 @@ module _ (tb : Table) (c : Choice) where
           by = λ to code h here good.
               p.by to code (front (size v) w z to code q.extends h) tt (q.by to code (back (size v) (size w) z to code p.extends.grows h) here good);
         };
+    few = λ n room. spends_on _ _ _ _ _ _ v w z (a.few n room) (b.few n room);
   }
 
   pub turns_next : (i : ℕ) (v0 v w : Written) (ds0 ds es : List Side) (b : Bool) → b ≡ false → Turns i v0 ds0 v ds → ChoosesIf tb c i v ds w es b → Turns i v0 ds0 w es

@@ -13,6 +13,7 @@ use Rattle.match_code.specs.Losing.{Loses, Resumes}
 use Rattle.match_code.specs.WellMatched.{WellMatchedBlock, WellMatchedClauses}
 use Rattle.cell_lower.specs.declared.matches.Matching.{Matching}
 use Rattle.cell_lower.specs.declared.matches.Progress.{Progress}
+use Rattle.cell_lower.specs.Growth.{labels, registers}
 use Rattle.cell_lower.specs.Scenes.{sides_of, first_side}
 use Rattle.cell_lower.specs.Clauses.{Begins, StartsIn, EndsIn, EndsMatch, MeetsAt, ClausesIn, JoinsKnown, WritesClause, WritesClauses, WritesMatch}
 use Rattle.cell_lower.specs.Writing.{WritesBlock}
@@ -29,22 +30,26 @@ joins_none k m e = record {
   is = refl;
   meets = subst (Meets k) (sym e) (record { names = λ x r h. h; barer = λ r t c h. h });
   before = subst (MeetsFirst k) (sym e) (record { credits = fewer_same k.credits; grows = omega arith });
+  as_many = ap registers e;
 }
 
-pub joins_some : (k j m : Known) → Meets j m → Meets k m → m.credits ≡ j.credits → m.next ≡ j.next → JoinsKnown k (Some j) (Some m)
-joins_some k j m a b e f = record {
+pub joins_some : (k j m : Known) → Meets j m → Meets k m → m.credits ≡ j.credits → m.next ≡ j.next → registers m ≡ registers j → JoinsKnown k (Some j) (Some m)
+joins_some k j m a b e f n = record {
   joined = m;
   is = refl;
   meets = b;
   before = (a, record { credits = subst (Rattle.lowered_code.specs.Choosing.FewerCredits j.credits) (sym e) (fewer_same j.credits); grows = omega (arith, f) });
+  as_many = n;
 }
 
-pub meets_at : (label : ℕ) (m k l : Known) (v u w : Written) → Extends v u → u.instrs ≡ v.instrs → IsAt u label (size v) → w ≡ u → Resumes m k → Loses k l → MeetsAt label m v l w
-meets_at label m k l v u w e f p g r h = subst (MeetsAt label m v l) (sym g) (record {
+pub meets_at : (label : ℕ) (m k l : Known) (v u w : Written) → Extends v u → u.instrs ≡ v.instrs → IsAt u label (size v) → w ≡ u → Resumes m k → Loses k l → registers k ≡ registers m → registers l ≡ registers k → labels u ≡ labels v → MeetsAt label m v l w
+meets_at label m k l v u w e f p g r h rm rl ll = subst (MeetsAt label m v l) (sym g) (record {
   extends = e;
   as_long = ap length f;
   placed = p;
   resumes = resumes_then m k l r h;
+  as_many = rl ∙ rm;
+  same_labels = ll;
 })
 
 pub ruleset joining = (joins_none, joins_some)

@@ -6,6 +6,7 @@ use Rattle.lowered_code.specs.declared.held.Held.TheVariants as H
 use Rattle.lowered_code.specs.declared.held.Credit.{Credit}
 use Rattle.lowered_code.specs.Known.{holding, IsTaken}
 use Rattle.cell_lower.specs.Frames.{HasSize, Takes}
+use Rattle.cell_lower.proofs.Shedding.{held_at}
 
 same_some : {A : Type 0} (x y : A) → Some x ≡ Some y → x ≡ y
 same_some x y e = cc
@@ -48,4 +49,4 @@ taken_from hs cs ds ns next n p c h g e = record {
   known = refl;
 }
 
-pub ruleset taking = (taken_from)
+pub ruleset taking = (taken_from, held_at)

@@ -15,6 +15,7 @@ use Rattle.match_code.specs.Growing.{Grows, AllGrow}
 use Rattle.match_code.proofs.Growths.{grow_none, grow_on, with_spot, grow_spot, grow_first, grow_later, grow_fields}
 use Rattle.cell_lower.specs.declared.spots.Spot.{Spot, out-Spot, roll-Spot}
 use Rattle.cell_lower.specs.declared.spots.Spot.TheFolds.{fold_out-Spot, fold-roll-Spot}
+use Rattle.cell_lower.specs.Growth.{HasRoom, registers}
 use Rattle.cell_lower.specs.Positions.{spot_of, spot_step, spots_of, RoomyAt, reaching}
 
 same_some : {A : Type 0} (x y : A) → Some x ≡ Some y → x ≡ y
@@ -44,6 +45,13 @@ reached_used k l e = e ∙ ap (λ x. reaching k x.next) (sym e)
 
 pub reached_same : (k : Known) → k ≡ reaching k k.next
 reached_same k = refl
+
+-- as many as the function has
+pub room_on : (k l m : Known) → l ≡ reaching k l.next → HasRoom k l → HasRoom l m → HasRoom k m
+room_on k l m e a b = let n : registers l ≡ registers k = ap registers e in omega (arith, n, a, b)
+
+pub room_same : (k l : Known) → l.next ≡ k.next → HasRoom k l
+room_same k l e = omega (arith, e)
 
 -- one that grows among others
 pub grown_at : (ss : List Spot) (n : ℕ) (s t : Spot) (a b : ℕ) → slice_get ss n ≡ Some s → Grows (spot_of s) (spot_of t) a b → AllGrow (spots_of ss) (spots_of (slice_set ss n t)) a b
@@ -88,4 +96,4 @@ spot_grown s fs a b h =
 pub spot_roomy : (t d c : ℕ) (n : Name) (p : Place) (ps : Vec Tree Global) (r : ℕ) (fs : Vec Spot Global) → AllRoomy (patterns ps.items) (spots_of fs.items) → Roomy (pattern (PV.Constructor t d c n p ps)) (spot_of (roll-Spot record { register = r; fields = fs }))
 spot_roomy t d c n p ps r fs h = subst (λ x. Roomy x (spot_of (roll-Spot record { register = r; fields = fs }))) (sym (pattern_constructor t d c n p ps)) (subst (Roomy (Rattle.fip_trees.specs.Tree.ConstructorPattern t d c n p (patterns ps.items))) (sym (rolled r fs)) h)
 
-pub ruleset growing = (field_added, grown_none, grown_on, reached_on, reached_used, reached_same)
+pub ruleset growing = (field_added, grown_none, grown_on, reached_on, reached_used, reached_same, room_on)

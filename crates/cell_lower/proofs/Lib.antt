@@ -3,6 +3,7 @@ pub mod Headers
 pub mod Frames
 pub mod Starts
 pub mod Labels
+pub mod Shedding
 pub mod Losing
 pub mod Writing
 pub mod Calling
@@ -10,9 +11,12 @@ pub mod Blocks
 pub mod Expressions
 pub mod Growing
 pub mod Folding
+pub mod Paying
 pub mod Choosing
 pub mod Beginning
+pub mod Bounding
 pub mod Matching
 pub mod Clauses
 pub mod Programs
+pub mod Smalls
 pub mod Parts

@@ -9,10 +9,11 @@ use Rattle.lowered_code.specs.Known.{Known, joined, holding, using, used}
 use Rattle.lowered_code.specs.Choosing.{Meets}
 use Rattle.lowered_code.proofs.Lists.{fewer_same, fewer_on, taken_fewer, barer_on, barer_set, barer_used}
 use Rattle.cell_code.specs.declared.code.Instr.TheVariants as I
-use Rattle.match_code.specs.Written.{Written, added, GivesUp}
-use Rattle.match_code.proofs.Placing.{gives_none, gives_up_on, gives_one}
+use Rattle.match_code.specs.Written.{Written, added, GivesUp, Extends, size}
+use Rattle.match_code.proofs.Placing.{gives_none, gives_up_on, gives_one, same_extends, extends_on}
 use Rattle.match_code.specs.Losing.{Loses, Resumes, Barer}
 use Rattle.cell_lower.specs.Frames.{Takes, FewerNames, IsBare, widened}
+use Rattle.cell_lower.proofs.Shedding.{sheds_same, sheds_on, sheds_take, sheds_drop, sheds_free, sheds_widened}
 
 same_some : {A : Type 0} (x y : A) → Some x ≡ Some y → x ≡ y
 same_some x y e = cc
@@ -118,9 +119,15 @@ gives_drop v w r e = gives_one v w (I.Drop r) e tt
 pub gives_free : (v w : Written) (r : ℕ) → w ≡ added v (I.Free r) → GivesUp v w
 gives_free v w r e = gives_one v w (I.Free r) e tt
 
-pub ruleset giving_up = (loses_same, loses_on, loses_nothing, loses_used, loses_taken, gives_none, gives_up_on, gives_take, gives_drop, gives_free)
+pub ruleset giving_up = (loses_same, loses_on, loses_nothing, loses_used, loses_taken, gives_none, gives_up_on, gives_take, gives_drop, gives_free, sheds_same, sheds_on, sheds_take, sheds_drop, sheds_free)
 
-pub ruleset leaving = (loses_same, loses_on, loses_widened, loses_nothing, loses_used, loses_taken, gives_none, gives_up_on)
+pub ruleset leaving = (loses_same, loses_on, loses_widened, loses_nothing, loses_used, loses_taken, gives_none, gives_up_on, sheds_on, sheds_widened)
+
+-- and a label more
+pub label_on : (v w z : Written) → Extends v w → w.instrs ≡ v.instrs → Extends w z → z.instrs ≡ w.instrs → Extends v z × (size z ≡ size v)
+label_on v w z a e b f = (extends_on v w z a b, ap length (f ∙ e))
+
+pub ruleset forgetting = (loses_same, same_extends, label_on)
 
 -- what was known elsewhere, with more registers used
 pub resumed : (k : Known) (n : ℕ) → k.next ≤ n → Resumes k (record k { next = n })

@@ -35,6 +35,7 @@ use Rattle.cell_lower.specs.Positions.{spot_of}
 use Rattle.cell_lower.specs.Scenes.{scene, patterns_of, HasRows, sides_of, first_side, Labelled, Ready, ChoosesIn}
 use Rattle.cell_lower.specs.Clauses.{Begins, GoesToEnd, JoinsBefore, EndsInto, EndsIn, EndsMatch, ClauseIn, ClausesIn}
 use Rattle.cell_lower.specs.Writing.{Writes}
+use Rattle.cell_lower.proofs.Bounding.{match_few, match_stays}
 
 -- what is known stays
 
@@ -501,4 +502,9 @@ module _ (s : Setting) (k : Known) (v : Written) (a : Argument) (t : ℕ) (q : P
           (λ le. sym (others_out.only (omega (arith, le, none, numbered))) ∙ sym last_on.1) other_bodies.1
 
   pub writes_match : (d : Bool) (x : Place) → Writes s k v (Match d t x a q b cs) target l w
-  writes_match d x = record { extends = extends_on v w0 w to_start from_start; code = λ to code h. at_code to code h }
+  writes_match d x = record {
+    extends = extends_on v w0 w to_start from_start;
+    code = λ to code h. at_code to code h;
+    stay = match_stays s k v a t q b cs g w0 target p0 p1 p2 w1 w2 l w begun at_start unjoined clause clauses ended;
+    few = match_few s k v a t q b cs g w0 target p0 p1 p2 w1 w2 l w begun at_start unjoined clause clauses ended;
+  }

@@ -26,6 +26,7 @@ use Rattle.match_code.specs.Written.{Written, size, Extends, IsAt, settled, plac
 use Rattle.match_code.specs.WellMatched.{WellMatched, WellMatchedBlock}
 use Rattle.cell_lower.specs.declared.matches.Matching.{Matching}
 use Rattle.cell_lower.specs.declared.matches.Progress.{Progress}
+use Rattle.cell_lower.specs.Growth.{labels, registers}
 use Rattle.cell_lower.specs.Positions.{spot_of}
 use Rattle.cell_lower.specs.Scenes.{ChoosesIf, first_side, sides_of}
 use Rattle.cell_lower.specs.Clauses.{Begins, EndsMatch, StartsIn, WritesClause, WritesClauses}
@@ -36,11 +37,11 @@ use Rattle.cell_lower.proofs.Clauses.{match_written}
 use Rattle.cell_lower.proofs.Expressions.{bound_into, written_match}
 use Rattle.cell_lower.proofs.Programs.{is_code}
 
-pub starts_from : (s s' : Setting) (g : Matching) (q q' : Pattern) (i label : ℕ) (v chosen shown put w : Written) (ds es : List Side) (copied resumed tested opened l : Known) → s' ≡ s → q ≡ q' → ChoosesIf s.types g.choice i v ds chosen es true → (length g.choice.rows.items ≤ suc i → es ≡ []) → tested ≡ resumed → shown ≡ chosen → Extends shown put → put.instrs ≡ shown.instrs → IsAt put label (size shown) → w ≡ put → label ≡ get_or g.choice.entries.items i 0 → copied ≡ g.entry → Resumes copied resumed → opened ≡ entering_root s' g.choice.takes q' (spot_of g.choice.root) tested → Loses opened l → StartsIn s g q i v ds l w es
-starts_from s s' g q q' i label v chosen shown put w ds es copied resumed tested opened l same qs c a fr sh e f p written at cp r o lost =
+pub starts_from : (s s' : Setting) (g : Matching) (q q' : Pattern) (i label : ℕ) (v chosen shown put w : Written) (ds es : List Side) (copied resumed tested opened l : Known) → s' ≡ s → q ≡ q' → ChoosesIf s.types g.choice i v ds chosen es true → (length g.choice.rows.items ≤ suc i → es ≡ []) → tested ≡ resumed → shown ≡ chosen → Extends shown put → put.instrs ≡ shown.instrs → IsAt put label (size shown) → w ≡ put → label ≡ get_or g.choice.entries.items i 0 → copied ≡ g.entry → Resumes copied resumed → opened ≡ entering_root s' g.choice.takes q' (spot_of g.choice.root) tested → Loses opened l → registers resumed ≡ registers copied → registers l ≡ registers opened → labels put ≡ labels shown → StartsIn s g q i v ds l w es
+starts_from s s' g q q' i label v chosen shown put w ds es copied resumed tested opened l same qs c a fr sh e f p written at cp r o lost ro rl ll =
     starts_in s g q i label v chosen put w ds es copied resumed opened l c a
     (subst (λ x. Extends x put) sh e) (f ∙ ap (λ (x : Written). x.instrs) sh) (subst (λ x. IsAt put label (size x)) sh p) written at cp r
-    (o ∙ ap (λ x. entering_root x g.choice.takes q' (spot_of g.choice.root) tested) same ∙ ap (λ x. entering_root s g.choice.takes x (spot_of g.choice.root) tested) (sym qs) ∙ ap (entering_root s g.choice.takes q (spot_of g.choice.root)) fr) lost
+    (o ∙ ap (λ x. entering_root x g.choice.takes q' (spot_of g.choice.root) tested) same ∙ ap (λ x. entering_root s g.choice.takes x (spot_of g.choice.root) tested) (sym qs) ∙ ap (entering_root s g.choice.takes q (spot_of g.choice.root)) fr) lost ro rl (ll ∙ ap labels sh)
 
 pub bound_from : (s s' : Setting) (k k0 m l : Known) (v v0 u z : Written) (b : Binding) (e : Expression) (rs ds names : List ℕ) (xs ys : List Binder) → s' ≡ s → e ≡ (out-Binding b).bound → xs ≡ (out-Binding b).binders.items → ys ≡ (out-Binding b).binders.items → ds ≡ rs → names ≡ rs → rs ≡ registers_for k.next xs → k0 ≡ reserved k xs → v0 ≡ v → (WellMatched s'.types (expression e) → Writes s' k0 v0 (expression e) (Into ds) m u) → l ≡ with_names m ys names → z ≡ u → WellMatched s.types (binding b).bound → Binds s k v (binding b).binders (binding b).bound l z
 bound_from s s' k k0 m l v v0 u z b e rs ds names xs ys same is ex ey ed en to at from w n kept well =

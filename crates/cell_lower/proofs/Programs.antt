@@ -73,12 +73,12 @@ from_zero (Some f) = ap Some (omega arith)
 pub numbered_all : (ds : List Instance) (ns : List (Option ℕ)) → ns ≡ numbers_from 0 ds → (g : ℕ) → joined (slice_get ns g) ≡ function_of ds g
 numbered_all ds ns e g = ap (λ x. joined (slice_get x g)) e ∙ numbered ds 0 g ∙ from_zero (function_of ds g)
 
-instances_at : (ts : List Tree) (i : ℕ) (t : Tree) → slice_get ts i ≡ Some t → instances (drop i ts) ≡ instance_of t ∷ instances (drop (suc i) ts)
+pub instances_at : (ts : List Tree) (i : ℕ) (t : Tree) → slice_get ts i ≡ Some t → instances (drop i ts) ≡ instance_of t ∷ instances (drop (suc i) ts)
 instances_at [] i t e = absurd (cc)
 instances_at (u ∷ ts) zero t e = ap (λ x. instance_of x ∷ instances ts) (same_some u t e)
 instances_at (u ∷ ts) (suc i) t e = instances_at ts i t e
 
-instances_past : (ts : List Tree) (i : ℕ) → length ts ≤ i → instances (drop i ts) ≡ []
+pub instances_past : (ts : List Tree) (i : ℕ) → length ts ≤ i → instances (drop i ts) ≡ []
 instances_past [] zero h = refl
 instances_past [] (suc i) h = refl
 instances_past (t ∷ ts) zero h = absurd (omega (arith, h))

@@ -1,5 +1,5 @@
 -- What the lowering of arguments has written, and how values are handed on, a case at a time.
-use Rattle.std.proofs.Common.{◌≡◌, inl, inr, refl, sym, ap, ◌∙◌, subst, arith, ℕ, zero, suc, ◌+◌, ◌≤◌, ℤ, List, [], ◌∷◌, ◌++◌, length, drop, Option, Some, None, slice_get}
+use Rattle.std.proofs.Common.{◌≡◌, inl, inr, refl, sym, ap, ◌∙◌, subst, arith, ℕ, zero, suc, ◌+◌, ◌≤◌, ℤ, List, [], ◌∷◌, ◌++◌, length, drop, Option, Some, None, slice_get, get_or}
 use Rattle.fip_language.specs.declared.Place.{Place}
 use Rattle.fip_trees.specs.Tree.{Name, Argument, Variable, Literal, Constructor, Arguments, NoArguments, MoreArguments}
 use Rattle.fip_trees.specs.declared.program.Argument.{Argument as Tree}
@@ -12,9 +12,12 @@ use Rattle.cell_code.specs.declared.code.Instr.TheVariants as I
 use Rattle.lowered_code.specs.declared.held.Held.{Held}
 use Rattle.lowered_code.specs.declared.held.Held.TheVariants as H
 use Rattle.lowered_code.specs.Known.{Known, register_of, holding, with_next, using, used, used_all}
+use Rattle.code_size.specs.Places.{argument_places, arguments_places}
 use Rattle.lowered_code.specs.Values.{Setting, built}
-use Rattle.lowered_code.specs.Bodies.{Return, Into, moved}
+use Rattle.lowered_code.specs.Bodies.{Return, Into, moved, as_value}
 use Rattle.cell_lower.specs.Frames.{Takes, TakesBare}
+use Rattle.cell_lower.specs.Growth.{registers, Sheds}
+use Rattle.cell_lower.proofs.Shedding.{set_length, used_length, used_all_length, takes_length, bare_length, sheds_on, adds_shed, adds_none, adds_one, adds_on, adds_less}
 use Rattle.match_code.specs.Written.{Written, size, added, GivesUp}
 use Rattle.cell_lower.specs.Writing.{Computes, ComputesAll, Builds, Follow, Gives, Moves, MovesOne, MovesTo, FollowMoves}
 use Rattle.match_code.proofs.Placing.{same_extends, extends_on, added_extends, one_longer, front, back, stands, up_to, given_up}
@@ -31,7 +34,7 @@ argument_literal i p = ap argument (sym (AV.rolls-Literal i p)) ∙ fold-roll-Ar
 pub computes_variable : (s : Setting) (k l : Known) (v w : Written) (x : Option ℕ) (n : Name) (p : Place) (r : ℕ) → register_of k.names x ≡ Some r → l ≡ k → w ≡ v → Computes s k v (Variable x n p) r l w
 computes_variable s k l v w x n p r h e f =
     three (λ (u : ℕ) y z. Computes s k v (Variable x n p) r y z) 0 0 k l v w refl e f
-    (record { extends = same_extends v; code = λ to code h'. record { named = h; nothing = refl; known = refl } })
+    (record { extends = same_extends v; code = λ to code h'. record { named = h; nothing = refl; known = refl }; as_many = refl; few = adds_less 0 0 1 0 v v (omega arith) (omega arith) (adds_none v) })
 
 pub computes_literal : (s : Setting) (k l : Known) (v w : Written) (i : ℤ) (p : Place) (r : ℕ) → r ≡ k.next → l ≡ with_next k (H.Scalar 0) → w ≡ added v (I.Const k.next i) → Computes s k v (Literal i p) r l w
 computes_literal s k l v w i p r e f g =
@@ -44,6 +47,8 @@ computes_literal s k l v w i p r e f g =
         one = one_longer v (I.Const k.next i);
         known = refl;
       };
+      as_many = set_length k.held k.next (H.Scalar 0);
+      few = adds_one v (I.Const k.next i);
     })
 
 pub computes_constructor : (s : Setting) (k : Known) (v : Written) (t d c : ℕ) (n : Name) (p : Place) (as' : Arguments) (rs : List ℕ) (m : Known) (w : Written) (r : ℕ) (l : Known) (z : Written) → ComputesAll s k v as' rs m w → Builds s m w t c rs r l z → Computes s k v (Constructor t d c n p as') r l z
@@ -56,10 +61,18 @@ computes_constructor s k v t d c n p as' rs m w r l z a b = record {
     a.code to code (front (size v) w z to code b.extends h),
     b.code to code (back (size v) (size w) z to code a.extends.grows h),
   );
+  as_many = b.as_many ∙ a.as_many;
+  few = adds_less (arguments_places as' + 1) (0 + 0) (suc (arguments_places as')) 0 v z (omega arith) (omega arith) (adds_on (arguments_places as') 0 1 0 v w z a.few b.few);
 }
 
 pub computes_none : (s : Setting) (k : Known) (v : Written) → ComputesAll s k v NoArguments [] k v
-computes_none s k v = record { extends = same_extends v; code = λ to code h. (refl, refl) }
+computes_none s k v = record { extends = same_extends v; code = λ to code h. (refl, refl); as_many = refl; few = adds_none v; a_register_each = omega arith }
+
+-- each argument has a place
+pub argument_one : (a : Argument) → 1 ≤ argument_places a
+argument_one (Variable x n p) = omega arith
+argument_one (Literal i p) = omega arith
+argument_one (Constructor t d c n p as') = omega arith
 
 pub computes_more : (s : Setting) (k : Known) (v : Written) (a : Argument) (as' : Arguments) (r : ℕ) (m : Known) (w : Written) (rs : List ℕ) (l : Known) (z : Written) → Computes s k v a r m w → ComputesAll s m w as' rs l z → ComputesAll s k v (MoreArguments a as') (r ∷ rs) l z
 computes_more s k v a as' r m w rs l z p q = record {
@@ -70,6 +83,9 @@ computes_more s k v a as' r m w rs l z p q = record {
     p.code to code (front (size v) w z to code q.extends h),
     q.code to code (back (size v) (size w) z to code p.extends.grows h),
   );
+  as_many = q.as_many ∙ p.as_many;
+  few = adds_less (argument_places a + arguments_places as') (0 + 0) (argument_places a + arguments_places as') 0 v z (omega arith) (omega arith) (adds_on (argument_places a) 0 (arguments_places as') 0 v w z p.few q.few);
+  a_register_each = let e = q.a_register_each in omega (arith, e, argument_one a);
 }
 
 pub follow_start : (s : Setting) (k : Known) (v : Written) (as' : Arguments) → Follow s k v as' k v as' []
@@ -113,6 +129,8 @@ builds_reused s k m l v w t c r h e f =
     (record {
       extends = same_extends v;
       code = λ to code h'. inl (record { held = h.there; nothing = refl; known = ap (λ x. holding x r (H.Owned t (Some c))) h.known });
+      as_many = set_length m.held r (H.Owned t (Some c)) ∙ bare_length k m t c r h;
+      few = adds_less 0 0 1 0 v v (omega arith) (omega arith) (adds_none v);
     })
 
 pub builds_atom : (s : Setting) (k l : Known) (v w : Written) (t c r : ℕ) → r ≡ k.next → l ≡ with_next k (built s t c) → w ≡ added v (I.Atom k.next t c) → Builds s k v t c [] r l w
@@ -126,6 +144,8 @@ builds_atom s k l v w t c r e f g =
         one = one_longer v (I.Atom k.next t c);
         known = refl;
       });
+      as_many = set_length k.held k.next (built s t c);
+      few = adds_one v (I.Atom k.next t c);
     })
 
 pub builds_put : (s : Setting) (k m l : Known) (v w : Written) (t c f : ℕ) (fs : List ℕ) (r : ℕ) → Takes k (length (f ∷ fs)) r m → l ≡ holding (using m (used_all m.held (f ∷ fs))) r (H.Owned t (Some c)) → w ≡ added v (I.Put r t c (f ∷ fs)) → Builds s k v t c (f ∷ fs) r l w
@@ -140,6 +160,8 @@ builds_put s k m l v w t c f fs r h e g =
         one = one_longer v (I.Put r t c (f ∷ fs));
         known = ap (λ x. holding (using x (used_all x.held (f ∷ fs))) r (H.Owned t (Some c))) h.known;
       };
+      as_many = set_length (used_all m.held (f ∷ fs)) r (H.Owned t (Some c)) ∙ used_all_length m.held (f ∷ fs) ∙ takes_length k m (length (f ∷ fs)) r h;
+      few = adds_one v (I.Put r t c (f ∷ fs));
     })
 
 pub builds_fields : (s : Setting) (k m l : Known) (v w : Written) (t c : ℕ) (fs : List ℕ) (r : ℕ) → (length fs ≡ 0 → ⊥) → Takes k (length fs) r m → l ≡ holding (using m (used_all m.held fs)) r (H.Owned t (Some c)) → w ≡ added v (I.Put r t c fs) → Builds s k v t c fs r l w
@@ -158,14 +180,17 @@ used_next hs (q ∷ rs) (suc i) r e = used_next hs rs i r e
 
 -- results
 
-pub gives_return : (k l : Known) (v w1 w2 w : Written) (rs : List ℕ) → GivesUp v w1 → GivesUp w1 w2 → w ≡ added w2 (I.Ret rs) → Gives k v rs Return l w
-gives_return k l v w1 w2 w rs a b e = subst (Gives k v rs Return l) (sym e) whole
+pub gives_return : (k k1 k2 l : Known) (v w1 w2 w : Written) (rs : List ℕ) → GivesUp v w1 → GivesUp w1 w2 → w ≡ added w2 (I.Ret rs) → k1 ≡ using k (used_all k.held rs) → Sheds k1 v k2 w1 → Sheds k2 w1 l w2 → Gives k v rs Return l w
+gives_return k k1 k2 l v w1 w2 w rs a b e f s t = subst (Gives k v rs Return l) (sym e) whole
   where
     last : Instr
     last = I.Ret rs
 
     both : GivesUp v w2
     both = Rattle.match_code.proofs.Placing.gives_up_on v w1 w2 a b
+
+    many : registers k1 ≡ registers k
+    many = ap registers f ∙ used_all_length k.held rs
 
     number : (n : ℕ) × (size v + n ≡ size w2)
     number = up_to (size v) (size w2) both.extends.grows
@@ -179,15 +204,17 @@ gives_return k l v w1 w2 w rs a b e = subst (Gives k v rs Return l) (sym e) whol
         written = ap (slice_get code) number.1 ∙ stands w2 last (size v) to code both.extends.grows h;
         one = one_longer w2 last ∙ ap suc (sym number.1);
       };
+      stay = tt;
+      few = adds_less (registers k1 + 1) (0 + 0) (suc (registers k) + length rs) 0 v (added w2 last) (omega (arith, many)) (omega arith) (adds_on (registers k1) 0 1 0 v w2 (added w2 last) (adds_shed k1 v l w2 (sheds_on k1 v k2 w1 l w2 s t)) (adds_one w2 last));
     }
 
 pub gives_into : (k l : Known) (v w : Written) (rs ds : List ℕ) → Moves k v rs ds l w → Gives k v rs (Into ds) l w
-gives_into k l v w rs ds m = record { extends = m.extends; code = m.code }
+gives_into k l v w rs ds m = record { extends = m.extends; code = m.code; stay = m.as_many; few = adds_less (length rs) 0 (suc (registers k) + length rs) 0 v w (omega arith) (omega arith) m.few }
 
 pub moves_there : (k l : Known) (v w : Written) (r d : ℕ) → r ≡ d → l ≡ k → w ≡ v → MovesOne k v r d l w
 moves_there k l v w r d e f g =
     three (λ (u : ℕ) y z. MovesOne k v r d y z) 0 0 k l v w refl f g
-    (record { extends = same_extends v; code = λ to code h. inr (record { same = e; nothing = refl; known = refl }) })
+    (record { extends = same_extends v; code = λ to code h. inr (record { same = e; nothing = refl; known = refl }); as_many = refl; few = adds_less 0 0 1 0 v v (omega arith) (omega arith) (adds_none v) })
 
 pub moves_word : (k l : Known) (v w : Written) (r d : ℕ) → l ≡ moved k d r → w ≡ added v (I.Move d r) → MovesOne k v r d l w
 moves_word k l v w r d f g =
@@ -199,21 +226,23 @@ moves_word k l v w r d f g =
         one = one_longer v (I.Move d r);
         known = refl;
       });
+      as_many = set_length (used k.held r) d (as_value (get_or k.held r H.Nothing)) ∙ used_length k.held r;
+      few = adds_one v (I.Move d r);
     })
 
 moves_none : (k : Known) (v : Written) (rs : List ℕ) → Moves k v rs [] k v
-moves_none k v [] = record { extends = same_extends v; code = λ to code h'. (refl, refl) }
-moves_none k v (r ∷ rs) = record { extends = same_extends v; code = λ to code h'. (refl, refl) }
+moves_none k v [] = record { extends = same_extends v; code = λ to code h'. (refl, refl); as_many = refl; few = adds_none v }
+moves_none k v (r ∷ rs) = record { extends = same_extends v; code = λ to code h'. (refl, refl); as_many = refl; few = adds_less 0 0 (length (r ∷ rs)) 0 v v (omega arith) (omega arith) (adds_none v) }
 
 moves_over : (k : Known) (v : Written) (ds : List ℕ) → Moves k v [] ds k v
-moves_over k v ds = record { extends = same_extends v; code = λ to code h'. (refl, refl) }
+moves_over k v ds = record { extends = same_extends v; code = λ to code h'. (refl, refl); as_many = refl; few = adds_none v }
 
 -- without destinations nothing is moved
-moves_any : (k l : Known) (v w : Written) (rs qs : List ℕ) → Moves k v rs [] l w → Moves k v qs [] l w
-moves_any k l v w [] [] m = record { extends = m.extends; code = m.code }
-moves_any k l v w [] (q ∷ qs) m = record { extends = m.extends; code = m.code }
-moves_any k l v w (r ∷ rs) [] m = record { extends = m.extends; code = m.code }
-moves_any k l v w (r ∷ rs) (q ∷ qs) m = record { extends = m.extends; code = m.code }
+moves_any : (k l : Known) (v w : Written) (rs qs : List ℕ) → length rs ≤ length qs → Moves k v rs [] l w → Moves k v qs [] l w
+moves_any k l v w [] [] n m = record { extends = m.extends; code = m.code; as_many = m.as_many; few = m.few }
+moves_any k l v w [] (q ∷ qs) n m = record { extends = m.extends; code = m.code; as_many = m.as_many; few = adds_less 0 0 (length (q ∷ qs)) 0 v w n (omega arith) m.few }
+moves_any k l v w (r ∷ rs) [] n m = absurd (omega (arith, n))
+moves_any k l v w (r ∷ rs) (q ∷ qs) n m = record { extends = m.extends; code = m.code; as_many = m.as_many; few = adds_less (length (r ∷ rs)) 0 (length (q ∷ qs)) 0 v w n (omega arith) m.few }
 
 moves_more : (k m l : Known) (v w z : Written) (r d : ℕ) (rs ds : List ℕ) → MovesOne k v r d m w → Moves m w rs ds l z → Moves k v (r ∷ rs) (d ∷ ds) l z
 moves_more k m l v w z r d rs ds a b = record {
@@ -224,6 +253,8 @@ moves_more k m l v w z r d rs ds a b = record {
     a.code to code (front (size v) w z to code b.extends h),
     b.code to code (back (size v) (size w) z to code a.extends.grows h),
   );
+  as_many = b.as_many ∙ a.as_many;
+  few = adds_less (1 + length rs) (0 + 0) (length (r ∷ rs)) 0 v z (omega arith) (omega arith) (adds_on 1 0 (length rs) 0 v w z a.few b.few);
 }
 
 pub moves_start : (k : Known) (v : Written) (rs ds : List ℕ) → FollowMoves k v rs ds k v rs ds
@@ -251,6 +282,12 @@ drop_none [] (suc i) e = (refl, refl)
 drop_none (x ∷ xs) zero e = absurd (cc)
 drop_none (x ∷ xs) (suc i) e = drop_none xs i e
 
+drop_less : {A : Type 0} (xs : List A) (i : ℕ) → length (drop (suc i) xs) ≤ length (drop i xs)
+drop_less [] zero = omega arith
+drop_less [] (suc i) = omega arith
+drop_less (x ∷ xs) zero = omega arith
+drop_less (x ∷ xs) (suc i) = drop_less xs i
+
 pub moves_step : (k0 : Known) (v0 : Written) (rs0 ds0 : List ℕ) (k m : Known) (v w : Written) (rs ds : List ℕ) (i r : ℕ) → slice_get rs i ≡ Some r → FollowMoves k0 v0 rs0 ds0 k v (drop i rs) (drop i ds) → MovesTo k v r (slice_get ds i) m w → FollowMoves k0 v0 rs0 ds0 m w (drop (suc i) rs) (drop (suc i) ds)
 moves_step k0 v0 rs0 ds0 k m v w rs ds i r e h t = by_get (slice_get ds i) refl t
   where
@@ -259,7 +296,7 @@ moves_step k0 v0 rs0 ds0 k m v w rs ds i r e h t = by_get (slice_get ds i) refl 
         let none = drop_none ds i f in
         subst (λ x. FollowMoves k0 v0 rs0 ds0 m w (drop (suc i) rs) x) (sym none.1)
         (three (λ (u : ℕ) x y. FollowMoves k0 v0 rs0 ds0 x y (drop (suc i) rs) []) 0 0 k m v w refl t'.0 t'.1
-        (record { by = λ l z n. (subst (λ x. FollowMoves k0 v0 rs0 ds0 k v (drop i rs) x) none.0 h).by l z (moves_any k l v z (drop (suc i) rs) (drop i rs) n) }))
+        (record { by = λ l z n. (subst (λ x. FollowMoves k0 v0 rs0 ds0 k v (drop i rs) x) none.0 h).by l z (moves_any k l v z (drop (suc i) rs) (drop i rs) (drop_less rs i) n) }))
     by_get (Some d) f t' = moves_at k0 v0 rs0 ds0 k m v w rs ds i r d e f h t'
 
 pub moves_end : (k0 : Known) (v0 : Written) (rs0 ds0 : List ℕ) (k : Known) (v : Written) (ds : List ℕ) → FollowMoves k0 v0 rs0 ds0 k v [] ds → Moves k0 v0 rs0 ds0 k v

@@ -1,7 +1,7 @@
 -- It serves the proofs on lowered code: what the parts of the lowering of a match have written. v is what was written
 -- before it and w behind it, with ds and es the sides of its tests that were still to be written, and j and jl what was
 -- known at the ends of the clauses so far.
-use Rattle.std.specs.Prelude.{◌≡◌, ◌⊎◌, ◌<◌, ◌≤◌, ℕ, suc, Bool, true, List, [], ◌∷◌, ◌++◌, Option, Some, None}
+use Rattle.std.specs.Prelude.{◌≡◌, ◌⊎◌, ◌<◌, ◌≤◌, ◌+◌, ℕ, suc, Bool, true, List, [], ◌∷◌, ◌++◌, Option, Some, None}
 use Rattle.std.specs.Prelude.{length, slice_get, get_or}
 use Rattle.fip_language.specs.Every.{Among}
 use Rattle.fip_language.specs.declared.Place.{Place}
@@ -24,6 +24,8 @@ use Rattle.match_code.proofs.Choices.{patterns_in}
 use Rattle.cell_lower.specs.declared.choices.Choice.{Choice}
 use Rattle.cell_lower.specs.declared.matches.Matching.{Matching}
 use Rattle.cell_lower.specs.declared.matches.Progress.{Progress}
+use Rattle.code_size.specs.Places.{argument_places}
+use Rattle.cell_lower.specs.Growth.{HasRoom, Adds, Sheds, labels, registers}
 use Rattle.cell_lower.specs.Positions.{spot_of}
 use Rattle.cell_lower.specs.Scenes.{patterns_of, HasRows, sides_of, ChoosesIf}
 use Rattle.cell_lower.specs.Writing.{Computes, Writes, WritesBlock}
@@ -64,6 +66,13 @@ pub record Begins (s : Setting) (k : Known) (v : Written) (a : Argument) (t : �
   pub positions : HasPositions g.choice register t known.next g.entry.next
   pub patterns : patterns_of g.choice ≡ q ∷ patterns_in cs
   pub resumes : Resumes known g.entry
+  pub as_many : registers g.entry ≡ registers k
+  pub room : HasRoom known g.entry
+  pub few : Adds (argument_places a + registers k) (2 + length (patterns_of g.choice)) v w
+
+-- the same, which tactics don't look into
+abbrev pub IsBegun : Setting → Known → Written → Argument → ℕ → Pattern → Clauses → Matching → Written → Type 0
+IsBegun s k v a t q cs g w = Unit {0} → Begins s k v a t q cs g w
 
 -- the tests that choose clause i are written, and its body begins where l is known
 pub record StartsIn (s : Setting) (g : Matching) (q : Pattern) (i : ℕ) (v : Written) (ds : List Side) (l : Known)
@@ -77,6 +86,8 @@ pub record StartsIn (s : Setting) (g : Matching) (q : Pattern) (i : ℕ) (v : Wr
   pub placed : IsAt w (get_or g.choice.entries.items i 0) (size w)
   pub resumes : Resumes g.entry opened
   pub opens : Loses (entering_root s g.choice.takes q (spot_of g.choice.root) opened) l
+  pub as_many : registers l ≡ registers g.entry
+  pub same_labels : labels w ≡ labels chosen
 
 -- clause n is the next
 abbrev pub GoesToEnd : Matching → ℕ → Written → Written → Type 0
@@ -87,11 +98,17 @@ abbrev pub JoinsBefore : Option Known → Known → Known → Type 0
 JoinsBefore None k m = MeetsFirst k m
 JoinsBefore (Some j) k m = Meets j m × MeetsFirst j m
 
+-- as many registers as at the end of the first
+abbrev pub AsMany : Option Known → Known → Known → Type 0
+AsMany None k m = registers m ≡ registers k
+AsMany (Some j) k m = registers m ≡ registers j
+
 pub record JoinsKnown (k : Known) (j jl : Option Known) : Type 0 where
   pub joined : Known
   pub is : jl ≡ Some joined
   pub meets : Meets k joined
   pub before : JoinsBefore j k joined
+  pub as_many : AsMany j k joined
 
 -- a clause whose body ended where k was known
 pub record EndsInto (g : Matching) (n : ℕ) (k : Known) (v : Written) (j : Option Known) (w : Written)
@@ -102,6 +119,7 @@ pub record EndsInto (g : Matching) (n : ℕ) (k : Known) (v : Written) (j : Opti
   pub loses : Loses k known
   pub goes : GoesToEnd g n left w
   pub joins : JoinsKnown known j jl
+  pub sheds : Sheds k v known left
 
 abbrev pub EndsIn :
     Matching → B.Target → ℕ → Known → Written → Option Known → Written → Option Known → Type 0
@@ -114,6 +132,8 @@ pub record MeetsAt (label : ℕ) (m : Known) (v : Written) (l : Known) (w : Writ
   pub as_long : size w ≡ size v
   pub placed : IsAt w label (size v)
   pub resumes : Resumes m l
+  pub as_many : registers l ≡ registers m
+  pub same_labels : labels w ≡ labels v
 
 abbrev pub EndsMatch : Matching → Option Known → Written → Known → Written → Type 0
 EndsMatch g None v l w = w ≡ v

@@ -14,6 +14,7 @@ use Rattle.match_knowledge.specs.declared.verdicts.Verdict.TheVariants as D
 use Rattle.match_knowledge.specs.Patterns as M
 use Rattle.match_knowledge.specs.Known.{Known, Open, Knowns, NoKnowns, MoreKnowns, compare, is_asks, side}
 use Rattle.match_knowledge.specs.View as View
+use Rattle.match_cover.specs.DecisionTree.{first_live, Split}
 use Rattle.match_code.specs.Spots as S
 use Rattle.match_code.specs.Rows.{row_of}
 use Rattle.match_code.specs.Reading.{Reading, Asked, asked, reading, read_one}
@@ -25,6 +26,7 @@ use Rattle.cell_lower.specs.declared.choices.Side.{Side as Kept}
 use Rattle.cell_lower.specs.declared.choices.Asked.{Asked as Found}
 use Rattle.cell_lower.specs.declared.choices.First.{First}
 use Rattle.cell_lower.specs.declared.choices.First.TheVariants as F
+use Rattle.cell_lower.specs.Growth.{IsRoom, Spends, labels, sides_cost, sides_left, way_cost, way_left}
 use Rattle.cell_lower.specs.Positions.{spot_of, spot_at}
 
 abbrev pub pattern_at : Bor Tree → Pattern
@@ -90,7 +92,9 @@ abbrev pub IsFirstOf : List M.Pattern → Known → First → Type 0
 IsFirstOf ps k (F.Chosen i) =
     ((p : M.Pattern) × (slice_get ps i ≡ Some p) × (compare p k ≡ D.Fits))
     × ((j : ℕ) (p : M.Pattern) → j < i → slice_get ps j ≡ Some p → compare p k ≡ D.Misses)
-IsFirstOf ps k (F.Asks r) = (i : ℕ) × (slice_get ps i ≡ Some (View.row r.now)) × (compare (View.row r.now) k ≡ D.Asks)
+IsFirstOf ps k (F.Asks r) =
+    (i : ℕ) × (slice_get ps i ≡ Some (View.row r.now)) × (compare (View.row r.now) k ≡ D.Asks)
+    × ((j : ℕ) (p : M.Pattern) → j < i → slice_get ps j ≡ Some p → compare p k ≡ D.Misses)
 
 -- the position at a place changed something
 pub record AtSpot {A : Type 0} (change : S.Spot → A → A) (ss : S.Spots) (n : ℕ) (a b : A) : Type 0 where
@@ -124,11 +128,34 @@ pub record Tests (p : M.Pattern) (k : Known) (root : S.Spot) (x : Reading) (w : 
   pub read_on : read ≡ (reading p k root x).read
   pub extends : Extends (added (reading p k root x).written (test_of found.register found.head target)) w
   pub as_long : size w ≡ size (added (reading p k root x).written (test_of found.register found.head target))
+  pub one_label : labels w ≡ suc (labels (reading p k root x).written)
 
 -- where this leads: to a clause, or to where something more is known
 abbrev pub Then : Scene → (ℕ → ℕ) → List Instr → Written → Known → List ℕ → Option ℕ → Type 0
 Then s to code w k read None = Good s to code (size w) k read
 Then s to code w k read (Some i) = LeadsTo s to code (size w) i
+
+-- What is written is paid, with a register for each position, on a way up to a clause or to where l is known.
+abbrev pub Pays : Table → Choice → Written → Option ℕ → Known → List ℕ → List Side → Written → Option ℕ → Known →
+    List ℕ → List Side → Type 0
+Pays tb c v p k read ds w o l read_on es =
+    (n : ℕ) → IsRoom n (spot_of c.root) → Spends (way_cost n tb (View.rows c.rows.items) p k read ds)
+    (way_left n tb (View.rows c.rows.items) p k ds) v (way_cost n tb (View.rows c.rows.items) o l read_on es)
+    (way_left n tb (View.rows c.rows.items) o l es) w
+
+-- and so it is with the sides that are still to be written
+abbrev pub PaysSides : Table → Choice → Written → List Side → Written → List Side → Type 0
+PaysSides tb c v ds w es =
+    (n : ℕ) → IsRoom n (spot_of c.root) → Spends (sides_cost n tb (View.rows c.rows.items) ds)
+    (sides_left n tb (View.rows c.rows.items) ds) v (sides_cost n tb (View.rows c.rows.items) es)
+    (sides_left n tb (View.rows c.rows.items) es) w
+
+-- with an instruction more
+abbrev pub PaysMore : Table → Choice → Written → List Side → Written → List Side → Type 0
+PaysMore tb c v ds w es =
+    (n : ℕ) → IsRoom n (spot_of c.root) → Spends (sides_cost n tb (View.rows c.rows.items) ds)
+    (sides_left n tb (View.rows c.rows.items) ds) v (suc (sides_cost n tb (View.rows c.rows.items) es))
+    (sides_left n tb (View.rows c.rows.items) es) w
 
 -- a step from where k is known to where l is known, or to a clause
 pub record Steps (s : Scene) (v : Written) (k : Known) (read : List ℕ) (ds : List Side) (w : Written) (l : Known)
@@ -143,17 +170,20 @@ pub record Steps (s : Scene) (v : Written) (k : Known) (read : List ℕ) (ds : L
 pub record Advances (tb : Table) (c : Choice) (v : Written) (k : Known) (read : List ℕ) (ds : List Side) (w : Written)
     (l : Known) (read_on : List ℕ) (es : List Side) (o : Option ℕ) : Type 0 where
   pub by : (low : ℕ) → IsScene (scene tb low c) → HasRows c → Steps (scene tb low c) v k read ds w l read_on es o
+  pub few : Pays tb c v None k read ds w o l read_on es
 
 -- the same of a pattern that asks
 pub record Asks (tb : Table) (c : Choice) (p : M.Pattern) (v : Written) (k : Known) (read : List ℕ) (ds : List Side)
     (w : Written) (l : Known) (read_on : List ℕ) (es : List Side) : Type 0 where
   pub by : (low i : ℕ) (q : Pattern) → IsScene (scene tb low c) → slice_get (patterns_of c) i ≡ Some q →
       p ≡ row_of q → compare p k ≡ D.Asks → Steps (scene tb low c) v k read ds w l read_on es None
+  pub few : (i : ℕ) → slice_get (View.rows c.rows.items) i ≡ Some p →
+      first_live 0 (View.rows c.rows.items) k ≡ Split p → compare p k ≡ D.Asks → Pays tb c v None k read ds w None l read_on es
 
 -- a label has its place here, where there is one
 abbrev pub PlacesSide : Written → Option ℕ → Written → Type 0
 PlacesSide v None w = w ≡ v
-PlacesSide v (Some l) w = Extends v w × (size w ≡ size v) × IsAt w l (size v)
+PlacesSide v (Some l) w = Extends v w × (size w ≡ size v) × IsAt w l (size v) × (labels w ≡ labels v)
 
 -- the tests from a side on lead to a clause
 pub record FollowsIn (s : Scene) (v : Written) (d : Side) (ds : List Side) (w : Written) (es : List Side)
@@ -168,6 +198,7 @@ pub record FollowsIn (s : Scene) (v : Written) (d : Side) (ds : List Side) (w : 
 pub record Follows (tb : Table) (c : Choice) (v : Written) (d : Side) (ds : List Side) (w : Written) (es : List Side)
     (i : ℕ) : Type 0 where
   pub by : (low : ℕ) → IsScene (scene tb low c) → HasRows c → FollowsIn (scene tb low c) v d ds w es i
+  pub few : PaysMore tb c v (ds ++ d ∷ []) w es
 
 -- the tests are written up to here, or all that lead here
 abbrev pub HereIf : Scene → (ℕ → ℕ) → List Instr → Written → ℕ → Bool → Type 0
@@ -185,3 +216,4 @@ pub record ChoosesIf (tb : Table) (c : Choice) (i : ℕ) (v : Written) (ds : Lis
     (last : Bool) : Type 0 where
   pub by : (low start : ℕ) → IsScene (scene tb low c) → HasRows c → Ready start v ds →
       ChoosesIn (scene tb low c) start i v ds w es last
+  pub few : PaysSides tb c v ds w es

@@ -1,6 +1,7 @@
 -- It serves the proofs on lowered code: what each part of the lowering of a function has written, in the words of
--- lowered code: v is what was written before it and k what was known, w and l those behind it.
-use Rattle.std.specs.Prelude.{◌≡◌, ◌⊎◌, ℕ, List, [], ◌∷◌, ◌++◌, Option, Some, None, slice_set, if◌then◌else◌}
+-- lowered code, and how much: v is what was written before it and k what was known, w and l those behind it.
+use Rattle.std.specs.Prelude.{◌≡◌, ◌⊎◌, ◌≤◌, ◌+◌, ℕ, suc, List, [], ◌∷◌, ◌++◌, Option, Some, None, length, slice_set}
+use Rattle.std.specs.Prelude.{if◌then◌else◌}
 use Rattle.fip_language.specs.declared.Operator.{Operator}
 use Rattle.fip_language.specs.declared.Place.{Place}
 use Rattle.fip_trees.specs.declared.program.Binder.{Binder}
@@ -11,7 +12,10 @@ use Rattle.lowered_code.specs.declared.held.Held.{Held}
 use Rattle.lowered_code.specs.Known.{Known, naming, used}
 use Rattle.lowered_code.specs.Values.{Setting, BuiltAt, ArgumentAt, ArgumentsAt}
 use Rattle.lowered_code.specs.Bodies as B
+use Rattle.code_size.specs.Bounds.{most_for}
+use Rattle.code_size.specs.Places.{argument_places, arguments_places, expression_places, block_places}
 use Rattle.cell_lower.specs.Frames.{Takes}
+use Rattle.cell_lower.specs.Growth.{registers, Adds, Stay}
 use Rattle.match_code.specs.Written.{Written, size, Extends, InCode}
 use Rattle.cell_lower.specs.declared.lowerer.Context.{Context}
 use Rattle.cell_lower.specs.declared.lowerer.Target.{Target}
@@ -34,17 +38,24 @@ pub record Computes (s : Setting) (k : Known) (v : Written) (a : Argument) (r : 
     Type 0 where
   pub extends : Extends v w
   pub code : InCode v w (λ code. ArgumentAt s code (size v) k a r (size w) l)
+  pub as_many : registers l ≡ registers k
+  pub few : Adds (argument_places a) 0 v w
 
 pub record ComputesAll (s : Setting) (k : Known) (v : Written) (as' : Arguments) (rs : List ℕ) (l : Known)
     (w : Written) : Type 0 where
   pub extends : Extends v w
   pub code : InCode v w (λ code. ArgumentsAt s code (size v) k as' rs (size w) l)
+  pub as_many : registers l ≡ registers k
+  pub few : Adds (arguments_places as') 0 v w
+  pub a_register_each : length rs ≤ arguments_places as'
 
 -- a constructor of fields in registers
 pub record Builds (s : Setting) (k : Known) (v : Written) (t c : ℕ) (rs : List ℕ) (r : ℕ) (l : Known)
     (w : Written) : Type 0 where
   pub extends : Extends v w
   pub code : InCode v w (λ code. BuiltAt s code (size v) k t c rs r (size w) l)
+  pub as_many : registers l ≡ registers k
+  pub few : Adds 1 0 v w
 
 -- after the arguments so far, the others follow
 pub record Follow (s : Setting) (k0 : Known) (v0 : Written) (as0 : Arguments) (k : Known) (v : Written)
@@ -57,14 +68,20 @@ pub record Gives (k : Known) (v : Written) (rs : List ℕ) (target : B.Target) (
     Type 0 where
   pub extends : Extends v w
   pub code : InCode v w (λ code. B.GivenAt code (size v) k rs target (size w) l)
+  pub stay : Stay target k l
+  pub few : Adds (suc (registers k) + length rs) 0 v w
 
 pub record Moves (k : Known) (v : Written) (rs ds : List ℕ) (l : Known) (w : Written) : Type 0 where
   pub extends : Extends v w
   pub code : InCode v w (λ code. B.MovedAt code (size v) k rs ds (size w) l)
+  pub as_many : registers l ≡ registers k
+  pub few : Adds (length rs) 0 v w
 
 pub record MovesOne (k : Known) (v : Written) (r d : ℕ) (l : Known) (w : Written) : Type 0 where
   pub extends : Extends v w
   pub code : InCode v w (λ code. B.IsMove code (size v) k r d (size w) l ⊎ B.IsThere (size v) k r d (size w) l)
+  pub as_many : registers l ≡ registers k
+  pub few : Adds 1 0 v w
 
 -- a register's word goes to a destination, where there is one
 abbrev pub MovesTo : Known → Written → ℕ → Option ℕ → Known → Written → Type 0
@@ -80,11 +97,15 @@ pub record Writes (s : Setting) (k : Known) (v : Written) (e : Expression) (targ
     (w : Written) : Type 0 where
   pub extends : Extends v w
   pub code : InCode v w (λ code. B.ExpressionAt s code (size v) k e target (size w) l)
+  pub stay : Stay target k l
+  pub few : Adds (most_for (registers k) (expression_places s.types e)) (expression_places s.types e) v w
 
 pub record WritesBlock (s : Setting) (k : Known) (v : Written) (b : Block) (target : B.Target) (l : Known)
     (w : Written) : Type 0 where
   pub extends : Extends v w
   pub code : InCode v w (λ code. B.BlockAt s code (size v) k b target (size w) l)
+  pub stay : Stay target k l
+  pub few : Adds (most_for (registers k) (block_places s.types b)) (block_places s.types b) v w
 
 -- after the bindings so far, the rest of a block follows
 pub record FollowBlock (s : Setting) (k0 : Known) (v0 : Written) (b0 : Block) (k : Known) (v : Written)
@@ -96,6 +117,8 @@ pub record Operates (k : Known) (v : Written) (o : Operator) (p : Place) (x y : 
     (w : Written) : Type 0 where
   pub extends : Extends v w
   pub code : InCode v w (λ code. B.IsOperation code (size v) k o p x y target (size w) l)
+  pub stay : Stay target k l
+  pub few : Adds (registers k + 3) 0 v w
 
 -- what a register holds after it was handed over for a parameter, where there is a register
 abbrev pub handed_at : List Held → Param → Option ℕ → List Held
@@ -132,12 +155,16 @@ pub record EndsCall (s : Setting) (k : Known) (v : Written) (f : ℕ) (rs result
     (l : Known) (w : Written) : Type 0 where
   pub extends : Extends v w
   pub code : InCode v w (λ code. B.EndsCall s code (size v) k f rs results target (size w) l)
+  pub stay : Stay target k l
+  pub few : Adds (suc (registers k)) 0 v w
 
 -- a call of instance g with arguments in registers
 pub record CallsAt (s : Setting) (k : Known) (v : Written) (g : ℕ) (rs : List ℕ) (target : B.Target) (l : Known)
     (w : Written) : Type 0 where
   pub extends : Extends v w
   pub code : InCode v w (λ code. B.IsCall s code (size v) k g rs target (size w) l)
+  pub stay : Stay target k l
+  pub few : Adds (suc (registers k)) 0 v w
 
 -- arguments whose values are handed on
 pub record GivesValues (s : Setting) (k : Known) (v : Written) (as' : Arguments) (target : B.Target) (l : Known)
@@ -146,6 +173,8 @@ pub record GivesValues (s : Setting) (k : Known) (v : Written) (as' : Arguments)
   pub code : InCode v w (λ code.
       (rs : List ℕ) × (mid : ℕ) × (m : Known) × ArgumentsAt s code (size v) k as' rs mid m
       × B.GivenAt code mid m rs target (size w) l)
+  pub stay : Stay target k l
+  pub few : Adds (suc (registers k) + (arguments_places as' + arguments_places as')) 0 v w
 
 -- a call of instance g with these arguments, whatever its name and place
 pub record AppliesTo (s : Setting) (k : Known) (v : Written) (g : ℕ) (as' : Arguments) (target : B.Target) (l : Known)

@@ -11,7 +11,6 @@ ghost use Rattle.cell_lower.specs.Writing.{WritesBlock};
 use crate::calls::Applied;
 use crate::lowerer::{Lowerer, Target};
 use crate::matches::{Matching, Progress, Written};
-use fip_base::core_form::MatchKind;
 use fip_base::plain::NoMemory;
 use fip_trees::program::{Argument, Binder, Binding, Block, Clause, Expression};
 
@@ -150,17 +149,16 @@ impl<'a> Lowerer<'a> {
                 ..
             } => {
                 let written = Written {
-                    takes: *kind == MatchKind::Destructive && !self.is_scalar(*ty),
+                    takes: self.takes_apart(*kind, *ty),
                     ty: *ty,
                     scrutinee,
                     first,
                     others: others.as_slice(),
                 };
-                let need = self.walk.enter();
-                let matching = self.start_match(&written, need, target)?;
+                let matching = self.start_match(&written, target)?;
                 let mut progress = Progress::new(self.context.alloc)?;
                 self.clause(&matching, &mut progress, first, target)?;
-                self.clauses(&matching, &mut progress, others.as_slice(), target)?;
+                self.clauses(&matching, &mut progress, written.others, target)?;
                 self.end_match(matching, progress)?;
                 Ok(())
             }

@@ -1,6 +1,8 @@
 // The code of a function while it is written.
-ghost use Rattle.std.specs.Prelude.{◌≡◌, [], ◌∷◌, ◌++◌, IfOk, OnOk, map};
+ghost use Rattle.std.specs.Prelude.{◌≡◌, ◌≤◌, suc, [], ◌∷◌, ◌++◌, IfOk, OnOk, OnErr, length, map, slice_get, slice_set};
+ghost use Rattle.std.specs.Prelude.{Some, None};
 ghost use Rattle.match_code.specs.Written.{Written as Writing, Extends, IsAt, added, place_of, settled, size};
+ghost use Rattle.cell_lower.specs.Growth.{labels, placed};
 
 use cell_code::{Instr, Kind, Label};
 use fip_base::plain::NoMemory;
@@ -8,7 +10,8 @@ use std::alloc::Global;
 use std::marker::Model;
 
 /// Instructions, whose jumps and tests go to labels; the places of labels, where they are known; and what is known of
-/// the registers at some places, which rise. A contract sees the instructions and the labels' places.
+/// the registers at some places, which rise and have a label each. A contract sees the instructions and the labels'
+/// places.
 #[derive(Drop)]
 pub struct Buffer {
     instrs: Vec<Instr>,
@@ -20,6 +23,8 @@ impl Model for Buffer {
     ghost Value = { Writing };
 
     ghost view = { λ b. record { instrs = b.instrs.items; places = b.places.items } };
+
+    ghost invariant = { λ b. length b.labels.items ≤ placed b.places.items };
 }
 
 impl Buffer {
@@ -54,53 +59,31 @@ impl Buffer {
     pub fn new_label(&mut self) -> Result<u32, NoMemory>
         ensures extends { OnOk result (Extends self.old self.new) }
         ensures instrs { OnOk result (self.new.instrs ≡ self.old.instrs) }
+        ensures one { OnOk result (labels self.new ≡ suc (labels self.old)) }
     {
         let label = u32::try_from(self.places.len()).map_err(|_| NoMemory)?;
         self.places.push(None)?;
         Ok(label)
     }
 
-    /// The place of a label is that of the next instruction; an error where it has one.
+    /// The place of a label is that of the next instruction, and these kinds are known there, in the place of narrower
+    /// ones that were told; an error where the label has a place.
     #[tactic(auto, using(crate::proofs::Labels::placing))]
-    pub fn put_label(&mut self, label: u32) -> Result<(), NoMemory>
+    pub fn put_label(&mut self, label: u32, kinds: Vec<Kind>) -> Result<(), NoMemory>
         ensures extends { OnOk result (Extends self.old self.new) }
         ensures instrs { OnOk result (self.new.instrs ≡ self.old.instrs) }
         ensures placed { OnOk result (IsAt self.new label (size self.old)) }
+        ensures same { OnOk result (labels self.new ≡ labels self.old) }
     {
         let here = self.here()?;
-        match self.places.get_mut(label as usize) {
-            None => Err(NoMemory),
-            Some(place) => match *place {
-                Some(_) => Err(NoMemory),
-                None => {
-                    *place = Some(here);
-                    Ok(())
-                }
-            },
-        }
-    }
-
-    /// At the next instruction these kinds are known, in the place of narrower ones that were told there. The first
-    /// instruction of a function needs none, since no other goes there.
-    pub fn tell(&mut self, kinds: Vec<Kind>) -> Result<(), NoMemory>
-        ensures same { OnOk result (self.new ≡ self.old) }
-    {
-        let at = self.here()?;
-        if at == 0 {
-            return Ok(());
-        }
-        if let Some(last) = self.labels.last()
-            && last.at == at
-        {
-            self.labels.pop();
-        }
-        self.labels.push(Label { at, kinds })?;
-        Ok(())
+        place(&mut self.places, label, here)?;
+        tell(&mut self.labels, here, kinds)
     }
 
     /// The instructions, with the places of labels for the labels, and what is known at places.
     pub fn into_parts(self) -> Result<(Vec<Instr>, Vec<Label>), NoMemory>
         ensures instrs { IfOk result (λ p. p.0.items ≡ map (settled (place_of self.places)) self.instrs) }
+        ensures few { IfOk result (λ p. length p.1.items ≤ labels self) }
     {
         let Buffer {
             mut instrs,
@@ -110,6 +93,41 @@ impl Buffer {
         settle_all(&mut instrs, places.as_slice())?;
         Ok((instrs, labels))
     }
+}
+
+// A label gets this place; an error where it has one.
+fn place(places: &mut Vec<Option<u32>>, label: u32, here: u32) -> Result<(), NoMemory>
+    ensures placed { OnOk result (places.new.items ≡ slice_set places.old.items label (Some here)) }
+    ensures free { OnOk result (slice_get places.old.items label ≡ Some None) }
+    ensures same { OnErr result (places.new.items ≡ places.old.items) }
+{
+    match places.get_mut(label as usize) {
+        None => Err(NoMemory),
+        Some(place) => match *place {
+            Some(_) => Err(NoMemory),
+            None => {
+                *place = Some(here);
+                Ok(())
+            }
+        },
+    }
+}
+
+// At the next instruction these kinds are known, in the place of those that were told there. The first instruction of a
+// function needs none, since no other goes there.
+fn tell(labels: &mut Vec<Label>, at: u32, kinds: Vec<Kind>) -> Result<(), NoMemory>
+    ensures few { length labels.new.items ≤ suc (length labels.old.items) }
+{
+    if at == 0 {
+        return Ok(());
+    }
+    if let Some(last) = labels.last()
+        && last.at == at
+    {
+        labels.pop();
+    }
+    labels.push(Label { at, kinds })?;
+    Ok(())
 }
 
 #[tactic(auto, using(crate::proofs::Frames::mapping))]

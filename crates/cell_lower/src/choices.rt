@@ -322,8 +322,8 @@ impl<'a> Lowerer<'a> {
         match label {
             None => Ok(()),
             Some(label) => {
-                self.buffer.put_label(label)?;
-                self.tell_failed(choice, known, read)?;
+                let kinds = self.failed_kinds(choice, known, read)?;
+                self.buffer.put_label(label, kinds)?;
                 Ok(())
             }
         }
@@ -589,16 +589,12 @@ impl<'a> Lowerer<'a> {
     }
 
     // What is known where a test failed.
-    fn tell_failed(
-        &mut self,
+    fn failed_kinds(
+        &self,
         choice: &Choice<'_>,
         known: &Knowledge,
         read: &[u16],
-    ) -> Result<(), NoMemory>
-        ensures buffer { OnOk result (self.new.buffer ≡ self.old.buffer) }
-        ensures frame { OnOk result (self.new.frame ≡ self.old.frame) }
-        ensures context { OnOk result (self.new.context ≡ self.old.context) }
-    {
+    ) -> Result<Vec<Kind>, NoMemory> {
         let mut kinds = self.frame.kinds(self.context.alloc, self.context.program)?;
         let below = self.overlay_root(&mut kinds, choice, known)?;
         let overlay = Overlay {
@@ -606,7 +602,7 @@ impl<'a> Lowerer<'a> {
             read,
         };
         self.overlay_fields(&mut kinds, &choice.root, choice.ty, known, overlay)?;
-        self.buffer.tell(kinds)
+        Ok(kinds)
     }
 
     // What is known of the scrutinee, and how its fields are held.

@@ -1,5 +1,5 @@
 // What is known of the registers of a function at a place of its code.
-ghost use Rattle.std.specs.Prelude.{◌≡◌, ℕ, Some, IfOk, IfSome, IfNone, OnOk, get_or, map, slice_get};
+ghost use Rattle.std.specs.Prelude.{◌≡◌, ℕ, true, Some, IfOk, IfSome, IfNone, OnOk, get_or, length, map, slice_get};
 ghost use Rattle.lowered_code.specs.Choosing.{Meets};
 ghost use Rattle.lowered_code.specs.Bodies as B;
 ghost use Rattle.lowered_code.specs.Functions.{nothing_known, unless_in, with_credit};
@@ -8,6 +8,7 @@ ghost use Rattle.lowered_code.specs.declared.held.Held.TheVariants as H;
 ghost use Rattle.match_code.specs.Entering.{unnaming};
 ghost use Rattle.match_code.specs.Losing.{Barer, Loses, Resumes};
 ghost use Rattle.cell_lower.specs.Frames.{HasSize, Takes, TakesBare, IsBare, FewerNames, widened};
+ghost use Rattle.cell_lower.specs.Growth.{HasRoom, IsFull, IsHeld, holds, registers};
 
 use cell_code::{Constructors, Kind};
 use fip_base::plain::NoMemory;
@@ -73,6 +74,7 @@ impl Frame {
     #[tactic(auto, using(crate::proofs::Losing::resuming))]
     pub fn resume(&mut self, elsewhere: Frame)
         ensures resumed { Resumes elsewhere self.new }
+        ensures held { self.new.held ≡ elsewhere.held }
     {
         let next = max(self.next, elsewhere.next);
         *self = elsewhere;
@@ -86,12 +88,16 @@ impl Frame {
         self.next
     }
 
-    /// A register that isn't used yet.
+    /// A register that isn't used yet. A function has as many as it needs.
     pub fn fresh(&mut self) -> Result<u16, NoMemory>
         ensures next { IfOk result (λ r. r ≡ self.old.next) }
         ensures used { OnOk result (self.new ≡ K.with_used self.old) }
+        ensures room { OnOk result (HasRoom self.old self.new) }
     {
         let register = self.next;
+        if register as usize >= self.held.len() {
+            return Err(NoMemory);
+        }
         self.next = register.checked_add(1).ok_or(NoMemory)?;
         Ok(register)
     }
@@ -189,10 +195,22 @@ impl Frame {
     }
 
     /// Whether a register holds a constructor that was matched.
-    pub fn is_bare(&self, register: u16) -> bool {
-        match self.at(register) {
-            Held::Bare { .. } => true,
-            _ => false,
+    pub fn is_bare(&self, register: u16) -> bool
+        ensures full { result ≡ true → IsFull (slice_get self.now.held register) }
+    {
+        match self.held.get(register as usize) {
+            None => false,
+            Some(held) => is_bare(*held),
+        }
+    }
+
+    // Whether a register holds a credit.
+    fn is_credit(&self, register: u16) -> bool
+        ensures full { result ≡ true → IsFull (slice_get self.now.held register) }
+    {
+        match self.held.get(register as usize) {
+            None => false,
+            Some(held) => is_credit(*held),
         }
     }
 
@@ -211,6 +229,7 @@ impl Frame {
     #[tactic(auto, using(crate::proofs::Frames::taking))]
     pub fn take_credit(&mut self, size: usize) -> Option<u16>
         ensures taken { IfSome result (λ r. Takes self.old size r self.new) }
+        ensures full { IfSome result (λ r. IsFull (slice_get self.old.held r)) }
         ensures none { IfNone result (self.new ≡ self.old) }
     {
         let place = self.last_of(size)?;
@@ -222,13 +241,14 @@ impl Frame {
         Some(credit.register)
     }
 
-    // The place of the last credit of a size.
+    // The place of the last credit of a size. A credit's register holds it.
     fn last_of(&self, size: usize) -> Option<usize>
         ensures there { IfSome result (λ p. HasSize size (slice_get self.now.credits p)) }
+        ensures full { IfSome result (λ p. IsHeld self.now.held (slice_get self.now.credits p)) }
     {
         let mut last = None;
         for (place, credit) in self.credits.iter().enumerate() {
-            if credit.size == size {
+            if credit.size == size && self.is_credit(credit.register) {
                 last = Some(place);
             }
         }
@@ -250,6 +270,7 @@ impl Frame {
     #[tactic(auto, using(crate::proofs::Losing::losing))]
     pub fn widen(&mut self)
         ensures loses { Loses self.old self.new }
+        ensures held { self.new.held ≡ map widened self.old.held }
     {
         widen_all(&mut self.held);
     }
@@ -261,6 +282,7 @@ impl Frame {
         ensures there { IfOk result (λ f. Meets other.now f) }
         ensures credits { IfOk result (λ f. f.credits ≡ self.now.credits) }
         ensures next { IfOk result (λ f. f.next ≡ self.now.next) }
+        ensures registers { IfOk result (λ f. registers f ≡ registers self.now) }
     {
         let mut credits = Vec::new(alloc);
         credits.extend_from_slice(self.credits.as_slice())?;
@@ -293,6 +315,26 @@ fn is_owned(held: Held) -> bool
         Held::Lent { .. } => false,
         Held::Credit { .. } => false,
         Held::Bare { .. } => false,
+    }
+}
+
+// Whether this is a constructor that was matched.
+fn is_bare(held: Held) -> bool
+    ensures full { result ≡ true → holds held ≡ 1 }
+{
+    match held {
+        Held::Bare { .. } => true,
+        _ => false,
+    }
+}
+
+// Whether this is a credit.
+fn is_credit(held: Held) -> bool
+    ensures full { result ≡ true → holds held ≡ 1 }
+{
+    match held {
+        Held::Credit { .. } => true,
+        _ => false,
     }
 }
 
@@ -361,6 +403,7 @@ fn wide(held: Held) -> Held
 fn held_by_both(alloc: Global, here: &[Held], there: &[Held]) -> Result<Vec<Held>, NoMemory>
     ensures here { IfOk result (λ v. Barer here.now v.items) }
     ensures there { IfOk result (λ v. Barer there.now v.items) }
+    ensures as_many { IfOk result (λ v. length v.items ≡ length here.now) }
 {
     let mut both = Vec::new(alloc);
     for held in here {

@@ -10,6 +10,8 @@ ghost use Rattle.lowered_code.specs.Functions.{AreLowered};
 ghost use Rattle.lowered_code.specs.Known.{joined};
 ghost use Rattle.match_code.specs.WellMatched.{IsWellMatched};
 ghost use Rattle.cell_lower.specs.Lowered.{AddsCode, HaveCodes, IsCodeOf, all_instrs, function_instrs};
+ghost use Rattle.cell_lower.specs.Sizes.{AreSmall};
+ghost use Rattle.cell_lower.specs.Small.{AddsSmall, HaveSmall, IsSmallOf};
 ghost use Rattle.cell_lower.specs.Writing.{setting};
 
 use crate::copies::table_of;
@@ -26,7 +28,8 @@ use std::alloc::Global;
 
 /// The code of a program: its types, and a function for each instance that isn't plain, in the order of their numbers,
 /// with the instance's kind, parameters, credits and results, and as many registers as the groups tell. The program is
-/// asked to have kept all rules up to E59, and `needs` and `groups` to be its own.
+/// asked to have kept all rules up to E59, and `needs` and `groups` to be its own. Each function is as small as the
+/// places and registers of its instance tell.
 ///
 /// Refused exactly where E60 is broken, for the least violation by place and instance: an instance that isn't plain has
 /// more than 4,096 registers, or has a match and a parameter, a binder or a pattern node of a type with cells that has
@@ -44,6 +47,8 @@ pub fn lower(
         map header c.functions.items ≡ headers groups.now (V.program typed.now.program).instances) }
     ensures lowered { IfOk result (λ c. IsWellMatched (V.program typed.now.program) →
         AreLowered (V.program typed.now.program) (all_instrs c)) }
+    ensures bounded { IfOk result (λ c. IsWellMatched (V.program typed.now.program) →
+        AreSmall (V.program typed.now.program) groups.now c.functions.items) }
 {
     match note_limits(alloc, &typed.program, groups) {
         Err(NoMemory) => Err(PhaseError::NoMemory),
@@ -76,6 +81,8 @@ fn code_of(
         map header c.functions.items ≡ headers groups.now (V.program program.now).instances) }
     ensures lowered { IfOk result (λ c. IsWellMatched (V.program program.now) →
         AreLowered (V.program program.now) (all_instrs c)) }
+    ensures bounded { IfOk result (λ c. IsWellMatched (V.program program.now) →
+        AreSmall (V.program program.now) groups.now c.functions.items) }
 {
     let context = Context {
         alloc,
@@ -101,6 +108,8 @@ fn functions_of(
     ensures all { IfOk result (λ fs. map header fs.items ≡ headers groups.now (V.instances instances.now)) }
     ensures codes { IfOk result (λ fs. HaveCodes (setting context.now) (V.instances instances.now) 0
         (map function_instrs fs.items)) }
+    ensures small { IfOk result (λ fs. HaveSmall (setting context.now) groups.now (V.instances instances.now) 0 0
+        fs.items) }
 {
     let mut functions = Vec::new(context.alloc);
     let mut number = 0;
@@ -126,6 +135,8 @@ fn add_function(
     ensures code { OnOk result (AddsCode (setting context.now) (is_ruled instance.now.kind)
         (V.instance_of instance.now) (map function_instrs functions.old.items)
         (map function_instrs functions.new.items)) }
+    ensures small { OnOk result (AddsSmall (setting context.now) groups.now number (is_ruled instance.now.kind)
+        (V.instance_of instance.now) functions.old.items functions.new.items) }
 {
     if is_ruled(instance.kind) {
         let registers = groups.registers_of(number).ok_or(NoMemory)?;
@@ -162,6 +173,7 @@ fn function_of(
 ) -> Result<Function, NoMemory>
     ensures header { IfOk result (λ f. header f ≡ header_of registers (V.instance_of instance.now)) }
     ensures code { IfOk result (λ f. IsCodeOf (setting context.now) (V.instance_of instance.now) f.instrs.items) }
+    ensures small { IfOk result (λ f. IsSmallOf (setting context.now) registers (V.instance_of instance.now) f) }
 {
     let alloc = context.alloc;
     let mut lowerer = Lowerer::new(context, needs.of(number), instance, registers)?;

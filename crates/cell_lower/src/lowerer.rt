@@ -5,11 +5,14 @@ ghost use Rattle.lowered_code.specs.Bodies as B;
 ghost use Rattle.lowered_code.specs.Functions as F;
 ghost use Rattle.lowered_code.specs.Values as S;
 ghost use Rattle.match_code.specs.Losing.{Loses};
+ghost use Rattle.match_code.specs.Written.{Extends, IsAt, size};
 ghost use Rattle.cell_lower.specs.Frames.{param_at};
+ghost use Rattle.cell_lower.specs.Growth.{labels, registers};
 ghost use Rattle.cell_lower.specs.Writing.{setting};
 
 use crate::buffer::Buffer;
 use crate::frame::Frame;
+use fip_base::core_form::MatchKind;
 use fip_base::plain::{FunKind, NoMemory, Param};
 use fip_trees::needs::Need;
 use fip_trees::program::{Binder, Instance, Program};
@@ -217,6 +220,11 @@ impl<'a> Lowerer<'a> {
         self.context.is_scalar(ty)
     }
 
+    /// Whether a match takes cells apart.
+    pub fn takes_apart(&self, kind: MatchKind, ty: u32) -> bool {
+        kind == MatchKind::Destructive && !self.is_scalar(ty)
+    }
+
     /// What a register holds that was given a value of a type.
     pub fn given(&self, ty: u32) -> Held {
         self.context.given(ty)
@@ -227,14 +235,19 @@ impl<'a> Lowerer<'a> {
         self.frame.fresh()
     }
 
-    /// Tells what is known here, but for constructors that were built.
-    pub fn tell(&mut self) -> Result<(), NoMemory>
+    /// The place of a label is here, and it is told what is known here, but for constructors that were built.
+    #[tactic(auto, using(crate::proofs::Shedding::widening))]
+    pub fn put_label(&mut self, label: u32) -> Result<(), NoMemory>
         ensures loses { OnOk result (Loses self.old.frame self.new.frame) }
-        ensures buffer { OnOk result (self.new.buffer ≡ self.old.buffer) }
+        ensures registers { OnOk result (registers self.new.frame ≡ registers self.old.frame) }
+        ensures extends { OnOk result (Extends self.old.buffer self.new.buffer) }
+        ensures instrs { OnOk result (self.new.buffer.instrs ≡ self.old.buffer.instrs) }
+        ensures placed { OnOk result (IsAt self.new.buffer label (size self.old.buffer)) }
+        ensures labels { OnOk result (labels self.new.buffer ≡ labels self.old.buffer) }
         ensures context { OnOk result (self.new.context ≡ self.old.context) }
     {
         self.frame.widen();
         let kinds = self.frame.kinds(self.context.alloc, self.context.program)?;
-        self.buffer.tell(kinds)
+        self.buffer.put_label(label, kinds)
     }
 }

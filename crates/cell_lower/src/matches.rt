@@ -1,5 +1,5 @@
 // Matches: for each clause the tests that choose it and its body, then the place where the clauses meet.
-ghost use Rattle.std.specs.Prelude.{◌≡◌, suc, [], ◌∷◌, None, Some, IfOk, OnOk};
+ghost use Rattle.std.specs.Prelude.{◌≡◌, ◌≤◌, ◌+◌, suc, [], ◌∷◌, None, Some, IfOk, OnOk, length};
 ghost use Rattle.fip_trees.specs.TreeView as V;
 ghost use Rattle.match_knowledge.specs.View as View;
 ghost use Rattle.match_code.specs.Entering.{entering, entering_all, entering_root, root_of, variable_held, with_cell};
@@ -9,8 +9,9 @@ ghost use Rattle.match_code.specs.Rows.{row_of, rows_of};
 ghost use Rattle.match_code.specs.Written.{Extends, GivesUp, size};
 ghost use Rattle.cell_lower.specs.Positions.{reaching, spot_of, spots_of};
 ghost use Rattle.cell_lower.specs.Scenes.{AtSpot, first_side, patterns_of, sides_of};
-ghost use Rattle.cell_lower.specs.Clauses.{AddsPattern, Begins, EndsIn, EndsMatch, GoesToEnd, HasPositions};
+ghost use Rattle.cell_lower.specs.Clauses.{AddsPattern, IsBegun, EndsIn, EndsMatch, GoesToEnd, HasPositions};
 ghost use Rattle.cell_lower.specs.Clauses.{JoinsKnown, StartsIn};
+ghost use Rattle.cell_lower.specs.Growth.{HasRoom, Sheds, labels, registers};
 ghost use Rattle.match_code.proofs.Choices.{patterns_in};
 ghost use Rattle.cell_lower.specs.Writing.{setting, target_of};
 
@@ -84,18 +85,18 @@ struct Cell {
 }
 
 impl<'a> Lowerer<'a> {
-    /// Begins a match that needs so many credits.
+    /// Begins a match.
     pub fn start_match<'t>(
         &mut self,
         written: &Written<'t>,
-        need: Sizes,
         target: Target<'_>,
     ) -> Result<Matching<'t>, NoMemory>
-        ensures begins { IfOk result (λ g. Begins (setting self.old.context.now) self.old.frame self.old.buffer
+        ensures begins { IfOk result (λ g. IsBegun (setting self.old.context.now) self.old.frame self.old.buffer
             (V.argument written.now.scrutinee.now) written.now.ty (V.clause written.now.first.now).pattern
             (V.clauses written.now.others.now) g self.new.buffer) }
         ensures context { OnOk result (self.new.context ≡ self.old.context) }
     {
+        let need = self.walk.enter();
         let register = self.value(written.scrutinee)?;
         // A value is in a register that is used.
         if register >= self.frame.next() {
@@ -120,6 +121,7 @@ impl<'a> Lowerer<'a> {
     fn end_matched(&mut self, target: Target<'_>) -> Result<(), NoMemory>
         ensures given_up { OnOk result (GivesUp self.old.buffer self.new.buffer) }
         ensures loses { OnOk result (Loses self.old.frame self.new.frame) }
+        ensures sheds { OnOk result (Sheds self.old.frame self.old.buffer self.new.frame self.new.buffer) }
         ensures context { OnOk result (self.new.context ≡ self.old.context) }
     {
         match target {
@@ -129,14 +131,20 @@ impl<'a> Lowerer<'a> {
     }
 
     // A tree that was just built has one constructor; tests ask for others too, so a label stands before them.
-    #[tactic(auto, using(crate::proofs::Losing::giving_up))]
+    #[tactic(auto, using(crate::proofs::Losing::forgetting))]
     fn forget_built(&mut self, register: u16) -> Result<(), NoMemory>
         ensures loses { OnOk result (Loses self.old.frame self.new.frame) }
-        ensures buffer { OnOk result (self.new.buffer ≡ self.old.buffer) }
+        ensures registers { OnOk result (registers self.new.frame ≡ registers self.old.frame) }
+        ensures extends { OnOk result (Extends self.old.buffer self.new.buffer) }
+        ensures as_long { OnOk result (size self.new.buffer ≡ size self.old.buffer) }
+        ensures labels { OnOk result (labels self.new.buffer ≤ suc (labels self.old.buffer)) }
         ensures context { OnOk result (self.new.context ≡ self.old.context) }
     {
         match self.frame.at(register) {
-            Held::Owned { built: Some(_), .. } => self.tell(),
+            Held::Owned { built: Some(_), .. } => {
+                let label = self.buffer.new_label()?;
+                self.put_label(label)
+            }
             _ => Ok(()),
         }
     }
@@ -173,8 +181,11 @@ impl<'a> Lowerer<'a> {
         ensures patterns { IfOk result (λ c. patterns_of c ≡ (V.clause written.now.first.now).pattern
             ∷ patterns_in (V.clauses written.now.others.now)) }
         ensures frame { OnOk result (self.new.frame ≡ reaching self.old.frame self.new.frame.next) }
+        ensures room { OnOk result (HasRoom self.old.frame self.new.frame) }
         ensures extends { OnOk result (Extends self.old.buffer self.new.buffer) }
         ensures as_long { OnOk result (size self.new.buffer ≡ size self.old.buffer) }
+        ensures labels { IfOk result (λ c. labels self.new.buffer ≡ labels self.old.buffer
+            + length (patterns_of c)) }
         ensures context { OnOk result (self.new.context ≡ self.old.context) }
     {
         let mut choice = Choice::new(self.context.alloc, register, written.ty, written.takes);
@@ -194,8 +205,10 @@ impl<'a> Lowerer<'a> {
         ensures adds { OnOk result (AddsPattern choice.old choice.new (V.pattern pattern.now) self.old.frame.next
             self.new.frame.next) }
         ensures frame { OnOk result (self.new.frame ≡ reaching self.old.frame self.new.frame.next) }
+        ensures room { OnOk result (HasRoom self.old.frame self.new.frame) }
         ensures extends { OnOk result (Extends self.old.buffer self.new.buffer) }
         ensures as_long { OnOk result (size self.new.buffer ≡ size self.old.buffer) }
+        ensures one { OnOk result (labels self.new.buffer ≡ suc (labels self.old.buffer)) }
         ensures context { OnOk result (self.new.context ≡ self.old.context) }
     {
         let alloc = self.context.alloc;
@@ -229,8 +242,7 @@ impl<'a> Lowerer<'a> {
             &matching.choice.root,
         )?;
         let entry = matching.choice.entry(number)?;
-        self.buffer.put_label(entry)?;
-        self.tell()?;
+        self.put_label(entry)?;
         Ok(())
     }
 
@@ -427,6 +439,7 @@ impl<'a> Lowerer<'a> {
     fn leave(&mut self, matching: &Matching<'_>, given: &[u16]) -> Result<(), NoMemory>
         ensures given_up { OnOk result (GivesUp self.old.buffer self.new.buffer) }
         ensures loses { OnOk result (Loses self.old.frame self.new.frame) }
+        ensures sheds { OnOk result (Sheds self.old.frame self.old.buffer self.new.frame self.new.buffer) }
         ensures context { OnOk result (self.new.context ≡ self.old.context) }
     {
         self.end_bare()?;
@@ -484,9 +497,8 @@ impl<'a> Lowerer<'a> {
         match joined {
             None => Ok(()),
             Some(frame) => {
-                self.buffer.put_label(end)?;
                 self.frame.resume(frame);
-                self.tell()?;
+                self.put_label(end)?;
                 Ok(())
             }
         }

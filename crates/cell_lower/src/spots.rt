@@ -5,6 +5,7 @@ ghost use Rattle.match_code.specs.Spots as S;
 ghost use Rattle.match_code.specs.Growing.{AllGrow, Grows};
 ghost use Rattle.match_code.specs.Opening.{AllRoomy, Roomy};
 ghost use Rattle.cell_lower.specs.declared.spots.Spot.{out-Spot};
+ghost use Rattle.cell_lower.specs.Growth.{HasRoom};
 ghost use Rattle.cell_lower.specs.Positions.{reaching, spot_of, spots_of, RoomyAt};
 
 use crate::frame::Frame;
@@ -60,6 +61,7 @@ pub fn add_spots(
     ensures grows { OnOk result (Grows (spot_of spot.old) (spot_of spot.new) frame.old.next frame.new.next) }
     ensures roomy { OnOk result (Roomy (V.pattern pattern.now) (spot_of spot.new)) }
     ensures frame { OnOk result (frame.new ≡ reaching frame.old frame.new.next) }
+    ensures room { OnOk result (HasRoom frame.old frame.new) }
 {
     match pattern {
         Pattern::Binder(_) => Ok(()),
@@ -83,6 +85,7 @@ fn add_parts(
         frame.new.next) }
     ensures roomy { OnOk result (AllRoomy (V.patterns patterns.now) (spots_of fields.new.items)) }
     ensures frame { OnOk result (frame.new ≡ reaching frame.old frame.new.next) }
+    ensures room { OnOk result (HasRoom frame.old frame.new) }
 {
     add_fields(alloc, patterns.len(), fields, frame)?;
     add_all(alloc, patterns, fields, frame)?;
@@ -100,6 +103,7 @@ fn add_all(
         frame.new.next) }
     ensures roomy { OnOk result (AllRoomy (V.patterns patterns.now) (spots_of fields.new.items)) }
     ensures frame { OnOk result (frame.new ≡ reaching frame.old frame.new.next) }
+    ensures room { OnOk result (HasRoom frame.old frame.new) }
 {
     let mut place: usize = 0;
     for part in patterns {
@@ -122,6 +126,7 @@ fn add_part(
         frame.new.next) }
     ensures roomy { OnOk result (RoomyAt (V.pattern part.now) place (spots_of fields.new.items)) }
     ensures frame { OnOk result (frame.new ≡ reaching frame.old frame.new.next) }
+    ensures room { OnOk result (HasRoom frame.old frame.new) }
 {
     match fields.get_mut(place) {
         None => Err(NoMemory),
@@ -143,6 +148,7 @@ fn add_fields(
     ensures grow { OnOk result (AllGrow (spots_of fields.old.items) (spots_of fields.new.items) frame.old.next
         frame.new.next) }
     ensures frame { OnOk result (frame.new ≡ reaching frame.old frame.new.next) }
+    ensures room { OnOk result (HasRoom frame.old frame.new) }
 {
     for _ in fields.len()..number {
         add_field(alloc, fields, frame)?;
@@ -155,6 +161,7 @@ fn add_field(alloc: Global, fields: &mut Vec<Spot>, frame: &mut Frame) -> Result
     ensures grow { OnOk result (AllGrow (spots_of fields.old.items) (spots_of fields.new.items) frame.old.next
         frame.new.next) }
     ensures frame { OnOk result (frame.new ≡ reaching frame.old frame.new.next) }
+    ensures room { OnOk result (HasRoom frame.old frame.new) }
 {
     let register = frame.fresh()?;
     fields.push(Spot::new(alloc, register))?;

@@ -6,6 +6,7 @@ ghost use Rattle.lowered_code.specs.declared.held.Held.TheVariants as H;
 ghost use Rattle.lowered_code.specs.Known as K;
 ghost use Rattle.match_code.specs.Losing.{Loses};
 ghost use Rattle.match_code.specs.Written.{GivesUp, added};
+ghost use Rattle.cell_lower.specs.Growth.{Sheds};
 ghost use Rattle.cell_lower.specs.Writing.{setting, target_of, Builds, Computes, ComputesAll, Gives, Moves};
 ghost use Rattle.cell_lower.specs.Writing.{MovesOne, MovesTo};
 
@@ -140,6 +141,7 @@ impl<'a> Lowerer<'a> {
     pub fn end_bare(&mut self) -> Result<(), NoMemory>
         ensures given_up { OnOk result (GivesUp self.old.buffer self.new.buffer) }
         ensures loses { OnOk result (Loses self.old.frame self.new.frame) }
+        ensures sheds { OnOk result (Sheds self.old.frame self.old.buffer self.new.frame self.new.buffer) }
         ensures context { OnOk result (self.new.context ≡ self.old.context) }
     {
         for register in 0..self.frame.next() {
@@ -152,6 +154,7 @@ impl<'a> Lowerer<'a> {
     fn end_one(&mut self, register: u16) -> Result<(), NoMemory>
         ensures given_up { OnOk result (GivesUp self.old.buffer self.new.buffer) }
         ensures loses { OnOk result (Loses self.old.frame self.new.frame) }
+        ensures sheds { OnOk result (Sheds self.old.frame self.old.buffer self.new.frame self.new.buffer) }
         ensures context { OnOk result (self.new.context ≡ self.old.context) }
     {
         if self.frame.is_bare(register) {

@@ -2,6 +2,7 @@
 ghost use Rattle.std.specs.Prelude.{◌≡◌, OnOk};
 ghost use Rattle.match_code.specs.Losing.{Loses};
 ghost use Rattle.match_code.specs.Written.{GivesUp};
+ghost use Rattle.cell_lower.specs.Growth.{Sheds};
 
 use crate::frame::Frame;
 use crate::lowerer::Lowerer;
@@ -18,6 +19,7 @@ impl<'a> Lowerer<'a> {
     pub fn give_up_all(&mut self) -> Result<(), NoMemory>
         ensures given_up { OnOk result (GivesUp self.old.buffer self.new.buffer) }
         ensures loses { OnOk result (Loses self.old.frame self.new.frame) }
+        ensures sheds { OnOk result (Sheds self.old.frame self.old.buffer self.new.frame self.new.buffer) }
         ensures context { OnOk result (self.new.context ≡ self.old.context) }
     {
         if !self.gives_up {
@@ -31,6 +33,7 @@ impl<'a> Lowerer<'a> {
     fn drop_all(&mut self) -> Result<(), NoMemory>
         ensures given_up { OnOk result (GivesUp self.old.buffer self.new.buffer) }
         ensures loses { OnOk result (Loses self.old.frame self.new.frame) }
+        ensures sheds { OnOk result (Sheds self.old.frame self.old.buffer self.new.frame self.new.buffer) }
         ensures context { OnOk result (self.new.context ≡ self.old.context) }
     {
         for register in 0..self.frame.next() {
@@ -43,6 +46,7 @@ impl<'a> Lowerer<'a> {
     fn free_all(&mut self) -> Result<(), NoMemory>
         ensures given_up { OnOk result (GivesUp self.old.buffer self.new.buffer) }
         ensures loses { OnOk result (Loses self.old.frame self.new.frame) }
+        ensures sheds { OnOk result (Sheds self.old.frame self.old.buffer self.new.frame self.new.buffer) }
         ensures context { OnOk result (self.new.context ≡ self.old.context) }
     {
         for below in 0..MOST_FIELDS {
@@ -64,6 +68,7 @@ impl<'a> Lowerer<'a> {
     ) -> Result<(), NoMemory>
         ensures given_up { OnOk result (GivesUp self.old.buffer self.new.buffer) }
         ensures loses { OnOk result (Loses self.old.frame self.new.frame) }
+        ensures sheds { OnOk result (Sheds self.old.frame self.old.buffer self.new.frame self.new.buffer) }
         ensures context { OnOk result (self.new.context ≡ self.old.context) }
     {
         if !self.gives_up {
@@ -78,6 +83,7 @@ impl<'a> Lowerer<'a> {
     fn drop_but(&mut self, entry: &Frame, used: &[bool], given: &[u16]) -> Result<(), NoMemory>
         ensures given_up { OnOk result (GivesUp self.old.buffer self.new.buffer) }
         ensures loses { OnOk result (Loses self.old.frame self.new.frame) }
+        ensures sheds { OnOk result (Sheds self.old.frame self.old.buffer self.new.frame self.new.buffer) }
         ensures context { OnOk result (self.new.context ≡ self.old.context) }
     {
         for register in 0..self.frame.next() {
@@ -91,6 +97,7 @@ impl<'a> Lowerer<'a> {
     fn drop_unless(&mut self, register: u16, stays: bool) -> Result<(), NoMemory>
         ensures given_up { OnOk result (GivesUp self.old.buffer self.new.buffer) }
         ensures loses { OnOk result (Loses self.old.frame self.new.frame) }
+        ensures sheds { OnOk result (Sheds self.old.frame self.old.buffer self.new.frame self.new.buffer) }
         ensures context { OnOk result (self.new.context ≡ self.old.context) }
     {
         if stays {
@@ -104,6 +111,7 @@ impl<'a> Lowerer<'a> {
     fn free_but(&mut self, entry: &Frame, need: &Sizes) -> Result<(), NoMemory>
         ensures given_up { OnOk result (GivesUp self.old.buffer self.new.buffer) }
         ensures loses { OnOk result (Loses self.old.frame self.new.frame) }
+        ensures sheds { OnOk result (Sheds self.old.frame self.old.buffer self.new.frame self.new.buffer) }
         ensures context { OnOk result (self.new.context ≡ self.old.context) }
     {
         for below in 0..MOST_FIELDS {
@@ -118,6 +126,7 @@ impl<'a> Lowerer<'a> {
     fn drop_tree(&mut self, register: u16) -> Result<(), NoMemory>
         ensures given_up { OnOk result (GivesUp self.old.buffer self.new.buffer) }
         ensures loses { OnOk result (Loses self.old.frame self.new.frame) }
+        ensures sheds { OnOk result (Sheds self.old.frame self.old.buffer self.new.frame self.new.buffer) }
         ensures context { OnOk result (self.new.context ≡ self.old.context) }
     {
         if !self.frame.is_owned(register) {
@@ -132,6 +141,7 @@ impl<'a> Lowerer<'a> {
     fn free_past(&mut self, size: usize, kept: usize) -> Result<(), NoMemory>
         ensures given_up { OnOk result (GivesUp self.old.buffer self.new.buffer) }
         ensures loses { OnOk result (Loses self.old.frame self.new.frame) }
+        ensures sheds { OnOk result (Sheds self.old.frame self.old.buffer self.new.frame self.new.buffer) }
         ensures context { OnOk result (self.new.context ≡ self.old.context) }
     {
         for _ in kept..self.frame.count(size) {
@@ -144,6 +154,7 @@ impl<'a> Lowerer<'a> {
     fn free_one(&mut self, size: usize) -> Result<(), NoMemory>
         ensures given_up { OnOk result (GivesUp self.old.buffer self.new.buffer) }
         ensures loses { OnOk result (Loses self.old.frame self.new.frame) }
+        ensures sheds { OnOk result (Sheds self.old.frame self.old.buffer self.new.frame self.new.buffer) }
         ensures context { OnOk result (self.new.context ≡ self.old.context) }
     {
         match self.frame.take_credit(size) {

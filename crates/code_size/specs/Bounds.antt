@@ -5,8 +5,12 @@ use Rattle.fip_trees.specs.Tree.{Instance}
 use Rattle.tail_groups.specs.Registers.{registers}
 use Rattle.code_size.specs.Places.{places}
 
+-- with so many registers and places
+abbrev pub most_for : ℕ → ℕ → ℕ
+most_for registers places = 16 * (registers + 16) * places
+
 abbrev pub most_instructions : Table → Instance → ℕ
-most_instructions tb d = 16 * (registers d + 16) * places tb d
+most_instructions tb d = most_for (registers d) (places tb d)
 
 abbrev pub most_labels : Table → Instance → ℕ
 most_labels tb d = 8 * places tb d

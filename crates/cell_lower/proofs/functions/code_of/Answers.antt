@@ -4,6 +4,8 @@ use Rattle.lowered_code.specs.Values.{Setting}
 use Rattle.cell_lower.specs.Lowered.{function_instrs, HaveCodes}
 use Rattle.cell_lower.specs.Writing.{setting}
 use Rattle.cell_lower.proofs.Programs.{functions_lowered}
+use Rattle.cell_lower.specs.Small.{HaveSmall}
+use Rattle.cell_lower.proofs.Smalls.{are_small}
 use Rattle.cell_lower.proofs.functions.code_of.Goals as goal
 
 pub returns-clause-lowered : goal.returns-clause-lowered
@@ -11,3 +13,9 @@ returns-clause-lowered c =
     let s : Setting = setting record { alloc = c.args.alloc; program = c.args.program; scalars = c.in_ok-of.field-0; functions = c.in_ok-numbers_of.field-0 } in
     functions_lowered (program c.args.program.now) s c.in_ok-functions.functions.items (record { scalar = c.in_ok-of.ensures.exact; functions = c.in_ok-numbers_of.ensures.numbered; instances = refl; types = refl })
     (subst (λ x. HaveCodes s (instances x) 0 (map function_instrs c.in_ok-functions.functions.items)) c.as_slice.ensures.value c.in_ok-functions.ensures.codes)
+
+pub returns-clause-bounded : goal.returns-clause-bounded
+returns-clause-bounded c =
+    let s : Setting = setting record { alloc = c.args.alloc; program = c.args.program; scalars = c.in_ok-of.field-0; functions = c.in_ok-numbers_of.field-0 } in
+    are_small (program c.args.program.now) s c.args.groups.now c.in_ok-functions.functions.items (record { scalar = c.in_ok-of.ensures.exact; functions = c.in_ok-numbers_of.ensures.numbered; instances = refl; types = refl })
+    (subst (λ x. HaveSmall s c.args.groups.now (instances x) 0 0 c.in_ok-functions.functions.items) c.as_slice.ensures.value c.in_ok-functions.ensures.small)

@@ -1,8 +1,12 @@
-use Rattle.std.proofs.Common.{ap}
+use Rattle.std.proofs.Common.{refl, ap}
 use Rattle.fip_trees.specs.TreeView.{instance_of}
 use Rattle.cell_lower.specs.Writing.{setting}
 use Rattle.cell_lower.proofs.Parts.{code_from}
+use Rattle.cell_lower.proofs.Smalls.{small_of}
 use Rattle.cell_lower.proofs.functions.function_of.Goals as goal
 
 pub returns-clause-code : goal.returns-clause-code
 returns-clause-code c = code_from (setting c.args.context.now) (setting c.in_ok-lowerer.lowerer.context.now) c.args.registers (instance_of c.args.instance.now) c.in_ok-lowerer.lowerer.frame c.block.new.self.frame c.in_ok-lowerer.lowerer.buffer c.block.new.self.buffer _ (ap setting c.in_ok-lowerer.ensures.context) c.in_ok-lowerer.ensures.known c.in_ok-lowerer.ensures.empty c.in_ok-block.ensures.writes c.in_ok-instrs.ensures.instrs
+
+pub returns-clause-small : goal.returns-clause-small
+returns-clause-small c = small_of (setting c.args.context.now) (setting c.in_ok-lowerer.lowerer.context.now) c.args.registers (instance_of c.args.instance.now) c.in_ok-lowerer.lowerer.frame c.block.new.self.frame c.in_ok-lowerer.lowerer.buffer c.block.new.self.buffer _ _ _ (ap setting c.in_ok-lowerer.ensures.context) c.in_ok-lowerer.ensures.known c.in_ok-lowerer.ensures.empty c.in_ok-block.ensures.writes c.in_ok-instrs.ensures.instrs c.in_ok-instrs.ensures.few refl refl

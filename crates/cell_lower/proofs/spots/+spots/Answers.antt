@@ -4,7 +4,7 @@ use Rattle.match_code.specs.Opening.{Roomy, AllRoomy}
 use Rattle.cell_lower.specs.declared.spots.Spot.{out-Spot, roll-Spot}
 use Rattle.cell_lower.specs.Positions.{spot_of, spots_of, RoomyAt}
 use Rattle.cell_lower.proofs.Folding.{item}
-use Rattle.cell_lower.proofs.Growing.{grown_on, grown_at, reached_on, roomy_on, roomy_set, spot_grown, spot_roomy}
+use Rattle.cell_lower.proofs.Growing.{grown_on, grown_at, reached_on, room_on, roomy_on, roomy_set, spot_grown, spot_roomy}
 use Rattle.cell_lower.proofs.spots.+spots.Goals as goal
 
 pub add_all-loop-part-preserved : goal.add_all-loop-part-preserved
@@ -13,6 +13,7 @@ add_all-loop-part-preserved t c = record {
   grow = grown_on c.args.fields.now.items c.loop-part.fields.items c.add_part.new.fields.items c.args.frame.now.next c.loop-part.frame.next c.add_part.new.frame.next c.loop-part.invariant.grow c.in_ok-add_part.ensures.grow;
   roomy = roomy_on c.args.patterns.now c.loop-part.part-index (c.loop-part.part-index + 1) c.part-item.result c.loop-part.fields.items c.add_part.new.fields.items c.loop-part.frame.next c.add_part.new.frame.next (omega arith) (item c.args.patterns.now c.loop-part.part-index c.part-item.result c.loop-part-test.true c.part-item.is) c.in_ok-add_part.ensures.grow c.loop-part.invariant.roomy (subst (λ z. RoomyAt (pattern c.part-item.result) z (spots_of c.add_part.new.fields.items)) c.loop-part.invariant.place c.in_ok-add_part.ensures.roomy);
   frame = reached_on c.args.frame.now c.loop-part.frame c.add_part.new.frame c.loop-part.invariant.frame c.in_ok-add_part.ensures.frame;
+  room = room_on c.args.frame.now c.loop-part.frame c.add_part.new.frame c.loop-part.invariant.frame c.loop-part.invariant.room c.in_ok-add_part.ensures.room;
 }
 
 pub add_part-returns-in_ok-add_spots-in-Some-clause-grow : goal.add_part-returns-in_ok-add_spots-in-Some-clause-grow
@@ -29,3 +30,6 @@ add_spots-returns-in_ok-add_parts-in-Constructor-clause-roomy t c = subst (λ x.
 
 pub add_parts-returns-clause-grow : goal.add_parts-returns-clause-grow
 add_parts-returns-clause-grow t c = grown_on c.args.fields.now.items c.add_fields.new.fields.items c.add_all.new.fields.items c.args.frame.now.next c.add_fields.new.frame.next c.add_all.new.frame.next c.in_ok-add_fields.ensures.grow c.in_ok-add_all.ensures.grow
+
+pub add_parts-returns-clause-room : goal.add_parts-returns-clause-room
+add_parts-returns-clause-room t c = room_on c.args.frame.now c.add_fields.new.frame c.add_all.new.frame c.in_ok-add_fields.ensures.frame c.in_ok-add_fields.ensures.room c.in_ok-add_all.ensures.room

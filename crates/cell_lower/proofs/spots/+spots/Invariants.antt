@@ -2,6 +2,7 @@ use Rattle.std.proofs.Common.{◌≡◌, take}
 use Rattle.fip_trees.specs.TreeView as V
 use Rattle.match_code.specs.Growing.{AllGrow}
 use Rattle.match_code.specs.Opening.{AllRoomy}
+use Rattle.cell_lower.specs.Growth.{HasRoom}
 use Rattle.cell_lower.specs.Positions.{spots_of, reaching}
 use Rattle.cell_lower.proofs.spots.+spots.Given as goal
 
@@ -11,4 +12,5 @@ invariant-add_all-loop-part l = record {
   grow : AllGrow (spots_of l.initial.fields.items) (spots_of l.fields.items) l.initial.frame.next l.frame.next;
   roomy : AllRoomy (V.patterns (take l.part-index l.patterns)) (spots_of l.fields.items);
   frame : l.frame ≡ reaching l.initial.frame l.frame.next;
+  room : HasRoom l.initial.frame l.frame;
 }

@@ -1,5 +1,6 @@
 use Rattle.std.proofs.Common.{◌≡◌}
 use Rattle.match_code.specs.Growing.{AllGrow}
+use Rattle.cell_lower.specs.Growth.{HasRoom}
 use Rattle.cell_lower.specs.Positions.{spots_of, reaching}
 use Rattle.cell_lower.proofs.spots.add_fields.Given as goal
 
@@ -7,4 +8,5 @@ abbrev pub invariant-loop : goal.invariant-loop
 invariant-loop l = record {
   grow : AllGrow (spots_of l.initial.fields.items) (spots_of l.fields.items) l.initial.frame.next l.frame.next;
   frame : l.frame ≡ reaching l.initial.frame l.frame.next;
+  room : HasRoom l.initial.frame l.frame;
 }

@@ -55,6 +55,6 @@ expression-returns-in_ok-apply-in-Call-clause-writes t c = written_call c.args.s
     (subst (λ x. AppliesTo (setting c.args.self.now.context.now) c.args.self.now.frame c.args.self.now.buffer c.in-Call.callee (arguments x) (target_of c.args.target) c.apply.new.self.frame c.apply.new.self.buffer) c.as_slice-in-Call.ensures.value c.in_ok-apply-in-Call.ensures.applies)
 
 pub expression-returns-in_ok-end_match-in-Match-clause-writes : goal.expression-returns-in_ok-end_match-in-Match-clause-writes
-expression-returns-in_ok-end_match-in-Match-clause-writes t c = match_from (setting c.args.self.now.context.now) (setting c.start_match.new.self.context.now) (setting c.clause.new.self.context.now) c.args.self.now.frame c.args.self.now.buffer c.args.expression.now c.in-Match.kind c.in-Match.ty c.in-Match.place c.in-Match.scrutinee c.in-Match.first c.in-Match.others c.deref.result.now c.deref-in-Match.result.now c.as_slice-in-Match.result.now c.as_slice-in-Match-2.result.now c.in_ok-matching-in-Match.matching c.start_match.new.self.buffer (target_of c.args.target) c.in_ok-progress-in-Match.progress c.clause.new.progress c.clauses.new.progress c.clause.new.self.buffer c.clauses.new.self.buffer c.end_match.new.self.frame c.end_match.new.self.buffer
-    c.in-Match.is (ap (λ (x : Bor Context). setting x.now) c.in_ok-matching-in-Match.ensures.context) (ap (λ (x : Bor Context). setting x.now) (c.in_ok-clause-in-Match.ensures.context ∙ c.in_ok-matching-in-Match.ensures.context)) c.deref.ensures c.deref-in-Match.ensures c.as_slice-in-Match.ensures.value c.as_slice-in-Match-2.ensures.value
-    c.in_ok-matching-in-Match.ensures.begins c.in_ok-progress-in-Match.ensures.sides c.in_ok-progress-in-Match.ensures.clause c.in_ok-progress-in-Match.ensures.joined c.in_ok-clause-in-Match.ensures.writes c.in_ok-clauses-in-Match.ensures.writes c.in_ok-end_match-in-Match.ensures.ends
+expression-returns-in_ok-end_match-in-Match-clause-writes t c = match_from (setting c.args.self.now.context.now) (setting c.start_match.new.self.context.now) (setting c.clause.new.self.context.now) c.args.self.now.frame c.args.self.now.buffer c.args.expression.now c.in-Match.kind c.in-Match.ty c.in-Match.place c.in-Match.scrutinee c.in-Match.first c.in-Match.others c.deref.result.now c.deref-in-Match.result.now c.as_slice-in-Match.result.now c.as_slice-in-Match.result.now c.in_ok-matching-in-Match.matching c.start_match.new.self.buffer (target_of c.args.target) c.in_ok-progress-in-Match.progress c.clause.new.progress c.clauses.new.progress c.clause.new.self.buffer c.clauses.new.self.buffer c.end_match.new.self.frame c.end_match.new.self.buffer
+    c.in-Match.is (ap (λ (x : Bor Context). setting x.now) c.in_ok-matching-in-Match.ensures.context) (ap (λ (x : Bor Context). setting x.now) (c.in_ok-clause-in-Match.ensures.context ∙ c.in_ok-matching-in-Match.ensures.context)) c.deref.ensures c.deref-in-Match.ensures c.as_slice-in-Match.ensures.value c.as_slice-in-Match.ensures.value
+    (c.in_ok-matching-in-Match.ensures.begins tt) c.in_ok-progress-in-Match.ensures.sides c.in_ok-progress-in-Match.ensures.clause c.in_ok-progress-in-Match.ensures.joined c.in_ok-clause-in-Match.ensures.writes c.in_ok-clauses-in-Match.ensures.writes c.in_ok-end_match-in-Match.ensures.ends

@@ -8,4 +8,4 @@ pub returns-then-is_last-clause-asks : goal.returns-then-is_last-clause-asks
 returns-then-is_last-clause-asks c = asks_last c.args.self.now.context.now.program.now.types c.args.choice.now (row c.args.row.now) c.args.self.now.buffer (known c.args.known.now) (known c.in_ok-yes.yes) c.args.read.now.items (sides_of c.args.sides.now.items) (sym c.is_last.ensures ∙ c.if-is_last.true) c.in_ok-yes.ensures
 
 pub returns-clause-asks : goal.returns-clause-asks
-returns-clause-asks c = asks_test c.args.self.now.context.now.program.now.types c.args.choice.now (row c.args.row.now) c.args.self.now.buffer c.test.new.self.buffer (known c.args.known.now) (known c.in_ok-yes.yes) c.args.read.now.items c.test.new.read.items (sides_of c.args.sides.now.items) (sides_of c.push.new.self.items) (side_of c.in_ok-failed.failed) c.in_ok-failed.ensures.tests (sides_pushed c.args.sides.now.items c.push.new.self.items c.in_ok-failed.failed c.in_ok-push.ensures.items) c.in_ok-yes.ensures
+returns-clause-asks c = asks_test c.args.self.now.context.now.program.now.types c.args.choice.now (row c.args.row.now) c.args.self.now.buffer c.test.new.self.buffer (known c.args.known.now) (known c.in_ok-yes.yes) c.args.read.now.items c.test.new.read.items (sides_of c.args.sides.now.items) (sides_of c.push.new.self.items) (side_of c.in_ok-failed.failed) (sym c.is_last.ensures ∙ c.if-is_last.false) c.in_ok-failed.ensures.tests (sides_pushed c.args.sides.now.items c.push.new.self.items c.in_ok-failed.failed c.in_ok-push.ensures.items) c.in_ok-yes.ensures

@@ -5,8 +5,8 @@ use Rattle.match_code.proofs.Placing.{extends_on}
 use Rattle.match_code.proofs.Choices.{patterns_in}
 use Rattle.cell_lower.specs.Clauses.{AddsPattern}
 use Rattle.cell_lower.proofs.Folding.{item}
-use Rattle.cell_lower.proofs.Growing.{reached_on}
-use Rattle.cell_lower.proofs.Beginning.{positions_new, positions_on, patterns_next}
+use Rattle.cell_lower.proofs.Growing.{reached_on, room_on}
+use Rattle.cell_lower.proofs.Beginning.{positions_new, positions_on, patterns_next, labels_first, labels_next}
 use Rattle.cell_lower.proofs.lowerer.Lowerer.choice_of.Goals as goal
 
 pub loop-clause-init : goal.loop-clause-init
@@ -17,7 +17,9 @@ loop-clause-init c =
       patterns = ap (λ z. z ++ patterns_in (clauses c.args.written.now.others.now)) (adds.patterns ∙ ap (λ z. z ++ (clause c.args.written.now.first.now).pattern ∷ []) c.new-choice.ensures.patterns);
       frame = c.in_ok-add_pattern.ensures.frame;
       extends = c.in_ok-add_pattern.ensures.extends;
+      room = c.in_ok-add_pattern.ensures.room;
       as_long = c.in_ok-add_pattern.ensures.as_long;
+      labels = labels_first c.new-choice.result c.add_pattern.new.choice (clause c.args.written.now.first.now).pattern c.args.self.now.frame.next c.add_pattern.new.self.frame.next c.args.self.now.buffer c.add_pattern.new.self.buffer c.new-choice.ensures.patterns adds c.in_ok-add_pattern.ensures.one;
       context = c.in_ok-add_pattern.ensures.context;
     }
 
@@ -29,6 +31,8 @@ loop-clause-preserved c =
       patterns = patterns_next c.loop-clause.choice c.add_pattern-in-loop-clause.new.choice (clause c.clause-item.result).pattern c.loop-clause.self.frame.next c.add_pattern-in-loop-clause.new.self.frame.next c.args.written.now.others.now c.loop-clause.clause-index (c.loop-clause.clause-index + 1) c.clause-item.result _ adds (omega arith) (item c.args.written.now.others.now c.loop-clause.clause-index c.clause-item.result c.loop-clause-test.true c.clause-item.is) refl c.loop-clause.invariant.patterns;
       frame = reached_on c.args.self.now.frame c.loop-clause.self.frame c.add_pattern-in-loop-clause.new.self.frame c.loop-clause.invariant.frame c.in_ok-add_pattern-2.ensures.frame;
       extends = extends_on c.args.self.now.buffer c.loop-clause.self.buffer c.add_pattern-in-loop-clause.new.self.buffer c.loop-clause.invariant.extends c.in_ok-add_pattern-2.ensures.extends;
+      room = room_on c.args.self.now.frame c.loop-clause.self.frame c.add_pattern-in-loop-clause.new.self.frame c.loop-clause.invariant.frame c.loop-clause.invariant.room c.in_ok-add_pattern-2.ensures.room;
       as_long = c.in_ok-add_pattern-2.ensures.as_long ∙ c.loop-clause.invariant.as_long;
+      labels = labels_next c.loop-clause.choice c.add_pattern-in-loop-clause.new.choice (clause c.clause-item.result).pattern c.loop-clause.self.frame.next c.add_pattern-in-loop-clause.new.self.frame.next c.args.self.now.buffer c.loop-clause.self.buffer c.add_pattern-in-loop-clause.new.self.buffer adds c.loop-clause.invariant.labels c.in_ok-add_pattern-2.ensures.one;
       context = c.in_ok-add_pattern-2.ensures.context ∙ c.loop-clause.invariant.context;
     }

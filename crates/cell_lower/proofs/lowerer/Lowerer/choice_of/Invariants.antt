@@ -1,7 +1,8 @@
-use Rattle.std.proofs.Common.{◌≡◌, drop, ◌++◌, ◌∷◌}
+use Rattle.std.proofs.Common.{◌≡◌, drop, ◌+◌, ◌++◌, ◌∷◌, length}
 use Rattle.fip_trees.specs.TreeView as V
 use Rattle.match_code.specs.Written.{Extends, size}
 use Rattle.match_code.proofs.Choices.{patterns_in}
+use Rattle.cell_lower.specs.Growth.{HasRoom, labels}
 use Rattle.cell_lower.specs.Positions.{reaching}
 use Rattle.cell_lower.specs.Scenes.{patterns_of}
 use Rattle.cell_lower.specs.Clauses.{HasPositions}
@@ -13,6 +14,8 @@ invariant-loop-clause l = record {
   patterns : patterns_of l.choice ++ patterns_in (V.clauses (drop l.clause-index l.written.others.now)) ≡ (V.clause l.written.first.now).pattern ∷ patterns_in (V.clauses l.written.others.now);
   frame : l.self.frame ≡ reaching l.fn.self.frame l.self.frame.next;
   extends : Extends l.fn.self.buffer l.self.buffer;
+  room : HasRoom l.fn.self.frame l.self.frame;
   as_long : size l.self.buffer ≡ size l.fn.self.buffer;
+  labels : labels l.self.buffer ≡ labels l.fn.self.buffer + length (patterns_of l.choice);
   context : l.self.context ≡ l.fn.self.context;
 }

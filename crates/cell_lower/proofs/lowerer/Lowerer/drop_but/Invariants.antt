@@ -1,11 +1,13 @@
 use Rattle.std.proofs.Common.{◌≡◌}
 use Rattle.match_code.specs.Losing.{Loses}
 use Rattle.match_code.specs.Written.{GivesUp}
+use Rattle.cell_lower.specs.Growth.{Sheds}
 use Rattle.cell_lower.proofs.lowerer.Lowerer.drop_but.Given as goal
 
 abbrev pub invariant-loop-register : goal.invariant-loop-register
 invariant-loop-register l = record {
   given_up : GivesUp l.initial.self.buffer l.self.buffer;
   loses : Loses l.initial.self.frame l.self.frame;
+  sheds : Sheds l.initial.self.frame l.initial.self.buffer l.self.frame l.self.buffer;
   context : l.self.context ≡ l.initial.self.context;
 }

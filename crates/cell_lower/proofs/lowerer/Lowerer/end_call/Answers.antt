@@ -8,7 +8,7 @@ use Rattle.cell_lower.proofs.Calling.{ends_tail, ends_call}
 use Rattle.cell_lower.proofs.lowerer.Lowerer.end_call.Goals as goal
 
 pub returns-in_ok-add-in-Return-clause-ends : goal.returns-in_ok-add-in-Return-clause-ends
-returns-in_ok-add-in-Return-clause-ends c = subst (λ x. EndsCall (setting c.args.self.now.context.now) c.args.self.now.frame c.args.self.now.buffer c.args.function c.args.arguments c.args.instance.now.results (target_of x) c.give_up_all.new.self.frame c.add.new.self) (sym c.in-Return.is) (ends_tail (setting c.args.self.now.context.now) c.args.self.now.frame c.give_up_all.new.self.frame c.args.self.now.buffer c.end_bare.new.self.buffer c.give_up_all.new.self.buffer c.add.new.self c.args.function c.args.arguments c.args.instance.now.results c.in_ok-end_bare-in-Return.ensures.given_up c.in_ok-give_up_all-in-Return.ensures.given_up c.in_ok-add-in-Return.ensures.added)
+returns-in_ok-add-in-Return-clause-ends c = subst (λ x. EndsCall (setting c.args.self.now.context.now) c.args.self.now.frame c.args.self.now.buffer c.args.function c.args.arguments c.args.instance.now.results (target_of x) c.give_up_all.new.self.frame c.add.new.self) (sym c.in-Return.is) (ends_tail (setting c.args.self.now.context.now) c.args.self.now.frame c.end_bare.new.self.frame c.give_up_all.new.self.frame c.args.self.now.buffer c.end_bare.new.self.buffer c.give_up_all.new.self.buffer c.add.new.self c.args.function c.args.arguments c.args.instance.now.results c.in_ok-end_bare-in-Return.ensures.given_up c.in_ok-give_up_all-in-Return.ensures.given_up c.in_ok-add-in-Return.ensures.added c.in_ok-end_bare-in-Return.ensures.sheds c.in_ok-give_up_all-in-Return.ensures.sheds)
 
 pub returns-in_ok-add-in-Into-clause-ends : goal.returns-in_ok-add-in-Into-clause-ends
 returns-in_ok-add-in-Into-clause-ends c =

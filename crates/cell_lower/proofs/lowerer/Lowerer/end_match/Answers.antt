@@ -1,7 +1,7 @@
-use Rattle.std.proofs.Common.{subst, sym}
+use Rattle.std.proofs.Common.{refl, subst, sym, ap, length}
 use Rattle.cell_lower.specs.Clauses.{EndsMatch}
 use Rattle.cell_lower.proofs.Clauses.{meets_at}
 use Rattle.cell_lower.proofs.lowerer.Lowerer.end_match.Goals as goal
 
 pub returns-clause-ends : goal.returns-clause-ends
-returns-clause-ends c = subst (λ x. EndsMatch c.args.matching x c.args.self.now.buffer c.tell.new.self.frame c.tell.new.self.buffer) (sym c.in-Some.is) (meets_at c.args.matching.end c.in-Some.frame c.resume.new.self c.tell.new.self.frame c.args.self.now.buffer c.put_label.new.self c.tell.new.self.buffer c.in_ok-put_label-in-Some.ensures.extends c.in_ok-put_label-in-Some.ensures.instrs c.in_ok-put_label-in-Some.ensures.placed c.in_ok-tell-in-Some.ensures.buffer c.resume.ensures.resumed c.in_ok-tell-in-Some.ensures.loses)
+returns-clause-ends c = subst (λ x. EndsMatch c.args.matching x c.args.self.now.buffer c.put_label.new.self.frame c.put_label.new.self.buffer) (sym c.in-Some.is) (meets_at c.args.matching.end c.in-Some.frame c.resume.new.self c.put_label.new.self.frame c.args.self.now.buffer c.put_label.new.self.buffer c.put_label.new.self.buffer c.in_ok-put_label-in-Some.ensures.extends c.in_ok-put_label-in-Some.ensures.instrs c.in_ok-put_label-in-Some.ensures.placed refl c.resume.ensures.resumed c.in_ok-put_label-in-Some.ensures.loses (ap length c.resume.ensures.held) c.in_ok-put_label-in-Some.ensures.registers c.in_ok-put_label-in-Some.ensures.labels)

@@ -1,6 +1,7 @@
 use Rattle.std.proofs.Common.{subst, sym, ap, ◌∙◌}
 use Rattle.cell_code.specs.declared.code.Instr.TheVariants as I
 use Rattle.match_code.specs.Written.{added, GivesUp}
+use Rattle.cell_lower.specs.Growth.{Sheds}
 use Rattle.cell_lower.specs.Writing.{target_of, Gives}
 use Rattle.cell_lower.proofs.Writing.{gives_return}
 use Rattle.cell_lower.proofs.lowerer.Lowerer.give.Goals as goal
@@ -8,6 +9,7 @@ use Rattle.cell_lower.proofs.lowerer.Lowerer.give.Goals as goal
 pub returns-in_ok-add-in-Return-clause-gives : goal.returns-in_ok-add-in-Return-clause-gives
 returns-in_ok-add-in-Return-clause-gives c =
     subst (λ x. Gives c.args.self.now.frame c.args.self.now.buffer c.args.results.now (target_of x) c.give_up_all.new.self.frame c.add.new.self) (sym c.in-Return.is)
-    (gives_return c.args.self.now.frame c.give_up_all.new.self.frame c.args.self.now.buffer c.end_bare.new.self.buffer c.give_up_all.new.self.buffer c.add.new.self c.args.results.now
+    (gives_return c.args.self.now.frame c.use_up_all.new.self.frame c.end_bare.new.self.frame c.give_up_all.new.self.frame c.args.self.now.buffer c.end_bare.new.self.buffer c.give_up_all.new.self.buffer c.add.new.self c.args.results.now
     (subst (λ x. GivesUp x c.end_bare.new.self.buffer) c.use_up_all.ensures.buffer c.in_ok-end_bare-in-Return.ensures.given_up) c.in_ok-give_up_all-in-Return.ensures.given_up
-    (c.in_ok-add-in-Return.ensures.added ∙ ap (λ x. added c.give_up_all.new.self.buffer (I.Ret x)) c.in_ok-of-in-Return.ensures.same))
+    (c.in_ok-add-in-Return.ensures.added ∙ ap (λ x. added c.give_up_all.new.self.buffer (I.Ret x)) c.in_ok-of-in-Return.ensures.same)
+    c.use_up_all.ensures.used (subst (λ x. Sheds c.use_up_all.new.self.frame x c.end_bare.new.self.frame c.end_bare.new.self.buffer) c.use_up_all.ensures.buffer c.in_ok-end_bare-in-Return.ensures.sheds) c.in_ok-give_up_all-in-Return.ensures.sheds)

@@ -245,7 +245,7 @@ has_told m t s w calls e u v g h i stack store pushed same measured ran first la
 
 -- The run gives a value, and this is what is answered of its trace.
 abbrev pub AtTraced : Seen → Kinds → List Typed → (calls limit : ℕ) → Result Trace TraceError → Type 0
-AtTraced m kinds lent calls limit answer = (n : ℕ) × AtValue (after kinds (plain m.stack.code.code) n (begun (state_with m.stack lent m.store) calls)) (λ steps. IsTraced (standing_from 0 m.store.cells) (notes kinds (plain m.stack.code.code) (state_with m.stack lent m.store) calls n) steps limit answer)
+AtTraced m kinds lent calls limit answer = (n : ℕ) × AtValue (after kinds (plain m.stack.code.code) n (begun (state_with m.stack lent m.store) calls)) (λ steps. IsTraced (standing_from 0 m.store.cells) (notes kinds (plain m.stack.code.code) (state_with m.stack lent m.store) calls steps) steps limit answer)
 
 pub recorded_ran : (t : Stand) (s : Stored) (r w : Recorded) (calls limit : ℕ) (e : Ended) (u : Stand) → r.store ≡ s → IsTape (standing_from 0 s.cells) [] 0 limit r.tape → ((o : Origin) (limit : ℕ) → IsReady o t r.store calls → IsFirstTape o limit r.tape → RunTaped o limit e u w) → HasRan t r.store calls e u w.store
 recorded_ran t s r w calls limit e u same loaded ran o ready = (ran o limit ready (first_of o t r s limit calls same loaded ready)).run
@@ -268,7 +268,7 @@ has_traced m t s r w calls limit e u answer stack store pushed same measured loa
     let h = ran o limit ready (first_of o t r s limit calls same loaded ready) in
     let n = h.run.0 in
     let beside : HasTape o limit w.tape n = subst (λ (f : Ended). IfValue f (HasTape o limit w.tape n)) is h.beside in
-    (n, at_value o limit n e (state_in o u w.store) u.given w.tape (λ steps. IsTraced (standing_from 0 o.first.store.cells) (notes o.kinds (plain o.code.code) o.first o.calls n) steps limit answer) is h.run.1 beside (λ tape. traced (standing_from 0 o.first.store.cells) (notes o.kinds (plain o.code.code) o.first o.calls n) n limit tape)))
+    (n, at_value o limit n e (state_in o u w.store) u.given w.tape (λ steps. IsTraced (standing_from 0 o.first.store.cells) (notes o.kinds (plain o.code.code) o.first o.calls steps) steps limit answer) is h.run.1 beside (λ tape. traced (standing_from 0 o.first.store.cells) (notes o.kinds (plain o.code.code) o.first o.calls n) n limit tape)))
 
 -- an error that was handed on
 pub error_is : {A B : Type 0} (r : Result A B) (P : B → Type 0) (x : B) → r ≡ Err x → IsErrAnd r P → P x

@@ -32,9 +32,9 @@ AtValue (Over Unsound s left steps) P = Unit {0}
 -- The run gives a value, and this is its trace, which isn't too long.
 abbrev pub HasTrace : Kinds → PlainCode → State → (calls limit : ℕ) → Trace → Type 0
 HasTrace kinds code first calls limit t = (n : ℕ) × AtValue (after kinds code n (begun first calls))
-    (λ steps. Tells (standing_from 0 first.store.cells) (notes kinds code first calls n) steps limit t)
+    (λ steps. Tells (standing_from 0 first.store.cells) (notes kinds code first calls steps) steps limit t)
 
 -- The run gives a value, and its trace is too long.
 abbrev pub HasLongTrace : Kinds → PlainCode → State → (calls limit : ℕ) → Type 0
 HasLongTrace kinds code first calls limit = (n : ℕ) × AtValue (after kinds code n (begun first calls))
-    (λ steps. IsTooLong (standing_from 0 first.store.cells) (notes kinds code first calls n) steps limit)
+    (λ steps. IsTooLong (standing_from 0 first.store.cells) (notes kinds code first calls steps) steps limit)

@@ -6,6 +6,7 @@ ghost use Rattle.fip_trees.specs.SoundProgram.{IsSoundProgram};
 ghost use Rattle.fip_trees.specs.TreeView as V;
 ghost use Rattle.cell_lower.specs.Shape.{header, headers};
 ghost use Rattle.cell_lower.specs.Lowered.{all_instrs};
+ghost use Rattle.cell_lower.specs.Sizes.{AreSmall};
 ghost use Rattle.credit_check.specs.Tallies.{all_needs};
 ghost use Rattle.lowered_code.specs.Functions.{AreLowered};
 ghost use Rattle.tail_groups.specs.Members.{AreMembers};
@@ -52,6 +53,7 @@ pub fn front(alloc: Global, source: &[u8]) -> Result<Lowered, PhaseError>
     ensures functions { IfOk result (λ l.
         map header l.code.functions.items ≡ headers l.groups (V.program l.typed.program).instances) }
     ensures lowered { IfOk result (λ l. AreLowered (V.program l.typed.program) (all_instrs l.code)) }
+    ensures bounded { IfOk result (λ l. AreSmall (V.program l.typed.program) l.groups l.code.functions.items) }
     ensures reported { IfErr result (λ e. Says source.now e) }
 {
     match typed_of(alloc, source) {
@@ -155,6 +157,8 @@ fn lowered_of(alloc: Global, typed: Typed) -> Result<Lowered, PhaseError>
         map header l.code.functions.items ≡ headers l.groups (V.program l.typed.program).instances) }
     ensures lowered { (source : List ℕ) → IsMatched source (V.program typed.program) →
         IfOk result (λ l. AreLowered (V.program l.typed.program) (all_instrs l.code)) }
+    ensures bounded { (source : List ℕ) → IsMatched source (V.program typed.program) →
+        IfOk result (λ l. AreSmall (V.program l.typed.program) l.groups l.code.functions.items) }
     ensures reported { (source : List ℕ) → IsMatched source (V.program typed.program) →
         IfErr result (λ e. Says source e) }
 {

@@ -27,3 +27,7 @@ returns-in-Err-lower-clause-reported c = λ source matched.
 pub returns-in-Ok-lower-clause-lowered : goal.returns-in-Ok-lower-clause-lowered
 returns-in-Ok-lower-clause-lowered c = λ source matched.
     c.in-Ok-lower.ensures.lowered (typed_well_matched source (program c.args.typed.program) matched.typed)
+
+pub returns-in-Ok-lower-clause-bounded : goal.returns-in-Ok-lower-clause-bounded
+returns-in-Ok-lower-clause-bounded c = λ source matched.
+    c.in-Ok-lower.ensures.bounded (typed_well_matched source (program c.args.typed.program) matched.typed)

@@ -9,7 +9,7 @@ mod traces;
 
 pub use eval_command::evaluate;
 pub use generated::{generate, library};
-pub use run_command::run;
+pub use run_command::{run, run_leaving};
 pub use sessions::{session, tasks};
 pub use source_commands::{
     Compiled, Evaluable, Front, Ready, audit, bad_proof, check, compile, derive, eval_entry,

@@ -12,3 +12,4 @@ pub mod Entry
 pub mod RunsCode
 pub mod Execs
 pub mod FileTypes
+pub mod Leaving

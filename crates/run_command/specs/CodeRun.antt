@@ -10,7 +10,8 @@
 --
 -- The file of the reversal of a list prints `Cons(2, Cons(1, Nil))` on the input `Cons(1, Cons(2, Nil))` and `Nil`;
 -- with 5 words the store is too small, since 6 are needed, and with 2 calls it is out of calls.
-use Rattle.std.specs.Prelude.{◌≡◌, ◌+◌, ◌<◌, ◌≤◌, ℕ, Bool, List, [], ◌++◌, Option, Some, Result, Ok, Err}
+use Rattle.std.specs.Prelude.{◌≡◌, ◌+◌, ◌<◌, ◌≤◌, ℕ, Bool, true, false, List, [], ◌++◌, Option, Some}
+use Rattle.std.specs.Prelude.{Result, Ok, Err}
 use Rattle.fip_language.specs.Gauge.{Seen}
 use Rattle.fip_language.specs.Prefix.{IsPlace}
 use Rattle.fip_language.specs.PrintedText.{printed_lines}
@@ -22,6 +23,7 @@ use Rattle.command_line.specs.Words.{Room}
 use Rattle.command_outcome.specs.declared.failure.Failure.{Failure}
 use Rattle.command_outcome.specs.declared.failure.Failure.TheVariants as F
 use Rattle.code_file.specs.Plain.{PlainCode}
+use Rattle.code_runs.specs.Cells.{Store}
 use Rattle.code_runs.specs.Gauges.{seen}
 use Rattle.code_runs.specs.Runs.{End, Ends, Value, Trap, Out, Deep, Unsound, begun}
 use Rattle.code_runs.specs.States.{State}
@@ -111,3 +113,28 @@ pub data RunsCode (bytes name input : List ℕ) (room : Room) (gauge : Bool) : R
   Ran : (c : Chosen bytes name) (vs : Values) (r : RunOf c vs room) (e : Result (List ℕ) Failure) →
       SpellsFor c input vs → words_of c vs ≤ room.words → TellsOf c vs room r gauge e →
       RunsCode bytes name input room gauge e
+
+-- ---- what is left
+
+-- a run ends with this: a trap, or that calls or frames ran out
+abbrev pub is_run_failure : Failure → Bool
+is_run_failure (F.Trap kind line col) = true
+is_run_failure (F.OutOfCalls given) = true
+is_run_failure (F.OutOfFrames given) = true
+is_run_failure failure = false
+
+-- or with values
+abbrev pub is_run_end : {T : Type 0} → Result T Failure → Bool
+is_run_end (Ok text) = true
+is_run_end (Err failure) = is_run_failure failure
+
+-- The store is left by a run of function n on the values that the input spells: it is that of the run's last state.
+pub record IsLeft (c : S.PlainCode) (n : ℕ) (input : List ℕ) (room : Room) (store : Store) : Type 0 where
+  pub function : PlainFunction
+  pub there : function_at c n ≡ Some function
+  pub values : Values
+  pub spelt : SpellsValues c.types (types_of function.params) input values
+  pub held : Option Stack
+  pub stack : HasStack c n held
+  pub run : Run c n values room.calls (frames_of room.frames held)
+  pub is : store ≡ (run.last).store

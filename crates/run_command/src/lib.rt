@@ -7,4 +7,4 @@ mod running;
 
 pub use loading::started;
 pub use printing::values_text;
-pub use running::{failure_of, run, types_of};
+pub use running::{failure_of, run, run_leaving, types_of};

@@ -1,5 +1,5 @@
 // A machine at the start of a function, with its arguments in a new store.
-ghost use Rattle.std.specs.Prelude.{◌≤◌, length, IfOk, IfErr};
+ghost use Rattle.std.specs.Prelude.{◌≡◌, ◌≤◌, false, length, IfOk, IfErr};
 ghost use Rattle.fip_language.specs.declared.limits.TheConstants.{MOST_FILE_BYTES, MOST_FRAMES, MOST_STORE_WORDS};
 ghost use Rattle.fip_language.specs.SoundTable.{IsSoundTable};
 ghost use Rattle.command_line.specs.View.{room_of};
@@ -7,6 +7,7 @@ ghost use Rattle.command_outcome.specs.Stages.{IsOfRun};
 ghost use Rattle.sound_code.specs.Codes.{plain};
 ghost use Rattle.sound_code.specs.StackNumbers.{HasStack};
 ghost use Rattle.value_text.specs.Loaded.{types_of, IsGiven};
+ghost use Rattle.run_command.specs.CodeRun.{is_run_failure};
 ghost use Rattle.run_command.specs.Rooms.{IsAllowed};
 ghost use Rattle.run_command.specs.Starting.{IsInNewStore, HasFrames, KeepsFromLoading, IsStarted, KeepsFromStart};
 
@@ -35,6 +36,7 @@ fn loaded(
         IfOk result (λ r. IsInNewStore types.now (types_of params.now) credits.now input.now words r.0 r.1.items) }
     ensures keeps { IsGiven types.now (types_of params.now) credits.now input.now → words ≤ MOST_STORE_WORDS →
         IfErr result (KeepsFromLoading types.now (types_of params.now) credits.now input.now words) }
+    ensures before { IfErr result (λ f. is_run_failure f ≡ false) }
     ensures stage { IfErr result IsOfRun }
 {
     let loader = Loader::new(alloc, words.min(MOST_STORE_WORDS as u64) as usize);
@@ -84,6 +86,7 @@ pub fn started<'a>(
         IfOk result (IsStarted ready.now input.now (room_of room)) }
     ensures keeps { IsSoundTable ready.now.checked.code.types → IsAllowed room → length input.now ≤ MOST_FILE_BYTES →
         IfErr result (KeepsFromStart ready.now input.now (room_of room)) }
+    ensures before { IfErr result (λ f. is_run_failure f ≡ false) }
     ensures stage { IfErr result IsOfRun }
 {
     let function = ready.function();

@@ -1,13 +1,15 @@
 // A run on the machine.
-ghost use Rattle.std.specs.Prelude.{◌≡◌, ◌≤◌, ◌++◌, ℕ, List, Option, Some, length, slice_get, IfOk, IfErr, IfSome};
+ghost use Rattle.std.specs.Prelude.{◌≡◌, ◌≤◌, ◌++◌, ℕ, List, Option, Some, length, slice_get, is_some};
+ghost use Rattle.std.specs.Prelude.{IfOk, IfErr, IfSome};
 ghost use Rattle.fip_language.specs.declared.limits.TheConstants.{MOST_FILE_BYTES};
 ghost use Rattle.fip_language.specs.PrintedText.{printed_lines};
+ghost use Rattle.fip_language.specs.SoundTable.{IsSoundTable};
 ghost use Rattle.fip_language.specs.Values.{Values};
 ghost use Rattle.fip_base.specs.declared.plain.Stack.{Stack as a_stack};
 ghost use Rattle.cell_code.specs.declared.code.Function.{Function as a_function};
 ghost use Rattle.command_line.specs.View.{room_of};
 ghost use Rattle.command_outcome.specs.Stages.{IsOfRun};
-ghost use Rattle.machine_cells.specs.Small.{IsSmall};
+ghost use Rattle.machine_cells.specs.Small.{IsSmall, store_of};
 ghost use Rattle.sound_code.specs.Codes.{plain};
 ghost use Rattle.sound_code.specs.StackNumbers.{HasStack};
 ghost use Rattle.meant_runs.specs.Meant.{ArePrintable};
@@ -15,7 +17,7 @@ ghost use Rattle.source_commands.specs.Entries.{IsFunctionOf};
 ghost use Rattle.source_commands.specs.ProgramCode.{IsEntryOf};
 ghost use Rattle.source_commands.specs.Wanted.{Compiled, IsReady};
 ghost use Rattle.eval_command.specs.EvalAnswer.{OrNoMemory};
-ghost use Rattle.run_command.specs.CodeRun.{RunsCode};
+ghost use Rattle.run_command.specs.CodeRun.{is_run_end, IsLeft, RunsCode};
 ghost use Rattle.run_command.specs.ExecAnswer.{Execs};
 ghost use Rattle.run_command.specs.GaugeText.{if_asked};
 ghost use Rattle.run_command.specs.Rooms.{IsAllowed};
@@ -23,6 +25,7 @@ ghost use Rattle.run_command.specs.Starting.{failure_for, gauge_lines, TellsEnde
 
 use crate::loading::{bound_of, started};
 use crate::printing::{put_gauge, values_text};
+use cell_store::Sealed;
 use command_line::Room;
 use command_outcome::Failure;
 use fip_base::plain::NoMemory;
@@ -100,6 +103,57 @@ fn told(
     }
 }
 
+// Whether a run ended with it: with values, in a trap, or out of calls or of frames.
+fn is_run_end(end: &Result<Vec<u8>, Failure>) -> bool
+    ensures is { result ≡ is_run_end end.now }
+{
+    match end {
+        Ok(_) => true,
+        Err(Failure::Trap { .. }) => true,
+        Err(Failure::OutOfCalls { .. }) => true,
+        Err(Failure::OutOfFrames { .. }) => true,
+        Err(_) => false,
+    }
+}
+
+/// Runs the function as `run` does, and hands out the cells as its run left them: just where a run ended, with values,
+/// in a trap, or out of calls or of frames. For a host that reads the store.
+pub fn run_leaving(
+    alloc: Global,
+    ready: &Ready,
+    input: &[u8],
+    room: Room,
+    gauge: bool,
+) -> (Result<Vec<u8>, Failure>, Option<Sealed>)
+    // The end is what the source means, where the code is that of a source,
+    ensures means { (source name : List ℕ) → IsReady source (Compiled name) → IsEntryOf source name ready.now →
+        IsAllowed room → length input.now ≤ MOST_FILE_BYTES →
+        OrNoMemory (Execs source name input.now (room_of room) gauge) result.0 }
+    // and what the runs of the code come to, where it is that of a file.
+    ensures runs { (bytes name : List ℕ) → IsFunctionOf bytes name ready.now → IsAllowed room →
+        length input.now ≤ MOST_FILE_BYTES → OrNoMemory (RunsCode bytes name input.now (room_of room) gauge) result.0 }
+    // The cells are those of the last state of a run of the code.
+    ensures left { IsSoundTable ready.now.checked.code.types → IsAllowed room → length input.now ≤ MOST_FILE_BYTES →
+        IfSome result.1 (λ s. IsLeft (plain ready.now.checked.code) ready.now.entry input.now (room_of room)
+        (store_of s.cells s.released)) }
+    ensures some { is_some result.1 ≡ is_run_end result.0 }
+    ensures stage { IfErr result.0 IsOfRun }
+{
+    prove!(ready.entry() < ready.verified().code().functions.len());
+    let mut machine = match started(alloc, ready, input, room) {
+        Ok(machine) => machine,
+        Err(failure) => return (Err(failure), None),
+    };
+    let mut seen = Gauge::new();
+    let ended = machine.run(room.calls, &mut seen);
+    let end = told(alloc, ready, &machine, ended, &seen, room, gauge);
+    if is_run_end(&end) {
+        (end, Some(machine.into_sealed()))
+    } else {
+        (end, None)
+    }
+}
+
 /// Runs the function on the text of its arguments: the lines of its results, with the gauge's behind them where they
 /// are asked for. A bad input where the bytes are no text of the parameters' types; else too small where the cells of
 /// the input and of the header's credits need more words than the room has; else what the run ends with, where it isn't
@@ -120,9 +174,6 @@ pub fn run(
         length input.now ≤ MOST_FILE_BYTES → OrNoMemory (RunsCode bytes name input.now (room_of room) gauge) result }
     ensures stage { IfErr result IsOfRun }
 {
-    prove!(ready.entry() < ready.verified().code().functions.len());
-    let mut machine = started(alloc, &ready, input, room)?;
-    let mut seen = Gauge::new();
-    let ended = machine.run(room.calls, &mut seen);
-    told(alloc, &ready, &machine, ended, &seen, room, gauge)
+    let (end, _left) = run_leaving(alloc, &ready, input, room, gauge);
+    end
 }

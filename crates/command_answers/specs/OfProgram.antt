@@ -8,7 +8,7 @@
 -- values, it held as much of the stack. Which instructions do this is left open.
 --
 -- The six instructions of the reversal of a list are code of its program; so are seven, with a Move before the Ret.
-use Rattle.std.specs.Prelude.{◌≡◌, ℕ, List, map, length, Some, slice_get}
+use Rattle.std.specs.Prelude.{◌≡◌, ℕ, List, map, Some, slice_get}
 use Rattle.fip_language.specs.Table.{HaveTypes}
 use Rattle.fip_language.specs.Values.{Values}
 use Rattle.fip_language.specs.Meaning.{Peak}
@@ -16,7 +16,6 @@ use Rattle.fip_base.specs.declared.plain.Stack.{Stack}
 use Rattle.fip_trees.specs.declared.groups.Member.{Member}
 use Rattle.fip_trees.specs.Tree.{Instance, Program}
 use Rattle.tail_groups.specs.Members.{AreMembers}
-use Rattle.code_size.specs.Bounds.{IsWithin}
 use Rattle.flat_meaning.specs.Meaning.{flat_meaning}
 use Rattle.cell_lower.specs.Shape.{Header, headers}
 use Rattle.code_file.specs.CodeText.{CodeText}
@@ -34,6 +33,7 @@ use Rattle.lowered_code.specs.Bodies.{function_of}
 use Rattle.lowered_cells.specs.Ends.{EndsAs}
 use Rattle.type_soundness.specs.Soundness.{parameter_types}
 use Rattle.source_commands.specs.Codes.{sound_view}
+use Rattle.source_commands.specs.ProgramCode.{AreWithin}
 use Rattle.loaded_runs.specs.Loading.{first_store, first_words}
 pub use Rattle.run_command.specs.GaugeText.{highest_stack}
 
@@ -43,12 +43,6 @@ plain_header f = record {
   name = f.name;
   registers = f.registers;
 }
-
--- Function n is that of instance i, and no larger than its places allow.
-abbrev pub AreWithin : Program → List PlainFunction → Type 0
-AreWithin p fs = (i n : ℕ) (d : Instance) (f : PlainFunction) → slice_get p.instances i ≡ Some d →
-    function_of p.instances i ≡ Some n → slice_get fs n ≡ Some f →
-    IsWithin p.types d (length f.instrs) (length f.labels)
 
 -- Function n, that of instance i, is loaded with these arguments and a cell for each credit of the header.
 pub record IsLoaded (p : Program) (c : S.PlainCode) (i n : ℕ) (vs : Values) (frames : ℕ) (s : State) : Type 0 where

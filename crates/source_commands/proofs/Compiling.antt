@@ -1,20 +1,25 @@
 -- From what was lowered, verified and written to what is said of a code that is made of a source, and of its file.
-use Rattle.std.proofs.Common.{◌≡◌, ◌∙◌, ◌<◌, ◌≤◌, Option, Some, None, slice_get, ℕ, List, [], ◌∷◌, map, length, refl, sym, ap, subst, inl, inr}
+use Rattle.std.proofs.Common.{◌≡◌, ◌∙◌, ◌<◌, ◌≤◌, Option, Some, None, slice_get, ℕ, zero, suc, arith, List, [], ◌∷◌, map, length, refl, sym, ap, subst, inl, inr}
 use Rattle.std.specs.Prelude.{Result, Ok, Err, IfOk, IfSome}
 use Rattle.cell_code.specs.declared.code.Code.{Code}
 use Rattle.cell_code.specs.declared.code.Function.{Function}
 use Rattle.cell_lower.specs.Lowered as L
+use Rattle.cell_code.specs.declared.kind.Label.{Label}
+use Rattle.cell_lower.specs.Limits.{registers, registers_of}
 use Rattle.cell_lower.specs.Lowered.{all_instrs}
+use Rattle.cell_lower.specs.Sizes.{IsSmall, AreSmall}
+use Rattle.code_size.specs.Bounds.{IsWithin, most_for, most_labels}
+use Rattle.code_size.specs.Places.{places}
 use Rattle.cell_lower.specs.Shape.{header, headers}
 use Rattle.code_runs.specs.Codes as R
 use Rattle.lowered_code.specs.Functions.{AreLowered}
 use Rattle.code_file.specs.CodeText.{CodeText}
-use Rattle.code_file.specs.Plain.{plain_code, plain_function}
+use Rattle.code_file.specs.Plain.{PlainFunction, plain_code, plain_function, plain_label}
 use Rattle.code_file.specs.declared.tags.Version.TheVariants.{Second}
 use Rattle.fip_base.specs.declared.refusal.Refusal.{Refusal}
 use Rattle.fip_language.specs.declared.rule.Rule.TheVariants.{E61}
 use Rattle.fip_trees.specs.declared.groups.Member.{Member}
-use Rattle.fip_trees.specs.Tree.{Program}
+use Rattle.fip_trees.specs.Tree.{Instance, Program}
 use Rattle.fip_trees.specs.TreeView.{program}
 use Rattle.sound_code.specs.Breaks.{IsSound}
 use Rattle.sound_code.specs.Codes as S
@@ -23,7 +28,7 @@ use Rattle.source_report.specs.Report.{bare, IsAccepted}
 use Rattle.command_outcome.specs.declared.failure.Failure.{Failure}
 use Rattle.command_outcome.specs.declared.failure.Failure.TheVariants as F
 use Rattle.source_commands.specs.Codes.{IsSoundFile, IsUnspelt}
-use Rattle.source_commands.specs.ProgramCode.{plain_header, instrs_of, IsLoweredFrom, IsCodeOfSource, IsEntryOf, IsCompiledFile, IsUncompiled, KeepsFromCompile}
+use Rattle.source_commands.specs.ProgramCode.{plain_header, instrs_of, AreWithin, IsLoweredFrom, IsCodeOfSource, IsEntryOf, IsCompiledFile, IsUncompiled, KeepsFromCompile}
 use Rattle.source_commands.specs.Entries.{Chosen, IsNamed, IsFunctionOf}
 use Rattle.source_commands.specs.Wanted.{Lawful, IsReady, IsRefusedBy}
 use Rattle.source_commands.specs.declared.known.Front.{Front}
@@ -37,9 +42,46 @@ pub instrs_same : (fs : List Function) → map instrs_of (map plain_function fs)
 instrs_same [] = refl
 instrs_same (f ∷ fs) = ap (λ is. f.instrs.items ∷ is) (instrs_same fs)
 
-pub headed : (p : Program) (code : Code) (ms : List Member) → AreMembers p.instances ms → code.types ≡ p.types → map header code.functions.items ≡ headers ms p.instances → AreLowered p (all_instrs code) → IsLoweredFrom p (plain_code code)
-headed p code ms found types functions lowered =
-    record { types = types; members = ms; found = found; functions = headers_same code.functions.items ∙ functions; lowered = subst (AreLowered p) (sym (instrs_same code.functions.items)) lowered }
+-- the registers that the groups tell are the instance's
+member_there : (ds : List Instance) (ms : List Member) (i : ℕ) (d : Instance) → length ms ≡ length ds → slice_get ds i ≡ Some d → (m : Member) × (slice_get ms i ≡ Some m)
+member_there [] ms i d e f = absurd (cc)
+member_there (c ∷ ds) [] i d e f = absurd (omega (arith, e))
+member_there (c ∷ ds) (m ∷ ms) zero d e f = (m, refl)
+member_there (c ∷ ds) (m ∷ ms) (suc i) d e f = member_there ds ms i d (omega (arith, e)) f
+
+function_there : (fs : List Function) (n : ℕ) (f : PlainFunction) → slice_get (map plain_function fs) n ≡ Some f → (g : Function) × (slice_get fs n ≡ Some g) × (plain_function g ≡ f)
+function_there [] n f e = absurd (cc)
+function_there (g ∷ fs) zero f e = (g, refl, same_some (plain_function g) f e)
+  where
+    same_some : (x y : PlainFunction) → Some x ≡ Some y → x ≡ y
+    same_some x y h = cc
+function_there (g ∷ fs) (suc n) f e = function_there fs n f e
+
+as_many_labels : (ls : List Label) → length (map plain_label ls) ≡ length ls
+as_many_labels [] = refl
+as_many_labels (l ∷ ls) = ap suc (as_many_labels ls)
+
+within : (p : Program) (ms : List Member) (fs : List Function) → AreMembers p.instances ms → AreSmall p ms fs → AreWithin p (map plain_function fs)
+within p ms fs found small i n d f at is there = subst (λ (x : PlainFunction). IsWithin p.types d (length x.instrs) (length x.labels)) g.2 (record {
+  few_instructions = subst (λ r. length g.0.instrs.items ≤ most_for r (places p.types d)) counted h.few_instructions;
+  few_labels = subst (λ l. l ≤ most_labels p.types d) (sym (as_many_labels g.0.labels.items)) h.few_labels;
+})
+  where
+    g : (g : Function) × (slice_get fs n ≡ Some g) × (plain_function g ≡ f)
+    g = function_there fs n f there
+
+    h : IsSmall p.types (registers ms i) d g.0
+    h = small i n d g.0 at is g.1
+
+    m : (m : Member) × (slice_get ms i ≡ Some m)
+    m = member_there p.instances ms i d found.size at
+
+    counted : registers ms i ≡ Rattle.tail_groups.specs.Registers.registers d
+    counted = ap registers_of m.1 ∙ found.counted i d m.0 at m.1
+
+pub headed : (p : Program) (code : Code) (ms : List Member) → AreMembers p.instances ms → code.types ≡ p.types → map header code.functions.items ≡ headers ms p.instances → AreLowered p (all_instrs code) → AreSmall p ms code.functions.items → IsLoweredFrom p (plain_code code)
+headed p code ms found types functions lowered small =
+    record { types = types; members = ms; found = found; functions = headers_same code.functions.items ∙ functions; lowered = subst (AreLowered p) (sym (instrs_same code.functions.items)) lowered; bounded = within p ms code.functions.items found small }
 
 -- the code is verified, and it is the same
 pub headed_verified : (p : Program) (code : Code) (o : Result Front Failure) → IsLoweredFrom p (plain_code code) → IfOk o (λ f. program f.typed.program ≡ p) → IfOk o (λ f. f.verified.code ≡ code) → IfOk o (λ f. IsLoweredFrom (program f.typed.program) (plain_code f.verified.code))

@@ -2,24 +2,26 @@
 -- source's program. It has a function for each fip and fbip instance, in the order of their numbers: of the instance's
 -- kind, with its parameters, header credits and results, with as many registers as the groups tell, and with the
 -- instance's name where this is a root. Its instructions are such as the instance is lowered to, so each of its runs
--- ends as the source means.
+-- ends as the source means; and it has no more of them, and of label maps, than the instance's places allow.
 --
 -- Of the source
 --     fip fun rev(xs: list, acc: list): list { .. }
 --     fun dup(^xs: list): pair { .. }
 -- it has one function, which is fip, named rev, and has two parameters and one result; and
 -- `compile list.fip3 list.code` stores the second version's file of this code.
-use Rattle.std.specs.Prelude.{◌≡◌, ◌⊎◌, ◌≤◌, ℕ, List, map, length}
+use Rattle.std.specs.Prelude.{◌≡◌, ◌⊎◌, ◌≤◌, ℕ, List, map, length, Some, slice_get}
 use Rattle.fip_language.specs.declared.limits.TheConstants.{MOST_FILE_BYTES}
 use Rattle.fip_language.specs.declared.rule.Rule.TheVariants.{E61}
 use Rattle.fip_trees.specs.declared.groups.Member.{Member}
-use Rattle.fip_trees.specs.Tree.{Program}
+use Rattle.fip_trees.specs.Tree.{Instance, Program}
 use Rattle.tail_groups.specs.Members.{AreMembers}
 use Rattle.cell_code.specs.declared.code.Instr.{Instr}
 use Rattle.cell_lower.specs.Shape.{Header, headers}
+use Rattle.code_size.specs.Bounds.{IsWithin}
 use Rattle.code_file.specs.CodeText.{CodeText}
 use Rattle.code_file.specs.Plain.{PlainFunction, PlainCode, plain_code}
 use Rattle.code_file.specs.declared.tags.Version.TheVariants.{Second}
+use Rattle.lowered_code.specs.Bodies.{function_of}
 use Rattle.lowered_code.specs.Functions.{AreLowered}
 use Rattle.sound_code.specs.Breaks.{IsSound}
 use Rattle.source_report.specs.Report.{bare, IsAccepted}
@@ -39,14 +41,21 @@ plain_header f = record {
 abbrev pub instrs_of : PlainFunction → List Instr
 instrs_of f = f.instrs
 
+-- Function n is that of instance i, and no larger than its places allow.
+abbrev pub AreWithin : Program → List PlainFunction → Type 0
+AreWithin p fs = (i n : ℕ) (d : Instance) (f : PlainFunction) → slice_get p.instances i ≡ Some d →
+    function_of p.instances i ≡ Some n → slice_get fs n ≡ Some f →
+    IsWithin p.types d (length f.instrs) (length f.labels)
+
 -- The code's types are the program's, its functions are headed as the program's instances tell, and their instructions
--- are lowered from these.
+-- are lowered from these and no more than their places allow.
 pub record IsLoweredFrom (p : Program) (code : PlainCode) : Type 0 where
   pub types : code.types ≡ p.types
   pub members : List Member
   pub found : AreMembers p.instances members
   pub functions : map plain_header code.functions ≡ headers members p.instances
   pub lowered : AreLowered p (map instrs_of code.functions)
+  pub bounded : AreWithin p code.functions
 
 -- a code that is made of this source, which breaks no rule
 pub record IsCodeOfSource (source : List ℕ) (code : PlainCode) : Type 0 where
@@ -67,9 +76,8 @@ pub record IsCompiledFile (source file : List ℕ) : Type 0 where
   pub spelt : CodeText file Second code
   pub short : length file ≤ MOST_FILE_BYTES
 
--- No file of the second version that isn't too long spells some such code. As nothing bounds how many instructions
--- stand beside those that are asked for, a source with a function may have one: that `compile` spells its code isn't
--- said yet.
+-- No file of the second version that isn't too long spells some such code, though it is no larger than its places
+-- allow.
 abbrev pub IsUncompiled : List ℕ → Type 0
 IsUncompiled source = (code : PlainCode) × IsCodeOfSource source code × IsUnspelt code
 

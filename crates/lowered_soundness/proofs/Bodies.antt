@@ -1,26 +1,31 @@
 -- Expressions and blocks: their instructions keep the rules, and what is known behind them goes with the variables.
-use Rattle.std.proofs.Common.{◌≡◌, inl, inr, ℕ, suc, ◌+◌, ◌≤◌, Bool, true, false, ◌||◌, List, [], ◌∷◌, ◌++◌, length, map, Option, Some, refl, sym, ap, ◌∙◌, subst, arith, if◌then◌else◌}
+use Rattle.std.proofs.Common.{◌≡◌, inl, inr, ℕ, suc, ◌+◌, ◌≤◌, Bool, true, false, ◌||◌, ◌&&◌, not, true≢false, slice_get, List, [], ◌∷◌, ◌++◌, length, map, Option, Some, refl, sym, ap, ◌∙◌, subst, arith, if◌then◌else◌}
 use Rattle.fip_language.specs.Every.{Among}
 use Rattle.fip_trees.specs.declared.program.Binder.{Binder}
-use Rattle.fip_trees.specs.Tree.{NoArguments, MoreArguments}
+use Rattle.fip_trees.specs.Tree.{NoArguments, MoreArguments, Pattern, Clauses, NoClauses, MoreClauses}
+use Rattle.cell_code.specs.declared.kind.Kind.{Kind}
 use Rattle.fip_trees.specs.Tree.{Expression, Give, Tuple, Operation, Call, Match, Nested, Block, Last, Let}
 use Rattle.fip_rules.specs.World as R
-use Rattle.fip_rules.specs.Shapes.{Names, behind, shape}
+use Rattle.fip_rules.specs.Shapes.{Names, behind, shape, binders, takes}
 use Rattle.type_check.specs.Binders.{all_annotated, entries}
 use Rattle.type_check.specs.Scope.{Scope, of_binder}
 use Rattle.type_check.specs.World as W
-use Rattle.type_check.specs.Typing.{Types, TypesBlock, Bind}
-use Rattle.own_calculus.specs.Terms.{Item, Own, has}
+use Rattle.type_check.specs.Typing.{Types, TypesBlock, TypesClauses, Bind, IsPattern, bound_by}
+use Rattle.own_calculus.specs.Terms.{Item, Own, has, Term}
+use Rattle.own_calculus.specs.Terms as C
 use Rattle.own_calculus.specs.Rules.{Fits, lending}
 use Rattle.own_calculus.specs.Rules as O
 use Rattle.own_calculus.specs.ByCases.{Derives, Opens}
 use Rattle.own_calculus.proofs.Fit.{fits_le, fits_same, fits_sum}
-use Rattle.own_agreement.specs.Bodies.{Scalars, variables, entering, inside, term, term_block}
+use Rattle.own_agreement.specs.Bodies.{Scalars, variables, entering, inside, term, term_block, clauses, nodes, past_clause}
 use Rattle.own_agreement.proofs.Basics.{not_owned}
 use Rattle.derivation_making.proofs.Linking.{next_inside}
-use Rattle.derivation_making.proofs.Reading.{next_behind}
+use Rattle.derivation_making.proofs.Reading.{next_behind, next_past}
 use Rattle.sound_code.specs.Codes.{PlainCode, PlainFunction}
+use Rattle.sound_code.specs.Types.{is_type}
 use Rattle.kind_soundness.proofs.Basics.{refused}
+use Rattle.match_code.specs.Spots.{register}
+use Rattle.match_code.specs.Opening.{Roomy}
 use Rattle.lowered_code.specs.declared.held.Held.TheVariants as H
 use Rattle.lowered_code.specs.Known.{Known}
 use Rattle.lowered_code.specs.Values.{Setting}
@@ -31,8 +36,14 @@ use Rattle.lowered_soundness.specs.Ties.{AllHold, owed, Ties}
 use Rattle.lowered_soundness.specs.Laid.{told, Shares}
 use Rattle.lowered_soundness.specs.Computed.{Computed}
 use Rattle.lowered_soundness.specs.Delivered.{Waiting, Delivered}
-use Rattle.lowered_soundness.specs.Placed.{Placed, NoneFrom, InOrder, Numbered, NumberedBlock, AreTypes, Callees}
-use Rattle.lowered_soundness.specs.Bodies.{NamedLaid, ExpressionLaid, BlockLaid}
+use Rattle.lowered_soundness.specs.Placed.{Placed, NoneFrom, InOrder, Numbered, NumberedBlock, NumberedClauses, AreTypes, Callees}
+use Rattle.lowered_soundness.specs.Bodies.{NamedLaid, ExpressionLaid, BlockLaid, ClausesLaid}
+use Rattle.lowered_soundness.specs.Tests.{Choice}
+use Rattle.lowered_soundness.specs.Matches.{clause_patterns, entered, MatchLaid}
+use Rattle.lowered_soundness.proofs.Chunks.{stretch_last, last_stretch}
+use Rattle.lowered_soundness.proofs.Chosen.{match_sides}
+use Rattle.lowered_soundness.proofs.Clauses.{ties_reserved, ClauseBegins, OpensBy, enter_clause}
+use Rattle.lowered_soundness.proofs.Matching.{scrutinee, DerivesBy, owner, all_entries, MatchOn, match_on, match_last}
 use Rattle.lowered_soundness.proofs.Parts.{both_parts, part_and_last}
 use Rattle.lowered_soundness.proofs.Tying.{ties_fits}
 use Rattle.lowered_soundness.proofs.Arguments.{ties_worth}
@@ -66,20 +77,6 @@ registers_wait k r n (b ∷ bs) fresh room = (
   registers_wait k (suc r) n bs (λ q low. fresh q (omega (arith, low))) (omega (arith, room)),
 )
 
--- where more registers are used nothing else is known
-ties_reserved : (fip : Bool) (w : Rattle.fip_language.specs.Table.Table) (s : Scope) (B : ℕ → Bool) (K : ℕ → Item → ℕ) (T : Item → ℕ) (e : ℕ → ℕ) (k : Known) (n : ℕ) → k.next ≤ n → Ties fip w s B K T e k → Ties fip w s B K T e (record k { next = n })
-ties_reserved fip w s B K T e k n more t = record {
-  variables = t.variables;
-  trees = t.trees;
-  lent = t.lent;
-  rooted = t.rooted;
-  bares = t.bares;
-  sizes = t.sizes;
-  credits = t.credits;
-  fresh = λ r low. t.fresh r (omega (arith, low, more));
-  named = λ x r h. (let z = t.named x r h in omega (arith, z, more));
-}
-
 waits_on : (k l : Known) (ds : List ℕ) → Waiting k ds → k.next ≤ l.next → ((r : ℕ) → Among r ds → held_at l.held r ≡ H.Nothing) → Waiting l ds
 waits_on k l [] w grows empty = tt
 waits_on k l (d ∷ ds) w grows empty = (empty d (inl refl), (let z = w.1 in omega (arith, z, grows)), w.2, waits_on k l ds w.3 grows (λ r m. empty r (inr m)))
@@ -88,6 +85,14 @@ waiting_among : (k : Known) (ds : List ℕ) (r : ℕ) → Waiting k ds → Among
 waiting_among k [] r w m = absurd m
 waiting_among k (d ∷ ds) r w (inl e) = (ap (held_at k.held) e ∙ w.0, (let z = w.1 in omega (arith, z, e)))
 waiting_among k (d ∷ ds) r w (inr m) = waiting_among k ds r w.3 m
+
+and_right : (a b : Bool) → (a && b) ≡ true → b ≡ true
+and_right true b e = e
+and_right false b e = absurd (true≢false (sym e))
+
+not_true : (b : Bool) → not b ≡ true → b ≡ false
+not_true true e = absurd (true≢false (sym e))
+not_true false e = refl
 
 module _ (c : PlainCode) (f : PlainFunction) (st : Setting) (wd : W.World) (w : R.World) (fip : Bool) (shares : Shares c st wd) (callees : Callees c st wd w) (N : ℕ) where
   -- ---- what a let binds is behind, and its variables come into scope
@@ -310,6 +315,36 @@ module _ (c : PlainCode) (f : PlainFunction) (st : Setting) (wd : W.World) (w : 
         let more = block_into (s ++ entries bs (map Some us)) (entering w n1.next sc bs) (inside w true n1 bs) D K ent.placed Q X mid after rest ds end l b ts h.3 typed.3 d.6 num.3 kept ent.none ent.ties waits many (length_all_named m.names bs rs ∙ (same_names ∙ names)) (got.width ∙ wide) in
         delivered_rest s (s ++ entries bs (map Some us)) B (lending B R) D K (lent_in B K R) (λ i. R i + X i) X at k (k.next + length bs) rs us mid m bs ds ts end l more_next got more (registers_apart k bs) ent.back ent.same
 
+  -- ---- the clauses of a match
+
+  past_placed : (s : Scope) (sc : Scalars) (n : Names) (taken : Bool) (q : Pattern) (body : Block) → Placed c s sc n → Placed c s sc (past_clause w taken n q body)
+  past_placed s sc n taken q body p = record {
+    seen = p.seen;
+    scalar = p.scalar;
+    before = λ x t h. (let z = p.before x t h in let past = next_past w taken n q body in omega (arith, z, past));
+    typed = p.typed;
+  }
+
+  past_none : (n : Names) (taken : Bool) (q : Pattern) (body : Block) (R : Item → ℕ) → NoneFrom n.next R → NoneFrom (past_clause w taken n q body).next R
+  past_none n taken q body R none y low = none y (let past = next_past w taken n q body in omega (arith, low, past))
+
+  first_by : (taken : Bool) (sc : Scalars) (n0 : Names) (B : ℕ → Bool) (R : Item → ℕ) (n : Names) (ys ks : List ℕ) (te : Term) (cs : Clauses) → DerivesBy c st wd w shares callees f fip taken B R (clauses w sc taken n ys ks te cs) → (Q : Item → ℕ) × OpensBy c st wd w shares callees f fip taken ys ks R Q × Derives fip (O.setting ys (not taken) B) Q te
+  first_by true sc n0 B R n ys ks te NoClauses d = (d.0, d.1, d.2)
+  first_by true sc n0 B R n ys ks te (MoreClauses q b cs) d = (d.0, d.1, d.2)
+  first_by false sc n0 B R n ys ks te NoClauses d = (d.0, d.1, d.2)
+  first_by false sc n0 B R n ys ks te (MoreClauses q b cs) d = (d.0, d.1, d.2)
+
+  rest_by : (taken : Bool) (B : ℕ → Bool) (R : Item → ℕ) (ys ks : List ℕ) (te : Term) (cs : C.Clauses) → DerivesBy c st wd w shares callees f fip taken B R (C.MoreClauses ys ks te cs) → DerivesBy c st wd w shares callees f fip taken B R cs
+  rest_by true B R ys ks te cs d = d.3
+  rest_by false B R ys ks te cs d = d.3
+
+  -- a clause's body is entered
+  on_entry : (s : Scope) (sc : Scalars) (n : Names) (B : ℕ → Bool) (K : ℕ → Item → ℕ) → ((z y : ℕ) → K z (Own y) ≡ 0) → Placed c s sc n → (R : Item → ℕ) → NoneFrom n.next R → (u : ℕ) → is_type c.types u ≡ true → (taken : Bool) (ch : Choice) (k l : Known) (q0 : Pattern) (cs0 : Clauses) → MatchOn c st wd w shares callees f fip taken s B K R u ch k l q0 cs0 → (q : Pattern) (Q : Item → ℕ) (m : ℕ) → OpensBy c st wd w shares callees f fip taken (variables w n.next (binders q)) (nodes q) R Q → IsPattern true wd u q → Roomy q ch.root → InOrder n.next (binders q) → n.next + length (binders q) ≤ length l.names → l.next ≤ m → ClauseBegins c st wd w shares callees f fip s sc n taken u q B K Q l (entered st ch q l m)
+  on_entry s sc n B K unkept placed R none u utyped taken ch k l q0 cs0 on q Q m opens pattern roomy order room more =
+      let stands = on.match_stands in
+      enter_clause c st wd w shares callees f fip s sc n B K unkept placed R none u utyped ch stands.differ (λ a. (stands.unused (register ch.root) a).2 refl) l
+      (λ z a. ((stands.unused z a).0, stands.within z (inr a), on.fresh z a)) (stands.within (register ch.root) (inl refl)) on.used taken q Q m on.takes on.stands opens pattern roomy order room more
+
   -- ---- the function's results
 
   none_zero : (n : ℕ) (A P R : Item → ℕ) → ((i : Item) → Fits fip (A i) (P i + R i)) → NoneFrom n (λ i. A i + 0) → NoneFrom n (λ i. P i + (R i + 0))
@@ -325,7 +360,34 @@ module _ (c : PlainCode) (f : PlainFunction) (st : Setting) (wd : W.World) (w : 
         operator_ends c f st wd w fip shares callees s sc n B K placed P at k o p x y end l h typed.1 typed.2 d kept ties (results ∙ typed.0) wide
     ends s sc n B K placed P at k (Call g nm p as') end l b ts h typed d num kept none ties results names wide =
         called_ends c f st wd w fip shares callees s sc n B K placed P at k g as' end l h typed.1 d.1 kept ties (results ∙ typed.0) wide
-    ends s sc n B K placed P at k (Match g t p a q body cs) end l b ts h typed d num kept none ties results names wide = absurd h
+    ends s sc n B K placed P at k (Match g t p a q body cs) end l b ts h typed d num kept none ties results names wide =
+        let taken = takes w g t in
+        let ch = h.0 in
+        let l1 = h.1 in
+        let e = h.2 in
+        let m = h.3 in
+        let mid = h.4 in
+        let u = typed.0 in
+        let entry = h.7 in
+        let laid : MatchLaid c st f at k g u a q cs ch l1 e = subst (λ t. MatchLaid c st f at k g t a q cs ch l1 e) typed.1 h.6 in
+        let x = scrutinee c wd w s sc n a laid.variable false u placed laid.is_variable typed.2 in
+        let utyped = placed.typed x.number u x.scope in
+        let unkept : (z y : ℕ) → K z (Own y) ≡ 0 = λ z y. (let a = kept z y in omega (arith, a)) in
+        let scalar = ap w.scalar typed.1 ∙ callees.scalars u utyped in
+        let own = owner c st wd w shares callees f fip taken s sc n B K P k a laid.variable u (register ch.root)
+        (clauses w sc taken (past_clause w taken n q body) (variables w n.next (binders q)) (nodes q) (term_block w (entering w n.next sc (binders q)) (inside w taken n (binders q)) body) cs)
+        unkept x (λ e. sym scalar ∙ not_true (w.scalar t) (and_right g (not (w.scalar t)) e)) laid.begins.named d none ties in
+        let used = ties.named x.number (register ch.root) (ap (Rattle.lowered_code.specs.Known.register_of k.names) (sym x.is) ∙ laid.begins.named) in
+        let on = match_on c st wd w shares callees f fip taken s B K own.owned u g at a ch k l1 q cs e ts laid (ap (λ b. g && not b) (shares.scalars u utyped ∙ sym scalar)) utyped typed.3 typed.5 used wide own.stands (all_entries c st wd w shares callees f fip ch l1 q cs e m mid end laid.patterns entry h.9) in
+        let fb = first_by taken sc n B own.owned (past_clause w taken n q body) (variables w n.next (binders q)) (nodes q) (term_block w (entering w n.next sc (binders q)) (inside w taken n (binders q)) body) cs own.derives in
+        let room = num.1 in
+        let width = on.width in
+        let many = on.names in
+        let cb = on_entry s sc n B K unkept placed own.owned own.none u utyped taken ch k l1 q cs on q fb.0 m fb.1 typed.3 (laid.begins.roomy 0 q (ap (λ ps. slice_get ps 0) laid.patterns)) num.0 (omega (arith, room, many, names)) entry.more in
+        let one = block_ends (s ++ bound_by wd (Some u) q) (entering w n.next sc (binders q)) (inside w taken n (binders q)) (O.setting (variables w n.next (binders q)) (not taken) B) K cb.placed fb.0 e (entered st ch q l1 m) body mid h.5 b ts h.8 typed.4 fb.2 num.2 kept cb.none cb.ties results (cb.names ∙ (many ∙ names)) (cb.width ∙ (width ∙ wide)) in
+        let first = match_last c st wd w shares callees f fip at k g u a q cs ch l1 e m mid end laid on.match_stands entry h.9 one in
+        clauses_ends s sc n (past_clause w taken n q body) B K (past_placed s sc n taken q body placed) own.owned (past_none n taken q body own.owned own.none) u utyped taken ch k l1 q cs on 1 cs
+        (λ j r there. laid.begins.roomy (suc j) r (ap (λ ps. slice_get ps (suc j)) laid.patterns ∙ there)) (variables w n.next (binders q)) (nodes q) (term_block w (entering w n.next sc (binders q)) (inside w taken n (binders q)) body) at (told c k) mid end ts h.9 typed.5 own.derives num.3 kept results (many ∙ names) (width ∙ wide) first
     ends s sc n B K placed P at k (Nested body) end l b ts h typed d num kept none ties results names wide =
         block_ends s sc n B K placed P at k body end l b ts h typed d num kept none ties results names wide
 
@@ -377,3 +439,22 @@ module _ (c : PlainCode) (f : PlainFunction) (st : Setting) (wd : W.World) (w : 
         (none_later n e (λ i. R i + X i) (rest_none n.next P R X (split_none n.next A P R X d.3 none))) kept (unlent s B K R (λ i. R i + X i) (λ q. owed c.types rs us q + 0) m got.ties) got.hold in
         part_and_last c f at mid end (told c k) (told c m) got.part
         (block_ends (s ++ entries bs (map Some us)) (entering w n1.next sc bs) (inside w true n1 bs) D K ent.placed Q mid (with_names m bs rs) rest end l b ts h.3 typed.3 d.6 num.3 kept ent.none ent.ties results (length_all_named m.names bs rs ∙ (same_names ∙ names)) (got.width ∙ wide))
+
+    -- the clauses behind one
+    clauses_ends : (s : Scope) (sc : Scalars) (n0 n : Names) (B : ℕ → Bool) (K : ℕ → Item → ℕ) → Placed c s sc n → (R : Item → ℕ) → NoneFrom n.next R → (u : ℕ) → is_type c.types u ≡ true → (taken : Bool) (ch : Choice) (k l : Known) (q0 : Pattern) (cs0 : Clauses) → MatchOn c st wd w shares callees f fip taken s B K R u ch k l q0 cs0 → (i : ℕ) (cs : Clauses) → ((j : ℕ) (q : Pattern) → slice_get (clause_patterns cs) j ≡ Some q → Roomy q ch.root) → (ys ks : List ℕ) (te : Term) (at0 : ℕ) (m0 : ℕ → Kind) (at end : ℕ) (ts : List ℕ) → ClausesLaid c st fip f ch l i cs at end → TypesClauses true wd s u cs ts → DerivesBy c st wd w shares callees f fip taken B R (clauses w sc taken n ys ks te cs) → NumberedClauses w N taken n cs → ((z y : ℕ) → K z (Own y) ≤ 0) → f.results ≡ ts → length l.names ≡ N → length l.held ≡ f.registers → LastPart c f at0 m0 at → LastPart c f at0 m0 end
+    clauses_ends s sc n0 n B K placed R none u utyped taken ch k l q0 cs0 on i NoClauses roomy ys ks te at0 m0 at end ts h typed d num kept results names wide part = subst (LastPart c f at0 m0) (sym h) part
+    clauses_ends s sc n0 n B K placed R none u utyped taken ch k l q0 cs0 on i (MoreClauses q body cs) roomy ys ks te at0 m0 at end ts h typed d num kept results names wide part =
+        let start = h.1 in
+        let m = h.2 in
+        let mid = h.3 in
+        let entry = h.6 in
+        let unkept : (z y : ℕ) → K z (Own y) ≡ 0 = λ z y. (let a = kept z y in omega (arith, a)) in
+        let tb = term_block w (entering w n.next sc (binders q)) (inside w taken n (binders q)) body in
+        let rest = rest_by taken B R ys ks te (clauses w sc taken (past_clause w taken n q body) (variables w n.next (binders q)) (nodes q) tb cs) d in
+        let fb = first_by taken sc n B R (past_clause w taken n q body) (variables w n.next (binders q)) (nodes q) tb cs rest in
+        let room = num.1 in
+        let cb = on_entry s sc n B K unkept placed R none u utyped taken ch k l q0 cs0 on q fb.0 m fb.1 typed.0 (roomy 0 q refl) num.0 (omega (arith, room, names)) entry.more in
+        let one = block_ends (s ++ bound_by wd (Some u) q) (entering w n.next sc (binders q)) (inside w taken n (binders q)) (O.setting (variables w n.next (binders q)) (not taken) B) K cb.placed fb.0 start (entered st ch q l m) body mid h.4 true ts h.7 typed.1 fb.2 num.2 kept cb.none cb.ties results (cb.names ∙ names) (cb.width ∙ wide) in
+        let tests = match_sides c st f ch l on.match_stands on.entries h.0 at0 m0 at start (last_stretch c f at0 m0 at part) h.5 in
+        clauses_ends s sc n (past_clause w taken n q body) B K (past_placed s sc n taken q body placed) R (past_none n taken q body R none) u utyped taken ch k l q0 cs0 on (suc i) cs
+        (λ j r there. roomy (suc j) r there) (variables w n.next (binders q)) (nodes q) tb at0 m0 mid end ts h.8 typed.2 rest num.3 kept results names wide (stretch_last c f at0 m0 start (told c (entered st ch q l m)) mid tests one)

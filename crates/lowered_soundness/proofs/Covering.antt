@@ -1,14 +1,13 @@
 -- Kinds that are told stay so where a register is written, or a tree is used up.
 use Rattle.std.proofs.Common.{◌≡◌, ℕ, ◌<◌, Bool, true, false, ◌||◌, List, length, Option, Some, None, refl, sym, ap, ◌∙◌, subst, true≢false, arith, if◌then◌else◌, ◌==◌}
 use Rattle.fip_language.specs.Table.{Table}
-use Rattle.cell_code.specs.declared.kind.From.{From}
 use Rattle.cell_code.specs.declared.kind.Kind.{Kind}
 use Rattle.cell_code.specs.declared.kind.Kind.TheVariants.{Gone, Lent}
 use Rattle.sound_code.specs.Types.{all}
 use Rattle.sound_code.specs.Kinds.{at, is_free, is_lent_of, same_root}
-use Rattle.sound_code.specs.Changes.{forget_from, forget, written, goes, used_up}
+use Rattle.sound_code.specs.Changes.{forget, written, goes, used_up}
 use Rattle.kind_soundness.proofs.Basics.{pick, chosen, refused, apart, length_become}
-use Rattle.kind_soundness.proofs.KindLemmas.{dropped, is_one, at_used_up, at_written, free_forget, not_gone_within}
+use Rattle.kind_soundness.proofs.KindLemmas.{dropped, is_one, at_used_up, at_written, not_gone_within}
 use Rattle.lowered_code.specs.declared.held.Held.{Held}
 use Rattle.lowered_code.specs.declared.held.Held.TheVariants as H
 use Rattle.lowered_code.specs.Known.{lent_by, without}
@@ -16,18 +15,18 @@ use Rattle.lowered_soundness.specs.Describing.{Holding, kind_of, kinds_of, Cover
 
 -- froms are forgotten
 pub covers_forget : (w : Table) (p : ℕ → Bool) (h : Held) (k : Kind) → Covers (kind_of w h) k → Covers (kind_of w h) (forget p k)
-covers_forget w p H.Nothing k e = free_forget p k ∙ e
+covers_forget w p H.Nothing k e = ap (forget p) e
 covers_forget w p (H.Scalar t) k e = ap (forget p) e
 covers_forget w p (H.Owned t b) k e = ap (forget p) e
-covers_forget w p (H.Lent t root) k e = (forget_from p e.0, ap (forget p) e.1)
+covers_forget w p (H.Lent t root) k e = ap (forget p) e
 covers_forget w p (H.Credit n) k e = ap (forget p) e
 covers_forget w p (H.Bare t c) k e = ap (forget p) e
 
 pub covers_spare : (w : Table) (h : Held) (k : Kind) → is_spare h ≡ true → Covers (kind_of w h) k → is_free k ≡ true
-covers_spare w H.Nothing k s e = e
+covers_spare w H.Nothing k s e = ap is_free e
 covers_spare w (H.Scalar t) k s e = ap is_free e
 covers_spare w (H.Owned t b) k s e = absurd (true≢false (sym s))
-covers_spare w (H.Lent t root) k s e = ap is_free e.1
+covers_spare w (H.Lent t root) k s e = ap is_free e
 covers_spare w (H.Credit n) k s e = absurd (true≢false (sym s))
 covers_spare w (H.Bare t c) k s e = absurd (true≢false (sym s))
 
@@ -55,22 +54,22 @@ written_covered w n g ks d h k c there e =
 
 -- ---- a tree is used up
 
-lent_goes : (w : Table) (p : ℕ → Bool) (r t : ℕ) (root : Option ℕ) (from : Option From) (k : Kind) (b : Bool) → same_root root (Some r) ≡ b → k ≡ Lent t (all w t) root from → Covers (kind_of w (lent_by r root (H.Lent t root))) (if b then Gone else forget p k)
-lent_goes w p r t None from k true s e = absurd (true≢false (sym s))
-lent_goes w p r t None from k false s e = (forget_from p from, ap (forget p) e)
-lent_goes w p r t (Some q) from k true s e =
+lent_goes : (w : Table) (p : ℕ → Bool) (r t : ℕ) (root : Option ℕ) (k : Kind) (b : Bool) → same_root root (Some r) ≡ b → k ≡ Lent t (all w t) root None → Covers (kind_of w (lent_by r root (H.Lent t root))) (if b then Gone else forget p k)
+lent_goes w p r t None k true s e = absurd (true≢false (sym s))
+lent_goes w p r t None k false s e = ap (forget p) e
+lent_goes w p r t (Some q) k true s e =
     pick (λ h. Covers (kind_of w h) Gone) (q == r) H.Nothing (H.Lent t (Some q)) (λ y. refl) (λ n. apart (q == r) s n)
-lent_goes w p r t (Some q) from k false s e =
-    pick (λ h. Covers (kind_of w h) (forget p k)) (q == r) H.Nothing (H.Lent t (Some q)) (λ y. apart (q == r) y s) (λ n. (forget_from p from, ap (forget p) e))
+lent_goes w p r t (Some q) k false s e =
+    pick (λ h. Covers (kind_of w h) (forget p k)) (q == r) H.Nothing (H.Lent t (Some q)) (λ y. apart (q == r) y s) (λ n. ap (forget p) e)
 
 pub held_goes : (w : Table) (p : ℕ → Bool) (r : ℕ) (h : Held) (k : Kind) (b : Bool) → is_lent_of r k ≡ b → Covers (kind_of w h) k → Covers (kind_of w (without r h)) (if b then Gone else forget p k)
 held_goes w p r H.Nothing k true l e = refl
-held_goes w p r H.Nothing k false l e = free_forget p k ∙ e
+held_goes w p r H.Nothing k false l e = ap (forget p) e
 held_goes w p r (H.Scalar t) k true l e = absurd (true≢false (sym l ∙ ap (is_lent_of r) e))
 held_goes w p r (H.Scalar t) k false l e = ap (forget p) e
 held_goes w p r (H.Owned t b) k true l e = absurd (true≢false (sym l ∙ ap (is_lent_of r) e))
 held_goes w p r (H.Owned t b) k false l e = ap (forget p) e
-held_goes w p r (H.Lent t root) k b l e = lent_goes w p r t root e.0 k b (sym (ap (is_lent_of r) e.1) ∙ l) e.1
+held_goes w p r (H.Lent t root) k b l e = lent_goes w p r t root k b (sym (ap (is_lent_of r) e) ∙ l) e
 held_goes w p r (H.Credit n) k true l e = absurd (true≢false (sym l ∙ ap (is_lent_of r) e))
 held_goes w p r (H.Credit n) k false l e = ap (forget p) e
 held_goes w p r (H.Bare t c) k true l e = absurd (true≢false (sym l ∙ ap (is_lent_of r) e))

@@ -103,7 +103,7 @@ cover_gones w (suc m) = (refl, cover_gones w m)
 cover_param : (w : Table) (t : ℕ) (sc l : Bool) → Covers (kind_of w (if l && not sc then H.Lent t None else given_if sc t)) (if sc then K.Scalar t else (if l then K.Lent t (all w t) None None else K.Owned t (all w t)))
 cover_param w t true true = refl
 cover_param w t true false = refl
-cover_param w t false true = (None, refl)
+cover_param w t false true = refl
 cover_param w t false false = refl
 
 cover_params : (c : PlainCode) (st : Setting) (ps : List Param) → ((t : ℕ) → is_type c.types t ≡ true → is_scalar st t ≡ is_scalar_type c.types t) → ParamsTyped c ps → AllCover c.types (map (param_held st) ps) (map (param_kind c.types) ps)

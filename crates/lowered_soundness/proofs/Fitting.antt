@@ -78,25 +78,22 @@ from_on (Some a) (Some b) (Some d) x y =
 -- ---- kinds
 
 pub covers_self : (k : Kind) → Covers k k
-covers_self Gone = refl
-covers_self (Scalar t) = refl
-covers_self (Owned t s) = refl
-covers_self (Lent t s root None) = (None, refl)
-covers_self (Lent t s root (Some f)) = refl
-covers_self (Credit n) = refl
+covers_self k = refl
 
 lent_fits : (t : ℕ) (s : List ℕ) (root : Option ℕ) (a b : Option From) → takes_from a b ≡ true → fits (Lent t s root a) (Lent t s root b) ≡ true
 lent_fits t s root a b e =
     and_to (t == t) (is_subset s s && (same_root root root && takes_from a b)) (itself t)
     (and_to (is_subset s s) (same_root root root && takes_from a b) (subset_self s) (and_to (same_root root root) (takes_from a b) (root_self root) e))
 
+pub fits_self : (m : Kind) → fits m m ≡ true
+fits_self Gone = refl
+fits_self (Scalar t) = itself t
+fits_self (Owned t s) = and_to (t == t) (is_subset s s) (itself t) (subset_self s)
+fits_self (Lent t s root from) = lent_fits t s root from from (from_self from)
+fits_self (Credit n) = itself n
+
 pub covers_fits : (m k : Kind) → Covers m k → fits m k ≡ true
-covers_fits Gone k e = e
-covers_fits (Scalar t) k e = ap (is_scalar_of t) e ∙ itself t
-covers_fits (Owned t s) k e = ap (fits (Owned t s)) e ∙ and_to (t == t) (is_subset s s) (itself t) (subset_self s)
-covers_fits (Lent t s root None) k e = ap (fits (Lent t s root None)) e.1 ∙ lent_fits t s root None e.0 refl
-covers_fits (Lent t s root (Some f)) k e = ap (fits (Lent t s root (Some f))) e ∙ lent_fits t s root (Some f) (Some f) (from_self (Some f))
-covers_fits (Credit n) k e = ap (is_credit_of n) e ∙ itself n
+covers_fits m k e = ap (fits m) e ∙ fits_self m
 
 free_on : (a b : Kind) → is_free a ≡ true → fits a b ≡ true → is_free b ≡ true
 free_on Gone b x y = y

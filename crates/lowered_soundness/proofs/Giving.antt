@@ -57,7 +57,7 @@ pub lendable_kind : (w : Table) (tail : Bool) (t : ℕ) (h : Held) (k : Kind) �
 lendable_kind w tail t H.Nothing k s e = absurd (true≢false (sym s))
 lendable_kind w tail t (H.Scalar u) k s e = absurd (true≢false (sym s))
 lendable_kind w tail t (H.Owned u b) k s e = ap (is_lendable tail t) e ∙ s
-lendable_kind w tail t (H.Lent u root) k s e = ap (is_lendable tail t) e.1 ∙ s
+lendable_kind w tail t (H.Lent u root) k s e = ap (is_lendable tail t) e ∙ s
 lendable_kind w tail t (H.Credit n) k s e = absurd (true≢false (sym s))
 lendable_kind w tail t (H.Bare u c) k s e = ap (is_lendable tail t) e ∙ s
 

@@ -171,7 +171,7 @@ module _ (fip : Bool) (w : Table) (B : ℕ → Bool) (K : ℕ → Item → ℕ) 
   Unborrowed n [] = Unit {0}
   Unborrowed n (t ∷ ts) = (is_scalar_type w t ≡ false → B n ≡ false) × Unborrowed (suc n) ts
 
-  scope_one : (s : Scope) (b : Binder) (n t : ℕ) → b.number ≡ n → ((x u : ℕ) → of_binder s (Some x) ≡ Some (Some u) → x < n) → (x u : ℕ) → of_binder (s ++ entry (Some t) b ∷ []) (Some x) ≡ Some (Some u) → x < suc n
+  pub scope_one : (s : Scope) (b : Binder) (n t : ℕ) → b.number ≡ n → ((x u : ℕ) → of_binder s (Some x) ≡ Some (Some u) → x < n) → (x u : ℕ) → of_binder (s ++ entry (Some t) b ∷ []) (Some x) ≡ Some (Some u) → x < suc n
   scope_one s b n t number before x u h = elim (new_or_old s b t x u h) as (λ v. x < suc n) [
     | inl e ↦ (let z = e.0 in omega (arith, z, number))
     | inr e ↦ (let z = before x u e.1 in omega (arith, z))

@@ -82,12 +82,12 @@ module _ (c : PlainCode) (f : PlainFunction) where
       fitting ks cov j left map (inl h) e = takes_all f.registers map l left (admits map (ap (label_at f.labels) (sym h.0) ∙ e)) (row.leaves ks left cov h.1)
       fitting ks cov j left map (inr h) e = absurd (no_jump ks x j left straight h)
 
-  behind_row : (p : ℕ) (m l : ℕ → Kind) (x : Instr) → IsInstr f p x → IsRow c f m x l → Shows f p m → Arrives c f p m → Arrives c f (suc p) l
+  pub behind_row : (p : ℕ) (m l : ℕ → Kind) (x : Instr) → IsInstr f p x → IsRow c f m x l → Shows f p m → Arrives c f p m → Arrives c f (suc p) l
   behind_row p m l x is row shows arrives none ks h =
       let same : h.1 ≡ x = same_Some h.1 x (sym h.3 ∙ is) in
       row.leaves h.0 ks (known_told p m h.0 shows arrives h.2) (subst (λ y. Leaves c h.0 y ks) same h.5)
 
-  between : {A : Type 0} (p q : ℕ) → p ≤ q → q < suc p → (p ≡ q → A) → A
+  pub between : {A : Type 0} (p q : ℕ) → p ≤ q → q < suc p → (p ≡ q → A) → A
   between p q a b f = f (omega arith)
 
   pub one_row : (p : ℕ) (m l : ℕ → Kind) (x : Instr) → IsInstr f p x → is_straight x ≡ true → IsRow c f m x l → Shows f p m → Part c f p m (suc p) l

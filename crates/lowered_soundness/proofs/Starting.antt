@@ -37,34 +37,34 @@ use Rattle.lowered_soundness.proofs.Naming.{register_new, register_old, length_n
 
 -- ---- a register gets something that is no tree
 
-setting_tree : (g : Holding) (d : ℕ) (h : Held) (q : ℕ) → is_tree (g d) ≡ false → is_tree h ≡ false → is_tree (setting g d h q) ≡ is_tree (g q)
+pub setting_tree : (g : Holding) (d : ℕ) (h : Held) (q : ℕ) → is_tree (g d) ≡ false → is_tree h ≡ false → is_tree (setting g d h q) ≡ is_tree (g q)
 setting_tree g d h q none new = elim (or_not (q == d)) as (λ v. is_tree (setting g d h q) ≡ is_tree (g q)) [
   | inl e ↦ ap is_tree (chosen (q == d) h (g q) e) ∙ (new ∙ sym (ap (λ p. is_tree (g p)) (equal q d e) ∙ none))
   | inr e ↦ ap is_tree (refused (q == d) h (g q) e)
 ]
 
-setting_balanced : (fip : Bool) (g : Holding) (d : ℕ) (h : Held) (n : ℕ → ℕ) → is_tree (g d) ≡ false → is_tree h ≡ false → Balanced fip g n → Balanced fip (setting g d h) n
+pub setting_balanced : (fip : Bool) (g : Holding) (d : ℕ) (h : Held) (n : ℕ → ℕ) → is_tree (g d) ≡ false → is_tree h ≡ false → Balanced fip g n → Balanced fip (setting g d h) n
 setting_balanced fip g d h n none new b q = subst (λ t. Fits fip (one_if t) (n q)) (sym (setting_tree g d h q none new)) (b q)
 
-setting_rooted : (g : Holding) (d : ℕ) (h : Held) → is_tree (g d) ≡ false → is_tree h ≡ false → ((t q : ℕ) → h ≡ H.Lent t (Some q) → ⊥) → Rooted g → Rooted (setting g d h)
+pub setting_rooted : (g : Holding) (d : ℕ) (h : Held) → is_tree (g d) ≡ false → is_tree h ≡ false → ((t q : ℕ) → h ≡ H.Lent t (Some q) → ⊥) → Rooted g → Rooted (setting g d h)
 setting_rooted g d h none new unlent rooted r t q e = elim (or_not (r == d)) as (λ v. is_tree (setting g d h q) ≡ true) [
   | inl z ↦ absurd (unlent t q (sym (chosen (r == d) h (g r) z) ∙ e))
   | inr z ↦ setting_tree g d h q none new ∙ rooted r t q (sym (refused (r == d) h (g r) z) ∙ e)
 ]
 
-setting_bares : (w : Table) (g : Holding) (d : ℕ) (h : Held) → ((t k : ℕ) → h ≡ H.Bare t k → ⊥) → BareRight w g → BareRight w (setting g d h)
+pub setting_bares : (w : Table) (g : Holding) (d : ℕ) (h : Held) → ((t k : ℕ) → h ≡ H.Bare t k → ⊥) → BareRight w g → BareRight w (setting g d h)
 setting_bares w g d h none bares r t k e = elim (or_not (r == d)) as (λ v. (is_scalar_type w t ≡ false) × (length (fields w t k) ≡ 0)) [
   | inl z ↦ absurd (none t k (sym (chosen (r == d) h (g r) z) ∙ e))
   | inr z ↦ bares r t k (sym (refused (r == d) h (g r) z) ∙ e)
 ]
 
-setting_count : (g : Holding) (d : ℕ) (h : Held) (n q : ℕ) → is_credit_of n (g d) ≡ false → is_credit_of n h ≡ false → is_credit_of n (setting g d h q) ≡ is_credit_of n (g q)
+pub setting_count : (g : Holding) (d : ℕ) (h : Held) (n q : ℕ) → is_credit_of n (g d) ≡ false → is_credit_of n h ≡ false → is_credit_of n (setting g d h q) ≡ is_credit_of n (g q)
 setting_count g d h n q none new = elim (or_not (q == d)) as (λ v. is_credit_of n (setting g d h q) ≡ is_credit_of n (g q)) [
   | inl e ↦ ap (is_credit_of n) (chosen (q == d) h (g q) e) ∙ (new ∙ sym (ap (λ p. is_credit_of n (g p)) (equal q d e) ∙ none))
   | inr e ↦ ap (is_credit_of n) (refused (q == d) h (g q) e)
 ]
 
-setting_fresh : (g : Holding) (n : ℕ) (h : Held) → ((r : ℕ) → n ≤ r → g r ≡ H.Nothing) → (r : ℕ) → suc n ≤ r → setting g n h r ≡ H.Nothing
+pub setting_fresh : (g : Holding) (n : ℕ) (h : Held) → ((r : ℕ) → n ≤ r → g r ≡ H.Nothing) → (r : ℕ) → suc n ≤ r → setting g n h r ≡ H.Nothing
 setting_fresh g n h fresh r past = setting_other g n h r (λ z. absurd (let y : ⊥ = omega (arith, z, past) in y)) ∙ fresh r (omega (arith, past))
 
 -- ---- what is owned of parameters

@@ -65,7 +65,7 @@ module _ (c : PlainCode) (f : PlainFunction) where
   value_there H.Nothing k v e = absurd (true≢false (sym v))
   value_there (H.Scalar t) k v e = ap (λ k. not (S.is_gone k)) e
   value_there (H.Owned t b) k v e = ap (λ k. not (S.is_gone k)) e
-  value_there (H.Lent t root) k v e = ap (λ k. not (S.is_gone k)) e.1
+  value_there (H.Lent t root) k v e = ap (λ k. not (S.is_gone k)) e
   value_there (H.Credit n) k v e = absurd (true≢false (sym v))
   value_there (H.Bare t b) k v e = absurd (true≢false (sym v))
 
@@ -76,7 +76,7 @@ module _ (c : PlainCode) (f : PlainFunction) where
   moved_covered g ks s H.Nothing k cov e v l = absurd (true≢false (sym v))
   moved_covered g ks s (H.Scalar t) k cov e v l = subst (λ k. Covered f.registers (told (using g s)) (moved_by ks s k)) (sym l) (unused g ks s (H.Scalar t) cov e refl)
   moved_covered g ks s (H.Owned t b) k cov e v l = subst (λ k. Covered f.registers (told (using g s)) (moved_by ks s k)) (sym l) (used_covered c.types f.registers g ks s cov (ap is_tree e))
-  moved_covered g ks s (H.Lent t root) k cov e v l = subst (λ k. Covered f.registers (told (using g s)) (moved_by ks s k)) (sym l.1) (unused g ks s (H.Lent t root) cov e refl)
+  moved_covered g ks s (H.Lent t root) k cov e v l = subst (λ k. Covered f.registers (told (using g s)) (moved_by ks s k)) (sym l) (unused g ks s (H.Lent t root) cov e refl)
   moved_covered g ks s (H.Credit n) k cov e v l = absurd (true≢false (sym v))
   moved_covered g ks s (H.Bare t b) k cov e v l = absurd (true≢false (sym v))
 

@@ -1,15 +1,19 @@
 -- It serves the proof that lowered code is sound: which instructions compute an expression or a block, with the labels
--- and the instructions that give up what is left. Of a match it says nothing: there is no code of one.
-use Rattle.std.specs.Prelude.{◌⊎◌, ◌≤◌, ℕ, suc, Bool, List, [], ◌∷◌}
+-- and the instructions that give up what is left. Of a match it tells only where its clauses give the function's
+-- results: the bodies of the clauses stand in the order of the text, each behind the tests that choose it.
+use Rattle.std.specs.Prelude.{◌≡◌, ◌⊎◌, ◌≤◌, ℕ, suc, Bool, List, [], ◌∷◌}
 use Rattle.fip_language.specs.declared.Place.{Place}
 use Rattle.fip_language.specs.declared.Operator.{Operator}
 use Rattle.fip_trees.specs.Tree.{Expression, Give, Tuple, Operation, Call, Match, Nested, Block, Last, Let}
-use Rattle.fip_trees.specs.Tree.{Argument, Arguments, NoArguments, MoreArguments}
+use Rattle.fip_trees.specs.Tree.{Argument, Arguments, NoArguments, MoreArguments, Clauses, NoClauses, MoreClauses}
 use Rattle.sound_code.specs.Codes.{PlainCode, PlainFunction}
 use Rattle.lowered_code.specs.Known.{Known}
 use Rattle.lowered_code.specs.Values.{Setting, ArgumentsAt}
-use Rattle.lowered_code.specs.Bodies.{Target, Into, registers_for, reserved, with_names}
+use Rattle.lowered_code.specs.Bodies.{Target, Into, Return, registers_for, reserved, with_names}
+use Rattle.lowered_soundness.specs.Describing.{held_at}
 use Rattle.lowered_soundness.specs.Laid.{told, Quiet}
+use Rattle.lowered_soundness.specs.Tests.{Choice, SidesLaid}
+use Rattle.lowered_soundness.specs.Matches.{wide_at, entered, EntryLaid, MatchLaid}
 use Rattle.lowered_soundness.specs.Handed.{GivenLaid, OperationLaid, CallLaid}
 
 -- Values are computed into registers, and nothing else stands there.
@@ -76,7 +80,11 @@ abbrev mutual
       OperatorLaid c st fip f at k o p a b target end after
   ExpressionLaid c st fip f at k (Call g n p as') target end after =
       CalledLaid c st fip f at k g as' target end after
-  ExpressionLaid c st fip f at k (Match ds t p a q b cs) target end after = ⊥
+  ExpressionLaid c st fip f at k (Match ds t p a q b cs) (Into rs) end after = ⊥
+  ExpressionLaid c st fip f at k (Match ds t p a q b cs) Return end after =
+      (ch : Choice) × (l : Known) × (e : ℕ) × (n : ℕ) × (mid : ℕ) × (m : Known)
+      × MatchLaid c st f at k ds t a q cs ch l e × EntryLaid c st f ch l 0 q e n
+      × BlockLaid c st fip f e (entered st ch q l n) b Return mid m × ClausesLaid c st fip f ch l 1 cs mid end
   ExpressionLaid c st fip f at k (Nested b) target end after = BlockLaid c st fip f at k b target end after
 
   pub BlockLaid : PlainCode → Setting → Bool → PlainFunction → ℕ → Known → Block → Target → ℕ → Known → Type 0
@@ -87,3 +95,12 @@ abbrev mutual
       ⊎ ((mid : ℕ) × (m : Known)
       × ExpressionLaid c st fip f at (reserved k bs) e (Into (registers_for k.next bs)) mid m
       × BlockLaid c st fip f mid (with_names m bs (registers_for k.next bs)) rest target end after)
+
+  -- the clauses from number i on: tests that choose one where others failed, and its body
+  pub ClausesLaid :
+      PlainCode → Setting → Bool → PlainFunction → Choice → Known → ℕ → Clauses → ℕ → ℕ → Type 0
+  ClausesLaid c st fip f ch l i NoClauses at end = end ≡ at
+  ClausesLaid c st fip f ch l i (MoreClauses q b cs) at end =
+      (more : ℕ) × (start : ℕ) × (n : ℕ) × (mid : ℕ) × (m : Known)
+      × SidesLaid c f (wide_at (held_at l.held)) ch more at start × EntryLaid c st f ch l i q start n
+      × BlockLaid c st fip f start (entered st ch q l n) b Return mid m × ClausesLaid c st fip f ch l (suc i) cs mid end

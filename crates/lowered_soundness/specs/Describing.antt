@@ -1,14 +1,13 @@
 -- It serves the proof that lowered code is sound: what lowering knows of the registers, against the kinds that a
--- verifier knows. Where a register holds nothing that is used any more, its kind may be any that may be overwritten.
--- Where register 0 holds Owned 2 None and register 1 nothing, the kinds Owned 2 (0 ∷ 1 ∷ []) and Scalar 0 are covered.
+-- verifier knows: these are told exactly. A register that holds nothing that is used any more is Gone.
+-- Where register 0 holds Owned 2 None and register 1 nothing, the kinds Owned 2 (0 ∷ 1 ∷ []) and Gone are known.
 use Rattle.std.specs.Prelude.{◌≡◌, ℕ, zero, suc, Bool, true, false, List, [], ◌∷◌, Option, Some, None, length}
 use Rattle.std.specs.Prelude.{if◌then◌else◌, ◌==◌}
 use Rattle.fip_language.specs.Table.{Table}
-use Rattle.cell_code.specs.declared.kind.From.{From}
 use Rattle.cell_code.specs.declared.kind.Kind.{Kind}
 use Rattle.cell_code.specs.declared.kind.Kind.TheVariants as K
 use Rattle.sound_code.specs.Types.{all}
-use Rattle.sound_code.specs.Kinds.{at, is_free}
+use Rattle.sound_code.specs.Kinds.{at}
 use Rattle.lowered_code.specs.declared.held.Held.{Held}
 use Rattle.lowered_code.specs.declared.held.Held.TheVariants as H
 use Rattle.lowered_code.specs.Known.{without}
@@ -28,7 +27,7 @@ abbrev pub set_of : Table → ℕ → Option ℕ → List ℕ
 set_of w t None = all w t
 set_of w t (Some c) = c ∷ []
 
--- the narrowest kind of a register that holds this; a from is never known
+-- the narrowest kind of a register that holds this, without a from
 abbrev pub kind_of : Table → Held → Kind
 kind_of w H.Nothing = K.Gone
 kind_of w (H.Scalar t) = K.Scalar t
@@ -40,14 +39,9 @@ kind_of w (H.Bare t c) = K.Owned t (c ∷ [])
 abbrev pub kinds_of : Table → Holding → ℕ → Kind
 kinds_of w g r = kind_of w (g r)
 
--- Where the first kind is told, the second is known: the same, but for what Gone takes, and for froms that aren't told.
+-- Where the first kind is told, just this one is known.
 abbrev pub Covers : Kind → Kind → Type 0
-Covers K.Gone k = is_free k ≡ true
-Covers (K.Scalar t) k = k ≡ K.Scalar t
-Covers (K.Owned t s) k = k ≡ K.Owned t s
-Covers (K.Lent t s root None) k = (from : Option From) × (k ≡ K.Lent t s root from)
-Covers (K.Lent t s root (Some f)) k = k ≡ K.Lent t s root (Some f)
-Covers (K.Credit n) k = k ≡ K.Credit n
+Covers m k = k ≡ m
 
 -- the kinds of n registers, as they are told
 pub record Covered (n : ℕ) (m : ℕ → Kind) (ks : List Kind) : Type 0 where

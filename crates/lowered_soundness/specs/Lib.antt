@@ -10,6 +10,10 @@ pub mod GivenUp
 pub mod Delivered
 pub mod Handed
 pub mod Passed
+pub mod Sights
+pub mod Tests
+pub mod Matches
 pub mod Placed
 pub mod Bodies
 pub mod Functions
+pub mod Example

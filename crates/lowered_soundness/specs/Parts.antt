@@ -28,6 +28,12 @@ pub record Takes (n : ℕ) (map : List Kind) (m : ℕ → Kind) : Type 0 where
 abbrev pub Admits : PlainFunction → ℕ → (ℕ → Kind) → Type 0
 Admits f p m = (map : List Kind) → label_at f.labels p ≡ Some map → Takes f.registers map m
 
+-- a label stands at p and takes these kinds
+pub record Catches (f : PlainFunction) (p : ℕ) (m : ℕ → Kind) : Type 0 where
+  pub map : List Kind
+  pub there : label_at f.labels p ≡ Some map
+  pub takes : Takes f.registers map m
+
 -- a map tells just these kinds
 pub record Tells (n : ℕ) (map : List Kind) (m : ℕ → Kind) : Type 0 where
   pub wide : length map ≡ n

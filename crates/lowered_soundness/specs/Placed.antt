@@ -1,15 +1,16 @@
 -- It serves the proof that lowered code is sound: the variables in scope of a part of a body, where the binders of the
 -- body are numbered in the order of the text.
-use Rattle.std.specs.Prelude.{◌≡◌, ◌<◌, ◌≤◌, ◌+◌, ℕ, suc, true, List, [], ◌∷◌, Some, length, slice_get}
+use Rattle.std.specs.Prelude.{◌≡◌, ◌<◌, ◌≤◌, ◌+◌, ℕ, suc, Bool, true, List, [], ◌∷◌, Some, length, slice_get}
 use Rattle.fip_base.specs.declared.plain.Param.{Param}
 use Rattle.fip_trees.specs.declared.program.Binder.{Binder}
 use Rattle.fip_trees.specs.Tree.{Expression, Give, Tuple, Operation, Call, Match, Nested, Block, Last, Let, Instance}
-use Rattle.fip_rules.specs.Shapes.{Names, known, behind, shape}
+use Rattle.fip_trees.specs.Tree.{Clauses, NoClauses, MoreClauses}
+use Rattle.fip_rules.specs.Shapes.{Names, known, behind, shape, binders, takes}
 use Rattle.fip_rules.specs.World as R
 use Rattle.type_check.specs.Scope.{Scope, of_binder}
 use Rattle.type_check.specs.World as W
 use Rattle.own_calculus.specs.Terms.{Item, Own}
-use Rattle.own_agreement.specs.Bodies.{Scalars, inside}
+use Rattle.own_agreement.specs.Bodies.{Scalars, inside, past_clause}
 use Rattle.sound_code.specs.Codes.{PlainCode}
 use Rattle.sound_code.specs.Types.{is_type, is_scalar_type}
 use Rattle.lowered_code.specs.Values.{Setting}
@@ -37,7 +38,10 @@ abbrev mutual
   Numbered w m n (Tuple p as') = Unit {0}
   Numbered w m n (Operation o p a b) = Unit {0}
   Numbered w m n (Call g f p as') = Unit {0}
-  Numbered w m n (Match k t p a q b cs) = Unit {0}
+  Numbered w m n (Match k t p a q b cs) =
+      InOrder n.next (binders q) × (n.next + length (binders q) ≤ m)
+      × NumberedBlock w m (inside w (takes w k t) n (binders q)) b
+      × NumberedClauses w m (takes w k t) (past_clause w (takes w k t) n q b) cs
   Numbered w m n (Nested b) = NumberedBlock w m n b
 
   pub NumberedBlock : R.World → ℕ → Names → Block → Type 0
@@ -45,6 +49,13 @@ abbrev mutual
   NumberedBlock w m n (Let bs e rest) =
       InOrder (behind n (shape w n e)).next bs × ((behind n (shape w n e)).next + length bs ≤ m) × Numbered w m n e
       × NumberedBlock w m (inside w true (behind n (shape w n e)) bs) rest
+
+  pub NumberedClauses : R.World → ℕ → Bool → Names → Clauses → Type 0
+  NumberedClauses w m taken n NoClauses = Unit {0}
+  NumberedClauses w m taken n (MoreClauses q b cs) =
+      InOrder n.next (binders q) × (n.next + length (binders q) ≤ m)
+      × NumberedBlock w m (inside w taken n (binders q)) b
+      × NumberedClauses w m taken (past_clause w taken n q b) cs
 
 abbrev pub AreTypes : PlainCode → List ℕ → Type 0
 AreTypes c [] = Unit {0}

@@ -2,7 +2,10 @@
 ghost use Rattle.std.specs.Prelude.{◌≡◌, ℕ, Bool, Some};
 ghost use Rattle.fip_rules.specs.World as R;
 ghost use Rattle.fip_trees.specs.Tree.{Instance};
+ghost use Rattle.flat_meaning.specs.Example.{rev};
+ghost use Rattle.lowered_code.specs.Example.{lists_setting};
 ghost use Rattle.lowered_code.specs.Values.{Setting};
+ghost use Rattle.lowered_soundness.specs.Example.{lists_code, reversing};
 ghost use Rattle.lowered_soundness.specs.Functions.{FunctionLaid, IsNumbered};
 ghost use Rattle.lowered_soundness.specs.Laid.{Shares};
 ghost use Rattle.lowered_soundness.specs.Parts.{IsKept};
@@ -23,13 +26,18 @@ pub fn functions_make_a_code_sound()
         ((n : ℕ) (f : PlainFunction) → function_at c n ≡ Some f → KeepsRules c n f) → IsSound c }
 {}
 
-/// A typed instance of which ownership and credits have a derivation, and which has no match: each instruction of its
-/// function, reached with whatever kinds, has its registers as asked, goes on to kinds that labels take, and where it
-/// ends the function nothing that is owned and no credit is left.
-pub fn straight_functions_break_no_rule()
+/// A typed instance of which ownership and credits have a derivation, and whose matches give the function's results:
+/// each instruction of its function, reached with whatever kinds, has its registers as asked, goes on to kinds that
+/// labels take, and where it ends the function nothing that is owned and no credit is left.
+pub fn functions_break_no_rule()
     ensures law { (c : PlainCode) (f : PlainFunction) (st : Setting) (wd : W.World) (w : R.World) (fip : Bool)
         (d : Instance) → Shares c st wd → Callees c st wd w → FunctionLaid c st fip f d → IsNumbered w d →
         Typed Bool.true wd d → ParamsTyped c d.params → Derived fip
         (borrowed_parameters w 0 d.params d.binders) (owned_parameters w 0 d.params d.binders) d.credits
         (body_term w d) → (i : ℕ) → IsKept c f i }
+{}
+
+/// The function of `rev` is laid out as its body asks. For who asks whether the definitions are met.
+pub fn an_example_is_laid()
+    ensures law { FunctionLaid lists_code lists_setting Bool.true reversing rev }
 {}

@@ -9,6 +9,7 @@ use Rattle.fip_language.specs.declared.FunKind.{FunKind}
 use Rattle.fip_language.specs.declared.FunKind.TheVariants.{Fip, Fbip, Fun}
 use Rattle.fip_language.specs.declared.Operator.{Operator}
 use Rattle.fip_language.specs.declared.Operator.TheVariants as O
+use Rattle.fip_language.specs.declared.limits.TheConstants.{MOST_CREDITS, MOST_FIELDS}
 use Rattle.fip_language.specs.Table.{Shape, Table}
 use Rattle.fip_base.specs.declared.plain.Param.{Param}
 use Rattle.cell_code.specs.declared.kind.From.{From}
@@ -126,11 +127,11 @@ params_text params = two (length params) +++ each param_text params
 
 -- the number of a function's credits, at most 16
 unfoldable pub credit_count_text : ℕ → Option (List ℕ)
-credit_count_text count = only (nat_le count 16) (mark count)
+credit_count_text count = only (nat_le count MOST_CREDITS) (mark count)
 
 -- the size of a credit, from 1 to 16
 unfoldable pub size_text : ℕ → Option (List ℕ)
-size_text size = only (is_in_range 1 16 size) (mark size)
+size_text size = only (is_in_range 1 MOST_FIELDS size) (mark size)
 
 -- The credits that a function states. In version 1 it states none, and nothing stands there.
 unfoldable pub credits_text : Version → List ℕ → Option (List ℕ)

@@ -9,6 +9,7 @@ use Rattle.fip_language.specs.declared.FunKind.{FunKind}
 use Rattle.fip_language.specs.declared.FunKind.TheVariants.{Fip, Fbip}
 use Rattle.fip_language.specs.declared.Operator.{Operator}
 use Rattle.fip_language.specs.declared.Operator.TheVariants as O
+use Rattle.fip_language.specs.declared.limits.TheConstants.{MOST_CREDITS, MOST_FIELDS}
 use Rattle.fip_language.specs.Table.{Shape, Table}
 use Rattle.fip_base.specs.declared.plain.Param.{Param}
 use Rattle.cell_code.specs.declared.kind.From.{From}
@@ -300,11 +301,11 @@ unfoldable pub params_reader : Reader (List Param)
 params_reader = counted two_reader param_reader
 
 unfoldable pub size_reader : Reader ℕ
-size_reader = byte (is_in_range 1 16)
+size_reader = byte (is_in_range 1 MOST_FIELDS)
 
 unfoldable pub credits_reader : Version → Reader (List ℕ)
 credits_reader First = Give []
-credits_reader Second = counted (byte (is_in_range 0 16)) size_reader
+credits_reader Second = counted (byte (is_in_range 0 MOST_CREDITS)) size_reader
 
 unfoldable pub instrs_reader : Reader (List Instr)
 instrs_reader = counted four_reader instr_reader

@@ -6,6 +6,7 @@
 -- the rest. A clause takes all that the match has, and what its pattern gives.
 use Rattle.std.specs.Prelude.{ℕ, zero, suc, ◌+◌, Bool, true, false, not, ◌&&◌, ◌||◌, ◌==◌, List, [], ◌∷◌, ◌++◌}
 use Rattle.std.specs.Prelude.{length, Option, Some, None, slice_get, nat_lt, if◌then◌else◌}
+use Rattle.fip_language.specs.declared.limits.TheConstants.{MOST_FIELDS}
 use Rattle.fip_base.specs.declared.plain.Param.{Param}
 use Rattle.fip_trees.specs.declared.program.Binder.{Binder}
 use Rattle.fip_trees.specs.Tree.{Argument, Variable, Literal, Constructor, Arguments, NoArguments, MoreArguments}
@@ -65,7 +66,7 @@ weakened false there have t = Branch R.Weaken (numbers there) (credits have) (Mo
 -- where more is there.
 abbrev pub node : RuleName → (ℕ → Bool) → List Known → (ℕ → ℕ) → (ℕ → ℕ) → Trees → Tree
 node r asked there have needed ts =
-    weakened (all_those asked there && same_from have needed 1 16) there have
+    weakened (all_those asked there && same_from have needed 1 MOST_FIELDS) there have
     (Branch r (numbers (those asked there)) (credits needed) ts)
 
 -- ---- arguments

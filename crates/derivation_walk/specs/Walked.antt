@@ -4,6 +4,7 @@
 -- expressions. Variables are known by their numbers in the derivation.
 use Rattle.std.specs.Prelude.{ℕ, zero, suc, ◌+◌, Bool, true, false, not, ◌&&◌, ◌||◌, ◌==◌, List, [], ◌∷◌, ◌++◌}
 use Rattle.std.specs.Prelude.{length, filter, Option, Some, None, slice_get, nat_lt, if◌then◌else◌}
+use Rattle.fip_language.specs.declared.limits.TheConstants.{MOST_FIELDS}
 use Rattle.fip_base.specs.declared.plain.Param.{Param}
 use Rattle.fip_trees.specs.declared.program.Binder.{Binder}
 use Rattle.fip_trees.specs.declared.needs.Need.{Need}
@@ -82,7 +83,7 @@ weakened false o t = Branch R.Weaken o.variables (credits o.credits) (MoreTrees 
 -- a node of these variables and credits; below one that weakens where more is there
 abbrev pub node : RuleName → Owned → List ℕ → List ℕ → Trees → Tree
 node r o xs need ts =
-    weakened ((length xs == length o.variables) && same_from o.credits need 1 16) o (Branch r xs (credits need) ts)
+    weakened ((length xs == length o.variables) && same_from o.credits need 1 MOST_FIELDS) o (Branch r xs (credits need) ts)
 
 -- ---- arguments
 

@@ -1,5 +1,6 @@
 // Credits by size: what arguments need, what patterns and headers give.
 ghost use Rattle.std.specs.Prelude.{◌≡◌, IfOk, OnOk};
+ghost use Rattle.fip_language.specs.declared.limits.TheConstants.{MOST_FIELDS};
 ghost use Rattle.fip_trees.specs.Sizes.{no_sizes};
 ghost use Rattle.fip_trees.specs.TreeView as V;
 ghost use Rattle.credit_check.specs.Tallies as L;
@@ -7,6 +8,7 @@ ghost use Rattle.derivation_walk.specs.Walked as W;
 
 use derivation_trees::Credit;
 use fip_base::plain::NoMemory;
+use fip_language::limits::MOST_FIELDS;
 use fip_trees::program::{Argument, Pattern};
 use fip_trees::sizes::Sizes;
 use std::alloc::Global;
@@ -79,7 +81,7 @@ pub fn credits_of(alloc: Global, sizes: &Sizes) -> Result<Vec<Credit>, NoMemory>
     ensures credits { IfOk result (λ v. v.items ≡ W.credits sizes.now) }
 {
     let mut credits = Vec::new(alloc);
-    for size in 1..17 {
+    for size in 1..MOST_FIELDS + 1 {
         let count = sizes.of(size);
         if count > 0 {
             credits.push(Credit {
@@ -93,9 +95,9 @@ pub fn credits_of(alloc: Global, sizes: &Sizes) -> Result<Vec<Credit>, NoMemory>
 
 /// Whether there are as many of each size.
 pub fn are_same(one: &Sizes, other: &Sizes) -> bool
-    ensures same { result ≡ W.same_from one.now other.now 1 16 }
+    ensures same { result ≡ W.same_from one.now other.now 1 MOST_FIELDS }
 {
-    for size in 1..17 {
+    for size in 1..MOST_FIELDS + 1 {
         if one.of(size) != other.of(size) {
             return false;
         }

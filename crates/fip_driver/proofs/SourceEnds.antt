@@ -4,14 +4,17 @@ use Rattle.std.specs.Prelude.{◌⊎◌, Option, Some, None, Result, Ok, Err, If
 use Rattle.std.specs.Io.KnownBytes.{Consumes, IsAtEnd}
 use Rattle.std.specs.declared.vec.Vec.{Vec}
 use Rattle.std.specs.declared.alloc.Global.{Global}
-use Rattle.fip_language.specs.declared.rule.Rule.TheVariants.{E05, E61, E72, E74, E75}
+use Rattle.fip_language.specs.declared.rule.Rule.TheVariants.{E05, E61, E72, E74}
 use Rattle.std.specs.Fmt.{decimal}
 use Rattle.fip_base.specs.declared.refusal.Refusal.{Refusal}
 use Rattle.fip_base.specs.Faults.{Rose}
 use Rattle.fip_base.specs.Files.{File, file_of, HoldsFile, HoldsLonger, IsMissing}
 use Rattle.fip_trees.specs.Tree.{Program}
-use Rattle.command_line.specs.Words.{Command, Check, Compile, Exec, Trace, Derive, Audit, Eval, Replay, Library, Gen, IsTextName}
-use Rattle.command_outcome.specs.Stages.{IsOfRun, IsOfTasks, IsOfTrace}
+use Rattle.loaded_runs.specs.TraceText.{trace_text}
+use Rattle.trace_command.specs.TraceAnswer.{Kept, Traces, Ended, Stored, TooLong as LongTrace, KeptOrNoMemory}
+use Rattle.fip_driver.specs.Unread.{IsTraceFile}
+use Rattle.command_line.specs.Words.{Room, Command, Check, Compile, Exec, Trace, Derive, Audit, Eval, Replay, Library, Gen, IsTextName}
+use Rattle.command_outcome.specs.Stages.{IsOfTasks}
 use Rattle.fip_commands.specs.Generated.{IsTreeSource, build, IsTreeText, KeepsFromTree}
 use Rattle.fip_commands.specs.Replayed.{IsReplayed, KeepsFromReplay}
 use Rattle.fip_library.specs.Texts.{IsText}
@@ -31,7 +34,7 @@ use Rattle.source_commands.proofs.Compiling.{uncompiled_ready}
 use Rattle.source_commands.specs.declared.files.Compiled.{Compiled as compiled_file}
 use Rattle.fip_driver.specs.Answered.{IsTold}
 use Rattle.fip_driver.specs.Commands.{IsOther, ReadsInput, CallsNoFolder, fetched_name, wanted}
-use Rattle.fip_driver.specs.Ends.{End, SaysOf, Refused, Listed, LongInput, Evaluated, Derived, Underived, MakesCode, ComesOf, Unsound, Ready, MayEnd, IsTaken, IsRunEnd, IsTraceEnd, IsTasksEnd, IsBeside, Checks, Says, Missing, OnSource, OnAudit, OnTrace, OfLibrary, IsUnsaidOn, Comes, MayOnSource, MayOfGen, IsThere, IsVerdict, SaysOfAudit, Reported, NoProof, Judged, GenRefused}
+use Rattle.fip_driver.specs.Ends.{End, SaysOf, Refused, Listed, LongInput, Evaluated, Derived, Underived, MakesCode, ComesOf, Unsound, Ready, MayEnd, TracesTo, IsTaken, IsTasksEnd, IsBeside, Checks, Says, Missing, OnSource, OnAudit, OnTrace, OfLibrary, IsUnsaidOn, Comes, MayOnSource, MayOfGen, IsThere, IsVerdict, SaysOfAudit, Reported, NoProof, Judged, GenRefused}
 use Rattle.fip_driver.specs.Fetched.{FetchFails, FileFails, StoreFails, JudgeFails, ReadFails}
 use Rattle.fip_driver.specs.Outcome.{end_of, compiled_end, IsFault, IsInputFault, ReadOutcome, InputOutcome, SourceOutcome, Closes, FileOutcome, AuditOutcome, CommandOutcome}
 use Rattle.fip_driver.specs.Spelling.{Spelling, source_spelling}
@@ -92,18 +95,28 @@ read_says Is before left rose read o c end le h = (read, whole_of before left re
 pub read_ends : (May : End → Type 0) (before left : Option (List ℕ)) (rose : Type 0) (read : List ℕ) (e : End) → Consumes before left read → IsAtEnd left → length read ≤ 16777216 → May e → InputOutcome May before rose e
 read_ends May before left rose read e c end le m = (read, whole_of before left read c end, inr (inr (le, m)))
 
-pub runs_end : (o : Result (Vec ℕ Global) Failure) → IfErr o IsOfRun → IsRunEnd (end_of o)
-runs_end (Ok text) h = tt
-runs_end (Err failure) h = h
-
 pub tasks_end : (o : Result (Vec ℕ Global) Failure) → IfErr o IsOfTasks → IsTasksEnd (end_of o)
 tasks_end (Ok text) h = tt
 tasks_end (Err failure) h = h
 
-pub traces_end : (o : Result compiled_file Failure) → IfErr o IsOfTrace → ((r : Refusal) → o ≡ Err (F.Refused r) → r ≡ bare E75) → IsTraceEnd (compiled_end o)
-traces_end (Ok compiled) h bare = tt
-traces_end (Err (F.Refused r)) h bare = bare r refl
-traces_end (Err failure) h bare = h
+-- an input that was read to its end, and what a traced run comes to on it
+pub read_traces : (source name : List ℕ) (room : Room) (before left : Option (List ℕ)) (rose : Type 0) (read : List ℕ) (o : Result compiled_file Failure) → Consumes before left read → IsAtEnd left → length read ≤ 16777216 → KeptOrNoMemory (Traces source name read room) o → ReadOutcome (λ input. TracesTo source name input room) before rose (compiled_end o)
+read_traces source name room before left rose read o c end le h = (read, whole_of before left read c end, by o h)
+  where
+    by : (o : Result compiled_file Failure) → KeptOrNoMemory (Traces source name read room) o → IsInputFault rose (compiled_end o) ⊎ (((16777216 < length read) × (compiled_end o ≡ Err (F.BadInput 16777216))) ⊎ ((length read ≤ 16777216) × TracesTo source name read room (compiled_end o)))
+    by (Ok compiled) h = inr (inr (le, (compiled.file.items, h)))
+    by (Err F.NoMemory) h = inl tt
+    by (Err failure) h = inr (inr (le, h))
+
+-- the file that is stored
+is_trace_file : (source name input : List ℕ) (room : Room) (k : Kept) (e : Result Kept Failure) → Traces source name input room e → e ≡ Ok k → IsTraceFile source name room k.file
+is_trace_file source name input room k e (Ended failure h) is = absurd cc
+is_trace_file source name input room k e (Stored text t h of' short) is = let same : trace_text t ≡ k.file = cc in (input, t, of', short, sym same)
+is_trace_file source name input room k e (LongTrace t of' long) is = absurd cc
+
+pub trace_made : (source name input : List ℕ) (room : Room) (o : Result compiled_file Failure) → KeptOrNoMemory (Traces source name input room) o → IfOk o (λ c. IsTraceFile source name room c.file.items)
+trace_made source name input room (Ok c) h = is_trace_file source name input room (record { file = c.file.items; text = c.text.items }) (Ok (record { file = c.file.items; text = c.text.items })) h refl
+trace_made source name input room (Err f) h = tt
 
 -- ---- the source
 
@@ -134,10 +147,10 @@ check_ends file source left fr ir (Ok v) h k = let i = any_told left [] in (i.0,
 check_ends file source left fr ir (Err f) h k = kept_ends (Check file) Lawful source left fr ir f k
 
 -- what was made of a source is stored, and its text is told
-stored_ends : (c : Command) (source : List ℕ) (left : Option (List ℕ)) (ir : Type 0) (before mid now : ℕ) (o : Result (Vec ℕ Global) Failure) → (CallsNoFolder c → ⊥) → (ReadsInput c → ⊥) → before ≤ mid → IsReady source Lawful → IfOk o (λ v. MayEnd c source (Ok v.items)) → IfErr o (StoreFails mid now) → SourceOutcome c Lawful source left (Rose before now) ir (end_of o)
-stored_ends c source left ir before mid now o calls never le ready ok err = let i = any_told left [] in (i.0, i.1, by o i.0 ok err)
+stored_ends : (c : Command) (source : List ℕ) (left : Option (List ℕ)) (ir : Type 0) (before mid now : ℕ) (o : Result (Vec ℕ Global) Failure) → (CallsNoFolder c → ⊥) → (ReadsInput c → ⊥) → before ≤ mid → IsReady source Lawful → ((input : List ℕ) → IfOk o (λ v. MayEnd c source input (Ok v.items))) → IfErr o (StoreFails mid now) → SourceOutcome c Lawful source left (Rose before now) ir (end_of o)
+stored_ends c source left ir before mid now o calls never le ready ok err = let i = any_told left [] in (i.0, i.1, by o i.0 (ok i.0) err)
   where
-    by : (o : Result (Vec ℕ Global) Failure) (input : List ℕ) → IfOk o (λ v. MayEnd c source (Ok v.items)) → IfErr o (StoreFails mid now) → IsFault c (Rose before now) ir (end_of o) ⊎ (SaysOf source input c Lawful (end_of o) ⊎ ComesOf source input c Lawful (end_of o))
+    by : (o : Result (Vec ℕ Global) Failure) (input : List ℕ) → IfOk o (λ v. MayEnd c source input (Ok v.items)) → IfErr o (StoreFails mid now) → IsFault c (Rose before now) ir (end_of o) ⊎ (SaysOf source input c Lawful (end_of o) ⊎ ComesOf source input c Lawful (end_of o))
     by (Ok v) input ok err = inr (inr (Ready (Ok v.items) ready (no_input c input never) ok))
     by (Err (F.Fault O.Folder)) input ok err = inl (rose_later before mid now le err.1, calls)
     by (Err (F.Fault O.Input)) input ok err = absurd (let same = err.0 in cc)
@@ -161,7 +174,7 @@ compile_refused file out source left fr ir f (inr h) = let i = any_told left [] 
 
 pub compile_ends : (file out source text : List ℕ) (left : Option (List ℕ)) (ir : Type 0) (before mid now : ℕ) (o : Result (Vec ℕ Global) Failure) → before ≤ mid → IsListing source text → IfOk o (λ v. v.items ≡ text) → IfErr o (StoreFails mid now) → SourceOutcome (Compile file out) Lawful source left (Rose before now) ir (end_of o)
 compile_ends file out source text left ir before mid now o le listing ok err =
-    stored_ends (Compile file out) source left ir before mid now o (λ r. r) (λ r. r) le (listing_ready source text listing) (by o ok) err
+    stored_ends (Compile file out) source left ir before mid now o (λ r. r) (λ r. r) le (listing_ready source text listing) (λ input. by o ok) err
   where
     by : (o : Result (Vec ℕ Global) Failure) → IfOk o (λ v. v.items ≡ text) → IfOk o (λ v. IsListing source v.items)
     by (Ok v) e = subst (IsListing source) (sym e) listing
@@ -190,16 +203,16 @@ derive_ends file out source text bytes left ir before mid now o le made derived 
     by (Err failure) input ok err = absurd err
 
 -- what comes of an input, of a source that has what is wanted
-pub input_ends : (c : Command) (w : Wanted) (source : List ℕ) (left : Option (List ℕ)) (fr rose : Type 0) (May : End → Type 0) (e : End) → IsReady source w → ReadsInput c → ((d : End) → May d → MayEnd c source d) → InputOutcome May left rose e → SourceOutcome c w source left fr rose e
+pub input_ends : (c : Command) (w : Wanted) (source : List ℕ) (left : Option (List ℕ)) (fr rose : Type 0) (May : List ℕ → End → Type 0) (e : End) → IsReady source w → ReadsInput c → ((input : List ℕ) (d : End) → May input d → MayEnd c source input d) → ReadOutcome May left rose e → SourceOutcome c w source left fr rose e
 input_ends c w source left fr rose May e ready reads up (input, told, h) = (input, told, by h)
   where
     long : (d : End) → 16777216 < length input → d ≡ Err (F.BadInput 16777216) → SaysOf source input c w d
     long d more same = subst (SaysOf source input c w) (sym same) (LongInput ready reads more)
 
-    by : IsInputFault rose e ⊎ (((16777216 < length input) × (e ≡ Err (F.BadInput 16777216))) ⊎ ((length input ≤ 16777216) × May e)) → IsFault c fr rose e ⊎ (SaysOf source input c w e ⊎ ComesOf source input c w e)
+    by : IsInputFault rose e ⊎ (((16777216 < length input) × (e ≡ Err (F.BadInput 16777216))) ⊎ ((length input ≤ 16777216) × May input e)) → IsFault c fr rose e ⊎ (SaysOf source input c w e ⊎ ComesOf source input c w e)
     by (inl f) = inl (input_fault_up c fr rose e reads f)
     by (inr (inl (more, same))) = inr (inl (long e more same))
-    by (inr (inr (le, m))) = inr (inr (Ready e ready (λ r. le) (up e m)))
+    by (inr (inr (le, m))) = inr (inr (Ready e ready (λ r. le) (up input e m)))
 
 -- what `eval` tells
 pub evaluated_ends : (file entry source : List ℕ) (calls frames : ℕ) (left : Option (List ℕ)) (fr rose : Type 0) (e : End) → IsReady source (Root entry) → ReadOutcome (λ bytes. Evaluates source entry bytes calls frames) left rose e → SourceOutcome (Eval file entry calls frames) (Root entry) source left fr rose e
@@ -214,16 +227,21 @@ evaluated_ends file entry source calls frames left fr rose e ready (input, told,
     by (inr (inr (le, m))) = inr (inl (Evaluated file entry calls frames e refl le m))
 
 -- a trace that was made is stored
-pub trace_stored : (left : Option (List ℕ)) (rose : Type 0) (file entry out source text : List ℕ) (room : _) (before mid now : ℕ) (w : Wanted) (o : Result (Vec ℕ Global) Failure) → before ≤ mid → IsReady source w → InputOutcome IsTraceEnd left rose (Ok text) → IfOk o (λ v. v.items ≡ text) → IfErr o (StoreFails mid now) → SourceOutcome (Trace file entry out room) w source left (Rose before now) rose (end_of o)
+pub trace_stored : (left : Option (List ℕ)) (rose : Type 0) (file entry out source text : List ℕ) (room : Room) (before mid now : ℕ) (w : Wanted) (o : Result (Vec ℕ Global) Failure) → before ≤ mid → IsReady source w → ReadOutcome (λ input. TracesTo source entry input room) left rose (Ok text) → IfOk o (λ v. v.items ≡ text) → IfErr o (StoreFails mid now) → SourceOutcome (Trace file entry out room) w source left (Rose before now) rose (end_of o)
 trace_stored left rose file entry out source text room before mid now w o le ready (input, told, h) ok err = (input, told, by o ok err)
   where
-    short : IsInputFault rose (Ok text) ⊎ (((16777216 < length input) × ◌≡◌ {A = End} (Ok text) (Err (F.BadInput 16777216))) ⊎ ((length input ≤ 16777216) × IsTraceEnd (Ok text))) → length input ≤ 16777216
+    short : IsInputFault rose (Ok text) ⊎ (((16777216 < length input) × ◌≡◌ {A = End} (Ok text) (Err (F.BadInput 16777216))) ⊎ ((length input ≤ 16777216) × TracesTo source entry input room (Ok text))) → length input ≤ 16777216
     short (inl f) = absurd f
     short (inr (inl (more, same))) = absurd cc
     short (inr (inr (le, m))) = le
 
+    may : IsInputFault rose (Ok text) ⊎ (((16777216 < length input) × ◌≡◌ {A = End} (Ok text) (Err (F.BadInput 16777216))) ⊎ ((length input ≤ 16777216) × TracesTo source entry input room (Ok text))) → TracesTo source entry input room (Ok text)
+    may (inl f) = absurd f
+    may (inr (inl (more, same))) = absurd cc
+    may (inr (inr (le, m))) = m
+
     by : (o : Result (Vec ℕ Global) Failure) → IfOk o (λ v. v.items ≡ text) → IfErr o (StoreFails mid now) → IsFault (Trace file entry out room) (Rose before now) rose (end_of o) ⊎ (SaysOf source input (Trace file entry out room) w (end_of o) ⊎ ComesOf source input (Trace file entry out room) w (end_of o))
-    by (Ok v) ok err = inr (inr (Ready (Ok v.items) ready (λ r. short h) tt))
+    by (Ok v) ok err = inr (inr (Ready (Ok v.items) ready (λ r. short h) (subst (λ t. TracesTo source entry input room (Ok t)) (sym ok) (may h))))
     by (Err (F.Fault O.Folder)) ok err = inl (rose_later before mid now le err.1, λ r. r)
     by (Err (F.Fault O.Input)) ok err = absurd (let same = err.0 in cc)
     by (Err (F.Fault O.Out)) ok err = absurd (let same = err.0 in cc)
@@ -240,15 +258,15 @@ makes_unsaid (Eval file entry calls frames) h = h
 makes_unsaid (Derive file out) h = h
 makes_unsaid c h = tt
 
-ends_unsaid : (c : Command) (source : List ℕ) (e : End) → MayEnd c source e → IsUnsaidOn c
-ends_unsaid (Check file) source e h = h
-ends_unsaid (Eval file entry calls frames) source e h = h
-ends_unsaid (Derive file out) source e h = h
-ends_unsaid c source e h = tt
+ends_unsaid : (c : Command) (source input : List ℕ) (e : End) → MayEnd c source input e → IsUnsaidOn c
+ends_unsaid (Check file) source input e h = h
+ends_unsaid (Eval file entry calls frames) source input e h = h
+ends_unsaid (Derive file out) source input e h = h
+ends_unsaid c source input e h = tt
 
 comes_unsaid : (source input : List ℕ) (c : Command) (w : Wanted) (e : End) → ComesOf source input c w e → IsUnsaidOn c
 comes_unsaid source input c w e (Unsound function at rule makes ready) = makes_unsaid c makes
-comes_unsaid source input c w e (Ready d ready taken may) = ends_unsaid c source d may
+comes_unsaid source input c w e (Ready d ready taken may) = ends_unsaid c source input d may
 
 -- what comes of a source that is checked, of files
 pub checked_closes : (c : Command) (w : Wanted) (files : List File) (source input : List ℕ) (fr ir more_fr more_ir : Type 0) (e : End) → (fr → more_fr) → (ir → more_ir) → Checks source_spelling files c w source → IsFault c fr ir e ⊎ (SaysOf source input c w e ⊎ ComesOf source input c w e) → Closes source_spelling files input c more_fr more_ir e

@@ -10,10 +10,11 @@
 use Rattle.std.specs.Prelude.{◌≡◌, ℕ, ◌<◌, ◌≤◌, false, List, length, Option, Some, None, Result, Ok, Err}
 use Rattle.std.specs.Io.KnownBytes.{Appends}
 use Rattle.fip_language.specs.declared.limits.TheConstants.{MOST_SOURCE_BYTES, MOST_FILE_BYTES}
-use Rattle.fip_language.specs.declared.rule.Rule.TheVariants.{E61, E70, E74, E75}
+use Rattle.fip_language.specs.declared.rule.Rule.TheVariants.{E61, E70, E74}
 use Rattle.fip_base.specs.Files.{File, file_of}
-use Rattle.command_line.specs.Words.{Request, Command, Check, Compile, Verify, Upgrade, Exec, Run, Eval, Trace, Session}
-use Rattle.command_line.specs.Words.{Tasks, Derive, Audit, Replay, Library, Gen}
+use Rattle.trace_command.specs.TraceAnswer.{Traces}
+use Rattle.command_line.specs.Words.{Room, Request, Command, Check, Compile, Verify, Upgrade, Exec, Run, Eval, Trace}
+use Rattle.command_line.specs.Words.{Session, Tasks, Derive, Audit, Replay, Library, Gen}
 use Rattle.command_outcome.specs.Failures.{failure_status, failure_text}
 use Rattle.command_outcome.specs.Stages.{IsOfRun, IsOfTasks}
 use Rattle.command_outcome.specs.Successes.{derived_text}
@@ -30,6 +31,8 @@ use Rattle.fip_commands.specs.Generated.{IsTreeSource, build, IsTreeText}
 use Rattle.fip_commands.specs.Replayed.{IsReplayed}
 use Rattle.fip_library.specs.Texts.{IsText}
 use Rattle.loaded_runs.specs.TraceReading.{IsBadTrace}
+use Rattle.run_command.specs.CodeRun as R
+use Rattle.run_command.specs.ExecAnswer.{Execs}
 use Rattle.source_commands.specs.Derived.{IsDerivedFile, IsUnderived}
 use Rattle.source_commands.specs.Judged.{IsEarlyReport, IsProofOf, IsRejectedOf}
 use Rattle.source_commands.specs.ProgramCode.{IsUncompiled}
@@ -60,14 +63,11 @@ pub data SaysOf (source input : List ℕ) (c : Command) (w : Wanted) : End → T
 
 -- ---- what isn't said yet, and how it may be
 
--- how a run may end
-abbrev pub IsRunEnd : End → Type 0
-IsRunEnd (Ok text) = Unit {0}
-IsRunEnd (Err failure) = IsOfRun failure
-
-abbrev pub IsTraceEnd : End → Type 0
-IsTraceEnd (Err (F.Refused r)) = r ≡ bare E75
-IsTraceEnd e = IsRunEnd e
+-- `trace` prints this text, and stores some file.
+abbrev pub TracesTo : (source name input : List ℕ) → Room → End → Type 0
+TracesTo source name input room (Ok text) =
+    (file : List ℕ) × Traces source name input room (Ok (record { file = file; text = text }))
+TracesTo source name input room (Err failure) = Traces source name input room (Err failure)
 
 abbrev pub IsTasksEnd : End → Type 0
 IsTasksEnd (Ok text) = Unit {0}
@@ -82,14 +82,15 @@ abbrev pub IsCompileEnd : List ℕ → End → Type 0
 IsCompileEnd source (Ok text) = IsListing source text
 IsCompileEnd source (Err failure) = IsUncompiled source × (failure ≡ F.Refused (bare E61))
 
--- how a command may end on a source that has what is wanted
-abbrev pub MayEnd : Command → List ℕ → End → Type 0
-MayEnd (Compile file out) source e = IsCompileEnd source e
-MayEnd (Exec r) source e = IsRunEnd e
-MayEnd (Trace file entry out room) source e = IsTraceEnd e
-MayEnd (Session file room) source e = IsSessionEnd e
-MayEnd (Tasks file seed turns room) source e = IsTasksEnd e
-MayEnd c source e = ⊥
+-- How a command may end on a source that has what is wanted. `exec` ends with what the source means, and behind it the
+-- gauge of a run of its code, where that is asked for.
+abbrev pub MayEnd : Command → (source input : List ℕ) → End → Type 0
+MayEnd (Compile file out) source input e = IsCompileEnd source e
+MayEnd (Exec r) source input e = Execs source r.entry input r.room r.gauge e
+MayEnd (Trace file entry out room) source input e = TracesTo source entry input room e
+MayEnd (Session file room) source input e = IsSessionEnd e
+MayEnd (Tasks file seed turns room) source input e = IsTasksEnd e
+MayEnd c source input e = ⊥
 
 -- an input that isn't read, or hasn't too many bytes
 abbrev pub IsTaken : Command → List ℕ → Type 0
@@ -109,7 +110,7 @@ MakesCode c = ⊥
 pub data ComesOf (source input : List ℕ) (c : Command) (w : Wanted) : End → Type 0 where
   Unsound : (function at : ℕ) (rule : _) → MakesCode c → IsReady source w →
       ComesOf source input c w (Err (F.Unsound function at rule))
-  Ready : (e : End) → IsReady source w → IsTaken c input → MayEnd c source e → ComesOf source input c w e
+  Ready : (e : End) → IsReady source w → IsTaken c input → MayEnd c source input e → ComesOf source input c w e
 
 -- ---- what is said of a code file
 
@@ -136,12 +137,17 @@ pub data SaysOfCode (bytes input : List ℕ) (c : Command) : End → Type 0 wher
   LongRun : (r : Request) → c ≡ Run r → HasFunction bytes r.entry → MOST_FILE_BYTES < length input →
       SaysOfCode bytes input c (Err (F.BadInput MOST_FILE_BYTES))
 
--- A run of a function of a code file ends somehow.
+-- A function of a code file is run.
 pub record RunsCode (bytes input : List ℕ) (c : Command) : Type 0 where
   pub request : Request
   pub is : c ≡ Run request
   pub function : HasFunction bytes request.entry
   pub short : length input ≤ MOST_FILE_BYTES
+
+-- `run` ends with what its run comes to.
+abbrev pub MayEndOnCode : Command → (bytes input : List ℕ) → End → Type 0
+MayEndOnCode (Run r) bytes input e = R.RunsCode bytes r.entry input r.room r.gauge e
+MayEndOnCode c bytes input e = ⊥
 
 -- ---- what is said of `audit`
 
@@ -224,8 +230,8 @@ IsUnsaidOn c = Unit {0}
 pub data Comes (spelling : Spelling) (files : List File) (input : List ℕ) (c : Command) : End → Type 0 where
   MayOnSource : (w : Wanted) (source : List ℕ) (e : End) → IsUnsaidOn c → Checks spelling files c w source →
       ComesOf source input c w e → Comes spelling files input c e
-  MayOnCode : (bytes : List ℕ) (e : End) → IsThere files c bytes → RunsCode bytes input c → IsRunEnd e →
-      Comes spelling files input c e
+  MayOnCode : (bytes : List ℕ) (e : End) → IsThere files c bytes → RunsCode bytes input c →
+      MayEndOnCode c bytes input e → Comes spelling files input c e
   MayOfGen : (seed count : ℕ) (source : List ℕ) (e : End) → c ≡ Gen seed count → IsTreeSource source →
       IsReady source build → IsGenEnd count e → Comes spelling files input c e
 

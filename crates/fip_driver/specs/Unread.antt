@@ -7,7 +7,7 @@ use Rattle.std.specs.declared.vec.Vec.{Vec}
 use Rattle.std.specs.declared.alloc.Global.{Global}
 use Rattle.fip_base.specs.Faults.{Rose}
 use Rattle.fip_base.specs.Files.{File, HoldsFile, KeepsOthers}
-use Rattle.command_line.specs.Words.{Command, Compile, Derive, Trace, Upgrade, IsCommand}
+use Rattle.command_line.specs.Words.{Room, Command, Compile, Derive, Trace, Upgrade, IsCommand}
 use Rattle.command_outcome.specs.declared.failure.Failure.{Failure}
 use Rattle.command_outcome.specs.declared.failure.Failure.TheVariants as F
 use Rattle.command_outcome.specs.declared.failure.Object.TheVariants as O
@@ -15,6 +15,9 @@ use Rattle.source_commands.specs.Codes.{IsUpgraded}
 use Rattle.source_commands.specs.Derived.{IsDerivedFile}
 use Rattle.source_commands.specs.ProgramCode.{IsCompiledFile}
 use Rattle.source_commands.specs.Wanted.{Compiled, IsReady}
+use Rattle.loaded_runs.specs.TraceText as T
+use Rattle.loaded_runs.specs.TraceText.{trace_text}
+use Rattle.trace_command.specs.TraceAnswer.{IsTraceOf, IsLong}
 use Rattle.fip_driver.specs.Commands.{ReadsInput, CallsNoFolder}
 use Rattle.fip_driver.specs.Delivered.{Seen}
 
@@ -73,16 +76,22 @@ HadFolder words o = (c : Command) × IsCommand words c × (CallsNoFolder c → �
 abbrev pub LeavesInput : List (List ℕ) → Type 0
 LeavesInput words = (c : Command) × IsCommand words c × (ReadsInput c → ⊥)
 
--- What is stored, as far as it is said, by the files before: its file is there and has what is wanted. `compile` stores
--- the file of a code of its source, `upgrade` that of the second version of the code that it fetched, and `derive` the
--- text of the derivation that is made for its source.
+-- On some input the entry of the source has a run with this file of its trace.
+abbrev pub IsTraceFile : (source name : List ℕ) → Room → List ℕ → Type 0
+IsTraceFile source name room bytes = (input : List ℕ) × (t : T.Trace) × IsTraceOf source name input room t
+    × (IsLong t → ⊥) × (bytes ≡ trace_text t)
+
+-- What is stored, by the files before: its file is there and has what is wanted. `compile` stores the file of a code of
+-- its source, `upgrade` that of the second version of the code that it fetched, `derive` the text of the derivation that
+-- is made for its source, and `trace` the file of the trace of a run of its source's code.
 abbrev pub IsMadeBy : Command → Option (List File) → List ℕ → Type 0
 IsMadeBy (Compile file out) files bytes =
     (source : List ℕ) × HoldsFile files file source × IsCompiledFile source bytes
 IsMadeBy (Upgrade file out) files bytes = (code : List ℕ) × HoldsFile files file code × IsUpgraded code bytes
 IsMadeBy (Derive file out) files bytes =
     (source : List ℕ) × HoldsFile files file source × IsDerivedFile source bytes
-IsMadeBy (Trace file entry out room) files bytes = FindsSource (Trace file entry out room) files
+IsMadeBy (Trace file entry out room) files bytes = (source : List ℕ) × HoldsFile files file source
+    × IsReady source (Compiled entry) × IsTraceFile source entry room bytes
 IsMadeBy c files bytes = Unit {0}
 
 -- The command's file is stored under this name; each other file is as it was.

@@ -1,15 +1,18 @@
 // What running an entry comes to: a source's on either path, and a code's.
-ghost use Rattle.std.specs.Prelude.{◌≡◌, ◌≤◌, OnOk};
+ghost use Rattle.std.specs.Prelude.{◌≡◌, ◌≤◌, ℕ, List, OnOk};
 ghost use Rattle.std.specs.Io.KnownBytes.{IsAtEnd};
-ghost use Rattle.fip_language.specs.declared.limits.TheConstants.{MOST_STORE_WORDS};
+ghost use Rattle.fip_language.specs.declared.limits.TheConstants.{MOST_FRAMES, MOST_STORE_WORDS};
 ghost use Rattle.fip_base.specs.Faults.{Rose};
 ghost use Rattle.loop_form.specs.View.{loop_of};
-ghost use Rattle.command_line.specs.View.{request_of};
+ghost use Rattle.command_line.specs.View.{room_of, request_of};
 ghost use Rattle.command_line.specs.Words as W;
-ghost use Rattle.source_commands.specs.Wanted.{Compiled};
-ghost use Rattle.fip_driver.specs.Ends.{IsRunEnd};
+ghost use Rattle.source_commands.specs.Entries.{IsFunctionOf};
+ghost use Rattle.source_commands.specs.ProgramCode.{IsEntryOf};
+ghost use Rattle.source_commands.specs.Wanted.{Compiled, IsReady};
+ghost use Rattle.run_command.specs.CodeRun.{RunsCode};
+ghost use Rattle.run_command.specs.ExecAnswer.{Execs};
 ghost use Rattle.fip_driver.specs.Fronted.{IsSoundLoop, EntryOutcome};
-ghost use Rattle.fip_driver.specs.Outcome.{RequestOutcome, FileOutcome, InputOutcome, SourceOutcome, IsCounted};
+ghost use Rattle.fip_driver.specs.Outcome.{RequestOutcome, FileOutcome, ReadOutcome, SourceOutcome, IsCounted};
 ghost use Rattle.fip_driver.specs.Outcome.{end_of, IsFolderFault};
 ghost use Rattle.fip_driver.specs.Unread.{IsBeforeSource, IsBeforeInput};
 
@@ -58,8 +61,14 @@ fn run_ready<S: Source>(
     gauge: bool,
     input: &mut S,
 ) -> Result<Vec<u8>, Failure>
-    ensures outcome { InputOutcome IsRunEnd (S.left input.old) (Rose (S.faults input.old) (S.faults input.new))
-        (end_of result) }
+    requires words { room.words ≤ MOST_STORE_WORDS }
+    requires frames { room.frames ≤ MOST_FRAMES }
+    ensures means { (source name : List ℕ) → IsReady source (Compiled name) → IsEntryOf source name ready →
+        ReadOutcome (λ bytes. Execs source name bytes (room_of room) gauge) (S.left input.old)
+        (Rose (S.faults input.old) (S.faults input.new)) (end_of result) }
+    ensures runs { (code name : List ℕ) → IsFunctionOf code name ready →
+        ReadOutcome (λ bytes. RunsCode code name bytes (room_of room) gauge) (S.left input.old)
+        (Rose (S.faults input.old) (S.faults input.new)) (end_of result) }
     ensures read { OnOk result (IsAtEnd (S.left input.new)) }
     ensures late { IsBeforeInput result → ⊥ }
 {
@@ -76,6 +85,8 @@ fn exec_whole<S: Source>(
     source: &[u8],
     input: &mut S,
 ) -> Result<Vec<u8>, Failure>
+    requires words { request.now.room.words ≤ MOST_STORE_WORDS }
+    requires frames { request.now.room.frames ≤ MOST_FRAMES }
     ensures outcome { SourceOutcome (W.Exec (request_of request.now)) (Compiled request.now.entry.now) source.now
         (S.left input.old) ⊥ (Rose (S.faults input.old) (S.faults input.new)) (end_of result) }
     ensures read { OnOk result (IsAtEnd (S.left input.new)) }
@@ -97,6 +108,7 @@ pub fn exec<F: Folder, S: Source>(
     input: &mut S,
 ) -> Result<Vec<u8>, Failure>
     requires store { request.now.room.words ≤ MOST_STORE_WORDS }
+    requires frames { request.now.room.frames ≤ MOST_FRAMES }
     ensures outcome { RequestOutcome (request_of request.now) (F.files folder.old) (S.left input.old)
         (Rose (F.faults folder.old) (F.faults folder.new)) (Rose (S.faults input.old) (S.faults input.new)) result }
     ensures read { OnOk result (IsAtEnd (S.left input.new)) }
@@ -122,6 +134,8 @@ pub fn run<F: Folder, S: Source>(
     folder: &mut F,
     input: &mut S,
 ) -> Result<Vec<u8>, Failure>
+    requires words { request.now.room.words ≤ MOST_STORE_WORDS }
+    requires frames { request.now.room.frames ≤ MOST_FRAMES }
     ensures outcome { FileOutcome (W.Run (request_of request.now)) (F.files folder.old) (S.left input.old)
         (Rose (F.faults folder.old) (F.faults folder.new)) (Rose (S.faults input.old) (S.faults input.new))
         (end_of result) }

@@ -1,13 +1,16 @@
 // What the commands on traces come to: which object is called when.
-ghost use Rattle.std.specs.Prelude.{◌≡◌, ℕ, List, Option, IfErr, OnOk, Some};
+ghost use Rattle.std.specs.Prelude.{◌≡◌, ◌≤◌, ℕ, List, Option, IfOk, IfErr, OnOk, Some};
 ghost use Rattle.std.specs.Io.KnownBytes.{IsAtEnd};
+ghost use Rattle.fip_language.specs.declared.limits.TheConstants.{MOST_FRAMES, MOST_STORE_WORDS};
 ghost use Rattle.fip_base.specs.Faults.{Rose};
 ghost use Rattle.command_line.specs.View.{room_of};
 ghost use Rattle.command_line.specs.Words as W;
-ghost use Rattle.fip_driver.specs.Ends.{IsTraceEnd};
+ghost use Rattle.source_commands.specs.ProgramCode.{IsEntryOf};
+ghost use Rattle.source_commands.specs.Wanted.{Compiled as compiled_entry, IsReady};
+ghost use Rattle.fip_driver.specs.Ends.{TracesTo};
 ghost use Rattle.fip_driver.specs.Fetched.{IsLateFailure};
-ghost use Rattle.fip_driver.specs.Outcome.{FileOutcome, InputOutcome, IsCounted, end_of, compiled_end};
-ghost use Rattle.fip_driver.specs.Unread.{AreKept, IsBeforeSource, IsBeforeTrace, WaitsOr};
+ghost use Rattle.fip_driver.specs.Outcome.{FileOutcome, ReadOutcome, IsCounted, end_of, compiled_end};
+ghost use Rattle.fip_driver.specs.Unread.{AreKept, IsBeforeSource, IsBeforeTrace, IsTraceFile, WaitsOr};
 
 use crate::fetched::{fetch_source, fetch_trace, read_input};
 use crate::stored::store;
@@ -24,8 +27,13 @@ fn traced<S: Source>(
     room: Room,
     input: &mut S,
 ) -> Result<Compiled, Failure>
-    ensures outcome { InputOutcome IsTraceEnd (S.left input.old) (Rose (S.faults input.old) (S.faults input.new))
-        (compiled_end result) }
+    requires words { room.words ≤ MOST_STORE_WORDS }
+    requires frames { room.frames ≤ MOST_FRAMES }
+    ensures outcome { (source name : List ℕ) → IsReady source (compiled_entry name) → IsEntryOf source name ready →
+        ReadOutcome (λ bytes. TracesTo source name bytes (room_of room)) (S.left input.old)
+        (Rose (S.faults input.old) (S.faults input.new)) (compiled_end result) }
+    ensures made { (source name : List ℕ) → IsReady source (compiled_entry name) → IsEntryOf source name ready →
+        IfOk result (λ c. IsTraceFile source name (room_of room) c.file.items) }
     ensures read { OnOk result (IsAtEnd (S.left input.new)) }
     ensures fails { IfErr result IsLateFailure }
 {
@@ -45,6 +53,8 @@ pub fn trace<F: Folder, S: Source>(
     folder: &mut F,
     input: &mut S,
 ) -> Result<Vec<u8>, Failure>
+    requires words { room.words ≤ MOST_STORE_WORDS }
+    requires frames { room.frames ≤ MOST_FRAMES }
     ensures outcome { FileOutcome (W.Trace file.now entry.now out.now (room_of room)) (F.files folder.old)
         (S.left input.old) (Rose (F.faults folder.old) (F.faults folder.new))
         (Rose (S.faults input.old) (S.faults input.new)) (end_of result) }

@@ -9,7 +9,7 @@ use Rattle.fip_driver.proofs.Counted.{late_counted, source_counted, file_counted
 use Rattle.fip_driver.proofs.exec.run.Goals as goal
 
 pub returns-in-Ok-run_entry-clause-outcome : goal.returns-in-Ok-run_entry-clause-outcome
-returns-in-Ok-run_entry-clause-outcome g c = code_ends (W.Run (request_of c.args.request.now)) c.args.request.now.file.now (g.F.Folder.files c.args.folder.now) (g.S.Source.left c.args.input.now) ⊥ _ _ _ c.in-Ok.bytes.items c.as_slice.result.now (end_of c.run_ready.result) (λ r. absurd r) (λ r. r) c.in-Ok.ensures.found refl c.as_slice.ensures.value (run_ends (request_of c.args.request.now) c.as_slice.result.now (g.S.Source.left c.args.input.now) ⊥ _ (end_of c.run_ready.result) c.in-Ok-run_entry.ensures.ready c.run_ready.ensures.outcome)
+returns-in-Ok-run_entry-clause-outcome g c = code_ends (W.Run (request_of c.args.request.now)) c.args.request.now.file.now (g.F.Folder.files c.args.folder.now) (g.S.Source.left c.args.input.now) ⊥ _ _ _ c.in-Ok.bytes.items c.as_slice.result.now (end_of c.run_ready.result) (λ r. absurd r) (λ r. r) c.in-Ok.ensures.found refl c.as_slice.ensures.value (run_ends (request_of c.args.request.now) c.as_slice.result.now (g.S.Source.left c.args.input.now) ⊥ _ (end_of c.run_ready.result) c.in-Ok-run_entry.ensures.ready (c.run_ready.ensures.runs c.as_slice.result.now c.args.request.now.entry.now c.in-Ok-run_entry.ensures.code))
 
 pub returns-in-Ok-clause-outcome : goal.returns-in-Ok-clause-outcome
 returns-in-Ok-clause-outcome g c = code_ends (W.Run (request_of c.args.request.now)) c.args.request.now.file.now (g.F.Folder.files c.args.folder.now) (g.S.Source.left c.args.input.now) ⊥ ⊥ _ _ c.in-Ok.bytes.items c.as_slice.result.now _ (λ r. absurd r) (λ r. absurd r) c.in-Ok.ensures.found refl c.as_slice.ensures.value (run_refused (request_of c.args.request.now) c.as_slice.result.now (g.S.Source.left c.args.input.now) ⊥ ⊥ c.in-Err-run_entry.failure c.in-Err-run_entry.ensures.kept)

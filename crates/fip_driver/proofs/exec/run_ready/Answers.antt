@@ -1,10 +1,29 @@
-use Rattle.fip_driver.specs.Ends.{IsRunEnd}
-use Rattle.fip_driver.specs.Outcome.{end_of}
-use Rattle.fip_driver.proofs.SourceEnds.{unread_ends, read_ends, runs_end}
+use Rattle.std.proofs.Common.{◌≤◌, ℕ, List, length, sym, subst}
+use Rattle.fip_language.specs.declared.limits.TheConstants.{MOST_FILE_BYTES}
+use Rattle.command_line.specs.View.{room_of}
+use Rattle.eval_command.specs.EvalAnswer.{OrNoMemory}
+use Rattle.run_command.specs.CodeRun.{RunsCode}
+use Rattle.run_command.specs.ExecAnswer.{Execs}
+use Rattle.run_command.specs.Rooms.{IsAllowed}
+use Rattle.fip_driver.proofs.SourceEnds.{unread_says, read_says}
 use Rattle.fip_driver.proofs.exec.run_ready.Goals as goal
 
-pub returns-in-Ok-clause-outcome : goal.returns-in-Ok-clause-outcome
-returns-in-Ok-clause-outcome g c = read_ends IsRunEnd (g.S.Source.left c.args.input.now) _ _ c.in-Ok.bytes.items (end_of c.run.result) c.in-Ok.ensures.all c.in-Ok.ensures.end c.in-Ok.ensures.within (runs_end c.run.result c.run.ensures.stage)
+pub returns-in-Ok-clause-means : goal.returns-in-Ok-clause-means
+returns-in-Ok-clause-means g c = λ source name ready entry.
+    let within = subst (λ (xs : List ℕ). length xs ≤ MOST_FILE_BYTES) (sym c.as_slice.ensures.value) c.in-Ok.ensures.within in
+    let allowed : IsAllowed c.args.room = record { frames = c.requires.frames; words = c.requires.words } in
+    let means = subst (λ (xs : List ℕ). OrNoMemory (Execs source name xs (room_of c.args.room) c.args.gauge) c.run.result) c.as_slice.ensures.value (c.run.ensures.means source name ready entry allowed within) in
+    read_says (λ bytes. Execs source name bytes (room_of c.args.room) c.args.gauge) (g.S.Source.left c.args.input.now) _ _ c.in-Ok.bytes.items c.run.result c.in-Ok.ensures.all c.in-Ok.ensures.end c.in-Ok.ensures.within means
 
-pub returns-in-Err-clause-outcome : goal.returns-in-Err-clause-outcome
-returns-in-Err-clause-outcome g c = unread_ends IsRunEnd (g.S.Source.left c.args.input.now) _ _ _ c.in-Err.failure c.in-Err.ensures.fails
+pub returns-in-Err-clause-means : goal.returns-in-Err-clause-means
+returns-in-Err-clause-means g c = λ source name ready entry. unread_says (λ bytes. Execs source name bytes (room_of c.args.room) c.args.gauge) (g.S.Source.left c.args.input.now) _ _ _ c.in-Err.failure c.in-Err.ensures.fails
+
+pub returns-in-Ok-clause-runs : goal.returns-in-Ok-clause-runs
+returns-in-Ok-clause-runs g c = λ code name function.
+    let within = subst (λ (xs : List ℕ). length xs ≤ MOST_FILE_BYTES) (sym c.as_slice.ensures.value) c.in-Ok.ensures.within in
+    let allowed : IsAllowed c.args.room = record { frames = c.requires.frames; words = c.requires.words } in
+    let runs = subst (λ (xs : List ℕ). OrNoMemory (RunsCode code name xs (room_of c.args.room) c.args.gauge) c.run.result) c.as_slice.ensures.value (c.run.ensures.runs code name function allowed within) in
+    read_says (λ bytes. RunsCode code name bytes (room_of c.args.room) c.args.gauge) (g.S.Source.left c.args.input.now) _ _ c.in-Ok.bytes.items c.run.result c.in-Ok.ensures.all c.in-Ok.ensures.end c.in-Ok.ensures.within runs
+
+pub returns-in-Err-clause-runs : goal.returns-in-Err-clause-runs
+returns-in-Err-clause-runs g c = λ code name function. unread_says (λ bytes. RunsCode code name bytes (room_of c.args.room) c.args.gauge) (g.S.Source.left c.args.input.now) _ _ _ c.in-Err.failure c.in-Err.ensures.fails

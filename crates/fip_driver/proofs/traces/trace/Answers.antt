@@ -2,7 +2,8 @@ use Rattle.std.proofs.Common.{refl, subst, inl, inr}
 use Rattle.command_line.specs.Words as W
 use Rattle.command_line.specs.View.{room_of}
 use Rattle.source_commands.specs.Wanted.{Compiled, IsReady}
-use Rattle.fip_driver.specs.Ends.{IsTraceEnd}
+use Rattle.fip_driver.specs.Ends.{TracesTo}
+use Rattle.fip_driver.specs.Unread.{IsTraceFile}
 use Rattle.fip_driver.specs.Outcome.{end_of}
 use Rattle.fip_driver.proofs.SourceEnds.{trace_stored, input_ends, verified_ends, source_ends, fetch_ends}
 use Rattle.fip_driver.proofs.Storing.{stored_kept, unstored}
@@ -11,10 +12,10 @@ use Rattle.fip_driver.proofs.Counted.{stored_counted, late_failure_counted, sour
 use Rattle.fip_driver.proofs.traces.trace.Goals as goal
 
 pub returns-in-Ok-traced-clause-outcome : goal.returns-in-Ok-traced-clause-outcome
-returns-in-Ok-traced-clause-outcome g c = source_ends (W.Trace c.args.file.now c.args.entry.now c.args.out.now (room_of c.args.room)) (Compiled c.args.entry.now) c.args.file.now (g.F.Folder.files c.args.folder.now) (g.S.Source.left c.args.input.now) _ _ _ _ c.in-Ok.source.items c.as_slice.result.now (end_of c.store.result) (λ r. r) (λ r. r) c.in-Ok.ensures.found refl refl tt c.as_slice.ensures.value (trace_stored (g.S.Source.left c.args.input.now) _ c.args.file.now c.args.entry.now c.args.out.now c.as_slice.result.now c.in-Ok-traced.compiled.text.items (room_of c.args.room) _ _ _ (Compiled c.args.entry.now) c.store.result c.in-Ok.ensures.later c.in-Ok-exec_entry.ensures.ready c.in-Ok-traced.ensures.outcome c.store.ensures.told c.store.ensures.fails)
+returns-in-Ok-traced-clause-outcome g c = source_ends (W.Trace c.args.file.now c.args.entry.now c.args.out.now (room_of c.args.room)) (Compiled c.args.entry.now) c.args.file.now (g.F.Folder.files c.args.folder.now) (g.S.Source.left c.args.input.now) _ _ _ _ c.in-Ok.source.items c.as_slice.result.now (end_of c.store.result) (λ r. r) (λ r. r) c.in-Ok.ensures.found refl refl tt c.as_slice.ensures.value (trace_stored (g.S.Source.left c.args.input.now) _ c.args.file.now c.args.entry.now c.args.out.now c.as_slice.result.now c.in-Ok-traced.compiled.text.items (room_of c.args.room) _ _ _ (Compiled c.args.entry.now) c.store.result c.in-Ok.ensures.later c.in-Ok-exec_entry.ensures.ready (c.in-Ok-traced.ensures.outcome c.as_slice.result.now c.args.entry.now c.in-Ok-exec_entry.ensures.ready c.in-Ok-exec_entry.ensures.code) c.store.ensures.told c.store.ensures.fails)
 
 pub returns-in-Ok-exec_entry-clause-outcome : goal.returns-in-Ok-exec_entry-clause-outcome
-returns-in-Ok-exec_entry-clause-outcome g c = source_ends (W.Trace c.args.file.now c.args.entry.now c.args.out.now (room_of c.args.room)) (Compiled c.args.entry.now) c.args.file.now (g.F.Folder.files c.args.folder.now) (g.S.Source.left c.args.input.now) ⊥ _ _ _ c.in-Ok.source.items c.as_slice.result.now _ (λ r. absurd r) (λ r. r) c.in-Ok.ensures.found refl refl tt c.as_slice.ensures.value (input_ends (W.Trace c.args.file.now c.args.entry.now c.args.out.now (room_of c.args.room)) (Compiled c.args.entry.now) c.as_slice.result.now (g.S.Source.left c.args.input.now) ⊥ _ IsTraceEnd _ c.in-Ok-exec_entry.ensures.ready tt (λ d m. m) c.in-Err-traced.ensures.outcome)
+returns-in-Ok-exec_entry-clause-outcome g c = source_ends (W.Trace c.args.file.now c.args.entry.now c.args.out.now (room_of c.args.room)) (Compiled c.args.entry.now) c.args.file.now (g.F.Folder.files c.args.folder.now) (g.S.Source.left c.args.input.now) ⊥ _ _ _ c.in-Ok.source.items c.as_slice.result.now _ (λ r. absurd r) (λ r. r) c.in-Ok.ensures.found refl refl tt c.as_slice.ensures.value (input_ends (W.Trace c.args.file.now c.args.entry.now c.args.out.now (room_of c.args.room)) (Compiled c.args.entry.now) c.as_slice.result.now (g.S.Source.left c.args.input.now) ⊥ _ (λ input. TracesTo c.as_slice.result.now c.args.entry.now input (room_of c.args.room)) _ c.in-Ok-exec_entry.ensures.ready tt (λ input d m. m) (c.in-Err-traced.ensures.outcome c.as_slice.result.now c.args.entry.now c.in-Ok-exec_entry.ensures.ready c.in-Ok-exec_entry.ensures.code))
 
 pub returns-in-Ok-clause-outcome : goal.returns-in-Ok-clause-outcome
 returns-in-Ok-clause-outcome g c = source_ends (W.Trace c.args.file.now c.args.entry.now c.args.out.now (room_of c.args.room)) (Compiled c.args.entry.now) c.args.file.now (g.F.Folder.files c.args.folder.now) (g.S.Source.left c.args.input.now) ⊥ ⊥ _ _ c.in-Ok.source.items c.as_slice.result.now _ (λ r. absurd r) (λ r. absurd r) c.in-Ok.ensures.found refl refl tt c.as_slice.ensures.value (verified_ends (W.Trace c.args.file.now c.args.entry.now c.args.out.now (room_of c.args.room)) (Compiled c.args.entry.now) c.as_slice.result.now (g.S.Source.left c.args.input.now) ⊥ ⊥ c.in-Err-exec_entry.failure tt c.in-Err-exec_entry.ensures.kept)
@@ -26,7 +27,7 @@ pub returns-in-Ok-traced-clause-before : goal.returns-in-Ok-traced-clause-before
 returns-in-Ok-traced-clause-before g c = λ b. absurd (stored_after_input _ _ c.store.result c.store.ensures.fails b)
 
 pub returns-in-Ok-traced-clause-kept : goal.returns-in-Ok-traced-clause-kept
-returns-in-Ok-traced-clause-kept g c = stored_kept (W.Trace c.args.file.now c.args.entry.now c.args.out.now (room_of c.args.room)) c.args.out.now c.in-Ok-traced.compiled.file.items (g.F.Folder.files c.args.folder.now) _ _ _ _ _ c.store.result c.in-Ok.ensures.same c.in-Ok.ensures.later (c.in-Ok.source.items, c.in-Ok.ensures.found, subst (λ xs. IsReady xs (Compiled c.args.entry.now)) c.as_slice.ensures.value c.in-Ok-exec_entry.ensures.ready) c.store.ensures.fails c.store.ensures.kept
+returns-in-Ok-traced-clause-kept g c = stored_kept (W.Trace c.args.file.now c.args.entry.now c.args.out.now (room_of c.args.room)) c.args.out.now c.in-Ok-traced.compiled.file.items (g.F.Folder.files c.args.folder.now) _ _ _ _ _ c.store.result c.in-Ok.ensures.same c.in-Ok.ensures.later (c.in-Ok.source.items, c.in-Ok.ensures.found, subst (λ xs. IsReady xs (Compiled c.args.entry.now)) c.as_slice.ensures.value c.in-Ok-exec_entry.ensures.ready, subst (λ xs. IsTraceFile xs c.args.entry.now (room_of c.args.room) c.in-Ok-traced.compiled.file.items) c.as_slice.ensures.value (c.in-Ok-traced.ensures.made c.as_slice.result.now c.args.entry.now c.in-Ok-exec_entry.ensures.ready c.in-Ok-exec_entry.ensures.code)) c.store.ensures.fails c.store.ensures.kept
 
 pub returns-in-Ok-traced-clause-counted : goal.returns-in-Ok-traced-clause-counted
 returns-in-Ok-traced-clause-counted g c = stored_counted (g.F.Folder.files c.args.folder.now) _ _ _ c.store.result c.in-Ok.ensures.later c.store.ensures.fails

@@ -1,10 +1,24 @@
-use Rattle.fip_driver.specs.Ends.{IsTraceEnd}
-use Rattle.fip_driver.specs.Outcome.{compiled_end}
-use Rattle.fip_driver.proofs.SourceEnds.{unread_ends, read_ends, traces_end}
+use Rattle.std.proofs.Common.{◌≤◌, ℕ, List, length, sym, subst}
+use Rattle.fip_language.specs.declared.limits.TheConstants.{MOST_FILE_BYTES}
+use Rattle.command_line.specs.View.{room_of}
+use Rattle.run_command.specs.Rooms.{IsAllowed}
+use Rattle.trace_command.specs.TraceAnswer.{Traces, KeptOrNoMemory}
+use Rattle.fip_driver.specs.Ends.{TracesTo}
+use Rattle.fip_driver.proofs.SourceEnds.{unread_says, read_traces, trace_made}
 use Rattle.fip_driver.proofs.traces.traced.Goals as goal
 
 pub returns-in-Ok-clause-outcome : goal.returns-in-Ok-clause-outcome
-returns-in-Ok-clause-outcome g c = read_ends IsTraceEnd (g.S.Source.left c.args.input.now) _ _ c.in-Ok.bytes.items (compiled_end c.trace.result) c.in-Ok.ensures.all c.in-Ok.ensures.end c.in-Ok.ensures.within (traces_end c.trace.result c.trace.ensures.stage c.trace.ensures.long)
+returns-in-Ok-clause-outcome g c = λ source name ready entry.
+    let within = subst (λ (xs : List ℕ). length xs ≤ MOST_FILE_BYTES) (sym c.as_slice.ensures.value) c.in-Ok.ensures.within in
+    let allowed : IsAllowed c.args.room = record { frames = c.requires.frames; words = c.requires.words } in
+    let traces = subst (λ (xs : List ℕ). KeptOrNoMemory (Traces source name xs (room_of c.args.room)) c.trace.result) c.as_slice.ensures.value (c.trace.ensures.traces source name ready entry allowed within) in
+    read_traces source name (room_of c.args.room) (g.S.Source.left c.args.input.now) _ _ c.in-Ok.bytes.items c.trace.result c.in-Ok.ensures.all c.in-Ok.ensures.end c.in-Ok.ensures.within traces
 
 pub returns-in-Err-clause-outcome : goal.returns-in-Err-clause-outcome
-returns-in-Err-clause-outcome g c = unread_ends IsTraceEnd (g.S.Source.left c.args.input.now) _ _ _ c.in-Err.failure c.in-Err.ensures.fails
+returns-in-Err-clause-outcome g c = λ source name ready entry. unread_says (λ input. TracesTo source name input (room_of c.args.room)) (g.S.Source.left c.args.input.now) _ _ _ c.in-Err.failure c.in-Err.ensures.fails
+
+pub returns-in-Ok-clause-made : goal.returns-in-Ok-clause-made
+returns-in-Ok-clause-made g c = λ source name ready entry.
+    let within = subst (λ (xs : List ℕ). length xs ≤ MOST_FILE_BYTES) (sym c.as_slice.ensures.value) c.in-Ok.ensures.within in
+    let allowed : IsAllowed c.args.room = record { frames = c.requires.frames; words = c.requires.words } in
+    trace_made source name c.as_slice.result.now (room_of c.args.room) c.trace.result (c.trace.ensures.traces source name ready entry allowed within)

@@ -6,7 +6,6 @@ ghost use Rattle.std.specs.Cmp.Lexicographic.{slice_cmp};
 ghost use Rattle.std.specs.Ordering.{nat_cmp};
 
 use crate::entries::{Entries, frames_of};
-use crate::trees::{MOST_CELLS, Trees};
 use cell_code::Function;
 use cell_store::{Cells, Sealed};
 use code_verify::Verified;
@@ -14,6 +13,7 @@ use fip_base::plain::NoMemory;
 use fip_base::table::TypeTable;
 use std::alloc::Global;
 use std::collections::BTreeMap;
+use store_trees::{MOST_CELLS, Trees};
 use value_text::print_value;
 
 /// What a name holds: a value, as its type and its word.

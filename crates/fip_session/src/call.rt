@@ -7,10 +7,10 @@ use crate::plan::{Plan, plan_of};
 use crate::ready::{Ready, make_ready};
 use crate::reply::{Reply, Stop};
 use crate::sweep::keep_only;
-use crate::trees::{MOST_CELLS, Trees, release};
 use cell_store::{Loader, Sealed, seal};
 use fip_base::plain::NoMemory;
 use fip_machine::{Ended, Gauge, Machine};
+use store_trees::{MOST_CELLS, Trees, release};
 
 // Cells of names that a call uses up are noted before it runs, as long as there are no more than so many. Where a run
 // ends without a value and not all of them were noted, the whole store is looked through.

@@ -1,19 +1,18 @@
 // Whole inputs: all lines of a session, and a list of tasks that take turns.
 ghost use Rattle.std.specs.Prelude.{◌≡◌, ◌≤◌, ◌<◌, length, IfOk, All};
 ghost use Rattle.fip_language.specs.declared.limits.TheConstants.{MOST_FRAMES, MOST_STORE_WORDS};
-ghost use Rattle.fip_session.specs.Turns.{CanStart};
+ghost use Rattle.fip_tasks.specs.Turns.{CanStart};
 
 use crate::entries::{Entries, frames_of};
 use crate::reply::end_text;
 use crate::session::Session;
-use crate::task::Start;
 use crate::task_line::{TaskLine, task_of};
-use crate::tasks::Tasks;
 use cell_store::Loader;
 use code_verify::Verified;
 use fip_base::plain::NoMemory;
 use fip_language::limits::MOST_FIELDS;
 use fip_machine::Ended;
+use fip_tasks::{Start, Tasks};
 use fip_trees::program::Typed;
 use std::alloc::{AllocError, AllocFailed, Global};
 use thiserror::Error;
@@ -191,7 +190,7 @@ fn drawn_after(number: u64) -> u64
 // So many turns, of tasks that are drawn from a seed.
 fn take_turns(tasks: &mut Tasks, seed: u64, turns: u64)
     requires seed { seed < 2147483648 }
-    ensures number { tasks.new.number ≡ tasks.old.number }
+    ensures number { length tasks.new.tasks ≡ length tasks.old.tasks }
 {
     let count = tasks.len();
     if count == 0 {
@@ -214,7 +213,7 @@ fn put_results(
     entry: usize,
     out: &mut Vec<u8>,
 ) -> Result<(), NoMemory>
-    requires there { k < tasks.now.number }
+    requires there { k < length tasks.now.tasks }
 {
     let Some(function) = verified.code().functions.get(entry) else {
         return Ok(());
@@ -241,7 +240,7 @@ fn put_task(
     ended: Ended,
     out: &mut Vec<u8>,
 ) -> Result<(), NoMemory>
-    requires there { k < tasks.now.number }
+    requires there { k < length tasks.now.tasks }
 {
     let number = format!(in alloc; "{k}: ")?;
     out.extend_from_slice(number.as_bytes())?;

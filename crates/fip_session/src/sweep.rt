@@ -1,8 +1,8 @@
 // Releases all cells that nothing holds.
-use crate::trees::{MOST_CELLS, Trees, release};
 use cell_store::Sealed;
 use fip_base::plain::NoMemory;
 use std::alloc::Global;
+use store_trees::{MOST_CELLS, Trees, release};
 
 // For each place up to the greatest root's, whether it is a root of these trees.
 fn marks_of(alloc: Global, kept: &Trees) -> Result<Vec<bool>, NoMemory> {

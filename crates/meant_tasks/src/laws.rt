@@ -1,18 +1,25 @@
-// The law on tasks of an accepted source's code. It is the contract of a function that does nothing.
-ghost use Rattle.std.specs.Prelude.{◌≡◌, ◌<◌, ℕ, List, Some, length, slice_get};
+// The laws on tasks of an accepted source's code. Each is the contract of a function that does nothing.
+ghost use Rattle.std.specs.Prelude.{◌≡◌, ◌<◌, ℕ, List, [], Some, length, slice_get};
 ghost use Rattle.fip_language.specs.Core.{Core};
 ghost use Rattle.fip_language.specs.Meaning.{meaning};
 ghost use Rattle.fip_language.specs.Statics.{NoClosed};
 ghost use Rattle.cell_code.specs.declared.code.Code.{Code};
+ghost use Rattle.code_runs.specs.Codes as R;
 ghost use Rattle.code_runs.specs.Runs.{End, Over};
 ghost use Rattle.code_runs.specs.States.{State};
 ghost use Rattle.code_runs.specs.Steps.{Kinds};
 ghost use Rattle.sound_code.specs.Codes.{plain};
 ghost use Rattle.code_separation.specs.Codes.{run_code, AreKinds};
+ghost use Rattle.code_verify.specs.Checked.{Checked};
+ghost use Rattle.fip_machine.specs.declared.machine.Ended.{Ended};
+ghost use Rattle.fip_machine.specs.Tasks.{state_with};
 ghost use Rattle.tree_agreement.specs.Runs.{IsSameEnd};
 ghost use Rattle.task_schedules.specs.Projected.{Begun};
 ghost use Rattle.task_schedules.specs.Schedules.{Shared, scheduled};
 ghost use Rattle.loaded_tasks.specs.Laid.{Task, AreLaid};
+ghost use Rattle.fip_tasks.specs.Shown.{Shows};
+ghost use Rattle.fip_tasks.specs.Turns.{Standing, Turns};
+ghost use Rattle.meant_runs.specs.Meant.{IsMeant};
 ghost use Rattle.meant_runs.specs.Starts.{IsCodeOf};
 
 /// Where calls of functions of an accepted source's code are loaded one behind another, a task that has ended, whatever
@@ -28,4 +35,19 @@ pub fn tasks_end_as_the_source_means()
         IsSameEnd code.types t.header.results
         (record last { store = (scheduled before (run_code (plain code)) schedule first).store }) left e
         (meaning core t.header.name NoClosed t.arguments t.calls t.frames).answer }
+{}
+
+/// And so the calls on tasks answer: where tasks stand where the runs of a schedule do, whatever its turns are, one
+/// that has an end has the one that the source means by the function of its name on its arguments, with its calls and
+/// frames; behind a value the words of its results stand in the store for the values that are meant. For who prints
+/// what tasks answer.
+pub fn tasks_answer_what_the_source_means()
+    ensures law { (source : List ℕ) (core : Core) (v : Checked) (before waits : Kinds) (tasks : List Task)
+        (alone : List Begun) (first : Shared) (schedule : List ℕ) (turns : Turns) (k : ℕ) (t : Task) (a : Standing)
+        (e : Ended) → IsCodeOf source core v.code → AreKinds (plain v.code) before waits →
+        AreLaid (plain v.code) tasks alone first →
+        Shows v turns (scheduled before (R.plain v.code) schedule first) →
+        slice_get tasks k ≡ Some t → 0 < length t.header.name → slice_get turns.tasks k ≡ Some a → a.ended ≡ Some e →
+        IsMeant v.code.types t.header.results e (state_with a.stack [] turns.store) a.stack.given (meaning core
+        t.header.name NoClosed t.arguments t.calls t.frames).answer }
 {}

@@ -1,4 +1,4 @@
-// What the tasks of a list come to by what their source means. A law; no code.
+// What the tasks of a list come to, and answer, by what their source means. Laws; no code.
 #![tactic(auto)]
 
 pub mod laws;

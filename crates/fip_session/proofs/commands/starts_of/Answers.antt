@@ -1,6 +1,6 @@
 use Rattle.std.proofs.Common.{◌∷◌, ◌++◌, All, sym, subst}
 use Rattle.std.proofs.lemmas.List.Elements.{All-push}
-use Rattle.fip_session.specs.Turns.{CanStart}
+use Rattle.fip_tasks.specs.Turns.{CanStart}
 use Rattle.fip_session.proofs.commands.starts_of.Goals as goal
 
 -- a start is put behind those that can be started, and can be

@@ -1,5 +1,5 @@
 use Rattle.std.proofs.Common.{All}
-use Rattle.fip_session.specs.Turns.{CanStart}
+use Rattle.fip_tasks.specs.Turns.{CanStart}
 use Rattle.fip_session.proofs.commands.starts_of.Given as goal
 
 -- each of them can be started

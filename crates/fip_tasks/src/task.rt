@@ -1,8 +1,9 @@
 // A task: frames, and what is known of its run.
-ghost use Rattle.std.specs.Prelude.{◌≡◌, ◌<◌};
-ghost use Rattle.fip_session.specs.Turns.{CanStart};
+ghost use Rattle.std.specs.Prelude.{◌≡◌, ◌<◌, IfOk, None, Some};
+ghost use Rattle.fip_tasks.specs.Turns.{CanStart};
+ghost use Rattle.fip_tasks.specs.Shown.{turned_by};
+ghost use Rattle.fip_tasks.specs.Landing.{standing, end_by, Lands, Goes, IsNew};
 
-use crate::trees::{MOST_CELLS, Trees};
 use cell_store::{Cells, Sealed};
 use code_verify::Verified;
 use fip_base::plain::{FunKind, NoMemory, TrapKind, Words};
@@ -10,6 +11,7 @@ use fip_base::table::TypeTable;
 use fip_language::limits::MOST_FIELDS;
 use fip_machine::{Ended, Gauge, Stepped, TaskStack};
 use std::alloc::Global;
+use store_trees::{MOST_CELLS, Trees};
 
 // The sizes of cells.
 const SIZES: usize = MOST_FIELDS;
@@ -45,7 +47,9 @@ pub enum Turned {
 
 impl Turned {
     // The turn with which a task ends, or after it has ended so.
-    fn of(ended: Ended) -> Turned {
+    fn of(ended: Ended) -> Turned
+        ensures is { result ≡ turned_by (Some ended) }
+    {
         match ended {
             Ended::Value => Turned::Value,
             Ended::Trap { kind, line, col } => Turned::Trap { kind, line, col },
@@ -144,6 +148,7 @@ impl<'a> Task<'a> {
         start: &Start,
     ) -> Result<Task<'a>, NoMemory>
         requires can { CanStart verified.now start.now }
+        ensures new { IfOk result (λ t. IsNew verified.now start.now (standing t)) }
     {
         let held = held_at_start(alloc, verified, cells, start)?;
         let words = start.words.copy(alloc)?.into_vec();
@@ -173,12 +178,16 @@ impl<'a> Task<'a> {
     }
 
     /// How it ended; none while it goes on.
-    pub fn ended(&self) -> Option<Ended> {
+    pub fn ended(&self) -> Option<Ended>
+        ensures is { result ≡ self.now.ended }
+    {
         self.ended
     }
 
     /// The words of its results, after Value.
-    pub fn results(&self) -> &[u64] {
+    pub fn results(&self) -> &[u64]
+        ensures given { result.now ≡ self.now.stack.given }
+    {
         self.stack.results()
     }
 
@@ -189,7 +198,7 @@ impl<'a> Task<'a> {
 
     // Takes in the cells that were released. False where none was.
     fn count_released(&mut self) -> bool
-        ensures stack { self.new.stack ≡ self.old.stack }
+        ensures stands { standing self.new ≡ standing self.old }
     {
         let mut fell = false;
         for k in 1..=SIZES {
@@ -202,7 +211,7 @@ impl<'a> Task<'a> {
 
     // Shows the gauge the state that it is in, where that tells it more.
     fn look(&mut self)
-        ensures stack { self.new.stack ≡ self.old.stack }
+        ensures stands { standing self.new ≡ standing self.old }
     {
         let frames = self.stack.frames();
         let words = self.stack.words();
@@ -214,7 +223,11 @@ impl<'a> Task<'a> {
 
     // Does one instruction.
     fn advance(&mut self, cells: &mut Sealed) -> Advanced
+        ensures lands { Lands (standing self.old) cells.old (standing self.new) cells.new }
+        ensures ended { self.new.ended ≡ end_by result }
         ensures less { result ≡ Advanced.Went → self.new.stack.weight < self.old.stack.weight }
+        ensures kept { result ≡ Advanced.Went → self.new.calls_left ≡ self.old.calls_left }
+        ensures fewer { result ≡ Advanced.Called → self.new.calls_left < self.old.calls_left }
     {
         if let Some(ended) = self.ended {
             return Advanced::Over(ended);
@@ -227,10 +240,12 @@ impl<'a> Task<'a> {
         self.look();
         let ended = match stepped {
             Stepped::Went => return Advanced::Went,
-            Stepped::Entered => {
-                self.calls_left = self.calls_left.saturating_sub(1);
+            Stepped::Entered if self.calls_left > 0 => {
+                self.calls_left -= 1;
                 return Advanced::Called;
             }
+            // Only a call enters a function, and none is done where no call is left.
+            Stepped::Entered => Ended::Out,
             Stepped::Value => Ended::Value,
             Stepped::Trap { kind, line, col } => Ended::Trap { kind, line, col },
             Stepped::Deep => Ended::Deep,
@@ -241,31 +256,40 @@ impl<'a> Task<'a> {
 
     /// Does one instruction on the cells. A task that would call and has no call left ends. Once it has ended, it
     /// answers its end again and changes nothing.
-    pub fn turn(&mut self, cells: &mut Sealed) -> Turned {
+    pub fn turn(&mut self, cells: &mut Sealed) -> Turned
+        ensures lands { Lands (standing self.old) cells.old (standing self.new) cells.new }
+        ensures told { result ≡ turned_by self.new.ended }
+    {
         match self.advance(cells) {
             Advanced::Went | Advanced::Called => Turned::Went,
             Advanced::Over(ended) => Turned::of(ended),
         }
     }
 
-    // Goes on until a call is done, or to the end.
-    fn run_to_call(&mut self, cells: &mut Sealed) -> Advanced {
+    // Goes on to the end, or until a call is done; none there.
+    fn run_to_call(&mut self, cells: &mut Sealed) -> Option<Ended>
+        ensures goes { Goes (standing self.old) cells.old (standing self.new) cells.new }
+        ensures ended { self.new.ended ≡ result }
+        ensures fewer { result ≡ None → self.new.calls_left < self.old.calls_left }
+    {
         loop {
             match self.advance(cells) {
                 Advanced::Went => {}
-                other => return other,
+                Advanced::Called => return None,
+                Advanced::Over(ended) => return Some(ended),
             }
         }
     }
 
     /// Takes turns to the end.
-    pub fn finish(&mut self, cells: &mut Sealed) -> Ended {
-        for _ in 0..=self.calls_left {
-            if let Advanced::Over(ended) = self.run_to_call(cells) {
+    pub fn finish(&mut self, cells: &mut Sealed) -> Ended
+        ensures goes { Goes (standing self.old) cells.old (standing self.new) cells.new }
+        ensures ended { self.new.ended ≡ Some result }
+    {
+        loop {
+            if let Some(ended) = self.run_to_call(cells) {
                 return ended;
             }
         }
-        // Each round but the last took a call.
-        Ended::Out
     }
 }

@@ -1,0 +1,260 @@
+-- A task's turn leads to where the written run stands one step later.
+-- The idea: a task that goes on is in a state of its run but for the cells, which are those of the store. What its step
+-- came to is told by what the definition says comes next, and each way that this may come about is a case.
+use Rattle.std.proofs.Common.{◌≡◌, ◌≢◌, ℕ, zero, suc, ◌-◌, ◌<◌, arith, Bool, true, false, List, [], Option, Some, None, refl, sym, ap, subst, ◌∙◌}
+use Rattle.cell_store.specs.Made.{Stored}
+use Rattle.code_verify.specs.Checked.{Checked}
+use Rattle.code_runs.specs.Codes.{PlainCode, plain}
+use Rattle.code_runs.specs.Cells.{Store}
+use Rattle.code_runs.specs.States.{Typed, State, Next, Went, Entered, Gave, Trapped, TooDeep, Stuck}
+use Rattle.code_runs.specs.Steps.{Kinds, instr_of, kinds_of, next}
+use Rattle.code_runs.specs.Runs.{End, Value, Trap, Out, Deep, Unsound, Run, Going, Over, state_of, begun, comes, later, after}
+use Rattle.machine_cells.specs.Small.{IsSmall}
+use Rattle.machine_rows.specs.declared.rows.Stepped.{Stepped}
+use Rattle.machine_rows.specs.declared.rows.Stepped.TheVariants as S
+use Rattle.machine_rows.specs.Coming.{Comes, KnowsAt}
+use Rattle.fip_machine.specs.declared.machine.Ended.{Ended}
+use Rattle.fip_machine.specs.declared.machine.Ended.TheVariants as M
+use Rattle.fip_machine.specs.Along.{is_call_in, calls_next}
+use Rattle.fip_machine.specs.Tasks.{Stand, state_with, ended_by}
+use Rattle.fip_machine.proofs.Mosts.{after_later}
+use Rattle.task_schedules.specs.Schedules.{in_store}
+use Rattle.fip_tasks.specs.Landing.{IsLanded, Lands, Goes, IsNew, cells_of}
+use Rattle.fip_tasks.specs.Shown.{IsAt, HasEnded, StandsAt, CanGo, IsStarted}
+use Rattle.fip_tasks.specs.Turns.{Standing}
+use Rattle.fip_tasks.specs.declared.task.Start.{Start}
+use Rattle.fip_tasks.proofs.Called.{IsCalling, calling, out}
+
+-- ---- the cells of a run
+
+-- the state of a task over other cells
+at_cells : (u : Stand) (s : State) (cells : Store) → state_with u s.lent s.store ≡ s → state_with u s.lent cells ≡ record s { store = cells }
+at_cells u s cells e = ap (λ (q : State). record q { store = cells }) e
+
+pub over_cells : (v : Checked) (t : Standing) (cells : Store) (r : Run) → StandsAt v t r → StandsAt v t (in_store cells r)
+over_cells v t cells (Going s l n) h = record {
+  code = h.code;
+  state = at_cells t.stack s cells h.state;
+  going = h.going;
+  on = h.on;
+  left = h.left;
+}
+over_cells v t cells (Over (Value ws) s l n) h = h
+over_cells v t cells (Over (Trap kind line col) s l n) h = h
+over_cells v t cells (Over Out s l n) h = h
+over_cells v t cells (Over Deep s l n) h = h
+over_cells v t cells (Over Unsound s l n) h = h
+
+pub from_cells : (v : Checked) (t : Standing) (cells : Store) (r : Run) → StandsAt v t (in_store cells r) → StandsAt v t r
+from_cells v t cells (Going s l n) h = record {
+  code = h.code;
+  state = at_cells t.stack (record s { store = cells }) s.store h.state;
+  going = h.going;
+  on = h.on;
+  left = h.left;
+}
+from_cells v t cells (Over (Value ws) s l n) h = h
+from_cells v t cells (Over (Trap kind line col) s l n) h = h
+from_cells v t cells (Over Out s l n) h = h
+from_cells v t cells (Over Deep s l n) h = h
+from_cells v t cells (Over Unsound s l n) h = h
+
+pub cells_in : (cells : Store) (r : Run) → (state_of (in_store cells r)).store ≡ cells
+cells_in cells (Going s l n) = refl
+cells_in cells (Over e s l n) = refl
+
+pub own_cells : (r : Run) → in_store (state_of r).store r ≡ r
+own_cells (Going s l n) = refl
+own_cells (Over e s l n) = refl
+
+pub in_own : (cells : Store) (r : Run) → (state_of r).store ≡ cells → in_store cells r ≡ r
+in_own cells r e = ap (λ c. in_store c r) (sym e) ∙ own_cells r
+
+-- ---- one step
+
+-- the calls that are left and the end, by what a step came to
+abbrev pub Fits : Stepped → ℕ → Standing → Type 0
+Fits S.Went l u = (u.ended ≡ None) × (u.left ≡ l)
+Fits S.Entered zero u = Unit {0}
+Fits S.Entered (suc l) u = (u.ended ≡ None) × (u.left ≡ l)
+Fits S.Value l u = u.ended ≡ Some M.Value
+Fits (S.Trap kind line col) l u = u.ended ≡ Some (M.Trap kind line col)
+Fits S.Deep l u = u.ended ≡ Some M.Deep
+
+landed_going : (v : Checked) (s t : State) (l k : ℕ) (u : Standing) (cells : Store) → state_with u.stack s.lent cells ≡ t → u.stack.code ≡ v → u.stack.ended ≡ None → u.ended ≡ None → u.left ≡ l → IsLanded v u cells (Going t l k)
+landed_going v s t l k u cells e code going on left = subst (λ (q : State). IsLanded v u cells (Going q l k)) e (record {
+  stands = record { code = code; state = refl; going = going; on = on; left = left };
+  cells = refl;
+})
+
+same_cells : (s : State) (u : Standing) (cells : Store) → state_with u.stack s.lent cells ≡ s → s.store ≡ cells
+same_cells s u cells e = sym (ap (λ (q : State). q.store) e)
+
+not_both : {A : Type 0} (b : Bool) → b ≡ true → b ≡ false → A
+not_both b e f = absurd cc
+
+came : (v : Checked) (s : State) (l k : ℕ) (call : Bool) (x : Next) (r : Stepped) (u : Standing) (cells : Store) → Comes s x r (state_with u.stack s.lent cells) u.stack.given → x ≢ Stuck → IsCalling call x → (l ≡ 0 → call ≡ false) → u.stack.code ≡ v → u.stack.ended ≡ ended_by r → Fits r l u → IsLanded v u cells (comes s l k x)
+came v s l k call (Went t) r u cells h known calls none code ends fits =
+    let f : Fits S.Went l u = subst (λ q. Fits q l u) h.0 fits in
+    landed_going v s t l k u cells h.1 code (ends ∙ ap ended_by h.0) f.0 f.1
+came v s zero k call (Entered t) r u cells h known calls none code ends fits = not_both call calls (none refl)
+came v s (suc l) k call (Entered t) r u cells h known calls none code ends fits =
+    let f : Fits S.Entered (suc l) u = subst (λ q. Fits q (suc l) u) h.0 fits in
+    landed_going v s t l k u cells h.1 code (ends ∙ ap ended_by h.0) f.0 f.1
+came v s l k call (Gave ws) r u cells h known calls none code ends fits =
+    let f : Fits S.Value l u = subst (λ q. Fits q l u) h.0 fits in
+    record { stands = (f, h.2); cells = same_cells s u cells h.1 }
+came v s l k call (Trapped kind line col) r u cells h known calls none code ends fits =
+    let f : Fits (S.Trap kind line col) l u = subst (λ q. Fits q l u) h.0 fits in
+    record { stands = f; cells = same_cells s u cells h.1 }
+came v s zero k call TooDeep r u cells h known calls none code ends fits = not_both call calls (none refl)
+came v s (suc l) k call TooDeep r u cells h known calls none code ends fits =
+    let f : Fits S.Deep (suc l) u = subst (λ q. Fits q (suc l) u) h.0 fits in
+    record { stands = f; cells = same_cells s u cells h.1 }
+came v s l k call Stuck r u cells h known calls none code ends fits = absurd (known refl)
+
+not_ended : {A : Type 0} (t : Standing) (e : End) → HasEnded t e → t.ended ≡ None → A
+not_ended t (Value ws) h e = let f = h.0 in absurd cc
+not_ended t (Trap kind line col) h e = absurd cc
+not_ended t Out h e = absurd cc
+not_ended t Deep h e = absurd cc
+not_ended t Unsound h e = absurd h
+
+-- what is told of a task's step over the cells of a store
+abbrev pub IsTold : Standing → Stored → Stepped → Standing → Stored → Type 0
+IsTold old before r new behind = (kinds : Kinds) → KnowsAt old.stack.code kinds old.stack.running.function old.stack.running.at → old.stack.ended ≡ None → IsSmall before.cells → before.pushed ≡ [] → (lent : List Typed) → Comes (state_with old.stack lent (cells_of before)) (next kinds (plain old.stack.code.code) (state_with old.stack lent (cells_of before))) r (state_with new.stack lent (cells_of behind)) new.stack.given
+
+went_on : (v : Checked) (kinds : Kinds) (old new : Standing) (before behind : Stored) (r : Stepped) (s : State) (l n : ℕ) → (old.left ≡ 0 → calls_next old.stack.code old.stack ≡ false) → new.stack.code ≡ old.stack.code → new.stack.ended ≡ ended_by r → Fits r old.left new → IsTold old before r new behind → IsSmall before.cells → before.pushed ≡ [] → IsAt v old s l → CanGo v kinds (Going (record s { store = cells_of before }) l n) → IsLanded v new (cells_of behind) (comes (record s { store = cells_of before }) l (suc n) (next kinds (plain v.code) (record s { store = cells_of before })))
+went_on v kinds old new before behind r s l n none code ends fits told small empty at can =
+    let here : State = record s { store = cells_of before } in
+    let e : state_with old.stack s.lent (cells_of before) ≡ here = at_cells old.stack s (cells_of before) at.state in
+    let knows : KnowsAt old.stack.code kinds old.stack.running.function old.stack.running.at =
+    subst (λ (w : Checked). KnowsAt w kinds old.stack.running.function old.stack.running.at) (sym at.code)
+    (subst (λ (q : State). KnowsAt v kinds q.running.function q.running.at) (sym e) can.0) in
+    let first : Comes (state_with old.stack s.lent (cells_of before)) (next kinds (plain v.code) (state_with old.stack s.lent (cells_of before))) r (state_with new.stack s.lent (cells_of behind)) new.stack.given =
+    subst (λ (w : Checked). Comes (state_with old.stack s.lent (cells_of before)) (next kinds (plain w.code) (state_with old.stack s.lent (cells_of before))) r (state_with new.stack s.lent (cells_of behind)) new.stack.given) at.code (told kinds knows at.going small empty s.lent) in
+    let comes : Comes here (next kinds (plain v.code) here) r (state_with new.stack s.lent (cells_of behind)) new.stack.given =
+    subst (λ (q : State). Comes q (next kinds (plain v.code) q) r (state_with new.stack s.lent (cells_of behind)) new.stack.given) e first in
+    let call : old.left ≡ 0 → is_call_in (instr_of (plain v.code) here) ≡ false = λ z.
+    subst (λ (q : State). is_call_in (instr_of (plain v.code) q) ≡ false) e
+    (subst (λ (w : Checked). calls_next w old.stack ≡ false) at.code (none z)) in
+    came v here l (suc n) (is_call_in (instr_of (plain v.code) here)) (next kinds (plain v.code) here) r new (cells_of behind) comes can.1 (calling (plain v.code) (kinds_of kinds here) here (instr_of (plain v.code) here)) (λ z. call (at.left ∙ z)) (code ∙ at.code) ends (subst (λ m. Fits r m new) at.left fits)
+
+pub step_lands : (old new : Standing) (before behind : Stored) (r : Stepped) → old.ended ≡ None → (old.stack.ended ≡ None → old.left ≡ 0 → calls_next old.stack.code old.stack ≡ false) → new.stack.code ≡ old.stack.code → (IsSmall before.cells → IsSmall behind.cells) → (before.pushed ≡ [] → behind.pushed ≡ []) → (old.stack.ended ≡ None → new.stack.ended ≡ ended_by r) → Fits r old.left new → IsTold old before r new behind → Lands old before new behind
+step_lands old new before behind r on none code small empty ends fits told = record {
+  small = small;
+  empty = empty;
+  turn = by;
+}
+  where
+    by : (v : Checked) (kinds : Kinds) (q : Run) → IsSmall before.cells → before.pushed ≡ [] → StandsAt v old q → CanGo v kinds (in_store (cells_of before) q) → IsLanded v new (cells_of behind) (later kinds (plain v.code) (in_store (cells_of before) q))
+    by v kinds (Going s l n) few top at can = went_on v kinds old new before behind r s l n (none at.going) code (ends at.going) fits told few top at can
+    by v kinds (Over e s l n) few top at can = not_ended old e at on
+
+-- ---- a task that has ended, and one that is out of calls
+
+pub ended_lands : (t : Standing) (before : Stored) (e : Ended) → t.ended ≡ Some e → Lands t before t before
+ended_lands t before e over = record {
+  small = λ h. h;
+  empty = λ h. h;
+  turn = by;
+}
+  where
+    by : (v : Checked) (kinds : Kinds) (q : Run) → IsSmall before.cells → before.pushed ≡ [] → StandsAt v t q → CanGo v kinds (in_store (cells_of before) q) → IsLanded v t (cells_of before) (later kinds (plain v.code) (in_store (cells_of before) q))
+    by v kinds (Going s l n) few top at can = let f = at.on in absurd cc
+    by v kinds (Over f s l n) few top at can = record { stands = over_cells v t (cells_of before) (Over f s l n) at; cells = refl }
+
+pub out_lands : (t : Standing) (before : Stored) → t.ended ≡ None → t.left ≡ 0 → (t.stack.ended ≡ None → calls_next t.stack.code t.stack ≡ true) → Lands t before (record t { ended = Some M.Out }) before
+out_lands t before on left call = record {
+  small = λ h. h;
+  empty = λ h. h;
+  turn = by;
+}
+  where
+    by : (v : Checked) (kinds : Kinds) (q : Run) → IsSmall before.cells → before.pushed ≡ [] → StandsAt v t q → CanGo v kinds (in_store (cells_of before) q) → IsLanded v (record t { ended = Some M.Out }) (cells_of before) (later kinds (plain v.code) (in_store (cells_of before) q))
+    by v kinds (Going s l n) few top at can =
+        let here : State = record s { store = cells_of before } in
+        let e : state_with t.stack s.lent (cells_of before) ≡ here = at_cells t.stack s (cells_of before) at.state in
+        let calls : is_call_in (instr_of (plain v.code) here) ≡ true =
+        subst (λ (q : State). is_call_in (instr_of (plain v.code) q) ≡ true) e
+        (subst (λ (w : Checked). calls_next w t.stack ≡ true) at.code (call at.going)) in
+        let is : IsCalling true (next kinds (plain v.code) here) =
+        subst (λ b. IsCalling b (next kinds (plain v.code) here)) calls (calling (plain v.code) (kinds_of kinds here) here (instr_of (plain v.code) here)) in
+        let zero_left : l ≡ 0 = sym at.left ∙ left in
+        let over : comes here l (suc n) (next kinds (plain v.code) here) ≡ Over Out here 0 (suc n) =
+        ap (λ m. comes here m (suc n) (next kinds (plain v.code) here)) zero_left ∙ out here (suc n) (next kinds (plain v.code) here) is can.1 in
+        subst (λ (q : Run). IsLanded v (record t { ended = Some M.Out }) (cells_of before) q) (sym over) (record { stands = refl; cells = refl })
+    by v kinds (Over e s l n) few top at can = not_ended t e at on
+
+-- ---- many turns
+
+pub goes_none : (t : Standing) (before : Stored) → Goes t before t before
+goes_none t before = record {
+  small = λ h. h;
+  empty = λ h. h;
+  turns = λ v kinds r few top at can. (0, record { stands = over_cells v t (cells_of before) r at; cells = cells_in (cells_of before) r });
+}
+
+pub goes_on : (a b c : Standing) (x y z : Stored) → Goes a x b y → Lands b y c z → Goes a x c z
+goes_on a b c x y z g l = record {
+  small = λ h. l.small (g.small h);
+  empty = λ h. l.empty (g.empty h);
+  turns = λ v kinds r few top at can.
+      let h = g.turns v kinds r few top at can in
+      let first : Run = in_store (cells_of x) r in
+      let q : Run = after kinds (plain v.code) h.0 first in
+      let own : in_store (cells_of y) q ≡ q = in_own (cells_of y) q h.1.cells in
+      let next : IsLanded v c (cells_of z) (later kinds (plain v.code) (in_store (cells_of y) q)) = l.turn v kinds q (g.small few) (g.empty top) h.1.stands (subst (λ (m : Run). CanGo v kinds m) (sym own) (can h.0)) in
+      (suc h.0, subst (λ (m : Run). IsLanded v c (cells_of z) m) (ap (λ m. later kinds (plain v.code) m) own ∙ sym (after_later kinds (plain v.code) h.0 first)) next);
+}
+
+further : (kinds : Kinds) (code : PlainCode) (n m : ℕ) (r : Run) → (k : ℕ) × (after kinds code k r ≡ after kinds code m (after kinds code n r))
+further kinds code zero m r = (m, refl)
+further kinds code (suc n) m r = let h = further kinds code n m (later kinds code r) in (suc h.0, h.1)
+
+pub goes_far : (a b c : Standing) (x y z : Stored) → Goes a x b y → Goes b y c z → Goes a x c z
+goes_far a b c x y z g l = record {
+  small = λ h. l.small (g.small h);
+  empty = λ h. l.empty (g.empty h);
+  turns = λ v kinds r few top at can.
+      let h = g.turns v kinds r few top at can in
+      let first : Run = in_store (cells_of x) r in
+      let q : Run = after kinds (plain v.code) h.0 first in
+      let own : in_store (cells_of y) q ≡ q = in_own (cells_of y) q h.1.cells in
+      let can_on : (n : ℕ) → CanGo v kinds (after kinds (plain v.code) n (in_store (cells_of y) q)) = λ n.
+      let k = further kinds (plain v.code) h.0 n first in
+      subst (λ (m : Run). CanGo v kinds m) (k.1 ∙ sym (ap (λ m. after kinds (plain v.code) n m) own)) (can k.0) in
+      let w = l.turns v kinds q (g.small few) (g.empty top) h.1.stands can_on in
+      let k = further kinds (plain v.code) h.0 w.0 first in
+      (k.0, subst (λ (m : Run). IsLanded v c (cells_of z) m) (ap (λ m. after kinds (plain v.code) w.0 m) own ∙ sym k.1) w.1);
+}
+
+-- ---- the start
+
+-- what is known of new frames
+abbrev pub IsLoaded : Checked → Start → Stand → Type 0
+IsLoaded v start u = (cells : Store) (r : Run) (h : IsStarted v cells start r) → state_with u h.first.lent cells ≡ h.first
+
+pub is_new : (v : Checked) (start : Start) (t : Standing) → t.stack.code ≡ v → t.stack.ended ≡ None → IsLoaded v start t.stack → (start.calls ≡ 0 → t.ended ≡ Some M.Out) → ((n : ℕ) → start.calls ≡ suc n → (t.ended ≡ None) × (t.left ≡ n)) → IsNew v start t
+is_new v start t code going loads out some cells r h =
+    let e = loads cells r h in
+    let state : state_with t.stack h.first.lent h.first.store ≡ h.first = ap (λ (q : State). record q { store = h.first.store }) e in
+    subst (λ (q : Run). StandsAt v t q) (sym h.run) (by start.calls out some state)
+  where
+    by : (n : ℕ) → (n ≡ 0 → t.ended ≡ Some M.Out) → ((m : ℕ) → n ≡ suc m → (t.ended ≡ None) × (t.left ≡ m)) → state_with t.stack h.first.lent h.first.store ≡ h.first → StandsAt v t (begun h.first n)
+    by zero out some state = out refl
+    by (suc n) out some state = record { code = code; state = state; going = going; on = (some n refl).0; left = (some n refl).1 }
+
+-- ---- for the answers of a task's steps
+
+pub not_some : {A : Type 0} (o : Option A) → ((x : A) → o ≡ Some x → ⊥) → o ≡ None
+not_some None h = refl
+not_some (Some x) h = absurd (h x refl)
+
+pub entered_fits : (l : ℕ) (u : Standing) → 0 < l → u.ended ≡ None → u.left ≡ l - 1 → Fits S.Entered l u
+entered_fits zero u some on left = tt
+entered_fits (suc l) u some on left = (on, let z = left in omega (arith, z))
+
+pub spent_fits : (l : ℕ) (u : Standing) → l ≡ 0 → Fits S.Entered l u
+spent_fits zero u z = tt
+spent_fits (suc l) u z = absurd (omega (arith, z))

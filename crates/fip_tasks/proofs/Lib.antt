@@ -1,0 +1,4 @@
+pub mod Called
+pub mod Landings
+pub mod Lists
+pub mod Turning

@@ -1,0 +1,18 @@
+-- The task goes to its end, and the others stay.
+use Rattle.std.proofs.Common.{◌∙◌, ◌<◌, length, sym, ap, subst}
+use Rattle.fip_tasks.specs.Turns.{Standing, Turns}
+use Rattle.fip_tasks.specs.Shown.{Shows}
+use Rattle.fip_tasks.proofs.Turning.{turns_show, is_set, within, read_at, seen}
+use Rattle.fip_tasks.proofs.tasks.Tasks.finish.Goals as goal
+
+pub returns-clause-turns : goal.returns-clause-turns
+returns-clause-turns c v kinds shared shows can =
+    let ts = c.self.inside.tasks.items in
+    let before = c.self.inside.cells in
+    let s : Shows v (seen ts before) shared = subst (λ (t : Turns). Shows v t shared) (sym c.self.view_is) shows in
+    let there : c.args.k < length ts = within ts c.args.k (subst (λ (t : Turns). c.args.k < length t.tasks) (sym c.self.view_is) c.requires.there) in
+    turns_show v kinds ts before c.finish.new.cells shared c.args.k c.index_mut.result.now c.finish.new.self s can (read_at ts c.args.k c.index_mut.result.now there c.index_mut.ensures.value) c.finish.ensures.goes
+
+pub returns-clause-told : goal.returns-clause-told
+returns-clause-told c a is =
+    ap (λ (t : Standing). t.ended) (sym (is_set c.self.inside.tasks.items c.args.k c.finish.new.self a (within c.self.inside.tasks.items c.args.k (subst (λ (t : Turns). c.args.k < length t.tasks) (sym c.self.view_is) c.requires.there)) is)) ∙ c.finish.ensures.ended

@@ -1,0 +1,18 @@
+-- The task whose turn it is lands, and the others stay.
+use Rattle.std.proofs.Common.{◌∙◌, ◌<◌, length, sym, ap, subst}
+use Rattle.fip_tasks.specs.Turns.{Standing, Turns}
+use Rattle.fip_tasks.specs.Shown.{Shows, turned_by}
+use Rattle.fip_tasks.proofs.Turning.{turn_shows, is_set, within, read_at, seen}
+use Rattle.fip_tasks.proofs.tasks.Tasks.turn.Goals as goal
+
+pub returns-clause-turn : goal.returns-clause-turn
+returns-clause-turn c v kinds shared shows can =
+    let ts = c.self.inside.tasks.items in
+    let before = c.self.inside.cells in
+    let s : Shows v (seen ts before) shared = subst (λ (t : Turns). Shows v t shared) (sym c.self.view_is) shows in
+    let there : c.args.k < length ts = within ts c.args.k (subst (λ (t : Turns). c.args.k < length t.tasks) (sym c.self.view_is) c.requires.there) in
+    turn_shows v kinds ts before c.turn.new.cells shared c.args.k c.index_mut.result.now c.turn.new.self s can (read_at ts c.args.k c.index_mut.result.now there c.index_mut.ensures.value) c.turn.ensures.lands
+
+pub returns-clause-told : goal.returns-clause-told
+returns-clause-told c a is =
+    c.turn.ensures.told ∙ ap (λ (t : Standing). turned_by t.ended) (is_set c.self.inside.tasks.items c.args.k c.turn.new.self a (within c.self.inside.tasks.items c.args.k (subst (λ (t : Turns). c.args.k < length t.tasks) (sym c.self.view_is) c.requires.there)) is)

@@ -1,0 +1,130 @@
+// Tasks in one store.
+ghost use Rattle.std.specs.Prelude.{◌≡◌, ℕ, ◌<◌, length, IfOk, All, Some, slice_get, replicate};
+ghost use Rattle.code_runs.specs.Codes.{plain};
+ghost use Rattle.code_runs.specs.Steps.{Kinds};
+ghost use Rattle.code_verify.specs.Checked.{Checked};
+ghost use Rattle.machine_cells.specs.Small.{store_of};
+ghost use Rattle.task_schedules.specs.Schedules.{Shared, turn, scheduled};
+ghost use Rattle.fip_tasks.specs.Turns.{CanStart, Standing};
+ghost use Rattle.fip_tasks.specs.Shown.{Shows, CanTurn, CanFinish, AreStarted, turned_by};
+
+use crate::task::{Start, Task, Turned};
+use cell_store::{Loader, Sealed, seal};
+use code_verify::Verified;
+use fip_base::plain::NoMemory;
+use fip_machine::{Ended, Gauge};
+use std::alloc::Global;
+use std::marker::Model;
+
+/// Tasks that take turns over one store, each on cells of its own. A turn is one instruction of one task. What a task
+/// comes to is what it would come to alone, whatever turns the others take.
+#[derive(Drop)]
+pub struct Tasks<'a> {
+    tasks: Vec<Task<'a>>,
+    cells: Sealed,
+}
+
+impl<'a> Model for Tasks<'a> {
+    ghost use Rattle.std.specs.Prelude.{map};
+    ghost use Rattle.machine_cells.specs.Small.{store_of};
+    ghost use Rattle.fip_tasks.specs.Landing.{standing};
+    ghost use Rattle.fip_tasks.specs.Turns.{Turns};
+
+    ghost Value = { Turns };
+
+    ghost view = { λ t. record {
+      tasks = map standing t.tasks.items;
+      store = store_of t.cells.cells t.cells.released;
+      pushed = t.cells.pushed;
+    } };
+}
+
+impl<'a> Tasks<'a> {
+    /// The tasks at their starts, numbered from 0. The loader has all their cells, and is sealed. All memory is
+    /// taken: no later call takes any. An error where it is not there.
+    pub fn new(
+        alloc: Global,
+        verified: &'a Verified,
+        loader: Loader,
+        starts: &[Start],
+    ) -> Result<Tasks<'a>, NoMemory>
+        requires can { All (CanStart verified.now) starts.now }
+        ensures number { IfOk result (λ t. length t.tasks ≡ length starts.now) }
+        // They stand where the functions are loaded, each with its words.
+        ensures first { IfOk result (λ t. (shared : Shared) → AreStarted verified.now
+            (store_of loader.cells loader.released) starts.now shared → Shows verified.now t shared) }
+    {
+        let _left = loader.left();
+        let cells = seal(loader);
+        let mut tasks = Vec::new(alloc);
+        for start in starts {
+            tasks.push(Task::new(alloc, verified, &cells, start)?)?;
+        }
+        Ok(Tasks { tasks, cells })
+    }
+
+    /// How many tasks there are.
+    pub fn len(&self) -> usize
+        ensures number { result ≡ length self.now.tasks }
+    {
+        self.tasks.len()
+    }
+
+    /// Does one instruction of task `k`. A task that would call and has no call left ends as Out. Once it has ended, it
+    /// answers its end again and changes nothing.
+    pub fn turn(&mut self, k: usize) -> Turned
+        requires there { k < length self.old.tasks }
+        ensures number { length self.new.tasks ≡ length self.old.tasks }
+        // Tasks that stand where the runs of a schedule do stand where they do after one turn more,
+        ensures turn { (v : Checked) (kinds : Kinds) (shared : Shared) → Shows v self.old shared →
+            CanTurn v kinds shared k → Shows v self.new (turn kinds (plain v.code) shared k) }
+        // and the answer tells whether the task has ended, and how.
+        ensures told { (a : Standing) → slice_get self.new.tasks k ≡ Some a → result ≡ turned_by a.ended }
+    {
+        self.tasks[k].turn(&mut self.cells)
+    }
+
+    /// Takes turns of task `k` to its end, and answers that.
+    pub fn finish(&mut self, k: usize) -> Ended
+        requires there { k < length self.old.tasks }
+        ensures number { length self.new.tasks ≡ length self.old.tasks }
+        // Tasks that stand where the runs of a schedule do stand where they do after some more turns of this task,
+        ensures turns { (v : Checked) (kinds : Kinds) (shared : Shared) → Shows v self.old shared →
+            CanFinish v kinds shared k →
+            (n : ℕ) × Shows v self.new (scheduled kinds (plain v.code) (replicate n k) shared) }
+        // which then has ended.
+        ensures told { (a : Standing) → slice_get self.new.tasks k ≡ Some a → a.ended ≡ Some result }
+    {
+        self.tasks[k].finish(&mut self.cells)
+    }
+
+    /// How task `k` ended; none while it goes on.
+    pub fn answer(&self, k: usize) -> Option<Ended>
+        requires there { k < length self.now.tasks }
+        ensures ended { (a : Standing) → slice_get self.now.tasks k ≡ Some a → result ≡ a.ended }
+    {
+        self.tasks[k].ended()
+    }
+
+    /// The words of the results of task `k`, after Value.
+    pub fn results(&self, k: usize) -> &[u64]
+        requires there { k < length self.now.tasks }
+        ensures given { (a : Standing) → slice_get self.now.tasks k ≡ Some a → result.now ≡ a.stack.given }
+    {
+        self.tasks[k].results()
+    }
+
+    /// The gauge of the states that task `k` was in: it counts the cells of this task alone.
+    pub fn gauge(&self, k: usize) -> &Gauge
+        requires there { k < length self.now.tasks }
+    {
+        self.tasks[k].gauge()
+    }
+
+    /// The cells of all tasks, as they are now.
+    pub fn cells(&self) -> &Sealed
+        ensures cells { store_of result.now.cells result.now.released ≡ self.now.store }
+    {
+        &self.cells
+    }
+}

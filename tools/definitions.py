@@ -133,7 +133,8 @@ def exported(crate):
 def clauses(path, names):
     """Each clause of what a module exports: its call or type, its name and its text."""
     is_public = in_trait = is_ours = False
-    for line in path.read_text().splitlines():
+    lines = iter(path.read_text().splitlines())
+    for line in lines:
         if line.startswith("mod tests {"):
             return
         item = re.match(r"(?:pub )?(fn|struct|enum|trait|impl)\b(.*)", line)
@@ -146,8 +147,12 @@ def clauses(path, names):
         elif re.match(r"    (pub(\([^)]*\))? )?(const )?fn ", line) and not in_trait:
             is_public = is_ours and line.startswith("    pub ")
         clause = re.match(r"\s*(?:ensures|requires|ghost (?!use|view|invariant))\s*(\w*)(.*)", line)
-        if is_public and clause:
-            yield of, clause.group(1), clause.group(2)
+        if clause:
+            name, text = clause.groups()
+            while text.count("{") > text.count("}"):
+                text += " " + next(lines)
+            if is_public:
+                yield of, name, text
 
 
 def theorems(crate, specs):

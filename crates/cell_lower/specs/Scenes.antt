@@ -178,7 +178,8 @@ pub record Asks (tb : Table) (c : Choice) (p : M.Pattern) (v : Written) (k : Kno
   pub by : (low i : ℕ) (q : Pattern) → IsScene (scene tb low c) → slice_get (patterns_of c) i ≡ Some q →
       p ≡ row_of q → compare p k ≡ D.Asks → Steps (scene tb low c) v k read ds w l read_on es None
   pub few : (i : ℕ) → slice_get (View.rows c.rows.items) i ≡ Some p →
-      first_live 0 (View.rows c.rows.items) k ≡ Split p → compare p k ≡ D.Asks → Pays tb c v None k read ds w None l read_on es
+      first_live 0 (View.rows c.rows.items) k ≡ Split p → compare p k ≡ D.Asks →
+      Pays tb c v None k read ds w None l read_on es
 
 -- a label has its place here, where there is one
 abbrev pub PlacesSide : Written → Option ℕ → Written → Type 0

@@ -1,6 +1,6 @@
 // What is kept of a run.
-ghost use Rattle.std.specs.Prelude.{◌≡◌, ℕ, ◌+◌, ◌*◌, ◌^◌, ◌-◌, ◌<◌, ◌≤◌, true, false, List, [], ◌∷◌, ◌++◌, length, min};
-ghost use Rattle.std.specs.Prelude.{IfOk, None, Some};
+ghost use Rattle.std.specs.Prelude.{◌≡◌, ℕ, ◌+◌, ◌*◌, ◌^◌, ◌-◌, ◌<◌, ◌≤◌, true, false, List, [], ◌∷◌, ◌++◌};
+ghost use Rattle.std.specs.Prelude.{IfOk, None, Some, length, min};
 ghost use Rattle.cell_store.specs.Told.{Overwritten, Released};
 ghost use Rattle.cell_trace.specs.Traced.{Standing, Noted, IsTraced, plain_cell, plain_event, told_bytes};
 ghost use Rattle.cell_trace.specs.Taped.{IsTape, IsLost};

@@ -83,7 +83,8 @@ weakened false o t = Branch R.Weaken o.variables (credits o.credits) (MoreTrees 
 -- a node of these variables and credits; below one that weakens where more is there
 abbrev pub node : RuleName → Owned → List ℕ → List ℕ → Trees → Tree
 node r o xs need ts =
-    weakened ((length xs == length o.variables) && same_from o.credits need 1 MOST_FIELDS) o (Branch r xs (credits need) ts)
+    weakened ((length xs == length o.variables) && same_from o.credits need 1 MOST_FIELDS) o
+    (Branch r xs (credits need) ts)
 
 -- ---- arguments
 

@@ -82,8 +82,8 @@ IsTraceFile source name room bytes = (input : List ℕ) × (t : T.Trace) × IsTr
     × (IsLong t → ⊥) × (bytes ≡ trace_text t)
 
 -- What is stored, by the files before: its file is there and has what is wanted. `compile` stores the file of a code of
--- its source, `upgrade` that of the second version of the code that it fetched, `derive` the text of the derivation that
--- is made for its source, and `trace` the file of the trace of a run of its source's code.
+-- its source, `upgrade` that of the second version of the code that it fetched, `derive` the text of the derivation
+-- that is made for its source, and `trace` the file of the trace of a run of its source's code.
 abbrev pub IsMadeBy : Command → Option (List File) → List ℕ → Type 0
 IsMadeBy (Compile file out) files bytes =
     (source : List ℕ) × HoldsFile files file source × IsCompiledFile source bytes

@@ -55,7 +55,8 @@ steps_of (Over e s left steps) = steps
 
 pub record Taped (o : Origin) (limit n : ℕ) (t : Tape) : Type 0 where
   pub count : steps_of (at_step o n) ≡ n
-  pub tape : IsTape (standing_from 0 o.first.store.cells) (notes o.kinds (plain o.code.code) o.first o.calls n) n limit t
+  pub tape : IsTape (standing_from 0 o.first.store.cells) (notes o.kinds (plain o.code.code) o.first o.calls n) n
+      limit t
 
 abbrev pub HasTape : Origin → ℕ → Tape → ℕ → Type 0
 HasTape o limit t n = UnlessStuck (at_step o n) (Taped o limit n t)
@@ -71,5 +72,5 @@ CameTaped o limit left call x t r = CameWith (HasTape o limit r.tape) o left cal
 
 -- Nothing of the run is kept yet.
 abbrev pub IsFirstTape : Origin → ℕ → Tape → Type 0
-IsFirstTape o limit t = IsTape (standing_from 0 o.first.store.cells) (notes o.kinds (plain o.code.code) o.first o.calls 0)
-    0 limit t
+IsFirstTape o limit t =
+    IsTape (standing_from 0 o.first.store.cells) (notes o.kinds (plain o.code.code) o.first o.calls 0) 0 limit t

@@ -1,4 +1,5 @@
--- For private contracts alone: a machine at the start of a function, how it ended, and the gauge that saw its run.
+-- A machine at the start of a function, and what keeps a function from it; and, for private contracts alone, how a
+-- machine ended, and the gauge that saw its run.
 use Rattle.std.specs.Prelude.{◌≡◌, ◌-◌, ◌<◌, ◌≤◌, ◌++◌, ℕ, List, [], Option, Some, None, Result, Ok, Err}
 use Rattle.std.specs.Prelude.{slice_index_or}
 use Rattle.fip_language.specs.Prefix.{IsPlace}

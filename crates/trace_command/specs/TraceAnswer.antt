@@ -1,9 +1,9 @@
 -- What `trace` comes to on a source that has the entry, once the input is read.
 --
 -- It ends as `exec` without the gauge does: with the lines of the values that the source means, or with what keeps it
--- from them. With values it stores the file of a trace: that of a run of the source's code on the arguments, which gives
--- them. Where the file of this trace would have more than 16,777,216 bytes, or there are more events or steps than it
--- can tell, E75 is told instead, and nothing is stored.
+-- from them. With values it stores the file of a trace: that of a run of the source's code on the arguments, which
+-- gives them. Where the file of this trace would have more than 16,777,216 bytes, or there are more events or steps
+-- than it can tell, E75 is told instead, and nothing is stored.
 --
 -- The trace of `rev` on Cons(1, Nil) and Nil tells the one cell, the step in which it gets Cons(1, Nil) once more, and
 -- the seven steps of the run; and the line `Cons(1, Nil)` is printed.

@@ -34,7 +34,7 @@ same_ended : (e f : Ended) (a : Standing) → a.ended ≡ Some e → a.ended ≡
 same_ended e f a x y = cc
 
 -- the end of the task, by that of the run
-answered : (tb : Table) (types : List ℕ) (a : Standing) (last : State) (store : Store) (end : C.End) (left : ℕ) (e : Ended) (m : Answer) → a.ended ≡ Some e → HasEnded a end → IsSameEnd tb types (record last { store = store }) left end m → IsMeant tb types e (state_with a.stack [] store) a.stack.given m
+pub answered : (tb : Table) (types : List ℕ) (a : Standing) (last : State) (store : Store) (end : C.End) (left : ℕ) (e : Ended) (m : Answer) → a.ended ≡ Some e → HasEnded a end → IsSameEnd tb types (record last { store = store }) left end m → IsMeant tb types e (state_with a.stack [] store) a.stack.given m
 answered tb types a last store (C.Value ws) left e (Gives vs l) is h same =
     let words : AreWordsOf tb store types a.stack.given vs = subst (λ us. AreWordsOf tb store types us vs) (sym h.1) same.0 in
     subst (λ x. IsMeant tb types x (state_with a.stack [] store) a.stack.given (Gives vs l)) (same_ended e M.Value a is h.0) words

@@ -24,7 +24,7 @@ use Rattle.meant_runs.specs.Starts.{IsCodeOf}
 use Rattle.meant_runs.proofs.Ends.{ends_as_meant}
 use Rattle.meant_runs.proofs.Starting.{read, loaded_begins, starts}
 
-same_end : (tb : Table) (types : List ℕ) (end other : End) (l m : State) (left k steps j : ℕ) (a : Answer) → Over end l left steps ≡ Over other m k j → IsSameEnd tb types l left end a → IsSameEnd tb types m k other a
+pub same_end : (tb : Table) (types : List ℕ) (end other : End) (l m : State) (left k steps j : ℕ) (a : Answer) → Over end l left steps ≡ Over other m k j → IsSameEnd tb types l left end a → IsSameEnd tb types m k other a
 same_end tb types end other l m left k steps j a is h =
     let ends : end ≡ other = cc in
     let lasts : l ≡ m = cc in

@@ -16,6 +16,7 @@ ghost use Rattle.fip_machine.specs.Tasks.{state_with};
 ghost use Rattle.tree_agreement.specs.Runs.{IsSameEnd};
 ghost use Rattle.task_schedules.specs.Projected.{Begun};
 ghost use Rattle.task_schedules.specs.Schedules.{Shared, scheduled};
+ghost use Rattle.apart_tasks.specs.Lying.{Lying, AreApart};
 ghost use Rattle.loaded_tasks.specs.Laid.{Task, AreLaid};
 ghost use Rattle.fip_tasks.specs.Shown.{Shows};
 ghost use Rattle.fip_tasks.specs.Turns.{Standing, Turns};
@@ -50,4 +51,17 @@ pub fn tasks_answer_what_the_source_means()
         slice_get tasks k ≡ Some t → 0 < length t.header.name → slice_get turns.tasks k ≡ Some a → a.ended ≡ Some e →
         IsMeant v.code.types t.header.results e (state_with a.stack [] turns.store) a.stack.given (meaning core
         t.header.name NoClosed t.arguments t.calls t.frames).answer }
+{}
+
+/// And so do tasks whose cells lie apart in the store, at any places. For who makes the cells of tasks in any order.
+pub fn apart_tasks_answer_what_the_source_means()
+    ensures law { (source : List ℕ) (core : Core) (v : Checked) (before waits : Kinds) (ls : List Lying)
+        (alone : List Begun) (first : Shared) (schedule : List ℕ) (turns : Turns) (k : ℕ) (l : Lying) (a : Standing)
+        (e : Ended) → IsCodeOf source core v.code → AreKinds (plain v.code) before waits →
+        AreApart (plain v.code) ls alone first →
+        Shows v turns (scheduled before (R.plain v.code) schedule first) →
+        slice_get ls k ≡ Some l → 0 < length l.task.header.name → slice_get turns.tasks k ≡ Some a →
+        a.ended ≡ Some e →
+        IsMeant v.code.types l.task.header.results e (state_with a.stack [] turns.store) a.stack.given (meaning core
+        l.task.header.name NoClosed l.task.arguments l.task.calls l.task.frames).answer }
 {}

@@ -1,3 +1,4 @@
 pub mod Turned
 pub mod Started
 pub mod Answers
+pub mod Anywhere

@@ -29,7 +29,7 @@ mapped f None y e = absurd (none-some y e)
 mapped f (Some x) y e = (x, refl, same_Some (f x) y e)
 
 -- a verified function, behind its plain form
-function_of : (c : Code) (n : ℕ) (f : PlainFunction) → function_at (plain c) n ≡ Some f → (g : Function) × (slice_get c.functions.items n ≡ Some g) × (plain_function g ≡ f)
+pub function_of : (c : Code) (n : ℕ) (f : PlainFunction) → function_at (plain c) n ≡ Some f → (g : Function) × (slice_get c.functions.items n ≡ Some g) × (plain_function g ≡ f)
 function_of c n f e = mapped plain_function (slice_get c.functions.items n) f (sym (slice_get-map plain_function c.functions.items n) ∙ e)
 
 -- ---- as many words as parameters and credits

@@ -1,9 +1,10 @@
--- How tasks are started where their arguments are loaded one behind another, and what one of them has answered.
+-- How tasks are started whose arguments are loaded, one behind another or anywhere, and what one of them has answered.
 --
 -- rev(Cons(1, Nil), Cons(3, Nil)) and rev(Cons(2, Nil), Cons(4, Nil)) have two cells each: the first is started with
 -- the words 1 and 7, the second with 13 and 19. The second has answered Value once it has the word 13 as its result,
 -- which stands for Cons(2, Cons(4, Nil)): so its function ends on trees.
-use Rattle.std.specs.Prelude.{◌≡◌, ℕ, ◌+◌, List, [], ◌∷◌, length}
+use Rattle.std.specs.Prelude.{◌≡◌, ℕ, ◌+◌, List, [], ◌∷◌, Some, length, slice_get}
+use Rattle.apart_tasks.specs.Lying.{Lying, call_words}
 use Rattle.code_runs.specs.Cells.{Store}
 use Rattle.code_runs.specs.Runs.{End}
 use Rattle.code_runs.specs.States.{State}
@@ -25,6 +26,17 @@ abbrev pub AreStartsOf : ℕ → List Task → List Start → Type 0
 AreStartsOf n [] [] = Unit {0}
 AreStartsOf n (t ∷ ts) (b ∷ bs) = IsStartOf n t b × AreStartsOf (n + length (task_places n t)) ts bs
 AreStartsOf n ts bs = ⊥
+
+-- The start of a call whose cells lie anywhere in the store, and those of a list of them.
+pub record IsStartAt (l : Lying) (b : Start) : Type 0 where
+  pub entry : b.entry ≡ l.task.function
+  pub words : b.words ≡ call_words l
+  pub frames : b.frames ≡ l.task.frames
+  pub calls : b.calls ≡ l.task.calls
+
+pub record AreStartsAt (ls : List Lying) (starts : List Start) : Type 0 where
+  pub number : length starts ≡ length ls
+  pub each : (k : ℕ) (l : Lying) (b : Start) → slice_get ls k ≡ Some l → slice_get starts k ≡ Some b → IsStartAt l b
 
 -- The task has ended as its function ends on trees with its arguments; its results are words over this store.
 pub record HasAnswered (c : PlainCode) (t : Task) (store : Store) (a : Standing) : Type 0 where

@@ -10,11 +10,12 @@ ghost use Rattle.code_verify.specs.Checked.{Checked};
 ghost use Rattle.fip_machine.specs.declared.machine.Ended.{Ended};
 ghost use Rattle.task_schedules.specs.Schedules.{Shared, scheduled};
 ghost use Rattle.task_schedules.specs.Projected.{Begun, BeginTogether, AreLoaded};
+ghost use Rattle.apart_tasks.specs.Lying.{Lying, AreApart};
 ghost use Rattle.loaded_tasks.specs.Laid.{Task, AreLaid, shared_store};
 ghost use Rattle.fip_tasks.specs.Shown.{Shows, CanTurn, CanFinish, AreStarted};
 ghost use Rattle.fip_tasks.specs.Turns.{Standing, Turns};
 ghost use Rattle.fip_tasks.specs.declared.task.Start.{Start};
-ghost use Rattle.verified_tasks.specs.Answered.{AreStartsOf, HasAnswered};
+ghost use Rattle.verified_tasks.specs.Answered.{AreStartsOf, AreStartsAt, HasAnswered};
 
 /// Loaded tasks that begin together can each have a turn after every schedule, and so be run to their ends: what their
 /// Drop releases is what the verifier knows, and no instruction is one that can't be done. For who gives turns to
@@ -50,4 +51,23 @@ pub fn tasks_answer_as_alone()
         Shows v turns (scheduled before (R.plain v.code) schedule first) →
         slice_get tasks k ≡ Some t → slice_get turns.tasks k ≡ Some a → a.ended ≡ Some x →
         HasAnswered (plain v.code) t turns.store a }
+{}
+
+/// And so are calls started whose cells lie apart in a store, at any places. For who makes the cells of tasks in any
+/// order.
+pub fn apart_tasks_are_started()
+    ensures law { (v : Checked) (ls : List Lying) (alone : List Begun) (first : Shared) (starts : List Start) →
+        IsSound (plain v.code) → AreApart (plain v.code) ls alone first → AreStartsAt ls starts →
+        AreStarted v first.store starts first }
+{}
+
+/// And so do they answer. For who prints the answers of tasks whose cells lie anywhere.
+pub fn apart_tasks_answer_as_alone()
+    ensures law { (v : Checked) (before waits : Kinds) (ls : List Lying) (alone : List Begun) (first : Shared)
+        (schedule : List ℕ) (turns : Turns) (k : ℕ) (l : Lying) (a : Standing) (x : Ended) →
+        IsSound (plain v.code) → HasLiterals (plain v.code) → AreKinds (plain v.code) before waits →
+        AreApart (plain v.code) ls alone first →
+        Shows v turns (scheduled before (R.plain v.code) schedule first) →
+        slice_get ls k ≡ Some l → slice_get turns.tasks k ≡ Some a → a.ended ≡ Some x →
+        HasAnswered (plain v.code) l.task turns.store a }
 {}

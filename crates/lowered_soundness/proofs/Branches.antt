@@ -9,7 +9,7 @@ use Rattle.sound_code.specs.Fitting.{fits, fit_all}
 use Rattle.sound_code.specs.Endings.{spends_all}
 use Rattle.sound_code.specs.Leaves.{Leaves, Jumps}
 use Rattle.sound_code.specs.Flow.{IsInstr}
-use Rattle.kind_soundness.proofs.Basics.{get_within}
+use Rattle.kind_soundness.proofs.Basics.{get_within, less_or_not}
 use Rattle.lowered_soundness.specs.Describing.{Covered}
 use Rattle.lowered_soundness.specs.Rows.{IsRow}
 use Rattle.lowered_soundness.specs.Parts.{Arrives, Admits, Shows, Catches, Onward, Keeps, IsKept, Part, LastPart}
@@ -78,6 +78,22 @@ module _ (c : PlainCode) (f : PlainFunction) where
   -- a label that says less
   pub catch_part : (p : ℕ) (m l : ℕ → Kind) → Catches f p l → ((r : ℕ) → fits (l r) (m r) ≡ true) → Part c f p m p l
   catch_part p m l caught less = label_row c f p m l caught.map caught.there less
+
+  -- to what follows nothing goes on from before
+  pub last_and_last : (p q r : ℕ) (m l : ℕ → Kind) → LastPart c f p m q → LastPart c f q l r → LastPart c f p m r
+  last_and_last p q r m l x y =
+      let a = x.grows in
+      let b = y.grows in
+      record {
+        grows = omega (arith, a, b);
+        inside = x.inside;
+        admits = x.admits;
+        kept = λ arrives i low high. elim (less_or_not i q) as (λ v. IsKept c f i) [
+          | inl e ↦ x.kept arrives i low e
+          | inr e ↦ y.kept (λ none ks h. absurd (x.ends ks h)) i e high
+        ];
+        ends = y.ends;
+      }
 
   -- ---- parts of which it is known where nothing is written
 

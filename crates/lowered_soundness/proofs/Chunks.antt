@@ -27,7 +27,7 @@ use Rattle.lowered_soundness.specs.Parts.{Arrives, Admits, Takes, Catches, IsKep
 use Rattle.lowered_soundness.specs.Laid.{told}
 use Rattle.lowered_soundness.specs.Sights.{left, part_kind, Below, AllBelow, seen_kind, Sight}
 use Rattle.lowered_soundness.specs.Tests.{Choice, ChunkLaid, SidesLaid}
-use Rattle.lowered_soundness.specs.Matches.{wide_at, entered, EntryLaid}
+use Rattle.lowered_soundness.specs.Matches.{widened, wide_at, entered, EntryLaid}
 use Rattle.lowered_soundness.proofs.Fitting.{takes_less}
 use Rattle.lowered_soundness.proofs.Parts.{part_and_last, both_parts}
 use Rattle.lowered_soundness.proofs.Branches.{jump_last, catch_part, came_quiet}
@@ -216,6 +216,14 @@ module _ (c : PlainCode) (f : PlainFunction) (st : Setting) (ch : Choice) (k : K
           subst (Stretch c f at m) (sym one) (part_stretch c f at m h.end l (both_parts c f at h.end h.end m s.behind l s.came.part (catch_part c f h.end s.behind l caught (λ r. s.enters entry.0 r))) caught)
 
   -- ---- what fails a test
+
+  wide_twice : (h : Held) → widened (widened h) ≡ widened h
+  wide_twice H.Nothing = refl
+  wide_twice (H.Scalar t) = refl
+  wide_twice (H.Owned t b) = refl
+  wide_twice (H.Lent t root) = refl
+  wide_twice (H.Credit n) = refl
+  wide_twice (H.Bare t d) = refl
 
   pub sides_on : (right : Right c f (wide_at (held_at k.held)) ch) (based : Based c st ch k (wide_at (held_at k.held))) (n a : ℕ) (m : ℕ → Kind) (at end : ℕ) → Stretch c f a m at → SidesLaid c f (wide_at (held_at k.held)) ch n at end → Stretch c f a m end
   sides_on right based zero a m at end x h = subst (Stretch c f a m) (sym h) x

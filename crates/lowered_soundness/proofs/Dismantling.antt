@@ -29,7 +29,7 @@ use Rattle.lowered_soundness.proofs.Parts.{one_row}
 use Rattle.lowered_soundness.proofs.Branches.{Came, came_none, came_one, came_on, came_quiet}
 use Rattle.lowered_soundness.proofs.Lefts.{left_tag, head_fields}
 use Rattle.lowered_soundness.proofs.NamedReads.{if_fits, open_fits, both_fits}
-use Rattle.lowered_soundness.proofs.Heirs.{has_among, not_among, owned_kind, Outside, lost}
+use Rattle.lowered_soundness.proofs.Heirs.{has_among, not_among, owned_kind, Clear, Outside, lost}
 use Rattle.lowered_soundness.proofs.Taking.{settled_at, taken_at, MayTake, take_row}
 use Rattle.lowered_soundness.proofs.Parted.{Knows, Children, children_on, after_take, Inside, inside_more, gone_inside, own_inside, below_inside, children_inside, below_free, all_free}
 
@@ -103,6 +103,17 @@ settled_other w r (t ∷ ts) (MoreKnowns k ks) (MoreSpots s ss) q own ne =
     no_has : (b : Bool) → has (below s) q ≡ b → has (below s) q ≡ false
     no_has true e = absurd (ne (in_head q s ss (has_among (below s) q e)))
     no_has false e = e
+
+-- what lies within other registers is clear of these
+inside_clear : (r : ℕ) (zs xs : List ℕ) (m : ℕ → Kind) (k : Kind) → Inside xs k → ((z : ℕ) → Among z xs → Among z (r ∷ zs) → ⊥) → ((z : ℕ) → Among z xs → is_lent_of r (m z) ≡ false) → Clear r zs m k
+inside_clear r zs xs m k h apart' none = record {
+  roots = λ z a. by (is_lent_of z k) (λ e. apart' z (h.roots z e) (inr a));
+  froms = λ g e. ((λ a. apart' g.register (h.froms g e) a), none g.register (h.froms g e));
+}
+  where
+    by : (b : Bool) → (b ≡ true → ⊥) → b ≡ false
+    by true ne = absurd (ne refl)
+    by false ne = refl
 
 inside_none : (r : ℕ) (xs : List ℕ) (k : Kind) → Inside xs k → (Among r xs → ⊥) → is_lent_of r k ≡ false
 inside_none r xs k h ne = by (is_lent_of r k) (λ e. ne (h.roots r e))

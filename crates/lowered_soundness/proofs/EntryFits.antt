@@ -117,7 +117,13 @@ without_wide r (H.Lent t root) = lent_wide r t root root
 without_wide r (H.Credit n) = refl
 without_wide r (H.Bare t c) = refl
 
+-- ---- types in a pattern's slots
+
+-- the variables of a pattern have the types of their positions, and lowering knows which are scalar
 -- ---- positions whose cells were taken apart
+
+gone_fits : (k : Kind) → is_free k ≡ true → fits K.Gone k ≡ true
+gone_fits k e = e
 
 owned_fits : (st : Setting) (w : Table) (t u : ℕ) (k : Known) (own : Kind) (root : Option ℕ) → u ≡ t → is_scalar st t ≡ is_scalar_type w t → own ≡ owned_kind w t k → fits (kind_of w (widened (variable_held st true root u))) own ≡ true
 owned_fits st w t u k own root e sc is =

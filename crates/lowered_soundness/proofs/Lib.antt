@@ -56,4 +56,10 @@ pub mod Bodies
 pub mod Starting
 pub mod Entry
 pub mod Functions
+pub mod Origins
+pub mod Grouped
+pub mod Known
+pub mod Ranging
+pub mod Joined
 pub mod Reversing
+pub mod Listing

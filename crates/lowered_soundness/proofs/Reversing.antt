@@ -215,6 +215,7 @@ first_chunk = record {
         asks = refl;
         written = refl;
         ahead = omega arith;
+        label = refl;
         one = refl;
         fails = failed_takes;
       },

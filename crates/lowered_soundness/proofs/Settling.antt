@@ -95,6 +95,12 @@ seen_owned w t h k (SeesLent root e s) tree = absurd (true≢false (sym tree ∙
 seen_owned w t h k (SeesOwned e s) tree = (ap (λ h. seen_kind w t h k) e ∙ sym (refused (is_scalar_type w t) (K.Scalar t) (K.Owned t (left w t k)) s), (λ r. ap (root_of r) e))
 
 module _ (c : PlainCode) (f : PlainFunction) (st : Setting) (g : Holding) (ch : Choice) (right : Right c f g ch) (k : Known) (based : Based c st ch k g) where
+  abbrev Reg : ℕ
+  Reg = register ch.root
+
+  abbrev g0 : Holding
+  g0 = held_at k.held
+
   -- what the entry of a clause tells
   pub told_entry : (q : Pattern) (n z : ℕ) → told c (entered st ch q k n) z ≡ kind_of c.types (widened (root_held st ch.takes (root_of (register ch.root) (held_at k.held (register ch.root))) q ch.root (held_at k.held) z))
   told_entry q n z =

@@ -16,4 +16,7 @@ pub mod Matches
 pub mod Placed
 pub mod Bodies
 pub mod Functions
+pub mod Origins
+pub mod Accepted
+pub mod Built
 pub mod Example

@@ -4,11 +4,12 @@
 -- apart, or what it names is read, and the code goes to its body. What fails a test goes on at a label with the next
 -- tests.
 use Rattle.std.specs.Prelude.{◌≡◌, ◌⊎◌, ◌<◌, ℕ, zero, suc, Bool, true, false, List, [], ◌∷◌, ◌++◌, Some, slice_get}
+use Rattle.std.specs.Prelude.{is_some}
 use Rattle.cell_code.specs.declared.code.Instr.TheVariants as I
 use Rattle.cell_code.specs.declared.kind.Kind.{Kind}
 use Rattle.fip_trees.specs.Tree.{Pattern, BinderPattern, LiteralPattern, ConstructorPattern, Patterns, NoPatterns}
 use Rattle.fip_trees.specs.Tree.{MorePatterns}
-use Rattle.sound_code.specs.Codes.{PlainCode, PlainFunction}
+use Rattle.sound_code.specs.Codes.{PlainCode, PlainFunction, label_at}
 use Rattle.match_knowledge.specs.declared.verdicts.Verdict.TheVariants.{Fits, Asks}
 use Rattle.match_knowledge.specs.Patterns as M
 use Rattle.match_knowledge.specs.Known.{Known, Open, Is, Knowns, NoKnowns, MoreKnowns, compare, is_asks, side, is_last}
@@ -72,6 +73,7 @@ pub record TestLaid (c : PlainCode) (f : PlainFunction) (g : Holding) (ch : Choi
   pub asks : asked p k ch.root ≡ Some found
   pub written : slice_get f.instrs mid ≡ Some (test_of found.register found.head target)
   pub ahead : mid < target
+  pub label : is_some (label_at f.labels target) ≡ true
   pub one : next ≡ suc mid
   pub fails : (m : ℕ → Kind) → Sight c.types g ch.type ch.root (side false p k) more m → Catches f target m
 

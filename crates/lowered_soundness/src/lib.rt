@@ -4,4 +4,8 @@
 
 mod laws;
 
-pub use laws::{an_example_is_laid, functions_break_no_rule, functions_make_a_code_sound};
+pub use laws::{
+    an_example_code_is_laid, an_example_is_laid, calls_come_from_the_body,
+    fip_functions_release_nothing, fip_functions_wait_for_no_group_member, functions_break_no_rule,
+    functions_make_a_code_sound, laid_functions_make_a_code_sound, numbers_are_in_range,
+};

@@ -178,9 +178,9 @@ module _ (fip : Bool) (w : Table) (B : ℕ → Bool) (K : ℕ → Item → ℕ) 
   -- a cell that was taken apart
   pub credit_ties : (s : Scope) (T : Item → ℕ) (e : ℕ → ℕ) (k : Known) (m n : ℕ) → Ties fip w s B K T e k → held_at k.held n ≡ H.Nothing → n < length k.held → n < k.next → Ties fip w s B K (λ i. T i + charge (m ∷ []) i) e (record k { held = slice_set k.held n (H.Credit m); credits = k.credits ++ (record { size = m; register = n } ∷ []) })
   credit_ties s T e k m n t empty room used =
-      ties_on fip w s B K T T1 e e e k after t (λ x. omega arith) (kept T1) refl (omega arith)
-      (subst (λ x. Stays g x (λ q. owners k.names (own T1) q + e q)) (sym held) (setting_stays g n h (λ q. owners k.names (own T1) q + e q) (ap is_idle empty)))
-      (subst (λ x. Balanced fip x (λ q. owners k.names (own T1) q + e q)) (sym held) (setting_balanced fip g n h (λ q. owners k.names (own T1) q + e q) (ap is_tree empty) refl trees))
+      ties_on fip w s B K T Charged e e e k after t (λ x. omega arith) (kept Charged) refl (omega arith)
+      (subst (λ x. Stays g x (λ q. owners k.names (own Charged) q + e q)) (sym held) (setting_stays g n h (λ q. owners k.names (own Charged) q + e q) (ap is_idle empty)))
+      (subst (λ x. Balanced fip x (λ q. owners k.names (own Charged) q + e q)) (sym held) (setting_balanced fip g n h (λ q. owners k.names (own Charged) q + e q) (ap is_tree empty) refl trees))
       (subst Rooted (sym held) (setting_rooted g n h (ap is_tree empty) refl unlent t.rooted))
       (subst (BareRight w) (sym held) (setting_bares w g n h unbare t.bares))
       (λ i. subst (λ a. Fits fip a (T (Credit i) + charge (m ∷ []) (Credit i))) (sym (sized_both i k.credits (record { size = m; register = n } ∷ []))) (subst (λ a. Fits fip (sized i k.credits + a) (T (Credit i) + (one m i + 0))) (charge_is i) (added (sized i k.credits) (T (Credit i)) (one m i + 0) (t.sizes i))))
@@ -193,8 +193,8 @@ module _ (fip : Bool) (w : Table) (B : ℕ → Bool) (K : ℕ → Item → ℕ) 
       h : Held
       h = H.Credit m
 
-      T1 : Item → ℕ
-      T1 i = T i + charge (m ∷ []) i
+      Charged : Item → ℕ
+      Charged i = T i + charge (m ∷ []) i
 
       after : Known
       after = record k { held = slice_set k.held n (H.Credit m); credits = k.credits ++ (record { size = m; register = n } ∷ []) }
@@ -221,8 +221,8 @@ module _ (fip : Bool) (w : Table) (B : ℕ → Bool) (K : ℕ → Item → ℕ) 
       added : (a b d : ℕ) → Fits fip a b → Fits fip (a + d) (b + d)
       added a b d e = fits_sum fip (a + d) a d b d (fits_same fip (a + d)) e (fits_same fip d)
 
-      trees : Balanced fip (held_at k.held) (λ q. owners k.names (own T1) q + e q)
-      trees q = subst (λ a. Fits fip (one_if (is_tree (held_at k.held q))) (a + e q)) (owners_same k.names (own T) (own T1) q (λ x. omega arith)) (t.trees q)
+      trees : Balanced fip (held_at k.held) (λ q. owners k.names (own Charged) q + e q)
+      trees q = subst (λ a. Fits fip (one_if (is_tree (held_at k.held q))) (a + e q)) (owners_same k.names (own T) (own Charged) q (λ x. omega arith)) (t.trees q)
 
       counts : (i r : ℕ) → counted i r (k.credits ++ (record { size = m; register = n } ∷ [])) ≡ one_if (is_credit_of i (held_at (slice_set k.held n (H.Credit m)) r))
       counts i r =

@@ -302,8 +302,8 @@ module _ (fip : Bool) (w : Table) (st : Setting) (B : ℕ → Bool) (K : ℕ →
   credit_one s T k m ties room =
       ties_on fip w s B K T (λ i. T i + charge (m ∷ []) i) (λ q. 0) (λ q. 0) (λ q. 0) k (with_next_credit k m) ties (λ x. omega arith) (kept (λ i. T i + charge (m ∷ []) i))
       (unless_id n k.names (λ x p h e. absurd (let z = ties.named x p h in let y : ⊥ = omega (arith, z, e) in y))) (omega arith)
-      (subst (λ x. Rattle.lowered_soundness.specs.Ties.Stays g x (λ q. owners k.names (own T1) q + 0)) (sym held) (setting_stays g n h (λ q. owners k.names (own T1) q + 0) (ap is_idle empty)))
-      (subst (λ x. Balanced fip x (λ q. owners k.names (own T1) q + 0)) (sym held) (setting_balanced fip g n h (λ q. owners k.names (own T1) q + 0) no_tree refl trees))
+      (subst (λ x. Rattle.lowered_soundness.specs.Ties.Stays g x (λ q. owners k.names (own Charged) q + 0)) (sym held) (setting_stays g n h (λ q. owners k.names (own Charged) q + 0) (ap is_idle empty)))
+      (subst (λ x. Balanced fip x (λ q. owners k.names (own Charged) q + 0)) (sym held) (setting_balanced fip g n h (λ q. owners k.names (own Charged) q + 0) no_tree refl trees))
       (subst Rooted (sym held) (setting_rooted g n h no_tree refl unlent ties.rooted))
       (subst (BareRight w) (sym held) (setting_bares w g n h unbare ties.bares))
       (λ i. subst (λ a. Fits fip a (T (Credit i) + charge (m ∷ []) (Credit i))) (sym (sized_both i k.credits (record { size = m; register = n } ∷ []))) (subst (λ a. Fits fip (sized i k.credits + a) (T (Credit i) + (one m i + 0))) (charge_is i) (added i (sized i k.credits) (T (Credit i)) (one m i + 0) (ties.sizes i))))
@@ -319,8 +319,8 @@ module _ (fip : Bool) (w : Table) (st : Setting) (B : ℕ → Bool) (K : ℕ →
       h : Held
       h = H.Credit m
 
-      T1 : Item → ℕ
-      T1 i = T i + charge (m ∷ []) i
+      Charged : Item → ℕ
+      Charged i = T i + charge (m ∷ []) i
 
       empty : held_at k.held k.next ≡ H.Nothing
       empty = ties.fresh k.next (omega arith)
@@ -374,8 +374,8 @@ module _ (fip : Bool) (w : Table) (st : Setting) (B : ℕ → Bool) (K : ℕ →
               let a = front in
               omega (arith, a, b, d)
 
-      trees : Balanced fip (held_at k.held) (λ q. owners k.names (own T1) q + 0)
-      trees q = subst (λ a. Fits fip (one_if (is_tree (held_at k.held q))) (a + 0)) (owners_same k.names (own T) (own T1) q (λ x. omega arith)) (ties.trees q)
+      trees : Balanced fip (held_at k.held) (λ q. owners k.names (own Charged) q + 0)
+      trees q = subst (λ a. Fits fip (one_if (is_tree (held_at k.held q))) (a + 0)) (owners_same k.names (own T) (own Charged) q (λ x. omega arith)) (ties.trees q)
 
   pub record Credited (s : Scope) (T : Item → ℕ) (k : Known) (ms : List ℕ) (l : Known) : Type 0 where
     pub ties : Ties fip w s B K (λ i. T i + charge ms i) (λ q. 0) l

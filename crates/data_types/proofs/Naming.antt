@@ -52,16 +52,14 @@ scope_of ns ps = record { names = ns; parameters = ps }
 three : (o : Option Violation) (xs ys zs : List Violation) → after (after (after o xs) ys) zs ≡ after o (xs ++ (ys ++ zs))
 three o xs ys zs = sym (after-append o xs (ys ++ zs) ∙ after-append (after o xs) ys zs)
 
-pub function_noted : (ns : Names) (f : Function) (s : Scope) (l m n o p q : Option Violation) → m ≡ after l (credit_faults f.credits) → n ≡ after m (repeats [] (static_mentions f.statics)) → o ≡ after n (repeats [] (parameter_mentions f.parameters)) → s ≡ function_scope ns f → p ≡ after o (header_faults s f) → q ≡ after p (block_faults s f.body) → q ≡ after l (function_faults ns f)
-function_noted ns f s l m n o p q credits statics parameters scope header body =
+pub function_noted : (ns : Names) (f : Function) (s : Scope) (l m n o p : Option Violation) → m ≡ after l (credit_faults f.credits) → n ≡ after m (repeats [] (static_mentions f.statics)) → o ≡ after n (repeats [] (parameter_mentions f.parameters)) → s ≡ function_scope ns f → p ≡ after o (header_faults s f ++ block_faults s f.body) → p ≡ after l (function_faults ns f)
+function_noted ns f s l m n o p credits statics parameters scope mentions =
     let t = function_scope ns f in
     let cs = credit_faults f.credits in
     let ss = repeats [] (static_mentions f.statics) in
     let ps = repeats [] (parameter_mentions f.parameters) in
     let rest = header_faults t f ++ block_faults t f.body in
-    let h : p ≡ after o (header_faults t f) = header ∙ ap (λ s. after o (header_faults s f)) scope in
-    let b : q ≡ after p (block_faults t f.body) = body ∙ ap (λ s. after p (block_faults s f.body)) scope in
-    let e : q ≡ after o rest = b ∙ ap (λ p. after p (block_faults t f.body)) h ∙ sym (after-append o (header_faults t f) (block_faults t f.body)) in
+    let e : p ≡ after o rest = mentions ∙ ap (λ s. after o (header_faults s f ++ block_faults s f.body)) scope in
     let d : o ≡ after (after (after l cs) ss) ps = parameters ∙ ap (λ n. after n ps) (statics ∙ ap (λ m. after m ss) credits) in
     e ∙ ap (λ o. after o rest) d ∙ three (after l cs) ss ps rest ∙ sym (after-append l cs (ss ++ (ps ++ rest)))
 

@@ -1,5 +1,5 @@
 // The declarations of a program, or their least violation.
-ghost use Rattle.std.specs.Prelude.{◌≡◌, ◌<◌, ℕ, true, length, map, IfOk, IfErr, OnOk};
+ghost use Rattle.std.specs.Prelude.{◌≡◌, ◌<◌, ◌++◌, ℕ, Bool, List, Option, true, length, map, IfOk, IfErr, OnOk};
 ghost use Rattle.fip_language.specs.Declarations.{data_types};
 ghost use Rattle.fip_base.specs.CoreView as V;
 ghost use Rattle.fip_trees.specs.Least.{after};
@@ -7,8 +7,10 @@ ghost use Rattle.fip_trees.specs.declared.least.Violation.{Violation};
 ghost use Rattle.data_types.specs.Answers.{IsWalked, Says, Violates, declared_row_names, value_faults};
 ghost use Rattle.data_types.specs.DeclaredProgram.{AreDeclared};
 ghost use Rattle.data_types.specs.Declarations.{declarations, declared_names, row_names, written_names};
-ghost use Rattle.data_types.specs.Faults.{all_function_faults, function_faults};
+ghost use Rattle.data_types.specs.Faults.{all_function_faults, block_faults, function_faults, header_faults};
+ghost use Rattle.data_types.specs.Faults.{name_faults};
 ghost use Rattle.data_types.specs.Numbered.{types_numbered};
+ghost use Rattle.data_types.specs.Steps.{TellsValued};
 ghost use Rattle.data_types.specs.Types.{IsValued};
 ghost use Rattle.data_types.specs.View as v;
 
@@ -68,7 +70,6 @@ pub fn declare<'a>(alloc: Global, core: &'a Core) -> Result<DeclaredProgram<'a>,
 }
 
 // The declarations, in which a name that is declared twice means its first one; notes all violations.
-#[tactic(auto, using(crate::proofs::Shared::noting))]
 fn declarations<'a>(alloc: Global, core: &'a Core, least: &mut Least) -> Result<Decls<'a>, NoMemory>
     ensures names { IfOk result (λ d. d.names ≡ declared_names (V.core core.now)) }
     ensures types { IfOk result (λ d. v.declarations d.types.items ≡ declarations (V.core core.now)) }
@@ -78,14 +79,48 @@ fn declarations<'a>(alloc: Global, core: &'a Core, least: &mut Least) -> Result<
     ensures faults { OnOk result (IsWalked (V.core core.now) least.old least.new) }
 {
     let names = names_of(alloc, core, least)?;
-    let types = types_of(alloc, &names, &core.types, least)?;
-    check_functions(alloc, &names, &core.functions, least)?;
-    let valued = are_valued(alloc, &types)?;
-    note_unvalued(&core.types, &valued, least)?;
+    let types = checked_types(alloc, core, &names, least)?;
     Ok(Decls { names, types })
 }
 
-// A data type without a finite value is E13. The first of the flags is that of bool.
+// The data types; notes all violations of the program behind those of its names.
+#[tactic(auto, using(crate::proofs::Shared::noting))]
+fn checked_types<'a>(
+    alloc: Global,
+    core: &'a Core,
+    names: &DeclaredNames<'a>,
+    least: &mut Least,
+) -> Result<Vec<DeclaredType<'a>>, NoMemory>
+    requires names { names.now ≡ declared_names (V.core core.now) }
+    ensures types { IfOk result (λ ts. v.declarations ts.items ≡ declarations (V.core core.now)) }
+    ensures constructors { IfOk result (λ ts. map declared_row_names ts.items ≡
+        map row_names (data_types (V.core core.now))) }
+    ensures numbered { IfOk result (λ ts. types_numbered ts.items ≡ true) }
+    ensures faults { OnOk result ((o : Option Violation) → least.old ≡ after o (name_faults (V.core core.now)) →
+        IsWalked (V.core core.now) o least.new) }
+{
+    let types = types_of(alloc, names, &core.types, least)?;
+    check_functions(alloc, names, &core.functions, least)?;
+    check_values(alloc, &core.types, &types, least)?;
+    Ok(types)
+}
+
+// A data type without a finite value is E13.
+fn check_values(
+    alloc: Global,
+    declared: &[Data],
+    types: &[DeclaredType<'_>],
+    least: &mut Least,
+) -> Result<(), NoMemory>
+    ensures { OnOk result ((flags : List Bool) × TellsValued (v.declarations types.now) flags ×
+        (least.new ≡ after least.old (value_faults 1 flags (map V.data_type declared.now)))) }
+{
+    let valued = are_valued(alloc, types)?;
+    note_unvalued(declared, &valued, least)?;
+    Ok(())
+}
+
+// Notes the data types without a finite value. The first of the flags is that of bool.
 fn note_unvalued(declared: &[Data], valued: &[bool], least: &mut Least) -> Result<(), NoMemory>
     ensures { OnOk result (least.new ≡
         after least.old (value_faults 1 valued.now (map V.data_type declared.now))) }
@@ -138,7 +173,22 @@ fn check_function(
         names,
         parameters: &parameters,
     };
-    check_header(alloc, &scope, function, least)?;
-    check_block(alloc, &scope, &function.body, least)?;
+    check_mentions(alloc, &scope, function, least)?;
+    Ok(())
+}
+
+// What a function mentions in its header and its body.
+#[tactic(auto, using(crate::proofs::Shared::noting))]
+fn check_mentions(
+    alloc: Global,
+    scope: &Scope<'_, '_>,
+    function: &Function,
+    least: &mut Least,
+) -> Result<(), NoMemory>
+    ensures { OnOk result (least.new ≡ after least.old
+        (header_faults scope.now (V.function function.now) ++ block_faults scope.now (V.function function.now).body)) }
+{
+    check_header(alloc, scope, function, least)?;
+    check_block(alloc, scope, &function.body, least)?;
     Ok(())
 }

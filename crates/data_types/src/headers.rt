@@ -30,12 +30,23 @@ pub fn type_parameters<'a>(
     ensures { IfOk result (λ ps. ps ≡ with_meanings [] (static_meanings 0 (map V.static statics.now))) }
 {
     let mut parameters = Meanings::new(alloc);
+    add_type_parameters(statics, &mut parameters)?;
+    Ok(parameters)
+}
+
+fn add_type_parameters<'a>(
+    statics: &'a [Static],
+    parameters: &mut TypeParameters<'a>,
+) -> Result<(), NoMemory>
+    ensures { OnOk result (parameters.new ≡
+        with_meanings parameters.old (static_meanings 0 (map V.static statics.now))) }
+{
     let mut number = 0;
     for parameter in statics {
-        add_type_parameter(parameter, number, &mut parameters)?;
+        add_type_parameter(parameter, number, parameters)?;
         number = next(number)?;
     }
-    Ok(parameters)
+    Ok(())
 }
 
 fn add_type_parameter<'a>(
@@ -112,6 +123,17 @@ pub fn check_static_names(
     ensures { OnOk result (least.new ≡ after least.old (repeats [] (static_mentions (map V.static statics.now)))) }
 {
     let mut seen = Meanings::new(alloc);
+    note_static_repeats(statics, &mut seen, least)
+}
+
+fn note_static_repeats<'a>(
+    statics: &'a [Static],
+    seen: &mut Meanings<'a, ()>,
+    least: &mut Least,
+) -> Result<(), NoMemory>
+    requires empty { seen.now ≡ [] }
+    ensures { OnOk result (least.new ≡ after least.old (repeats [] (static_mentions (map V.static statics.now)))) }
+{
     for parameter in statics {
         let name = name_of(parameter);
         let is_new = seen.add(name, ())?;
@@ -130,6 +152,18 @@ pub fn check_parameter_names(
         after least.old (repeats [] (parameter_mentions (map V.parameter parameters.now)))) }
 {
     let mut seen = Meanings::new(alloc);
+    note_parameter_repeats(parameters, &mut seen, least)
+}
+
+fn note_parameter_repeats<'a>(
+    parameters: &'a [Parameter],
+    seen: &mut Meanings<'a, ()>,
+    least: &mut Least,
+) -> Result<(), NoMemory>
+    requires empty { seen.now ≡ [] }
+    ensures { OnOk result (least.new ≡
+        after least.old (repeats [] (parameter_mentions (map V.parameter parameters.now)))) }
+{
     for parameter in parameters {
         let name = parameter.binder.name.as_slice();
         let is_new = seen.add(name, ())?;

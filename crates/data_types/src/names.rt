@@ -1,5 +1,5 @@
 // The names of a program, and the violations of E10 among them.
-ghost use Rattle.std.specs.Prelude.{◌≡◌, ◌+◌, map, IfOk, OnOk};
+ghost use Rattle.std.specs.Prelude.{◌≡◌, ◌+◌, [], map, IfOk, OnOk};
 ghost use Rattle.fip_base.specs.CoreView as V;
 ghost use Rattle.fip_trees.specs.Least.{after};
 ghost use Rattle.fip_trees.specs.Names as N;
@@ -25,7 +25,6 @@ pub fn next(number: u32) -> Result<u32, NoMemory>
 }
 
 /// What the names of a program mean: bool, False and True are declared before all others. Notes each second name.
-#[tactic(auto, using(crate::proofs::Shared::noting))]
 pub fn names_of<'a>(
     alloc: Global,
     core: &'a Core,
@@ -34,18 +33,34 @@ pub fn names_of<'a>(
     ensures names { IfOk result (λ ns. ns ≡ declared_names (V.core core.now)) }
     ensures faults { OnOk result (least.new ≡ after least.old (name_faults (V.core core.now))) }
 {
-    let mut names = names_before(alloc)?;
-    add_types(&core.types, &mut names, least)?;
-    add_constructors(&core.types, &mut names, least)?;
-    add_functions(&core.functions, &mut names, least)?;
+    let mut names = DeclaredNames::new(alloc);
+    declare_names(core, &mut names, least)?;
     Ok(names)
 }
 
-// bool, False and True.
-fn names_before<'a>(alloc: Global) -> Result<DeclaredNames<'a>, NoMemory>
-    ensures { IfOk result (λ ns. ns ≡ predeclared) }
+// bool, False and True, and behind them the names of the program.
+#[tactic(auto, using(crate::proofs::Shared::noting))]
+fn declare_names<'a>(
+    core: &'a Core,
+    names: &mut DeclaredNames<'a>,
+    least: &mut Least,
+) -> Result<(), NoMemory>
+    requires empty { names.now ≡ record { types = []; constructors = []; functions = [] } }
+    ensures names { OnOk result (names.new ≡ declared_names (V.core core.now)) }
+    ensures faults { OnOk result (least.new ≡ after least.old (name_faults (V.core core.now))) }
 {
-    let mut names = DeclaredNames::new(alloc);
+    predeclare(names)?;
+    add_types(&core.types, names, least)?;
+    add_constructors(&core.types, names, least)?;
+    add_functions(&core.functions, names, least)?;
+    Ok(())
+}
+
+// bool, False and True.
+fn predeclare(names: &mut DeclaredNames<'_>) -> Result<(), NoMemory>
+    requires empty { names.now ≡ record { types = []; constructors = []; functions = [] } }
+    ensures { OnOk result (names.new ≡ predeclared) }
+{
     names.add_type(
         b"bool",
         TypeHead {
@@ -55,7 +70,7 @@ fn names_before<'a>(alloc: Global) -> Result<DeclaredNames<'a>, NoMemory>
     )?;
     names.add_constructor(b"False", ConstructorId { data: 1, number: 0 })?;
     names.add_constructor(b"True", ConstructorId { data: 1, number: 1 })?;
-    Ok(names)
+    Ok(())
 }
 
 // The data types of the program are numbered from 2 on.

@@ -1,12 +1,13 @@
 // The data types of a program, the names in their fields looked up.
-ghost use Rattle.std.specs.Prelude.{◌≡◌, true, [], ◌∷◌, length, map, IfOk, OnOk};
+ghost use Rattle.std.specs.Prelude.{◌≡◌, true, [], ◌∷◌, ◌++◌, length, map, IfOk, OnOk};
 ghost use Rattle.fip_language.specs.Declarations.{bool_type};
 ghost use Rattle.fip_base.specs.CoreView as V;
 ghost use Rattle.fip_trees.specs.Least.{after};
+ghost use Rattle.fip_trees.specs.Names as N;
 ghost use Rattle.fip_trees.specs.Names.{with_meanings};
 ghost use Rattle.data_types.specs.Answers.{declared_row_names};
 ghost use Rattle.data_types.specs.Declarations.{constructor_fields, constructor_name, data_declared};
-ghost use Rattle.data_types.specs.Declarations.{parameter_meanings, row_names};
+ghost use Rattle.data_types.specs.Declarations.{data_scope, parameter_meanings, row_names};
 ghost use Rattle.data_types.specs.Faults.{data_faults, field_faults, repeats, size_faults, type_name_mentions};
 ghost use Rattle.data_types.specs.Faults.{all_data_faults};
 ghost use Rattle.data_types.specs.Numbered.{all_true, row_numbered, type_numbered, types_numbered, HasNumbers};
@@ -81,6 +82,20 @@ fn parameters_of<'a>(
         after least.old (repeats [] (type_name_mentions (map V.type_name list.now)))) }
 {
     let mut parameters = Meanings::new(alloc);
+    add_parameters(list, &mut parameters, least)?;
+    Ok(parameters)
+}
+
+fn add_parameters<'a>(
+    list: &'a [TypeName],
+    parameters: &mut TypeParameters<'a>,
+    least: &mut Least,
+) -> Result<(), NoMemory>
+    ensures parameters { OnOk result (parameters.new ≡
+        with_meanings parameters.old (parameter_meanings 0 (map V.type_name list.now))) }
+    ensures faults { OnOk result (least.new ≡
+        after least.old (repeats (N.names parameters.old) (type_name_mentions (map V.type_name list.now)))) }
+{
     let mut number = 0;
     for parameter in list {
         let name = parameter.name.as_slice();
@@ -88,7 +103,7 @@ fn parameters_of<'a>(
         note_if(least, !is_new, Rule::E10, parameter.place, name)?;
         number = next(number)?;
     }
-    Ok(parameters)
+    Ok(())
 }
 
 #[tactic(auto, using(crate::proofs::Shared::noting))]
@@ -108,7 +123,26 @@ fn type_of<'a>(
         names,
         parameters: &parameters,
     };
-    let constructors = constructors_of(alloc, &scope, &written.constructors, least)?;
+    type_within(alloc, &scope, written, least)
+}
+
+// A data type, its type parameters in scope.
+#[tactic(auto, using(crate::proofs::Shared::noting))]
+fn type_within<'a>(
+    alloc: Global,
+    scope: &Scope<'_, 'a>,
+    written: &'a Data,
+    least: &mut Least,
+) -> Result<DeclaredType<'a>, NoMemory>
+    requires scope { scope.now ≡ data_scope scope.now.names (V.data_type written.now) }
+    ensures declared { IfOk result (λ t. v.declared t ≡ data_declared scope.now.names (V.data_type written.now)) }
+    ensures names { IfOk result (λ t. declared_row_names t ≡ row_names (V.data_type written.now)) }
+    ensures numbered { HasNumbers scope.now.names → IfOk result (λ t. type_numbered t ≡ true) }
+    ensures faults { OnOk result (least.new ≡ after least.old
+        (field_faults scope.now (V.data_type written.now).constructors ++
+        size_faults (V.data_type written.now).constructors)) }
+{
+    let constructors = constructors_of(alloc, scope, &written.constructors, least)?;
     note_sizes(&written.constructors, least)?;
     Ok(DeclaredType {
         arity: arity_of(&written.parameters)?,

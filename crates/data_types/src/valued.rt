@@ -1,5 +1,5 @@
 // Which data types have a finite value, their parameters taken to have one.
-ghost use Rattle.std.specs.Prelude.{◌≡◌, ◌<◌, length, IfOk, OnOk};
+ghost use Rattle.std.specs.Prelude.{◌≡◌, ◌<◌, [], length, IfOk, OnOk};
 ghost use Rattle.data_types.specs.Marks as m;
 ghost use Rattle.data_types.specs.Steps as s;
 ghost use Rattle.data_types.specs.View as v;
@@ -16,10 +16,22 @@ pub fn are_valued(alloc: Global, declared: &[DeclaredType<'_>]) -> Result<Vec<bo
     ensures { IfOk result (λ f. s.TellsValued (v.declarations declared.now) f.items) }
 {
     let mut marking = Marking::new(alloc);
-    list_roots(alloc, declared, &mut marking)?;
-    settle_in_order(alloc, declared, &mut marking)?;
+    marks_of(alloc, declared, &mut marking)
+}
+
+// What a search that begins with no pairs finds.
+fn marks_of(
+    alloc: Global,
+    declared: &[DeclaredType<'_>],
+    marking: &mut Marking,
+) -> Result<Vec<bool>, NoMemory>
+    requires empty { marking.now ≡ record { pairs = []; marks = []; todo = [] } }
+    ensures { IfOk result (λ f. s.TellsValued (v.declarations declared.now) f.items) }
+{
+    list_roots(alloc, declared, marking)?;
+    settle_in_order(alloc, declared, marking)?;
     marking.run(alloc, declared)?;
-    let found = root_marks(alloc, declared, &mut marking)?;
+    let found = root_marks(alloc, declared, marking)?;
     Ok(found)
 }
 

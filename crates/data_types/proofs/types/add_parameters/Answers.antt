@@ -6,7 +6,7 @@ use Rattle.fip_trees.specs.Names.{names, with_meanings}
 use Rattle.data_types.specs.Declarations.{parameter_meanings}
 use Rattle.data_types.specs.Faults.{repeats, type_name_mentions}
 use Rattle.data_types.proofs.Repeats.{repeats_next, with_next, drop_item}
-use Rattle.data_types.proofs.types.parameters_of.Goals as goal
+use Rattle.data_types.proofs.types.add_parameters.Goals as goal
 
 pub loop-parameter-preserved : goal.loop-parameter-preserved
 loop-parameter-preserved c =

@@ -4,7 +4,7 @@ use Rattle.fip_base.specs.declared.core_form.Static.{Static}
 use Rattle.fip_trees.specs.Names.{with_meanings}
 use Rattle.data_types.specs.Declarations.{static_meanings}
 use Rattle.data_types.proofs.Repeats.{static_next, drop_item}
-use Rattle.data_types.proofs.headers.type_parameters.Goals as goal
+use Rattle.data_types.proofs.headers.add_type_parameters.Goals as goal
 
 pub loop-parameter-preserved : goal.loop-parameter-preserved
 loop-parameter-preserved c =

@@ -6,7 +6,7 @@ use Rattle.fip_trees.specs.Least.{after}
 use Rattle.fip_trees.specs.Names.{names}
 use Rattle.data_types.specs.Faults.{broken, when, repeats, static_mention, static_mentions}
 use Rattle.data_types.proofs.Repeats.{repeats_next, drop_item}
-use Rattle.data_types.proofs.headers.check_static_names.Goals as goal
+use Rattle.data_types.proofs.headers.note_static_repeats.Goals as goal
 
 pub loop-parameter-preserved : goal.loop-parameter-preserved
 loop-parameter-preserved c =

@@ -5,7 +5,7 @@ use Rattle.fip_trees.specs.Least.{after}
 use Rattle.fip_trees.specs.Names.{names}
 use Rattle.data_types.specs.Faults.{repeats, parameter_mentions}
 use Rattle.data_types.proofs.Repeats.{repeats_next, drop_item}
-use Rattle.data_types.proofs.headers.check_parameter_names.Goals as goal
+use Rattle.data_types.proofs.headers.note_parameter_repeats.Goals as goal
 
 pub loop-parameter-preserved : goal.loop-parameter-preserved
 loop-parameter-preserved c =

@@ -19,9 +19,10 @@ use Rattle.sound_code.specs.Codes.{PlainCode, PlainFunction}
 use Rattle.sound_code.specs.Types.{is_scalar_type, fields}
 use Rattle.lowered_code.specs.Known.{Known, register_of}
 use Rattle.lowered_code.specs.Values.{Setting, is_scalar, BuiltAt, ArgumentAt, ArgumentsAt}
-use Rattle.lowered_soundness.specs.Describing.{held_at}
+use Rattle.laid_code.specs.Describing.{held_at}
 use Rattle.lowered_soundness.specs.Ties.{owners, own, AllHold, owed, owe, Ties}
-use Rattle.lowered_soundness.specs.Laid.{told, Quiet, Shares, Scoped}
+use Rattle.laid_code.specs.Labels.{told, Quiet}
+use Rattle.lowered_soundness.specs.Laid.{Shares, Scoped}
 use Rattle.lowered_soundness.specs.Computed.{Computed}
 use Rattle.lowered_soundness.proofs.Parts.{no_row}
 use Rattle.lowered_soundness.proofs.Balance.{stays_same}
@@ -31,7 +32,7 @@ use Rattle.lowered_soundness.proofs.Values.{scalar_variable, owned_variable, lit
 use Rattle.lowered_soundness.proofs.Cells.{put_value}
 
 -- as many values as registers
-pub all_many : (w : Table) (g : Rattle.lowered_soundness.specs.Describing.Holding) (rs ts : List ℕ) → AllHold w g rs ts → length ts ≡ length rs
+pub all_many : (w : Table) (g : Rattle.laid_code.specs.Describing.Holding) (rs ts : List ℕ) → AllHold w g rs ts → length ts ≡ length rs
 all_many w g [] [] h = refl
 all_many w g [] (t ∷ ts) h = absurd h
 all_many w g (r ∷ rs) [] h = absurd h

@@ -13,11 +13,10 @@ use Rattle.kind_soundness.proofs.Basics.{chosen, refused, or_not, itself, both, 
 use Rattle.lowered_code.specs.declared.held.Held.TheVariants as H
 use Rattle.lowered_code.specs.Known.{Known}
 use Rattle.lowered_code.specs.Values.{built_if}
-use Rattle.lowered_soundness.specs.Describing.{Holding, held_at}
+use Rattle.laid_code.specs.Describing.{Holding, held_at}
 use Rattle.lowered_soundness.specs.Giving.{is_owned_of, atom_held}
-use Rattle.lowered_soundness.specs.Parts.{Tells, Shows}
+use Rattle.laid_code.specs.Labels.{Tells, Shows, told, Quiet}
 use Rattle.lowered_soundness.specs.Ties.{one_if, owners, own, HoldsValue, AllHold, owe, owed, Stays, Ties}
-use Rattle.lowered_soundness.specs.Laid.{told, Quiet}
 use Rattle.lowered_soundness.specs.Computed.{Computed}
 use Rattle.lowered_soundness.proofs.Giving.{owned_tree}
 use Rattle.lowered_soundness.proofs.Parts.{both_parts}

@@ -8,7 +8,8 @@ use Rattle.kind_soundness.proofs.Basics.{pick, chosen, refused, or_not, equal, e
 use Rattle.lowered_code.specs.declared.held.Held.{Held}
 use Rattle.lowered_code.specs.declared.held.Held.TheVariants as H
 use Rattle.lowered_code.specs.Known.{lent_by, without}
-use Rattle.lowered_soundness.specs.Describing.{Holding, is_tree, using, using_all}
+use Rattle.laid_code.specs.Describing.{Holding, is_tree}
+use Rattle.lowered_soundness.specs.Covering.{using, using_all}
 use Rattle.lowered_soundness.specs.Giving.{is_scalar_of, is_owned_of, can_give}
 use Rattle.lowered_soundness.specs.Ties.{one_if, HoldsValue, AllHold, owe, owed, Balanced, Rooted, Stays}
 use Rattle.lowered_soundness.proofs.Covering.{using_none}

@@ -1,5 +1,5 @@
 -- Expressions and blocks: their instructions keep the rules, and what is known behind them goes with the variables.
-use Rattle.std.proofs.Common.{◌≡◌, inl, inr, ℕ, suc, ◌+◌, ◌≤◌, Bool, true, false, ◌||◌, ◌&&◌, not, true≢false, slice_get, List, [], ◌∷◌, ◌++◌, length, map, Option, Some, refl, sym, ap, ◌∙◌, subst, arith, if◌then◌else◌}
+use Rattle.std.proofs.Common.{◌≡◌, inl, inr, ℕ, suc, ◌+◌, ◌<◌, ◌≤◌, Bool, true, false, ◌||◌, ◌&&◌, not, true≢false, slice_get, List, [], ◌∷◌, ◌++◌, length, map, Option, Some, refl, sym, ap, ◌∙◌, subst, arith, if◌then◌else◌}
 use Rattle.fip_language.specs.Every.{Among}
 use Rattle.fip_trees.specs.declared.program.Binder.{Binder}
 use Rattle.fip_trees.specs.Tree.{NoArguments, MoreArguments, Pattern, Clauses, NoClauses, MoreClauses}
@@ -26,24 +26,35 @@ use Rattle.sound_code.specs.Types.{is_type}
 use Rattle.kind_soundness.proofs.Basics.{refused}
 use Rattle.match_code.specs.Spots.{register}
 use Rattle.match_code.specs.Opening.{Roomy}
+use Rattle.lowered_code.specs.declared.held.Held.{Held}
 use Rattle.lowered_code.specs.declared.held.Held.TheVariants as H
 use Rattle.lowered_code.specs.Known.{Known}
 use Rattle.lowered_code.specs.Values.{Setting}
 use Rattle.lowered_code.specs.Bodies.{Return, Into, registers_for, reserved, with_names, all_named}
-use Rattle.lowered_soundness.specs.Describing.{held_at}
-use Rattle.lowered_soundness.specs.Parts.{LastPart}
-use Rattle.lowered_soundness.specs.Ties.{AllHold, owed, Ties}
-use Rattle.lowered_soundness.specs.Laid.{told, Shares}
+use Rattle.laid_code.specs.Describing.{held_at}
+use Rattle.lowered_soundness.specs.Parts.{Part, LastPart}
+use Rattle.laid_code.specs.Joins.{Meets}
+use Rattle.lowered_soundness.specs.Ties.{owners, own, AllHold, owed, Ties}
+use Rattle.laid_code.specs.Labels.{told}
+use Rattle.laid_code.specs.Credits.{LastGone}
+use Rattle.lowered_soundness.proofs.Balance.{stays_fewer}
+use Rattle.lowered_soundness.proofs.Keeping.{keeps_on, keeps_less, keeps_within, keeps_named, keeps_let, keeps_next, keeps_held}
+use Rattle.lowered_soundness.proofs.Bares.{bared, barely_nothing, barely_keeps}
+use Rattle.lowered_soundness.proofs.Meeting.{Arrived, Spares, joined, spares_on, spares_same}
+use Rattle.lowered_soundness.proofs.Ends.{Reached, reached_part, reached_stretch}
+use Rattle.lowered_soundness.proofs.ClauseEnding.{owing, ClausesDone, start_ties, entry_waits, clause_done}
+use Rattle.lowered_soundness.specs.Laid.{Shares}
 use Rattle.lowered_soundness.specs.Computed.{Computed}
-use Rattle.lowered_soundness.specs.Delivered.{Waiting, Delivered}
+use Rattle.lowered_soundness.specs.Delivered.{Waiting, Delivered, Keeps}
 use Rattle.lowered_soundness.specs.Placed.{Placed, NoneFrom, InOrder, Numbered, NumberedBlock, NumberedClauses, AreTypes, Callees}
-use Rattle.lowered_soundness.specs.Bodies.{NamedLaid, ExpressionLaid, BlockLaid, ClausesLaid}
-use Rattle.lowered_soundness.specs.Tests.{Choice}
-use Rattle.lowered_soundness.specs.Matches.{clause_patterns, entered, MatchLaid}
+use Rattle.laid_code.specs.Bodies.{NamedLaid, ExpressionLaid, BlockLaid, ClausesLaid, ClausesMeet}
+use Rattle.laid_code.specs.Tests.{Choice}
+use Rattle.laid_code.specs.Matches.{clause_patterns, widened, entered, MatchLaid}
 use Rattle.lowered_soundness.proofs.Chunks.{stretch_last, last_stretch}
 use Rattle.lowered_soundness.proofs.Chosen.{match_sides}
-use Rattle.lowered_soundness.proofs.Clauses.{ties_reserved, ClauseBegins, OpensBy, enter_clause}
-use Rattle.lowered_soundness.proofs.Matching.{scrutinee, DerivesBy, owner, all_entries, MatchOn, match_on, match_last}
+use Rattle.lowered_soundness.proofs.Clauses.{ties_reserved, reading, reading_kept, ClauseBegins, OpensBy, enter_clause, from_before}
+use Rattle.lowered_soundness.proofs.Cleared.{Kept}
+use Rattle.lowered_soundness.proofs.Matching.{scrutinee, DerivesBy, owner, all_entries, all_met, MatchOn, match_on, match_any}
 use Rattle.lowered_soundness.proofs.Parts.{both_parts, part_and_last}
 use Rattle.lowered_soundness.proofs.Tying.{ties_fits}
 use Rattle.lowered_soundness.proofs.Arguments.{ties_worth}
@@ -200,13 +211,12 @@ module _ (c : PlainCode) (f : PlainFunction) (st : Setting) (wd : W.World) (w : 
   }
 
   -- values get names, and the rest follows
-  computed_rest : (s z : Scope) (B D : ℕ → Bool) (K : ℕ → Item → ℕ) (Y X : Item → ℕ) (at : ℕ) (k : Known) (rs us : List ℕ) (mid : ℕ) (m : Known) (bs : List Binder) (ds ts : List ℕ) (end : ℕ) (l : Known) → Computed c f fip s B K Y (λ q. 0) at k rs us mid m → Delivered c f fip z D K X mid (with_names m bs rs) ds ts end l → ((x u : ℕ) → of_binder s (Some x) ≡ Some (Some u) → of_binder z (Some x) ≡ Some (Some u)) → ((x u : ℕ) → of_binder s (Some x) ≡ Some (Some u) → D x ≡ B x) → Delivered c f fip s B K X at k ds ts end l
-  computed_rest s z B D K Y X at k rs us mid m bs ds ts end l h rest back same =
+  computed_rest : (s z : Scope) (B D : ℕ → Bool) (K : ℕ → Item → ℕ) (Y X : Item → ℕ) (at : ℕ) (k : Known) (rs us : List ℕ) (mid : ℕ) (m : Known) (bs : List Binder) (ds ts : List ℕ) (end : ℕ) (l : Known) (n : ℕ) → ((i : Item) → X i ≤ Y i) → LastGone k.credits m.credits → InOrder n bs → NoneFrom n X → ((x u : ℕ) → of_binder s (Some x) ≡ Some (Some u) → x < n) → Computed c f fip s B K Y (λ q. 0) at k rs us mid m → Delivered c f fip z D K X mid (with_names m bs rs) ds ts end l → ((x u : ℕ) → of_binder s (Some x) ≡ Some (Some u) → of_binder z (Some x) ≡ Some (Some u)) → ((x u : ℕ) → of_binder s (Some x) ≡ Some (Some u) → D x ≡ B x) → Delivered c f fip s B K X at k ds ts end l
+  computed_rest s z B D K Y X at k rs us mid m bs ds ts end l n less last order none before h rest back same =
       let a = h.grows in
       let b = rest.grows in
       record {
         grows = omega (arith, a, b);
-        still = λ e r. (let x : at ≡ mid = omega (arith, a, b, e) in let y : mid ≡ end = omega (arith, a, b, e) in h.still x r ∙ rest.still y r);
         part = both_parts c f at mid end (told c k) (told c m) (told c l) h.part rest.part;
         next = (let x = h.next in let y = rest.next in omega (arith, x, y));
         width = rest.width ∙ h.width;
@@ -214,15 +224,17 @@ module _ (c : PlainCode) (f : PlainFunction) (st : Setting) (wd : W.World) (w : 
         ties = ties_within fip c.types z s D B K K X (λ q. owed c.types ds ts q + 0) l rest.ties back (λ x u o b. (same x u o ∙ b, refl));
         hold = rest.hold;
         empty = λ r low y ne. rest.empty r (let n = h.next in omega (arith, low, n)) (h.empty r low y) ne;
+        keeps = keeps_on s X k m l
+            (keeps_less s Y X k m less (keeps_named fip s Y k m (stays_fewer (held_at k.held) (held_at m.held) (λ q. owners k.names (own Y) q + 0) (owners k.names (own Y)) (λ q. omega arith) h.stays) h.names last h.ties.sizes))
+            (keeps_on s X m (with_names m bs rs) l (keeps_let s X m bs rs n order none before) (keeps_within s z X (with_names m bs rs) l back rest.keeps));
       }
 
-  delivered_rest : (s z : Scope) (B C D : ℕ → Bool) (K L : ℕ → Item → ℕ) (Y X : Item → ℕ) (at : ℕ) (k : Known) (n : ℕ) (rs us : List ℕ) (mid : ℕ) (m : Known) (bs : List Binder) (ds ts : List ℕ) (end : ℕ) (l : Known) → k.next ≤ n → Delivered c f fip s C L Y at (record k { next = n }) rs us mid m → Delivered c f fip z D K X mid (with_names m bs rs) ds ts end l → ((r : ℕ) → suc r ≤ k.next → Among r rs → ⊥) → ((x u : ℕ) → of_binder s (Some x) ≡ Some (Some u) → of_binder z (Some x) ≡ Some (Some u)) → ((x u : ℕ) → of_binder s (Some x) ≡ Some (Some u) → D x ≡ B x) → Delivered c f fip s B K X at k ds ts end l
-  delivered_rest s z B C D K L Y X at k n rs us mid m bs ds ts end l more h rest apart back same =
+  delivered_rest : (s z : Scope) (B C D : ℕ → Bool) (K L : ℕ → Item → ℕ) (Y X : Item → ℕ) (at : ℕ) (k : Known) (n : ℕ) (rs us : List ℕ) (mid : ℕ) (m : Known) (bs : List Binder) (ds ts : List ℕ) (end : ℕ) (l : Known) (o : ℕ) → ((i : Item) → X i ≤ Y i) → InOrder o bs → NoneFrom o X → ((x u : ℕ) → of_binder s (Some x) ≡ Some (Some u) → x < o) → k.next ≤ n → Delivered c f fip s C L Y at (record k { next = n }) rs us mid m → Delivered c f fip z D K X mid (with_names m bs rs) ds ts end l → ((r : ℕ) → suc r ≤ k.next → Among r rs → ⊥) → ((x u : ℕ) → of_binder s (Some x) ≡ Some (Some u) → of_binder z (Some x) ≡ Some (Some u)) → ((x u : ℕ) → of_binder s (Some x) ≡ Some (Some u) → D x ≡ B x) → Delivered c f fip s B K X at k ds ts end l
+  delivered_rest s z B C D K L Y X at k n rs us mid m bs ds ts end l o less order none before more h rest apart back same =
       let a = h.grows in
       let b = rest.grows in
       record {
         grows = omega (arith, a, b);
-        still = λ e r. (let x : at ≡ mid = omega (arith, a, b, e) in let y : mid ≡ end = omega (arith, a, b, e) in h.still x r ∙ rest.still y r);
         part = both_parts c f at mid end (told c k) (told c m) (told c l) h.part rest.part;
         next = (let x = h.next in let y = rest.next in omega (arith, x, y, more));
         width = rest.width ∙ h.width;
@@ -230,6 +242,9 @@ module _ (c : PlainCode) (f : PlainFunction) (st : Setting) (wd : W.World) (w : 
         ties = ties_within fip c.types z s D B K K X (λ q. owed c.types ds ts q + 0) l rest.ties back (λ x u o b. (same x u o ∙ b, refl));
         hold = rest.hold;
         empty = λ r low y ne. rest.empty r (let z = h.next in omega (arith, low, z, more)) (h.empty r (omega (arith, low, more)) y (apart r low)) ne;
+        keeps = keeps_on s X k (record k { next = n }) l (keeps_next s X k n)
+            (keeps_on s X (record k { next = n }) m l (keeps_less s Y X (record k { next = n }) m less h.keeps)
+            (keeps_on s X m (with_names m bs rs) l (keeps_let s X m bs rs o order none before) (keeps_within s z X (with_names m bs rs) l back rest.keeps)));
       }
 
   -- values that only get names
@@ -244,8 +259,96 @@ module _ (c : PlainCode) (f : PlainFunction) (st : Setting) (wd : W.World) (w : 
   named_done s sc n B K placed P X at k (Match g t p a q body cs) rs mid m b us h typed d kept ties wide = absurd h
   named_done s sc n B K placed P X at k (Nested body) rs mid m b us h typed d kept ties wide = absurd h
 
+  named_last : (at : ℕ) (k : Known) (e : Expression) (rs : List ℕ) (mid : ℕ) (m : Known) → NamedLaid c st f at k e rs mid m → LastGone k.credits m.credits
+  named_last at k (Give a) rs mid m h = h.values.last
+  named_last at k (Tuple p as') rs mid m h = h.values.last
+  named_last at k (Operation o p x y) rs mid m h = absurd h
+  named_last at k (Call g l p as') rs mid m h = absurd h
+  named_last at k (Match g t p a q body cs) rs mid m h = absurd h
+  named_last at k (Nested body) rs mid m h = absurd h
+
+  -- variables in scope stand before those of a let's binders
+  before_let : (s : Scope) (sc : Scalars) (n : Names) (e : Expression) → Placed c s sc n → (x u : ℕ) → of_binder s (Some x) ≡ Some (Some u) → x < (behind n (shape w n e)).next
+  before_let s sc n e placed x u o = let a = placed.before x u o in let b = later n e in omega (arith, a, b)
+
+  none_let : (n : Names) (e : Expression) (R X : Item → ℕ) → NoneFrom (behind n (shape w n e)).next (λ i. R i + X i) → NoneFrom (behind n (shape w n e)).next X
+  none_let n e R X none y low = let a = none y low in omega (arith, a)
+
   registers_apart : (k : Known) (bs : List Binder) (r : ℕ) → suc r ≤ k.next → Among r (registers_for k.next bs) → ⊥
   registers_apart k bs r low m = let z = among_registers k.next r bs m in let y : ⊥ = omega (arith, low, z) in y
+
+  -- ---- where the clauses of a let's match meet
+
+  wide_empty : (h : Held) → widened h ≡ H.Nothing → h ≡ H.Nothing
+  wide_empty H.Nothing e = refl
+  wide_empty (H.Scalar t) e = e
+  wide_empty (H.Owned t b) e = absurd (cc)
+  wide_empty (H.Lent t root) e = e
+  wide_empty (H.Credit n) e = e
+  wide_empty (H.Bare t d) e = e
+
+  meets_spares : (met l : Known) (n : ℕ) → l ≡ record met { next = n } → Spares met l
+  meets_spares met l n e r = inl (ap (λ (l : Known). held_at l.held r) e)
+
+  match_delivered : (s : Scope) (B : ℕ → Bool) (K : ℕ → Item → ℕ) (X : Item → ℕ) (at : ℕ) (k : Known) (begin : ℕ) (k0 l1 met : Known) (ds ts : List ℕ) (end : ℕ) (l : Known) → at ≤ begin → Part c f at (told c k) begin (told c k0) → length k0.names ≡ length k.names → length k0.held ≡ length k.held → k0.next ≡ k.next → Keeps s X k k0 → ((r : ℕ) → suc r ≤ k.next → held_at k.held r ≡ H.Nothing → held_at k0.held r ≡ H.Nothing) → k0.next ≤ l1.next → length l1.names ≡ length k0.names → length l1.held ≡ length k0.held → Keeps s X k0 l1 → ((r : ℕ) → suc r ≤ k0.next → held_at k0.held r ≡ H.Nothing → held_at l1.held r ≡ H.Nothing) → Arrived fip c.types s B K X l1 k0.next ds ts met → Meets c f met end l → Part c f begin (told c k0) end (told c l) → Delivered c f fip s B K X at k ds ts end l
+  match_delivered s B K X at k begin k0 l1 met ds ts end l grows part names0 wide0 next0 keeps0 empty0 next1 names1 wide1 keeps1 empty1 arrived meets code =
+      let last = code.grows in
+      let a = arrived.grows in
+      let b = meets.more in
+      subst (Delivered c f fip s B K X at k ds ts end) (sym meets.known) (record {
+        grows = omega (arith, grows, last);
+        part = subst (λ l. Part c f at (told c k) end (told c l)) meets.known (both_parts c f at begin end (told c k) (told c k0) (told c l) part code);
+        next = omega (arith, next0, next1, a, b);
+        width = arrived.width ∙ (wide1 ∙ wide0);
+        names = arrived.names ∙ (names1 ∙ names0);
+        ties = ties_reserved fip c.types s B K X (λ q. owed c.types ds ts q + 0) met meets.next meets.more arrived.ties;
+        hold = arrived.hold;
+        empty = λ r low e ne. arrived.empty r (omega (arith, low, next0)) (empty1 r (omega (arith, low, next0)) (empty0 r low e)) ne;
+        keeps = keeps_on s X k k0 (record met { next = meets.next }) keeps0 (keeps_on s X k0 l1 (record met { next = meets.next }) keeps1 (keeps_on s X l1 met (record met { next = meets.next }) arrived.keeps (keeps_next s X met meets.next)));
+      })
+
+  -- ---- the clauses of a match
+
+  past_placed : (s : Scope) (sc : Scalars) (n : Names) (taken : Bool) (q : Pattern) (body : Block) → Placed c s sc n → Placed c s sc (past_clause w taken n q body)
+  past_placed s sc n taken q body p = record {
+    seen = p.seen;
+    scalar = p.scalar;
+    before = λ x t h. (let z = p.before x t h in let past = next_past w taken n q body in omega (arith, z, past));
+    typed = p.typed;
+  }
+
+  past_none : (n : Names) (taken : Bool) (q : Pattern) (body : Block) (R : Item → ℕ) → NoneFrom n.next R → NoneFrom (past_clause w taken n q body).next R
+  past_none n taken q body R none y low = none y (let past = next_past w taken n q body in omega (arith, low, past))
+
+  first_by : (taken : Bool) (sc : Scalars) (n0 : Names) (B : ℕ → Bool) (R : Item → ℕ) (n : Names) (ys ks : List ℕ) (te : Term) (cs : Clauses) → DerivesBy c st wd w shares callees f fip taken B R (clauses w sc taken n ys ks te cs) → (Q : Item → ℕ) × OpensBy c st wd w shares callees f fip taken ys ks R Q × Derives fip (O.setting ys (not taken) B) Q te
+  first_by true sc n0 B R n ys ks te NoClauses d = (d.0, d.1, d.2)
+  first_by true sc n0 B R n ys ks te (MoreClauses q b cs) d = (d.0, d.1, d.2)
+  first_by false sc n0 B R n ys ks te NoClauses d = (d.0, d.1, d.2)
+  first_by false sc n0 B R n ys ks te (MoreClauses q b cs) d = (d.0, d.1, d.2)
+
+  rest_by : (taken : Bool) (B : ℕ → Bool) (R : Item → ℕ) (ys ks : List ℕ) (te : Term) (cs : C.Clauses) → DerivesBy c st wd w shares callees f fip taken B R (C.MoreClauses ys ks te cs) → DerivesBy c st wd w shares callees f fip taken B R cs
+  rest_by true B R ys ks te cs d = d.3
+  rest_by false B R ys ks te cs d = d.3
+
+  -- a clause's body is entered
+  on_entry : (s : Scope) (sc : Scalars) (n : Names) (B : ℕ → Bool) (K : ℕ → Item → ℕ) (X L : Item → ℕ) → Kept K X → ((y : ℕ) → L (Own y) ≤ X (Own y)) → Placed c s sc n → (R : Item → ℕ) → NoneFrom n.next (λ i. R i + X i) → (u : ℕ) → is_type c.types u ≡ true → (taken : Bool) (ch : Choice) (k l : Known) (q0 : Pattern) (cs0 : Clauses) → MatchOn c st wd w shares callees f fip taken s B K R X L u ch k l q0 cs0 → (q : Pattern) (Q : Item → ℕ) (m : ℕ) → OpensBy c st wd w shares callees f fip taken (variables w n.next (binders q)) (nodes q) R Q → IsPattern true wd u q → Roomy q ch.root → InOrder n.next (binders q) → n.next + length (binders q) ≤ length l.names → l.next ≤ m → ClauseBegins c st wd w shares callees f fip s sc n taken u q B (reading taken (variables w n.next (binders q)) L K) Q X l (entered st ch q l m)
+  on_entry s sc n B K X L kept least placed R none u utyped taken ch k l q0 cs0 on q Q m opens pattern roomy order room more =
+      let stands = on.match_stands in
+      enter_clause c st wd w shares callees f fip s sc n B K X L kept least placed R none u utyped ch stands.differ (λ a. (stands.unused (register ch.root) a).2 refl) l
+      (λ z a. ((stands.unused z a).0, stands.within z (inr a), on.fresh z a)) (stands.within (register ch.root) (inl refl)) on.used taken q Q m on.takes on.stands opens pattern roomy order room more
+
+  -- variables from before a clause are as they were
+  record ClauseBefore (s : Scope) (n : Names) (B : ℕ → Bool) (K : ℕ → Item → ℕ) (L : Item → ℕ) (u : ℕ) (taken : Bool) (q : Pattern) : Type 0 where
+    pub back : (x v : ℕ) → of_binder s (Some x) ≡ Some (Some v) → of_binder (s ++ bound_by wd (Some u) q) (Some x) ≡ Some (Some v)
+    pub borrowed : (x v : ℕ) → of_binder s (Some x) ≡ Some (Some v) → O.setting (variables w n.next (binders q)) (not taken) B x ≡ B x
+    pub lends : (x v : ℕ) → of_binder s (Some x) ≡ Some (Some v) → reading taken (variables w n.next (binders q)) L K x ≡ K x
+
+  before_clause : (s : Scope) (sc : Scalars) (n : Names) (B : ℕ → Bool) (K : ℕ → Item → ℕ) (X L : Item → ℕ) → Kept K X → ((y : ℕ) → L (Own y) ≤ X (Own y)) → Placed c s sc n → (R : Item → ℕ) → NoneFrom n.next (λ i. R i + X i) → (u : ℕ) → is_type c.types u ≡ true → (taken : Bool) (ch : Choice) (k l : Known) (q0 : Pattern) (cs0 : Clauses) → MatchOn c st wd w shares callees f fip taken s B K R X L u ch k l q0 cs0 → (q : Pattern) → IsPattern true wd u q → InOrder n.next (binders q) → ClauseBefore s n B K L u taken q
+  before_clause s sc n B K X L kept least placed R none u utyped taken ch k l q0 cs0 on q pattern order =
+      let stands = on.match_stands in
+      let z = from_before c st wd w shares callees f fip s sc n B K X L kept least placed R none u utyped ch stands.differ (λ a. (stands.unused (register ch.root) a).2 refl) l
+      (λ z a. ((stands.unused z a).0, stands.within z (inr a), on.fresh z a)) (stands.within (register ch.root) (inl refl)) on.used taken q pattern order in
+      record { back = z.back; borrowed = z.borrowed; lends = z.lends }
 
   mutual
     pub into : (s : Scope) (sc : Scalars) (n : Names) (B : ℕ → Bool) (K : ℕ → Item → ℕ) → Placed c s sc n → (P X : Item → ℕ) (at : ℕ) (k : Known) (e : Expression) (ds : List ℕ) (end : ℕ) (l : Known) (b : Bool) (ts : List ℕ) → ExpressionLaid c st fip f at k e (Into ds) end l → Types true wd s b e ts → Derives fip B P (term w sc n e) → Numbered w N n e → ((z y : ℕ) → K z (Own y) ≤ X (Own y)) → NoneFrom n.next (λ i. P i + X i) → Ties fip c.types s B K (λ i. P i + X i) (λ q. 0) k → Waiting k ds → length ds ≡ length ts → length k.names ≡ N → length k.held ≡ f.registers → Delivered c f fip s B K X at k ds ts end l
@@ -260,7 +363,51 @@ module _ (c : PlainCode) (f : PlainFunction) (st : Setting) (wd : W.World) (w : 
     into s sc n B K placed P X at k (Call g nm p as') ds end l b ts h typed d num kept none ties wait many names wide =
         subst (λ ts. Delivered c f fip s B K X at k ds ts end l) (sym typed.0)
         (called_into c f st wd w fip shares callees s sc n B K placed P X at k g as' ds end l h typed.1 d.1 kept ties wait (many ∙ ap length typed.0) wide)
-    into s sc n B K placed P X at k (Match g t p a q body cs) ds end l b ts h typed d num kept none ties wait many names wide = absurd h
+    into s sc n B K placed P X at k (Match g t p a q body cs) ds end l b ts h typed d num kept none ties wait many names wide =
+        let taken = takes w g t in
+        let k0 = h.1 in
+        let ch = h.2 in
+        let l1 = h.3 in
+        let e = h.4 in
+        let m = h.5 in
+        let next = h.8 in
+        let left = h.9 in
+        let met = h.10 in
+        let entry = h.14 in
+        let meets = h.18 in
+        let u = typed.0 in
+        let ys = variables w n.next (binders q) in
+        let bare = bared c f fip s B K (λ i. P i + X i) (λ q. 0) (λ z y. (let a = kept z y in omega (arith, a))) h.11.steps at k h.0 k0 h.11.gives ties h.12 in
+        let laid : MatchLaid c st f h.0 k0 g u a q cs ch l1 e = subst (λ t. MatchLaid c st f h.0 k0 g t a q cs ch l1 e) typed.1 h.13 in
+        let x = scrutinee c wd w s sc n a laid.variable false u placed laid.is_variable typed.2 in
+        let utyped = placed.typed x.number u x.scope in
+        let scalar = ap w.scalar typed.1 ∙ callees.scalars u utyped in
+        let tb = term_block w (entering w n.next sc (binders q)) (inside w taken n (binders q)) body in
+        let own = owner c st wd w shares callees f fip taken s sc n B K P X k0 a laid.variable u (register ch.root)
+        (clauses w sc taken (past_clause w taken n q body) ys (nodes q) tb cs)
+        kept x (λ e. sym scalar ∙ not_true (w.scalar t) (and_right g (not (w.scalar t)) e)) laid.begins.named d none bare.ties in
+        let used = bare.ties.named x.number (register ch.root) (ap (Rattle.lowered_code.specs.Known.register_of k0.names) (sym x.is) ∙ laid.begins.named) in
+        let names0 : length k0.names ≡ N = ap length bare.names ∙ names in
+        let wide0 = bare.width ∙ wide in
+        let on = match_on c st wd w shares callees f fip taken s B K own.owned X own.read u g h.0 a ch k0 l1 q cs e ts laid (ap (λ b. g && not b) (shares.scalars u utyped ∙ sym scalar)) utyped typed.3 typed.5 used wide0 own.stands (all_met c st wd w shares callees f fip ch l1 q cs e m ds end left next met laid.patterns entry h.17) in
+        let fb = first_by taken sc n B own.owned (past_clause w taken n q body) ys (nodes q) tb cs own.derives in
+        let room = num.1 in
+        let many_names = on.names in
+        let cb = on_entry s sc n B K X own.read kept own.least placed own.owned own.none u utyped taken ch k0 l1 q cs on q fb.0 m fb.1 typed.3 (laid.begins.roomy 0 q (ap (λ ps. slice_get ps 0) laid.patterns)) num.0 (omega (arith, room, many_names, names0)) entry.more in
+        let from = before_clause s sc n B K X own.read kept own.least placed own.owned own.none u utyped taken ch k0 l1 q cs on q typed.3 num.0 in
+        let same_next = bare.next in
+        let empty0 : (r : ℕ) → suc r ≤ k.next → held_at k.held r ≡ H.Nothing → held_at k0.held r ≡ H.Nothing = λ r low z. barely_nothing (held_at k.held) (held_at k0.held) r bare.each z in
+        let wait0 = waits_on k k0 ds wait (omega (arith, same_next)) (λ r i. let z = waiting_among k ds r wait i in empty0 r z.1 z.0) in
+        let empty1 : (r : ℕ) → suc r ≤ k0.next → held_at k0.held r ≡ H.Nothing → held_at l1.held r ≡ H.Nothing = λ r low z. wide_empty (held_at l1.held r) (on.same_held r ∙ ap widened z) in
+        let waits = entry_waits c st wd w shares callees f fip s sc n B K X own.read kept placed own.owned own.none u taken ch k0 l1 q cs on q m ds entry.more empty1 wait0 in
+        let got = block_into (s ++ bound_by wd (Some u) q) (entering w n.next sc (binders q)) (inside w taken n (binders q)) (O.setting ys (not taken) B) (reading taken ys own.read K) cb.placed fb.0 X e (entered st ch q l1 m) body ds h.6 h.7 b ts h.15 typed.4 fb.2 num.2 (reading_kept taken ys own.read X K kept own.least) cb.none cb.ties waits many (cb.names ∙ (many_names ∙ names0)) (cb.width ∙ (on.width ∙ wide0)) in
+        let done = clause_done c st wd w shares callees f fip s sc n B K X own.read kept placed own.owned own.none u taken ch k0 l1 q cs on q m fb.0 num.0 entry.more cb from.back from.borrowed from.lends e h.6 h.7 ds ts got cs end next left h.16 in
+        let rest = clauses_into s sc (past_clause w taken n q body) B K X own.read kept own.least (past_placed s sc n taken q body placed) own.owned (past_none n taken q body (λ i. own.owned i + X i) own.none) u utyped taken ch k0 l1 q cs on 1 cs
+        (λ j r there. laid.begins.roomy (suc j) r (ap (λ ps. slice_get ps (suc j)) laid.patterns ∙ there)) ys (nodes q) tb ds ts end left next met h.17 typed.5 own.derives num.3 empty1 wait0 many (many_names ∙ names0) (on.width ∙ wide0) done.arrived in
+        match_delivered s B K X at k h.0 k0 l1 met ds ts end l bare.grows bare.part (ap length bare.names) bare.width same_next (barely_keeps s X k k0 bare.each bare.names bare.credits) empty0 on.grows many_names on.width (keeps_held s X k0 l1 (λ r z. on.same_held r) on.same_names on.same_credits) empty1 rest.arrived meets
+        (rest.code l meets.label (meets_spares met l meets.next meets.known) h.0 (told c k0)
+        (match_any c st wd w shares callees f fip (Reached c f end (told c l) cs next) (reached_stretch c f end (told c l) cs next) (reached_part c f end (told c l) cs next) h.0 k0 g u a q cs ch l1 e m laid on.match_stands on.entries entry
+        (done.code l meets.label (spares_on left met l rest.spares (meets_spares met l meets.next meets.known)))))
     into s sc n B K placed P X at k (Nested body) ds end l b ts h typed d num kept none ties wait many names wide =
         block_into s sc n B K placed P X at k body ds end l b ts h typed d num kept none ties wait many names wide
 
@@ -288,7 +435,8 @@ module _ (c : PlainCode) (f : PlainFunction) (st : Setting) (wd : W.World) (w : 
         let after = with_names m bs rs in
         let waits = waits_on k after ds wait comp.next (λ r i. let a = waiting_among k ds r wait i in comp.empty r a.1 a.0) in
         let more = block_into (s ++ entries bs (map Some us)) (entering w n1.next sc bs) (inside w true n1 bs) D K ent.placed Q X mid after rest ds end l b ts h.4 typed.3 d.6 num.3 kept ent.none ent.ties waits many (length_all_named m.names bs rs ∙ (same_names ∙ names)) (comp.width ∙ wide) in
-        computed_rest s (s ++ entries bs (map Some us)) B D K (λ i. R i + X i) X at k rs us mid m bs ds ts end l (comp_plain s (lending B R) B (lent_in B K R) K (λ i. R i + X i) at k rs us mid m comp (unlent s B K R (λ i. R i + X i) (λ q. owed c.types rs us q + 0) m comp.ties)) more ent.back ent.same
+        computed_rest s (s ++ entries bs (map Some us)) B D K (λ i. R i + X i) X at k rs us mid m bs ds ts end l n1.next (λ i. omega arith) (named_last at k e rs mid m h.3) num.0
+        (none_let n e R X (none_later n e (λ i. R i + X i) (rest_none n.next P R X (split_none n.next A P R X d.3 none)))) (before_let s sc n e placed) (comp_plain s (lending B R) B (lent_in B K R) K (λ i. R i + X i) at k rs us mid m comp (unlent s B K R (λ i. R i + X i) (λ q. owed c.types rs us q + 0) m comp.ties)) more ent.back ent.same
     block_into s sc n B K placed A X at k (Let bs e rest) ds end l b ts (inr h) typed d num kept none ties wait many names wide =
         let P = d.0 in
         let R = d.1 in
@@ -313,37 +461,42 @@ module _ (c : PlainCode) (f : PlainFunction) (st : Setting) (wd : W.World) (w : 
         let after = with_names m bs rs in
         let waits = waits_on k after ds wait (let z = got.next in omega (arith, z)) (λ r i. let a = waiting_among k ds r wait i in let low = a.1 in got.empty r (omega (arith, low)) a.0 (registers_apart k bs r a.1)) in
         let more = block_into (s ++ entries bs (map Some us)) (entering w n1.next sc bs) (inside w true n1 bs) D K ent.placed Q X mid after rest ds end l b ts h.3 typed.3 d.6 num.3 kept ent.none ent.ties waits many (length_all_named m.names bs rs ∙ (same_names ∙ names)) (got.width ∙ wide) in
-        delivered_rest s (s ++ entries bs (map Some us)) B (lending B R) D K (lent_in B K R) (λ i. R i + X i) X at k (k.next + length bs) rs us mid m bs ds ts end l more_next got more (registers_apart k bs) ent.back ent.same
+        delivered_rest s (s ++ entries bs (map Some us)) B (lending B R) D K (lent_in B K R) (λ i. R i + X i) X at k (k.next + length bs) rs us mid m bs ds ts end l n1.next (λ i. omega arith) num.0
+        (none_let n e R X (none_later n e (λ i. R i + X i) (rest_none n.next P R X (split_none n.next A P R X d.3 none)))) (before_let s sc n e placed) more_next got more (registers_apart k bs) ent.back ent.same
 
-  -- ---- the clauses of a match
-
-  past_placed : (s : Scope) (sc : Scalars) (n : Names) (taken : Bool) (q : Pattern) (body : Block) → Placed c s sc n → Placed c s sc (past_clause w taken n q body)
-  past_placed s sc n taken q body p = record {
-    seen = p.seen;
-    scalar = p.scalar;
-    before = λ x t h. (let z = p.before x t h in let past = next_past w taken n q body in omega (arith, z, past));
-    typed = p.typed;
-  }
-
-  past_none : (n : Names) (taken : Bool) (q : Pattern) (body : Block) (R : Item → ℕ) → NoneFrom n.next R → NoneFrom (past_clause w taken n q body).next R
-  past_none n taken q body R none y low = none y (let past = next_past w taken n q body in omega (arith, low, past))
-
-  first_by : (taken : Bool) (sc : Scalars) (n0 : Names) (B : ℕ → Bool) (R : Item → ℕ) (n : Names) (ys ks : List ℕ) (te : Term) (cs : Clauses) → DerivesBy c st wd w shares callees f fip taken B R (clauses w sc taken n ys ks te cs) → (Q : Item → ℕ) × OpensBy c st wd w shares callees f fip taken ys ks R Q × Derives fip (O.setting ys (not taken) B) Q te
-  first_by true sc n0 B R n ys ks te NoClauses d = (d.0, d.1, d.2)
-  first_by true sc n0 B R n ys ks te (MoreClauses q b cs) d = (d.0, d.1, d.2)
-  first_by false sc n0 B R n ys ks te NoClauses d = (d.0, d.1, d.2)
-  first_by false sc n0 B R n ys ks te (MoreClauses q b cs) d = (d.0, d.1, d.2)
-
-  rest_by : (taken : Bool) (B : ℕ → Bool) (R : Item → ℕ) (ys ks : List ℕ) (te : Term) (cs : C.Clauses) → DerivesBy c st wd w shares callees f fip taken B R (C.MoreClauses ys ks te cs) → DerivesBy c st wd w shares callees f fip taken B R cs
-  rest_by true B R ys ks te cs d = d.3
-  rest_by false B R ys ks te cs d = d.3
-
-  -- a clause's body is entered
-  on_entry : (s : Scope) (sc : Scalars) (n : Names) (B : ℕ → Bool) (K : ℕ → Item → ℕ) → ((z y : ℕ) → K z (Own y) ≡ 0) → Placed c s sc n → (R : Item → ℕ) → NoneFrom n.next R → (u : ℕ) → is_type c.types u ≡ true → (taken : Bool) (ch : Choice) (k l : Known) (q0 : Pattern) (cs0 : Clauses) → MatchOn c st wd w shares callees f fip taken s B K R u ch k l q0 cs0 → (q : Pattern) (Q : Item → ℕ) (m : ℕ) → OpensBy c st wd w shares callees f fip taken (variables w n.next (binders q)) (nodes q) R Q → IsPattern true wd u q → Roomy q ch.root → InOrder n.next (binders q) → n.next + length (binders q) ≤ length l.names → l.next ≤ m → ClauseBegins c st wd w shares callees f fip s sc n taken u q B K Q l (entered st ch q l m)
-  on_entry s sc n B K unkept placed R none u utyped taken ch k l q0 cs0 on q Q m opens pattern roomy order room more =
-      let stands = on.match_stands in
-      enter_clause c st wd w shares callees f fip s sc n B K unkept placed R none u utyped ch stands.differ (λ a. (stands.unused (register ch.root) a).2 refl) l
-      (λ z a. ((stands.unused z a).0, stands.within z (inr a), on.fresh z a)) (stands.within (register ch.root) (inl refl)) on.used taken q Q m on.takes on.stands opens pattern roomy order room more
+    -- the clauses behind one
+    clauses_into : (s : Scope) (sc : Scalars) (n : Names) (B : ℕ → Bool) (K : ℕ → Item → ℕ) (X L : Item → ℕ) → Kept K X → ((y : ℕ) → L (Own y) ≤ X (Own y)) → Placed c s sc n → (R : Item → ℕ) → NoneFrom n.next (λ i. R i + X i) → (u : ℕ) → is_type c.types u ≡ true → (taken : Bool) (ch : Choice) (k l : Known) (q0 : Pattern) (cs0 : Clauses) → MatchOn c st wd w shares callees f fip taken s B K R X L u ch k l q0 cs0 → (i : ℕ) (cs : Clauses) → ((j : ℕ) (q : Pattern) → slice_get (clause_patterns cs) j ≡ Some q → Roomy q ch.root) → (ys ks : List ℕ) (te : Term) (ds ts : List ℕ) (end : ℕ) (j : Known) (at : ℕ) (met : Known) → ClausesMeet c st fip f ch l i cs ds end j at met → TypesClauses true wd s u cs ts → DerivesBy c st wd w shares callees f fip taken B R (clauses w sc taken n ys ks te cs) → NumberedClauses w N taken n cs → ((r : ℕ) → suc r ≤ k.next → held_at k.held r ≡ H.Nothing → held_at l.held r ≡ H.Nothing) → Waiting k ds → length ds ≡ length ts → length l.names ≡ N → length l.held ≡ f.registers → Arrived fip c.types s B K X l k.next ds ts j → ClausesDone c f fip s B K X l k.next ds ts cs end j at met
+    clauses_into s sc n B K X L kept least placed R none u utyped taken ch k l q0 cs0 on i NoClauses roomy ys ks te ds ts end j at met h typed d num empty wait many names wide arrived = record {
+      arrived = subst (Arrived fip c.types s B K X l k.next ds ts) (sym h.1) arrived;
+      spares = subst (Spares j) (sym h.1) (spares_same j);
+      code = λ after caught spares at0 m0 code. code;
+    }
+    clauses_into s sc n B K X L kept least placed R none u utyped taken ch k l q0 cs0 on i (MoreClauses q body cs) roomy ys ks te ds ts end j at met h typed d num empty wait many names wide arrived =
+        let start = h.1 in
+        let m = h.2 in
+        let next = h.5 in
+        let left = h.6 in
+        let both = h.7 in
+        let entry = h.9 in
+        let zs = variables w n.next (binders q) in
+        let tb = term_block w (entering w n.next sc (binders q)) (inside w taken n (binders q)) body in
+        let later = rest_by taken B R ys ks te (clauses w sc taken (past_clause w taken n q body) zs (nodes q) tb cs) d in
+        let fb = first_by taken sc n B R (past_clause w taken n q body) zs (nodes q) tb cs later in
+        let room = num.1 in
+        let cb = on_entry s sc n B K X L kept least placed R none u utyped taken ch k l q0 cs0 on q fb.0 m fb.1 typed.0 (roomy 0 q refl) num.0 (omega (arith, room, names)) entry.more in
+        let from = before_clause s sc n B K X L kept least placed R none u utyped taken ch k l q0 cs0 on q typed.0 num.0 in
+        let waits = entry_waits c st wd w shares callees f fip s sc n B K X L kept placed R none u taken ch k l q0 cs0 on q m ds entry.more empty wait in
+        let got = block_into (s ++ bound_by wd (Some u) q) (entering w n.next sc (binders q)) (inside w taken n (binders q)) (O.setting zs (not taken) B) (reading taken zs L K) cb.placed fb.0 X start (entered st ch q l m) body ds h.3 h.4 true ts h.10 typed.1 fb.2 num.2 (reading_kept taken zs L X K kept least) cb.none cb.ties waits many (cb.names ∙ names) (cb.width ∙ wide) in
+        let done = clause_done c st wd w shares callees f fip s sc n B K X L kept placed R none u taken ch k l q0 cs0 on q m fb.0 num.0 entry.more cb from.back from.borrowed from.lends start h.3 h.4 ds ts got cs end next left h.11 in
+        let meeting = joined fip c.types s B K (λ i. R i + X i) X (λ q. owing taken c.types u (register ch.root) q) l k.next ds ts (start_ties c st wd w shares callees f fip taken s B K R X L u (register ch.root) l on.stands) (λ i. omega arith) kept j left both arrived done.arrived h.12 in
+        let rest = clauses_into s sc (past_clause w taken n q body) B K X L kept least (past_placed s sc n taken q body placed) R (past_none n taken q body (λ i. R i + X i) none) u utyped taken ch k l q0 cs0 on (suc i) cs
+        (λ j r there. roomy (suc j) r there) zs (nodes q) tb ds ts end both next met h.13 typed.2 later num.3 empty wait many names wide meeting.arrived in record {
+          arrived = rest.arrived;
+          spares = spares_on j both met meeting.first rest.spares;
+          code = λ after caught spares at0 m0 before. rest.code after caught spares at0 m0
+              (reached_stretch c f end (told c after) cs next at0 m0 start (told c (entered st ch q l m)) (match_sides c st f ch l on.match_stands on.entries h.0 at0 m0 at start (last_stretch c f at0 m0 at before) h.8)
+              (done.code after caught (spares_on left both after meeting.second (spares_on both met after rest.spares spares))));
+        }
 
   -- ---- the function's results
 
@@ -372,21 +525,20 @@ module _ (c : PlainCode) (f : PlainFunction) (st : Setting) (wd : W.World) (w : 
         let laid : MatchLaid c st f at k g u a q cs ch l1 e = subst (λ t. MatchLaid c st f at k g t a q cs ch l1 e) typed.1 h.6 in
         let x = scrutinee c wd w s sc n a laid.variable false u placed laid.is_variable typed.2 in
         let utyped = placed.typed x.number u x.scope in
-        let unkept : (z y : ℕ) → K z (Own y) ≡ 0 = λ z y. (let a = kept z y in omega (arith, a)) in
         let scalar = ap w.scalar typed.1 ∙ callees.scalars u utyped in
-        let own = owner c st wd w shares callees f fip taken s sc n B K P k a laid.variable u (register ch.root)
+        let own = owner c st wd w shares callees f fip taken s sc n B K P (λ i. 0) k a laid.variable u (register ch.root)
         (clauses w sc taken (past_clause w taken n q body) (variables w n.next (binders q)) (nodes q) (term_block w (entering w n.next sc (binders q)) (inside w taken n (binders q)) body) cs)
-        unkept x (λ e. sym scalar ∙ not_true (w.scalar t) (and_right g (not (w.scalar t)) e)) laid.begins.named d none ties in
+        kept x (λ e. sym scalar ∙ not_true (w.scalar t) (and_right g (not (w.scalar t)) e)) laid.begins.named d none ties in
         let used = ties.named x.number (register ch.root) (ap (Rattle.lowered_code.specs.Known.register_of k.names) (sym x.is) ∙ laid.begins.named) in
-        let on = match_on c st wd w shares callees f fip taken s B K own.owned u g at a ch k l1 q cs e ts laid (ap (λ b. g && not b) (shares.scalars u utyped ∙ sym scalar)) utyped typed.3 typed.5 used wide own.stands (all_entries c st wd w shares callees f fip ch l1 q cs e m mid end laid.patterns entry h.9) in
+        let on = match_on c st wd w shares callees f fip taken s B K own.owned (λ i. 0) own.read u g at a ch k l1 q cs e ts laid (ap (λ b. g && not b) (shares.scalars u utyped ∙ sym scalar)) utyped typed.3 typed.5 used wide own.stands (all_entries c st wd w shares callees f fip ch l1 q cs e m mid end laid.patterns entry h.9) in
         let fb = first_by taken sc n B own.owned (past_clause w taken n q body) (variables w n.next (binders q)) (nodes q) (term_block w (entering w n.next sc (binders q)) (inside w taken n (binders q)) body) cs own.derives in
         let room = num.1 in
         let width = on.width in
         let many = on.names in
-        let cb = on_entry s sc n B K unkept placed own.owned own.none u utyped taken ch k l1 q cs on q fb.0 m fb.1 typed.3 (laid.begins.roomy 0 q (ap (λ ps. slice_get ps 0) laid.patterns)) num.0 (omega (arith, room, many, names)) entry.more in
-        let one = block_ends (s ++ bound_by wd (Some u) q) (entering w n.next sc (binders q)) (inside w taken n (binders q)) (O.setting (variables w n.next (binders q)) (not taken) B) K cb.placed fb.0 e (entered st ch q l1 m) body mid h.5 b ts h.8 typed.4 fb.2 num.2 kept cb.none cb.ties results (cb.names ∙ (many ∙ names)) (cb.width ∙ (width ∙ wide)) in
-        let first = match_last c st wd w shares callees f fip at k g u a q cs ch l1 e m mid end laid on.match_stands entry h.9 one in
-        clauses_ends s sc n (past_clause w taken n q body) B K (past_placed s sc n taken q body placed) own.owned (past_none n taken q body own.owned own.none) u utyped taken ch k l1 q cs on 1 cs
+        let cb = on_entry s sc n B K (λ i. 0) own.read kept own.least placed own.owned own.none u utyped taken ch k l1 q cs on q fb.0 m fb.1 typed.3 (laid.begins.roomy 0 q (ap (λ ps. slice_get ps 0) laid.patterns)) num.0 (omega (arith, room, many, names)) entry.more in
+        let one = block_ends (s ++ bound_by wd (Some u) q) (entering w n.next sc (binders q)) (inside w taken n (binders q)) (O.setting (variables w n.next (binders q)) (not taken) B) (reading taken (variables w n.next (binders q)) own.read K) cb.placed fb.0 e (entered st ch q l1 m) body mid h.5 b ts h.8 typed.4 fb.2 num.2 (reading_kept taken (variables w n.next (binders q)) own.read (λ i. 0) K kept own.least) cb.none cb.ties results (cb.names ∙ (many ∙ names)) (cb.width ∙ (width ∙ wide)) in
+        let first = match_any c st wd w shares callees f fip (λ a m. LastPart c f a m mid) (λ a m b l x y. stretch_last c f a m b l mid x y) (λ a m b l x y. part_and_last c f a b mid m l x y) at k g u a q cs ch l1 e m laid on.match_stands on.entries entry one in
+        clauses_ends s sc n (past_clause w taken n q body) B K own.read own.least (past_placed s sc n taken q body placed) own.owned (past_none n taken q body (λ i. own.owned i + 0) own.none) u utyped taken ch k l1 q cs on 1 cs
         (λ j r there. laid.begins.roomy (suc j) r (ap (λ ps. slice_get ps (suc j)) laid.patterns ∙ there)) (variables w n.next (binders q)) (nodes q) (term_block w (entering w n.next sc (binders q)) (inside w taken n (binders q)) body) at (told c k) mid end ts h.9 typed.5 own.derives num.3 kept results (many ∙ names) (width ∙ wide) first
     ends s sc n B K placed P at k (Nested body) end l b ts h typed d num kept none ties results names wide =
         block_ends s sc n B K placed P at k body end l b ts h typed d num kept none ties results names wide
@@ -441,20 +593,19 @@ module _ (c : PlainCode) (f : PlainFunction) (st : Setting) (wd : W.World) (w : 
         (block_ends (s ++ entries bs (map Some us)) (entering w n1.next sc bs) (inside w true n1 bs) D K ent.placed Q mid (with_names m bs rs) rest end l b ts h.3 typed.3 d.6 num.3 kept ent.none ent.ties results (length_all_named m.names bs rs ∙ (same_names ∙ names)) (got.width ∙ wide))
 
     -- the clauses behind one
-    clauses_ends : (s : Scope) (sc : Scalars) (n0 n : Names) (B : ℕ → Bool) (K : ℕ → Item → ℕ) → Placed c s sc n → (R : Item → ℕ) → NoneFrom n.next R → (u : ℕ) → is_type c.types u ≡ true → (taken : Bool) (ch : Choice) (k l : Known) (q0 : Pattern) (cs0 : Clauses) → MatchOn c st wd w shares callees f fip taken s B K R u ch k l q0 cs0 → (i : ℕ) (cs : Clauses) → ((j : ℕ) (q : Pattern) → slice_get (clause_patterns cs) j ≡ Some q → Roomy q ch.root) → (ys ks : List ℕ) (te : Term) (at0 : ℕ) (m0 : ℕ → Kind) (at end : ℕ) (ts : List ℕ) → ClausesLaid c st fip f ch l i cs at end → TypesClauses true wd s u cs ts → DerivesBy c st wd w shares callees f fip taken B R (clauses w sc taken n ys ks te cs) → NumberedClauses w N taken n cs → ((z y : ℕ) → K z (Own y) ≤ 0) → f.results ≡ ts → length l.names ≡ N → length l.held ≡ f.registers → LastPart c f at0 m0 at → LastPart c f at0 m0 end
-    clauses_ends s sc n0 n B K placed R none u utyped taken ch k l q0 cs0 on i NoClauses roomy ys ks te at0 m0 at end ts h typed d num kept results names wide part = subst (LastPart c f at0 m0) (sym h) part
-    clauses_ends s sc n0 n B K placed R none u utyped taken ch k l q0 cs0 on i (MoreClauses q body cs) roomy ys ks te at0 m0 at end ts h typed d num kept results names wide part =
+    clauses_ends : (s : Scope) (sc : Scalars) (n0 n : Names) (B : ℕ → Bool) (K : ℕ → Item → ℕ) (L : Item → ℕ) → ((y : ℕ) → L (Own y) ≤ 0) → Placed c s sc n → (R : Item → ℕ) → NoneFrom n.next (λ i. R i + 0) → (u : ℕ) → is_type c.types u ≡ true → (taken : Bool) (ch : Choice) (k l : Known) (q0 : Pattern) (cs0 : Clauses) → MatchOn c st wd w shares callees f fip taken s B K R (λ i. 0) L u ch k l q0 cs0 → (i : ℕ) (cs : Clauses) → ((j : ℕ) (q : Pattern) → slice_get (clause_patterns cs) j ≡ Some q → Roomy q ch.root) → (ys ks : List ℕ) (te : Term) (at0 : ℕ) (m0 : ℕ → Kind) (at end : ℕ) (ts : List ℕ) → ClausesLaid c st fip f ch l i cs at end → TypesClauses true wd s u cs ts → DerivesBy c st wd w shares callees f fip taken B R (clauses w sc taken n ys ks te cs) → NumberedClauses w N taken n cs → ((z y : ℕ) → K z (Own y) ≤ 0) → f.results ≡ ts → length l.names ≡ N → length l.held ≡ f.registers → LastPart c f at0 m0 at → LastPart c f at0 m0 end
+    clauses_ends s sc n0 n B K L least placed R none u utyped taken ch k l q0 cs0 on i NoClauses roomy ys ks te at0 m0 at end ts h typed d num kept results names wide part = subst (LastPart c f at0 m0) (sym h) part
+    clauses_ends s sc n0 n B K L least placed R none u utyped taken ch k l q0 cs0 on i (MoreClauses q body cs) roomy ys ks te at0 m0 at end ts h typed d num kept results names wide part =
         let start = h.1 in
         let m = h.2 in
         let mid = h.3 in
         let entry = h.6 in
-        let unkept : (z y : ℕ) → K z (Own y) ≡ 0 = λ z y. (let a = kept z y in omega (arith, a)) in
         let tb = term_block w (entering w n.next sc (binders q)) (inside w taken n (binders q)) body in
         let rest = rest_by taken B R ys ks te (clauses w sc taken (past_clause w taken n q body) (variables w n.next (binders q)) (nodes q) tb cs) d in
         let fb = first_by taken sc n B R (past_clause w taken n q body) (variables w n.next (binders q)) (nodes q) tb cs rest in
         let room = num.1 in
-        let cb = on_entry s sc n B K unkept placed R none u utyped taken ch k l q0 cs0 on q fb.0 m fb.1 typed.0 (roomy 0 q refl) num.0 (omega (arith, room, names)) entry.more in
-        let one = block_ends (s ++ bound_by wd (Some u) q) (entering w n.next sc (binders q)) (inside w taken n (binders q)) (O.setting (variables w n.next (binders q)) (not taken) B) K cb.placed fb.0 start (entered st ch q l m) body mid h.4 true ts h.7 typed.1 fb.2 num.2 kept cb.none cb.ties results (cb.names ∙ names) (cb.width ∙ wide) in
+        let cb = on_entry s sc n B K (λ i. 0) L kept least placed R none u utyped taken ch k l q0 cs0 on q fb.0 m fb.1 typed.0 (roomy 0 q refl) num.0 (omega (arith, room, names)) entry.more in
+        let one = block_ends (s ++ bound_by wd (Some u) q) (entering w n.next sc (binders q)) (inside w taken n (binders q)) (O.setting (variables w n.next (binders q)) (not taken) B) (reading taken (variables w n.next (binders q)) L K) cb.placed fb.0 start (entered st ch q l m) body mid h.4 true ts h.7 typed.1 fb.2 num.2 (reading_kept taken (variables w n.next (binders q)) L (λ i. 0) K kept least) cb.none cb.ties results (cb.names ∙ names) (cb.width ∙ wide) in
         let tests = match_sides c st f ch l on.match_stands on.entries h.0 at0 m0 at start (last_stretch c f at0 m0 at part) h.5 in
-        clauses_ends s sc n (past_clause w taken n q body) B K (past_placed s sc n taken q body placed) R (past_none n taken q body R none) u utyped taken ch k l q0 cs0 on (suc i) cs
+        clauses_ends s sc n (past_clause w taken n q body) B K L least (past_placed s sc n taken q body placed) R (past_none n taken q body (λ i. R i + 0) none) u utyped taken ch k l q0 cs0 on (suc i) cs
         (λ j r there. roomy (suc j) r there) (variables w n.next (binders q)) (nodes q) tb at0 m0 mid end ts h.8 typed.2 rest num.3 kept results names wide (stretch_last c f at0 m0 start (told c (entered st ch q l m)) mid tests one)

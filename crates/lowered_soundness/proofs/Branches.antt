@@ -10,10 +10,10 @@ use Rattle.sound_code.specs.Endings.{spends_all}
 use Rattle.sound_code.specs.Leaves.{Leaves, Jumps}
 use Rattle.sound_code.specs.Flow.{IsInstr}
 use Rattle.kind_soundness.proofs.Basics.{get_within, less_or_not}
-use Rattle.lowered_soundness.specs.Describing.{Covered}
+use Rattle.lowered_soundness.specs.Covering.{Covered}
 use Rattle.lowered_soundness.specs.Rows.{IsRow}
-use Rattle.lowered_soundness.specs.Parts.{Arrives, Admits, Shows, Catches, Onward, Keeps, IsKept, Part, LastPart}
-use Rattle.lowered_soundness.specs.Laid.{Quiet}
+use Rattle.lowered_soundness.specs.Parts.{Arrives, Admits, Onward, Keeps, IsKept, Part, LastPart}
+use Rattle.laid_code.specs.Labels.{Shows, Catches, Quiet}
 use Rattle.lowered_soundness.proofs.Fitting.{takes_all}
 use Rattle.lowered_soundness.proofs.Parts.{known_told, shows_admits, behind_row, between, no_row, both_parts, label_row}
 use Rattle.lowered_soundness.proofs.Arguments.{quiet_back}

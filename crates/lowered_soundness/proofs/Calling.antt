@@ -11,7 +11,8 @@ use Rattle.lowered_code.specs.declared.held.Held.{Held}
 use Rattle.lowered_code.specs.declared.held.Held.TheVariants as H
 use Rattle.lowered_code.specs.Known.{Known}
 use Rattle.lowered_code.specs.Bodies.{handed, AreTaken}
-use Rattle.lowered_soundness.specs.Describing.{Holding, held_at, using, using_all}
+use Rattle.laid_code.specs.Describing.{Holding, held_at}
+use Rattle.lowered_soundness.specs.Covering.{using, using_all}
 use Rattle.lowered_soundness.specs.Giving.{is_credit_of, passing_all, can_pass, can_hand, handing_all, can_lend_one, can_lend, behind_call, CanCall}
 use Rattle.lowered_soundness.specs.Ties.{one_if, owners, own, is_read_of, HoldsValue, Balanced, Rooted, BareRight, Stays, LiesIn, Ties}
 use Rattle.lowered_soundness.specs.Laid.{IsFunctionOf}

@@ -1,5 +1,5 @@
 -- A call whose results go to registers that wait for them.
-use Rattle.std.proofs.Common.{◌≡◌, ℕ, suc, ◌≤◌, Bool, false, List, [], ◌∷◌, ◌++◌, length, Some, refl, sym, ap, ap₂, ◌∙◌, subst, subst₂, arith, slice_get, slice_set}
+use Rattle.std.proofs.Common.{◌≡◌, ◌+◌, ℕ, suc, ◌≤◌, Bool, false, List, [], ◌∷◌, ◌++◌, length, Some, refl, sym, ap, ap₂, ◌∙◌, subst, subst₂, arith, slice_get, slice_set}
 use Rattle.fip_trees.specs.Tree.{Instance}
 use Rattle.type_check.specs.Scope.{Scope}
 use Rattle.type_check.specs.World as W
@@ -11,12 +11,18 @@ use Rattle.lowered_code.specs.Known.{Known}
 use Rattle.lowered_code.specs.Values.{Setting}
 use Rattle.lowered_code.specs.Bodies.{Into, IsCallOf}
 use Rattle.lowered_code.specs.Bodies as Bodies
-use Rattle.lowered_soundness.specs.Describing.{held_at, kinds_of}
+use Rattle.laid_code.specs.Describing.{held_at, kinds_of}
 use Rattle.lowered_soundness.specs.Giving.{behind_call, receiving_all}
 use Rattle.lowered_soundness.specs.Parts.{Part}
-use Rattle.lowered_soundness.specs.Laid.{told, Quiet, Shares, IsFunctionOf}
+use Rattle.laid_code.specs.Labels.{told, Quiet}
+use Rattle.lowered_soundness.specs.Laid.{Shares, IsFunctionOf}
+use Rattle.laid_code.specs.Credits.{LastGone}
+use Rattle.lowered_soundness.proofs.Keeping.{keeps_named}
+use Rattle.lowered_soundness.proofs.Stacks.{last_on}
+use Rattle.lowered_soundness.proofs.Balance.{stays_on, stays_fewer}
+use Rattle.lowered_soundness.specs.Ties.{owners, own}
 use Rattle.lowered_soundness.specs.Delivered.{Waiting, Delivered}
-use Rattle.lowered_soundness.specs.Handed.{CallLaid}
+use Rattle.laid_code.specs.Handed.{CallLaid}
 use Rattle.lowered_soundness.proofs.Straight.{call_row}
 use Rattle.lowered_soundness.proofs.Parts.{one_row, both_parts}
 use Rattle.lowered_soundness.proofs.Arguments.{quiet_back}
@@ -35,8 +41,8 @@ module _ (c : PlainCode) (f : PlainFunction) (st : Setting) (wd : W.World) (fip 
   waits_on k l [] w grows empty = tt
   waits_on k l (d ∷ ds) w grows empty = (empty d w.1 w.0, (let z = w.1 in omega (arith, z, grows)), w.2, waits_on k l ds w.3 grows empty)
 
-  pub call_into : (X : Item → ℕ) (at : ℕ) (k : Known) (d : Instance) (rs : List ℕ) (mid : ℕ) (m : Known) (g : ℕ) (ds : List ℕ) (end : ℕ) (l : Known) → PassedOn c f fip s B K d.credits X (λ q. 0) at k d.params rs mid m → (h : CallLaid st fip f mid m g rs (Into ds) end l) → h.instance ≡ d → length ds ≡ length d.results → ((z y : ℕ) → K z (Own y) ≤ X (Own y)) → Waiting k ds → m.next ≤ length k.held → length k.held ≡ f.registers → Quiet f at end (told c k) → Delivered c f fip s B K X at k ds d.results end l
-  call_into X at k d rs mid m g ds end l p h is many kept wait room wide quiet =
+  pub call_into : (X : Item → ℕ) (at : ℕ) (k : Known) (d : Instance) (rs : List ℕ) (mid : ℕ) (m : Known) (g : ℕ) (ds : List ℕ) (end : ℕ) (l : Known) → PassedOn c f fip s B K d.credits X (λ q. 0) at k d.params rs mid m → (h : CallLaid st fip f mid m g rs (Into ds) end l) → h.instance ≡ d → length ds ≡ length d.results → ((z y : ℕ) → K z (Own y) ≤ X (Own y)) → Waiting k ds → m.next ≤ length k.held → length k.held ≡ f.registers → Quiet f at end (told c k) → LastGone k.credits m.credits → Delivered c f fip s B K X at k ds d.results end l
+  call_into X at k d rs mid m g ds end l p h is many kept wait room wide quiet last =
       let fn = h.function in
       let as' = rs ++ h.credits in
       let call : IsCallOf st f.instrs mid h.m fn as' d.results ds end l = subst (λ (d : Instance). IsCallOf st f.instrs mid h.m fn as' d.results ds end l) is h.ends in
@@ -55,14 +61,21 @@ module _ (c : PlainCode) (f : PlainFunction) (st : Setting) (wd : W.World) (fip 
       let shows = (quiet_back f at mid end (told c k) (told c m) p.grows quiet p.still).first (let z = call.one in omega (arith, z)) in
       let part : Part c f mid (told c m) (suc mid) (told c after) = subst (λ y. Part c f mid (told c m) (suc mid) (kinds_of c.types y)) held (one_row c f mid (told c m) (kinds_of c.types (receiving_all c.types (behind_call c (held_at m.held) fn as') ds (results c fn))) (I.Call fn as' ds) call.written refl row shows) in
       let low = p.grows in
+      let names : h.m.names ≡ k.names = taken_names (record m { held = Bodies.handed m.held d.params rs }) d.credits h.credits h.m (subst (λ (d : Instance). Bodies.AreTaken (record m { held = Bodies.handed m.held d.params rs }) d.credits h.credits h.m) is h.taken) ∙ p.names in
       subst₂ (λ b z. Delivered c f fip s B K X at k ds d.results b z) (sym call.one) (sym call.known) (record {
         grows = omega (arith, low);
-        still = λ z r. absurd (let y : ⊥ = omega (arith, z, low) in y);
         part = both_parts c f at mid (suc mid) (told c k) (told c m) (told c after) p.part part;
         next = (let z = p.next in omega (arith, z, same_next));
         width = got.width ∙ wide2;
-        names = ap length (taken_names (record m { held = Bodies.handed m.held d.params rs }) d.credits h.credits h.m (subst (λ (d : Instance). Bodies.AreTaken (record m { held = Bodies.handed m.held d.params rs }) d.credits h.credits h.m) is h.taken) ∙ p.names);
+        names = ap length names;
         ties = got.ties;
         hold = got.hold;
         empty = λ r lo y ne. got.empty r (cl.empty r (p.empty r lo y)) ne;
+        keeps = keeps_named fip s X k after
+            (stays_on (held_at k.held) (held_at m.held) (held_at after.held) (owners k.names (own X))
+            (stays_fewer (held_at k.held) (held_at m.held) (λ q. owners k.names (own X) q + 0) (owners k.names (own X)) (λ q. omega arith) p.stays)
+            (stays_on (held_at m.held) (held_at h.m.held) (held_at after.held) (owners k.names (own X))
+            (stays_fewer (held_at m.held) (held_at h.m.held) (owners m.names (own X)) (owners k.names (own X)) (λ q. let z = ap (λ ns. owners ns (own X) q) p.names in omega (arith, z)) cl.stays)
+            (stays_fewer (held_at h.m.held) (held_at after.held) (λ q. owners h.m.names (own X) q + 0) (owners k.names (own X)) (λ q. let z = ap (λ ns. owners ns (own X) q) names in omega (arith, z)) got.stays)))
+            names (last_on k.credits m.credits h.m.credits last h.last) got.ties.sizes;
       })

@@ -12,11 +12,12 @@ use Rattle.lowered_code.specs.declared.held.Held.TheVariants as H
 use Rattle.lowered_code.specs.declared.held.Credit as D
 use Rattle.lowered_code.specs.Known.{Known, without, used_all, IsTaken}
 use Rattle.lowered_code.specs.Values.{with_put, IsPut}
-use Rattle.lowered_soundness.specs.Describing.{Holding, held_at, kinds_of, setting, is_tree, using, using_all}
+use Rattle.laid_code.specs.Describing.{Holding, held_at, kinds_of, setting, is_tree}
+use Rattle.lowered_soundness.specs.Covering.{using, using_all}
 use Rattle.lowered_soundness.specs.Giving.{is_credit_of}
 use Rattle.lowered_soundness.specs.Parts.{Part}
 use Rattle.lowered_soundness.specs.Ties.{one_if, owners, sized, counted, own, HoldsValue, AllHold, owe, owed, Stays, Ties}
-use Rattle.lowered_soundness.specs.Laid.{told, Quiet}
+use Rattle.laid_code.specs.Labels.{told, Quiet}
 use Rattle.lowered_soundness.specs.Computed.{Computed}
 use Rattle.lowered_soundness.proofs.Covering.{using_none}
 use Rattle.lowered_soundness.proofs.Straight.{put_row}

@@ -22,12 +22,12 @@ use Rattle.match_code.specs.Opening.{Roomy}
 use Rattle.match_code.specs.Entering.{root_of}
 use Rattle.lowered_code.specs.declared.held.Held.{Held}
 use Rattle.lowered_code.specs.declared.held.Held.TheVariants as H
-use Rattle.lowered_soundness.specs.Describing.{Holding}
+use Rattle.laid_code.specs.Describing.{Holding}
 use Rattle.lowered_soundness.specs.Ties.{Rooted}
-use Rattle.lowered_soundness.specs.Laid.{Quiet}
+use Rattle.laid_code.specs.Labels.{Quiet}
 use Rattle.lowered_soundness.proofs.Standing.{Seeing, SeesScalar, SeesLent, SeesOwned}
-use Rattle.lowered_soundness.specs.Sights.{left, seen_kind, Sight}
-use Rattle.lowered_soundness.specs.Tests.{Choice, TestLaid, SettledLaid, ChosenLaid, TestsLaid, ReadsLaid}
+use Rattle.laid_code.specs.Sights.{left, seen_kind, Sight}
+use Rattle.laid_code.specs.Tests.{Choice, TestLaid, SettledLaid, ChosenLaid, TestsLaid, ReadsLaid}
 use Rattle.lowered_soundness.proofs.Branches.{Came, came_none, came_one, came_on, came_quiet}
 use Rattle.lowered_soundness.proofs.Looking.{sided, test_part}
 use Rattle.lowered_soundness.proofs.Positions.{Froms}

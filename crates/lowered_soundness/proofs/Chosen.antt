@@ -12,12 +12,12 @@ use Rattle.cell_code.specs.declared.kind.Kind.{Kind}
 use Rattle.cell_code.specs.declared.kind.Kind.TheVariants as K
 use Rattle.lowered_code.specs.Known.{Known}
 use Rattle.lowered_code.specs.Values.{Setting}
-use Rattle.lowered_soundness.specs.Describing.{Holding, held_at, kind_of, is_tree}
-use Rattle.lowered_soundness.specs.Laid.{told}
-use Rattle.lowered_soundness.specs.Sights.{Below, seen_kind, Sight}
-use Rattle.lowered_soundness.specs.Tests.{Choice, ChunkLaid, SidesLaid}
+use Rattle.laid_code.specs.Describing.{Holding, held_at, kind_of, is_tree}
+use Rattle.laid_code.specs.Labels.{told}
+use Rattle.laid_code.specs.Sights.{Below, seen_kind, Sight}
+use Rattle.laid_code.specs.Tests.{Choice, ChunkLaid, SidesLaid}
 use Rattle.lowered_soundness.proofs.Standing.{Seeing, SeesScalar, SeesLent, SeesOwned, MatchStands}
-use Rattle.lowered_soundness.specs.Matches.{widened, wide_at}
+use Rattle.laid_code.specs.Matches.{widened, wide_at}
 use Rattle.lowered_soundness.proofs.Standing.{EntriesLaid}
 use Rattle.lowered_soundness.proofs.Lefts.{left_open}
 use Rattle.lowered_soundness.proofs.Choosing.{Right}

@@ -22,12 +22,12 @@ use Rattle.lowered_code.specs.declared.held.Held.{Held}
 use Rattle.lowered_code.specs.declared.held.Held.TheVariants as H
 use Rattle.lowered_code.specs.Known.{Known}
 use Rattle.lowered_code.specs.Values.{Setting}
-use Rattle.lowered_soundness.specs.Describing.{Holding, held_at, kind_of}
-use Rattle.lowered_soundness.specs.Parts.{Arrives, Admits, Takes, Catches, IsKept, AreKept, Part, LastPart}
-use Rattle.lowered_soundness.specs.Laid.{told}
-use Rattle.lowered_soundness.specs.Sights.{left, part_kind, Below, AllBelow, seen_kind, Sight}
-use Rattle.lowered_soundness.specs.Tests.{Choice, ChunkLaid, SidesLaid}
-use Rattle.lowered_soundness.specs.Matches.{widened, wide_at, entered, EntryLaid}
+use Rattle.laid_code.specs.Describing.{Holding, held_at, kind_of}
+use Rattle.lowered_soundness.specs.Parts.{Arrives, Admits, IsKept, AreKept, Part, LastPart}
+use Rattle.laid_code.specs.Labels.{Takes, Catches, told}
+use Rattle.laid_code.specs.Sights.{left, part_kind, Below, AllBelow, seen_kind, Sight}
+use Rattle.laid_code.specs.Tests.{Choice, ChunkLaid, SidesLaid}
+use Rattle.laid_code.specs.Matches.{widened, wide_at, entered, EntryLaid}
 use Rattle.lowered_soundness.proofs.Fitting.{takes_less}
 use Rattle.lowered_soundness.proofs.Parts.{part_and_last, both_parts}
 use Rattle.lowered_soundness.proofs.Branches.{jump_last, catch_part, came_quiet}
@@ -154,6 +154,17 @@ stretch_last c f a m b l d x y =
       admits = x.admits;
       kept = λ arrives. joined_kept c f a b d (x.kept inside arrives) (y.kept (x.closed l));
       ends = y.ends;
+    }
+
+pub stretch_part : (c : PlainCode) (f : PlainFunction) (a : ℕ) (m : ℕ → Kind) (b : ℕ) (l : ℕ → Kind) (d : ℕ) (k : ℕ → Kind) → Stretch c f a m b → Part c f b l d k → Part c f a m d k
+stretch_part c f a m b l d k x y =
+    let p = x.grows in
+    let q = y.grows in
+    record {
+      grows = omega (arith, p, q);
+      admits = λ admits. x.admits;
+      kept = λ more admits arrives. joined_kept c f a b d (x.kept (omega (arith, q, more)) arrives) (y.kept more admits (x.closed l));
+      arrives = λ arrives. y.arrives (x.closed l);
     }
 
 -- a part that goes on to a label

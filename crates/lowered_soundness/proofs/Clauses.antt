@@ -1,5 +1,5 @@
 -- A clause begins: what is known at its entry goes with the variables in scope there.
-use Rattle.std.proofs.Common.{◌≡◌, ◌⊎◌, inl, inr, ℕ, suc, ◌+◌, ◌<◌, ◌≤◌, Bool, true, false, ◌||◌, not, List, [], ◌∷◌, ◌++◌, length, map, Some, None, refl, sym, ap, ap₂, ◌∙◌, subst, arith, if◌then◌else◌}
+use Rattle.std.proofs.Common.{◌≡◌, inl, inr, ℕ, suc, ◌+◌, ◌<◌, ◌≤◌, Bool, true, false, ◌||◌, not, List, [], ◌∷◌, ◌++◌, length, map, Some, refl, sym, ap, ap₂, ◌∙◌, subst, arith, if◌then◌else◌, ◌==◌}
 use Rattle.fip_language.specs.Table.{Table, constructors}
 use Rattle.fip_language.specs.Every.{Among}
 use Rattle.fip_base.specs.TableView.{fields_at}
@@ -16,13 +16,13 @@ use Rattle.own_calculus.specs.Terms.{Item, Own, Credit, has, given, charge}
 use Rattle.own_calculus.specs.Rules.{Fits}
 use Rattle.own_calculus.specs.Rules as O
 use Rattle.own_calculus.specs.ByCases.{Opens}
-use Rattle.own_calculus.proofs.Fit.{fits_le, fits_same}
+use Rattle.own_calculus.proofs.Fit.{fits_le, fits_same, fits_sum}
 use Rattle.own_agreement.specs.Bodies.{Scalars, variables, entering, inside, nodes}
 use Rattle.own_agreement.proofs.Basics.{not_owned}
 use Rattle.derivation_making.proofs.Linking.{next_inside}
 use Rattle.sound_code.specs.Codes.{PlainCode, PlainFunction}
 use Rattle.sound_code.specs.Types.{is_type, is_scalar_type, fields}
-use Rattle.kind_soundness.proofs.Basics.{refused, or_not, unequal_is}
+use Rattle.kind_soundness.proofs.Basics.{pick, chosen, refused, or_not, unequal_is}
 use Rattle.kind_soundness.proofs.Basics as KB
 use Rattle.match_code.specs.Spots.{register, below, Differ}
 use Rattle.match_code.specs.Opening.{Roomy}
@@ -31,21 +31,21 @@ use Rattle.lowered_code.specs.declared.held.Held.{Held}
 use Rattle.lowered_code.specs.declared.held.Held.TheVariants as H
 use Rattle.lowered_code.specs.Known.{Known}
 use Rattle.lowered_code.specs.Values.{Setting}
-use Rattle.lowered_soundness.specs.Describing.{held_at}
+use Rattle.laid_code.specs.Describing.{held_at}
 use Rattle.lowered_soundness.specs.Ties.{HoldsValue, owe, Ties}
 use Rattle.lowered_soundness.specs.Laid.{Shares}
 use Rattle.lowered_soundness.specs.Placed.{Placed, NoneFrom, InOrder, AreTypes, Callees}
-use Rattle.lowered_soundness.specs.Tests.{Choice}
+use Rattle.laid_code.specs.Tests.{Choice}
 use Rattle.lowered_soundness.proofs.Standing.{Slotted, AllSlotted}
-use Rattle.lowered_soundness.specs.Matches.{widened, wide, entered}
+use Rattle.laid_code.specs.Matches.{widened, wide, entered}
 use Rattle.lowered_soundness.proofs.Tying.{ties_fits}
 use Rattle.lowered_soundness.proofs.Arguments.{fields_same}
 use Rattle.lowered_soundness.proofs.Scoping.{entries_of, SlotsHold, some_placed}
 use Rattle.lowered_soundness.proofs.Naming.{soles}
-use Rattle.lowered_soundness.proofs.Lets.{ties_within, opens_fits, unborrowed, has_from}
+use Rattle.lowered_soundness.proofs.Lets.{ties_within, scope_later, opens_fits, unborrowed, has_from}
 use Rattle.lowered_soundness.proofs.EntryHeld.{entering_root_width}
-use Rattle.lowered_soundness.proofs.Cleared.{ties_wide}
-use Rattle.lowered_soundness.proofs.Openings.{slots, scope_of, scope_both, gained, Idle, opened_taken, opened_read}
+use Rattle.lowered_soundness.proofs.Cleared.{Kept, ties_wide}
+use Rattle.lowered_soundness.proofs.Openings.{slots, scope_of, scope_both, gained, Idle, LentFrom, IsRead, opened_taken, opened_read}
 
 -- where more registers are used nothing else is known
 pub ties_reserved : (fip : Bool) (w : Table) (s : Scope) (B : ℕ → Bool) (K : ℕ → Item → ℕ) (T : Item → ℕ) (e : ℕ → ℕ) (k : Known) (n : ℕ) → k.next ≤ n → Ties fip w s B K T e k → Ties fip w s B K T e (record k { next = n })
@@ -72,6 +72,15 @@ slots_many c (b ∷ bs) ds h i = (h.0, slots_many c bs ds h.1 i)
 pub length_map : (hs : List Held) → length (map widened hs) ≡ length hs
 length_map [] = refl
 length_map (h ∷ hs) = ap suc (length_map hs)
+
+-- variables of a pattern that are only read lie where the scrutinee does
+abbrev pub reading : Bool → List ℕ → (Item → ℕ) → (ℕ → Item → ℕ) → ℕ → Item → ℕ
+reading true ys L K z = K z
+reading false ys L K z = if has ys z then L else K z
+
+pub reading_kept : (taken : Bool) (ys : List ℕ) (L X : Item → ℕ) (K : ℕ → Item → ℕ) → Kept K X → ((y : ℕ) → L (Own y) ≤ X (Own y)) → Kept (reading taken ys L K) X
+reading_kept true ys L X K kept least z y = kept z y
+reading_kept false ys L X K kept least z y = pick (λ (m : Item → ℕ). m (Own y) ≤ X (Own y)) (has ys z) L (K z) (λ e. least y) (λ e. kept z y)
 
 module _ (c : PlainCode) (st : Setting) (wd : W.World) (w : R.World) (shares : Shares c st wd) (callees : Callees c st wd w) where
   -- ---- the types of a pattern
@@ -161,47 +170,77 @@ module _ (c : PlainCode) (st : Setting) (wd : W.World) (w : R.World) (shares : S
         one true h = h
         one false h = ap (λ b. b || has (variables w (suc m) ds) y) (unequal_is m y (λ e. absurd (let z : ⊥ = omega (arith, e, low) in z))) ∙ h
 
+    -- variables that are only read lie where the scrutinee does
+    lent_from : (K : ℕ → Item → ℕ) (L : Item → ℕ) (n : ℕ) (bs : List Binder) (ts : List ℕ) → SlotsHold c bs ts → LentFrom c.types (λ z. if has (variables w n bs) z then L else K z) L n ts
+    lent_from K L n bs ts slots = from n bs ts slots (λ y h. chosen (has (variables w n bs) y) L (K y) h)
+      where
+        from : (m : ℕ) (ds : List Binder) (us : List ℕ) → SlotsHold c ds us → ((y : ℕ) → has (variables w m ds) y ≡ true → (if has (variables w n bs) y then L else K y) ≡ L) → LentFrom c.types (λ z. if has (variables w n bs) z then L else K z) L m us
+        from m [] [] h all = tt
+        from m [] (u ∷ us) h all = absurd h
+        from m (d ∷ ds) [] h all = absurd h
+        from m (d ∷ ds) (u ∷ us) h all = ((λ e. all m (first e)), from (suc m) ds us h.1 (λ y z. all y (later y z)))
+          where
+            scalar : w.scalar d.ty ≡ is_scalar_type c.types u
+            scalar = ap w.scalar h.0.0 ∙ callees.scalars u h.0.1
+
+            first : is_scalar_type c.types u ≡ false → has (variables w m (d ∷ ds)) m ≡ true
+            first e = ap (λ ys. has ys m) (refused (w.scalar d.ty) (variables w (suc m) ds) (m ∷ variables w (suc m) ds) (scalar ∙ e)) ∙ ap (λ b. b || has (variables w (suc m) ds) m) (KB.equal_is m m refl)
+
+            or_true : (a b : Bool) → b ≡ true → (a || b) ≡ true
+            or_true true b e = refl
+            or_true false b e = e
+
+            later : (y : ℕ) → has (variables w (suc m) ds) y ≡ true → has (variables w m (d ∷ ds)) y ≡ true
+            later y z = elim (or_not (w.scalar d.ty)) as (λ v. has (variables w m (d ∷ ds)) y ≡ true) [
+              | inl e ↦ ap (λ ys. has ys y) (chosen (w.scalar d.ty) (variables w (suc m) ds) (m ∷ variables w (suc m) ds) e) ∙ z
+              | inr e ↦ ap (λ ys. has ys y) (refused (w.scalar d.ty) (variables w (suc m) ds) (m ∷ variables w (suc m) ds) e) ∙ or_true (m == y) (has (variables w (suc m) ds) y) z
+            ]
+
     -- what is so at a clause's entry
-    pub record ClauseBegins (s : Scope) (sc : Scalars) (n : Names) (taken : Bool) (t : ℕ) (q : Pattern) (B : ℕ → Bool) (K : ℕ → Item → ℕ) (Q : Item → ℕ) (l m : Known) : Type 0 where
-      pub ties : Ties fip c.types (s ++ bound_by wd (Some t) q) (O.setting (variables w n.next (binders q)) (not taken) B) K (λ i. Q i + 0) (λ q. 0) m
+    pub record ClauseBegins (s : Scope) (sc : Scalars) (n : Names) (taken : Bool) (t : ℕ) (q : Pattern) (B : ℕ → Bool) (K : ℕ → Item → ℕ) (Q X : Item → ℕ) (l m : Known) : Type 0 where
+      pub ties : Ties fip c.types (s ++ bound_by wd (Some t) q) (O.setting (variables w n.next (binders q)) (not taken) B) K (λ i. Q i + X i) (λ q. 0) m
       pub placed : Placed c (s ++ bound_by wd (Some t) q) (entering w n.next sc (binders q)) (inside w taken n (binders q))
-      pub none : NoneFrom (inside w taken n (binders q)).next (λ i. Q i + 0)
+      pub none : NoneFrom (inside w taken n (binders q)).next (λ i. Q i + X i)
       pub names : length m.names ≡ length l.names
       pub width : length m.held ≡ length l.held
 
-    -- a scalar, or a tree that is lent from outside
-    abbrev pub OnlyRead : ℕ → Held → Type 0
-    OnlyRead t h = ((is_scalar_type c.types t ≡ true) × (h ≡ H.Scalar t)) ⊎ ((is_scalar_type c.types t ≡ false) × (h ≡ H.Lent t None))
-
-    -- what is owned where the tests are, and what the scrutinee's register holds
-    abbrev pub Stands : Bool → Scope → (ℕ → Bool) → (ℕ → Item → ℕ) → (Item → ℕ) → ℕ → ℕ → Known → Type 0
-    Stands true s B K R t r l = Ties fip c.types s B K (λ i. R i + 0) (λ q. owe c.types t r q + 0) l × HoldsValue c.types t (held_at l.held r) × (is_scalar_type c.types t ≡ false)
-    Stands false s B K R t r l = Ties fip c.types s B K (λ i. R i + 0) (λ q. 0) l × OnlyRead t (held_at l.held r)
+    -- what is owned where the tests are, and what the scrutinee's register holds: it is read where L lies
+    abbrev pub Stands : Bool → Scope → (ℕ → Bool) → (ℕ → Item → ℕ) → (Item → ℕ) → (Item → ℕ) → (Item → ℕ) → ℕ → ℕ → Known → Type 0
+    Stands true s B K R X L t r l = Ties fip c.types s B K (λ i. R i + X i) (λ q. owe c.types t r q + 0) l × HoldsValue c.types t (held_at l.held r) × (is_scalar_type c.types t ≡ false)
+    Stands false s B K R X L t r l = Ties fip c.types s B K (λ i. R i + X i) (λ q. 0) l × IsRead c f st fip B K t r L l
 
     abbrev pub OpensBy : Bool → List ℕ → List ℕ → (Item → ℕ) → (Item → ℕ) → Type 0
     OpensBy true ys ks R Q = Opens fip true ys ks R Q
     OpensBy false ys ks R Q = Opens fip false ys [] R Q
 
-    module _ (s : Scope) (sc : Scalars) (n : Names) (B : ℕ → Bool) (K : ℕ → Item → ℕ) (unkept : (z y : ℕ) → K z (Own y) ≡ 0) (placed : Placed c s sc n) (R : Item → ℕ) (none : NoneFrom n.next R) (t : ℕ) (typed : is_type c.types t ≡ true) (ch : Choice) (differ : Differ ch.root) (off : Among (register ch.root) (below ch.root) → ⊥) (l : Known) (idle : Idle (below ch.root) l) (within : register ch.root < length l.held) (used : register ch.root < l.next) where
-      none_zero : NoneFrom n.next (λ i. R i + 0)
-      none_zero y low = let z = none y low in omega (arith, z)
+    module _ (s : Scope) (sc : Scalars) (n : Names) (B : ℕ → Bool) (K : ℕ → Item → ℕ) (X L : Item → ℕ) (kept : Kept K X) (least : (y : ℕ) → L (Own y) ≤ X (Own y)) (placed : Placed c s sc n) (R : Item → ℕ) (none : NoneFrom n.next (λ i. R i + X i)) (t : ℕ) (typed : is_type c.types t ≡ true) (ch : Choice) (differ : Differ ch.root) (off : Among (register ch.root) (below ch.root) → ⊥) (l : Known) (idle : Idle (below ch.root) l) (within : register ch.root < length l.held) (used : register ch.root < l.next) where
+      none_owned : NoneFrom n.next R
+      none_owned y low = let z = none y low in omega (arith, z)
+
+      more_kept : (M : ℕ → Item → ℕ) → Kept M X → Kept M (λ i. R i + X i)
+      more_kept M h z y = let a = h z y in omega (arith, a)
 
       unchanged : (b : Bool) (bs : List Binder) (x u : ℕ) → of_binder s (Some x) ≡ Some (Some u) → O.setting (variables w n.next bs) b B x ≡ B x
       unchanged b bs x u h = refused (has (variables w n.next bs) x) b (B x) (not_owned w n.next x bs (placed.before x u h))
 
-      moved : (b : Bool) (bs : List Binder) (e : ℕ → ℕ) (m : ℕ) → l.next ≤ m → Ties fip c.types s B K (λ i. R i + 0) e l → Ties fip c.types s (O.setting (variables w n.next bs) b B) K (λ i. R i + 0) e (record l { next = m })
-      moved b bs e m more ties =
-          ties_within fip c.types s s B (O.setting (variables w n.next bs) b B) K K (λ i. R i + 0) e (record l { next = m })
-          (ties_reserved fip c.types s B K (λ i. R i + 0) e l m more ties) (λ x u h. h) (λ x u h y. (sym (unchanged b bs x u h) ∙ y, refl))
+      read_same : (taken : Bool) (bs : List Binder) (x u : ℕ) → of_binder s (Some x) ≡ Some (Some u) → reading taken (variables w n.next bs) L K x ≡ K x
+      read_same true bs x u h = refl
+      read_same false bs x u h = refused (has (variables w n.next bs) x) L (K x) (not_owned w n.next x bs (placed.before x u h))
 
-      begun : (taken : Bool) (q : Pattern) (Q : Item → ℕ) (m : ℕ) (after : Known) → IsPattern true wd t q → InOrder n.next (binders q) → ((y : ℕ) → has (variables w n.next (binders q)) y ≡ false → Fits fip (R (Own y)) (Q (Own y))) → ((i : Item) → Fits fip ((R i + 0) + gained taken c.types n.next (binders q) (nodes q) i) (Q i + 0)) → Ties fip c.types (s ++ scope_of (binders q)) (O.setting (variables w n.next (binders q)) (not taken) B) K (λ i. (R i + 0) + gained taken c.types n.next (binders q) (nodes q) i) (λ q. 0) after → length after.names ≡ length l.names → length after.held ≡ length l.held → ClauseBegins s sc n taken t q B K Q l (wide after)
+      moved : (taken b : Bool) (bs : List Binder) (e : ℕ → ℕ) (m : ℕ) → l.next ≤ m → Ties fip c.types s B K (λ i. R i + X i) e l → Ties fip c.types s (O.setting (variables w n.next bs) b B) (reading taken (variables w n.next bs) L K) (λ i. R i + X i) e (record l { next = m })
+      moved taken b bs e m more ties =
+          ties_within fip c.types s s B (O.setting (variables w n.next bs) b B) K (reading taken (variables w n.next bs) L K) (λ i. R i + X i) e (record l { next = m })
+          (ties_reserved fip c.types s B K (λ i. R i + X i) e l m more ties) (λ x u h. h) (λ x u h y. (sym (unchanged b bs x u h) ∙ y, read_same taken bs x u h))
+
+      begun : (taken : Bool) (q : Pattern) (Q : Item → ℕ) (m : ℕ) (after : Known) → IsPattern true wd t q → InOrder n.next (binders q) → ((y : ℕ) → has (variables w n.next (binders q)) y ≡ false → Fits fip (R (Own y)) (Q (Own y))) → ((i : Item) → Fits fip ((R i + X i) + gained taken c.types n.next (binders q) (nodes q) i) (Q i + X i)) → Ties fip c.types (s ++ scope_of (binders q)) (O.setting (variables w n.next (binders q)) (not taken) B) (reading taken (variables w n.next (binders q)) L K) (λ i. (R i + X i) + gained taken c.types n.next (binders q) (nodes q) i) (λ q. 0) after → length after.names ≡ length l.names → length after.held ≡ length l.held → ClauseBegins s sc n taken t q B (reading taken (variables w n.next (binders q)) L K) Q X l (wide after)
       begun taken q Q m after pattern order others fits ties names width =
           let es = bound_is q t pattern in
           let D = O.setting (variables w n.next (binders q)) (not taken) B in
+          let M = reading taken (variables w n.next (binders q)) L K in
           record {
-            ties = subst (λ es. Ties fip c.types (s ++ es) D K (λ i. Q i + 0) (λ q. 0) (wide after)) (sym es)
-                (ties_wide fip c.types (s ++ scope_of (binders q)) D K (λ i. Q i + 0) (λ q. 0) after
-                (ties_fits fip c.types (s ++ scope_of (binders q)) D K (λ i. (R i + 0) + gained taken c.types n.next (binders q) (nodes q) i) (λ i. Q i + 0) (λ q. 0) after ties fits));
+            ties = subst (λ es. Ties fip c.types (s ++ es) D M (λ i. Q i + X i) (λ q. 0) (wide after)) (sym es)
+                (ties_wide fip c.types (s ++ scope_of (binders q)) D M (λ i. Q i + X i) (λ q. 0) after
+                (ties_fits fip c.types (s ++ scope_of (binders q)) D M (λ i. (R i + X i) + gained taken c.types n.next (binders q) (nodes q) i) (λ i. Q i + X i) (λ q. 0) after ties fits));
             placed = subst (λ es. Placed c (s ++ es) (entering w n.next sc (binders q)) (inside w taken n (binders q))) (entries_slots (binders q) ∙ sym es)
                 (some_placed c w callees.scalars taken s sc n (binders q) (slots (binders q)) placed order (slots_hold q t typed pattern));
             none = λ y low. (let next = next_inside w taken n (binders q) in
@@ -212,27 +251,42 @@ module _ (c : PlainCode) (st : Setting) (wd : W.World) (w : R.World) (shares : S
             width = length_map after.held ∙ width;
           }
 
+      -- variables from before are as they were
+      pub record FromBefore (taken : Bool) (q : Pattern) : Type 0 where
+        pub back : (x u : ℕ) → of_binder s (Some x) ≡ Some (Some u) → of_binder (s ++ bound_by wd (Some t) q) (Some x) ≡ Some (Some u)
+        pub borrowed : (x u : ℕ) → of_binder s (Some x) ≡ Some (Some u) → O.setting (variables w n.next (binders q)) (not taken) B x ≡ B x
+        pub lends : (x u : ℕ) → of_binder s (Some x) ≡ Some (Some u) → reading taken (variables w n.next (binders q)) L K x ≡ K x
+
+      pub from_before : (taken : Bool) (q : Pattern) → IsPattern true wd t q → InOrder n.next (binders q) → FromBefore taken q
+      from_before taken q pattern order = record {
+        back = λ x u h. ap (λ es. of_binder (s ++ es) (Some x)) (bound_is q t pattern ∙ sym (entries_slots (binders q))) ∙ (scope_later s n.next (binders q) (slots (binders q)) x order (placed.before x u h) ∙ h);
+        borrowed = λ x u h. unchanged (not taken) (binders q) x u h;
+        lends = λ x u h. read_same taken (binders q) x u h;
+      }
+
       idle_more : (m : ℕ) → l.next ≤ m → Idle (below ch.root) (record l { next = m })
       idle_more m more z a = let x = idle z a in let low = x.2 in (x.0, x.1, omega (arith, low, more))
 
-      pub enter_clause : (taken : Bool) (q : Pattern) (Q : Item → ℕ) (m : ℕ) → ch.takes ≡ taken → Stands taken s B K R t (register ch.root) l → OpensBy taken (variables w n.next (binders q)) (nodes q) R Q → IsPattern true wd t q → Roomy q ch.root → InOrder n.next (binders q) → n.next + length (binders q) ≤ length l.names → l.next ≤ m → ClauseBegins s sc n taken t q B K Q l (entered st ch q l m)
+      -- what a clause gets beside what is kept
+      beside : (a d x q : ℕ) → Fits fip a q → d ≡ a + x → Fits fip d (q + x)
+      beside a d x q fits same = fits_sum fip d a x q x (subst (Fits fip d) same (fits_same fip d)) fits (fits_same fip x)
+
+      pub enter_clause : (taken : Bool) (q : Pattern) (Q : Item → ℕ) (m : ℕ) → ch.takes ≡ taken → Stands taken s B K R X L t (register ch.root) l → OpensBy taken (variables w n.next (binders q)) (nodes q) R Q → IsPattern true wd t q → Roomy q ch.root → InOrder n.next (binders q) → n.next + length (binders q) ≤ length l.names → l.next ≤ m → ClauseBegins s sc n taken t q B (reading taken (variables w n.next (binders q)) L K) Q X l (entered st ch q l m)
       enter_clause true q Q m is stands opens pattern roomy order room more =
           let D = O.setting (variables w n.next (binders q)) false B in
           let hold = slots_hold q t typed pattern in
-          let x = opened_taken c f st fip D K unkept q t ch.root s (λ i. R i + 0) (record l { next = m }) n.next (slotted_of q t typed pattern) roomy differ off (idle_more m more) within (omega (arith, used, more)) stands.1 stands.2 order room placed.before none_zero
-          (unborrowed c w callees.scalars fip K B n.next (binders q) (slots (binders q)) hold) (moved false (binders q) (λ q. owe c.types t (register ch.root) q + 0) m more stands.0) in
-          subst (λ b. ClauseBegins s sc n true t q B K Q l (wide (E.entering_root st b q ch.root (record l { next = m })))) (sym is)
+          let x = opened_taken c f st fip D K q t ch.root s (λ i. R i + X i) (record l { next = m }) n.next (slotted_of q t typed pattern) roomy differ off (idle_more m more) within (omega (arith, used, more)) stands.1 stands.2 order room placed.before none
+          (unborrowed c w callees.scalars fip K B n.next (binders q) (slots (binders q)) hold) (more_kept K kept) (moved true false (binders q) (λ q. owe c.types t (register ch.root) q + 0) m more stands.0) in
+          subst (λ b. ClauseBegins s sc n true t q B K Q X l (wide (E.entering_root st b q ch.root (record l { next = m })))) (sym is)
           (begun true q Q m (E.entering_root st true q ch.root (record l { next = m })) pattern order opens.others
-          (λ i. (let a : (R i + soles c.types n.next (slots (binders q)) i) + charge (nodes q) i ≡ (R i + 0) + (soles c.types n.next (slots (binders q)) i + charge (nodes q) i) = omega arith in
-          let b : Q i ≡ Q i + 0 = omega arith in
-          subst (λ y. Fits fip ((R i + 0) + (soles c.types n.next (slots (binders q)) i + charge (nodes q) i)) y) b
-          (subst (λ y. Fits fip y (Q i)) a (opens_more n.next (binders q) (nodes q) (slots (binders q)) R Q opens none hold i))))
+          (λ i. beside ((R i + soles c.types n.next (slots (binders q)) i) + charge (nodes q) i) ((R i + X i) + (soles c.types n.next (slots (binders q)) i + charge (nodes q) i)) (X i) (Q i) (opens_more n.next (binders q) (nodes q) (slots (binders q)) R Q opens none_owned hold i) (omega arith))
           x.ties x.names (entering_root_width st true q ch.root (record l { next = m })))
       enter_clause false q Q m is stands opens pattern roomy order room more =
-          let x = opened_read c f st fip (O.setting (variables w n.next (binders q)) true B) K unkept q t ch.root s (λ i. R i + 0) (record l { next = m }) n.next (slotted_of q t typed pattern) roomy differ (idle_more m more) (omega (arith, used, more)) stands.1 order room placed.before none_zero (moved true (binders q) (λ q. 0) m more stands.0) in
-          subst (λ b. ClauseBegins s sc n false t q B K Q l (wide (E.entering_root st b q ch.root (record l { next = m })))) (sym is)
+          let ys = variables w n.next (binders q) in
+          let M = reading false ys L K in
+          let x = opened_read c f st fip (O.setting ys true B) M q t ch.root s (λ i. R i + X i) L (record l { next = m }) n.next (slotted_of q t typed pattern) roomy differ (idle_more m more) (omega (arith, used, more)) stands.1 order room placed.before none
+          (more_kept M (reading_kept false ys L X K kept least)) (λ y. let a = least y in omega (arith, a)) (lent_from K L n.next (binders q) (slots (binders q)) (slots_hold q t typed pattern)) (moved false true (binders q) (λ q. 0) m more stands.0) in
+          subst (λ b. ClauseBegins s sc n false t q B M Q X l (wide (E.entering_root st b q ch.root (record l { next = m })))) (sym is)
           (begun false q Q m (E.entering_root st false q ch.root (record l { next = m })) pattern order opens.others
-          (λ i. (let a : R i ≡ (R i + 0) + 0 = omega arith in
-          let b : Q i ≡ Q i + 0 = omega arith in
-          subst (λ y. Fits fip ((R i + 0) + 0) y) b (subst (λ y. Fits fip y (Q i)) a (opens_less n.next (binders q) R Q opens none i))))
+          (λ i. beside (R i) ((R i + X i) + 0) (X i) (Q i) (opens_less n.next (binders q) R Q opens none_owned i) (omega arith))
           x.ties x.names (entering_root_width st false q ch.root (record l { next = m })))

@@ -14,15 +14,15 @@ use Rattle.lowered_code.specs.declared.held.Held.TheVariants as H
 use Rattle.lowered_code.specs.Known.{Known, register_of, named, naming, holding}
 use Rattle.lowered_code.specs.Functions.{unless_in}
 use Rattle.match_code.specs.Entering.{unnaming}
-use Rattle.lowered_soundness.specs.Describing.{Holding, held_at, setting, is_tree}
+use Rattle.laid_code.specs.Describing.{Holding, held_at, setting, is_tree}
 use Rattle.lowered_soundness.specs.Giving.{is_owned_of, is_credit_of}
 use Rattle.lowered_soundness.specs.Ties.{one_if, is_register, owners, sized, counted, own, is_read_of, Balanced, Rooted, Stays, HoldsVariable, LiesIn, BareRight, Ties}
-use Rattle.lowered_soundness.specs.Matches.{widened, wide}
-use Rattle.lowered_soundness.proofs.Owners.{owners_same, sized_both, counted_both}
+use Rattle.laid_code.specs.Matches.{widened, wide}
+use Rattle.lowered_soundness.proofs.Owners.{owners_same, owners_less, sized_both, counted_both}
 use Rattle.lowered_soundness.proofs.Tying.{ties_on}
 use Rattle.lowered_soundness.proofs.Helds.{held_set_fn}
 use Rattle.lowered_soundness.proofs.Writing.{is_idle, setting_other, setting_stays}
-use Rattle.lowered_soundness.proofs.Starting.{setting_balanced, setting_rooted, setting_bares, setting_count}
+use Rattle.lowered_soundness.proofs.Starting.{setting_balanced, setting_rooted, setting_rooted_in, setting_bares, setting_count}
 use Rattle.lowered_soundness.proofs.Scoping.{new_or_old}
 use Rattle.lowered_soundness.proofs.Naming.{register_new, register_old, owners_renamed}
 use Rattle.lowered_soundness.proofs.EntryHeld.{held_wide}
@@ -37,7 +37,7 @@ wide_owned u (H.Lent t root) = refl
 wide_owned u (H.Credit n) = refl
 wide_owned u (H.Bare t c) = refl
 
-wide_read : (u : ℕ) (h : Held) → is_read_of u (widened h) ≡ is_read_of u h
+pub wide_read : (u : ℕ) (h : Held) → is_read_of u (widened h) ≡ is_read_of u h
 wide_read u H.Nothing = refl
 wide_read u (H.Scalar t) = refl
 wide_read u (H.Owned t b) = refl
@@ -45,7 +45,7 @@ wide_read u (H.Lent t root) = refl
 wide_read u (H.Credit n) = refl
 wide_read u (H.Bare t c) = refl
 
-wide_tree : (h : Held) → is_tree (widened h) ≡ is_tree h
+pub wide_tree : (h : Held) → is_tree (widened h) ≡ is_tree h
 wide_tree H.Nothing = refl
 wide_tree (H.Scalar t) = refl
 wide_tree (H.Owned t b) = refl
@@ -61,7 +61,7 @@ wide_credit n (H.Lent t root) = refl
 wide_credit n (H.Credit m) = refl
 wide_credit n (H.Bare t c) = refl
 
-wide_lies : (n : ℕ → ℕ) (r : ℕ) (h : Held) → LiesIn n r h → LiesIn n r (widened h)
+pub wide_lies : (n : ℕ → ℕ) (r : ℕ) (h : Held) → LiesIn n r h → LiesIn n r (widened h)
 wide_lies n r H.Nothing l = l
 wide_lies n r (H.Scalar t) l = l
 wide_lies n r (H.Owned t b) l = l
@@ -78,7 +78,7 @@ wide_is_lent (H.Lent u o) t root e = e
 wide_is_lent (H.Credit n) t root e = e
 wide_is_lent (H.Bare u c) t root e = e
 
-wide_is_bare : (h : Held) (t c : ℕ) → widened h ≡ H.Bare t c → h ≡ H.Bare t c
+pub wide_is_bare : (h : Held) (t c : ℕ) → widened h ≡ H.Bare t c → h ≡ H.Bare t c
 wide_is_bare H.Nothing t c e = e
 wide_is_bare (H.Scalar u) t c e = e
 wide_is_bare (H.Owned u b) t c e = absurd (cc)
@@ -105,7 +105,7 @@ ties_wide fip w s B K T e k t = record {
 
 -- ---- names that go
 
-unless_register : (r : ℕ) (names : List (Option ℕ)) (x p : ℕ) → register_of (map (unless_in r) names) (Some x) ≡ Some p → register_of names (Some x) ≡ Some p
+pub unless_register : (r : ℕ) (names : List (Option ℕ)) (x p : ℕ) → register_of (map (unless_in r) names) (Some x) ≡ Some p → register_of names (Some x) ≡ Some p
 unless_register r [] x p h = absurd (cc)
 unless_register r (None ∷ os) zero p h = h
 unless_register r (Some q ∷ os) zero p h = by (q == r) h
@@ -129,28 +129,43 @@ unless_owners r (Some p ∷ os) T q none =
         pick (λ n. 0 ≡ n) (p == q) (T 0) 0 (λ y. sym t) (λ y. refl)
     by false e z = refl
 
-module _ (fip : Bool) (w : Table) (B : ℕ → Bool) (K : ℕ → Item → ℕ) (unkept : (z y : ℕ) → K z (Own y) ≡ 0) where
-  kept : (T : Item → ℕ) (z y : ℕ) → K z (Own y) ≤ T (Own y)
-  kept T z y = let a = unkept z y in omega (arith, a)
+-- names without one
+unnamed_new : (names : List (Option ℕ)) (x p : ℕ) → register_of (slice_set names x None) (Some x) ≡ Some p → ⊥
+unnamed_new [] x p h = absurd (cc)
+unnamed_new (o ∷ os) zero p h = absurd (cc)
+unnamed_new (o ∷ os) (suc x) p h = unnamed_new os x p h
 
-  none_kept : (names : List (Option ℕ)) (z q : ℕ) → owners names (own (K z)) q ≡ 0
-  none_kept names z q = Rattle.lowered_soundness.proofs.Owners.owners_none names (own (K z)) q (λ y. unkept z y)
+pub unnamed_old : (names : List (Option ℕ)) (x y : ℕ) → (x ≡ y → ⊥) → register_of (slice_set names x None) (Some y) ≡ register_of names (Some y)
+unnamed_old [] x y ne = refl
+unnamed_old (o ∷ os) zero zero ne = absurd (ne refl)
+unnamed_old (o ∷ os) zero (suc y) ne = refl
+unnamed_old (o ∷ os) (suc x) zero ne = refl
+unnamed_old (o ∷ os) (suc x) (suc y) ne = unnamed_old os x y (λ e. ne (ap suc e))
 
-  -- what lies in no tree of the frame
-  pub lies_any : (n m : ℕ → ℕ) (r : ℕ) (h : Held) → ((q : ℕ) → n q ≡ 0) → LiesIn n r h → LiesIn m r h
-  lies_any n m r H.Nothing none l = tt
-  lies_any n m r (H.Scalar t) none l = tt
-  lies_any n m r (H.Owned t b) none l = absurd (let z = none r in let y : ⊥ = omega (arith, z, l) in y)
-  lies_any n m r (H.Lent t None) none l = tt
-  lies_any n m r (H.Lent t (Some q)) none l = absurd (let z = none q in let y : ⊥ = omega (arith, z, l) in y)
-  lies_any n m r (H.Credit k) none l = tt
-  lies_any n m r (H.Bare t c) none l = tt
+pub unnamed_owners : (names : List (Option ℕ)) (T : ℕ → ℕ) (x q : ℕ) → T x ≡ 0 → owners (slice_set names x None) T q ≡ owners names T q
+unnamed_owners [] T x q e = refl
+unnamed_owners (o ∷ os) T zero q e = let b = zero_if (is_register o q) (T 0) e in omega (arith, b)
+  where
+    zero_if : (b : Bool) (n : ℕ) → n ≡ 0 → (if b then n else 0) ≡ 0
+    zero_if true n e = e
+    zero_if false n e = refl
+unnamed_owners (o ∷ os) T (suc x) q e = let z = unnamed_owners os (λ y. T (suc y)) x q e in omega (arith, z)
 
-  pub unless_ties : (s : Scope) (T : Item → ℕ) (e : ℕ → ℕ) (k : Known) (r : ℕ) → Ties fip w s B K T e k → owners k.names (own T) r ≡ 0 → Ties fip w s B K T e (record k { names = map (unless_in r) k.names })
-  unless_ties s T e k r t none = record {
+pub length_unnamed : (names : List (Option ℕ)) (x : ℕ) → length (slice_set names x None) ≡ length names
+length_unnamed [] x = refl
+length_unnamed (o ∷ os) zero = refl
+length_unnamed (o ∷ os) (suc x) = ap suc (length_unnamed os x)
+
+-- what is read lies in trees that are owned
+abbrev pub Kept : (ℕ → Item → ℕ) → (Item → ℕ) → Type 0
+Kept K T = (z y : ℕ) → K z (Own y) ≤ T (Own y)
+
+module _ (fip : Bool) (w : Table) (B : ℕ → Bool) (K : ℕ → Item → ℕ) where
+  pub unless_ties : (s : Scope) (T : Item → ℕ) (e : ℕ → ℕ) (k : Known) (r : ℕ) → Kept K T → Ties fip w s B K T e k → owners k.names (own T) r ≡ 0 → Ties fip w s B K T e (record k { names = map (unless_in r) k.names })
+  unless_ties s T e k r kept t none = record {
     variables = λ x p u n o. t.variables x p u (unless_register r k.names x p n) o;
     trees = λ q. subst (λ a. Fits fip (one_if (is_tree (held_at k.held q))) (a + e q)) (sym (unless_owners r k.names (own T) q none)) (t.trees q);
-    lent = λ x p u n o m. lies_any (owners k.names (own (K x))) (owners (map (unless_in r) k.names) (own (K x))) p (held_at k.held p) (none_kept k.names x) (t.lent x p u (unless_register r k.names x p n) o m);
+    lent = λ x p u n o m. subst (λ g. LiesIn g p (held_at k.held p)) (same x) (t.lent x p u (unless_register r k.names x p n) o m);
     rooted = t.rooted;
     bares = t.bares;
     sizes = t.sizes;
@@ -158,15 +173,18 @@ module _ (fip : Bool) (w : Table) (B : ℕ → Bool) (K : ℕ → Item → ℕ) 
     fresh = t.fresh;
     named = λ x p n. t.named x p (unless_register r k.names x p n);
   }
+    where
+      same : (x : ℕ) → owners k.names (own (K x)) ≡ owners (map (unless_in r) k.names) (own (K x))
+      same x = λ i q. sym (unless_owners r k.names (own (K x)) q (let z = owners_less k.names (own T) (own (K x)) r (λ y. kept x y) in omega (arith, z, none))) i
 
   -- ---- an empty register gets something that is no tree
 
-  pub idle_ties : (s : Scope) (T : Item → ℕ) (e : ℕ → ℕ) (k : Known) (d : ℕ) (h : Held) → Ties fip w s B K T e k → held_at k.held d ≡ H.Nothing → d < length k.held → d < k.next → is_tree h ≡ false → ((u q : ℕ) → h ≡ H.Lent u (Some q) → ⊥) → ((n : ℕ) → is_credit_of n h ≡ false) → BareRight w (setting (held_at k.held) d h) → Ties fip w s B K T e (holding k d h)
-  idle_ties s T e k d h t empty room used none unlent no_credit bares =
-      ties_on fip w s B K T T e e e k (holding k d h) t (λ x. omega arith) (kept T) refl (omega arith)
+  pub idle_ties : (s : Scope) (T : Item → ℕ) (e : ℕ → ℕ) (k : Known) (d : ℕ) (h : Held) → Kept K T → Ties fip w s B K T e k → held_at k.held d ≡ H.Nothing → d < length k.held → d < k.next → is_tree h ≡ false → ((u q : ℕ) → h ≡ H.Lent u (Some q) → is_tree (held_at k.held q) ≡ true) → ((n : ℕ) → is_credit_of n h ≡ false) → BareRight w (setting (held_at k.held) d h) → Ties fip w s B K T e (holding k d h)
+  idle_ties s T e k d h kept t empty room used none roots no_credit bares =
+      ties_on fip w s B K T T e e e k (holding k d h) t (λ x. omega arith) kept refl (omega arith)
       (subst (λ x. Stays (held_at k.held) x (λ q. owners k.names (own T) q + e q)) (sym held) (setting_stays (held_at k.held) d h (λ q. owners k.names (own T) q + e q) (ap is_idle empty)))
       (subst (λ x. Balanced fip x (λ q. owners k.names (own T) q + e q)) (sym held) (setting_balanced fip (held_at k.held) d h (λ q. owners k.names (own T) q + e q) (ap is_tree empty) none t.trees))
-      (subst Rooted (sym held) (setting_rooted (held_at k.held) d h (ap is_tree empty) none unlent t.rooted))
+      (subst Rooted (sym held) (setting_rooted_in (held_at k.held) d h (ap is_tree empty) none roots t.rooted))
       (subst (BareRight w) (sym held) bares)
       t.sizes
       (λ m r. t.credits m r ∙ ap one_if (sym (ap (λ y. is_credit_of m (y r)) held ∙ setting_count (held_at k.held) d h m r (ap (is_credit_of m) empty) (no_credit m))))
@@ -176,9 +194,9 @@ module _ (fip : Bool) (w : Table) (B : ℕ → Bool) (K : ℕ → Item → ℕ) 
       held = held_set_fn k.held d h room
 
   -- a cell that was taken apart
-  pub credit_ties : (s : Scope) (T : Item → ℕ) (e : ℕ → ℕ) (k : Known) (m n : ℕ) → Ties fip w s B K T e k → held_at k.held n ≡ H.Nothing → n < length k.held → n < k.next → Ties fip w s B K (λ i. T i + charge (m ∷ []) i) e (record k { held = slice_set k.held n (H.Credit m); credits = k.credits ++ (record { size = m; register = n } ∷ []) })
-  credit_ties s T e k m n t empty room used =
-      ties_on fip w s B K T Charged e e e k after t (λ x. omega arith) (kept Charged) refl (omega arith)
+  pub credit_ties : (s : Scope) (T : Item → ℕ) (e : ℕ → ℕ) (k : Known) (m n : ℕ) → Kept K T → Ties fip w s B K T e k → held_at k.held n ≡ H.Nothing → n < length k.held → n < k.next → Ties fip w s B K (λ i. T i + charge (m ∷ []) i) e (record k { held = slice_set k.held n (H.Credit m); credits = k.credits ++ (record { size = m; register = n } ∷ []) })
+  credit_ties s T e k m n kept t empty room used =
+      ties_on fip w s B K T Charged e e e k after t (λ x. omega arith) (λ z y. (let a = kept z y in omega (arith, a))) refl (omega arith)
       (subst (λ x. Stays g x (λ q. owners k.names (own Charged) q + e q)) (sym held) (setting_stays g n h (λ q. owners k.names (own Charged) q + e q) (ap is_idle empty)))
       (subst (λ x. Balanced fip x (λ q. owners k.names (own Charged) q + e q)) (sym held) (setting_balanced fip g n h (λ q. owners k.names (own Charged) q + e q) (ap is_tree empty) refl trees))
       (subst Rooted (sym held) (setting_rooted g n h (ap is_tree empty) refl unlent t.rooted))
@@ -263,8 +281,8 @@ module _ (fip : Bool) (w : Table) (B : ℕ → Bool) (K : ℕ → Item → ℕ) 
     | inr z ↦ inr ((λ e. z.0 (number ∙ e)), z.1)
   ]
 
-  pub name_lent : (s : Scope) (T : Item → ℕ) (e : ℕ → ℕ) (k : Known) (b : Binder) (n d t : ℕ) → Ties fip w s B K T e k → is_read_of t (held_at k.held d) ≡ true → ((m : ℕ → ℕ) → LiesIn m d (held_at k.held d)) → is_scalar_type w t ≡ false → d < k.next → T (Own n) ≡ 0 → n < length k.names → b.number ≡ n → Ties fip w (s ++ entry (Some t) b ∷ []) B K T e (naming k b.number d)
-  name_lent s T e k b n d t ties read lies tree used none within number = subst (λ x. Ties fip w (s ++ entry (Some t) b ∷ []) B K T e (naming k x d)) (sym number) (record {
+  pub name_lent : (s : Scope) (T : Item → ℕ) (e : ℕ → ℕ) (k : Known) (b : Binder) (n d t : ℕ) → Kept K T → Ties fip w s B K T e k → is_read_of t (held_at k.held d) ≡ true → LiesIn (owners k.names (own (K n))) d (held_at k.held d) → is_scalar_type w t ≡ false → d < k.next → T (Own n) ≡ 0 → n < length k.names → b.number ≡ n → Ties fip w (s ++ entry (Some t) b ∷ []) B K T e (naming k b.number d)
+  name_lent s T e k b n d t kept ties read lies tree used none within number = subst (λ x. Ties fip w (s ++ entry (Some t) b ∷ []) B K T e (naming k x d)) (sym number) (record {
     variables = variable;
     trees = λ q. subst (λ a. Fits fip (one_if (is_tree (held_at k.held q))) (a + e q)) (sym (owners_renamed k.names (own T) n d q none)) (ties.trees q);
     lent = lying;
@@ -282,6 +300,9 @@ module _ (fip : Bool) (w : Table) (B : ℕ → Bool) (K : ℕ → Item → ℕ) 
       here : (x p : ℕ) → n ≡ x → register_of (named k.names n d) (Some x) ≡ Some p → d ≡ p
       here x p e y = Rattle.lowered_code.proofs.Lists.same_some d p (sym (register_new k.names n d within) ∙ (ap (λ x. register_of (named k.names n d) (Some x)) e ∙ y))
 
+      same : (x : ℕ) → owners k.names (own (K x)) ≡ owners (named k.names n d) (own (K x))
+      same x = λ i q. sym (owners_renamed k.names (own (K x)) n d q (let z = kept x n in omega (arith, z, none))) i
+
       there : (x p : ℕ) → (n ≡ x → ⊥) → register_of (named k.names n d) (Some x) ≡ Some p → register_of k.names (Some x) ≡ Some p
       there x p ne y = sym (register_old k.names n d x ne) ∙ y
 
@@ -298,39 +319,12 @@ module _ (fip : Bool) (w : Table) (B : ℕ → Bool) (K : ℕ → Item → ℕ) 
 
       lying : (x p u : ℕ) → register_of (named k.names n d) (Some x) ≡ Some p → of_binder (s ++ entry (Some t) b ∷ []) (Some x) ≡ Some (Some u) → B x ≡ true → LiesIn (owners (named k.names n d) (own (K x))) p (held_at k.held p)
       lying x p u y o m = elim (scope_of s b t n x u number o) as (λ v. LiesIn (owners (named k.names n d) (own (K x))) p (held_at k.held p)) [
-        | inl z ↦ subst (λ p. LiesIn (owners (named k.names n d) (own (K x))) p (held_at k.held p)) (here x p z.0 y) (lies (owners (named k.names n d) (own (K x))))
-        | inr z ↦ lies_any (owners k.names (own (K x))) (owners (named k.names n d) (own (K x))) p (held_at k.held p) (none_kept k.names x) (ties.lent x p u (there x p z.0 y) z.1 m)
+        | inl z ↦ subst₂ (λ x p. LiesIn (owners (named k.names n d) (own (K x))) p (held_at k.held p)) z.0 (here x p z.0 y) (subst (λ g. LiesIn g d (held_at k.held d)) (same n) lies)
+        | inr z ↦ subst (λ g. LiesIn g p (held_at k.held p)) (same x) (ties.lent x p u (there x p z.0 y) z.1 m)
       ]
 
-  -- names without one
-  unnamed_new : (names : List (Option ℕ)) (x p : ℕ) → register_of (slice_set names x None) (Some x) ≡ Some p → ⊥
-  unnamed_new [] x p h = absurd (cc)
-  unnamed_new (o ∷ os) zero p h = absurd (cc)
-  unnamed_new (o ∷ os) (suc x) p h = unnamed_new os x p h
-
-  unnamed_old : (names : List (Option ℕ)) (x y : ℕ) → (x ≡ y → ⊥) → register_of (slice_set names x None) (Some y) ≡ register_of names (Some y)
-  unnamed_old [] x y ne = refl
-  unnamed_old (o ∷ os) zero zero ne = absurd (ne refl)
-  unnamed_old (o ∷ os) zero (suc y) ne = refl
-  unnamed_old (o ∷ os) (suc x) zero ne = refl
-  unnamed_old (o ∷ os) (suc x) (suc y) ne = unnamed_old os x y (λ e. ne (ap suc e))
-
-  unnamed_owners : (names : List (Option ℕ)) (T : ℕ → ℕ) (x q : ℕ) → T x ≡ 0 → owners (slice_set names x None) T q ≡ owners names T q
-  unnamed_owners [] T x q e = refl
-  unnamed_owners (o ∷ os) T zero q e = let b = zero_if (is_register o q) (T 0) e in omega (arith, b)
-    where
-      zero_if : (b : Bool) (n : ℕ) → n ≡ 0 → (if b then n else 0) ≡ 0
-      zero_if true n e = e
-      zero_if false n e = refl
-  unnamed_owners (o ∷ os) T (suc x) q e = let z = unnamed_owners os (λ y. T (suc y)) x q e in omega (arith, z)
-
-  pub length_unnamed : (names : List (Option ℕ)) (x : ℕ) → length (slice_set names x None) ≡ length names
-  length_unnamed [] x = refl
-  length_unnamed (o ∷ os) zero = refl
-  length_unnamed (o ∷ os) (suc x) = ap suc (length_unnamed os x)
-
-  pub name_none : (s : Scope) (T : Item → ℕ) (e : ℕ → ℕ) (k : Known) (b : Binder) (n t : ℕ) → Ties fip w s B K T e k → T (Own n) ≡ 0 → b.number ≡ n → Ties fip w (s ++ entry (Some t) b ∷ []) B K T e (unnaming k b.number)
-  name_none s T e k b n t ties none number = subst (λ x. Ties fip w (s ++ entry (Some t) b ∷ []) B K T e (unnaming k x)) (sym number) (record {
+  pub name_none : (s : Scope) (T : Item → ℕ) (e : ℕ → ℕ) (k : Known) (b : Binder) (n t : ℕ) → Kept K T → Ties fip w s B K T e k → T (Own n) ≡ 0 → b.number ≡ n → Ties fip w (s ++ entry (Some t) b ∷ []) B K T e (unnaming k b.number)
+  name_none s T e k b n t kept ties none number = subst (λ x. Ties fip w (s ++ entry (Some t) b ∷ []) B K T e (unnaming k x)) (sym number) (record {
     variables = λ x p u y o. elim (scope_of s b t n x u number o) as (λ v. HoldsVariable w u (held_at k.held p) (T (Own x)) (B x)) [
       | inl z ↦ absurd (gone x p z.0 y)
       | inr z ↦ ties.variables x p u (there x p z.0 y) z.1
@@ -338,7 +332,7 @@ module _ (fip : Bool) (w : Table) (B : ℕ → Bool) (K : ℕ → Item → ℕ) 
     trees = λ q. subst (λ a. Fits fip (one_if (is_tree (held_at k.held q))) (a + e q)) (sym (unnamed_owners k.names (own T) n q none)) (ties.trees q);
     lent = λ x p u y o m. elim (scope_of s b t n x u number o) as (λ v. LiesIn (owners (slice_set k.names n None) (own (K x))) p (held_at k.held p)) [
       | inl z ↦ absurd (gone x p z.0 y)
-      | inr z ↦ lies_any (owners k.names (own (K x))) (owners (slice_set k.names n None) (own (K x))) p (held_at k.held p) (none_kept k.names x) (ties.lent x p u (there x p z.0 y) z.1 m)
+      | inr z ↦ subst (λ g. LiesIn g p (held_at k.held p)) (same x) (ties.lent x p u (there x p z.0 y) z.1 m)
     ];
     rooted = ties.rooted;
     bares = ties.bares;
@@ -351,6 +345,9 @@ module _ (fip : Bool) (w : Table) (B : ℕ → Bool) (K : ℕ → Item → ℕ) 
     ];
   })
     where
+      same : (x : ℕ) → owners k.names (own (K x)) ≡ owners (slice_set k.names n None) (own (K x))
+      same x = λ i q. sym (unnamed_owners k.names (own (K x)) n q (let z = kept x n in omega (arith, z, none))) i
+
       gone : (x p : ℕ) → n ≡ x → register_of (slice_set k.names n None) (Some x) ≡ Some p → ⊥
       gone x p e h = unnamed_new k.names n p (ap (λ x. register_of (slice_set k.names n None) (Some x)) e ∙ h)
 

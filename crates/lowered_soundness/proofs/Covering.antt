@@ -11,7 +11,8 @@ use Rattle.kind_soundness.proofs.KindLemmas.{dropped, is_one, at_used_up, at_wri
 use Rattle.lowered_code.specs.declared.held.Held.{Held}
 use Rattle.lowered_code.specs.declared.held.Held.TheVariants as H
 use Rattle.lowered_code.specs.Known.{lent_by, without}
-use Rattle.lowered_soundness.specs.Describing.{Holding, kind_of, kinds_of, Covers, Covered, setting, is_tree, using, is_spare}
+use Rattle.laid_code.specs.Describing.{Holding, kind_of, kinds_of, setting, is_tree, is_spare}
+use Rattle.lowered_soundness.specs.Covering.{Covers, Covered, using}
 
 -- froms are forgotten
 pub covers_forget : (w : Table) (p : ℕ → Bool) (h : Held) (k : Kind) → Covers (kind_of w h) k → Covers (kind_of w h) (forget p k)

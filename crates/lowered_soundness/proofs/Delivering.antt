@@ -16,17 +16,21 @@ use Rattle.lowered_code.specs.declared.held.Held.{Held}
 use Rattle.lowered_code.specs.declared.held.Held.TheVariants as H
 use Rattle.lowered_code.specs.Known.{Known, with_next, holding, used_all}
 use Rattle.lowered_code.specs.Bodies.{Return, Into, result_type}
-use Rattle.lowered_soundness.specs.Describing.{Holding, held_at, kinds_of, setting, is_spare}
+use Rattle.laid_code.specs.Describing.{Holding, held_at, kinds_of, setting, is_spare}
 use Rattle.lowered_soundness.specs.Giving as G
 use Rattle.lowered_soundness.specs.Giving.{is_credit_of}
 use Rattle.lowered_soundness.specs.Rows.{IsRow}
 use Rattle.lowered_soundness.specs.Parts.{Part, LastPart, is_straight}
 use Rattle.lowered_soundness.specs.Ties.{one_if, owners, own, HoldsValue, owe, owed, Stays, Ties}
-use Rattle.lowered_soundness.specs.Laid.{told, Quiet}
+use Rattle.laid_code.specs.Labels.{told, Quiet}
+use Rattle.laid_code.specs.Credits.{LastGone}
+use Rattle.lowered_soundness.proofs.Balance.{stays_on, stays_fewer}
+use Rattle.lowered_soundness.proofs.Keeping.{keeps_named}
 use Rattle.lowered_soundness.specs.Computed.{Computed}
-use Rattle.lowered_soundness.specs.GivenUp.{RetLaid}
-use Rattle.lowered_soundness.specs.Delivered.{Waiting, Delivered, MoveLaid, MovesLaid}
-use Rattle.lowered_soundness.specs.Handed.{OperationLaid}
+use Rattle.laid_code.specs.GivenUp.{RetLaid}
+use Rattle.lowered_soundness.specs.Delivered.{Waiting, Delivered}
+use Rattle.laid_code.specs.Moves.{MoveLaid, MovesLaid}
+use Rattle.laid_code.specs.Handed.{OperationLaid}
 use Rattle.lowered_soundness.proofs.Straight.{arith_row}
 use Rattle.lowered_soundness.proofs.Parts.{one_row, both_parts, part_and_last}
 use Rattle.lowered_soundness.proofs.Helds.{held_set_fn, length_set}
@@ -43,15 +47,23 @@ module _ (c : PlainCode) (f : PlainFunction) (fip : Bool) (s : Scope) (B : ℕ �
   waiting_later X e at k rs ts mid m (d ∷ ds) h w =
       (h.empty d w.1 w.0, (let a = w.1 in let b = h.next in omega (arith, a, b)), w.2, waiting_later X e at k rs ts mid m ds h w.3)
 
+  moves_credits : (at : ℕ) (k : Known) (rs ds : List ℕ) (end : ℕ) (l : Known) → MovesLaid f.instrs at k rs ds end l → l.credits ≡ k.credits
+  moves_credits at k [] ds end l h = ap (λ (m : Known). m.credits) h.1
+  moves_credits at k (r ∷ rs) [] end l h = ap (λ (m : Known). m.credits) h.1
+  moves_credits at k (r ∷ rs) (d ∷ ds) end l h = moves_credits h.0 h.1 rs ds end l h.3 ∙ one_credits h.2
+    where
+      one_credits : MoveLaid f.instrs at k r d h.0 h.1 → h.1.credits ≡ k.credits
+      one_credits (inl m) = ap (λ (m : Known). m.credits) m.1.known
+      one_credits (inr m) = ap (λ (m : Known). m.credits) m.known
+
   -- into registers
-  pub given_into : (X : Item → ℕ) (at : ℕ) (k : Known) (rs ts : List ℕ) (mid : ℕ) (m : Known) (ds : List ℕ) (end : ℕ) (l : Known) → Computed c f fip s B K X (λ q. 0) at k rs ts mid m → MovesLaid f.instrs mid m rs ds end l → length ds ≡ length ts → ((z y : ℕ) → K z (Own y) ≤ X (Own y)) → Waiting k ds → m.next ≤ length k.held → length k.held ≡ f.registers → Quiet f at end (told c k) → Delivered c f fip s B K X at k ds ts end l
-  given_into X at k rs ts mid m ds end l h moved many kept wait room wide quiet =
+  pub given_into : (X : Item → ℕ) (at : ℕ) (k : Known) (rs ts : List ℕ) (mid : ℕ) (m : Known) (ds : List ℕ) (end : ℕ) (l : Known) → Computed c f fip s B K X (λ q. 0) at k rs ts mid m → MovesLaid f.instrs mid m rs ds end l → LastGone k.credits m.credits → length ds ≡ length ts → ((z y : ℕ) → K z (Own y) ≤ X (Own y)) → Waiting k ds → m.next ≤ length k.held → length k.held ≡ f.registers → Quiet f at end (told c k) → Delivered c f fip s B K X at k ds ts end l
+  given_into X at k rs ts mid m ds end l h moved last many kept wait room wide quiet =
       let went = moves c f fip s B K X (λ q. 0) mid m rs ds ts end l moved many h.ties kept h.hold (waiting_later X (λ q. 0) at k rs ts mid m ds h wait) (let z = h.width in omega (arith, z, room)) (h.width ∙ wide) (quiet_back f at mid end (told c k) (told c m) h.grows quiet h.still) in
       let a = h.grows in
       let b = went.grows in
       record {
         grows = omega (arith, a, b);
-        still = λ z r. (let x : at ≡ mid = omega (arith, a, b, z) in let y : mid ≡ end = omega (arith, a, b, z) in h.still x r ∙ went.still y r);
         part = both_parts c f at mid end (told c k) (told c m) (told c l) h.part went.part;
         next = (let x = h.next in let y = went.next in omega (arith, x, y));
         width = went.width ∙ h.width;
@@ -59,6 +71,11 @@ module _ (c : PlainCode) (f : PlainFunction) (fip : Bool) (s : Scope) (B : ℕ �
         ties = went.ties;
         hold = went.hold;
         empty = λ r low y ne. went.empty r (h.empty r low y) ne;
+        keeps = keeps_named fip s X k l
+            (stays_on (held_at k.held) (held_at m.held) (held_at l.held) (owners k.names (own X))
+            (stays_fewer (held_at k.held) (held_at m.held) (λ q. owners k.names (own X) q + 0) (owners k.names (own X)) (λ q. omega arith) h.stays)
+            (stays_fewer (held_at m.held) (held_at l.held) (λ q. owners m.names (own X) q + 0) (owners k.names (own X)) (λ q. let z = ap (λ ns. owners ns (own X) q) h.names in omega (arith, z)) went.stays))
+            (went.names ∙ h.names) (subst (LastGone k.credits) (sym (moves_credits mid m rs ds end l moved)) last) went.ties.sizes;
       }
 
   -- ---- an operator
@@ -136,10 +153,10 @@ module _ (c : PlainCode) (f : PlainFunction) (fip : Bool) (s : Scope) (B : ℕ �
   ints_unowed : (X : Item → ℕ) (m : Known) (x y : ℕ) → Ties fip c.types s B K X (λ q. owed c.types (x ∷ y ∷ []) (0 ∷ 0 ∷ []) q + 0) m → Ties fip c.types s B K X (λ q. 0) m
   ints_unowed X m x y ties = ties_owe fip c.types s B K X (λ q. owed c.types (x ∷ y ∷ []) (0 ∷ 0 ∷ []) q + 0) (λ q. 0) m (λ q. let a = int_owes x q in let b = int_owes y q in omega (arith, a, b)) ties
 
-  pub operation_into : (X : Item → ℕ) (at : ℕ) (k : Known) (x y mid : ℕ) (m : Known) (o : Operator) (p : Place) (ds : List ℕ) (end : ℕ) (l : Known) → is_scalar_type c.types 1 ≡ true → Computed c f fip s B K X (λ q. 0) at k (x ∷ y ∷ []) (0 ∷ 0 ∷ []) mid m → OperationLaid fip f mid m o p x y (Into ds) end l → length ds ≡ 1 → ((z y : ℕ) → K z (Own y) ≤ X (Own y)) → Waiting k ds → m.next ≤ length k.held → length k.held ≡ f.registers → Quiet f at end (told c k) → Delivered c f fip s B K X at k ds (L.result_type o ∷ []) end l
-  operation_into X at k x y mid m o p [] end l bool h op many kept wait room wide quiet = absurd (omega (arith, many))
-  operation_into X at k x y mid m o p (d ∷ e ∷ ds) end l bool h op many kept wait room wide quiet = absurd (omega (arith, many))
-  operation_into X at k x y mid m o p (d ∷ []) end l bool h op many kept wait room wide quiet = into op.given.2
+  pub operation_into : (X : Item → ℕ) (at : ℕ) (k : Known) (x y mid : ℕ) (m : Known) (o : Operator) (p : Place) (ds : List ℕ) (end : ℕ) (l : Known) → is_scalar_type c.types 1 ≡ true → Computed c f fip s B K X (λ q. 0) at k (x ∷ y ∷ []) (0 ∷ 0 ∷ []) mid m → OperationLaid fip f mid m o p x y (Into ds) end l → LastGone k.credits m.credits → length ds ≡ 1 → ((z y : ℕ) → K z (Own y) ≤ X (Own y)) → Waiting k ds → m.next ≤ length k.held → length k.held ≡ f.registers → Quiet f at end (told c k) → Delivered c f fip s B K X at k ds (L.result_type o ∷ []) end l
+  operation_into X at k x y mid m o p [] end l bool h op last_gone many kept wait room wide quiet = absurd (omega (arith, many))
+  operation_into X at k x y mid m o p (d ∷ e ∷ ds) end l bool h op last_gone many kept wait room wide quiet = absurd (omega (arith, many))
+  operation_into X at k x y mid m o p (d ∷ []) end l bool h op last_gone many kept wait room wide quiet = into op.given.2
     where
       waits : Waiting m (d ∷ [])
       waits = waiting_later X (λ q. 0) at k (x ∷ y ∷ []) (0 ∷ 0 ∷ []) mid m (d ∷ []) h wait
@@ -157,7 +174,6 @@ module _ (c : PlainCode) (f : PlainFunction) (fip : Bool) (s : Scope) (B : ℕ �
           let put = waiting_value X (λ q. 0) mid m d new (L.result_type o) (I.Arith d o x y p.line p.col) (subst (λ d. slice_get f.instrs mid ≡ Some (I.Arith d o x y p.line p.col)) op.goes.0 op.written) refl (result_value bool o) row (ints_unowed X m x y h.ties) kept waits.0 waits.1 (omega (arith, room, w)) quiet2 in
           subst₂ (λ b z. Delivered c f fip s B K X at k (d ∷ []) (L.result_type o ∷ []) b z) last known (record {
             grows = omega (arith, a);
-            still = λ z r. absurd (let y : ⊥ = omega (arith, z, a) in y);
             part = both_parts c f at mid (suc mid) (told c k) (told c m) (told c (holding m d new)) h.part put.part;
             next = h.next;
             width = put.width ∙ h.width;
@@ -165,6 +181,11 @@ module _ (c : PlainCode) (f : PlainFunction) (fip : Bool) (s : Scope) (B : ℕ �
             ties = put.ties;
             hold = put.hold;
             empty = λ r low z ne. put.empty r (h.empty r low z) ne;
+            keeps = keeps_named fip s X k (holding m d new)
+                (stays_on (held_at k.held) (held_at m.held) (held_at (holding m d new).held) (owners k.names (own X))
+                (stays_fewer (held_at k.held) (held_at m.held) (λ q. owners k.names (own X) q + 0) (owners k.names (own X)) (λ q. omega arith) h.stays)
+                (stays_fewer (held_at m.held) (held_at (holding m d new).held) (λ q. owners m.names (own X) q + 0) (owners k.names (own X)) (λ q. let z = ap (λ ns. owners ns (own X) q) h.names in omega (arith, z)) put.stays))
+                (put.names ∙ h.names) last_gone put.ties.sizes;
           })
 
   -- ---- results of the function

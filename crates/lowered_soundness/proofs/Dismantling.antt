@@ -21,9 +21,9 @@ use Rattle.match_code.specs.Spots.{Spot, At, Spots, NoSpots, MoreSpots, register
 use Rattle.match_code.specs.Rows.{row_of, rows_of}
 use Rattle.match_code.specs.Opening.{as_many, Roomy, AllRoomy}
 use Rattle.match_code.proofs.Lists.{among_either, in_head, in_tail, in_part}
-use Rattle.lowered_soundness.specs.Laid.{Quiet}
-use Rattle.lowered_soundness.specs.Sights.{left, Below, AllBelow}
-use Rattle.lowered_soundness.specs.Tests.{TakeLaid, TakesLaid, TakeAll}
+use Rattle.laid_code.specs.Labels.{Quiet}
+use Rattle.laid_code.specs.Sights.{left, Below, AllBelow}
+use Rattle.laid_code.specs.Tests.{TakeLaid, TakesLaid, TakeAll}
 use Rattle.lowered_soundness.proofs.Arguments.{int_scalar, with_field}
 use Rattle.lowered_soundness.proofs.Parts.{one_row}
 use Rattle.lowered_soundness.proofs.Branches.{Came, came_none, came_one, came_on, came_quiet}

@@ -16,8 +16,9 @@ use Rattle.lowered_code.specs.Known.{Known}
 use Rattle.lowered_code.specs.Values.{Setting, is_scalar}
 use Rattle.lowered_code.specs.Bodies.{given_if}
 use Rattle.lowered_code.specs.Functions.{param_held, with_params, with_credits, known_at_start}
-use Rattle.lowered_soundness.specs.Describing.{held_at, kind_of, Covers, Covered}
-use Rattle.lowered_soundness.specs.Laid.{told}
+use Rattle.laid_code.specs.Describing.{held_at, kind_of}
+use Rattle.lowered_soundness.specs.Covering.{Covers, Covered}
+use Rattle.laid_code.specs.Labels.{told}
 use Rattle.lowered_soundness.specs.Placed.{ParamsTyped}
 
 -- ---- the list of what the registers hold

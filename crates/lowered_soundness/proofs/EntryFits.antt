@@ -25,11 +25,10 @@ use Rattle.lowered_code.specs.declared.held.Held.TheVariants as H
 use Rattle.lowered_code.specs.Known.{without, lent_by}
 use Rattle.lowered_code.specs.Values.{Setting, is_scalar}
 use Rattle.lowered_code.specs.Bodies.{given, given_if}
-use Rattle.lowered_soundness.specs.Describing.{kind_of}
-use Rattle.lowered_soundness.specs.Sights.{kept, left, part_kind, Below, AllBelow}
-use Rattle.lowered_soundness.specs.Matches.{widened}
+use Rattle.laid_code.specs.Describing.{kind_of}
+use Rattle.laid_code.specs.Sights.{kept, left, part_kind, AllBelow}
+use Rattle.laid_code.specs.Matches.{widened, BuiltRight}
 use Rattle.lowered_soundness.proofs.Standing.{Slotted, AllSlotted}
-use Rattle.lowered_soundness.specs.Matches.{BuiltRight}
 use Rattle.lowered_soundness.proofs.Giving.{and_to}
 use Rattle.lowered_soundness.proofs.Fitting.{has_more, root_self, fits_self}
 use Rattle.lowered_soundness.proofs.Positions.{OnePart}
@@ -53,8 +52,8 @@ is_has (y ∷ ys) x (inl e) = ap (λ b. b || has ys x) (equal_is y x (sym e))
 is_has (y ∷ ys) x (inr a) = has_more y ys x (is_has ys x a)
 
 pub left_subset : (w : Table) (t : ℕ) (k : Known) → is_subset (left w t k) (all w t) ≡ true
-left_subset w t (Open out) = kept_subset (Rattle.lowered_soundness.specs.Sights.not_in out) (all w t) (all w t) (λ x a. is_has (all w t) x a)
-left_subset w t (Is h ks) = kept_subset (Rattle.lowered_soundness.specs.Sights.is_tag h) (all w t) (all w t) (λ x a. is_has (all w t) x a)
+left_subset w t (Open out) = kept_subset (Rattle.laid_code.specs.Sights.not_in out) (all w t) (all w t) (λ x a. is_has (all w t) x a)
+left_subset w t (Is h ks) = kept_subset (Rattle.laid_code.specs.Sights.is_tag h) (all w t) (all w t) (λ x a. is_has (all w t) x a)
 
 pub lent_fits_all : (w : Table) (t : ℕ) (k : Known) (root : Option ℕ) (from : Option From) → fits (K.Lent t (all w t) root None) (K.Lent t (left w t k) root from) ≡ true
 lent_fits_all w t k root from =

@@ -11,8 +11,9 @@ use Rattle.lowered_code.specs.declared.held.Held.{Held}
 use Rattle.lowered_code.specs.declared.held.Held.TheVariants as H
 use Rattle.lowered_code.specs.Known.{Known, holding, naming}
 use Rattle.lowered_code.specs.Values.{Setting, is_scalar}
-use Rattle.lowered_soundness.specs.Describing.{Holding, held_at, using}
-use Rattle.lowered_soundness.specs.Matches.{widened}
+use Rattle.laid_code.specs.Describing.{Holding, held_at}
+use Rattle.lowered_soundness.specs.Covering.{using}
+use Rattle.laid_code.specs.Matches.{widened}
 use Rattle.lowered_soundness.proofs.Helds.{held_set, length_set, held_used, length_used}
 
 -- ---- as a function of the register

@@ -6,8 +6,8 @@ use Rattle.cell_code.specs.declared.kind.Kind.TheVariants.{Gone, Scalar, Owned, 
 use Rattle.sound_code.specs.Kinds.{at, has, is_free, is_scalar_of, is_credit_of, same_root}
 use Rattle.sound_code.specs.Fitting.{is_subset, takes_from, fits, fit_all}
 use Rattle.kind_soundness.proofs.Basics.{both, one_of, equal, equal_is, itself}
-use Rattle.lowered_soundness.specs.Describing.{Covers, Covered}
-use Rattle.lowered_soundness.specs.Parts.{Takes, Tells}
+use Rattle.lowered_soundness.specs.Covering.{Covers, Covered}
+use Rattle.laid_code.specs.Labels.{Takes, Tells}
 use Rattle.lowered_soundness.proofs.Giving.{and_to}
 
 -- ---- sets

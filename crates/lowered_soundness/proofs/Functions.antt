@@ -21,16 +21,18 @@ use Rattle.lowered_code.specs.Known.{Known}
 use Rattle.lowered_code.specs.Values.{Setting}
 use Rattle.lowered_code.specs.Functions.{nothing_known, with_params, with_credits, known_at_start}
 use Rattle.lowered_code.specs.declared.held.Held.TheVariants as H
-use Rattle.lowered_soundness.specs.Describing.{held_at}
+use Rattle.laid_code.specs.Describing.{held_at}
 use Rattle.lowered_soundness.specs.Giving.{is_credit_of}
 use Rattle.lowered_soundness.specs.Parts.{IsKept, LastPart}
 use Rattle.lowered_soundness.specs.Ties.{one_if, owners, own, Ties}
-use Rattle.lowered_soundness.specs.Laid.{told, Shares}
+use Rattle.laid_code.specs.Labels.{told}
+use Rattle.lowered_soundness.specs.Laid.{Shares}
 use Rattle.lowered_soundness.specs.Placed.{Placed, NoneFrom, InOrder, ParamsTyped, Callees}
-use Rattle.lowered_soundness.specs.Functions.{FunctionLaid, IsNumbered}
+use Rattle.laid_code.specs.Functions.{FunctionLaid}
+use Rattle.lowered_soundness.specs.Functions.{IsNumbered}
 use Rattle.lowered_soundness.proofs.Arguments.{ties_worth}
 use Rattle.lowered_soundness.proofs.Scoping.{entries_of, one_in, one_placed}
-use Rattle.lowered_soundness.proofs.Starting.{taken, takens, types_of, params_all, credits_all, starts, borrowings}
+use Rattle.lowered_soundness.proofs.Starting.{takens, types_of, params_all, credits_all, starts, borrowings}
 use Rattle.lowered_soundness.proofs.Entry.{entry_covered}
 use Rattle.lowered_soundness.proofs.Bodies.{block_ends}
 use Rattle.lowered_soundness.proofs.Whole.{kept_whole}
@@ -89,7 +91,7 @@ no_owners (suc n) T r = let z = no_owners n (λ x. T (suc x)) r in omega (arith,
 nothing_tied : (fip : Bool) (wt : Rattle.fip_language.specs.Table.Table) (B : ℕ → Bool) (K : ℕ → Item → ℕ) (n v : ℕ) → Ties fip wt [] B K (λ i. 0) (λ q. 0) (nothing_known n v)
 nothing_tied fip wt B K n v = record {
   variables = λ x r t h o. absurd (no_register v x r h);
-  trees = λ r. subst₂ (Rattle.own_calculus.specs.Rules.Fits fip) (sym (ap (λ h. one_if (Rattle.lowered_soundness.specs.Describing.is_tree h)) (held_nothing n r))) (let z = no_owners v (own (λ i. 0)) r in let e : 0 ≡ owners (replicate v None) (own (λ i. 0)) r + 0 = omega (arith, z) in e) (Rattle.own_calculus.proofs.Fit.fits_same fip 0);
+  trees = λ r. subst₂ (Rattle.own_calculus.specs.Rules.Fits fip) (sym (ap (λ h. one_if (Rattle.laid_code.specs.Describing.is_tree h)) (held_nothing n r))) (let z = no_owners v (own (λ i. 0)) r in let e : 0 ≡ owners (replicate v None) (own (λ i. 0)) r + 0 = omega (arith, z) in e) (Rattle.own_calculus.proofs.Fit.fits_same fip 0);
   lent = λ x r t h o b. absurd (no_register v x r h);
   rooted = λ r t q e. absurd (lent t q (sym (held_nothing n r) ∙ e));
   bares = λ r t d e. absurd (bare t d (sym (held_nothing n r) ∙ e));

@@ -17,7 +17,8 @@ use Rattle.sound_code.specs.Leaves as L
 use Rattle.kind_soundness.proofs.Basics.{chosen, refused, both, one_of, equal_is, below}
 use Rattle.lowered_code.specs.declared.held.Held.{Held}
 use Rattle.lowered_code.specs.declared.held.Held.TheVariants as H
-use Rattle.lowered_soundness.specs.Describing.{Holding, kind_of, kinds_of, Covers, Covered, setting, is_tree, using, using_all}
+use Rattle.laid_code.specs.Describing.{Holding, kind_of, kinds_of, setting, is_tree}
+use Rattle.lowered_soundness.specs.Covering.{Covers, Covered, using, using_all}
 use Rattle.lowered_soundness.specs.Giving.{is_scalar_of, is_owned_of, is_credit_of, can_give, can_pass_one, passing, can_pass, passing_all, can_hand, handing_all, can_lend_one, can_lend, can_receive, received, receiving_all, behind_call, CanCall}
 use Rattle.lowered_soundness.proofs.Covering.{covers_spare, covered_same, told_within, written_covered, used_covered, using_none}
 

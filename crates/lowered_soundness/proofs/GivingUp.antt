@@ -4,8 +4,9 @@ use Rattle.kind_soundness.proofs.Basics.{pick, chosen, refused, or_not, equal, u
 use Rattle.lowered_code.specs.declared.held.Held.{Held}
 use Rattle.lowered_code.specs.declared.held.Held.TheVariants as H
 use Rattle.lowered_code.specs.Known.{lent_by, without}
-use Rattle.lowered_soundness.specs.Describing.{Holding, setting, is_tree, using, using_all}
-use Rattle.lowered_soundness.specs.GivenUp.{spending}
+use Rattle.laid_code.specs.Describing.{Holding, setting, is_tree}
+use Rattle.lowered_soundness.specs.Covering.{using, using_all}
+use Rattle.laid_code.specs.GivenUp.{spending}
 use Rattle.lowered_soundness.proofs.Balance.{is_tree_using, using_either}
 use Rattle.lowered_soundness.proofs.Cells.{using_beside, using_all_beside}
 

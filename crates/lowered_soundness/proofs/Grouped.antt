@@ -21,7 +21,8 @@ use Rattle.sound_code.specs.Flow.{IsInstr}
 use Rattle.lowered_code.specs.Known.{joined}
 use Rattle.lowered_code.specs.Values.{Setting}
 use Rattle.lowered_code.specs.Bodies.{has_function, one_more, if_function, function_of}
-use Rattle.lowered_soundness.specs.Origins.{gives_up, ComesFrom, HasOrigin, IsLaid, AreLaid}
+use Rattle.lowered_soundness.specs.Origins.{gives_up, ComesFrom, HasOrigin}
+use Rattle.laid_code.specs.Functions.{IsLaid, AreLaid}
 use Rattle.lowered_soundness.proofs.Origins.{of_function}
 
 -- ---- no two instances have one function

@@ -16,7 +16,7 @@ use Rattle.match_knowledge.specs.declared.heads.Head.TheVariants.{Number, Tag}
 use Rattle.match_knowledge.specs.Known.{Known, Open, Is, Knowns, NoKnowns, MoreKnowns}
 use Rattle.match_code.specs.Spots.{Spot, At, Spots, NoSpots, MoreSpots, register, below, all_in}
 use Rattle.match_code.proofs.Lists.{among_either, in_head, in_tail}
-use Rattle.lowered_soundness.specs.Sights.{left, part_kind, Unread, Below, AllBelow}
+use Rattle.laid_code.specs.Sights.{left, part_kind, Unread, Below, AllBelow}
 use Rattle.lowered_soundness.proofs.Arguments.{with_field}
 use Rattle.lowered_soundness.proofs.Positions.{OnePart, fresh_left, forget_same}
 

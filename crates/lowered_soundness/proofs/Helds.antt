@@ -4,7 +4,8 @@ use Rattle.kind_soundness.proofs.Basics.{pick, chosen, refused, equal, equal_is,
 use Rattle.lowered_code.specs.declared.held.Held.{Held}
 use Rattle.lowered_code.specs.declared.held.Held.TheVariants as H
 use Rattle.lowered_code.specs.Known.{is_owned, without, used_if, used, used_all}
-use Rattle.lowered_soundness.specs.Describing.{held_at, setting, is_tree, using, using_all}
+use Rattle.laid_code.specs.Describing.{held_at, setting, is_tree}
+use Rattle.lowered_soundness.specs.Covering.{using, using_all}
 
 pub held_or : (hs : List Held) (r : ℕ) → get_or hs r H.Nothing ≡ held_at hs r
 held_or [] r = refl

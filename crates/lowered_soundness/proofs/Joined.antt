@@ -22,7 +22,7 @@ use Rattle.lowered_code.specs.Values.{Setting}
 use Rattle.lowered_code.specs.Bodies.{has_function, one_more, if_function, function_of}
 use Rattle.lowered_soundness.specs.Accepted.{IsDerived, IsWithinLimits}
 use Rattle.lowered_soundness.specs.Laid.{Shares}
-use Rattle.lowered_soundness.specs.Origins.{IsLaid, AreLaid}
+use Rattle.laid_code.specs.Functions.{IsLaid, AreLaid}
 use Rattle.lowered_soundness.specs.Placed.{Callees, ParamsTyped}
 use Rattle.lowered_soundness.specs.Whole.{KeepsRules}
 use Rattle.lowered_soundness.proofs.Functions.{function_part, function_kept}
@@ -68,7 +68,7 @@ first_has : (b : Bool) (n : ℕ) → if_function b ≡ Some n → b ≡ true
 first_has true n h = refl
 first_has false n h = absurd (none-some n h)
 
-has_one : (ds : List Instance) (i n : ℕ) (d : Instance) → function_of ds i ≡ Some n → slice_get ds i ≡ Some d → has_function d.kind ≡ true
+pub has_one : (ds : List Instance) (i n : ℕ) (d : Instance) → function_of ds i ≡ Some n → slice_get ds i ≡ Some d → has_function d.kind ≡ true
 has_one [] i n d h there = absurd (none-some d there)
 has_one (e ∷ ds) zero n d h there = ap (λ (d : Instance). has_function d.kind) (sym (same_Some e d there)) ∙ first_has (has_function e.kind) n h
 has_one (e ∷ ds) (suc i) n d h there = let z = one_less (has_function e.kind) (function_of ds i) n h in has_one ds i z.0 d z.1 there

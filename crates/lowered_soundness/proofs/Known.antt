@@ -18,7 +18,7 @@ use Rattle.lowered_code.specs.Known.{Known, joined, register_of, named, used, Is
 use Rattle.lowered_code.specs.Values.{Setting, is_scalar}
 use Rattle.lowered_code.specs.Bodies.{AreTaken, handed, received, given, all_named, registers_for}
 use Rattle.lowered_code.specs.Functions.{with_param, with_params, with_credit, with_credits, unless_in, param_held}
-use Rattle.lowered_soundness.specs.Matches.{wide, widened}
+use Rattle.laid_code.specs.Matches.{wide, widened}
 use Rattle.lowered_soundness.proofs.Helds.{length_set, length_used}
 use Rattle.lowered_soundness.proofs.Giving.{and_to}
 
@@ -78,6 +78,11 @@ module _ (n : ℕ) where
   pub register_under : (os : List (Option ℕ)) (x : Option ℕ) (r : ℕ) → NamesUnder n os → register_of os x ≡ Some r → r < n
   register_under os None r h e = absurd (none-some r e)
   register_under os (Some x) r h e = name_under os x r h e
+
+  pub names_by : (os : List (Option ℕ)) → ((x r : ℕ) → register_of os (Some x) ≡ Some r → r < n) → NamesUnder n os
+  names_by [] h = tt
+  names_by (None ∷ os) h = names_by os (λ x r e. h (suc x) r e)
+  names_by (Some r ∷ os) h = (h 0 r refl, names_by os (λ x q e. h (suc x) q e))
 
   set_name : (os : List (Option ℕ)) (x r : ℕ) → r < n → NamesUnder n os → NamesUnder n (slice_set os x (Some r))
   set_name [] x r low h = h

@@ -16,7 +16,7 @@ use Rattle.match_knowledge.proofs.Facts.{same_is}
 use Rattle.match_knowledge.proofs.Split.{asks_is, both_asks, is_asking}
 use Rattle.match_knowledge.proofs.VerdictFacts.{if_asks}
 use Rattle.match_code.specs.Spots.{Spot, At, Spots, NoSpots, MoreSpots, all_in}
-use Rattle.lowered_soundness.specs.Sights.{left, part_kind, Unread, Fresh, AllFresh, Below, AllBelow}
+use Rattle.laid_code.specs.Sights.{left, part_kind, Unread, Fresh, AllFresh, Below, AllBelow}
 use Rattle.lowered_soundness.proofs.Lefts.{left_last, head_fields, head_fresh}
 use Rattle.lowered_soundness.proofs.Positions.{OnePart, all_fresh_below}
 

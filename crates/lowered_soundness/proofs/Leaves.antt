@@ -18,12 +18,12 @@ use Rattle.lowered_code.specs.Values.{Setting}
 use Rattle.lowered_code.specs.Bodies.{Return, Into}
 use Rattle.lowered_soundness.specs.Parts.{LastPart}
 use Rattle.lowered_soundness.specs.Ties.{Ties}
-use Rattle.lowered_soundness.specs.Laid.{told, Quiet, Shares}
+use Rattle.laid_code.specs.Labels.{told, Quiet}
+use Rattle.lowered_soundness.specs.Laid.{Shares}
 use Rattle.lowered_soundness.specs.Computed.{Computed}
 use Rattle.lowered_soundness.specs.Delivered.{Waiting, Delivered}
-use Rattle.lowered_soundness.specs.Handed.{CallLaid}
 use Rattle.lowered_soundness.specs.Placed.{Placed, Callees, ParamsTyped}
-use Rattle.lowered_soundness.specs.Bodies.{ValuesLaid, GiveLaid, OperatorLaid, CalledLaid}
+use Rattle.laid_code.specs.Bodies.{ValuesLaid, GiveLaid, OperatorLaid, CalledLaid}
 use Rattle.lowered_soundness.proofs.Arguments.{quiet_front}
 use Rattle.lowered_soundness.proofs.Arguing.{arguments_value}
 use Rattle.lowered_soundness.proofs.Leaving.{gives_grow}
@@ -56,7 +56,7 @@ module _ (c : PlainCode) (f : PlainFunction) (st : Setting) (wd : W.World) (w : 
       let grows = moves_grow c f fip s B K h.mid h.m h.registers ds end l h.given in
       given_into c f fip s B K X at k h.registers ts h.mid h.m ds end l
       (values_done P X at k as' h.registers h.mid h.m b ts h.values typed d kept ties (quiet_front f at h.mid end (told c k) grows h.quiet) wide)
-      h.given many kept wait (roomy h.m k h.values.room wide) wide h.quiet
+      h.given h.values.last many kept wait (roomy h.m k h.values.room wide) wide h.quiet
 
   pub give_ends : (P : Item → ℕ) (at : ℕ) (k : Known) (as' : Arguments) (end : ℕ) (l : Known) (b : Bool) (ts : List ℕ) → GiveLaid c st fip f at k as' Return end l → HaveTypes true wd s b as' ts → DerivesValues fip P (values sc n.marks as') → ((z y : ℕ) → K z (Own y) ≤ 0) → Ties fip c.types s B K (λ i. P i + 0) (λ q. 0) k → f.results ≡ ts → length k.held ≡ f.registers → LastPart c f at (told c k) end
   give_ends P at k as' end l b ts h typed d kept ties results wide =
@@ -74,9 +74,9 @@ module _ (c : PlainCode) (f : PlainFunction) (st : Setting) (wd : W.World) (w : 
       subst (λ t. Delivered c f fip s B K X at k ds (t ∷ []) end l) (sym (result_typed c f fip s B K o))
       (operation_into c f fip s B K X at k h.left h.right h.mid h.m o p ds end l shares.bool
       (values_done P X at k (MoreArguments x (MoreArguments y NoArguments)) (h.left ∷ h.right ∷ []) h.mid h.m true (0 ∷ 0 ∷ []) h.values (tx, (ty, tt)) d kept ties (quiet_front f at h.mid end (told c k) (omega (arith, later)) h.quiet) wide)
-      h.operation many kept wait (roomy h.m k h.values.room wide) wide h.quiet)
+      h.operation h.values.last many kept wait (roomy h.m k h.values.room wide) wide h.quiet)
     where
-      operation_grows : (ds : List ℕ) → Rattle.lowered_soundness.specs.Handed.OperationLaid fip f h.mid h.m o p h.left h.right (Into ds) end l → suc h.mid ≤ end
+      operation_grows : (ds : List ℕ) → Rattle.laid_code.specs.Handed.OperationLaid fip f h.mid h.m o p h.left h.right (Into ds) end l → suc h.mid ≤ end
       operation_grows ds op = moves_grow c f fip s B K (suc h.mid) op.holds (op.destination ∷ []) ds end l op.given
 
   pub operator_ends : (P : Item → ℕ) (at : ℕ) (k : Known) (o : Operator) (p : Place) (x y : Argument) (end : ℕ) (l : Known) → OperatorLaid c st fip f at k o p x y Return end l → HasType true wd s true x 0 → HasType true wd s true y 0 → DerivesValues fip P (values sc n.marks (MoreArguments x (MoreArguments y NoArguments))) → ((z y : ℕ) → K z (Own y) ≤ 0) → Ties fip c.types s B K (λ i. P i + 0) (λ q. 0) k → f.results ≡ W.result_of o ∷ [] → length k.held ≡ f.registers → LastPart c f at (told c k) end
@@ -84,7 +84,7 @@ module _ (c : PlainCode) (f : PlainFunction) (st : Setting) (wd : W.World) (w : 
       let g = h.operation.given in
       let one = g.one in
       let grows = gives_grow f fip g.steps (suc h.mid) (record h.operation.holds { held = Rattle.lowered_code.specs.Known.used_all h.operation.holds.held (h.operation.destination ∷ []) }) g.stop g.left g.gives in
-      let more = h.one_more in
+      let more : suc h.m.next ≤ f.registers = (let a = h.one_more in let b = ap (λ (k : Known). k.next) h.operation.goes.1 in omega (arith, a, b)) in
       operation_ends c f fip s B K at k h.left h.right h.mid h.m o p end l shares.bool
       (values_done P (λ i. 0) at k (MoreArguments x (MoreArguments y NoArguments)) (h.left ∷ h.right ∷ []) h.mid h.m true (0 ∷ 0 ∷ []) h.values (tx, (ty, tt)) d kept ties (quiet_front f at h.mid end (told c k) (omega (arith, one, grows)) h.quiet) wide)
       h.operation (results ∙ ap (λ t. t ∷ []) (result_typed c f fip s B K o)) kept (omega (arith, more, wide)) wide h.quiet
@@ -116,7 +116,7 @@ module _ (c : PlainCode) (f : PlainFunction) (st : Setting) (wd : W.World) (w : 
       subst (λ ts. Delivered c f fip s B K X at k ds ts end l) (sym same)
       (call_into c f st wd fip s B K shares X at k d h.registers h.mid h.m g ds end l
       (passed_done P X at k g d as' h.registers h.mid h.m h.call.there h.values typed derived kept ties (quiet_front f at h.mid end (told c k) (omega (arith, one)) h.quiet) wide)
-      h.call refl (many ∙ ap length same) kept wait (roomy h.m k h.values.room wide) wide h.quiet)
+      h.call refl (many ∙ ap length same) kept wait (roomy h.m k h.values.room wide) wide h.quiet h.values.last)
 
   pub called_ends : (P : Item → ℕ) (at : ℕ) (k : Known) (g : ℕ) (as' : Arguments) (end : ℕ) (l : Known) → CalledLaid c st fip f at k g as' Return end l → HaveTypes true wd s true as' (W.head wd g).parameters → DerivesPassed fip B P (passed w sc n.marks g 0 as') → ((z y : ℕ) → K z (Own y) ≤ 0) → Ties fip c.types s B K (λ i. P i + 0) (λ q. 0) k → f.results ≡ (W.head wd g).results → length k.held ≡ f.registers → LastPart c f at (told c k) end
   called_ends P at k g as' end l h typed derived kept ties results wide =

@@ -8,12 +8,13 @@ use Rattle.kind_soundness.proofs.Basics.{pick, chosen, refused, or_not, equal, u
 use Rattle.lowered_code.specs.declared.held.Held.{Held}
 use Rattle.lowered_code.specs.declared.held.Held.TheVariants as H
 use Rattle.lowered_code.specs.Known.{Known, lent_by, without}
-use Rattle.lowered_soundness.specs.Describing.{Holding, held_at, kinds_of, setting, is_tree, using, using_all}
+use Rattle.laid_code.specs.Describing.{Holding, held_at, kinds_of, setting, is_tree}
+use Rattle.lowered_soundness.specs.Covering.{using, using_all}
 use Rattle.lowered_soundness.specs.Giving.{is_credit_of, LendsNothing}
 use Rattle.lowered_soundness.specs.Parts.{Part}
 use Rattle.lowered_soundness.specs.Ties.{one_if, counted, Rooted, BareRight}
-use Rattle.lowered_soundness.specs.Laid.{Quiet}
-use Rattle.lowered_soundness.specs.GivenUp.{EndsBare, Drops, Frees, GivesOne, GivesUp}
+use Rattle.laid_code.specs.Labels.{Quiet}
+use Rattle.laid_code.specs.GivenUp.{EndsBare, Drops, Frees, GivesOne, GivesUp}
 use Rattle.lowered_soundness.proofs.Straight.{bare_row, drop_row, free_row}
 use Rattle.lowered_soundness.proofs.Parts.{one_row, no_row, both_parts}
 use Rattle.lowered_soundness.proofs.Balance.{using_either, using_other, rooted_using}

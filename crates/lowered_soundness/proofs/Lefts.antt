@@ -13,7 +13,7 @@ use Rattle.match_knowledge.specs.Patterns as M
 use Rattle.match_knowledge.specs.Patterns.{ArePatterns}
 use Rattle.match_knowledge.specs.Known.{Open, Is, Knowns, is_in, opens, none_left}
 use Rattle.match_knowledge.proofs.Living.{is_all_out}
-use Rattle.lowered_soundness.specs.Sights.{kept, not_in, is_tag, left, AllFresh}
+use Rattle.laid_code.specs.Sights.{kept, not_in, is_tag, left, AllFresh}
 
 -- ---- lists that are sifted
 

@@ -21,7 +21,7 @@ use Rattle.kind_soundness.proofs.Basics.{chosen, refused, or_not, less_or_not, e
 use Rattle.lowered_code.specs.declared.held.Held.{Held}
 use Rattle.lowered_code.specs.declared.held.Held.TheVariants as H
 use Rattle.lowered_code.specs.Known.{Known, register_of}
-use Rattle.lowered_soundness.specs.Describing.{held_at}
+use Rattle.laid_code.specs.Describing.{held_at}
 use Rattle.lowered_soundness.specs.Giving.{is_owned_of}
 use Rattle.lowered_soundness.specs.Ties.{one_if, owners, own, is_read_of, LiesIn, Ties}
 use Rattle.lowered_soundness.specs.Placed.{NoneFrom, InOrder, AreTypes}

@@ -20,6 +20,13 @@ pub mod Chunks
 pub mod Chosen
 pub mod Cleared
 pub mod Openings
+pub mod Stacks
+pub mod EntryNames
+pub mod Keeping
+pub mod EntryKeeps
+pub mod Ends
+pub mod Bares
+pub mod Meeting
 pub mod Giving
 pub mod Straight
 pub mod Fitting
@@ -52,6 +59,7 @@ pub mod Typed
 pub mod Leaves
 pub mod Clauses
 pub mod Matching
+pub mod ClauseEnding
 pub mod Bodies
 pub mod Starting
 pub mod Entry
@@ -61,5 +69,4 @@ pub mod Grouped
 pub mod Known
 pub mod Ranging
 pub mod Joined
-pub mod Reversing
 pub mod Listing

@@ -11,9 +11,9 @@ use Rattle.lowered_code.specs.Values.{is_scalar}
 use Rattle.lowered_code.specs.Functions.{IsSettingOf}
 use Rattle.lowered_soundness.specs.Accepted.{IsWithinLimits}
 use Rattle.lowered_soundness.specs.Built.{BuildsBlock}
-use Rattle.lowered_soundness.specs.Example.{lists_code, reversing}
-use Rattle.lowered_soundness.specs.Origins.{IsLaid, AreLaid}
-use Rattle.lowered_soundness.proofs.Reversing.{rev_is_laid}
+use Rattle.laid_code.specs.Example.{lists_code, reversing}
+use Rattle.laid_code.specs.Functions.{IsLaid, AreLaid}
+use Rattle.laid_code.proofs.Reversing.{rev_is_laid}
 
 scalar_same : (t : ℕ) → is_scalar lists_setting t ≡ T.is_scalar lists.types t
 scalar_same zero = refl

@@ -17,9 +17,10 @@ use Rattle.kind_soundness.proofs.Fits.{narrowed, at_tested}
 use Rattle.match_knowledge.specs.declared.heads.Head.{Head}
 use Rattle.match_knowledge.specs.declared.heads.Head.TheVariants.{Number, Tag}
 use Rattle.match_code.specs.Landing.{test_of}
-use Rattle.lowered_soundness.specs.Describing.{Covered}
+use Rattle.lowered_soundness.specs.Covering.{Covered}
 use Rattle.lowered_soundness.specs.Rows.{IsRow}
-use Rattle.lowered_soundness.specs.Parts.{Shows, Catches, Part}
+use Rattle.laid_code.specs.Labels.{Shows, Catches}
+use Rattle.lowered_soundness.specs.Parts.{Part}
 use Rattle.lowered_soundness.proofs.Giving.{and_to}
 use Rattle.lowered_soundness.proofs.Branches.{branch_part}
 

@@ -10,12 +10,14 @@ use Rattle.lowered_code.specs.declared.held.Held.{Held}
 use Rattle.lowered_code.specs.declared.held.Held.TheVariants as H
 use Rattle.lowered_code.specs.Known.{Known, used, used_all}
 use Rattle.lowered_code.specs.Bodies.{as_value, moved, IsMove}
-use Rattle.lowered_soundness.specs.Describing.{held_at, kinds_of, setting, using, is_spare}
+use Rattle.laid_code.specs.Describing.{held_at, kinds_of, setting, is_spare}
+use Rattle.lowered_soundness.specs.Covering.{using}
 use Rattle.lowered_soundness.specs.Giving.{is_credit_of, is_value}
 use Rattle.lowered_soundness.specs.Parts.{Part}
 use Rattle.lowered_soundness.specs.Ties.{owners, own, HoldsValue, AllHold, owe, owed, Stays, Ties}
-use Rattle.lowered_soundness.specs.Laid.{told, Quiet}
-use Rattle.lowered_soundness.specs.Delivered.{Waiting, MoveLaid, MovesLaid}
+use Rattle.laid_code.specs.Labels.{told, Quiet}
+use Rattle.lowered_soundness.specs.Delivered.{Waiting}
+use Rattle.laid_code.specs.Moves.{MoveLaid, MovesLaid}
 use Rattle.lowered_soundness.proofs.Straight.{move_row}
 use Rattle.lowered_soundness.proofs.Parts.{one_row, no_row, both_parts}
 use Rattle.lowered_soundness.proofs.Balance.{using_nothing, stays_same, stays_on, stays_fewer}

@@ -19,9 +19,9 @@ use Rattle.match_code.specs.Rows.{row_of, rows_of}
 use Rattle.match_code.specs.Reading.{contains}
 use Rattle.match_code.specs.Opening.{is_named, names_any, any_named}
 use Rattle.match_code.proofs.Lists.{in_head, in_tail, in_part}
-use Rattle.lowered_soundness.specs.Laid.{Quiet}
-use Rattle.lowered_soundness.specs.Sights.{Below, AllBelow}
-use Rattle.lowered_soundness.specs.Tests.{ReadOne, NamesLaid, NameAll}
+use Rattle.laid_code.specs.Labels.{Quiet}
+use Rattle.laid_code.specs.Sights.{Below, AllBelow}
+use Rattle.laid_code.specs.Tests.{ReadOne, NamesLaid, NameAll}
 use Rattle.lowered_soundness.proofs.Arguments.{with_field}
 use Rattle.lowered_soundness.proofs.Branches.{came_on, came_quiet}
 use Rattle.lowered_soundness.proofs.Lefts.{head_fields}

@@ -13,8 +13,8 @@ use Rattle.lowered_code.specs.declared.held.Held.TheVariants as H
 use Rattle.lowered_code.specs.Known.{Known, register_of, named, naming}
 use Rattle.lowered_code.specs.Bodies.{with_names}
 use Rattle.lowered_code.proofs.Lists.{same_some}
-use Rattle.lowered_soundness.specs.Describing.{held_at, is_tree}
-use Rattle.lowered_soundness.specs.Ties.{one_if, is_register, owners, own, HoldsValue, AllHold, owe, owed, Balanced, HoldsVariable, LiesIn, Ties}
+use Rattle.laid_code.specs.Describing.{held_at, is_tree}
+use Rattle.lowered_soundness.specs.Ties.{one_if, is_register, owners, own, HoldsValue, AllHold, owe, owed, HoldsVariable, LiesIn, Ties}
 use Rattle.lowered_soundness.specs.Placed.{NoneFrom, InOrder}
 use Rattle.lowered_soundness.proofs.Owners.{owners_same, owners_sum, owners_only, owners_none}
 use Rattle.lowered_soundness.proofs.Writing.{is_given, value_given}

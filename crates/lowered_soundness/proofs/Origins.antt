@@ -24,14 +24,15 @@ use Rattle.match_code.specs.Landing.{test_of}
 use Rattle.lowered_code.specs.Known.{Known}
 use Rattle.lowered_code.specs.Values.{Setting, ArgumentAt, ArgumentsAt, BuiltAt}
 use Rattle.lowered_code.specs.Bodies.{Target, Return, Into}
-use Rattle.lowered_soundness.specs.Describing.{Holding}
-use Rattle.lowered_soundness.specs.GivenUp.{GivesOne, GivesUp}
-use Rattle.lowered_soundness.specs.Delivered.{MoveLaid, MovesLaid}
-use Rattle.lowered_soundness.specs.Handed.{GivenLaid, OperationLaid, CallLaid}
-use Rattle.lowered_soundness.specs.Tests.{Choice, ReadOne, ReadsLaid, ReadsFirst, TestLaid, TakeLaid, TakesLaid, TakeAll, NamesLaid, NameAll, SettledLaid, TestsLaid, ChunkLaid, SidesLaid}
-use Rattle.lowered_soundness.specs.Matches.{MatchLaid}
-use Rattle.lowered_soundness.specs.Bodies.{GiveLaid, NamedLaid, ExpressionLaid, BlockLaid, ClausesLaid}
-use Rattle.lowered_soundness.specs.Functions.{FunctionLaid}
+use Rattle.laid_code.specs.Describing.{Holding}
+use Rattle.laid_code.specs.GivenUp.{GivesOne, GivesUp}
+use Rattle.laid_code.specs.Moves.{MoveLaid, MovesLaid}
+use Rattle.laid_code.specs.Handed.{GivenLaid, OperationLaid, CallLaid}
+use Rattle.laid_code.specs.Tests.{Choice, ReadOne, ReadsLaid, ReadsFirst, TestLaid, TakeLaid, TakesLaid, TakeAll, NamesLaid, NameAll, SettledLaid, TestsLaid, ChunkLaid, SidesLaid}
+use Rattle.laid_code.specs.Matches.{MatchLaid}
+use Rattle.laid_code.specs.Joins.{GoesOn, ClauseEnds}
+use Rattle.laid_code.specs.Bodies.{ClausesMeet, GiveLaid, NamedLaid, ExpressionLaid, BlockLaid, ClausesLaid}
+use Rattle.laid_code.specs.Functions.{FunctionLaid}
 use Rattle.lowered_soundness.specs.Origins.{gives_up, HasOrigin, HaveOrigins}
 
 get_more : {A : Type 0} (xs ys : List A) (i : ℕ) (x : A) → slice_get xs i ≡ Some x → slice_get (xs ++ ys) i ≡ Some x
@@ -108,6 +109,19 @@ module _ (st : Setting) (fip : Bool) (f : PlainFunction) where
     given_up : (n at : ℕ) (k : Known) (end : ℕ) (l : Known) → GivesUp fip f n at k end l → HaveOrigins st fip f ss at end
     given_up zero at k end l h = none at end h.0
     given_up (suc n) at k end l h = both at (suc at) end (given_one at k h.0 h.1) (given_up n (suc at) h.0 end l h.2)
+
+    bares : (n at : ℕ) (k : Known) (end : ℕ) (l : Known) → GivesUp true f n at k end l → HaveOrigins st fip f ss at end
+    bares zero at k end l h = none at end h.0
+    bares (suc n) at k end l (m, inl h, rest) = both at (suc at) end (one at (suc at) (I.Take h.register []) h.written refl (quiet (I.Take h.register []) refl (λ g w x. x))) (bares n (suc at) m end l rest)
+    bares (suc n) at k end l (m, inr h, rest) = absurd (true≢false h.0)
+
+    -- behind a clause of a match that is bound by a let
+    goes_on : (cs : Clauses) (stop target next : ℕ) → GoesOn f cs stop target next → HaveOrigins st fip f ss stop next
+    goes_on NoClauses stop target next h = none stop next h.1
+    goes_on (MoreClauses q b cs) stop target next h = one stop next (I.Jump target) h.0 h.2 (quiet (I.Jump target) refl (λ g w x. x))
+
+    clause_ends : (c : PlainCode) (cs : Clauses) (at : ℕ) (k : Known) (target next : ℕ) (l : Known) → ClauseEnds c f cs at k target next l → HaveOrigins st fip f ss at next
+    clause_ends c cs at k target next l h = both at h.stop next (bares h.bares.steps at k h.stop h.left h.bares.gives) (goes_on cs h.stop target next h.goes)
 
     moves : (at : ℕ) (k : Known) (rs ds : List ℕ) (end : ℕ) (after : Known) → MovesLaid f.instrs at k rs ds end after → HaveOrigins st fip f ss at end
     moves at k [] ds end after h = none at end h.0
@@ -246,7 +260,13 @@ module _ (st : Setting) (fip : Bool) (f : PlainFunction) where
       expression at k (Call g n p as') target end after h =
           both (site g n p (is_return target) ∷ []) at h.mid end (arguments (site g n p (is_return target) ∷ []) at k as' h.registers h.mid h.m h.values.arguments)
           (call h.mid h.m g n p h.registers target end after h.call)
-      expression at k (Match ds t p a q b cs) (Into rs) end after h = absurd h
+      expression at k (Match ds t p a q b cs) (Into rs) end after (begin, k0, ch, l, e, n, mid, m, next, left, met, bare, quiet', begins, entry, body, ends, others, meets) =
+          both (block_sites false b ++ clauses_sites false cs) at begin end (bares (block_sites false b ++ clauses_sites false cs) bare.steps at k begin k0 bare.gives)
+          (both (block_sites false b ++ clauses_sites false cs) begin e end (begun (block_sites false b ++ clauses_sites false cs) c begin k0 ds t a q cs ch l e begins)
+          (both (block_sites false b ++ clauses_sites false cs) e mid end
+          (wider (block_sites false b) (block_sites false b ++ clauses_sites false cs) e mid (λ s i. in_more (block_sites false b) (clauses_sites false cs) s i) (block e _ b (Into rs) mid m body))
+          (both (block_sites false b ++ clauses_sites false cs) mid next end (clause_ends (block_sites false b ++ clauses_sites false cs) c cs mid m end next left ends)
+          (wider (clauses_sites false cs) (block_sites false b ++ clauses_sites false cs) next end (λ s i. in_behind (block_sites false b) (clauses_sites false cs) s i) (clauses_meet ch l 1 cs rs end left next met others)))))
       expression at k (Match ds t p a q b cs) Return end after (ch, l, e, n, mid, m, begins, entry, body, others) =
           both (block_sites true b ++ clauses_sites true cs) at e end (begun (block_sites true b ++ clauses_sites true cs) c at k ds t a q cs ch l e begins)
           (both (block_sites true b ++ clauses_sites true cs) e mid end
@@ -271,6 +291,15 @@ module _ (st : Setting) (fip : Bool) (f : PlainFunction) where
           (both (block_sites true b ++ clauses_sites true cs) start mid end
           (wider (block_sites true b) (block_sites true b ++ clauses_sites true cs) start mid (λ s i. in_more (block_sites true b) (clauses_sites true cs) s i) (block start _ b Return mid m body))
           (wider (clauses_sites true cs) (block_sites true b ++ clauses_sites true cs) mid end (λ s i. in_behind (block_sites true b) (clauses_sites true cs) s i) (clauses ch l (suc i) cs mid end others)))
+
+      clauses_meet : (ch : Choice) (l : Known) (i : ℕ) (cs : Clauses) (rs : List ℕ) (end : ℕ) (j : Known) (at : ℕ) (met : Known) → ClausesMeet c st fip f ch l i cs rs end j at met → HaveOrigins st fip f (clauses_sites false cs) at end
+      clauses_meet ch l i NoClauses rs end j at met h = none [] at end (sym h.0)
+      clauses_meet ch l i (MoreClauses q b cs) rs end j at met (more, start, n, mid, m, next, left, joined', tests', entry, body, ends, meets, others) =
+          both (block_sites false b ++ clauses_sites false cs) at start end (sides (block_sites false b ++ clauses_sites false cs) c ch _ more at start tests')
+          (both (block_sites false b ++ clauses_sites false cs) start mid end
+          (wider (block_sites false b) (block_sites false b ++ clauses_sites false cs) start mid (λ s i. in_more (block_sites false b) (clauses_sites false cs) s i) (block start _ b (Into rs) mid m body))
+          (both (block_sites false b ++ clauses_sites false cs) mid next end (clause_ends (block_sites false b ++ clauses_sites false cs) c cs mid m end next left ends)
+          (wider (clauses_sites false cs) (block_sites false b ++ clauses_sites false cs) next end (λ s i. in_behind (block_sites false b) (clauses_sites false cs) s i) (clauses_meet ch l (suc i) cs rs end joined' next met others))))
 
 pub of_function : (c : PlainCode) (st : Setting) (fip : Bool) (f : PlainFunction) (d : Instance) → FunctionLaid c st fip f d → (i : ℕ) (x : Instr) → slice_get f.instrs i ≡ Some x → HasOrigin st fip (instance_sites d) x
 of_function c st fip f d laid i x h = block st fip f c 0 _ d.body Return (length f.instrs) laid.after laid.body i x (omega arith) (get_within f.instrs i x h) h

@@ -10,9 +10,10 @@ use Rattle.sound_code.specs.Endings.{is_end, spends_all}
 use Rattle.sound_code.specs.Leaves.{Leaves, Jumps}
 use Rattle.sound_code.specs.Flow.{IsInstr, Holds, Comes, KnownAt}
 use Rattle.kind_soundness.proofs.Basics.{get_within, less_or_not}
-use Rattle.lowered_soundness.specs.Describing.{Covered}
+use Rattle.lowered_soundness.specs.Covering.{Covered}
 use Rattle.lowered_soundness.specs.Rows.{IsRow, IsLastRow}
-use Rattle.lowered_soundness.specs.Parts.{Arrives, Admits, Tells, Shows, Onward, Keeps, IsKept, AreKept, Part, LastPart, is_straight}
+use Rattle.lowered_soundness.specs.Parts.{Arrives, Admits, Onward, Keeps, IsKept, AreKept, Part, LastPart, is_straight}
+use Rattle.laid_code.specs.Labels.{Tells, Shows}
 use Rattle.lowered_soundness.proofs.Covering.{covered_same}
 use Rattle.lowered_soundness.proofs.Fitting.{takes_all, tells_covered, tells_takes, takes_less, covers_fits, covers_self}
 

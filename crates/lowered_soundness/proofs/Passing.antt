@@ -20,10 +20,11 @@ use Rattle.kind_soundness.proofs.Basics.{chosen, refused, or_not}
 use Rattle.lowered_code.specs.declared.held.Held.TheVariants as H
 use Rattle.lowered_code.specs.Known.{Known, register_of}
 use Rattle.lowered_code.specs.Values.{Setting, ArgumentAt, ArgumentsAt}
-use Rattle.lowered_soundness.specs.Describing.{held_at}
+use Rattle.laid_code.specs.Describing.{held_at}
 use Rattle.lowered_soundness.specs.Parts.{Part}
 use Rattle.lowered_soundness.specs.Ties.{owners, own, HoldsValue, owe, owed, Stays, Ties}
-use Rattle.lowered_soundness.specs.Laid.{told, Quiet, Shares, Scoped}
+use Rattle.laid_code.specs.Labels.{told, Quiet}
+use Rattle.lowered_soundness.specs.Laid.{Shares, Scoped}
 use Rattle.lowered_soundness.specs.Computed.{Computed}
 use Rattle.lowered_soundness.specs.Passed.{Choose, borrows, owe_passed, owed_passed, IsBorrowed, PassHolds}
 use Rattle.lowered_soundness.proofs.Parts.{no_row, both_parts}

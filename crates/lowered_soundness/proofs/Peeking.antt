@@ -25,9 +25,9 @@ use Rattle.match_knowledge.proofs.Split.{asks_is, both_asks, is_asking}
 use Rattle.match_code.specs.Spots.{Spot, At, Spots, NoSpots, MoreSpots, register, below, all_in, Differ, AllDiffer}
 use Rattle.match_code.specs.Reading.{contains}
 use Rattle.match_code.proofs.Lists.{in_head, in_tail, in_part}
-use Rattle.lowered_soundness.specs.Laid.{Quiet}
-use Rattle.lowered_soundness.specs.Sights.{left, part_kind, Unread, Fresh, Below, AllBelow}
-use Rattle.lowered_soundness.specs.Tests.{ReadOne, ReadsLaid, ReadsFirst}
+use Rattle.laid_code.specs.Labels.{Quiet}
+use Rattle.laid_code.specs.Sights.{left, part_kind, Unread, Fresh, Below, AllBelow}
+use Rattle.laid_code.specs.Tests.{ReadOne, ReadsLaid, ReadsFirst}
 use Rattle.lowered_soundness.proofs.Arguments.{with_field}
 use Rattle.lowered_soundness.proofs.Parts.{one_row}
 use Rattle.lowered_soundness.proofs.Branches.{Came, came_none, came_one, came_on, came_quiet}

@@ -14,7 +14,7 @@ use Rattle.match_knowledge.specs.Known.{Known, Open, Is, Knowns, NoKnowns, MoreK
 use Rattle.match_code.specs.Spots.{Spot, At, Spots, NoSpots, MoreSpots, register, below, all_in}
 use Rattle.match_code.specs.Reading.{contains}
 use Rattle.match_code.proofs.Lists.{in_head, in_tail, in_part}
-use Rattle.lowered_soundness.specs.Sights.{left, part_kind, Unread, Fresh, AllFresh, Below, AllBelow}
+use Rattle.laid_code.specs.Sights.{left, part_kind, Unread, Fresh, AllFresh, Below, AllBelow}
 
 -- ---- registers that were read
 

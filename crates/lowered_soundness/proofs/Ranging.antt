@@ -32,19 +32,20 @@ use Rattle.lowered_code.specs.Known.{Known, used, used_all, holding}
 use Rattle.lowered_code.specs.Values.{Setting, ArgumentAt, ArgumentsAt, BuiltAt, built as built_held}
 use Rattle.lowered_code.specs.Bodies.{Target, Return, Into, result_type, GoesTo, handed, received, registers_for, reserved, with_names}
 use Rattle.lowered_code.specs.Functions.{nothing_known, with_params, known_at_start}
-use Rattle.lowered_soundness.specs.Describing.{Holding, is_tree, is_spare}
-use Rattle.lowered_soundness.specs.GivenUp.{GivesOne, GivesUp}
-use Rattle.lowered_soundness.specs.Delivered.{MoveLaid, MovesLaid}
-use Rattle.lowered_soundness.specs.Handed.{GivenLaid, OperationLaid, EndsCallLaid, CallLaid}
+use Rattle.laid_code.specs.Describing.{Holding, is_tree, is_spare}
+use Rattle.laid_code.specs.GivenUp.{GivesOne, GivesUp}
+use Rattle.laid_code.specs.Moves.{MoveLaid, MovesLaid}
+use Rattle.laid_code.specs.Handed.{GivenLaid, OperationLaid, EndsCallLaid, CallLaid}
 use Rattle.lowered_soundness.specs.Laid.{Shares}
-use Rattle.lowered_soundness.specs.Tests.{Choice, ReadOne, ReadsLaid, ReadsFirst, TestLaid, TakeLaid, TakesLaid, TakeAll, NamesLaid, NameAll, SettledLaid, TestsLaid, ChunkLaid, SidesLaid}
-use Rattle.lowered_soundness.specs.Matches.{MatchBegins, Forgets, EntryLaid, clause_patterns, entered}
-use Rattle.lowered_soundness.specs.Bodies.{GiveLaid, NamedLaid, ExpressionLaid, BlockLaid, ClausesLaid}
+use Rattle.laid_code.specs.Tests.{Choice, ReadOne, ReadsLaid, ReadsFirst, TestLaid, TakeLaid, TakesLaid, TakeAll, NamesLaid, NameAll, SettledLaid, TestsLaid, ChunkLaid, SidesLaid}
+use Rattle.laid_code.specs.Matches.{MatchBegins, Forgets, EntryLaid, clause_patterns, entered}
+use Rattle.laid_code.specs.Joins.{GoesOn, ClauseEnds, Met}
+use Rattle.laid_code.specs.Bodies.{ClausesMeet, GiveLaid, NamedLaid, ExpressionLaid, BlockLaid, ClausesLaid}
 use Rattle.lowered_soundness.specs.Built.{BuildsArgument, BuildsArguments, Builds, BuildsBlock, BuildsClauses}
-use Rattle.lowered_soundness.specs.Functions.{FunctionLaid}
+use Rattle.laid_code.specs.Functions.{FunctionLaid}
 use Rattle.lowered_soundness.proofs.Giving.{and_to}
 use Rattle.lowered_soundness.proofs.Helds.{held_within, length_used, length_used_all, length_set}
-use Rattle.lowered_soundness.proofs.Known.{Under, Fits, are_under, both_under, left_under, right_under, all_under, for_under, register_under, named_under, fits_held, fits_next, fits_set, fits_paid, fits_taken, length_handed, length_received, fits_wide, fits_params, fits_credits, fits_root}
+use Rattle.lowered_soundness.proofs.Known.{Under, CreditsUnder, Fits, names_by, are_under, both_under, left_under, right_under, all_under, for_under, register_under, named_under, fits_held, fits_next, fits_set, fits_paid, fits_taken, length_handed, length_received, fits_wide, fits_params, fits_credits, fits_root}
 
 -- ---- labels are in the function
 
@@ -264,12 +265,12 @@ module _ (c : PlainCode) (st : Setting) (f : PlainFunction) (good : are_good_map
       (both at h.stop end x.all (one h.stop end (I.Ret rs) h.written h.one (are_under f.registers rs u)), tt)
   given fip at k rs (Into ds) end l h u v fits = let x = moves at k rs ds end l h u v fits in (x.all, x.fits)
 
-  goes : (target : Target) (k : Known) (h : Held) (d : ℕ) (l : Known) → GoesTo target k h d l → suc k.next ≤ f.registers → UnderFor target → Fits f.registers k → (d < f.registers) × Fits f.registers l
-  goes Return k h d l g room v fits = let e = g.0 in (omega (arith, e, room), subst (Fits f.registers) (sym g.1) (fits_next f.registers (holding k k.next h) (suc k.next) (fits_set f.registers k k.next h fits)))
-  goes (Into []) k h d l g room v fits = let e = g.0 in (omega (arith, e, room), subst (Fits f.registers) (sym g.1) (fits_next f.registers (holding k k.next h) (suc k.next) (fits_set f.registers k k.next h fits)))
+  goes : (target : Target) (k : Known) (h : Held) (d : ℕ) (l : Known) → GoesTo target k h d l → l.next ≤ f.registers → UnderFor target → Fits f.registers k → (d < f.registers) × Fits f.registers l
+  goes Return k h d l g room v fits = let e = g.0 in let z = ap (λ (m : Known). m.next) g.1 in (omega (arith, e, z, room), subst (Fits f.registers) (sym g.1) (fits_next f.registers (holding k k.next h) (suc k.next) (fits_set f.registers k k.next h fits)))
+  goes (Into []) k h d l g room v fits = let e = g.0 in let z = ap (λ (m : Known). m.next) g.1 in (omega (arith, e, z, room), subst (Fits f.registers) (sym g.1) (fits_next f.registers (holding k k.next h) (suc k.next) (fits_set f.registers k k.next h fits)))
   goes (Into (q ∷ ds)) k h d l g room v fits = (subst (λ d. d < f.registers) (sym g.0) v.0, subst (Fits f.registers) (sym g.1) (fits_set f.registers k q h fits))
 
-  operation : (fip : Bool) (at : ℕ) (k : Known) (o : Operator) (p : Place) (x y : ℕ) (target : Target) (end : ℕ) (l : Known) → OperationLaid fip f at k o p x y target end l → suc k.next ≤ f.registers → x < f.registers → y < f.registers → UnderFor target → Fits f.registers k → In at end × FitsFor target l
+  operation : (fip : Bool) (at : ℕ) (k : Known) (o : Operator) (p : Place) (x y : ℕ) (target : Target) (end : ℕ) (l : Known) (h : OperationLaid fip f at k o p x y target end l) → h.holds.next ≤ f.registers → x < f.registers → y < f.registers → UnderFor target → Fits f.registers k → In at end × FitsFor target l
   operation fip at k o p x y target end l h room left right v fits =
       let g = goes target k (H.Scalar (result_type o)) h.destination h.holds h.goes room v fits in
       let rest = given fip (suc at) h.holds (h.destination ∷ []) target end l h.given (g.0, tt) v g.1 in
@@ -409,6 +410,51 @@ module _ (c : PlainCode) (st : Setting) (f : PlainFunction) (good : are_good_map
     | inr y ↦ let zero_at = y.0 in absurd (omega (arith, zero_at, low))
   ]
 
+  -- the same, where the clauses meet
+  met_label : (fip : Bool) (ch : Choice) (l : Known) (i : ℕ) (cs : Clauses) (ds : List ℕ) (stop : ℕ) (k : Known) (at : ℕ) (met : Known) → ClausesMeet c st fip f ch l i cs ds stop k at met → (j : ℕ) (q : Pattern) → slice_get (clause_patterns cs) j ≡ Some q → (place : ℕ) → slice_get ch.entries (i + j) ≡ Some place → 0 < place → is_some (label_at f.labels place) ≡ true
+  met_label fip ch l i NoClauses ds stop k at met h j q there place entry low = absurd (none-some q there)
+  met_label fip ch l i (MoreClauses p b cs) ds stop k at met (more, start, m, mid, behind, next, left, joined', tests', laid, body, ends, meets, others) zero q there place entry low =
+      let same : i + 0 ≡ i = omega arith in
+      let one : start ≡ place = same_Some start place (sym laid.place ∙ (ap (slice_get ch.entries) (sym same) ∙ entry)) in
+      subst (λ place. is_some (label_at f.labels place) ≡ true) one (entry_label ch l i p start m laid (omega (arith, one, low)))
+  met_label fip ch l i (MoreClauses p b cs) ds stop k at met (more, start, m, mid, behind, next, left, joined', tests', laid, body, ends, meets, others) (suc j) q there place entry low =
+      let same : suc i + j ≡ i + suc j = omega arith in
+      met_label fip ch l (suc i) cs ds stop joined' next met others j q there place (ap (slice_get ch.entries) same ∙ entry) low
+
+  met_enters : (fip : Bool) (ch : Choice) (l : Known) (q : Pattern) (cs : Clauses) (e m : ℕ) (ds : List ℕ) (stop : ℕ) (k : Known) (mid : ℕ) (met : Known) → ch.patterns ≡ q ∷ clause_patterns cs → EntryLaid c st f ch l 0 q e m → ClausesMeet c st fip f ch l 1 cs ds stop k mid met → Enters ch
+  met_enters fip ch l q cs e m ds stop k mid met is entry others zero p there place at low =
+      let one : e ≡ place = same_Some e place (sym entry.place ∙ at) in
+      subst (λ place. is_some (label_at f.labels place) ≡ true) one (entry_label ch l 0 q e m entry (omega (arith, one, low)))
+  met_enters fip ch l q cs e m ds stop k mid met is entry others (suc j) p there place at low =
+      let same : 1 + j ≡ suc j = omega arith in
+      met_label fip ch l 1 cs ds stop k mid met others j p (ap (λ qs. slice_get qs (suc j)) (sym is) ∙ there) place (ap (slice_get ch.entries) same ∙ at) low
+
+  -- ---- where the clauses meet
+
+  bares_next : (n at : ℕ) (k : Known) (end : ℕ) (l : Known) → GivesUp true f n at k end l → l.next ≡ k.next
+  bares_next zero at k end l h = ap (λ (m : Known). m.next) h.1
+  bares_next (suc n) at k end l (m, inl h, rest) = bares_next n (suc at) m end l rest ∙ ap (λ (m : Known). m.next) h.known
+  bares_next (suc n) at k end l (m, inr h, rest) = absurd (true≢false h.0)
+
+  met_fits : (fip : Bool) (k l m : Known) → Met fip k l m → Fits f.registers k → Fits f.registers m
+  met_fits fip k l m h fits = record {
+    names = names_by f.registers m.names (λ x r e. elim (h.names x) as (λ v. r < f.registers) [
+      | inl p ↦ register_under f.registers k.names (Some x) r fits.names (sym p.1 ∙ e)
+      | inr p ↦ absurd (none-some r (sym p.1 ∙ e))
+    ]);
+    held = h.width ∙ fits.held;
+    credits = subst (CreditsUnder f.registers) (sym h.credits) fits.credits;
+  }
+
+  goes_on : (cs : Clauses) (stop target next : ℕ) → GoesOn f cs stop target next → is_some (label_at f.labels target) ≡ true → In stop next
+  goes_on NoClauses stop target next h label = none stop next h.1
+  goes_on (MoreClauses q b cs) stop target next h label = let ahead = h.1 in one stop next (I.Jump target) h.0 h.2 (target_is stop target ahead label)
+
+  clause_ends : (cs : Clauses) (at : ℕ) (k : Known) (target next : ℕ) (l : Known) → ClauseEnds c f cs at k target next l → is_some (label_at f.labels target) ≡ true → Fits f.registers k → Step at next l
+  clause_ends cs at k target next l h label fits =
+      let x = given_up true h.bares.steps at k h.stop h.left h.bares.gives fits in
+      record { all = both at h.stop next x.all (goes_on cs h.stop target next h.goes label); fits = subst (Fits f.registers) (sym h.known) (fits_wide f.registers h.left x.fits) }
+
   clause_label : (fip : Bool) (ch : Choice) (l : Known) (i : ℕ) (cs : Clauses) (at end : ℕ) → ClausesLaid c st fip f ch l i cs at end → (j : ℕ) (q : Pattern) → slice_get (clause_patterns cs) j ≡ Some q → (place : ℕ) → slice_get ch.entries (i + j) ≡ Some place → 0 < place → is_some (label_at f.labels place) ≡ true
   clause_label fip ch l i NoClauses at end h j q there place entry low = absurd (none-some q there)
   clause_label fip ch l i (MoreClauses p b cs) at end (more, start, m, mid, k, tests', laid, body, others) zero q there place entry low =
@@ -430,13 +476,22 @@ module _ (c : PlainCode) (st : Setting) (f : PlainFunction) (good : are_good_map
   -- ---- bodies
 
   module _ (wd : W.World) (shares : Shares c st wd) (fip : Bool) where
+    forgets_next : (k : Known) (r : ℕ) (m : Known) (at : ℕ) → Forgets c f at k r m → m.next ≡ k.next
+    forgets_next k r m at (inl y) = ap (λ (m : Known). m.next) y.0
+    forgets_next k r m at (inr y) = ap (λ (m : Known). m.next) y.0
+
     mutual
       room_expression : (at : ℕ) (k : Known) (e : Expression) (ds : List ℕ) (end : ℕ) (l : Known) → ExpressionLaid c st fip f at k e (Into ds) end l → k.next ≤ f.registers
       room_expression at k (Give a) ds end l h = let x = more_arguments at k (MoreArguments a NoArguments) h.registers h.mid h.m h.values.arguments in let y = h.values.room in omega (arith, x, y)
       room_expression at k (Tuple p as') ds end l h = let x = more_arguments at k as' h.registers h.mid h.m h.values.arguments in let y = h.values.room in omega (arith, x, y)
       room_expression at k (Operation o p a b) ds end l h = let x = more_arguments at k (MoreArguments a (MoreArguments b NoArguments)) (h.left ∷ h.right ∷ []) h.mid h.m h.values.arguments in let y = h.values.room in omega (arith, x, y)
       room_expression at k (Call g n p as') ds end l h = let x = more_arguments at k as' h.registers h.mid h.m h.values.arguments in let y = h.values.room in omega (arith, x, y)
-      room_expression at k (Match d t p a q b cs) ds end l h = absurd h
+      room_expression at k (Match d t p a q b cs) ds end l (begin, k0, ch, l1, e, m, mid, behind, next, left, met, bare, quiet', laid, entry, body, ends, others, meets) =
+          let same = bares_next bare.steps at k begin k0 bare.gives in
+          let more = laid.begins.more in
+          let few = laid.begins.few in
+          let known = forgets_next k0 (register ch.root) laid.begins.known begin laid.begins.forgets in
+          omega (arith, same, more, few, known)
       room_expression at k (Nested b) ds end l h = room_block at k b ds end l h
 
       room_block : (at : ℕ) (k : Known) (b : Block) (ds : List ℕ) (end : ℕ) (l : Known) → BlockLaid c st fip f at k b (Into ds) end l → k.next ≤ f.registers
@@ -481,7 +536,17 @@ module _ (c : PlainCode) (st : Setting) (f : PlainFunction) (good : are_good_map
           let x = arguments at k as' h.registers h.mid h.m h.values.arguments b h.values.room fits in
           let y = call wd shares fip h.mid h.m g h.registers target end l h.call x.1 v x.0.fits in
           (both at h.mid end x.0.all y.0, y.1)
-      expression at k (Match d t p a q x cs) (Into rs) end l h b v fits = absurd h
+      expression at k (Match d t p a q x cs) (Into rs) end l (begin, k0, ch, l1, e, m, mid, behind, next, left, met, bare, quiet', laid, entry, body, ends, others, meets) b v fits =
+          let up = given_up true bare.steps at k begin k0 bare.gives fits in
+          let start = begins_fits begin k0 laid.variable t ch l1 laid.begins up.fits in
+          let enters : Enters ch = met_enters fip ch l1 q cs e m rs end left next met laid.patterns entry others in
+          let label : is_some (label_at f.labels end) ≡ true = ap is_some meets.label.there in
+          let first = chunk ch start.1.0 start.1.1 enters _ begin _ _ _ laid.mid laid.first in
+          let rest = sides ch start.1.0 start.1.1 enters _ laid.more laid.mid e laid.sides in
+          let inner = block e _ x (Into rs) mid behind body b.0 v (entered_fits ch q l1 m start.1.0 start.1.1 start.0) in
+          let ended = clause_ends cs mid behind end next left ends label inner.1 in
+          let more = clauses_meet ch start.1.0 start.1.1 enters l1 start.0 1 cs rs end label left next met others b.1 v ended.fits in
+          (both at begin end up.all (both begin e end (both begin laid.mid e first rest) (both e mid end inner.0 (both mid next end ended.all more.all))), subst (Fits f.registers) (sym meets.known) (fits_next f.registers met meets.next more.fits))
       expression at k (Match d t p a q x cs) Return end after (ch, l, e, m, mid, behind, laid, entry, body, others) b v fits =
           let start = begins_fits at k laid.variable t ch l laid.begins fits in
           let enters : Enters ch = match_enters fip ch l q cs e m mid end laid.patterns entry others in
@@ -508,6 +573,14 @@ module _ (c : PlainCode) (st : Setting) (f : PlainFunction) (good : are_good_map
       clauses ch low u enters l fits i (MoreClauses q x cs) at end (more, start, m, mid, behind, laid, entry, body, others) b =
           let inner = block start _ x Return mid behind body b.0 tt (entered_fits ch q l m low u fits) in
           both at start end (sides ch low u enters _ more at start laid) (both start mid end inner.0 (clauses ch low u enters l fits (suc i) cs mid end others b.1))
+
+      clauses_meet : (ch : Choice) (low : register ch.root < f.registers) (u : Under f.registers (below_spot ch.root)) (enters : Enters ch) (l : Known) → Fits f.registers l → (i : ℕ) (cs : Clauses) (rs : List ℕ) (stop : ℕ) → is_some (label_at f.labels stop) ≡ true → (k : Known) (at : ℕ) (met : Known) → ClausesMeet c st fip f ch l i cs rs stop k at met → BuildsClauses c.types cs → UnderFor (Into rs) → Fits f.registers k → Step at stop met
+      clauses_meet ch low u enters l fits i NoClauses rs stop label k at met h b v kept = record { all = none at stop (sym h.0); fits = subst (Fits f.registers) (sym h.1) kept }
+      clauses_meet ch low u enters l fits i (MoreClauses q x cs) rs stop label k at met (more, start, m, mid, behind, next, left, joined', laid, entry, body, ends, meets, others) b v kept =
+          let inner = block start _ x (Into rs) mid behind body b.0 v (entered_fits ch q l m low u fits) in
+          let ended = clause_ends cs mid behind stop next left ends label inner.1 in
+          let rest = clauses_meet ch low u enters l fits (suc i) cs rs stop label joined' next met others b.1 v (met_fits fip k left joined' meets kept) in
+          record { all = both at start stop (sides ch low u enters _ more at start laid) (both start mid stop inner.0 (both mid next stop ended.all rest.all)); fits = rest.fits }
 
     names_none : (m : ℕ) → Rattle.lowered_soundness.proofs.Known.NamesUnder f.registers (replicate m None)
     names_none zero = tt

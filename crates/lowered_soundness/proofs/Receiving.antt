@@ -15,7 +15,7 @@ use Rattle.lowered_code.specs.Known.{Known}
 use Rattle.lowered_code.specs.Values.{Setting, is_scalar}
 use Rattle.lowered_code.specs.Bodies.{given_if, given}
 use Rattle.lowered_code.specs.Bodies as Bodies
-use Rattle.lowered_soundness.specs.Describing.{Holding, held_at, setting, is_spare}
+use Rattle.laid_code.specs.Describing.{Holding, held_at, setting, is_spare}
 use Rattle.lowered_soundness.specs.Giving.{is_owned_of, is_credit_of, can_receive, received, receiving_all}
 use Rattle.lowered_soundness.specs.Ties.{one_if, owners, own, HoldsValue, AllHold, owe, owed, Stays, Ties}
 use Rattle.lowered_soundness.specs.Delivered.{Waiting}

@@ -13,12 +13,13 @@ use Rattle.lowered_code.specs.declared.held.Held.{Held}
 use Rattle.lowered_code.specs.declared.held.Held.TheVariants as H
 use Rattle.lowered_code.specs.declared.held.Credit as D
 use Rattle.lowered_code.specs.Known.{Known, without, used_all}
-use Rattle.lowered_soundness.specs.Describing.{Holding, held_at, kinds_of, is_tree, using, using_all, is_spare}
+use Rattle.laid_code.specs.Describing.{Holding, held_at, kinds_of, is_tree, is_spare}
+use Rattle.lowered_soundness.specs.Covering.{using, using_all}
 use Rattle.lowered_soundness.specs.Giving.{is_scalar_of, is_owned_of, is_credit_of, can_give, NothingLeft}
 use Rattle.lowered_soundness.specs.Parts.{Onward, LastPart}
 use Rattle.lowered_soundness.specs.Ties.{one_if, owners, sized, counted, own, HoldsValue, AllHold, owed, Balanced, Ties}
-use Rattle.lowered_soundness.specs.Laid.{told, Quiet}
-use Rattle.lowered_soundness.specs.GivenUp.{AllGivenUp, RetLaid}
+use Rattle.laid_code.specs.Labels.{told, Quiet}
+use Rattle.laid_code.specs.GivenUp.{AllGivenUp, RetLaid}
 use Rattle.lowered_soundness.proofs.Giving.{and_to}
 use Rattle.lowered_soundness.proofs.Covering.{using_none}
 use Rattle.lowered_soundness.proofs.Straight.{ret_row}

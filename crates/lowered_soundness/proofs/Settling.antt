@@ -24,11 +24,12 @@ use Rattle.lowered_code.specs.declared.held.Held.{Held}
 use Rattle.lowered_code.specs.declared.held.Held.TheVariants as H
 use Rattle.lowered_code.specs.Known.{Known, without}
 use Rattle.lowered_code.specs.Values.{Setting}
-use Rattle.lowered_soundness.specs.Describing.{Holding, held_at, kind_of, is_tree, using}
-use Rattle.lowered_soundness.specs.Laid.{told, Quiet}
-use Rattle.lowered_soundness.specs.Sights.{left, Below, AllBelow, seen_kind, Sight}
-use Rattle.lowered_soundness.specs.Tests.{Choice, SettledLaid, TakesLaid, NamesLaid}
-use Rattle.lowered_soundness.specs.Matches.{widened, entered}
+use Rattle.laid_code.specs.Describing.{Holding, held_at, kind_of, is_tree}
+use Rattle.lowered_soundness.specs.Covering.{using}
+use Rattle.laid_code.specs.Labels.{told, Quiet}
+use Rattle.laid_code.specs.Sights.{left, Below, AllBelow, seen_kind, Sight}
+use Rattle.laid_code.specs.Tests.{Choice, SettledLaid, TakesLaid, NamesLaid}
+use Rattle.laid_code.specs.Matches.{widened, entered, BuiltRight}
 use Rattle.lowered_soundness.proofs.Fitting.{fits_self}
 use Rattle.lowered_soundness.proofs.Balance.{using_self, using_nothing}
 use Rattle.lowered_soundness.proofs.Branches.{Came, came_none, came_on, came_quiet}
@@ -41,7 +42,6 @@ use Rattle.lowered_soundness.proofs.Choosing.{seen_own, Right, right_off, Looks,
 use Rattle.lowered_soundness.proofs.EntryHeld.{entry_held, entry_other, entry_all_other, held_wide, root_held, entering_root_at}
 use Rattle.lowered_soundness.proofs.EntryFits.{wide_fits, without_fits, without_gone, without_wide, lent_fits_all, owned_fits_all, taken_fits, all_read_fits}
 use Rattle.lowered_soundness.proofs.Standing.{Slotted, Seeing, SeesScalar, SeesLent, SeesOwned}
-use Rattle.lowered_soundness.specs.Matches.{BuiltRight}
 
 -- ---- registers before the match
 

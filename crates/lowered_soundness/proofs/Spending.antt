@@ -12,9 +12,10 @@ use Rattle.lowered_code.specs.declared.held.Held.TheVariants as H
 use Rattle.lowered_code.specs.declared.held.Credit as D
 use Rattle.lowered_code.specs.Known.{Known, used, IsTaken}
 use Rattle.lowered_code.specs.Bodies.{handed, AreTaken}
-use Rattle.lowered_soundness.specs.Describing.{Holding, held_at, setting, is_tree, using}
+use Rattle.laid_code.specs.Describing.{Holding, held_at, setting, is_tree}
+use Rattle.lowered_soundness.specs.Covering.{using}
 use Rattle.lowered_soundness.specs.Giving.{is_scalar_of, is_owned_of, is_credit_of, can_pass_one, passing, can_pass, passing_all, can_hand, handing_all}
-use Rattle.lowered_soundness.specs.Ties.{one_if, owners, sized, counted, own, is_read_of, HoldsValue, owe, Balanced, Stays, LiesIn, Ties}
+use Rattle.lowered_soundness.specs.Ties.{one_if, owners, sized, own, is_read_of, HoldsValue, owe, Balanced, Stays, LiesIn, Ties}
 use Rattle.lowered_soundness.specs.Passed.{Choose, borrows, owe_passed, owed_passed, IsReadIn, HoldPassed}
 use Rattle.lowered_soundness.proofs.Giving.{and_to}
 use Rattle.lowered_soundness.proofs.Covering.{using_none}

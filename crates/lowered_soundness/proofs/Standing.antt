@@ -15,10 +15,10 @@ use Rattle.lowered_code.specs.declared.held.Held.{Held}
 use Rattle.lowered_code.specs.declared.held.Held.TheVariants as H
 use Rattle.lowered_code.specs.Known.{Known}
 use Rattle.lowered_code.specs.Values.{Setting, is_scalar}
-use Rattle.lowered_soundness.specs.Describing.{held_at, is_tree}
+use Rattle.laid_code.specs.Describing.{held_at, is_tree}
 use Rattle.lowered_soundness.specs.Ties.{Rooted}
-use Rattle.lowered_soundness.specs.Tests.{Choice}
-use Rattle.lowered_soundness.specs.Matches.{BuiltRight, EntryLaid}
+use Rattle.laid_code.specs.Tests.{Choice}
+use Rattle.laid_code.specs.Matches.{BuiltRight, EntryLaid}
 
 -- what the scrutinee's register holds: a scalar, a tree that is read, or one that is owned
 pub data Seeing (w : Table) (t : ℕ) (h : Held) : Type 0 where

@@ -22,9 +22,9 @@ use Rattle.lowered_code.specs.Known.{Known, register_of, named, naming, with_nex
 use Rattle.lowered_code.specs.Values.{Setting, is_scalar}
 use Rattle.lowered_code.specs.Bodies.{given_if}
 use Rattle.lowered_code.specs.Functions.{param_held, with_param, with_params, unless_in, with_next_credit, with_credits}
-use Rattle.lowered_soundness.specs.Describing.{Holding, held_at, setting, is_tree}
+use Rattle.laid_code.specs.Describing.{Holding, held_at, setting, is_tree}
 use Rattle.lowered_soundness.specs.Giving.{is_credit_of}
-use Rattle.lowered_soundness.specs.Ties.{one_if, owners, sized, counted, own, HoldsValue, owe, Balanced, Rooted, HoldsVariable, LiesIn, BareRight, Ties}
+use Rattle.lowered_soundness.specs.Ties.{one_if, owners, sized, counted, own, HoldsValue, Balanced, Rooted, HoldsVariable, LiesIn, BareRight, Ties}
 use Rattle.lowered_soundness.specs.Passed.{borrows}
 use Rattle.lowered_soundness.specs.Placed.{NoneFrom, InOrder, ParamsTyped}
 use Rattle.lowered_soundness.proofs.Owners.{owners_same, sized_both, counted_both}
@@ -49,6 +49,13 @@ setting_balanced fip g d h n none new b q = subst (λ t. Fits fip (one_if t) (n 
 pub setting_rooted : (g : Holding) (d : ℕ) (h : Held) → is_tree (g d) ≡ false → is_tree h ≡ false → ((t q : ℕ) → h ≡ H.Lent t (Some q) → ⊥) → Rooted g → Rooted (setting g d h)
 setting_rooted g d h none new unlent rooted r t q e = elim (or_not (r == d)) as (λ v. is_tree (setting g d h q) ≡ true) [
   | inl z ↦ absurd (unlent t q (sym (chosen (r == d) h (g r) z) ∙ e))
+  | inr z ↦ setting_tree g d h q none new ∙ rooted r t q (sym (refused (r == d) h (g r) z) ∙ e)
+]
+
+-- the same of a register that is lent of one that owns a tree
+pub setting_rooted_in : (g : Holding) (d : ℕ) (h : Held) → is_tree (g d) ≡ false → is_tree h ≡ false → ((t q : ℕ) → h ≡ H.Lent t (Some q) → is_tree (g q) ≡ true) → Rooted g → Rooted (setting g d h)
+setting_rooted_in g d h none new roots rooted r t q e = elim (or_not (r == d)) as (λ v. is_tree (setting g d h q) ≡ true) [
+  | inl z ↦ setting_tree g d h q none new ∙ roots t q (sym (chosen (r == d) h (g r) z) ∙ e)
   | inr z ↦ setting_tree g d h q none new ∙ rooted r t q (sym (refused (r == d) h (g r) z) ∙ e)
 ]
 

@@ -22,7 +22,8 @@ use Rattle.kind_soundness.proofs.Basics.{pick, chosen, equal_is, becomes, length
 use Rattle.lowered_code.specs.declared.held.Held.{Held}
 use Rattle.lowered_code.specs.declared.held.Held.TheVariants as H
 use Rattle.lowered_code.specs.Known.{without}
-use Rattle.lowered_soundness.specs.Describing.{Holding, kind_of, kinds_of, Covers, Covered, setting, is_tree, using, using_all, is_spare}
+use Rattle.laid_code.specs.Describing.{Holding, kind_of, kinds_of, setting, is_tree, is_spare}
+use Rattle.lowered_soundness.specs.Covering.{Covers, Covered, using, using_all}
 use Rattle.lowered_soundness.specs.Giving as G
 use Rattle.lowered_soundness.specs.Giving.{can_give, receiving_all, atom_held, is_value, behind_call, CanCall, NothingLeft, LendsNothing}
 use Rattle.lowered_soundness.specs.Rows.{IsRow, IsLastRow}

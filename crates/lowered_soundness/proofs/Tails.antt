@@ -20,13 +20,15 @@ use Rattle.lowered_code.specs.Known.{Known}
 use Rattle.lowered_code.specs.Values.{Setting}
 use Rattle.lowered_code.specs.Bodies.{Return}
 use Rattle.lowered_code.specs.Bodies as Bodies
-use Rattle.lowered_soundness.specs.Describing.{Holding, held_at, kinds_of, setting, is_tree, using, using_all}
+use Rattle.laid_code.specs.Describing.{Holding, held_at, kinds_of, setting, is_tree}
+use Rattle.lowered_soundness.specs.Covering.{using, using_all}
 use Rattle.lowered_soundness.specs.Giving.{is_credit_of, can_pass_one, passing, can_pass, passing_all, can_hand, handing_all, can_lend_one, can_lend, behind_call, NothingLeft}
 use Rattle.lowered_soundness.specs.Parts.{Onward, LastPart}
 use Rattle.lowered_soundness.specs.Ties.{one_if, owners, own, is_read_of, HoldsValue, LiesIn}
-use Rattle.lowered_soundness.specs.Laid.{told, Quiet, Shares, IsFunctionOf}
-use Rattle.lowered_soundness.specs.GivenUp.{spending}
-use Rattle.lowered_soundness.specs.Handed.{CallLaid, TailLaid}
+use Rattle.laid_code.specs.Labels.{told, Quiet}
+use Rattle.lowered_soundness.specs.Laid.{Shares, IsFunctionOf}
+use Rattle.laid_code.specs.GivenUp.{spending}
+use Rattle.laid_code.specs.Handed.{CallLaid, TailLaid}
 use Rattle.lowered_soundness.specs.Passed.{Choose, borrows, IsReadIn, HoldPassed}
 use Rattle.lowered_soundness.proofs.Giving.{and_to}
 use Rattle.lowered_soundness.proofs.Straight.{tail_row}

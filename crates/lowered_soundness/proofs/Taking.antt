@@ -19,9 +19,9 @@ use Rattle.match_knowledge.specs.Known.{Known, Knowns, NoKnowns, MoreKnowns}
 use Rattle.match_code.specs.Spots.{Spot, Spots, NoSpots, MoreSpots, register, below, all_in, AllDiffer}
 use Rattle.match_code.specs.Opening.{as_many}
 use Rattle.match_code.proofs.Lists.{among_either, in_head, in_tail}
-use Rattle.lowered_soundness.specs.Describing.{Covered}
+use Rattle.lowered_soundness.specs.Covering.{Covered}
 use Rattle.lowered_soundness.specs.Rows.{IsRow}
-use Rattle.lowered_soundness.specs.Sights.{left, part_kind, AllBelow}
+use Rattle.laid_code.specs.Sights.{left, part_kind, AllBelow}
 use Rattle.lowered_soundness.proofs.Giving.{and_to}
 use Rattle.lowered_soundness.proofs.Looking.{whole}
 use Rattle.lowered_soundness.proofs.Positions.{OnePart}

@@ -25,7 +25,7 @@ use Rattle.match_knowledge.proofs.VerdictFacts.{if_asks}
 use Rattle.match_code.specs.Spots.{Spot, At, Spots, NoSpots, MoreSpots, register, below, all_in, Differ, AllDiffer}
 use Rattle.match_code.specs.Reading.{contains, Asked, asked, asked_first}
 use Rattle.match_code.proofs.Lists.{in_tail, in_part}
-use Rattle.lowered_soundness.specs.Sights.{left, part_kind, Unread, Below, AllBelow}
+use Rattle.laid_code.specs.Sights.{left, part_kind, Unread, Below, AllBelow}
 use Rattle.lowered_soundness.proofs.Arguments.{int_scalar}
 use Rattle.lowered_soundness.proofs.Lefts.{left_tag, left_has, left_without, head_fields, head_fresh}
 use Rattle.lowered_soundness.proofs.Looking.{MayTest, sided}

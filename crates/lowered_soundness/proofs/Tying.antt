@@ -10,7 +10,7 @@ use Rattle.kind_soundness.proofs.Basics.{or_not}
 use Rattle.lowered_code.specs.declared.held.Held.{Held}
 use Rattle.lowered_code.specs.declared.held.Held.TheVariants as H
 use Rattle.lowered_code.specs.Known.{Known, register_of}
-use Rattle.lowered_soundness.specs.Describing.{Holding, held_at, is_tree}
+use Rattle.laid_code.specs.Describing.{Holding, held_at, is_tree}
 use Rattle.lowered_soundness.specs.Giving.{is_owned_of, is_credit_of}
 use Rattle.lowered_soundness.specs.Ties.{one_if, owners, sized, counted, own, is_read_of, Balanced, Rooted, Stays, HoldsVariable, LiesIn, BareRight, Ties}
 use Rattle.lowered_soundness.proofs.Giving.{owned_tree}

@@ -15,12 +15,12 @@ use Rattle.lowered_code.specs.declared.held.Held.{Held}
 use Rattle.lowered_code.specs.declared.held.Held.TheVariants as H
 use Rattle.lowered_code.specs.Known.{Known, register_of, with_next, holding}
 use Rattle.lowered_code.specs.Values.{Setting, is_scalar, built, IsReused, IsNewAtom, IsLiteral}
-use Rattle.lowered_soundness.specs.Describing.{Holding, held_at, kind_of, kinds_of, setting, is_spare}
+use Rattle.laid_code.specs.Describing.{Holding, held_at, kind_of, kinds_of, setting, is_spare}
 use Rattle.lowered_soundness.specs.Giving.{is_owned_of, is_credit_of, atom_held}
 use Rattle.lowered_soundness.specs.Rows.{IsRow}
 use Rattle.lowered_soundness.specs.Parts.{Part, is_straight}
 use Rattle.lowered_soundness.specs.Ties.{one_if, owners, sized, own, HoldsValue, owe, owed, Stays, Ties}
-use Rattle.lowered_soundness.specs.Laid.{told, Quiet}
+use Rattle.laid_code.specs.Labels.{told, Quiet}
 use Rattle.lowered_soundness.specs.Computed.{Computed}
 use Rattle.lowered_soundness.proofs.Straight.{const_row, atom_row}
 use Rattle.lowered_soundness.proofs.Parts.{one_row, no_row}

@@ -10,7 +10,7 @@ use Rattle.sound_code.specs.Headers.{is_formed}
 use Rattle.sound_code.specs.Entry.{entry}
 use Rattle.sound_code.specs.Breaks.{BreaksWithin, BreaksFunction, IsSound}
 use Rattle.kind_soundness.proofs.Basics.{get_within, apart}
-use Rattle.lowered_soundness.specs.Describing.{Covered}
+use Rattle.lowered_soundness.specs.Covering.{Covered}
 use Rattle.lowered_soundness.specs.Parts.{IsKept, LastPart}
 use Rattle.lowered_soundness.specs.Whole.{KeepsRules}
 

@@ -11,7 +11,8 @@ use Rattle.kind_soundness.proofs.Basics.{pick, chosen, refused, or_not, equal, u
 use Rattle.lowered_code.specs.declared.held.Held.{Held}
 use Rattle.lowered_code.specs.declared.held.Held.TheVariants as H
 use Rattle.lowered_code.specs.Known.{Known, used_all}
-use Rattle.lowered_soundness.specs.Describing.{Holding, held_at, setting, is_tree, using, using_all}
+use Rattle.laid_code.specs.Describing.{Holding, held_at, setting, is_tree}
+use Rattle.lowered_soundness.specs.Covering.{using, using_all}
 use Rattle.lowered_soundness.specs.Giving.{is_owned_of, is_credit_of, can_give}
 use Rattle.lowered_soundness.specs.Ties.{one_if, owners, sized, counted, own, HoldsValue, AllHold, owe, owed, Balanced, Rooted, Stays, BareRight, Ties}
 use Rattle.lowered_soundness.proofs.Giving.{owned_tree}

@@ -6,10 +6,10 @@ use Rattle.type_check.specs.Scope.{Scope}
 use Rattle.sound_code.specs.Codes.{PlainCode, PlainFunction}
 use Rattle.lowered_code.specs.declared.held.Held.TheVariants as H
 use Rattle.lowered_code.specs.Known.{Known}
-use Rattle.lowered_soundness.specs.Describing.{held_at}
+use Rattle.laid_code.specs.Describing.{held_at}
 use Rattle.lowered_soundness.specs.Parts.{Part}
 use Rattle.lowered_soundness.specs.Ties.{owners, own, AllHold, owed, Stays, Ties}
-use Rattle.lowered_soundness.specs.Laid.{told}
+use Rattle.laid_code.specs.Labels.{told}
 
 pub record Computed (c : PlainCode) (f : PlainFunction) (fip : Bool) (s : Scope) (B : ℕ → Bool)
     (K : ℕ → Item → ℕ) (X : Item → ℕ) (e : ℕ → ℕ) (at : ℕ) (k : Known) (rs ts : List ℕ) (end : ℕ) (l : Known) :

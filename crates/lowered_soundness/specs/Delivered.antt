@@ -1,17 +1,17 @@
 -- It serves the proof that lowered code is sound: registers that wait for results, and results that came into them.
-use Rattle.std.specs.Prelude.{◌≡◌, ◌⊎◌, ℕ, suc, ◌+◌, ◌≤◌, Bool, List, [], ◌∷◌, length}
+use Rattle.std.specs.Prelude.{◌≡◌, ℕ, suc, ◌+◌, ◌≤◌, Bool, List, [], ◌∷◌, Some, length, take}
 use Rattle.fip_language.specs.Every.{Among}
-use Rattle.own_calculus.specs.Terms.{Item}
-use Rattle.type_check.specs.Scope.{Scope}
-use Rattle.cell_code.specs.declared.code.Instr.{Instr}
+use Rattle.own_calculus.specs.Terms.{Item, Own, Credit}
+use Rattle.type_check.specs.Scope.{Scope, of_binder}
 use Rattle.sound_code.specs.Codes.{PlainCode, PlainFunction}
 use Rattle.lowered_code.specs.declared.held.Held.TheVariants as H
-use Rattle.lowered_code.specs.Known.{Known}
-use Rattle.lowered_code.specs.Bodies.{IsMove, IsThere}
-use Rattle.lowered_soundness.specs.Describing.{held_at}
+use Rattle.lowered_code.specs.Known.{Known, register_of}
+use Rattle.laid_code.specs.Describing.{held_at}
 use Rattle.lowered_soundness.specs.Parts.{Part}
-use Rattle.lowered_soundness.specs.Ties.{AllHold, owed, Ties}
-use Rattle.lowered_soundness.specs.Laid.{told}
+use Rattle.lowered_soundness.specs.Ties.{owners, own, AllHold, owed, Stays, Ties}
+use Rattle.laid_code.specs.Labels.{told}
+use Rattle.laid_code.specs.Matches.{wide_at}
+use Rattle.laid_code.specs.Credits.{of_size}
 
 -- these registers are used already, hold nothing and are different ones
 abbrev pub Waiting : Known → List ℕ → Type 0
@@ -19,11 +19,21 @@ Waiting k [] = Unit {0}
 Waiting k (d ∷ ds) =
     (held_at k.held d ≡ H.Nothing) × (suc d ≤ k.next) × (Among d ds → ⊥) × Waiting k ds
 
+-- What X owns stays as it is, but that it may be forgotten which constructor was built: its registers, its names and
+-- its credits, which are the first of their sizes. What is lent of it stays too, and no variable in scope has another
+-- register than it had.
+pub record Keeps (s : Scope) (X : Item → ℕ) (k l : Known) : Type 0 where
+  pub stays : Stays (wide_at (held_at k.held)) (wide_at (held_at l.held)) (owners k.names (own X))
+  pub same : (x : ℕ) → 1 ≤ X (Own x) → register_of l.names (Some x) ≡ register_of k.names (Some x)
+  pub old : (x u r : ℕ) → of_binder s (Some x) ≡ Some (Some u) → register_of l.names (Some x) ≡ Some r →
+      register_of k.names (Some x) ≡ Some r
+  pub stack : (n : ℕ) →
+      take (X (Credit n)) (of_size n l.credits) ≡ take (X (Credit n)) (of_size n k.credits)
+
 -- From a to b results came into the registers ds; X is still owned.
 pub record Delivered (c : PlainCode) (f : PlainFunction) (fip : Bool) (s : Scope) (B : ℕ → Bool)
     (K : ℕ → Item → ℕ) (X : Item → ℕ) (a : ℕ) (k : Known) (ds ts : List ℕ) (b : ℕ) (l : Known) : Type 0 where
   pub grows : a ≤ b
-  pub still : a ≡ b → (r : ℕ) → told c k r ≡ told c l r
   pub part : Part c f a (told c k) b (told c l)
   pub next : k.next ≤ l.next
   pub width : length l.held ≡ length k.held
@@ -31,14 +41,4 @@ pub record Delivered (c : PlainCode) (f : PlainFunction) (fip : Bool) (s : Scope
   pub ties : Ties fip c.types s B K X (λ q. owed c.types ds ts q + 0) l
   pub hold : AllHold c.types (held_at l.held) ds ts
   pub empty : (r : ℕ) → suc r ≤ k.next → held_at k.held r ≡ H.Nothing → (Among r ds → ⊥) → held_at l.held r ≡ H.Nothing
-
--- a register's word goes to another one, or is there
-abbrev pub MoveLaid : List Instr → ℕ → Known → ℕ → ℕ → ℕ → Known → Type 0
-MoveLaid code at k r d end after = ((r ≡ d → ⊥) × IsMove code at k r d end after) ⊎ IsThere at k r d end after
-
--- one after another
-abbrev pub MovesLaid : List Instr → ℕ → Known → List ℕ → List ℕ → ℕ → Known → Type 0
-MovesLaid code at k [] ds end after = (end ≡ at) × (after ≡ k)
-MovesLaid code at k (r ∷ rs) [] end after = (end ≡ at) × (after ≡ k)
-MovesLaid code at k (r ∷ rs) (d ∷ ds) end after =
-    (mid : ℕ) × (m : Known) × MoveLaid code at k r d mid m × MovesLaid code mid m rs ds end after
+  pub keeps : Keeps s X k l

@@ -11,7 +11,8 @@ use Rattle.sound_code.specs.Kinds.{has}
 use Rattle.lowered_code.specs.declared.held.Held.{Held}
 use Rattle.lowered_code.specs.declared.held.Held.TheVariants as H
 use Rattle.lowered_code.specs.Known.{without}
-use Rattle.lowered_soundness.specs.Describing.{Holding, setting, using, is_spare}
+use Rattle.laid_code.specs.Describing.{Holding, setting, is_spare}
+use Rattle.lowered_soundness.specs.Covering.{using}
 
 -- a scalar of type u
 abbrev pub is_scalar_of : ℕ → Held → Bool

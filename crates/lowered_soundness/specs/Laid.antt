@@ -1,7 +1,5 @@
--- It serves the proof that lowered code is sound: the labels that stand in a straight part of a function's code, and
--- what of a program and its code is shared.
-use Rattle.std.specs.Prelude.{◌≡◌, ℕ, ◌<◌, Bool, true, List, Some, None, length, slice_get}
-use Rattle.cell_code.specs.declared.kind.Kind.{Kind}
+-- It serves the proof that lowered code is sound: what of a program and its code is shared.
+use Rattle.std.specs.Prelude.{◌≡◌, ℕ, ◌<◌, Bool, true, List, Some, length, slice_get}
 use Rattle.fip_trees.specs.Tree.{Instance}
 use Rattle.fip_rules.specs.Marks.{Mark}
 use Rattle.fip_rules.specs.Shapes.{known}
@@ -9,22 +7,11 @@ use Rattle.type_check.specs.Scope.{Scope, of_binder}
 use Rattle.type_check.specs.World.{World}
 use Rattle.type_check.specs.Typing.{Makes}
 use Rattle.own_agreement.specs.Bodies.{Scalars}
-use Rattle.sound_code.specs.Codes.{PlainCode, PlainFunction, params, credits, results, label_at}
+use Rattle.sound_code.specs.Codes.{PlainCode, params, credits, results}
 use Rattle.sound_code.specs.Headers.{are_types}
 use Rattle.sound_code.specs.Types.{is_type, is_scalar_type}
-use Rattle.lowered_code.specs.Known.{Known, joined}
+use Rattle.lowered_code.specs.Known.{joined}
 use Rattle.lowered_code.specs.Values.{Setting, is_scalar}
-use Rattle.lowered_soundness.specs.Describing.{held_at, kinds_of}
-use Rattle.lowered_soundness.specs.Parts.{Shows}
-
--- the narrowest kinds where this is known
-abbrev pub told : PlainCode → Known → ℕ → Kind
-told c k = kinds_of c.types (held_at k.held)
-
--- From a up to b no label stands behind a, and one at a tells just these kinds.
-pub record Quiet (f : PlainFunction) (a b : ℕ) (m : ℕ → Kind) : Type 0 where
-  pub first : a < b → Shows f a m
-  pub others : (p : ℕ) → a < p → p < b → label_at f.labels p ≡ None
 
 -- function f of the code is that of an instance
 pub record IsFunctionOf (c : PlainCode) (f : ℕ) (d : Instance) : Type 0 where

@@ -1,4 +1,4 @@
-pub mod Describing
+pub mod Covering
 pub mod Giving
 pub mod Rows
 pub mod Parts
@@ -6,17 +6,10 @@ pub mod Ties
 pub mod Whole
 pub mod Laid
 pub mod Computed
-pub mod GivenUp
 pub mod Delivered
-pub mod Handed
 pub mod Passed
-pub mod Sights
-pub mod Tests
-pub mod Matches
 pub mod Placed
-pub mod Bodies
 pub mod Functions
 pub mod Origins
 pub mod Accepted
 pub mod Built
-pub mod Example

@@ -4,15 +4,12 @@
 use Rattle.std.specs.Prelude.{◌≡◌, ℕ, ◌≤◌, ◌<◌, Bool, true, false, not, List, Some, slice_get}
 use Rattle.cell_code.specs.declared.code.Instr.{Instr}
 use Rattle.cell_code.specs.declared.code.Instr.TheVariants as I
-use Rattle.fip_trees.specs.Tree.{Instance, Program}
 use Rattle.call_groups.specs.CallGraph.{In}
 use Rattle.tail_groups.specs.Sites.{Site}
-use Rattle.sound_code.specs.Codes.{PlainCode, PlainFunction, function_at, is_fip}
+use Rattle.sound_code.specs.Codes.{PlainFunction}
 use Rattle.sound_code.specs.Calls.{IsCall}
 use Rattle.lowered_code.specs.Known.{joined}
 use Rattle.lowered_code.specs.Values.{Setting}
-use Rattle.lowered_code.specs.Functions.{IsSettingOf}
-use Rattle.lowered_soundness.specs.Functions.{FunctionLaid}
 
 -- a tree is dropped, or a credit freed
 abbrev pub gives_up : Instr → Bool
@@ -48,17 +45,3 @@ pub record HasOrigin (st : Setting) (fip : Bool) (ss : List Site) (x : Instr) : 
 abbrev pub HaveOrigins : Setting → Bool → PlainFunction → List Site → ℕ → ℕ → Type 0
 HaveOrigins st fip f ss a b =
     (p : ℕ) (x : Instr) → a ≤ p → p < b → slice_get f.instrs p ≡ Some x → HasOrigin st fip ss x
-
--- function n, which is f, is that of an instance of a program
-pub record IsLaid (c : PlainCode) (st : Setting) (p : Program) (n : ℕ) (f : PlainFunction) : Type 0 where
-  pub number : ℕ
-  pub instance : Instance
-  pub there : slice_get p.instances number ≡ Some instance
-  pub function : joined (slice_get st.functions number) ≡ Some n
-  pub kind : f.kind ≡ instance.kind
-  pub laid : FunctionLaid c st (is_fip f.kind) f instance
-
--- a code of which each function is that of an instance
-pub record AreLaid (c : PlainCode) (st : Setting) (p : Program) : Type 0 where
-  pub setting : IsSettingOf p st
-  pub each : (n : ℕ) (f : PlainFunction) → function_at c n ≡ Some f → IsLaid c st p n f

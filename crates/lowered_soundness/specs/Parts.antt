@@ -6,42 +6,22 @@ use Rattle.cell_code.specs.declared.code.Instr.{Instr}
 use Rattle.cell_code.specs.declared.code.Instr.TheVariants as I
 use Rattle.cell_code.specs.declared.kind.Kind.{Kind}
 use Rattle.sound_code.specs.Codes.{PlainCode, PlainFunction, label_at, is_fip}
-use Rattle.sound_code.specs.Kinds.{at}
 use Rattle.sound_code.specs.Fitting.{fits, fit_all}
 use Rattle.sound_code.specs.Ranges.{in_range}
 use Rattle.sound_code.specs.Asked.{sources, destinations}
 use Rattle.sound_code.specs.Endings.{is_end, spends_all, releases}
 use Rattle.sound_code.specs.Leaves.{Leaves, Jumps}
 use Rattle.sound_code.specs.Flow.{Comes, IsReachedAt}
-use Rattle.lowered_soundness.specs.Describing.{Covered}
+use Rattle.laid_code.specs.Labels.{Takes}
+use Rattle.lowered_soundness.specs.Covering.{Covered}
 
 -- kinds that come to instruction p from the one before it, where no label stands there, are as told
 abbrev pub Arrives : PlainCode → PlainFunction → ℕ → (ℕ → Kind) → Type 0
 Arrives c f p m = label_at f.labels p ≡ None → (ks : List Kind) → Comes c f p ks → Covered f.registers m ks
 
--- a map takes what is told
-pub record Takes (n : ℕ) (map : List Kind) (m : ℕ → Kind) : Type 0 where
-  pub wide : length map ≡ n
-  pub each : (r : ℕ) → fits (at map r) (m r) ≡ true
-
 -- a label at p takes what is told
 abbrev pub Admits : PlainFunction → ℕ → (ℕ → Kind) → Type 0
 Admits f p m = (map : List Kind) → label_at f.labels p ≡ Some map → Takes f.registers map m
-
--- a label stands at p and takes these kinds
-pub record Catches (f : PlainFunction) (p : ℕ) (m : ℕ → Kind) : Type 0 where
-  pub map : List Kind
-  pub there : label_at f.labels p ≡ Some map
-  pub takes : Takes f.registers map m
-
--- a map tells just these kinds
-pub record Tells (n : ℕ) (map : List Kind) (m : ℕ → Kind) : Type 0 where
-  pub wide : length map ≡ n
-  pub each : (r : ℕ) → at map r ≡ m r
-
--- a label at p tells just these kinds
-abbrev pub Shows : PlainFunction → ℕ → (ℕ → Kind) → Type 0
-Shows f p m = (map : List Kind) → label_at f.labels p ≡ Some map → Tells f.registers map m
 
 -- where instruction i, which is x, goes on with these kinds
 abbrev pub Onward : PlainCode → List Kind → ℕ → Instr → ℕ → List Kind → Type 0

@@ -6,7 +6,7 @@ use Rattle.fip_base.specs.declared.plain.Param.{Param}
 use Rattle.type_check.specs.Scope.{Scope, of_binder}
 use Rattle.sound_code.specs.Types.{is_scalar_type}
 use Rattle.lowered_code.specs.Known.{Known, register_of}
-use Rattle.lowered_soundness.specs.Describing.{Holding, held_at}
+use Rattle.laid_code.specs.Describing.{Holding, held_at}
 use Rattle.lowered_soundness.specs.Ties.{HoldsValue, owe, is_read_of, LiesIn}
 
 abbrev pub Choose : Bool → Type 0 → Type 0 → Type 0

@@ -7,7 +7,7 @@ use Rattle.sound_code.specs.Codes.{PlainCode, PlainFunction}
 use Rattle.sound_code.specs.Asked.{sources, destinations}
 use Rattle.sound_code.specs.Endings.{spends_all}
 use Rattle.sound_code.specs.Leaves.{Leaves}
-use Rattle.lowered_soundness.specs.Describing.{Covered}
+use Rattle.lowered_soundness.specs.Covering.{Covered}
 
 pub record IsRow (c : PlainCode) (f : PlainFunction) (m : ℕ → Kind) (x : Instr) (l : ℕ → Kind) : Type 0 where
   pub sources : (ks : List Kind) → Covered f.registers m ks → sources c f ks x ≡ true

@@ -14,7 +14,7 @@ use Rattle.lowered_code.specs.declared.held.Held.{Held}
 use Rattle.lowered_code.specs.declared.held.Held.TheVariants as H
 use Rattle.lowered_code.specs.declared.held.Credit as C
 use Rattle.lowered_code.specs.Known.{Known, register_of}
-use Rattle.lowered_soundness.specs.Describing.{Holding, held_at, is_tree}
+use Rattle.laid_code.specs.Describing.{Holding, held_at, is_tree}
 use Rattle.lowered_soundness.specs.Giving.{is_owned_of, is_credit_of}
 
 -- 1 where two numbers are the same

@@ -10,10 +10,11 @@ ghost use Rattle.lowered_code.specs.Bodies.{has_function};
 ghost use Rattle.lowered_code.specs.Values.{Setting};
 ghost use Rattle.lowered_soundness.specs.Accepted.{IsDerived, IsInRange, IsWithinLimits};
 ghost use Rattle.lowered_soundness.specs.Built.{BuildsBlock};
-ghost use Rattle.lowered_soundness.specs.Example.{lists_code, reversing};
-ghost use Rattle.lowered_soundness.specs.Functions.{FunctionLaid, IsNumbered};
+ghost use Rattle.laid_code.specs.Example.{lists_code, reversing};
+ghost use Rattle.laid_code.specs.Functions.{FunctionLaid, AreLaid, IsLaid};
+ghost use Rattle.lowered_soundness.specs.Functions.{IsNumbered};
 ghost use Rattle.lowered_soundness.specs.Laid.{Shares};
-ghost use Rattle.lowered_soundness.specs.Origins.{AreLaid, HasOrigin, IsLaid};
+ghost use Rattle.lowered_soundness.specs.Origins.{HasOrigin};
 ghost use Rattle.lowered_soundness.specs.Parts.{IsKept};
 ghost use Rattle.lowered_soundness.specs.Placed.{Callees, ParamsTyped};
 ghost use Rattle.lowered_soundness.specs.Whole.{KeepsRules};
@@ -39,9 +40,9 @@ pub fn functions_make_a_code_sound()
         ((n : ℕ) (f : PlainFunction) → function_at c n ≡ Some f → KeepsRules c n f) → IsSound c }
 {}
 
-/// A typed instance of which ownership and credits have a derivation, and whose matches give the function's results:
-/// each instruction of its function, reached with whatever kinds, has its registers as asked, goes on to kinds that
-/// labels take, and where it ends the function nothing that is owned and no credit is left.
+/// A typed instance of which ownership and credits have a derivation: each instruction of its function, reached with
+/// whatever kinds, has its registers as asked, goes on to kinds that labels take, and where it ends the function
+/// nothing that is owned and no credit is left.
 pub fn functions_break_no_rule()
     ensures law { (c : PlainCode) (f : PlainFunction) (st : Setting) (wd : W.World) (w : R.World) (fip : Bool)
         (d : Instance) → Shares c st wd → Callees c st wd w → FunctionLaid c st fip f d → IsNumbered w d →
@@ -89,11 +90,6 @@ pub fn laid_functions_make_a_code_sound()
         ((v : Violation) → Violates p v → ⊥) → ((i : ℕ) (d : Instance) → slice_get p.instances i ≡ Some d →
         has_function d.kind ≡ Bool.true → IsDerived c wd w d) → ((n : ℕ) (f : PlainFunction) (l : IsLaid c st p n f) →
         function_at c n ≡ Some f → IsWithinLimits c f l.instance) → IsSound c }
-{}
-
-/// The function of `rev` is laid out as its body asks. For who asks whether the definitions are met.
-pub fn an_example_is_laid()
-    ensures law { FunctionLaid lists_code lists_setting Bool.true reversing rev }
 {}
 
 /// The code of `rev` is laid out as its program asks, within the limits and with label maps that are formed. For who

@@ -1,11 +1,10 @@
-// Lowered code keeps the rules of sound code: each function of an instance that was accepted, where its matches give
-// the function's results. Laws; no code.
+// Lowered code keeps the rules of sound code: each function of an instance that was accepted. Laws; no code.
 #![tactic(auto)]
 
 mod laws;
 
 pub use laws::{
-    an_example_code_is_laid, an_example_is_laid, calls_come_from_the_body,
-    fip_functions_release_nothing, fip_functions_wait_for_no_group_member, functions_break_no_rule,
-    functions_make_a_code_sound, laid_functions_make_a_code_sound, numbers_are_in_range,
+    an_example_code_is_laid, calls_come_from_the_body, fip_functions_release_nothing,
+    fip_functions_wait_for_no_group_member, functions_break_no_rule, functions_make_a_code_sound,
+    laid_functions_make_a_code_sound, numbers_are_in_range,
 };

@@ -1,16 +1,14 @@
--- It serves the proof that lowered code is sound: what lowering knows of the registers, against the kinds that a
--- verifier knows: these are told exactly. A register that holds nothing that is used any more is Gone.
--- Where register 0 holds Owned 2 None and register 1 nothing, the kinds Owned 2 (0 ∷ 1 ∷ []) and Gone are known.
-use Rattle.std.specs.Prelude.{◌≡◌, ℕ, zero, suc, Bool, true, false, List, [], ◌∷◌, Option, Some, None, length}
+-- It serves the proof that lowered code is sound: what lowering knows of the registers, and the kinds that are told of
+-- them. A register that holds nothing that is used any more is Gone.
+-- Where register 0 holds Owned 2 None and register 1 nothing, the kinds Owned 2 (0 ∷ 1 ∷ []) and Gone are told.
+use Rattle.std.specs.Prelude.{ℕ, zero, suc, Bool, true, false, List, [], ◌∷◌, Option, Some, None}
 use Rattle.std.specs.Prelude.{if◌then◌else◌, ◌==◌}
 use Rattle.fip_language.specs.Table.{Table}
 use Rattle.cell_code.specs.declared.kind.Kind.{Kind}
 use Rattle.cell_code.specs.declared.kind.Kind.TheVariants as K
 use Rattle.sound_code.specs.Types.{all}
-use Rattle.sound_code.specs.Kinds.{at}
 use Rattle.lowered_code.specs.declared.held.Held.{Held}
 use Rattle.lowered_code.specs.declared.held.Held.TheVariants as H
-use Rattle.lowered_code.specs.Known.{without}
 
 -- what each register holds
 abbrev pub Holding : Type 0
@@ -39,15 +37,6 @@ kind_of w (H.Bare t c) = K.Owned t (c ∷ [])
 abbrev pub kinds_of : Table → Holding → ℕ → Kind
 kinds_of w g r = kind_of w (g r)
 
--- Where the first kind is told, just this one is known.
-abbrev pub Covers : Kind → Kind → Type 0
-Covers m k = k ≡ m
-
--- the kinds of n registers, as they are told
-pub record Covered (n : ℕ) (m : ℕ → Kind) (ks : List Kind) : Type 0 where
-  pub wide : length ks ≡ n
-  pub each : (r : ℕ) → Covers (m r) (at ks r)
-
 -- register d holds this from now on
 abbrev pub setting : Holding → ℕ → Held → Holding
 setting g d h q = if q == d then h else g q
@@ -59,14 +48,6 @@ is_tree (H.Owned t b) = true
 is_tree (H.Lent t root) = false
 is_tree (H.Credit n) = false
 is_tree (H.Bare t c) = false
-
--- where register r holds an owned tree, this is used up, and what was lent of it isn't read any more
-abbrev pub using : Holding → ℕ → Holding
-using g r q = if is_tree (g r) then (if q == r then H.Nothing else without r (g q)) else g q
-
-abbrev pub using_all : Holding → List ℕ → Holding
-using_all g [] = g
-using_all g (r ∷ rs) = using_all (using g r) rs
 
 -- It may be overwritten.
 abbrev pub is_spare : Held → Bool

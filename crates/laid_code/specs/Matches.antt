@@ -19,10 +19,9 @@ use Rattle.match_code.specs.Spots.{register, below, Differ}
 use Rattle.match_code.specs.Rows.{row_of}
 use Rattle.match_code.specs.Opening.{Roomy}
 use Rattle.match_code.specs.Entering.{entering_root}
-use Rattle.lowered_soundness.specs.Describing.{Holding, held_at}
-use Rattle.lowered_soundness.specs.Parts.{Catches}
-use Rattle.lowered_soundness.specs.Laid.{told}
-use Rattle.lowered_soundness.specs.Tests.{Choice, ChunkLaid, SidesLaid}
+use Rattle.laid_code.specs.Describing.{Holding, held_at}
+use Rattle.laid_code.specs.Labels.{Catches, told}
+use Rattle.laid_code.specs.Tests.{Choice, ChunkLaid, SidesLaid}
 
 -- which constructor was built isn't known
 abbrev pub widened : Held → Held

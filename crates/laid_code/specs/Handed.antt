@@ -10,9 +10,10 @@ use Rattle.lowered_code.specs.declared.held.Held.TheVariants as H
 use Rattle.lowered_code.specs.Known.{Known, joined}
 use Rattle.lowered_code.specs.Values.{Setting}
 use Rattle.lowered_code.specs.Bodies.{Target, Return, Into, result_type, GoesTo, handed, AreTaken, IsCallOf}
-use Rattle.lowered_soundness.specs.Describing.{held_at}
-use Rattle.lowered_soundness.specs.GivenUp.{GivesUp, AllGivenUp, RetLaid}
-use Rattle.lowered_soundness.specs.Delivered.{MovesLaid}
+use Rattle.laid_code.specs.Describing.{held_at}
+use Rattle.laid_code.specs.Credits.{LastGone}
+use Rattle.laid_code.specs.GivenUp.{GivesUp, AllGivenUp, RetLaid}
+use Rattle.laid_code.specs.Moves.{MovesLaid}
 
 -- results in registers are the function's, or go to registers
 abbrev pub GivenLaid : Bool → PlainFunction → ℕ → Known → List ℕ → Target → ℕ → Known → Type 0
@@ -41,7 +42,7 @@ abbrev pub EndsCallLaid : Setting → Bool → PlainFunction → ℕ → Known �
 EndsCallLaid s fip f at m g rs results Return end after = TailLaid fip f at m g rs end
 EndsCallLaid s fip f at m g rs results (Into ds) end after = IsCallOf s f.instrs at m g rs results ds end after
 
--- a call of instance g with arguments in registers rs
+-- a call of instance g with arguments in registers rs; the last credits of each size are handed over
 pub record CallLaid (s : Setting) (fip : Bool) (f : PlainFunction) (at : ℕ) (k : Known) (g : ℕ) (rs : List ℕ)
     (target : Target) (end : ℕ) (after : Known) : Type 0 where
   pub function : ℕ
@@ -51,4 +52,5 @@ pub record CallLaid (s : Setting) (fip : Bool) (f : PlainFunction) (at : ℕ) (k
   pub numbered : joined (slice_get s.functions g) ≡ Some function
   pub there : slice_get s.instances g ≡ Some instance
   pub taken : AreTaken (record k { held = handed k.held instance.params rs }) instance.credits credits m
+  pub last : LastGone k.credits m.credits
   pub ends : EndsCallLaid s fip f at m function (rs ++ credits) instance.results target end after

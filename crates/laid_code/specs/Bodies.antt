@@ -1,6 +1,7 @@
 -- It serves the proof that lowered code is sound: which instructions compute an expression or a block, with the labels
--- and the instructions that give up what is left. Of a match it tells only where its clauses give the function's
--- results: the bodies of the clauses stand in the order of the text, each behind the tests that choose it.
+-- and the instructions that give up what is left. The bodies of a match's clauses stand in the order of the text, each
+-- behind the tests that choose it; where a let binds the match, they give its value to the let's registers and meet
+-- behind the last one.
 use Rattle.std.specs.Prelude.{◌≡◌, ◌⊎◌, ◌≤◌, ℕ, suc, Bool, List, [], ◌∷◌}
 use Rattle.fip_language.specs.declared.Place.{Place}
 use Rattle.fip_language.specs.declared.Operator.{Operator}
@@ -10,17 +11,20 @@ use Rattle.sound_code.specs.Codes.{PlainCode, PlainFunction}
 use Rattle.lowered_code.specs.Known.{Known}
 use Rattle.lowered_code.specs.Values.{Setting, ArgumentsAt}
 use Rattle.lowered_code.specs.Bodies.{Target, Into, Return, registers_for, reserved, with_names}
-use Rattle.lowered_soundness.specs.Describing.{held_at}
-use Rattle.lowered_soundness.specs.Laid.{told, Quiet}
-use Rattle.lowered_soundness.specs.Tests.{Choice, SidesLaid}
-use Rattle.lowered_soundness.specs.Matches.{wide_at, entered, EntryLaid, MatchLaid}
-use Rattle.lowered_soundness.specs.Handed.{GivenLaid, OperationLaid, CallLaid}
+use Rattle.laid_code.specs.Describing.{held_at}
+use Rattle.laid_code.specs.Labels.{told, Quiet}
+use Rattle.laid_code.specs.Tests.{Choice, SidesLaid}
+use Rattle.laid_code.specs.Matches.{wide_at, entered, EntryLaid, MatchLaid}
+use Rattle.laid_code.specs.Credits.{LastGone}
+use Rattle.laid_code.specs.Joins.{BaresEnd, ClauseEnds, Met, Meets}
+use Rattle.laid_code.specs.Handed.{GivenLaid, OperationLaid, CallLaid}
 
--- Values are computed into registers, and nothing else stands there.
+-- Values are computed into registers, and nothing else stands there. The last credits of each size are used.
 pub record ValuesLaid (c : PlainCode) (st : Setting) (f : PlainFunction) (at : ℕ) (k : Known) (as' : Arguments)
     (rs : List ℕ) (mid : ℕ) (m : Known) : Type 0 where
   pub arguments : ArgumentsAt st f.instrs at k as' rs mid m
   pub room : m.next ≤ f.registers
+  pub last : LastGone k.credits m.credits
 
 -- values that go to the target
 pub record GiveLaid (c : PlainCode) (st : Setting) (fip : Bool) (f : PlainFunction) (at : ℕ) (k : Known)
@@ -40,8 +44,8 @@ pub record OperatorLaid (c : PlainCode) (st : Setting) (fip : Bool) (f : PlainFu
   pub mid : ℕ
   pub m : Known
   pub values : ValuesLaid c st f at k (MoreArguments a (MoreArguments b NoArguments)) (left ∷ right ∷ []) mid m
-  pub one_more : suc m.next ≤ f.registers
   pub operation : OperationLaid fip f mid m o p left right target end after
+  pub one_more : operation.holds.next ≤ f.registers
   pub quiet : Quiet f at end (told c k)
 
 -- a call of instance g
@@ -80,7 +84,12 @@ abbrev mutual
       OperatorLaid c st fip f at k o p a b target end after
   ExpressionLaid c st fip f at k (Call g n p as') target end after =
       CalledLaid c st fip f at k g as' target end after
-  ExpressionLaid c st fip f at k (Match ds t p a q b cs) (Into rs) end after = ⊥
+  ExpressionLaid c st fip f at k (Match ds t p a q b cs) (Into rs) end after =
+      (begin : ℕ) × (k0 : Known) × (ch : Choice) × (l : Known) × (e : ℕ) × (n : ℕ) × (mid : ℕ) × (m : Known)
+      × (next : ℕ) × (left : Known) × (met : Known) × BaresEnd c f at k begin k0
+      × Quiet f at begin (told c k) × MatchLaid c st f begin k0 ds t a q cs ch l e × EntryLaid c st f ch l 0 q e n
+      × BlockLaid c st fip f e (entered st ch q l n) b (Into rs) mid m × ClauseEnds c f cs mid m end next left
+      × ClausesMeet c st fip f ch l 1 cs rs end left next met × Meets c f met end after
   ExpressionLaid c st fip f at k (Match ds t p a q b cs) Return end after =
       (ch : Choice) × (l : Known) × (e : ℕ) × (n : ℕ) × (mid : ℕ) × (m : Known)
       × MatchLaid c st f at k ds t a q cs ch l e × EntryLaid c st f ch l 0 q e n
@@ -104,3 +113,15 @@ abbrev mutual
       (more : ℕ) × (start : ℕ) × (n : ℕ) × (mid : ℕ) × (m : Known)
       × SidesLaid c f (wide_at (held_at l.held)) ch more at start × EntryLaid c st f ch l i q start n
       × BlockLaid c st fip f start (entered st ch q l n) b Return mid m × ClausesLaid c st fip f ch l (suc i) cs mid end
+
+  -- The clauses from number i on, where the match is bound by a let; j is known where those before them meet, and met
+  -- is where all do.
+  pub ClausesMeet :
+      PlainCode → Setting → Bool → PlainFunction → Choice → Known → ℕ → Clauses → List ℕ → ℕ → Known → ℕ → Known →
+      Type 0
+  ClausesMeet c st fip f ch l i NoClauses rs end j at met = (at ≡ end) × (met ≡ j)
+  ClausesMeet c st fip f ch l i (MoreClauses q b cs) rs end j at met =
+      (more : ℕ) × (start : ℕ) × (n : ℕ) × (mid : ℕ) × (m : Known) × (next : ℕ) × (left : Known) × (both : Known)
+      × SidesLaid c f (wide_at (held_at l.held)) ch more at start × EntryLaid c st f ch l i q start n
+      × BlockLaid c st fip f start (entered st ch q l n) b (Into rs) mid m × ClauseEnds c f cs mid m end next left
+      × Met fip j left both × ClausesMeet c st fip f ch l (suc i) cs rs end both next met

@@ -20,7 +20,7 @@ use Rattle.match_code.specs.Reading.{contains}
 use Rattle.match_code.specs.Entering.{root_of}
 use Rattle.lowered_code.specs.declared.held.Held.{Held}
 use Rattle.lowered_code.specs.declared.held.Held.TheVariants as H
-use Rattle.lowered_soundness.specs.Describing.{Holding, kind_of}
+use Rattle.laid_code.specs.Describing.{Holding, kind_of}
 
 -- the numbers of a list for which something holds
 abbrev pub kept : (ℕ → Bool) → List ℕ → List ℕ

@@ -23,15 +23,15 @@ use Rattle.lowered_code.specs.Known.{Known, register_of, holding}
 use Rattle.lowered_code.specs.Values.{IsVariable, with_put}
 use Rattle.lowered_code.specs.Bodies.{handed}
 use Rattle.lowered_code.specs.Example.{lists_setting, at_start}
-use Rattle.lowered_soundness.specs.Describing.{Holding, held_at}
-use Rattle.lowered_soundness.specs.Parts.{Takes, Catches, Tells, Shows}
-use Rattle.lowered_soundness.specs.Laid.{told, Quiet}
-use Rattle.lowered_soundness.specs.Sights.{Sight}
-use Rattle.lowered_soundness.specs.GivenUp.{AllGivenUp}
-use Rattle.lowered_soundness.specs.Tests.{Choice, ChunkLaid, SideLaid}
-use Rattle.lowered_soundness.specs.Matches.{BuiltRight, MatchBegins, MatchLaid, entered, EntryLaid, wide_at}
-use Rattle.lowered_soundness.specs.Functions.{FunctionLaid}
-use Rattle.lowered_soundness.specs.Example.{nil_kinds, failed_kinds, cons_kinds, reversing, lists_code}
+use Rattle.laid_code.specs.Describing.{Holding, held_at}
+use Rattle.laid_code.specs.Labels.{Takes, Catches, Tells, Shows, told, Quiet}
+use Rattle.laid_code.specs.Sights.{Sight}
+use Rattle.laid_code.specs.Credits.{of_size}
+use Rattle.laid_code.specs.GivenUp.{AllGivenUp}
+use Rattle.laid_code.specs.Tests.{Choice, ChunkLaid, SideLaid}
+use Rattle.laid_code.specs.Matches.{BuiltRight, MatchBegins, MatchLaid, entered, EntryLaid, wide_at}
+use Rattle.laid_code.specs.Functions.{FunctionLaid}
+use Rattle.laid_code.specs.Example.{nil_kinds, failed_kinds, cons_kinds, reversing, lists_code}
 
 abbrev root : Spot
 root = At 0 (MoreSpots (At 2 NoSpots) (MoreSpots (At 3 NoSpots) NoSpots))
@@ -125,7 +125,7 @@ below_not q a b (inr (inr m)) = m
 failed_takes : (m : ℕ → Kind) → FailedSight (held_at at_tests.held) m → Catches reversing 3 m
 failed_takes m sight = record { map = failed_kinds; there = refl; takes = record { wide = refl; each = each } }
   where
-    other : (q : ℕ) (k own : Kind) → (q ≡ 0 → ⊥) → (q ≡ 2 → ⊥) → (q ≡ 3 → ⊥) → Rattle.lowered_soundness.specs.Describing.kind_of lists_code.types (held_at at_tests.held q) ≡ own → fits k own ≡ true → fits k (m q) ≡ true
+    other : (q : ℕ) (k own : Kind) → (q ≡ 0 → ⊥) → (q ≡ 2 → ⊥) → (q ≡ 3 → ⊥) → Rattle.laid_code.specs.Describing.kind_of lists_code.types (held_at at_tests.held q) ≡ own → fits k own ≡ true → fits k (m q) ≡ true
     other q k own a b d is e = ap (fits k) (sight.others q a (below_not q b d) ∙ is) ∙ e
 
     each : (r : ℕ) → fits (at failed_kinds r) (m r) ≡ true
@@ -146,7 +146,7 @@ failed_sight = record { root = refl; parts = unread; others = others }
     unread z (inr (inl e)) = (refl, ap (at failed_kinds) e)
     unread z (inr (inr m)) = absurd m
 
-    others : (q : ℕ) → (q ≡ 0 → ⊥) → (Among q (2 ∷ 3 ∷ []) → ⊥) → at failed_kinds q ≡ Rattle.lowered_soundness.specs.Describing.kind_of lists_code.types (wide_at (held_at at_tests.held) q)
+    others : (q : ℕ) → (q ≡ 0 → ⊥) → (Among q (2 ∷ 3 ∷ []) → ⊥) → at failed_kinds q ≡ Rattle.laid_code.specs.Describing.kind_of lists_code.types (wide_at (held_at at_tests.held) q)
     others zero ne away = absurd (ne refl)
     others (suc zero) ne away = refl
     others (suc (suc zero)) ne away = absurd (away (inl refl))
@@ -371,7 +371,7 @@ rev_is_laid = record {
       registers = 1 ∷ [];
       mid = 1;
       m = at_nil;
-      values = record { arguments = (1, at_nil, variable_at 1 at_nil (Some 1) 1 refl, (refl, refl)); room = omega arith };
+      values = record { arguments = (1, at_nil, variable_at 1 at_nil (Some 1) 1 refl, (refl, refl)); room = omega arith; last = λ n. ([], refl) };
       given = record {
         steps = 1;
         stop = 2;
@@ -418,6 +418,7 @@ rev_is_laid = record {
             ),
           );
           room = omega arith;
+          last = λ n. (of_size n at_cons.credits, refl);
         };
         call = record {
           function = 0;
@@ -427,6 +428,7 @@ rev_is_laid = record {
           numbered = refl;
           there = refl;
           taken = refl;
+          last = λ n. ([], refl);
           ends = record { steps = 0; stop = 5; left = handed_on; gives = (refl, refl); done = cons_done; written = refl; one = refl };
         };
         quiet = quiet_cons;

@@ -18,10 +18,9 @@ use Rattle.match_code.specs.Rows.{row_of}
 use Rattle.match_code.specs.Reading.{contains, Asked, asked}
 use Rattle.match_code.specs.Opening.{as_many, names_any}
 use Rattle.match_code.specs.Landing.{test_of}
-use Rattle.lowered_soundness.specs.Describing.{Holding}
-use Rattle.lowered_soundness.specs.Parts.{Catches}
-use Rattle.lowered_soundness.specs.Laid.{Quiet}
-use Rattle.lowered_soundness.specs.Sights.{Sight}
+use Rattle.laid_code.specs.Describing.{Holding}
+use Rattle.laid_code.specs.Labels.{Catches, Quiet}
+use Rattle.laid_code.specs.Sights.{Sight}
 
 -- what tests are written of: the type of the scrutinee, its position and those below it, whether its cells are taken
 -- apart, the clauses' patterns, and where the bodies of the clauses begin

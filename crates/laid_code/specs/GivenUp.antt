@@ -7,7 +7,7 @@ use Rattle.sound_code.specs.Codes.{PlainFunction}
 use Rattle.lowered_code.specs.declared.held.Held.TheVariants as H
 use Rattle.lowered_code.specs.declared.held.Credit.{Credit}
 use Rattle.lowered_code.specs.Known.{Known, holding, using, used, used_all, IsTaken}
-use Rattle.lowered_soundness.specs.Describing.{Holding, held_at, is_tree, setting}
+use Rattle.laid_code.specs.Describing.{Holding, held_at, is_tree, setting}
 
 -- a constructor that was matched is used up
 pub record EndsBare (f : PlainFunction) (at : ℕ) (k l : Known) : Type 0 where

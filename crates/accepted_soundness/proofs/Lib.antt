@@ -1,0 +1,7 @@
+pub mod Worlds
+pub mod Numbering
+pub mod Regular
+pub mod Functions
+pub mod Sharing
+pub mod Building
+pub mod Whole

@@ -1,0 +1,13 @@
+pub mod Describing
+pub mod Labels
+pub mod Sights
+pub mod Tests
+pub mod Matches
+pub mod GivenUp
+pub mod Credits
+pub mod Joins
+pub mod Moves
+pub mod Handed
+pub mod Bodies
+pub mod Functions
+pub mod Example

@@ -21,8 +21,8 @@ use Rattle.match_code.proofs.Arriving.{resumes_lost}
 use Rattle.match_code.proofs.Choices.{patterns_in}
 use Rattle.lowered_code.proofs.Lists.{fewer_on, barer_on}
 use Rattle.cell_lower.specs.declared.choices.Choice.{Choice}
-use Rattle.cell_lower.specs.declared.spots.Spot.{Spot}
-use Rattle.cell_lower.specs.Positions.{spot_of, reaching}
+use Rattle.lower_frame.specs.declared.spots.Spot.{Spot}
+use Rattle.lower_frame.specs.Positions.{spot_of, reaching}
 use Rattle.cell_lower.specs.declared.matches.Matching.{Matching}
 use Rattle.cell_lower.specs.Scenes.{patterns_of, HasRows, ChoosesIf}
 use Rattle.cell_lower.specs.Clauses.{Spotted, AddsPattern, HasPositions, StartsIn}
@@ -30,7 +30,9 @@ use Rattle.match_code.specs.Written.{Written, size, Extends, IsAt}
 use Rattle.match_code.specs.Landing.{Side}
 use Rattle.match_code.specs.Entering.{entering_root}
 use Rattle.code_size.specs.Places.{argument_places}
-use Rattle.cell_lower.specs.Growth.{Adds, HasRoom, Sheds, labels, registers}
+use Rattle.cell_lower.specs.Growth.{Adds, Sheds}
+use Rattle.lower_frame.specs.Registers.{HasRoom, registers}
+use Rattle.lower_frame.specs.Labels.{labels}
 use Rattle.cell_lower.proofs.Shedding.{full_most, root_length}
 
 same_some : {A : Type 0} (x y : A) → Some x ≡ Some y → x ≡ y

@@ -17,7 +17,8 @@ use Rattle.cell_lower.specs.Writing.{Computes, ComputesAll, Gives, Operates, Cal
 use Rattle.match_code.proofs.Placing.{extends_on, front, back}
 use Rattle.code_size.specs.Bounds.{most_for}
 use Rattle.code_size.specs.Places.{argument_places, arguments_places, expression_places, block_places}
-use Rattle.cell_lower.specs.Growth.{registers, Adds}
+use Rattle.lower_frame.specs.Registers.{registers}
+use Rattle.cell_lower.specs.Growth.{Adds}
 use Rattle.cell_lower.proofs.Shedding.{adds_on, adds_less, adds_within, adds_both}
 use Rattle.cell_lower.proofs.Writing.{argument_one}
 use Rattle.cell_lower.proofs.Calling.{stay_on}

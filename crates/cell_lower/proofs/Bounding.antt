@@ -1,7 +1,5 @@
 -- How much a match has written: its clauses pay for what they hold, and its branches for its tests.
-use Rattle.std.proofs.Common.{◌≡◌, ◌⊎◌, inl, inr, refl, sym, ap, ◌∙◌, subst, arith, ℕ, suc, ◌+◌, ◌*◌, ◌<◌, ◌≤◌, List, [], ◌∷◌, ◌++◌, length, max, map, Option, Some, None}
-use Rattle.fip_language.specs.Every.{Among}
-use Rattle.fip_language.specs.Table.{Table}
+use Rattle.std.proofs.Common.{◌≡◌, ◌⊎◌, inl, inr, refl, sym, ap, ◌∙◌, subst, arith, ℕ, suc, ◌+◌, ◌*◌, ◌≤◌, List, [], ◌∷◌, length, map, Option, Some, None}
 use Rattle.fip_trees.specs.Tree.{Argument, Pattern, BinderPattern, LiteralPattern, ConstructorPattern, Patterns, NoPatterns, MorePatterns, Block, Clauses, NoClauses, MoreClauses}
 use Rattle.fip_trees.specs.TreeView.{Case}
 use Rattle.cell_code.specs.declared.code.Instr.TheVariants as I
@@ -12,10 +10,9 @@ use Rattle.match_cover.specs.PatternView.{pattern_nodes}
 use Rattle.lowered_code.specs.Known.{Known}
 use Rattle.lowered_code.specs.Values.{Setting}
 use Rattle.lowered_code.specs.Bodies as B
-use Rattle.match_code.specs.Written.{Written, size, added}
+use Rattle.match_code.specs.Written.{Written, size}
 use Rattle.match_code.specs.Rows.{row_of, rows_of}
 use Rattle.match_code.specs.Spots as S
-use Rattle.match_code.specs.Landing.{Side}
 use Rattle.match_code.proofs.Choices.{patterns_in}
 use Rattle.match_code.proofs.Placing.{one_longer}
 use Rattle.code_size.specs.Bounds.{most_for}
@@ -23,9 +20,11 @@ use Rattle.code_size.specs.Places as P
 use Rattle.code_size.specs.Places.{argument_places, block_places, clauses_places, match_branches}
 use Rattle.cell_lower.specs.declared.matches.Matching.{Matching}
 use Rattle.cell_lower.specs.declared.matches.Progress.{Progress}
-use Rattle.cell_lower.specs.Growth.{registers, labels, full, Adds, Sheds, Spends, Stay, HasRoom, IsRoom, left, side_cost, sides_cost, sides_left}
-use Rattle.cell_lower.specs.Positions.{spot_of}
-use Rattle.cell_lower.specs.Scenes.{patterns_of, HasRows, sides_of, first_side}
+use Rattle.lower_frame.specs.Registers.{registers, HasRoom}
+use Rattle.lower_frame.specs.Labels.{labels}
+use Rattle.cell_lower.specs.Growth.{Adds, Sheds, Spends, Stay, IsRoom, left, side_cost, sides_cost, sides_left}
+use Rattle.lower_frame.specs.Positions.{spot_of}
+use Rattle.cell_lower.specs.Scenes.{patterns_of, sides_of, first_side}
 use Rattle.cell_lower.specs.Clauses.{Spotted, Begins, GoesToEnd, EndsInto, EndsIn, EndsMatch, ClauseIn, ClausesIn}
 use Rattle.cell_lower.proofs.Shedding.{full_most}
 use Rattle.cell_lower.proofs.Writing.{argument_one}

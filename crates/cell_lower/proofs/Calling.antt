@@ -14,11 +14,13 @@ use Rattle.lowered_code.specs.declared.held.Held.TheVariants as H
 use Rattle.lowered_code.specs.Known.{Known, joined, using, used}
 use Rattle.lowered_code.specs.Values.{Setting}
 use Rattle.lowered_code.specs.Bodies.{Target, Return, Into, GoesTo, result_type, GivenAt, handed, AreTaken, received, given, EndsCall as EndsSo}
-use Rattle.cell_lower.specs.Frames.{Takes}
+use Rattle.lower_frame.specs.Frames.{Takes}
+use Rattle.lower_frame.proofs.Accounts.{taken_accounted, taken_last, last_same, last_on}
 use Rattle.match_code.specs.Written.{Written, size, added, GivesUp}
 use Rattle.cell_lower.specs.Writing.{Gives, Operates, handed_at, received_at, TakesOne, TakesAll, FollowCredits, EndsCall, CallsAt}
 use Rattle.match_code.proofs.Placing.{extends_on, added_extends, one_longer, front, back, stands, up_to, given_up, gives_up_on}
-use Rattle.cell_lower.specs.Growth.{registers, Sheds, Stay}
+use Rattle.lower_frame.specs.Registers.{registers}
+use Rattle.cell_lower.specs.Growth.{Sheds, Stay}
 use Rattle.cell_lower.proofs.Shedding.{goes_length, taken_length, handed_length, received_length, sheds_on, adds_shed, adds_one, adds_on, adds_less}
 
 same_some : {A : Type 0} (x y : A) → Some x ≡ Some y → x ≡ y
@@ -144,6 +146,7 @@ takes_more k m l n ns before rs qs a b = record {
   credits = a.credit ∷ b.credits;
   behind = b.behind ∙ ap (λ x. x ++ b.credits) a.behind ∙ sym (append_one before a.credit b.credits);
   taken = (a.taken.rest, a.taken.taken, subst (λ x. AreTaken x ns b.credits l) a.taken.known b.taken);
+  kept = λ x. let y = b.kept (taken_accounted k m n a.credit a.taken x) in (y.0, last_on k.credits m.credits l.credits (taken_last k m n a.credit a.taken x) y.1);
 }
 
 pub takes_start : (k : Known) (ns before : List ℕ) → FollowCredits k ns before k ns before
@@ -160,7 +163,7 @@ takes_step k0 ns0 before0 k m ns before rs i n e f a = record {
 }
 
 pub takes_end : (k0 : Known) (ns0 before0 : List ℕ) (k : Known) (before : List ℕ) → FollowCredits k0 ns0 before0 k [] before → TakesAll k0 ns0 before0 before k
-takes_end k0 ns0 before0 k before f = f.by before k (record { credits = []; behind = sym (append_none before); taken = refl })
+takes_end k0 ns0 before0 k before f = f.by before k (record { credits = []; behind = sym (append_none before); taken = refl; kept = λ a. (a, last_same k.credits) })
 
 pub takes_one : (k m : Known) (n r : ℕ) (before rs : List ℕ) → Takes k n r m → rs ≡ before ++ r ∷ [] → TakesOne k n before rs m
 takes_one k m n r before rs t e = record { credit = r; behind = e; taken = t }

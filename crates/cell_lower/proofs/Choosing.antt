@@ -30,12 +30,14 @@ use Rattle.match_code.proofs.Running.{goes_one}
 use Rattle.match_code.proofs.Readings.{reading_extends}
 use Rattle.match_code.proofs.Openings.{taking_extends, naming_extends}
 use Rattle.match_code.proofs.Goods.{good_last, good_tested, good_taken, good_named}
+use Rattle.sound_code.specs.Codes.{label_at}
 use Rattle.cell_lower.specs.declared.choices.Choice.{Choice}
 use Rattle.cell_lower.specs.declared.choices.Side.{Side as Kept}
 use Rattle.cell_lower.specs.declared.choices.First.TheVariants as F
-use Rattle.cell_lower.specs.Growth.{labels, IsRoom, left, Spends, sides_cost, sides_left, way_cost, way_left}
+use Rattle.lower_frame.specs.Labels.{labels}
+use Rattle.cell_lower.specs.Growth.{IsRoom, left, Spends, sides_cost, sides_left, way_cost, way_left}
 use Rattle.cell_lower.proofs.Paying.{live_split, left_last, left_branch, reading_pays, naming_pays, pays_last, pays_test, pays_taken, pays_named, pays_side, spends_on, spends_none, spends_less, spends_one}
-use Rattle.cell_lower.specs.Positions.{spot_of}
+use Rattle.lower_frame.specs.Positions.{spot_of}
 use Rattle.cell_lower.specs.Scenes.{pattern_at, patterns_of, scene, HasRows, side_of, sides_of, first_side, HasLabel, Labelled, Ready, NotFirst, reading_of, IsFirstOf, SettlesBy, Settles, Tests, Then, Advances, Asks, PlacesSide, FollowsIn, Follows, ChoosesIf}
 
 same_some : {A : Type 0} (x y : A) → Some x ≡ Some y → x ≡ y
@@ -134,15 +136,16 @@ unlabelled (x ∷ y ∷ ds) d e = absurd (cc)
 -- tests
 
 -- a label more, before the last instruction
-label_before : (v w : Written) (i : Instr) → Extends v w → w.instrs ≡ v.instrs → Extends (added v i) (added w i)
-label_before v w i e f = record {
+label_before : (v w : Written) (i : Instr) → Extends v w → w.instrs ≡ v.instrs → w.maps ≡ v.maps → Extends (added v i) (added w i)
+label_before v w i e f g = record {
   grows = let p = ap (λ x. length (x ++ i ∷ [])) f in omega (arith, p);
   same = λ p j h. ap (λ x. slice_get (x ++ i ∷ []) p) f ∙ h;
   placed = λ l p h. e.placed l p h;
+  told = λ p h. ap (λ x. label_at x p) g;
 }
 
-pub tested : (p : M.Pattern) (k : Known) (root : S.Spot) (x y : Reading) (w z : Written) (read : List ℕ) (a : Rattle.match_code.specs.Reading.Asked) (l : ℕ) (d : Side) → Rattle.match_code.specs.Reading.asked p k root ≡ Some a → y ≡ reading p k root x → Extends y.written w → w.instrs ≡ y.written.instrs → z ≡ added w (test_of a.register a.head l) → read ≡ y.read → d.known ≡ side false p k → d.read ≡ y.read → d.label ≡ Some l → labels w ≡ suc (labels y.written) → Tests p k root x z read d
-tested p k root x y w z read a l d as' e f g h r dk dr dl ll = record {
+pub tested : (p : M.Pattern) (k : Known) (root : S.Spot) (x y : Reading) (w z : Written) (read : List ℕ) (a : Rattle.match_code.specs.Reading.Asked) (l : ℕ) (d : Side) → Rattle.match_code.specs.Reading.asked p k root ≡ Some a → y ≡ reading p k root x → Extends y.written w → w.instrs ≡ y.written.instrs → w.maps ≡ y.written.maps → z ≡ added w (test_of a.register a.head l) → read ≡ y.read → d.known ≡ side false p k → d.read ≡ y.read → d.label ≡ Some l → labels w ≡ suc (labels y.written) → Tests p k root x z read d
+tested p k root x y w z read a l d as' e f g gm h r dk dr dl ll = record {
   found = a;
   target = l;
   asks = as';
@@ -150,7 +153,7 @@ tested p k root x y w z read a l d as' e f g h r dk dr dl ll = record {
   seen = dr ∙ ap (λ (u : Reading). u.read) e;
   label = dl;
   read_on = r ∙ ap (λ (u : Reading). u.read) e;
-  extends = subst (λ u. Extends (added u.written i) z) e (subst (Extends (added y.written i)) (sym h) (label_before y.written w i f g));
+  extends = subst (λ u. Extends (added u.written i) z) e (subst (Extends (added y.written i)) (sym h) (label_before y.written w i f g gm));
   as_long = ap size h ∙ ap (λ u. length (u ++ i ∷ [])) (g ∙ ap (λ (u : Reading). u.written.instrs) e);
   one_label = ap labels h ∙ ll ∙ ap (λ (u : Reading). suc (labels u.written)) e;
 }

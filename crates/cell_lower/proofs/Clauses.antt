@@ -13,7 +13,8 @@ use Rattle.match_code.specs.Losing.{Loses, Resumes}
 use Rattle.match_code.specs.WellMatched.{WellMatchedBlock, WellMatchedClauses}
 use Rattle.cell_lower.specs.declared.matches.Matching.{Matching}
 use Rattle.cell_lower.specs.declared.matches.Progress.{Progress}
-use Rattle.cell_lower.specs.Growth.{labels, registers}
+use Rattle.lower_frame.specs.Labels.{labels}
+use Rattle.lower_frame.specs.Registers.{registers}
 use Rattle.cell_lower.specs.Scenes.{sides_of, first_side}
 use Rattle.cell_lower.specs.Clauses.{Begins, StartsIn, EndsIn, EndsMatch, MeetsAt, ClausesIn, JoinsKnown, WritesClause, WritesClauses, WritesMatch}
 use Rattle.cell_lower.specs.Writing.{WritesBlock}

@@ -29,9 +29,9 @@ use Rattle.match_knowledge.specs.declared.rows.Row.TheFolds.{fold-roll-Row}
 use Rattle.match_knowledge.specs.declared.knowledge.Knowledge.TheVariants as KV
 use Rattle.match_knowledge.specs.declared.knowledge.Knowledge.TheOpen as KO
 use Rattle.match_knowledge.specs.declared.knowledge.Knowledge.TheFolds.{fold-roll-Knowledge}
-use Rattle.cell_lower.specs.declared.spots.Spot.{Spot, out-Spot}
-use Rattle.cell_lower.specs.declared.spots.Spot.TheFolds.{fold_out-Spot}
-use Rattle.cell_lower.specs.Positions.{spot_of, spots_of, spot_at, spot_step, past}
+use Rattle.lower_frame.specs.declared.spots.Spot.{Spot, out-Spot}
+use Rattle.lower_frame.specs.declared.spots.Spot.TheFolds.{fold_out-Spot}
+use Rattle.lower_frame.specs.Positions.{spot_of, spots_of, spot_at, spot_step, past}
 use Rattle.cell_lower.specs.Scenes.{AtSpot, asking, naming_part}
 
 same_some : {A : Type 0} (x y : A) → Some x ≡ Some y → x ≡ y
@@ -225,7 +225,7 @@ pub asked_in : (t : ℕ) (h g : Head) (rs : List Row) (ks : List Knowledge) (s :
 asked_in t h g rs ks s f p k q o e a b c d = asked_is t h g (parts rs) (knowns ks) s ∙ (first_is rs ks (S.fields s) 0 f p k q (S.register s) 0 nothing (e ∙ ap Some (omega arith)) a b c).asks ∙ d
   where
     nothing : Reading
-    nothing = record { written = record { instrs = []; places = [] }; read = [] }
+    nothing = record { written = record { instrs = []; places = []; maps = [] }; read = [] }
 
 pub reading_in : (t : ℕ) (h g : Head) (rs : List Row) (ks : List Knowledge) (s : S.Spot) (f : ℕ) (p : Row) (k : Knowledge) (q : S.Spot) (x y z : Reading) → asking (parts rs) (knowns ks) 0 ≡ Some f → slice_get rs f ≡ Some p → slice_get ks f ≡ Some k → spot_at (S.fields s) f ≡ Some q → y ≡ read_one x (S.register s) f (S.register q) → z ≡ reading (row p) (known k) q y → z ≡ reading (M.Test t h (parts rs)) (Is g (knowns ks)) s x
 reading_in t h g rs ks s f p k q x y z e a b c d m =

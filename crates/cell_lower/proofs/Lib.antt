@@ -1,15 +1,14 @@
 pub mod ExceededLimits
 pub mod Headers
-pub mod Frames
 pub mod Starts
-pub mod Labels
 pub mod Shedding
 pub mod Losing
 pub mod Writing
+pub mod Laying
 pub mod Calling
+pub mod Parted
 pub mod Blocks
 pub mod Expressions
-pub mod Growing
 pub mod Folding
 pub mod Paying
 pub mod Choosing

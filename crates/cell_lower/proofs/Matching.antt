@@ -31,7 +31,7 @@ use Rattle.match_code.proofs.Choices.{patterns_in, is_choice}
 use Rattle.match_code.proofs.Arriving.{opens_entry, arrives_entry}
 use Rattle.cell_lower.specs.declared.matches.Matching.{Matching}
 use Rattle.cell_lower.specs.declared.matches.Progress.{Progress}
-use Rattle.cell_lower.specs.Positions.{spot_of}
+use Rattle.lower_frame.specs.Positions.{spot_of}
 use Rattle.cell_lower.specs.Scenes.{scene, patterns_of, HasRows, sides_of, first_side, Labelled, Ready, ChoosesIn}
 use Rattle.cell_lower.specs.Clauses.{Begins, GoesToEnd, JoinsBefore, EndsInto, EndsIn, EndsMatch, ClauseIn, ClausesIn}
 use Rattle.cell_lower.specs.Writing.{Writes}

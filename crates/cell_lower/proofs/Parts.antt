@@ -26,8 +26,9 @@ use Rattle.match_code.specs.Written.{Written, size, Extends, IsAt, settled, plac
 use Rattle.match_code.specs.WellMatched.{WellMatched, WellMatchedBlock}
 use Rattle.cell_lower.specs.declared.matches.Matching.{Matching}
 use Rattle.cell_lower.specs.declared.matches.Progress.{Progress}
-use Rattle.cell_lower.specs.Growth.{labels, registers}
-use Rattle.cell_lower.specs.Positions.{spot_of}
+use Rattle.lower_frame.specs.Labels.{labels}
+use Rattle.lower_frame.specs.Registers.{registers}
+use Rattle.lower_frame.specs.Positions.{spot_of}
 use Rattle.cell_lower.specs.Scenes.{ChoosesIf, first_side, sides_of}
 use Rattle.cell_lower.specs.Clauses.{Begins, EndsMatch, StartsIn, WritesClause, WritesClauses}
 use Rattle.cell_lower.specs.Lowered.{IsCodeOf}
@@ -57,5 +58,5 @@ match_from s s1 s2 k v e d t p a c cs c1 c2 ds1 ds2 g w0 target p0 p1 p2 w1 w2 l
     (subst (λ x. WritesClause s g (clause x) target p0 w0 p1 w1) ec2 (subst (λ x. WritesClause x g (clause c2) target p0 w0 p1 w1) e1 first))
     (subst (λ x. WritesClauses s g (clauses x) target p1 w1 p2 w2) ed2 (subst (λ x. WritesClauses x g (clauses ds2) target p1 w1 p2 w2) e2 others)) ended)
 
-pub code_from : (s s' : Setting) (n : ℕ) (d : Instance) (k l : Known) (v w : Written) (code : List Instr) → s' ≡ s → k ≡ known_at_start s n d → v ≡ record { instrs = []; places = [] } → (WellMatchedBlock s'.types d.body → WritesBlock s' k v d.body Return l w) → code ≡ map (settled (place_of w.places)) w.instrs → IsCodeOf s d code
+pub code_from : (s s' : Setting) (n : ℕ) (d : Instance) (k l : Known) (v w : Written) (code : List Instr) → s' ≡ s → k ≡ known_at_start s n d → v ≡ record { instrs = []; places = []; maps = [] } → (WellMatchedBlock s'.types d.body → WritesBlock s' k v d.body Return l w) → code ≡ map (settled (place_of w.places)) w.instrs → IsCodeOf s d code
 code_from s s' n d k l v w code same e f b h = is_code s n d k l v w code e f (subst (λ (x : Setting). WellMatchedBlock x.types d.body → WritesBlock x k v d.body Return l w) same b) h

@@ -1,30 +1,28 @@
 -- The tests of a match are paid by the branches of its decision tree.
-use Rattle.std.proofs.Common.{◌≡◌, ◌⊎◌, inl, inr, refl, sym, ap, ◌∙◌, subst, ⊎_elim, arith, ℕ, zero, suc, ◌+◌, ◌*◌, ◌<◌, ◌≤◌, mul-le-mul_left, Bool, true, false, ◌==◌, List, [], ◌∷◌, ◌++◌, length, length-append, Option, Some, None, slice_get, get_or}
+use Rattle.std.proofs.Common.{◌≡◌, ◌⊎◌, inl, inr, refl, sym, ap, ◌∙◌, subst, arith, ℕ, zero, suc, ◌+◌, ◌*◌, ◌<◌, ◌≤◌, mul-le-mul_left, Bool, true, false, ◌==◌, List, [], ◌∷◌, ◌++◌, length, length-append, Some, None, slice_get, get_or}
 use Rattle.std.specs.Prelude.{if◌then◌else◌}
 use Rattle.std.proofs.lemmas.Bool.{eqb-true, eqb-false, eq-eqb}
 use Rattle.fip_language.specs.Every.{Among}
 use Rattle.fip_language.specs.Table.{Table}
 use Rattle.fip_trees.specs.Tree.{Pattern, BinderPattern, LiteralPattern, ConstructorPattern, Patterns, NoPatterns, MorePatterns}
-use Rattle.cell_code.specs.declared.code.Instr.{Instr}
 use Rattle.cell_code.specs.declared.code.Instr.TheVariants as I
 use Rattle.match_knowledge.specs.declared.rows.Row.{Row}
-use Rattle.match_knowledge.specs.declared.verdicts.Verdict.{Verdict}
 use Rattle.match_knowledge.specs.declared.verdicts.Verdict.TheVariants as D
 use Rattle.match_knowledge.specs.Patterns as M
 use Rattle.match_knowledge.specs.Known.{Known, Open, Is, Knowns, NoKnowns, MoreKnowns, compare, is_asks, is_last, side}
 use Rattle.match_knowledge.specs.View.{row, rows}
-use Rattle.match_knowledge.proofs.Steps.{row_at}
-use Rattle.match_cover.specs.DecisionTree.{branches, tree_at, by_verdict, Next, Done, Split, first_live}
+use Rattle.match_cover.specs.DecisionTree.{by_verdict, Done, Split, first_live}
 use Rattle.match_cover.specs.TreeView.{IsSplit}
-use Rattle.match_cover.proofs.TreeGrowth.{done_law, last_arm, count_arm}
-use Rattle.match_code.specs.Written.{Written, size, added}
+use Rattle.match_cover.proofs.TreeGrowth.{last_arm, count_arm}
+use Rattle.match_code.specs.Written.{Written, size}
 use Rattle.match_code.specs.Spots as S
 use Rattle.match_code.specs.Opening.{naming, naming_all, names_any, taking, taking_all, take_if}
 use Rattle.match_code.specs.Reading.{Reading, read_if, read_one, reading, reading_first, contains}
 use Rattle.match_code.specs.Landing.{Side}
 use Rattle.match_code.proofs.Lists.{among_left, among_right, among_either, contains_among}
 use Rattle.match_code.proofs.Placing.{one_longer}
-use Rattle.cell_lower.specs.Growth.{labels, unread, IsRoom, left, Spends, sides_cost, sides_left, side_cost, way_cost, way_left}
+use Rattle.lower_frame.specs.Labels.{labels}
+use Rattle.cell_lower.specs.Growth.{unread, IsRoom, left, Spends, sides_cost, sides_left, side_cost, way_cost, way_left}
 
 same_some : {A : Type 0} (x y : A) → Some x ≡ Some y → x ≡ y
 same_some x y e = cc

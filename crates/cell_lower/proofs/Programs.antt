@@ -228,7 +228,7 @@ codes_end s ts i codes e f = f.by codes (record { by = λ p x h. h }) (subst (λ
 
 -- one function
 
-pub is_code : (s : Setting) (n : ℕ) (d : Instance) (k l : Known) (v w : Written) (code : List Instr) → k ≡ known_at_start s n d → v ≡ record { instrs = []; places = [] } → (WellMatchedBlock s.types d.body → WritesBlock s k v d.body Return l w) → code ≡ map (settled (place_of w.places)) w.instrs → IsCodeOf s d code
+pub is_code : (s : Setting) (n : ℕ) (d : Instance) (k l : Known) (v w : Written) (code : List Instr) → k ≡ known_at_start s n d → v ≡ record { instrs = []; places = []; maps = [] } → (WellMatchedBlock s.types d.body → WritesBlock s k v d.body Return l w) → code ≡ map (settled (place_of w.places)) w.instrs → IsCodeOf s d code
 is_code s n d k l v w code e f b h = record {
   by = λ well.
       let written = subst (λ x. WritesBlock s (known_at_start s n d) x d.body Return l w) f (subst (λ x. WritesBlock s x v d.body Return l w) e (b well)) in

@@ -1,5 +1,5 @@
 -- Registers stay as many as they are, and what is given up at a place empties a register each.
-use Rattle.std.proofs.Common.{◌≡◌, refl, sym, ap, ◌∙◌, subst, arith, ℕ, zero, suc, ◌+◌, ◌*◌, ◌≤◌, mul-le-mul_left, Bool, true, false, List, [], ◌∷◌, ◌++◌, length, map, Option, Some, None, slice_get, slice_set, get_or}
+use Rattle.std.proofs.Common.{◌≡◌, refl, sym, ap, ◌∙◌, subst, arith, ℕ, zero, suc, ◌+◌, ◌*◌, ◌≤◌, mul-le-mul_left, Bool, true, false, List, [], ◌∷◌, length, map, Option, Some, None, slice_get, slice_set, get_or}
 use Rattle.std.specs.Prelude.{if◌then◌else◌}
 use Rattle.fip_base.specs.declared.plain.Param.{Param}
 use Rattle.fip_trees.specs.declared.program.Binder.{Binder}
@@ -8,7 +8,6 @@ use Rattle.cell_code.specs.declared.code.Instr.{Instr}
 use Rattle.cell_code.specs.declared.code.Instr.TheVariants as I
 use Rattle.lowered_code.specs.declared.held.Held.{Held}
 use Rattle.lowered_code.specs.declared.held.Held.TheVariants as H
-use Rattle.lowered_code.specs.declared.held.Credit.{Credit}
 use Rattle.lowered_code.specs.Known.{Known, holding, with_next, using, used, used_if, used_all, is_owned, without, lent_by}
 use Rattle.lowered_code.specs.Values.{Setting, is_scalar}
 use Rattle.lowered_code.specs.Bodies.{handed, received, given, AreTaken, Target, Return, Into, GoesTo}
@@ -19,8 +18,11 @@ use Rattle.match_code.specs.Entering.{with_variable, with_cell, entering, enteri
 use Rattle.match_code.specs.Opening.{is_named}
 use Rattle.match_code.proofs.Placing.{one_longer}
 use Rattle.code_size.specs.Bounds.{most_for}
-use Rattle.cell_lower.specs.Frames.{Takes, TakesBare, widened}
-use Rattle.cell_lower.specs.Growth.{registers, holds, full, IsFull, IsHeld, Sheds, Adds, labels}
+use Rattle.lower_frame.specs.Frames.{Takes, TakesBare}
+use Rattle.laid_code.specs.Matches.{widened}
+use Rattle.lower_frame.specs.Registers.{registers, holds, IsFull}
+use Rattle.cell_lower.specs.Growth.{full, Sheds, Adds}
+use Rattle.lower_frame.specs.Labels.{labels}
 
 same_some : {A : Type 0} (x y : A) → Some x ≡ Some y → x ≡ y
 same_some x y e = cc
@@ -239,14 +241,6 @@ widened_length hs ks e = ap length e ∙ map_length widened hs
 pub ruleset widening = (widened_length)
 
 pub ruleset shedding = (sheds_same, sheds_on, sheds_take, sheds_drop, sheds_free, sheds_widened)
-
--- a credit's register
-pub held_at : (hs : List Held) (cs : List Credit) (p : ℕ) (c : Credit) → IsHeld hs (slice_get cs p) → c ≡ get_or cs p c → IsFull (slice_get hs c.register)
-held_at hs cs p c h e = at (slice_get cs p) refl h
-  where
-    at : (o : Option Credit) → slice_get cs p ≡ o → IsHeld hs o → IsFull (slice_get hs c.register)
-    at None f x = absurd x
-    at (Some d) f x = subst (λ z. IsFull (slice_get hs z.register)) (sym (e ∙ Rattle.std.proofs.lemmas.Option.get_or_from_slice_get cs p d c f)) x
 
 -- no more is added than is shed
 

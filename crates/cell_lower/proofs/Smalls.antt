@@ -14,10 +14,11 @@ use Rattle.lowered_code.specs.Bodies.{Return, has_function, one_more, if_functio
 use Rattle.lowered_code.specs.Functions.{IsSettingOf, known_at_start}
 use Rattle.match_code.specs.Written.{Written, size, settled, place_of}
 use Rattle.match_code.specs.WellMatched.{WellMatchedBlock, IsWellMatched}
-use Rattle.code_size.specs.Bounds.{most_for, most_labels}
-use Rattle.code_size.specs.Places.{block_places, places}
+use Rattle.code_size.specs.Bounds.{most_for}
+use Rattle.code_size.specs.Places.{block_places}
 use Rattle.cell_lower.specs.Limits.{is_ruled, registers}
-use Rattle.cell_lower.specs.Growth.{labels, Adds}
+use Rattle.lower_frame.specs.Labels.{labels}
+use Rattle.cell_lower.specs.Growth.{Adds}
 use Rattle.cell_lower.specs.Writing.{WritesBlock}
 use Rattle.cell_lower.specs.Sizes.{IsSmall, AreSmall}
 use Rattle.cell_lower.specs.Small.{IsSmallOf, HaveSmall, AddsSmall}
@@ -33,11 +34,11 @@ settled_length : (to : ℕ → ℕ) (is : List Instr) → length (map (settled t
 settled_length to [] = refl
 settled_length to (i ∷ is) = ap suc (settled_length to is)
 
-pub small_of : (s s' : Setting) (n : ℕ) (d : Instance) (k l : Known) (v w : Written) (code : List Instr) (ls : List Label) (f : Function) → s' ≡ s → k ≡ known_at_start s n d → v ≡ record { instrs = []; places = [] } → (WellMatchedBlock s'.types d.body → WritesBlock s' k v d.body Return l w) → code ≡ map (settled (place_of w.places)) w.instrs → length ls ≤ labels w → f.instrs.items ≡ code → f.labels.items ≡ ls → IsSmallOf s n d f
+pub small_of : (s s' : Setting) (n : ℕ) (d : Instance) (k l : Known) (v w : Written) (code : List Instr) (ls : List Label) (f : Function) → s' ≡ s → k ≡ known_at_start s n d → v ≡ record { instrs = []; places = []; maps = [] } → (WellMatchedBlock s'.types d.body → WritesBlock s' k v d.body Return l w) → code ≡ map (settled (place_of w.places)) w.instrs → length ls ≤ labels w → f.instrs.items ≡ code → f.labels.items ≡ ls → IsSmallOf s n d f
 small_of s s' n d k l v w code ls f same e start h c few is js = record {
   by = λ well.
       let written : WritesBlock s k v d.body Return l w = subst (λ (x : Setting). WellMatchedBlock x.types d.body → WritesBlock x k v d.body Return l w) same h well in
-      let bound : Adds (most_for n (block_places s.types d.body)) (block_places s.types d.body) v w = subst (λ x. Adds (most_for x (block_places s.types d.body)) (block_places s.types d.body) v w) (ap Rattle.cell_lower.specs.Growth.registers e ∙ start_length s n d) written.few in
+      let bound : Adds (most_for n (block_places s.types d.body)) (block_places s.types d.body) v w = subst (λ x. Adds (most_for x (block_places s.types d.body)) (block_places s.types d.body) v w) (ap Rattle.lower_frame.specs.Registers.registers e ∙ start_length s n d) written.few in
       let none : size v ≡ 0 = ap size start in
       let unlabelled : labels v ≡ 0 = ap labels start in
       let long : length f.instrs.items ≡ size w = ap length is ∙ ap length c ∙ settled_length (place_of w.places) w.instrs in

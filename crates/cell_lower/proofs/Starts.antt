@@ -4,7 +4,7 @@ use Rattle.fip_base.specs.declared.plain.Param.{Param}
 use Rattle.fip_trees.specs.declared.program.Binder.{Binder}
 use Rattle.lowered_code.specs.Known.{Known}
 use Rattle.lowered_code.specs.Values.{Setting}
-use Rattle.cell_lower.specs.Frames.{param_at}
+use Rattle.cell_lower.specs.Writing.{param_at}
 use Rattle.lowered_code.specs.Functions.{with_param, with_params, with_next_credit, with_credits}
 
 same_some : {A : Type 0} (x y : A) → Some x ≡ Some y → x ≡ y

@@ -1,5 +1,5 @@
 -- What the lowering of arguments has written, and how values are handed on, a case at a time.
-use Rattle.std.proofs.Common.{◌≡◌, inl, inr, refl, sym, ap, ◌∙◌, subst, arith, ℕ, zero, suc, ◌+◌, ◌≤◌, ℤ, List, [], ◌∷◌, ◌++◌, length, drop, Option, Some, None, slice_get, get_or}
+use Rattle.std.proofs.Common.{◌≡◌, inl, inr, refl, sym, ap, ◌∙◌, subst, arith, ℕ, zero, suc, ◌+◌, ◌≤◌, ◌⊎◌, ℤ, Bool, true, false, List, [], ◌∷◌, ◌++◌, length, drop, Option, Some, None, slice_get, get_or}
 use Rattle.fip_language.specs.declared.Place.{Place}
 use Rattle.fip_trees.specs.Tree.{Name, Argument, Variable, Literal, Constructor, Arguments, NoArguments, MoreArguments}
 use Rattle.fip_trees.specs.declared.program.Argument.{Argument as Tree}
@@ -13,13 +13,18 @@ use Rattle.lowered_code.specs.declared.held.Held.{Held}
 use Rattle.lowered_code.specs.declared.held.Held.TheVariants as H
 use Rattle.lowered_code.specs.Known.{Known, register_of, holding, with_next, using, used, used_all}
 use Rattle.code_size.specs.Places.{argument_places, arguments_places}
-use Rattle.lowered_code.specs.Values.{Setting, built}
-use Rattle.lowered_code.specs.Bodies.{Return, Into, moved, as_value}
-use Rattle.cell_lower.specs.Frames.{Takes, TakesBare}
-use Rattle.cell_lower.specs.Growth.{registers, Sheds}
+use Rattle.lowered_code.specs.Values.{Setting, built, built_if, is_scalar}
+use Rattle.lowered_code.specs.Bodies.{Return, Into, moved, as_value, MovedAt, IsMove, IsThere}
+use Rattle.laid_code.specs.Credits.{LastGone}
+use Rattle.laid_code.specs.Moves.{MoveLaid, MovesLaid}
+use Rattle.lower_frame.specs.Credits.{is_credit_of}
+use Rattle.lower_frame.specs.Frames.{Takes, TakesBare}
+use Rattle.lower_frame.proofs.Accounts.{next_accounted, reused_accounted, filled_accounted, last_same, last_on, taken_last}
+use Rattle.lower_frame.specs.Registers.{registers, HasRoom}
+use Rattle.cell_lower.specs.Growth.{Sheds}
 use Rattle.cell_lower.proofs.Shedding.{set_length, used_length, used_all_length, takes_length, bare_length, sheds_on, adds_shed, adds_none, adds_one, adds_on, adds_less}
 use Rattle.match_code.specs.Written.{Written, size, added, GivesUp}
-use Rattle.cell_lower.specs.Writing.{Computes, ComputesAll, Builds, Follow, Gives, Moves, MovesOne, MovesTo, FollowMoves}
+use Rattle.cell_lower.specs.Writing.{Kept, Computes, ComputesAll, Builds, Follow, Gives, Moves, MovesOne, MovesTo, FollowMoves}
 use Rattle.match_code.proofs.Placing.{same_extends, extends_on, added_extends, one_longer, front, back, stands, up_to, given_up}
 
 -- equal values may stand for one another
@@ -34,10 +39,10 @@ argument_literal i p = ap argument (sym (AV.rolls-Literal i p)) ∙ fold-roll-Ar
 pub computes_variable : (s : Setting) (k l : Known) (v w : Written) (x : Option ℕ) (n : Name) (p : Place) (r : ℕ) → register_of k.names x ≡ Some r → l ≡ k → w ≡ v → Computes s k v (Variable x n p) r l w
 computes_variable s k l v w x n p r h e f =
     three (λ (u : ℕ) y z. Computes s k v (Variable x n p) r y z) 0 0 k l v w refl e f
-    (record { extends = same_extends v; code = λ to code h'. record { named = h; nothing = refl; known = refl }; as_many = refl; few = adds_less 0 0 1 0 v v (omega arith) (omega arith) (adds_none v) })
+    (record { extends = same_extends v; code = λ to code h'. record { named = h; nothing = refl; known = refl }; maps = refl; as_many = refl; room = omega arith; kept = λ a. (a, last_same k.credits); few = adds_less 0 0 1 0 v v (omega arith) (omega arith) (adds_none v) })
 
-pub computes_literal : (s : Setting) (k l : Known) (v w : Written) (i : ℤ) (p : Place) (r : ℕ) → r ≡ k.next → l ≡ with_next k (H.Scalar 0) → w ≡ added v (I.Const k.next i) → Computes s k v (Literal i p) r l w
-computes_literal s k l v w i p r e f g =
+pub computes_literal : (s : Setting) (k l : Known) (v w : Written) (i : ℤ) (p : Place) (r : ℕ) → r ≡ k.next → l ≡ with_next k (H.Scalar 0) → HasRoom k l → w ≡ added v (I.Const k.next i) → Computes s k v (Literal i p) r l w
+computes_literal s k l v w i p r e f room g =
     three (λ x y z. Computes s k v (Literal i p) x y z) k.next r (with_next k (H.Scalar 0)) l (added v (I.Const k.next i)) w e f g
     (record {
       extends = added_extends v (I.Const k.next i);
@@ -47,9 +52,20 @@ computes_literal s k l v w i p r e f g =
         one = one_longer v (I.Const k.next i);
         known = refl;
       };
+      maps = refl;
       as_many = set_length k.held k.next (H.Scalar 0);
+      room = subst (HasRoom k) f room;
+      kept = λ a. (next_accounted k (H.Scalar 0) (λ n. refl) a, last_same k.credits);
       few = adds_one v (I.Const k.next i);
     })
+
+-- what is kept, and where there is room
+
+room_on : (k m l : Known) → registers m ≡ registers k → HasRoom k m → HasRoom m l → HasRoom k l
+room_on k m l e a b = omega (arith, e, a, b)
+
+kept_on : (k m l : Known) → Kept k m → Kept m l → Kept k l
+kept_on k m l a b = λ x. let y = a x in let z = b y.0 in (z.0, last_on k.credits m.credits l.credits y.1 z.1)
 
 pub computes_constructor : (s : Setting) (k : Known) (v : Written) (t d c : ℕ) (n : Name) (p : Place) (as' : Arguments) (rs : List ℕ) (m : Known) (w : Written) (r : ℕ) (l : Known) (z : Written) → ComputesAll s k v as' rs m w → Builds s m w t c rs r l z → Computes s k v (Constructor t d c n p as') r l z
 computes_constructor s k v t d c n p as' rs m w r l z a b = record {
@@ -61,12 +77,15 @@ computes_constructor s k v t d c n p as' rs m w r l z a b = record {
     a.code to code (front (size v) w z to code b.extends h),
     b.code to code (back (size v) (size w) z to code a.extends.grows h),
   );
+  maps = b.maps ∙ a.maps;
   as_many = b.as_many ∙ a.as_many;
+  room = room_on k m l a.as_many a.room b.room;
+  kept = kept_on k m l a.kept b.kept;
   few = adds_less (arguments_places as' + 1) (0 + 0) (suc (arguments_places as')) 0 v z (omega arith) (omega arith) (adds_on (arguments_places as') 0 1 0 v w z a.few b.few);
 }
 
 pub computes_none : (s : Setting) (k : Known) (v : Written) → ComputesAll s k v NoArguments [] k v
-computes_none s k v = record { extends = same_extends v; code = λ to code h. (refl, refl); as_many = refl; few = adds_none v; a_register_each = omega arith }
+computes_none s k v = record { extends = same_extends v; code = λ to code h. (refl, refl); maps = refl; as_many = refl; room = omega arith; kept = λ a. (a, last_same k.credits); few = adds_none v; a_register_each = omega arith }
 
 -- each argument has a place
 pub argument_one : (a : Argument) → 1 ≤ argument_places a
@@ -83,7 +102,10 @@ computes_more s k v a as' r m w rs l z p q = record {
     p.code to code (front (size v) w z to code q.extends h),
     q.code to code (back (size v) (size w) z to code p.extends.grows h),
   );
+  maps = q.maps ∙ p.maps;
   as_many = q.as_many ∙ p.as_many;
+  room = room_on k m l p.as_many p.room q.room;
+  kept = kept_on k m l p.kept q.kept;
   few = adds_less (argument_places a + arguments_places as') (0 + 0) (argument_places a + arguments_places as') 0 v z (omega arith) (omega arith) (adds_on (argument_places a) 0 (arguments_places as') 0 v w z p.few q.few);
   a_register_each = let e = q.a_register_each in omega (arith, e, argument_one a);
 }
@@ -129,12 +151,19 @@ builds_reused s k m l v w t c r h e f =
     (record {
       extends = same_extends v;
       code = λ to code h'. inl (record { held = h.there; nothing = refl; known = ap (λ x. holding x r (H.Owned t (Some c))) h.known });
+      maps = refl;
       as_many = set_length m.held r (H.Owned t (Some c)) ∙ bare_length k m t c r h;
+      room = let same : m.next ≡ k.next = ap (λ (x : Known). x.next) h.known in omega (arith, same);
+      kept = λ a. (reused_accounted k m (holding m r (H.Owned t (Some c))) t c r h refl a, subst (λ (x : Known). LastGone k.credits x.credits) (sym h.known) (last_same k.credits));
       few = adds_less 0 0 1 0 v v (omega arith) (omega arith) (adds_none v);
     })
 
-pub builds_atom : (s : Setting) (k l : Known) (v w : Written) (t c r : ℕ) → r ≡ k.next → l ≡ with_next k (built s t c) → w ≡ added v (I.Atom k.next t c) → Builds s k v t c [] r l w
-builds_atom s k l v w t c r e f g =
+built_credit : (b : Bool) (t c m : ℕ) → is_credit_of m (Some (built_if b t c)) ≡ false
+built_credit true t c m = refl
+built_credit false t c m = refl
+
+pub builds_atom : (s : Setting) (k l : Known) (v w : Written) (t c r : ℕ) → r ≡ k.next → l ≡ with_next k (built s t c) → HasRoom k l → w ≡ added v (I.Atom k.next t c) → Builds s k v t c [] r l w
+builds_atom s k l v w t c r e f room g =
     three (λ x y z. Builds s k v t c [] x y z) k.next r (with_next k (built s t c)) l (added v (I.Atom k.next t c)) w e f g
     (record {
       extends = added_extends v (I.Atom k.next t c);
@@ -144,7 +173,10 @@ builds_atom s k l v w t c r e f g =
         one = one_longer v (I.Atom k.next t c);
         known = refl;
       });
+      maps = refl;
       as_many = set_length k.held k.next (built s t c);
+      room = subst (HasRoom k) f room;
+      kept = λ a. (next_accounted k (built s t c) (built_credit (is_scalar s t) t c) a, last_same k.credits);
       few = adds_one v (I.Atom k.next t c);
     })
 
@@ -160,7 +192,10 @@ builds_put s k m l v w t c f fs r h e g =
         one = one_longer v (I.Put r t c (f ∷ fs));
         known = ap (λ x. holding (using x (used_all x.held (f ∷ fs))) r (H.Owned t (Some c))) h.known;
       };
+      maps = refl;
       as_many = set_length (used_all m.held (f ∷ fs)) r (H.Owned t (Some c)) ∙ used_all_length m.held (f ∷ fs) ∙ takes_length k m (length (f ∷ fs)) r h;
+      room = let same : m.next ≡ k.next = ap (λ (x : Known). x.next) h.known in omega (arith, same);
+      kept = λ a. (filled_accounted k m (holding (using m (used_all m.held (f ∷ fs))) r (H.Owned t (Some c))) (length (f ∷ fs)) r t c (f ∷ fs) h refl a, taken_last k m (length (f ∷ fs)) r h a);
       few = adds_one v (I.Put r t c (f ∷ fs));
     })
 
@@ -208,41 +243,54 @@ gives_return k k1 k2 l v w1 w2 w rs a b e f s t = subst (Gives k v rs Return l) 
       few = adds_less (registers k1 + 1) (0 + 0) (suc (registers k) + length rs) 0 v (added w2 last) (omega (arith, many)) (omega arith) (adds_on (registers k1) 0 1 0 v w2 (added w2 last) (adds_shed k1 v l w2 (sheds_on k1 v k2 w1 l w2 s t)) (adds_one w2 last));
     }
 
+moved_so : (code : List Instr) (at : ℕ) (k : Known) (rs ds : List ℕ) (end : ℕ) (l : Known) → MovesLaid code at k rs ds end l → MovedAt code at k rs ds end l
+moved_so code at k [] ds end l m = m
+moved_so code at k (r ∷ rs) [] end l m = m
+moved_so code at k (r ∷ rs) (d ∷ ds) end l m = (m.0, m.1, one m.2, moved_so code m.0 m.1 rs ds end l m.3)
+  where
+    one : MoveLaid code at k r d m.0 m.1 → IsMove code at k r d m.0 m.1 ⊎ IsThere at k r d m.0 m.1
+    one (inl x) = inl x.1
+    one (inr x) = inr x
+
 pub gives_into : (k l : Known) (v w : Written) (rs ds : List ℕ) → Moves k v rs ds l w → Gives k v rs (Into ds) l w
-gives_into k l v w rs ds m = record { extends = m.extends; code = m.code; stay = m.as_many; few = adds_less (length rs) 0 (suc (registers k) + length rs) 0 v w (omega arith) (omega arith) m.few }
+gives_into k l v w rs ds m = record { extends = m.extends; code = λ to code h. moved_so code (size v) k rs ds (size w) l (m.code to code h); stay = m.as_many; few = adds_less (length rs) 0 (suc (registers k) + length rs) 0 v w (omega arith) (omega arith) m.few }
 
 pub moves_there : (k l : Known) (v w : Written) (r d : ℕ) → r ≡ d → l ≡ k → w ≡ v → MovesOne k v r d l w
 moves_there k l v w r d e f g =
     three (λ (u : ℕ) y z. MovesOne k v r d y z) 0 0 k l v w refl f g
-    (record { extends = same_extends v; code = λ to code h. inr (record { same = e; nothing = refl; known = refl }); as_many = refl; few = adds_less 0 0 1 0 v v (omega arith) (omega arith) (adds_none v) })
+    (record { extends = same_extends v; code = λ to code h. inr (record { same = e; nothing = refl; known = refl }); maps = refl; as_many = refl; few = adds_less 0 0 1 0 v v (omega arith) (omega arith) (adds_none v) })
 
-pub moves_word : (k l : Known) (v w : Written) (r d : ℕ) → l ≡ moved k d r → w ≡ added v (I.Move d r) → MovesOne k v r d l w
-moves_word k l v w r d f g =
+pub moves_word : (k l : Known) (v w : Written) (r d : ℕ) → (r ≡ d → ⊥) → l ≡ moved k d r → w ≡ added v (I.Move d r) → MovesOne k v r d l w
+moves_word k l v w r d ne f g =
     three (λ (u : ℕ) y z. MovesOne k v r d y z) 0 0 (moved k d r) l (added v (I.Move d r)) w refl f g
     (record {
       extends = added_extends v (I.Move d r);
-      code = λ to code h. inl (record {
-        written = stands v (I.Move d r) (size v) to code (omega arith) h;
-        one = one_longer v (I.Move d r);
-        known = refl;
-      });
+      code = λ to code h. inl (
+        ne,
+        record {
+          written = stands v (I.Move d r) (size v) to code (omega arith) h;
+          one = one_longer v (I.Move d r);
+          known = refl;
+        },
+      );
+      maps = refl;
       as_many = set_length (used k.held r) d (as_value (get_or k.held r H.Nothing)) ∙ used_length k.held r;
       few = adds_one v (I.Move d r);
     })
 
 moves_none : (k : Known) (v : Written) (rs : List ℕ) → Moves k v rs [] k v
-moves_none k v [] = record { extends = same_extends v; code = λ to code h'. (refl, refl); as_many = refl; few = adds_none v }
-moves_none k v (r ∷ rs) = record { extends = same_extends v; code = λ to code h'. (refl, refl); as_many = refl; few = adds_less 0 0 (length (r ∷ rs)) 0 v v (omega arith) (omega arith) (adds_none v) }
+moves_none k v [] = record { extends = same_extends v; code = λ to code h'. (refl, refl); maps = refl; as_many = refl; few = adds_none v }
+moves_none k v (r ∷ rs) = record { extends = same_extends v; code = λ to code h'. (refl, refl); maps = refl; as_many = refl; few = adds_less 0 0 (length (r ∷ rs)) 0 v v (omega arith) (omega arith) (adds_none v) }
 
 moves_over : (k : Known) (v : Written) (ds : List ℕ) → Moves k v [] ds k v
-moves_over k v ds = record { extends = same_extends v; code = λ to code h'. (refl, refl); as_many = refl; few = adds_none v }
+moves_over k v ds = record { extends = same_extends v; code = λ to code h'. (refl, refl); maps = refl; as_many = refl; few = adds_none v }
 
 -- without destinations nothing is moved
 moves_any : (k l : Known) (v w : Written) (rs qs : List ℕ) → length rs ≤ length qs → Moves k v rs [] l w → Moves k v qs [] l w
-moves_any k l v w [] [] n m = record { extends = m.extends; code = m.code; as_many = m.as_many; few = m.few }
-moves_any k l v w [] (q ∷ qs) n m = record { extends = m.extends; code = m.code; as_many = m.as_many; few = adds_less 0 0 (length (q ∷ qs)) 0 v w n (omega arith) m.few }
+moves_any k l v w [] [] n m = record { extends = m.extends; code = m.code; maps = m.maps; as_many = m.as_many; few = m.few }
+moves_any k l v w [] (q ∷ qs) n m = record { extends = m.extends; code = m.code; maps = m.maps; as_many = m.as_many; few = adds_less 0 0 (length (q ∷ qs)) 0 v w n (omega arith) m.few }
 moves_any k l v w (r ∷ rs) [] n m = absurd (omega (arith, n))
-moves_any k l v w (r ∷ rs) (q ∷ qs) n m = record { extends = m.extends; code = m.code; as_many = m.as_many; few = adds_less (length (r ∷ rs)) 0 (length (q ∷ qs)) 0 v w n (omega arith) m.few }
+moves_any k l v w (r ∷ rs) (q ∷ qs) n m = record { extends = m.extends; code = m.code; maps = m.maps; as_many = m.as_many; few = adds_less (length (r ∷ rs)) 0 (length (q ∷ qs)) 0 v w n (omega arith) m.few }
 
 moves_more : (k m l : Known) (v w z : Written) (r d : ℕ) (rs ds : List ℕ) → MovesOne k v r d m w → Moves m w rs ds l z → Moves k v (r ∷ rs) (d ∷ ds) l z
 moves_more k m l v w z r d rs ds a b = record {
@@ -253,6 +301,7 @@ moves_more k m l v w z r d rs ds a b = record {
     a.code to code (front (size v) w z to code b.extends h),
     b.code to code (back (size v) (size w) z to code a.extends.grows h),
   );
+  maps = b.maps ∙ a.maps;
   as_many = b.as_many ∙ a.as_many;
   few = adds_less (1 + length rs) (0 + 0) (length (r ∷ rs)) 0 v z (omega arith) (omega arith) (adds_on 1 0 (length rs) 0 v w z a.few b.few);
 }

@@ -25,8 +25,10 @@ use Rattle.cell_lower.specs.declared.choices.Choice.{Choice}
 use Rattle.cell_lower.specs.declared.matches.Matching.{Matching}
 use Rattle.cell_lower.specs.declared.matches.Progress.{Progress}
 use Rattle.code_size.specs.Places.{argument_places}
-use Rattle.cell_lower.specs.Growth.{HasRoom, Adds, Sheds, labels, registers}
-use Rattle.cell_lower.specs.Positions.{spot_of}
+use Rattle.lower_frame.specs.Registers.{HasRoom, registers}
+use Rattle.cell_lower.specs.Growth.{Adds, Sheds}
+use Rattle.lower_frame.specs.Labels.{labels}
+use Rattle.lower_frame.specs.Positions.{spot_of}
 use Rattle.cell_lower.specs.Scenes.{patterns_of, HasRows, sides_of, ChoosesIf}
 use Rattle.cell_lower.specs.Writing.{Computes, Writes, WritesBlock}
 

@@ -1,69 +1,31 @@
 -- For the proofs on the size of code alone: by how much the parts of the lowering of a function lengthen what is
 -- written. What is given up at a place is no more than the registers that hold something, since each is emptied. The
 -- tests of a match are paid by the branches of its decision tree: what is still to be spent shrinks as code grows.
-use Rattle.std.specs.Prelude.{◌≡◌, ◌≤◌, ◌<◌, ◌+◌, ◌*◌, ℕ, zero, suc, max, List, [], ◌∷◌, Option, Some, None, length}
-use Rattle.std.specs.Prelude.{slice_get, if◌then◌else◌}
+use Rattle.std.specs.Prelude.{◌≡◌, ◌≤◌, ◌<◌, ◌+◌, ◌*◌, ℕ, zero, suc, List, [], ◌∷◌, Option, Some, None, if◌then◌else◌}
 use Rattle.fip_language.specs.Every.{Among}
 use Rattle.fip_language.specs.Table.{Table}
 use Rattle.match_knowledge.specs.Patterns.{Pattern}
 use Rattle.match_knowledge.specs.Known.{Known as Learnt}
 use Rattle.match_cover.specs.DecisionTree.{branches, tree_at}
 use Rattle.lowered_code.specs.declared.held.Held.{Held}
-use Rattle.lowered_code.specs.declared.held.Held.TheVariants as H
-use Rattle.lowered_code.specs.declared.held.Credit.{Credit}
 use Rattle.lowered_code.specs.Known.{Known}
 use Rattle.lowered_code.specs.Bodies as B
 use Rattle.match_code.specs.Written.{Written, size}
 use Rattle.match_code.specs.Spots as S
 use Rattle.match_code.specs.Reading.{contains}
 use Rattle.match_code.specs.Landing.{Side}
+use Rattle.lower_frame.specs.Labels.{labels}
+use Rattle.lower_frame.specs.Registers.{registers, holds}
 
--- registers
-
-abbrev pub registers : Known → ℕ
-registers k = length k.held
-
-abbrev pub holds : Held → ℕ
-holds H.Nothing = 0
-holds (H.Scalar t) = 1
-holds (H.Owned t b) = 1
-holds (H.Lent t root) = 1
-holds (H.Credit n) = 1
-holds (H.Bare t c) = 1
-
--- how many hold something
+-- how many registers hold something
 abbrev pub full : List Held → ℕ
 full [] = 0
 full (h ∷ hs) = holds h + full hs
-
-abbrev pub IsFull : Option Held → Type 0
-IsFull None = ⊥
-IsFull (Some h) = holds h ≡ 1
-
--- the register of a credit holds something
-abbrev pub IsHeld : List Held → Option Credit → Type 0
-IsHeld hs None = ⊥
-IsHeld hs (Some c) = IsFull (slice_get hs c.register)
-
--- where registers were taken into use, the function has them
-abbrev pub HasRoom : Known → Known → Type 0
-HasRoom k l = l.next ≤ max k.next (registers k)
 
 -- where results go to registers, there are as many registers behind it
 abbrev pub Stay : B.Target → Known → Known → Type 0
 Stay B.Return k l = Unit {0}
 Stay (B.Into ds) k l = registers l ≡ registers k
-
--- labels
-
-abbrev pub labels : Written → ℕ
-labels w = length w.places
-
--- how many have a place
-abbrev pub placed : List (Option ℕ) → ℕ
-placed [] = 0
-placed (None ∷ ps) = placed ps
-placed (Some p ∷ ps) = suc (placed ps)
 
 -- at most n instructions and m labels more
 pub record Adds (n m : ℕ) (v w : Written) : Type 0 where

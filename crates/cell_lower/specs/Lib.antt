@@ -1,11 +1,10 @@
 pub mod Limits
 pub mod LimitNotes
 pub mod Shape
-pub mod Frames
 pub mod Growth
-pub mod Positions
 pub mod Scenes
 pub mod Writing
+pub mod Laying
 pub mod Clauses
 pub mod Lowered
 pub mod Sizes

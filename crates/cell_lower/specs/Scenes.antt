@@ -26,8 +26,9 @@ use Rattle.cell_lower.specs.declared.choices.Side.{Side as Kept}
 use Rattle.cell_lower.specs.declared.choices.Asked.{Asked as Found}
 use Rattle.cell_lower.specs.declared.choices.First.{First}
 use Rattle.cell_lower.specs.declared.choices.First.TheVariants as F
-use Rattle.cell_lower.specs.Growth.{IsRoom, Spends, labels, sides_cost, sides_left, way_cost, way_left}
-use Rattle.cell_lower.specs.Positions.{spot_of, spot_at}
+use Rattle.cell_lower.specs.Growth.{IsRoom, Spends, sides_cost, sides_left, way_cost, way_left}
+use Rattle.lower_frame.specs.Labels.{labels}
+use Rattle.lower_frame.specs.Positions.{spot_of, spot_at}
 
 abbrev pub pattern_at : Bor Tree → Pattern
 pattern_at b = V.pattern b.now

@@ -1,6 +1,6 @@
 -- It serves the proofs on lowered code: what each part of the lowering of a function has written, in the words of
 -- lowered code, and how much: v is what was written before it and k what was known, w and l those behind it.
-use Rattle.std.specs.Prelude.{◌≡◌, ◌⊎◌, ◌≤◌, ◌+◌, ℕ, suc, List, [], ◌∷◌, ◌++◌, Option, Some, None, length, slice_set}
+use Rattle.std.specs.Prelude.{◌≡◌, ◌≤◌, ◌+◌, ℕ, suc, List, [], ◌∷◌, ◌++◌, Option, Some, None, length, slice_set}
 use Rattle.std.specs.Prelude.{if◌then◌else◌}
 use Rattle.fip_language.specs.declared.Operator.{Operator}
 use Rattle.fip_language.specs.declared.Place.{Place}
@@ -12,10 +12,15 @@ use Rattle.lowered_code.specs.declared.held.Held.{Held}
 use Rattle.lowered_code.specs.Known.{Known, naming, used}
 use Rattle.lowered_code.specs.Values.{Setting, BuiltAt, ArgumentAt, ArgumentsAt}
 use Rattle.lowered_code.specs.Bodies as B
+use Rattle.lowered_code.specs.Functions.{with_param}
 use Rattle.code_size.specs.Bounds.{most_for}
 use Rattle.code_size.specs.Places.{argument_places, arguments_places, expression_places, block_places}
-use Rattle.cell_lower.specs.Frames.{Takes}
-use Rattle.cell_lower.specs.Growth.{registers, Adds, Stay}
+use Rattle.laid_code.specs.Credits.{LastGone}
+use Rattle.laid_code.specs.Moves.{MoveLaid, MovesLaid}
+use Rattle.lower_frame.specs.Credits.{Accounted}
+use Rattle.lower_frame.specs.Frames.{Takes}
+use Rattle.lower_frame.specs.Registers.{registers, HasRoom}
+use Rattle.cell_lower.specs.Growth.{Adds, Stay}
 use Rattle.match_code.specs.Written.{Written, size, Extends, InCode}
 use Rattle.cell_lower.specs.declared.lowerer.Context.{Context}
 use Rattle.cell_lower.specs.declared.lowerer.Target.{Target}
@@ -33,19 +38,34 @@ abbrev pub target_of : Target → B.Target
 target_of T.Return = B.Return
 target_of (T.Into ds) = B.Into ds.now
 
+-- a parameter gets the next register, where it has a binder
+abbrev pub param_at : Setting → Known → Param → Option Binder → Known
+param_at s k p None = k
+param_at s k p (Some b) = with_param s k p b
+
+-- credits that are accounted for stay so, and the last of each size are used first
+abbrev pub Kept : Known → Known → Type 0
+Kept k l = Accounted k → Accounted l × LastGone k.credits l.credits
+
 -- after v was written and k was known, an argument was computed into r: now w is written and l is known
 pub record Computes (s : Setting) (k : Known) (v : Written) (a : Argument) (r : ℕ) (l : Known) (w : Written) :
     Type 0 where
   pub extends : Extends v w
   pub code : InCode v w (λ code. ArgumentAt s code (size v) k a r (size w) l)
+  pub maps : w.maps ≡ v.maps
   pub as_many : registers l ≡ registers k
+  pub room : HasRoom k l
+  pub kept : Kept k l
   pub few : Adds (argument_places a) 0 v w
 
 pub record ComputesAll (s : Setting) (k : Known) (v : Written) (as' : Arguments) (rs : List ℕ) (l : Known)
     (w : Written) : Type 0 where
   pub extends : Extends v w
   pub code : InCode v w (λ code. ArgumentsAt s code (size v) k as' rs (size w) l)
+  pub maps : w.maps ≡ v.maps
   pub as_many : registers l ≡ registers k
+  pub room : HasRoom k l
+  pub kept : Kept k l
   pub few : Adds (arguments_places as') 0 v w
   pub a_register_each : length rs ≤ arguments_places as'
 
@@ -54,7 +74,10 @@ pub record Builds (s : Setting) (k : Known) (v : Written) (t c : ℕ) (rs : List
     (w : Written) : Type 0 where
   pub extends : Extends v w
   pub code : InCode v w (λ code. BuiltAt s code (size v) k t c rs r (size w) l)
+  pub maps : w.maps ≡ v.maps
   pub as_many : registers l ≡ registers k
+  pub room : HasRoom k l
+  pub kept : Kept k l
   pub few : Adds 1 0 v w
 
 -- after the arguments so far, the others follow
@@ -73,13 +96,15 @@ pub record Gives (k : Known) (v : Written) (rs : List ℕ) (target : B.Target) (
 
 pub record Moves (k : Known) (v : Written) (rs ds : List ℕ) (l : Known) (w : Written) : Type 0 where
   pub extends : Extends v w
-  pub code : InCode v w (λ code. B.MovedAt code (size v) k rs ds (size w) l)
+  pub code : InCode v w (λ code. MovesLaid code (size v) k rs ds (size w) l)
+  pub maps : w.maps ≡ v.maps
   pub as_many : registers l ≡ registers k
   pub few : Adds (length rs) 0 v w
 
 pub record MovesOne (k : Known) (v : Written) (r d : ℕ) (l : Known) (w : Written) : Type 0 where
   pub extends : Extends v w
-  pub code : InCode v w (λ code. B.IsMove code (size v) k r d (size w) l ⊎ B.IsThere (size v) k r d (size w) l)
+  pub code : InCode v w (λ code. MoveLaid code (size v) k r d (size w) l)
+  pub maps : w.maps ≡ v.maps
   pub as_many : registers l ≡ registers k
   pub few : Adds 1 0 v w
 
@@ -146,6 +171,7 @@ pub record TakesAll (k : Known) (ns before rs : List ℕ) (l : Known) : Type 0 w
   pub credits : List ℕ
   pub behind : rs ≡ before ++ credits
   pub taken : B.AreTaken k ns credits l
+  pub kept : Kept k l
 
 -- after those so far, the others follow
 pub record FollowCredits (k0 : Known) (ns0 before0 : List ℕ) (k : Known) (ns before : List ℕ) : Type 0 where

@@ -1,10 +1,11 @@
 // Bodies of functions.
-ghost use Rattle.std.specs.Prelude.{◌≡◌, IfOk, OnOk, slice_get};
+ghost use Rattle.std.specs.Prelude.{◌≡◌, not, IfOk, OnOk, slice_get};
 ghost use Rattle.fip_trees.specs.Tree as T;
 ghost use Rattle.fip_trees.specs.TreeView as V;
 ghost use Rattle.lowered_code.specs.Bodies as B;
 ghost use Rattle.match_code.specs.WellMatched.{WellMatched, WellMatchedBlock};
 ghost use Rattle.cell_lower.specs.Clauses.{WritesClause, WritesClauses};
+ghost use Rattle.cell_lower.specs.Laying.{AppliesLaid, GivesValuesLaid};
 ghost use Rattle.cell_lower.specs.Writing.{setting, target_of, named_at, AppliesTo, Binds, GivesValues, Writes};
 ghost use Rattle.cell_lower.specs.Writing.{WritesBlock};
 
@@ -174,6 +175,9 @@ impl<'a> Lowerer<'a> {
         ensures writes { OnOk result (Writes (setting self.old.context.now) self.old.frame self.old.buffer
             (T.Give (V.argument argument.now)) (target_of target.entry) self.new.frame self.new.buffer) }
         ensures context { OnOk result (self.new.context ≡ self.old.context) }
+        ensures laid { OnOk result (GivesValuesLaid (setting self.old.context.now) (not self.old.gives_up)
+            self.old.frame self.old.buffer (T.MoreArguments (V.argument argument.now) T.NoArguments)
+            (target_of target.entry) self.new.frame self.new.buffer) }
     {
         self.walk.enter();
         let register = self.value(argument)?;
@@ -186,6 +190,9 @@ impl<'a> Lowerer<'a> {
         ensures gives { OnOk result (GivesValues (setting self.old.context.now) self.old.frame self.old.buffer
             (V.arguments arguments.now) (target_of target.entry) self.new.frame self.new.buffer) }
         ensures context { OnOk result (self.new.context ≡ self.old.context) }
+        ensures laid { OnOk result (GivesValuesLaid (setting self.old.context.now) (not self.old.gives_up)
+            self.old.frame self.old.buffer (V.arguments arguments.now) (target_of target.entry) self.new.frame
+            self.new.buffer) }
     {
         self.walk.enter();
         let registers = self.values(arguments)?;
@@ -204,6 +211,9 @@ impl<'a> Lowerer<'a> {
         ensures applies { OnOk result (AppliesTo (setting self.old.context.now) self.old.frame self.old.buffer callee
             (V.arguments arguments.now) (target_of target.entry) self.new.frame self.new.buffer) }
         ensures context { OnOk result (self.new.context ≡ self.old.context) }
+        ensures laid { OnOk result (AppliesLaid (setting self.old.context.now) (not self.old.gives_up) self.old.frame
+            self.old.buffer callee (V.arguments arguments.now) (target_of target.entry) self.new.frame
+            self.new.buffer) }
     {
         self.walk.enter();
         let registers = self.values(arguments)?;

@@ -1,9 +1,10 @@
 // Operators and calls.
-ghost use Rattle.std.specs.Prelude.{◌≡◌, IfOk, OnOk, Some, slice_get};
+ghost use Rattle.std.specs.Prelude.{◌≡◌, not, IfOk, OnOk, Some, slice_get};
 ghost use Rattle.lowered_code.specs.declared.held.Held.{Held as a_held};
 ghost use Rattle.fip_trees.specs.TreeView as V;
 ghost use Rattle.lowered_code.specs.Bodies as B;
 ghost use Rattle.lowered_code.specs.Known as K;
+ghost use Rattle.cell_lower.specs.Laying.{CallsLaid, EndsLaid, OperatesLaid};
 ghost use Rattle.cell_lower.specs.Writing.{setting, target_of, handed_at, received_at, CallsAt, EndsCall, Operates};
 ghost use Rattle.cell_lower.specs.Writing.{TakesAll, TakesOne};
 
@@ -33,6 +34,8 @@ impl<'a> Lowerer<'a> {
         ensures operates { OnOk result (Operates self.old.frame self.old.buffer applied.operator applied.place left
             right (target_of target.entry) self.new.frame self.new.buffer) }
         ensures context { OnOk result (self.new.context ≡ self.old.context) }
+        ensures laid { OnOk result (OperatesLaid (not self.old.gives_up) self.old.frame self.old.buffer applied.operator
+            applied.place left right (target_of target.entry) self.new.frame self.new.buffer) }
     {
         let destination = self.first_of(target)?;
         self.buffer.add(Instr::Arith {
@@ -54,6 +57,7 @@ impl<'a> Lowerer<'a> {
         ensures goes { IfOk result (λ d. (h : a_held) → B.GoesTo (target_of target.entry) self.old.frame h d
             (K.holding self.new.frame d h)) }
         ensures context { OnOk result (self.new.context ≡ self.old.context) }
+        ensures gives_up { OnOk result (self.new.gives_up ≡ self.old.gives_up) }
         ensures buffer { OnOk result (self.new.buffer ≡ self.old.buffer) }
     {
         match target {
@@ -77,6 +81,8 @@ impl<'a> Lowerer<'a> {
         ensures calls { OnOk result (CallsAt (setting self.old.context.now) self.old.frame self.old.buffer callee
             arguments.items (target_of target.entry) self.new.frame self.new.buffer) }
         ensures context { OnOk result (self.new.context ≡ self.old.context) }
+        ensures laid { OnOk result (CallsLaid (setting self.old.context.now) (not self.old.gives_up) self.old.frame
+            self.old.buffer callee arguments.items (target_of target.entry) self.new.frame self.new.buffer) }
     {
         let context = self.context;
         let function = function_of(context, callee)?;
@@ -101,6 +107,9 @@ impl<'a> Lowerer<'a> {
         ensures ends { OnOk result (EndsCall (setting self.old.context.now) self.old.frame self.old.buffer function
             arguments instance.now.results (target_of target.entry) self.new.frame self.new.buffer) }
         ensures context { OnOk result (self.new.context ≡ self.old.context) }
+        ensures laid { OnOk result (EndsLaid (setting self.old.context.now) (not self.old.gives_up) self.old.frame
+            self.old.buffer function arguments instance.now.results (target_of target.entry) self.new.frame
+            self.new.buffer) }
     {
         match target {
             Target::Return => {
@@ -130,6 +139,7 @@ impl<'a> Lowerer<'a> {
         ensures handed { self.new.frame ≡ K.using self.old.frame
             (B.handed self.old.frame.held params.now registers.now) }
         ensures context { self.new.context ≡ self.old.context }
+        ensures gives_up { self.new.gives_up ≡ self.old.gives_up }
         ensures buffer { self.new.buffer ≡ self.old.buffer }
     {
         let mut place = 0;
@@ -143,6 +153,7 @@ impl<'a> Lowerer<'a> {
         ensures handed { self.new.frame ≡ K.using self.old.frame
             (handed_at self.old.frame.held param.now (slice_get registers.now place)) }
         ensures context { self.new.context ≡ self.old.context }
+        ensures gives_up { self.new.gives_up ≡ self.old.gives_up }
         ensures buffer { self.new.buffer ≡ self.old.buffer }
     {
         if let Some(register) = registers.get(place)
@@ -158,6 +169,7 @@ impl<'a> Lowerer<'a> {
         ensures taken { OnOk result (TakesAll self.old.frame sizes.now registers.old.items registers.new.items
             self.new.frame) }
         ensures context { OnOk result (self.new.context ≡ self.old.context) }
+        ensures gives_up { OnOk result (self.new.gives_up ≡ self.old.gives_up) }
         ensures buffer { OnOk result (self.new.buffer ≡ self.old.buffer) }
     {
         for size in sizes {
@@ -170,6 +182,7 @@ impl<'a> Lowerer<'a> {
         ensures taken { OnOk result (TakesOne self.old.frame size registers.old.items registers.new.items
             self.new.frame) }
         ensures context { OnOk result (self.new.context ≡ self.old.context) }
+        ensures gives_up { OnOk result (self.new.gives_up ≡ self.old.gives_up) }
         ensures buffer { OnOk result (self.new.buffer ≡ self.old.buffer) }
     {
         let credit = self.frame.take_credit(size as usize).ok_or(NoMemory)?;

@@ -20,17 +20,17 @@ ghost use Rattle.match_code.specs.Reading.{asked, contains, read_one, reading};
 ghost use Rattle.match_code.specs.Opening as O;
 ghost use Rattle.match_code.specs.Opening.{as_many, naming, naming_all, take_if, taking, taking_all};
 ghost use Rattle.match_code.specs.Landing.{IsScene, test_of};
-ghost use Rattle.cell_lower.specs.Positions.{spot_of, spots_of};
+ghost use Rattle.lower_frame.specs.Positions.{spot_of, spots_of};
 ghost use Rattle.cell_lower.specs.Scenes.{asked_of, asking, first_side, patterns_of, reading_of, scene, side_of};
 ghost use Rattle.cell_lower.specs.Scenes.{Advances, AtSpot, ChoosesIf, Follows, HasRows, IsFirstOf, Settles};
 ghost use Rattle.cell_lower.specs.Scenes.{Asks, NotFirst, PlacesSide, SettlesBy, Tests, naming_part, sides_of};
 
 use crate::lowerer::Lowerer;
-use crate::spots::{Spot, field_at};
 use cell_code::{Constructors, From, Instr, Kind, Registers};
 use fip_base::plain::NoMemory;
 use fip_language::limits::MOST_PATTERN_NODES;
 use fip_trees::program::{Binder, Pattern, Program};
+use lower_frame::{Spot, field_at};
 use lowered_code::Held;
 use match_knowledge::{
     Head, Knowledge, Row, compare, is_asks, is_fits, is_last, open, same_head, side,
@@ -595,7 +595,9 @@ impl<'a> Lowerer<'a> {
         known: &Knowledge,
         read: &[u16],
     ) -> Result<Vec<Kind>, NoMemory> {
-        let mut kinds = self.frame.kinds(self.context.alloc, self.context.program)?;
+        let mut kinds = self
+            .frame
+            .kinds(self.context.alloc, &self.context.program.types)?;
         let below = self.overlay_root(&mut kinds, choice, known)?;
         let overlay = Overlay {
             root: below.root,

@@ -3,16 +3,13 @@
 #![tactic(auto)]
 
 mod bodies;
-mod buffer;
 mod calls;
 mod choices;
 mod copies;
-mod frame;
 mod functions;
 mod limits;
 mod lowerer;
 mod matches;
-mod spots;
 mod values;
 mod weakening;
 

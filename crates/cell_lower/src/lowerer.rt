@@ -6,18 +6,20 @@ ghost use Rattle.lowered_code.specs.Functions as F;
 ghost use Rattle.lowered_code.specs.Values as S;
 ghost use Rattle.match_code.specs.Losing.{Loses};
 ghost use Rattle.match_code.specs.Written.{Extends, IsAt, size};
-ghost use Rattle.cell_lower.specs.Frames.{param_at};
-ghost use Rattle.cell_lower.specs.Growth.{labels, registers};
+ghost use Rattle.cell_lower.specs.Writing.{param_at};
+ghost use Rattle.laid_code.specs.Matches.{wide};
+ghost use Rattle.lower_frame.specs.Frames.{kinds_told};
+ghost use Rattle.lower_frame.specs.Labels.{labels, telling};
+ghost use Rattle.lower_frame.specs.Registers.{registers};
 ghost use Rattle.cell_lower.specs.Writing.{setting};
 
-use crate::buffer::Buffer;
-use crate::frame::Frame;
 use fip_base::core_form::MatchKind;
 use fip_base::plain::{FunKind, NoMemory, Param};
 use fip_trees::needs::Need;
 use fip_trees::program::{Binder, Instance, Program};
 use fip_trees::scalars::Scalars;
 use fip_trees::sizes::Sizes;
+use lower_frame::{Buffer, Frame};
 use lowered_code::Held;
 use std::alloc::Global;
 
@@ -204,7 +206,7 @@ impl<'a> Lowerer<'a> {
         ensures context { IfOk result (λ l. l.context.now ≡ context.now) }
         ensures known { IfOk result (λ l.
             l.frame ≡ F.known_at_start (setting context.now) registers (V.instance_of instance.now)) }
-        ensures empty { IfOk result (λ l. l.buffer ≡ record { instrs = []; places = [] }) }
+        ensures empty { IfOk result (λ l. l.buffer ≡ record { instrs = []; places = []; maps = [] }) }
     {
         Ok(Lowerer {
             context,
@@ -239,6 +241,9 @@ impl<'a> Lowerer<'a> {
     #[tactic(auto, using(crate::proofs::Shedding::widening))]
     pub fn put_label(&mut self, label: u32) -> Result<(), NoMemory>
         ensures loses { OnOk result (Loses self.old.frame self.new.frame) }
+        ensures wide { OnOk result (self.new.frame ≡ wide self.old.frame) }
+        ensures told { OnOk result (self.new.buffer.maps ≡ telling (size self.old.buffer)
+            (kinds_told self.old.context.now.program.now.types self.new.frame.held) self.old.buffer.maps) }
         ensures registers { OnOk result (registers self.new.frame ≡ registers self.old.frame) }
         ensures extends { OnOk result (Extends self.old.buffer self.new.buffer) }
         ensures instrs { OnOk result (self.new.buffer.instrs ≡ self.old.buffer.instrs) }
@@ -247,7 +252,9 @@ impl<'a> Lowerer<'a> {
         ensures context { OnOk result (self.new.context ≡ self.old.context) }
     {
         self.frame.widen();
-        let kinds = self.frame.kinds(self.context.alloc, self.context.program)?;
-        self.buffer.put_label(label, kinds)
+        let program = self.context.program;
+        let kinds = self.frame.kinds(self.context.alloc, &program.types)?;
+        self.buffer.put_label(label, kinds)?;
+        Ok(())
     }
 }

@@ -7,22 +7,24 @@ ghost use Rattle.match_code.specs.Entering.{with_variable, spent_if};
 ghost use Rattle.match_code.specs.Losing.{Loses};
 ghost use Rattle.match_code.specs.Rows.{row_of, rows_of};
 ghost use Rattle.match_code.specs.Written.{Extends, GivesUp, size};
-ghost use Rattle.cell_lower.specs.Positions.{reaching, spot_of, spots_of};
+ghost use Rattle.lower_frame.specs.Positions.{reaching, spot_of, spots_of};
 ghost use Rattle.cell_lower.specs.Scenes.{AtSpot, first_side, patterns_of, sides_of};
 ghost use Rattle.cell_lower.specs.Clauses.{AddsPattern, IsBegun, EndsIn, EndsMatch, GoesToEnd, HasPositions};
 ghost use Rattle.cell_lower.specs.Clauses.{JoinsKnown, StartsIn};
-ghost use Rattle.cell_lower.specs.Growth.{HasRoom, Sheds, labels, registers};
+ghost use Rattle.lower_frame.specs.Registers.{HasRoom, registers};
+ghost use Rattle.cell_lower.specs.Growth.{Sheds};
+ghost use Rattle.cell_lower.specs.Laying.{ForgetsLaid, is_built};
+ghost use Rattle.lower_frame.specs.Labels.{labels};
 ghost use Rattle.match_code.proofs.Choices.{patterns_in};
 ghost use Rattle.cell_lower.specs.Writing.{setting, target_of};
 
 use crate::choices::{Choice, Side, is_named, start_of};
-use crate::frame::Frame;
 use crate::lowerer::{Lowerer, Target};
-use crate::spots::{Spot, add_spots, field_at};
 use cell_code::Instr;
 use fip_base::plain::NoMemory;
 use fip_trees::program::{Argument, Binder, Clause, Pattern};
 use fip_trees::sizes::Sizes;
+use lower_frame::{Frame, Spot, add_spots, field_at};
 use lowered_code::Held;
 use match_knowledge::{Head, Row};
 use std::alloc::Global;
@@ -139,14 +141,15 @@ impl<'a> Lowerer<'a> {
         ensures as_long { OnOk result (size self.new.buffer ≡ size self.old.buffer) }
         ensures labels { OnOk result (labels self.new.buffer ≤ suc (labels self.old.buffer)) }
         ensures context { OnOk result (self.new.context ≡ self.old.context) }
+        ensures forgets { OnOk result (ForgetsLaid self.old.context.now.program.now.types register self.old.frame
+            self.old.buffer self.new.frame self.new.buffer) }
     {
-        match self.frame.at(register) {
-            Held::Owned { built: Some(_), .. } => {
-                let label = self.buffer.new_label()?;
-                self.put_label(label)
-            }
-            _ => Ok(()),
+        if !is_built(self.frame.at(register)) {
+            return Ok(());
         }
+        let label = self.buffer.new_label()?;
+        self.put_label(label)?;
+        Ok(())
     }
 
     // The registers of trees that a clause may use up, where the clauses meet again and may leave something.
@@ -486,7 +489,7 @@ impl<'a> Lowerer<'a> {
     }
 
     /// The place where the clauses meet.
-    #[tactic(auto, using(crate::proofs::Losing::losing))]
+    #[tactic(auto, using(lower_frame::proofs::Losing::losing))]
     pub fn end_match(&mut self, matching: Matching<'_>, progress: Progress) -> Result<(), NoMemory>
         ensures ends { OnOk result (EndsMatch matching.entry progress.joined self.old.buffer
             self.new.frame self.new.buffer) }
@@ -502,6 +505,20 @@ impl<'a> Lowerer<'a> {
                 Ok(())
             }
         }
+    }
+}
+
+// Whether this is a tree that was just built, so that its constructor is known.
+fn is_built(held: Held) -> bool
+    ensures { result ≡ is_built held }
+{
+    match held {
+        Held::Nothing => false,
+        Held::Scalar { .. } => false,
+        Held::Owned { built, .. } => built.is_some(),
+        Held::Lent { .. } => false,
+        Held::Credit { .. } => false,
+        Held::Bare { .. } => false,
     }
 }
 

@@ -1,20 +1,23 @@
 // Values of arguments, and where they go.
-ghost use Rattle.std.specs.Prelude.{◌≡◌, [], IfOk, OnOk, slice_get};
+ghost use Rattle.std.specs.Prelude.{◌≡◌, true, false, not, [], IfOk, OnOk, slice_get};
 ghost use Rattle.fip_trees.specs.TreeView as V;
 ghost use Rattle.cell_code.specs.declared.code.Instr.TheVariants as I;
 ghost use Rattle.lowered_code.specs.declared.held.Held.TheVariants as H;
 ghost use Rattle.lowered_code.specs.Known as K;
 ghost use Rattle.match_code.specs.Losing.{Loses};
 ghost use Rattle.match_code.specs.Written.{GivesUp, added};
+ghost use Rattle.lower_frame.specs.Credits.{NoBares, is_bare};
+ghost use Rattle.lower_frame.specs.Registers.{HasRoom};
 ghost use Rattle.cell_lower.specs.Growth.{Sheds};
+ghost use Rattle.cell_lower.specs.Laying.{GivesLaid, GivesUpLaid};
 ghost use Rattle.cell_lower.specs.Writing.{setting, target_of, Builds, Computes, ComputesAll, Gives, Moves};
 ghost use Rattle.cell_lower.specs.Writing.{MovesOne, MovesTo};
 
-use crate::frame::as_value;
 use crate::lowerer::{Lowerer, Target};
 use cell_code::{Instr, Registers};
 use fip_base::plain::NoMemory;
 use fip_trees::program::Argument;
+use lower_frame::as_value;
 use lowered_code::Held;
 
 impl<'a> Lowerer<'a> {
@@ -25,6 +28,7 @@ impl<'a> Lowerer<'a> {
         ensures computes { IfOk result (λ r. Computes (setting self.old.context.now) self.old.frame self.old.buffer
             (V.argument argument.now) r self.new.frame self.new.buffer) }
         ensures context { OnOk result (self.new.context ≡ self.old.context) }
+        ensures gives_up { OnOk result (self.new.gives_up ≡ self.old.gives_up) }
     {
         match argument {
             // A variable of a typed program is bound before it is used.
@@ -53,6 +57,7 @@ impl<'a> Lowerer<'a> {
         ensures computes { IfOk result (λ rs. ComputesAll (setting self.old.context.now) self.old.frame
             self.old.buffer (V.arguments arguments.now) rs.items self.new.frame self.new.buffer) }
         ensures context { OnOk result (self.new.context ≡ self.old.context) }
+        ensures gives_up { OnOk result (self.new.gives_up ≡ self.old.gives_up) }
     {
         let mut registers = Vec::new(self.context.alloc);
         for argument in arguments {
@@ -65,7 +70,9 @@ impl<'a> Lowerer<'a> {
         ensures register { IfOk result (λ r. r ≡ self.old.frame.next) }
         ensures known { OnOk result (self.new.frame ≡ K.with_next self.old.frame (H.Scalar 0)) }
         ensures written { OnOk result (self.new.buffer ≡ added self.old.buffer (I.Const self.old.frame.next value)) }
+        ensures room { OnOk result (HasRoom self.old.frame self.new.frame) }
         ensures context { OnOk result (self.new.context ≡ self.old.context) }
+        ensures gives_up { OnOk result (self.new.gives_up ≡ self.old.gives_up) }
     {
         let destination = self.frame.fresh()?;
         self.buffer.add(Instr::Const { destination, value })?;
@@ -80,6 +87,7 @@ impl<'a> Lowerer<'a> {
         ensures builds { IfOk result (λ r. Builds (setting self.old.context.now) self.old.frame self.old.buffer ty
             constructor fields.now r self.new.frame self.new.buffer) }
         ensures context { OnOk result (self.new.context ≡ self.old.context) }
+        ensures gives_up { OnOk result (self.new.gives_up ≡ self.old.gives_up) }
     {
         if fields.is_empty() {
             return self.atom(ty, constructor);
@@ -103,6 +111,7 @@ impl<'a> Lowerer<'a> {
         ensures builds { IfOk result (λ r. Builds (setting self.old.context.now) self.old.frame self.old.buffer ty
             constructor [] r self.new.frame self.new.buffer) }
         ensures context { OnOk result (self.new.context ≡ self.old.context) }
+        ensures gives_up { OnOk result (self.new.gives_up ≡ self.old.gives_up) }
     {
         match self.frame.take_bare(ty, constructor) {
             Some(register) => {
@@ -130,6 +139,7 @@ impl<'a> Lowerer<'a> {
         ensures used { self.new.frame ≡ K.using self.old.frame (K.used_all self.old.frame.held registers.now) }
         ensures context { self.new.context ≡ self.old.context }
         ensures buffer { self.new.buffer ≡ self.old.buffer }
+        ensures gives_up { self.new.gives_up ≡ self.old.gives_up }
     {
         for register in registers {
             self.frame.use_up(*register);
@@ -137,12 +147,15 @@ impl<'a> Lowerer<'a> {
     }
 
     /// Uses up each constructor without fields that was matched and is not used.
-    #[tactic(auto, using(crate::proofs::Losing::giving_up))]
+    #[tactic(auto, using(crate::proofs::Losing::giving_up, crate::proofs::Laying::spending))]
     pub fn end_bare(&mut self) -> Result<(), NoMemory>
         ensures given_up { OnOk result (GivesUp self.old.buffer self.new.buffer) }
         ensures loses { OnOk result (Loses self.old.frame self.new.frame) }
         ensures sheds { OnOk result (Sheds self.old.frame self.old.buffer self.new.frame self.new.buffer) }
         ensures context { OnOk result (self.new.context ≡ self.old.context) }
+        ensures laid { OnOk result (GivesUpLaid true self.old.frame self.old.buffer self.new.frame self.new.buffer) }
+        ensures bares { OnOk result (NoBares self.old.frame.next self.new.frame.held) }
+        ensures gives_up { OnOk result (self.new.gives_up ≡ self.old.gives_up) }
     {
         for register in 0..self.frame.next() {
             self.end_one(register)?;
@@ -150,12 +163,15 @@ impl<'a> Lowerer<'a> {
         Ok(())
     }
 
-    #[tactic(auto, using(crate::proofs::Losing::giving_up))]
+    #[tactic(auto, using(crate::proofs::Losing::giving_up, crate::proofs::Laying::spending))]
     fn end_one(&mut self, register: u16) -> Result<(), NoMemory>
         ensures given_up { OnOk result (GivesUp self.old.buffer self.new.buffer) }
         ensures loses { OnOk result (Loses self.old.frame self.new.frame) }
         ensures sheds { OnOk result (Sheds self.old.frame self.old.buffer self.new.frame self.new.buffer) }
         ensures context { OnOk result (self.new.context ≡ self.old.context) }
+        ensures laid { OnOk result (GivesUpLaid true self.old.frame self.old.buffer self.new.frame self.new.buffer) }
+        ensures bare { OnOk result (is_bare (slice_get self.new.frame.held register) ≡ false) }
+        ensures gives_up { OnOk result (self.new.gives_up ≡ self.old.gives_up) }
     {
         if self.frame.is_bare(register) {
             self.frame.set(register, Held::Nothing);
@@ -168,11 +184,13 @@ impl<'a> Lowerer<'a> {
     }
 
     /// Hands results on.
-    #[tactic(auto, using(crate::proofs::Writing::giving))]
+    #[tactic(auto, using(crate::proofs::Writing::giving, crate::proofs::Laying::ending))]
     pub fn give(&mut self, results: &[u16], target: Target<'_>) -> Result<(), NoMemory>
         ensures gives { OnOk result (Gives self.old.frame self.old.buffer results.now (target_of target.entry)
             self.new.frame self.new.buffer) }
         ensures context { OnOk result (self.new.context ≡ self.old.context) }
+        ensures laid { OnOk result (GivesLaid (not self.old.gives_up) self.old.frame self.old.buffer results.now
+            (target_of target.entry) self.new.frame self.new.buffer) }
     {
         match target {
             Target::Return => {

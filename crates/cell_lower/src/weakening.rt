@@ -1,10 +1,12 @@
 // What is left over in an fbip function is given up: trees are dropped, cells of credits are freed.
-ghost use Rattle.std.specs.Prelude.{◌≡◌, OnOk};
+ghost use Rattle.std.specs.Prelude.{◌≡◌, ◌-◌, false, not, OnOk, slice_get};
+ghost use Rattle.lowered_code.specs.Known.{is_owned};
 ghost use Rattle.match_code.specs.Losing.{Loses};
 ghost use Rattle.match_code.specs.Written.{GivesUp};
+ghost use Rattle.lower_frame.specs.Credits.{NoTrees, sized};
 ghost use Rattle.cell_lower.specs.Growth.{Sheds};
+ghost use Rattle.cell_lower.specs.Laying.{AllGone, GivesUpLaid, SpendsAll, SpendsPast};
 
-use crate::frame::Frame;
 use crate::lowerer::Lowerer;
 use cell_code::Instr;
 use fip_base::core_form::MatchKind;
@@ -12,29 +14,36 @@ use fip_base::plain::NoMemory;
 use fip_language::limits::MOST_FIELDS;
 use fip_trees::program::{Argument, Block, Clause, Expression};
 use fip_trees::sizes::Sizes;
+use lower_frame::Frame;
 
 impl<'a> Lowerer<'a> {
     /// Gives up all that is left when the function ends.
-    #[tactic(auto, using(crate::proofs::Losing::giving_up))]
+    #[tactic(auto, using(crate::proofs::Losing::giving_up, crate::proofs::Laying::spending))]
     pub fn give_up_all(&mut self) -> Result<(), NoMemory>
         ensures given_up { OnOk result (GivesUp self.old.buffer self.new.buffer) }
         ensures loses { OnOk result (Loses self.old.frame self.new.frame) }
         ensures sheds { OnOk result (Sheds self.old.frame self.old.buffer self.new.frame self.new.buffer) }
         ensures context { OnOk result (self.new.context ≡ self.old.context) }
+        ensures laid { OnOk result (GivesUpLaid (not self.old.gives_up) self.old.frame self.old.buffer self.new.frame
+            self.new.buffer) }
+        ensures gone { OnOk result (AllGone (not self.old.gives_up) self.old.frame self.new.frame) }
     {
         if !self.gives_up {
             return Ok(());
         }
         self.drop_all()?;
-        self.free_all()
+        self.free_all()?;
+        Ok(())
     }
 
-    #[tactic(auto, using(crate::proofs::Losing::giving_up))]
+    #[tactic(auto, using(crate::proofs::Losing::giving_up, crate::proofs::Laying::spending))]
     fn drop_all(&mut self) -> Result<(), NoMemory>
         ensures given_up { OnOk result (GivesUp self.old.buffer self.new.buffer) }
         ensures loses { OnOk result (Loses self.old.frame self.new.frame) }
         ensures sheds { OnOk result (Sheds self.old.frame self.old.buffer self.new.frame self.new.buffer) }
         ensures context { OnOk result (self.new.context ≡ self.old.context) }
+        ensures laid { OnOk result (GivesUpLaid false self.old.frame self.old.buffer self.new.frame self.new.buffer) }
+        ensures trees { OnOk result (NoTrees self.old.frame.next self.new.frame.held) }
     {
         for register in 0..self.frame.next() {
             self.drop_tree(register)?;
@@ -42,12 +51,14 @@ impl<'a> Lowerer<'a> {
         Ok(())
     }
 
-    #[tactic(auto, using(crate::proofs::Losing::giving_up))]
+    #[tactic(auto, using(crate::proofs::Losing::giving_up, crate::proofs::Laying::spending))]
     fn free_all(&mut self) -> Result<(), NoMemory>
         ensures given_up { OnOk result (GivesUp self.old.buffer self.new.buffer) }
         ensures loses { OnOk result (Loses self.old.frame self.new.frame) }
         ensures sheds { OnOk result (Sheds self.old.frame self.old.buffer self.new.frame self.new.buffer) }
         ensures context { OnOk result (self.new.context ≡ self.old.context) }
+        ensures laid { OnOk result (GivesUpLaid false self.old.frame self.old.buffer self.new.frame self.new.buffer) }
+        ensures spent { OnOk result (SpendsAll self.old.frame self.new.frame) }
     {
         for below in 0..MOST_FIELDS {
             self.free_past(below + 1, 0)?;
@@ -122,40 +133,49 @@ impl<'a> Lowerer<'a> {
         Ok(())
     }
 
-    #[tactic(auto, using(crate::proofs::Losing::giving_up))]
+    #[tactic(auto, using(crate::proofs::Losing::giving_up, crate::proofs::Laying::spending))]
     fn drop_tree(&mut self, register: u16) -> Result<(), NoMemory>
         ensures given_up { OnOk result (GivesUp self.old.buffer self.new.buffer) }
         ensures loses { OnOk result (Loses self.old.frame self.new.frame) }
         ensures sheds { OnOk result (Sheds self.old.frame self.old.buffer self.new.frame self.new.buffer) }
         ensures context { OnOk result (self.new.context ≡ self.old.context) }
+        ensures laid { OnOk result (GivesUpLaid false self.old.frame self.old.buffer self.new.frame self.new.buffer) }
+        ensures tree { OnOk result (is_owned (slice_get self.new.frame.held register) ≡ false) }
     {
         if !self.frame.is_owned(register) {
             return Ok(());
         }
         self.frame.use_up(register);
-        self.buffer.add(Instr::Drop { register })
+        self.buffer.add(Instr::Drop { register })?;
+        Ok(())
     }
 
     // Frees all credits of a size but so many.
-    #[tactic(auto, using(crate::proofs::Losing::giving_up))]
+    #[tactic(auto, using(crate::proofs::Losing::giving_up, crate::proofs::Laying::spending))]
     fn free_past(&mut self, size: usize, kept: usize) -> Result<(), NoMemory>
         ensures given_up { OnOk result (GivesUp self.old.buffer self.new.buffer) }
         ensures loses { OnOk result (Loses self.old.frame self.new.frame) }
         ensures sheds { OnOk result (Sheds self.old.frame self.old.buffer self.new.frame self.new.buffer) }
         ensures context { OnOk result (self.new.context ≡ self.old.context) }
+        ensures laid { OnOk result (GivesUpLaid false self.old.frame self.old.buffer self.new.frame self.new.buffer) }
+        ensures spent { OnOk result (SpendsPast size kept self.old.frame self.new.frame) }
     {
-        for _ in kept..self.frame.count(size) {
+        let count = self.frame.count(size);
+        for _freed in kept..count {
             self.free_one(size)?;
         }
         Ok(())
     }
 
-    #[tactic(auto, using(crate::proofs::Losing::giving_up))]
+    #[tactic(auto, using(crate::proofs::Losing::giving_up, crate::proofs::Laying::spending))]
     fn free_one(&mut self, size: usize) -> Result<(), NoMemory>
         ensures given_up { OnOk result (GivesUp self.old.buffer self.new.buffer) }
         ensures loses { OnOk result (Loses self.old.frame self.new.frame) }
         ensures sheds { OnOk result (Sheds self.old.frame self.old.buffer self.new.frame self.new.buffer) }
         ensures context { OnOk result (self.new.context ≡ self.old.context) }
+        ensures laid { OnOk result (GivesUpLaid false self.old.frame self.old.buffer self.new.frame self.new.buffer) }
+        ensures spent { OnOk result (SpendsPast size (sized size self.old.frame.credits - 1) self.old.frame
+            self.new.frame) }
     {
         match self.frame.take_credit(size) {
             Some(register) => self.buffer.add(Instr::Free { register }),

@@ -6,13 +6,15 @@
 use Rattle.std.specs.Prelude.{◌≡◌, ◌≤◌, ◌<◌, ℕ, List, [], ◌∷◌, ◌++◌, Option, Some, None, length, slice_get}
 use Rattle.cell_code.specs.declared.code.Instr.{Instr}
 use Rattle.cell_code.specs.declared.code.Instr.TheVariants as I
+use Rattle.sound_code.specs.Codes.{LabelMap, label_at}
 use Rattle.lowered_code.specs.Known.{joined}
 use Rattle.lowered_code.specs.Bodies as B
 
--- the instructions, and the places of the labels that have one
+-- the instructions, the places of the labels that have one, and what is told of the registers at some places
 pub record Written : Type 0 where
   pub instrs : List Instr
   pub places : List (Option ℕ)
+  pub maps : List LabelMap
 
 abbrev pub size : Written → ℕ
 size w = length w.instrs
@@ -44,6 +46,7 @@ pub record Extends (v w : Written) : Type 0 where
   pub grows : size v ≤ size w
   pub same : (p : ℕ) (i : Instr) → slice_get v.instrs p ≡ Some i → slice_get w.instrs p ≡ Some i
   pub placed : (label p : ℕ) → IsAt v label p → IsAt w label p
+  pub told : (p : ℕ) → p < size v → label_at w.maps p ≡ label_at v.maps p
 
 -- a code has what was written from n on, where labels are at these places
 pub record HasFrom (n : ℕ) (w : Written) (to : ℕ → ℕ) (code : List Instr) : Type 0 where

@@ -1,5 +1,5 @@
 use Rattle.std.proofs.Common.{rules, arith, ◌∙◌, ◌+◌}
-use Rattle.cell_lower.specs.Positions.{spot_of, spots_of}
+use Rattle.lower_frame.specs.Positions.{spot_of, spots_of}
 use Rattle.cell_lower.proofs.Folding.{taken_next, item, spot_there}
 use Rattle.cell_lower.proofs.lowerer.Lowerer.+taking.Goals as goal
 

@@ -5,7 +5,7 @@ use Rattle.match_code.proofs.Placing.{extends_on}
 use Rattle.match_code.proofs.Choices.{patterns_in}
 use Rattle.cell_lower.specs.Clauses.{AddsPattern}
 use Rattle.cell_lower.proofs.Folding.{item}
-use Rattle.cell_lower.proofs.Growing.{reached_on, room_on}
+use Rattle.lower_frame.proofs.Growing.{reached_on, room_on}
 use Rattle.cell_lower.proofs.Beginning.{positions_new, positions_on, patterns_next, labels_first, labels_next}
 use Rattle.cell_lower.proofs.lowerer.Lowerer.choice_of.Goals as goal
 

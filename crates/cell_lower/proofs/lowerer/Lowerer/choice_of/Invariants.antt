@@ -2,8 +2,9 @@ use Rattle.std.proofs.Common.{◌≡◌, drop, ◌+◌, ◌++◌, ◌∷◌, len
 use Rattle.fip_trees.specs.TreeView as V
 use Rattle.match_code.specs.Written.{Extends, size}
 use Rattle.match_code.proofs.Choices.{patterns_in}
-use Rattle.cell_lower.specs.Growth.{HasRoom, labels}
-use Rattle.cell_lower.specs.Positions.{reaching}
+use Rattle.lower_frame.specs.Registers.{HasRoom}
+use Rattle.lower_frame.specs.Labels.{labels}
+use Rattle.lower_frame.specs.Positions.{reaching}
 use Rattle.cell_lower.specs.Scenes.{patterns_of}
 use Rattle.cell_lower.specs.Clauses.{HasPositions}
 use Rattle.cell_lower.proofs.lowerer.Lowerer.choice_of.Given as goal

@@ -3,7 +3,7 @@ use Rattle.cell_code.specs.declared.code.Instr.TheVariants as I
 use Rattle.lowered_code.specs.declared.held.Held.TheVariants as H
 use Rattle.lowered_code.specs.Known.{holding}
 use Rattle.match_code.specs.Written.{added}
-use Rattle.cell_lower.specs.Frames.{Takes}
+use Rattle.lower_frame.specs.Frames.{Takes}
 use Rattle.cell_lower.specs.Writing.{setting}
 use Rattle.cell_lower.proofs.Folding.{nonempty}
 use Rattle.cell_lower.proofs.Writing.{builds_fields}

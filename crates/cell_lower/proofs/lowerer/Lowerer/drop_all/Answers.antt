@@ -1,7 +1,10 @@
 use Rattle.std.proofs.Common.{◌∙◌}
 use Rattle.match_code.proofs.Placing.{gives_up_on}
-use Rattle.cell_lower.proofs.Losing.{loses_on}
+use Rattle.lower_frame.proofs.Losing.{loses_on}
 use Rattle.cell_lower.proofs.Shedding.{sheds_on}
+use Rattle.cell_lower.proofs.Laying.{laid_on}
+use Rattle.lower_frame.proofs.Accounts.{no_trees_next}
+use Rattle.std.proofs.Common.{false, ◌+◌, arith}
 use Rattle.cell_lower.proofs.lowerer.Lowerer.drop_all.Goals as goal
 
 pub loop-register-preserved : goal.loop-register-preserved
@@ -10,4 +13,6 @@ loop-register-preserved c = record {
   loses = loses_on _ _ _ c.loop-register.invariant.loses c.in_ok-drop_tree.ensures.loses;
   sheds = sheds_on _ _ _ _ _ _ c.loop-register.invariant.sheds c.in_ok-drop_tree.ensures.sheds;
   context = c.in_ok-drop_tree.ensures.context ∙ c.loop-register.invariant.context;
+  laid = laid_on false _ _ _ _ _ _ c.loop-register.invariant.laid c.in_ok-drop_tree.ensures.laid;
+  trees = no_trees_next c.loop-register.self.frame.held c.drop_tree.new.self.frame.held c.loop-register.register (c.loop-register.register + 1) (omega arith) c.in_ok-drop_tree.ensures.laid.trees c.in_ok-drop_tree.ensures.tree c.loop-register.invariant.trees;
 }

@@ -2,6 +2,9 @@ use Rattle.std.proofs.Common.{◌≡◌}
 use Rattle.match_code.specs.Losing.{Loses}
 use Rattle.match_code.specs.Written.{GivesUp}
 use Rattle.cell_lower.specs.Growth.{Sheds}
+use Rattle.lower_frame.specs.Credits.{NoTrees}
+use Rattle.cell_lower.specs.Laying.{GivesUpLaid}
+use Rattle.std.proofs.Common.{false}
 use Rattle.cell_lower.proofs.lowerer.Lowerer.drop_all.Given as goal
 
 abbrev pub invariant-loop-register : goal.invariant-loop-register
@@ -10,4 +13,6 @@ invariant-loop-register l = record {
   loses : Loses l.initial.self.frame l.self.frame;
   sheds : Sheds l.initial.self.frame l.initial.self.buffer l.self.frame l.self.buffer;
   context : l.self.context ≡ l.initial.self.context;
+  laid : GivesUpLaid false l.initial.self.frame l.initial.self.buffer l.self.frame l.self.buffer;
+  trees : NoTrees l.register l.self.frame.held;
 }

@@ -2,6 +2,9 @@ use Rattle.std.proofs.Common.{◌≡◌}
 use Rattle.match_code.specs.Losing.{Loses}
 use Rattle.match_code.specs.Written.{GivesUp}
 use Rattle.cell_lower.specs.Growth.{Sheds}
+use Rattle.lower_frame.specs.Credits.{NoBares}
+use Rattle.cell_lower.specs.Laying.{GivesUpLaid}
+use Rattle.std.proofs.Common.{true}
 use Rattle.cell_lower.proofs.lowerer.Lowerer.end_bare.Given as goal
 
 abbrev pub invariant-loop-register : goal.invariant-loop-register
@@ -10,4 +13,7 @@ invariant-loop-register l = record {
   loses : Loses l.initial.self.frame l.self.frame;
   sheds : Sheds l.initial.self.frame l.initial.self.buffer l.self.frame l.self.buffer;
   context : l.self.context ≡ l.initial.self.context;
+  gives_up : l.self.gives_up ≡ l.initial.self.gives_up;
+  laid : GivesUpLaid true l.initial.self.frame l.initial.self.buffer l.self.frame l.self.buffer;
+  bares : NoBares l.register l.self.frame.held;
 }

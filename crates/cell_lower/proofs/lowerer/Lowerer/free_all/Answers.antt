@@ -1,7 +1,9 @@
 use Rattle.std.proofs.Common.{◌∙◌}
 use Rattle.match_code.proofs.Placing.{gives_up_on}
-use Rattle.cell_lower.proofs.Losing.{loses_on}
+use Rattle.lower_frame.proofs.Losing.{loses_on}
 use Rattle.cell_lower.proofs.Shedding.{sheds_on}
+use Rattle.cell_lower.proofs.Laying.{laid_on, up_next}
+use Rattle.std.proofs.Common.{false, ◌+◌, arith}
 use Rattle.cell_lower.proofs.lowerer.Lowerer.free_all.Goals as goal
 
 pub loop-below-preserved : goal.loop-below-preserved
@@ -10,4 +12,6 @@ loop-below-preserved c = record {
   loses = loses_on _ _ _ c.loop-below.invariant.loses c.in_ok-free_past.ensures.loses;
   sheds = sheds_on _ _ _ _ _ _ c.loop-below.invariant.sheds c.in_ok-free_past.ensures.sheds;
   context = c.in_ok-free_past.ensures.context ∙ c.loop-below.invariant.context;
+  laid = laid_on false _ _ _ _ _ _ c.loop-below.invariant.laid c.in_ok-free_past.ensures.laid;
+  spent = up_next c.args.self.now.frame c.loop-below.self.frame c.free_past.new.self.frame c.loop-below.below (c.loop-below.below + 1) (c.loop-below.below + 1) (omega arith) (omega arith) c.loop-below.invariant.laid.accounts c.loop-below.invariant.spent c.in_ok-free_past.ensures.spent;
 }

@@ -2,6 +2,9 @@ use Rattle.std.proofs.Common.{◌≡◌}
 use Rattle.match_code.specs.Losing.{Loses}
 use Rattle.match_code.specs.Written.{GivesUp}
 use Rattle.cell_lower.specs.Growth.{Sheds}
+use Rattle.cell_lower.specs.Laying.{GivesUpLaid}
+use Rattle.cell_lower.proofs.Laying.{SpendsUp}
+use Rattle.std.proofs.Common.{false}
 use Rattle.cell_lower.proofs.lowerer.Lowerer.free_all.Given as goal
 
 abbrev pub invariant-loop-below : goal.invariant-loop-below
@@ -10,4 +13,6 @@ invariant-loop-below l = record {
   loses : Loses l.initial.self.frame l.self.frame;
   sheds : Sheds l.initial.self.frame l.initial.self.buffer l.self.frame l.self.buffer;
   context : l.self.context ≡ l.initial.self.context;
+  laid : GivesUpLaid false l.initial.self.frame l.initial.self.buffer l.self.frame l.self.buffer;
+  spent : SpendsUp l.below l.initial.self.frame l.self.frame;
 }

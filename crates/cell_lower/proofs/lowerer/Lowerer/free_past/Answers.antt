@@ -1,13 +1,17 @@
 use Rattle.std.proofs.Common.{◌∙◌}
 use Rattle.match_code.proofs.Placing.{gives_up_on}
-use Rattle.cell_lower.proofs.Losing.{loses_on}
+use Rattle.lower_frame.proofs.Losing.{loses_on}
 use Rattle.cell_lower.proofs.Shedding.{sheds_on}
+use Rattle.cell_lower.proofs.Laying.{laid_on, spends_next}
+use Rattle.std.proofs.Common.{rules, false, ◌+◌, arith}
 use Rattle.cell_lower.proofs.lowerer.Lowerer.free_past.Goals as goal
 
-pub loop-preserved : goal.loop-preserved
-loop-preserved c = record {
-  given_up = gives_up_on _ _ _ c.loop.invariant.given_up c.in_ok-free_one.ensures.given_up;
-  loses = loses_on _ _ _ c.loop.invariant.loses c.in_ok-free_one.ensures.loses;
-  sheds = sheds_on _ _ _ _ _ _ c.loop.invariant.sheds c.in_ok-free_one.ensures.sheds;
-  context = c.in_ok-free_one.ensures.context ∙ c.loop.invariant.context;
+pub loop-freed-preserved : goal.loop-freed-preserved
+loop-freed-preserved c = record {
+  given_up = gives_up_on _ _ _ c.loop-freed.invariant.given_up c.in_ok-free_one.ensures.given_up;
+  loses = loses_on _ _ _ c.loop-freed.invariant.loses c.in_ok-free_one.ensures.loses;
+  sheds = sheds_on _ _ _ _ _ _ c.loop-freed.invariant.sheds c.in_ok-free_one.ensures.sheds;
+  context = c.in_ok-free_one.ensures.context ∙ c.loop-freed.invariant.context;
+  laid = laid_on false _ _ _ _ _ _ c.loop-freed.invariant.laid c.in_ok-free_one.ensures.laid;
+  spent = spends_next c.args.self.now.frame c.loop-freed.self.frame c.free_one.new.self.frame c.loop-freed.self.buffer c.free_one.new.self.buffer c.args.size c.args.kept c.loop-freed._freed (c.loop-freed._freed + 1) (omega arith) (search rules) c.loop-freed.invariant.laid.accounts c.loop-freed.invariant.spent c.in_ok-free_one.ensures.spent;
 }

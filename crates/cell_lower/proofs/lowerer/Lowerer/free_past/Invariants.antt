@@ -2,12 +2,17 @@ use Rattle.std.proofs.Common.{◌≡◌}
 use Rattle.match_code.specs.Losing.{Loses}
 use Rattle.match_code.specs.Written.{GivesUp}
 use Rattle.cell_lower.specs.Growth.{Sheds}
+use Rattle.lower_frame.specs.Credits.{sized}
+use Rattle.cell_lower.specs.Laying.{GivesUpLaid, SpendsPast}
+use Rattle.std.proofs.Common.{false, ◌-◌}
 use Rattle.cell_lower.proofs.lowerer.Lowerer.free_past.Given as goal
 
-abbrev pub invariant-loop : goal.invariant-loop
-invariant-loop l = record {
+abbrev pub invariant-loop-freed : goal.invariant-loop-freed
+invariant-loop-freed l = record {
   given_up : GivesUp l.initial.self.buffer l.self.buffer;
   loses : Loses l.initial.self.frame l.self.frame;
   sheds : Sheds l.initial.self.frame l.initial.self.buffer l.self.frame l.self.buffer;
   context : l.self.context ≡ l.initial.self.context;
+  laid : GivesUpLaid false l.initial.self.frame l.initial.self.buffer l.self.frame l.self.buffer;
+  spent : SpendsPast l.size (sized l.size l.initial.self.frame.credits - (l._freed - l.kept)) l.initial.self.frame l.self.frame;
 }

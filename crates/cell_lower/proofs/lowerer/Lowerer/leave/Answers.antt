@@ -1,4 +1,4 @@
-use Rattle.cell_lower.proofs.Losing.{loses_on}
+use Rattle.lower_frame.proofs.Losing.{loses_on}
 use Rattle.cell_lower.proofs.Shedding.{sheds_on, sheds_widened}
 use Rattle.cell_lower.proofs.lowerer.Lowerer.leave.Goals as goal
 

@@ -1,5 +1,5 @@
 use Rattle.std.proofs.Common.{rules, arith, ◌∙◌, ◌+◌}
-use Rattle.cell_lower.proofs.Frames.{item}
+use Rattle.lower_frame.proofs.Frames.{item}
 use Rattle.cell_lower.proofs.Blocks.{named_to}
 use Rattle.cell_lower.proofs.lowerer.Lowerer.name_all.Goals as goal
 

@@ -5,8 +5,8 @@ use Rattle.match_code.specs.Losing.{Loses}
 use Rattle.match_code.specs.Written.{size}
 use Rattle.match_code.proofs.Placing.{extends_on}
 use Rattle.cell_lower.specs.Clauses.{HasPositions}
-use Rattle.cell_lower.specs.Growth.{registers}
-use Rattle.cell_lower.specs.Positions.{reaching}
+use Rattle.lower_frame.specs.Registers.{registers}
+use Rattle.lower_frame.specs.Positions.{reaching}
 use Rattle.cell_lower.specs.Scenes.{patterns_of}
 use Rattle.cell_lower.proofs.Beginning.{resumes_reached, loses_then, begun_few, entry_room}
 use Rattle.cell_lower.proofs.lowerer.Lowerer.start_match.Goals as goal

@@ -4,7 +4,7 @@ use Rattle.match_code.specs.Spots as S
 use Rattle.cell_code.specs.declared.code.Instr.TheVariants as I
 use Rattle.match_code.specs.Written.{added}
 use Rattle.match_code.specs.Opening.{as_many}
-use Rattle.cell_lower.specs.Positions.{spot_of, spots_of}
+use Rattle.lower_frame.specs.Positions.{spot_of, spots_of}
 use Rattle.cell_lower.proofs.Folding.{taken_cell, nonempty, register_is, fields_are}
 use Rattle.cell_lower.proofs.lowerer.Lowerer.take_cell.Goals as goal
 

@@ -1,8 +1,0 @@
-use Rattle.std.proofs.Common.{◌≤◌, subst, length}
-use Rattle.match_code.specs.Written.{Written}
-use Rattle.cell_lower.specs.Growth.{labels}
-use Rattle.cell_lower.proofs.Labels.{placed_few}
-use Rattle.cell_lower.proofs.buffer.Buffer.into_parts.Goals as goal
-
-pub returns-clause-few : goal.returns-clause-few
-returns-clause-few c = subst (λ (x : Written). length c.self.inside.labels.items ≤ labels x) c.self.view_is (placed_few c.self.inside.places.items (length c.self.inside.labels.items) c.self.invariant)

@@ -1,6 +1,0 @@
-use Rattle.std.proofs.Common.{◌≡◌, drop, take, map, ◌++◌}
-use Rattle.lowered_code.specs.Known as K
-use Rattle.cell_lower.proofs.frame.lose_lent.Given as goal
-
-abbrev pub invariant-loop-held : goal.invariant-loop-held
-invariant-loop-held l = take l.held-index l.held-items ++ map (K.without l.register) (drop l.held-index l.held-items) ≡ map (K.without l.register) l.initial.held-items

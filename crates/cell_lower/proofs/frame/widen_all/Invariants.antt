@@ -1,6 +1,0 @@
-use Rattle.std.proofs.Common.{◌≡◌, drop, take, map, ◌++◌}
-use Rattle.cell_lower.specs.Frames.{widened}
-use Rattle.cell_lower.proofs.frame.widen_all.Given as goal
-
-abbrev pub invariant-loop-held : goal.invariant-loop-held
-invariant-loop-held l = take l.held-index l.held-items ++ map widened (drop l.held-index l.held-items) ≡ map widened l.initial.held-items

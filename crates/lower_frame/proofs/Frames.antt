@@ -1,0 +1,17 @@
+-- Lists whose elements are changed one after another.
+use Rattle.std.proofs.Common.{◌≡◌, sym, ap, ◌∙◌, ℕ, zero, suc, ◌<◌, List, [], ◌∷◌, ◌++◌, length, map, take, drop, slice_set, Some, slice_get, get_or}
+use Rattle.std.proofs.lemmas.Option.{slice_get-get_or}
+
+same_some : {A : Type 0} (x y : A) → Some x ≡ Some y → x ≡ y
+same_some x y e = cc
+
+-- those before place i are changed
+pub mapped_next : {A : Type 0} (f : A → A) (xs : List A) (i : ℕ) (x : A) → slice_get xs i ≡ Some x → take (suc i) (slice_set xs i (f x)) ++ map f (drop (suc i) (slice_set xs i (f x))) ≡ take i xs ++ map f (drop i xs)
+mapped_next f [] i x e = absurd (cc)
+mapped_next f (y ∷ ys) zero x e = ap (λ z. f z ∷ map f ys) (sym (same_some y x e))
+mapped_next f (y ∷ ys) (suc i) x e = ap (λ zs. y ∷ zs) (mapped_next f ys i x e)
+
+pub item : {A : Type 0} (xs : List A) (i : ℕ) (x : A) → i < length xs → x ≡ get_or xs i x → slice_get xs i ≡ Some x
+item xs i x h e = slice_get-get_or xs i x h ∙ ap Some (sym e)
+
+pub ruleset mapping = (mapped_next)

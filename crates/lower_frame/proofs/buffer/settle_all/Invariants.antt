@@ -1,0 +1,6 @@
+use Rattle.std.proofs.Common.{◌≡◌, drop, take, map, ◌++◌}
+use Rattle.match_code.specs.Written.{settled, place_of}
+use Rattle.lower_frame.proofs.buffer.settle_all.Given as goal
+
+abbrev pub invariant-loop-instr : goal.invariant-loop-instr
+invariant-loop-instr l = take l.instr-index l.instr-items ++ map (settled (place_of l.places)) (drop l.instr-index l.instr-items) ≡ map (settled (place_of l.places)) l.initial.instr-items

@@ -1,0 +1,37 @@
+-- It serves the proofs on lowered code: the labels of a code that is being written. A label is a number that gets its
+-- place once. What is known of the registers is told at places that rise, in the place of what was told there before;
+-- at the first instruction of a function nothing is told, since no other goes there.
+-- Where maps stand at 3 and 5, a map that is told at 5 takes the place of the second, and one at 7 stands behind both.
+use Rattle.std.specs.Prelude.{◌≤◌, ◌<◌, ◌-◌, ◌==◌, ℕ, zero, suc, Bool, false, List, [], ◌∷◌, ◌++◌, Option, Some}
+use Rattle.std.specs.Prelude.{None, length, take, slice_get, if◌then◌else◌}
+use Rattle.cell_code.specs.declared.kind.Kind.{Kind}
+use Rattle.sound_code.specs.Codes.{LabelMap}
+use Rattle.match_code.specs.Written.{Written}
+
+-- how many labels there are
+abbrev pub labels : Written → ℕ
+labels w = length w.places
+
+-- how many have a place
+abbrev pub placed : List (Option ℕ) → ℕ
+placed [] = 0
+placed (None ∷ ps) = placed ps
+placed (Some p ∷ ps) = suc (placed ps)
+
+abbrev pub stands_at : ℕ → Option LabelMap → Bool
+stands_at p None = false
+stands_at p (Some m) = m.at == p
+
+-- the last map goes, where it stands at p
+abbrev pub untold : ℕ → List LabelMap → List LabelMap
+untold p ms = if stands_at p (slice_get ms (length ms - 1)) then take (length ms - 1) ms else ms
+
+-- these kinds are told at p
+abbrev pub telling : ℕ → List Kind → List LabelMap → List LabelMap
+telling zero ks ms = ms
+telling (suc p) ks ms = untold (suc p) ms ++ record { at = suc p; kinds = ks } ∷ []
+
+-- the places of maps rise, above `low` and up to `high`
+abbrev pub Rising : ℕ → ℕ → List LabelMap → Type 0
+Rising high low [] = Unit {0}
+Rising high low (m ∷ ms) = (low < m.at) × (m.at ≤ high) × Rising high m.at ms

@@ -1,0 +1,5 @@
+pub mod Registers
+pub mod Credits
+pub mod Frames
+pub mod Labels
+pub mod Positions

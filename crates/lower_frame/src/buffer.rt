@@ -1,0 +1,198 @@
+// The code of a function while it is written.
+ghost use Rattle.std.specs.Prelude.{◌≡◌, ◌≤◌, ◌-◌, suc, [], ◌∷◌, ◌++◌, IfOk, OnOk, OnErr, length, map, slice_get};
+ghost use Rattle.std.specs.Prelude.{slice_set, Some, None};
+ghost use Rattle.match_code.specs.Written.{Written as Writing, Extends, IsAt, added, place_of, settled, size};
+ghost use Rattle.sound_code.specs.Codes.{plain_label};
+ghost use Rattle.lower_frame.specs.Labels.{labels, placed, stands_at, telling, untold, Rising};
+
+use cell_code::{Instr, Kind, Label};
+use fip_base::plain::NoMemory;
+use std::alloc::Global;
+use std::marker::Model;
+
+/// Instructions, whose jumps and tests go to labels; the places of labels, where they are known; and what is known of
+/// the registers at some places, which rise and have a label each.
+#[derive(Drop)]
+pub struct Buffer {
+    instrs: Vec<Instr>,
+    places: Vec<Option<u32>>,
+    labels: Vec<Label>,
+}
+
+impl Model for Buffer {
+    ghost Value = { Writing };
+
+    ghost view = { λ b. record {
+      instrs = b.instrs.items;
+      places = b.places.items;
+      maps = map plain_label b.labels.items;
+    } };
+
+    ghost invariant = { λ b. (length b.labels.items ≤ placed b.places.items)
+        × Rising (length b.instrs.items) 0 (map plain_label b.labels.items) };
+}
+
+impl Buffer {
+    /// Nothing is written yet.
+    pub fn new(alloc: Global) -> Buffer
+        ensures empty { result ≡ record { instrs = []; places = []; maps = [] } }
+    {
+        Buffer {
+            instrs: Vec::new(alloc),
+            places: Vec::new(alloc),
+            labels: Vec::new(alloc),
+        }
+    }
+
+    /// The number of the next instruction; an error where it is past the greatest.
+    pub fn here(&self) -> Result<u32, NoMemory>
+        ensures here { IfOk result (λ p. p ≡ size self.now) }
+    {
+        u32::try_from(self.instrs.len()).map_err(|_| NoMemory)
+    }
+
+    /// Writes an instruction; a jump or a test names a label.
+    #[tactic(auto, using(crate::proofs::Labels::placing))]
+    pub fn add(&mut self, instr: Instr) -> Result<(), NoMemory>
+        ensures added { OnOk result (self.new ≡ added self.old instr) }
+    {
+        self.instrs.push(instr)?;
+        Ok(())
+    }
+
+    /// A label that has no place yet.
+    #[tactic(auto, using(crate::proofs::Labels::placing))]
+    pub fn new_label(&mut self) -> Result<u32, NoMemory>
+        ensures extends { OnOk result (Extends self.old self.new) }
+        ensures instrs { OnOk result (self.new.instrs ≡ self.old.instrs) }
+        ensures one { OnOk result (labels self.new ≡ suc (labels self.old)) }
+        ensures maps { OnOk result (self.new.maps ≡ self.old.maps) }
+    {
+        let label = u32::try_from(self.places.len()).map_err(|_| NoMemory)?;
+        self.places.push(None)?;
+        Ok(label)
+    }
+
+    /// The place of a label is that of the next instruction, and these kinds are known there, in the place of narrower
+    /// ones that were told; an error where the label has a place.
+    #[tactic(auto, using(crate::proofs::Labels::placing))]
+    pub fn put_label(&mut self, label: u32, kinds: Vec<Kind>) -> Result<(), NoMemory>
+        ensures extends { OnOk result (Extends self.old self.new) }
+        ensures instrs { OnOk result (self.new.instrs ≡ self.old.instrs) }
+        ensures placed { OnOk result (IsAt self.new label (size self.old)) }
+        ensures same { OnOk result (labels self.new ≡ labels self.old) }
+        ensures told { OnOk result (self.new.maps ≡ telling (size self.old) kinds.items self.old.maps) }
+    {
+        let here = self.here()?;
+        place(&mut self.places, label, here)?;
+        tell(&mut self.labels, here, kinds)?;
+        Ok(())
+    }
+
+    /// The instructions, with the places of labels for the labels, and what is known at places.
+    pub fn into_parts(self) -> Result<(Vec<Instr>, Vec<Label>), NoMemory>
+        ensures instrs { IfOk result (λ p. p.0.items ≡ map (settled (place_of self.places)) self.instrs) }
+        ensures few { IfOk result (λ p. length p.1.items ≤ labels self) }
+        ensures maps { IfOk result (λ p. map plain_label p.1.items ≡ self.maps) }
+        ensures rising { IfOk result (λ p. Rising (size self) 0 (map plain_label p.1.items)) }
+    {
+        let Buffer {
+            mut instrs,
+            places,
+            labels,
+        } = self;
+        settle_all(&mut instrs, places.as_slice())?;
+        Ok((instrs, labels))
+    }
+}
+
+// A label gets this place; an error where it has one.
+fn place(places: &mut Vec<Option<u32>>, label: u32, here: u32) -> Result<(), NoMemory>
+    ensures placed { OnOk result (places.new.items ≡ slice_set places.old.items label (Some here)) }
+    ensures free { OnOk result (slice_get places.old.items label ≡ Some None) }
+    ensures same { OnErr result (places.new.items ≡ places.old.items) }
+{
+    match places.get_mut(label as usize) {
+        None => Err(NoMemory),
+        Some(place) => match *place {
+            Some(_) => Err(NoMemory),
+            None => {
+                *place = Some(here);
+                Ok(())
+            }
+        },
+    }
+}
+
+// At the next instruction these kinds are known, in the place of those that were told there. The first instruction of a
+// function needs none, since no other goes there.
+#[tactic(auto, using(crate::proofs::Labels::telling_on))]
+fn tell(labels: &mut Vec<Label>, at: u32, kinds: Vec<Kind>) -> Result<(), NoMemory>
+    ensures told { OnOk result (map plain_label labels.new.items
+        ≡ telling at kinds.items (map plain_label labels.old.items)) }
+    ensures failed { OnErr result (map plain_label labels.new.items
+        ≡ untold at (map plain_label labels.old.items)) }
+{
+    if at == 0 {
+        return Ok(());
+    }
+    forget(labels, at);
+    labels.push(Label { at, kinds })?;
+    Ok(())
+}
+
+// The last of what was told goes, where it was told here.
+#[tactic(auto, using(crate::proofs::Labels::telling_on))]
+fn forget(labels: &mut Vec<Label>, at: u32)
+    ensures forgot { map plain_label labels.new.items ≡ untold at (map plain_label labels.old.items) }
+{
+    if is_last_at(labels.as_slice(), at) {
+        labels.pop();
+    }
+}
+
+// Whether the last of what was told was told here.
+#[tactic(auto, using(crate::proofs::Labels::telling_on))]
+fn is_last_at(labels: &[Label], at: u32) -> bool
+    ensures is { result ≡ stands_at at (slice_get (map plain_label labels.now)
+        (length (map plain_label labels.now) - 1)) }
+{
+    match labels.last() {
+        None => false,
+        Some(last) => last.at == at,
+    }
+}
+
+#[tactic(auto, using(crate::proofs::Frames::mapping))]
+fn settle_all(instrs: &mut Vec<Instr>, places: &[Option<u32>]) -> Result<(), NoMemory>
+    ensures settled { OnOk result (instrs.new.items ≡ map (settled (place_of places.now)) instrs.old.items) }
+{
+    for instr in instrs.iter_mut() {
+        settle(instr, places)?;
+    }
+    Ok(())
+}
+
+// A jump or a test goes to the place of its label; an error where this has none.
+fn settle(instr: &mut Instr, places: &[Option<u32>]) -> Result<(), NoMemory>
+    ensures settled { OnOk result (instr.new ≡ settled (place_of places.now) instr.old) }
+{
+    match instr {
+        Instr::Jump { target } => set_target(target, places),
+        Instr::Test { target, .. } => set_target(target, places),
+        Instr::TestInt { target, .. } => set_target(target, places),
+        _ => Ok(()),
+    }
+}
+
+fn set_target(target: &mut u32, places: &[Option<u32>]) -> Result<(), NoMemory>
+    ensures set { OnOk result (target.new ≡ place_of places.now target.old) }
+{
+    match places.get(*target as usize) {
+        Some(Some(place)) => {
+            *target = *place;
+            Ok(())
+        }
+        _ => Err(NoMemory),
+    }
+}

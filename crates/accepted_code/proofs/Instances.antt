@@ -10,10 +10,10 @@ use Rattle.fip_language.specs.Values.{Values}
 use Rattle.fip_language.proofs.Search.{slice_get_there}
 use Rattle.fip_language.proofs.SoundTables.{map_at}
 use Rattle.fip_trees.specs.Tree.{Instance, Program}
-use Rattle.static_params.specs.declared.closed.Head.TheVariants as H
-use Rattle.static_params.specs.Closed as Z
-use Rattle.static_params.specs.Closed.{Closed, Applied}
-use Rattle.static_params.specs.Source.{Instance as Instance'}
+use Rattle.reached_instances.specs.declared.closed.Head.TheVariants as H
+use Rattle.reached_instances.specs.Closed as Z
+use Rattle.reached_instances.specs.Closed.{Closed, Applied}
+use Rattle.reached_instances.specs.Source.{Instance as Instance'}
 use Rattle.static_params.specs.FlatProgram.{flat_instance, instance_if, instances_of, flat_program}
 use Rattle.static_params.specs.FlatSource.{flat_source}
 use Rattle.static_params.proofs.GoodTypes.{IsGoodFunction}

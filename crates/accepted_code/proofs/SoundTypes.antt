@@ -11,10 +11,10 @@ use Rattle.fip_language.specs.Table.{Shape, Table, shapes, constructors, HasType
 use Rattle.fip_language.specs.Values.{Value, Int, Node}
 use Rattle.fip_trees.specs.SoundProgram.{IsSoundProgram}
 use Rattle.fip_trees.specs.Tree.{Program}
-use Rattle.static_params.specs.declared.closed.Head.TheVariants as H
-use Rattle.static_params.specs.Closed.{Closed, Closeds, Applied, NoClosed, same_closed}
-use Rattle.static_params.specs.Numbering.{with_new, with_all}
-use Rattle.static_params.specs.TypeInstances.{types_of_instance, types_given, parts_of}
+use Rattle.reached_instances.specs.declared.closed.Head.TheVariants as H
+use Rattle.reached_instances.specs.Closed.{Closed, Closeds, Applied, NoClosed, same_closed}
+use Rattle.reached_instances.specs.Numbering.{with_new, with_all}
+use Rattle.reached_instances.specs.TypeInstances.{types_of_instance, types_given, parts_of}
 use Rattle.static_params.specs.FlatProgram.{Numbers, flat_program}
 use Rattle.static_params.specs.Answers.{AreFew}
 use Rattle.static_params.specs.FlatSource.{flat_source}

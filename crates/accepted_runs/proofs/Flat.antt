@@ -12,12 +12,12 @@ use Rattle.fip_trees.specs.Names.{meaning}
 use Rattle.fip_trees.specs.Tree as T
 use Rattle.fip_trees.specs.declared.decls.ConstructorId.{ConstructorId}
 use Rattle.data_types.specs.Declarations.{data_scope, declared_names, written_names}
-use Rattle.static_params.specs.declared.closed.Head.TheVariants as H
-use Rattle.static_params.specs.Closed as Z
-use Rattle.static_params.specs.Closed.{Closed, Closeds, Applied, NoClosed, same_closed}
-use Rattle.static_params.specs.Source.{Instance}
-use Rattle.static_params.specs.Numbering.{with_new, with_all}
-use Rattle.static_params.specs.TypeInstances.{AreTypes, type_roots, parts_of}
+use Rattle.reached_instances.specs.declared.closed.Head.TheVariants as H
+use Rattle.reached_instances.specs.Closed as Z
+use Rattle.reached_instances.specs.Closed.{Closed, Closeds, Applied, NoClosed, same_closed}
+use Rattle.reached_instances.specs.Source.{Instance}
+use Rattle.reached_instances.specs.Numbering.{with_new, with_all}
+use Rattle.reached_instances.specs.TypeInstances.{AreTypes, type_roots, parts_of}
 use Rattle.static_params.specs.FlatProgram.{Numbers, declared_or_bool, constructor_of, flat_binder, flat_parameter, flat_argument, flat_arguments, flat_expression, flat_block, flat_clauses, flat_instance, instance_if, instances_of, flat_constructor, declaring_of, number_if, flat_program}
 use Rattle.static_params.specs.Answers.{AreFew}
 use Rattle.static_params.specs.FlatSource.{flat_source, constructor, declared}
@@ -146,7 +146,7 @@ module _ (core : Core) (ns : Numbers) (few : AreFew (flat_source core) ns) (form
   first_type : slice_get ns.types 0 ≡ Some (Applied (H.«Type» 1) NoClosed)
   first_type =
       ap (λ l. slice_get l 0) few.types.ordered ∙
-      all_keep (Applied (H.«Type» 1) NoClosed ∷ []) ((all_of (Rattle.static_params.specs.TypeInstances.types_of_instance (flat_source core)) ns.instances ++ all_of Rattle.static_params.specs.TypeInstances.types_given few.passed) ++ all_of (parts_of (flat_source core)) ns.types) (Applied (H.«Type» 1) NoClosed) refl
+      all_keep (Applied (H.«Type» 1) NoClosed ∷ []) ((all_of (Rattle.reached_instances.specs.TypeInstances.types_of_instance (flat_source core)) ns.instances ++ all_of Rattle.reached_instances.specs.TypeInstances.types_given few.passed) ++ all_of (parts_of (flat_source core)) ns.types) (Applied (H.«Type» 1) NoClosed) refl
 
   abbrev Bare : List Shape → ℕ → Type 0
   Bare ss c = (s : Shape) × (slice_get ss c ≡ Some s) × (s.fields ≡ [])

@@ -1,11 +1,12 @@
 //! The moves from state to state that several parts of the parser make.
 
-ghost use Rattle.std.specs.Prelude.{◌≡◌, false, List, [], IfOk};
+ghost use Rattle.std.specs.Prelude.{◌≡◌, false, List, [], Err, IfOk, MatchOption};
 ghost use Rattle.std.specs.List.{All};
 ghost use Rattle.fip_language.specs.Surface as Surface;
 ghost use Rattle.fip_base.specs.CoreView.{result_type};
 ghost use Rattle.fip_base.specs.SurfaceView.{action, acted, kept};
 ghost use Rattle.fip_grammar.specs.Machine as machine;
+ghost use Rattle.fip_grammar.specs.WordView.{word};
 ghost use Rattle.parser_state.specs.StateView as view;
 ghost use Rattle.parser_state.specs.StateView.{Leads, Follows};
 
@@ -50,6 +51,20 @@ pub fn new_partial(alloc: Global) -> Partial
         openers: Vec::new(alloc),
         waiting: none_waits(),
     }
+}
+
+/// The token is refused, and what was read is given up.
+pub fn refused<T: Drop>(_read: T) -> Result<Next, AllocError>
+    ensures next { Leads result machine.Refused }
+{
+    Ok(Next::Refused)
+}
+
+/// No memory is left, and what was read is given up.
+pub fn failed<T: Drop>(_read: T, error: AllocError) -> Result<Next, AllocError>
+    ensures next { result ≡ Err error }
+{
+    Err(error)
 }
 
 /// A place in the head of a function.
@@ -275,22 +290,29 @@ pub fn type_wanted(
     ensures next { Follows false token.entry result (machine.type_wanted (view.open_types «open».items)
         (view.type_use purpose)) }
 {
+    match type_begun(alloc, token) {
+        Ok(Some(position)) => stays_in_type(position, open, purpose),
+        Ok(None) => refused(purpose),
+        Err(error) => failed(purpose, error),
+    }
+}
+
+// The place behind the first token of a type; none where no type begins with the token.
+fn type_begun(alloc: Global, token: Token) -> Result<Option<TypePosition>, AllocError>
+    ensures begun { (around : List machine.OpenType) (purpose : machine.TypeUse) → IfOk result (λ found.
+        MatchOption found
+        (machine.type_wanted around purpose (word token.entry.word) token.entry.place ≡ machine.Refused)
+        (λ position. machine.type_wanted around purpose (word token.entry.word) token.entry.place ≡
+        machine.Stays (machine.InType (view.type_position position) around purpose))) }
+{
     match token.word {
-        Word::Sign(Sign::Int) => stays_in_type(
-            TypePosition::Done {
-                written: Written::Int(token.place),
-            },
-            open,
-            purpose,
-        ),
-        Word::Lower(text) => stays_in_type(
-            TypePosition::Named {
-                name: name_of(alloc, text)?,
-                place: token.place,
-            },
-            open,
-            purpose,
-        ),
-        _ => Ok(Next::Refused),
+        Word::Sign(Sign::Int) => Ok(Some(TypePosition::Done {
+            written: Written::Int(token.place),
+        })),
+        Word::Lower(text) => Ok(Some(TypePosition::Named {
+            name: name_of(alloc, text)?,
+            place: token.place,
+        })),
+        _ => Ok(None),
     }
 }

@@ -25,14 +25,14 @@ use Rattle.fip_trees.specs.TreeView.{program}
 use Rattle.data_types.specs.Answers as Declaring
 use Rattle.data_types.specs.DeclaredProgram.{AreDeclared}
 use Rattle.static_params.specs.Answers as Statics
-use Rattle.static_params.specs.Closed.{Closed}
+use Rattle.reached_instances.specs.Closed.{Closed}
 use Rattle.static_params.specs.FlatProgram.{Numbers, flat_program}
 use Rattle.static_params.specs.FlatSource.{flat_source}
-use Rattle.static_params.specs.Instances.{roots, calls_from, all_faults, passed_to, ArePassed}
-use Rattle.static_params.specs.Numbering.{AreMore}
-use Rattle.static_params.specs.Source.{Source}
-use Rattle.static_params.specs.SourceView as s
-use Rattle.static_params.specs.TypeInstances.{type_roots, parts_of, AreTypes}
+use Rattle.reached_instances.specs.Instances.{roots, calls_from, all_faults, passed_to, ArePassed}
+use Rattle.reached_instances.specs.Numbering.{AreMore}
+use Rattle.reached_instances.specs.Source.{Source}
+use Rattle.reached_instances.specs.SourceView as s
+use Rattle.reached_instances.specs.TypeInstances.{type_roots, parts_of, AreTypes}
 use Rattle.static_params.proofs.CoreSources.{source_is}
 use Rattle.type_check.proofs.Exact.{typed_exactly}
 use Rattle.type_check.specs.Answers as Types

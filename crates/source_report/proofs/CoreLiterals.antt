@@ -7,10 +7,10 @@ use Rattle.fip_language.specs.CoreForm.{Scope, Binding, Whole, Part, Parts, Bloc
 use Rattle.fip_language.specs.Every.{Every, Among}
 use Rattle.fip_language.specs.Surface as S
 use Rattle.fip_trees.specs.Tree as T
-use Rattle.static_params.specs.declared.closed.Head.TheVariants as H
-use Rattle.static_params.specs.Closed as Z
-use Rattle.static_params.specs.Closed.{Closed, Applied}
-use Rattle.static_params.specs.Source.{Source, Instance}
+use Rattle.reached_instances.specs.declared.closed.Head.TheVariants as H
+use Rattle.reached_instances.specs.Closed as Z
+use Rattle.reached_instances.specs.Closed.{Closed, Applied}
+use Rattle.reached_instances.specs.Source.{Source, Instance}
 use Rattle.static_params.specs.FlatProgram.{Numbers, flat_pattern, flat_patterns, flat_expression, flat_block, flat_clauses, instance_if, instances_of, flat_program}
 use Rattle.static_params.specs.FlatSource.{flat_source}
 use Rattle.source_report.specs.Literals as L

@@ -11,13 +11,13 @@ use Rattle.fip_trees.specs.Tree as T
 use Rattle.fip_trees.specs.declared.decls.ConstructorId.{ConstructorId}
 use Rattle.data_types.specs.Types as D
 use Rattle.data_types.specs.Declarations.{declarations, data_scope, declared_names, written_names}
-use Rattle.static_params.specs.declared.closed.Head.TheVariants as H
-use Rattle.static_params.specs.Closed as Z
-use Rattle.static_params.specs.Closed.{Closed, Applied}
-use Rattle.static_params.specs.Source.{Instance}
-use Rattle.static_params.specs.Uses.{closed_function, declared_type, result_types}
-use Rattle.static_params.specs.Instances.{AreInstances, ArePassed}
-use Rattle.static_params.specs.TypeInstances.{AreTypes as AreNumberedTypes}
+use Rattle.reached_instances.specs.declared.closed.Head.TheVariants as H
+use Rattle.reached_instances.specs.Closed as Z
+use Rattle.reached_instances.specs.Closed.{Closed, Applied}
+use Rattle.reached_instances.specs.Source.{Instance}
+use Rattle.reached_instances.specs.Uses.{closed_function, declared_type, result_types}
+use Rattle.reached_instances.specs.Instances.{AreInstances, ArePassed}
+use Rattle.reached_instances.specs.TypeInstances.{AreTypes as AreNumberedTypes}
 use Rattle.static_params.specs.FlatProgram.{Numbers, number_in, or_zero, callee_number, flat_type, declared_or_bool, constructor_of, flat_pattern, flat_patterns, flat_expression, flat_block, flat_clauses, flat_parameter, flat_instance, instance_if, instances_of, flat_constructor, declaring_of, flat_program}
 use Rattle.static_params.specs.Answers.{AreFew}
 use Rattle.static_params.specs.FlatSource.{flat_source, constructor, declared}

@@ -4,8 +4,8 @@ use Rattle.std.proofs.Common.{◌≡◌, ◌≤◌, ◌<◌, ◌+◌, ◌⊎◌,
 use Rattle.std.specs.List.{list_any}
 use Rattle.fip_language.specs.Every.{Among}
 use Rattle.fip_language.specs.Mentions.{all_of}
-use Rattle.static_params.specs.Closed.{Closed, same_closed}
-use Rattle.static_params.specs.Numbering.{with_new, with_all, firsts, Reached, AreNumbered, AreMore, Differ}
+use Rattle.reached_instances.specs.Closed.{Closed, same_closed}
+use Rattle.reached_instances.specs.Numbering.{with_new, with_all, firsts, Reached, AreNumbered, AreMore, Differ}
 use Rattle.static_params.proofs.GoodTypes.{among_either, reached_have}
 use Rattle.static_params.proofs.TypeRows.{among_left, among_right, among_of, all_among, same_self}
 

@@ -22,11 +22,11 @@ use Rattle.fip_trees.specs.Tree.{Program, count, count_patterns}
 use Rattle.data_types.specs.Answers as Declaring
 use Rattle.data_types.specs.Declarations.{declarations, declared_names, data_scope, constructor_fields}
 use Rattle.data_types.specs.Faults.{broken, when, size_faults, data_faults, all_data_faults, mark_faults, credit_faults, function_faults, all_function_faults, name_faults, repeats, type_name_mentions, field_faults}
-use Rattle.static_params.specs.declared.closed.Head.TheVariants as H
-use Rattle.static_params.specs.Closed as Z
-use Rattle.static_params.specs.Closed.{Closed, Closeds, Applied, NoClosed, MoreClosed}
-use Rattle.static_params.specs.Source.{Instance}
-use Rattle.static_params.specs.TypeInstances.{field_types}
+use Rattle.reached_instances.specs.declared.closed.Head.TheVariants as H
+use Rattle.reached_instances.specs.Closed as Z
+use Rattle.reached_instances.specs.Closed.{Closed, Closeds, Applied, NoClosed, MoreClosed}
+use Rattle.reached_instances.specs.Source.{Instance}
+use Rattle.reached_instances.specs.TypeInstances.{field_types}
 use Rattle.static_params.specs.FlatProgram.{Numbers, numbers_of, flat_constructor, credit_size, flat_argument, flat_block, flat_expression, flat_clauses, instance_if, instances_of, flat_program}
 use Rattle.type_check.proofs.Exact.{typed_exactly, filled_right}
 use Rattle.type_check.specs.Scope.{Scope}

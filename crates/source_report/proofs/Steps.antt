@@ -8,7 +8,7 @@ use Rattle.fip_trees.specs.declared.decls.Decls.{Decls}
 use Rattle.fip_trees.specs.declared.program.Program.{Program}
 use Rattle.data_types.specs.DeclaredProgram.{AreDeclared}
 use Rattle.static_params.specs.Answers as Statics
-use Rattle.static_params.specs.SourceView as s
+use Rattle.reached_instances.specs.SourceView as s
 use Rattle.type_check.specs.Faults.{filled}
 use Rattle.type_check.specs.Typing as Types
 use Rattle.match_cover.specs.Answers.{Accepts}

@@ -39,7 +39,7 @@ use Rattle.data_types.specs.Declarations.{declarations}
 use Rattle.data_types.specs.Types.{IsValued}
 use Rattle.static_params.specs.Answers as Statics
 use Rattle.static_params.specs.FlatProgram.{Numbers, flat_program}
-use Rattle.static_params.specs.Instances.{all_faults}
+use Rattle.reached_instances.specs.Instances.{all_faults}
 use Rattle.type_check.specs.Typing as Types
 use Rattle.type_check.specs.Faults.{type_faults, filled}
 use Rattle.match_cover.specs.Answers.{IsLeastCoverFault, IsRight}

@@ -13,11 +13,11 @@ use Rattle.fip_language.specs.Values.{Values}
 use Rattle.fip_language.proofs.Search.{slice_get_there}
 use Rattle.fip_trees.specs.declared.groups.Member.{Member}
 use Rattle.fip_trees.specs.Tree.{Instance, Program}
-use Rattle.static_params.specs.declared.closed.Head.TheVariants as H
-use Rattle.static_params.specs.Closed as Z
-use Rattle.static_params.specs.Closed.{Closed, Applied}
-use Rattle.static_params.specs.Source.{Instance as Instance'}
-use Rattle.static_params.specs.Instances.{root_if, roots_from, roots, calls_from}
+use Rattle.reached_instances.specs.declared.closed.Head.TheVariants as H
+use Rattle.reached_instances.specs.Closed as Z
+use Rattle.reached_instances.specs.Closed.{Closed, Applied}
+use Rattle.reached_instances.specs.Source.{Instance as Instance'}
+use Rattle.reached_instances.specs.Instances.{root_if, roots_from, roots, calls_from}
 use Rattle.static_params.specs.FlatProgram.{Numbers, flat_instance, instance_if, instances_of, flat_program}
 use Rattle.type_check.specs.Faults.{filled, fill_instance}
 use Rattle.type_check.specs.World.{world}

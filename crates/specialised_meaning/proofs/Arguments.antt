@@ -18,7 +18,7 @@ use Rattle.fip_trees.specs.declared.least.Violation.{Violation}
 use Rattle.data_types.specs.Declarations.{Scope, written_names}
 use Rattle.data_types.specs.Faults.{broken, when, constructor_faults, argument_faults, arguments_faults, pattern_faults, patterns_faults, binders_faults, expression_faults, block_faults, clauses_faults}
 use Rattle.data_types.proofs.Exact.{none_left, none_right}
-use Rattle.static_params.specs.Source.{Declared, Source, Instance}
+use Rattle.reached_instances.specs.Source.{Declared, Source, Instance}
 use Rattle.static_params.specs.FlatProgram.{Numbers, flat_call, declared_or_bool, constructor_of, flat_binder, flat_argument, flat_arguments, flat_pattern, flat_patterns, match_of, flat_expression, flat_block, flat_clauses}
 use Rattle.instance_meaning.specs.Specialised.{IsNumber, IsArgument, AreArguments, SameNumbers, SameParameters, IsPattern, ArePatterns, IsExpression, IsBlock, AreClauses}
 use Rattle.specialised_meaning.specs.Declared.{HasClauses, BlockHasClauses, ClausesHaveClauses}

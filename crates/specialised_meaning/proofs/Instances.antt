@@ -11,15 +11,15 @@ use Rattle.fip_language.specs.Stack.{CallSite, sites_in_block}
 use Rattle.fip_language.specs.Statics.{callee}
 use Rattle.fip_trees.specs.Names.{meaning}
 use Rattle.data_types.specs.Declarations.{written_names}
-use Rattle.static_params.specs.declared.closed.Head.TheVariants as H
-use Rattle.static_params.specs.Closed.{Closed, Closeds, Int, Applied, NoClosed, MoreClosed, same_closed, closed_at}
-use Rattle.static_params.specs.Source.{Declared, Source, Instance, statics_at, static_places, if_function, function_at, given_function}
-use Rattle.static_params.specs.Uses.{types_given, fit_if_known, all_given, applied_function, declared_use, named_use, statics_meant, closed_function, closed_arguments, count, use_faults}
-use Rattle.static_params.specs.Instances.{roots, roots_from, root_if, use_at, place_of, put_in_order, order_on, calls, if_there, calls_in, calls_from, faults_in, faults_of, all_faults, AreInstances}
-use Rattle.static_params.specs.Numbering.{numbered_of}
+use Rattle.reached_instances.specs.declared.closed.Head.TheVariants as H
+use Rattle.reached_instances.specs.Closed.{Closed, Closeds, Int, Applied, NoClosed, MoreClosed, same_closed, closed_at}
+use Rattle.reached_instances.specs.Source.{Declared, Source, Instance, statics_at, static_places, if_function, function_at, given_function}
+use Rattle.reached_instances.specs.Uses.{types_given, fit_if_known, all_given, applied_function, declared_use, named_use, statics_meant, closed_function, closed_arguments, count, use_faults}
+use Rattle.reached_instances.specs.Instances.{roots, roots_from, root_if, use_at, place_of, put_in_order, order_on, calls, if_there, calls_in, calls_from, faults_in, faults_of, all_faults, AreInstances}
+use Rattle.reached_instances.specs.Numbering.{numbered_of}
 use Rattle.static_params.specs.FlatProgram.{Numbers, number_in, or_zero, flat_call}
-use Rattle.static_params.proofs.ClosedTrees.{closed_exact}
-use Rattle.static_params.proofs.Numbered.{numbered_next, reached_in}
+use Rattle.reached_instances.proofs.ClosedTrees.{closed_exact}
+use Rattle.reached_instances.proofs.Numbered.{numbered_next, reached_in}
 use Rattle.specialised_meaning.specs.Named.{named}
 use Rattle.specialised_meaning.proofs.Lookups.{function_meant}
 use Rattle.specialised_meaning.proofs.Places.{source_with, There, both_some, IsHere, by_name, closed_function_named, closed_function_there}

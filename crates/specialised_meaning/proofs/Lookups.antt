@@ -18,8 +18,8 @@ use Rattle.fip_trees.specs.declared.least.Violation.{Violation}
 use Rattle.data_types.specs.Declarations.{type_meanings, row_meanings, constructor_meanings, function_meanings}
 use Rattle.data_types.specs.Faults.{repeats, broken, function_mentions, static_mentions}
 use Rattle.data_types.proofs.Repeats.{all_new, mention_names}
-use Rattle.static_params.specs.Closed.{Closed, Closeds, NoClosed, MoreClosed}
-use Rattle.static_params.specs.Source.{static_name, static_meanings, static_places, if_type, if_function, type_at, function_at}
+use Rattle.reached_instances.specs.Closed.{Closed, Closeds, NoClosed, MoreClosed}
+use Rattle.reached_instances.specs.Source.{static_name, static_meanings, static_places, if_type, if_function, type_at, function_at}
 use Rattle.specialised_meaning.specs.Named.{named, all_named}
 
 -- ---- names

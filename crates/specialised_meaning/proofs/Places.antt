@@ -14,10 +14,10 @@ use Rattle.fip_trees.specs.declared.least.Violation.{Violation}
 use Rattle.data_types.specs.Declarations.{written_names}
 use Rattle.data_types.specs.Faults.{repeats, static_mentions}
 use Rattle.data_types.proofs.Exact.{none_left, none_right}
-use Rattle.static_params.specs.declared.closed.Head.TheVariants as H
-use Rattle.static_params.specs.Closed.{Closed, Closeds, Int, Applied, NoClosed, MoreClosed}
-use Rattle.static_params.specs.Source.{Declared, Source, Instance, statics_at, statics_or_none, static_places, type_at, function_at, given_type, given_function}
-use Rattle.static_params.specs.Uses.{broken, when, count, type_faults, types_faults, type_name_faults, applied_to, named_type, both, closed_type, closed_types, types_given, all_fit, static_fits, fit_if_known, all_given, applied_function, declared_use, named_use, statics_meant, closed_function, closed_arguments, misfit, misfits, misfits_if_known, name_faults, use_faults, arguments_faults}
+use Rattle.reached_instances.specs.declared.closed.Head.TheVariants as H
+use Rattle.reached_instances.specs.Closed.{Closed, Closeds, Int, Applied, NoClosed, MoreClosed}
+use Rattle.reached_instances.specs.Source.{Declared, Source, Instance, statics_at, statics_or_none, static_places, type_at, function_at, given_type, given_function}
+use Rattle.reached_instances.specs.Uses.{broken, when, count, type_faults, types_faults, type_name_faults, applied_to, named_type, both, closed_type, closed_types, types_given, all_fit, static_fits, fit_if_known, all_given, applied_function, declared_use, named_use, statics_meant, closed_function, closed_arguments, misfit, misfits, misfits_if_known, name_faults, use_faults, arguments_faults}
 use Rattle.specialised_meaning.specs.Named.{data_name, function_name, head_name, named, all_named}
 use Rattle.specialised_meaning.proofs.Lookups.{function_meant, type_meant, places_all, named_if, type_named, function_named}
 

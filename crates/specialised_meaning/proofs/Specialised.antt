@@ -18,14 +18,14 @@ use Rattle.fip_trees.specs.declared.least.Violation.{Violation}
 use Rattle.data_types.specs.Declarations.{function_scope, declared_names, written_names}
 use Rattle.data_types.specs.Faults.{repeats, type_mentions, constructor_mentions, function_mentions, static_mentions, parameter_mentions, credit_faults, header_faults, block_faults, function_faults, all_data_faults, all_function_faults, name_faults, written_violations}
 use Rattle.data_types.proofs.Exact.{none_left, none_right, all_declared}
-use Rattle.static_params.specs.declared.closed.Head.TheVariants as H
+use Rattle.reached_instances.specs.declared.closed.Head.TheVariants as H
 use Rattle.static_params.specs.Answers.{IsAccepted}
-use Rattle.static_params.specs.Closed.{Closed, Closeds, Int, Applied, NoClosed, MoreClosed, same_closed}
-use Rattle.static_params.specs.Source.{Declared, Source, statics_or_none}
-use Rattle.static_params.specs.Instances.{roots, roots_from, root_if, calls_from, all_faults, AreInstances}
+use Rattle.reached_instances.specs.Closed.{Closed, Closeds, Int, Applied, NoClosed, MoreClosed, same_closed}
+use Rattle.reached_instances.specs.Source.{Declared, Source, statics_or_none}
+use Rattle.reached_instances.specs.Instances.{roots, roots_from, root_if, calls_from, all_faults, AreInstances}
 use Rattle.static_params.specs.FlatProgram.{Numbers, is_root, credit_size, flat_parameter, flat_instance, instance_if, instances_of, flat_program}
-use Rattle.static_params.proofs.ClosedTrees.{closed_exact}
-use Rattle.static_params.proofs.Numbered.{numbered_roots}
+use Rattle.reached_instances.proofs.ClosedTrees.{closed_exact}
+use Rattle.reached_instances.proofs.Numbered.{numbered_roots}
 use Rattle.flat_meaning.specs.Meaning.{flat_meaning}
 use Rattle.instance_meaning.specs.Specialised.{IsInstance, Stands, IsSpecialised}
 use Rattle.instance_meaning.proofs.Means.{means}

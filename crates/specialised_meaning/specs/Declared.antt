@@ -7,7 +7,7 @@ use Rattle.fip_language.specs.Every.{Every}
 use Rattle.fip_trees.specs.declared.least.Violation.{Violation}
 use Rattle.data_types.specs.Answers.{Violates}
 use Rattle.data_types.specs.Declarations.{written_names}
-use Rattle.static_params.specs.Source.{Source}
+use Rattle.reached_instances.specs.Source.{Source}
 
 abbrev pub AreSome : Clauses → Type 0
 AreSome NoClauses = ⊥

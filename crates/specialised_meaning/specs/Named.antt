@@ -6,9 +6,9 @@ use Rattle.std.specs.Prelude.{◌-◌, [], Option, Some, None, slice_get}
 use Rattle.fip_language.specs.Core.{Name, Data, Function, Core}
 use Rattle.fip_language.specs.Declarations.{data_types}
 use Rattle.fip_language.specs.Statics as ByName
-use Rattle.static_params.specs.declared.closed.Head.{Head}
-use Rattle.static_params.specs.declared.closed.Head.TheVariants as H
-use Rattle.static_params.specs.Closed.{Closed, Closeds, Int, Applied, NoClosed, MoreClosed}
+use Rattle.reached_instances.specs.declared.closed.Head.{Head}
+use Rattle.reached_instances.specs.declared.closed.Head.TheVariants as H
+use Rattle.reached_instances.specs.Closed.{Closed, Closeds, Int, Applied, NoClosed, MoreClosed}
 
 abbrev pub data_name : Option Data → Name
 data_name None = []

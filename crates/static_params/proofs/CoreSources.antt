@@ -16,8 +16,8 @@ use Rattle.data_types.specs.Declarations.{declarations, data_declared, data_scop
 use Rattle.data_types.specs.Numbered.{all_true, is_numbered, numbered_step, are_numbered, row_numbered, type_numbered, types_numbered}
 use Rattle.data_types.specs.Types as D
 use Rattle.data_types.specs.View as v
-use Rattle.static_params.specs.Source as S
-use Rattle.static_params.specs.SourceView as s
+use Rattle.reached_instances.specs.Source as S
+use Rattle.reached_instances.specs.SourceView as s
 use Rattle.static_params.specs.FlatSource.{field, fields, constructor, declared, flat_source}
 
 both_true : (a b : Bool) → (a && b) ≡ true → (a ≡ true) × (b ≡ true)

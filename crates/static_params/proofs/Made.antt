@@ -18,10 +18,10 @@ use Rattle.fip_trees.proofs.TreeViews.{binding_made, block_made, clause_made}
 use Rattle.static_params.specs.FlatProgram.{flat_argument, flat_arguments}
 use Rattle.static_params.specs.FlatView.{IsMaking, Making, Stays, binder_in, block_in, bound_in, case_in, clauses_in, expression_in, pattern_in, patterns_in}
 use Rattle.static_params.specs.declared.flatten.Flattening.{Flattening}
-use Rattle.static_params.specs.Source.{Source}
-use Rattle.static_params.proofs.Growing.{grows_same, grows_more}
-use Rattle.static_params.proofs.Hearing.{binding_is, block_is, clause_is}
-use Rattle.static_params.proofs.Lists.{drop_item}
+use Rattle.reached_instances.specs.Source.{Source}
+use Rattle.reached_instances.proofs.Growing.{grows_same, grows_more}
+use Rattle.reached_instances.proofs.Hearing.{binding_is, block_is, clause_is}
+use Rattle.reached_instances.proofs.Lists.{drop_item}
 
 -- ---- rows
 

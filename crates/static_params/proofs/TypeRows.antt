@@ -7,15 +7,15 @@ use Rattle.fip_language.specs.Every.{Among}
 use Rattle.fip_language.specs.Mentions.{all_of}
 use Rattle.fip_language.specs.Table.{Shape, Table, shapes}
 use Rattle.data_types.specs.Declarations.{declared_names}
-use Rattle.static_params.specs.declared.closed.Head.{Head}
-use Rattle.static_params.specs.declared.closed.Head.TheVariants as H
-use Rattle.static_params.specs.Closed.{Closed, Closeds, Int, Applied, NoClosed, MoreClosed, same_head, same_closed, same_closeds}
-use Rattle.static_params.specs.Source as S
-use Rattle.static_params.specs.Source.{Source, Instance, declared_at}
-use Rattle.static_params.specs.Uses.{declared_type}
-use Rattle.static_params.specs.Numbering.{with_new, with_all, AreNumbered}
-use Rattle.static_params.specs.TypeInstances as Y
-use Rattle.static_params.specs.TypeInstances.{unless_int, types_written, numbers_named, types_named, types_in, types_of_instance, types_among, types_given, type_roots, field_types, unless_ints, fields_of, parts_of, written_in_header, annotations_in_block}
+use Rattle.reached_instances.specs.declared.closed.Head.{Head}
+use Rattle.reached_instances.specs.declared.closed.Head.TheVariants as H
+use Rattle.reached_instances.specs.Closed.{Closed, Closeds, Int, Applied, NoClosed, MoreClosed, same_head, same_closed, same_closeds}
+use Rattle.reached_instances.specs.Source as S
+use Rattle.reached_instances.specs.Source.{Source, Instance, declared_at}
+use Rattle.reached_instances.specs.Uses.{declared_type}
+use Rattle.reached_instances.specs.Numbering.{with_new, with_all, AreNumbered}
+use Rattle.reached_instances.specs.TypeInstances as Y
+use Rattle.reached_instances.specs.TypeInstances.{unless_int, types_written, numbers_named, types_named, types_in, types_of_instance, types_among, types_given, type_roots, field_types, unless_ints, fields_of, parts_of, written_in_header, annotations_in_block}
 use Rattle.static_params.specs.FlatProgram.{Numbers, number_in, from_one, type_number, flat_constructor, row_if, rows_of, number_if, declaring_of}
 use Rattle.static_params.specs.FlatSource.{flat_source, declared}
 use Rattle.static_params.proofs.GoodTypes.{among_either, all_of_have, reached_have, IsGood}

@@ -19,11 +19,12 @@ use Rattle.fip_trees.specs.Tree as T
 use Rattle.fip_trees.specs.declared.decls.ConstructorId.{ConstructorId}
 use Rattle.fip_trees.specs.declared.program.Binder.{Binder}
 use Rattle.fip_trees.specs.declared.program.TupleResult as D
-use Rattle.static_params.specs.declared.closed.Head.TheVariants as H
-use Rattle.static_params.specs.Closed.{Closed, Closeds, Int, Applied, NoClosed, MoreClosed, same_closed}
-use Rattle.static_params.specs.Source.{Tys, NoTys, MoreTys, Constructor, Declared, Source, Instance, declared_at}
-use Rattle.static_params.specs.Uses.{closed_function, declared_type, result_types}
-use Rattle.static_params.specs.TypeInstances.{field_types}
+use Rattle.reached_instances.specs.declared.closed.Head.TheVariants as H
+use Rattle.reached_instances.specs.Binders.{binders_in}
+use Rattle.reached_instances.specs.Closed.{Closed, Closeds, Int, Applied, NoClosed, MoreClosed, same_closed}
+use Rattle.reached_instances.specs.Source.{Tys, NoTys, MoreTys, Constructor, Declared, Source, Instance, declared_at}
+use Rattle.reached_instances.specs.Uses.{closed_function, declared_type, result_types}
+use Rattle.reached_instances.specs.TypeInstances.{field_types}
 
 -- what is numbered: the instances from 0, the types from 1
 pub record Numbers : Type 0 where
@@ -123,39 +124,6 @@ abbrev mutual
   flat_clauses s ns here C.NoClauses = T.NoClauses
   flat_clauses s ns here (C.MoreClauses p b rest) =
       T.MoreClauses (flat_pattern s ns here p) (flat_block s ns here b) (flat_clauses s ns here rest)
-
--- ---- how many binders there are
-
-abbrev mutual
-  pub binders_in_pattern : C.Pattern → ℕ
-  binders_in_pattern (C.BinderPattern b) = 1
-  binders_in_pattern (C.LiteralPattern i p) = 0
-  binders_in_pattern (C.ConstructorPattern x p ps) = binders_in_patterns ps
-
-  pub binders_in_patterns : C.Patterns → ℕ
-  binders_in_patterns C.NoPatterns = 0
-  binders_in_patterns (C.MorePatterns p ps) = binders_in_pattern p + binders_in_patterns ps
-
-abbrev mutual
-  pub binders_in_expression : C.Expression → ℕ
-  binders_in_expression (C.Give a) = 0
-  binders_in_expression (C.Tuple p as') = 0
-  binders_in_expression (C.Operation o p a b) = 0
-  binders_in_expression (C.Call x p ws as') = 0
-  binders_in_expression (C.Match d p a cs) = binders_in_clauses cs
-  binders_in_expression (C.Nested b) = binders_in_block b
-
-  pub binders_in_block : C.Block → ℕ
-  binders_in_block (C.Last e) = binders_in_expression e
-  binders_in_block (C.Let bs e rest) = length bs + (binders_in_expression e + binders_in_block rest)
-
-  pub binders_in_clauses : C.Clauses → ℕ
-  binders_in_clauses C.NoClauses = 0
-  binders_in_clauses (C.MoreClauses p b rest) =
-      binders_in_pattern p + (binders_in_block b + binders_in_clauses rest)
-
-abbrev pub binders_in : Function → ℕ
-binders_in f = length f.parameters + binders_in_block f.body
 
 -- ---- instances
 

@@ -10,20 +10,20 @@ use Rattle.fip_base.specs.declared.plain.Param.{Param}
 use Rattle.fip_trees.specs.Least.{after}
 use Rattle.fip_trees.specs.declared.least.Violation.{Violation}
 use Rattle.fip_trees.specs.declared.program.Binder.{Binder}
-use Rattle.static_params.specs.declared.source.Source as D
-use Rattle.static_params.specs.declared.source.Here.{Here}
+use Rattle.reached_instances.specs.declared.source.Source as D
+use Rattle.reached_instances.specs.declared.source.Here.{Here}
 use Rattle.static_params.specs.declared.table.Numbers as N
 use Rattle.static_params.specs.declared.flatten.Flattening.{Flattening}
-use Rattle.static_params.specs.Closed.{Closed}
+use Rattle.reached_instances.specs.Closed.{Closed}
 use Rattle.static_params.specs.Answers.{AreFew, Names}
 use Rattle.static_params.specs.FlatProgram.{Numbers, flat_binder, flat_block, flat_clauses, flat_expression}
 use Rattle.static_params.specs.FlatProgram.{flat_call, flat_parameter, flat_pattern, flat_patterns, flat_type}
-use Rattle.static_params.specs.Instances.{all_faults, ArePassed}
-use Rattle.static_params.specs.TypeInstances.{AreTypes}
-use Rattle.static_params.specs.KnownFits.{IsRight}
-use Rattle.static_params.specs.SharedTrees.{AreWithin, Grows, Kept, all_at, trees}
-use Rattle.static_params.specs.Source.{Source, Instance}
-use Rattle.static_params.specs.SourceView.{instance, source}
+use Rattle.reached_instances.specs.Instances.{all_faults, ArePassed}
+use Rattle.reached_instances.specs.TypeInstances.{AreTypes}
+use Rattle.reached_instances.specs.KnownFits.{IsRight}
+use Rattle.reached_instances.specs.SharedTrees.{AreWithin, Grows, Kept, all_at, trees}
+use Rattle.reached_instances.specs.Source.{Source, Instance}
+use Rattle.reached_instances.specs.SourceView.{instance, source}
 
 -- the trees that are numbered
 abbrev pub numbers_at : List Closed → N.Numbers → Numbers

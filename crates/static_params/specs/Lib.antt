@@ -1,17 +1,4 @@
-pub mod Closed
-pub mod Source
-pub mod Uses
-pub mod Numbering
-pub mod Instances
-pub mod TypeInstances
 pub mod FlatProgram
 pub mod Answers
-pub mod SharedTrees
-pub mod BranchView
-pub mod MentionsView
-pub mod SourceView
-pub mod UsesView
-pub mod KnownFits
-pub mod PutView
 pub mod FlatView
 pub mod FlatSource

@@ -6,11 +6,9 @@ ghost use Rattle.fip_trees.specs.Tree as T;
 ghost use Rattle.fip_trees.specs.TreeView as W;
 ghost use Rattle.static_params.specs.FlatProgram as P;
 ghost use Rattle.static_params.specs.FlatView as F;
-ghost use Rattle.static_params.specs.SourceView as S;
-ghost use Rattle.static_params.specs.Uses.{result_types};
+ghost use Rattle.reached_instances.specs.SourceView as S;
+ghost use Rattle.reached_instances.specs.Uses.{result_types};
 
-use crate::closed::Shared;
-use crate::source::{Here, Source};
 use crate::table::Numbers;
 use fip_base::core_form::{
     Argument, Binder, Binding, Block, Clause, Expression, MatchKind, Pattern, ResultType, Written,
@@ -19,6 +17,8 @@ use fip_base::plain::{Name, NoMemory, Operator, Place, Types};
 use fip_trees::decls::ConstructorId;
 use fip_trees::least::Least;
 use fip_trees::program as flat;
+use reached_instances::closed::Shared;
+use reached_instances::source::{Here, Source};
 use std::alloc::Global;
 
 /// An instance whose trees are made, and the closed trees, of which more may come.

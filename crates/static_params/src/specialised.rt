@@ -5,33 +5,36 @@ ghost use Rattle.fip_base.specs.CoreView as V;
 ghost use Rattle.fip_trees.specs.TreeView as W;
 ghost use Rattle.fip_language.specs.declared.rule.Rule.TheVariants.{E21};
 ghost use Rattle.static_params.specs.Answers.{AreManyTypes, IsAccepted, Says, start};
-ghost use Rattle.static_params.specs.FlatProgram.{binders_in, bracket_of, count_tys, credit_size, field_counts};
+ghost use Rattle.reached_instances.specs.Binders.{binders_in};
+ghost use Rattle.static_params.specs.FlatProgram.{bracket_of, count_tys, credit_size, field_counts};
 ghost use Rattle.static_params.specs.FlatProgram.{flat_instance, flat_program, instance_if, instances_of, is_root};
 ghost use Rattle.static_params.specs.FlatProgram.{signature_tuple};
 ghost use Rattle.static_params.specs.FlatView.{AreNumbers, GoesOn, IsMaking, IsNamed, IsNumbered, IsTypes, Stays};
 ghost use Rattle.static_params.specs.FlatView.{making};
 ghost use Rattle.static_params.specs.FlatView.{bound_parameter_in, numbers_at, parameter_in};
-ghost use Rattle.static_params.specs.KnownFits.{AreRoots, IsRight};
-ghost use Rattle.static_params.specs.SharedTrees.{AreWithin, Grows, all_at, tree_at, trees};
-ghost use Rattle.static_params.specs.Source.{Constructor, Declared};
-ghost use Rattle.static_params.specs.SourceView as S;
-ghost use Rattle.static_params.specs.Uses.{broken};
+ghost use Rattle.reached_instances.specs.Instances.{ArePassed};
+ghost use Rattle.reached_instances.specs.KnownFits.{AreRoots, IsRight};
+ghost use Rattle.reached_instances.specs.SharedTrees.{AreWithin, Grows, Kept, all_at, tree_at, trees};
+ghost use Rattle.reached_instances.specs.Source.{Constructor, Declared};
+ghost use Rattle.reached_instances.specs.SourceView as S;
+ghost use Rattle.reached_instances.specs.Uses.{broken};
 
-use crate::closed::Shared;
 use crate::flatten::Flattening;
-use crate::instances::{Instances, Passed};
-use crate::numbering::{Places, number};
-use crate::source::{FunctionSource, Here, Source, source_of};
 use crate::table::{Numbers, declaring_of, table_of};
-use crate::type_instances::TypeInstances;
 use data_types::DeclaredProgram;
 use fip_base::core_form::{Core, Parameter, ResultType, Static};
 use fip_base::plain::{CreditMark, NoMemory, Param, Params, Place};
 use fip_base::refusal::{PhaseError, Rule};
+use fip_base::table::TypeTable;
 use fip_language::limits::MOST_INSTANCES;
 use fip_trees::decls::{DeclaredConstructor, DeclaredType, Decls, FieldType};
 use fip_trees::least::Least;
 use fip_trees::program::{Binder, Flat, Instance, Program, TupleResult};
+use reached_instances::closed::Shared;
+use reached_instances::instances::{Instances, Passed};
+use reached_instances::numbering::{Places, number};
+use reached_instances::source::{FunctionSource, Here, Source, source_of};
+use reached_instances::type_instances::TypeInstances;
 use std::alloc::Global;
 
 // The first place of a source.
@@ -73,12 +76,23 @@ fn specialised(
         IsNamed (S.source_of core.now decls.now) least.new) }
 {
     let source = source_of(alloc, core, decls)?;
-    let mut shared = Shared::new(alloc);
-    match numbers_of(alloc, &source, &mut shared, least)? {
-        Some(numbers) => {
-            let flat = flat_of(&source, shared, &numbers, least)?;
-            Ok(flat)
-        }
+    let found = specialised_source(&source, least)?;
+    Ok(found)
+}
+
+// The same of what is looked up.
+fn specialised_source(
+    source: &Source<'_, '_>,
+    least: &mut Least,
+) -> Result<Option<Program>, NoMemory>
+    ensures accepted { S.IsLookedUp source.now → least.old ≡ None → IfOk result (λ o. IfSome o (λ p.
+        IsAccepted (S.source source.now) p)) }
+    ensures refused { S.IsLookedUp source.now → least.old ≡ None → IfOk result (λ o. o ≡ None →
+        IsNamed (S.source source.now) least.new) }
+{
+    let mut shared = Shared::new(source.alloc);
+    match numbers_of(source.alloc, source, &mut shared, least)? {
+        Some(numbers) => flat_of(source, shared, &numbers, least),
         None => Ok(None),
     }
 }
@@ -154,16 +168,62 @@ fn types_of(
     ensures many { AreRoots source.now instances.now [] shared.old → IfOk result (λ o. o ≡ None →
         AreManyTypes (S.source source.now) (all_at (trees shared.old.branches) instances.now)) }
 {
+    let passed = passed_of(alloc, source, shared, instances)?;
+    let types = types_with(alloc, source, shared, instances, &passed)?;
+    Ok(types)
+}
+
+// The functions that are passed to instances, each once.
+fn passed_of(
+    alloc: Global,
+    source: &Source<'_, '_>,
+    shared: &mut Shared,
+    instances: &Places,
+) -> Result<Places, NoMemory>
+    ensures grows { AreRoots source.now instances.now [] shared.old →
+        OnOk result (Grows shared.old.branches shared.new.branches) }
+    ensures roots { AreRoots source.now instances.now [] shared.old →
+        IfOk result (λ v. AreRoots source.now instances.now v shared.new) }
+    ensures passed { AreRoots source.now instances.now [] shared.old →
+        IfOk result (λ v. ArePassed (all_at (trees shared.old.branches) instances.now)
+        (all_at (trees shared.new.branches) v)) }
+{
     let mut unused = Least::new(alloc);
     let reaching = Passed { source, instances };
-    let passed = match number(alloc, &reaching, u32::MAX as usize, shared, &mut unused)? {
-        Some(passed) => passed,
-        None => return Err(NoMemory),
-    };
+    match number(alloc, &reaching, u32::MAX as usize, shared, &mut unused)? {
+        Some(passed) => Ok(passed),
+        None => Err(NoMemory),
+    }
+}
+
+// The numbers of the types, where these are the functions that are passed to the instances.
+fn types_with(
+    alloc: Global,
+    source: &Source<'_, '_>,
+    shared: &mut Shared,
+    instances: &Places,
+    passed: &Places,
+) -> Result<Option<Places>, NoMemory>
+    ensures grows { AreRoots source.now instances.now passed.now shared.old →
+        OnOk result (Grows shared.old.branches shared.new.branches) }
+    ensures right { AreRoots source.now instances.now passed.now shared.old →
+        OnOk result (IsRight source.now shared.new) }
+    ensures types { AreRoots source.now instances.now passed.now shared.old → (k : Kept) →
+        AreWithin k.branches instances.now → Grows k.branches shared.old.branches →
+        ArePassed (all_at (trees k.branches) instances.now) (all_at (trees shared.old.branches) passed.now) →
+        IfOk result (λ o. IfSome o (λ v.
+        IsTypes source.now (all_at (trees k.branches) instances.now) shared.new v)) }
+    ensures many { AreRoots source.now instances.now passed.now shared.old → (k : Kept) →
+        AreWithin k.branches instances.now → Grows k.branches shared.old.branches →
+        ArePassed (all_at (trees k.branches) instances.now) (all_at (trees shared.old.branches) passed.now) →
+        IfOk result (λ o. o ≡ None →
+        AreManyTypes (S.source source.now) (all_at (trees k.branches) instances.now)) }
+{
+    let mut unused = Least::new(alloc);
     let reaching = TypeInstances {
         source,
         instances,
-        passed: &passed,
+        passed,
     };
     let types = number(alloc, &reaching, MOST_INSTANCES, shared, &mut unused)?;
     Ok(types)
@@ -180,9 +240,28 @@ fn program_of(
 {
     let declaring = declaring_of(source, &shared, numbers)?;
     let types = table_of(source, &mut shared, numbers)?;
+    let instances = instances_of(source, shared, numbers)?;
+    let program = program_with(source, types, declaring, instances)?;
+    Ok(program)
+}
+
+// The program with these types and these instances.
+fn program_with(
+    source: &Source<'_, '_>,
+    types: TypeTable,
+    declaring: Vec<u32>,
+    instances: Vec<Instance>,
+) -> Result<Program, NoMemory>
+    ensures types { IfOk result (λ p. (W.program p).types ≡ types) }
+    ensures declaring { IfOk result (λ p. (W.program p).declaring ≡ declaring.items) }
+    ensures arities { IfOk result (λ p. (W.program p).arities ≡
+        map (λ (d : Declared). d.arity) (map S.declared source.now.decls.now.types.items)) }
+    ensures field_counts { IfOk result (λ p. (W.program p).field_counts ≡
+        map field_counts (map S.declared source.now.decls.now.types.items)) }
+    ensures instances { IfOk result (λ p. (W.program p).instances ≡ W.instances instances.items) }
+{
     let arities = arities_of(source.alloc, &source.decls.types)?;
     let field_counts = field_counts_of(source.alloc, &source.decls.types)?;
-    let instances = instances_of(source, shared, numbers)?;
     Ok(Program {
         types,
         declaring,

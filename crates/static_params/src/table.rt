@@ -3,20 +3,20 @@ ghost use Rattle.std.specs.Prelude.{◌≡◌, ◌+◌, ◌<◌, ◌≤◌, ◌^
 ghost use Rattle.std.specs.List.{position};
 ghost use Rattle.fip_language.specs.Mentions.{all_of};
 ghost use Rattle.fip_language.specs.declared.limits.TheConstants.{MOST_INSTANCES};
-ghost use Rattle.static_params.specs.Closed.{arguments_of};
+ghost use Rattle.reached_instances.specs.Closed.{arguments_of};
 ghost use Rattle.static_params.specs.FlatProgram as P;
 ghost use Rattle.static_params.specs.FlatView.{AreNumbers, numbers_at};
-ghost use Rattle.static_params.specs.SharedTrees.{AreWithin, Grows, tree_at, trees, trees_at};
-ghost use Rattle.static_params.specs.Source.{declared_at};
-ghost use Rattle.static_params.specs.SourceView as S;
+ghost use Rattle.reached_instances.specs.SharedTrees.{AreWithin, Grows, tree_at, trees, trees_at};
+ghost use Rattle.reached_instances.specs.Source.{declared_at};
+ghost use Rattle.reached_instances.specs.SourceView as S;
 
-use crate::closed::{Head, Shared};
-use crate::numbering::Places;
-use crate::source::Source;
-use crate::type_instances::field_places;
 use fip_base::plain::{Name, NoMemory, Types};
 use fip_base::table::{Constructor, DataType, TypeTable};
 use fip_trees::decls::{DeclaredConstructor, DeclaredType};
+use reached_instances::closed::{Head, Shared};
+use reached_instances::numbering::Places;
+use reached_instances::source::Source;
+use reached_instances::type_instances::field_places;
 use std::alloc::Global;
 
 /// The numbers of what is reached.

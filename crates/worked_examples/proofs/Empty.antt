@@ -10,12 +10,12 @@ use Rattle.data_types.specs.Types as D
 use Rattle.data_types.specs.Types.{IsValued}
 use Rattle.data_types.specs.Declarations.{declarations}
 use Rattle.data_types.specs.Answers as Declaring
-use Rattle.static_params.specs.declared.closed.Head.TheVariants as H
-use Rattle.static_params.specs.Closed.{Closed, Applied, NoClosed}
+use Rattle.reached_instances.specs.declared.closed.Head.TheVariants as H
+use Rattle.reached_instances.specs.Closed.{Closed, Applied, NoClosed}
 use Rattle.static_params.specs.FlatProgram.{Numbers}
 use Rattle.static_params.specs.FlatSource.{flat_source}
-use Rattle.static_params.specs.Numbering.{Reached}
-use Rattle.static_params.specs.TypeInstances.{type_roots, parts_of}
+use Rattle.reached_instances.specs.Numbering.{Reached}
+use Rattle.reached_instances.specs.TypeInstances.{type_roots, parts_of}
 use Rattle.static_params.specs.Answers as Statics
 use Rattle.type_check.proofs.Exact.{typed_exactly}
 use Rattle.call_groups.specs.Stacks.{HasFrame, frames_in, words_in, frame_words, AreStacks}

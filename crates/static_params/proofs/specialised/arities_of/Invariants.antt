@@ -1,6 +1,6 @@
 use Rattle.std.proofs.Common.{◌≡◌, ◌++◌, map, drop}
-use Rattle.static_params.specs.Source.{Declared}
-use Rattle.static_params.specs.SourceView as S
+use Rattle.reached_instances.specs.Source.{Declared}
+use Rattle.reached_instances.specs.SourceView as S
 use Rattle.static_params.proofs.specialised.arities_of.Given as goal
 
 abbrev pub invariant-loop-declared : goal.invariant-loop-declared

@@ -1,7 +1,7 @@
 use Rattle.std.proofs.Common.{◌≡◌, ◌++◌, map, drop}
 use Rattle.static_params.specs.FlatProgram.{count_tys}
-use Rattle.static_params.specs.Source.{Constructor}
-use Rattle.static_params.specs.SourceView as S
+use Rattle.reached_instances.specs.Source.{Constructor}
+use Rattle.reached_instances.specs.SourceView as S
 use Rattle.static_params.proofs.specialised.counts_of.Given as goal
 
 abbrev pub invariant-loop-constructor : goal.invariant-loop-constructor

@@ -1,7 +1,7 @@
 use Rattle.std.proofs.Common.{◌≡◌, ◌++◌, map, drop}
 use Rattle.fip_trees.specs.TreeView.{counts_row}
 use Rattle.static_params.specs.FlatProgram.{field_counts}
-use Rattle.static_params.specs.SourceView as S
+use Rattle.reached_instances.specs.SourceView as S
 use Rattle.static_params.proofs.specialised.field_counts_of.Given as goal
 
 abbrev pub invariant-loop-declared : goal.invariant-loop-declared

@@ -1,13 +1,13 @@
 use Rattle.std.proofs.Common.{◌≡◌, ◌<◌, ◌≤◌, ◌∙◌, ◌++◌, List, length, get_or, ap, sym, subst, append-nil}
 use Rattle.fip_trees.specs.TreeView as W
-use Rattle.static_params.specs.declared.source.FunctionSource.{FunctionSource}
+use Rattle.reached_instances.specs.declared.source.FunctionSource.{FunctionSource}
 use Rattle.static_params.specs.FlatProgram.{flat_instance, instance_if}
 use Rattle.static_params.specs.FlatView.{making}
-use Rattle.static_params.specs.SourceView.{function_source}
-use Rattle.static_params.proofs.GivenStatics.{at_past, at_there}
+use Rattle.reached_instances.specs.SourceView.{function_source}
+use Rattle.reached_instances.proofs.GivenStatics.{at_past, at_there}
 use Rattle.static_params.proofs.Made.{stays_same}
 use Rattle.static_params.proofs.Making.{one_made}
-use Rattle.static_params.proofs.Mentioned.{binders_there}
+use Rattle.reached_instances.proofs.Mentioned.{binders_there}
 use Rattle.static_params.proofs.specialised.put_found.Goals as goal
 
 pub returns-in_ok-push-in-Some-clause-stays : goal.returns-in_ok-push-in-Some-clause-stays

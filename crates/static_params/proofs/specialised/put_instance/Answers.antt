@@ -1,11 +1,11 @@
 use Rattle.std.proofs.Common.{◌∙◌, ◌++◌, List, Option, ap, sym, subst, append-nil}
 use Rattle.fip_trees.specs.Tree as T
 use Rattle.fip_trees.specs.TreeView as W
-use Rattle.static_params.specs.declared.source.Here.{Here}
+use Rattle.reached_instances.specs.declared.source.Here.{Here}
 use Rattle.static_params.specs.FlatProgram.{instances_of}
 use Rattle.static_params.specs.FlatView.{IsMakingOf, Making, making}
-use Rattle.static_params.specs.SharedTrees.{tree_at, trees}
-use Rattle.static_params.specs.SourceView.{IsFunctionAt, IsHere}
+use Rattle.reached_instances.specs.SharedTrees.{tree_at, trees}
+use Rattle.reached_instances.specs.SourceView.{IsFunctionAt, IsHere}
 use Rattle.static_params.proofs.Making.{goes_same, no_instances}
 use Rattle.static_params.proofs.specialised.put_instance.Goals as goal
 

@@ -2,8 +2,8 @@ use Rattle.std.proofs.Common.{◌∙◌, Option, IfSome, sym, ap₂, subst}
 use Rattle.fip_trees.specs.declared.program.Program.{Program}
 use Rattle.static_params.specs.Answers.{IsAccepted}
 use Rattle.static_params.specs.FlatView.{IsNamed}
-use Rattle.static_params.specs.Source.{Source}
-use Rattle.static_params.specs.SourceView.{source_of}
+use Rattle.reached_instances.specs.Source.{Source}
+use Rattle.reached_instances.specs.SourceView.{source_of}
 use Rattle.static_params.proofs.Sounding.{named_is, program_sound}
 use Rattle.static_params.proofs.specialised.specialise.Goals as goal
 

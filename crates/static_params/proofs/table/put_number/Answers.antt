@@ -1,6 +1,6 @@
 use Rattle.std.proofs.Common.{◌∙◌, ◌++◌, option_map, ap, sym, append-nil}
 use Rattle.static_params.specs.FlatProgram.{number_if}
-use Rattle.static_params.specs.SourceView as S
+use Rattle.reached_instances.specs.SourceView as S
 use Rattle.static_params.proofs.table.put_number.Goals as goal
 
 pub returns-in_ok-push-in-Some : goal.returns-in_ok-push-in-Some

@@ -2,8 +2,8 @@ use Rattle.std.proofs.Common.{◌≡◌, take}
 use Rattle.fip_language.specs.Mentions.{all_of}
 use Rattle.static_params.specs.FlatProgram.{rows_of}
 use Rattle.static_params.specs.FlatView.{AreNumbers, numbers_at}
-use Rattle.static_params.specs.SharedTrees.{Grows, tree_at, trees}
-use Rattle.static_params.specs.SourceView.{source}
+use Rattle.reached_instances.specs.SharedTrees.{Grows, tree_at, trees}
+use Rattle.reached_instances.specs.SourceView.{source}
 use Rattle.static_params.proofs.table.table_of.Given as goal
 
 abbrev pub invariant-loop-place : goal.invariant-loop-place

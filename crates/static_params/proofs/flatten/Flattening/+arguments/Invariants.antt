@@ -2,7 +2,7 @@ use Rattle.std.proofs.Common.{◌≡◌, ◌++◌, map, drop}
 use Rattle.fip_base.specs.CoreView as V
 use Rattle.fip_trees.specs.TreeView as W
 use Rattle.static_params.specs.FlatProgram.{flat_argument}
-use Rattle.static_params.specs.SourceView.{source}
+use Rattle.reached_instances.specs.SourceView.{source}
 use Rattle.static_params.proofs.flatten.Flattening.+arguments.Given as goal
 
 abbrev pub invariant-arguments-loop-argument : goal.invariant-arguments-loop-argument

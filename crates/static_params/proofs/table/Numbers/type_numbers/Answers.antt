@@ -1,7 +1,7 @@
 use Rattle.std.proofs.Common.{◌∙◌, get_or, ℕ, map, nat_eq, ap, ◌++◌}
 use Rattle.std.specs.List.{position}
 use Rattle.static_params.specs.FlatProgram.{from_one}
-use Rattle.static_params.proofs.Putting.{item_is, plain_goes, plain_done}
+use Rattle.reached_instances.proofs.Putting.{item_is, plain_goes, plain_done}
 use Rattle.static_params.proofs.table.Numbers.type_numbers.Goals as goal
 
 pub loop-place-init : goal.loop-place-init

@@ -1,0 +1,10 @@
+use Rattle.std.proofs.Common.{[], take}
+use Rattle.fip_language.specs.Mentions.{all_of}
+use Rattle.reached_instances.specs.Closed.{MoreClosed, NoClosed}
+use Rattle.reached_instances.specs.Instances.{functions_among}
+use Rattle.reached_instances.specs.PutView.{Put}
+use Rattle.reached_instances.specs.SharedTrees.{AreWithin, tree_at, trees}
+use Rattle.reached_instances.proofs.instances.functions_among.Given as goal
+
+abbrev pub invariant-loop-argument : goal.invariant-loop-argument
+invariant-loop-argument l = AreWithin l.shared.branches l.list → Put l.shared l.shared [] l.places.items (all_of (λ i. functions_among (MoreClosed (tree_at (trees l.shared.branches) i) NoClosed)) (take l.argument-index l.list))

@@ -1,0 +1,25 @@
+use Rattle.std.proofs.Common.{◌∙◌, [], refl, sym, Some, ap}
+use Rattle.reached_instances.specs.SharedTrees.{tree_at, trees}
+use Rattle.reached_instances.proofs.Growing.{grows_same}
+use Rattle.reached_instances.proofs.Putting.{put_as, put_none, put_place}
+use Rattle.reached_instances.proofs.Typing.{function_of_head, function_of_type, function_of_int}
+use Rattle.reached_instances.proofs.instances.put_function.Goals as goal
+
+pub returns-in_ok-push-in-Some-Function : goal.returns-in_ok-push-in-Some-Function
+returns-in_ok-push-in-Some-Function c = λ h w.
+    let k = c.args.shared.now in
+    let t = tree_at (trees k.branches) c.args.place in
+    put_as k k c.args.places.now.items c.push.new.self.items _ _ (sym (function_of_head t c.in-Some-Function.field-0-0 (sym c.head_at.ensures ∙ c.in-Some-Function.is ∙ ap Some c.in-Some-Function.field-0-is)))
+    (put_place k k c.args.places.now.items c.push.new.self.items c.args.place t (grows_same k.branches) refl w h refl c.in_ok-push-in-Some-Function.ensures.items)
+
+pub returns-in-Some-Type : goal.returns-in-Some-Type
+returns-in-Some-Type c = λ h w.
+    let k = c.args.shared.now in
+    put_as k k c.args.places.now.items c.args.places.now.items [] _ (sym (function_of_type (tree_at (trees k.branches) c.args.place) c.in-Some-Type.field-0-0 (sym c.head_at.ensures ∙ c.in-Some-Type.is ∙ ap Some c.in-Some-Type.field-0-is)))
+    (put_none k c.args.places.now.items w)
+
+pub returns-in-None : goal.returns-in-None
+returns-in-None c = λ h w.
+    let k = c.args.shared.now in
+    put_as k k c.args.places.now.items c.args.places.now.items [] _ (sym (function_of_int (tree_at (trees k.branches) c.args.place) (sym c.head_at.ensures ∙ c.in-None.is)))
+    (put_none k c.args.places.now.items w)

@@ -1,0 +1,10 @@
+use Rattle.std.proofs.Common.{[], ◌∷◌, take}
+use Rattle.fip_language.specs.Mentions.{all_of}
+use Rattle.reached_instances.specs.declared.closed.Head.TheVariants as H
+use Rattle.reached_instances.specs.Closed.{Applied, NoClosed}
+use Rattle.reached_instances.specs.PutView.{Put}
+use Rattle.reached_instances.specs.SharedTrees.{AreWithin}
+use Rattle.reached_instances.proofs.source.Source.put_named.Given as goal
+
+abbrev pub invariant-loop-number : goal.invariant-loop-number
+invariant-loop-number l = AreWithin l.initial.shared.branches l.initial.places.items → Put l.initial.shared l.shared l.initial.places.items l.places.items (all_of (λ n. Applied (H.«Type» n) NoClosed ∷ []) (take l.number-index l.numbers))

@@ -1,0 +1,14 @@
+use Rattle.reached_instances.proofs.GivenStatics.{type_there, no_type, type_past, within_given}
+use Rattle.reached_instances.proofs.source.type_given.Goals as goal
+
+pub returns-in-Some-Type-clause-given : goal.returns-in-Some-Type-clause-given
+returns-in-Some-Type-clause-given c = λ ts. type_there ts c.args.statics.now c.args.given.now c.args.place c.in-Some-Type.field-0.now c.in-Some-Type.field-0-0 c.in-Some-Type.field-0-1 c.at.result c.in-Some-Type.ensures.lookup.3.0 c.in-Some-Type.ensures.lookup.1 c.in-Some-Type.field-0-is c.at.ensures
+
+pub returns-in-Some-Type-clause-within : goal.returns-in-Some-Type-clause-within
+returns-in-Some-Type-clause-within c = λ bs w. within_given bs c.args.given.now c.args.place c.at.result c.at.ensures w
+
+pub returns-in-Some-Function-clause-given : goal.returns-in-Some-Function-clause-given
+returns-in-Some-Function-clause-given c = λ ts. no_type ts c.args.statics.now c.args.given.now c.args.place c.in-Some-Function.field-0.now c.in-Some-Function.field-0-0 c.in-Some-Function.field-0-1 c.in-Some-Function.field-0-2 c.in-Some-Function.field-0-3 c.in-Some-Function.ensures.lookup.3.0 c.in-Some-Function.ensures.lookup.1 c.in-Some-Function.field-0-is
+
+pub returns-in-None-clause-given : goal.returns-in-None-clause-given
+returns-in-None-clause-given c = λ ts. type_past ts c.args.statics.now c.args.given.now c.args.place c.in-None.ensures.lookup.3

@@ -1,5 +1,0 @@
-use Rattle.static_params.proofs.Growing.{grows_same}
-use Rattle.static_params.proofs.closed.Shared.share.Goals as goal
-
-pub returns-then-not-are_within-clause-grows : goal.returns-then-not-are_within-clause-grows
-returns-then-not-are_within-clause-grows c = grows_same c.args.self.now.branches

@@ -1,7 +1,0 @@
-use Rattle.std.proofs.Common.{◌≡◌, ◌++◌, drop, map}
-use Rattle.static_params.specs.Source.{is_bare}
-use Rattle.static_params.specs.SourceView as S
-use Rattle.static_params.proofs.source.scalars_of.Given as goal
-
-abbrev pub invariant-loop-declared : goal.invariant-loop-declared
-invariant-loop-declared l = l.scalars.items ++ map is_bare (map S.declared (drop l.declared-index l.types)) ≡ map is_bare (map S.declared l.types)

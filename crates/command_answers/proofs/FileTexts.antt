@@ -1,4 +1,4 @@
--- What a code file's text says of its code: its ints have 64 bits, and its constructors have upper-case names.
+-- What a code file's text says of its code: its ints have 64 bits.
 -- The idea: a text put together of pieces is there only where each piece is.
 use Rattle.std.proofs.Common.{◌≡◌, ℕ, zero, suc, List, [], ◌∷◌, Option, Some, None, map, slice_get, true, Bool, refl, sym, ap, ◌∙◌, subst}
 use Rattle.std.specs.Prelude.{FitsSigned, ℤ, pos, negsuc, nat_lt, ◌^◌}
@@ -8,11 +8,9 @@ use Rattle.std.proofs.lemmas.List.{append-nil}
 use Rattle.std.proofs.lemmas.Option.{none-some, same_Some}
 use Rattle.cell_code.specs.declared.code.Instr.{Instr}
 use Rattle.cell_code.specs.declared.code.Instr.TheVariants as I
-use Rattle.fip_language.specs.Character.{is_upper_name}
-use Rattle.fip_language.specs.Table.{Shape, Table, shapes}
-use Rattle.code_file.specs.CodeText.{table_text, type_text, shape_text, functions_text, function_text, instrs_text, instr_text, code_text, IsFileOf}
+use Rattle.code_file.specs.CodeText.{table_text, functions_text, function_text, instrs_text, instr_text, code_text, IsFileOf}
 use Rattle.code_file.specs.Plain.{PlainFunction, PlainCode}
-use Rattle.code_file.specs.Spelling.{◌+++◌, each, only, mark, two, eight, name_text, upper_name_text}
+use Rattle.code_file.specs.Spelling.{◌+++◌, each, only, mark, two, eight}
 use Rattle.code_file.proofs.Readers.{Front}
 use Rattle.code_file.specs.declared.tags.Version.{Version}
 use Rattle.code_file.proofs.Fields.{front_only}
@@ -106,26 +104,3 @@ literals bytes code file n i f x is at =
     let g = of_view code.functions n f is in
     let there : slice_get (g.0).instrs i ≡ Some x = ap (λ (f : S.PlainFunction). slice_get f.instrs i) g.2 ∙ at in
     literal_fits x (instr_in (g.0).instrs i x (instrs_of file.0 g.0 (functions_in file.0 code.functions n g.0 (code_parts file.0 code (bytes, file.1)).1 g.1)) there)
-
--- ---- names of constructors
-
-name_of : (s : Shape) → IsText (shape_text s) → is_upper_name s.name ≡ true
-unfolding shape_text upper_name_text
-name_of s h = tested (is_upper_name s.name) (name_text s.name) (left _ _ h)
-
-shape_in : (ss : List Shape) (k : ℕ) (s : Shape) → IsText (type_text ss) → slice_get ss k ≡ Some s → IsText (shape_text s)
-unfolding type_text
-shape_in ss k s h e = item shape_text ss k s (right _ _ h) e
-
-row_in : (tb : Table) (t : ℕ) → IsText (each type_text tb) → (k : ℕ) (s : Shape) → slice_get (shapes tb t) k ≡ Some s → IsText (shape_text s)
-unfolding each
-row_in [] t h k s e = absurd (none-some s e)
-row_in (row ∷ rows) zero h k s e = shape_in row k s (left _ _ h) e
-row_in (row ∷ rows) (suc t) h k s e = row_in rows t (right _ _ h) k s e
-
-rows_of : (tb : Table) → IsText (table_text tb) → IsText (each type_text tb)
-unfolding table_text
-rows_of tb h = right _ _ h
-
-pub upper_names : (bytes : List ℕ) (code : PlainCode) → IsFileOf bytes code → (t k : ℕ) (s : Shape) → slice_get (shapes code.types t) k ≡ Some s → is_upper_name s.name ≡ true
-upper_names bytes code file t k s e = name_of s (row_in code.types t (rows_of code.types (code_parts file.0 code (bytes, file.1)).0) k s e)

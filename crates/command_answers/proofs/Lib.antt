@@ -7,8 +7,9 @@ pub mod EmptySource
 pub mod Whole
 pub mod Ran
 pub mod FileTexts
-pub mod RunTables
 pub mod SomeRun
 pub mod OneRun
+pub mod Joined
+pub mod ExecJoined
 pub mod RunAnswers
 pub mod CodeAnswers

@@ -1,69 +1,39 @@
--- `run` has one outcome: bytes spell one code, which has one function of a name and one stack number of it; a text has
--- one meaning, and a run one end, whichever kinds are given.
+-- `run` has one outcome: what is run is one, a text has one meaning, and a run one end, whichever kinds are given.
 -- The idea: an outcome is said by the code, the function and its number, and the stack that is held, which are each one.
-use Rattle.std.proofs.Common.{◌≡◌, ℕ, ◌<◌, ◌≤◌, Bool, List, [], ◌∷◌, ◌++◌, Option, Some, length, refl, sym, ap, ap₂, ◌∙◌, subst, arith}
+use Rattle.std.proofs.Common.{◌≡◌, ℕ, ◌<◌, ◌≤◌, Bool, List, [], ◌++◌, refl, sym, ap, ap₂, ◌∙◌, subst, arith}
 use Rattle.std.specs.Prelude.{Ok, Err}
 use Rattle.std.proofs.lemmas.Option.{same_Some}
-use Rattle.fip_base.specs.declared.plain.Stack.{Stack}
 use Rattle.fip_language.proofs.OnePlace.{IsPlace-unique, IsPlace-not_spelt}
-use Rattle.fip_language.proofs.Search.{same_unless}
 use Rattle.fip_language.specs.Character.{characters}
 use Rattle.fip_language.specs.Gauge.{Seen}
-use Rattle.fip_language.specs.Prefix.{IsPlace, Accepted}
+use Rattle.fip_language.specs.Prefix.{IsPlace}
 use Rattle.fip_language.specs.PrintedText.{printed_lines}
-use Rattle.fip_language.specs.Store.{values_of}
 use Rattle.fip_language.specs.Values.{Values}
-use Rattle.fip_language.specs.ValueText.{SpellsValues}
 use Rattle.command_line.specs.Words.{Room}
 use Rattle.command_outcome.specs.declared.failure.Failure.TheVariants as F
-use Rattle.code_file.specs.Plain.{PlainCode}
-use Rattle.code_file.proofs.Whole.{one_code}
 use Rattle.code_runs.specs.Cells.{Store}
 use Rattle.code_runs.specs.Gauges.{seen}
 use Rattle.code_runs.specs.Runs as R
 use Rattle.code_runs.specs.States.{State}
 use Rattle.sound_code.specs.Codes as S
-use Rattle.sound_code.specs.StackNumbers.{HasStack}
-use Rattle.sound_code.specs.Tables.{AreSoundTables}
-use Rattle.sound_code.proofs.Numbers.{has_once}
 use Rattle.code_separation.specs.Codes.{run_code}
 use Rattle.code_separation.specs.Starts.{IsStart}
-use Rattle.code_separation.proofs.Sound.{formed, has_form}
 use Rattle.code_bounds.proofs.Ending.{ends_once, seen_once}
 use Rattle.tree_agreement.specs.Agreement.{AreWordsOf}
-use Rattle.tree_agreement.proofs.Values.{same_parts}
 use Rattle.loaded_runs.proofs.Begins.{begins}
 use Rattle.session_meaning.specs.Talk.{frames_of}
 use Rattle.value_text.specs.Loaded.{types_of}
-use Rattle.value_text.proofs.Exact.{accepts_text}
-use Rattle.value_text.proofs.Tables.{is_table, types_alive}
 use Rattle.value_text.proofs.Typed.{input_typed}
-use Rattle.source_commands.specs.Codes.{sound_view, IsSoundFile}
+use Rattle.source_commands.specs.Codes.{sound_view}
+use Rattle.run_command.proofs.CodeOnce.{What, IsWhat, what, what_is, same_what, Spelt, words_of, results_once, values_once}
 use Rattle.command_answers.specs.CodeRun as C
 use Rattle.command_answers.specs.CodeRun.{Chosen, gauge_by_states, TellsCode, RunsCode}
 use Rattle.command_answers.specs.GaugeText.{if_asked}
 use Rattle.command_answers.specs.Outcomes.{End, Outcome, failed, ran}
-use Rattle.command_answers.specs.Runs.{words_for, Run, all_seen}
-use Rattle.command_answers.proofs.FileTexts.{literals, upper_names}
-use Rattle.command_answers.proofs.RunTables.{tables, sound_table, params_known, values_unless}
+use Rattle.command_answers.specs.Runs.{Run, all_seen}
+use Rattle.command_answers.proofs.FileTexts.{literals}
 
 -- ---- what an outcome is said by
-
--- a function of the code of some bytes, its number, and the stack that its runs hold
-record What : Type 0 where
-  code : PlainCode
-  number : ℕ
-  function : S.PlainFunction
-  held : Option Stack
-
-abbrev what : {bytes name : List ℕ} → Chosen bytes name → What
-what c = record { code = c.code; number = c.number; function = c.function; held = c.held }
-
-abbrev Spelt : What → List ℕ → Values → Type 0
-Spelt w input vs = SpellsValues (w.code).types (types_of (w.function).params) input vs
-
-abbrev words_of : What → Values → ℕ
-words_of w vs = words_for vs (w.function).credits
 
 abbrev RunBy : What → Values → Room → Type 0
 RunBy w vs room = Run w.code w.number vs (w.function).credits room.calls (frames_of room.frames w.held)
@@ -99,69 +69,20 @@ told_of c vs room r gauge R.Out e h = h
 told_of c vs room r gauge R.Deep e h = h
 told_of c vs room r gauge R.Unsound e h = h
 
--- ---- what was chosen is one
-
-record IsWhat (bytes name : List ℕ) (w : What) : Type 0 where
-  file : IsSoundFile bytes w.code
-  there : S.function_at (sound_view w.code) w.number ≡ Some w.function
-  named : (w.function).name ≡ name
-  some : name ≡ [] → ⊥
-  stack : HasStack (sound_view w.code) w.number w.held
-
-what_is : {bytes name : List ℕ} (c : Chosen bytes name) → IsWhat bytes name (what c)
-what_is c = record { file = c.file; there = c.there; named = c.named; some = c.some; stack = c.stack }
-
-long : (name : List ℕ) → (name ≡ [] → ⊥) → 0 < length name
-long [] h = absurd (h refl)
-long (b ∷ name) h = omega arith
-
-same_what : (bytes name : List ℕ) (w x : What) → IsWhat bytes name w → IsWhat bytes name x → w ≡ x
-same_what bytes name w x h k =
-    let code : w.code ≡ x.code = (one_code bytes (h.file).spelt.0 (k.file).spelt.0 w.code x.code (h.file).spelt.1 (k.file).spelt.1).1 in
-    let there : S.function_at (sound_view w.code) x.number ≡ Some x.function = ap (λ (c : PlainCode). S.function_at (sound_view c) x.number) code ∙ k.there in
-    let number : w.number ≡ x.number = same_unless w.number x.number (λ off. tables (sound_view w.code) (h.file).sound (λ t.
-    off (t.names w.number x.number w.function x.function h.there there (subst (λ n. 0 < length n) (sym h.named) (long name h.some)) (h.named ∙ sym k.named)))) in
-    let function : w.function ≡ x.function = same_Some w.function x.function (sym h.there ∙ ap (λ n. S.function_at (sound_view w.code) n) number ∙ there) in
-    let stack : HasStack (sound_view w.code) w.number x.held =
-    subst (λ n. HasStack (sound_view w.code) n x.held) (sym number) (subst (λ (c : PlainCode). HasStack (sound_view c) x.number x.held) (sym code) k.stack) in
-    let held : w.held ≡ x.held = has_once (sound_view w.code) w.number w.held x.held h.stack stack in
-    (λ k. record { code = code k; number = number k; function = function k; held = held k })
-
 came : (bytes name input : List ℕ) (room : Room) (gauge : Bool) (o : Outcome) → RunsCode bytes name input room gauge o → (w : What) × IsWhat bytes name w × Came w input room gauge o
 came bytes name input room gauge o (C.BadText c at place) = (what c, what_is c, Bad at place refl)
 came bytes name input room gauge o (C.Small c vs spelt less) = (what c, what_is c, Few vs spelt less refl)
 came bytes name input room gauge o (C.Ran c vs r e spelt fits told) = (what c, what_is c, Done vs spelt fits (record { run = r; end = e; told = told_of c vs room r gauge r.end e told; is = refl }))
 
--- ---- the values are one
+-- ---- the end is one
 
 module _ (bytes name : List ℕ) (w : What) (is : IsWhat bytes name w) where
   abbrev code : S.PlainCode
   code = sound_view w.code
 
-  abbrev types : List ℕ
-  types = types_of (w.function).params
-
-  values_by : AreSoundTables code → (input : List ℕ) (vs us : Values) → Spelt w input vs → Spelt w input us → vs ≡ us
-  values_by t input vs us h k =
-      let table = sound_table code t (upper_names bytes w.code (is.file).spelt) in
-      let known = params_known code.types (w.function).params (has_form code w.function (formed code w.number w.function (is.file).sound is.there)).params in
-      let a = accepts_text code.types (is_table code.types table) types (types_alive code.types table types known) input vs h in
-      let b = accepts_text code.types (is_table code.types table) types (types_alive code.types table types known) input us k in
-      let same : Accepted vs ≡ Accepted us = sym a ∙ b in
-      cc
-
-  values_once : (input : List ℕ) (vs us : Values) → Spelt w input vs → Spelt w input us → vs ≡ us
-  values_once input vs us h k = values_unless vs us (λ off. tables code (is.file).sound (λ t. off (values_by t input vs us h k)))
-
-  -- ---- the end is one
-
-  results_once : (s : Store) (ws : List ℕ) (vs us : Values) → AreWordsOf code.types s (w.function).results ws vs → AreWordsOf code.types s (w.function).results ws us → vs ≡ us
-  results_once s ws vs us h k =
-      sym h.3 ∙ (ap values_of (same_parts code.types s (w.function).results h.0 k.0 h.2 k.2 (sym h.1 ∙ k.1)) ∙ k.3)
-
   told_once : (room : Room) (gauge : Bool) (last : Store) (ss : List Seen) (end : R.End) (d e : End) → Told w room gauge last ss end d → Told w room gauge last ss end e → d ≡ e
   told_once room gauge last ss (R.Value words) d e h k =
-      let same = results_once last words h.results k.results h.stand k.stand in
+      let same = results_once code.types last (w.function).results words h.results k.results h.stand k.stand in
       h.is ∙ (ap (λ vs. Ok (printed_lines code.types (w.function).results vs ++ if_asked gauge (gauge_by_states ss w.held))) same ∙ sym k.is)
   told_once room gauge last ss (R.Trap kind line col) d e h k = h ∙ sym k
   told_once room gauge last ss R.Out d e h k = h ∙ sym k
@@ -181,7 +102,7 @@ module _ (bytes name : List ℕ) (w : What) (is : IsWhat bytes name w) where
     first_once = same_Some q.first r.first (sym q.begins ∙ r.begins)
 
     starts : IsStart code r.before r.waits w.number [] r.first
-    starts = (begins code r.before r.waits w.number w.function vs (frames_of room.frames w.held) r.first (is.file).sound (literals bytes w.code (is.file).spelt) r.kinds is.there (input_typed code.types types (characters input) vs spelt) r.begins).0
+    starts = (begins code r.before r.waits w.number w.function vs (frames_of room.frames w.held) r.first (is.file).sound (literals bytes w.code (is.file).spelt) r.kinds is.there (input_typed code.types (types_of (w.function).params) (characters input) vs spelt) r.begins).0
 
     q_ends : R.Ends q.before (run_code code) r.first room.calls q.end q.last q.left q.steps
     q_ends = subst (λ (s : State). R.Ends q.before (run_code code) s room.calls q.end q.last q.left q.steps) first_once q.ends
@@ -211,16 +132,16 @@ module _ (bytes name : List ℕ) (w : What) (is : IsWhat bytes name w) where
   came_once input room gauge o u (Bad at place e) (Few us spelt less f) = absurd (IsPlace-not_spelt (Spelt w) input at us place spelt)
   came_once input room gauge o u (Bad at place e) (Done us spelt fits done) = absurd (IsPlace-not_spelt (Spelt w) input at us place spelt)
   came_once input room gauge o u (Few vs spelt less e) (Bad to other f) = absurd (IsPlace-not_spelt (Spelt w) input to vs other spelt)
-  came_once input room gauge o u (Few vs spelt less e) (Few us also more f) = e ∙ (ap (λ vs. failed (F.TooSmall (words_of w vs) room.words)) (values_once input vs us spelt also) ∙ sym f)
+  came_once input room gauge o u (Few vs spelt less e) (Few us also more f) = e ∙ (ap (λ vs. failed (F.TooSmall (words_of w vs) room.words)) (values_once bytes name w is input vs us spelt also) ∙ sym f)
   came_once input room gauge o u (Few vs spelt less e) (Done us also fits done) =
-      let same = ap (words_of w) (values_once input vs us spelt also) in
+      let same = ap (words_of w) (values_once bytes name w is input vs us spelt also) in
       absurd (omega (arith, less, fits, same))
   came_once input room gauge o u (Done vs spelt fits done) (Bad to other f) = absurd (IsPlace-not_spelt (Spelt w) input to vs other spelt)
   came_once input room gauge o u (Done vs spelt fits done) (Few us also less f) =
-      let same = ap (words_of w) (values_once input vs us spelt also) in
+      let same = ap (words_of w) (values_once bytes name w is input vs us spelt also) in
       absurd (omega (arith, less, fits, same))
   came_once input room gauge o u (Done vs spelt fits done) (Done us also more other) =
-      let there : IsDone w room gauge vs u = subst (λ vs. IsDone w room gauge vs u) (sym (values_once input vs us spelt also)) other in
+      let there : IsDone w room gauge vs u = subst (λ vs. IsDone w room gauge vs u) (sym (values_once bytes name w is input vs us spelt also)) other in
       done.is ∙ (done_once input room gauge vs spelt done.run there.run done.end there.end done.told there.told ∙ sym there.is)
 
 pub one_run : (bytes name input : List ℕ) (room : Room) (gauge : Bool) (o u : Outcome) → RunsCode bytes name input room gauge o → RunsCode bytes name input room gauge u → o ≡ u

@@ -30,12 +30,13 @@ use Rattle.value_text.proofs.Exact.{accepted_text, stopped_text}
 use Rattle.value_text.proofs.Tables.{is_table, types_alive}
 use Rattle.value_text.proofs.Typed.{input_typed}
 use Rattle.source_commands.specs.Codes.{sound_view, IsSoundFile, has_named, names_one, HasFunction}
+use Rattle.run_command.proofs.FileTypes.{file_spelt}
+use Rattle.run_command.proofs.RunTables.{tables, sound_table, params_known}
 use Rattle.command_answers.specs.CodeRun.{Chosen, SpellsFor, RunOf, frames_for, gauge_by_states, TellsCode, RunsCode, BadText, Small, Ran}
 use Rattle.command_answers.specs.GaugeText.{if_asked}
 use Rattle.command_answers.specs.Outcomes.{End, Outcome, failed, ran}
 use Rattle.command_answers.specs.Runs.{words_for, all_seen}
-use Rattle.command_answers.proofs.FileTexts.{literals, upper_names}
-use Rattle.command_answers.proofs.RunTables.{tables, sound_table, params_known}
+use Rattle.command_answers.proofs.FileTexts.{literals}
 
 -- ---- the function
 
@@ -131,7 +132,7 @@ by_tables bytes name input room gauge c t none = by (P.run (step tb) (final tb) 
     ks = types_of (c.function).params
 
     table : IsSoundTable tb
-    table = sound_table (sound_view c.code) t (upper_names bytes c.code (c.file).spelt)
+    table = sound_table (sound_view c.code) t (λ u k x at. file_spelt bytes c.code u k x c.file at)
 
     known : AreTypes tb ks
     known = params_known tb (c.function).params (has_form (sound_view c.code) c.function (formed (sound_view c.code) c.number c.function (c.file).sound c.there)).params

@@ -5,17 +5,12 @@
 --     cells of 2: 3 to 3
 --     stack: 0 frames, 9 words
 --     bound: 0 frames, 9 words
-use Rattle.std.specs.Prelude.{ℕ, ◌+◌, List, [], ◌∷◌, if◌then◌else◌}
-use Rattle.fip_language.specs.Values.{Values, End, More, cells_of_all}
+use Rattle.std.specs.Prelude.{ℕ, ◌+◌, List}
+use Rattle.fip_language.specs.Values.{Values, cells_of_all}
 use Rattle.fip_base.specs.declared.plain.Param.{Param}
 use Rattle.session_meaning.specs.Talk.{credits_of}
+pub use Rattle.tree_gauges.specs.LentValues.{lent_values}
 pub use Rattle.run_command.specs.GaugeText.{gauge_text, gauge_by_states, highest_stack, if_asked}
-
--- the values of lent parameters
-abbrev pub lent_values : List Param → Values → Values
-lent_values [] vs = End
-lent_values (p ∷ ps) End = End
-lent_values (p ∷ ps) (More v vs) = if p.lent then More v (lent_values ps vs) else lent_values ps vs
 
 -- most cells of size k: those of the arguments and of the header's credits
 abbrev pub highest_of : List ℕ → Values → ℕ → ℕ

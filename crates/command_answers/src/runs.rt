@@ -1,12 +1,16 @@
-// The laws that commands on the files of codes and of traces have one answer. Each is the contract of a function that
-// does nothing.
-ghost use Rattle.std.specs.Prelude.{◌≡◌, ℕ, Bool, List};
+// The laws that runs, and commands on the files of codes and of traces, have one answer. Each is the contract of a
+// function that does nothing.
+ghost use Rattle.std.specs.Prelude.{◌≡◌, ℕ, Bool, false, List};
 ghost use Rattle.fip_base.specs.Files.{File};
 ghost use Rattle.command_line.specs.Words.{Request, Run, Room, Verify, Upgrade, Replay};
 ghost use Rattle.source_commands.specs.Codes.{HasFunction};
+ghost use Rattle.source_commands.specs.Wanted.{Compiled, IsReady};
+ghost use Rattle.run_command.specs.CodeRun as R;
+ghost use Rattle.run_command.specs.ExecAnswer as E;
 ghost use Rattle.command_answers.specs.Answer.{ComesTo};
 ghost use Rattle.command_answers.specs.CodeRun.{RunsCode};
-ghost use Rattle.command_answers.specs.Outcomes.{Outcome};
+ghost use Rattle.command_answers.specs.Exec.{Execs};
+ghost use Rattle.command_answers.specs.Outcomes.{End as an_end, Outcome};
 
 /// The file of a sound code that has a function of the entry's name: whatever the input is, the run of it is never
 /// without an outcome, and it has one. For who reads what a run left.
@@ -15,6 +19,28 @@ pub fn a_run_has_one_outcome()
         ((o : Outcome) → RunsCode bytes name input room gauge o → ⊥) → ⊥ }
     ensures one { (bytes name input : List ℕ) (room : Room) (gauge : Bool) (o u : Outcome) →
         RunsCode bytes name input room gauge o → RunsCode bytes name input room gauge u → o ≡ u }
+{}
+
+/// What `run_command` tells of a run is the end of its outcome, though its cells may lie elsewhere there; so it is one
+/// thing, and never nothing. For who prints what a machine answers.
+pub fn what_is_told_of_a_run_is_its_end()
+    ensures told { (bytes name input : List ℕ) (room : Room) (gauge : Bool) (o : Outcome) →
+        RunsCode bytes name input room gauge o → R.RunsCode bytes name input room gauge o.end }
+    ensures is { (bytes name input : List ℕ) (room : Room) (gauge : Bool) (o : Outcome) (e : an_end) →
+        RunsCode bytes name input room gauge o → R.RunsCode bytes name input room gauge e → e ≡ o.end }
+    ensures some { (bytes name input : List ℕ) (room : Room) (gauge : Bool) → HasFunction bytes name →
+        ((e : an_end) → R.RunsCode bytes name input room gauge e → ⊥) → ⊥ }
+    ensures one { (bytes name input : List ℕ) (room : Room) (gauge : Bool) (e d : an_end) →
+        R.RunsCode bytes name input room gauge e → R.RunsCode bytes name input room gauge d → e ≡ d }
+{}
+
+/// Without the gauge a run of a source's entry is told as one thing, whichever code of the source is run, and wherever
+/// its cells lie; and this is the end of the entry's outcome. For who replaces a compiler.
+pub fn what_is_told_of_an_entry_is_one()
+    ensures one { (source name input : List ℕ) (room : Room) (e d : an_end) → IsReady source (Compiled name) →
+        E.Execs source name input room false e → E.Execs source name input room false d → e ≡ d }
+    ensures is { (source name input : List ℕ) (room : Room) (o : Outcome) (e : an_end) →
+        Execs source name input room false o → E.Execs source name input room false e → e ≡ o.end }
 {}
 
 /// `run` is never without an outcome, whatever files and input there are, and it has one. For who asks whether it has

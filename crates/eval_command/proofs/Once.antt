@@ -54,17 +54,17 @@ tells_once tb results calls frames Stuck d e h k = absurd h
 
 module _ (source name : List ℕ) where
   module _ (x y : Entry source name) where
-    one_program : y.program ≡ x.program
+    pub one_program : y.program ≡ x.program
     one_program = accepted_once source y.program x.program y.accepted x.accepted
 
-    one_root : y.root ≡ x.root
+    pub one_root : y.root ≡ x.root
     one_root = same_Some y.root x.root (sym (subst (λ (p : Program). root_named name p.instances ≡ Some y.root) one_program y.named) ∙ x.named)
 
-    one_core : y.core ≡ x.core
+    pub one_core : y.core ≡ x.core
     one_core = parsed_once source y.core x.core y.parsed x.parsed
 
     -- what is said of the types of one is said of those of the other
-    typed_alike : (P : Table → List ℕ → Type 0) → P y.program.types (parameter_types y.root) → P x.program.types (parameter_types x.root)
+    pub typed_alike : (P : Table → List ℕ → Type 0) → P y.program.types (parameter_types y.root) → P x.program.types (parameter_types x.root)
     typed_alike P h =
         subst (λ (d : Instance). P x.program.types (parameter_types d)) one_root
         (subst (λ (p : Program). P p.types (parameter_types y.root)) one_program h)
@@ -78,7 +78,7 @@ module _ (source name : List ℕ) where
         (subst (λ (d : Instance). Tells x.program.types d.results calls frames (meaning y.core name NoClosed vs calls frames).answer e) one_root
         (subst (λ (p : Program). Tells p.types y.root.results calls frames (meaning y.core name NoClosed vs calls frames).answer e) one_program h))
 
-    one_text : (input : List ℕ) (vs ws : Values) → Spells x input vs → Spells y input ws → ws ≡ vs
+    pub one_text : (input : List ℕ) (vs ws : Values) → Spells x input vs → Spells y input ws → ws ≡ vs
     one_text input vs ws h k = values_once x.program.types (parameter_types x.root) input ws vs (typed_sound source x.program (typed_of source x.program x.accepted)) known (typed_alike (λ tb ks. SpellsValues tb ks input ws) k) h
 
   pub evaluated_once : (input : List ℕ) (calls frames : ℕ) (d e : Result (List ℕ) Failure) → Evaluates source name input calls frames d → Evaluates source name input calls frames e → d ≡ e

@@ -23,12 +23,12 @@ use Rattle.loop_text.proofs.Exact.{accepts_text}
 use Rattle.command_line.specs.Words.{Request, Command, Exec, IsCommand}
 use Rattle.fip_driver.specs.Explained.{IsWritten}
 use Rattle.fip_driver.specs.Answered.{plain_request, Replies, IsRequest, Answer, NotUnderstood, Replied, Said, Beyond, IsAnswered}
-use Rattle.fip_driver.specs.Ends.{End, Checks, Says, Missing, OnSource, OnCode, OnAudit, OfLibrary, OnTrace, GenRefused, IsOpen, OpenSource, OpenCode, OpenGen}
+use Rattle.fip_driver.specs.Ends.{End, Checks, Says, Missing, OnSource, OnCode, OnAudit, OfLibrary, OnTrace, GenRefused, IsOpen, OpenSource, OpenGen}
 use Rattle.source_commands.specs.Wanted.{Wanted, Compiled}
 use Rattle.std.proofs.lemmas.Option.{same_Some}
 use Rattle.fip_driver.proofs.Explaining.{file_reply, core_reply, not_right_reply}
 use Rattle.fip_driver.proofs.OneCommand.{command_once, request_once}
-use Rattle.fip_driver.proofs.OneCode.{says_asks, runs_asks}
+use Rattle.fip_driver.proofs.OneCode.{says_asks}
 use Rattle.fip_driver.proofs.OneEnd.{says_once, says_not_open, library_fetches, gen_fetches, audit_wants, replay_wants}
 use Rattle.fip_driver.specs.Spelling.{source_spelling}
 
@@ -99,7 +99,6 @@ module _ (words : List (List ℕ)) (files : List File) (input : List ℕ) where
 
   written_open : (r : Request) (reply : Reply) → Written r reply → IsOpen source_spelling files input (Exec r) → ⊥
   written_open r reply h (OpenSource w source checks ready taken other) = written_checked r reply w source h checks
-  written_open r reply h (OpenCode bytes there runs) = runs_asks bytes input (Exec r) runs
   written_open r reply h (OpenGen seed count source same is ready) = gen_fetches (Exec r) seed count r.file same refl
 
   -- what the words ask for is `exec` of the request that is replied to

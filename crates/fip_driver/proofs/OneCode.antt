@@ -1,10 +1,12 @@
 -- What is said of a code file is one thing: its bytes spell one code at most, whose least violation and whose stack
 -- numbers are one.
-use Rattle.std.proofs.Common.{◌≡◌, ◌∙◌, ◌++◌, ℕ, suc, true, false, List, [], ◌∷◌, sym, ap, ap₂, subst, refl, arith}
-use Rattle.std.specs.Prelude.{Ok, Err}
+use Rattle.std.proofs.Common.{◌≡◌, ◌∙◌, ◌++◌, ℕ, zero, suc, Bool, true, false, List, [], ◌∷◌, Some, slice_get, sym, ap, ap₂, subst, refl, arith, if◌then◌else◌}
+use Rattle.std.specs.Prelude.{Ok, Err, bytes_eq}
+use Rattle.std.proofs.lemmas.Option.{none-some, same_Some}
+use Rattle.std.proofs.lemmas.Slice.Eq.{bytes_eq-Decides}
 use Rattle.fip_language.specs.declared.rule.Rule.TheVariants.{E70}
 use Rattle.fip_language.proofs.OnePlace.{IsPlace-unique, IsPlace-not_spelt}
-use Rattle.command_line.specs.Words.{Request, Command, Verify, Upgrade, Run}
+use Rattle.command_line.specs.Words.{Room, Request, Command, Verify, Upgrade, Run}
 use Rattle.code_file.specs.CodeText.{IsFileOf}
 use Rattle.code_file.specs.Plain.{PlainCode}
 use Rattle.code_file.proofs.Whole.{one_code}
@@ -15,9 +17,11 @@ use Rattle.sound_code.proofs.Order.{least_once}
 use Rattle.command_outcome.specs.Successes.{function_text}
 use Rattle.command_outcome.specs.declared.failure.Failure.{Failure}
 use Rattle.command_outcome.specs.declared.failure.Failure.TheVariants as F
-use Rattle.source_commands.specs.Codes.{sound_view, IsSoundFile, RefusesCode, LongFile, BadFile, UnsoundFile, IsLine, AreLines, IsCodeListing, IsUpgraded, IsUnspelt, HasFunction, names_one}
+use Rattle.source_commands.specs.Codes.{sound_view, IsSoundFile, RefusesCode, LongFile, BadFile, UnsoundFile, IsLine, AreLines, IsCodeListing, IsUpgraded, IsUnspelt, HasFunction, has_named, names_one}
 use Rattle.source_commands.specs.Wanted.{of_entry}
-use Rattle.fip_driver.specs.Ends.{End, SaysOfCode, CodeRefused, CodeListed, CodeUpgraded, CodeUnspelt, NoFunction, LongRun, RunsCode, AsksCode}
+use Rattle.run_command.specs.CodeRun.{RunsCode}
+use Rattle.run_command.proofs.CodeOnce.{code_run_once, code_run_there}
+use Rattle.fip_driver.specs.Ends.{End, SaysOfCode, CodeRefused, CodeListed, CodeUpgraded, CodeUnspelt, NoFunction, LongRun, CodeRan, AsksCode}
 
 -- ---- the code
 
@@ -75,6 +79,30 @@ named_or_not bytes name other code e h none (d, k, one) =
     let yes : names_one name (sound_view code).functions ≡ true = ap₂ (λ n c. names_one n (sound_view c).functions) e same ∙ one in
     absurd (let no : false ≡ true = sym none ∙ yes in cc)
 
+-- ---- its run
+
+-- a function that is there is found by its name
+named_there : (name : List ℕ) (fs : List S.PlainFunction) (n : ℕ) (f : S.PlainFunction) → slice_get fs n ≡ Some f → f.name ≡ name → has_named name fs ≡ true
+named_there name [] n f at is = absurd (none-some f at)
+named_there name (g ∷ fs) zero f at is =
+    let same : g.name ≡ name = ap (λ (h : S.PlainFunction). h.name) (same_Some g f at) ∙ is in
+    ap (λ b. if b then true else has_named name fs) ((bytes_eq-Decides g.name name).1 same)
+named_there name (g ∷ fs) (suc n) f at is = by (bytes_eq g.name name) (named_there name fs n f at is)
+  where
+    by : (b : Bool) → has_named name fs ≡ true → (if b then true else has_named name fs) ≡ true
+    by true h = refl
+    by false h = h
+
+names_there : (name : List ℕ) (fs : List S.PlainFunction) (n : ℕ) (f : S.PlainFunction) → (name ≡ [] → ⊥) → slice_get fs n ≡ Some f → f.name ≡ name → names_one name fs ≡ true
+names_there [] fs n f some at is = absurd (some refl)
+names_there (b ∷ name) fs n f some at is = named_there (b ∷ name) fs n f at is
+
+-- the file that is run has a function of the entry's name
+ran_function : (bytes name input : List ℕ) (room : Room) (gauge : Bool) (e : End) → RunsCode bytes name input room gauge e → HasFunction bytes name
+ran_function bytes name input room gauge e h =
+    let x = code_run_there bytes name input room gauge e h in
+    ((x.0).code, (x.1).file, names_there name (sound_view (x.0).code).functions (x.0).number (x.0).function (x.1).some (x.1).there (x.1).named)
+
 -- ---- the commands
 
 abbrev tag : Command → ℕ
@@ -93,6 +121,13 @@ entry_of c = []
 one_entry : (c : Command) (r q : Request) → c ≡ Run r → c ≡ Run q → r.entry ≡ q.entry
 one_entry c r q h k = sym (ap entry_of h) ∙ ap entry_of k
 
+abbrev request_in : Request → Command → Request
+request_in q (Run r) = r
+request_in q c = q
+
+one_request : (c : Command) (r q : Request) → c ≡ Run r → c ≡ Run q → r ≡ q
+one_request c r q h k = sym (ap (request_in q) h) ∙ ap (request_in q) k
+
 module _ (bytes input : List ℕ) (c : Command) where
   pub says_asks : (e : End) → SaysOfCode bytes input c e → AsksCode c
   says_asks e (CodeRefused f asks h) = asks
@@ -101,9 +136,7 @@ module _ (bytes input : List ℕ) (c : Command) where
   says_asks e (CodeUnspelt file out code is h k) = subst AsksCode (sym is) tt
   says_asks e (NoFunction r code is h k) = subst AsksCode (sym is) tt
   says_asks e (LongRun r is h more) = subst AsksCode (sym is) tt
-
-  pub runs_asks : RunsCode bytes input c → AsksCode c
-  runs_asks h = subst AsksCode (sym h.is) tt
+  says_asks e (CodeRan r f is le h) = subst AsksCode (sym is) tt
 
   pub code_once : (d e : End) → SaysOfCode bytes input c d → SaysOfCode bytes input c e → d ≡ e
   code_once d e (CodeRefused f a h) (CodeRefused g b k) = ap (λ f. Err f) (refused_once bytes f g h k)
@@ -142,11 +175,17 @@ module _ (bytes input : List ℕ) (c : Command) where
   code_once d e (LongRun r is h more) (CodeUnspelt other to again was k m) = absurd (let x : 3 ≡ 2 = clash c _ _ is was in omega (arith, x))
   code_once d e (LongRun r is h more) (NoFunction q again was k m) = absurd (named_or_not bytes q.entry r.entry again (one_entry c q r was is) k m h)
   code_once d e (LongRun r is h more) (LongRun q was k further) = refl
-
-  pub code_not_open : (e : End) → SaysOfCode bytes input c e → RunsCode bytes input c → ⊥
-  code_not_open e (CodeRefused f a h) k = let has = k.function in refused_not_sound bytes f has.0 h has.1
-  code_not_open e (CodeListed file text is h) k = let x : 1 ≡ 3 = clash c _ _ is k.is in omega (arith, x)
-  code_not_open e (CodeUpgraded file out text again is h l) k = let x : 2 ≡ 3 = clash c _ _ is k.is in omega (arith, x)
-  code_not_open e (CodeUnspelt file out code is h l) k = let x : 2 ≡ 3 = clash c _ _ is k.is in omega (arith, x)
-  code_not_open e (NoFunction r code is h l) k = named_or_not bytes r.entry k.request.entry code (one_entry c r k.request is k.is) h l k.function
-  code_not_open e (LongRun r is h more) k = let le = k.short in omega (arith, more, le)
+  code_once d e (CodeRefused f a h) (CodeRan r g is le k) = let has = ran_function bytes r.entry input r.room r.gauge g k in absurd (refused_not_sound bytes f has.0 h has.1)
+  code_once d e (CodeListed file text is h) (CodeRan r g was le k) = absurd (let x : 1 ≡ 3 = clash c _ _ is was in omega (arith, x))
+  code_once d e (CodeUpgraded file out text again is h l) (CodeRan r g was le k) = absurd (let x : 2 ≡ 3 = clash c _ _ is was in omega (arith, x))
+  code_once d e (CodeUnspelt file out code is h l) (CodeRan r g was le k) = absurd (let x : 2 ≡ 3 = clash c _ _ is was in omega (arith, x))
+  code_once d e (NoFunction r code is h l) (CodeRan q g was le k) = absurd (named_or_not bytes r.entry q.entry code (one_entry c r q is was) h l (ran_function bytes q.entry input q.room q.gauge g k))
+  code_once d e (LongRun r is h more) (CodeRan q g was le k) = absurd (omega (arith, more, le))
+  code_once d e (CodeRan r g is le k) (CodeRefused f a h) = let has = ran_function bytes r.entry input r.room r.gauge g k in absurd (refused_not_sound bytes f has.0 h has.1)
+  code_once d e (CodeRan r g was le k) (CodeListed file text is h) = absurd (let x : 3 ≡ 1 = clash c _ _ was is in omega (arith, x))
+  code_once d e (CodeRan r g was le k) (CodeUpgraded file out text again is h l) = absurd (let x : 3 ≡ 2 = clash c _ _ was is in omega (arith, x))
+  code_once d e (CodeRan r g was le k) (CodeUnspelt file out code is h l) = absurd (let x : 3 ≡ 2 = clash c _ _ was is in omega (arith, x))
+  code_once d e (CodeRan q g was le k) (NoFunction r code is h l) = absurd (named_or_not bytes r.entry q.entry code (one_entry c r q is was) h l (ran_function bytes q.entry input q.room q.gauge g k))
+  code_once d e (CodeRan q g was le k) (LongRun r is h more) = absurd (omega (arith, more, le))
+  code_once d e (CodeRan r f is le h) (CodeRan q g was lo k) =
+      code_run_once bytes q.entry input q.room q.gauge f g (subst (λ (r : Request). RunsCode bytes r.entry input r.room r.gauge f) (one_request c r q is was) h) k

@@ -1,5 +1,5 @@
 -- A command ends with one thing at most, where it is said; and then its answer isn't open.
-use Rattle.std.proofs.Common.{◌≡◌, ◌∙◌, ◌==◌, ℕ, List, sym, ap, subst, refl, arith, [], slice_index, if◌then◌else◌}
+use Rattle.std.proofs.Common.{◌≡◌, ◌∙◌, ◌==◌, ℕ, true, false, true≢false, List, sym, ap, subst, refl, arith, [], slice_index, if◌then◌else◌}
 use Rattle.std.specs.Prelude.{Option, Some, None, Ok, Err, codes}
 use Rattle.std.proofs.lemmas.Option.{none-some, same_Some}
 use Rattle.fip_base.specs.Files.{File, file_of}
@@ -10,7 +10,7 @@ use Rattle.fip_library.specs.declared.list.TheConstants as List'
 use Rattle.fip_library.specs.declared.tree.TheConstants as Tree
 use Rattle.fip_library.specs.declared.rbtree.TheConstants as RedBlackTree
 use Rattle.fip_library.specs.declared.finger.TheConstants as FingerTree
-use Rattle.command_line.specs.Words.{Command, Check, Verify, Upgrade, Run, Derive, Audit, Replay, Library, Gen, Eval}
+use Rattle.command_line.specs.Words.{Request, Command, Check, Verify, Upgrade, Exec, Run, Derive, Audit, Replay, Library, Gen, Eval}
 use Rattle.command_outcome.specs.declared.failure.Failure.TheVariants as F
 use Rattle.eval_command.specs.EvalAnswer.{Evaluates}
 use Rattle.eval_command.proofs.Once.{evaluated_once, evaluated_ready}
@@ -20,13 +20,15 @@ use Rattle.source_report.proofs.Once.{typed_once}
 use Rattle.loaded_runs.proofs.Either.{one_trace, not_both, one_place}
 use Rattle.loaded_runs.specs.Replaying.{replayed}
 use Rattle.source_commands.specs.Roots.{IsListing}
-use Rattle.source_commands.specs.Wanted.{Wanted, Lawful, Root, IsReady, Refuses}
+use Rattle.run_command.specs.ExecAnswer.{Execs}
+use Rattle.run_command.proofs.ExecOnce.{exec_once}
+use Rattle.source_commands.specs.Wanted.{Wanted, Lawful, Root, Compiled, IsReady, Refuses}
 use Rattle.source_commands.proofs.Deriving.{derived_ready, underived_ready, derived_or_underived}
 use Rattle.source_commands.proofs.Judging.{rejected_once, accepted_not_rejected}
 use Rattle.source_commands.proofs.Once.{listing_once, listing_ready, report_once, refused_once, refused_not_ready}
 use Rattle.fip_driver.specs.Commands.{ReadsInput, fetched_name, wanted}
-use Rattle.fip_driver.specs.Ends.{End, SaysOf, Refused, Listed, LongInput, Evaluated, Derived, Underived, IsTaken, Checks, Says, Missing, OnSource, OnCode, OnAudit, OfLibrary, AsksCode, SaysOfCode, IsVerdict, SaysOfAudit, Reported, NoProof, Judged, IsUnsaidOn, IsThere, OnTrace, SaysOfTrace, IsOpen, OpenSource, OpenCode, OpenGen, GenRefused}
-use Rattle.fip_driver.proofs.OneCode.{says_asks, runs_asks, code_once, code_not_open}
+use Rattle.fip_driver.specs.Ends.{End, SaysOf, Refused, Listed, LongInput, Evaluated, Executed, Derived, Underived, IsTaken, Checks, Says, Missing, OnSource, OnCode, OnAudit, OfLibrary, AsksCode, SaysOfCode, IsVerdict, SaysOfAudit, Reported, NoProof, Judged, IsUnsaidOn, IsThere, OnTrace, SaysOfTrace, IsOpen, OpenSource, OpenGen, GenRefused}
+use Rattle.fip_driver.proofs.OneCode.{says_asks, code_once}
 use Rattle.fip_driver.specs.Spelling.{Spelling}
 
 -- ---- on a source
@@ -69,6 +71,27 @@ evaluated_same source input file entry other name calls frames m n c e same is h
 
 evaluated_reads : (c : Command) (file entry : List ℕ) (calls frames : ℕ) → c ≡ Eval file entry calls frames → ReadsInput c
 evaluated_reads c file entry calls frames same = subst ReadsInput (sym same) tt
+
+-- what the words of `exec` ask for
+abbrev request_of : Request → Command → Request
+request_of q (Exec r) = r
+request_of q c = q
+
+one_request : (c : Command) (r q : Request) → c ≡ Exec r → c ≡ Exec q → r ≡ q
+one_request c r q same is = sym (ap (request_of q) same) ∙ ap (request_of q) is
+
+executed_reads : (c : Command) (r : Request) → c ≡ Exec r → ReadsInput c
+executed_reads c r same = subst ReadsInput (sym same) tt
+
+executed_wants : (c : Command) (w : Wanted) (r : Request) → c ≡ Exec r → wanted c ≡ Some w → w ≡ Compiled r.entry
+executed_wants c w r same wants = sym (same_Some (Compiled r.entry) w (subst (λ c. wanted c ≡ Some w) same wants))
+
+abbrev is_exec : Command → ℕ
+is_exec (Exec r) = 1
+is_exec c = 0
+
+eval_or_exec : (c : Command) (file entry : List ℕ) (calls frames : ℕ) (r : Request) → c ≡ Eval file entry calls frames → c ≡ Exec r → ⊥
+eval_or_exec c file entry calls frames r same is = let one : 0 ≡ 1 = sym (ap is_exec same) ∙ ap is_exec is in omega (arith, one)
 
 -- what the words of `derive` ask for
 derived_wants : (c : Command) (w : Wanted) (file out : List ℕ) → c ≡ Derive file out → wanted c ≡ Some w → w ≡ Lawful
@@ -125,12 +148,28 @@ source_once source input c w d e wants (LongInput ready reads more) (Underived f
 source_once source input c w d e wants (Evaluated other entry calls frames f is le k) (Underived file out same h) = absurd (derived_reads c file out same (evaluated_reads c other entry calls frames is))
 source_once source input c w d e wants (Evaluated file entry calls frames f same le h) (Evaluated other name m n g is ge k) =
     evaluated_once source name input m n f g (evaluated_same source input file entry other name calls frames m n c f same is h) k
+source_once source input c w d e wants (Executed r f same off ready le h) (Refused q k) = absurd (refused_not_ready source w q k ready)
+source_once source input c w d e wants (Executed r f same off ready le h) (Listed file text is k) = absurd (listed_reads c file is (executed_reads c r same))
+source_once source input c w d e wants (Executed r f same off ready le h) (LongInput again reads more) = absurd (omega (arith, more, le))
+source_once source input c w d e wants (Executed r f same off ready le h) (Evaluated file entry calls frames g is lo k) = absurd (eval_or_exec c file entry calls frames r is same)
+source_once source input c w d e wants (Executed r f same off ready le h) (Derived file out bytes is k) = absurd (derived_reads c file out is (executed_reads c r same))
+source_once source input c w d e wants (Executed r f same off ready le h) (Underived file out is k) = absurd (derived_reads c file out is (executed_reads c r same))
+source_once source input c w d e wants (Refused q k) (Executed r f same off ready le h) = absurd (refused_not_ready source w q k ready)
+source_once source input c w d e wants (Listed file text is k) (Executed r f same off ready le h) = absurd (listed_reads c file is (executed_reads c r same))
+source_once source input c w d e wants (LongInput again reads more) (Executed r f same off ready le h) = absurd (omega (arith, more, le))
+source_once source input c w d e wants (Evaluated file entry calls frames g is lo k) (Executed r f same off ready le h) = absurd (eval_or_exec c file entry calls frames r is same)
+source_once source input c w d e wants (Derived file out bytes is k) (Executed r f same off ready le h) = absurd (derived_reads c file out is (executed_reads c r same))
+source_once source input c w d e wants (Underived file out is k) (Executed r f same off ready le h) = absurd (derived_reads c file out is (executed_reads c r same))
+source_once source input c w d e wants (Executed r f same off ready le h) (Executed q g is none again lo k) =
+    exec_once source q.entry input q.room f g (subst (IsReady source) (executed_wants c w q is wants) ready)
+    (subst (λ (r : Request). Execs source r.entry input r.room false f) (one_request c r q same is) h) k
 
 source_not_open : (source input : List ℕ) (c : Command) (w : Wanted) (e : End) → SaysOf source input c w e → IsReady source w → IsTaken c input → IsUnsaidOn c → ⊥
 source_not_open source input c w e (Refused r h) ready taken other = refused_not_ready source w r h ready
 source_not_open source input c w e (Listed file text same h) ready taken other = subst IsUnsaidOn same other
 source_not_open source input c w e (LongInput r reads more) ready taken other = let le = taken reads in omega (arith, more, le)
 source_not_open source input c w e (Evaluated file entry calls frames f same le h) ready taken other = subst IsUnsaidOn same other
+source_not_open source input c w e (Executed r f same off again le h) ready taken other = let on : r.gauge ≡ true = subst IsUnsaidOn same other in true≢false (sym on ∙ off)
 source_not_open source input c w e (Derived file out bytes same h) ready taken other = subst IsUnsaidOn same other
 source_not_open source input c w e (Underived file out same h) ready taken other = subst IsUnsaidOn same other
 
@@ -336,20 +375,13 @@ module _ (spelling : Spelling) (files : List File) (input : List ℕ) (c : Comma
   says_not_open e (Missing m o names gone) (OpenGen seed count source same is ready) = gen_fetches c seed count m same names
   says_not_open e (OnSource v s f h says) (OpenSource w t k ready taken other) = source_not_open t input c w f (moved spelling files input c v w s t f h k says) ready taken other
   says_not_open e (OnSource v s f h says) (OpenGen seed count source same is ready) = gen_fetches c seed count h.name same h.names
-  says_not_open e (Missing m o names gone) (OpenCode bytes there runs) = there_or_missing spelling files input c m there.0 bytes names there.1 gone there.2
-  says_not_open e (OnSource v s f h says) (OpenCode bytes there runs) = asks_unwanted c v (runs_asks bytes input c runs) h.wants
   says_not_open e (OnCode bytes f there says) (OpenSource w t k ready taken other) = asks_unwanted c w (says_asks bytes input c f says) k.wants
-  says_not_open e (OnCode bytes f there says) (OpenCode again also runs) = code_not_open again input c f (subst (λ b. SaysOfCode b input c f) (one_file spelling files input c bytes again there also) says) runs
   says_not_open e (OnCode bytes f there says) (OpenGen seed count source same is ready) = gen_fetches c seed count there.0 same there.1
   says_not_open e (OfLibrary name text same h) (OpenSource w t k ready taken other) = library_fetches c name k.name same k.names
-  says_not_open e (OfLibrary name text same h) (OpenCode bytes there runs) = library_fetches c name there.0 same there.1
   says_not_open e (OfLibrary name text same h) (OpenGen seed count source other is ready) = library_or_gen c name seed count same other
   says_not_open e (OnAudit file proof source f is there h) (OpenSource w t k ready taken other) = audit_wants c file proof w is k.wants
-  says_not_open e (OnAudit file proof source f is there h) (OpenCode bytes also runs) = audit_asks c file proof is (runs_asks bytes input c runs)
   says_not_open e (OnAudit file proof source f is there h) (OpenGen seed count s other was ready) = gen_fetches c seed count there.0 other there.1
   says_not_open e (OnTrace trace step bytes f is there h) (OpenSource w t k ready taken other) = replay_wants c trace step w is k.wants
-  says_not_open e (OnTrace trace step bytes f is there h) (OpenCode x also runs) = replay_asks c trace step is (runs_asks x input c runs)
   says_not_open e (OnTrace trace step bytes f is there h) (OpenGen seed count source same was ready) = gen_fetches c seed count there.0 same there.1
   says_not_open e (GenRefused seed count source r same is h) (OpenSource w t k ready taken other) = gen_fetches c seed count k.name same k.names
-  says_not_open e (GenRefused seed count source r same is h) (OpenCode bytes there runs) = gen_fetches c seed count there.0 same there.1
   says_not_open e (GenRefused seed count s r same is h) (OpenGen m n t other was ready) = tree_refused_not_ready s t r is was h ready

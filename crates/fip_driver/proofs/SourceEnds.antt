@@ -1,5 +1,5 @@
 -- From what a part answered to what a command ends with: on an input, on a source, on the file, and for the words.
-use Rattle.std.proofs.Common.{◌≡◌, ◌∙◌, ◌<◌, ◌≤◌, ℕ, List, [], length, sym, ap, subst, refl, inl, inr, arith}
+use Rattle.std.proofs.Common.{◌≡◌, ◌∙◌, ◌<◌, ◌≤◌, ℕ, Bool, true, false, List, [], length, sym, ap, subst, refl, inl, inr, arith}
 use Rattle.std.specs.Prelude.{◌⊎◌, Option, Some, None, Result, Ok, Err, IfOk, IfErr, OnOk, IsSomeAnd}
 use Rattle.std.specs.Io.KnownBytes.{Consumes, IsAtEnd}
 use Rattle.std.specs.declared.vec.Vec.{Vec}
@@ -13,7 +13,7 @@ use Rattle.fip_trees.specs.Tree.{Program}
 use Rattle.loaded_runs.specs.TraceText.{trace_text}
 use Rattle.trace_command.specs.TraceAnswer.{Kept, Traces, Ended, Stored, TooLong as LongTrace, KeptOrNoMemory}
 use Rattle.fip_driver.specs.Unread.{IsTraceFile}
-use Rattle.command_line.specs.Words.{Room, Command, Check, Compile, Exec, Trace, Derive, Audit, Eval, Replay, Library, Gen, IsTextName}
+use Rattle.command_line.specs.Words.{Room, Request, Command, Check, Compile, Exec, Trace, Derive, Audit, Eval, Replay, Library, Gen, IsTextName}
 use Rattle.command_outcome.specs.Stages.{IsOfTasks}
 use Rattle.fip_commands.specs.Generated.{IsTreeSource, build, IsTreeText, KeepsFromTree}
 use Rattle.fip_commands.specs.Replayed.{IsReplayed, KeepsFromReplay}
@@ -24,17 +24,18 @@ use Rattle.command_outcome.specs.declared.failure.Failure.TheVariants as F
 use Rattle.command_outcome.specs.declared.failure.Object.TheVariants as O
 use Rattle.source_report.specs.Report.{bare, IsMatched, TooLong}
 use Rattle.eval_command.specs.EvalAnswer.{Evaluates, OrNoMemory}
+use Rattle.run_command.specs.ExecAnswer.{Execs}
 use Rattle.source_commands.specs.Judged.{IsEarlyReport, IsBadProof, IsProofOf, IsRejectedOf}
 use Rattle.source_commands.specs.Derived.{IsDerivedFile, KeepsFromDerive}
 use Rattle.source_commands.specs.ProgramCode.{KeepsFromCompile}
 use Rattle.source_commands.specs.Roots.{IsListing}
-use Rattle.source_commands.specs.Wanted.{Wanted, Lawful, Root, IsReady, IsRefusedBy, KeepsFrom, KeepsFromVerified, of_entry}
+use Rattle.source_commands.specs.Wanted.{Wanted, Lawful, Root, Compiled, IsReady, IsRefusedBy, KeepsFrom, KeepsFromVerified, of_entry}
 use Rattle.source_commands.proofs.Once.{listing_ready}
 use Rattle.source_commands.proofs.Compiling.{uncompiled_ready}
 use Rattle.source_commands.specs.declared.files.Compiled.{Compiled as compiled_file}
 use Rattle.fip_driver.specs.Answered.{IsTold}
 use Rattle.fip_driver.specs.Commands.{IsOther, ReadsInput, CallsNoFolder, fetched_name, wanted}
-use Rattle.fip_driver.specs.Ends.{End, SaysOf, Refused, Listed, LongInput, Evaluated, Derived, Underived, MakesCode, ComesOf, Unsound, Ready, MayEnd, TracesTo, IsTaken, IsTasksEnd, IsBeside, Checks, Says, Missing, OnSource, OnAudit, OnTrace, OfLibrary, IsUnsaidOn, Comes, MayOnSource, MayOfGen, IsThere, IsVerdict, SaysOfAudit, Reported, NoProof, Judged, GenRefused}
+use Rattle.fip_driver.specs.Ends.{End, SaysOf, Refused, Listed, LongInput, Evaluated, Executed, Derived, Underived, MakesCode, ComesOf, Unsound, Ready, MayEnd, TracesTo, IsTaken, IsTasksEnd, IsBeside, Checks, Says, Missing, OnSource, OnAudit, OnTrace, OfLibrary, Comes, MayOnSource, MayOfGen, IsThere, IsVerdict, SaysOfAudit, Reported, NoProof, Judged, GenRefused}
 use Rattle.fip_driver.specs.Fetched.{FetchFails, FileFails, StoreFails, JudgeFails, ReadFails}
 use Rattle.fip_driver.specs.Outcome.{end_of, compiled_end, IsFault, IsInputFault, ReadOutcome, InputOutcome, SourceOutcome, Closes, FileOutcome, AuditOutcome, CommandOutcome}
 use Rattle.fip_driver.specs.Spelling.{Spelling, source_spelling}
@@ -109,14 +110,14 @@ read_traces source name room before left rose read o c end le h = (read, whole_o
     by (Err failure) h = inr (inr (le, h))
 
 -- the file that is stored
-is_trace_file : (source name input : List ℕ) (room : Room) (k : Kept) (e : Result Kept Failure) → Traces source name input room e → e ≡ Ok k → IsTraceFile source name room k.file
-is_trace_file source name input room k e (Ended failure h) is = absurd cc
-is_trace_file source name input room k e (Stored text t h of' short) is = let same : trace_text t ≡ k.file = cc in (input, t, of', short, sym same)
-is_trace_file source name input room k e (LongTrace t of' long) is = absurd cc
+is_trace_file : (source name input : List ℕ) (left : Option (List ℕ)) (room : Room) (k : Kept) (e : Result Kept Failure) → IsTold left input → Traces source name input room e → e ≡ Ok k → IsTraceFile source name room left k.file
+is_trace_file source name input left room k e told (Ended failure h) is = absurd cc
+is_trace_file source name input left room k e told (Stored text t h of' short) is = let same : trace_text t ≡ k.file = cc in (input, told, t, of', short, sym same)
+is_trace_file source name input left room k e told (LongTrace t of' long) is = absurd cc
 
-pub trace_made : (source name input : List ℕ) (room : Room) (o : Result compiled_file Failure) → KeptOrNoMemory (Traces source name input room) o → IfOk o (λ c. IsTraceFile source name room c.file.items)
-trace_made source name input room (Ok c) h = is_trace_file source name input room (record { file = c.file.items; text = c.text.items }) (Ok (record { file = c.file.items; text = c.text.items })) h refl
-trace_made source name input room (Err f) h = tt
+pub trace_made : (source name : List ℕ) (room : Room) (before left : Option (List ℕ)) (read : List ℕ) (o : Result compiled_file Failure) → Consumes before left read → IsAtEnd left → KeptOrNoMemory (Traces source name read room) o → IfOk o (λ c. IsTraceFile source name room before c.file.items)
+trace_made source name room before left read (Ok c) all end h = is_trace_file source name read before room (record { file = c.file.items; text = c.text.items }) (Ok (record { file = c.file.items; text = c.text.items })) (whole_of before left read all end) h refl
+trace_made source name room before left read (Err f) all end h = tt
 
 -- ---- the source
 
@@ -214,6 +215,23 @@ input_ends c w source left fr rose May e ready reads up (input, told, h) = (inpu
     by (inr (inl (more, same))) = inr (inl (long e more same))
     by (inr (inr (le, m))) = inr (inr (Ready e ready (λ r. le) (up input e m)))
 
+-- what `exec` tells
+pub executed_ends : (r : Request) (source : List ℕ) (left : Option (List ℕ)) (fr rose : Type 0) (e : End) → IsReady source (Compiled r.entry) → ReadOutcome (λ bytes. Execs source r.entry bytes r.room r.gauge) left rose e → SourceOutcome (Exec r) (Compiled r.entry) source left fr rose e
+executed_ends r source left fr rose e ready (input, told, h) = (input, told, by h)
+  where
+    long : (d : End) → 16777216 < length input → d ≡ Err (F.BadInput 16777216) → SaysOf source input (Exec r) (Compiled r.entry) d
+    long d more same = subst (SaysOf source input (Exec r) (Compiled r.entry)) (sym same) (LongInput ready tt more)
+
+    -- without the gauge, or with it
+    ran : (gauge : Bool) → r.gauge ≡ gauge → length input ≤ 16777216 → Execs source r.entry input r.room gauge e → SaysOf source input (Exec r) (Compiled r.entry) e ⊎ ComesOf source input (Exec r) (Compiled r.entry) e
+    ran false is le m = inl (Executed r e refl is ready le m)
+    ran true is le m = inr (Ready e ready (λ reads. le) (is, m))
+
+    by : IsInputFault rose e ⊎ (((16777216 < length input) × (e ≡ Err (F.BadInput 16777216))) ⊎ ((length input ≤ 16777216) × Execs source r.entry input r.room r.gauge e)) → IsFault (Exec r) fr rose e ⊎ (SaysOf source input (Exec r) (Compiled r.entry) e ⊎ ComesOf source input (Exec r) (Compiled r.entry) e)
+    by (inl f) = inl (input_fault_up (Exec r) fr rose e tt f)
+    by (inr (inl (more, same))) = inr (inl (long e more same))
+    by (inr (inr (le, m))) = inr (ran r.gauge refl le m)
+
 -- what `eval` tells
 pub evaluated_ends : (file entry source : List ℕ) (calls frames : ℕ) (left : Option (List ℕ)) (fr rose : Type 0) (e : End) → IsReady source (Root entry) → ReadOutcome (λ bytes. Evaluates source entry bytes calls frames) left rose e → SourceOutcome (Eval file entry calls frames) (Root entry) source left fr rose e
 evaluated_ends file entry source calls frames left fr rose e ready (input, told, h) = (input, told, by h)
@@ -251,28 +269,11 @@ trace_stored left rose file entry out source text room before mid now w o le rea
 
 -- ---- the file
 
--- what may come of a source is never of `check`, `eval` or `derive`
-makes_unsaid : (c : Command) → MakesCode c → IsUnsaidOn c
-makes_unsaid (Check file) h = h
-makes_unsaid (Eval file entry calls frames) h = h
-makes_unsaid (Derive file out) h = h
-makes_unsaid c h = tt
-
-ends_unsaid : (c : Command) (source input : List ℕ) (e : End) → MayEnd c source input e → IsUnsaidOn c
-ends_unsaid (Check file) source input e h = h
-ends_unsaid (Eval file entry calls frames) source input e h = h
-ends_unsaid (Derive file out) source input e h = h
-ends_unsaid c source input e h = tt
-
-comes_unsaid : (source input : List ℕ) (c : Command) (w : Wanted) (e : End) → ComesOf source input c w e → IsUnsaidOn c
-comes_unsaid source input c w e (Unsound function at rule makes ready) = makes_unsaid c makes
-comes_unsaid source input c w e (Ready d ready taken may) = ends_unsaid c source input d may
-
 -- what comes of a source that is checked, of files
 pub checked_closes : (c : Command) (w : Wanted) (files : List File) (source input : List ℕ) (fr ir more_fr more_ir : Type 0) (e : End) → (fr → more_fr) → (ir → more_ir) → Checks source_spelling files c w source → IsFault c fr ir e ⊎ (SaysOf source input c w e ⊎ ComesOf source input c w e) → Closes source_spelling files input c more_fr more_ir e
 checked_closes c w files source input fr ir mf mi e f i checks (inl h) = inl (fault_up c fr ir mf mi e f i h)
 checked_closes c w files source input fr ir mf mi e f i checks (inr (inl s)) = inr (inl (OnSource w source e checks s))
-checked_closes c w files source input fr ir mf mi e f i checks (inr (inr s)) = inr (inr (MayOnSource w source e (comes_unsaid source input c w e s) checks s))
+checked_closes c w files source input fr ir mf mi e f i checks (inr (inr s)) = inr (inr (MayOnSource w source e checks s))
 
 beside_other : (spelling : Spelling) (c : Command) (source : List ℕ) → IsOther c → IsBeside spelling c source
 beside_other spelling (Exec r) source other = absurd other

@@ -11,22 +11,22 @@ use Rattle.fip_driver.specs.Fetched.{StoreFails, StoreKeeps}
 use Rattle.fip_driver.specs.Unread.{Outcome, IsMadeBy, AreKept}
 use Rattle.fip_driver.proofs.SourceEnds.{rose_later}
 
-pub unstored : (c : Command) (name : List ℕ) (rose : Type 0) (old new : Option (List File)) (f : Failure) → new ≡ old → AreKept c (Some name) rose old new (Err f)
-unstored c name rose old new (F.Fault O.Folder) e = inl e
-unstored c name rose old new (F.Fault O.Input) e = e
-unstored c name rose old new (F.Fault O.Out) e = e
-unstored c name rose old new (F.Fault O.Err) e = e
-unstored c name rose old new f e = e
+pub unstored : (c : Command) (left : Option (List ℕ)) (name : List ℕ) (rose : Type 0) (old new : Option (List File)) (f : Failure) → new ≡ old → AreKept c left (Some name) rose old new (Err f)
+unstored c left name rose old new (F.Fault O.Folder) e = inl e
+unstored c left name rose old new (F.Fault O.Input) e = e
+unstored c left name rose old new (F.Fault O.Out) e = e
+unstored c left name rose old new (F.Fault O.Err) e = e
+unstored c left name rose old new f e = e
 
 -- of no command's turn
-pub nothing_stored : (c : Command) (stored : Option (List ℕ)) (rose : Type 0) (files : Option (List File)) (f : Failure) → AreKept c stored rose files files (Err f)
-nothing_stored c None rose files f = refl
-nothing_stored c (Some name) rose files f = unstored c name rose files files f refl
+pub nothing_stored : (c : Command) (left stored : Option (List ℕ)) (rose : Type 0) (files : Option (List File)) (f : Failure) → AreKept c left stored rose files files (Err f)
+nothing_stored c left None rose files f = refl
+nothing_stored c left (Some name) rose files f = unstored c left name rose files files f refl
 
-pub stored_kept : (c : Command) (name bytes : List ℕ) (old mid new : Option (List File)) (before between now : ℕ) (o : Outcome) → mid ≡ old → before ≤ between → IsMadeBy c old bytes → IfErr o (StoreFails between now) → StoreKeeps name bytes mid new o → AreKept c (Some name) (Rose before now) old new o
-stored_kept c name bytes old mid new before between now o same le made fails kept = by o fails (subst (λ x. StoreKeeps name bytes x new o) same kept)
+pub stored_kept : (c : Command) (left : Option (List ℕ)) (name bytes : List ℕ) (old mid new : Option (List File)) (before between now : ℕ) (o : Outcome) → mid ≡ old → before ≤ between → IsMadeBy c left old bytes → IfErr o (StoreFails between now) → StoreKeeps name bytes mid new o → AreKept c left (Some name) (Rose before now) old new o
+stored_kept c left name bytes old mid new before between now o same le made fails kept = by o fails (subst (λ x. StoreKeeps name bytes x new o) same kept)
   where
-    by : (o : Outcome) → IfErr o (StoreFails between now) → StoreKeeps name bytes old new o → AreKept c (Some name) (Rose before now) old new o
+    by : (o : Outcome) → IfErr o (StoreFails between now) → StoreKeeps name bytes old new o → AreKept c left (Some name) (Rose before now) old new o
     by (Ok text) fails k = record { others = k.0; bytes = bytes; there = k.1; made = made }
     by (Err (F.Fault O.Folder)) fails k = inr (rose_later before between now le fails.1, record { others = k; bytes = bytes; made = made })
     by (Err (F.Fault O.Input)) fails k = k

@@ -294,16 +294,16 @@ last_status out out' err err' (Ok text) s A d h e = h
 last_status out out' err err' (Err f) s A d h e = absurd (failure_last err err' f s d.1 e)
 
 -- the files after a command, by its status
-pub files_after : (out out' err err' : Seen) (c : Command) (stored : Option (List ℕ)) (rose : Type 0) (old new : Option (List File)) (o : Outcome) (s : ℕ) → Delivered out out' err err' o s → AreKept c stored rose old new o → AreAfter c stored rose out out' old new s
-files_after out out' err err' c None rose old new o s d h = h
-files_after out out' err err' c (Some name) rose old new (Ok text) s (inl d) h = inl (h, inl d.0)
-files_after out out' err err' c (Some name) rose old new (Ok text) s (inr d) h = inl (h, inr (d.0, d.1))
-files_after out out' err err' c (Some name) rose old new (Err (F.Fault O.Folder)) s d (inl same) = inr (d.0, inl (failure_last err err' (F.Fault O.Folder) s d.1, same))
-files_after out out' err err' c (Some name) rose old new (Err (F.Fault O.Folder)) s d (inr h) = inr (d.0, inr (d.1.0, h.0, h.1))
-files_after out out' err err' c (Some name) rose old new (Err (F.Fault O.Input)) s d h = inr (d.0, inl (failure_last err err' (F.Fault O.Input) s d.1, h))
-files_after out out' err err' c (Some name) rose old new (Err (F.Fault O.Out)) s d h = inr (d.0, inl (failure_last err err' (F.Fault O.Out) s d.1, h))
-files_after out out' err err' c (Some name) rose old new (Err (F.Fault O.Err)) s d h = inr (d.0, inl (failure_last err err' (F.Fault O.Err) s d.1, h))
-files_after out out' err err' c (Some name) rose old new (Err f) s d h = inr (d.0, inl (failure_last err err' f s d.1, h))
+pub files_after : (out out' err err' : Seen) (c : Command) (left stored : Option (List ℕ)) (rose : Type 0) (old new : Option (List File)) (o : Outcome) (s : ℕ) → Delivered out out' err err' o s → AreKept c left stored rose old new o → AreAfter c left stored rose out out' old new s
+files_after out out' err err' c left None rose old new o s d h = h
+files_after out out' err err' c left (Some name) rose old new (Ok text) s (inl d) h = inl (h, inl d.0)
+files_after out out' err err' c left (Some name) rose old new (Ok text) s (inr d) h = inl (h, inr (d.0, d.1))
+files_after out out' err err' c left (Some name) rose old new (Err (F.Fault O.Folder)) s d (inl same) = inr (d.0, inl (failure_last err err' (F.Fault O.Folder) s d.1, same))
+files_after out out' err err' c left (Some name) rose old new (Err (F.Fault O.Folder)) s d (inr h) = inr (d.0, inr (d.1.0, h.0, h.1))
+files_after out out' err err' c left (Some name) rose old new (Err (F.Fault O.Input)) s d h = inr (d.0, inl (failure_last err err' (F.Fault O.Input) s d.1, h))
+files_after out out' err err' c left (Some name) rose old new (Err (F.Fault O.Out)) s d h = inr (d.0, inl (failure_last err err' (F.Fault O.Out) s d.1, h))
+files_after out out' err err' c left (Some name) rose old new (Err (F.Fault O.Err)) s d h = inr (d.0, inl (failure_last err err' (F.Fault O.Err) s d.1, h))
+files_after out out' err err' c left (Some name) rose old new (Err f) s d h = inr (d.0, inl (failure_last err err' f s d.1, h))
 
 -- the words come before the input of `trace`
 source_trace : (o : Outcome) → IsBeforeSource o → IsBeforeTrace o

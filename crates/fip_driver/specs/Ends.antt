@@ -7,7 +7,7 @@
 -- the source where it breaks a rule, and else with a line for each root; and `eval list.fip3 rev` with what the source
 -- means, once the input is read. `audit list.fip3 list.proof` fetches the proof file once the types and the matches of
 -- the source are right; `audit list.fip3 list.fip3` judges the source's own bytes, which are no derivation's text.
-use Rattle.std.specs.Prelude.{◌≡◌, ℕ, ◌<◌, ◌≤◌, false, List, length, Option, Some, None, Result, Ok, Err}
+use Rattle.std.specs.Prelude.{◌≡◌, ℕ, ◌<◌, ◌≤◌, true, false, List, length, Option, Some, None, Result, Ok, Err}
 use Rattle.std.specs.Io.KnownBytes.{Appends}
 use Rattle.fip_language.specs.declared.limits.TheConstants.{MOST_SOURCE_BYTES, MOST_FILE_BYTES}
 use Rattle.fip_language.specs.declared.rule.Rule.TheVariants.{E61, E70, E74}
@@ -31,7 +31,7 @@ use Rattle.fip_commands.specs.Generated.{IsTreeSource, build, IsTreeText}
 use Rattle.fip_commands.specs.Replayed.{IsReplayed}
 use Rattle.fip_library.specs.Texts.{IsText}
 use Rattle.loaded_runs.specs.TraceReading.{IsBadTrace}
-use Rattle.run_command.specs.CodeRun as R
+use Rattle.run_command.specs.CodeRun.{RunsCode}
 use Rattle.run_command.specs.ExecAnswer.{Execs}
 use Rattle.source_commands.specs.Derived.{IsDerivedFile, IsUnderived}
 use Rattle.source_commands.specs.Judged.{IsEarlyReport, IsProofOf, IsRejectedOf}
@@ -47,8 +47,8 @@ End = Result (List ℕ) Failure
 -- ---- what is said of a source of which all rules are asked
 
 -- The command ends so on this source: it is refused; or it has what is wanted, and `check` lists its roots, the input
--- has too many bytes, or `eval` tells what the source means on the input; or `derive` has made its derivation, or the
--- text of this has too many bytes.
+-- has too many bytes, or `eval` tells what the source means on the input, as `exec` does without the gauge; or `derive`
+-- has made its derivation, or the text of this has too many bytes.
 pub data SaysOf (source input : List ℕ) (c : Command) (w : Wanted) : End → Type 0 where
   Refused : (r : _) → Refuses source w r → SaysOf source input c w (Err (F.Refused r))
   Listed : (file text : List ℕ) → c ≡ Check file → IsListing source text → SaysOf source input c w (Ok text)
@@ -56,6 +56,8 @@ pub data SaysOf (source input : List ℕ) (c : Command) (w : Wanted) : End → T
       SaysOf source input c w (Err (F.BadInput MOST_FILE_BYTES))
   Evaluated : (file entry : List ℕ) (calls frames : ℕ) (e : End) → c ≡ Eval file entry calls frames →
       length input ≤ MOST_FILE_BYTES → Evaluates source entry input calls frames e → SaysOf source input c w e
+  Executed : (r : Request) (e : End) → c ≡ Exec r → r.gauge ≡ false → IsReady source w →
+      length input ≤ MOST_FILE_BYTES → Execs source r.entry input r.room false e → SaysOf source input c w e
   Derived : (file out bytes : List ℕ) → c ≡ Derive file out → IsDerivedFile source bytes →
       SaysOf source input c w (Ok derived_text)
   Underived : (file out : List ℕ) → c ≡ Derive file out → IsUnderived source →
@@ -82,11 +84,11 @@ abbrev pub IsCompileEnd : List ℕ → End → Type 0
 IsCompileEnd source (Ok text) = IsListing source text
 IsCompileEnd source (Err failure) = IsUncompiled source × (failure ≡ F.Refused (bare E61))
 
--- How a command may end on a source that has what is wanted. `exec` ends with what the source means, and behind it the
--- gauge of a run of its code, where that is asked for.
+-- How a command may end on a source that has what is wanted. With the gauge `exec` ends with what the source means, and
+-- behind it the gauge of a run of its code.
 abbrev pub MayEnd : Command → (source input : List ℕ) → End → Type 0
 MayEnd (Compile file out) source input e = IsCompileEnd source e
-MayEnd (Exec r) source input e = Execs source r.entry input r.room r.gauge e
+MayEnd (Exec r) source input e = (r.gauge ≡ true) × Execs source r.entry input r.room true e
 MayEnd (Trace file entry out room) source input e = TracesTo source entry input room e
 MayEnd (Session file room) source input e = IsSessionEnd e
 MayEnd (Tasks file seed turns room) source input e = IsTasksEnd e
@@ -123,7 +125,7 @@ AsksCode c = ⊥
 
 -- The command ends so on these bytes: they are no code file, or its code isn't sound; or it is, and its functions are
 -- listed, or no file of the second version that isn't too long spells it, or no function has the entry's name, or the
--- input has too many bytes.
+-- input has too many bytes, or it is told what the function's run comes to.
 pub data SaysOfCode (bytes input : List ℕ) (c : Command) : End → Type 0 where
   CodeRefused : (failure : Failure) → AsksCode c → RefusesCode bytes failure → SaysOfCode bytes input c (Err failure)
   CodeListed : (file text : List ℕ) → c ≡ Verify file → IsCodeListing bytes text → SaysOfCode bytes input c (Ok text)
@@ -136,18 +138,8 @@ pub data SaysOfCode (bytes input : List ℕ) (c : Command) : End → Type 0 wher
       SaysOfCode bytes input c (Err (F.Refused (of_entry E70 r.entry)))
   LongRun : (r : Request) → c ≡ Run r → HasFunction bytes r.entry → MOST_FILE_BYTES < length input →
       SaysOfCode bytes input c (Err (F.BadInput MOST_FILE_BYTES))
-
--- A function of a code file is run.
-pub record RunsCode (bytes input : List ℕ) (c : Command) : Type 0 where
-  pub request : Request
-  pub is : c ≡ Run request
-  pub function : HasFunction bytes request.entry
-  pub short : length input ≤ MOST_FILE_BYTES
-
--- `run` ends with what its run comes to.
-abbrev pub MayEndOnCode : Command → (bytes input : List ℕ) → End → Type 0
-MayEndOnCode (Run r) bytes input e = R.RunsCode bytes r.entry input r.room r.gauge e
-MayEndOnCode c bytes input e = ⊥
+  CodeRan : (r : Request) (e : End) → c ≡ Run r → length input ≤ MOST_FILE_BYTES →
+      RunsCode bytes r.entry input r.room r.gauge e → SaysOfCode bytes input c e
 
 -- ---- what is said of `audit`
 
@@ -223,24 +215,23 @@ IsGenEnd count (Err failure) = IsOfRun failure
 abbrev pub IsUnsaidOn : Command → Type 0
 IsUnsaidOn (Check file) = ⊥
 IsUnsaidOn (Eval file entry calls frames) = ⊥
+IsUnsaidOn (Exec r) = r.gauge ≡ true
 IsUnsaidOn (Derive file out) = ⊥
 IsUnsaidOn c = Unit {0}
 
--- The command may end so. It is never `check`, `eval`, `derive`, `audit` or `replay`, whose ends are all said.
+-- The command may end so. It is never `check`, `eval`, `run`, `derive`, `audit` or `replay`, whose ends are all said;
+-- nor `exec` without the gauge, but where its code were told as unsound.
 pub data Comes (spelling : Spelling) (files : List File) (input : List ℕ) (c : Command) : End → Type 0 where
-  MayOnSource : (w : Wanted) (source : List ℕ) (e : End) → IsUnsaidOn c → Checks spelling files c w source →
+  MayOnSource : (w : Wanted) (source : List ℕ) (e : End) → Checks spelling files c w source →
       ComesOf source input c w e → Comes spelling files input c e
-  MayOnCode : (bytes : List ℕ) (e : End) → IsThere files c bytes → RunsCode bytes input c →
-      MayEndOnCode c bytes input e → Comes spelling files input c e
   MayOfGen : (seed count : ℕ) (source : List ℕ) (e : End) → c ≡ Gen seed count → IsTreeSource source →
       IsReady source build → IsGenEnd count e → Comes spelling files input c e
 
--- The answer isn't said: the source has what a command other than `check`, `eval` and `derive` wants, a function of a
--- code file is run, or it is `gen` whose text is right.
+-- The answer isn't said: the source has what a command wants, which is none of `check`, `eval`, `derive` and `exec`
+-- without the gauge; or it is `gen` whose text is right.
 pub data IsOpen (spelling : Spelling) (files : List File) (input : List ℕ) (c : Command) : Type 0 where
   OpenSource : (w : Wanted) (source : List ℕ) → Checks spelling files c w source → IsReady source w → IsTaken c input →
       IsUnsaidOn c → IsOpen spelling files input c
-  OpenCode : (bytes : List ℕ) → IsThere files c bytes → RunsCode bytes input c → IsOpen spelling files input c
   OpenGen : (seed count : ℕ) (source : List ℕ) → c ≡ Gen seed count → IsTreeSource source → IsReady source build →
       IsOpen spelling files input c
 

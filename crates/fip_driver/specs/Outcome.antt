@@ -9,8 +9,7 @@ use Rattle.source_commands.specs.Wanted.{Wanted}
 use Rattle.source_commands.specs.declared.files.Compiled.{Compiled}
 use Rattle.fip_driver.specs.Answered.{IsTold, Explained, IsRequest}
 use Rattle.fip_driver.specs.Commands.{ReadsInput, CallsNoFolder}
-use Rattle.fip_driver.specs.Ends.{End, SaysOf, ComesOf, SaysOfCode, SaysOfAudit, RunsCode}
-use Rattle.fip_driver.specs.Ends.{MayEndOnCode, Says, Comes}
+use Rattle.fip_driver.specs.Ends.{End, SaysOf, ComesOf, SaysOfCode, SaysOfAudit, Says, Comes}
 use Rattle.fip_driver.specs.Spelling.{Spelling, source_spelling}
 use Rattle.command_outcome.specs.declared.failure.Failure.{Failure}
 use Rattle.command_outcome.specs.declared.failure.Failure.TheVariants as F
@@ -73,8 +72,7 @@ SourceOutcome c w source left folder_rose input_rose e =
 -- What a command comes to on a code file.
 abbrev pub CodeOutcome : Command → List ℕ → Option (List ℕ) → Type 0 → Type 0 → End → Type 0
 CodeOutcome c bytes left folder_rose input_rose e =
-    (input : List ℕ) × IsTold left input × (IsFault c folder_rose input_rose e
-    ⊎ (SaysOfCode bytes input c e ⊎ (RunsCode bytes input c × MayEndOnCode c bytes input e)))
+    (input : List ℕ) × IsTold left input × (IsFault c folder_rose input_rose e ⊎ SaysOfCode bytes input c e)
 
 -- What a command comes to on files: it is said, or may come.
 abbrev pub Closes : Spelling → List File → List ℕ → Command → Type 0 → Type 0 → End → Type 0

@@ -18,6 +18,7 @@ use Rattle.source_commands.specs.Wanted.{Compiled, IsReady}
 use Rattle.loaded_runs.specs.TraceText as T
 use Rattle.loaded_runs.specs.TraceText.{trace_text}
 use Rattle.trace_command.specs.TraceAnswer.{IsTraceOf, IsLong}
+use Rattle.fip_driver.specs.Answered.{IsTold}
 use Rattle.fip_driver.specs.Commands.{ReadsInput, CallsNoFolder}
 use Rattle.fip_driver.specs.Delivered.{Seen}
 
@@ -76,44 +77,48 @@ HadFolder words o = (c : Command) × IsCommand words c × (CallsNoFolder c → �
 abbrev pub LeavesInput : List (List ℕ) → Type 0
 LeavesInput words = (c : Command) × IsCommand words c × (ReadsInput c → ⊥)
 
--- On some input the entry of the source has a run with this file of its trace.
-abbrev pub IsTraceFile : (source name : List ℕ) → Room → List ℕ → Type 0
-IsTraceFile source name room bytes = (input : List ℕ) × (t : T.Trace) × IsTraceOf source name input room t
-    × (IsLong t → ⊥) × (bytes ≡ trace_text t)
+-- On the input, or on some input where it told nothing, the entry of the source has a run with this file of its trace.
+abbrev pub IsTraceFile : (source name : List ℕ) → Room → Option (List ℕ) → List ℕ → Type 0
+IsTraceFile source name room left bytes = (input : List ℕ) × IsTold left input × (t : T.Trace)
+    × IsTraceOf source name input room t × (IsLong t → ⊥) × (bytes ≡ trace_text t)
 
--- What is stored, by the files before: its file is there and has what is wanted. `compile` stores the file of a code of
--- its source, `upgrade` that of the second version of the code that it fetched, `derive` the text of the derivation
--- that is made for its source, and `trace` the file of the trace of a run of its source's code.
-abbrev pub IsMadeBy : Command → Option (List File) → List ℕ → Type 0
-IsMadeBy (Compile file out) files bytes =
+-- What is stored, by the files before, and by what the input told: the command's file is there and has what is wanted.
+-- `compile` stores the file of a code of its source, `upgrade` that of the second version of the code that it fetched,
+-- `derive` the text of the derivation that is made for its source, and `trace` the file of the trace of a run of its
+-- source's code on the input.
+abbrev pub IsMadeBy : Command → Option (List ℕ) → Option (List File) → List ℕ → Type 0
+IsMadeBy (Compile file out) left files bytes =
     (source : List ℕ) × HoldsFile files file source × IsCompiledFile source bytes
-IsMadeBy (Upgrade file out) files bytes = (code : List ℕ) × HoldsFile files file code × IsUpgraded code bytes
-IsMadeBy (Derive file out) files bytes =
+IsMadeBy (Upgrade file out) left files bytes = (code : List ℕ) × HoldsFile files file code × IsUpgraded code bytes
+IsMadeBy (Derive file out) left files bytes =
     (source : List ℕ) × HoldsFile files file source × IsDerivedFile source bytes
-IsMadeBy (Trace file entry out room) files bytes = (source : List ℕ) × HoldsFile files file source
-    × IsReady source (Compiled entry) × IsTraceFile source entry room bytes
-IsMadeBy c files bytes = Unit {0}
+IsMadeBy (Trace file entry out room) left files bytes = (source : List ℕ) × HoldsFile files file source
+    × IsReady source (Compiled entry) × IsTraceFile source entry room left bytes
+IsMadeBy c left files bytes = Unit {0}
 
 -- The command's file is stored under this name; each other file is as it was.
-pub record IsStored (c : Command) (name : List ℕ) (old new : Option (List File)) : Type 0 where
+pub record IsStored (c : Command) (left : Option (List ℕ)) (name : List ℕ) (old new : Option (List File)) : Type 0 where
   pub others : KeepsOthers old new name
   pub bytes : List ℕ
   pub there : HoldsFile new name bytes
-  pub made : IsMadeBy c old bytes
+  pub made : IsMadeBy c left old bytes
 
 -- The command's file was made, and storing it failed: what this name has isn't known; each other file is as it was.
-pub record IsUnstored (c : Command) (name : List ℕ) (old new : Option (List File)) : Type 0 where
-  pub others : KeepsOthers old new name
-  pub bytes : List ℕ
-  pub made : IsMadeBy c old bytes
+pub record IsUnstored (c : Command) (left : Option (List ℕ)) (name : List ℕ) (old new : Option (List File)) : Type 0
+  where
+    pub others : KeepsOthers old new name
+    pub bytes : List ℕ
+    pub made : IsMadeBy c left old bytes
 
 -- The files after a command that stores under this name, or under none. A fault of the folder is one of fetching, and
 -- then all files are as they were; or, where its count rose, one of storing.
-abbrev pub AreKept : Command → Option (List ℕ) → Type 0 → Option (List File) → Option (List File) → Outcome → Type 0
-AreKept c None rose old new o = new ≡ old
-AreKept c (Some name) rose old new (Ok text) = IsStored c name old new
-AreKept c (Some name) rose old new (Err (F.Fault O.Folder)) = (new ≡ old) ⊎ (rose × IsUnstored c name old new)
-AreKept c (Some name) rose old new (Err failure) = new ≡ old
+abbrev pub AreKept : Command → Option (List ℕ) → Option (List ℕ) → Type 0 → Option (List File) → Option (List File) →
+    Outcome → Type 0
+AreKept c left None rose old new o = new ≡ old
+AreKept c left (Some name) rose old new (Ok text) = IsStored c left name old new
+AreKept c left (Some name) rose old new (Err (F.Fault O.Folder)) =
+    (new ≡ old) ⊎ (rose × IsUnstored c left name old new)
+AreKept c left (Some name) rose old new (Err failure) = new ≡ old
 
 -- ---- by the status
 
@@ -138,9 +143,9 @@ HasCalled words s = (c : Command) × IsCommand words c × (CallsNoFolder c → �
 -- out failed behind that. Else nothing was written to out, and all files are as they were; but at 9, where the file was
 -- made and the folder failed to store it, no more is said than that each other file is. So `compile missing.fp o`
 -- leaves o, and `compile rev.fp o` stores it, also where out fails.
-abbrev pub AreAfter : Command → Option (List ℕ) → Type 0 → Seen → Seen → Option (List File) → Option (List File) → ℕ →
-    Type 0
-AreAfter c None rose out out' old new s = new ≡ old
-AreAfter c (Some name) rose out out' old new s =
-    (IsStored c name old new × ((s ≡ 0) ⊎ ((s ≡ 9) × Rose out.faults out'.faults)))
-    ⊎ ((out' ≡ out) × (((s ≡ 0 → ⊥) × (new ≡ old)) ⊎ ((s ≡ 9) × rose × IsUnstored c name old new)))
+abbrev pub AreAfter : Command → Option (List ℕ) → Option (List ℕ) → Type 0 → Seen → Seen → Option (List File) →
+    Option (List File) → ℕ → Type 0
+AreAfter c left None rose out out' old new s = new ≡ old
+AreAfter c left (Some name) rose out out' old new s =
+    (IsStored c left name old new × ((s ≡ 0) ⊎ ((s ≡ 9) × Rose out.faults out'.faults)))
+    ⊎ ((out' ≡ out) × (((s ≡ 0 → ⊥) × (new ≡ old)) ⊎ ((s ≡ 9) × rose × IsUnstored c left name old new)))

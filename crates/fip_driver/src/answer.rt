@@ -34,7 +34,7 @@ pub fn answer<F: Folder, S: Source>(
     ensures waits { WaitsOr (input.new ≡ input.old) (command_of command.now) (F.files folder.old) }
     ensures uncalled { CallsNoFolder (command_of command.now) → folder.new ≡ folder.old }
     ensures unfetched { IsBeforeSource result → folder.new ≡ folder.old }
-    ensures files { AreKept (command_of command.now) (stored_name (command_of command.now))
+    ensures files { AreKept (command_of command.now) (S.left input.old) (stored_name (command_of command.now))
         (Rose (F.faults folder.old) (F.faults folder.new)) (F.files folder.old) (F.files folder.new) result }
     ensures counted { IsCounted (F.files folder.old) (Rose (F.faults folder.old) (F.faults folder.new)) result }
 {

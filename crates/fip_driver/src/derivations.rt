@@ -26,7 +26,7 @@ pub fn derive<F: Folder>(
 ) -> Result<Vec<u8>, Failure>
     ensures outcome { (left : Option (List ℕ)) → FileOutcome (W.Derive file.now out.now) (F.files folder.old) left
         (Rose (F.faults folder.old) (F.faults folder.new)) ⊥ (end_of result) }
-    ensures kept { AreKept (W.Derive file.now out.now) (Some out.now)
+    ensures kept { (left : Option (List ℕ)) → AreKept (W.Derive file.now out.now) left (Some out.now)
         (Rose (F.faults folder.old) (F.faults folder.new)) (F.files folder.old) (F.files folder.new) result }
     ensures counted { IsCounted (F.files folder.old) (Rose (F.faults folder.old) (F.faults folder.new)) result }
     ensures understood { IsBeforeSource result → ⊥ }

@@ -35,8 +35,8 @@ fn outcome<F: Folder, S: Source>(
     ensures unread { (input.new ≡ input.old) ⊎ HadInput (map string_bytes words.now) (F.files folder.old) result }
     ensures unfetched { (folder.new ≡ folder.old) ⊎ HadFolder (map string_bytes words.now) result }
     ensures files { (c : Command) → IsCommand (map string_bytes words.now) c →
-        AreKept c (stored_name c) (Rose (F.faults folder.old) (F.faults folder.new)) (F.files folder.old)
-        (F.files folder.new) result }
+        AreKept c (S.left input.old) (stored_name c) (Rose (F.faults folder.old) (F.faults folder.new))
+        (F.files folder.old) (F.files folder.new) result }
     ensures counted { IsCounted (F.files folder.old) (Rose (F.faults folder.old) (F.faults folder.new)) result }
 {
     match read_words(alloc, words) {
@@ -71,7 +71,7 @@ pub fn fp2<F: Folder, S: Source, O: Sink, E: Sink>(
     // No file changes but the one under the name that the words ask to store. It is stored at status 0, and at 9 where
     // out failed behind that. Else it is as it was, but at 9 where the folder failed to store it.
     ensures files { (c : Command) → IsCommand (map string_bytes words.now) c →
-        AreAfter c (stored_name c) (Rose (F.faults folder.old) (F.faults folder.new))
+        AreAfter c (S.left input.old) (stored_name c) (Rose (F.faults folder.old) (F.faults folder.new))
         (seen (O.written out.old) (O.faults out.old)) (seen (O.written out.new) (O.faults out.new))
         (F.files folder.old) (F.files folder.new) result.0 }
     // Where no count of faults rose, and the folder and the input tell what they hold: the whole answer is the written

@@ -33,7 +33,7 @@ fn traced<S: Source>(
         ReadOutcome (λ bytes. TracesTo source name bytes (room_of room)) (S.left input.old)
         (Rose (S.faults input.old) (S.faults input.new)) (compiled_end result) }
     ensures made { (source name : List ℕ) → IsReady source (compiled_entry name) → IsEntryOf source name ready →
-        IfOk result (λ c. IsTraceFile source name (room_of room) c.file.items) }
+        IfOk result (λ c. IsTraceFile source name (room_of room) (S.left input.old) c.file.items) }
     ensures read { OnOk result (IsAtEnd (S.left input.new)) }
     ensures fails { IfErr result IsLateFailure }
 {
@@ -62,7 +62,7 @@ pub fn trace<F: Folder, S: Source>(
     ensures before { IsBeforeTrace result → input.new ≡ input.old }
     ensures waits { WaitsOr (input.new ≡ input.old) (W.Trace file.now entry.now out.now (room_of room))
         (F.files folder.old) }
-    ensures kept { AreKept (W.Trace file.now entry.now out.now (room_of room)) (Some out.now)
+    ensures kept { AreKept (W.Trace file.now entry.now out.now (room_of room)) (S.left input.old) (Some out.now)
         (Rose (F.faults folder.old) (F.faults folder.new)) (F.files folder.old) (F.files folder.new) result }
     ensures counted { IsCounted (F.files folder.old) (Rose (F.faults folder.old) (F.faults folder.new)) result }
     ensures understood { IsBeforeSource result → ⊥ }

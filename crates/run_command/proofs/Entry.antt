@@ -34,13 +34,13 @@ use Rattle.run_command.proofs.Bounded.{one_of_name}
 
 -- ---- the root of a name
 
-record IsRootAt (name : List ℕ) (ds : List Instance) (d : Instance) : Type 0 where
+pub record IsRootAt (name : List ℕ) (ds : List Instance) (d : Instance) : Type 0 where
   pub place : ℕ
   pub there : slice_get ds place ≡ Some d
   pub root : d.root ≡ true
   pub named : d.name ≡ name
 
-root_at : (name : List ℕ) (ds : List Instance) (d : Instance) → root_named name ds ≡ Some d → IsRootAt name ds d
+pub root_at : (name : List ℕ) (ds : List Instance) (d : Instance) → root_named name ds ≡ Some d → IsRootAt name ds d
 root_at name [] d e = absurd (none-some d e)
 root_at name (x ∷ ds) d e = by x.root (bytes_eq x.name name) refl refl (root_at name ds d) e
   where
@@ -70,7 +70,7 @@ header_behind Fip h g hs m e = (suc m, e)
 header_behind Fbip h g hs m e = (suc m, e)
 header_behind Fun h g hs m e = (m, e)
 
-header_at : (ms : List Member) (i : ℕ) (ds : List Instance) (place : ℕ) (d : Instance) → slice_get ds place ≡ Some d → (d.kind ≡ Fun → ⊥) → (m : ℕ) × (k : ℕ) × (slice_get (headers_from ms i ds) m ≡ Some (header_of k d))
+pub header_at : (ms : List Member) (i : ℕ) (ds : List Instance) (place : ℕ) (d : Instance) → slice_get ds place ≡ Some d → (d.kind ≡ Fun → ⊥) → (m : ℕ) × (k : ℕ) × (slice_get (headers_from ms i ds) m ≡ Some (header_of k d))
 header_at ms i [] place d e some = absurd (none-some d e)
 header_at ms i (x ∷ ds) zero d e some =
     let same : x ≡ d = same_Some x d e in

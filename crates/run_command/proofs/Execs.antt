@@ -152,6 +152,7 @@ module _ (source name input : List ℕ) (r : Chosen) (ready : IsReady source (Co
     function = f;
     there = there;
     named = header.named;
+    some = λ e. let none = ap length (header.named ∙ e) in let one = header.some in absurd (omega (arith, none, one));
     held = held;
     stack = stack;
   }

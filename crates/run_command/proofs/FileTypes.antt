@@ -7,7 +7,7 @@ use Rattle.fip_language.specs.SoundTable.{AreTypes, IsSoundTable}
 use Rattle.fip_language.specs.Table.{Shape, Table, shapes}
 use Rattle.cell_code.specs.declared.code.Code.{Code}
 use Rattle.code_file.specs.CodeText.{code_text, functions_text, table_text, type_text, shape_text, types_text, version_number}
-use Rattle.code_file.specs.Plain.{plain_code}
+use Rattle.code_file.specs.Plain.{PlainCode, plain_code}
 use Rattle.code_file.specs.Spelling.{◌+++◌, each, four, two, name_text, upper_name_text}
 use Rattle.sound_code.specs.Codes.{plain}
 use Rattle.sound_code.specs.Tables.{AreSoundTables, IsSoundType}
@@ -65,13 +65,13 @@ table_spelt tb t c x s e at =
     let q = each_piece type_text tb t (shapes tb t) p.0 p.1 (row_there tb t c x at) in
     type_spelt (shapes tb t) c x q.0 q.1 at
 
-file_spelt : (bytes : List ℕ) (code : Code) (t c : ℕ) (x : Shape) → IsSoundFile bytes (plain_code code) → slice_get (shapes code.types t) c ≡ Some x → is_upper_name x.name ≡ true
+pub file_spelt : (bytes : List ℕ) (code : PlainCode) (t c : ℕ) (x : Shape) → IsSoundFile bytes code → slice_get (shapes code.types t) c ≡ Some x → is_upper_name x.name ≡ true
 unfolding code_text
 file_spelt bytes code t c x file at =
     let version = file.spelt.0 in
-    let p = last_piece (Some (70 ∷ 80 ∷ 50 ∷ 67 ∷ [])) (Some (0 ∷ version_number version ∷ []) +++ (table_text code.types +++ functions_text version (plain_code code).functions)) bytes file.spelt.1 in
-    let q = last_piece (Some (0 ∷ version_number version ∷ [])) (table_text code.types +++ functions_text version (plain_code code).functions) p.0 p.1 in
-    let r = first_piece (table_text code.types) (functions_text version (plain_code code).functions) q.0 q.1 in
+    let p = last_piece (Some (70 ∷ 80 ∷ 50 ∷ 67 ∷ [])) (Some (0 ∷ version_number version ∷ []) +++ (table_text code.types +++ functions_text version code.functions)) bytes file.spelt.1 in
+    let q = last_piece (Some (0 ∷ version_number version ∷ [])) (table_text code.types +++ functions_text version code.functions) p.0 p.1 in
+    let r = first_piece (table_text code.types) (functions_text version code.functions) q.0 q.1 in
     table_spelt code.types t c x r.0 r.1 at
 
 -- ---- the table
@@ -85,7 +85,7 @@ file_table bytes code file tables =
     let sound : (t : ℕ) → t < length code.types → IsSoundType code.types (suc t) = λ t less. tables.types (suc t) (omega arith) (omega (arith, less)) in
     let of_row : (t c : ℕ) (x : Shape) → slice_get (shapes code.types t) c ≡ Some x → IsSoundType code.types (suc t) = λ t c x at. sound t (slice_get_within code.types t (shapes code.types t) (row_there code.types t c x at)) in
     record {
-      names = λ t c x at. file_spelt bytes code t c x file at;
+      names = λ t c x at. file_spelt bytes (plain_code code) t c x file at;
       unlike = λ t c d x y a b same. (of_row t c x a).apart c d x y a b same;
       known = λ t c x at. types_there code.types x.fields ((of_row t c x at).shapes c x at).typed;
       narrow = λ t c x at. ((of_row t c x at).shapes c x at).few;

@@ -1,7 +1,7 @@
 -- The gauge's lines, one behind another, and that they tell of the states of a run.
 use Rattle.std.proofs.Common.{◌≡◌, ◌∙◌, ◌≤◌, ◌+◌, ◌-◌, ◌++◌, ℕ, zero, suc, List, [], Option, refl, sym, ap, ap₂, append_assoc, append-nil, arith}
 use Rattle.std.specs.Prelude.{Result, Ok, Err, OnOk}
-use Rattle.fip_language.specs.Gauge.{Seen, lowest, highest}
+use Rattle.fip_language.specs.Gauge.{Seen, lowest, highest, highest_frames, highest_words}
 use Rattle.fip_base.specs.declared.plain.Stack.{Stack}
 use Rattle.command_outcome.specs.Texts.{cells_text}
 use Rattle.fip_machine.specs.declared.gauge.Gauge.{Gauge}
@@ -50,3 +50,11 @@ gauge_tells g ss bound t =
     let stack : stack_of g ≡ highest_stack ss = ap₂ made t.frames t.words in
     sizes_same (low_of g) (high_of g) (λ k. lowest k ss) (λ k. highest k ss) 16 (stack_lines (stack_of g) bound) (omega arith) t.lowest t.highest
     ∙ ap (λ s. size_lines (λ k. lowest k ss) (λ k. highest k ss) 16 (stack_lines s bound)) stack
+
+-- gauges of states that tell the same, number by number
+pub gauge_same : (ss us : List Seen) (bound : Option Stack) → ((k : ℕ) → 1 ≤ k → k ≤ 16 → lowest k ss ≡ lowest k us) → ((k : ℕ) → 1 ≤ k → k ≤ 16 → highest k ss ≡ highest k us) → highest_frames ss ≡ highest_frames us → highest_words ss ≡ highest_words us → gauge_by_states ss bound ≡ gauge_by_states us bound
+gauge_same ss us bound lows highs frames words =
+    let made : (f w : ℕ) → Stack = λ f w. record { frames = f; words = w } in
+    let stack : highest_stack ss ≡ highest_stack us = ap₂ made frames words in
+    sizes_same (λ k. lowest k ss) (λ k. highest k ss) (λ k. lowest k us) (λ k. highest k us) 16 (stack_lines (highest_stack ss) bound) (omega arith) lows highs
+    ∙ ap (λ s. size_lines (λ k. lowest k us) (λ k. highest k us) 16 (stack_lines s bound)) stack

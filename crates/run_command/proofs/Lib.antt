@@ -13,3 +13,6 @@ pub mod RunsCode
 pub mod Execs
 pub mod FileTypes
 pub mod Leaving
+pub mod RunTables
+pub mod CodeOnce
+pub mod ExecOnce

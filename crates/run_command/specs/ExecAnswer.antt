@@ -14,7 +14,8 @@
 -- With `rev` on Cons(1, Cons(2, Cons(3, Nil))) and Nil and the gauge, these are four lines: the reversed list, `cells
 -- of 2: 3 to 3`, `stack: 0 frames, 9 words` and `bound: 0 frames, 9 words`. With 8 words the store is too small, since
 -- 9 are needed; and with 3 calls it is out of calls.
-use Rattle.std.specs.Prelude.{◌≡◌, ◌≢◌, ◌<◌, ◌≤◌, ℕ, Bool, List, ◌++◌, Option, Some, None, Result, Ok, Err}
+use Rattle.std.specs.Prelude.{◌≡◌, ◌≢◌, ◌<◌, ◌≤◌, ℕ, Bool, List, [], ◌++◌, Option, Some, None}
+use Rattle.std.specs.Prelude.{Result, Ok, Err}
 use Rattle.fip_language.specs.declared.FunKind.TheVariants.{Fip}
 use Rattle.fip_language.specs.declared.limits.TheConstants.{MOST_FIELDS}
 use Rattle.fip_language.specs.Gauge.{Seen, lowest, highest}
@@ -48,7 +49,8 @@ TellsRun types results calls frames behind Out e = e ≡ Err (F.OutOfCalls calls
 TellsRun types results calls frames behind Deep e = e ≡ Err (F.OutOfFrames frames)
 TellsRun types results calls frames behind Stuck e = ⊥
 
--- the code of a source, its function of the entry's name, and what runs of this hold of the stack at the most
+-- the code of a source, its function of the entry's name, which isn't empty, and what runs of this hold of the stack at
+-- the most
 pub record Coded (source name : List ℕ) : Type 0 where
   pub code : PlainCode
   pub of' : IsCodeOfSource source code
@@ -56,6 +58,7 @@ pub record Coded (source name : List ℕ) : Type 0 where
   pub function : PlainFunction
   pub there : function_at (sound_view code) number ≡ Some function
   pub named : function.name ≡ name
+  pub some : name ≡ [] → ⊥
   pub held : Option Stack
   pub stack : HasStack (sound_view code) number held
 

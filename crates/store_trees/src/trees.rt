@@ -1,5 +1,7 @@
 // The cells of the trees that words stand for.
-ghost use Rattle.std.specs.Prelude.{◌≡◌};
+ghost use Rattle.std.specs.Prelude.{◌≡◌, map};
+ghost use Rattle.cell_store.specs.Cells.{cell_at};
+ghost use Rattle.store_trees.specs.GivenUp.{given_up, all_given_up};
 
 use cell_store::{Cells, Sealed};
 use fip_base::plain::NoMemory;
@@ -127,7 +129,12 @@ impl Trees {
     }
 
     /// Releases the cells of their roots, but those that are released.
-    pub fn release(&self, cells: &mut Sealed) {
+    pub fn release(&self, cells: &mut Sealed)
+        ensures cells { cells.new.cells ≡ cells.old.cells }
+        ensures released { cells.new.released
+            ≡ all_given_up cells.old.cells (map (λ t. t.place) self.now.list.items) cells.old.released }
+        ensures pushed { cells.new.pushed ≡ cells.old.pushed }
+    {
         for tree in &self.list {
             release(cells, tree.place);
         }
@@ -137,6 +144,8 @@ impl Trees {
 /// Releases the cell at a place, where one begins there that isn't released.
 pub fn release(cells: &mut Sealed, place: u32)
     ensures cells { cells.new.cells ≡ cells.old.cells }
+    ensures released { cells.new.released ≡ given_up (cell_at cells.old.cells place) place cells.old.released }
+    ensures pushed { cells.new.pushed ≡ cells.old.pushed }
 {
     if cells.begins(place) && !cells.is_released(place) {
         cells.release(place);

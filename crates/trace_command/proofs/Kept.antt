@@ -1,5 +1,5 @@
 -- From what a machine says of its traced run to what `trace` comes to on a source.
-use Rattle.std.proofs.Common.{◌≡◌, ◌≢◌, ◌∙◌, ℕ, false, List, [], Option, Some, None, option_map, refl, sym, ap, subst}
+use Rattle.std.proofs.Common.{◌≡◌, ◌≢◌, ◌∙◌, ◌<◌, ℕ, false, List, [], length, Option, Some, None, option_map, refl, sym, ap, subst, arith}
 use Rattle.std.specs.Prelude.{Result, Ok, Err}
 use Rattle.std.proofs.lemmas.Option.{none-some, same_Some, slice_get-map}
 use Rattle.std.proofs.lemmas.List.{append-nil}
@@ -85,6 +85,7 @@ module _ (source name input : List ℕ) (r : Chosen) (ready : IsReady source (Co
     function = st.function;
     there = subst (λ (c : PlainCode). function_at c r.entry ≡ Some st.function) (sym (view_same r.checked.code)) st.there;
     named = name_is;
+    some = λ e. let none = ap length e in let one = (h.named).some in absurd (omega (arith, none, one));
     held = held;
     stack = subst (λ (c : PlainCode). HasStack c r.entry held) (sym (view_same r.checked.code)) st.has_frames.stack;
   }

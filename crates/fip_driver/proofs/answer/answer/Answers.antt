@@ -1,7 +1,9 @@
-use Rattle.std.proofs.Common.{sym, subst}
+use Rattle.std.proofs.Common.{◌≡◌, sym, subst}
 use Rattle.fip_base.specs.Faults.{Rose}
 use Rattle.command_line.specs.View.{command_of}
+use Rattle.fip_driver.specs.Commands.{stored_name}
 use Rattle.fip_driver.specs.Outcome.{CommandOutcome}
+use Rattle.fip_driver.specs.Unread.{AreKept, WaitsOr}
 use Rattle.command_line.specs.Words.{IsCommand, IsTextName}
 use Rattle.fip_driver.proofs.SourceEnds.{file_outcome, audit_outcome, library_ends, gen_ends}
 use Rattle.fip_driver.proofs.answer.answer.Goals as goal
@@ -91,3 +93,17 @@ returns-in-Gen-clause-outcome g c =
     let fr = Rose (g.F.Folder.faults c.args.folder.now) (g.F.Folder.faults c.args.folder.now) in
     let ir = Rose (g.S.Source.faults c.args.input.now) (g.S.Source.faults c.args.input.now) in
     subst (λ x. CommandOutcome (command_of x) (g.F.Folder.files c.args.folder.now) (g.S.Source.left c.args.input.now) fr ir c.generate.result) (sym c.in-Gen.is) (file_outcome _ (g.F.Folder.files c.args.folder.now) (g.S.Source.left c.args.input.now) fr ⊥ ir c.generate.result (λ r. absurd r) (gen_ends _ _ (g.F.Folder.files c.args.folder.now) (g.S.Source.left c.args.input.now) fr ⊥ c.generate.result c.generate.ensures.lines c.generate.ensures.ready c.generate.ensures.kept))
+
+-- ---- what is stored, whatever the input told
+
+pub returns-in-Compile-clause-files : goal.returns-in-Compile-clause-files
+returns-in-Compile-clause-files g c = subst (λ x. AreKept (command_of x) (g.S.Source.left c.args.input.now) (stored_name (command_of x)) (Rose (g.F.Folder.faults c.args.folder.now) (g.F.Folder.faults c.compile.new.folder)) (g.F.Folder.files c.args.folder.now) (g.F.Folder.files c.compile.new.folder) c.compile.result) (sym c.in-Compile.is) (c.compile.ensures.kept (g.S.Source.left c.args.input.now))
+
+pub returns-in-Upgrade-clause-files : goal.returns-in-Upgrade-clause-files
+returns-in-Upgrade-clause-files g c = subst (λ x. AreKept (command_of x) (g.S.Source.left c.args.input.now) (stored_name (command_of x)) (Rose (g.F.Folder.faults c.args.folder.now) (g.F.Folder.faults c.upgrade.new.folder)) (g.F.Folder.files c.args.folder.now) (g.F.Folder.files c.upgrade.new.folder) c.upgrade.result) (sym c.in-Upgrade.is) (c.upgrade.ensures.kept (g.S.Source.left c.args.input.now))
+
+pub returns-in-Derive-clause-files : goal.returns-in-Derive-clause-files
+returns-in-Derive-clause-files g c = subst (λ x. AreKept (command_of x) (g.S.Source.left c.args.input.now) (stored_name (command_of x)) (Rose (g.F.Folder.faults c.args.folder.now) (g.F.Folder.faults c.derive.new.folder)) (g.F.Folder.files c.args.folder.now) (g.F.Folder.files c.derive.new.folder) c.derive.result) (sym c.in-Derive.is) (c.derive.ensures.kept (g.S.Source.left c.args.input.now))
+
+pub returns-in-Trace-clause-waits : goal.returns-in-Trace-clause-waits
+returns-in-Trace-clause-waits g c = subst (λ x. WaitsOr (c.trace.new.input ≡ c.args.input.now) (command_of x) (g.F.Folder.files c.args.folder.now)) (sym c.in-Trace.is) c.trace.ensures.waits

@@ -18,19 +18,19 @@ pub returns-clause-outcome : goal.returns-clause-outcome
 returns-clause-outcome g c = λ left. fetch_ends (W.Derive c.args.file.now c.args.out.now) Lawful c.args.file.now (g.F.Folder.files c.args.folder.now) left _ _ _ c.in-Err.failure tt refl refl (λ r. r) c.in-Err.ensures.fails
 
 pub returns-in-Ok-derive-clause-kept : goal.returns-in-Ok-derive-clause-kept
-returns-in-Ok-derive-clause-kept g c = stored_kept (W.Derive c.args.file.now c.args.out.now) c.args.out.now c.in-Ok-derive.derived.file.items (g.F.Folder.files c.args.folder.now) _ _ _ _ _ c.store.result c.in-Ok.ensures.same c.in-Ok.ensures.later (c.in-Ok.bytes.items, c.in-Ok.ensures.found, subst (λ xs. IsDerivedFile xs c.in-Ok-derive.derived.file.items) c.as_slice.ensures.value c.in-Ok-derive.ensures.stored) c.store.ensures.fails c.store.ensures.kept
+returns-in-Ok-derive-clause-kept g c = λ left. stored_kept (W.Derive c.args.file.now c.args.out.now) left c.args.out.now c.in-Ok-derive.derived.file.items (g.F.Folder.files c.args.folder.now) _ _ _ _ _ c.store.result c.in-Ok.ensures.same c.in-Ok.ensures.later (c.in-Ok.bytes.items, c.in-Ok.ensures.found, subst (λ xs. IsDerivedFile xs c.in-Ok-derive.derived.file.items) c.as_slice.ensures.value c.in-Ok-derive.ensures.stored) c.store.ensures.fails c.store.ensures.kept
 
 pub returns-in-Ok-derive-clause-counted : goal.returns-in-Ok-derive-clause-counted
 returns-in-Ok-derive-clause-counted g c = stored_counted (g.F.Folder.files c.args.folder.now) _ _ _ c.store.result c.in-Ok.ensures.later c.store.ensures.fails
 
 pub returns-in-Ok-clause-kept : goal.returns-in-Ok-clause-kept
-returns-in-Ok-clause-kept g c = unstored (W.Derive c.args.file.now c.args.out.now) c.args.out.now _ (g.F.Folder.files c.args.folder.now) _ c.in-Err-derive.failure c.in-Ok.ensures.same
+returns-in-Ok-clause-kept g c = λ left. unstored (W.Derive c.args.file.now c.args.out.now) left c.args.out.now _ (g.F.Folder.files c.args.folder.now) _ c.in-Err-derive.failure c.in-Ok.ensures.same
 
 pub returns-in-Ok-clause-counted : goal.returns-in-Ok-clause-counted
 returns-in-Ok-clause-counted g c = source_counted (g.F.Folder.files c.args.folder.now) _ c.in-Err-derive.failure c.in-Err-derive.ensures.stage
 
 pub returns-clause-kept : goal.returns-clause-kept
-returns-clause-kept g c = unstored (W.Derive c.args.file.now c.args.out.now) c.args.out.now _ (g.F.Folder.files c.args.folder.now) _ c.in-Err.failure c.in-Err.ensures.same
+returns-clause-kept g c = λ left. unstored (W.Derive c.args.file.now c.args.out.now) left c.args.out.now _ (g.F.Folder.files c.args.folder.now) _ c.in-Err.failure c.in-Err.ensures.same
 
 pub returns-clause-counted : goal.returns-clause-counted
 returns-clause-counted g c = fetch_counted (g.F.Folder.files c.args.folder.now) c.args.file.now _ _ c.in-Err.failure c.in-Err.ensures.fails

@@ -20,7 +20,7 @@ pub returns-in-Ok-clause-unfetched : goal.returns-in-Ok-clause-unfetched
 returns-in-Ok-clause-unfetched g c = folder_turn (map string_bytes c.args.words.now) (command_of c.in-Ok.command) c.in-Ok.ensures.ok c.answer.result _ c.answer.ensures.uncalled c.answer.ensures.unfetched
 
 pub returns-in-Ok-clause-files : goal.returns-in-Ok-clause-files
-returns-in-Ok-clause-files g c = λ d asked. subst (λ x. AreKept x (stored_name x) (Rose (g.F.Folder.faults c.args.folder.now) (g.F.Folder.faults c.answer.new.folder)) (g.F.Folder.files c.args.folder.now) (g.F.Folder.files c.answer.new.folder) c.answer.result) (command_once (map string_bytes c.args.words.now) (command_of c.in-Ok.command) d c.in-Ok.ensures.ok asked) c.answer.ensures.files
+returns-in-Ok-clause-files g c = λ d asked. subst (λ x. AreKept x (g.S.Source.left c.args.input.now) (stored_name x) (Rose (g.F.Folder.faults c.args.folder.now) (g.F.Folder.faults c.answer.new.folder)) (g.F.Folder.files c.args.folder.now) (g.F.Folder.files c.answer.new.folder) c.answer.result) (command_once (map string_bytes c.args.words.now) (command_of c.in-Ok.command) d c.in-Ok.ensures.ok asked) c.answer.ensures.files
 
 pub returns-in-Err-NotUnderstood-clause-outcome : goal.returns-in-Err-NotUnderstood-clause-outcome
 returns-in-Err-NotUnderstood-clause-outcome g c = no_command_outcome (map string_bytes c.args.words.now) (g.F.Folder.files c.args.folder.now) (g.S.Source.left c.args.input.now) (Unit {0}) (Unit {0}) (c.in-Err-NotUnderstood.ensures.not_understood (ap Err c.in-Err-NotUnderstood.field-0-is))
@@ -29,7 +29,7 @@ pub returns-in-Err-NoMemory-clause-outcome : goal.returns-in-Err-NoMemory-clause
 returns-in-Err-NoMemory-clause-outcome g c = no_memory_outcome (map string_bytes c.args.words.now) (g.F.Folder.files c.args.folder.now) (g.S.Source.left c.args.input.now) (Unit {0}) (Unit {0})
 
 pub returns-in-Err-NotUnderstood-clause-files : goal.returns-in-Err-NotUnderstood-clause-files
-returns-in-Err-NotUnderstood-clause-files g c = λ d asked. nothing_stored d (stored_name d) _ (g.F.Folder.files c.args.folder.now) F.NotUnderstood
+returns-in-Err-NotUnderstood-clause-files g c = λ d asked. nothing_stored d (g.S.Source.left c.args.input.now) (stored_name d) _ (g.F.Folder.files c.args.folder.now) F.NotUnderstood
 
 pub returns-in-Err-NoMemory-clause-files : goal.returns-in-Err-NoMemory-clause-files
-returns-in-Err-NoMemory-clause-files g c = λ d asked. nothing_stored d (stored_name d) _ (g.F.Folder.files c.args.folder.now) F.NoMemory
+returns-in-Err-NoMemory-clause-files g c = λ d asked. nothing_stored d (g.S.Source.left c.args.input.now) (stored_name d) _ (g.F.Folder.files c.args.folder.now) F.NoMemory

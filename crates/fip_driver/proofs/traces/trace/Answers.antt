@@ -27,7 +27,7 @@ pub returns-in-Ok-traced-clause-before : goal.returns-in-Ok-traced-clause-before
 returns-in-Ok-traced-clause-before g c = λ b. absurd (stored_after_input _ _ c.store.result c.store.ensures.fails b)
 
 pub returns-in-Ok-traced-clause-kept : goal.returns-in-Ok-traced-clause-kept
-returns-in-Ok-traced-clause-kept g c = stored_kept (W.Trace c.args.file.now c.args.entry.now c.args.out.now (room_of c.args.room)) c.args.out.now c.in-Ok-traced.compiled.file.items (g.F.Folder.files c.args.folder.now) _ _ _ _ _ c.store.result c.in-Ok.ensures.same c.in-Ok.ensures.later (c.in-Ok.source.items, c.in-Ok.ensures.found, subst (λ xs. IsReady xs (Compiled c.args.entry.now)) c.as_slice.ensures.value c.in-Ok-exec_entry.ensures.ready, subst (λ xs. IsTraceFile xs c.args.entry.now (room_of c.args.room) c.in-Ok-traced.compiled.file.items) c.as_slice.ensures.value (c.in-Ok-traced.ensures.made c.as_slice.result.now c.args.entry.now c.in-Ok-exec_entry.ensures.ready c.in-Ok-exec_entry.ensures.code)) c.store.ensures.fails c.store.ensures.kept
+returns-in-Ok-traced-clause-kept g c = stored_kept (W.Trace c.args.file.now c.args.entry.now c.args.out.now (room_of c.args.room)) (g.S.Source.left c.args.input.now) c.args.out.now c.in-Ok-traced.compiled.file.items (g.F.Folder.files c.args.folder.now) _ _ _ _ _ c.store.result c.in-Ok.ensures.same c.in-Ok.ensures.later (c.in-Ok.source.items, c.in-Ok.ensures.found, subst (λ xs. IsReady xs (Compiled c.args.entry.now)) c.as_slice.ensures.value c.in-Ok-exec_entry.ensures.ready, subst (λ xs. IsTraceFile xs c.args.entry.now (room_of c.args.room) (g.S.Source.left c.args.input.now) c.in-Ok-traced.compiled.file.items) c.as_slice.ensures.value (c.in-Ok-traced.ensures.made c.as_slice.result.now c.args.entry.now c.in-Ok-exec_entry.ensures.ready c.in-Ok-exec_entry.ensures.code)) c.store.ensures.fails c.store.ensures.kept
 
 pub returns-in-Ok-traced-clause-counted : goal.returns-in-Ok-traced-clause-counted
 returns-in-Ok-traced-clause-counted g c = stored_counted (g.F.Folder.files c.args.folder.now) _ _ _ c.store.result c.in-Ok.ensures.later c.store.ensures.fails
@@ -36,19 +36,19 @@ pub returns-in-Ok-exec_entry-clause-before : goal.returns-in-Ok-exec_entry-claus
 returns-in-Ok-exec_entry-clause-before g c = λ b. absurd (late_after_input c.in-Err-traced.failure c.in-Err-traced.ensures.fails b)
 
 pub returns-in-Ok-exec_entry-clause-kept : goal.returns-in-Ok-exec_entry-clause-kept
-returns-in-Ok-exec_entry-clause-kept g c = unstored (W.Trace c.args.file.now c.args.entry.now c.args.out.now (room_of c.args.room)) c.args.out.now _ (g.F.Folder.files c.args.folder.now) _ c.in-Err-traced.failure c.in-Ok.ensures.same
+returns-in-Ok-exec_entry-clause-kept g c = unstored (W.Trace c.args.file.now c.args.entry.now c.args.out.now (room_of c.args.room)) (g.S.Source.left c.args.input.now) c.args.out.now _ (g.F.Folder.files c.args.folder.now) _ c.in-Err-traced.failure c.in-Ok.ensures.same
 
 pub returns-in-Ok-exec_entry-clause-counted : goal.returns-in-Ok-exec_entry-clause-counted
 returns-in-Ok-exec_entry-clause-counted g c = late_failure_counted (g.F.Folder.files c.args.folder.now) _ c.in-Err-traced.failure c.in-Err-traced.ensures.fails
 
 pub returns-in-Ok-clause-kept : goal.returns-in-Ok-clause-kept
-returns-in-Ok-clause-kept g c = unstored (W.Trace c.args.file.now c.args.entry.now c.args.out.now (room_of c.args.room)) c.args.out.now _ (g.F.Folder.files c.args.folder.now) _ c.in-Err-exec_entry.failure c.in-Ok.ensures.same
+returns-in-Ok-clause-kept g c = unstored (W.Trace c.args.file.now c.args.entry.now c.args.out.now (room_of c.args.room)) (g.S.Source.left c.args.input.now) c.args.out.now _ (g.F.Folder.files c.args.folder.now) _ c.in-Err-exec_entry.failure c.in-Ok.ensures.same
 
 pub returns-in-Ok-clause-counted : goal.returns-in-Ok-clause-counted
 returns-in-Ok-clause-counted g c = source_counted (g.F.Folder.files c.args.folder.now) _ c.in-Err-exec_entry.failure c.in-Err-exec_entry.ensures.stage
 
 pub returns-clause-kept : goal.returns-clause-kept
-returns-clause-kept g c = unstored (W.Trace c.args.file.now c.args.entry.now c.args.out.now (room_of c.args.room)) c.args.out.now _ (g.F.Folder.files c.args.folder.now) _ c.in-Err.failure c.in-Err.ensures.same
+returns-clause-kept g c = unstored (W.Trace c.args.file.now c.args.entry.now c.args.out.now (room_of c.args.room)) (g.S.Source.left c.args.input.now) c.args.out.now _ (g.F.Folder.files c.args.folder.now) _ c.in-Err.failure c.in-Err.ensures.same
 
 pub returns-clause-counted : goal.returns-clause-counted
 returns-clause-counted g c = fetch_counted (g.F.Folder.files c.args.folder.now) c.args.file.now _ _ c.in-Err.failure c.in-Err.ensures.fails

@@ -21,4 +21,5 @@ pub returns-in-Ok-clause-made : goal.returns-in-Ok-clause-made
 returns-in-Ok-clause-made g c = λ source name ready entry.
     let within = subst (λ (xs : List ℕ). length xs ≤ MOST_FILE_BYTES) (sym c.as_slice.ensures.value) c.in-Ok.ensures.within in
     let allowed : IsAllowed c.args.room = record { frames = c.requires.frames; words = c.requires.words } in
-    trace_made source name c.as_slice.result.now (room_of c.args.room) c.trace.result (c.trace.ensures.traces source name ready entry allowed within)
+    let traces = subst (λ (xs : List ℕ). KeptOrNoMemory (Traces source name xs (room_of c.args.room)) c.trace.result) c.as_slice.ensures.value (c.trace.ensures.traces source name ready entry allowed within) in
+    trace_made source name (room_of c.args.room) (g.S.Source.left c.args.input.now) _ c.in-Ok.bytes.items c.trace.result c.in-Ok.ensures.all c.in-Ok.ensures.end traces

@@ -65,8 +65,17 @@ def scalar_kind(ty):
     return b"\3" + u16(ty)
 
 
-def lent_kind(ty, constructors):
-    return b"\2" + u16(ty) + u16(len(constructors)) + b"".join(map(u32, constructors)) + u16(NONE) + u16(NONE) + b"\0"
+def tree_kind(mark, ty, constructors):
+    return bytes([mark]) + u16(ty) + u16(len(constructors)) + b"".join(map(u32, constructors))
+
+
+def owned_kind(ty, constructors):
+    return tree_kind(1, ty, constructors)
+
+
+def lent_kind(ty, constructors, root=NONE, source=NONE):
+    """A tree in that of a register, and the register of which it is field 0; or neither."""
+    return tree_kind(2, ty, constructors) + u16(root) + u16(source) + b"\0"
 
 
 def const(register, value=0):
@@ -193,6 +202,41 @@ def heirs(room, depth=2000):
     return code_file(types, [function([(OWNED, top)], REGISTERS, body + [drop(0), const(0), ret(0)])])
 
 
+def reversed_heirs(room, depth=3000):
+    """The same with a label map before each turn, in which each register came from the one behind it."""
+    types = [INT_CELL] + [cell(ty) for ty in range(2, depth + 3)]
+    top = len(types) + 1
+    chain = [0, *range(depth, 0, -1)]
+    pairs = list(zip(chain, chain[1:]))
+    turn = [peek(below, register) for register, below in pairs]
+    turn += [take(register, [below]) for register, below in pairs]
+    turn += [put(register, top - place, [below]) for place, (register, below) in reversed(list(enumerate(pairs)))]
+    kinds = [owned_kind(top, [0])]
+    kinds += [
+        lent_kind(top - chain.index(register), [0], 0, (register + 1) % (depth + 1)) for register in range(1, depth + 1)
+    ]
+    size = sum(map(len, turn)) + sum(map(len, kinds)) + 4
+    turns = how_many(room - sum(map(len, types)), size)
+    labels = [(number * len(turn) + depth, kinds) for number in range(turns)]
+    body = turn * turns + [drop(0), const(0), ret(0)]
+    return code_file(types, [function([(OWNED, top)], depth + 1, body, labels)])
+
+
+def changing_heirs(room, depth=4000):
+    """A chain of cells is taken apart once, where the lowest was read again and again before, by a register that read
+    the one above it between."""
+    types = [INT_CELL] + [cell(ty) for ty in range(2, depth + 4)]
+    top = len(types) + 1
+    lowest, keeper, other = depth, depth + 1, depth + 2
+    start = [peek(place + 1, place) for place in range(depth)] + [peek(keeper, lowest)]
+    takes = [take(place, [place + 1]) for place in range(depth)]
+    puts = [put(place, top - place, [place + 1]) for place in reversed(range(depth))]
+    end = takes + puts + [drop(0), const(0), ret(0)]
+    room -= sum(map(len, types)) + sum(map(len, end))
+    body = fill(start, room, lambda n: [peek(other, lowest), peek(other, lowest - 1)])
+    return code_file(types, [function([(OWNED, top)], REGISTERS, body + end)])
+
+
 def repeated_tests(room, known, asked, count):
     """A value that may have some of so many constructors is tested again and again, for a label that asks others."""
     table = enumeration(count)
@@ -264,7 +308,20 @@ def changes(room, labels=2000):
 
 SHAPES = {
     shape.__name__: shape
-    for shape in (moves, takes, wide_takes, heirs, same_sets, other_sets, many_maps, jumps, full_jumps, changes)
+    for shape in (
+        moves,
+        takes,
+        wide_takes,
+        heirs,
+        reversed_heirs,
+        changing_heirs,
+        same_sets,
+        other_sets,
+        many_maps,
+        jumps,
+        full_jumps,
+        changes,
+    )
 }
 
 

@@ -24,24 +24,6 @@ pub enum RuleName {
     Weaken,
 }
 
-impl RuleName {
-    /// Its name in a text.
-    pub fn text(self) -> &'static [u8] {
-        match self {
-            RuleName::Variable => b"VAR",
-            RuleName::Scalar => b"SCALAR",
-            RuleName::Tuple => b"TUPLE",
-            RuleName::Atom => b"ATOM",
-            RuleName::Reuse => b"REUSE",
-            RuleName::Let => b"LET",
-            RuleName::Call => b"CALL",
-            RuleName::Match => b"MATCH",
-            RuleName::TakingMatch => b"MATCH!",
-            RuleName::Weaken => b"WEAKEN",
-        }
-    }
-}
-
 /// Credits of one size.
 #[derive(Clone, Copy, Debug, PartialEq, Eq)]
 pub struct Credit {
@@ -146,19 +128,6 @@ impl Builder {
         ensures depth { result ≡ length self.now.open.items }
     {
         self.open.len()
-    }
-
-    /// How many nodes there are.
-    pub fn len(&self) -> usize {
-        self.nodes.len()
-    }
-
-    /// The owned variables of a node; none where there are fewer nodes.
-    pub fn variables_at(&self, place: usize) -> &[u32] {
-        match self.nodes.get(place) {
-            Some(node) => node.variables.as_slice(),
-            None => &[],
-        }
     }
 
     /// One more part of the innermost open node, or the root. It is open.

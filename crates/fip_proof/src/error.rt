@@ -1,5 +1,4 @@
 // Why a proof file isn't accepted.
-use proof_text::ProofError;
 use thiserror::Error;
 
 /// Why a proof file isn't accepted.
@@ -15,13 +14,4 @@ pub enum AuditError {
     /// No memory was left.
     #[error("no memory is left")]
     NoMemory,
-}
-
-impl From<ProofError> for AuditError {
-    fn from(error: ProofError) -> AuditError {
-        match error {
-            ProofError::BadProof { at } => AuditError::BadProof { at },
-            ProofError::NoMemory => AuditError::NoMemory,
-        }
-    }
 }

@@ -1,7 +1,9 @@
 // A program with its proof file: what is made for one, and how one is judged.
-ghost use Rattle.std.specs.Prelude.{◌≡◌, ◌<◌, ◌≤◌, List, length, IfOk, OnOk, Err};
+ghost use Rattle.std.specs.Prelude.{◌≡◌, ◌<◌, ◌≤◌, ℕ, List, length, IfOk, IfErr, OnOk, Err};
+ghost use Rattle.fip_language.specs.Prefix.{IsPlace};
+ghost use Rattle.fip_language.specs.declared.limits.TheConstants.{MOST_FILE_BYTES};
 ghost use Rattle.fip_trees.specs.TreeView as V;
-ghost use Rattle.derivation_trees.specs.Trees.{Entry};
+ghost use Rattle.derivation_trees.specs.Trees.{Entry, entries};
 ghost use Rattle.proof_check.specs.Accepted.{IsDerivation};
 ghost use Rattle.proof_text.specs.declared.error.TextError.TheVariants.{TooLong};
 ghost use Rattle.proof_text.specs.Limited.{Limited};
@@ -12,15 +14,17 @@ ghost use Rattle.derivation_spelling.specs.Limits.{KeepsLimits};
 ghost use Rattle.variable_uses.specs.Seen.{world_of};
 ghost use Rattle.fip_proof.specs.Ready.{IsReady};
 ghost use Rattle.fip_proof.specs.Lines.{IsLine};
+ghost use Rattle.fip_proof.specs.declared.error.AuditError.TheVariants.{BadProof, NotDerived};
 
 use crate::error::AuditError;
+use derivation_trees::Derivation;
 use derivation_walk::{LineError, is_ruled, line_of};
 use fip_language::limits::MOST_FILE_BYTES;
 use fip_trees::needs::{Need, Needs};
 use fip_trees::program::{Instance, Typed};
 use fip_trees::scalars::Scalars;
 use proof_check::check;
-use proof_text::{Text, TextError, read_derivation};
+use proof_text::{ProofError, Text, TextError, read_derivation};
 use std::alloc::Global;
 use variable_uses::Context;
 
@@ -97,16 +101,39 @@ fn add_line(
 
 /// Judges a proof file of a typed program. BadProof: its bytes are no derivation's text, or more than 16,777,216.
 /// NotDerived: it is no derivation of the program. NoMemory: no memory is left.
-pub fn audit(alloc: Global, typed: &Typed, bytes: &[u8]) -> Result<(), AuditError> {
+pub fn audit(alloc: Global, typed: &Typed, bytes: &[u8]) -> Result<(), AuditError>
+    // What is accepted is the text of a derivation of the program.
+    ensures derived { OnOk result ((es : List Entry) × IsProofText bytes.now es
+        × IsDerivation (V.program typed.now.program) es) }
+    // A text of another derivation is none of the program.
+    ensures other { result ≡ Err NotDerived → (es : List Entry) × IsProofText bytes.now es
+        × (IsDerivation (V.program typed.now.program) es → ⊥) }
+    // Too many bytes are told by their most, ..
+    ensures long { MOST_FILE_BYTES < length bytes.now → result ≡ Err (BadProof MOST_FILE_BYTES) }
+    // .. and else the place is the least with which no text begins.
+    ensures place { (at : ℕ) → length bytes.now ≤ MOST_FILE_BYTES → result ≡ Err (BadProof at) →
+        IsPlace IsProofText bytes.now at }
+{
     if bytes.len() > MOST_FILE_BYTES {
         return Err(AuditError::BadProof {
             at: MOST_FILE_BYTES,
         });
     }
-    let derivation = read_derivation(alloc, bytes)?;
-    if check(typed, &derivation) {
-        Ok(())
-    } else {
-        Err(AuditError::NotDerived)
+    match read_derivation(alloc, bytes) {
+        Ok(derivation) => judge(typed, &derivation),
+        Err(ProofError::BadProof { at }) => Err(AuditError::BadProof { at }),
+        Err(ProofError::NoMemory) => Err(AuditError::NoMemory),
     }
+}
+
+// Whether a derivation is one of a program.
+fn judge(typed: &Typed, derivation: &Derivation) -> Result<(), AuditError>
+    ensures derived { OnOk result (IsDerivation (V.program typed.now.program) (entries derivation.now)) }
+    ensures other { IfErr result (λ e. (e ≡ NotDerived)
+        × (IsDerivation (V.program typed.now.program) (entries derivation.now) → ⊥)) }
+{
+    if check(typed, derivation) {
+        return Ok(());
+    }
+    Err(AuditError::NotDerived)
 }

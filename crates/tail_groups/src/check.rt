@@ -1,5 +1,5 @@
 // Groups of instances, the rule on calls within a group, and what instances hold of the stack.
-ghost use Rattle.std.specs.Prelude.{◌≡◌, IfOk, IfErr, None, get_or, map};
+ghost use Rattle.std.specs.Prelude.{◌≡◌, IfOk, IfErr, None, get_or, map, option_and_then, slice_get};
 ghost use Rattle.call_groups.specs.CallGraph.{rows};
 ghost use Rattle.fip_trees.specs.TreeView as V;
 ghost use Rattle.fip_trees.specs.declared.least.Violation.{Violation};
@@ -43,7 +43,9 @@ pub fn groups(alloc: Global, typed: &Typed) -> Result<Groups, PhaseError>
 }
 
 /// What a run of an instance holds of the stack at the most; none exactly for an instance that isn't fip.
-pub fn stack_of(groups: &Groups, f: usize) -> Option<Stack> {
+pub fn stack_of(groups: &Groups, f: usize) -> Option<Stack>
+    ensures held { result ≡ option_and_then (λ m. m.stack) (slice_get groups.now f) }
+{
     groups.stack_of(f)
 }
 

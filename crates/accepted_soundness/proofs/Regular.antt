@@ -23,12 +23,13 @@ use Rattle.fip_trees.specs.Tree.{Program}
 use Rattle.data_types.specs.Answers as Declaring
 use Rattle.data_types.specs.Declarations.{declared_names}
 use Rattle.data_types.specs.Faults.{broken, place_faults, mark_faults, credit_faults, function_faults, all_data_faults, all_function_faults, name_faults}
+use Rattle.reached_instances.specs.Binders.{binders_in_pattern, binders_in_patterns, binders_in_expression, binders_in_block, binders_in_clauses}
 use Rattle.reached_instances.specs.declared.closed.Head.TheVariants as H
 use Rattle.reached_instances.specs.Closed as Z
 use Rattle.reached_instances.specs.Closed.{Closed, Applied}
 use Rattle.reached_instances.specs.Source.{Source, Instance}
 use Rattle.reached_instances.specs.Uses.{result_types}
-use Rattle.static_params.specs.FlatProgram.{Numbers, flat_binder, flat_pattern, flat_patterns, flat_expression, flat_block, flat_clauses, flat_parameter, flat_type, credit_size, flat_instance, instance_if, instances_of, flat_program, binders_in_pattern, binders_in_patterns, binders_in_expression, binders_in_block, binders_in_clauses}
+use Rattle.static_params.specs.FlatProgram.{Numbers, flat_binder, flat_pattern, flat_patterns, flat_expression, flat_block, flat_clauses, flat_parameter, flat_type, credit_size, flat_instance, instance_if, instances_of, flat_program}
 use Rattle.static_params.specs.FlatSource.{flat_source}
 use Rattle.static_params.proofs.GoodTypes.{all_of_have}
 use Rattle.static_params.proofs.TableRows.{map_length}

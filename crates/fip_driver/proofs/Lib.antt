@@ -3,8 +3,8 @@ mod Telling
 mod SourceEnds
 mod CodeEnds
 mod OneCommand
-mod OneCode
-mod OneEnd
+pub mod OneCode
+pub mod OneEnd
 mod Explaining
 mod Running
 mod Entering

@@ -1,0 +1,15 @@
+-- The commands of which the program's clauses say just what the one relation on all commands says.
+--
+-- `eval` is one; `compile` is none, since its clauses say what it may come to.
+use Rattle.command_line.specs.Words.{Command, Check, Verify, Upgrade, Run, Eval, Audit, Replay, Library}
+
+abbrev pub IsWhole : Command → Type 0
+IsWhole (Check file) = Unit {0}
+IsWhole (Verify file) = Unit {0}
+IsWhole (Upgrade file out) = Unit {0}
+IsWhole (Run r) = Unit {0}
+IsWhole (Eval file entry calls frames) = Unit {0}
+IsWhole (Audit file proof) = Unit {0}
+IsWhole (Replay trace step) = Unit {0}
+IsWhole (Library name) = Unit {0}
+IsWhole c = ⊥

@@ -1,0 +1,26 @@
+// The laws on what the program's clauses say. Each is the contract of a function that does nothing.
+ghost use Rattle.std.specs.Prelude.{◌≡◌, ℕ, false, List};
+ghost use Rattle.fip_base.specs.Files.{File};
+ghost use Rattle.command_line.specs.Words.{Request, Command, Exec};
+ghost use Rattle.command_answers.specs.Answer.{ComesTo};
+ghost use Rattle.command_answers.specs.Outcomes.{Outcome};
+ghost use Rattle.fip_driver.specs.Ends.{End, Says};
+ghost use Rattle.fip_driver.specs.Spelling.{source_spelling};
+ghost use Rattle.said_answers.specs.Whole.{IsWhole};
+
+/// What `check`, `eval`, `verify`, `upgrade`, `run`, `audit`, `replay` and `library` come to by the one relation on all
+/// commands is what the program's clauses say of them; and what these say is the end of that outcome. For who reads
+/// either definition.
+pub fn what_is_said_is_written()
+    ensures said { (files : List File) (input : List ℕ) (c : Command) (o : Outcome) → IsWhole c →
+        ComesTo files input c o → Says source_spelling files input c o.end }
+    ensures is { (files : List File) (input : List ℕ) (c : Command) (e : End) (o : Outcome) → IsWhole c →
+        Says source_spelling files input c e → ComesTo files input c o → e ≡ o.end }
+{}
+
+/// So it is of `exec` without the gauge, where its source isn't a program of the loop form, which has a definition of
+/// its own: what the program's clauses say of it is the end of its outcome. For who runs a source.
+pub fn what_is_said_of_exec_is_written()
+    ensures law { (files : List File) (input : List ℕ) (r : Request) (e : End) (o : Outcome) → r.gauge ≡ false →
+        Says source_spelling files input (Exec r) e → ComesTo files input (Exec r) o → e ≡ o.end }
+{}

@@ -147,6 +147,8 @@ takes_more k m l n ns before rs qs a b = record {
   behind = b.behind ∙ ap (λ x. x ++ b.credits) a.behind ∙ sym (append_one before a.credit b.credits);
   taken = (a.taken.rest, a.taken.taken, subst (λ x. AreTaken x ns b.credits l) a.taken.known b.taken);
   kept = λ x. let y = b.kept (taken_accounted k m n a.credit a.taken x) in (y.0, last_on k.credits m.credits l.credits (taken_last k m n a.credit a.taken x) y.1);
+  names = b.names ∙ ap (λ (x : Known). x.names) a.taken.known;
+  next = b.next ∙ ap (λ (x : Known). x.next) a.taken.known;
 }
 
 pub takes_start : (k : Known) (ns before : List ℕ) → FollowCredits k ns before k ns before
@@ -163,7 +165,7 @@ takes_step k0 ns0 before0 k m ns before rs i n e f a = record {
 }
 
 pub takes_end : (k0 : Known) (ns0 before0 : List ℕ) (k : Known) (before : List ℕ) → FollowCredits k0 ns0 before0 k [] before → TakesAll k0 ns0 before0 before k
-takes_end k0 ns0 before0 k before f = f.by before k (record { credits = []; behind = sym (append_none before); taken = refl; kept = λ a. (a, last_same k.credits) })
+takes_end k0 ns0 before0 k before f = f.by before k (record { credits = []; behind = sym (append_none before); taken = refl; kept = λ a. (a, last_same k.credits); names = refl; next = refl })
 
 pub takes_one : (k m : Known) (n r : ℕ) (before rs : List ℕ) → Takes k n r m → rs ≡ before ++ r ∷ [] → TakesOne k n before rs m
 takes_one k m n r before rs t e = record { credit = r; behind = e; taken = t }

@@ -20,11 +20,12 @@ use Rattle.laid_code.specs.Describing.{held_at as holding_at, is_tree}
 use Rattle.laid_code.specs.Credits.{LastGone}
 use Rattle.laid_code.specs.GivenUp.{GivesUp, GivesOne}
 use Rattle.laid_code.specs.Handed.{GivenLaid, EndsCallLaid}
-use Rattle.lower_frame.specs.Credits.{Accounted, FewerTrees, NoBares, NoTrees, NoneBetween, is_bare, sized}
+use Rattle.lower_frame.specs.Registers.{HasRoom}
+use Rattle.lower_frame.specs.Credits.{is_credit, Accounted, FewerTrees, NoBares, NoTrees, NoneBetween, is_bare, sized}
 use Rattle.lower_frame.specs.Frames.{Takes}
-use Rattle.lower_frame.proofs.Accounts.{trees_same, trees_on, trees_set, trees_used, bare_accounted, used_accounted, used_all_accounted, taken_accounted, taken_less, taken_others, none_sized, no_credits, next_accounted, handed_accounted}
-use Rattle.cell_lower.specs.Laying.{GivesUpLaid, SpendsAll, SpendsPast, AllGone, AccountedAt, GivesLaid, OperatesLaid, EndsLaid, CallsLaid}
-use Rattle.cell_lower.specs.Writing.{Moves, TakesAll}
+use Rattle.lower_frame.proofs.Accounts.{last_same, all_solid_on, no_new_credit, not_of, put_accounted, received_accounted, set_itself, last_on, trees_same, trees_on, trees_set, trees_used, bare_accounted, used_accounted, used_all_accounted, taken_accounted, taken_less, taken_others, none_sized, no_credits, next_accounted, handed_accounted}
+use Rattle.cell_lower.specs.Laying.{IntoAt, ResultsIn, GivesUpLaid, SpendsAll, SpendsPast, AllGone, AccountedAt, GivesLaid, OperatesLaid, EndsLaid, CallsLaid}
+use Rattle.cell_lower.specs.Writing.{HandsOn, Moves, TakesAll}
 
 -- what registers hold
 
@@ -273,13 +274,14 @@ gives_laid_return fip k k1 k2 l v w1 w2 w rs e a bares b gone f = subst (GivesLa
         written = stands w2 (I.Ret rs) (size v) to g.instrs both.extends.grows h;
         one = one_longer w2 (I.Ret rs);
       };
+  into = tt;
 })
   where
     both : GivesUpLaid fip k1 v l w2
     both = laid_on fip k1 v k2 w1 l w2 (any_laid fip k1 v k2 w1 a) b
 
 pub gives_laid_into : (fip : Bool) (k l : Known) (v w : Written) (rs ds : List ℕ) → Moves k v rs ds l w → GivesLaid fip k v rs (Into ds) l w
-gives_laid_into fip k l v w rs ds m = record { maps = m.maps; by = λ a to f h. m.code to f.instrs h }
+gives_laid_into fip k l v w rs ds m = record { maps = m.maps; by = λ a to f h. m.code to f.instrs h; into = m.hands }
 
 pub ends_laid_tail : (s : Setting) (fip : Bool) (k k2 l : Known) (v w1 w2 w : Written) (f : ℕ) (rs results : List ℕ) → GivesUpLaid true k v k2 w1 → NoBares k.next k2.held → GivesUpLaid fip k2 w1 l w2 → AllGone fip k2 l → w ≡ added w2 (I.Tail f rs) → EndsLaid s fip k v f rs results Return l w
 ends_laid_tail s fip k k2 l v w1 w2 w f rs results a bares b gone e = subst (EndsLaid s fip k v f rs results Return l) (sym e) (record {
@@ -295,6 +297,7 @@ ends_laid_tail s fip k k2 l v w1 w2 w f rs results a bares b gone e = subst (End
         written = stands w2 (I.Tail f rs) (size v) to g.instrs both.extends.grows h;
         one = one_longer w2 (I.Tail f rs);
       };
+  into = tt;
 })
   where
     both : GivesUpLaid fip k v l w2
@@ -308,6 +311,7 @@ ends_laid_call s fip k l v w f rs results ds e g = subst (EndsLaid s fip k v f r
     one = one_longer v (I.Call f rs ds);
     known = g;
   };
+  into = (g, one_longer v (I.Call f rs ds));
 })
 
 -- operators and calls
@@ -316,8 +320,35 @@ accounted_at : (target : Target) (k : Known) (t d : ℕ) (l : Known) → GoesTo 
 accounted_at Return k t d l g a = subst Accounted (sym g.1) (next_accounted k (H.Scalar t) (λ n. refl) a)
 accounted_at (Into ds) k t d l g a = tt
 
-pub operates_laid : (fip : Bool) (k h l : Known) (v u w : Written) (o : Operator) (p : Place) (x y d : ℕ) (target : Target) → GoesTo target k (H.Scalar (result_type o)) d h → u ≡ added v (I.Arith d o x y p.line p.col) → Extends u w → GivesLaid fip h u (d ∷ []) target l w → OperatesLaid fip k v o p x y target l w
-operates_laid fip k h l v u w o p x y d target g e ex b = on (subst (λ z. Extends z w) e ex) (subst (λ z. GivesLaid fip h z (d ∷ []) target l w) e b)
+-- the registers of results of an operator
+operated : (target : Target) (k h l : Known) (v u w : Written) (t d : ℕ) → GoesTo target k (H.Scalar t) d h → HasRoom k h → size u ≡ suc (size v) → size u ≤ size w → IntoAt target (λ ds. HandsOn h u (d ∷ []) ds l w) → IntoAt target (λ ds. ResultsIn k v ds l w)
+operated Return k h l v u w t d g room e le x = tt
+operated (Into []) k h l v u w t d g room e le x = record {
+  names = x.names ∙ ap (λ (y : Known). y.names) g.1;
+  grows = let n = x.next in let m = ap (λ (y : Known). y.next) g.1 in omega (arith, n, m);
+  room = let n = x.next in omega (arith, n, room);
+  accounts = λ a s. (
+    x.accounts (subst Accounted (sym g.1) (next_accounted k (H.Scalar t) (λ n. refl) a)) tt,
+    subst (LastGone k.credits) (sym (x.credits ∙ ap (λ (y : Known). y.credits) g.1)) (last_same k.credits),
+  );
+  longer = omega (arith, e, le);
+}
+operated (Into (q ∷ ds)) k h l v u w t d g room e le x = record {
+  names = x.names ∙ ap (λ (y : Known). y.names) g.1;
+  grows = let n = x.next in let m = ap (λ (y : Known). y.next) g.1 in omega (arith, n, m);
+  room = let n = x.next in omega (arith, n, room);
+  accounts = λ a s.
+      let lt : q < h.next = (let m = ap (λ (y : Known). y.next) g.1 in let z = s.0 in omega (arith, m, z)) in
+      let free : is_credit (slice_get h.held q) ≡ false = subst (λ (y : Known). is_credit (slice_get y.held q) ≡ false) (sym g.1) (set_itself k.held q (H.Scalar t) refl) in (
+        x.accounts (subst Accounted (sym g.1) (put_accounted k q k.next (H.Scalar t) (omega arith) s.0 (λ m. not_of m (slice_get k.held q) s.1) (λ m. refl) a))
+            (omega (arith, lt, g.0), subst (λ z. is_credit (slice_get h.held z) ≡ false) (sym g.0) free, lt, free, tt),
+        subst (LastGone k.credits) (sym (x.credits ∙ ap (λ (y : Known). y.credits) g.1)) (last_same k.credits),
+      );
+  longer = omega (arith, e, le);
+}
+
+pub operates_laid : (fip : Bool) (k h l : Known) (v u w : Written) (o : Operator) (p : Place) (x y d : ℕ) (target : Target) → GoesTo target k (H.Scalar (result_type o)) d h → HasRoom k h → u ≡ added v (I.Arith d o x y p.line p.col) → Extends u w → GivesLaid fip h u (d ∷ []) target l w → OperatesLaid fip k v o p x y target l w
+operates_laid fip k h l v u w o p x y d target g room e ex b = on (subst (λ z. Extends z w) e ex) (subst (λ z. GivesLaid fip h z (d ∷ []) target l w) e b)
   where
     i : Instr
     i = I.Arith d o x y p.line p.col
@@ -325,15 +356,44 @@ operates_laid fip k h l v u w o p x y d target g e ex b = on (subst (λ z. Exten
     on : Extends (added v i) w → GivesLaid fip h (added v i) (d ∷ []) target l w → OperatesLaid fip k v o p x y target l w
     on later c = record {
       maps = c.maps;
-      by = λ a to f s. record {
-        destination = d;
-        holds = h;
-        written = stands v i (size v) to f.instrs (omega arith) (front (size v) (added v i) w to f.instrs later s);
-        goes = g;
-        given = subst (λ n. GivenLaid fip f n h (d ∷ []) target (size w) l) (one_longer v i)
-            (c.by (accounted_at target k (result_type o) d h g a) to f (back (size v) (size (added v i)) w to f.instrs (added_extends v i).grows s));
-      };
+      by = λ a to f s. (
+        record {
+          destination = d;
+          holds = h;
+          written = stands v i (size v) to f.instrs (omega arith) (front (size v) (added v i) w to f.instrs later s);
+          goes = g;
+          given = subst (λ n. GivenLaid fip f n h (d ∷ []) target (size w) l) (one_longer v i)
+              (c.by (accounted_at target k (result_type o) d h g a) to f (back (size v) (size (added v i)) w to f.instrs (added_extends v i).grows s));
+        },
+        room,
+      );
+      into = operated target k h l v (added v i) w (result_type o) d g room (one_longer v i) later.grows c.into;
     }
+
+at_end : (target : Target) (m : Known) → Accounted m → AccountedAt target m
+at_end Return m x = x
+at_end (Into ds) m x = tt
+
+-- the registers of results of a call
+called : (s : Setting) (target : Target) (k m1 m l : Known) (v w : Written) (d : Instance) (rs qs : List ℕ) → m1 ≡ using k (handed k.held d.params rs) → TakesAll m1 d.credits rs qs m → IntoAt target (λ ds. (l ≡ using m (received s m.held d.results ds)) × (size w ≡ suc (size v))) → IntoAt target (λ ds. ResultsIn k v ds l w)
+called s Return k m1 m l v w d rs qs e t x = tt
+called s (Into ds) k m1 m l v w d rs qs e t x = record {
+  names = ap (λ (y : Known). y.names) x.0 ∙ t.names ∙ ap (λ (y : Known). y.names) e;
+  grows = omega (arith, same);
+  room = omega (arith, same);
+  accounts = λ a solid.
+      let am1 : Accounted m1 = subst Accounted (sym e) (handed_accounted k d.params rs a) in
+      let one : LastGone k.credits m1.credits = subst (λ (y : Known). LastGone k.credits y.credits) (sym e) (last_same k.credits) in
+      let two = t.kept am1 in
+      let gone : LastGone k.credits m.credits = last_on k.credits m1.credits m.credits one two.1 in (
+        subst Accounted (sym x.0) (received_accounted s m d.results ds two.0 (all_solid_on k m ds (let n = t.next in let o = ap (λ (y : Known). y.next) e in omega (arith, n, o)) (λ r. no_new_credit k m r a two.0 gone) solid)),
+        subst (λ (y : Known). LastGone k.credits y.credits) (sym x.0) gone,
+      );
+  longer = let z = x.1 in omega (arith, z);
+}
+  where
+    same : l.next ≡ k.next
+    same = ap (λ (y : Known). y.next) x.0 ∙ t.next ∙ ap (λ (y : Known). y.next) e
 
 pub calls_laid : (s : Setting) (fip : Bool) (k m1 m l : Known) (v w : Written) (g f : ℕ) (d : Instance) (rs qs : List ℕ) (target : Target) → joined (slice_get s.functions g) ≡ Some f → slice_get s.instances g ≡ Some d → m1 ≡ using k (handed k.held d.params rs) → TakesAll m1 d.credits rs qs m → EndsLaid s fip m v f qs d.results target l w → CallsLaid s fip k v g rs target l w
 calls_laid s fip k m1 m l v w g f d rs qs target a b e t c = record {
@@ -350,12 +410,9 @@ calls_laid s fip k m1 m l v w g f d rs qs target a b e t c = record {
         there = b;
         taken = subst (λ y. AreTaken y d.credits t.credits m) e t.taken;
         last = subst (λ (y : Known). LastGone y.credits m.credits) e kept.1;
-        ends = subst (λ y. EndsCallLaid s fip x (size v) m f y d.results target (size w) l) t.behind (c.by (at_end target kept.0) to x h);
+        ends = subst (λ y. EndsCallLaid s fip x (size v) m f y d.results target (size w) l) t.behind (c.by (at_end target m kept.0) to x h);
       };
+  into = called s target k m1 m l v w d rs qs e t c.into;
 }
-  where
-    at_end : (target : Target) → Accounted m → AccountedAt target m
-    at_end Return x = x
-    at_end (Into ds) x = tt
 
 pub ruleset ending = (gives_laid_into)

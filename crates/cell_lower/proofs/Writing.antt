@@ -1,6 +1,7 @@
 -- What the lowering of arguments has written, and how values are handed on, a case at a time.
-use Rattle.std.proofs.Common.{◌≡◌, inl, inr, refl, sym, ap, ◌∙◌, subst, arith, ℕ, zero, suc, ◌+◌, ◌≤◌, ◌⊎◌, ℤ, Bool, true, false, List, [], ◌∷◌, ◌++◌, length, drop, Option, Some, None, slice_get, get_or}
+use Rattle.std.proofs.Common.{◌≡◌, inl, inr, refl, sym, ap, ◌∙◌, subst, arith, ℕ, zero, suc, ◌+◌, ◌≤◌, ◌⊎◌, ℤ, Bool, true, false, List, [], ◌∷◌, ◌++◌, length, drop, Option, Some, None, slice_get, slice_set, get_or}
 use Rattle.fip_language.specs.declared.Place.{Place}
+use Rattle.fip_language.specs.Table.{Table}
 use Rattle.fip_trees.specs.Tree.{Name, Argument, Variable, Literal, Constructor, Arguments, NoArguments, MoreArguments}
 use Rattle.fip_trees.specs.declared.program.Argument.{Argument as Tree}
 use Rattle.fip_trees.specs.declared.program.Argument.TheOpen as AO
@@ -17,14 +18,15 @@ use Rattle.lowered_code.specs.Values.{Setting, built, built_if, is_scalar}
 use Rattle.lowered_code.specs.Bodies.{Return, Into, moved, as_value, MovedAt, IsMove, IsThere}
 use Rattle.laid_code.specs.Credits.{LastGone}
 use Rattle.laid_code.specs.Moves.{MoveLaid, MovesLaid}
-use Rattle.lower_frame.specs.Credits.{is_credit_of}
+use Rattle.lower_frame.specs.Credits.{Accounted, AllSolid, is_credit, is_credit_of}
+use Rattle.laid_code.specs.Describing.{held_at, kind_of}
 use Rattle.lower_frame.specs.Frames.{Takes, TakesBare}
-use Rattle.lower_frame.proofs.Accounts.{next_accounted, reused_accounted, filled_accounted, last_same, last_on, taken_last}
+use Rattle.lower_frame.proofs.Accounts.{all_solid_on, already_used, credit_used, moved_accounted, no_new_credit, of_none, set_itself, next_accounted, reused_accounted, filled_accounted, last_same, last_on, taken_last}
 use Rattle.lower_frame.specs.Registers.{registers, HasRoom}
 use Rattle.cell_lower.specs.Growth.{Sheds}
 use Rattle.cell_lower.proofs.Shedding.{set_length, used_length, used_all_length, takes_length, bare_length, sheds_on, adds_shed, adds_none, adds_one, adds_on, adds_less}
 use Rattle.match_code.specs.Written.{Written, size, added, GivesUp}
-use Rattle.cell_lower.specs.Writing.{Kept, Computes, ComputesAll, Builds, Follow, Gives, Moves, MovesOne, MovesTo, FollowMoves}
+use Rattle.cell_lower.specs.Writing.{HandsOn, Movable, Named, Still, Kept, Computes, ComputesAll, Builds, Follow, Gives, Moves, MovesOne, MovesTo, FollowMoves}
 use Rattle.match_code.proofs.Placing.{same_extends, extends_on, added_extends, one_longer, front, back, stands, up_to, given_up}
 
 -- equal values may stand for one another
@@ -36,10 +38,14 @@ three P a b c d e f x y z h = subst (λ u. P u d f) (sym x) (subst (λ u. P a u 
 pub argument_literal : (i : ℤ) (p : Place) → argument (AV.Literal i p) ≡ Literal i p
 argument_literal i p = ap argument (sym (AV.rolls-Literal i p)) ∙ fold-roll-Argument Argument argument_step (AO.Literal i p)
 
+named_solid : (k : Known) (x : Option ℕ) (r : ℕ) → register_of k.names x ≡ Some r → Named k → AllSolid k (r ∷ [])
+named_solid k None r e named = absurd (cc)
+named_solid k (Some x) r e named = named x r e
+
 pub computes_variable : (s : Setting) (k l : Known) (v w : Written) (x : Option ℕ) (n : Name) (p : Place) (r : ℕ) → register_of k.names x ≡ Some r → l ≡ k → w ≡ v → Computes s k v (Variable x n p) r l w
 computes_variable s k l v w x n p r h e f =
     three (λ (u : ℕ) y z. Computes s k v (Variable x n p) r y z) 0 0 k l v w refl e f
-    (record { extends = same_extends v; code = λ to code h'. record { named = h; nothing = refl; known = refl }; maps = refl; as_many = refl; room = omega arith; kept = λ a. (a, last_same k.credits); few = adds_less 0 0 1 0 v v (omega arith) (omega arith) (adds_none v) })
+    (record { extends = same_extends v; code = λ to code h'. record { named = h; nothing = refl; known = refl }; maps = refl; as_many = refl; room = omega arith; kept = λ a. (a, last_same k.credits); names = refl; grows = omega arith; still = λ e tb q. refl; solid = λ a named. named_solid k x r h named; few = adds_less 0 0 1 0 v v (omega arith) (omega arith) (adds_none v) })
 
 pub computes_literal : (s : Setting) (k l : Known) (v w : Written) (i : ℤ) (p : Place) (r : ℕ) → r ≡ k.next → l ≡ with_next k (H.Scalar 0) → HasRoom k l → w ≡ added v (I.Const k.next i) → Computes s k v (Literal i p) r l w
 computes_literal s k l v w i p r e f room g =
@@ -56,6 +62,10 @@ computes_literal s k l v w i p r e f room g =
       as_many = set_length k.held k.next (H.Scalar 0);
       room = subst (HasRoom k) f room;
       kept = λ a. (next_accounted k (H.Scalar 0) (λ n. refl) a, last_same k.credits);
+      names = refl;
+      grows = omega arith;
+      still = λ same tb q. absurd (omega (arith, same, one_longer v (I.Const k.next i)));
+      solid = λ a named. (omega arith, set_itself k.held k.next (H.Scalar 0) refl, tt);
       few = adds_one v (I.Const k.next i);
     })
 
@@ -63,6 +73,15 @@ computes_literal s k l v w i p r e f room g =
 
 room_on : (k m l : Known) → registers m ≡ registers k → HasRoom k m → HasRoom m l → HasRoom k l
 room_on k m l e a b = omega (arith, e, a, b)
+
+still_on : (k m l : Known) (v w z : Written) → size v ≤ size w → size w ≤ size z → (size w ≡ size v → Still k m) → (size z ≡ size w → Still m l) → size z ≡ size v → Still k l
+still_on k m l v w z a b f g e tb q = g (omega (arith, a, b, e)) tb q ∙ f (omega (arith, a, b, e)) tb q
+
+pub solid_on : (k l : Known) (rs : List ℕ) → Accounted k → Kept k l → k.next ≤ l.next → AllSolid k rs → AllSolid l rs
+solid_on k l rs a kept le s = let b = kept a in all_solid_on k l rs le (λ r. no_new_credit k l r a b.0 b.1) s
+
+pub named_on : (k l : Known) → Accounted k → Kept k l → l.names ≡ k.names → k.next ≤ l.next → Named k → Named l
+named_on k l a kept same le named x r e = solid_on k l (r ∷ []) a kept le (named x r (sym (ap (λ ns. register_of ns (Some x)) same) ∙ e))
 
 kept_on : (k m l : Known) → Kept k m → Kept m l → Kept k l
 kept_on k m l a b = λ x. let y = a x in let z = b y.0 in (z.0, last_on k.credits m.credits l.credits y.1 z.1)
@@ -81,11 +100,15 @@ computes_constructor s k v t d c n p as' rs m w r l z a b = record {
   as_many = b.as_many ∙ a.as_many;
   room = room_on k m l a.as_many a.room b.room;
   kept = kept_on k m l a.kept b.kept;
+  names = b.names ∙ a.names;
+  grows = let x = a.grows in let y = b.grows in omega (arith, x, y);
+  still = still_on k m l v w z a.extends.grows b.extends.grows a.still b.still;
+  solid = λ x named. b.solid (a.kept x).0;
   few = adds_less (arguments_places as' + 1) (0 + 0) (suc (arguments_places as')) 0 v z (omega arith) (omega arith) (adds_on (arguments_places as') 0 1 0 v w z a.few b.few);
 }
 
 pub computes_none : (s : Setting) (k : Known) (v : Written) → ComputesAll s k v NoArguments [] k v
-computes_none s k v = record { extends = same_extends v; code = λ to code h. (refl, refl); maps = refl; as_many = refl; room = omega arith; kept = λ a. (a, last_same k.credits); few = adds_none v; a_register_each = omega arith }
+computes_none s k v = record { extends = same_extends v; code = λ to code h. (refl, refl); maps = refl; as_many = refl; room = omega arith; kept = λ a. (a, last_same k.credits); names = refl; grows = omega arith; still = λ e tb q. refl; solid = λ a named. tt; few = adds_none v; a_register_each = omega arith }
 
 -- each argument has a place
 pub argument_one : (a : Argument) → 1 ≤ argument_places a
@@ -106,6 +129,13 @@ computes_more s k v a as' r m w rs l z p q = record {
   as_many = q.as_many ∙ p.as_many;
   room = room_on k m l p.as_many p.room q.room;
   kept = kept_on k m l p.kept q.kept;
+  names = q.names ∙ p.names;
+  grows = let x = p.grows in let y = q.grows in omega (arith, x, y);
+  still = still_on k m l v w z p.extends.grows q.extends.grows p.still q.still;
+  solid = λ x named.
+      let am = p.kept x in
+      let first = solid_on m l (r ∷ []) am.0 q.kept q.grows (p.solid x named) in
+      (first.0, first.1, q.solid am.0 (named_on k m x p.kept p.names p.grows named));
   few = adds_less (argument_places a + arguments_places as') (0 + 0) (argument_places a + arguments_places as') 0 v z (omega arith) (omega arith) (adds_on (argument_places a) 0 (arguments_places as') 0 v w z p.few q.few);
   a_register_each = let e = q.a_register_each in omega (arith, e, argument_one a);
 }
@@ -145,6 +175,16 @@ follow_at s k0 v0 as0 k v ts i t before r m w e f c =
 
 -- constructors
 
+still_reused : (tb : Table) (hs : List Held) (r t c q : ℕ) → slice_get hs r ≡ Some (H.Bare t c) → kind_of tb (held_at (slice_set (slice_set hs r H.Nothing) r (H.Owned t (Some c))) q) ≡ kind_of tb (held_at hs q)
+still_reused tb [] r t c q e = absurd (cc)
+still_reused tb (h ∷ hs) zero t c zero e = ap (kind_of tb) (same_some (H.Bare t c) h (sym e))
+  where
+    same_some : (x y : Held) → Some x ≡ Some y → x ≡ y
+    same_some x y i = cc
+still_reused tb (h ∷ hs) zero t c (suc q) e = refl
+still_reused tb (h ∷ hs) (suc r) t c zero e = refl
+still_reused tb (h ∷ hs) (suc r) t c (suc q) e = still_reused tb hs r t c q e
+
 pub builds_reused : (s : Setting) (k m l : Known) (v w : Written) (t c r : ℕ) → TakesBare k t c r m → l ≡ holding m r (H.Owned t (Some c)) → w ≡ v → Builds s k v t c [] r l w
 builds_reused s k m l v w t c r h e f =
     three (λ (u : ℕ) y z. Builds s k v t c [] r y z) 0 0 (holding m r (H.Owned t (Some c))) l v w refl e f
@@ -154,6 +194,10 @@ builds_reused s k m l v w t c r h e f =
       maps = refl;
       as_many = set_length m.held r (H.Owned t (Some c)) ∙ bare_length k m t c r h;
       room = let same : m.next ≡ k.next = ap (λ (x : Known). x.next) h.known in omega (arith, same);
+      names = ap (λ (x : Known). x.names) h.known;
+      grows = let same : m.next ≡ k.next = ap (λ (x : Known). x.next) h.known in omega (arith, same);
+      still = λ e tb q. subst (λ (x : Known). kind_of tb (held_at (slice_set x.held r (H.Owned t (Some c))) q) ≡ kind_of tb (held_at k.held q)) (sym h.known) (still_reused tb k.held r t c q h.there);
+      solid = λ a. (let lt = already_used k r t c a h.there in let same : m.next ≡ k.next = ap (λ (x : Known). x.next) h.known in omega (arith, lt, same), set_itself m.held r (H.Owned t (Some c)) refl, tt);
       kept = λ a. (reused_accounted k m (holding m r (H.Owned t (Some c))) t c r h refl a, subst (λ (x : Known). LastGone k.credits x.credits) (sym h.known) (last_same k.credits));
       few = adds_less 0 0 1 0 v v (omega arith) (omega arith) (adds_none v);
     })
@@ -177,6 +221,10 @@ builds_atom s k l v w t c r e f room g =
       as_many = set_length k.held k.next (built s t c);
       room = subst (HasRoom k) f room;
       kept = λ a. (next_accounted k (built s t c) (built_credit (is_scalar s t) t c) a, last_same k.credits);
+      names = refl;
+      grows = omega arith;
+      still = λ same tb q. absurd (omega (arith, same, one_longer v (I.Atom k.next t c)));
+      solid = λ a. (omega arith, set_itself k.held k.next (built s t c) (of_none (Some (built s t c)) (built_credit (is_scalar s t) t c)), tt);
       few = adds_one v (I.Atom k.next t c);
     })
 
@@ -195,6 +243,10 @@ builds_put s k m l v w t c f fs r h e g =
       maps = refl;
       as_many = set_length (used_all m.held (f ∷ fs)) r (H.Owned t (Some c)) ∙ used_all_length m.held (f ∷ fs) ∙ takes_length k m (length (f ∷ fs)) r h;
       room = let same : m.next ≡ k.next = ap (λ (x : Known). x.next) h.known in omega (arith, same);
+      names = ap (λ (x : Known). x.names) h.known;
+      grows = let same : m.next ≡ k.next = ap (λ (x : Known). x.next) h.known in omega (arith, same);
+      still = λ same tb q. absurd (omega (arith, same, one_longer v (I.Put r t c (f ∷ fs))));
+      solid = λ a. (let lt = credit_used k m (length (f ∷ fs)) r a h in let same : m.next ≡ k.next = ap (λ (x : Known). x.next) h.known in omega (arith, lt, same), set_itself (used_all m.held (f ∷ fs)) r (H.Owned t (Some c)) refl, tt);
       kept = λ a. (filled_accounted k m (holding (using m (used_all m.held (f ∷ fs))) r (H.Owned t (Some c))) (length (f ∷ fs)) r t c (f ∷ fs) h refl a, taken_last k m (length (f ∷ fs)) r h a);
       few = adds_one v (I.Put r t c (f ∷ fs));
     })
@@ -255,10 +307,13 @@ moved_so code at k (r ∷ rs) (d ∷ ds) end l m = (m.0, m.1, one m.2, moved_so 
 pub gives_into : (k l : Known) (v w : Written) (rs ds : List ℕ) → Moves k v rs ds l w → Gives k v rs (Into ds) l w
 gives_into k l v w rs ds m = record { extends = m.extends; code = λ to code h. moved_so code (size v) k rs ds (size w) l (m.code to code h); stay = m.as_many; few = adds_less (length rs) 0 (suc (registers k) + length rs) 0 v w (omega arith) (omega arith) m.few }
 
+hands_none : (k : Known) (v : Written) (rs ds : List ℕ) → HandsOn k v rs ds k v
+hands_none k v rs ds = record { names = refl; next = refl; credits = refl; accounts = λ a x. a; still = λ e. refl }
+
 pub moves_there : (k l : Known) (v w : Written) (r d : ℕ) → r ≡ d → l ≡ k → w ≡ v → MovesOne k v r d l w
 moves_there k l v w r d e f g =
     three (λ (u : ℕ) y z. MovesOne k v r d y z) 0 0 k l v w refl f g
-    (record { extends = same_extends v; code = λ to code h. inr (record { same = e; nothing = refl; known = refl }); maps = refl; as_many = refl; few = adds_less 0 0 1 0 v v (omega arith) (omega arith) (adds_none v) })
+    (record { extends = same_extends v; code = λ to code h. inr (record { same = e; nothing = refl; known = refl }); maps = refl; hands = hands_none k v (r ∷ []) (d ∷ []); as_many = refl; few = adds_less 0 0 1 0 v v (omega arith) (omega arith) (adds_none v) })
 
 pub moves_word : (k l : Known) (v w : Written) (r d : ℕ) → (r ≡ d → ⊥) → l ≡ moved k d r → w ≡ added v (I.Move d r) → MovesOne k v r d l w
 moves_word k l v w r d ne f g =
@@ -274,23 +329,50 @@ moves_word k l v w r d ne f g =
         },
       );
       maps = refl;
+      hands = record {
+        names = refl;
+        next = refl;
+        credits = refl;
+        accounts = λ a x. moved_accounted k r d a x.1 x.2 x.3;
+        still = λ same. absurd (omega (arith, same, one_longer v (I.Move d r)));
+      };
       as_many = set_length (used k.held r) d (as_value (get_or k.held r H.Nothing)) ∙ used_length k.held r;
       few = adds_one v (I.Move d r);
     })
 
 moves_none : (k : Known) (v : Written) (rs : List ℕ) → Moves k v rs [] k v
-moves_none k v [] = record { extends = same_extends v; code = λ to code h'. (refl, refl); maps = refl; as_many = refl; few = adds_none v }
-moves_none k v (r ∷ rs) = record { extends = same_extends v; code = λ to code h'. (refl, refl); maps = refl; as_many = refl; few = adds_less 0 0 (length (r ∷ rs)) 0 v v (omega arith) (omega arith) (adds_none v) }
+moves_none k v [] = record { extends = same_extends v; code = λ to code h'. (refl, refl); maps = refl; hands = hands_none k v [] []; as_many = refl; few = adds_none v }
+moves_none k v (r ∷ rs) = record { extends = same_extends v; code = λ to code h'. (refl, refl); maps = refl; hands = hands_none k v (r ∷ rs) []; as_many = refl; few = adds_less 0 0 (length (r ∷ rs)) 0 v v (omega arith) (omega arith) (adds_none v) }
 
 moves_over : (k : Known) (v : Written) (ds : List ℕ) → Moves k v [] ds k v
-moves_over k v ds = record { extends = same_extends v; code = λ to code h'. (refl, refl); maps = refl; as_many = refl; few = adds_none v }
+moves_over k v ds = record { extends = same_extends v; code = λ to code h'. (refl, refl); maps = refl; hands = hands_none k v [] ds; as_many = refl; few = adds_none v }
+
+hands_any : (k : Known) (v : Written) (l : Known) (w : Written) (rs qs : List ℕ) → Movable k rs [] → HandsOn k v rs [] l w → HandsOn k v qs [] l w
+hands_any k v l w rs qs x h = record { names = h.names; next = h.next; credits = h.credits; accounts = λ a y. h.accounts a x; still = h.still }
 
 -- without destinations nothing is moved
 moves_any : (k l : Known) (v w : Written) (rs qs : List ℕ) → length rs ≤ length qs → Moves k v rs [] l w → Moves k v qs [] l w
-moves_any k l v w [] [] n m = record { extends = m.extends; code = m.code; maps = m.maps; as_many = m.as_many; few = m.few }
-moves_any k l v w [] (q ∷ qs) n m = record { extends = m.extends; code = m.code; maps = m.maps; as_many = m.as_many; few = adds_less 0 0 (length (q ∷ qs)) 0 v w n (omega arith) m.few }
+moves_any k l v w [] [] n m = record { extends = m.extends; code = m.code; maps = m.maps; hands = m.hands; as_many = m.as_many; few = m.few }
+moves_any k l v w [] (q ∷ qs) n m = record { extends = m.extends; code = m.code; maps = m.maps; hands = hands_any k v l w [] (q ∷ qs) tt m.hands; as_many = m.as_many; few = adds_less 0 0 (length (q ∷ qs)) 0 v w n (omega arith) m.few }
 moves_any k l v w (r ∷ rs) [] n m = absurd (omega (arith, n))
-moves_any k l v w (r ∷ rs) (q ∷ qs) n m = record { extends = m.extends; code = m.code; maps = m.maps; as_many = m.as_many; few = adds_less (length (r ∷ rs)) 0 (length (q ∷ qs)) 0 v w n (omega arith) m.few }
+moves_any k l v w (r ∷ rs) (q ∷ qs) n m = record { extends = m.extends; code = m.code; maps = m.maps; hands = hands_any k v l w (r ∷ rs) (q ∷ qs) tt m.hands; as_many = m.as_many; few = adds_less (length (r ∷ rs)) 0 (length (q ∷ qs)) 0 v w n (omega arith) m.few }
+
+movable_on : (k m : Known) (rs ds : List ℕ) → k.next ≤ m.next → ((r : ℕ) → is_credit (slice_get k.held r) ≡ false → is_credit (slice_get m.held r) ≡ false) → Movable k rs ds → Movable m rs ds
+movable_on k m [] ds le f x = tt
+movable_on k m (r ∷ rs) [] le f x = tt
+movable_on k m (r ∷ rs) (d ∷ ds) le f x = (let a = x.0 in omega (arith, a, le), f r x.1, (let a = x.2 in omega (arith, a, le)), f d x.3, movable_on k m rs ds le f x.4)
+
+hands_more : (k : Known) (v : Written) (m : Known) (w : Written) (l : Known) (z : Written) (r d : ℕ) (rs ds : List ℕ) → size v ≤ size w → size w ≤ size z → HandsOn k v (r ∷ []) (d ∷ []) m w → HandsOn m w rs ds l z → HandsOn k v (r ∷ rs) (d ∷ ds) l z
+hands_more k v m w l z r d rs ds first second a b = record {
+  names = b.names ∙ a.names;
+  next = b.next ∙ a.next;
+  credits = b.credits ∙ a.credits;
+  accounts = λ ac x.
+      let am : Accounted m = a.accounts ac (x.0, x.1, x.2, x.3, tt) in
+      let gone : LastGone k.credits m.credits = subst (LastGone k.credits) (sym a.credits) (last_same k.credits) in
+      b.accounts am (movable_on k m rs ds (let e = a.next in omega (arith, e)) (λ q. no_new_credit k m q ac am gone) x.4);
+  still = λ e. b.still (omega (arith, first, second, e)) ∙ a.still (omega (arith, first, second, e));
+}
 
 moves_more : (k m l : Known) (v w z : Written) (r d : ℕ) (rs ds : List ℕ) → MovesOne k v r d m w → Moves m w rs ds l z → Moves k v (r ∷ rs) (d ∷ ds) l z
 moves_more k m l v w z r d rs ds a b = record {
@@ -302,6 +384,7 @@ moves_more k m l v w z r d rs ds a b = record {
     b.code to code (back (size v) (size w) z to code a.extends.grows h),
   );
   maps = b.maps ∙ a.maps;
+  hands = hands_more k v m w l z r d rs ds a.extends.grows b.extends.grows a.hands b.hands;
   as_many = b.as_many ∙ a.as_many;
   few = adds_less (1 + length rs) (0 + 0) (length (r ∷ rs)) 0 v z (omega arith) (omega arith) (adds_on 1 0 (length rs) 0 v w z a.few b.few);
 }

@@ -1,6 +1,6 @@
 -- It serves the proof that lowered code is laid out as asked: what the parts of the lowering of a function have laid
 -- out in each function that has what they have written, from v, where k was known, to w, where l is known.
-use Rattle.std.specs.Prelude.{◌≡◌, ◌⊎◌, ◌≤◌, ◌<◌, ℕ, Bool, false, is_some, List, Some, get_or}
+use Rattle.std.specs.Prelude.{◌≡◌, ◌⊎◌, ◌≤◌, ◌<◌, ℕ, suc, Bool, false, is_some, List, Some, get_or}
 use Rattle.fip_language.specs.declared.limits.TheConstants.{MOST_FIELDS}
 use Rattle.fip_language.specs.declared.Operator.{Operator}
 use Rattle.fip_language.specs.declared.Place.{Place}
@@ -10,20 +10,22 @@ use Rattle.cell_code.specs.declared.kind.Kind.{Kind}
 use Rattle.sound_code.specs.Codes.{PlainCode, PlainFunction, label_at}
 use Rattle.lowered_code.specs.declared.held.Held.{Held}
 use Rattle.lowered_code.specs.declared.held.Held.TheVariants as H
-use Rattle.lowered_code.specs.Known.{Known}
+use Rattle.lowered_code.specs.Known.{Known, using}
 use Rattle.lowered_code.specs.Values.{Setting}
-use Rattle.lowered_code.specs.Bodies.{Target, Return, Into}
+use Rattle.lowered_code.specs.Bodies.{Target, Return, Into, received}
 use Rattle.match_code.specs.Written.{Written, size, Extends, HasFrom}
+use Rattle.laid_code.specs.Credits.{LastGone}
 use Rattle.laid_code.specs.Describing.{held_at, kinds_of}
 use Rattle.laid_code.specs.Labels.{Tells}
 use Rattle.laid_code.specs.Matches.{wide}
 use Rattle.laid_code.specs.GivenUp.{GivesUp, AllGivenUp}
 use Rattle.laid_code.specs.Handed.{GivenLaid, OperationLaid, CallLaid, EndsCallLaid}
 use Rattle.laid_code.specs.Bodies.{GiveLaid, OperatorLaid, CalledLaid}
-use Rattle.lower_frame.specs.Credits.{Accounted, FewerTrees, NoBares, sized}
+use Rattle.lower_frame.specs.Credits.{Accounted, AllSolid, FewerTrees, NoBares, sized}
 use Rattle.lower_frame.specs.Frames.{kinds_told}
 use Rattle.lower_frame.specs.Labels.{Rising, telling}
-use Rattle.lower_frame.specs.Registers.{registers}
+use Rattle.lower_frame.specs.Registers.{registers, HasRoom}
+use Rattle.cell_lower.specs.Writing.{HandsOn, Named}
 
 -- What is left is given up, and nothing is told; in fip only constructors that were matched are.
 pub record GivesUpLaid (fip : Bool) (k : Known) (v : Written) (l : Known) (w : Written) : Type 0 where
@@ -53,25 +55,41 @@ abbrev pub AccountedAt : Target → Known → Type 0
 AccountedAt Return k = Accounted k
 AccountedAt (Into ds) k = Unit {0}
 
+-- of results that go to these registers
+abbrev pub IntoAt : Target → (List ℕ → Type 0) → Type 0
+IntoAt Return P = Unit {0}
+IntoAt (Into ds) P = P ds
+
+-- results came into registers, and something was written
+pub record ResultsIn (k : Known) (v : Written) (ds : List ℕ) (l : Known) (w : Written) : Type 0 where
+  pub names : l.names ≡ k.names
+  pub grows : k.next ≤ l.next
+  pub room : HasRoom k l
+  pub accounts : Accounted k → AllSolid k ds → Accounted l × LastGone k.credits l.credits
+  pub longer : size v < size w
+
 -- results in registers are handed on
 pub record GivesLaid (fip : Bool) (k : Known) (v : Written) (rs : List ℕ) (target : Target) (l : Known)
     (w : Written) : Type 0 where
   pub maps : w.maps ≡ v.maps
   pub by : AccountedAt target k → (to : ℕ → ℕ) (f : PlainFunction) → HasFrom (size v) w to f.instrs →
       GivenLaid fip f (size v) k rs target (size w) l
+  pub into : IntoAt target (λ ds. HandsOn k v rs ds l w)
 
 -- an operator of two registers
 pub record OperatesLaid (fip : Bool) (k : Known) (v : Written) (o : Operator) (p : Place) (x y : ℕ) (target : Target)
     (l : Known) (w : Written) : Type 0 where
   pub maps : w.maps ≡ v.maps
   pub by : AccountedAt target k → (to : ℕ → ℕ) (f : PlainFunction) → HasFrom (size v) w to f.instrs →
-      OperationLaid fip f (size v) k o p x y target (size w) l
+      (operation : OperationLaid fip f (size v) k o p x y target (size w) l) × HasRoom k operation.holds
+  pub into : IntoAt target (λ ds. ResultsIn k v ds l w)
 
 pub record EndsLaid (s : Setting) (fip : Bool) (k : Known) (v : Written) (g : ℕ) (rs results : List ℕ)
     (target : Target) (l : Known) (w : Written) : Type 0 where
   pub maps : w.maps ≡ v.maps
   pub by : AccountedAt target k → (to : ℕ → ℕ) (f : PlainFunction) → HasFrom (size v) w to f.instrs →
       EndsCallLaid s fip f (size v) k g rs results target (size w) l
+  pub into : IntoAt target (λ ds. (l ≡ using k (received s k.held results ds)) × (size w ≡ suc (size v)))
 
 -- a call of instance g with arguments in registers
 pub record CallsLaid (s : Setting) (fip : Bool) (k : Known) (v : Written) (g : ℕ) (rs : List ℕ) (target : Target)
@@ -79,6 +97,7 @@ pub record CallsLaid (s : Setting) (fip : Bool) (k : Known) (v : Written) (g : �
   pub maps : w.maps ≡ v.maps
   pub by : Accounted k → (to : ℕ → ℕ) (f : PlainFunction) → HasFrom (size v) w to f.instrs →
       CallLaid s fip f (size v) k g rs target (size w) l
+  pub into : IntoAt target (λ ds. ResultsIn k v ds l w)
 
 abbrev pub is_built : Held → Bool
 is_built H.Nothing = false
@@ -107,6 +126,7 @@ InFunction tb n v w P = (c : PlainCode) (to : ℕ → ℕ) (f : PlainFunction) �
 -- Where lowering goes on: what was told stands up to here, and what is told here is what is known.
 pub record Underway (tb : Table) (k : Known) (v : Written) : Type 0 where
   pub accounts : Accounted k
+  pub named : Named k
   pub room : k.next ≤ registers k
   pub rising : Rising (size v) 0 v.maps
   pub shown : (map : List Kind) → label_at v.maps (size v) ≡ Some map →
@@ -118,6 +138,7 @@ pub record GivesValuesLaid (s : Setting) (fip : Bool) (k : Known) (v : Written) 
   pub maps : w.maps ≡ v.maps
   pub by : Underway s.types k v → InFunction s.types (registers k) v w
       (λ c f. GiveLaid c s fip f (size v) k as' target (size w) l)
+  pub into : IntoAt target (λ ds. Underway s.types k v → AllSolid k ds → Underway s.types l w)
 
 -- a call of instance g with these arguments
 pub record AppliesLaid (s : Setting) (fip : Bool) (k : Known) (v : Written) (g : ℕ) (as' : Arguments)
@@ -125,6 +146,7 @@ pub record AppliesLaid (s : Setting) (fip : Bool) (k : Known) (v : Written) (g :
   pub maps : w.maps ≡ v.maps
   pub by : Underway s.types k v → InFunction s.types (registers k) v w
       (λ c f. CalledLaid c s fip f (size v) k g as' target (size w) l)
+  pub into : IntoAt target (λ ds. Underway s.types k v → AllSolid k ds → Underway s.types l w)
 
 -- an operator of two arguments
 pub record AppliedLaid (s : Setting) (fip : Bool) (k : Known) (v : Written) (o : Operator) (p : Place)
@@ -132,3 +154,4 @@ pub record AppliedLaid (s : Setting) (fip : Bool) (k : Known) (v : Written) (o :
   pub maps : w.maps ≡ v.maps
   pub by : Underway s.types k v → InFunction s.types (registers k) v w
       (λ c f. OperatorLaid c s fip f (size v) k o p a b target (size w) l)
+  pub into : IntoAt target (λ ds. Underway s.types k v → AllSolid k ds → Underway s.types l w)

@@ -1,23 +1,25 @@
 -- It serves the proofs on lowered code: what each part of the lowering of a function has written, in the words of
 -- lowered code, and how much: v is what was written before it and k what was known, w and l those behind it.
-use Rattle.std.specs.Prelude.{◌≡◌, ◌≤◌, ◌+◌, ℕ, suc, List, [], ◌∷◌, ◌++◌, Option, Some, None, length, slice_set}
-use Rattle.std.specs.Prelude.{if◌then◌else◌}
+use Rattle.std.specs.Prelude.{◌≡◌, ◌≤◌, ◌<◌, ◌+◌, ℕ, suc, false, List, [], ◌∷◌, ◌++◌, Option, Some, None, length}
+use Rattle.std.specs.Prelude.{slice_get, slice_set, if◌then◌else◌}
 use Rattle.fip_language.specs.declared.Operator.{Operator}
 use Rattle.fip_language.specs.declared.Place.{Place}
+use Rattle.fip_language.specs.Table.{Table}
 use Rattle.fip_trees.specs.declared.program.Binder.{Binder}
 use Rattle.fip_trees.specs.Tree.{Name, Argument, Arguments, Expression, Call, Block, Let}
 use Rattle.fip_trees.specs.TreeView.{instances}
 use Rattle.fip_base.specs.declared.plain.Param.{Param}
 use Rattle.lowered_code.specs.declared.held.Held.{Held}
-use Rattle.lowered_code.specs.Known.{Known, naming, used}
+use Rattle.lowered_code.specs.Known.{Known, naming, register_of, used}
 use Rattle.lowered_code.specs.Values.{Setting, BuiltAt, ArgumentAt, ArgumentsAt}
 use Rattle.lowered_code.specs.Bodies as B
 use Rattle.lowered_code.specs.Functions.{with_param}
 use Rattle.code_size.specs.Bounds.{most_for}
 use Rattle.code_size.specs.Places.{argument_places, arguments_places, expression_places, block_places}
 use Rattle.laid_code.specs.Credits.{LastGone}
+use Rattle.laid_code.specs.Describing.{held_at, kind_of}
 use Rattle.laid_code.specs.Moves.{MoveLaid, MovesLaid}
-use Rattle.lower_frame.specs.Credits.{Accounted}
+use Rattle.lower_frame.specs.Credits.{Accounted, AllSolid, is_credit}
 use Rattle.lower_frame.specs.Frames.{Takes}
 use Rattle.lower_frame.specs.Registers.{registers, HasRoom}
 use Rattle.cell_lower.specs.Growth.{Adds, Stay}
@@ -47,6 +49,30 @@ param_at s k p (Some b) = with_param s k p b
 abbrev pub Kept : Known → Known → Type 0
 Kept k l = Accounted k → Accounted l × LastGone k.credits l.credits
 
+-- the registers of variables are used already, and are no credits'
+abbrev pub Named : Known → Type 0
+Named k = (x r : ℕ) → register_of k.names (Some x) ≡ Some r → AllSolid k (r ∷ [])
+
+-- the same kinds are told
+abbrev pub Still : Known → Known → Type 0
+Still k l = (tb : Table) (r : ℕ) → kind_of tb (held_at l.held r) ≡ kind_of tb (held_at k.held r)
+
+-- each register that gets the word of another, and this one, is used already and no credit's
+abbrev pub Movable : Known → List ℕ → List ℕ → Type 0
+Movable k [] ds = Unit {0}
+Movable k (r ∷ rs) [] = Unit {0}
+Movable k (r ∷ rs) (d ∷ ds) =
+    (r < k.next) × (is_credit (slice_get k.held r) ≡ false) × (d < k.next) × (is_credit (slice_get k.held d) ≡ false)
+    × Movable k rs ds
+
+-- Words of registers went to others: nothing else is known anew, and where nothing was written all is as it was.
+pub record HandsOn (k : Known) (v : Written) (rs ds : List ℕ) (l : Known) (w : Written) : Type 0 where
+  pub names : l.names ≡ k.names
+  pub next : l.next ≡ k.next
+  pub credits : l.credits ≡ k.credits
+  pub accounts : Accounted k → Movable k rs ds → Accounted l
+  pub still : size w ≡ size v → l ≡ k
+
 -- after v was written and k was known, an argument was computed into r: now w is written and l is known
 pub record Computes (s : Setting) (k : Known) (v : Written) (a : Argument) (r : ℕ) (l : Known) (w : Written) :
     Type 0 where
@@ -56,6 +82,10 @@ pub record Computes (s : Setting) (k : Known) (v : Written) (a : Argument) (r : 
   pub as_many : registers l ≡ registers k
   pub room : HasRoom k l
   pub kept : Kept k l
+  pub names : l.names ≡ k.names
+  pub grows : k.next ≤ l.next
+  pub still : size w ≡ size v → Still k l
+  pub solid : Accounted k → Named k → AllSolid l (r ∷ [])
   pub few : Adds (argument_places a) 0 v w
 
 pub record ComputesAll (s : Setting) (k : Known) (v : Written) (as' : Arguments) (rs : List ℕ) (l : Known)
@@ -66,6 +96,10 @@ pub record ComputesAll (s : Setting) (k : Known) (v : Written) (as' : Arguments)
   pub as_many : registers l ≡ registers k
   pub room : HasRoom k l
   pub kept : Kept k l
+  pub names : l.names ≡ k.names
+  pub grows : k.next ≤ l.next
+  pub still : size w ≡ size v → Still k l
+  pub solid : Accounted k → Named k → AllSolid l rs
   pub few : Adds (arguments_places as') 0 v w
   pub a_register_each : length rs ≤ arguments_places as'
 
@@ -78,6 +112,10 @@ pub record Builds (s : Setting) (k : Known) (v : Written) (t c : ℕ) (rs : List
   pub as_many : registers l ≡ registers k
   pub room : HasRoom k l
   pub kept : Kept k l
+  pub names : l.names ≡ k.names
+  pub grows : k.next ≤ l.next
+  pub still : size w ≡ size v → Still k l
+  pub solid : Accounted k → AllSolid l (r ∷ [])
   pub few : Adds 1 0 v w
 
 -- after the arguments so far, the others follow
@@ -98,6 +136,7 @@ pub record Moves (k : Known) (v : Written) (rs ds : List ℕ) (l : Known) (w : W
   pub extends : Extends v w
   pub code : InCode v w (λ code. MovesLaid code (size v) k rs ds (size w) l)
   pub maps : w.maps ≡ v.maps
+  pub hands : HandsOn k v rs ds l w
   pub as_many : registers l ≡ registers k
   pub few : Adds (length rs) 0 v w
 
@@ -105,6 +144,7 @@ pub record MovesOne (k : Known) (v : Written) (r d : ℕ) (l : Known) (w : Writt
   pub extends : Extends v w
   pub code : InCode v w (λ code. MoveLaid code (size v) k r d (size w) l)
   pub maps : w.maps ≡ v.maps
+  pub hands : HandsOn k v (r ∷ []) (d ∷ []) l w
   pub as_many : registers l ≡ registers k
   pub few : Adds 1 0 v w
 
@@ -172,6 +212,8 @@ pub record TakesAll (k : Known) (ns before rs : List ℕ) (l : Known) : Type 0 w
   pub behind : rs ≡ before ++ credits
   pub taken : B.AreTaken k ns credits l
   pub kept : Kept k l
+  pub names : l.names ≡ k.names
+  pub next : l.next ≡ k.next
 
 -- after those so far, the others follow
 pub record FollowCredits (k0 : Known) (ns0 before0 : List ℕ) (k : Known) (ns before : List ℕ) : Type 0 where

@@ -5,7 +5,7 @@ ghost use Rattle.fip_trees.specs.TreeView as V;
 ghost use Rattle.lowered_code.specs.Bodies as B;
 ghost use Rattle.match_code.specs.WellMatched.{WellMatched, WellMatchedBlock};
 ghost use Rattle.cell_lower.specs.Clauses.{WritesClause, WritesClauses};
-ghost use Rattle.cell_lower.specs.Laying.{AppliesLaid, GivesValuesLaid};
+ghost use Rattle.cell_lower.specs.Laying.{AppliedLaid, AppliesLaid, GivesValuesLaid};
 ghost use Rattle.cell_lower.specs.Writing.{setting, target_of, named_at, AppliesTo, Binds, GivesValues, Writes};
 ghost use Rattle.cell_lower.specs.Writing.{WritesBlock};
 
@@ -233,6 +233,9 @@ impl<'a> Lowerer<'a> {
             (T.Operation applied.operator applied.place (V.argument left.now) (V.argument right.now))
             (target_of target.entry) self.new.frame self.new.buffer) }
         ensures context { OnOk result (self.new.context ≡ self.old.context) }
+        ensures laid { OnOk result (AppliedLaid (setting self.old.context.now) (not self.old.gives_up) self.old.frame
+            self.old.buffer applied.operator applied.place (V.argument left.now) (V.argument right.now)
+            (target_of target.entry) self.new.frame self.new.buffer) }
     {
         self.walk.enter();
         let first = self.value(left)?;

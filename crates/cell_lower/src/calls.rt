@@ -4,6 +4,7 @@ ghost use Rattle.lowered_code.specs.declared.held.Held.{Held as a_held};
 ghost use Rattle.fip_trees.specs.TreeView as V;
 ghost use Rattle.lowered_code.specs.Bodies as B;
 ghost use Rattle.lowered_code.specs.Known as K;
+ghost use Rattle.lower_frame.specs.Registers.{HasRoom};
 ghost use Rattle.cell_lower.specs.Laying.{CallsLaid, EndsLaid, OperatesLaid};
 ghost use Rattle.cell_lower.specs.Writing.{setting, target_of, handed_at, received_at, CallsAt, EndsCall, Operates};
 ghost use Rattle.cell_lower.specs.Writing.{TakesAll, TakesOne};
@@ -59,6 +60,7 @@ impl<'a> Lowerer<'a> {
         ensures context { OnOk result (self.new.context ≡ self.old.context) }
         ensures gives_up { OnOk result (self.new.gives_up ≡ self.old.gives_up) }
         ensures buffer { OnOk result (self.new.buffer ≡ self.old.buffer) }
+        ensures room { OnOk result (HasRoom self.old.frame self.new.frame) }
     {
         match target {
             Target::Return => self.frame.fresh(),

@@ -1,12 +1,14 @@
 // The check of a program.
-ghost use Rattle.std.specs.Prelude.{◌≡◌, ℕ, ◌≤◌, true, false, [], None, Some, map, length, slice_get, IfOk, IfSome};
-ghost use Rattle.std.specs.Prelude.{MatchOption, option_map};
+ghost use Rattle.std.specs.Prelude.{◌≡◌, ℕ, ◌≤◌, true, false, List, [], ◌∷◌, None, Some, map, length, slice_get, codes};
+ghost use Rattle.std.specs.Prelude.{IfOk, IfSome, MatchOption, option_map};
 ghost use Rattle.fip_language.specs.declared.limits.TheConstants.{MOST_REGISTERS};
 ghost use Rattle.fip_base.specs.CoreView.{argument, block, clause, core, data_type, expression, function, parameter};
 ghost use Rattle.fip_base.specs.CoreView.{is_destructive};
 ghost use Rattle.loop_check.specs.Header.{parameter_numbers};
+ghost use Rattle.loop_check.specs.Names.{with_names};
+ghost use Rattle.loop_check.specs.Types.{data_names, declared_names};
 ghost use Rattle.loop_form.specs.View.{loop_of as loop_view, clause_of as clause_view};
-ghost use Rattle.fip_language.specs.Core.{Core as CoreForm};
+ghost use Rattle.fip_language.specs.Core.{Name, Core as CoreForm};
 ghost use Rattle.fip_language.specs.Every.{Every};
 ghost use Rattle.fip_language.specs.LoopForm.{IsPlainData};
 ghost use Rattle.fip_language.specs.CoreForm.{core_form};
@@ -18,15 +20,18 @@ ghost use Rattle.loop_check.specs.Fitting.{IsFitting, AreFitting};
 
 use crate::clauses::{Head, checked_clauses, last_of};
 use crate::header::{Known, are_distinct, at, is_right_header, parameter_numbers, result_number};
+use crate::names::NameSet;
 use crate::reached::are_few;
 use crate::table::{
-    are_right_types, constructor_ids, constructor_names, scalars_of, table_of, type_names,
+    ConstructorId, are_right_types, constructor_ids, constructor_names, scalars_of, table_of,
+    type_names,
 };
 use crate::valued::are_valued;
 use fip_base::core_form::{Argument, Block, Clause, Core, Data, Expression, Function, MatchKind};
-use fip_base::plain::{NoMemory, Types};
+use fip_base::plain::{Name, NoMemory, Types};
+use fip_base::table::TypeTable;
 use fip_language::limits::MOST_REGISTERS;
-use loop_form::program::LoopProgram;
+use loop_form::program::{LoopClause, LoopProgram};
 use std::alloc::Global;
 use thiserror::Error;
 
@@ -60,8 +65,17 @@ pub fn check(alloc: Global, program: &Core) -> Result<Option<LoopProgram>, Check
     match known_of(alloc, program.types.as_slice())? {
         Some(known) => match program.functions.as_slice() {
             [] => Ok(None),
-            [f] => match program_of(alloc, known, f)? {
-                Some(l) => Ok(Some(l)),
+            [f] => match program_of(alloc, &known, f)? {
+                Some(l) => Ok(Some(LoopProgram {
+                    types: known.table,
+                    name: l.name,
+                    parameters: l.parameters,
+                    result: l.result,
+                    scrutinee: l.scrutinee,
+                    binders: l.binders,
+                    clauses: l.clauses,
+                    registers: l.registers,
+                })),
                 None => Err(CheckError::Refused),
             },
             _ => Err(CheckError::Refused),
@@ -82,11 +96,52 @@ fn known_of<'a>(alloc: Global, types: &'a [Data]) -> Result<Option<Known<'a>>, N
     let Some(constructors) = constructor_names(alloc, types)? else {
         return Ok(None);
     };
-    if !are_right_types(&names, types) {
+    match declared_of(alloc, &names, types)? {
+        Some(declared) => Ok(Some(Known {
+            types: names,
+            constructors,
+            ids: declared.ids,
+            table: declared.table,
+            scalars: declared.scalars,
+        })),
+        None => Ok(None),
+    }
+}
+
+// The numbers of the constructors of right types, their table, and which of them are scalar.
+#[derive(Drop)]
+struct Declared {
+    ids: Vec<ConstructorId>,
+    table: TypeTable,
+    scalars: Vec<bool>,
+}
+
+// The same of types with these names; none where a rule is broken.
+fn declared_of(
+    alloc: Global,
+    names: &NameSet<'_>,
+    types: &[Data],
+) -> Result<Option<Declared>, NoMemory>
+    ensures known { (constructors : List Name) →
+        with_names (codes "bool" ∷ []) (data_names (map data_type types.now)) ≡ Some names.now →
+        with_names (codes "False" ∷ codes "True" ∷ []) (declared_names (map data_type types.now)) ≡
+        Some constructors → IfOk result (λ o. IfSome o (λ d. p.IsKnown (record {
+          types = names.now;
+          constructors = constructors;
+          ids = d.ids;
+          table = d.table;
+          scalars = d.scalars;
+        })
+        (map data_type types.now))) }
+    ensures refused { IfOk result (λ o. o ≡ None → (program : CoreForm) → program.types ≡ map data_type types.now →
+        with_names (codes "bool" ∷ []) (data_names program.types) ≡ Some names.now →
+        Every IsPlainData program.types → AreRightTypes program → ⊥) }
+{
+    if !are_right_types(names, types) {
         return Ok(None);
     }
     let ids = constructor_ids(alloc, types)?;
-    let table = table_of(alloc, &names, types)?;
+    let table = table_of(alloc, names, types)?;
     if table.len() != names.len() {
         return Ok(None);
     }
@@ -95,9 +150,7 @@ fn known_of<'a>(alloc: Global, types: &'a [Data]) -> Result<Option<Known<'a>>, N
         return Ok(None);
     }
     let scalars = scalars_of(alloc, &table, count)?;
-    Ok(Some(Known {
-        types: names,
-        constructors,
+    Ok(Some(Declared {
         ids,
         table,
         scalars,
@@ -189,18 +242,40 @@ fn is_right_signature(
     are_distinct(alloc, f.parameters.as_slice())
 }
 
+// A loop program without its types.
+#[derive(Drop)]
+struct LoopFunction {
+    name: Name,
+    parameters: Types,
+    result: u32,
+    scrutinee: u32,
+    binders: u32,
+    clauses: Vec<LoopClause>,
+    registers: u32,
+}
+
 // The loop program of a function; none where it isn't in the loop form or breaks a rule.
 fn program_of(
     alloc: Global,
-    known: Known<'_>,
+    known: &Known<'_>,
     f: &Function,
-) -> Result<Option<LoopProgram>, NoMemory>
-    ensures passes { IfOk result (λ o. IfSome o (λ l. p.Passes known.entry (function f.now) (loop_view l))) }
-    ensures refused { IfOk result (λ o. o ≡ None → IsFitting known.entry (function f.now) → ⊥) }
+) -> Result<Option<LoopFunction>, NoMemory>
+    ensures passes { IfOk result (λ o. IfSome o (λ q. p.Passes known.now (function f.now)
+        (record {
+          types = known.now.table;
+          name = q.name;
+          parameters = q.parameters;
+          result = q.result;
+          scrutinee = q.scrutinee;
+          binders = q.binders;
+          clauses = map clause_view q.clauses.items;
+          registers = q.registers;
+        }))) }
+    ensures refused { IfOk result (λ o. o ≡ None → IsFitting known.now (function f.now) → ⊥) }
 {
     let given = result_number(&known.types, &f.result);
     let parameters = parameter_numbers(alloc, &known.types, f.parameters.as_slice())?;
-    if !is_right_signature(alloc, &known, f, parameters.as_slice(), given)? {
+    if !is_right_signature(alloc, known, f, parameters.as_slice(), given)? {
         return Ok(None);
     }
     match taken_of(&f.body) {
@@ -228,25 +303,34 @@ struct Found {
 // The loop program of a function with these types that takes this parameter apart in these clauses.
 fn resolve(
     alloc: Global,
-    known: Known<'_>,
+    known: &Known<'_>,
     f: &Function,
     parameters: Types,
     given: u32,
     found: Found,
     clauses: &[Clause],
-) -> Result<Option<LoopProgram>, NoMemory>
+) -> Result<Option<LoopFunction>, NoMemory>
     requires few { length parameters ≤ MOST_REGISTERS }
     requires scrutinee { slice_get parameters found.scrutinee ≡ Some found.ty }
     requires data_type { 1 ≤ found.ty }
-    ensures fits { IfOk result (λ o. IfSome o (λ l. p.Fits known.entry (function f.now).name parameters given
-        (record { scrutinee = found.scrutinee; cases = map clause clauses.now }) found.ty l.binders
-        (map clause_view l.clauses.items))) }
-    ensures resolved { IfOk result (λ o. IfSome o (λ l. loop_view l
-        ≡ p.resolved known.entry (function f.now).name parameters given
-        (record { scrutinee = found.scrutinee; cases = map clause clauses.now }) l.binders
-        (map clause_view l.clauses.items))) }
+    ensures fits { IfOk result (λ o. IfSome o (λ q. p.Fits known.now (function f.now).name parameters given
+        (record { scrutinee = found.scrutinee; cases = map clause clauses.now }) found.ty q.binders
+        (map clause_view q.clauses.items))) }
+    ensures resolved { IfOk result (λ o. IfSome o (λ q. (record {
+      types = known.now.table;
+      name = q.name;
+      parameters = q.parameters;
+      result = q.result;
+      scrutinee = q.scrutinee;
+      binders = q.binders;
+      clauses = map clause_view q.clauses.items;
+      registers = q.registers;
+    })
+        ≡ p.resolved known.now (function f.now).name parameters given
+        (record { scrutinee = found.scrutinee; cases = map clause clauses.now }) q.binders
+        (map clause_view q.clauses.items))) }
     ensures refused { IfOk result (λ o. o ≡ None → (n : ℕ) →
-        AreFitting known.entry (function f.now).name parameters given
+        AreFitting known.now (function f.now).name parameters given
         (record { scrutinee = found.scrutinee; cases = map clause clauses.now }) found.ty n → ⊥) }
 {
     let head = Head {
@@ -256,11 +340,10 @@ fn resolve(
         scrutinee: found.scrutinee,
         ty: found.ty,
     };
-    match checked_clauses(alloc, &known, &head, clauses)? {
+    match checked_clauses(alloc, known, &head, clauses)? {
         Some(resolved) => {
             let name = f.name.copy(alloc)?;
-            Ok(Some(LoopProgram {
-                types: known.table,
+            Ok(Some(LoopFunction {
                 name,
                 parameters,
                 result: given,

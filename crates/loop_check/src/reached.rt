@@ -95,12 +95,26 @@ pub fn are_few(
     ensures many { IfOk result (λ b. b ≡ false → AreFewTypes table.now parameters.now given → ⊥) }
 {
     let mut reached = TypeSet::new(alloc);
+    reach_few(&mut reached, table, parameters, given)
+}
+
+// The same, where nothing is reached yet.
+fn reach_few(
+    reached: &mut TypeSet,
+    table: &TypeTable,
+    parameters: &[u32],
+    given: u32,
+) -> Result<bool, NoMemory>
+    requires empty { reached.now ≡ [] }
+    ensures few { IfOk result (λ b. b ≡ true → AreFewTypes table.now parameters.now given) }
+    ensures many { IfOk result (λ b. b ≡ false → AreFewTypes table.now parameters.now given → ⊥) }
+{
     reached.reach(1)?;
     reached.reach(given)?;
-    reach_all(&mut reached, parameters)?;
+    reach_all(reached, parameters)?;
     for i in 0..MOST_INSTANCES {
         match reached.at(i) {
-            Some(ty) => reach_fields(&mut reached, table, ty)?,
+            Some(ty) => reach_fields(reached, table, ty)?,
             None => return Ok(true),
         }
     }

@@ -9,12 +9,13 @@ use Rattle.lowered_code.specs.declared.held.Held.{Held}
 use Rattle.lowered_code.specs.declared.held.Held.TheVariants as H
 use Rattle.lowered_code.specs.declared.held.Credit.{Credit}
 use Rattle.fip_base.specs.declared.plain.Param.{Param}
-use Rattle.lowered_code.specs.Bodies.{handed}
+use Rattle.lowered_code.specs.Bodies.{handed, as_value, moved, given, given_if, received}
+use Rattle.lowered_code.specs.Values.{Setting, is_scalar}
 use Rattle.lowered_code.specs.Known.{Known, IsTaken, holding, with_next, using, used, used_if, used_all, is_owned, without, lent_by}
 use Rattle.laid_code.specs.Credits.{of_size, LastGone}
 use Rattle.lower_frame.specs.Frames.{HasSize, Takes, TakesBare}
 use Rattle.lower_frame.specs.Registers.{IsFull, IsHeld}
-use Rattle.lower_frame.specs.Credits.{one_if, sized, counted, is_credit, is_credit_of, is_bare, is_held_of, NoneBetween, Accounted, FewerTrees, NoTrees}
+use Rattle.lower_frame.specs.Credits.{AllSolid, one_if, sized, counted, is_credit, is_credit_of, is_bare, is_held_of, NoneBetween, Accounted, FewerTrees, NoTrees}
 
 same_some : {A : Type 0} (x y : A) → Some x ≡ Some y → x ≡ y
 same_some x y e = cc
@@ -553,3 +554,110 @@ pub handed_accounted : (k : Known) (ps : List Param) (rs : List ℕ) → Account
 handed_accounted k [] rs a = a
 handed_accounted k (p ∷ ps) [] a = a
 handed_accounted k (p ∷ ps) (r ∷ rs) a = handed_accounted (using k (if p.lent then k.held else used k.held r)) ps rs (handed_one p.lent k r a)
+
+-- no credit is new
+
+-- how often a register is in a list
+abbrev pub among : ℕ → List ℕ → ℕ
+among r [] = 0
+among r (x ∷ xs) = one_if (x == r) + among r xs
+
+among_both : (r : ℕ) (xs ys : List ℕ) → among r (xs ++ ys) ≡ among r xs + among r ys
+among_both r [] ys = omega arith
+among_both r (x ∷ xs) ys = omega (arith, among_both r xs ys)
+
+counted_among : (n r : ℕ) (cs : List Credit) → counted n r cs ≡ among r (of_size n cs)
+counted_among n r [] = refl
+counted_among n r (c ∷ cs) = by_size (c.size == n) (counted_among n r cs)
+  where
+    by_size : (b : Bool) → counted n r cs ≡ among r (of_size n cs) → one_if (b && (c.register == r)) + counted n r cs ≡ among r (if b then c.register ∷ of_size n cs else of_size n cs)
+    by_size true e = ap (λ x. one_if (c.register == r) + x) e
+    by_size false e = omega (arith, e)
+
+pub fewer_counted : (cs ds : List Credit) (n r : ℕ) → LastGone cs ds → counted n r ds ≤ counted n r cs
+fewer_counted cs ds n r l =
+    let x = l n in
+    let e : among r (of_size n cs) ≡ among r (of_size n ds ++ x.0) = ap (among r) x.1 in
+    omega (arith, e, counted_among n r cs, counted_among n r ds, among_both r (of_size n ds) x.0)
+
+pub not_of : (m : ℕ) (o : Option Held) → is_credit o ≡ false → is_credit_of m o ≡ false
+not_of m None e = refl
+not_of m (Some H.Nothing) e = refl
+not_of m (Some (H.Scalar t)) e = refl
+not_of m (Some (H.Owned t b)) e = refl
+not_of m (Some (H.Lent t root)) e = refl
+not_of m (Some (H.Credit n)) e = absurd (true≢false e)
+not_of m (Some (H.Bare t c)) e = refl
+
+pub of_none : (o : Option Held) → ((m : ℕ) → is_credit_of m o ≡ false) → is_credit o ≡ false
+of_none None h = refl
+of_none (Some H.Nothing) h = refl
+of_none (Some (H.Scalar t)) h = refl
+of_none (Some (H.Owned t b)) h = refl
+of_none (Some (H.Lent t root)) h = refl
+of_none (Some (H.Credit n)) h = absurd (true≢false (sym (equal_is n n refl) ∙ h n))
+of_none (Some (H.Bare t c)) h = refl
+
+none_if : (b : Bool) → one_if b ≤ 0 → b ≡ false
+none_if true h = absurd (omega (arith, h))
+none_if false h = refl
+
+pub no_new_credit : (k l : Known) (r : ℕ) → Accounted k → Accounted l → LastGone k.credits l.credits → is_credit (slice_get k.held r) ≡ false → is_credit (slice_get l.held r) ≡ false
+no_new_credit k l r a b last e = of_none (slice_get l.held r) (λ m. none_if (is_credit_of m (slice_get l.held r))
+    (let before = a.credits m r in let after = b.credits m r in let none : one_if (is_credit_of m (slice_get k.held r)) ≡ 0 = ap one_if (not_of m (slice_get k.held r) e) in
+    omega (arith, before, after, none, fewer_counted k.credits l.credits m r last)))
+
+-- a register that gets what holds no credit
+
+pub set_solid : (hs : List Held) (d : ℕ) (h : Held) (r : ℕ) → is_credit (Some h) ≡ false → is_credit (slice_get hs r) ≡ false → is_credit (slice_get (slice_set hs d h) r) ≡ false
+set_solid hs d h r new e = elim (cases_eq r d) [
+  | inl same ↦ subst (λ z. is_credit (slice_get (slice_set hs d h) z) ≡ false) (sym same) (get_same (λ o. is_credit o ≡ false) hs d h refl new)
+  | inr ne ↦ ap is_credit (get_other hs d h r ne) ∙ e
+]
+
+pub set_itself : (hs : List Held) (d : ℕ) (h : Held) → is_credit (Some h) ≡ false → is_credit (slice_get (slice_set hs d h) d) ≡ false
+set_itself hs d h new = get_same (λ o. is_credit o ≡ false) hs d h refl new
+
+value_of : (h : Held) (m : ℕ) → is_credit (Some h) ≡ false → is_credit_of m (Some (as_value h)) ≡ false
+value_of H.Nothing m e = refl
+value_of (H.Scalar t) m e = refl
+value_of (H.Owned t b) m e = refl
+value_of (H.Lent t root) m e = refl
+value_of (H.Credit n) m e = absurd (true≢false e)
+value_of (H.Bare t c) m e = refl
+
+value_credit : (hs : List Held) (r m : ℕ) → is_credit (slice_get hs r) ≡ false → is_credit_of m (Some (as_value (get_or hs r H.Nothing))) ≡ false
+value_credit [] r m e = refl
+value_credit (h ∷ hs) zero m e = value_of h m e
+value_credit (h ∷ hs) (suc r) m e = value_credit hs r m e
+
+pub moved_accounted : (k : Known) (r d : ℕ) → Accounted k → is_credit (slice_get k.held r) ≡ false → d < k.next → is_credit (slice_get k.held d) ≡ false → Accounted (moved k d r)
+moved_accounted k r d a source lt target = put_accounted (using k (used k.held r)) d k.next (as_value (get_or k.held r H.Nothing)) (omega arith) lt
+    (λ m. used_credit (is_owned (slice_get k.held r)) k.held r m d refl ∙ not_of m (slice_get k.held d) target) (λ m. value_credit k.held r m source)
+    (used_accounted k (using k (used k.held r)) r refl a)
+
+pub already_used : (k : Known) (r : ℕ) (t c : ℕ) → Accounted k → slice_get k.held r ≡ Some (H.Bare t c) → r < k.next
+already_used k r t c a e = used_already k r (H.Bare t c) a e (λ x. absurd (cc))
+
+pub credit_used : (k l : Known) (n r : ℕ) → Accounted k → Takes k n r l → r < k.next
+credit_used k l n r a x = used_already k r (H.Credit n) a (taken_held k n r x.rest a x.taken) (λ i. absurd (cc))
+
+given_credit : (b : Bool) (t m : ℕ) → is_credit_of m (Some (given_if b t)) ≡ false
+given_credit true t m = refl
+given_credit false t m = refl
+
+given_solid : (b : Bool) (t : ℕ) → is_credit (Some (given_if b t)) ≡ false
+given_solid true t = refl
+given_solid false t = refl
+
+pub all_solid_on : (k l : Known) (rs : List ℕ) → k.next ≤ l.next → ((r : ℕ) → is_credit (slice_get k.held r) ≡ false → is_credit (slice_get l.held r) ≡ false) → AllSolid k rs → AllSolid l rs
+all_solid_on k l [] le f s = tt
+all_solid_on k l (r ∷ rs) le f s = (let x = s.0 in omega (arith, le, x), f r s.1, all_solid_on k l rs le f s.2)
+
+pub received_accounted : (s : Setting) (k : Known) (ts ds : List ℕ) → Accounted k → AllSolid k ds → Accounted (using k (received s k.held ts ds))
+received_accounted s k [] ds a x = a
+received_accounted s k (t ∷ ts) [] a x = a
+received_accounted s k (t ∷ ts) (d ∷ ds) a x =
+    let one : Known = using k (slice_set k.held d (given s t)) in
+    received_accounted s one ts ds (put_accounted k d k.next (given s t) (omega arith) x.0 (λ m. not_of m (slice_get k.held d) x.1) (λ m. given_credit (is_scalar s t) t m) a)
+    (all_solid_on k one ds (omega arith) (λ r e. set_solid k.held d (given s t) r (given_solid (is_scalar s t) t) e) x.2)

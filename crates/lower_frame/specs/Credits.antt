@@ -76,3 +76,8 @@ NoBares n hs = (r : ℕ) → r < n → is_bare (slice_get hs r) ≡ false
 
 abbrev pub NoTrees : ℕ → List Held → Type 0
 NoTrees n hs = (r : ℕ) → r < n → is_owned (slice_get hs r) ≡ false
+
+-- registers that are used already, and are no credit's
+abbrev pub AllSolid : Known → List ℕ → Type 0
+AllSolid k [] = Unit {0}
+AllSolid k (r ∷ rs) = (r < k.next) × (is_credit (slice_get k.held r) ≡ false) × AllSolid k rs

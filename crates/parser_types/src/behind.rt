@@ -1,9 +1,10 @@
 //! Behind a type, by what it is read for.
 
-ghost use Rattle.std.specs.Prelude.{◌≡◌, false, ◌∷◌, map, IfOk};
+ghost use Rattle.std.specs.Prelude.{◌≡◌, false, ◌∷◌, map, IfOk, MatchOption};
 ghost use Rattle.fip_language.specs.Core as C;
 ghost use Rattle.fip_base.specs.CoreView.{written as written_view, result_type};
 ghost use Rattle.fip_grammar.specs.Machine as machine;
+ghost use Rattle.fip_grammar.specs.WordView.{word};
 ghost use Rattle.parser_state.specs.StateView as view;
 ghost use Rattle.parser_state.specs.StateView.{Leads, Follows};
 
@@ -15,8 +16,8 @@ use fip_grammar::Sign;
 use fip_grammar::token::{Token, Word};
 use fip_language::Place;
 use parser_state::moves::{
-    body_open, static_end, stays_in_body, stays_in_data, stays_in_function, stays_in_type,
-    wants_type,
+    body_open, failed, refused, static_end, stays_in_body, stays_in_data, stays_in_function,
+    stays_in_type, wants_type,
 };
 use parser_state::state::{
     Body, BodyPosition, DataHead, DataHeading, FunctionHead, FunctionHeading, Next, OpenType,
@@ -36,6 +37,27 @@ pub fn type_argument(
     ensures next { Follows false token.entry result (λ w p. machine.type_done
         (view.open_type around ∷ (view.open_types «open».items)) (view.type_use purpose) (written_view written) w) }
 {
+    match argument_read(open, around, written, token) {
+        Ok(Some((position, open))) => stays_in_type(position, open, purpose),
+        Ok(None) => refused(purpose),
+        Err(error) => failed(purpose, error),
+    }
+}
+
+// The place behind an argument of a type whose brackets are open, and the types around; none where no type goes on so.
+fn argument_read(
+    open: Vec<OpenType>,
+    around: OpenType,
+    written: Written,
+    token: Token,
+) -> Result<Option<(TypePosition, Vec<OpenType>)>, AllocError>
+    ensures read { (purpose : machine.TypeUse) → IfOk result (λ found. MatchOption found
+        (machine.type_done (view.open_type around ∷ (view.open_types «open».items)) purpose (written_view written)
+        (word token.entry.word) ≡ machine.Refused)
+        (λ r. machine.type_done (view.open_type around ∷ (view.open_types «open».items)) purpose (written_view written)
+        (word token.entry.word) ≡ machine.Stays (machine.InType (view.type_position r.0)
+        (view.open_types r.1.items) purpose))) }
+{
     let mut open = open;
     let OpenType { name, place, done } = around;
     let mut done = done;
@@ -43,20 +65,17 @@ pub fn type_argument(
     match token.word {
         Word::Sign(Sign::Comma) => {
             open.push(OpenType { name, place, done })?;
-            stays_in_type(TypePosition::Wanted, open, purpose)
+            Ok(Some((TypePosition::Wanted, open)))
         }
-        Word::Sign(Sign::SquareClose) => stays_in_type(
-            TypePosition::Done {
-                written: Written::Named {
-                    name,
-                    place,
-                    arguments: done,
-                },
-            },
-            open,
-            purpose,
-        ),
-        _ => Ok(Next::Refused),
+        Word::Sign(Sign::SquareClose) => {
+            let written = Written::Named {
+                name,
+                place,
+                arguments: done,
+            };
+            Ok(Some((TypePosition::Done { written }, open)))
+        }
+        _ => Ok(None),
     }
 }
 
@@ -95,7 +114,7 @@ pub fn after_field(
             })?;
             stays_in_data(DataHeading::ConstructorEnd { data })
         }
-        _ => Ok(Next::Refused),
+        _ => refused(data),
     }
 }
 
@@ -124,7 +143,7 @@ pub fn after_signature_parameter(
             head,
             signature,
         }),
-        _ => Ok(Next::Refused),
+        _ => refused(head),
     }
 }
 
@@ -150,7 +169,7 @@ pub fn after_parameter(
     match token.word {
         Word::Sign(Sign::Comma) => stays_in_function(FunctionHeading::ParameterNext { head }),
         Word::Sign(Sign::RoundClose) => stays_in_function(FunctionHeading::ResultColon { head }),
-        _ => Ok(Next::Refused),
+        _ => refused(head),
     }
 }
 
@@ -246,7 +265,7 @@ pub fn after_result_part(
             }
             after_tuple_result(owner, ResultType::Tuple(place, parts))
         }
-        _ => Ok(Next::Refused),
+        _ => refused(owner),
     }
 }
 
@@ -285,6 +304,6 @@ pub fn after_static_argument(
             },
             body,
         ),
-        _ => Ok(Next::Refused),
+        _ => refused(body),
     }
 }

@@ -2,8 +2,9 @@ use Rattle.std.proofs.Common.{◌≡◌, ◌<◌, ◌≤◌, refl, sym, ◌∙�
 use Rattle.fip_base.specs.declared.core_form.Data.{Data}
 use Rattle.std.proofs.lemmas.List.{length-map}
 use Rattle.fip_base.specs.CoreView.{core, function, data_type}
-use Rattle.loop_form.specs.View.{loop_of}
-use Rattle.loop_form.specs.declared.program.LoopProgram.{LoopProgram}
+use Rattle.loop_form.specs.Loop.{Loop}
+use Rattle.loop_form.specs.View.{clause_of}
+use Rattle.loop_check.specs.declared.program.LoopFunction.{LoopFunction}
 use Rattle.loop_check.specs.declared.header.Known.{Known}
 use Rattle.loop_check.specs.Program.{IsKnown, Passes, PassesAll}
 use Rattle.loop_check.proofs.RightTypes.{none_right}
@@ -24,14 +25,16 @@ pub returns-in-Some-2-clause-passes : goal.returns-in-Some-2-clause-passes
 returns-in-Some-2-clause-passes c =
     let declared : IsKnown c.in-Some.known (map data_type c.as_slice.result.now) = subst (λ o. IfSome o (λ (k : Known). IsKnown k (map data_type c.as_slice.result.now))) c.in-Some.is c.in_ok-known.ensures.known in
     let one : length c.as_slice-in-Some.result.now ≡ 1 = omega arith in
-    let all : PassesAll (core c.args.program.now) (loop_of c.in-Some-2.l) = record {
+    let l = c.in-Some-2.l in
+    let made : Loop = record { types = c.in-Some.known.table; name = l.name; parameters = l.parameters; result = l.result; scrutinee = l.scrutinee; binders = l.binders; clauses = map clause_of l.clauses.items; registers = l.registers } in
+    let all : PassesAll (core c.args.program.now) made = record {
       known = c.in-Some.known;
       declared = subst (λ (ds : List Data). IsKnown c.in-Some.known (map data_type ds)) c.as_slice.ensures.value declared;
       function = function c.f-item.result;
       one = ap (map function) (sym c.as_slice-in-Some.ensures.value) ∙ ap (map function) (single c.as_slice-in-Some.result.now c.f-item.result one c.f-item.is);
-      passes = subst (λ o. IfSome o (λ (l : LoopProgram). Passes c.in-Some.known (function c.f-item.result) (loop_of l))) c.in-Some-2.is c.in_ok-l-in-len1.ensures.passes;
+      passes = subst (λ o. IfSome o (λ (q : LoopFunction). Passes c.in-Some.known (function c.f-item.result) (record { types = c.in-Some.known.table; name = q.name; parameters = q.parameters; result = q.result; scrutinee = q.scrutinee; binders = q.binders; clauses = map clause_of q.clauses.items; registers = q.registers }))) c.in-Some-2.is c.in_ok-l-in-len1.ensures.passes;
     } in
-    passes_ready (core c.args.program.now) (loop_of c.in-Some-2.l) all
+    passes_ready (core c.args.program.now) made all
 
 pub returns-in-empty-clause-passes : goal.returns-in-empty-clause-passes
 returns-in-empty-clause-passes c =

@@ -33,3 +33,6 @@ returns-else-is_first c =
           ∙ ap (λ l. machine.after_tuple_result (view.result_owner c.args.owner) (C.TupleResult c.args.place l)) (sym (map_pushed written _ _ _ c.in_ok-push.ensures.items))
           );
     }
+
+pub returns-in_default : goal.returns-in_default
+returns-in_default c = record { next = c.refused.ensures.next false _ _ (search rules) }

@@ -30,3 +30,6 @@ returns-in-Sign-SquareClose c =
           ∙ ap (λ l. machine.in_body (machine.CallOpen c.args.name c.args.place l) b) (sym (map_pushed written _ _ _ c.in_ok-push.ensures.items))
           );
     }
+
+pub returns-in_default : goal.returns-in_default
+returns-in_default c = record { next = c.refused.ensures.next false _ _ (search rules) }

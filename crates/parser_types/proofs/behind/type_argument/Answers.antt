@@ -1,31 +1,30 @@
-use Rattle.std.proofs.Common.{rules, ◌≡◌, false, ◌∷◌, sym, ap, ◌∙◌}
+use Rattle.std.proofs.Common.{◌≡◌, false, ◌∷◌, Option, subst}
+use Rattle.std.specs.Prelude.{MatchOption, Vec}
+use Rattle.std.specs.Global.{Global}
 use Rattle.fip_base.specs.CoreView.{written}
-use Rattle.fip_grammar.specs.declared.token.Word.TheVariants as W
-use Rattle.fip_grammar.specs.declared.Sign.TheVariants as S
 use Rattle.fip_grammar.specs.WordView.{word}
 use Rattle.fip_grammar.specs.Machine as machine
+use Rattle.parser_state.specs.declared.state.OpenType.{OpenType}
+use Rattle.parser_state.specs.declared.state.TypePosition.{TypePosition}
 use Rattle.parser_state.specs.StateView as view
-use Rattle.parser_types.proofs.TypeFacts as facts
 use Rattle.parser_types.proofs.behind.type_argument.Goals as goal
 
-pub returns-in_ok-push-in-Sign-Comma : goal.returns-in_ok-push-in-Sign-Comma
-returns-in_ok-push-in-Sign-Comma c =
-    let comma : c.args.token.word ≡ W.Sign S.Comma = search rules in
+pub returns-in-Ok-Some : goal.returns-in-Ok-Some
+returns-in-Ok-Some c =
+    let purpose = view.type_use c.args.purpose in
+    let read = machine.type_done (view.open_type c.args.around ∷ view.open_types c.args.open.items) purpose (written c.args.written) (word c.args.token.word) in
     record {
       next =
-          c.stays_in_type.ensures.next false _ _ (
-          ap (λ v. machine.type_done (view.open_type c.args.around ∷ view.open_types c.args.open.items) (view.type_use c.args.purpose) (written c.args.written) (word v)) comma
-          ∙ ap (λ o. machine.Stays (machine.InType machine.TypeWanted o (view.type_use c.args.purpose))) (sym (facts.type_more _ _ _ _ _ c.in_ok-push-in-Sign-Comma.ensures.items c.in_ok-push.ensures.items))
-          );
+          c.stays_in_type.ensures.next false _ _
+          (subst (λ (o : Option (TypePosition × Vec OpenType Global)). MatchOption o (read ≡ machine.Refused) (λ r. read ≡ machine.Stays (machine.InType (view.type_position r.0) (view.open_types r.1.items) purpose))) c.in-Ok-Some.field-0-is (c.in-Ok-Some.ensures.read purpose));
     }
 
-pub returns-in-Sign-SquareClose : goal.returns-in-Sign-SquareClose
-returns-in-Sign-SquareClose c =
-    let close : c.args.token.word ≡ W.Sign S.SquareClose = search rules in
+pub returns-in-Ok-None : goal.returns-in-Ok-None
+returns-in-Ok-None c =
+    let purpose = view.type_use c.args.purpose in
+    let read = machine.type_done (view.open_type c.args.around ∷ view.open_types c.args.open.items) purpose (written c.args.written) (word c.args.token.word) in
     record {
       next =
-          c.stays_in_type-in-Sign-SquareClose.ensures.next false _ _ (
-          ap (λ v. machine.type_done (view.open_type c.args.around ∷ view.open_types c.args.open.items) (view.type_use c.args.purpose) (written c.args.written) (word v)) close
-          ∙ ap (λ t. machine.Stays (machine.InType (machine.TypeDone t) (view.open_types c.args.open.items) (view.type_use c.args.purpose))) (sym (facts.type_ended c.args.around.name c.args.around.place _ _ _ c.in_ok-push.ensures.items))
-          );
+          c.refused.ensures.next false _ _
+          (subst (λ (o : Option (TypePosition × Vec OpenType Global)). MatchOption o (read ≡ machine.Refused) (λ r. read ≡ machine.Stays (machine.InType (view.type_position r.0) (view.open_types r.1.items) purpose))) c.in-Ok-None.field-0-is (c.in-Ok-None.ensures.read purpose));
     }

@@ -1,11 +1,11 @@
-use Rattle.std.proofs.Common.{◌≡◌, sym, ap, ◌∙◌, subst}
+use Rattle.std.proofs.Common.{refl, ◌≡◌, sym, ap, ◌∙◌, subst}
 use Rattle.cell_code.specs.declared.code.Instr.TheVariants as I
 use Rattle.lowered_code.specs.Known.{Known, holding, with_next, with_used}
 use Rattle.lowered_code.specs.Values.{built}
 use Rattle.match_code.specs.Written.{added}
 use Rattle.lower_frame.specs.Registers.{HasRoom}
 use Rattle.cell_lower.specs.Writing.{setting}
-use Rattle.cell_lower.proofs.Writing.{builds_atom}
+use Rattle.cell_lower.proofs.Writing.{builds_atom, builds_reused}
 use Rattle.cell_lower.proofs.lowerer.Lowerer.atom.Goals as goal
 
 pub returns-in_ok-add-in-None-clause-builds : goal.returns-in_ok-add-in-None-clause-builds
@@ -21,3 +21,6 @@ returns-in_ok-add-in-None-clause-builds c =
     builds_atom (setting c.args.self.now.context.now) c.args.self.now.frame c.set-in-None.new.self c.args.self.now.buffer c.add.new.self c.args.ty c.args.constructor c.in_ok-destination-in-None.destination next known
     (subst (HasRoom c.args.self.now.frame) (sym known) room)
     (c.in_ok-add-in-None.ensures.added ∙ ap (λ r. added c.args.self.now.buffer (I.Atom r c.args.ty c.args.constructor)) next)
+
+pub returns-in-Some-clause-builds : goal.returns-in-Some-clause-builds
+returns-in-Some-clause-builds c = builds_reused (setting c.args.self.now.context.now) c.args.self.now.frame c.take_bare.new.self c.set.new.self c.args.self.now.buffer c.args.self.now.buffer c.args.ty c.args.constructor c.in-Some.register c.in-Some.ensures.taken c.set.ensures.held refl

@@ -9,6 +9,7 @@ use Rattle.cell_lower.proofs.Calling.{operates}
 use Rattle.std.proofs.Common.{not, [], ◌∷◌}
 use Rattle.cell_lower.specs.Laying.{GivesLaid}
 use Rattle.cell_lower.proofs.Laying.{operates_laid}
+use Rattle.lower_frame.specs.Registers.{HasRoom}
 use Rattle.cell_lower.proofs.lowerer.Lowerer.operation.Goals as goal
 
 pub returns-clause-operates : goal.returns-clause-operates
@@ -22,6 +23,7 @@ pub returns-clause-laid : goal.returns-clause-laid
 returns-clause-laid c =
     operates_laid (not c.args.self.now.gives_up) c.args.self.now.frame c.set.new.self c.give.new.self.frame c.args.self.now.buffer c.add.new.self c.give.new.self.buffer c.args.applied.operator c.args.applied.place c.args.left c.args.right c.in_ok-destination.destination (target_of c.args.target)
     (subst (λ x. GoesTo (target_of c.args.target) c.args.self.now.frame (H.Scalar (result_type c.args.applied.operator)) c.in_ok-destination.destination x) (sym (c.set.ensures.held ∙ ap (λ t. holding c.first_of.new.self.frame c.in_ok-destination.destination (H.Scalar t)) c.result_of-ty.ensures.same)) (c.in_ok-destination.ensures.goes (H.Scalar (result_type c.args.applied.operator))))
+    (subst (HasRoom c.args.self.now.frame) (sym c.set.ensures.held) c.in_ok-destination.ensures.room)
     (c.in_ok-add.ensures.added ∙ ap (λ x. added c.first_of.new.self.buffer (I.Arith c.in_ok-destination.destination c.args.applied.operator c.args.left c.args.right x c.in_ok-narrow-2.field-0)) c.in_ok-narrow.ensures.same ∙ ap (λ x. added c.first_of.new.self.buffer (I.Arith c.in_ok-destination.destination c.args.applied.operator c.args.left c.args.right c.args.applied.place.line x)) c.in_ok-narrow-2.ensures.same ∙ ap (λ x. added x (I.Arith c.in_ok-destination.destination c.args.applied.operator c.args.left c.args.right c.args.applied.place.line c.args.applied.place.col)) c.in_ok-destination.ensures.buffer)
     c.in_ok-give.ensures.gives.extends
     (subst (λ y. GivesLaid (not y) c.set.new.self c.add.new.self (c.in_ok-destination.destination ∷ []) (target_of c.args.target) c.give.new.self.frame c.give.new.self.buffer) c.in_ok-destination.ensures.gives_up c.in_ok-give.ensures.laid)

@@ -2,11 +2,11 @@ use Rattle.std.proofs.Common.{◌≡◌, ◌≤◌, ◌<◌, ◌+◌, [], length
 use Rattle.std.proofs.lemmas.Bool.Decides.{nat_tests}
 use Rattle.loop_check.specs.Reached.{with_type, with_types}
 use Rattle.loop_check.proofs.Reaching.{IsWalk, walk_starts, walk_goes, walk_ends, walk_many, past_end}
-use Rattle.loop_check.proofs.reached.are_few.Goals as goal
+use Rattle.loop_check.proofs.reached.reach_few.Goals as goal
 
 pub loop-i-init : goal.loop-i-init
 loop-i-init c =
-    let first : c.reach.new.self ≡ with_type [] 1 = c.in_ok-reach.ensures.added ∙ ap (λ l. with_type l 1) c.new-reached.ensures.empty in
+    let first : c.reach.new.self ≡ with_type [] 1 = c.in_ok-reach.ensures.added ∙ ap (λ l. with_type l 1) c.requires.empty in
     let second : c.reach-2.new.self ≡ with_type (with_type [] 1) c.args.given = c.in_ok-reach-2.ensures.added ∙ ap (λ l. with_type l c.args.given) first in
     subst (IsWalk c.args.table.now c.args.parameters.now c.args.given 0) (sym (c.in_ok-reach_all.ensures.added ∙ ap (λ l. with_types l c.args.parameters.now) second)) (walk_starts c.args.table.now c.args.parameters.now c.args.given)
 

@@ -1,4 +1,4 @@
-use Rattle.std.proofs.Common.{◌≡◌, ◌∙◌, ap, List, [], map}
+use Rattle.std.proofs.Common.{◌∙◌, ap, List, [], map}
 use Rattle.fip_language.specs.declared.CreditMark.{CreditMark}
 use Rattle.fip_base.specs.CoreView.{function, static, parameter}
 use Rattle.fip_base.specs.declared.core_form.Static.{Static}

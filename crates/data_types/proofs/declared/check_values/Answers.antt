@@ -1,4 +1,4 @@
-use Rattle.std.proofs.Common.{◌∙◌, ap, List, map}
+use Rattle.std.proofs.Common.{◌∙◌, ap, map}
 use Rattle.fip_base.specs.CoreView.{data_type}
 use Rattle.fip_trees.specs.Least.{after}
 use Rattle.data_types.specs.Answers.{value_faults}

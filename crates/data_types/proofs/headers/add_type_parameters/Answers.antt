@@ -1,4 +1,4 @@
-use Rattle.std.proofs.Common.{◌≡◌, ◌∙◌, ◌+◌, suc, sym, ap, List, [], ◌∷◌, map, drop, add-one}
+use Rattle.std.proofs.Common.{◌∙◌, ◌+◌, suc, sym, ap, List, map, drop, add-one}
 use Rattle.fip_base.specs.CoreView.{static}
 use Rattle.fip_base.specs.declared.core_form.Static.{Static}
 use Rattle.fip_trees.specs.Names.{with_meanings}

@@ -1,4 +1,4 @@
-use Rattle.std.proofs.Common.{◌≡◌, ◌∙◌, ◌+◌, sym, ap, List, ◌∷◌, map, drop}
+use Rattle.std.proofs.Common.{◌∙◌, ◌+◌, sym, ap, List, map, drop}
 use Rattle.fip_base.specs.CoreView.{parameter}
 use Rattle.fip_base.specs.declared.core_form.Parameter.{Parameter}
 use Rattle.fip_trees.specs.Least.{after}

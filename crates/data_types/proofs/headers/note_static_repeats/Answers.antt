@@ -1,4 +1,4 @@
-use Rattle.std.proofs.Common.{◌≡◌, ◌∙◌, ◌+◌, not, sym, ap, List, ◌∷◌, map, drop}
+use Rattle.std.proofs.Common.{◌∙◌, ◌+◌, not, sym, ap, List, map, drop}
 use Rattle.fip_language.specs.declared.rule.Rule.TheVariants.{E10}
 use Rattle.fip_base.specs.CoreView.{static}
 use Rattle.fip_base.specs.declared.core_form.Static.{Static}

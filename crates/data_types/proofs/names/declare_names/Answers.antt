@@ -1,4 +1,4 @@
-use Rattle.std.proofs.Common.{◌≡◌, ◌∙◌, ap, List, map}
+use Rattle.std.proofs.Common.{◌∙◌, ap, List, map}
 use Rattle.fip_base.specs.CoreView as V
 use Rattle.fip_base.specs.declared.core_form.Data.{Data}
 use Rattle.fip_base.specs.declared.core_form.Function.{Function}

@@ -1,4 +1,4 @@
-use Rattle.std.proofs.Common.{◌≡◌, ◌∙◌, ◌+◌, suc, sym, ap, refl, List, ◌∷◌, map, drop, rules, add-one}
+use Rattle.std.proofs.Common.{◌∙◌, ◌+◌, suc, sym, ap, refl, List, map, drop, add-one}
 use Rattle.fip_base.specs.CoreView.{type_name}
 use Rattle.fip_base.specs.declared.core_form.TypeName.{TypeName}
 use Rattle.fip_trees.specs.Least.{after}

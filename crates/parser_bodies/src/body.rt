@@ -16,7 +16,8 @@ use fip_grammar::token::{Token, Word};
 use fip_language::{Operator, Place};
 use parser_state::literal::{literal, negated_literal};
 use parser_state::moves::{
-    close_match, enter, name_of, none_waits, operand, start_expression, stays_in_body, wants_type,
+    close_match, enter, name_of, none_waits, operand, refused, start_expression, stays_in_body,
+    wants_type,
 };
 use parser_state::state::{Binds, Body, BodyPosition, Next, OpenMatch, Opener, TypeUse, Use};
 use std::alloc::{AllocError, Global};
@@ -71,7 +72,7 @@ pub fn bind_start(alloc: Global, binds: Binds, body: Body, token: Token) -> Resu
             },
             body,
         ),
-        _ => Ok(Next::Refused),
+        _ => refused(body),
     }
 }
 
@@ -155,7 +156,7 @@ fn end_bracketed_bind(
             }
             stays_in_body(BodyPosition::LetEquals { binds: done }, body)
         }
-        _ => Ok(Next::Refused),
+        _ => refused(body),
     }
 }
 
@@ -177,7 +178,7 @@ pub fn let_equals(
                 start_expression(alloc, body, Some(binds)),
             )
         }
-        _ => Ok(Next::Refused),
+        _ => refused(body),
     }
 }
 
@@ -227,7 +228,7 @@ fn operand_sign(sign: Sign, place: Place, body: Body) -> Result<Next, AllocError
             body.partial.openers.push(Opener::If { waiting, place })?;
             stays_in_body(BodyPosition::Operand, body)
         }
-        _ => Ok(Next::Refused),
+        _ => refused(body),
     }
 }
 
@@ -269,7 +270,7 @@ pub fn call_open(
             },
             body,
         ),
-        _ => Ok(Next::Refused),
+        _ => refused(body),
     }
 }
 
@@ -322,7 +323,7 @@ pub fn minus(place: Place, body: Body, token: Token) -> Result<Next, AllocError>
             Some(value) => operand(Step::Literal { value, place }, body),
             None => Ok(Next::TooLarge),
         },
-        _ => Ok(Next::Refused),
+        _ => refused(body),
     }
 }
 
@@ -374,7 +375,7 @@ pub fn else_keyword(place: Place, yes: Block, body: Body, token: Token) -> Resul
 {
     match token.word {
         Word::Sign(Sign::Else) => stays_in_body(BodyPosition::ElseOpen { place, yes }, body),
-        _ => Ok(Next::Refused),
+        _ => refused(body),
     }
 }
 
@@ -395,6 +396,6 @@ pub fn else_open(
             BodyPosition::Block,
             enter(alloc, body, Use::No { place, yes })?,
         ),
-        _ => Ok(Next::Refused),
+        _ => refused(body),
     }
 }

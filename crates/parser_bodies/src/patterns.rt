@@ -12,7 +12,7 @@ use fip_grammar::Sign;
 use fip_grammar::token::{Token, Word};
 use fip_language::{Operator, Place};
 use parser_state::literal::{literal, negated_literal};
-use parser_state::moves::{enter, name_of, stays_in_body, stays_in_pattern};
+use parser_state::moves::{enter, name_of, refused, stays_in_body, stays_in_pattern};
 use parser_state::state::{Body, BodyPosition, Next, OpenMatch, OpenPattern, PatternPosition, Use};
 use std::alloc::{AllocError, Global};
 
@@ -88,7 +88,7 @@ pub fn pattern_wanted(
             Some(value) => pattern_read(Pattern::Literal { value, place }, open, body, clauses),
             None => Ok(Next::TooLarge),
         },
-        _ => Ok(Next::Refused),
+        _ => refused(body),
     }
 }
 
@@ -108,7 +108,7 @@ fn pattern_minus(
             Some(value) => pattern_read(Pattern::Literal { value, place }, open, body, clauses),
             None => Ok(Next::TooLarge),
         },
-        _ => Ok(Next::Refused),
+        _ => refused(body),
     }
 }
 
@@ -201,7 +201,7 @@ fn pattern_part(
             body,
             clauses,
         ),
-        _ => Ok(Next::Refused),
+        _ => refused(body),
     }
 }
 
@@ -229,6 +229,6 @@ fn after_pattern(
                 },
             )?,
         ),
-        _ => Ok(Next::Refused),
+        _ => refused(body),
     }
 }

@@ -18,3 +18,6 @@ returns-in_ok-enter-in-Sign-CurlyOpen c =
           (ap (λ v. machine.step_body (machine.ElseOpen c.args.place (view.operand b) (block c.args.yes)) (view.under_operand b) (word v) t.place) e1
           ∙ ap (λ z. machine.in_body machine.AtBlock z) (sym c.in_ok-enter-in-Sign-CurlyOpen.ensures.inner));
     }
+
+pub returns-in_default : goal.returns-in_default
+returns-in_default c = record { next = c.refused.ensures.next false _ _ (search rules) }

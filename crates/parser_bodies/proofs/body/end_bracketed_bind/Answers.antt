@@ -33,3 +33,6 @@ returns-else-is_first c =
           ∙ ap (λ z. machine.refused_where z (machine.in_body (machine.LetEquals (map bind c.args.done.items ++ bind c.args.bind ∷ [])) (view.body c.args.body))) f
           ∙ ap (λ z. machine.in_body (machine.LetEquals z) (view.body c.args.body)) (sym m ∙ ap (map bind) (sym c.in_ok-push.ensures.items)));
     }
+
+pub returns-in_default : goal.returns-in_default
+returns-in_default c = record { next = c.refused.ensures.next false _ _ (search rules) }

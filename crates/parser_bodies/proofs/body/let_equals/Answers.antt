@@ -15,3 +15,6 @@ returns-in-Sign-Equals c =
           c.stays_in_body.ensures.next false _ _
           (ap (λ v. machine.let_equals (map bind c.args.binds.items) (view.body c.args.body) (word v)) e1 ∙ ap (λ b. machine.in_body machine.AtOperand b) (sym c.start_expression.ensures.started));
     }
+
+pub returns-in_default : goal.returns-in_default
+returns-in_default c = record { next = c.refused.ensures.next false _ _ (search rules) }

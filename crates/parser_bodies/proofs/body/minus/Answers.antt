@@ -24,3 +24,6 @@ pub returns-in-None : goal.returns-in-None
 returns-in-None c = record {
   next = too_large true c.args.token (machine.step_body (machine.Minus c.args.place) (view.body c.args.body)) (W.Int c.in-Int.digits) c.in-Int.digits.now _ c.in-Int.is refl refl (c.in-None.ensures.none refl);
 }
+
+pub returns-in_default : goal.returns-in_default
+returns-in_default c = record { next = c.refused.ensures.next true _ _ (search rules) }

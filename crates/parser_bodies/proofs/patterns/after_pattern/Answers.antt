@@ -17,3 +17,6 @@ returns-in_ok-enter-in-Sign-Arrow c =
           ∙ ap (λ b. machine.in_body machine.AtBlock b) (sym c.in_ok-enter-in-Sign-Arrow.ensures.inner)
           );
     }
+
+pub returns-in_default : goal.returns-in_default
+returns-in_default c = record { next = c.refused.ensures.next false _ _ (search rules) }

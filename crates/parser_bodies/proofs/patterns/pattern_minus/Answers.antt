@@ -20,3 +20,6 @@ returns-in-Some c = record {
       ∙ ap (λ q. machine.in_pattern (machine.PatternDone q) (view.open_patterns c.args.open.items) (view.under_operand c.args.body) (view.open_match c.args.clauses (view.operand c.args.body))) (sym (facts.pattern_literal _ _ c.args.place (to_z-of_z w64 c.in-Some.value (search rules) ∙ c.in-Some.ensures.some)))
       );
 }
+
+pub returns-in_default : goal.returns-in_default
+returns-in_default c = record { next = c.refused.ensures.next true _ _ (search rules) }

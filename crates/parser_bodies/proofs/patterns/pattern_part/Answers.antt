@@ -29,3 +29,6 @@ returns-in-Sign-RoundClose c =
           ∙ ap (λ q. machine.in_pattern (machine.PatternDone q) (view.open_patterns c.args.open.items) (view.under_operand c.args.body) (view.open_match c.args.clauses (view.operand c.args.body))) (sym (facts.pattern_ended c.args.around.name c.args.around.place _ _ _ c.in_ok-push.ensures.items))
           );
     }
+
+pub returns-in_default : goal.returns-in_default
+returns-in_default c = record { next = c.refused.ensures.next false _ _ (search rules) }

@@ -49,3 +49,6 @@ returns-in_ok-name-in-Upper c = record {
       ∙ ap (λ n. machine.in_pattern (machine.PatternNamed n c.args.token.place) (view.open_patterns c.args.open.items) (view.under_operand c.args.body) (view.open_match c.args.clauses (view.operand c.args.body))) (sym c.in_ok-name-in-Upper.ensures.same)
       );
 }
+
+pub returns-in_default : goal.returns-in_default
+returns-in_default c = record { next = c.refused.ensures.next false _ _ (search rules) }

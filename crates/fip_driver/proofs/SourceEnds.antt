@@ -14,7 +14,6 @@ use Rattle.loaded_runs.specs.TraceText.{trace_text}
 use Rattle.trace_command.specs.TraceAnswer.{Kept, Traces, Ended, Stored, TooLong as LongTrace, KeptOrNoMemory}
 use Rattle.fip_driver.specs.Unread.{IsTraceFile}
 use Rattle.command_line.specs.Words.{Room, Request, Command, Check, Compile, Exec, Trace, Derive, Audit, Eval, Replay, Library, Gen, IsTextName}
-use Rattle.command_outcome.specs.Stages.{IsOfTasks}
 use Rattle.fip_commands.specs.Generated.{IsTreeSource, build, IsTreeText, KeepsFromTree}
 use Rattle.fip_commands.specs.Replayed.{IsReplayed, KeepsFromReplay}
 use Rattle.fip_library.specs.Texts.{IsText}
@@ -35,7 +34,7 @@ use Rattle.source_commands.proofs.Compiling.{uncompiled_ready}
 use Rattle.source_commands.specs.declared.files.Compiled.{Compiled as compiled_file}
 use Rattle.fip_driver.specs.Answered.{IsTold}
 use Rattle.fip_driver.specs.Commands.{IsOther, ReadsInput, CallsNoFolder, fetched_name, wanted}
-use Rattle.fip_driver.specs.Ends.{End, SaysOf, Refused, Listed, LongInput, Evaluated, Executed, Derived, Underived, MakesCode, ComesOf, Unsound, Ready, MayEnd, TracesTo, IsTaken, IsTasksEnd, IsBeside, Checks, Says, Missing, OnSource, OnAudit, OnTrace, OfLibrary, Comes, MayOnSource, MayOfGen, IsThere, IsVerdict, SaysOfAudit, Reported, NoProof, Judged, GenRefused}
+use Rattle.fip_driver.specs.Ends.{End, SaysOf, Refused, Listed, LongInput, Evaluated, Executed, Derived, Underived, MakesCode, ComesOf, Unsound, Ready, MayEnd, TracesTo, IsTaken, IsBeside, Checks, Says, Missing, OnSource, OnAudit, OnTrace, OfLibrary, Comes, MayOnSource, MayOfGen, IsThere, IsVerdict, SaysOfAudit, Reported, NoProof, Judged, GenRefused}
 use Rattle.fip_driver.specs.Fetched.{FetchFails, FileFails, StoreFails, JudgeFails, ReadFails}
 use Rattle.fip_driver.specs.Outcome.{end_of, compiled_end, IsFault, IsInputFault, ReadOutcome, InputOutcome, SourceOutcome, Closes, FileOutcome, AuditOutcome, CommandOutcome}
 use Rattle.fip_driver.specs.Spelling.{Spelling, source_spelling}
@@ -95,10 +94,6 @@ read_says Is before left rose read o c end le h = (read, whole_of before left re
 -- an input that was read to its end
 pub read_ends : (May : End → Type 0) (before left : Option (List ℕ)) (rose : Type 0) (read : List ℕ) (e : End) → Consumes before left read → IsAtEnd left → length read ≤ 16777216 → May e → InputOutcome May before rose e
 read_ends May before left rose read e c end le m = (read, whole_of before left read c end, inr (inr (le, m)))
-
-pub tasks_end : (o : Result (Vec ℕ Global) Failure) → IfErr o IsOfTasks → IsTasksEnd (end_of o)
-tasks_end (Ok text) h = tt
-tasks_end (Err failure) h = h
 
 -- an input that was read to its end, and what a traced run comes to on it
 pub read_traces : (source name : List ℕ) (room : Room) (before left : Option (List ℕ)) (rose : Type 0) (read : List ℕ) (o : Result compiled_file Failure) → Consumes before left read → IsAtEnd left → length read ≤ 16777216 → KeptOrNoMemory (Traces source name read room) o → ReadOutcome (λ input. TracesTo source name input room) before rose (compiled_end o)

@@ -12,11 +12,12 @@ use Rattle.std.specs.Io.KnownBytes.{Appends}
 use Rattle.fip_language.specs.declared.limits.TheConstants.{MOST_SOURCE_BYTES, MOST_FILE_BYTES}
 use Rattle.fip_language.specs.declared.rule.Rule.TheVariants.{E61, E70, E74}
 use Rattle.fip_base.specs.Files.{File, file_of}
+use Rattle.tasks_command.specs.TasksAnswer.{TakesTurns}
 use Rattle.trace_command.specs.TraceAnswer.{Traces}
 use Rattle.command_line.specs.Words.{Room, Request, Command, Check, Compile, Verify, Upgrade, Exec, Run, Eval, Trace}
 use Rattle.command_line.specs.Words.{Session, Tasks, Derive, Audit, Replay, Library, Gen}
 use Rattle.command_outcome.specs.Failures.{failure_status, failure_text}
-use Rattle.command_outcome.specs.Stages.{IsOfRun, IsOfTasks}
+use Rattle.command_outcome.specs.Stages.{IsOfRun}
 use Rattle.command_outcome.specs.Successes.{derived_text}
 use Rattle.command_outcome.specs.declared.failure.Failure.{Failure}
 use Rattle.command_outcome.specs.declared.failure.Failure.TheVariants as F
@@ -71,10 +72,6 @@ TracesTo source name input room (Ok text) =
     (file : List ℕ) × Traces source name input room (Ok (record { file = file; text = text }))
 TracesTo source name input room (Err failure) = Traces source name input room (Err failure)
 
-abbrev pub IsTasksEnd : End → Type 0
-IsTasksEnd (Ok text) = Unit {0}
-IsTasksEnd (Err failure) = IsOfTasks failure
-
 abbrev pub IsSessionEnd : End → Type 0
 IsSessionEnd (Ok text) = Unit {0}
 IsSessionEnd (Err failure) = ⊥
@@ -85,13 +82,13 @@ IsCompileEnd source (Ok text) = IsListing source text
 IsCompileEnd source (Err failure) = IsUncompiled source × (failure ≡ F.Refused (bare E61))
 
 -- How a command may end on a source that has what is wanted. With the gauge `exec` ends with what the source means, and
--- behind it the gauge of a run of its code.
+-- behind it the gauge of a run of its code; `tasks` with what the source means by each line of the input.
 abbrev pub MayEnd : Command → (source input : List ℕ) → End → Type 0
 MayEnd (Compile file out) source input e = IsCompileEnd source e
 MayEnd (Exec r) source input e = (r.gauge ≡ true) × Execs source r.entry input r.room true e
 MayEnd (Trace file entry out room) source input e = TracesTo source entry input room e
 MayEnd (Session file room) source input e = IsSessionEnd e
-MayEnd (Tasks file seed turns room) source input e = IsTasksEnd e
+MayEnd (Tasks file seed turns room) source input e = TakesTurns source input room e
 MayEnd c source input e = ⊥
 
 -- an input that isn't read, or hasn't too many bytes

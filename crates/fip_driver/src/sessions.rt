@@ -1,11 +1,14 @@
 // What sessions and tasks come to: which object is called when.
-ghost use Rattle.std.specs.Prelude.{◌≡◌, OnOk};
+ghost use Rattle.std.specs.Prelude.{◌≡◌, ◌≤◌, ℕ, List, OnOk};
 ghost use Rattle.std.specs.Io.KnownBytes.{IsAtEnd};
+ghost use Rattle.fip_language.specs.declared.limits.TheConstants.{MOST_FRAMES, MOST_STORE_WORDS};
 ghost use Rattle.fip_base.specs.Faults.{Rose};
 ghost use Rattle.command_line.specs.View.{room_of};
 ghost use Rattle.command_line.specs.Words as W;
-ghost use Rattle.fip_driver.specs.Ends.{IsSessionEnd, IsTasksEnd};
-ghost use Rattle.fip_driver.specs.Outcome.{FileOutcome, InputOutcome, IsCounted, end_of};
+ghost use Rattle.tasks_command.specs.Fronts.{IsFrontOf};
+ghost use Rattle.tasks_command.specs.TasksAnswer.{TakesTurns};
+ghost use Rattle.fip_driver.specs.Ends.{IsSessionEnd};
+ghost use Rattle.fip_driver.specs.Outcome.{FileOutcome, InputOutcome, IsCounted, ReadOutcome, end_of};
 ghost use Rattle.fip_driver.specs.Unread.{IsBeforeSource, IsBeforeInput};
 
 use crate::fetched::{fetch_source, read_input};
@@ -68,8 +71,11 @@ fn take_turns<S: Source>(
     room: Room,
     input: &mut S,
 ) -> Result<Vec<u8>, Failure>
-    ensures outcome { InputOutcome IsTasksEnd (S.left input.old) (Rose (S.faults input.old) (S.faults input.new))
-        (end_of result) }
+    requires words { room.words ≤ MOST_STORE_WORDS }
+    requires frames { room.frames ≤ MOST_FRAMES }
+    ensures outcome { (source : List ℕ) → IsFrontOf source front.now →
+        ReadOutcome (λ bytes. TakesTurns source bytes (room_of room)) (S.left input.old)
+        (Rose (S.faults input.old) (S.faults input.new)) (end_of result) }
     ensures read { OnOk result (IsAtEnd (S.left input.new)) }
     ensures late { IsBeforeInput result → ⊥ }
 {
@@ -89,6 +95,8 @@ pub fn tasks<F: Folder, S: Source>(
     folder: &mut F,
     input: &mut S,
 ) -> Result<Vec<u8>, Failure>
+    requires words { room.words ≤ MOST_STORE_WORDS }
+    requires frames { room.frames ≤ MOST_FRAMES }
     ensures outcome { FileOutcome (W.Tasks file.now seed turns (room_of room)) (F.files folder.old) (S.left input.old)
         (Rose (F.faults folder.old) (F.faults folder.new)) (Rose (S.faults input.old) (S.faults input.new))
         (end_of result) }

@@ -5,7 +5,7 @@ ghost use Rattle.std.specs.BTreeMap.{get_by};
 ghost use Rattle.std.specs.Cmp.Lexicographic.{slice_cmp};
 ghost use Rattle.std.specs.Ordering.{nat_cmp};
 
-use crate::entries::{Entries, frames_of};
+use call_lines::{Entries, frames_of};
 use cell_code::Function;
 use cell_store::{Cells, Sealed};
 use code_verify::Verified;

@@ -5,7 +5,7 @@
 //     give = "-" name
 //
 // An argument is a name or a value.
-use crate::scan::{Scanner, Span};
+use call_lines::{Scanner, Span};
 use fip_base::plain::NoMemory;
 use std::alloc::Global;
 

@@ -4,7 +4,7 @@ ghost use Rattle.std.specs.Prelude.{◌<◌, length, IfOk};
 use crate::book::Book;
 use crate::line::{CallLine, Written};
 use crate::reply::{Reply, Stop};
-use crate::scan::Span;
+use call_lines::Span;
 use cell_code::Function;
 use cell_store::Loader;
 use fip_base::plain::{NoMemory, Param};

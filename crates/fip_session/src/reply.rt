@@ -1,4 +1,4 @@
-// The replies to the lines of a session, and the texts of ends that are no values.
+// The replies to the lines of a session.
 use fip_base::plain::{NoMemory, TrapKind};
 use fip_machine::Ended;
 use std::alloc::{AllocError, Global};
@@ -71,13 +71,8 @@ fn trap_text(alloc: Global, kind: TrapKind, line: usize, col: usize) -> Result<V
     Ok(words.into_bytes())
 }
 
-/// The text of an end that is no value, of a run that had so many calls and frames; that of a value is `ok`.
-pub fn end_text(
-    alloc: Global,
-    ended: Ended,
-    calls: u64,
-    frames: usize,
-) -> Result<Vec<u8>, NoMemory> {
+// The text of an end that is no value, of a run that had so many calls and frames; that of a value is `ok`.
+fn end_text(alloc: Global, ended: Ended, calls: u64, frames: usize) -> Result<Vec<u8>, NoMemory> {
     match ended {
         Ended::Value => Ok(Vec::from_slice(alloc, b"ok")?),
         Ended::Trap { kind, line, col } => trap_text(alloc, kind, line, col),

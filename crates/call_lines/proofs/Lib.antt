@@ -1,0 +1,3 @@
+pub mod Tokens
+mod Naming
+mod Splitting

@@ -1,0 +1,11 @@
+mod Symbols
+mod Bridge
+mod Arguments
+mod Credits
+mod Next
+mod Values
+mod Calling
+mod CellsMade
+mod CallMade
+mod Listing
+mod Starting

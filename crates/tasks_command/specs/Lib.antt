@@ -1,0 +1,4 @@
+pub mod TasksAnswer
+pub mod Fronts
+pub mod Telling
+pub mod Called

@@ -9,6 +9,7 @@ use Rattle.data_types.specs.Answers.{value_faults}
 use Rattle.data_types.specs.Declarations.{Scope, function_scope, predeclared, declared_names, type_meanings, constructor_meanings, function_meanings}
 use Rattle.data_types.specs.Faults.{credit_faults, static_mentions, parameter_mentions, header_faults, block_faults, function_faults, all_data_faults, all_function_faults, written_violations, repeats, name_faults, type_mentions, constructor_mentions, function_mentions}
 use Rattle.data_types.proofs.Exact.{names_eq}
+
 -- the types were added to a, which gave b
 pub record WithTypes (a b : Names) (ds : List Data) : Type 0 where
   pub types : b.types ≡ with_meanings a.types (type_meanings 2 ds)

@@ -237,6 +237,42 @@ def changing_heirs(room, depth=4000):
     return code_file(types, [function([(OWNED, top)], REGISTERS, body + end)])
 
 
+def heirs_on_both_sides(room, depth=1000, side=2):
+    """A chain of cells of two fields: each is taken apart while registers read below both, those of the chain below the
+    first, and some below the second."""
+    types = [INT_CELL] + [cell(ty, 2) for ty in range(2, depth + side + 3)]
+    top = len(types) + 1
+    step = side + 2
+    turn = []
+    for place in range(depth):
+        first = place * step
+        # the next of the chain, and what is read below the second field, one below the other
+        turn += [peek(first + step, first), peek(first + 1, first, 1)]
+        turn += [peek(first + 1 + number, first + number) for number in range(1, side + 1)]
+    parts = [[place * step + step, place * step + 1] for place in range(depth)]
+    turn += [take(place * step, parts[place]) for place in range(depth)]
+    turn += [put(place * step, top - place, parts[place]) for place in reversed(range(depth))]
+    body = fill([], room - sum(map(len, types)), lambda n: turn)
+    return code_file(types, [function([(OWNED, top)], REGISTERS, body + [drop(0), const(0), ret(0)])])
+
+
+def loose_heirs(room, depth=2000, loose=2000):
+    """The same as `heirs`, with many registers before each turn that have no from any more."""
+    types = [INT_CELL] + [cell(ty) for ty in range(2, depth + 4)]
+    top = len(types) + 1
+    first, second = depth + 20, depth + 21
+    others = range(depth + 1, depth + 19)
+    turn = []
+    for number in range(loose):
+        turn += [peek(first, 0), peek(second, first), const(first)]
+    turn += [peek(place + 1, place) for place in range(depth)]
+    turn += [peek(register, depth) for register in others]
+    turn += [take(place, [place + 1]) for place in range(depth)]
+    turn += [put(place, top - place, [place + 1]) for place in reversed(range(depth))]
+    body = fill([], room - sum(map(len, types)), lambda n: turn)
+    return code_file(types, [function([(OWNED, top)], REGISTERS, body + [drop(0), const(0), ret(0)])])
+
+
 def repeated_tests(room, known, asked, count):
     """A value that may have some of so many constructors is tested again and again, for a label that asks others."""
     table = enumeration(count)
@@ -315,6 +351,8 @@ SHAPES = {
         heirs,
         reversed_heirs,
         changing_heirs,
+        heirs_on_both_sides,
+        loose_heirs,
         same_sets,
         other_sets,
         many_maps,

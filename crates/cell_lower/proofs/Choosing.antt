@@ -10,6 +10,7 @@ use Rattle.fip_language.proofs.Plain.{every_append, every_split}
 use Rattle.fip_trees.specs.declared.program.Pattern.{Pattern as Tree}
 use Rattle.fip_trees.specs.Tree.{Pattern}
 use Rattle.cell_code.specs.declared.code.Instr.{Instr}
+use Rattle.cell_code.specs.declared.kind.Kind.{Kind}
 use Rattle.cell_code.specs.declared.code.Instr.TheVariants as I
 use Rattle.match_knowledge.specs.declared.rows.Row.{Row}
 use Rattle.match_knowledge.specs.declared.verdicts.Verdict.{Verdict}
@@ -38,6 +39,8 @@ use Rattle.lower_frame.specs.Labels.{labels}
 use Rattle.cell_lower.specs.Growth.{IsRoom, left, Spends, sides_cost, sides_left, way_cost, way_left}
 use Rattle.cell_lower.proofs.Paying.{live_split, left_last, left_branch, reading_pays, naming_pays, pays_last, pays_test, pays_taken, pays_named, pays_side, spends_on, spends_none, spends_less, spends_one}
 use Rattle.lower_frame.specs.Positions.{spot_of}
+use Rattle.cell_lower.specs.Testing.{TellsSide}
+use Rattle.cell_lower.proofs.Trying.{last_laid, test_laid, chosen_laid, steps_laid_on, follows_laid}
 use Rattle.cell_lower.specs.Scenes.{pattern_at, patterns_of, scene, HasRows, side_of, sides_of, first_side, HasLabel, Labelled, Ready, NotFirst, reading_of, IsFirstOf, SettlesBy, Settles, Tests, Then, Advances, Asks, PlacesSide, FollowsIn, Follows, ChoosesIf}
 
 same_some : {A : Type 0} (x y : A) → Some x ≡ Some y → x ≡ y
@@ -156,6 +159,7 @@ tested p k root x y w z read a l d as' e f g gm h r dk dr dl ll = record {
   extends = subst (λ u. Extends (added u.written i) z) e (subst (Extends (added y.written i)) (sym h) (label_before y.written w i f g gm));
   as_long = ap size h ∙ ap (λ u. length (u ++ i ∷ [])) (g ∙ ap (λ (u : Reading). u.written.instrs) e);
   one_label = ap labels h ∙ ll ∙ ap (λ (u : Reading). suc (labels u.written)) e;
+  maps = ap (λ (u : Written). u.maps) h ∙ gm ∙ ap (λ (u : Reading). u.written.maps) e;
 }
   where
     i : Instr
@@ -179,6 +183,7 @@ asks_last tb c p v k l read ds last e = record {
     by = λ to code h good none.
         good_last (scene tb low c) is to code (size v) k read i q there (ap (λ z. compare z k) (sym same) ∙ asks) (ap (λ z. is_last tb z k) (sym same) ∙ last)
         (subst (λ z. Good (scene tb low c) to code (size v) z read) (e ∙ ap (λ z. side true z k) same) good);
+    laid = last_laid (scene tb low c) is p k l read v i q last e there same asks;
   };
   few = λ i at live asks n room. pays_last n tb (rows c.rows.items) k l read ds v (subst (λ z. left tb (rows c.rows.items) z ≤ left tb (rows c.rows.items) k) (sym e) (left_last tb c.rows.items k i p at asks live last));
 }
@@ -191,6 +196,7 @@ asks_test tb c p v w k l read read_on ds es d unsettled t e f = record {
     labelled = (subst HasLabel (sym t.label) tt, tt);
     extends = extends_on v (added y.written test) w (extends_on v y.written (added y.written test) (reading_extends p k (spot_of c.root) x) (added_extends y.written test)) t.extends;
     by = λ to code h good others. by_row low i q is there same asks to code h good others;
+    laid = test_laid (scene tb low c) is p k l read read_on v w i q d unsettled t f there same asks;
   };
   few = λ i at live asks n room.
       subst (λ z. Spends (way_cost n tb (rows c.rows.items) None k read ds) (way_left n tb (rows c.rows.items) None k ds) v (way_cost n tb (rows c.rows.items) None z read_on es) (way_left n tb (rows c.rows.items) None z es) w) (sym f)
@@ -237,6 +243,7 @@ advances_chosen tb c v w k read read_on ds i f t = record {
     labelled = tt;
     extends = settled_extends c.takes t.by;
     by = λ to code h leads none. by_takes low is has to code h leads c.takes refl t.by;
+    laid = chosen_laid (scene tb low c) is k read read_on v w i q t.there (fit has) t.by;
   };
   few = λ n room. paid n room c.takes t.by;
 }
@@ -291,6 +298,7 @@ advances_on tb c v w z k l m ra rb rc ds es fs o a b = record {
     by = λ to code h next good.
         let two = every_split (SideGood (scene tb low c) to code 0) p.new q.new good in
         p.by to code (front (size v) w z to code q.extends h) (q.by to code (back (size v) (size w) z to code p.extends.grows h) next two.1) two.0;
+    laid = steps_laid_on (scene tb low c) is v w z k l m ra rb rc p.new q.new o p.extends q.extends p.laid q.laid;
   };
   few = λ n room. spends_on _ _ _ _ _ _ v w z (a.few n room) (b.few n room);
 }
@@ -301,8 +309,8 @@ goes_next tb c v0 k0 read0 ds0 v k read ds w l read_on es o e g a = record {
 }
 
 -- from the place of a side on
-pub follows_to : (tb : Table) (c : Choice) (v u w : Written) (d : Side) (k l : Known) (ra rb : List ℕ) (ds es : List Side) (i : ℕ) (o : Option ℕ) → PlacesSide v d.label u → o ≡ Some i → k ≡ d.known → ra ≡ d.read → Advances tb c u k ra ds w l rb es o → Follows tb c v d ds w es i
-follows_to tb c v u w d k l ra rb ds es i o p e f g a = record {
+pub follows_to : (tb : Table) (kinds : List Kind) (c : Choice) (v u w : Written) (d : Side) (k l : Known) (ra rb : List ℕ) (ds es : List Side) (i : ℕ) (o : Option ℕ) → PlacesSide v d.label kinds u → o ≡ Some i → k ≡ d.known → ra ≡ d.read → Advances tb c u k ra ds w l rb es o → Follows tb kinds c v d ds w es i
+follows_to tb kinds c v u w d k l ra rb ds es i o p e f g a = record {
   by = λ low is has. let q = a.by low is has in record {
     new = q.new;
     behind = q.behind;
@@ -312,24 +320,29 @@ follows_to tb c v u w d k l ra rb ds es i o p e f g a = record {
         at_label low to code d.label p (front (size v) u w to code q.extends h)
         (subst (λ z. Good (scene tb low c) to code (size u) d.known z) g (subst (λ z. Good (scene tb low c) to code (size u) z ra) f
         (q.by to code (back (size v) (size u) w to code (side_extends d.label p).grows h) (subst (Then (scene tb low c) to code w l rb) (sym e) leads) good)));
+    laid = follows_laid (scene tb low c) is v u w d k l ra rb q.new i o (side_long d.label p) (side_extends d.label p) e f g q.laid kinds (side_tells q.extends q.laid.maps d.label p);
   };
   few = λ n room. pays_side n tb (rows c.rows.items) d k ra ds es (way_cost n tb (rows c.rows.items) o l rb es) (way_left n tb (rows c.rows.items) o l es) v u w f (side_long d.label p) (side_labels d.label p)
       (ap (λ z. way_cost n tb (rows c.rows.items) z l rb es) e) (ap (λ z. way_left n tb (rows c.rows.items) z l es) e) (a.few n room);
 }
   where
-    side_extends : (o' : Option ℕ) → PlacesSide v o' u → Extends v u
+    side_extends : (o' : Option ℕ) → PlacesSide v o' kinds u → Extends v u
     side_extends None x = subst (Extends v) (sym x) (same_extends v)
     side_extends (Some n) x = x.0
 
-    side_long : (o' : Option ℕ) → PlacesSide v o' u → size u ≡ size v
+    side_long : (o' : Option ℕ) → PlacesSide v o' kinds u → size u ≡ size v
     side_long None x = ap size x
     side_long (Some n) x = x.1
 
-    side_labels : (o' : Option ℕ) → PlacesSide v o' u → labels u ≡ labels v
+    side_labels : (o' : Option ℕ) → PlacesSide v o' kinds u → labels u ≡ labels v
     side_labels None x = ap labels x
     side_labels (Some n) x = x.3
 
-    at_label : (low : ℕ) (to : ℕ → ℕ) (code : List Instr) (o' : Option ℕ) → PlacesSide v o' u → HasFrom (size v) u to code → Good (scene tb low c) to code (size u) d.known d.read → Good (scene tb low c) to code (place_of_side to (size v) o') d.known d.read
+    side_tells : Extends u w → w.maps ≡ u.maps → (o' : Option ℕ) → PlacesSide v o' kinds u → TellsSide v o' kinds w
+    side_tells more same None x = same ∙ ap (λ (y : Written). y.maps) x
+    side_tells more same (Some n) x = (more.placed n (size v) x.2, same ∙ x.4)
+
+    at_label : (low : ℕ) (to : ℕ → ℕ) (code : List Instr) (o' : Option ℕ) → PlacesSide v o' kinds u → HasFrom (size v) u to code → Good (scene tb low c) to code (size u) d.known d.read → Good (scene tb low c) to code (place_of_side to (size v) o') d.known d.read
     at_label low to code None x h good = subst (λ z. Good (scene tb low c) to code (size z) d.known d.read) x good
     at_label low to code (Some n) x h good = subst (λ z. Good (scene tb low c) to code z d.known d.read) (x.1 ∙ sym (h.at n (size v) x.2)) good
 
@@ -357,8 +370,8 @@ module _ (tb : Table) (c : Choice) where
     taken_labelled v ds d (inl a) = let two = every_split Labelled ds (d ∷ []) a in (two.0, inr two.1.0)
     taken_labelled v ds d (inr b) = let two = unlabelled ds d b.0 in (subst (Every Labelled) (sym two.0) tt, inl b.1)
 
-    pub turned : (v w : Written) (ds : List Side) (d : Side) (es : List Side) (i : ℕ) → Ready start v (ds ++ d ∷ []) → FollowsIn s v d ds w es i → Every Labelled es × ((to : ℕ → ℕ) (code : List Instr) → HasFrom (size v) w to code → LeadsTo s to code (size w) i → AllGood s to code start es → AllGood s to code start (ds ++ d ∷ []))
-    turned v w ds d es i ready f = (labelled, λ to code h leads good. whole to code h leads (subst (AllGood s to code start) f.behind good))
+    pub turned : (kinds : List Kind) (v w : Written) (ds : List Side) (d : Side) (es : List Side) (i : ℕ) → Ready start v (ds ++ d ∷ []) → FollowsIn s kinds v d ds w es i → Every Labelled es × ((to : ℕ → ℕ) (code : List Instr) → HasFrom (size v) w to code → LeadsTo s to code (size w) i → AllGood s to code start es → AllGood s to code start (ds ++ d ∷ []))
+    turned kinds v w ds d es i ready f = (labelled, λ to code h leads good. whole to code h leads (subst (AllGood s to code start) f.behind good))
       where
         before : Every Labelled ds × ((start ≡ size v) ⊎ HasLabel d.label)
         before = taken_labelled v ds d ready
@@ -377,11 +390,11 @@ module _ (tb : Table) (c : Choice) where
             let g = f.by to code h leads (good_start s to code start 0 f.new f.labelled two.1) in
             every_append (SideGood s to code start) ds (d ∷ []) two.0 (subst (λ p. Good s to code p d.known d.read) (same_place to d.label before.1) g, tt)
 
-  pub chooses_here : (i : ℕ) (v w : Written) (ds ds0 : List Side) (d : Side) (es : List Side) → ds0 ≡ ds ++ d ∷ [] → Follows tb c v d ds w es i → ChoosesIf tb c i v ds0 w es true
-  chooses_here i v w ds ds0 d es e f = record {
+  pub chooses_here : (kinds : List Kind) (i : ℕ) (v w : Written) (ds ds0 : List Side) (d : Side) (es : List Side) → ds0 ≡ ds ++ d ∷ [] → Follows tb kinds c v d ds w es i → ChoosesIf tb c i v ds0 w es true
+  chooses_here kinds i v w ds ds0 d es e f = record {
     by = λ low start is has ready.
         let g = f.by low is has in
-        let t = turned low start is has v w ds d es i (subst (Ready start v) e ready) g in
+        let t = turned low start is has kinds v w ds d es i (subst (Ready start v) e ready) g in
         record {
           labelled = t.0;
           extends = g.extends;
@@ -390,11 +403,11 @@ module _ (tb : Table) (c : Choice) where
     few = λ n room. subst (λ z. Spends (sides_cost n tb (rows c.rows.items) z) (sides_left n tb (rows c.rows.items) z) v (sides_cost n tb (rows c.rows.items) es) (sides_left n tb (rows c.rows.items) es) w) (sym e) (spends_less _ _ _ _ v w (f.few n room));
   }
 
-  pub chooses_on : (i j label : ℕ) (v w z : Written) (ds ds0 : List Side) (d : Side) (es : List Side) → ds0 ≡ ds ++ d ∷ [] → Follows tb c v d ds w es j → label ≡ get_or c.entries.items j 0 → z ≡ added w (I.Jump label) → ChoosesIf tb c i v ds0 z es false
-  chooses_on i j label v w z ds ds0 d es e f k m = record {
+  pub chooses_on : (kinds : List Kind) (i j label : ℕ) (v w z : Written) (ds ds0 : List Side) (d : Side) (es : List Side) → ds0 ≡ ds ++ d ∷ [] → Follows tb kinds c v d ds w es j → label ≡ get_or c.entries.items j 0 → z ≡ added w (I.Jump label) → ChoosesIf tb c i v ds0 z es false
+  chooses_on kinds i j label v w z ds ds0 d es e f k m = record {
     by = λ low start is has ready.
         let g = f.by low is has in
-        let t = turned low start is has v w ds d es j (subst (Ready start v) e ready) g in
+        let t = turned low start is has kinds v w ds d es j (subst (Ready start v) e ready) g in
         record {
           labelled = t.0;
           extends = extends_on v w z g.extends (subst (Extends w) (sym jumped) (added_extends w jump));

@@ -11,7 +11,13 @@ pub mod Blocks
 pub mod Expressions
 pub mod Folding
 pub mod Paying
+pub mod Overlaying
+pub mod Seeing
+pub mod Missing
+pub mod Trying
 pub mod Choosing
+pub mod Sighting
+pub mod Sided
 pub mod Beginning
 pub mod Bounding
 pub mod Matching

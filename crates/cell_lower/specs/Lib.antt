@@ -2,9 +2,13 @@ pub mod Limits
 pub mod LimitNotes
 pub mod Shape
 pub mod Growth
+pub mod Overlays
+pub mod Seen
+pub mod Testing
 pub mod Scenes
 pub mod Writing
 pub mod Laying
+pub mod Chosen
 pub mod Clauses
 pub mod Lowered
 pub mod Sizes

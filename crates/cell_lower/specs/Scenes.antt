@@ -10,6 +10,7 @@ use Rattle.fip_trees.specs.declared.program.Pattern.{Pattern as Tree}
 use Rattle.fip_trees.specs.Tree.{Pattern}
 use Rattle.fip_trees.specs.TreeView as V
 use Rattle.cell_code.specs.declared.code.Instr.{Instr}
+use Rattle.cell_code.specs.declared.kind.Kind.{Kind}
 use Rattle.match_knowledge.specs.declared.verdicts.Verdict.TheVariants as D
 use Rattle.match_knowledge.specs.Patterns as M
 use Rattle.match_knowledge.specs.Known.{Known, Open, Knowns, NoKnowns, MoreKnowns, compare, is_asks, side}
@@ -27,8 +28,9 @@ use Rattle.cell_lower.specs.declared.choices.Asked.{Asked as Found}
 use Rattle.cell_lower.specs.declared.choices.First.{First}
 use Rattle.cell_lower.specs.declared.choices.First.TheVariants as F
 use Rattle.cell_lower.specs.Growth.{IsRoom, Spends, sides_cost, sides_left, way_cost, way_left}
-use Rattle.lower_frame.specs.Labels.{labels}
+use Rattle.lower_frame.specs.Labels.{labels, telling}
 use Rattle.lower_frame.specs.Positions.{spot_of, spot_at}
+use Rattle.cell_lower.specs.Testing.{StepsLaid, FollowsLaid}
 
 abbrev pub pattern_at : Bor Tree → Pattern
 pattern_at b = V.pattern b.now
@@ -130,6 +132,7 @@ pub record Tests (p : M.Pattern) (k : Known) (root : S.Spot) (x : Reading) (w : 
   pub extends : Extends (added (reading p k root x).written (test_of found.register found.head target)) w
   pub as_long : size w ≡ size (added (reading p k root x).written (test_of found.register found.head target))
   pub one_label : labels w ≡ suc (labels (reading p k root x).written)
+  pub maps : w.maps ≡ (reading p k root x).written.maps
 
 -- where this leads: to a clause, or to where something more is known
 abbrev pub Then : Scene → (ℕ → ℕ) → List Instr → Written → Known → List ℕ → Option ℕ → Type 0
@@ -167,6 +170,7 @@ pub record Steps (s : Scene) (v : Written) (k : Known) (read : List ℕ) (ds : L
   pub extends : Extends v w
   pub by : (to : ℕ → ℕ) (code : List Instr) → HasFrom (size v) w to code → Then s to code w l read_on o →
       AllGood s to code 0 new → Good s to code (size v) k read
+  pub laid : StepsLaid s v k read w l read_on new o
 
 pub record Advances (tb : Table) (c : Choice) (v : Written) (k : Known) (read : List ℕ) (ds : List Side) (w : Written)
     (l : Known) (read_on : List ℕ) (es : List Side) (o : Option ℕ) : Type 0 where
@@ -182,24 +186,27 @@ pub record Asks (tb : Table) (c : Choice) (p : M.Pattern) (v : Written) (k : Kno
       first_live 0 (View.rows c.rows.items) k ≡ Split p → compare p k ≡ D.Asks →
       Pays tb c v None k read ds w None l read_on es
 
--- a label has its place here, where there is one
-abbrev pub PlacesSide : Written → Option ℕ → Written → Type 0
-PlacesSide v None w = w ≡ v
-PlacesSide v (Some l) w = Extends v w × (size w ≡ size v) × IsAt w l (size v) × (labels w ≡ labels v)
+-- a label has its place here, where there is one, and these kinds are told
+abbrev pub PlacesSide : Written → Option ℕ → List Kind → Written → Type 0
+PlacesSide v None kinds w = w ≡ v
+PlacesSide v (Some l) kinds w =
+    Extends v w × (size w ≡ size v) × IsAt w l (size v) × (labels w ≡ labels v)
+    × (w.maps ≡ telling (size v) kinds v.maps)
 
 -- the tests from a side on lead to a clause
-pub record FollowsIn (s : Scene) (v : Written) (d : Side) (ds : List Side) (w : Written) (es : List Side)
-    (i : ℕ) : Type 0 where
+pub record FollowsIn (s : Scene) (kinds : List Kind) (v : Written) (d : Side) (ds : List Side) (w : Written)
+    (es : List Side) (i : ℕ) : Type 0 where
   pub new : List Side
   pub behind : es ≡ ds ++ new
   pub labelled : Every Labelled new
   pub extends : Extends v w
   pub by : (to : ℕ → ℕ) (code : List Instr) → HasFrom (size v) w to code → LeadsTo s to code (size w) i →
       AllGood s to code 0 new → Good s to code (place_of_side to (size v) d.label) d.known d.read
+  pub laid : FollowsLaid s kinds v d w new i
 
-pub record Follows (tb : Table) (c : Choice) (v : Written) (d : Side) (ds : List Side) (w : Written) (es : List Side)
-    (i : ℕ) : Type 0 where
-  pub by : (low : ℕ) → IsScene (scene tb low c) → HasRows c → FollowsIn (scene tb low c) v d ds w es i
+pub record Follows (tb : Table) (kinds : List Kind) (c : Choice) (v : Written) (d : Side) (ds : List Side)
+    (w : Written) (es : List Side) (i : ℕ) : Type 0 where
+  pub by : (low : ℕ) → IsScene (scene tb low c) → HasRows c → FollowsIn (scene tb low c) kinds v d ds w es i
   pub few : PaysMore tb c v (ds ++ d ∷ []) w es
 
 -- the tests are written up to here, or all that lead here

@@ -8,11 +8,13 @@
 // The tests are written as far as the clauses ask for them: those that choose the next clause, and then its body, to
 // which the last of them goes on. In `match! xs { Nil -> a; Cons(x, t) -> b }` the test of Nil stands first, then a,
 // then what fails the test, and b.
-ghost use Rattle.std.specs.Prelude.{◌≡◌, ◌≤◌, ℕ, suc, true, [], ◌∷◌, ◌++◌, IfOk, IfSome, OnOk, Some};
-ghost use Rattle.std.specs.Prelude.{get_or, length, slice_get};
+ghost use Rattle.std.specs.Prelude.{◌≡◌, ◌≤◌, ℕ, suc, true, [], ◌∷◌, ◌++◌, IfOk, IfSome, OnOk, Some, false};
+ghost use Rattle.std.specs.Prelude.{get_or, length, slice_get, slice_set};
 ghost use Rattle.fip_language.specs.Every.{Every};
 ghost use Rattle.fip_language.specs.Table.{Table};
 ghost use Rattle.fip_trees.specs.TreeView as V;
+ghost use Rattle.sound_code.specs.Types.{fields};
+ghost use Rattle.match_knowledge.specs.Known.{is_in};
 ghost use Rattle.match_knowledge.specs.View as View;
 ghost use Rattle.match_code.specs.Spots as S;
 ghost use Rattle.match_code.specs.Rows.{row_of};
@@ -20,7 +22,15 @@ ghost use Rattle.match_code.specs.Reading.{asked, contains, read_one, reading};
 ghost use Rattle.match_code.specs.Opening as O;
 ghost use Rattle.match_code.specs.Opening.{as_many, naming, naming_all, take_if, taking, taking_all};
 ghost use Rattle.match_code.specs.Landing.{IsScene, test_of};
-ghost use Rattle.lower_frame.specs.Positions.{spot_of, spots_of};
+ghost use Rattle.match_code.specs.Entering.{root_of};
+ghost use Rattle.lowered_code.specs.declared.held.Held.TheVariants as H;
+ghost use Rattle.laid_code.specs.Sights.{left};
+ghost use Rattle.lower_frame.specs.Positions.{spot_at, spot_of, spots_of};
+ghost use Rattle.cell_lower.specs.Chosen.{ChoosesLaid};
+ghost use Rattle.cell_lower.specs.Overlays.{failed_told, field_overlaid, may_be, overlaid, overlaid_all, part_told};
+ghost use Rattle.cell_lower.specs.Overlays.{with_root};
+ghost use Rattle.cell_lower.specs.Testing.{AreMissed, Misses};
+ghost use Rattle.cell_lower.specs.Writing.{setting};
 ghost use Rattle.cell_lower.specs.Scenes.{asked_of, asking, first_side, patterns_of, reading_of, scene, side_of};
 ghost use Rattle.cell_lower.specs.Scenes.{Advances, AtSpot, ChoosesIf, Follows, HasRows, IsFirstOf, Settles};
 ghost use Rattle.cell_lower.specs.Scenes.{Asks, NotFirst, PlacesSide, SettlesBy, Tests, naming_part, sides_of};
@@ -28,9 +38,10 @@ ghost use Rattle.cell_lower.specs.Scenes.{Asks, NotFirst, PlacesSide, SettlesBy,
 use crate::lowerer::Lowerer;
 use cell_code::{Constructors, From, Instr, Kind, Registers};
 use fip_base::plain::NoMemory;
+use fip_base::table::TypeTable;
 use fip_language::limits::MOST_PATTERN_NODES;
-use fip_trees::program::{Binder, Pattern, Program};
-use lower_frame::{Spot, field_at};
+use fip_trees::program::{Binder, Pattern};
+use lower_frame::{Spot, constructors_of, field_at};
 use lowered_code::Held;
 use match_knowledge::{
     Head, Knowledge, Row, compare, is_asks, is_fits, is_last, open, same_head, side,
@@ -79,13 +90,6 @@ struct Asked {
 struct Overlay<'r> {
     root: Option<u16>,
     read: &'r [u16],
-}
-
-// How the words below a scrutinee are held: as what it is itself, or lent of a root.
-#[derive(Clone, Copy)]
-struct Below {
-    root: Option<u16>,
-    from: Option<From>,
 }
 
 /// The start of a match, where tests aren't written yet: nothing is known.
@@ -137,6 +141,7 @@ impl<'c> Choice<'c> {
     /// The label of a clause's body.
     pub fn entry(&self, clause: usize) -> Result<u32, NoMemory>
         ensures entry { IfOk result (λ l. l ≡ get_or self.now.entries.items clause 0) }
+        ensures there { IfOk result (λ l. slice_get self.now.entries.items clause ≡ Some l) }
     {
         match self.entries.get(clause) {
             None => Err(NoMemory),
@@ -162,17 +167,13 @@ impl<'c> Choice<'c> {
     }
 
     // Whether a clause may be chosen where tests aren't written yet.
-    fn may_choose(&self, sides: &[Side], clause: usize) -> bool {
-        let Some(row) = self.rows.get(clause) else {
-            return false;
-        };
-        for next in sides {
-            let verdict = compare(row, &next.known);
-            if is_fits(verdict) || is_asks(verdict) {
-                return true;
-            }
+    fn may_choose(&self, sides: &[Side], clause: usize) -> bool
+        ensures missed { result ≡ false → AreMissed (View.rows self.now.rows.items) clause (sides_of sides.now) }
+    {
+        match self.rows.get(clause) {
+            None => false,
+            Some(row) => may_come(sides, row),
         }
-        false
     }
 
     // Whether the tests are written that choose a clause; for the last clause all. At the start of the match they
@@ -180,6 +181,7 @@ impl<'c> Choice<'c> {
     fn is_written(&self, sides: &[Side], clause: usize) -> bool
         ensures all { result ≡ true → length self.now.rows.items ≤ suc clause → sides.now ≡ [] }
         ensures begun { result ≡ true → NotFirst (sides_of sides.now) }
+        ensures missed { result ≡ true → AreMissed (View.rows self.now.rows.items) clause (sides_of sides.now) }
     {
         if is_start(sides) {
             return false;
@@ -190,6 +192,19 @@ impl<'c> Choice<'c> {
             !self.may_choose(sides, clause)
         }
     }
+}
+
+// Whether a value comes to one of these sides that may match a pattern.
+fn may_come(sides: &[Side], row: &Row) -> bool
+    ensures missed { result ≡ false → Every (Misses (View.row row.now)) (sides_of sides.now) }
+{
+    for next in sides {
+        let verdict = compare(row, &next.known);
+        if is_fits(verdict) || is_asks(verdict) {
+            return true;
+        }
+    }
+    false
 }
 
 // Whether the side that is next is the start of the match.
@@ -216,6 +231,8 @@ impl<'a> Lowerer<'a> {
     ) -> Result<(), NoMemory>
         ensures chooses { OnOk result (ChoosesIf self.old.context.now.program.now.types choice.now clause
             self.old.buffer (sides_of sides.old.items) self.new.buffer (sides_of sides.new.items) true) }
+        ensures laid { OnOk result (ChoosesLaid (setting self.old.context.now) self.old.frame.held choice.now clause
+            self.old.buffer (sides_of sides.old.items) self.new.buffer (sides_of sides.new.items) true) }
         ensures all { OnOk result (length choice.now.rows.items ≤ suc clause → sides.new.items ≡ []) }
         ensures frame { OnOk result (self.new.frame ≡ self.old.frame) }
         ensures context { OnOk result (self.new.context ≡ self.old.context) }
@@ -238,6 +255,8 @@ impl<'a> Lowerer<'a> {
         clause: usize,
     ) -> Result<bool, NoMemory>
         ensures turn { IfOk result (ChoosesIf self.old.context.now.program.now.types choice.now clause
+            self.old.buffer (sides_of sides.old.items) self.new.buffer (sides_of sides.new.items)) }
+        ensures laid { IfOk result (ChoosesLaid (setting self.old.context.now) self.old.frame.held choice.now clause
             self.old.buffer (sides_of sides.old.items) self.new.buffer (sides_of sides.new.items)) }
         ensures all { IfOk result (λ b. b ≡ true → length choice.now.rows.items ≤ suc clause → sides.new.items ≡ []) }
         ensures frame { OnOk result (self.new.frame ≡ self.old.frame) }
@@ -266,6 +285,9 @@ impl<'a> Lowerer<'a> {
         ensures turn { IfOk result (ChoosesIf self.old.context.now.program.now.types choice.now clause
             self.old.buffer (sides_of sides.old.items ++ side_of next ∷ []) self.new.buffer
             (sides_of sides.new.items)) }
+        ensures laid { IfOk result (ChoosesLaid (setting self.old.context.now) self.old.frame.held choice.now clause
+            self.old.buffer (sides_of sides.old.items ++ side_of next ∷ []) self.new.buffer
+            (sides_of sides.new.items)) }
         ensures all { IfOk result (λ b. b ≡ true → length choice.now.rows.items ≤ suc clause → sides.new.items ≡ []) }
         ensures frame { OnOk result (self.new.frame ≡ self.old.frame) }
         ensures context { OnOk result (self.new.context ≡ self.old.context) }
@@ -286,8 +308,10 @@ impl<'a> Lowerer<'a> {
         sides: &mut Vec<Side>,
         from: Side,
     ) -> Result<usize, NoMemory>
-        ensures follows { IfOk result (Follows self.old.context.now.program.now.types choice.now self.old.buffer
-            (side_of from) (sides_of sides.old.items) self.new.buffer (sides_of sides.new.items)) }
+        ensures follows { IfOk result (Follows self.old.context.now.program.now.types (failed_told
+            (setting self.old.context.now) self.old.frame.held choice.now.ty (spot_of choice.now.root)
+            (View.known from.known) from.read.items) choice.now self.old.buffer (side_of from)
+            (sides_of sides.old.items) self.new.buffer (sides_of sides.new.items)) }
         ensures frame { OnOk result (self.new.frame ≡ self.old.frame) }
         ensures context { OnOk result (self.new.context ≡ self.old.context) }
     {
@@ -315,7 +339,9 @@ impl<'a> Lowerer<'a> {
         read: &[u16],
         label: Option<u32>,
     ) -> Result<(), NoMemory>
-        ensures placed { OnOk result (PlacesSide self.old.buffer label self.new.buffer) }
+        ensures placed { OnOk result (PlacesSide self.old.buffer label (failed_told (setting self.old.context.now)
+            self.old.frame.held choice.now.ty (spot_of choice.now.root) (View.known known.now) read.now)
+            self.new.buffer) }
         ensures frame { OnOk result (self.new.frame ≡ self.old.frame) }
         ensures context { OnOk result (self.new.context ≡ self.old.context) }
     {
@@ -594,46 +620,54 @@ impl<'a> Lowerer<'a> {
         choice: &Choice<'_>,
         known: &Knowledge,
         read: &[u16],
-    ) -> Result<Vec<Kind>, NoMemory> {
+    ) -> Result<Vec<Kind>, NoMemory>
+        ensures told { IfOk result (λ v. v.items ≡ failed_told (setting self.now.context.now) self.now.frame.held
+            choice.now.ty (spot_of choice.now.root) (View.known known.now) read.now) }
+    {
         let mut kinds = self
             .frame
             .kinds(self.context.alloc, &self.context.program.types)?;
-        let below = self.overlay_root(&mut kinds, choice, known)?;
-        let overlay = Overlay {
-            root: below.root,
-            read,
-        };
+        let root = self.overlay_root(&mut kinds, choice, known)?;
+        let overlay = Overlay { root, read };
         self.overlay_fields(&mut kinds, &choice.root, choice.ty, known, overlay)?;
         Ok(kinds)
     }
 
-    // What is known of the scrutinee, and how its fields are held.
+    // What is known of the scrutinee; the register in whose tree its fields are.
     fn overlay_root(
         &self,
         kinds: &mut Vec<Kind>,
         choice: &Choice<'_>,
         known: &Knowledge,
-    ) -> Result<Below, NoMemory> {
+    ) -> Result<Option<u16>, NoMemory>
+        ensures root { IfOk result (λ o. o ≡ root_of (S.register (spot_of choice.now.root))
+            (get_or self.now.frame.held (S.register (spot_of choice.now.root)) H.Nothing)) }
+        ensures kinds { OnOk result (kinds.new.items ≡ with_root self.now.context.now.program.now.types choice.now.ty
+            (get_or self.now.frame.held (S.register (spot_of choice.now.root)) H.Nothing) (View.known known.now)
+            (S.register (spot_of choice.now.root)) kinds.old.items) }
+    {
         let register = choice.root.register;
-        let (alloc, program, ty) = (self.context.alloc, self.context.program, choice.ty);
+        let ty = choice.ty;
+        let constructors = left_of(self.context.alloc, &self.context.program.types, ty, known)?;
         match self.frame.at(register) {
             Held::Owned { .. } => {
-                let constructors = left_of(alloc, program, ty, known)?;
                 set_kind(kinds, register, Kind::Owned { ty, constructors });
-                Ok(Below {
-                    root: Some(register),
-                    from: None,
-                })
+                Ok(Some(register))
             }
             Held::Lent { root, .. } => {
-                let below = Below { root, from: None };
-                set_kind(kinds, register, lent(alloc, program, ty, known, below)?);
-                Ok(below)
+                let kind = Kind::Lent {
+                    ty,
+                    constructors,
+                    root,
+                    from: None,
+                };
+                set_kind(kinds, register, kind);
+                Ok(root)
             }
-            _ => Ok(Below {
-                root: None,
-                from: None,
-            }),
+            Held::Nothing => Ok(None),
+            Held::Scalar { .. } => Ok(None),
+            Held::Credit { .. } => Ok(None),
+            Held::Bare { .. } => Ok(None),
         }
     }
 
@@ -646,14 +680,18 @@ impl<'a> Lowerer<'a> {
         ty: u32,
         known: &Knowledge,
         overlay: Overlay<'_>,
-    ) -> Result<(), NoMemory> {
+    ) -> Result<(), NoMemory>
+        ensures kinds { OnOk result (kinds.new.items ≡ overlaid (setting self.now.context.now) overlay.entry.root
+            overlay.entry.read.now ty (View.known known.now) (spot_of spot.now) kinds.old.items) }
+    {
         match known {
             Knowledge::Open(_) => Ok(()),
             Knowledge::Is(head, parts) => match head {
                 Head::Number(_) => Ok(()),
                 Head::Tag(constructor) => {
-                    let types = self.context.program.fields(ty, *constructor);
-                    self.overlay_all(kinds, spot, types, parts, overlay)
+                    let types = fields_of(&self.context.program.types, ty, *constructor);
+                    self.overlay_all(kinds, spot, types, parts.as_slice(), overlay)?;
+                    Ok(())
                 }
             },
         }
@@ -667,43 +705,74 @@ impl<'a> Lowerer<'a> {
         types: &[u32],
         parts: &[Knowledge],
         overlay: Overlay<'_>,
-    ) -> Result<(), NoMemory> {
+    ) -> Result<(), NoMemory>
+        ensures kinds { OnOk result (kinds.new.items ≡ overlaid_all (setting self.now.context.now) overlay.entry.root
+            overlay.entry.read.now types.now (View.knowns parts.now) (S.fields (spot_of spot.now))
+            (S.register (spot_of spot.now)) 0 kinds.old.items) }
+    {
         let mut field: usize = 0;
         for part in parts {
-            if let (Some(ty), Some(child)) = (types.get(field), spot.fields.get(field))
-                && overlay.read.contains(&child.register)
-            {
-                let from = From {
-                    register: spot.register,
-                    field: u8::try_from(field).map_err(|_| NoMemory)?,
-                };
-                let below = Below {
-                    root: overlay.root,
-                    from: Some(from),
-                };
-                self.overlay_field(kinds, child.register, *ty, part, below)?;
-                self.overlay_fields(kinds, child, *ty, part, overlay)?;
+            match types.get(field) {
+                None => {}
+                Some(ty) => self.overlay_field(kinds, spot, *ty, part, field, overlay)?,
             }
-            field = field.saturating_add(1);
+            field += 1;
         }
         Ok(())
     }
 
+    // What is known of a field, where it was read.
+    #[cycle(overlay)]
     fn overlay_field(
         &self,
         kinds: &mut Vec<Kind>,
-        register: u16,
+        spot: &Spot,
+        ty: u32,
+        part: &Knowledge,
+        field: usize,
+        overlay: Overlay<'_>,
+    ) -> Result<(), NoMemory>
+        ensures kinds { OnOk result (kinds.new.items ≡ field_overlaid (setting self.now.context.now) overlay.entry.root
+            overlay.entry.read.now ty (View.known part.now) (spot_at (S.fields (spot_of spot.now)) field)
+            (S.register (spot_of spot.now)) field kinds.old.items) }
+    {
+        match spot.fields.get(field) {
+            None => Ok(()),
+            Some(child) => {
+                if contains(overlay.read, child.register) {
+                    let from = From {
+                        register: spot.register,
+                        field: u8::try_from(field).map_err(|_| NoMemory)?,
+                    };
+                    let kind = self.part_kind(overlay.root, from, ty, part)?;
+                    set_kind(kinds, child.register, kind);
+                    self.overlay_fields(kinds, child, ty, part, overlay)?;
+                }
+                Ok(())
+            }
+        }
+    }
+
+    // The kind of a field that was read.
+    fn part_kind(
+        &self,
+        root: Option<u16>,
+        from: From,
         ty: u32,
         known: &Knowledge,
-        below: Below,
-    ) -> Result<(), NoMemory> {
-        let kind = if self.is_scalar(ty) {
-            Kind::Scalar { ty }
-        } else {
-            lent(self.context.alloc, self.context.program, ty, known, below)?
-        };
-        set_kind(kinds, register, kind);
-        Ok(())
+    ) -> Result<Kind, NoMemory>
+        ensures kind { IfOk result (λ k. k ≡ part_told (setting self.now.context.now) root ty (View.known known.now)
+            from.register from.field) }
+    {
+        if self.context.is_scalar(ty) {
+            return Ok(Kind::Scalar { ty });
+        }
+        Ok(Kind::Lent {
+            ty,
+            constructors: left_of(self.context.alloc, &self.context.program.types, ty, known)?,
+            root,
+            from: Some(from),
+        })
     }
 
     // Takes the cells of a pattern's constructors apart, from the root on. One without fields stays for its clause.
@@ -910,37 +979,35 @@ fn contains(read: &[u16], register: u16) -> bool
     false
 }
 
-fn set_kind(kinds: &mut Vec<Kind>, register: u16, kind: Kind) {
+fn set_kind(kinds: &mut Vec<Kind>, register: u16, kind: Kind)
+    ensures set { kinds.new.items ≡ slice_set kinds.old.items register kind }
+{
     if let Some(place) = kinds.get_mut(register as usize) {
         *place = kind;
     }
 }
 
-// A register that reads a tree of which this is known.
-fn lent(
-    alloc: Global,
-    program: &Program,
-    ty: u32,
-    known: &Knowledge,
-    below: Below,
-) -> Result<Kind, NoMemory> {
-    Ok(Kind::Lent {
-        ty,
-        constructors: left_of(alloc, program, ty, known)?,
-        root: below.root,
-        from: below.from,
-    })
+// The types of the fields of a constructor; none where there is no such constructor.
+fn fields_of(types: &TypeTable, ty: u32, constructor: u32) -> &[u32]
+    ensures same { result.now ≡ fields types.now ty constructor }
+{
+    match constructors_of(types, ty).get(constructor as usize) {
+        None => &[],
+        Some(found) => found.fields(),
+    }
 }
 
 // The constructors that a value of a type may have.
 fn left_of(
     alloc: Global,
-    program: &Program,
+    types: &TypeTable,
     ty: u32,
     known: &Knowledge,
-) -> Result<Constructors, NoMemory> {
+) -> Result<Constructors, NoMemory>
+    ensures left { IfOk result (λ s. s ≡ left types.now ty (View.known known.now)) }
+{
     let mut numbers = Vec::new(alloc);
-    let count = u32::try_from(program.constructors(ty).len()).map_err(|_| NoMemory)?;
+    let count = u32::try_from(constructors_of(types, ty).len()).map_err(|_| NoMemory)?;
     for number in 0..count {
         if may_be(known, number) {
             numbers.push(number)?;
@@ -949,17 +1016,24 @@ fn left_of(
     Ok(Constructors::new(numbers))
 }
 
-fn may_be(known: &Knowledge, constructor: u32) -> bool {
+fn may_be(known: &Knowledge, constructor: u32) -> bool
+    ensures { result ≡ may_be (View.known known.now) constructor }
+{
     let tag = Head::Tag(constructor);
     match known {
         Knowledge::Is(head, _) => same_head(head, &tag),
-        Knowledge::Open(out) => {
-            for head in out {
-                if same_head(head, &tag) {
-                    return false;
-                }
-            }
-            true
+        Knowledge::Open(out) => !is_out(out.as_slice(), &tag),
+    }
+}
+
+// Whether a head was ruled out.
+fn is_out(out: &[Head], head: &Head) -> bool
+    ensures { result ≡ is_in head.now out.now }
+{
+    for one in out {
+        if same_head(one, head) {
+            return true;
         }
     }
+    false
 }

@@ -12,6 +12,7 @@ ghost use Rattle.fip_grammar.specs.Limits as limits;
 ghost use Rattle.fip_grammar.specs.Limits.{IsSpelt, IsMisspelt};
 ghost use Rattle.fip_grammar.specs.Machine as machine;
 ghost use Rattle.parser_state.specs.StateView as view;
+ghost use Rattle.parser_state.specs.declared.state.State.TheVariants.{Top};
 ghost use Rattle.parser_state.specs.StateView.{IsAbove};
 ghost use Rattle.fip_parser.specs.Parsed.{seen_of, machine_of, Takes, Stops, IsWithin, refusal_of};
 ghost use Rattle.fip_parser.specs.Parsed.{fault_rule, reading_of, Goes, Fails, IsSpeltBy, IsMisspeltBy, IsRefused};
@@ -262,10 +263,20 @@ fn parse_tokens(alloc: Global, tokens: &Tokens) -> Result<Program, ParseError>
         state,
         before: _,
     } = reading;
-    match state {
-        State::Top => Ok(Program { declarations }),
-        _ => Err(refused(alloc, Rule::E02, tokens.end)),
+    let is_ended = is_top(&state);
+    drop(state);
+    if is_ended {
+        return Ok(Program { declarations });
     }
+    Err(refused(alloc, Rule::E02, tokens.end))
+}
+
+// Whether no declaration is open.
+fn is_top(state: &State) -> bool
+    ensures top { result ≡ true → state.now ≡ Top }
+    ensures open { result ≡ false → state.now ≡ Top → ⊥ }
+{
+    matches!(state, State::Top)
 }
 
 // The program of a source.

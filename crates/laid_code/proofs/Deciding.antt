@@ -26,10 +26,10 @@ use Rattle.laid_code.specs.Describing.{held_at, kind_of}
 use Rattle.laid_code.specs.Labels.{Takes, Catches, Tells, Shows, told, Quiet}
 use Rattle.laid_code.specs.Sights.{Sight}
 use Rattle.laid_code.specs.Tests.{Choice, ChunkLaid, SideLaid}
-use Rattle.laid_code.specs.Matches.{BuiltRight, MatchBegins, MatchLaid, entered, wide, wide_at}
+use Rattle.laid_code.specs.Matches.{BuiltRight, MatchBegins, MatchLaid, entered, wide_at}
 use Rattle.laid_code.specs.Joins.{ClauseEnds, Met}
 use Rattle.laid_code.specs.Functions.{FunctionLaid}
-use Rattle.laid_code.specs.Example.{digit, begun_kinds, met_kinds, choosing_digit, lists_code}
+use Rattle.laid_code.specs.Example.{choosing, digit, begun_kinds, met_kinds, choosing_digit, lists_code}
 
 abbrev root : Spot
 root = At 0 NoSpots
@@ -358,10 +358,13 @@ bare_tests (suc (suc zero)) t d e = absurd (cc)
 bare_tests (suc (suc (suc zero))) t d e = absurd (cc)
 bare_tests (suc (suc (suc (suc r)))) t d e = absurd (cc)
 
-no_ends : ClauseEnds lists_code choosing_digit (MoreClauses yes (gives_int 1) NoClauses) 3 left_no 6 4 left_no
+no_ends : ClauseEnds lists_code lists_setting true choosing_digit at_tests choosing (1 ∷ []) (MoreClauses yes (gives_int 1) NoClauses) 3 left_no 6 4 left_no
 no_ends = record {
+  mid = 3;
+  bare = left_no;
   stop = 3;
   left = left_no;
+  over = (refl, refl);
   bares = record { steps = 0; gives = (refl, refl); none = bare_no };
   built = built_no;
   known = refl;
@@ -369,10 +372,13 @@ no_ends = record {
   quiet = quiet_jump;
 }
 
-yes_ends : ClauseEnds lists_code choosing_digit NoClauses 6 left_yes 6 6 left_yes
+yes_ends : ClauseEnds lists_code lists_setting true choosing_digit at_tests choosing (1 ∷ []) NoClauses 6 left_yes 6 6 left_yes
 yes_ends = record {
+  mid = 6;
+  bare = left_yes;
   stop = 6;
   left = left_yes;
+  over = (refl, refl);
   bares = record { steps = 0; gives = (refl, refl); none = bare_yes };
   built = built_yes;
   known = refl;
@@ -380,7 +386,7 @@ yes_ends = record {
   quiet = quiet_end;
 }
 
-both_meet : Met true left_no left_yes met
+both_meet : Met left_no left_yes met
 both_meet = record {
   held = held;
   names = names;
@@ -388,14 +394,13 @@ both_meet = record {
   many = refl;
   credits = refl;
   next = refl;
-  same = λ e. absurd (true≢false e);
 }
   where
-    held : (r : ℕ) → ((held_at left_no.held r ≡ held_at left_yes.held r) × (held_at met.held r ≡ held_at left_no.held r)) ⊎ ((held_at left_no.held r ≡ held_at left_yes.held r → ⊥) × (held_at met.held r ≡ H.Nothing))
+    held : (r : ℕ) → ((held_at left_no.held r ≡ held_at left_yes.held r) × (held_at met.held r ≡ held_at left_no.held r)) ⊎ ((held_at left_no.held r ≡ held_at left_yes.held r → ⊥) × (held_at met.held r ≡ H.Nothing)) ⊎ ((n : ℕ) × (held_at left_no.held r ≡ H.Credit n) × (held_at met.held r ≡ held_at left_no.held r))
     held zero = inl (refl, refl)
     held (suc zero) = inl (refl, refl)
-    held (suc (suc zero)) = inr ((λ e. absurd (cc)), refl)
-    held (suc (suc (suc zero))) = inr ((λ e. absurd (cc)), refl)
+    held (suc (suc zero)) = inr (inl ((λ e. absurd (cc)), refl))
+    held (suc (suc (suc zero))) = inr (inl ((λ e. absurd (cc)), refl))
     held (suc (suc (suc (suc r)))) = inl (refl, refl)
 
     names : (x : ℕ) → ((register_of left_no.names (Some x) ≡ register_of left_yes.names (Some x)) × (register_of met.names (Some x) ≡ register_of left_no.names (Some x))) ⊎ ((register_of left_no.names (Some x) ≡ register_of left_yes.names (Some x) → ⊥) × (register_of met.names (Some x) ≡ None))
@@ -477,7 +482,7 @@ digit_is_laid = record {
         both_meet,
         (refl, refl),
       ),
-      record { next = 4; more = omega arith; known = refl; label = record { map = met_kinds; there = refl; takes = record { wide = refl; each = fits_met } } },
+      record { next = 4; more = omega arith; known = refl; map = met_kinds; label = refl },
     ),
     record {
       registers = 1 ∷ [];

@@ -1,2 +1,3 @@
 pub mod Reversing
 pub mod Deciding
+pub mod Picking

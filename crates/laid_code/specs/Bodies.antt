@@ -88,8 +88,9 @@ abbrev mutual
       (begin : ℕ) × (k0 : Known) × (ch : Choice) × (l : Known) × (e : ℕ) × (n : ℕ) × (mid : ℕ) × (m : Known)
       × (next : ℕ) × (left : Known) × (met : Known) × BaresEnd c f at k begin k0
       × Quiet f at begin (told c k) × MatchLaid c st f begin k0 ds t a q cs ch l e × EntryLaid c st f ch l 0 q e n
-      × BlockLaid c st fip f e (entered st ch q l n) b (Into rs) mid m × ClauseEnds c f cs mid m end next left
-      × ClausesMeet c st fip f ch l 1 cs rs end left next met × Meets c f met end after
+      × BlockLaid c st fip f e (entered st ch q l n) b (Into rs) mid m
+      × ClauseEnds c st fip f l (Match ds t p a q b cs) rs cs mid m end next left
+      × ClausesMeet c st fip f ch l (Match ds t p a q b cs) 1 cs rs end left next met × Meets f met end after
   ExpressionLaid c st fip f at k (Match ds t p a q b cs) Return end after =
       (ch : Choice) × (l : Known) × (e : ℕ) × (n : ℕ) × (mid : ℕ) × (m : Known)
       × MatchLaid c st f at k ds t a q cs ch l e × EntryLaid c st f ch l 0 q e n
@@ -114,14 +115,15 @@ abbrev mutual
       × SidesLaid c f (wide_at (held_at l.held)) ch more at start × EntryLaid c st f ch l i q start n
       × BlockLaid c st fip f start (entered st ch q l n) b Return mid m × ClausesLaid c st fip f ch l (suc i) cs mid end
 
-  -- The clauses from number i on, where the match is bound by a let; j is known where those before them meet, and met
+  -- The clauses from number i on of match o, which is bound by a let; j is known where those before them meet, and met
   -- is where all do.
   pub ClausesMeet :
-      PlainCode → Setting → Bool → PlainFunction → Choice → Known → ℕ → Clauses → List ℕ → ℕ → Known → ℕ → Known →
-      Type 0
-  ClausesMeet c st fip f ch l i NoClauses rs end j at met = (at ≡ end) × (met ≡ j)
-  ClausesMeet c st fip f ch l i (MoreClauses q b cs) rs end j at met =
+      PlainCode → Setting → Bool → PlainFunction → Choice → Known → Expression → ℕ → Clauses → List ℕ → ℕ → Known → ℕ →
+      Known → Type 0
+  ClausesMeet c st fip f ch l o i NoClauses rs end j at met = (at ≡ end) × (met ≡ j)
+  ClausesMeet c st fip f ch l o i (MoreClauses q b cs) rs end j at met =
       (more : ℕ) × (start : ℕ) × (n : ℕ) × (mid : ℕ) × (m : Known) × (next : ℕ) × (left : Known) × (both : Known)
       × SidesLaid c f (wide_at (held_at l.held)) ch more at start × EntryLaid c st f ch l i q start n
-      × BlockLaid c st fip f start (entered st ch q l n) b (Into rs) mid m × ClauseEnds c f cs mid m end next left
-      × Met fip j left both × ClausesMeet c st fip f ch l (suc i) cs rs end both next met
+      × BlockLaid c st fip f start (entered st ch q l n) b (Into rs) mid m
+      × ClauseEnds c st fip f l o rs cs mid m end next left × Met j left both
+      × ClausesMeet c st fip f ch l o (suc i) cs rs end both next met

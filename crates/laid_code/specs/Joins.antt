@@ -1,18 +1,22 @@
 -- It serves the proof that lowered code is sound: how the clauses of a match that is bound by a let meet. Where the
--- body of a clause ends, constructors that were matched are used up. All clauses but the last one jump to the place
--- where they meet, which stands behind the last one's. What is known there is what is known at the ends of all.
+-- body of a clause ends, constructors that were matched are used up, and in fbip what it leaves over is given up. All
+-- clauses but the last one jump to the place where they meet, which stands behind the last one's. What is known there
+-- is what is known at the ends of all.
 -- In  let y = match! xs { Nil -> a; Cons(x, t) -> b };  the code of the first clause ends in a move to the register of
 -- y, which is Move 3 1, and a Jump behind that of the second one. Where register 1 owns a list at the end of the first
 -- and not at that of the second, nothing is known of it where they meet.
-use Rattle.std.specs.Prelude.{◌≡◌, ◌⊎◌, ◌<◌, ◌≤◌, ℕ, suc, Bool, true, false, Some, None, length, slice_get}
+use Rattle.std.specs.Prelude.{◌≡◌, ◌⊎◌, ◌<◌, ◌≤◌, ℕ, suc, Bool, true, List, Some, None, length, slice_get}
 use Rattle.cell_code.specs.declared.code.Instr.TheVariants as I
-use Rattle.fip_trees.specs.Tree.{Clauses, NoClauses, MoreClauses}
-use Rattle.sound_code.specs.Codes.{PlainCode, PlainFunction}
+use Rattle.cell_code.specs.declared.kind.Kind.{Kind}
+use Rattle.fip_trees.specs.Tree.{Expression, Clauses, NoClauses, MoreClauses}
+use Rattle.sound_code.specs.Codes.{PlainCode, PlainFunction, label_at}
 use Rattle.lowered_code.specs.declared.held.Held.TheVariants as H
 use Rattle.lowered_code.specs.Known.{Known, register_of}
-use Rattle.laid_code.specs.Describing.{Holding, held_at, is_spare}
-use Rattle.laid_code.specs.Labels.{told, Catches, Quiet}
+use Rattle.lowered_code.specs.Values.{Setting}
+use Rattle.laid_code.specs.Describing.{held_at}
+use Rattle.laid_code.specs.Labels.{told, Quiet}
 use Rattle.laid_code.specs.GivenUp.{GivesUp}
+use Rattle.laid_code.specs.Leftover.{LeavesOver}
 use Rattle.laid_code.specs.Matches.{BuiltRight, wide}
 
 -- all constructors that were matched are used up
@@ -27,27 +31,28 @@ GoesOn f NoClauses stop target next = (target ≡ stop) × (next ≡ stop)
 GoesOn f (MoreClauses q b cs) stop target next =
     (slice_get f.instrs stop ≡ Some (I.Jump target)) × (stop < target) × (next ≡ suc stop)
 
--- The body of a clause ended where k was known; these clauses follow, the first one at `next`. The clauses meet at the
--- target, and l is known of this clause there. Constructors that were built are of their types.
-pub record ClauseEnds (c : PlainCode) (f : PlainFunction) (cs : Clauses) (at : ℕ) (k : Known) (target next : ℕ)
-    (l : Known) : Type 0 where
+-- The body of a clause of match e, at which o was known, ended where k was known, and gave its values to registers rs;
+-- these clauses follow, the first one at `next`. The clauses meet at the target, and l is known of this clause there.
+-- Constructors that were built are of their types.
+pub record ClauseEnds (c : PlainCode) (st : Setting) (fip : Bool) (f : PlainFunction) (o : Known) (e : Expression)
+    (rs : List ℕ) (cs : Clauses) (at : ℕ) (k : Known) (target next : ℕ) (l : Known) : Type 0 where
+  pub mid : ℕ
+  pub bare : Known
+  pub bares : BaresEnd c f at k mid bare
   pub stop : ℕ
   pub left : Known
-  pub bares : BaresEnd c f at k stop left
+  pub over : LeavesOver fip st f o e rs mid bare stop left
   pub built : (r : ℕ) → BuiltRight c.types (held_at left.held r)
   pub known : l ≡ wide left
   pub goes : GoesOn f cs stop target next
   pub quiet : Quiet f at next (told c k)
 
--- both hold the same, or nothing that is owned and no credit
-abbrev pub LeaveTheSame : Holding → Holding → Type 0
-LeaveTheSame g h = (r : ℕ) → (g r ≡ h r) ⊎ ((is_spare (g r) ≡ true) × (is_spare (h r) ≡ true))
-
--- m is what is known both where k and where l is known. In fbip it is asked that both leave the same.
-pub record Met (fip : Bool) (k l m : Known) : Type 0 where
+-- m is what is known both where k and where l is known; a credit of k may be left
+pub record Met (k l m : Known) : Type 0 where
   pub held : (r : ℕ) →
       ((held_at k.held r ≡ held_at l.held r) × (held_at m.held r ≡ held_at k.held r))
       ⊎ ((held_at k.held r ≡ held_at l.held r → ⊥) × (held_at m.held r ≡ H.Nothing))
+      ⊎ ((n : ℕ) × (held_at k.held r ≡ H.Credit n) × (held_at m.held r ≡ held_at k.held r))
   pub names : (x : ℕ) →
       ((register_of k.names (Some x) ≡ register_of l.names (Some x))
       × (register_of m.names (Some x) ≡ register_of k.names (Some x)))
@@ -57,11 +62,12 @@ pub record Met (fip : Bool) (k l m : Known) : Type 0 where
   pub many : length m.names ≡ length k.names
   pub credits : m.credits ≡ k.credits
   pub next : m.next ≡ k.next
-  pub same : fip ≡ false → LeaveTheSame (held_at k.held) (held_at l.held)
 
--- Where the clauses meet a label stands, and more registers may be used already.
-pub record Meets (c : PlainCode) (f : PlainFunction) (met : Known) (end : ℕ) (after : Known) : Type 0 where
+-- Where the clauses meet a label stands, and more registers may be used already. The label takes what is told where
+-- other code stands there; where other clauses meet at the same place, it takes what is told of these.
+pub record Meets (f : PlainFunction) (met : Known) (end : ℕ) (after : Known) : Type 0 where
   pub next : ℕ
   pub more : met.next ≤ next
   pub known : after ≡ record met { next = next }
-  pub label : Catches f end (told c after)
+  pub map : List Kind
+  pub label : label_at f.labels end ≡ Some map

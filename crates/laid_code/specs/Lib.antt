@@ -5,6 +5,8 @@ pub mod Tests
 pub mod Matches
 pub mod GivenUp
 pub mod Credits
+pub mod Uses
+pub mod Leftover
 pub mod Joins
 pub mod Moves
 pub mod Handed

@@ -1,7 +1,7 @@
 // The laws on laid out code. Each is the contract of a function that does nothing.
 ghost use Rattle.std.specs.Prelude.{Bool};
 ghost use Rattle.flat_meaning.specs.Example.{rev};
-ghost use Rattle.laid_code.specs.Example.{choosing_digit, digit, lists_code, reversing};
+ghost use Rattle.laid_code.specs.Example.{choosing_digit, digit, lists_code, pick, picking, reversing};
 ghost use Rattle.laid_code.specs.Functions.{FunctionLaid};
 ghost use Rattle.lowered_code.specs.Example.{lists_setting};
 
@@ -13,4 +13,10 @@ pub fn an_example_is_laid()
 /// The function of `digit`, whose body binds a match by a let, is laid out as it asks.
 pub fn an_example_with_a_let_is_laid()
     ensures law { FunctionLaid lists_code lists_setting Bool.true choosing_digit digit }
+{}
+
+/// The fbip function of `pick`, whose body binds a match by a let, is laid out as it asks: each clause drops what it
+/// leaves over.
+pub fn an_example_that_drops_is_laid()
+    ensures law { FunctionLaid lists_code lists_setting Bool.false picking pick }
 {}

@@ -4,4 +4,4 @@
 
 mod laws;
 
-pub use laws::{an_example_is_laid, an_example_with_a_let_is_laid};
+pub use laws::{an_example_is_laid, an_example_that_drops_is_laid, an_example_with_a_let_is_laid};

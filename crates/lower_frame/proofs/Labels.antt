@@ -98,7 +98,7 @@ pub ruleset telling_on = (last_none, last_some, untold_last, untold_none, told_f
 
 -- they rise
 
-rising_higher : (n m low : ℕ) (ms : List LabelMap) → n ≤ m → Rising n low ms → Rising m low ms
+pub rising_higher : (n m low : ℕ) (ms : List LabelMap) → n ≤ m → Rising n low ms → Rising m low ms
 rising_higher n m low [] h r = tt
 rising_higher n m low (x ∷ ms) h r = (r.0, omega (arith, h, r.1), rising_higher n m x.at ms h r.2)
 
@@ -134,7 +134,7 @@ rising_less n low j [] ks l r = absurd (omega (arith, l))
 rising_less n low zero (m ∷ ms) ks l r = (omega (arith, r.0, r.1), omega arith, tt)
 rising_less n low (suc j) (m ∷ ms) ks l r = (r.0, r.1, rising_less n m.at j ms ks (omega (arith, l)) r.2)
 
-rising_told : (n : ℕ) (ks : List Kind) (ms : List LabelMap) → Rising n 0 ms → Rising n 0 (telling n ks ms)
+pub rising_told : (n : ℕ) (ks : List Kind) (ms : List LabelMap) → Rising n 0 ms → Rising n 0 (telling n ks ms)
 rising_told zero ks ms r = r
 rising_told (suc n) ks [] r = (omega arith, omega arith, tt)
 rising_told (suc n) ks (m ∷ ms) r = subst (λ j. Rising (suc n) 0 ((if stands_at (suc n) (slice_get (m ∷ ms) j) then take j (m ∷ ms) else m ∷ ms) ++ new ∷ [])) last (by (stands_at (suc n) (slice_get (m ∷ ms) (length ms))) refl)

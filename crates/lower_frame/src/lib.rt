@@ -7,5 +7,5 @@ mod frame;
 mod spots;
 
 pub use buffer::Buffer;
-pub use frame::{Frame, as_value};
+pub use frame::{Frame, as_value, constructors_of};
 pub use spots::{Spot, add_spots, field_at};

@@ -100,7 +100,7 @@ module _ (c : PlainCode) (f : PlainFunction) (fip : Bool) (s : Scope) (B : ℕ �
     pub ties : Ties fip c.types s B K T e l
     pub each : Barely (held_at k.held) (held_at l.held)
 
-  bared_one : (at : ℕ) (k l : Known) → EndsBare f at k l → Ties fip c.types s B K T e k → Quiet f at (suc at) (told c k) → Bared at k (suc at) l
+  pub bared_one : (at : ℕ) (k l : Known) → EndsBare f at k l → Ties fip c.types s B K T e k → Quiet f at (suc at) (told c k) → Bared at k (suc at) l
   bared_one at k l h ties quiet = subst (Bared at k (suc at)) (sym h.known) (record {
     grows = omega arith;
     still = λ z q. absurd (let y : ⊥ = omega (arith, z) in y);

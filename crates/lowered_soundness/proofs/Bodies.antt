@@ -1,8 +1,8 @@
 -- Expressions and blocks: their instructions keep the rules, and what is known behind them goes with the variables.
-use Rattle.std.proofs.Common.{◌≡◌, inl, inr, ℕ, suc, ◌+◌, ◌<◌, ◌≤◌, Bool, true, false, ◌||◌, ◌&&◌, not, true≢false, slice_get, List, [], ◌∷◌, ◌++◌, length, map, Option, Some, refl, sym, ap, ◌∙◌, subst, arith, if◌then◌else◌}
+use Rattle.std.proofs.Common.{◌≡◌, inl, inr, ℕ, suc, ◌+◌, ◌-◌, ◌<◌, ◌≤◌, Bool, true, false, ◌||◌, ◌&&◌, not, true≢false, slice_get, List, [], ◌∷◌, ◌++◌, length, map, Option, Some, refl, sym, ap, ◌∙◌, subst, arith, if◌then◌else◌}
 use Rattle.fip_language.specs.Every.{Among}
 use Rattle.fip_trees.specs.declared.program.Binder.{Binder}
-use Rattle.fip_trees.specs.Tree.{NoArguments, MoreArguments, Pattern, Clauses, NoClauses, MoreClauses}
+use Rattle.fip_trees.specs.Tree.{Argument, Variable, Literal, Constructor, NoArguments, MoreArguments, Pattern, Clauses, NoClauses, MoreClauses}
 use Rattle.cell_code.specs.declared.kind.Kind.{Kind}
 use Rattle.fip_trees.specs.Tree.{Expression, Give, Tuple, Operation, Call, Match, Nested, Block, Last, Let}
 use Rattle.fip_rules.specs.World as R
@@ -11,37 +11,50 @@ use Rattle.type_check.specs.Binders.{all_annotated, entries}
 use Rattle.type_check.specs.Scope.{Scope, of_binder}
 use Rattle.type_check.specs.World as W
 use Rattle.type_check.specs.Typing.{Types, TypesBlock, TypesClauses, Bind, IsPattern, bound_by}
-use Rattle.own_calculus.specs.Terms.{Item, Own, has, Term}
+use Rattle.own_calculus.specs.Terms.{Item, Own, Credit, has, Term}
+use Rattle.own_calculus.proofs.Counts.{asks_le}
 use Rattle.own_calculus.specs.Terms as C
 use Rattle.own_calculus.specs.Rules.{Fits, lending}
 use Rattle.own_calculus.specs.Rules as O
 use Rattle.own_calculus.specs.ByCases.{Derives, Opens}
+use Rattle.std.proofs.lemmas.Option.{same_Some}
 use Rattle.own_calculus.proofs.Fit.{fits_le, fits_same, fits_sum}
 use Rattle.own_agreement.specs.Bodies.{Scalars, variables, entering, inside, term, term_block, clauses, nodes, past_clause}
 use Rattle.own_agreement.proofs.Basics.{not_owned}
 use Rattle.derivation_making.proofs.Linking.{next_inside}
 use Rattle.derivation_making.proofs.Reading.{next_behind, next_past}
 use Rattle.sound_code.specs.Codes.{PlainCode, PlainFunction}
-use Rattle.sound_code.specs.Types.{is_type}
-use Rattle.kind_soundness.proofs.Basics.{refused}
+use Rattle.sound_code.specs.Types.{is_type, is_scalar_type}
+use Rattle.kind_soundness.proofs.Basics.{refused, or_not, less_or_not}
 use Rattle.match_code.specs.Spots.{register}
+use Rattle.match_code.specs.Spots as Spots
 use Rattle.match_code.specs.Opening.{Roomy}
 use Rattle.lowered_code.specs.declared.held.Held.{Held}
 use Rattle.lowered_code.specs.declared.held.Held.TheVariants as H
-use Rattle.lowered_code.specs.Known.{Known}
+use Rattle.lowered_code.specs.Known.{Known, register_of}
 use Rattle.lowered_code.specs.Values.{Setting}
 use Rattle.lowered_code.specs.Bodies.{Return, Into, registers_for, reserved, with_names, all_named}
-use Rattle.laid_code.specs.Describing.{held_at}
+use Rattle.laid_code.specs.Describing.{held_at, is_tree}
 use Rattle.lowered_soundness.specs.Parts.{Part, LastPart}
 use Rattle.laid_code.specs.Joins.{Meets}
-use Rattle.lowered_soundness.specs.Ties.{owners, own, AllHold, owed, Ties}
+use Rattle.lowered_soundness.specs.Ties.{one_if, owners, own, sized, AllHold, owed, Ties}
 use Rattle.laid_code.specs.Labels.{told}
-use Rattle.laid_code.specs.Credits.{LastGone}
+use Rattle.laid_code.specs.Credits.{of_size, LastGone}
+use Rattle.laid_code.specs.Uses.{is_number, uses, used_in, used_in_block, used_in_clauses, gives_credits, need, need_block, need_clauses}
+use Rattle.laid_code.specs.Leftover.{IsUnused}
 use Rattle.lowered_soundness.proofs.Balance.{stays_fewer}
-use Rattle.lowered_soundness.proofs.Keeping.{keeps_on, keeps_less, keeps_within, keeps_named, keeps_let, keeps_next, keeps_held}
-use Rattle.lowered_soundness.proofs.Bares.{bared, barely_nothing, barely_keeps}
-use Rattle.lowered_soundness.proofs.Meeting.{Arrived, Spares, joined, spares_on, spares_same}
-use Rattle.lowered_soundness.proofs.Ends.{Reached, reached_part, reached_stretch}
+use Rattle.lowered_soundness.proofs.Keeping.{twice, settled, keeps_on, keeps_less, keeps_within, keeps_named, keeps_let, keeps_next, keeps_held}
+use Rattle.lowered_soundness.proofs.Bares.{is_bare, Barely, bared, barely_nothing, barely_keeps}
+use Rattle.lowered_soundness.proofs.Owners.{owners_sum, owners_least}
+use Rattle.lowered_soundness.proofs.Stacks.{length_size}
+use Rattle.lowered_soundness.proofs.Asking.{let_scope, used_asks, block_asks, needs_asks}
+use Rattle.lowered_soundness.proofs.Unused.{values_stay, give_stays, operator_stays, call_stays}
+use Rattle.lowered_soundness.proofs.Bottoms.{Bottom, great_left, great_right, entry_bottom, block_bottom}
+use Rattle.lowered_soundness.proofs.EntryTrees.{entry_tree, entered_new, let_either}
+use Rattle.lowered_soundness.proofs.EntryNames.{root_old}
+use Rattle.lowered_soundness.proofs.Numbering.{Below, below_same, below_more, lets_below, entered_below, expression_below}
+use Rattle.lowered_soundness.proofs.Meeting.{one_positive, Arrived, Spares, joined, spares_on, spares_same}
+use Rattle.lowered_soundness.proofs.Ends.{meet_part, Reached, reached_part, reached_stretch}
 use Rattle.lowered_soundness.proofs.ClauseEnding.{owing, ClausesDone, start_ties, entry_waits, clause_done}
 use Rattle.lowered_soundness.specs.Laid.{Shares}
 use Rattle.lowered_soundness.specs.Computed.{Computed}
@@ -49,11 +62,12 @@ use Rattle.lowered_soundness.specs.Delivered.{Waiting, Delivered, Keeps}
 use Rattle.lowered_soundness.specs.Placed.{Placed, NoneFrom, InOrder, Numbered, NumberedBlock, NumberedClauses, AreTypes, Callees}
 use Rattle.laid_code.specs.Bodies.{NamedLaid, ExpressionLaid, BlockLaid, ClausesLaid, ClausesMeet}
 use Rattle.laid_code.specs.Tests.{Choice}
-use Rattle.laid_code.specs.Matches.{clause_patterns, widened, entered, MatchLaid}
+use Rattle.credit_check.specs.Needs.{given}
+use Rattle.laid_code.specs.Matches.{variable_of, clause_patterns, widened, entered, MatchLaid}
 use Rattle.lowered_soundness.proofs.Chunks.{stretch_last, last_stretch}
-use Rattle.lowered_soundness.proofs.Chosen.{match_sides}
+use Rattle.lowered_soundness.proofs.Chosen.{match_sides, match_grows, sides_grow}
 use Rattle.lowered_soundness.proofs.Clauses.{ties_reserved, reading, reading_kept, ClauseBegins, OpensBy, enter_clause, from_before}
-use Rattle.lowered_soundness.proofs.Cleared.{Kept}
+use Rattle.lowered_soundness.proofs.Cleared.{Kept, wide_tree}
 use Rattle.lowered_soundness.proofs.Matching.{scrutinee, DerivesBy, owner, all_entries, all_met, MatchOn, match_on, match_any}
 use Rattle.lowered_soundness.proofs.Parts.{both_parts, part_and_last}
 use Rattle.lowered_soundness.proofs.Tying.{ties_fits}
@@ -251,9 +265,9 @@ module _ (c : PlainCode) (f : PlainFunction) (st : Setting) (wd : W.World) (w : 
   named_done : (s : Scope) (sc : Scalars) (n : Names) (B : ℕ → Bool) (K : ℕ → Item → ℕ) → Placed c s sc n → (P X : Item → ℕ) (at : ℕ) (k : Known) (e : Expression) (rs : List ℕ) (mid : ℕ) (m : Known) (b : Bool) (us : List ℕ) → NamedLaid c st f at k e rs mid m → Types true wd s b e us → Derives fip B P (term w sc n e) → ((z y : ℕ) → K z (Own y) ≤ X (Own y)) → Ties fip c.types s B K (λ i. P i + X i) (λ q. 0) k → length k.held ≡ f.registers → Computed c f fip s B K X (λ q. 0) at k rs us mid m
   named_done s sc n B K placed P X at k (Give a) rs mid m b us h typed d kept ties wide =
       subst (λ us. Computed c f fip s B K X (λ q. 0) at k rs us mid m) (sym typed.1)
-      (values_done c f st wd w fip shares callees s sc n B K placed P X at k (MoreArguments a NoArguments) rs mid m b (typed.0 ∷ []) h.values (typed.2, tt) d kept ties h.quiet wide)
+      (values_done c f st wd w fip shares callees s sc n B K placed P X (λ q. 0) at k (MoreArguments a NoArguments) rs mid m b (typed.0 ∷ []) h.values (typed.2, tt) d kept ties h.quiet wide)
   named_done s sc n B K placed P X at k (Tuple p as') rs mid m b us h typed d kept ties wide =
-      values_done c f st wd w fip shares callees s sc n B K placed P X at k as' rs mid m b us h.values typed.1 d kept ties h.quiet wide
+      values_done c f st wd w fip shares callees s sc n B K placed P X (λ q. 0) at k as' rs mid m b us h.values typed.1 d kept ties h.quiet wide
   named_done s sc n B K placed P X at k (Operation o p x y) rs mid m b us h typed d kept ties wide = absurd h
   named_done s sc n B K placed P X at k (Call g l p as') rs mid m b us h typed d kept ties wide = absurd h
   named_done s sc n B K placed P X at k (Match g t p a q body cs) rs mid m b us h typed d kept ties wide = absurd h
@@ -290,8 +304,8 @@ module _ (c : PlainCode) (f : PlainFunction) (st : Setting) (wd : W.World) (w : 
   meets_spares : (met l : Known) (n : ℕ) → l ≡ record met { next = n } → Spares met l
   meets_spares met l n e r = inl (ap (λ (l : Known). held_at l.held r) e)
 
-  match_delivered : (s : Scope) (B : ℕ → Bool) (K : ℕ → Item → ℕ) (X : Item → ℕ) (at : ℕ) (k : Known) (begin : ℕ) (k0 l1 met : Known) (ds ts : List ℕ) (end : ℕ) (l : Known) → at ≤ begin → Part c f at (told c k) begin (told c k0) → length k0.names ≡ length k.names → length k0.held ≡ length k.held → k0.next ≡ k.next → Keeps s X k k0 → ((r : ℕ) → suc r ≤ k.next → held_at k.held r ≡ H.Nothing → held_at k0.held r ≡ H.Nothing) → k0.next ≤ l1.next → length l1.names ≡ length k0.names → length l1.held ≡ length k0.held → Keeps s X k0 l1 → ((r : ℕ) → suc r ≤ k0.next → held_at k0.held r ≡ H.Nothing → held_at l1.held r ≡ H.Nothing) → Arrived fip c.types s B K X l1 k0.next ds ts met → Meets c f met end l → Part c f begin (told c k0) end (told c l) → Delivered c f fip s B K X at k ds ts end l
-  match_delivered s B K X at k begin k0 l1 met ds ts end l grows part names0 wide0 next0 keeps0 empty0 next1 names1 wide1 keeps1 empty1 arrived meets code =
+  match_delivered : (o : Expression) (s : Scope) (B : ℕ → Bool) (K : ℕ → Item → ℕ) (X : Item → ℕ) (at : ℕ) (k : Known) (begin : ℕ) (k0 l1 met : Known) (ds ts : List ℕ) (end : ℕ) (l : Known) → at ≤ begin → Part c f at (told c k) begin (told c k0) → length k0.names ≡ length k.names → length k0.held ≡ length k.held → k0.next ≡ k.next → Keeps s X k k0 → ((r : ℕ) → suc r ≤ k.next → held_at k.held r ≡ H.Nothing → held_at k0.held r ≡ H.Nothing) → k0.next ≤ l1.next → length l1.names ≡ length k0.names → length l1.held ≡ length k0.held → Keeps s X k0 l1 → ((r : ℕ) → suc r ≤ k0.next → held_at k0.held r ≡ H.Nothing → held_at l1.held r ≡ H.Nothing) → Arrived st o fip c.types s B K X l1 k0.next ds ts met → Meets f met end l → Part c f begin (told c k0) end (told c l) → Delivered c f fip s B K X at k ds ts end l
+  match_delivered o s B K X at k begin k0 l1 met ds ts end l grows part names0 wide0 next0 keeps0 empty0 next1 names1 wide1 keeps1 empty1 arrived meets code =
       let last = code.grows in
       let a = arrived.grows in
       let b = meets.more in
@@ -350,20 +364,260 @@ module _ (c : PlainCode) (f : PlainFunction) (st : Setting) (wd : W.World) (w : 
       (λ z a. ((stands.unused z a).0, stands.within z (inr a), on.fresh z a)) (stands.within (register ch.root) (inl refl)) on.used taken q pattern order in
       record { back = z.back; borrowed = z.borrowed; lends = z.lends }
 
+  -- ---- variables with registers
+
+  entry_below : (n : Names) (taken : Bool) (q : Pattern) (ch : Choice) (l : Known) (m : ℕ) → InOrder n.next (binders q) → Below l n.next → Below (entered st ch q l m) (inside w taken n (binders q)).next
+  entry_below n taken q ch l m order below =
+      let next = next_inside w taken n (binders q) in
+      entered_below st ch q l m n.next (inside w taken n (binders q)).next order (omega (arith, next)) (below_more l n.next (inside w taken n (binders q)).next (omega (arith, next)) below)
+
+  past_below : (n : Names) (taken : Bool) (q : Pattern) (body : Block) (l : Known) → Below l n.next → Below l (past_clause w taken n q body).next
+  past_below n taken q body l below = below_more l n.next (past_clause w taken n q body).next (let past = next_past w taken n q body in omega (arith, past)) below
+
+  let_below_later : (n : Names) (e : Expression) (bs : List Binder) (rs : List ℕ) (m : Known) → InOrder (behind n (shape w n e)).next bs → Below m (behind n (shape w n e)).next → Below (with_names m bs rs) (inside w true (behind n (shape w n e)) bs).next
+  let_below_later n e bs rs m order below =
+      let n1 = behind n (shape w n e) in
+      let next = next_inside w true n1 bs in
+      lets_below bs rs m n1.next (inside w true n1 bs).next order (omega (arith, next)) (below_more m n1.next (inside w true n1 bs).next (omega (arith, next)) below)
+
+  let_below : (n : Names) (e : Expression) (bs : List Binder) (rs : List ℕ) (m : Known) → InOrder (behind n (shape w n e)).next bs → Below m n.next → Below (with_names m bs rs) (inside w true (behind n (shape w n e)) bs).next
+  let_below n e bs rs m order below = let_below_later n e bs rs m order (below_more m n.next (behind n (shape w n e)).next (later n e) below)
+
+  -- ---- what is owned beside a match
+
+  record Beside (ch : Choice) (l : Known) (X : Item → ℕ) (o : Expression) : Type 0 where
+    pub unused : (r : ℕ) → 1 ≤ owners l.names (own X) r → IsUnused st l o r
+    pub enough : (i : ℕ) → 0 < i → X (Credit i) ≤ length (of_size i l.credits) - need st i o
+    pub apart : ch.takes ≡ true → (r : ℕ) → IsUnused st l o r → r ≡ register ch.root → ⊥
+
+  beside_match : (s : Scope) (sc : Scalars) (n : Names) (B : ℕ → Bool) (K : ℕ → Item → ℕ) → Placed c s sc n → (P X : Item → ℕ) (k l : Known) (o : Expression) (b : Bool) (ts : List ℕ) → Types true wd s b o ts → Derives fip B P (term w sc n o) → Numbered w N n o → Ties fip c.types s B K (λ i. P i + X i) (λ q. 0) k → Below k n.next → l.names ≡ k.names → l.credits ≡ k.credits → (ch : Choice) → (ch.takes ≡ true → (r : ℕ) → IsUnused st l o r → r ≡ register ch.root → ⊥) → Beside ch l X o
+  beside_match s sc n B K placed P X k l o b ts typed d num ties below names credits ch apart = record { unused = unused; enough = enough; apart = apart }
+    where
+      both_own : (r : ℕ) → owners k.names (own (λ i. P i + X i)) r ≡ owners k.names (own P) r + owners k.names (own X) r
+      both_own r = owners_sum k.names (own P) (own X) r
+
+      owned_tree : (r : ℕ) → 1 ≤ owners k.names (own X) r → is_tree (held_at k.held r) ≡ true
+      owned_tree r more =
+          let le = fits_le fip (one_if (is_tree (held_at k.held r))) (owners k.names (own (λ i. P i + X i)) r + 0) (ties.trees r) in
+          let sum = both_own r in
+          one_positive (is_tree (held_at k.held r)) (owners k.names (own X) r) (omega (arith, le, sum)) more
+
+      once : (b : Bool) → one_if b ≤ 1
+      once true = omega arith
+      once false = omega arith
+
+      no_scalar : (h : Held) (t : ℕ) → h ≡ H.Scalar t → is_tree h ≡ true → ⊥
+      no_scalar h t e tree = true≢false (sym tree ∙ ap is_tree e)
+
+      unused : (r : ℕ) → 1 ≤ owners l.names (own X) r → IsUnused st l o r
+      unused r more x is = by (used_in st.instances x o) refl
+        where
+          there : register_of k.names (Some x) ≡ Some r
+          there = ap (λ ns. register_of ns (Some x)) (sym names) ∙ is
+
+          owned : 1 ≤ owners k.names (own X) r
+          owned = subst (λ ns. 1 ≤ owners ns (own X) r) names more
+
+          by : (u : Bool) → used_in st.instances x o ≡ u → u ≡ false
+          by false e = refl
+          by true e =
+              let a = used_asks c st wd w shares callees s sc n N placed b o ts x (below x r there) typed num e in
+              absurd (elim (or_not (is_scalar_type c.types a.type)) as (λ v. ⊥) [
+                | inl scalar ↦ no_scalar (held_at k.held r) a.type ((ties.variables x r a.type there a.there).scalar scalar) (owned_tree r owned)
+                | inr tree ↦
+                    (let often = a.often tree in
+                    let asked = asks_le fip B P (term w sc n o) d (Own x) in
+                    let least = owners_least k.names (own P) x r there in
+                    let le = fits_le fip (one_if (is_tree (held_at k.held r))) (owners k.names (own (λ i. P i + X i)) r + 0) (ties.trees r) in
+                    let sum = both_own r in
+                    let one = once (is_tree (held_at k.held r)) in
+                    let z : ⊥ = omega (arith, often, asked, least, le, sum, one, owned) in
+                    z)
+              ])
+
+      enough : (i : ℕ) → 0 < i → X (Credit i) ≤ length (of_size i l.credits) - need st i o
+      enough i low =
+          let needs = needs_asks c st wd w shares callees i low s sc n N placed b o ts typed num in
+          let asked = asks_le fip B P (term w sc n o) d (Credit i) in
+          let le = fits_le fip (sized i k.credits) (P (Credit i) + X (Credit i)) (ties.sizes i) in
+          let many = length_size i l.credits in
+          let same : sized i l.credits ≡ sized i k.credits = ap (sized i) credits in
+          omega (arith, needs, asked, le, many, same)
+
+  -- ---- trees that aren't used up
+
+  -- a tree stays where no variable that has its register is used
+  abbrev Stay : Known → Known → (ℕ → Bool) → Type 0
+  Stay k l used = (r : ℕ) → is_tree (held_at k.held r) ≡ true → ((x : ℕ) → register_of k.names (Some x) ≡ Some r → used x ≡ false) → widened (held_at l.held r) ≡ widened (held_at k.held r)
+
+  -- results came into registers, and in fbip trees that aren't used stay
+  record Done (s : Scope) (B : ℕ → Bool) (K : ℕ → Item → ℕ) (X : Item → ℕ) (at : ℕ) (k : Known) (ds ts : List ℕ) (end : ℕ) (l : Known) (used : ℕ → Bool) : Type 0 where
+    pub delivered : Delivered c f fip s B K X at k ds ts end l
+    pub unused : fip ≡ false → Stay k l used
+
+  -- what clauses use and need the match does
+  record Belongs (ch : Choice) (o : Expression) (cs : Clauses) : Type 0 where
+    pub uses : (x : ℕ) → used_in_clauses st.instances x cs ≡ true → used_in st.instances x o ≡ true
+    pub needs : (i : ℕ) → need_clauses st i ch.takes cs ≤ need st i o
+
+  or_left : (a b : Bool) → a ≡ true → (a || b) ≡ true
+  or_left true b e = refl
+  or_left false b e = absurd (true≢false (sym e))
+
+  or_right : (a b : Bool) → b ≡ true → (a || b) ≡ true
+  or_right true b e = refl
+  or_right false b e = e
+
+  or_false : (a : Bool) → a ≡ false → (a || false) ≡ false
+  or_false true e = e
+  or_false false e = refl
+
+  neither : (a b : Bool) → (a || b) ≡ false → (a ≡ false) × (b ≡ false)
+  neither true b e = absurd (true≢false e)
+  neither false b e = (refl, e)
+
+  and_left : (a b : Bool) → (a && b) ≡ true → a ≡ true
+  and_left true b e = refl
+  and_left false b e = absurd (true≢false (sym e))
+
+  variable_uses : (a : Argument) (v : Option ℕ) (x : ℕ) → variable_of a ≡ Some v → v ≡ Some x → uses x a ≡ true
+  variable_uses (Variable y n p) v x is e = ap (λ o. is_number o x) (same_Some y v is ∙ e) ∙ Rattle.kind_soundness.proofs.Basics.itself x
+  variable_uses (Literal i p) v x is e = absurd (cc)
+  variable_uses (Constructor t d k n p as') v x is e = absurd (cc)
+
+  later_belongs : (ch : Choice) (o : Expression) (q : Pattern) (b : Block) (cs : Clauses) → Belongs ch o (MoreClauses q b cs) → Belongs ch o cs
+  later_belongs ch o q b cs h = record {
+    uses = λ x e. h.uses x (or_right (used_in_block st.instances x b) (used_in_clauses st.instances x cs) e);
+    needs = λ i. (let a = h.needs i in let z = great_right (need_block st i b - given i ch.takes q) (need_clauses st i ch.takes cs) in omega (arith, a, z));
+  }
+
+  clause_low : (ch : Choice) (l : Known) (o : Expression) (q : Pattern) (body : Block) (m at : ℕ) (ds : List ℕ) (mid : ℕ) (mk : Known) → Roomy q ch.root → ((i : ℕ) → need_block st i body - given i ch.takes q ≤ need st i o) → BlockLaid c st fip f at (entered st ch q l m) body (Into ds) mid mk → (i : ℕ) → 0 < i → Bottom i (need st i o) l.credits mk.credits
+  clause_low ch l o q body m at ds mid mk room le h i some =
+      entry_bottom i some st ch q l m (need_block st i body) (need st i o) mk.credits room (le i) (block_bottom i some c f st fip at (entered st ch q l m) body ds mid mk h)
+
+  clause_stays : (s : Scope) (sc : Scalars) (n : Names) (B : ℕ → Bool) (K : ℕ → Item → ℕ) (X L : Item → ℕ) (R : Item → ℕ) → NoneFrom n.next (λ i. R i + X i) → (u : ℕ) (taken : Bool) (ch : Choice) (k l : Known) (q0 : Pattern) (cs0 : Clauses) → MatchOn c st wd w shares callees f fip taken s B K R X L u ch k l q0 cs0 → (o : Expression) → (ch.takes ≡ true → (r : ℕ) → IsUnused st l o r → r ≡ register ch.root → ⊥) → (q : Pattern) (body : Block) (Q : Item → ℕ) (m : ℕ) → InOrder n.next (binders q) → OpensBy c st wd w shares callees f fip taken (variables w n.next (binders q)) (nodes q) R Q → ClauseBegins c st wd w shares callees f fip s sc n taken u q B (reading taken (variables w n.next (binders q)) L K) Q X l (entered st ch q l m) → (b : Bool) (ts : List ℕ) → TypesBlock true wd (s ++ bound_by wd (Some u) q) b body ts → NumberedBlock w N (inside w taken n (binders q)) body → Derives fip (O.setting (variables w n.next (binders q)) (not taken) B) Q (term_block w (entering w n.next sc (binders q)) (inside w taken n (binders q)) body) → Below (entered st ch q l m) (inside w taken n (binders q)).next → ((x : ℕ) → used_in_block st.instances x body ≡ true → used_in st.instances x o ≡ true) → (mk : Known) → Stay (entered st ch q l m) mk (λ x. used_in_block st.instances x body) → (r : ℕ) → is_tree (held_at l.held r) ≡ true → IsUnused st l o r → widened (held_at mk.held r) ≡ widened (held_at l.held r)
+  clause_stays s sc n B K X L R none u taken ch k l q0 cs0 on o apart q body Q m order opens cb b ts typed num d below belongs mk stay r tree unused =
+      stay r tree_e (λ x is. unused_body x is) ∙ (ap widened here ∙ twice (held_at l.held r))
+    where
+      off : Among r (Spots.below ch.root) → ⊥
+      off a = true≢false (sym tree ∙ ap is_tree (on.match_stands.unused r a).0)
+
+      root_apart : ch.takes ≡ true → r ≡ register ch.root → ⊥
+      root_apart t e = apart t r unused e
+
+      here : held_at (entered st ch q l m).held r ≡ widened (held_at l.held r)
+      here = entry_tree st ch q l m r on.match_stands.within off root_apart tree
+
+      tree_e : is_tree (held_at (entered st ch q l m).held r) ≡ true
+      tree_e = ap is_tree here ∙ (wide_tree (held_at l.held r) ∙ tree)
+
+      no_scalar : (h : Held) (t : ℕ) → h ≡ H.Scalar t → is_tree h ≡ true → ⊥
+      no_scalar h t e some = true≢false (sym some ∙ ap is_tree e)
+
+      read : taken ≡ false → (x : ℕ) → register_of (entered st ch q l m).names (Some x) ≡ Some r → used_in_block st.instances x body ≡ true → ⊥
+      read off' x is e =
+          let asked = block_asks c st wd w shares callees (s ++ bound_by wd (Some u) q) (entering w n.next sc (binders q)) (inside w taken n (binders q)) N cb.placed b body ts x (below x r is) typed num e in
+          elim (or_not (is_scalar_type c.types asked.type)) as (λ v. ⊥) [
+            | inl scalar ↦ no_scalar (held_at (entered st ch q l m).held r) asked.type ((cb.ties.variables x r asked.type is asked.there).scalar scalar) tree_e
+            | inr some ↦
+                (let often = asked.often some in
+                let le = asks_le fip (O.setting (variables w n.next (binders q)) (not taken) B) Q (term_block w (entering w n.next sc (binders q)) (inside w taken n (binders q)) body) d (Own x) in
+                elim (less_or_not x n.next) as (λ v. ⊥) [
+                  | inl low ↦ true≢false (sym (belongs x e) ∙ unused x (root_old st ch.takes x q ch.root (record l { next = m }) n.next r order low is))
+                  | inr high ↦ (let zero = lent_none x high in let z : ⊥ = omega (arith, often, le, zero) in z)
+                ])
+          ]
+        where
+          opened : Opens fip false (variables w n.next (binders q)) [] R Q
+          opened = subst (λ t. OpensBy c st wd w shares callees f fip t (variables w n.next (binders q)) (nodes q) R Q) off' opens
+
+          lent_none : (x : ℕ) → n.next ≤ x → Q (Own x) ≡ 0
+          lent_none x high = elim (or_not (has (variables w n.next (binders q)) x)) as (λ v. Q (Own x) ≡ 0) [
+            | inl y ↦ opened.bound x y
+            | inr y ↦ (let a = fits_le fip (R (Own x)) (Q (Own x)) (opened.others x y) in let z = none x high in omega (arith, a, z))
+          ]
+
+      unused_body : (x : ℕ) → register_of (entered st ch q l m).names (Some x) ≡ Some r → used_in_block st.instances x body ≡ false
+      unused_body x is = by (used_in_block st.instances x body) refl
+        where
+          at_root : (y : Bool) → ch.takes ≡ y → used_in_block st.instances x body ≡ true → r ≡ register ch.root → ⊥
+          at_root true t e same = root_apart t same
+          at_root false t e same = read (sym on.takes ∙ t) x is e
+
+          by : (u : Bool) → used_in_block st.instances x body ≡ u → u ≡ false
+          by false e = refl
+          by true e = absurd (elim (entered_new st ch q l m x r is) as (λ v. ⊥) [
+            | inl old ↦ true≢false (sym (belongs x e) ∙ unused x old)
+            | inr new ↦ elim new as (λ v. ⊥) [
+              | inl same ↦ at_root ch.takes refl e same
+              | inr a ↦ off a
+            ]
+          ])
+
+  tree_barely : (g h : Rattle.laid_code.specs.Describing.Holding) (r : ℕ) → Barely g h → is_tree (g r) ≡ true → h r ≡ g r
+  tree_barely g h r x tree = elim (x r) as (λ v. h r ≡ g r) [
+    | inl same ↦ same
+    | inr gone ↦ absurd (no_bare (g r) gone.0 tree)
+  ]
+    where
+      no_bare : (h : Held) → is_bare h ≡ true → is_tree h ≡ true → ⊥
+      no_bare H.Nothing a b = true≢false (sym a)
+      no_bare (H.Scalar t) a b = true≢false (sym a)
+      no_bare (H.Owned t x) a b = true≢false (sym a)
+      no_bare (H.Lent t root) a b = true≢false (sym a)
+      no_bare (H.Credit n) a b = true≢false (sym a)
+      no_bare (H.Bare t x) a b = true≢false (sym b)
+
+  named_stay : fip ≡ false → (s : Scope) (sc : Scalars) (n : Names) (B : ℕ → Bool) (K : ℕ → Item → ℕ) → Placed c s sc n → (P X : Item → ℕ) (at : ℕ) (k : Known) (e : Expression) (rs : List ℕ) (mid : ℕ) (m : Known) (b : Bool) (us : List ℕ) → NamedLaid c st f at k e rs mid m → Types true wd s b e us → Derives fip B P (term w sc n e) → ((z y : ℕ) → K z (Own y) ≤ X (Own y)) → Ties fip c.types s B K (λ i. P i + X i) (λ q. 0) k → length k.held ≡ f.registers → (r : ℕ) → is_tree (held_at k.held r) ≡ true → ((x : ℕ) → register_of k.names (Some x) ≡ Some r → used_in st.instances x e ≡ false) → (held_at m.held r ≡ held_at k.held r) × (Among r rs → ⊥)
+  named_stay weak s sc n B K placed P X at k (Give a) rs mid m b us h typed d kept ties wide r tree none =
+      values_stay c st wd w shares callees f s sc n B K placed fip weak P X at k (MoreArguments a NoArguments) rs mid m b (typed.0 ∷ []) h.values (typed.2, tt) d kept ties h.quiet wide r tree (λ x is. or_false (uses x a) (none x is))
+  named_stay weak s sc n B K placed P X at k (Tuple p as') rs mid m b us h typed d kept ties wide r tree none =
+      values_stay c st wd w shares callees f s sc n B K placed fip weak P X at k as' rs mid m b us h.values typed.1 d kept ties h.quiet wide r tree none
+  named_stay weak s sc n B K placed P X at k (Operation o p x y) rs mid m b us h typed d kept ties wide r tree none = absurd h
+  named_stay weak s sc n B K placed P X at k (Call g l p as') rs mid m b us h typed d kept ties wide r tree none = absurd h
+  named_stay weak s sc n B K placed P X at k (Match g t p a q body cs) rs mid m b us h typed d kept ties wide r tree none = absurd h
+  named_stay weak s sc n B K placed P X at k (Nested body) rs mid m b us h typed d kept ties wide r tree none = absurd h
+
+  -- a register that a let's bound expression doesn't use isn't used in what follows, where it isn't one of its own
+  let_unused : (s : Scope) (sc : Scalars) (n : Names) (e : Expression) (bs : List Binder) (us : List ℕ) (B : ℕ → Bool) (K : ℕ → Item → ℕ) (R Q X : Item → ℕ) (rest : Block) (b : Bool) (ts : List ℕ) (m k : Known) (ds rs : List ℕ) (r x : ℕ) → Types true wd s (all_annotated bs) e us → Bind true bs us → InOrder (behind n (shape w n e)).next bs → NumberedBlock w N (inside w true (behind n (shape w n e)) bs) rest → TypesBlock true wd (s ++ entries bs (map Some us)) b rest ts → Placed c (s ++ entries bs (map Some us)) (entering w (behind n (shape w n e)).next sc bs) (inside w true (behind n (shape w n e)) bs) → Below m (behind n (shape w n e)).next → Below (with_names m bs rs) (inside w true (behind n (shape w n e)) bs).next → Keeps s (λ i. R i + X i) (reserved k bs) m → (Among r rs → ⊥) → ((x : ℕ) → register_of k.names (Some x) ≡ Some r → (used_in st.instances x e || used_in_block st.instances x rest) ≡ false) → register_of (with_names m bs rs).names (Some x) ≡ Some r → used_in_block st.instances x rest ≡ false
+  let_unused s sc n e bs us B K R Q X rest b ts m k ds rs r x typed_e bind order num typed placed below_m below_after keeps off none is = by (used_in_block st.instances x rest) refl
+    where
+      old : used_in_block st.instances x rest ≡ true → register_of m.names (Some x) ≡ Some r → ⊥
+      old e' was =
+          let asked = block_asks c st wd w shares callees (s ++ entries bs (map Some us)) (entering w (behind n (shape w n e)).next sc bs) (inside w true (behind n (shape w n e)) bs) N placed b rest ts x (below_after x r is) typed num e' in
+          let scope = sym (let_scope c st wd w shares callees s n e bs us x order bind (below_m x r was)) ∙ asked.there in
+          true≢false (sym e' ∙ (neither (used_in st.instances x e) (used_in_block st.instances x rest) (none x (keeps.old x asked.type r scope was))).1)
+
+      by : (u : Bool) → used_in_block st.instances x rest ≡ u → u ≡ false
+      by false e' = refl
+      by true e' = absurd (elim (let_either m.names bs rs x r is) as (λ v. ⊥) [
+        | inl was ↦ old e' was
+        | inr new ↦ off new
+      ])
+
   mutual
-    pub into : (s : Scope) (sc : Scalars) (n : Names) (B : ℕ → Bool) (K : ℕ → Item → ℕ) → Placed c s sc n → (P X : Item → ℕ) (at : ℕ) (k : Known) (e : Expression) (ds : List ℕ) (end : ℕ) (l : Known) (b : Bool) (ts : List ℕ) → ExpressionLaid c st fip f at k e (Into ds) end l → Types true wd s b e ts → Derives fip B P (term w sc n e) → Numbered w N n e → ((z y : ℕ) → K z (Own y) ≤ X (Own y)) → NoneFrom n.next (λ i. P i + X i) → Ties fip c.types s B K (λ i. P i + X i) (λ q. 0) k → Waiting k ds → length ds ≡ length ts → length k.names ≡ N → length k.held ≡ f.registers → Delivered c f fip s B K X at k ds ts end l
-    into s sc n B K placed P X at k (Give a) ds end l b ts h typed d num kept none ties wait many names wide =
-        subst (λ ts. Delivered c f fip s B K X at k ds ts end l) (sym typed.1)
-        (give_into c f st wd w fip shares callees s sc n B K placed P X at k (MoreArguments a NoArguments) ds end l b (typed.0 ∷ []) h (typed.2, tt) d kept ties wait (many ∙ ap length typed.1) wide)
-    into s sc n B K placed P X at k (Tuple p as') ds end l b ts h typed d num kept none ties wait many names wide =
-        give_into c f st wd w fip shares callees s sc n B K placed P X at k as' ds end l b ts h typed.1 d kept ties wait many wide
-    into s sc n B K placed P X at k (Operation o p x y) ds end l b ts h typed d num kept none ties wait many names wide =
-        subst (λ ts. Delivered c f fip s B K X at k ds ts end l) (sym typed.0)
-        (operator_into c f st wd w fip shares callees s sc n B K placed P X at k o p x y ds end l h typed.1 typed.2 d kept ties wait (many ∙ ap length typed.0) wide)
-    into s sc n B K placed P X at k (Call g nm p as') ds end l b ts h typed d num kept none ties wait many names wide =
-        subst (λ ts. Delivered c f fip s B K X at k ds ts end l) (sym typed.0)
-        (called_into c f st wd w fip shares callees s sc n B K placed P X at k g as' ds end l h typed.1 d.1 kept ties wait (many ∙ ap length typed.0) wide)
-    into s sc n B K placed P X at k (Match g t p a q body cs) ds end l b ts h typed d num kept none ties wait many names wide =
+    into : (s : Scope) (sc : Scalars) (n : Names) (B : ℕ → Bool) (K : ℕ → Item → ℕ) → Placed c s sc n → (P X : Item → ℕ) (at : ℕ) (k : Known) (e : Expression) (ds : List ℕ) (end : ℕ) (l : Known) (b : Bool) (ts : List ℕ) → ExpressionLaid c st fip f at k e (Into ds) end l → Types true wd s b e ts → Derives fip B P (term w sc n e) → Numbered w N n e → Below k n.next → ((z y : ℕ) → K z (Own y) ≤ X (Own y)) → NoneFrom n.next (λ i. P i + X i) → Ties fip c.types s B K (λ i. P i + X i) (λ q. 0) k → Waiting k ds → length ds ≡ length ts → length k.names ≡ N → length k.held ≡ f.registers → Done s B K X at k ds ts end l (λ x. used_in st.instances x e)
+    into s sc n B K placed P X at k (Give a) ds end l b ts h typed d num below kept none ties wait many names wide = record {
+      delivered = subst (λ ts. Delivered c f fip s B K X at k ds ts end l) (sym typed.1)
+          (settled c f fip s B K X at k ds (typed.0 ∷ []) end l (give_into c f st wd w fip shares callees s sc n B K placed P X (λ q. 0) at k (MoreArguments a NoArguments) ds end l b (typed.0 ∷ []) h (typed.2, tt) d kept ties wait (many ∙ ap length typed.1) wide));
+      unused = λ weak r tree none. ap widened
+          (give_stays c st wd w shares callees f s sc n B K placed fip weak P X at k (MoreArguments a NoArguments) ds end l b (typed.0 ∷ []) h (typed.2, tt) d kept ties wait (many ∙ ap length typed.1) wide r tree (λ x is. or_false (uses x a) (none x is)));
+    }
+    into s sc n B K placed P X at k (Tuple p as') ds end l b ts h typed d num below kept none ties wait many names wide = record {
+      delivered = settled c f fip s B K X at k ds ts end l (give_into c f st wd w fip shares callees s sc n B K placed P X (λ q. 0) at k as' ds end l b ts h typed.1 d kept ties wait many wide);
+      unused = λ weak r tree none. ap widened (give_stays c st wd w shares callees f s sc n B K placed fip weak P X at k as' ds end l b ts h typed.1 d kept ties wait many wide r tree none);
+    }
+    into s sc n B K placed P X at k (Operation o p x y) ds end l b ts h typed d num below kept none ties wait many names wide = record {
+      delivered = subst (λ ts. Delivered c f fip s B K X at k ds ts end l) (sym typed.0)
+          (settled c f fip s B K X at k ds (W.result_of o ∷ []) end l (operator_into c f st wd w fip shares callees s sc n B K placed P X (λ q. 0) at k o p x y ds end l h typed.1 typed.2 d kept ties wait (many ∙ ap length typed.0) wide));
+      unused = λ weak r tree none. ap widened (operator_stays c st wd w shares callees f s sc n B K placed fip weak P X at k o p x y ds end l h typed.1 typed.2 d kept ties wait (many ∙ ap length typed.0) wide r tree);
+    }
+    into s sc n B K placed P X at k (Call g nm p as') ds end l b ts h typed d num below kept none ties wait many names wide = record {
+      delivered = subst (λ ts. Delivered c f fip s B K X at k ds ts end l) (sym typed.0)
+          (settled c f fip s B K X at k ds (W.head wd g).results end l (called_into c f st wd w fip shares callees s sc n B K placed P X (λ q. 0) at k g as' ds end l h typed.1 d.1 kept ties wait (many ∙ ap length typed.0) wide));
+      unused = λ weak r tree none. ap widened (call_stays c st wd w shares callees f s sc n B K placed fip weak P X at k g as' ds end l h typed.1 d.1 kept ties wait (many ∙ ap length typed.0) wide r tree none);
+    }
+    into s sc n B K placed P X at k (Match g t p a q body cs) ds end l b ts h typed d num below kept none ties wait many names wide =
         let taken = takes w g t in
         let k0 = h.1 in
         let ch = h.2 in
@@ -389,7 +643,7 @@ module _ (c : PlainCode) (f : PlainFunction) (st : Setting) (wd : W.World) (w : 
         let used = bare.ties.named x.number (register ch.root) (ap (Rattle.lowered_code.specs.Known.register_of k0.names) (sym x.is) ∙ laid.begins.named) in
         let names0 : length k0.names ≡ N = ap length bare.names ∙ names in
         let wide0 = bare.width ∙ wide in
-        let on = match_on c st wd w shares callees f fip taken s B K own.owned X own.read u g h.0 a ch k0 l1 q cs e ts laid (ap (λ b. g && not b) (shares.scalars u utyped ∙ sym scalar)) utyped typed.3 typed.5 used wide0 own.stands (all_met c st wd w shares callees f fip ch l1 q cs e m ds end left next met laid.patterns entry h.17) in
+        let on = match_on c st wd w shares callees f fip taken s B K own.owned X own.read u g h.0 a ch k0 l1 q cs e ts laid (ap (λ b. g && not b) (shares.scalars u utyped ∙ sym scalar)) utyped typed.3 typed.5 used wide0 own.stands (all_met c st wd w shares callees f fip ch l1 (Match g t p a q body cs) q cs e m ds end left next met laid.patterns entry h.17) in
         let fb = first_by taken sc n B own.owned (past_clause w taken n q body) ys (nodes q) tb cs own.derives in
         let room = num.1 in
         let many_names = on.names in
@@ -399,22 +653,46 @@ module _ (c : PlainCode) (f : PlainFunction) (st : Setting) (wd : W.World) (w : 
         let empty0 : (r : ℕ) → suc r ≤ k.next → held_at k.held r ≡ H.Nothing → held_at k0.held r ≡ H.Nothing = λ r low z. barely_nothing (held_at k.held) (held_at k0.held) r bare.each z in
         let wait0 = waits_on k k0 ds wait (omega (arith, same_next)) (λ r i. let z = waiting_among k ds r wait i in empty0 r z.1 z.0) in
         let empty1 : (r : ℕ) → suc r ≤ k0.next → held_at k0.held r ≡ H.Nothing → held_at l1.held r ≡ H.Nothing = λ r low z. wide_empty (held_at l1.held r) (on.same_held r ∙ ap widened z) in
+        let below1 = below_same k l1 n.next (on.same_names ∙ bare.names) below in
+        let apart : ch.takes ≡ true → (r : ℕ) → IsUnused st l1 (Match g t p a q body cs) r → r ≡ register ch.root → ⊥ = λ takes r free same. (
+        let named = ap (λ ns. register_of ns (Some x.number)) on.same_names ∙ (ap (register_of k0.names) (sym x.is) ∙ (laid.begins.named ∙ ap Some (sym same))) in
+        let used = or_left (g && uses x.number a) (used_in_block st.instances x.number body || used_in_clauses st.instances x.number cs) (ap (λ b. b && uses x.number a) (and_left g (not (w.scalar t)) (sym on.takes ∙ takes)) ∙ variable_uses a laid.variable x.number laid.is_variable x.is) in
+        true≢false (sym used ∙ free x.number named)) in
+        let takes_same : ch.takes ≡ gives_credits st g t = h.13.takes in
+        let belongs : Belongs ch (Match g t p a q body cs) cs = record {
+          uses = λ x e. or_right (g && uses x a) (used_in_block st.instances x body || used_in_clauses st.instances x cs) (or_right (used_in_block st.instances x body) (used_in_clauses st.instances x cs) e);
+          needs = λ i. (let z = great_right (need_block st i body - given i (gives_credits st g t) q) (need_clauses st i (gives_credits st g t) cs) in let y = ap (λ b. need_clauses st i b cs) takes_same in omega (arith, z, y));
+        } in
+        let roomy = laid.begins.roomy 0 q (ap (λ ps. slice_get ps 0) laid.patterns) in
+        let belowq = entry_below n taken q ch l1 m num.0 below1 in
+        let beside = beside_match s sc n B K placed P X k0 l1 (Match g t p a q body cs) b ts typed d num bare.ties (below_same k k0 n.next bare.names below) on.same_names on.same_credits ch apart in
         let waits = entry_waits c st wd w shares callees f fip s sc n B K X own.read kept placed own.owned own.none u taken ch k0 l1 q cs on q m ds entry.more empty1 wait0 in
-        let got = block_into (s ++ bound_by wd (Some u) q) (entering w n.next sc (binders q)) (inside w taken n (binders q)) (O.setting ys (not taken) B) (reading taken ys own.read K) cb.placed fb.0 X e (entered st ch q l1 m) body ds h.6 h.7 b ts h.15 typed.4 fb.2 num.2 (reading_kept taken ys own.read X K kept own.least) cb.none cb.ties waits many (cb.names ∙ (many_names ∙ names0)) (cb.width ∙ (on.width ∙ wide0)) in
-        let done = clause_done c st wd w shares callees f fip s sc n B K X own.read kept placed own.owned own.none u taken ch k0 l1 q cs on q m fb.0 num.0 entry.more cb from.back from.borrowed from.lends e h.6 h.7 ds ts got cs end next left h.16 in
-        let rest = clauses_into s sc (past_clause w taken n q body) B K X own.read kept own.least (past_placed s sc n taken q body placed) own.owned (past_none n taken q body (λ i. own.owned i + X i) own.none) u utyped taken ch k0 l1 q cs on 1 cs
-        (λ j r there. laid.begins.roomy (suc j) r (ap (λ ps. slice_get ps (suc j)) laid.patterns ∙ there)) ys (nodes q) tb ds ts end left next met h.17 typed.5 own.derives num.3 empty1 wait0 many (many_names ∙ names0) (on.width ∙ wide0) done.arrived in
-        match_delivered s B K X at k h.0 k0 l1 met ds ts end l bare.grows bare.part (ap length bare.names) bare.width same_next (barely_keeps s X k k0 bare.each bare.names bare.credits) empty0 on.grows many_names on.width (keeps_held s X k0 l1 (λ r z. on.same_held r) on.same_names on.same_credits) empty1 rest.arrived meets
-        (rest.code l meets.label (meets_spares met l meets.next meets.known) h.0 (told c k0)
-        (match_any c st wd w shares callees f fip (Reached c f end (told c l) cs next) (reached_stretch c f end (told c l) cs next) (reached_part c f end (told c l) cs next) h.0 k0 g u a q cs ch l1 e m laid on.match_stands on.entries entry
-        (done.code l meets.label (spares_on left met l rest.spares (meets_spares met l meets.next meets.known)))))
-    into s sc n B K placed P X at k (Nested body) ds end l b ts h typed d num kept none ties wait many names wide =
-        block_into s sc n B K placed P X at k body ds end l b ts h typed d num kept none ties wait many names wide
+        let got = block_into (s ++ bound_by wd (Some u) q) (entering w n.next sc (binders q)) (inside w taken n (binders q)) (O.setting ys (not taken) B) (reading taken ys own.read K) cb.placed fb.0 X e (entered st ch q l1 m) body ds h.6 h.7 b ts h.15 typed.4 fb.2 num.2 belowq (reading_kept taken ys own.read X K kept own.least) cb.none cb.ties waits many (cb.names ∙ (many_names ∙ names0)) (cb.width ∙ (on.width ∙ wide0)) in
+        let done = clause_done c st wd w shares callees f fip s sc n B K X own.read kept placed own.owned own.none u taken ch k0 l1 q cs on q m fb.0 num.0 entry.more cb from.back from.borrowed from.lends e h.6 h.7 ds ts got.delivered (Match g t p a q body cs) beside.unused beside.enough cs end next left h.16
+        (λ weak. clause_stays s sc n B K X own.read own.owned own.none u taken ch k0 l1 q cs on (Match g t p a q body cs) apart q body fb.0 m num.0 fb.1 cb b ts typed.4 num.2 fb.2 belowq (λ x e. or_right (g && uses x a) (used_in_block st.instances x body || used_in_clauses st.instances x cs) (or_left (used_in_block st.instances x body) (used_in_clauses st.instances x cs) e)) h.7 (got.unused weak))
+        (clause_low ch l1 (Match g t p a q body cs) q body m e ds h.6 h.7 roomy (λ i. let z = great_left (need_block st i body - given i (gives_credits st g t) q) (need_clauses st i (gives_credits st g t) cs) in let y = ap (λ b. given i b q) takes_same in omega (arith, z, y)) h.15) in
+        let rest = clauses_into s sc (past_clause w taken n q body) B K X own.read kept own.least (past_placed s sc n taken q body placed) own.owned (past_none n taken q body (λ i. own.owned i + X i) own.none) u utyped taken ch k0 l1 q cs on (Match g t p a q body cs) beside 1 cs belongs
+        (λ j r there. laid.begins.roomy (suc j) r (ap (λ ps. slice_get ps (suc j)) laid.patterns ∙ there)) ys (nodes q) tb ds ts end left next met h.17 typed.5 own.derives num.3 (past_below n taken q body l1 below1) empty1 wait0 many (many_names ∙ names0) (on.width ∙ wide0) done.arrived in
+        record {
+          delivered =
+              match_delivered (Match g t p a q body cs) s B K X at k h.0 k0 l1 met ds ts end l bare.grows bare.part (ap length bare.names) bare.width same_next (barely_keeps s X k k0 bare.each bare.names bare.credits) empty0 on.grows many_names on.width (keeps_held s X k0 l1 (λ r z. on.same_held r) on.same_names on.same_credits) empty1 rest.arrived meets
+              (meet_part c f h.0 (told c k0) end (told c l) (let x = match_grows c st f ch l1 on.match_stands h.0 laid.mid laid.first in let y = sides_grow c st f ch l1 on.match_stands laid.more laid.mid e laid.sides in let z = done.grows in let v = rest.grows in omega (arith, x, y, z, v)) meets.map meets.label (λ caught. rest.code l caught (meets_spares met l meets.next meets.known) h.0 (told c k0)
+              (match_any c st wd w shares callees f fip (Reached c f end (told c l) cs next) (reached_stretch c f end (told c l) cs next) (reached_part c f end (told c l) cs next) h.0 k0 g u a q cs ch l1 e m laid on.match_stands on.entries entry
+              (done.code l caught (spares_on left met l rest.spares (meets_spares met l meets.next meets.known))))));
+          unused = λ weak r tree none. (
+              let first : held_at k0.held r ≡ held_at k.held r = tree_barely (held_at k.held) (held_at k0.held) r bare.each tree in
+              let same_l : widened (held_at l1.held r) ≡ widened (held_at k.held r) = on.same_held r ∙ ap widened first in
+              let tree_l : is_tree (held_at l1.held r) ≡ true = sym (wide_tree (held_at l1.held r)) ∙ (ap is_tree same_l ∙ (wide_tree (held_at k.held r) ∙ tree)) in
+              let met_stays = (rest.arrived.by weak).stays r tree_l (λ x is. none x (ap (λ ns. register_of ns (Some x)) (sym (on.same_names ∙ bare.names)) ∙ is)) in
+              ap (λ (l : Known). widened (held_at l.held r)) meets.known ∙ (ap widened met_stays ∙ (twice (held_at l1.held r) ∙ same_l)));
+        }
+    into s sc n B K placed P X at k (Nested body) ds end l b ts h typed d num below kept none ties wait many names wide =
+        block_into s sc n B K placed P X at k body ds end l b ts h typed d num below kept none ties wait many names wide
 
-    pub block_into : (s : Scope) (sc : Scalars) (n : Names) (B : ℕ → Bool) (K : ℕ → Item → ℕ) → Placed c s sc n → (P X : Item → ℕ) (at : ℕ) (k : Known) (d : Block) (ds : List ℕ) (end : ℕ) (l : Known) (b : Bool) (ts : List ℕ) → BlockLaid c st fip f at k d (Into ds) end l → TypesBlock true wd s b d ts → Derives fip B P (term_block w sc n d) → NumberedBlock w N n d → ((z y : ℕ) → K z (Own y) ≤ X (Own y)) → NoneFrom n.next (λ i. P i + X i) → Ties fip c.types s B K (λ i. P i + X i) (λ q. 0) k → Waiting k ds → length ds ≡ length ts → length k.names ≡ N → length k.held ≡ f.registers → Delivered c f fip s B K X at k ds ts end l
-    block_into s sc n B K placed P X at k (Last e) ds end l b ts h typed d num kept none ties wait many names wide =
-        into s sc n B K placed P X at k e ds end l b ts h typed d num kept none ties wait many names wide
-    block_into s sc n B K placed A X at k (Let bs e rest) ds end l b ts (inl h) typed d num kept none ties wait many names wide =
+    block_into : (s : Scope) (sc : Scalars) (n : Names) (B : ℕ → Bool) (K : ℕ → Item → ℕ) → Placed c s sc n → (P X : Item → ℕ) (at : ℕ) (k : Known) (d : Block) (ds : List ℕ) (end : ℕ) (l : Known) (b : Bool) (ts : List ℕ) → BlockLaid c st fip f at k d (Into ds) end l → TypesBlock true wd s b d ts → Derives fip B P (term_block w sc n d) → NumberedBlock w N n d → Below k n.next → ((z y : ℕ) → K z (Own y) ≤ X (Own y)) → NoneFrom n.next (λ i. P i + X i) → Ties fip c.types s B K (λ i. P i + X i) (λ q. 0) k → Waiting k ds → length ds ≡ length ts → length k.names ≡ N → length k.held ≡ f.registers → Done s B K X at k ds ts end l (λ x. used_in_block st.instances x d)
+    block_into s sc n B K placed P X at k (Last e) ds end l b ts h typed d num below kept none ties wait many names wide =
+        into s sc n B K placed P X at k e ds end l b ts h typed d num below kept none ties wait many names wide
+    block_into s sc n B K placed A X at k (Let bs e rest) ds end l b ts (inl h) typed d num below kept none ties wait many names wide =
         let P = d.0 in
         let R = d.1 in
         let Q = d.2 in
@@ -434,10 +712,20 @@ module _ (c : PlainCode) (f : PlainFunction) (st : Setting) (wd : W.World) (w : 
         (none_later n e (λ i. R i + X i) (rest_none n.next P R X (split_none n.next A P R X d.3 none))) kept (unlent s B K R (λ i. R i + X i) (λ q. owed c.types rs us q + 0) m comp.ties) comp.hold in
         let after = with_names m bs rs in
         let waits = waits_on k after ds wait comp.next (λ r i. let a = waiting_among k ds r wait i in comp.empty r a.1 a.0) in
-        let more = block_into (s ++ entries bs (map Some us)) (entering w n1.next sc bs) (inside w true n1 bs) D K ent.placed Q X mid after rest ds end l b ts h.4 typed.3 d.6 num.3 kept ent.none ent.ties waits many (length_all_named m.names bs rs ∙ (same_names ∙ names)) (comp.width ∙ wide) in
-        computed_rest s (s ++ entries bs (map Some us)) B D K (λ i. R i + X i) X at k rs us mid m bs ds ts end l n1.next (λ i. omega arith) (named_last at k e rs mid m h.3) num.0
-        (none_let n e R X (none_later n e (λ i. R i + X i) (rest_none n.next P R X (split_none n.next A P R X d.3 none)))) (before_let s sc n e placed) (comp_plain s (lending B R) B (lent_in B K R) K (λ i. R i + X i) at k rs us mid m comp (unlent s B K R (λ i. R i + X i) (λ q. owed c.types rs us q + 0) m comp.ties)) more ent.back ent.same
-    block_into s sc n B K placed A X at k (Let bs e rest) ds end l b ts (inr h) typed d num kept none ties wait many names wide =
+        let more = block_into (s ++ entries bs (map Some us)) (entering w n1.next sc bs) (inside w true n1 bs) D K ent.placed Q X mid after rest ds end l b ts h.4 typed.3 d.6 num.3 (let_below n e bs rs m num.0 (below_same k m n.next comp.names below)) kept ent.none ent.ties waits many (length_all_named m.names bs rs ∙ (same_names ∙ names)) (comp.width ∙ wide) in
+        record {
+          delivered =
+              computed_rest s (s ++ entries bs (map Some us)) B D K (λ i. R i + X i) X at k rs us mid m bs ds ts end l n1.next (λ i. omega arith) (named_last at k e rs mid m h.3) num.0
+              (none_let n e R X (none_later n e (λ i. R i + X i) (rest_none n.next P R X (split_none n.next A P R X d.3 none)))) (before_let s sc n e placed) (comp_plain s (lending B R) B (lent_in B K R) K (λ i. R i + X i) at k rs us mid m comp (unlent s B K R (λ i. R i + X i) (λ q. owed c.types rs us q + 0) m comp.ties)) more.delivered ent.back ent.same;
+          unused = λ weak r tree none. (
+              let kept_tree = named_stay weak s sc n (lending B R) (lent_in B K R) placed P (λ i. R i + X i) at k e rs mid m (all_annotated bs) us h.3 typed.1 d.5 (lent_kept B K R X kept)
+              (ties_lending fip c.types s B K (λ i. P i + (R i + X i)) R (λ q. 0) k (λ x. omega arith) parts) wide r tree (λ x is. (neither (used_in st.instances x e) (used_in_block st.instances x rest) (none x is)).0) in
+              more.unused weak r (ap is_tree kept_tree.0 ∙ tree) (λ x is. elim (let_either m.names bs rs x r is) as (λ v. used_in_block st.instances x rest ≡ false) [
+                | inl old ↦ (neither (used_in st.instances x e) (used_in_block st.instances x rest) (none x (ap (λ ns. register_of ns (Some x)) (sym comp.names) ∙ old))).1
+                | inr new ↦ absurd (kept_tree.1 new)
+              ]) ∙ ap widened kept_tree.0);
+        }
+    block_into s sc n B K placed A X at k (Let bs e rest) ds end l b ts (inr h) typed d num below kept none ties wait many names wide =
         let P = d.0 in
         let R = d.1 in
         let Q = d.2 in
@@ -450,28 +738,39 @@ module _ (c : PlainCode) (f : PlainFunction) (st : Setting) (wd : W.World) (w : 
         let types = expression_types c st wd w shares callees s (all_annotated bs) e us placed.typed typed.1 in
         let parts = let_split s B K A P R X k d.3 ties in
         let more_next : k.next ≤ k.next + length bs = omega arith in
-        let got = into s sc n (lending B R) (lent_in B K R) placed P (λ i. R i + X i) at (reserved k bs) e rs mid m (all_annotated bs) us h.2 typed.1 d.5 num.2 (lent_kept B K R X kept)
+        let got = into s sc n (lending B R) (lent_in B K R) placed P (λ i. R i + X i) at (reserved k bs) e rs mid m (all_annotated bs) us h.2 typed.1 d.5 num.2 below (lent_kept B K R X kept)
         (split_none n.next A P R X d.3 none)
         (ties_reserved fip c.types s (lending B R) (lent_in B K R) (λ i. P i + (R i + X i)) (λ q. 0) k (k.next + length bs) more_next (ties_lending fip c.types s B K (λ i. P i + (R i + X i)) R (λ q. 0) k (λ x. omega arith) parts))
         (registers_wait k k.next (k.next + length bs) bs ties.fresh (omega arith)) (length_registers k.next bs ∙ bind_many bs us typed.2) names wide in
-        let same_names = got.names in
+        let same_names = got.delivered.names in
         let room = num.1 in
         let ent = enter s sc n1 bs us B K R Q X m rs (behind_placed s sc n e (later n e) placed) num.0 (omega (arith, room, names, same_names)) typed.2 types d.4
-        (none_later n e (λ i. R i + X i) (rest_none n.next P R X (split_none n.next A P R X d.3 none))) kept (unlent s B K R (λ i. R i + X i) (λ q. owed c.types rs us q + 0) m got.ties) got.hold in
+        (none_later n e (λ i. R i + X i) (rest_none n.next P R X (split_none n.next A P R X d.3 none))) kept (unlent s B K R (λ i. R i + X i) (λ q. owed c.types rs us q + 0) m got.delivered.ties) got.delivered.hold in
+        let below_m = expression_below c f st fip w N n at (reserved k bs) e rs mid m n1.next h.2 num.2 (let z = next_behind w n e in omega (arith, z)) below in
+        let below_after = let_below_later n e bs rs m num.0 below_m in
         let after = with_names m bs rs in
-        let waits = waits_on k after ds wait (let z = got.next in omega (arith, z)) (λ r i. let a = waiting_among k ds r wait i in let low = a.1 in got.empty r (omega (arith, low)) a.0 (registers_apart k bs r a.1)) in
-        let more = block_into (s ++ entries bs (map Some us)) (entering w n1.next sc bs) (inside w true n1 bs) D K ent.placed Q X mid after rest ds end l b ts h.3 typed.3 d.6 num.3 kept ent.none ent.ties waits many (length_all_named m.names bs rs ∙ (same_names ∙ names)) (got.width ∙ wide) in
-        delivered_rest s (s ++ entries bs (map Some us)) B (lending B R) D K (lent_in B K R) (λ i. R i + X i) X at k (k.next + length bs) rs us mid m bs ds ts end l n1.next (λ i. omega arith) num.0
-        (none_let n e R X (none_later n e (λ i. R i + X i) (rest_none n.next P R X (split_none n.next A P R X d.3 none)))) (before_let s sc n e placed) more_next got more (registers_apart k bs) ent.back ent.same
+        let waits = waits_on k after ds wait (let z = got.delivered.next in omega (arith, z)) (λ r i. let a = waiting_among k ds r wait i in let low = a.1 in got.delivered.empty r (omega (arith, low)) a.0 (registers_apart k bs r a.1)) in
+        let more = block_into (s ++ entries bs (map Some us)) (entering w n1.next sc bs) (inside w true n1 bs) D K ent.placed Q X mid after rest ds end l b ts h.3 typed.3 d.6 num.3 below_after kept ent.none ent.ties waits many (length_all_named m.names bs rs ∙ (same_names ∙ names)) (got.delivered.width ∙ wide) in
+        record {
+          delivered =
+              delivered_rest s (s ++ entries bs (map Some us)) B (lending B R) D K (lent_in B K R) (λ i. R i + X i) X at k (k.next + length bs) rs us mid m bs ds ts end l n1.next (λ i. omega arith) num.0
+              (none_let n e R X (none_later n e (λ i. R i + X i) (rest_none n.next P R X (split_none n.next A P R X d.3 none)))) (before_let s sc n e placed) more_next got.delivered more.delivered (registers_apart k bs) ent.back ent.same;
+          unused = λ weak r tree none. (
+              let first = got.unused weak r tree (λ x is. (neither (used_in st.instances x e) (used_in_block st.instances x rest) (none x is)).0) in
+              let tree_m : is_tree (held_at m.held r) ≡ true = sym (wide_tree (held_at m.held r)) ∙ (ap is_tree first ∙ (wide_tree (held_at k.held r) ∙ tree)) in
+              more.unused weak r tree_m (λ x is. let_unused s sc n e bs us B K R Q X rest b ts m k ds rs r x typed.1 typed.2 num.0 num.3 typed.3 ent.placed below_m below_after got.delivered.keeps
+              (λ a. absurd (let z = among_registers k.next r bs a in true≢false (sym tree ∙ ap is_tree (ties.fresh r z)))) none is) ∙ first);
+        }
 
     -- the clauses behind one
-    clauses_into : (s : Scope) (sc : Scalars) (n : Names) (B : ℕ → Bool) (K : ℕ → Item → ℕ) (X L : Item → ℕ) → Kept K X → ((y : ℕ) → L (Own y) ≤ X (Own y)) → Placed c s sc n → (R : Item → ℕ) → NoneFrom n.next (λ i. R i + X i) → (u : ℕ) → is_type c.types u ≡ true → (taken : Bool) (ch : Choice) (k l : Known) (q0 : Pattern) (cs0 : Clauses) → MatchOn c st wd w shares callees f fip taken s B K R X L u ch k l q0 cs0 → (i : ℕ) (cs : Clauses) → ((j : ℕ) (q : Pattern) → slice_get (clause_patterns cs) j ≡ Some q → Roomy q ch.root) → (ys ks : List ℕ) (te : Term) (ds ts : List ℕ) (end : ℕ) (j : Known) (at : ℕ) (met : Known) → ClausesMeet c st fip f ch l i cs ds end j at met → TypesClauses true wd s u cs ts → DerivesBy c st wd w shares callees f fip taken B R (clauses w sc taken n ys ks te cs) → NumberedClauses w N taken n cs → ((r : ℕ) → suc r ≤ k.next → held_at k.held r ≡ H.Nothing → held_at l.held r ≡ H.Nothing) → Waiting k ds → length ds ≡ length ts → length l.names ≡ N → length l.held ≡ f.registers → Arrived fip c.types s B K X l k.next ds ts j → ClausesDone c f fip s B K X l k.next ds ts cs end j at met
-    clauses_into s sc n B K X L kept least placed R none u utyped taken ch k l q0 cs0 on i NoClauses roomy ys ks te ds ts end j at met h typed d num empty wait many names wide arrived = record {
-      arrived = subst (Arrived fip c.types s B K X l k.next ds ts) (sym h.1) arrived;
+    clauses_into : (s : Scope) (sc : Scalars) (n : Names) (B : ℕ → Bool) (K : ℕ → Item → ℕ) (X L : Item → ℕ) → Kept K X → ((y : ℕ) → L (Own y) ≤ X (Own y)) → Placed c s sc n → (R : Item → ℕ) → NoneFrom n.next (λ i. R i + X i) → (u : ℕ) → is_type c.types u ≡ true → (taken : Bool) (ch : Choice) (k l : Known) (q0 : Pattern) (cs0 : Clauses) → MatchOn c st wd w shares callees f fip taken s B K R X L u ch k l q0 cs0 → (o : Expression) → Beside ch l X o → (i : ℕ) (cs : Clauses) → Belongs ch o cs → ((j : ℕ) (q : Pattern) → slice_get (clause_patterns cs) j ≡ Some q → Roomy q ch.root) → (ys ks : List ℕ) (te : Term) (ds ts : List ℕ) (end : ℕ) (j : Known) (at : ℕ) (met : Known) → ClausesMeet c st fip f ch l o i cs ds end j at met → TypesClauses true wd s u cs ts → DerivesBy c st wd w shares callees f fip taken B R (clauses w sc taken n ys ks te cs) → NumberedClauses w N taken n cs → Below l n.next → ((r : ℕ) → suc r ≤ k.next → held_at k.held r ≡ H.Nothing → held_at l.held r ≡ H.Nothing) → Waiting k ds → length ds ≡ length ts → length l.names ≡ N → length l.held ≡ f.registers → Arrived st o fip c.types s B K X l k.next ds ts j → ClausesDone st o c f fip s B K X l k.next ds ts cs end j at met
+    clauses_into s sc n B K X L kept least placed R none u utyped taken ch k l q0 cs0 on o beside i NoClauses belongs roomy ys ks te ds ts end j at met h typed d num below empty wait many names wide arrived = record {
+      grows = (let z = h.0 in omega (arith, z));
+      arrived = subst (Arrived st o fip c.types s B K X l k.next ds ts) (sym h.1) arrived;
       spares = subst (Spares j) (sym h.1) (spares_same j);
       code = λ after caught spares at0 m0 code. code;
     }
-    clauses_into s sc n B K X L kept least placed R none u utyped taken ch k l q0 cs0 on i (MoreClauses q body cs) roomy ys ks te ds ts end j at met h typed d num empty wait many names wide arrived =
+    clauses_into s sc n B K X L kept least placed R none u utyped taken ch k l q0 cs0 on o beside i (MoreClauses q body cs) belongs roomy ys ks te ds ts end j at met h typed d num below empty wait many names wide arrived =
         let start = h.1 in
         let m = h.2 in
         let next = h.5 in
@@ -485,12 +784,16 @@ module _ (c : PlainCode) (f : PlainFunction) (st : Setting) (wd : W.World) (w : 
         let room = num.1 in
         let cb = on_entry s sc n B K X L kept least placed R none u utyped taken ch k l q0 cs0 on q fb.0 m fb.1 typed.0 (roomy 0 q refl) num.0 (omega (arith, room, names)) entry.more in
         let from = before_clause s sc n B K X L kept least placed R none u utyped taken ch k l q0 cs0 on q typed.0 num.0 in
+        let belowq = entry_below n taken q ch l m num.0 below in
         let waits = entry_waits c st wd w shares callees f fip s sc n B K X L kept placed R none u taken ch k l q0 cs0 on q m ds entry.more empty wait in
-        let got = block_into (s ++ bound_by wd (Some u) q) (entering w n.next sc (binders q)) (inside w taken n (binders q)) (O.setting zs (not taken) B) (reading taken zs L K) cb.placed fb.0 X start (entered st ch q l m) body ds h.3 h.4 true ts h.10 typed.1 fb.2 num.2 (reading_kept taken zs L X K kept least) cb.none cb.ties waits many (cb.names ∙ names) (cb.width ∙ wide) in
-        let done = clause_done c st wd w shares callees f fip s sc n B K X L kept placed R none u taken ch k l q0 cs0 on q m fb.0 num.0 entry.more cb from.back from.borrowed from.lends start h.3 h.4 ds ts got cs end next left h.11 in
-        let meeting = joined fip c.types s B K (λ i. R i + X i) X (λ q. owing taken c.types u (register ch.root) q) l k.next ds ts (start_ties c st wd w shares callees f fip taken s B K R X L u (register ch.root) l on.stands) (λ i. omega arith) kept j left both arrived done.arrived h.12 in
-        let rest = clauses_into s sc (past_clause w taken n q body) B K X L kept least (past_placed s sc n taken q body placed) R (past_none n taken q body (λ i. R i + X i) none) u utyped taken ch k l q0 cs0 on (suc i) cs
-        (λ j r there. roomy (suc j) r there) zs (nodes q) tb ds ts end both next met h.13 typed.2 later num.3 empty wait many names wide meeting.arrived in record {
+        let got = block_into (s ++ bound_by wd (Some u) q) (entering w n.next sc (binders q)) (inside w taken n (binders q)) (O.setting zs (not taken) B) (reading taken zs L K) cb.placed fb.0 X start (entered st ch q l m) body ds h.3 h.4 true ts h.10 typed.1 fb.2 num.2 belowq (reading_kept taken zs L X K kept least) cb.none cb.ties waits many (cb.names ∙ names) (cb.width ∙ wide) in
+        let done = clause_done c st wd w shares callees f fip s sc n B K X L kept placed R none u taken ch k l q0 cs0 on q m fb.0 num.0 entry.more cb from.back from.borrowed from.lends start h.3 h.4 ds ts got.delivered o beside.unused beside.enough cs end next left h.11
+        (λ weak. clause_stays s sc n B K X L R none u taken ch k l q0 cs0 on o beside.apart q body fb.0 m num.0 fb.1 cb true ts typed.1 num.2 fb.2 belowq (λ x e. belongs.uses x (or_left (used_in_block st.instances x body) (used_in_clauses st.instances x cs) e)) h.4 (got.unused weak))
+        (clause_low ch l o q body m start ds h.3 h.4 (roomy 0 q refl) (λ i. let z = great_left (need_block st i body - given i ch.takes q) (need_clauses st i ch.takes cs) in let y = belongs.needs i in omega (arith, z, y)) h.10) in
+        let meeting = joined st o fip c.types s B K (λ i. R i + X i) X (λ q. owing taken c.types u (register ch.root) q) l k.next ds ts (start_ties c st wd w shares callees f fip taken s B K R X L u (register ch.root) l on.stands) (λ i. omega arith) kept j left both arrived done.arrived h.12 in
+        let rest = clauses_into s sc (past_clause w taken n q body) B K X L kept least (past_placed s sc n taken q body placed) R (past_none n taken q body (λ i. R i + X i) none) u utyped taken ch k l q0 cs0 on o beside (suc i) cs (later_belongs ch o q body cs belongs)
+        (λ j r there. roomy (suc j) r there) zs (nodes q) tb ds ts end both next met h.13 typed.2 later num.3 (past_below n taken q body l below) empty wait many names wide meeting.arrived in record {
+          grows = (let x = sides_grow c st f ch l on.match_stands h.0 at start h.8 in let y = done.grows in let z = rest.grows in omega (arith, x, y, z));
           arrived = rest.arrived;
           spares = spares_on j both met meeting.first rest.spares;
           code = λ after caught spares at0 m0 before. rest.code after caught spares at0 m0
@@ -504,16 +807,16 @@ module _ (c : PlainCode) (f : PlainFunction) (st : Setting) (wd : W.World) (w : 
   none_zero n A P R split none = split_none n A P R (λ i. 0) split none
 
   mutual
-    pub ends : (s : Scope) (sc : Scalars) (n : Names) (B : ℕ → Bool) (K : ℕ → Item → ℕ) → Placed c s sc n → (P : Item → ℕ) (at : ℕ) (k : Known) (e : Expression) (end : ℕ) (l : Known) (b : Bool) (ts : List ℕ) → ExpressionLaid c st fip f at k e Return end l → Types true wd s b e ts → Derives fip B P (term w sc n e) → Numbered w N n e → ((z y : ℕ) → K z (Own y) ≤ 0) → NoneFrom n.next (λ i. P i + 0) → Ties fip c.types s B K (λ i. P i + 0) (λ q. 0) k → f.results ≡ ts → length k.names ≡ N → length k.held ≡ f.registers → LastPart c f at (told c k) end
-    ends s sc n B K placed P at k (Give a) end l b ts h typed d num kept none ties results names wide =
+    ends : (s : Scope) (sc : Scalars) (n : Names) (B : ℕ → Bool) (K : ℕ → Item → ℕ) → Placed c s sc n → (P : Item → ℕ) (at : ℕ) (k : Known) (e : Expression) (end : ℕ) (l : Known) (b : Bool) (ts : List ℕ) → ExpressionLaid c st fip f at k e Return end l → Types true wd s b e ts → Derives fip B P (term w sc n e) → Numbered w N n e → Below k n.next → ((z y : ℕ) → K z (Own y) ≤ 0) → NoneFrom n.next (λ i. P i + 0) → Ties fip c.types s B K (λ i. P i + 0) (λ q. 0) k → f.results ≡ ts → length k.names ≡ N → length k.held ≡ f.registers → LastPart c f at (told c k) end
+    ends s sc n B K placed P at k (Give a) end l b ts h typed d num below kept none ties results names wide =
         give_ends c f st wd w fip shares callees s sc n B K placed P at k (MoreArguments a NoArguments) end l b (typed.0 ∷ []) h (typed.2, tt) d kept ties (results ∙ typed.1) wide
-    ends s sc n B K placed P at k (Tuple p as') end l b ts h typed d num kept none ties results names wide =
+    ends s sc n B K placed P at k (Tuple p as') end l b ts h typed d num below kept none ties results names wide =
         give_ends c f st wd w fip shares callees s sc n B K placed P at k as' end l b ts h typed.1 d kept ties results wide
-    ends s sc n B K placed P at k (Operation o p x y) end l b ts h typed d num kept none ties results names wide =
+    ends s sc n B K placed P at k (Operation o p x y) end l b ts h typed d num below kept none ties results names wide =
         operator_ends c f st wd w fip shares callees s sc n B K placed P at k o p x y end l h typed.1 typed.2 d kept ties (results ∙ typed.0) wide
-    ends s sc n B K placed P at k (Call g nm p as') end l b ts h typed d num kept none ties results names wide =
+    ends s sc n B K placed P at k (Call g nm p as') end l b ts h typed d num below kept none ties results names wide =
         called_ends c f st wd w fip shares callees s sc n B K placed P at k g as' end l h typed.1 d.1 kept ties (results ∙ typed.0) wide
-    ends s sc n B K placed P at k (Match g t p a q body cs) end l b ts h typed d num kept none ties results names wide =
+    ends s sc n B K placed P at k (Match g t p a q body cs) end l b ts h typed d num below kept none ties results names wide =
         let taken = takes w g t in
         let ch = h.0 in
         let l1 = h.1 in
@@ -536,17 +839,17 @@ module _ (c : PlainCode) (f : PlainFunction) (st : Setting) (wd : W.World) (w : 
         let width = on.width in
         let many = on.names in
         let cb = on_entry s sc n B K (λ i. 0) own.read kept own.least placed own.owned own.none u utyped taken ch k l1 q cs on q fb.0 m fb.1 typed.3 (laid.begins.roomy 0 q (ap (λ ps. slice_get ps 0) laid.patterns)) num.0 (omega (arith, room, many, names)) entry.more in
-        let one = block_ends (s ++ bound_by wd (Some u) q) (entering w n.next sc (binders q)) (inside w taken n (binders q)) (O.setting (variables w n.next (binders q)) (not taken) B) (reading taken (variables w n.next (binders q)) own.read K) cb.placed fb.0 e (entered st ch q l1 m) body mid h.5 b ts h.8 typed.4 fb.2 num.2 (reading_kept taken (variables w n.next (binders q)) own.read (λ i. 0) K kept own.least) cb.none cb.ties results (cb.names ∙ (many ∙ names)) (cb.width ∙ (width ∙ wide)) in
+        let one = block_ends (s ++ bound_by wd (Some u) q) (entering w n.next sc (binders q)) (inside w taken n (binders q)) (O.setting (variables w n.next (binders q)) (not taken) B) (reading taken (variables w n.next (binders q)) own.read K) cb.placed fb.0 e (entered st ch q l1 m) body mid h.5 b ts h.8 typed.4 fb.2 num.2 (entry_below n taken q ch l1 m num.0 (below_same k l1 n.next on.same_names below)) (reading_kept taken (variables w n.next (binders q)) own.read (λ i. 0) K kept own.least) cb.none cb.ties results (cb.names ∙ (many ∙ names)) (cb.width ∙ (width ∙ wide)) in
         let first = match_any c st wd w shares callees f fip (λ a m. LastPart c f a m mid) (λ a m b l x y. stretch_last c f a m b l mid x y) (λ a m b l x y. part_and_last c f a b mid m l x y) at k g u a q cs ch l1 e m laid on.match_stands on.entries entry one in
         clauses_ends s sc n (past_clause w taken n q body) B K own.read own.least (past_placed s sc n taken q body placed) own.owned (past_none n taken q body (λ i. own.owned i + 0) own.none) u utyped taken ch k l1 q cs on 1 cs
-        (λ j r there. laid.begins.roomy (suc j) r (ap (λ ps. slice_get ps (suc j)) laid.patterns ∙ there)) (variables w n.next (binders q)) (nodes q) (term_block w (entering w n.next sc (binders q)) (inside w taken n (binders q)) body) at (told c k) mid end ts h.9 typed.5 own.derives num.3 kept results (many ∙ names) (width ∙ wide) first
-    ends s sc n B K placed P at k (Nested body) end l b ts h typed d num kept none ties results names wide =
-        block_ends s sc n B K placed P at k body end l b ts h typed d num kept none ties results names wide
+        (λ j r there. laid.begins.roomy (suc j) r (ap (λ ps. slice_get ps (suc j)) laid.patterns ∙ there)) (variables w n.next (binders q)) (nodes q) (term_block w (entering w n.next sc (binders q)) (inside w taken n (binders q)) body) at (told c k) mid end ts h.9 typed.5 own.derives num.3 (past_below n taken q body l1 (below_same k l1 n.next on.same_names below)) kept results (many ∙ names) (width ∙ wide) first
+    ends s sc n B K placed P at k (Nested body) end l b ts h typed d num below kept none ties results names wide =
+        block_ends s sc n B K placed P at k body end l b ts h typed d num below kept none ties results names wide
 
-    pub block_ends : (s : Scope) (sc : Scalars) (n : Names) (B : ℕ → Bool) (K : ℕ → Item → ℕ) → Placed c s sc n → (P : Item → ℕ) (at : ℕ) (k : Known) (d : Block) (end : ℕ) (l : Known) (b : Bool) (ts : List ℕ) → BlockLaid c st fip f at k d Return end l → TypesBlock true wd s b d ts → Derives fip B P (term_block w sc n d) → NumberedBlock w N n d → ((z y : ℕ) → K z (Own y) ≤ 0) → NoneFrom n.next (λ i. P i + 0) → Ties fip c.types s B K (λ i. P i + 0) (λ q. 0) k → f.results ≡ ts → length k.names ≡ N → length k.held ≡ f.registers → LastPart c f at (told c k) end
-    block_ends s sc n B K placed P at k (Last e) end l b ts h typed d num kept none ties results names wide =
-        ends s sc n B K placed P at k e end l b ts h typed d num kept none ties results names wide
-    block_ends s sc n B K placed A at k (Let bs e rest) end l b ts (inl h) typed d num kept none ties results names wide =
+    pub block_ends : (s : Scope) (sc : Scalars) (n : Names) (B : ℕ → Bool) (K : ℕ → Item → ℕ) → Placed c s sc n → (P : Item → ℕ) (at : ℕ) (k : Known) (d : Block) (end : ℕ) (l : Known) (b : Bool) (ts : List ℕ) → BlockLaid c st fip f at k d Return end l → TypesBlock true wd s b d ts → Derives fip B P (term_block w sc n d) → NumberedBlock w N n d → Below k n.next → ((z y : ℕ) → K z (Own y) ≤ 0) → NoneFrom n.next (λ i. P i + 0) → Ties fip c.types s B K (λ i. P i + 0) (λ q. 0) k → f.results ≡ ts → length k.names ≡ N → length k.held ≡ f.registers → LastPart c f at (told c k) end
+    block_ends s sc n B K placed P at k (Last e) end l b ts h typed d num below kept none ties results names wide =
+        ends s sc n B K placed P at k e end l b ts h typed d num below kept none ties results names wide
+    block_ends s sc n B K placed A at k (Let bs e rest) end l b ts (inl h) typed d num below kept none ties results names wide =
         let P = d.0 in
         let R = d.1 in
         let Q = d.2 in
@@ -566,8 +869,8 @@ module _ (c : PlainCode) (f : PlainFunction) (st : Setting) (wd : W.World) (w : 
         let ent = enter s sc n1 bs us B K R Q X m rs (behind_placed s sc n e (later n e) placed) num.0 (omega (arith, room, names, same_names)) typed.2 types d.4
         (none_later n e (λ i. R i + X i) (rest_none n.next P R X (split_none n.next A P R X d.3 none))) kept (unlent s B K R (λ i. R i + X i) (λ q. owed c.types rs us q + 0) m comp.ties) comp.hold in
         part_and_last c f at mid end (told c k) (told c m) comp.part
-        (block_ends (s ++ entries bs (map Some us)) (entering w n1.next sc bs) (inside w true n1 bs) D K ent.placed Q mid (with_names m bs rs) rest end l b ts h.4 typed.3 d.6 num.3 kept ent.none ent.ties results (length_all_named m.names bs rs ∙ (same_names ∙ names)) (comp.width ∙ wide))
-    block_ends s sc n B K placed A at k (Let bs e rest) end l b ts (inr h) typed d num kept none ties results names wide =
+        (block_ends (s ++ entries bs (map Some us)) (entering w n1.next sc bs) (inside w true n1 bs) D K ent.placed Q mid (with_names m bs rs) rest end l b ts h.4 typed.3 d.6 num.3 (let_below n e bs rs m num.0 (below_same k m n.next comp.names below)) kept ent.none ent.ties results (length_all_named m.names bs rs ∙ (same_names ∙ names)) (comp.width ∙ wide))
+    block_ends s sc n B K placed A at k (Let bs e rest) end l b ts (inr h) typed d num below kept none ties results names wide =
         let P = d.0 in
         let R = d.1 in
         let Q = d.2 in
@@ -581,21 +884,21 @@ module _ (c : PlainCode) (f : PlainFunction) (st : Setting) (wd : W.World) (w : 
         let types = expression_types c st wd w shares callees s (all_annotated bs) e us placed.typed typed.1 in
         let parts = let_split s B K A P R X k d.3 ties in
         let more_next : k.next ≤ k.next + length bs = omega arith in
-        let got = into s sc n (lending B R) (lent_in B K R) placed P (λ i. R i + X i) at (reserved k bs) e rs mid m (all_annotated bs) us h.2 typed.1 d.5 num.2 (lent_kept B K R X kept)
+        let got = into s sc n (lending B R) (lent_in B K R) placed P (λ i. R i + X i) at (reserved k bs) e rs mid m (all_annotated bs) us h.2 typed.1 d.5 num.2 below (lent_kept B K R X kept)
         (split_none n.next A P R X d.3 none)
         (ties_reserved fip c.types s (lending B R) (lent_in B K R) (λ i. P i + (R i + X i)) (λ q. 0) k (k.next + length bs) more_next (ties_lending fip c.types s B K (λ i. P i + (R i + X i)) R (λ q. 0) k (λ x. omega arith) parts))
         (registers_wait k k.next (k.next + length bs) bs ties.fresh (omega arith)) (length_registers k.next bs ∙ bind_many bs us typed.2) names wide in
-        let same_names = got.names in
+        let same_names = got.delivered.names in
         let room = num.1 in
         let ent = enter s sc n1 bs us B K R Q X m rs (behind_placed s sc n e (later n e) placed) num.0 (omega (arith, room, names, same_names)) typed.2 types d.4
-        (none_later n e (λ i. R i + X i) (rest_none n.next P R X (split_none n.next A P R X d.3 none))) kept (unlent s B K R (λ i. R i + X i) (λ q. owed c.types rs us q + 0) m got.ties) got.hold in
-        part_and_last c f at mid end (told c k) (told c m) got.part
-        (block_ends (s ++ entries bs (map Some us)) (entering w n1.next sc bs) (inside w true n1 bs) D K ent.placed Q mid (with_names m bs rs) rest end l b ts h.3 typed.3 d.6 num.3 kept ent.none ent.ties results (length_all_named m.names bs rs ∙ (same_names ∙ names)) (got.width ∙ wide))
+        (none_later n e (λ i. R i + X i) (rest_none n.next P R X (split_none n.next A P R X d.3 none))) kept (unlent s B K R (λ i. R i + X i) (λ q. owed c.types rs us q + 0) m got.delivered.ties) got.delivered.hold in
+        part_and_last c f at mid end (told c k) (told c m) got.delivered.part
+        (block_ends (s ++ entries bs (map Some us)) (entering w n1.next sc bs) (inside w true n1 bs) D K ent.placed Q mid (with_names m bs rs) rest end l b ts h.3 typed.3 d.6 num.3 (let_below_later n e bs rs m num.0 (expression_below c f st fip w N n at (reserved k bs) e rs mid m n1.next h.2 num.2 (let z = next_behind w n e in omega (arith, z)) below)) kept ent.none ent.ties results (length_all_named m.names bs rs ∙ (same_names ∙ names)) (got.delivered.width ∙ wide))
 
     -- the clauses behind one
-    clauses_ends : (s : Scope) (sc : Scalars) (n0 n : Names) (B : ℕ → Bool) (K : ℕ → Item → ℕ) (L : Item → ℕ) → ((y : ℕ) → L (Own y) ≤ 0) → Placed c s sc n → (R : Item → ℕ) → NoneFrom n.next (λ i. R i + 0) → (u : ℕ) → is_type c.types u ≡ true → (taken : Bool) (ch : Choice) (k l : Known) (q0 : Pattern) (cs0 : Clauses) → MatchOn c st wd w shares callees f fip taken s B K R (λ i. 0) L u ch k l q0 cs0 → (i : ℕ) (cs : Clauses) → ((j : ℕ) (q : Pattern) → slice_get (clause_patterns cs) j ≡ Some q → Roomy q ch.root) → (ys ks : List ℕ) (te : Term) (at0 : ℕ) (m0 : ℕ → Kind) (at end : ℕ) (ts : List ℕ) → ClausesLaid c st fip f ch l i cs at end → TypesClauses true wd s u cs ts → DerivesBy c st wd w shares callees f fip taken B R (clauses w sc taken n ys ks te cs) → NumberedClauses w N taken n cs → ((z y : ℕ) → K z (Own y) ≤ 0) → f.results ≡ ts → length l.names ≡ N → length l.held ≡ f.registers → LastPart c f at0 m0 at → LastPart c f at0 m0 end
-    clauses_ends s sc n0 n B K L least placed R none u utyped taken ch k l q0 cs0 on i NoClauses roomy ys ks te at0 m0 at end ts h typed d num kept results names wide part = subst (LastPart c f at0 m0) (sym h) part
-    clauses_ends s sc n0 n B K L least placed R none u utyped taken ch k l q0 cs0 on i (MoreClauses q body cs) roomy ys ks te at0 m0 at end ts h typed d num kept results names wide part =
+    clauses_ends : (s : Scope) (sc : Scalars) (n0 n : Names) (B : ℕ → Bool) (K : ℕ → Item → ℕ) (L : Item → ℕ) → ((y : ℕ) → L (Own y) ≤ 0) → Placed c s sc n → (R : Item → ℕ) → NoneFrom n.next (λ i. R i + 0) → (u : ℕ) → is_type c.types u ≡ true → (taken : Bool) (ch : Choice) (k l : Known) (q0 : Pattern) (cs0 : Clauses) → MatchOn c st wd w shares callees f fip taken s B K R (λ i. 0) L u ch k l q0 cs0 → (i : ℕ) (cs : Clauses) → ((j : ℕ) (q : Pattern) → slice_get (clause_patterns cs) j ≡ Some q → Roomy q ch.root) → (ys ks : List ℕ) (te : Term) (at0 : ℕ) (m0 : ℕ → Kind) (at end : ℕ) (ts : List ℕ) → ClausesLaid c st fip f ch l i cs at end → TypesClauses true wd s u cs ts → DerivesBy c st wd w shares callees f fip taken B R (clauses w sc taken n ys ks te cs) → NumberedClauses w N taken n cs → Below l n.next → ((z y : ℕ) → K z (Own y) ≤ 0) → f.results ≡ ts → length l.names ≡ N → length l.held ≡ f.registers → LastPart c f at0 m0 at → LastPart c f at0 m0 end
+    clauses_ends s sc n0 n B K L least placed R none u utyped taken ch k l q0 cs0 on i NoClauses roomy ys ks te at0 m0 at end ts h typed d num below kept results names wide part = subst (LastPart c f at0 m0) (sym h) part
+    clauses_ends s sc n0 n B K L least placed R none u utyped taken ch k l q0 cs0 on i (MoreClauses q body cs) roomy ys ks te at0 m0 at end ts h typed d num below kept results names wide part =
         let start = h.1 in
         let m = h.2 in
         let mid = h.3 in
@@ -605,7 +908,7 @@ module _ (c : PlainCode) (f : PlainFunction) (st : Setting) (wd : W.World) (w : 
         let fb = first_by taken sc n B R (past_clause w taken n q body) (variables w n.next (binders q)) (nodes q) tb cs rest in
         let room = num.1 in
         let cb = on_entry s sc n B K (λ i. 0) L kept least placed R none u utyped taken ch k l q0 cs0 on q fb.0 m fb.1 typed.0 (roomy 0 q refl) num.0 (omega (arith, room, names)) entry.more in
-        let one = block_ends (s ++ bound_by wd (Some u) q) (entering w n.next sc (binders q)) (inside w taken n (binders q)) (O.setting (variables w n.next (binders q)) (not taken) B) (reading taken (variables w n.next (binders q)) L K) cb.placed fb.0 start (entered st ch q l m) body mid h.4 true ts h.7 typed.1 fb.2 num.2 (reading_kept taken (variables w n.next (binders q)) L (λ i. 0) K kept least) cb.none cb.ties results (cb.names ∙ names) (cb.width ∙ wide) in
+        let one = block_ends (s ++ bound_by wd (Some u) q) (entering w n.next sc (binders q)) (inside w taken n (binders q)) (O.setting (variables w n.next (binders q)) (not taken) B) (reading taken (variables w n.next (binders q)) L K) cb.placed fb.0 start (entered st ch q l m) body mid h.4 true ts h.7 typed.1 fb.2 num.2 (entry_below n taken q ch l m num.0 below) (reading_kept taken (variables w n.next (binders q)) L (λ i. 0) K kept least) cb.none cb.ties results (cb.names ∙ names) (cb.width ∙ wide) in
         let tests = match_sides c st f ch l on.match_stands on.entries h.0 at0 m0 at start (last_stretch c f at0 m0 at part) h.5 in
         clauses_ends s sc n (past_clause w taken n q body) B K L least (past_placed s sc n taken q body placed) R (past_none n taken q body (λ i. R i + 0) none) u utyped taken ch k l q0 cs0 on (suc i) cs
-        (λ j r there. roomy (suc j) r there) (variables w n.next (binders q)) (nodes q) tb at0 m0 mid end ts h.8 typed.2 rest num.3 kept results names wide (stretch_last c f at0 m0 start (told c (entered st ch q l m)) mid tests one)
+        (λ j r there. roomy (suc j) r there) (variables w n.next (binders q)) (nodes q) tb at0 m0 mid end ts h.8 typed.2 rest num.3 (past_below n taken q body l below) kept results names wide (stretch_last c f at0 m0 start (told c (entered st ch q l m)) mid tests one)

@@ -167,7 +167,7 @@ pass_many w s B k (p ∷ ps) (r ∷ rs) h = ap suc (pass_many w s B k ps rs h.1)
 
 module _ (c : PlainCode) (f : PlainFunction) (fip : Bool) (s : Scope) (B : ℕ → Bool) (K : ℕ → Item → ℕ) where
   -- the arguments and credits of a call are as asked; l is known behind them
-  pub record Called (tail : Bool) (X : Item → ℕ) (k : Known) (d : Instance) (rs cs : List ℕ) (l : Known) : Type 0 where
+  pub record Called (tail : Bool) (X : Item → ℕ) (e : ℕ → ℕ) (k : Known) (d : Instance) (rs cs : List ℕ) (l : Known) : Type 0 where
     pub can : CanCallBy c.types tail (held_at k.held) d.params d.credits (rs ++ cs)
     pub behind : handing_all (passing_all (held_at k.held) d.params (rs ++ cs)) d.credits (drop (length d.params) (rs ++ cs)) ≡ held_at l.held
     pub short : handing_all (passing_all (held_at k.held) d.params rs) d.credits cs ≡ held_at l.held
@@ -175,37 +175,38 @@ module _ (c : PlainCode) (f : PlainFunction) (fip : Bool) (s : Scope) (B : ℕ �
     pub many_credits : length cs ≡ length d.credits
     pub hands : can_hand (passing_all (held_at k.held) d.params rs) d.credits cs ≡ true
     pub none : NoTrees (passing_all (held_at k.held) d.params rs) cs
-    pub ties : Ties fip c.types s B K X (λ q. 0) l
+    pub ties : Ties fip c.types s B K X e l
     pub next : l.next ≡ k.next
     pub width : length l.held ≡ length k.held
     pub empty : (r : ℕ) → held_at k.held r ≡ H.Nothing → held_at l.held r ≡ H.Nothing
     pub hold : HoldPassed c.types (owners k.names (own X)) (held_at k.held) d.params rs
-    pub stays : Stays (held_at k.held) (held_at l.held) (λ q. owners k.names (own X) q)
+    pub stays : Stays (held_at k.held) (held_at l.held) (λ q. owners k.names (own X) q + e q)
 
-  pub called : (tail : Bool) (X : Item → ℕ) (k : Known) (d : Instance) (rs cs : List ℕ) (l : Known) → (tail ≡ true → (x : ℕ) → X (Own x) ≡ 0) → Ties fip c.types s B K (λ i. charge d.credits i + X i) (λ q. owed_passed c.types d.params rs q + 0) k → PassHolds c.types s B k d.params rs → ((z y : ℕ) → K z (Own y) ≤ X (Own y)) → AreTaken (record k { held = handed k.held d.params rs }) d.credits cs l → Called tail X k d rs cs l
-  called tail X k d rs cs l none ties hold kept taken =
+  pub called : (tail : Bool) (X : Item → ℕ) (e : ℕ → ℕ) (k : Known) (d : Instance) (rs cs : List ℕ) (l : Known) → (tail ≡ true → (x : ℕ) → X (Own x) ≡ 0) → Ties fip c.types s B K (λ i. charge d.credits i + X i) (λ q. owed_passed c.types d.params rs q + e q) k → PassHolds c.types s B k d.params rs → ((z y : ℕ) → K z (Own y) ≤ X (Own y)) → AreTaken (record k { held = handed k.held d.params rs }) d.credits cs l → Called tail X e k d rs cs l
+  called tail X e k d rs cs l none ties hold kept taken =
       let g = held_at k.held in
       let ps = d.params in
       let ks = d.credits in
       let w = c.types in
-      let n : ℕ → ℕ = λ q. owners k.names (own X) q in
+      let n : ℕ → ℕ = λ q. owners k.names (own X) q + e q in
+      let some : ℕ → ℕ = λ q. owners k.names (own X) q in
       let same : (q : ℕ) → owners k.names (own (λ i. charge ks i + X i)) q ≡ owners k.names (own X) q = λ q. owners_same k.names (own (λ i. charge ks i + X i)) (own X) q (λ y. omega arith) in
-      let hp = hold_passed fip w s B K (λ i. charge ks i + X i) X (λ q. owed_passed w ps rs q + 0) k ps rs ties kept hold in
-      let gp = pass_given fip w ps rs g n n (λ q. omega arith) (balanced_same fip g (λ q. owners k.names (own (λ i. charge ks i + X i)) q + (owed_passed w ps rs q + 0)) (λ q. owed_passed w ps rs q + n q) (λ q. let z = same q in omega (arith, z)) ties.trees) hp in
+      let hp = hold_passed fip w s B K (λ i. charge ks i + X i) X (λ q. owed_passed w ps rs q + e q) k ps rs ties kept hold in
+      let gp = pass_given fip w ps rs g n some (λ q. omega arith) (balanced_same fip g (λ q. owners k.names (own (λ i. charge ks i + X i)) q + (owed_passed w ps rs q + e q)) (λ q. owed_passed w ps rs q + n q) (λ q. let z = same q in omega (arith, z)) ties.trees) hp in
       let mid : Known = record k { held = handed k.held ps rs } in
       let held1 : held_at (handed k.held ps rs) ≡ passing_all g ps rs = held_handed ps rs k.held in
       let us = owned_of ps rs in
       let pu : passing_all g ps rs ≡ using_all g us = passing_using ps rs g in
-      let ties1 : Ties fip w s B K (λ i. charge ks i + X i) (λ q. 0) mid =
-      ties_on fip w s B K (λ i. charge ks i + X i) (λ i. charge ks i + X i) (λ q. owed_passed w ps rs q + 0) (λ q. 0) (λ q. 0) k mid ties (λ y. omega arith) (λ u y. let z = kept u y in omega (arith, z)) refl (omega arith)
-      (subst (λ x. Stays g x (λ q. owners k.names (own (λ i. charge ks i + X i)) q + 0)) (sym held1) (stays_fewer g (passing_all g ps rs) n (λ q. owners k.names (own (λ i. charge ks i + X i)) q + 0) (λ q. let z = same q in omega (arith, z)) gp.stays))
-      (subst (λ x. Balanced fip x (λ q. owners k.names (own (λ i. charge ks i + X i)) q + 0)) (sym held1) (balanced_same fip (passing_all g ps rs) n (λ q. owners k.names (own (λ i. charge ks i + X i)) q + 0) (λ q. let z = same q in omega (arith, z)) gp.balanced))
+      let ties1 : Ties fip w s B K (λ i. charge ks i + X i) e mid =
+      ties_on fip w s B K (λ i. charge ks i + X i) (λ i. charge ks i + X i) (λ q. owed_passed w ps rs q + e q) e e k mid ties (λ y. omega arith) (λ u y. let z = kept u y in omega (arith, z)) refl (omega arith)
+      (subst (λ x. Stays g x (λ q. owners k.names (own (λ i. charge ks i + X i)) q + e q)) (sym held1) (stays_fewer g (passing_all g ps rs) n (λ q. owners k.names (own (λ i. charge ks i + X i)) q + e q) (λ q. let z = same q in omega (arith, z)) gp.stays))
+      (subst (λ x. Balanced fip x (λ q. owners k.names (own (λ i. charge ks i + X i)) q + e q)) (sym held1) (balanced_same fip (passing_all g ps rs) n (λ q. owners k.names (own (λ i. charge ks i + X i)) q + e q) (λ q. let z = same q in omega (arith, z)) gp.balanced))
       (subst Rooted (sym (held1 ∙ pu)) (rooted_using_all g us ties.rooted))
       (subst (BareRight w) (sym (held1 ∙ pu)) (bares_using_all w g us ties.bares))
       ties.sizes
       (λ m r. ties.credits m r ∙ ap one_if (sym (ap (λ x. is_credit_of m (x r)) (held1 ∙ pu) ∙ credit_using_all g us r m)))
       (λ r past. ap (λ x. x r) (held1 ∙ pu) ∙ nothing_using_all g us r (ties.fresh r past)) in
-      let tk = take_all fip w s B K X (λ q. 0) mid ks cs l taken ties1 kept in
+      let tk = take_all fip w s B K X e mid ks cs l taken ties1 kept in
       let many = pass_many w s B k ps rs hold in
       let pm = passing_more ps rs cs g many in
       let dm = drop_front rs cs (length ps) many in
@@ -218,7 +219,7 @@ module _ (c : PlainCode) (f : PlainFunction) (fip : Bool) (s : Scope) (B : ℕ �
           many = (let a = length_both rs cs in let b = tk.many in omega (arith, a, b, many));
           passes = can_pass_more w ps rs cs g many ∙ gp.can;
           hands = ap₂ (λ x y. can_hand x ks y) pm dm ∙ hands;
-          lends = ap (λ x. can_lend w tail x ps (rs ++ cs)) behind ∙ (can_lend_more w tail ps rs cs (held_at l.held) many ∙ can_lend_held w tail n (held_at l.held) ps rs (λ e q. owners_none k.names (own X) q (none e)) (read_stays w n n g (held_at l.held) ps rs stays (λ q. omega arith) (hold_read w n g ps rs hp)));
+          lends = ap (λ x. can_lend w tail x ps (rs ++ cs)) behind ∙ (can_lend_more w tail ps rs cs (held_at l.held) many ∙ can_lend_held w tail some (held_at l.held) ps rs (λ z q. owners_none k.names (own X) q (none z)) (read_stays w some n g (held_at l.held) ps rs stays (λ q. omega arith) (hold_read w some g ps rs hp)));
         };
         behind = behind;
         short = short;

@@ -17,11 +17,10 @@ use Rattle.lowered_soundness.specs.Parts.{Part}
 use Rattle.laid_code.specs.Labels.{told, Quiet}
 use Rattle.lowered_soundness.specs.Laid.{Shares, IsFunctionOf}
 use Rattle.laid_code.specs.Credits.{LastGone}
-use Rattle.lowered_soundness.proofs.Keeping.{keeps_named}
 use Rattle.lowered_soundness.proofs.Stacks.{last_on}
-use Rattle.lowered_soundness.proofs.Balance.{stays_on, stays_fewer}
-use Rattle.lowered_soundness.specs.Ties.{owners, own}
-use Rattle.lowered_soundness.specs.Delivered.{Waiting, Delivered}
+use Rattle.lowered_soundness.proofs.Balance.{stays_on}
+use Rattle.lowered_soundness.specs.Ties.{owners, own, Stays}
+use Rattle.lowered_soundness.specs.Delivered.{Waiting, Settled}
 use Rattle.laid_code.specs.Handed.{CallLaid}
 use Rattle.lowered_soundness.proofs.Straight.{call_row}
 use Rattle.lowered_soundness.proofs.Parts.{one_row, both_parts}
@@ -41,13 +40,13 @@ module _ (c : PlainCode) (f : PlainFunction) (st : Setting) (wd : W.World) (fip 
   waits_on k l [] w grows empty = tt
   waits_on k l (d ∷ ds) w grows empty = (empty d w.1 w.0, (let z = w.1 in omega (arith, z, grows)), w.2, waits_on k l ds w.3 grows empty)
 
-  pub call_into : (X : Item → ℕ) (at : ℕ) (k : Known) (d : Instance) (rs : List ℕ) (mid : ℕ) (m : Known) (g : ℕ) (ds : List ℕ) (end : ℕ) (l : Known) → PassedOn c f fip s B K d.credits X (λ q. 0) at k d.params rs mid m → (h : CallLaid st fip f mid m g rs (Into ds) end l) → h.instance ≡ d → length ds ≡ length d.results → ((z y : ℕ) → K z (Own y) ≤ X (Own y)) → Waiting k ds → m.next ≤ length k.held → length k.held ≡ f.registers → Quiet f at end (told c k) → LastGone k.credits m.credits → Delivered c f fip s B K X at k ds d.results end l
-  call_into X at k d rs mid m g ds end l p h is many kept wait room wide quiet last =
+  pub call_into : (X : Item → ℕ) (e : ℕ → ℕ) (at : ℕ) (k : Known) (d : Instance) (rs : List ℕ) (mid : ℕ) (m : Known) (g : ℕ) (ds : List ℕ) (end : ℕ) (l : Known) → PassedOn c f fip s B K d.credits X e at k d.params rs mid m → (h : CallLaid st fip f mid m g rs (Into ds) end l) → h.instance ≡ d → length ds ≡ length d.results → ((z y : ℕ) → K z (Own y) ≤ X (Own y)) → Waiting k ds → m.next ≤ length k.held → length k.held ≡ f.registers → Quiet f at end (told c k) → LastGone k.credits m.credits → Settled c f fip s B K X e at k ds d.results end l
+  call_into X e at k d rs mid m g ds end l p h is many kept wait room wide quiet last =
       let fn = h.function in
       let as' = rs ++ h.credits in
       let call : IsCallOf st f.instrs mid h.m fn as' d.results ds end l = subst (λ (d : Instance). IsCallOf st f.instrs mid h.m fn as' d.results ds end l) is h.ends in
       let of : IsFunctionOf c fn d = shares.functions g fn d h.numbered (subst (λ (d : Instance). slice_get st.instances g ≡ Some d) is h.there) in
-      let cl : Called c f fip s B K false X m d rs h.credits h.m = called c f fip s B K false X m d rs h.credits h.m (λ e. absurd (cc)) p.ties p.hold kept (subst (λ (d : Instance). Bodies.AreTaken (record m { held = Bodies.handed m.held d.params rs }) d.credits h.credits h.m) is h.taken) in
+      let cl : Called c f fip s B K false X e m d rs h.credits h.m = called c f fip s B K false X e m d rs h.credits h.m (λ z. absurd (cc)) p.ties p.hold kept (subst (λ (d : Instance). Bodies.AreTaken (record m { held = Bodies.handed m.held d.params rs }) d.credits h.credits h.m) is h.taken) in
       let after : Known = record h.m { held = Bodies.received st h.m.held d.results ds } in
       let behind : behind_call c (held_at m.held) fn as' ≡ held_at h.m.held = behind_by c (held_at m.held) fn d as' of ∙ cl.behind in
       let wait1 = waits_on k m ds wait p.next p.empty in
@@ -55,27 +54,25 @@ module _ (c : PlainCode) (f : PlainFunction) (st : Setting) (wd : W.World) (fip 
       let wait2 = waits_on m h.m ds wait1 (omega (arith, same_next)) (λ r low y. cl.empty r y) in
       let wide2 : length h.m.held ≡ length k.held = cl.width ∙ p.width in
       let room2 : h.m.next ≤ length h.m.held = omega (arith, room, same_next, wide2) in
-      let got = got_all fip c.types s B K c f st X (λ q. 0) h.m ds d.results refl shares.scalars of.typed many cl.ties kept wait2 room2 in
+      let got = got_all fip c.types s B K c f st X e h.m ds d.results refl shares.scalars of.typed many cl.ties kept wait2 room2 in
       let row = call_row c f (held_at m.held) fn as' ds (can_call_by c false (held_at m.held) fn d as' of cl.can) (many ∙ ap length (sym of.results)) (waiting_places (behind_call c (held_at m.held) fn as') ds h.m behind wait2) (waiting_below f.registers h.m ds (omega (arith, room2, wide2, wide)) wait2) in
       let held : receiving_all c.types (behind_call c (held_at m.held) fn as') ds (results c fn) ≡ held_at after.held = ap₂ (λ x ts. receiving_all c.types x ds ts) behind of.results ∙ sym got.held in
       let shows = (quiet_back f at mid end (told c k) (told c m) p.grows quiet p.still).first (let z = call.one in omega (arith, z)) in
       let part : Part c f mid (told c m) (suc mid) (told c after) = subst (λ y. Part c f mid (told c m) (suc mid) (kinds_of c.types y)) held (one_row c f mid (told c m) (kinds_of c.types (receiving_all c.types (behind_call c (held_at m.held) fn as') ds (results c fn))) (I.Call fn as' ds) call.written refl row shows) in
       let low = p.grows in
       let names : h.m.names ≡ k.names = taken_names (record m { held = Bodies.handed m.held d.params rs }) d.credits h.credits h.m (subst (λ (d : Instance). Bodies.AreTaken (record m { held = Bodies.handed m.held d.params rs }) d.credits h.credits h.m) is h.taken) ∙ p.names in
-      subst₂ (λ b z. Delivered c f fip s B K X at k ds d.results b z) (sym call.one) (sym call.known) (record {
+      subst₂ (λ b z. Settled c f fip s B K X e at k ds d.results b z) (sym call.one) (sym call.known) (record {
         grows = omega (arith, low);
         part = both_parts c f at mid (suc mid) (told c k) (told c m) (told c after) p.part part;
         next = (let z = p.next in omega (arith, z, same_next));
         width = got.width ∙ wide2;
-        names = ap length names;
+        names = names;
         ties = got.ties;
         hold = got.hold;
         empty = λ r lo y ne. got.empty r (cl.empty r (p.empty r lo y)) ne;
-        keeps = keeps_named fip s X k after
-            (stays_on (held_at k.held) (held_at m.held) (held_at after.held) (owners k.names (own X))
-            (stays_fewer (held_at k.held) (held_at m.held) (λ q. owners k.names (own X) q + 0) (owners k.names (own X)) (λ q. omega arith) p.stays)
-            (stays_on (held_at m.held) (held_at h.m.held) (held_at after.held) (owners k.names (own X))
-            (stays_fewer (held_at m.held) (held_at h.m.held) (owners m.names (own X)) (owners k.names (own X)) (λ q. let z = ap (λ ns. owners ns (own X) q) p.names in omega (arith, z)) cl.stays)
-            (stays_fewer (held_at h.m.held) (held_at after.held) (λ q. owners h.m.names (own X) q + 0) (owners k.names (own X)) (λ q. let z = ap (λ ns. owners ns (own X) q) names in omega (arith, z)) got.stays)))
-            names (last_on k.credits m.credits h.m.credits last h.last) got.ties.sizes;
+        stays = stays_on (held_at k.held) (held_at m.held) (held_at after.held) (λ q. owners k.names (own X) q + e q) p.stays
+            (stays_on (held_at m.held) (held_at h.m.held) (held_at after.held) (λ q. owners k.names (own X) q + e q)
+            (subst (λ ns. Stays (held_at m.held) (held_at h.m.held) (λ q. owners ns (own X) q + e q)) p.names cl.stays)
+            (subst (λ ns. Stays (held_at h.m.held) (held_at after.held) (λ q. owners ns (own X) q + e q)) names got.stays));
+        last = last_on k.credits m.credits h.m.credits last h.last;
       })

@@ -1,5 +1,5 @@
 -- The tests of a match, from its first instruction up to the last that belongs to them: each keeps the rules.
-use Rattle.std.proofs.Common.{◌≡◌, ℕ, ◌<◌, ◌≤◌, [], Option, Some, None, refl, sym, ap, ◌∙◌, subst}
+use Rattle.std.proofs.Common.{◌≡◌, ℕ, ◌<◌, ◌≤◌, [], Option, Some, None, refl, sym, ap, ◌∙◌, subst, zero, suc, arith}
 use Rattle.fip_language.specs.Table.{Table}
 use Rattle.fip_language.specs.Every.{Among}
 use Rattle.sound_code.specs.Codes.{PlainCode, PlainFunction}
@@ -124,6 +124,14 @@ module _ (c : PlainCode) (st : Setting) (f : PlainFunction) (ch : Choice) (k : K
 
   pub match_grows : (at mid : ℕ) → ChunkLaid c f g ch at (Open []) [] (told c k) mid → at ≤ mid
   match_grows at mid first = chunk_grows c f g ch right at (Open []) [] (told c k) mid first
+
+  pub sides_grow : (n at end : ℕ) → SidesLaid c f (wide_at g) ch n at end → at ≤ end
+  sides_grow zero at end h = let z = h in omega (arith, z)
+  sides_grow (suc n) at end h =
+      let side = h.1 in
+      let a = chunk_grows c f (wide_at g) ch right_wide at side.known side.read side.told h.0 side.chunk in
+      let b = sides_grow n h.0 end h.2 in
+      omega (arith, a, b)
 
   module _ (entries : EntriesLaid c st f ch k) where
     pub match_stretch : (at mid n end : ℕ) → ChunkLaid c f g ch at (Open []) [] (told c k) mid → SidesLaid c f (wide_at g) ch n mid end → 0 < mid → Stretch c f at (told c k) end

@@ -28,7 +28,6 @@ use Rattle.match_code.specs.Spots.{register, below, Differ}
 use Rattle.match_code.specs.Opening.{Roomy}
 use Rattle.match_code.specs.Entering as E
 use Rattle.lowered_code.specs.declared.held.Held.{Held}
-use Rattle.lowered_code.specs.declared.held.Held.TheVariants as H
 use Rattle.lowered_code.specs.Known.{Known}
 use Rattle.lowered_code.specs.Values.{Setting}
 use Rattle.laid_code.specs.Describing.{held_at}
@@ -61,7 +60,7 @@ ties_reserved fip w s B K T e k n more t = record {
   named = λ x r h. (let z = t.named x r h in omega (arith, z, more));
 }
 
-entries_slots : (bs : List Binder) → entries_of bs (slots bs) ≡ scope_of bs
+pub entries_slots : (bs : List Binder) → entries_of bs (slots bs) ≡ scope_of bs
 entries_slots [] = refl
 entries_slots (b ∷ bs) = ap (λ s. entry (Some b.ty) b ∷ s) (entries_slots bs)
 
@@ -85,7 +84,7 @@ reading_kept false ys L X K kept least z y = pick (λ (m : Item → ℕ). m (Own
 module _ (c : PlainCode) (st : Setting) (wd : W.World) (w : R.World) (shares : Shares c st wd) (callees : Callees c st wd w) where
   -- ---- the types of a pattern
 
-  pattern_fields : (t d : ℕ) → W.fields_of wd t d ≡ fields c.types t d
+  pub pattern_fields : (t d : ℕ) → W.fields_of wd t d ≡ fields c.types t d
   pattern_fields t d = ap (λ tb. fields_at (constructors tb t) d) shares.types ∙ fields_same (constructors c.types t) d
 
   mutual

@@ -24,11 +24,10 @@ use Rattle.lowered_soundness.specs.Parts.{Part, LastPart, is_straight}
 use Rattle.lowered_soundness.specs.Ties.{one_if, owners, own, HoldsValue, owe, owed, Stays, Ties}
 use Rattle.laid_code.specs.Labels.{told, Quiet}
 use Rattle.laid_code.specs.Credits.{LastGone}
-use Rattle.lowered_soundness.proofs.Balance.{stays_on, stays_fewer}
-use Rattle.lowered_soundness.proofs.Keeping.{keeps_named}
+use Rattle.lowered_soundness.proofs.Balance.{stays_on}
 use Rattle.lowered_soundness.specs.Computed.{Computed}
 use Rattle.laid_code.specs.GivenUp.{RetLaid}
-use Rattle.lowered_soundness.specs.Delivered.{Waiting, Delivered}
+use Rattle.lowered_soundness.specs.Delivered.{Waiting, Settled}
 use Rattle.laid_code.specs.Moves.{MoveLaid, MovesLaid}
 use Rattle.laid_code.specs.Handed.{OperationLaid}
 use Rattle.lowered_soundness.proofs.Straight.{arith_row}
@@ -57,9 +56,9 @@ module _ (c : PlainCode) (f : PlainFunction) (fip : Bool) (s : Scope) (B : ℕ �
       one_credits (inr m) = ap (λ (m : Known). m.credits) m.known
 
   -- into registers
-  pub given_into : (X : Item → ℕ) (at : ℕ) (k : Known) (rs ts : List ℕ) (mid : ℕ) (m : Known) (ds : List ℕ) (end : ℕ) (l : Known) → Computed c f fip s B K X (λ q. 0) at k rs ts mid m → MovesLaid f.instrs mid m rs ds end l → LastGone k.credits m.credits → length ds ≡ length ts → ((z y : ℕ) → K z (Own y) ≤ X (Own y)) → Waiting k ds → m.next ≤ length k.held → length k.held ≡ f.registers → Quiet f at end (told c k) → Delivered c f fip s B K X at k ds ts end l
-  given_into X at k rs ts mid m ds end l h moved last many kept wait room wide quiet =
-      let went = moves c f fip s B K X (λ q. 0) mid m rs ds ts end l moved many h.ties kept h.hold (waiting_later X (λ q. 0) at k rs ts mid m ds h wait) (let z = h.width in omega (arith, z, room)) (h.width ∙ wide) (quiet_back f at mid end (told c k) (told c m) h.grows quiet h.still) in
+  pub given_into : (X : Item → ℕ) (e : ℕ → ℕ) (at : ℕ) (k : Known) (rs ts : List ℕ) (mid : ℕ) (m : Known) (ds : List ℕ) (end : ℕ) (l : Known) → Computed c f fip s B K X e at k rs ts mid m → MovesLaid f.instrs mid m rs ds end l → LastGone k.credits m.credits → length ds ≡ length ts → ((z y : ℕ) → K z (Own y) ≤ X (Own y)) → Waiting k ds → m.next ≤ length k.held → length k.held ≡ f.registers → Quiet f at end (told c k) → Settled c f fip s B K X e at k ds ts end l
+  given_into X e at k rs ts mid m ds end l h moved last many kept wait room wide quiet =
+      let went = moves c f fip s B K X e mid m rs ds ts end l moved many h.ties kept h.hold (waiting_later X e at k rs ts mid m ds h wait) (let z = h.width in omega (arith, z, room)) (h.width ∙ wide) (quiet_back f at mid end (told c k) (told c m) h.grows quiet h.still) in
       let a = h.grows in
       let b = went.grows in
       record {
@@ -67,15 +66,13 @@ module _ (c : PlainCode) (f : PlainFunction) (fip : Bool) (s : Scope) (B : ℕ �
         part = both_parts c f at mid end (told c k) (told c m) (told c l) h.part went.part;
         next = (let x = h.next in let y = went.next in omega (arith, x, y));
         width = went.width ∙ h.width;
-        names = ap length (went.names ∙ h.names);
+        names = went.names ∙ h.names;
         ties = went.ties;
         hold = went.hold;
         empty = λ r low y ne. went.empty r (h.empty r low y) ne;
-        keeps = keeps_named fip s X k l
-            (stays_on (held_at k.held) (held_at m.held) (held_at l.held) (owners k.names (own X))
-            (stays_fewer (held_at k.held) (held_at m.held) (λ q. owners k.names (own X) q + 0) (owners k.names (own X)) (λ q. omega arith) h.stays)
-            (stays_fewer (held_at m.held) (held_at l.held) (λ q. owners m.names (own X) q + 0) (owners k.names (own X)) (λ q. let z = ap (λ ns. owners ns (own X) q) h.names in omega (arith, z)) went.stays))
-            (went.names ∙ h.names) (subst (LastGone k.credits) (sym (moves_credits mid m rs ds end l moved)) last) went.ties.sizes;
+        stays = stays_on (held_at k.held) (held_at m.held) (held_at l.held) (λ q. owners k.names (own X) q + e q) h.stays
+            (subst (λ ns. Stays (held_at m.held) (held_at l.held) (λ q. owners ns (own X) q + e q)) h.names went.stays);
+        last = subst (LastGone k.credits) (sym (moves_credits mid m rs ds end l moved)) last;
       }
 
   -- ---- an operator
@@ -150,18 +147,18 @@ module _ (c : PlainCode) (f : PlainFunction) (fip : Bool) (s : Scope) (B : ℕ �
   int_owes : (r q : ℕ) → owe c.types 0 r q ≡ 0
   int_owes r q = chosen (is_scalar_type c.types 0) 0 (one_if (r == q)) (int_scalar c.types)
 
-  ints_unowed : (X : Item → ℕ) (m : Known) (x y : ℕ) → Ties fip c.types s B K X (λ q. owed c.types (x ∷ y ∷ []) (0 ∷ 0 ∷ []) q + 0) m → Ties fip c.types s B K X (λ q. 0) m
-  ints_unowed X m x y ties = ties_owe fip c.types s B K X (λ q. owed c.types (x ∷ y ∷ []) (0 ∷ 0 ∷ []) q + 0) (λ q. 0) m (λ q. let a = int_owes x q in let b = int_owes y q in omega (arith, a, b)) ties
+  ints_unowed : (X : Item → ℕ) (e : ℕ → ℕ) (m : Known) (x y : ℕ) → Ties fip c.types s B K X (λ q. owed c.types (x ∷ y ∷ []) (0 ∷ 0 ∷ []) q + e q) m → Ties fip c.types s B K X e m
+  ints_unowed X e m x y ties = ties_owe fip c.types s B K X (λ q. owed c.types (x ∷ y ∷ []) (0 ∷ 0 ∷ []) q + e q) e m (λ q. let a = int_owes x q in let b = int_owes y q in omega (arith, a, b)) ties
 
-  pub operation_into : (X : Item → ℕ) (at : ℕ) (k : Known) (x y mid : ℕ) (m : Known) (o : Operator) (p : Place) (ds : List ℕ) (end : ℕ) (l : Known) → is_scalar_type c.types 1 ≡ true → Computed c f fip s B K X (λ q. 0) at k (x ∷ y ∷ []) (0 ∷ 0 ∷ []) mid m → OperationLaid fip f mid m o p x y (Into ds) end l → LastGone k.credits m.credits → length ds ≡ 1 → ((z y : ℕ) → K z (Own y) ≤ X (Own y)) → Waiting k ds → m.next ≤ length k.held → length k.held ≡ f.registers → Quiet f at end (told c k) → Delivered c f fip s B K X at k ds (L.result_type o ∷ []) end l
-  operation_into X at k x y mid m o p [] end l bool h op last_gone many kept wait room wide quiet = absurd (omega (arith, many))
-  operation_into X at k x y mid m o p (d ∷ e ∷ ds) end l bool h op last_gone many kept wait room wide quiet = absurd (omega (arith, many))
-  operation_into X at k x y mid m o p (d ∷ []) end l bool h op last_gone many kept wait room wide quiet = into op.given.2
+  pub operation_into : (X : Item → ℕ) (e : ℕ → ℕ) (at : ℕ) (k : Known) (x y mid : ℕ) (m : Known) (o : Operator) (p : Place) (ds : List ℕ) (end : ℕ) (l : Known) → is_scalar_type c.types 1 ≡ true → Computed c f fip s B K X e at k (x ∷ y ∷ []) (0 ∷ 0 ∷ []) mid m → OperationLaid fip f mid m o p x y (Into ds) end l → LastGone k.credits m.credits → length ds ≡ 1 → ((z y : ℕ) → K z (Own y) ≤ X (Own y)) → Waiting k ds → m.next ≤ length k.held → length k.held ≡ f.registers → Quiet f at end (told c k) → Settled c f fip s B K X e at k ds (L.result_type o ∷ []) end l
+  operation_into X e at k x y mid m o p [] end l bool h op last_gone many kept wait room wide quiet = absurd (omega (arith, many))
+  operation_into X e at k x y mid m o p (d ∷ d2 ∷ ds) end l bool h op last_gone many kept wait room wide quiet = absurd (omega (arith, many))
+  operation_into X e at k x y mid m o p (d ∷ []) end l bool h op last_gone many kept wait room wide quiet = into op.given.2
     where
       waits : Waiting m (d ∷ [])
-      waits = waiting_later X (λ q. 0) at k (x ∷ y ∷ []) (0 ∷ 0 ∷ []) mid m (d ∷ []) h wait
+      waits = waiting_later X e at k (x ∷ y ∷ []) (0 ∷ 0 ∷ []) mid m (d ∷ []) h wait
 
-      into : MoveLaid f.instrs (suc mid) op.holds op.destination d op.given.0 op.given.1 → Delivered c f fip s B K X at k (d ∷ []) (L.result_type o ∷ []) end l
+      into : MoveLaid f.instrs (suc mid) op.holds op.destination d op.given.0 op.given.1 → Settled c f fip s B K X e at k (d ∷ []) (L.result_type o ∷ []) end l
       into (inl went) = absurd (went.0 op.goes.0)
       into (inr there) =
           let new = H.Scalar (L.result_type o) in
@@ -171,21 +168,19 @@ module _ (c : PlainCode) (f : PlainFunction) (fip : Bool) (s : Scope) (B : ℕ �
           let w = h.width in
           let quiet2 : Quiet f mid (suc mid) (told c m) = subst (λ b. Quiet f mid b (told c m)) (sym last) (quiet_back f at mid end (told c k) (told c m) h.grows quiet h.still) in
           let row = arith_row c f (held_at m.held) d o x y p.line p.col (is_int (held_at m.held) x h.hold.0) (is_int (held_at m.held) y h.hold.1.0) (ap is_spare waits.0) (let z = waits.1 in omega (arith, z, room, wide)) in
-          let put = waiting_value X (λ q. 0) mid m d new (L.result_type o) (I.Arith d o x y p.line p.col) (subst (λ d. slice_get f.instrs mid ≡ Some (I.Arith d o x y p.line p.col)) op.goes.0 op.written) refl (result_value bool o) row (ints_unowed X m x y h.ties) kept waits.0 waits.1 (omega (arith, room, w)) quiet2 in
-          subst₂ (λ b z. Delivered c f fip s B K X at k (d ∷ []) (L.result_type o ∷ []) b z) last known (record {
+          let put = waiting_value X e mid m d new (L.result_type o) (I.Arith d o x y p.line p.col) (subst (λ d. slice_get f.instrs mid ≡ Some (I.Arith d o x y p.line p.col)) op.goes.0 op.written) refl (result_value bool o) row (ints_unowed X e m x y h.ties) kept waits.0 waits.1 (omega (arith, room, w)) quiet2 in
+          subst₂ (λ b z. Settled c f fip s B K X e at k (d ∷ []) (L.result_type o ∷ []) b z) last known (record {
             grows = omega (arith, a);
             part = both_parts c f at mid (suc mid) (told c k) (told c m) (told c (holding m d new)) h.part put.part;
             next = h.next;
             width = put.width ∙ h.width;
-            names = ap length (put.names ∙ h.names);
+            names = put.names ∙ h.names;
             ties = put.ties;
             hold = put.hold;
             empty = λ r low z ne. put.empty r (h.empty r low z) ne;
-            keeps = keeps_named fip s X k (holding m d new)
-                (stays_on (held_at k.held) (held_at m.held) (held_at (holding m d new).held) (owners k.names (own X))
-                (stays_fewer (held_at k.held) (held_at m.held) (λ q. owners k.names (own X) q + 0) (owners k.names (own X)) (λ q. omega arith) h.stays)
-                (stays_fewer (held_at m.held) (held_at (holding m d new).held) (λ q. owners m.names (own X) q + 0) (owners k.names (own X)) (λ q. let z = ap (λ ns. owners ns (own X) q) h.names in omega (arith, z)) put.stays))
-                (put.names ∙ h.names) last_gone put.ties.sizes;
+            stays = stays_on (held_at k.held) (held_at m.held) (held_at (holding m d new).held) (λ q. owners k.names (own X) q + e q) h.stays
+                (subst (λ ns. Stays (held_at m.held) (held_at (holding m d new).held) (λ q. owners ns (own X) q + e q)) h.names put.stays);
+            last = last_gone;
           })
 
   -- ---- results of the function
@@ -204,6 +199,6 @@ module _ (c : PlainCode) (f : PlainFunction) (fip : Bool) (s : Scope) (B : ℕ �
       let later : suc mid ≤ end = (let z = gives_grow f fip ret.steps (suc mid) (record (with_next m new) { held = used_all (with_next m new).held (m.next ∷ []) }) ret.stop ret.left ret.gives in let y = ret.one in omega (arith, z, y)) in
       let quiet2 : Quiet f mid (suc mid) (told c m) = quiet_front f mid (suc mid) end (told c m) later (quiet_back f at mid end (told c k) (told c m) h.grows quiet h.still) in
       let row = arith_row c f (held_at m.held) m.next o x y p.line p.col (is_int (held_at m.held) x h.hold.0) (is_int (held_at m.held) y h.hold.1.0) (ap is_spare (h.ties.fresh m.next (omega arith))) (omega (arith, room, wide)) in
-      let put = fresh_value c f fip s B K (λ i. 0) (λ q. 0) mid m new (L.result_type o) (I.Arith m.next o x y p.line p.col) (subst (λ d. slice_get f.instrs mid ≡ Some (I.Arith d o x y p.line p.col)) op.goes.0 op.written) refl (result_value bool o) row (ints_unowed (λ i. 0) m x y h.ties) kept quiet2 (omega (arith, room, w)) in
+      let put = fresh_value c f fip s B K (λ i. 0) (λ q. 0) mid m new (L.result_type o) (I.Arith m.next o x y p.line p.col) (subst (λ d. slice_get f.instrs mid ≡ Some (I.Arith d o x y p.line p.col)) op.goes.0 op.written) refl (result_value bool o) row (ints_unowed (λ i. 0) (λ q. 0) m x y h.ties) kept quiet2 (omega (arith, room, w)) in
       ended at k (m.next ∷ []) (L.result_type o ∷ []) (suc mid) (with_next m new) end
       (computed_then c f fip s B K (λ i. 0) (λ i. 0) (λ q. 0) at k (x ∷ y ∷ []) (0 ∷ 0 ∷ []) mid m (m.next ∷ []) (L.result_type o ∷ []) (suc mid) (with_next m new) (λ z. omega arith) h put) ret types quiet

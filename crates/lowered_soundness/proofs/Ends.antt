@@ -1,12 +1,13 @@
 -- Behind the body of a clause: all but the last one jump to the place where they meet, and the last one goes on there.
-use Rattle.std.proofs.Common.{◌≡◌, ℕ, ◌<◌, true, sym, subst, arith}
+use Rattle.std.proofs.Common.{◌≡◌, ℕ, ◌<◌, ◌≤◌, true, List, Some, sym, ◌∙◌, subst, arith}
+use Rattle.std.proofs.lemmas.Option.{none-some}
 use Rattle.cell_code.specs.declared.kind.Kind.{Kind}
 use Rattle.fip_trees.specs.Tree.{Clauses, NoClauses, MoreClauses}
-use Rattle.sound_code.specs.Codes.{PlainCode, PlainFunction}
+use Rattle.sound_code.specs.Codes.{PlainCode, PlainFunction, label_at}
 use Rattle.sound_code.specs.Fitting.{fits}
 use Rattle.laid_code.specs.Labels.{Catches, Shows}
 use Rattle.laid_code.specs.Joins.{GoesOn}
-use Rattle.lowered_soundness.specs.Parts.{Part, LastPart}
+use Rattle.lowered_soundness.specs.Parts.{Admits, Part, LastPart}
 use Rattle.lowered_soundness.proofs.Fitting.{takes_less}
 use Rattle.lowered_soundness.proofs.Parts.{both_parts, part_and_last}
 use Rattle.lowered_soundness.proofs.Branches.{jump_last, catch_part}
@@ -32,3 +33,15 @@ module _ (c : PlainCode) (f : PlainFunction) (end : ℕ) (after : ℕ → Kind) 
       let one = goes.2 in
       subst (LastPart c f stop m) (sym one)
       (jump_last c f stop m end goes.0 (record { map = caught.map; there = caught.there; takes = takes_less f.registers caught.map m after caught.takes less }) (shows (omega (arith, one))))
+
+-- what is so where a label takes what is told behind a part is so of the part
+pub meet_part : (c : PlainCode) (f : PlainFunction) (a : ℕ) (m : ℕ → Kind) (b : ℕ) (l : ℕ → Kind) → a ≤ b → (map : List Kind) → label_at f.labels b ≡ Some map → (Catches f b l → Part c f a m b l) → Part c f a m b l
+meet_part c f a m b l grows map there part = record {
+  grows = grows;
+  admits = λ ad. (part (caught ad)).admits ad;
+  kept = λ low ad arrives. (part (caught ad)).kept low ad arrives;
+  arrives = λ arrives none. absurd (none-some map (sym none ∙ there));
+}
+  where
+    caught : Admits f b l → Catches f b l
+    caught ad = record { map = map; there = there; takes = ad map there }

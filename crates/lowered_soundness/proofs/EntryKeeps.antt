@@ -30,12 +30,12 @@ use Rattle.lowered_soundness.proofs.Stacks.{stack_more}
 
 -- ---- registers that are no positions
 
-root_read : (st : Setting) (root : Option ℕ) (q : Pattern) (s : Spot) (g : Holding) (z : ℕ) → (Among z (below s) → ⊥) → root_held st false root q s g z ≡ g z
+pub root_read : (st : Setting) (root : Option ℕ) (q : Pattern) (s : Spot) (g : Holding) (z : ℕ) → (Among z (below s) → ⊥) → root_held st false root q s g z ≡ g z
 root_read st root (BinderPattern b) s g z ne = refl
 root_read st root (LiteralPattern i p) s g z ne = refl
 root_read st root (ConstructorPattern t d n a p ps) (At r fs) g z ne = entry_all_other st false root ps fs z (g z) ne
 
-root_taken : (st : Setting) (root : Option ℕ) (q : Pattern) (s : Spot) (g : Holding) (z : ℕ) → (Among z (register s ∷ below s) → ⊥) → using g (register s) z ≡ g z → root_held st true root q s g z ≡ g z
+pub root_taken : (st : Setting) (root : Option ℕ) (q : Pattern) (s : Spot) (g : Holding) (z : ℕ) → (Among z (register s ∷ below s) → ⊥) → using g (register s) z ≡ g z → root_held st true root q s g z ≡ g z
 root_taken st root (BinderPattern b) s g z ne same = refl
 root_taken st root (LiteralPattern i p) s g z ne same = refl
 root_taken st root (ConstructorPattern t d n a p ps) (At r fs) g z ne same = entry_other st true root (ConstructorPattern t d n a p ps) (At r fs) z (using g r z) ne ∙ same

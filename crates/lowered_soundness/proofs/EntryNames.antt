@@ -59,7 +59,7 @@ module _ (st : Setting) (takes : Bool) (root : Option ℕ) (x : ℕ) where
       by true e NoPatterns = by_bare (is_scalar st t)
       by true e (MorePatterns p ps) = unless_same r k.names x (λ n. apart e r (inl refl) n)
 
-  cell_old : (t d : ℕ) (ps : Patterns) (r : ℕ) (k : Known) (q : ℕ) → register_of (with_cell st takes t d ps r k).names (Some x) ≡ Some q → register_of k.names (Some x) ≡ Some q
+  pub cell_old : (t d : ℕ) (ps : Patterns) (r : ℕ) (k : Known) (q : ℕ) → register_of (with_cell st takes t d ps r k).names (Some x) ≡ Some q → register_of k.names (Some x) ≡ Some q
   cell_old t d ps r k q = by takes ps
     where
       by_bare : (y : Bool) → register_of (if y then k else holding k r (H.Bare t d)).names (Some x) ≡ Some q → register_of k.names (Some x) ≡ Some q
@@ -107,7 +107,7 @@ module _ (st : Setting) (takes : Bool) (root : Option ℕ) (x : ℕ) where
         let orders = order_both n (binders q) (binders_all ps) order in
         entering_old q s k n p orders.0 low (all_old ps ss (entering st takes root q s k) (n + length (binders q)) p orders.1 (omega (arith, low)) h)
 
-spent_names : (takes : Bool) (r : ℕ) (k : Known) → (spent_if takes r k).names ≡ k.names
+pub spent_names : (takes : Bool) (r : ℕ) (k : Known) → (spent_if takes r k).names ≡ k.names
 spent_names true r k = refl
 spent_names false r k = refl
 

@@ -34,6 +34,7 @@ use Rattle.lowered_soundness.proofs.Arguments.{ties_worth}
 use Rattle.lowered_soundness.proofs.Scoping.{entries_of, one_in, one_placed}
 use Rattle.lowered_soundness.proofs.Starting.{takens, types_of, params_all, credits_all, starts, borrowings}
 use Rattle.lowered_soundness.proofs.Entry.{entry_covered}
+use Rattle.lowered_soundness.proofs.Numbering.{Below, start_below}
 use Rattle.lowered_soundness.proofs.Bodies.{block_ends}
 use Rattle.lowered_soundness.proofs.Whole.{kept_whole}
 
@@ -112,7 +113,7 @@ module _ (c : PlainCode) (f : PlainFunction) (st : Setting) (wd : W.World) (w : 
   function_part d laid num typed params derived =
       block_ends c f st wd w fip shares callees d.variables (parameter_scope d) sc n B K placed
       O1 0 start d.body (length f.instrs) laid.after true d.results laid.body typed.3
-      (by_cases fip B O1 (term_block w sc n d.body) derived) num.body unkept none ties laid.results names width
+      (by_cases fip B O1 (term_block w sc n d.body) derived) num.body below unkept none ties laid.results names width
     where
       own_list : List ℕ
       own_list = owned_parameters w 0 d.params d.binders
@@ -182,6 +183,12 @@ module _ (c : PlainCode) (f : PlainFunction) (st : Setting) (wd : W.World) (w : 
           let z = first.none y (omega (arith, low, next)) in
           let e = owns (Own y) in
           omega (arith, z, e)
+
+      below : Below start n.next
+      below =
+          let next : n.next ≡ 0 + length d.params = next_params w no_names d.params d.binders num.as_many in
+          let many = num.as_many in
+          start_below st f.registers d n.next num.order (omega (arith, next, many))
 
       names : length start.names ≡ d.variables
       names = second.names ∙ (first.names ∙ length-replicate d.variables None)

@@ -1,11 +1,12 @@
 -- What is owned beside a part stays as it is: such parts stand one behind another, and where it does what is known of
 -- registers goes with the variables.
-use Rattle.std.proofs.Common.{◌≡◌, inl, inr, ℕ, zero, suc, ◌+◌, ◌<◌, ◌≤◌, Bool, true, false, List, [], ◌∷◌, Option, Some, None, refl, sym, ap, ◌∙◌, subst, true≢false, arith, if◌then◌else◌}
+use Rattle.std.proofs.Common.{◌≡◌, inl, inr, ℕ, zero, suc, ◌+◌, ◌<◌, ◌≤◌, Bool, true, false, List, [], ◌∷◌, length, Option, Some, None, refl, sym, ap, ◌∙◌, subst, true≢false, arith, if◌then◌else◌}
 use Rattle.fip_language.specs.Table.{Table}
 use Rattle.fip_trees.specs.declared.program.Binder.{Binder}
 use Rattle.type_check.specs.Scope.{Scope, of_binder}
 use Rattle.own_calculus.specs.Terms.{Item, Own, Credit}
 use Rattle.own_calculus.specs.Rules.{Fits}
+use Rattle.sound_code.specs.Codes.{PlainCode, PlainFunction}
 use Rattle.sound_code.specs.Types.{is_scalar_type}
 use Rattle.kind_soundness.proofs.Basics.{or_not, less_or_not}
 use Rattle.lowered_code.specs.declared.held.Held.{Held}
@@ -17,7 +18,7 @@ use Rattle.laid_code.specs.Matches.{widened, wide, wide_at}
 use Rattle.laid_code.specs.Credits.{LastGone}
 use Rattle.lowered_soundness.specs.Giving.{is_owned_of, is_credit_of}
 use Rattle.lowered_soundness.specs.Ties.{one_if, is_register, owners, sized, counted, own, is_read_of, Balanced, Rooted, Stays, HoldsVariable, LiesIn, BareRight, Ties}
-use Rattle.lowered_soundness.specs.Delivered.{Keeps}
+use Rattle.lowered_soundness.specs.Delivered.{Keeps, Settled, Delivered}
 use Rattle.lowered_soundness.specs.Placed.{NoneFrom, InOrder}
 use Rattle.lowered_soundness.proofs.Giving.{owned_tree}
 use Rattle.lowered_soundness.proofs.Balance.{stays_same, stays_on, stays_fewer}
@@ -149,6 +150,20 @@ keeps_named fip s X k l stays names last sizes = record {
   same = λ x more. ap (λ ns. register_of ns (Some x)) names;
   old = λ x u r o e. ap (λ ns. register_of ns (Some x)) (sym names) ∙ e;
   stack = λ n. stack_less fip n (X (Credit n)) k.credits l.credits (last n) (sizes n);
+}
+
+-- what was settled is delivered
+pub settled : (c : PlainCode) (f : PlainFunction) (fip : Bool) (s : Scope) (B : ℕ → Bool) (K : ℕ → Item → ℕ) (X : Item → ℕ) (a : ℕ) (k : Known) (ds ts : List ℕ) (b : ℕ) (l : Known) → Settled c f fip s B K X (λ q. 0) a k ds ts b l → Delivered c f fip s B K X a k ds ts b l
+settled c f fip s B K X a k ds ts b l h = record {
+  grows = h.grows;
+  part = h.part;
+  next = h.next;
+  width = h.width;
+  names = ap length h.names;
+  ties = h.ties;
+  hold = h.hold;
+  empty = h.empty;
+  keeps = keeps_named fip s X k l (stays_fewer (held_at k.held) (held_at l.held) (λ q. owners k.names (own X) q + 0) (owners k.names (own X)) (λ q. omega arith) h.stays) h.names h.last h.ties.sizes;
 }
 
 -- where names and credits are as before

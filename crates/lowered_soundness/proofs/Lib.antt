@@ -26,6 +26,13 @@ pub mod Keeping
 pub mod EntryKeeps
 pub mod Ends
 pub mod Bares
+pub mod Shedding
+pub mod Leftovers
+pub mod Asking
+pub mod Numbering
+pub mod Unused
+pub mod Bottoms
+pub mod EntryTrees
 pub mod Meeting
 pub mod Giving
 pub mod Straight

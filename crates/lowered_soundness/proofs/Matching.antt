@@ -3,6 +3,7 @@ use Rattle.std.proofs.Common.{◌≡◌, inl, inr, ℕ, zero, suc, ◌+◌, ◌<
 use Rattle.std.proofs.lemmas.Option.{same_Some}
 use Rattle.fip_language.specs.Table.{Table}
 use Rattle.fip_language.specs.Every.{Among}
+use Rattle.fip_trees.specs.Tree.{Expression}
 use Rattle.fip_trees.specs.Tree.{Argument, Variable, Literal, Constructor, Pattern, Clauses, NoClauses, MoreClauses}
 use Rattle.fip_rules.specs.World as R
 use Rattle.fip_rules.specs.Marks.{Mark}
@@ -215,26 +216,26 @@ module _ (c : PlainCode) (st : Setting) (wd : W.World) (w : R.World) (shares : S
       subst (λ i. (n : ℕ) × EntryLaid c st f ch l i q e n) z (later_entries ch l (suc j) cs h.3 end h.8 i q e p (ap (slice_get ch.entries) z ∙ there))
 
   -- the same, where the clauses meet
-  met_entries : (ch : Choice) (l : Known) (j : ℕ) (cs : Clauses) (ds : List ℕ) (stop : ℕ) (k : Known) (at : ℕ) (met : Known) → ClausesMeet c st fip f ch l j cs ds stop k at met → (i : ℕ) (q : Pattern) (e : ℕ) → slice_get (clause_patterns cs) i ≡ Some q → slice_get ch.entries (j + i) ≡ Some e → (n : ℕ) × EntryLaid c st f ch l (j + i) q e n
-  met_entries ch l j NoClauses ds stop k at met h i q e p there = absurd (cc)
-  met_entries ch l j (MoreClauses r b cs) ds stop k at met h zero q e p there =
+  met_entries : (ch : Choice) (l : Known) (o : Expression) (j : ℕ) (cs : Clauses) (ds : List ℕ) (stop : ℕ) (k : Known) (at : ℕ) (met : Known) → ClausesMeet c st fip f ch l o j cs ds stop k at met → (i : ℕ) (q : Pattern) (e : ℕ) → slice_get (clause_patterns cs) i ≡ Some q → slice_get ch.entries (j + i) ≡ Some e → (n : ℕ) × EntryLaid c st f ch l (j + i) q e n
+  met_entries ch l o j NoClauses ds stop k at met h i q e p there = absurd (cc)
+  met_entries ch l o j (MoreClauses r b cs) ds stop k at met h zero q e p there =
       let z : j ≡ j + 0 = omega arith in
       let here = h.9.place in
       let same : h.1 ≡ e = same_Some h.1 e (sym here ∙ (ap (slice_get ch.entries) z ∙ there)) in
       (h.2, subst (λ i. EntryLaid c st f ch l i q e h.2) z (subst (λ e. EntryLaid c st f ch l j q e h.2) same (subst (λ q. EntryLaid c st f ch l j q h.1 h.2) (same_Some r q p) h.9)))
-  met_entries ch l j (MoreClauses r b cs) ds stop k at met h (suc i) q e p there =
+  met_entries ch l o j (MoreClauses r b cs) ds stop k at met h (suc i) q e p there =
       let z : suc j + i ≡ j + suc i = omega arith in
-      subst (λ i. (n : ℕ) × EntryLaid c st f ch l i q e n) z (met_entries ch l (suc j) cs ds stop h.7 h.5 met h.13 i q e p (ap (slice_get ch.entries) z ∙ there))
+      subst (λ i. (n : ℕ) × EntryLaid c st f ch l i q e n) z (met_entries ch l o (suc j) cs ds stop h.7 h.5 met h.13 i q e p (ap (slice_get ch.entries) z ∙ there))
 
-  pub all_met : (ch : Choice) (l : Known) (p : Pattern) (cs : Clauses) (at n : ℕ) (ds : List ℕ) (stop : ℕ) (k : Known) (mid : ℕ) (met : Known) → ch.patterns ≡ p ∷ clause_patterns cs → EntryLaid c st f ch l 0 p at n → ClausesMeet c st fip f ch l 1 cs ds stop k mid met → EntriesLaid c st f ch l
-  all_met ch l p cs at n ds stop k mid met patterns first rest = λ i q e is there. by i q e (ap (λ ps. slice_get ps i) (sym patterns) ∙ is) there
+  pub all_met : (ch : Choice) (l : Known) (o : Expression) (p : Pattern) (cs : Clauses) (at n : ℕ) (ds : List ℕ) (stop : ℕ) (k : Known) (mid : ℕ) (met : Known) → ch.patterns ≡ p ∷ clause_patterns cs → EntryLaid c st f ch l 0 p at n → ClausesMeet c st fip f ch l o 1 cs ds stop k mid met → EntriesLaid c st f ch l
+  all_met ch l o p cs at n ds stop k mid met patterns first rest = λ i q e is there. by i q e (ap (λ ps. slice_get ps i) (sym patterns) ∙ is) there
     where
       by : (i : ℕ) (q : Pattern) (e : ℕ) → slice_get (p ∷ clause_patterns cs) i ≡ Some q → slice_get ch.entries i ≡ Some e → (n : ℕ) × EntryLaid c st f ch l i q e n
       by zero q e is there =
           (n, subst (λ e. EntryLaid c st f ch l 0 q e n) (same_Some at e (sym first.place ∙ there)) (subst (λ q. EntryLaid c st f ch l 0 q at n) (same_Some p q is) first))
       by (suc i) q e is there =
           let z : 1 + i ≡ suc i = omega arith in
-          subst (λ i. (n : ℕ) × EntryLaid c st f ch l i q e n) z (met_entries ch l 1 cs ds stop k mid met rest i q e is (ap (slice_get ch.entries) z ∙ there))
+          subst (λ i. (n : ℕ) × EntryLaid c st f ch l i q e n) z (met_entries ch l o 1 cs ds stop k mid met rest i q e is (ap (slice_get ch.entries) z ∙ there))
 
   pub all_entries : (ch : Choice) (l : Known) (p : Pattern) (cs : Clauses) (at n mid end : ℕ) → ch.patterns ≡ p ∷ clause_patterns cs → EntryLaid c st f ch l 0 p at n → ClausesLaid c st fip f ch l 1 cs mid end → EntriesLaid c st f ch l
   all_entries ch l p cs at n mid end patterns first rest = λ i q e is there. by i q e (ap (λ ps. slice_get ps i) (sym patterns) ∙ is) there

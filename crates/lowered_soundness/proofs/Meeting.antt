@@ -1,9 +1,10 @@
 -- Where clauses meet: what is known there goes with the variables, and is what is known at the end of each; what one of
 -- them still owns all do.
-use Rattle.std.proofs.Common.{◌≡◌, ◌⊎◌, inl, inr, ℕ, suc, ◌+◌, ◌≤◌, Bool, true, false, List, [], ◌∷◌, length, Option, Some, None, refl, sym, ap, ◌∙◌, subst, subst₂, true≢false, arith, ◌==◌}
+use Rattle.std.proofs.Common.{◌≡◌, ◌⊎◌, inl, inr, ℕ, zero, suc, ◌+◌, ◌-◌, ◌<◌, ◌≤◌, Bool, true, false, List, [], ◌∷◌, length, Option, Some, None, refl, sym, ap, ◌∙◌, subst, subst₂, true≢false, arith, ◌==◌}
 use Rattle.std.proofs.lemmas.Option.{none-some}
 use Rattle.fip_language.specs.Table.{Table}
 use Rattle.fip_language.specs.Every.{Among}
+use Rattle.fip_trees.specs.Tree.{Expression}
 use Rattle.type_check.specs.Scope.{Scope}
 use Rattle.own_calculus.specs.Terms.{Item, Own, Credit}
 use Rattle.own_calculus.specs.Rules.{Fits}
@@ -14,10 +15,13 @@ use Rattle.kind_soundness.proofs.Basics.{chosen, refused, or_not, equal, equal_i
 use Rattle.lowered_code.specs.declared.held.Held.{Held}
 use Rattle.lowered_code.specs.declared.held.Held.TheVariants as H
 use Rattle.lowered_code.specs.Known.{Known, register_of}
+use Rattle.lowered_code.specs.Values.{Setting}
 use Rattle.laid_code.specs.Describing.{Holding, held_at, kind_of, is_tree, is_spare}
 use Rattle.laid_code.specs.Matches.{widened, wide, wide_at, BuiltRight}
 use Rattle.laid_code.specs.Credits.{of_size}
-use Rattle.laid_code.specs.Joins.{LeaveTheSame, Met}
+use Rattle.laid_code.specs.Joins.{Met}
+use Rattle.laid_code.specs.Uses.{need}
+use Rattle.laid_code.specs.Leftover.{IsUnused}
 use Rattle.lowered_soundness.specs.Giving.{is_owned_of, is_credit_of}
 use Rattle.lowered_soundness.specs.Ties.{one_if, owners, sized, own, AllHold, owed, Balanced, Ties}
 use Rattle.lowered_soundness.specs.Delivered.{Keeps}
@@ -79,7 +83,7 @@ one_true true true e t = refl
 one_true true false e t = absurd (let z : ⊥ = omega (arith, e) in z)
 one_true false d e t = absurd (true≢false (sym t))
 
-one_positive : (b : Bool) (n : ℕ) → n ≤ one_if b → 1 ≤ n → b ≡ true
+pub one_positive : (b : Bool) (n : ℕ) → n ≤ one_if b → 1 ≤ n → b ≡ true
 one_positive true n le more = refl
 one_positive false n le more = absurd (let z : ⊥ = omega (arith, le, more) in z)
 
@@ -98,7 +102,21 @@ owed_one w g (d ∷ ds) (t ∷ ts) r hold more = elim (less_or_not 0 (owed w ds 
   ]
 ]
 
+-- the same of what is given
+given_one : (w : Table) (g : Holding) (ds ts : List ℕ) (r : ℕ) → AllHold w g ds ts → Among r ds → is_tree (g r) ≡ true → (t : ℕ) × (is_owned_of t (g r) ≡ true) × ((h : Holding) → AllHold w h ds ts → is_owned_of t (h r) ≡ true)
+given_one w g [] ts r hold a tree = absurd a
+given_one w g (d ∷ ds) [] r hold a tree = absurd hold
+given_one w g (d ∷ ds) (t ∷ ts) r hold (inr a) tree = let x = given_one w g ds ts r hold.1 a tree in (x.0, x.1, λ h all. x.2 h all.1)
+given_one w g (d ∷ ds) (t ∷ ts) r hold (inl same) tree = elim (or_not (is_scalar_type w t)) as (λ z. (v : ℕ) × (is_owned_of v (g r) ≡ true) × ((h : Holding) → AllHold w h (d ∷ ds) (t ∷ ts) → is_owned_of v (h r) ≡ true)) [
+  | inl scalar ↦ absurd (true≢false (sym tree ∙ ap is_tree (ap g same ∙ hold.0.scalar scalar)))
+  | inr some ↦ (t, ap (λ q. is_owned_of t (g q)) same ∙ hold.0.owned some, λ h all. ap (λ q. is_owned_of t (h q)) same ∙ all.0.owned some)
+]
+
 -- ---- what clauses leave
+
+-- both hold the same, or nothing that is owned and no credit
+abbrev pub LeaveTheSame : Holding → Holding → Type 0
+LeaveTheSame g h = (r : ℕ) → (g r ≡ h r) ⊎ ((is_spare (g r) ≡ true) × (is_spare (h r) ≡ true))
 
 -- it holds the same, or nothing where nothing was owned
 abbrev pub Spares : Known → Known → Type 0
@@ -129,8 +147,17 @@ spares_fit w left l built x r = by (x r)
         ap (λ h. fits (kind_of w h) (kind_of w (held_at left.held r))) e.1
         ∙ covers_spare w (held_at left.held r) (kind_of w (held_at left.held r)) (sym (ap is_spare was ∙ wide_spare (held_at left.held r)) ∙ e.0) refl
 
+-- What a clause of match o leaves in fbip, where k was known at its start: what it gives, the trees that it doesn't use
+-- up, and the credits beyond those that it needs.
+pub record LeftBy (st : Setting) (o : Expression) (k : Known) (ds : List ℕ) (l : Known) : Type 0 where
+  pub trees : (r : ℕ) → is_tree (held_at l.held r) ≡ true → Among r ds ⊎ ((is_tree (held_at k.held r) ≡ true) × IsUnused st k o r)
+  pub stays : (r : ℕ) → is_tree (held_at k.held r) ≡ true → IsUnused st k o r → held_at l.held r ≡ widened (held_at k.held r)
+  pub credits : (n : ℕ) → 0 < n → of_size n l.credits ≡ Rattle.std.proofs.Common.take (length (of_size n k.credits) - need st n o) (of_size n k.credits)
+  pub none : of_size 0 l.credits ≡ []
+
 -- what is so at the end of a clause of a match that begins where k is known, and where clauses meet
-pub record Arrived (fip : Bool) (w : Table) (s : Scope) (B : ℕ → Bool) (K : ℕ → Item → ℕ) (X : Item → ℕ) (k : Known) (low : ℕ) (ds ts : List ℕ) (l : Known) : Type 0 where
+pub record Arrived (st : Setting) (o : Expression) (fip : Bool) (w : Table) (s : Scope) (B : ℕ → Bool) (K : ℕ → Item → ℕ) (X : Item → ℕ) (k : Known) (low : ℕ) (ds ts : List ℕ) (l : Known) : Type 0 where
+  pub by : fip ≡ false → LeftBy st o k ds l
   pub ties : Ties fip w s B K X (λ q. owed w ds ts q + 0) l
   pub hold : AllHold w (held_at l.held) ds ts
   pub keeps : Keeps s X k l
@@ -142,14 +169,14 @@ pub record Arrived (fip : Bool) (w : Table) (s : Scope) (B : ℕ → Bool) (K : 
   pub empty : (r : ℕ) → suc r ≤ low → held_at k.held r ≡ H.Nothing → (Among r ds → ⊥) → held_at l.held r ≡ H.Nothing
 
 -- two of them meet
-pub record Joined (fip : Bool) (w : Table) (s : Scope) (B : ℕ → Bool) (K : ℕ → Item → ℕ) (X : Item → ℕ) (k : Known) (low : ℕ) (ds ts : List ℕ) (j l m : Known) : Type 0 where
-  pub arrived : Arrived fip w s B K X k low ds ts m
+pub record Joined (st : Setting) (o : Expression) (fip : Bool) (w : Table) (s : Scope) (B : ℕ → Bool) (K : ℕ → Item → ℕ) (X : Item → ℕ) (k : Known) (low : ℕ) (ds ts : List ℕ) (j l m : Known) : Type 0 where
+  pub arrived : Arrived st o fip w s B K X k low ds ts m
   pub first : Spares j m
   pub second : Spares l m
 
-module _ (fip : Bool) (w : Table) (s : Scope) (B : ℕ → Bool) (K : ℕ → Item → ℕ) (T X : Item → ℕ) (a : ℕ → ℕ) (k : Known) (low : ℕ) (ds ts : List ℕ) (start : Ties fip w s B K T a k) (less : (i : Item) → X i ≤ T i) (kept : Kept K X) where
+module _ (st : Setting) (o : Expression) (fip : Bool) (w : Table) (s : Scope) (B : ℕ → Bool) (K : ℕ → Item → ℕ) (T X : Item → ℕ) (a : ℕ → ℕ) (k : Known) (low : ℕ) (ds ts : List ℕ) (start : Ties fip w s B K T a k) (less : (i : Item) → X i ≤ T i) (kept : Kept K X) where
   abbrev Here : Known → Type 0
-  Here l = Arrived fip w s B K X k low ds ts l
+  Here l = Arrived st o fip w s B K X k low ds ts l
 
   -- what is owned where the match begins
   was_tree : (r : ℕ) → 1 ≤ owners k.names (own X) r → is_tree (held_at k.held r) ≡ true
@@ -202,22 +229,54 @@ module _ (fip : Bool) (w : Table) (s : Scope) (B : ℕ → Bool) (K : ℕ → It
         by (H.Credit n) e = inl (same_credit r n e)
         by (H.Bare t d) e = absurd (x.bare r t d e)
 
+  -- in fbip they leave what the match doesn't use
+  module _ (weak : fip ≡ false) (j l : Known) (x : Here j) (y : Here l) where
+    left_tree : (r : ℕ) → is_tree (held_at j.held r) ≡ true → held_at j.held r ≡ held_at l.held r
+    left_tree r tree = elim ((x.by weak).trees r tree) as (λ v. held_at j.held r ≡ held_at l.held r) [
+      | inl given ↦
+          (let o = given_one w (held_at j.held) ds ts r x.hold given tree in
+          owned_plain o.0 (held_at j.held r) o.1 (x.plain r) ∙ sym (owned_plain o.0 (held_at l.held r) (o.2 (held_at l.held) y.hold) (y.plain r)))
+      | inr unused ↦ (x.by weak).stays r unused.0 unused.1 ∙ sym ((y.by weak).stays r unused.0 unused.1)
+    ]
+
+    left_stack : (n : ℕ) → of_size n j.credits ≡ of_size n l.credits
+    left_stack zero = (x.by weak).none ∙ sym (y.by weak).none
+    left_stack (suc n) = (x.by weak).credits (suc n) (omega arith) ∙ sym ((y.by weak).credits (suc n) (omega arith))
+
+    left_credit : (r n : ℕ) → held_at j.held r ≡ H.Credit n → held_at j.held r ≡ held_at l.held r
+    left_credit r n e =
+        let credit : is_credit_of n (held_at j.held r) ≡ true = ap (is_credit_of n) e ∙ equal_is n n refl in
+        let counts = sym (x.ties.credits n r) ∙ (counted_same n r j.credits l.credits (left_stack n) ∙ y.ties.credits n r) in
+        e ∙ sym (credit_is n (held_at l.held r) (one_true (is_credit_of n (held_at j.held r)) (is_credit_of n (held_at l.held r)) counts credit))
+
+    pub left_owned : (r : ℕ) → (held_at j.held r ≡ held_at l.held r) ⊎ (is_spare (held_at j.held r) ≡ true)
+    left_owned r = by (held_at j.held r) refl
+      where
+        by : (h : Held) → held_at j.held r ≡ h → (held_at j.held r ≡ held_at l.held r) ⊎ (is_spare (held_at j.held r) ≡ true)
+        by H.Nothing e = inr (ap is_spare e)
+        by (H.Scalar t) e = inr (ap is_spare e)
+        by (H.Owned t b) e = inl (left_tree r (ap is_tree e))
+        by (H.Lent t root) e = inr (ap is_spare e)
+        by (H.Credit n) e = inl (left_credit r n e)
+        by (H.Bare t d) e = absurd (x.bare r t d e)
+
   -- both leave the same
-  leave_same : (j l : Known) → Here j → Here l → (fip ≡ false → LeaveTheSame (held_at j.held) (held_at l.held)) → LeaveTheSame (held_at j.held) (held_at l.held)
-  leave_same j l x y same r = by fip refl
+  leave_same : (j l : Known) → Here j → Here l → LeaveTheSame (held_at j.held) (held_at l.held)
+  leave_same j l x y r = by fip refl
     where
-      both : fip ≡ true → (held_at j.held r ≡ held_at l.held r) ⊎ (is_spare (held_at j.held r) ≡ true) → (held_at l.held r ≡ held_at j.held r) ⊎ (is_spare (held_at l.held r) ≡ true) → (held_at j.held r ≡ held_at l.held r) ⊎ ((is_spare (held_at j.held r) ≡ true) × (is_spare (held_at l.held r) ≡ true))
-      both e (inl p) q = inl p
-      both e (inr p) (inl q) = inl (sym q)
-      both e (inr p) (inr q) = inr (p, q)
+      both : (held_at j.held r ≡ held_at l.held r) ⊎ (is_spare (held_at j.held r) ≡ true) → (held_at l.held r ≡ held_at j.held r) ⊎ (is_spare (held_at l.held r) ≡ true) → (held_at j.held r ≡ held_at l.held r) ⊎ ((is_spare (held_at j.held r) ≡ true) × (is_spare (held_at l.held r) ≡ true))
+      both (inl p) q = inl p
+      both (inr p) (inl q) = inl (sym q)
+      both (inr p) (inr q) = inr (p, q)
 
       by : (b : Bool) → fip ≡ b → (held_at j.held r ≡ held_at l.held r) ⊎ ((is_spare (held_at j.held r) ≡ true) × (is_spare (held_at l.held r) ≡ true))
-      by true e = both e (same_owned e j l x y r) (same_owned e l j y x r)
-      by false e = same e r
+      by true e = both (same_owned e j l x y r) (same_owned e l j y x r)
+      by false e = both (left_owned e j l x y r) (left_owned e l j y x r)
 
-  pub joined : (j l m : Known) → Here j → Here l → Met fip j l m → Joined fip w s B K X k low ds ts j l m
+  pub joined : (j l m : Known) → Here j → Here l → Met j l m → Joined st o fip w s B K X k low ds ts j l m
   joined j l m x y met = record {
     arrived = record {
+      by = by;
       ties = ties;
       hold = hold ds ts x.hold y.hold;
       keeps = keeps;
@@ -236,29 +295,47 @@ module _ (fip : Bool) (w : Table) (s : Scope) (B : ℕ → Bool) (K : ℕ → It
   }
     where
       same : LeaveTheSame (held_at j.held) (held_at l.held)
-      same = leave_same j l x y met.same
+      same = leave_same j l x y
+
+      -- what one of them holds as a credit both do
+      no_credit : (h : Held) (n : ℕ) → h ≡ H.Credit n → is_spare h ≡ true → ⊥
+      no_credit h n e spare = true≢false (sym spare ∙ ap is_spare e)
 
       first : Spares j m
-      first r = by (met.held r) (same r)
-        where
-          by : ((held_at j.held r ≡ held_at l.held r) × (held_at m.held r ≡ held_at j.held r)) ⊎ ((held_at j.held r ≡ held_at l.held r → ⊥) × (held_at m.held r ≡ H.Nothing)) → (held_at j.held r ≡ held_at l.held r) ⊎ ((is_spare (held_at j.held r) ≡ true) × (is_spare (held_at l.held r) ≡ true)) → (held_at m.held r ≡ held_at j.held r) ⊎ ((is_spare (held_at j.held r) ≡ true) × (held_at m.held r ≡ H.Nothing))
-          by (inl p) q = inl p.1
-          by (inr p) (inl q) = absurd (p.0 q)
-          by (inr p) (inr q) = inr (q.0, p.1)
+      first r = elim (met.held r) as (λ v. (held_at m.held r ≡ held_at j.held r) ⊎ ((is_spare (held_at j.held r) ≡ true) × (held_at m.held r ≡ H.Nothing))) [
+        | inl p ↦ inl p.1
+        | inr p ↦ elim p as (λ v. (held_at m.held r ≡ held_at j.held r) ⊎ ((is_spare (held_at j.held r) ≡ true) × (held_at m.held r ≡ H.Nothing))) [
+          | inl p ↦ elim (same r) as (λ v. (held_at m.held r ≡ held_at j.held r) ⊎ ((is_spare (held_at j.held r) ≡ true) × (held_at m.held r ≡ H.Nothing))) [
+            | inl q ↦ absurd (p.0 q)
+            | inr q ↦ inr (q.0, p.1)
+          ]
+          | inr p ↦ inl p.2
+        ]
+      ]
 
       second : Spares l m
-      second r = by (met.held r) (same r)
-        where
-          by : ((held_at j.held r ≡ held_at l.held r) × (held_at m.held r ≡ held_at j.held r)) ⊎ ((held_at j.held r ≡ held_at l.held r → ⊥) × (held_at m.held r ≡ H.Nothing)) → (held_at j.held r ≡ held_at l.held r) ⊎ ((is_spare (held_at j.held r) ≡ true) × (is_spare (held_at l.held r) ≡ true)) → (held_at m.held r ≡ held_at l.held r) ⊎ ((is_spare (held_at l.held r) ≡ true) × (held_at m.held r ≡ H.Nothing))
-          by (inl p) q = inl (p.1 ∙ p.0)
-          by (inr p) (inl q) = absurd (p.0 q)
-          by (inr p) (inr q) = inr (q.1, p.1)
+      second r = elim (met.held r) as (λ v. (held_at m.held r ≡ held_at l.held r) ⊎ ((is_spare (held_at l.held r) ≡ true) × (held_at m.held r ≡ H.Nothing))) [
+        | inl p ↦ inl (p.1 ∙ p.0)
+        | inr p ↦ elim p as (λ v. (held_at m.held r ≡ held_at l.held r) ⊎ ((is_spare (held_at l.held r) ≡ true) × (held_at m.held r ≡ H.Nothing))) [
+          | inl p ↦ elim (same r) as (λ v. (held_at m.held r ≡ held_at l.held r) ⊎ ((is_spare (held_at l.held r) ≡ true) × (held_at m.held r ≡ H.Nothing))) [
+            | inl q ↦ absurd (p.0 q)
+            | inr q ↦ inr (q.1, p.1)
+          ]
+          | inr p ↦ elim (same r) as (λ v. (held_at m.held r ≡ held_at l.held r) ⊎ ((is_spare (held_at l.held r) ≡ true) × (held_at m.held r ≡ H.Nothing))) [
+            | inl q ↦ inl (p.2 ∙ q)
+            | inr q ↦ absurd (no_credit (held_at j.held r) p.0 p.1 q.0)
+          ]
+        ]
+      ]
 
       -- what both hold is known
       agreed : (r : ℕ) → held_at j.held r ≡ held_at l.held r → held_at m.held r ≡ held_at j.held r
       agreed r e = elim (met.held r) as (λ v. held_at m.held r ≡ held_at j.held r) [
         | inl p ↦ p.1
-        | inr p ↦ absurd (p.0 e)
+        | inr p ↦ elim p as (λ v. held_at m.held r ≡ held_at j.held r) [
+          | inl p ↦ absurd (p.0 e)
+          | inr p ↦ p.2
+        ]
       ]
 
       plain : Plain m
@@ -281,6 +358,22 @@ module _ (fip : Bool) (w : Table) (s : Scope) (B : ℕ → Bool) (K : ℕ → It
         | inl p ↦ p
         | inr p ↦ absurd (tree_not_spare (held_at j.held r) tree p.0)
       ]
+
+      tree_first : (r : ℕ) → is_tree (held_at m.held r) ≡ true → is_tree (held_at j.held r) ≡ true
+      tree_first r tree = elim (first r) as (λ v. is_tree (held_at j.held r) ≡ true) [
+        | inl p ↦ sym (ap is_tree p) ∙ tree
+        | inr p ↦ absurd (true≢false (sym tree ∙ ap is_tree p.1))
+      ]
+
+      by : fip ≡ false → LeftBy st o k ds m
+      by weak =
+          let z = x.by weak in
+          record {
+            trees = λ r tree. z.trees r (tree_first r tree);
+            stays = λ r tree unused. (let same = z.stays r tree unused in tree_stays r (ap is_tree same ∙ (wide_tree (held_at k.held r) ∙ tree)) ∙ same);
+            credits = λ n some. ap (of_size n) met.credits ∙ z.credits n some;
+            none = ap (of_size 0) met.credits ∙ z.none;
+          }
 
       hold : (qs us : List ℕ) → AllHold w (held_at j.held) qs us → AllHold w (held_at l.held) qs us → AllHold w (held_at m.held) qs us
       hold [] [] p q = tt

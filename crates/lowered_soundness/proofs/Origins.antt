@@ -31,6 +31,7 @@ use Rattle.laid_code.specs.Handed.{GivenLaid, OperationLaid, CallLaid}
 use Rattle.laid_code.specs.Tests.{Choice, ReadOne, ReadsLaid, ReadsFirst, TestLaid, TakeLaid, TakesLaid, TakeAll, NamesLaid, NameAll, SettledLaid, TestsLaid, ChunkLaid, SidesLaid}
 use Rattle.laid_code.specs.Matches.{MatchLaid}
 use Rattle.laid_code.specs.Joins.{GoesOn, ClauseEnds}
+use Rattle.laid_code.specs.Leftover.{LeavesOver}
 use Rattle.laid_code.specs.Bodies.{ClausesMeet, GiveLaid, NamedLaid, ExpressionLaid, BlockLaid, ClausesLaid}
 use Rattle.laid_code.specs.Functions.{FunctionLaid}
 use Rattle.lowered_soundness.specs.Origins.{gives_up, HasOrigin, HaveOrigins}
@@ -120,8 +121,14 @@ module _ (st : Setting) (fip : Bool) (f : PlainFunction) where
     goes_on NoClauses stop target next h = none stop next h.1
     goes_on (MoreClauses q b cs) stop target next h = one stop next (I.Jump target) h.0 h.2 (quiet (I.Jump target) refl (λ g w x. x))
 
-    clause_ends : (c : PlainCode) (cs : Clauses) (at : ℕ) (k : Known) (target next : ℕ) (l : Known) → ClauseEnds c f cs at k target next l → HaveOrigins st fip f ss at next
-    clause_ends c cs at k target next l h = both at h.stop next (bares h.bares.steps at k h.stop h.left h.bares.gives) (goes_on cs h.stop target next h.goes)
+    left_over : (b : Bool) → fip ≡ b → (l : Known) (e : Expression) (rs : List ℕ) (at : ℕ) (k : Known) (end : ℕ) (left : Known) → LeavesOver b st f l e rs at k end left → HaveOrigins st fip f ss at end
+    left_over true weak l e rs at k end left h = none at end h.0
+    left_over false weak l e rs at k end left h = given_up h.steps at k end left (subst (λ b. GivesUp b f h.steps at k end left) (sym weak) h.gives)
+
+    clause_ends : (c : PlainCode) (l : Known) (e : Expression) (rs : List ℕ) (cs : Clauses) (at : ℕ) (k : Known) (target next : ℕ) (left : Known) → ClauseEnds c st fip f l e rs cs at k target next left → HaveOrigins st fip f ss at next
+    clause_ends c l e rs cs at k target next left h =
+        both at h.mid next (bares h.bares.steps at k h.mid h.bare h.bares.gives)
+        (both h.mid h.stop next (left_over fip refl l e rs h.mid h.bare h.stop h.left h.over) (goes_on cs h.stop target next h.goes))
 
     moves : (at : ℕ) (k : Known) (rs ds : List ℕ) (end : ℕ) (after : Known) → MovesLaid f.instrs at k rs ds end after → HaveOrigins st fip f ss at end
     moves at k [] ds end after h = none at end h.0
@@ -265,8 +272,8 @@ module _ (st : Setting) (fip : Bool) (f : PlainFunction) where
           (both (block_sites false b ++ clauses_sites false cs) begin e end (begun (block_sites false b ++ clauses_sites false cs) c begin k0 ds t a q cs ch l e begins)
           (both (block_sites false b ++ clauses_sites false cs) e mid end
           (wider (block_sites false b) (block_sites false b ++ clauses_sites false cs) e mid (λ s i. in_more (block_sites false b) (clauses_sites false cs) s i) (block e _ b (Into rs) mid m body))
-          (both (block_sites false b ++ clauses_sites false cs) mid next end (clause_ends (block_sites false b ++ clauses_sites false cs) c cs mid m end next left ends)
-          (wider (clauses_sites false cs) (block_sites false b ++ clauses_sites false cs) next end (λ s i. in_behind (block_sites false b) (clauses_sites false cs) s i) (clauses_meet ch l 1 cs rs end left next met others)))))
+          (both (block_sites false b ++ clauses_sites false cs) mid next end (clause_ends (block_sites false b ++ clauses_sites false cs) c l (Match ds t p a q b cs) rs cs mid m end next left ends)
+          (wider (clauses_sites false cs) (block_sites false b ++ clauses_sites false cs) next end (λ s i. in_behind (block_sites false b) (clauses_sites false cs) s i) (clauses_meet ch l (Match ds t p a q b cs) 1 cs rs end left next met others)))))
       expression at k (Match ds t p a q b cs) Return end after (ch, l, e, n, mid, m, begins, entry, body, others) =
           both (block_sites true b ++ clauses_sites true cs) at e end (begun (block_sites true b ++ clauses_sites true cs) c at k ds t a q cs ch l e begins)
           (both (block_sites true b ++ clauses_sites true cs) e mid end
@@ -292,14 +299,14 @@ module _ (st : Setting) (fip : Bool) (f : PlainFunction) where
           (wider (block_sites true b) (block_sites true b ++ clauses_sites true cs) start mid (λ s i. in_more (block_sites true b) (clauses_sites true cs) s i) (block start _ b Return mid m body))
           (wider (clauses_sites true cs) (block_sites true b ++ clauses_sites true cs) mid end (λ s i. in_behind (block_sites true b) (clauses_sites true cs) s i) (clauses ch l (suc i) cs mid end others)))
 
-      clauses_meet : (ch : Choice) (l : Known) (i : ℕ) (cs : Clauses) (rs : List ℕ) (end : ℕ) (j : Known) (at : ℕ) (met : Known) → ClausesMeet c st fip f ch l i cs rs end j at met → HaveOrigins st fip f (clauses_sites false cs) at end
-      clauses_meet ch l i NoClauses rs end j at met h = none [] at end (sym h.0)
-      clauses_meet ch l i (MoreClauses q b cs) rs end j at met (more, start, n, mid, m, next, left, joined', tests', entry, body, ends, meets, others) =
+      clauses_meet : (ch : Choice) (l : Known) (o : Expression) (i : ℕ) (cs : Clauses) (rs : List ℕ) (end : ℕ) (j : Known) (at : ℕ) (met : Known) → ClausesMeet c st fip f ch l o i cs rs end j at met → HaveOrigins st fip f (clauses_sites false cs) at end
+      clauses_meet ch l o i NoClauses rs end j at met h = none [] at end (sym h.0)
+      clauses_meet ch l o i (MoreClauses q b cs) rs end j at met (more, start, n, mid, m, next, left, joined', tests', entry, body, ends, meets, others) =
           both (block_sites false b ++ clauses_sites false cs) at start end (sides (block_sites false b ++ clauses_sites false cs) c ch _ more at start tests')
           (both (block_sites false b ++ clauses_sites false cs) start mid end
           (wider (block_sites false b) (block_sites false b ++ clauses_sites false cs) start mid (λ s i. in_more (block_sites false b) (clauses_sites false cs) s i) (block start _ b (Into rs) mid m body))
-          (both (block_sites false b ++ clauses_sites false cs) mid next end (clause_ends (block_sites false b ++ clauses_sites false cs) c cs mid m end next left ends)
-          (wider (clauses_sites false cs) (block_sites false b ++ clauses_sites false cs) next end (λ s i. in_behind (block_sites false b) (clauses_sites false cs) s i) (clauses_meet ch l (suc i) cs rs end joined' next met others))))
+          (both (block_sites false b ++ clauses_sites false cs) mid next end (clause_ends (block_sites false b ++ clauses_sites false cs) c l o rs cs mid m end next left ends)
+          (wider (clauses_sites false cs) (block_sites false b ++ clauses_sites false cs) next end (λ s i. in_behind (block_sites false b) (clauses_sites false cs) s i) (clauses_meet ch l o (suc i) cs rs end joined' next met others))))
 
 pub of_function : (c : PlainCode) (st : Setting) (fip : Bool) (f : PlainFunction) (d : Instance) → FunctionLaid c st fip f d → (i : ℕ) (x : Instr) → slice_get f.instrs i ≡ Some x → HasOrigin st fip (instance_sites d) x
 of_function c st fip f d laid i x h = block st fip f c 0 _ d.body Return (length f.instrs) laid.after laid.body i x (omega arith) (get_within f.instrs i x h) h

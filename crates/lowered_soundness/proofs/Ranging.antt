@@ -40,6 +40,7 @@ use Rattle.lowered_soundness.specs.Laid.{Shares}
 use Rattle.laid_code.specs.Tests.{Choice, ReadOne, ReadsLaid, ReadsFirst, TestLaid, TakeLaid, TakesLaid, TakeAll, NamesLaid, NameAll, SettledLaid, TestsLaid, ChunkLaid, SidesLaid}
 use Rattle.laid_code.specs.Matches.{MatchBegins, Forgets, EntryLaid, clause_patterns, entered}
 use Rattle.laid_code.specs.Joins.{GoesOn, ClauseEnds, Met}
+use Rattle.laid_code.specs.Leftover.{LeavesOver}
 use Rattle.laid_code.specs.Bodies.{ClausesMeet, GiveLaid, NamedLaid, ExpressionLaid, BlockLaid, ClausesLaid}
 use Rattle.lowered_soundness.specs.Built.{BuildsArgument, BuildsArguments, Builds, BuildsBlock, BuildsClauses}
 use Rattle.laid_code.specs.Functions.{FunctionLaid}
@@ -411,23 +412,23 @@ module _ (c : PlainCode) (st : Setting) (f : PlainFunction) (good : are_good_map
   ]
 
   -- the same, where the clauses meet
-  met_label : (fip : Bool) (ch : Choice) (l : Known) (i : ℕ) (cs : Clauses) (ds : List ℕ) (stop : ℕ) (k : Known) (at : ℕ) (met : Known) → ClausesMeet c st fip f ch l i cs ds stop k at met → (j : ℕ) (q : Pattern) → slice_get (clause_patterns cs) j ≡ Some q → (place : ℕ) → slice_get ch.entries (i + j) ≡ Some place → 0 < place → is_some (label_at f.labels place) ≡ true
-  met_label fip ch l i NoClauses ds stop k at met h j q there place entry low = absurd (none-some q there)
-  met_label fip ch l i (MoreClauses p b cs) ds stop k at met (more, start, m, mid, behind, next, left, joined', tests', laid, body, ends, meets, others) zero q there place entry low =
+  met_label : (fip : Bool) (ch : Choice) (l : Known) (o : Expression) (i : ℕ) (cs : Clauses) (ds : List ℕ) (stop : ℕ) (k : Known) (at : ℕ) (met : Known) → ClausesMeet c st fip f ch l o i cs ds stop k at met → (j : ℕ) (q : Pattern) → slice_get (clause_patterns cs) j ≡ Some q → (place : ℕ) → slice_get ch.entries (i + j) ≡ Some place → 0 < place → is_some (label_at f.labels place) ≡ true
+  met_label fip ch l o i NoClauses ds stop k at met h j q there place entry low = absurd (none-some q there)
+  met_label fip ch l o i (MoreClauses p b cs) ds stop k at met (more, start, m, mid, behind, next, left, joined', tests', laid, body, ends, meets, others) zero q there place entry low =
       let same : i + 0 ≡ i = omega arith in
       let one : start ≡ place = same_Some start place (sym laid.place ∙ (ap (slice_get ch.entries) (sym same) ∙ entry)) in
       subst (λ place. is_some (label_at f.labels place) ≡ true) one (entry_label ch l i p start m laid (omega (arith, one, low)))
-  met_label fip ch l i (MoreClauses p b cs) ds stop k at met (more, start, m, mid, behind, next, left, joined', tests', laid, body, ends, meets, others) (suc j) q there place entry low =
+  met_label fip ch l o i (MoreClauses p b cs) ds stop k at met (more, start, m, mid, behind, next, left, joined', tests', laid, body, ends, meets, others) (suc j) q there place entry low =
       let same : suc i + j ≡ i + suc j = omega arith in
-      met_label fip ch l (suc i) cs ds stop joined' next met others j q there place (ap (slice_get ch.entries) same ∙ entry) low
+      met_label fip ch l o (suc i) cs ds stop joined' next met others j q there place (ap (slice_get ch.entries) same ∙ entry) low
 
-  met_enters : (fip : Bool) (ch : Choice) (l : Known) (q : Pattern) (cs : Clauses) (e m : ℕ) (ds : List ℕ) (stop : ℕ) (k : Known) (mid : ℕ) (met : Known) → ch.patterns ≡ q ∷ clause_patterns cs → EntryLaid c st f ch l 0 q e m → ClausesMeet c st fip f ch l 1 cs ds stop k mid met → Enters ch
-  met_enters fip ch l q cs e m ds stop k mid met is entry others zero p there place at low =
+  met_enters : (fip : Bool) (ch : Choice) (l : Known) (o : Expression) (q : Pattern) (cs : Clauses) (e m : ℕ) (ds : List ℕ) (stop : ℕ) (k : Known) (mid : ℕ) (met : Known) → ch.patterns ≡ q ∷ clause_patterns cs → EntryLaid c st f ch l 0 q e m → ClausesMeet c st fip f ch l o 1 cs ds stop k mid met → Enters ch
+  met_enters fip ch l o q cs e m ds stop k mid met is entry others zero p there place at low =
       let one : e ≡ place = same_Some e place (sym entry.place ∙ at) in
       subst (λ place. is_some (label_at f.labels place) ≡ true) one (entry_label ch l 0 q e m entry (omega (arith, one, low)))
-  met_enters fip ch l q cs e m ds stop k mid met is entry others (suc j) p there place at low =
+  met_enters fip ch l o q cs e m ds stop k mid met is entry others (suc j) p there place at low =
       let same : 1 + j ≡ suc j = omega arith in
-      met_label fip ch l 1 cs ds stop k mid met others j p (ap (λ qs. slice_get qs (suc j)) (sym is) ∙ there) place (ap (slice_get ch.entries) same ∙ at) low
+      met_label fip ch l o 1 cs ds stop k mid met others j p (ap (λ qs. slice_get qs (suc j)) (sym is) ∙ there) place (ap (slice_get ch.entries) same ∙ at) low
 
   -- ---- where the clauses meet
 
@@ -436,7 +437,7 @@ module _ (c : PlainCode) (st : Setting) (f : PlainFunction) (good : are_good_map
   bares_next (suc n) at k end l (m, inl h, rest) = bares_next n (suc at) m end l rest ∙ ap (λ (m : Known). m.next) h.known
   bares_next (suc n) at k end l (m, inr h, rest) = absurd (true≢false h.0)
 
-  met_fits : (fip : Bool) (k l m : Known) → Met fip k l m → Fits f.registers k → Fits f.registers m
+  met_fits : (fip : Bool) (k l m : Known) → Met k l m → Fits f.registers k → Fits f.registers m
   met_fits fip k l m h fits = record {
     names = names_by f.registers m.names (λ x r e. elim (h.names x) as (λ v. r < f.registers) [
       | inl p ↦ register_under f.registers k.names (Some x) r fits.names (sym p.1 ∙ e)
@@ -450,10 +451,15 @@ module _ (c : PlainCode) (st : Setting) (f : PlainFunction) (good : are_good_map
   goes_on NoClauses stop target next h label = none stop next h.1
   goes_on (MoreClauses q b cs) stop target next h label = let ahead = h.1 in one stop next (I.Jump target) h.0 h.2 (target_is stop target ahead label)
 
-  clause_ends : (cs : Clauses) (at : ℕ) (k : Known) (target next : ℕ) (l : Known) → ClauseEnds c f cs at k target next l → is_some (label_at f.labels target) ≡ true → Fits f.registers k → Step at next l
-  clause_ends cs at k target next l h label fits =
-      let x = given_up true h.bares.steps at k h.stop h.left h.bares.gives fits in
-      record { all = both at h.stop next x.all (goes_on cs h.stop target next h.goes label); fits = subst (Fits f.registers) (sym h.known) (fits_wide f.registers h.left x.fits) }
+  left_over : (fip : Bool) (o : Known) (e : Expression) (rs : List ℕ) (at : ℕ) (k : Known) (end : ℕ) (left : Known) → LeavesOver fip st f o e rs at k end left → Fits f.registers k → Step at end left
+  left_over true o e rs at k end left h fits = record { all = none at end h.0; fits = subst (Fits f.registers) (sym h.1) fits }
+  left_over false o e rs at k end left h fits = given_up false h.steps at k end left h.gives fits
+
+  clause_ends : (fip : Bool) (o : Known) (e : Expression) (rs : List ℕ) (cs : Clauses) (at : ℕ) (k : Known) (target next : ℕ) (l : Known) → ClauseEnds c st fip f o e rs cs at k target next l → is_some (label_at f.labels target) ≡ true → Fits f.registers k → Step at next l
+  clause_ends fip o e rs cs at k target next l h label fits =
+      let x = given_up true h.bares.steps at k h.mid h.bare h.bares.gives fits in
+      let y = left_over fip o e rs h.mid h.bare h.stop h.left h.over x.fits in
+      record { all = both at h.mid next x.all (both h.mid h.stop next y.all (goes_on cs h.stop target next h.goes label)); fits = subst (Fits f.registers) (sym h.known) (fits_wide f.registers h.left y.fits) }
 
   clause_label : (fip : Bool) (ch : Choice) (l : Known) (i : ℕ) (cs : Clauses) (at end : ℕ) → ClausesLaid c st fip f ch l i cs at end → (j : ℕ) (q : Pattern) → slice_get (clause_patterns cs) j ≡ Some q → (place : ℕ) → slice_get ch.entries (i + j) ≡ Some place → 0 < place → is_some (label_at f.labels place) ≡ true
   clause_label fip ch l i NoClauses at end h j q there place entry low = absurd (none-some q there)
@@ -539,13 +545,13 @@ module _ (c : PlainCode) (st : Setting) (f : PlainFunction) (good : are_good_map
       expression at k (Match d t p a q x cs) (Into rs) end l (begin, k0, ch, l1, e, m, mid, behind, next, left, met, bare, quiet', laid, entry, body, ends, others, meets) b v fits =
           let up = given_up true bare.steps at k begin k0 bare.gives fits in
           let start = begins_fits begin k0 laid.variable t ch l1 laid.begins up.fits in
-          let enters : Enters ch = met_enters fip ch l1 q cs e m rs end left next met laid.patterns entry others in
-          let label : is_some (label_at f.labels end) ≡ true = ap is_some meets.label.there in
+          let enters : Enters ch = met_enters fip ch l1 (Match d t p a q x cs) q cs e m rs end left next met laid.patterns entry others in
+          let label : is_some (label_at f.labels end) ≡ true = ap is_some meets.label in
           let first = chunk ch start.1.0 start.1.1 enters _ begin _ _ _ laid.mid laid.first in
           let rest = sides ch start.1.0 start.1.1 enters _ laid.more laid.mid e laid.sides in
           let inner = block e _ x (Into rs) mid behind body b.0 v (entered_fits ch q l1 m start.1.0 start.1.1 start.0) in
-          let ended = clause_ends cs mid behind end next left ends label inner.1 in
-          let more = clauses_meet ch start.1.0 start.1.1 enters l1 start.0 1 cs rs end label left next met others b.1 v ended.fits in
+          let ended = clause_ends fip l1 (Match d t p a q x cs) rs cs mid behind end next left ends label inner.1 in
+          let more = clauses_meet ch start.1.0 start.1.1 enters l1 (Match d t p a q x cs) start.0 1 cs rs end label left next met others b.1 v ended.fits in
           (both at begin end up.all (both begin e end (both begin laid.mid e first rest) (both e mid end inner.0 (both mid next end ended.all more.all))), subst (Fits f.registers) (sym meets.known) (fits_next f.registers met meets.next more.fits))
       expression at k (Match d t p a q x cs) Return end after (ch, l, e, m, mid, behind, laid, entry, body, others) b v fits =
           let start = begins_fits at k laid.variable t ch l laid.begins fits in
@@ -574,12 +580,12 @@ module _ (c : PlainCode) (st : Setting) (f : PlainFunction) (good : are_good_map
           let inner = block start _ x Return mid behind body b.0 tt (entered_fits ch q l m low u fits) in
           both at start end (sides ch low u enters _ more at start laid) (both start mid end inner.0 (clauses ch low u enters l fits (suc i) cs mid end others b.1))
 
-      clauses_meet : (ch : Choice) (low : register ch.root < f.registers) (u : Under f.registers (below_spot ch.root)) (enters : Enters ch) (l : Known) → Fits f.registers l → (i : ℕ) (cs : Clauses) (rs : List ℕ) (stop : ℕ) → is_some (label_at f.labels stop) ≡ true → (k : Known) (at : ℕ) (met : Known) → ClausesMeet c st fip f ch l i cs rs stop k at met → BuildsClauses c.types cs → UnderFor (Into rs) → Fits f.registers k → Step at stop met
-      clauses_meet ch low u enters l fits i NoClauses rs stop label k at met h b v kept = record { all = none at stop (sym h.0); fits = subst (Fits f.registers) (sym h.1) kept }
-      clauses_meet ch low u enters l fits i (MoreClauses q x cs) rs stop label k at met (more, start, m, mid, behind, next, left, joined', laid, entry, body, ends, meets, others) b v kept =
+      clauses_meet : (ch : Choice) (low : register ch.root < f.registers) (u : Under f.registers (below_spot ch.root)) (enters : Enters ch) (l : Known) (o : Expression) → Fits f.registers l → (i : ℕ) (cs : Clauses) (rs : List ℕ) (stop : ℕ) → is_some (label_at f.labels stop) ≡ true → (k : Known) (at : ℕ) (met : Known) → ClausesMeet c st fip f ch l o i cs rs stop k at met → BuildsClauses c.types cs → UnderFor (Into rs) → Fits f.registers k → Step at stop met
+      clauses_meet ch low u enters l o fits i NoClauses rs stop label k at met h b v kept = record { all = none at stop (sym h.0); fits = subst (Fits f.registers) (sym h.1) kept }
+      clauses_meet ch low u enters l o fits i (MoreClauses q x cs) rs stop label k at met (more, start, m, mid, behind, next, left, joined', laid, entry, body, ends, meets, others) b v kept =
           let inner = block start _ x (Into rs) mid behind body b.0 v (entered_fits ch q l m low u fits) in
-          let ended = clause_ends cs mid behind stop next left ends label inner.1 in
-          let rest = clauses_meet ch low u enters l fits (suc i) cs rs stop label joined' next met others b.1 v (met_fits fip k left joined' meets kept) in
+          let ended = clause_ends fip l o rs cs mid behind stop next left ends label inner.1 in
+          let rest = clauses_meet ch low u enters l o fits (suc i) cs rs stop label joined' next met others b.1 v (met_fits fip k left joined' meets kept) in
           record { all = both at start stop (sides ch low u enters _ more at start laid) (both start mid stop inner.0 (both mid next stop ended.all rest.all)); fits = rest.fits }
 
     names_none : (m : ℕ) → Rattle.lowered_soundness.proofs.Known.NamesUnder f.registers (replicate m None)

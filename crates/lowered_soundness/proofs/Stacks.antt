@@ -8,12 +8,12 @@ use Rattle.lowered_soundness.specs.Ties.{one_if, sized, counted}
 
 -- ---- the first of a list
 
-take_front : (n : ℕ) (xs ys : List ℕ) → n ≤ length xs → take n (xs ++ ys) ≡ take n xs
+pub take_front : (n : ℕ) (xs ys : List ℕ) → n ≤ length xs → take n (xs ++ ys) ≡ take n xs
 take_front zero xs ys low = refl
 take_front (suc n) [] ys low = absurd (let z : ⊥ = omega (arith, low) in z)
 take_front (suc n) (x ∷ xs) ys low = ap (λ zs. x ∷ zs) (take_front n xs ys (omega (arith, low)))
 
-take_less : (m n : ℕ) (xs : List ℕ) → m ≤ n → take m (take n xs) ≡ take m xs
+pub take_less : (m n : ℕ) (xs : List ℕ) → m ≤ n → take m (take n xs) ≡ take m xs
 take_less zero n xs low = refl
 take_less (suc m) zero xs low = absurd (let z : ⊥ = omega (arith, low) in z)
 take_less (suc m) (suc n) [] low = refl
@@ -22,7 +22,7 @@ take_less (suc m) (suc n) (x ∷ xs) low = ap (λ zs. x ∷ zs) (take_less m n x
 pub take_lower : (m n : ℕ) (xs ys : List ℕ) → m ≤ n → take n xs ≡ take n ys → take m xs ≡ take m ys
 take_lower m n xs ys low e = sym (take_less m n xs low) ∙ (ap (take m) e ∙ take_less m n ys low)
 
-take_all : (n : ℕ) (xs : List ℕ) → length xs ≡ n → take n xs ≡ xs
+pub take_all : (n : ℕ) (xs : List ℕ) → length xs ≡ n → take n xs ≡ xs
 take_all zero [] e = refl
 take_all zero (x ∷ xs) e = absurd (let z : ⊥ = omega (arith, e) in z)
 take_all (suc n) [] e = absurd (let z : ⊥ = omega (arith, e) in z)
@@ -44,7 +44,7 @@ length_by : (b : Bool) (r : ℕ) (xs : List ℕ) → length (if b then r ∷ xs 
 length_by true r xs = omega arith
 length_by false r xs = omega arith
 
-length_size : (n : ℕ) (cs : List Credit) → length (of_size n cs) ≡ sized n cs
+pub length_size : (n : ℕ) (cs : List Credit) → length (of_size n cs) ≡ sized n cs
 length_size n [] = refl
 length_size n (c ∷ cs) = length_by (c.size == n) c.register (of_size n cs) ∙ ap (λ m. one_if (c.size == n) + m) (length_size n cs)
 

@@ -195,7 +195,7 @@ tree_among w n g (p ∷ ps) (q ∷ rs) r none h (inl e) tree = by (is_scalar_typ
 
 module _ (c : PlainCode) (f : PlainFunction) (st : Setting) (wd : W.World) (fip : Bool) (s : Scope) (B : ℕ → Bool) (K : ℕ → Item → ℕ) (shares : Shares c st wd) where
   -- registers of arguments and credits are kept
-  call_safe : (m : Known) (d : Instance) (rs cs : List ℕ) (l : Known) → Called c f fip s B K true (λ i. 0) m d rs cs l → behind (owned_of d.params rs) cs (held_at m.held) ≡ held_at l.held → (r : ℕ) → Among r (rs ++ cs) → Safe (held_at m.held r) (held_at l.held r)
+  call_safe : (m : Known) (d : Instance) (rs cs : List ℕ) (l : Known) → Called c f fip s B K true (λ i. 0) (λ q. 0) m d rs cs l → behind (owned_of d.params rs) cs (held_at m.held) ≡ held_at l.held → (r : ℕ) → Among r (rs ++ cs) → Safe (held_at m.held r) (held_at l.held r)
   call_safe m d rs cs l cl known r m2 = elim (among_split r rs cs m2) as (λ v. Safe (held_at m.held r) (held_at l.held r)) [
     | inl a ↦ elim (argument_among c.types n g d.params rs r cl.hold a) as (λ v. Safe (held_at m.held r) (held_at l.held r)) [
       | inl v ↦ of_value a v.0 v.1
@@ -296,7 +296,7 @@ module _ (c : PlainCode) (f : PlainFunction) (st : Setting) (wd : W.World) (fip 
       let as' = rs ++ cs in
       let t : TailLaid fip f mid h.m fn as' end = h.ends in
       let of : IsFunctionOf c fn d = shares.functions g fn d h.numbered (subst (λ (d : Instance). slice_get st.instances g ≡ Some d) is h.there) in
-      let cl : Called c f fip s B K true (λ i. 0) m d rs cs h.m = called c f fip s B K true (λ i. 0) m d rs cs h.m (λ e x. refl) p.ties p.hold kept (subst (λ (d : Instance). Bodies.AreTaken (record m { held = Bodies.handed m.held d.params rs }) d.credits cs h.m) is h.taken) in
+      let cl : Called c f fip s B K true (λ i. 0) (λ q. 0) m d rs cs h.m = called c f fip s B K true (λ i. 0) (λ q. 0) m d rs cs h.m (λ e x. refl) p.ties p.hold kept (subst (λ (d : Instance). Bodies.AreTaken (record m { held = Bodies.handed m.held d.params rs }) d.credits cs h.m) is h.taken) in
       let us = owned_of d.params rs in
       let w = held_at m.held in
       let known : behind us cs w ≡ held_at h.m.held = ap (λ x. spending x cs) (sym (passing_using d.params rs w)) ∙ (sym (handing_spending d.credits cs (passing_all w d.params rs) cl.many_credits) ∙ cl.short) in

@@ -68,7 +68,7 @@ module _ (c : PlainCode) (st : Setting) (wd : W.World) (w : R.World) (shares : S
   bool_type : is_type c.types 1 ≡ true
   bool_type = (both (is_type c.types 1) (Rattle.fip_language.specs.Table.is_scalar c.types 1) shares.bool).0
 
-  argument_type : (s : Scope) (b : Bool) (a : Argument) (t : ℕ) → ScopeTyped c s → HasType true wd s b a t → is_type c.types t ≡ true
+  pub argument_type : (s : Scope) (b : Bool) (a : Argument) (t : ℕ) → ScopeTyped c s → HasType true wd s b a t → is_type c.types t ≡ true
   argument_type s b (Variable None n p) t scope h = absurd (none-some (Some t) h)
   argument_type s b (Variable (Some x) n p) t scope h = scope x t h
   argument_type s b (Literal i p) t scope h = ap (is_type c.types) h ∙ int_type

@@ -4,7 +4,6 @@
 use Rattle.std.specs.Prelude.{◌≡◌, ℕ, List, [], ◌∷◌, length}
 use Rattle.std.specs.Prelude.{if◌then◌else◌, ◌==◌}
 use Rattle.cell_code.specs.declared.kind.Kind.{Kind}
-use Rattle.cell_code.specs.declared.kind.Kind.TheVariants as K
 use Rattle.sound_code.specs.Kinds.{at}
 use Rattle.lowered_code.specs.declared.held.Held.TheVariants as H
 use Rattle.lowered_code.specs.Known.{without}

@@ -11,7 +11,7 @@ use Rattle.lowered_soundness.specs.Parts.{Part}
 use Rattle.lowered_soundness.specs.Ties.{owners, own, AllHold, owed, Stays, Ties}
 use Rattle.laid_code.specs.Labels.{told}
 use Rattle.laid_code.specs.Matches.{wide_at}
-use Rattle.laid_code.specs.Credits.{of_size}
+use Rattle.laid_code.specs.Credits.{of_size, LastGone}
 
 -- these registers are used already, hold nothing and are different ones
 abbrev pub Waiting : Known → List ℕ → Type 0
@@ -29,6 +29,21 @@ pub record Keeps (s : Scope) (X : Item → ℕ) (k l : Known) : Type 0 where
       register_of k.names (Some x) ≡ Some r
   pub stack : (n : ℕ) →
       take (X (Credit n)) (of_size n l.credits) ≡ take (X (Credit n)) (of_size n k.credits)
+
+-- From a to b results came into the registers ds; X is still owned, and beside registers own trees of e. No variable
+-- got another register.
+pub record Settled (c : PlainCode) (f : PlainFunction) (fip : Bool) (s : Scope) (B : ℕ → Bool) (K : ℕ → Item → ℕ)
+    (X : Item → ℕ) (e : ℕ → ℕ) (a : ℕ) (k : Known) (ds ts : List ℕ) (b : ℕ) (l : Known) : Type 0 where
+  pub grows : a ≤ b
+  pub part : Part c f a (told c k) b (told c l)
+  pub next : k.next ≤ l.next
+  pub width : length l.held ≡ length k.held
+  pub names : l.names ≡ k.names
+  pub ties : Ties fip c.types s B K X (λ q. owed c.types ds ts q + e q) l
+  pub hold : AllHold c.types (held_at l.held) ds ts
+  pub empty : (r : ℕ) → suc r ≤ k.next → held_at k.held r ≡ H.Nothing → (Among r ds → ⊥) → held_at l.held r ≡ H.Nothing
+  pub stays : Stays (held_at k.held) (held_at l.held) (λ q. owners k.names (own X) q + e q)
+  pub last : LastGone k.credits l.credits
 
 -- From a to b results came into the registers ds; X is still owned.
 pub record Delivered (c : PlainCode) (f : PlainFunction) (fip : Bool) (s : Scope) (B : ℕ → Bool)

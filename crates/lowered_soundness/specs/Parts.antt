@@ -6,7 +6,7 @@ use Rattle.cell_code.specs.declared.code.Instr.{Instr}
 use Rattle.cell_code.specs.declared.code.Instr.TheVariants as I
 use Rattle.cell_code.specs.declared.kind.Kind.{Kind}
 use Rattle.sound_code.specs.Codes.{PlainCode, PlainFunction, label_at, is_fip}
-use Rattle.sound_code.specs.Fitting.{fits, fit_all}
+use Rattle.sound_code.specs.Fitting.{fit_all}
 use Rattle.sound_code.specs.Ranges.{in_range}
 use Rattle.sound_code.specs.Asked.{sources, destinations}
 use Rattle.sound_code.specs.Endings.{is_end, spends_all, releases}

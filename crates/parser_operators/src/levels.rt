@@ -16,7 +16,7 @@ use fip_base::surface::{
 };
 use fip_grammar::Sign;
 use fip_language::Place;
-use parser_state::moves::{close_match, enter, operand, start_expression, stays_in_body};
+use parser_state::moves::{close_match, enter, operand, refused, start_expression, stays_in_body};
 use parser_state::state::{Body, BodyPosition, FunctionHead, Level, Next, OpenMatch, Use};
 use std::alloc::{AllocError, Global};
 use std::mem;
@@ -43,7 +43,7 @@ pub fn end_bound(
             })?;
             stays_in_body(BodyPosition::Block, start_expression(alloc, body, None))
         }
-        _ => Ok(Next::Refused),
+        _ => refused(body),
     }
 }
 
@@ -132,7 +132,7 @@ fn end_body(
                 declaration: Declaration::Function { function },
             })
         }
-        _ => Ok(Next::Refused),
+        _ => refused(head),
     }
 }
 
@@ -216,7 +216,7 @@ fn end_argument(
             },
             body,
         ),
-        _ => Ok(Next::Refused),
+        _ => refused(body),
     }
 }
 
@@ -247,7 +247,7 @@ fn end_field(
             },
             body,
         ),
-        _ => Ok(Next::Refused),
+        _ => refused(body),
     }
 }
 
@@ -271,7 +271,7 @@ fn end_parenthesis(
                 enter(alloc, body, Use::Tuple { place, done })?,
             )
         }
-        _ => Ok(Next::Refused),
+        _ => refused(body),
     }
 }
 
@@ -281,7 +281,7 @@ fn end_bracket(body: Body, block: Block, sign: Sign) -> Result<Next, AllocError>
 {
     match sign {
         Sign::RoundClose => operand(Step::Bracket { block }, body),
-        _ => Ok(Next::Refused),
+        _ => refused(body),
     }
 }
 
@@ -292,7 +292,7 @@ fn end_yes(body: Body, place: Place, block: Block, sign: Sign) -> Result<Next, A
 {
     match sign {
         Sign::CurlyClose => stays_in_body(BodyPosition::Else { place, yes: block }, body),
-        _ => Ok(Next::Refused),
+        _ => refused(body),
     }
 }
 
@@ -316,7 +316,7 @@ fn end_no(
             },
             body,
         ),
-        _ => Ok(Next::Refused),
+        _ => refused(body),
     }
 }
 
@@ -339,7 +339,7 @@ fn end_part(
             enter(alloc, body, Use::Tuple { place, done })?,
         ),
         Sign::RoundClose => operand(Step::Tuple { place, parts: done }, body),
-        _ => Ok(Next::Refused),
+        _ => refused(body),
     }
 }
 
@@ -363,6 +363,6 @@ fn end_clause(
     match sign {
         Sign::Semicolon => stays_in_body(BodyPosition::ClauseNext { open }, body),
         Sign::CurlyClose => close_match(open, body),
-        _ => Ok(Next::Refused),
+        _ => refused(body),
     }
 }

@@ -12,7 +12,7 @@ use fip_base::surface::Step;
 use fip_grammar::Sign;
 use fip_grammar::token::{Token, Word};
 use fip_language::{Operator, Place};
-use parser_state::moves::{enter, none_waits, stays_in_body, stays_in_pattern};
+use parser_state::moves::{enter, none_waits, refused, stays_in_body, stays_in_pattern};
 use parser_state::state::{
     Body, BodyPosition, Next, OpenMatch, Opener, PatternPosition, Pending, Use, Waiting,
 };
@@ -82,7 +82,7 @@ pub fn after_operand(alloc: Global, body: Body, token: Token) -> Result<Next, Al
     match token.word {
         Word::Operator(operator) => after_operator(body, operator, token.place),
         Word::Sign(sign) => end_expression(alloc, body, sign),
-        _ => Ok(Next::Refused),
+        _ => refused(body),
     }
 }
 
@@ -189,6 +189,6 @@ fn end_head(alloc: Global, body: Body, opener: Opener, sign: Sign) -> Result<Nex
                 stays_in_body(BodyPosition::Block, enter(alloc, body, Use::Yes { place })?)
             }
         },
-        _ => Ok(Next::Refused),
+        _ => refused(body),
     }
 }

@@ -12,7 +12,8 @@ ghost use Rattle.reached_instances.specs.Source.{statics_at};
 ghost use Rattle.reached_instances.specs.SourceView as S;
 ghost use Rattle.reached_instances.specs.Uses as U;
 ghost use Rattle.reached_instances.specs.UsesView.{AreAllWithin, AreWithinIfSome, IsPlaceOf, all_trees, trees_of};
-ghost use Rattle.reached_instances.specs.UsesView.{AsksFor, argument_or_none, is_same_parameter, misfit_at, type_or_int};
+ghost use Rattle.reached_instances.specs.UsesView.{AsksFor, argument_or_none, is_same_parameter, misfit_at};
+ghost use Rattle.reached_instances.specs.UsesView.{type_or_int};
 
 use crate::closed::{Head, Passing, Shared};
 use crate::source::{Here, Source};

@@ -1,5 +1,5 @@
 -- Whether kinds fit a label map: register by register, and by those that have changed.
-use Rattle.std.proofs.Common.{◌≡◌, ℕ, zero, suc, ◌+◌, ◌<◌, ◌⊎◌, inl, inr, List, [], ◌∷◌, length, map, get_or, refl, sym, ap, ◌∙◌, subst, arith}
+use Rattle.std.proofs.Common.{◌≡◌, ℕ, zero, suc, ◌+◌, ◌<◌, ◌⊎◌, inl, inr, List, [], ◌∷◌, length, map, drop, get_or, refl, sym, ap, ◌∙◌, subst, arith}
 use Rattle.std.specs.Prelude.{Bool, true, false, ◌&&◌, ◌==◌, if◌then◌else◌, Option, Some, None, slice_get}
 use Rattle.std.proofs.lemmas.Bool.Decides.{eqb_tells}
 use Rattle.cell_code.specs.declared.kind.Kind.{Kind}
@@ -16,9 +16,6 @@ use Rattle.register_kinds.specs.Kept.{Lents, Links, IsKept, KindsRise}
 use Rattle.register_kinds.specs.LabelSets.{LabelSets}
 use Rattle.register_kinds.specs.declared.asked.Asked.{Asked}
 use Rattle.register_kinds.specs.Rising.{Rise}
-use Rattle.register_kinds.specs.declared.known.Known.{Known}
-use Rattle.register_kinds.specs.Views.{kind_of, kinds_of}
-use Rattle.register_kinds.proofs.Places.{kinds_get}
 use Rattle.register_kinds.proofs.Changed.{is_become, not_true}
 use Rattle.register_kinds.proofs.Less.{free}
 
@@ -189,19 +186,22 @@ with_yes false = refl
 
 -- a label map that was seen to fit
 
-pub keeps_seen : (ks : List Kind) (maps : List LabelMap) (lents : Lents) (links : Links)
-    (since after : List (Option (List ℕ))) (busy : ℕ) (asked : List Asked) (sets : LabelSets) (label : ℕ) →
-    IsKept ks maps lents links since busy asked sets →
+pub keeps_seen : (ks : List Kind) (maps : List LabelMap) (lents : Lents) (below trees loose : Links)
+    (held : Bool) (since after : List (Option (List ℕ))) (busy : ℕ) (asked : List Asked) (sets : LabelSets) (label : ℕ) →
+    IsKept ks maps lents below trees loose held since busy asked sets →
     ((m : LabelMap) → slice_get maps label ≡ Some m → fit_all m.kinds ks ≡ true) →
     ((l : ℕ) (xs : List ℕ) → slice_get after l ≡ Some (Some xs) → (label ≡ l → ⊥) →
     slice_get since l ≡ Some (Some xs)) →
-    IsKept ks maps lents links after busy asked sets
-keeps_seen ks maps lents links since after busy asked sets label h fit other = record {
+    IsKept ks maps lents below trees loose held after busy asked sets
+keeps_seen ks maps lents below trees loose held since after busy asked sets label h fit other = record {
   rise = h.rise;
   are_maps = h.are_maps;
   few = h.few;
   room = h.room;
-  linked = h.linked;
+  sources = h.sources;
+  lends = h.lends;
+  loosened = h.loosened;
+  holds = h.holds;
   counted = h.counted;
   asks = h.asks;
   set_maps = h.set_maps;
@@ -212,18 +212,21 @@ keeps_seen ks maps lents links since after busy asked sets label h fit other = r
   ];
 }
 
-pub keeps_seen_but : (ks : List Kind) (maps : List LabelMap) (lents : Lents) (links : Links)
-    (since after : List (Option (List ℕ))) (busy : ℕ) (asked : List Asked) (sets : LabelSets) (label : ℕ) (x : Tested) →
-    IsKept ks maps lents links since busy asked sets →
+pub keeps_seen_but : (ks : List Kind) (maps : List LabelMap) (lents : Lents) (below trees loose : Links)
+    (held : Bool) (since after : List (Option (List ℕ))) (busy : ℕ) (asked : List Asked) (sets : LabelSets) (label : ℕ) (x : Tested) →
+    IsKept ks maps lents below trees loose held since busy asked sets →
     ((m : LabelMap) → slice_get maps label ≡ Some m → fit_all m.kinds (arrive (Some x) 0 ks) ≡ true) →
     ((l : ℕ) (xs : List ℕ) → slice_get after l ≡ Some (Some xs) → HasBut since label x.register l xs) →
-    IsKept ks maps lents links after busy asked sets
-keeps_seen_but ks maps lents links since after busy asked sets label x h fit other = record {
+    IsKept ks maps lents below trees loose held after busy asked sets
+keeps_seen_but ks maps lents below trees loose held since after busy asked sets label x h fit other = record {
   rise = h.rise;
   are_maps = h.are_maps;
   few = h.few;
   room = h.room;
-  linked = h.linked;
+  sources = h.sources;
+  lends = h.lends;
+  loosened = h.loosened;
+  holds = h.holds;
   counted = h.counted;
   asks = h.asks;
   set_maps = h.set_maps;
@@ -240,10 +243,15 @@ keeps_seen_but ks maps lents links since after busy asked sets label x h fit oth
 
 -- sets of what stands in a list
 
-pub rise_known : (ks : List Known) (i : ℕ) (k d : Known) → KindsRise (kinds_of ks) → i < length ks →
-    k ≡ get_or ks i d → Rise (set_of (kind_of k))
-rise_known ks i k d r h e =
-    subst (λ z. Rise (set_of z)) (kinds_get ks i d h ∙ ap kind_of (sym e)) (r i)
+first_is : (x k : Kind) (xs ks : List Kind) → x ∷ xs ≡ k ∷ ks → x ≡ k
+first_is x k xs ks e = cc
+
+pub rise_drop : (ks : List Kind) (i : ℕ) (k : Kind) (rest : List Kind) → KindsRise ks → drop i ks ≡ k ∷ rest →
+    Rise (set_of k)
+rise_drop [] zero k rest r e = absurd (cc)
+rise_drop [] (suc i) k rest r e = absurd (cc)
+rise_drop (x ∷ ks) zero k rest r e = subst (λ z. Rise (set_of z)) (first_is x k ks rest e) (r 0)
+rise_drop (x ∷ ks) (suc i) k rest r e = rise_drop ks i k rest (λ q. r (suc q)) e
 
 pub at_get : (ms : List Kind) (i : ℕ) (d : Kind) → i < length ms → at ms i ≡ get_or ms i d
 at_get [] i d h = absurd (omega arith)

@@ -24,6 +24,9 @@ use Rattle.register_kinds.specs.State.{of_types}
 use Rattle.register_kinds.specs.declared.known.Known.{Known}
 use Rattle.register_kinds.specs.declared.known.Known.TheVariants as N
 use Rattle.register_kinds.specs.Views.{kind_of, kinds_of}
+use Rattle.register_kinds.specs.Climbs.{Climb, IsHeld, is_lent_in}
+use Rattle.register_kinds.proofs.Climbing.{lent_in}
+use Rattle.register_kinds.proofs.Keeps.{unled}
 use Rattle.register_kinds.proofs.Subsets.{numbers_rise}
 
 -- lists that grow or are replaced
@@ -237,14 +240,24 @@ entry_fresh w f ks h q =
 fresh_leads : (r : ℕ) (k : Kind) → IsFresh k → leads r k ≡ false
 fresh_leads r k h = ap (λ o. names r o || is_lent_of r k) h.from ∙ h.root r
 
-pub entered : (w : Table) (f : PlainFunction) (ks : List Kind) (lents : Lents) (links : Links)
-    (since : List (Option (List ℕ))) (busy : ℕ) (asked : List Asked) (sets : LabelSets) →
+-- as many kinds as registers
+pub entered_long : (w : Table) (f : PlainFunction) (ks : List Kind) → is_formed (of_types w) f ≡ true →
+    ks ≡ entry (of_types w) f → length ks ≡ f.registers
+entered_long w f ks e i = entry_long w f ks e (i ∙ entry_is w f)
+
+-- What is fresh has neither root nor from.
+held_fresh : (ks : List Kind) (o : Option ℕ) (k : Kind) → IsFresh k → is_lent_in o k ≡ true → IsHeld ks o (from_of k)
+held_fresh ks None k h l = record { owner = tt; steps = 0; climb = subst (Climb ks None 0) (sym h.from) tt }
+held_fresh ks (Some r) k h l = absurd (let y = h.root r in let z = lent_in r k in cc)
+
+pub entered : (w : Table) (f : PlainFunction) (ks : List Kind) (lents : Lents) (below trees loose : Links)
+    (held : Bool) (since : List (Option (List ℕ))) (busy : ℕ) (asked : List Asked) (sets : LabelSets) →
     is_formed (of_types w) f ≡ true →
     ks ≡ entry (of_types w) f → f.registers < 65536 → lents.room ≡ f.registers →
     ((l : ℕ) (xs : List ℕ) → slice_get since l ≡ Some (Some xs) → ⊥) → busy ≡ busy_in ks → AreAsked f.labels asked →
     sets.maps ≡ f.labels → ((q : ℕ) (o : Origin) → origin_at sets.origins q ≡ Some o → ⊥) →
-    IsKept ks f.labels lents links since busy asked sets
-entered w f ks lents links since busy asked sets e i small room none count asks maps unknown =
+    IsKept ks f.labels lents below trees loose held since busy asked sets
+entered w f ks lents below trees loose held since busy asked sets e i small room none count asks maps unknown =
     let h = i ∙ entry_is w f in
     let long = entry_long w f ks e h in
     let fresh = entry_fresh w f ks h in
@@ -257,7 +270,10 @@ entered w f ks lents links since busy asked sets e i small room none count asks 
       };
       few = (omega arith);
       room = room ∙ sym long;
-      linked = λ r q g. absurd (let y = fresh_leads r (at ks q) (fresh q) in cc);
+      sources = λ r q g. absurd (let y = (unled r (at ks q) (fresh_leads r (at ks q) (fresh q))).0 in cc);
+      lends = λ r q g. absurd (let y = (fresh q).root r in cc);
+      loosened = λ r q g i. absurd (let y = (fresh q).root r in cc);
+      holds = λ g o q i. held_fresh ks o (at ks q) (fresh q) i;
       sees = λ l m xs a b. absurd (none l xs b);
       counted = count;
       asks = asks;

@@ -117,6 +117,25 @@ listed_then : (xs : List ℕ) (listed : List Bool) (d q : ℕ) → (slice_get li
 listed_then xs listed d q h (inl e) = ap (λ x. has (xs ++ d ∷ []) x) (sym e) ∙ has_new xs d
 listed_then xs listed d q h (inr e) = has_more xs d q (h e)
 
+bool_kept : (bs : List Bool) (d q : ℕ) → slice_get bs q ≡ Some true → slice_get (set bs d true) q ≡ Some true
+bool_kept [] d q e = e
+bool_kept (b ∷ bs) zero zero e = refl
+bool_kept (b ∷ bs) zero (suc q) e = e
+bool_kept (b ∷ bs) (suc d) zero e = e
+bool_kept (b ∷ bs) (suc d) (suc q) e = bool_kept bs d q e
+
+bool_new : (bs : List Bool) (d : ℕ) (b : Bool) → slice_get bs d ≡ Some b → slice_get (set bs d true) d ≡ Some true
+bool_new [] d b e = absurd (cc)
+bool_new (x ∷ bs) zero b e = refl
+bool_new (x ∷ bs) (suc d) b e = bool_new bs d b e
+
+one_number : (d q : ℕ) → has (d ∷ []) q ≡ true → d ≡ q
+one_number d q e =
+    elim (or_cases (d == q) false e) [
+      | inl h ↦ elim (eqb_tells d q) [ inl i ↦ i.1 | inr i ↦ absurd (let z = i.0 in cc) ]
+      | inr h ↦ absurd (cc)
+    ]
+
 plus_one : (n : ℕ) → n + 1 ≡ suc n
 plus_one n = omega arith
 
@@ -133,6 +152,15 @@ lents_next items top listed os d h e = record {
       let many = h.many in
       ap (λ xs. has xs q) (take_set items top d (omega arith)) ∙ listed_then (take top items) listed d q
       (λ i. h.lists q i) (bool_set listed d q g);
+  marks = λ q g.
+      let few = trues_less listed d e in
+      let long = h.long in
+      let many = h.many in
+      elim (has_either (take top items) (d ∷ []) q
+      (ap (λ xs. has xs q) (sym (take_set items top d (omega arith))) ∙ g)) [
+        | inl i ↦ bool_kept listed d q (h.marks q i)
+        | inr i ↦ subst (λ z. slice_get (set listed d true) z ≡ Some true) (one_number d q i) (bool_new listed d false e)
+      ];
   only = λ q x g.
       let few = trues_less listed d e in
       let long = h.long in
@@ -158,6 +186,15 @@ pub held_more : (items : List ℕ) (top d : ℕ) → top < length items → (q :
 held_more items top d h q e =
     ap (λ n. has (take n (set items top d)) q) (plus_one top) ∙ ap (λ xs. has xs q) (take_set items top d h)
     ∙ has_more (take top items) d q e
+
+pub held_only : (items : List ℕ) (top d : ℕ) → top < length items → (q : ℕ) →
+    has (take (top + 1) (set items top d)) q ≡ true → (has (take top items) q ≡ true) ⊎ (d ≡ q)
+held_only items top d h q e =
+    elim (has_either (take top items) (d ∷ []) q
+    (sym (ap (λ n. has (take n (set items top d)) q) (plus_one top) ∙ ap (λ xs. has xs q) (take_set items top d h)) ∙ e)) [
+      | inl i ↦ inl i
+      | inr i ↦ inr (one_number d q i)
+    ]
 
 -- lists that grow
 
@@ -194,7 +231,7 @@ below_next q n h = grind arith
 
 -- what leads to listed registers
 
-drop_append : (xs ys : List ℕ) (n : ℕ) → n ≤ length xs → drop n (xs ++ ys) ≡ drop n xs ++ ys
+pub drop_append : (xs ys : List ℕ) (n : ℕ) → n ≤ length xs → drop n (xs ++ ys) ≡ drop n xs ++ ys
 drop_append xs ys zero h = refl
 drop_append [] ys (suc n) h = absurd (omega arith)
 drop_append (x ∷ xs) ys (suc n) h = drop_append xs ys n (omega arith)
@@ -226,7 +263,7 @@ closed_step ks xs ys n x h e c f g =
     subst (λ l. ClosedBelow ks l (n + 1)) (sym g.1)
     (closed_next ks xs g.0 n x h e c (λ q i. ap (λ l. has l q) (sym g.1) ∙ f q i))
 
-past_end : (xs : List ℕ) (i : ℕ) → length xs ≤ i → drop i xs ≡ []
+pub past_end : (xs : List ℕ) (i : ℕ) → length xs ≤ i → drop i xs ≡ []
 past_end [] zero h = refl
 past_end [] (suc i) h = refl
 past_end (x ∷ xs) zero h = absurd (omega arith)
@@ -313,5 +350,16 @@ lents_cleared items top listed listed2 os os2 h marks unmarked heirs unreached l
       long = long ∙ h.long;
       many = sym (none_true listed2 none);
       lists = λ q e. absurd (none q e);
+      marks = λ q e. absurd (cc);
       only = λ q d e. absurd (unreached q d e (h.only q d (heirs q d e)));
     }
+
+unheld_by : (b : Bool) (listed : List Bool) (q : ℕ) → slice_get listed q ≡ Some false →
+    (b ≡ true → slice_get listed q ≡ Some true) → b ≡ false
+unheld_by true listed q e h = absurd (let z = h refl in cc)
+unheld_by false listed q e h = refl
+
+-- What isn't marked isn't listed.
+pub unmarked_unheld : (items : List ℕ) (top : ℕ) (listed : List Bool) (os : List (Option ℕ)) (q : ℕ) →
+    AreLents items top listed os → slice_get listed q ≡ Some false → has (take top items) q ≡ false
+unmarked_unheld items top listed os q h e = unheld_by (has (take top items) q) listed q e (h.marks q)

@@ -1,6 +1,7 @@
 pub mod Sets
 pub mod Types
 pub mod Places
+pub mod Naming
 pub mod Changed
 pub mod Keeps
 pub mod Gathered
@@ -17,4 +18,7 @@ pub mod AskedMaps
 pub mod Entered
 pub mod Reaching
 pub mod TakenKinds
+pub mod Climbing
+pub mod Sorted
+pub mod Passed
 pub mod Less

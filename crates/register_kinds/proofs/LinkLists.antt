@@ -1,5 +1,5 @@
 -- The lists of registers that may lead to others, by place.
-use Rattle.std.proofs.Common.{◌≡◌, ℕ, zero, suc, ◌<◌, ◌≤◌, inl, inr, List, [], ◌∷◌, ◌++◌, length, map, set, get_or, refl, sym, ap, ◌∙◌, subst, arith}
+use Rattle.std.proofs.Common.{◌≡◌, ℕ, zero, suc, ◌<◌, ◌≤◌, ◌⊎◌, inl, inr, List, [], ◌∷◌, ◌++◌, length, map, set, get_or, refl, sym, ap, ◌∙◌, subst, arith}
 use Rattle.std.specs.Prelude.{Bool, true, false}
 use Rattle.std.proofs.lemmas.Bool.Decides.{eqb_tells}
 use Rattle.std.specs.declared.vec.Vec.{Vec}
@@ -8,7 +8,10 @@ use Rattle.cell_code.specs.declared.kind.Kind.{Kind}
 use Rattle.sound_code.specs.Kinds.{at, has}
 use Rattle.register_kinds.specs.Kept.{leads, list_at}
 use Rattle.register_kinds.specs.Views.{row_of}
+use Rattle.std.specs.List.{SwappedAt}
+use Rattle.register_kinds.specs.Owners.{swapped}
 use Rattle.register_kinds.proofs.LentLists.{has_more, has_new}
+use Rattle.register_kinds.proofs.Naming.{swapped_first, swapped_none, swapped_second}
 
 pub list_past : (vs : List (Vec ℕ Global)) (r : ℕ) → length vs ≤ r → list_at (map row_of vs) r ≡ []
 list_past [] r h = refl
@@ -67,3 +70,33 @@ alone_if false h = refl
 pub alone_by : (r : ℕ) (ks : List Kind) (xs : List ℕ) → ((q : ℕ) → leads r (at ks q) ≡ true → has xs q ≡ true) →
     ((q : ℕ) → has xs q ≡ true → leads r (at ks q) ≡ false) → (q : ℕ) → leads r (at ks q) ≡ false
 alone_by r ks xs h f q = alone_if (leads r (at ks q)) (λ e. f q (h q e))
+
+-- two lists change places
+
+below_or : (m n : ℕ) → (m < n) ⊎ (n ≤ m)
+below_or m n = grind arith
+
+swapped_at : (xs ys : List (Vec ℕ Global)) (d : Vec ℕ Global) (a b r : ℕ) → a < length xs → b < length xs →
+    length ys ≡ length xs → SwappedAt xs ys a b →
+    list_at (map row_of ys) r ≡ list_at (map row_of xs) (swapped a b r)
+swapped_at xs ys d a b r la lb l s =
+    elim (eqb_tells r a) [
+      | inl x ↦ ap (list_at (map row_of ys)) x.1 ∙ list_get ys a d (omega arith) ∙ ap row_of (s.0 d)
+          ∙ sym (list_get xs b d lb) ∙ ap (list_at (map row_of xs)) (sym (swapped_first a b) ∙ ap (swapped a b) (sym x.1))
+      | inr x ↦ elim (eqb_tells r b) [
+        | inl y ↦ ap (list_at (map row_of ys)) y.1 ∙ list_get ys b d (omega arith) ∙ ap row_of (s.1 d)
+            ∙ sym (list_get xs a d la) ∙ ap (list_at (map row_of xs)) (sym (swapped_second a b) ∙ ap (swapped a b) (sym y.1))
+        | inr y ↦ elim (below_or r (length xs)) [
+          | inl z ↦ list_get ys r d (omega arith) ∙ ap row_of (s.2 r d x.1 y.1) ∙ sym (list_get xs r d z)
+              ∙ ap (list_at (map row_of xs)) (sym (swapped_none a b r x.1 y.1))
+          | inr z ↦ list_past ys r (omega arith) ∙ sym (list_past xs r z)
+              ∙ ap (list_at (map row_of xs)) (sym (swapped_none a b r x.1 y.1))
+        ]
+      ]
+    ]
+
+pub list_swapped : (xs ys : List (Vec ℕ Global)) (a b r : ℕ) → a < length xs → b < length xs →
+    length ys ≡ length xs → SwappedAt xs ys a b →
+    list_at (map row_of ys) r ≡ list_at (map row_of xs) (swapped a b r)
+list_swapped [] ys a b r la lb l s = absurd (omega arith)
+list_swapped (x ∷ xs) ys a b r la lb l s = swapped_at (x ∷ xs) ys x a b r la lb l s

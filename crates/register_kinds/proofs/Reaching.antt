@@ -25,12 +25,17 @@ kept_past [] q h = refl
 kept_past (o ∷ os) zero h = absurd (omega arith)
 kept_past (o ∷ os) (suc q) h = kept_past os q (omega arith)
 
-kept_other : (os : List (Option ℕ)) (x q : ℕ) (o : Option ℕ) → (x ≡ q → ⊥) → kept_at (set os x o) q ≡ kept_at os q
+pub kept_other : (os : List (Option ℕ)) (x q : ℕ) (o : Option ℕ) → (x ≡ q → ⊥) → kept_at (set os x o) q ≡ kept_at os q
 kept_other [] x q o h = refl
 kept_other (y ∷ os) zero zero o h = absurd (h refl)
 kept_other (y ∷ os) zero (suc q) o h = refl
 kept_other (y ∷ os) (suc x) zero o h = refl
 kept_other (y ∷ os) (suc x) (suc q) o h = kept_other os x q o (λ e. h (ap suc e))
+
+pub kept_here : (os : List (Option ℕ)) (x : ℕ) (o : Option ℕ) → x < length os → kept_at (set os x o) x ≡ o
+kept_here [] x o h = absurd (omega arith)
+kept_here (y ∷ os) zero o h = refl
+kept_here (y ∷ os) (suc x) o h = kept_here os x o (omega arith)
 
 kept_own : (os : List (Option ℕ)) (x : ℕ) (o : Option ℕ) →
     (kept_at (set os x o) x ≡ o) ⊎ (kept_at (set os x o) x ≡ kept_at os x)
@@ -51,6 +56,7 @@ lents_reach items top listed os r o h e = record {
   long = h.long;
   many = h.many;
   lists = h.lists;
+  marks = h.marks;
   only = λ q d g. elim (eqb_tells r q) [
     | inl i ↦ ap (has (take top items)) (sym i.1) ∙ e
     | inr i ↦ h.only q d (sym (kept_other os r q o i.1) ∙ g)

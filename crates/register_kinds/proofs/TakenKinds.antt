@@ -1,5 +1,5 @@
 -- What taking a cell apart makes of all kinds, as registers are looked at in turn.
-use Rattle.std.proofs.Common.{◌≡◌, ℕ, zero, suc, ◌+◌, ◌<◌, ◌≤◌, ◌⊎◌, inl, inr, List, [], ◌∷◌, length, drop, set, get_or, refl, sym, ap, ◌∙◌, subst, arith}
+use Rattle.std.proofs.Common.{◌≡◌, ℕ, zero, suc, ◌+◌, ◌<◌, ◌≤◌, ◌⊎◌, inl, inr, List, [], ◌∷◌, length, drop, map, set, get_or, refl, sym, ap, ◌∙◌, subst, arith}
 use Rattle.std.specs.Prelude.{Bool, true, false, ◌||◌, ◌&&◌, not, is_some, ◌==◌, if◌then◌else◌, Option, Some, None}
 use Rattle.std.proofs.lemmas.Bool.{lt-ltb, le-ltb, eq-eqb, ne_eqb}
 use Rattle.std.proofs.lemmas.Bool.Decides.{eqb_tells}
@@ -8,14 +8,16 @@ use Rattle.cell_code.specs.declared.kind.From.{From}
 use Rattle.cell_code.specs.declared.kind.Kind.{Kind}
 use Rattle.cell_code.specs.declared.kind.Kind.TheVariants.{Gone, Scalar, Owned, Lent, Credit}
 use Rattle.sound_code.specs.Kinds.{at, has, from_of, is_lent_of}
-use Rattle.sound_code.specs.Types.{is_scalar_type}
+use Rattle.sound_code.specs.Types.{field_kind, is_scalar_type}
 use Rattle.sound_code.specs.Changes.{forget}
 use Rattle.sound_code.specs.Taking.{Part, part, part_from, is_heir, is_heir_by, fate, with_root, ends, part_kind, part_or, credit}
-use Rattle.sound_code.specs.Taking.{Reaches, IsReached, IsTaken, is_field}
+use Rattle.sound_code.specs.Taking.{Reaches, IsReached, IsTaken, inherited, is_field}
 use Rattle.register_kinds.specs.Kept.{Gathers, is_lent, kept_at, names}
 use Rattle.register_kinds.specs.Takes.{seen_by, seen_at, is_used, forgotten, fated, filled_by, filled_at, emptied, in_turn, Alike}
-use Rattle.register_kinds.specs.Takes.{IsPassed}
-use Rattle.register_kinds.proofs.Places.{at_set_same, at_set_other, set_long, set_same}
+use Rattle.register_kinds.specs.Takes.{IsPassed, stands_for}
+use Rattle.register_kinds.specs.Owners.{root_by, rooted}
+use Rattle.register_kinds.proofs.Naming.{rooted_apart, rooted_from, rooted_none, swapped_twice}
+use Rattle.register_kinds.proofs.Places.{at_map, at_set_same, at_set_other, map_long, set_long, set_same}
 use Rattle.register_kinds.proofs.Changed.{is_become, forget_by, forget_twice, forget_same, lent_forget}
 use Rattle.register_kinds.proofs.Keeps.{either, unlisted_from, unlisted_lent}
 use Rattle.register_kinds.proofs.LentLists.{none_kept}
@@ -23,7 +25,7 @@ use Rattle.register_kinds.proofs.Reaching.{reaches_listed}
 
 -- registers in turn
 
-in_turn_long : (g : ℕ → Kind → Kind) (ks : List Kind) (qs : List ℕ) → length (in_turn g ks qs) ≡ length ks
+pub in_turn_long : (g : ℕ → Kind → Kind) (ks : List Kind) (qs : List ℕ) → length (in_turn g ks qs) ≡ length ks
 in_turn_long g ks [] = refl
 in_turn_long g ks (q ∷ qs) = in_turn_long g (set ks q (g q (at ks q))) qs ∙ set_long ks q (g q (at ks q))
 
@@ -169,24 +171,26 @@ lost : (r : ℕ) (k : Kind) (b : Bool) → is_lent_of r k ≡ b →
 lost r k true e = refl
 lost r k false e = rw e refl
 
-seen_gone : (os : List (Option ℕ)) (q r : ℕ) (k : Kind) (b : Bool) → is_lent_of r k ≡ b → seen_by os q k ≡ None →
-    fate (seen_by os q (if b then Gone else k)) r (if b then Gone else k) ≡ (if b then Gone else k)
-seen_gone os q r k true e h = refl
-seen_gone os q r k false e h = ap (λ o. fate o r k) h ∙ lost r k false e
+seen_gone : (f : ℕ → ℕ) (os : List (Option ℕ)) (q r : ℕ) (k : Kind) (b : Bool) → is_lent_of r k ≡ b →
+    seen_by os q k ≡ None →
+    fate (root_by f (seen_by os q (if b then Gone else k))) r (if b then Gone else k) ≡ (if b then Gone else k)
+seen_gone f os q r k true e h = refl
+seen_gone f os q r k false e h = ap (λ o. fate (root_by f o) r k) h ∙ lost r k false e
 
-fate_by : (os : List (Option ℕ)) (q r : ℕ) (k : Kind) (o : Option ℕ) → seen_by os q k ≡ o →
-    fate (seen_by os q (fate o r k)) r (fate o r k) ≡ fate o r k
-fate_by os q r k None e = seen_gone os q r k (is_lent_of r k) refl e
-fate_by os q r Gone (Some d) e = refl
-fate_by os q r (Scalar t) (Some d) e = refl
-fate_by os q r (Owned t s) (Some d) e = refl
-fate_by os q r (Lent t s root from) (Some d) e = ap (λ o. fate o r (Lent t s (Some d) from)) e
-fate_by os q r (Credit n) (Some d) e = refl
+fate_by : (f : ℕ → ℕ) (os : List (Option ℕ)) (q r : ℕ) (k : Kind) (o : Option ℕ) → seen_by os q k ≡ o →
+    fate (root_by f (seen_by os q (fate (root_by f o) r k))) r (fate (root_by f o) r k) ≡ fate (root_by f o) r k
+fate_by f os q r k None e = seen_gone f os q r k (is_lent_of r k) refl e
+fate_by f os q r Gone (Some d) e = refl
+fate_by f os q r (Scalar t) (Some d) e = refl
+fate_by f os q r (Owned t s) (Some d) e = refl
+fate_by f os q r (Lent t s root from) (Some d) e = ap (λ o. fate (root_by f o) r (Lent t s (Some (f d)) from)) e
+fate_by f os q r (Credit n) (Some d) e = refl
 
-pub fated_twice : (r : ℕ) (parts : ℕ → Option Part) (os : List (Option ℕ)) (q : ℕ) (k : Kind) →
-    fated r parts os q (fated r parts os q k) ≡ fated r parts os q k
-fated_twice r parts os q k =
-    if_twice (is_used r parts q) (λ x. fate (seen_by os q x) r x) k (fate_by os q r k (seen_by os q k) refl)
+pub fated_twice : (f : ℕ → ℕ) (r : ℕ) (parts : ℕ → Option Part) (os : List (Option ℕ)) (q : ℕ) (k : Kind) →
+    fated f r parts os q (fated f r parts os q k) ≡ fated f r parts os q k
+fated_twice f r parts os q k =
+    if_twice (is_used r parts q) (λ x. fate (root_by f (seen_by os q x)) r x) k
+    (fate_by f os q r k (seen_by os q k) refl)
 
 -- forgetting and fate don't meet
 
@@ -211,9 +215,11 @@ fate_forget (Some d) r p k = with_forget d p k
 seen_forget : (os : List (Option ℕ)) (q : ℕ) (p : ℕ → Bool) (k : Kind) → seen_by os q (forget p k) ≡ seen_by os q k
 seen_forget os q p k = ap (λ b. if b then kept_at os q else None) (lent_forgets p k)
 
-pub both : (os : List (Option ℕ)) (q r : ℕ) (p : ℕ → Bool) (k : Kind) →
-    fate (seen_by os q (forget p k)) r (forget p k) ≡ forget p (fate (seen_by os q k) r k)
-both os q r p k = ap (λ o. fate o r (forget p k)) (seen_forget os q p k) ∙ fate_forget (seen_by os q k) r p k
+pub both : (f : ℕ → ℕ) (os : List (Option ℕ)) (q r : ℕ) (p : ℕ → Bool) (k : Kind) →
+    fate (root_by f (seen_by os q (forget p k))) r (forget p k) ≡ forget p (fate (root_by f (seen_by os q k)) r k)
+both f os q r p k =
+    ap (λ o. fate (root_by f o) r (forget p k)) (seen_forget os q p k)
+    ∙ fate_forget (root_by f (seen_by os q k)) r p k
 
 -- while registers forget
 
@@ -239,7 +245,7 @@ used_by : (a b : Bool) → a ≡ true → (a || b) ≡ true
 used_by true b e = refl
 used_by false b e = absurd (cc)
 
-used_some : (r : ℕ) (parts : ℕ → Option Part) (q : ℕ) (p : Part) → parts q ≡ Some p → is_used r parts q ≡ true
+pub used_some : (r : ℕ) (parts : ℕ → Option Part) (q : ℕ) (p : Part) → parts q ≡ Some p → is_used r parts q ≡ true
 used_some r parts q p e = used_by (is_some (parts q)) (q == r) (ap is_some e)
 
 heir_alike : (w : Table) (r : ℕ) (parts : ℕ → Option Part) (ks start : List Kind) (q : ℕ) (o : Option Part) →
@@ -314,9 +320,9 @@ kept_fated : (b : Bool) (k l : Kind) → b ≡ true → (if b then k else l) ≡
 kept_fated true k l e = refl
 kept_fated false k l e = absurd (cc)
 
-pub used_fated : (r : ℕ) (parts : ℕ → Option Part) (os : List (Option ℕ)) (q : ℕ) (k : Kind) →
-    is_used r parts q ≡ true → fated r parts os q k ≡ k
-used_fated r parts os q k e = kept_fated (is_used r parts q) k (fate (seen_by os q k) r k) e
+pub used_fated : (f : ℕ → ℕ) (r : ℕ) (parts : ℕ → Option Part) (os : List (Option ℕ)) (q : ℕ) (k : Kind) →
+    is_used r parts q ≡ true → fated f r parts os q k ≡ k
+used_fated f r parts os q k e = kept_fated (is_used r parts q) k (fate (root_by f (seen_by os q k)) r k) e
 
 -- the fates of registers that aren't used
 
@@ -324,10 +330,10 @@ if_not : (b : Bool) (k l : Kind) → b ≡ false → l ≡ (if b then k else l)
 if_not true k l e = absurd (cc)
 if_not false k l e = refl
 
-pub fated_some : (r : ℕ) (parts : ℕ → Option Part) (os : List (Option ℕ)) (q d : ℕ) (k : Kind) →
-    is_used r parts q ≡ false → seen_by os q k ≡ Some d → with_root d k ≡ fated r parts os q k
-fated_some r parts os q d k u e =
-    ap (λ o. fate o r k) (sym e) ∙ if_not (is_used r parts q) k (fate (seen_by os q k) r k) u
+pub fated_some : (f : ℕ → ℕ) (r : ℕ) (parts : ℕ → Option Part) (os : List (Option ℕ)) (q d : ℕ) (k : Kind) →
+    is_used r parts q ≡ false → seen_by os q k ≡ Some d → with_root (f d) k ≡ fated f r parts os q k
+fated_some f r parts os q d k u e =
+    ap (λ o. fate (root_by f o) r k) (sym e) ∙ if_not (is_used r parts q) k (fate (root_by f (seen_by os q k)) r k) u
 
 lost_gone : (r : ℕ) (k : Kind) (b : Bool) → is_lent_of r k ≡ b → b ≡ true → Gone ≡ (if b then Gone else k)
 lost_gone r k true e h = refl
@@ -337,17 +343,17 @@ lost_kept : (r : ℕ) (k : Kind) (b : Bool) → b ≡ false → (if b then Gone 
 lost_kept r k true e = absurd (cc)
 lost_kept r k false e = refl
 
-pub fated_gone : (r : ℕ) (parts : ℕ → Option Part) (os : List (Option ℕ)) (q : ℕ) (k : Kind) →
-    is_used r parts q ≡ false → seen_by os q k ≡ None → is_lent_of r k ≡ true → Gone ≡ fated r parts os q k
-fated_gone r parts os q k u e h =
-    lost_gone r k (is_lent_of r k) refl h ∙ ap (λ o. fate o r k) (sym e)
-    ∙ if_not (is_used r parts q) k (fate (seen_by os q k) r k) u
+pub fated_gone : (f : ℕ → ℕ) (r : ℕ) (parts : ℕ → Option Part) (os : List (Option ℕ)) (q : ℕ) (k : Kind) →
+    is_used r parts q ≡ false → seen_by os q k ≡ None → is_lent_of r k ≡ true → Gone ≡ fated f r parts os q k
+fated_gone f r parts os q k u e h =
+    lost_gone r k (is_lent_of r k) refl h ∙ ap (λ o. fate (root_by f o) r k) (sym e)
+    ∙ if_not (is_used r parts q) k (fate (root_by f (seen_by os q k)) r k) u
 
-pub fated_kept : (r : ℕ) (parts : ℕ → Option Part) (os : List (Option ℕ)) (q : ℕ) (k : Kind) →
-    seen_by os q k ≡ None → is_lent_of r k ≡ false → fated r parts os q k ≡ k
-fated_kept r parts os q k e h =
-    if_same (is_used r parts q) k (fate (seen_by os q k) r k)
-    (ap (λ o. fate o r k) e ∙ lost_kept r k (is_lent_of r k) h)
+pub fated_kept : (f : ℕ → ℕ) (r : ℕ) (parts : ℕ → Option Part) (os : List (Option ℕ)) (q : ℕ) (k : Kind) →
+    seen_by os q k ≡ None → is_lent_of r k ≡ false → fated f r parts os q k ≡ k
+fated_kept f r parts os q k e h =
+    if_same (is_used r parts q) k (fate (root_by f (seen_by os q k)) r k)
+    (ap (λ o. fate (root_by f o) r k) e ∙ lost_kept r k (is_lent_of r k) h)
 
 -- filling
 
@@ -412,22 +418,75 @@ filled_next w r n k (Some p) =
 
 -- all together
 
-two_used : (r : ℕ) (parts : ℕ → Option Part) (os : List (Option ℕ)) (ended : ℕ → Bool) (q : ℕ) (k : Kind) →
-    is_used r parts q ≡ true → fated r parts os q (forgotten r parts ended q k) ≡ k
-two_used r parts os ended q k u =
-    used_fated r parts os q (forgotten r parts ended q k) u ∙ used_forgotten r parts ended q k u
+two_used : (f : ℕ → ℕ) (r : ℕ) (parts : ℕ → Option Part) (os : List (Option ℕ)) (ended : ℕ → Bool) (q : ℕ) (k : Kind) →
+    is_used r parts q ≡ true → fated f r parts os q (forgotten r parts ended q k) ≡ k
+two_used f r parts os ended q k u =
+    used_fated f r parts os q (forgotten r parts ended q k) u ∙ used_forgotten r parts ended q k u
 
-two_unused : (r : ℕ) (parts : ℕ → Option Part) (os : List (Option ℕ)) (ended : ℕ → Bool) (q : ℕ) (k : Kind) →
+two_unused : (f : ℕ → ℕ) (r : ℕ) (parts : ℕ → Option Part) (os : List (Option ℕ)) (ended : ℕ → Bool) (q : ℕ) (k : Kind) →
     is_used r parts q ≡ false →
-    fated r parts os q (forgotten r parts ended q k) ≡ forget ended (fate (seen_by os q k) r k)
-two_unused r parts os ended q k u =
-    ap (fated r parts os q) (sym (if_not (is_used r parts q) k (forget ended k) u))
-    ∙ sym (if_not (is_used r parts q) (forget ended k) (fate (seen_by os q (forget ended k)) r (forget ended k)) u)
-    ∙ both os q r ended k
+    fated f r parts os q (forgotten r parts ended q k) ≡ forget ended (fate (root_by f (seen_by os q k)) r k)
+two_unused f r parts os ended q k u =
+    ap (fated f r parts os q) (sym (if_not (is_used r parts q) k (forget ended k) u))
+    ∙ sym (if_not (is_used r parts q) (forget ended k)
+    (fate (root_by f (seen_by os q (forget ended k))) r (forget ended k)) u)
+    ∙ both f os q r ended k
 
-filled_full : (w : Table) (r size : ℕ) (k l : Kind) (p : Part) → p.field < size → l ≡ k →
-    filled_by w r size l (Some p) ≡ part_kind w r k p
-filled_full w r size k l p h e = rw (lt-ltb p.field size h) (ap (λ z. part_kind w r z p) e)
+rooted_forget : (f : ℕ → ℕ) (p : ℕ → Bool) (k : Kind) → rooted f (forget p k) ≡ forget p (rooted f k)
+rooted_forget f p Gone = refl
+rooted_forget f p (Scalar t) = refl
+rooted_forget f p (Owned t s) = refl
+rooted_forget f p (Lent t s root from) = refl
+rooted_forget f p (Credit n) = refl
+
+rooted_root : (f : ℕ → ℕ) (d : ℕ) (k : Kind) → f (f d) ≡ d → rooted f (with_root (f d) k) ≡ with_root d k
+rooted_root f d Gone e = refl
+rooted_root f d (Scalar t) e = refl
+rooted_root f d (Owned t s) e = refl
+rooted_root f d (Lent t s root from) e = ap (λ x. Lent t s (Some x) from) e
+rooted_root f d (Credit n) e = refl
+
+rooted_lost : (f : ℕ → ℕ) (k : Kind) (b : Bool) → (b ≡ false → rooted f k ≡ k) →
+    rooted f (if b then Gone else k) ≡ (if b then Gone else k)
+rooted_lost f k true h = refl
+rooted_lost f k false h = h refl
+
+rooted_fate : (f : ℕ → ℕ) (o : Option ℕ) (r : ℕ) (k : Kind) → ((d : ℕ) → f (f d) ≡ d) →
+    (is_lent_of r k ≡ false → rooted f k ≡ k) → rooted f (fate (root_by f o) r k) ≡ fate o r k
+rooted_fate f None r k t h = rooted_lost f k (is_lent_of r k) h
+rooted_fate f (Some d) r k t h = rooted_root f d k (t d)
+
+-- A register that is lent of another has it as root.
+pub root_kept : (d : ℕ) (k : Kind) → is_lent_of d k ≡ true → with_root d k ≡ k
+root_kept d Gone e = refl
+root_kept d (Scalar t) e = refl
+root_kept d (Owned t s) e = refl
+root_kept d (Lent t s None from) e = absurd (cc)
+root_kept d (Lent t s (Some r) from) e =
+    elim (eqb_tells r d) [
+      | inl g ↦ ap (λ x. Lent t s (Some x) from) (sym g.1)
+      | inr g ↦ absurd (let i = g.0 in cc)
+    ]
+root_kept d (Credit n) e = refl
+
+rooted_inherited : (f : ℕ → ℕ) (k : Kind) → inherited (rooted f k) ≡ inherited k
+rooted_inherited f Gone = refl
+rooted_inherited f (Scalar t) = refl
+rooted_inherited f (Owned t s) = refl
+rooted_inherited f (Lent t s root from) = refl
+rooted_inherited f (Credit n) = refl
+
+-- A part doesn't depend on the root that its register had.
+pub rooted_part : (f : ℕ → ℕ) (w : Table) (r : ℕ) (k : Kind) (p : Part) → part_kind w r (rooted f k) p ≡ part_kind w r k p
+rooted_part f w r k p =
+    ap (λ o. if is_scalar_type w p.ty then Scalar p.ty else
+    (if is_field r p.field o then inherited (rooted f k) else field_kind w p.ty)) (rooted_from f k)
+    ∙ ap (λ x. if is_scalar_type w p.ty then Scalar p.ty else
+    (if is_field r p.field (from_of k) then x else field_kind w p.ty)) (rooted_inherited f k)
+
+filled_full : (w : Table) (r size : ℕ) (k l : Kind) (p : Part) → p.field < size →
+    part_kind w r l p ≡ part_kind w r k p → filled_by w r size l (Some p) ≡ part_kind w r k p
+filled_full w r size k l p h e = rw (lt-ltb p.field size h) e
 
 used_or : (a b : Bool) → a ≡ false → b ≡ false → (a || b) ≡ false
 used_or true b e f = absurd (cc)
@@ -436,11 +495,11 @@ used_or false b e f = f
 -- a register that doesn't own the cell
 other_case : (w : Table) (r size : ℕ) (parts : ℕ → Option Part) (q : ℕ) (k l x : Kind) (o : Option Part) →
     parts q ≡ o → ((p : Part) → o ≡ Some p → p.field < size) → (q == r) ≡ false →
-    (is_used r parts q ≡ true → x ≡ k) → (is_used r parts q ≡ false → x ≡ l) →
+    ((p : Part) → o ≡ Some p → part_kind w r x p ≡ part_kind w r k p) → (is_used r parts q ≡ false → x ≡ l) →
     filled_by w r size x o ≡ part_or w r k o (if q == r then credit size else l)
 other_case w r size parts q k l x None e h g u n = n (used_or (is_some (parts q)) (q == r) (ap is_some e) g) ∙ rw g refl
 other_case w r size parts q k l x (Some p) e h g u n =
-    filled_full w r size k x p (h p refl) (u (used_some r parts q p e))
+    filled_full w r size k x p (h p refl) (u p refl)
 
 emptied_other : (ks : List Kind) (r size q : ℕ) (o : Option Part) → (q ≡ r → ⊥) → at (emptied ks r o size) q ≡ at ks q
 emptied_other ks r size q None h = at_set_other ks r q (credit size) (λ e. h (sym e))
@@ -448,24 +507,18 @@ emptied_other ks r size q (Some p) h = refl
 
 -- the register that owned the cell
 own_case : (w : Table) (r size : ℕ) (k x : Kind) (ks : List Kind) (o : Option Part) →
-    ((p : Part) → o ≡ Some p → p.field < size) → r < length ks → x ≡ k → at ks r ≡ filled_by w r size x o →
+    ((p : Part) → o ≡ Some p → p.field < size) → r < length ks →
+    ((p : Part) → o ≡ Some p → part_kind w r x p ≡ part_kind w r k p) → at ks r ≡ filled_by w r size x o →
     at (emptied ks r o size) r ≡ part_or w r k o (credit size)
 own_case w r size k x ks None h l e f = at_set_same ks r (credit size) l
-own_case w r size k x ks (Some p) h l e f = f ∙ filled_full w r size k x p (h p refl) e
+own_case w r size k x ks (Some p) h l e f = f ∙ filled_full w r size k x p (h p refl) (e p refl)
 
 emptied_long : (ks : List Kind) (r size : ℕ) (o : Option Part) → length (emptied ks r o size) ≡ length ks
 emptied_long ks r size None = set_long ks r (credit size)
 emptied_long ks r size (Some p) = refl
 
-used_second : (a b : Bool) → b ≡ true → (a || b) ≡ true
-used_second true b e = refl
-used_second false b e = e
-
-used_own : (r : ℕ) (parts : ℕ → Option Part) → is_used r parts r ≡ true
-used_own r parts = used_second (is_some (parts r)) (r == r) (eq-eqb r r refl)
-
 new_own : (w : Table) (r : ℕ) (ds ts : List ℕ) (ks second third : List Kind) (q : ℕ) → q < length third →
-    (is_used r (part ds ts) q ≡ true → at second q ≡ at ks q) →
+    ((p : Part) → part ds ts q ≡ Some p → part_kind w r (at second q) p ≡ part_kind w r (at ks q) p) →
     at third q ≡ filled_by w r (length ds) (at second q) (part ds ts q) → q ≡ r →
     at (emptied third r (part ds ts r) (length ds)) q ≡ part_or w r (at ks q) (part ds ts q) (credit (length ds))
 new_own w r ds ts ks second third q l u f e =
@@ -473,11 +526,11 @@ new_own w r ds ts ks second third q l u f e =
     ≡ part_or w r (at ks z) (part ds ts z) (credit (length ds))) (sym e)
     (own_case w r (length ds) (at ks r) (at second r) third (part ds ts r)
     (λ p i. part_within ds ts r p i) (subst (λ z. z < length third) e l)
-    (subst (λ z. is_used r (part ds ts) z ≡ true → at second z ≡ at ks z) e u (used_own r (part ds ts)))
+    (subst (λ z. (p : Part) → part ds ts z ≡ Some p → part_kind w r (at second z) p ≡ part_kind w r (at ks z) p) e u)
     (subst (λ z. at third z ≡ filled_by w r (length ds) (at second z) (part ds ts z)) e f))
 
 new_at : (w : Table) (r : ℕ) (ds ts : List ℕ) (ks second third : List Kind) (x : Kind) (q : ℕ) → q < length third →
-    (is_used r (part ds ts) q ≡ true → at second q ≡ at ks q) →
+    ((p : Part) → part ds ts q ≡ Some p → part_kind w r (at second q) p ≡ part_kind w r (at ks q) p) →
     (is_used r (part ds ts) q ≡ false → at second q ≡ x) →
     at third q ≡ filled_by w r (length ds) (at second q) (part ds ts q) →
     (((q == r) ≡ true) × (q ≡ r)) ⊎ (((q == r) ≡ false) × (q ≡ r → ⊥)) →
@@ -511,7 +564,7 @@ true_or_false : (b : Bool) → (b ≡ true) ⊎ (b ≡ false)
 true_or_false true = inl refl
 true_or_false false = inr refl
 
-part_has : (i : ℕ) (ds ts : List ℕ) (q : ℕ) (p : Part) → part_from i ds ts q ≡ Some p → has ds q ≡ true
+pub part_has : (i : ℕ) (ds ts : List ℕ) (q : ℕ) (p : Part) → part_from i ds ts q ≡ Some p → has ds q ≡ true
 part_has i [] ts q p e = absurd (cc)
 part_has i (d ∷ ds) [] q p e = absurd (cc)
 part_has i (d ∷ ds) (t ∷ ts) q p e =
@@ -555,23 +608,24 @@ unlisted_forgotten w ks r ds ts qs os q g e =
     (forget_by (ends w ks r (part ds ts) (length ds) (seen_at ks os)) (at ks q) (from_of (at ks q)) refl
     (λ f h. not_ended w ks r ds ts qs os q f g e h))
 
-unlisted_fated : (w : Table) (ks : List Kind) (r : ℕ) (ds ts qs : List ℕ) (os : List (Option ℕ)) (q : ℕ) →
+unlisted_fated : (f : ℕ → ℕ) (w : Table) (ks : List Kind) (r : ℕ) (ds ts qs : List ℕ) (os : List (Option ℕ)) (q : ℕ) →
     Gathers ks r ds qs → IsReached ks (is_heir w ks r (part ds ts)) q (seen_at ks os q) → has qs q ≡ false →
-    fated r (part ds ts) os q (at ks q) ≡ at ks q
-unlisted_fated w ks r ds ts qs os q g i e =
-    fated_kept r (part ds ts) os q (at ks q)
+    fated f r (part ds ts) os q (at ks q) ≡ at ks q
+unlisted_fated f w ks r ds ts qs os q g i e =
+    fated_kept f r (part ds ts) os q (at ks q)
     (none_kept (seen_at ks os q) (λ d h. let l = heirs_listed w ks r ds ts qs g q d
     (subst (IsReached ks (is_heir w ks r (part ds ts)) q) h i) in cc))
     (unlisted_lent ks r ds qs q g e)
 
 -- what all registers have, once they forgot and had their fates
-passed_at : (w : Table) (r : ℕ) (ds ts : List ℕ) (os : List (Option ℕ)) (ks first second : List Kind) (qs : List ℕ) →
+passed_at : (f : ℕ → ℕ) (w : Table) (r : ℕ) (ds ts : List ℕ) (os : List (Option ℕ)) (ks first second : List Kind)
+    (qs : List ℕ) →
     Gathers ks r ds qs → ((q : ℕ) → IsReached ks (is_heir w ks r (part ds ts)) q (seen_at ks os q)) →
     first ≡ in_turn (forgotten r (part ds ts) (ends w ks r (part ds ts) (length ds) (seen_at ks os))) ks qs →
-    second ≡ in_turn (fated r (part ds ts) os) first qs → (q : ℕ) → q < length ks →
-    at second q ≡ fated r (part ds ts) os q
+    second ≡ in_turn (fated f r (part ds ts) os) first qs → (q : ℕ) → q < length ks →
+    at second q ≡ fated f r (part ds ts) os q
     (forgotten r (part ds ts) (ends w ks r (part ds ts) (length ds) (seen_at ks os)) q (at ks q))
-passed_at w r ds ts os ks first second qs g i a b q l =
+passed_at f w r ds ts os ks first second qs g i a b q l =
     let one = ap length a
     ∙ in_turn_long (forgotten r (part ds ts) (ends w ks r (part ds ts) (length ds) (seen_at ks os))) ks qs in
     let here : at first q
@@ -583,28 +637,61 @@ passed_at w r ds ts os ks first second qs g i a b q l =
       | inl h ↦ inl h
       | inr h ↦ inr (unlisted_forgotten w ks r ds ts qs os q g h)
     ])) in
-    ap (λ z. at z q) b ∙ turned (fated r (part ds ts) os) (fated_twice r (part ds ts) os) qs first q (omega arith)
+    ap (λ z. at z q) b ∙ turned (fated f r (part ds ts) os) (fated_twice f r (part ds ts) os) qs first q (omega arith)
     (elim (true_or_false (has qs q)) [
       | inl h ↦ inl h
-      | inr h ↦ inr (subst (λ k. fated r (part ds ts) os q k ≡ k)
+      | inr h ↦ inr (subst (λ k. fated f r (part ds ts) os q k ≡ k)
           (sym (here ∙ unlisted_forgotten w ks r ds ts qs os q g h))
-          (unlisted_fated w ks r ds ts qs os q g (i q) h))
-    ]) ∙ ap (fated r (part ds ts) os q) here
+          (unlisted_fated f w ks r ds ts qs os q g (i q) h))
+    ]) ∙ ap (fated f r (part ds ts) os q) here
 
-pub passed_is : (w : Table) (r : ℕ) (ds ts : List ℕ) (os : List (Option ℕ)) (ks first second : List Kind) (qs : List ℕ) →
+pub used_case : (f : ℕ → ℕ) (w : Table) (r : ℕ) (ds ts : List ℕ) (os : List (Option ℕ)) (ended : ℕ → Bool) (q : ℕ) (k : Kind)
+    (p : Part) → part ds ts q ≡ Some p →
+    part_kind w r (rooted f (fated f r (part ds ts) os q (forgotten r (part ds ts) ended q k))) p ≡ part_kind w r k p
+used_case f w r ds ts os ended q k p e =
+    ap (λ z. part_kind w r (rooted f z) p) (two_used f r (part ds ts) os ended q k (used_some r (part ds ts) q p e))
+    ∙ rooted_part f w r k p
+
+pub unused_case : (f : ℕ → ℕ) (r : ℕ) (parts : ℕ → Option Part) (os : List (Option ℕ)) (ended : ℕ → Bool) (q : ℕ) (k : Kind) →
+    ((d : ℕ) → f (f d) ≡ d) → (is_lent_of r k ≡ false → rooted f k ≡ k) → is_used r parts q ≡ false →
+    rooted f (fated f r parts os q (forgotten r parts ended q k)) ≡ forget ended (fate (seen_by os q k) r k)
+unused_case f r parts os ended q k t h u =
+    ap (rooted f) (two_unused f r parts os ended q k u)
+    ∙ rooted_forget f ended (fate (root_by f (seen_by os q k)) r k)
+    ∙ ap (forget ended) (rooted_fate f (seen_by os q k) r k t h)
+
+-- where a function of numbers that is its own inverse changes the roots in the end
+pub passed_is : (f : ℕ → ℕ) (w : Table) (r : ℕ) (ds ts : List ℕ) (os : List (Option ℕ))
+    (ks first second last : List Kind) (qs : List ℕ) →
     Gathers ks r ds qs → ((q : ℕ) → IsReached ks (is_heir w ks r (part ds ts)) q (seen_at ks os q)) →
+    ((d : ℕ) → f (f d) ≡ d) → ((q : ℕ) → is_lent_of r (at ks q) ≡ false → rooted f (at ks q) ≡ at ks q) →
     first ≡ in_turn (forgotten r (part ds ts) (ends w ks r (part ds ts) (length ds) (seen_at ks os))) ks qs →
-    second ≡ in_turn (fated r (part ds ts) os) first qs → IsPassed w ks r ds ts second
-passed_is w r ds ts os ks first second qs g reaches a b = record {
+    second ≡ in_turn (fated f r (part ds ts) os) first qs → last ≡ map (rooted f) second →
+    IsPassed w ks r ds ts last
+passed_is f w r ds ts os ks first second last qs g reaches t apart a b e = record {
   reached = seen_at ks os;
   reaches = reaches;
-  long = ap length b ∙ in_turn_long (fated r (part ds ts) os) first qs ∙ ap length a
+  long = ap length e ∙ map_long (rooted f) second ∙ ap length b ∙ in_turn_long (fated f r (part ds ts) os) first qs
+      ∙ ap length a
       ∙ in_turn_long (forgotten r (part ds ts) (ends w ks r (part ds ts) (length ds) (seen_at ks os))) ks qs;
-  used = λ q l u. passed_at w r ds ts os ks first second qs g reaches a b q l
-      ∙ two_used r (part ds ts) os (ends w ks r (part ds ts) (length ds) (seen_at ks os)) q (at ks q) u;
-  unused = λ q l u. passed_at w r ds ts os ks first second qs g reaches a b q l
-      ∙ two_unused r (part ds ts) os (ends w ks r (part ds ts) (length ds) (seen_at ks os)) q (at ks q) u;
+  used = λ q l p u. ap (λ z. part_kind w r z p) (ap (λ z. at z q) e ∙ at_map (rooted f) refl second q
+      ∙ ap (rooted f) (passed_at f w r ds ts os ks first second qs g reaches a b q l))
+      ∙ used_case f w r ds ts os (ends w ks r (part ds ts) (length ds) (seen_at ks os)) q (at ks q) p u;
+  unused = λ q l u. ap (λ z. at z q) e ∙ at_map (rooted f) refl second q
+      ∙ ap (rooted f) (passed_at f w r ds ts os ks first second qs g reaches a b q l)
+      ∙ unused_case f r (part ds ts) os (ends w ks r (part ds ts) (length ds) (seen_at ks os)) q (at ks q) t (apart q) u;
 }
+
+-- the number that stands for another until names change
+
+pub stands_twice : (keeper : Option ℕ) (r d : ℕ) → stands_for keeper r (stands_for keeper r d) ≡ d
+stands_twice None r d = refl
+stands_twice (Some h) r d = swapped_twice r h d
+
+pub stands_apart : (keeper : Option ℕ) (r : ℕ) (k : Kind) → ((h : ℕ) → keeper ≡ Some h → is_lent_of h k ≡ false) →
+    is_lent_of r k ≡ false → rooted (stands_for keeper r) k ≡ k
+stands_apart None r k h e = rooted_none (λ d. d) (λ d. refl) k
+stands_apart (Some x) r k h e = rooted_apart r x k e (h x refl)
 
 -- a register whose word didn't come from the one that owns the cell
 

@@ -1,7 +1,7 @@
--- Only what this crate keeps beside the kinds, so that a step needn't look at all registers: for each register a list
--- among which are all that are lent of it or came from it, the registers that a step looks at, for each label map that
--- was seen to fit the registers that have changed since, what a label map asks at all, and which registers have the set
--- of one.
+-- Only what this crate keeps beside the kinds, so that a step needn't look at all registers: for each register lists
+-- among which are all that came from it, all that are lent of it, and those of these that have no from, the registers
+-- that a step looks at, for each label map that was seen to fit the registers that have changed since, what a label map
+-- asks at all, and which registers have the set of one.
 use Rattle.std.specs.Prelude.{◌≡◌, ℕ, zero, suc, ◌+◌, ◌<◌, Bool, true, false, List, [], ◌∷◌, ◌++◌, Option, Some, None}
 use Rattle.std.specs.Prelude.{length, slice_get, take, drop, ◌==◌, ◌||◌, ◌⊎◌}
 use Rattle.fip_language.specs.Table.{Table, is_scalar}
@@ -14,6 +14,7 @@ use Rattle.sound_code.specs.Fitting.{fits}
 use Rattle.register_kinds.specs.declared.asked.Asked.{Asked}
 use Rattle.register_kinds.specs.Busy.{IsAsked, busy_in}
 use Rattle.register_kinds.specs.LabelSets.{LabelSets, AreOrigins}
+use Rattle.register_kinds.specs.Climbs.{AreHeld}
 use Rattle.register_kinds.specs.Rising.{Rise}
 
 -- A from names register r.
@@ -87,13 +88,14 @@ trues (false ∷ bs) = trues bs
 abbrev pub Grows : List ℕ → List ℕ → Type 0
 Grows old new = (rest : List ℕ) × (new ≡ old ++ rest)
 
--- Each register that is marked as listed is among the first items, and there are as many of these as are marked. Only
+-- The registers that are marked as listed are the first items, and there are as many of these as are marked. Only
 -- for these an heir is kept.
 pub record AreLents (items : List ℕ) (top : ℕ) (listed : List Bool) (reached : List (Option ℕ)) : Type 0 where
   pub reached_long : length reached ≡ length items
   pub long : length listed ≡ length items
   pub many : top ≡ trues listed
   pub lists : (q : ℕ) → slice_get listed q ≡ Some true → has (take top items) q ≡ true
+  pub marks : (q : ℕ) → has (take top items) q ≡ true → slice_get listed q ≡ Some true
   pub only : (q d : ℕ) → kept_at reached q ≡ Some d → has (take top items) q ≡ true
 
 -- A list has each register that leads to register r, to one of some others, or to one in the list.
@@ -113,13 +115,16 @@ AreAsked maps asked =
     (l : ℕ) (m : LabelMap) (a : Asked) → slice_get maps l ≡ Some m → slice_get asked l ≡ Some a →
     length m.kinds < 65536 → IsAsked m.kinds a
 
-pub record IsKept (ks : List Kind) (maps : List LabelMap) (lents : Lents) (links : Links)
+pub record IsKept (ks : List Kind) (maps : List LabelMap) (lents : Lents) (below trees loose : Links) (held : Bool)
     (since : List (Option (List ℕ))) (busy : ℕ) (asked : List Asked) (sets : LabelSets) : Type 0 where
   pub rise : KindsRise ks
   pub are_maps : AreMaps (length ks) maps
   pub few : length ks < 65536
   pub room : lents.room ≡ length ks
-  pub linked : (r q : ℕ) → leads r (at ks q) ≡ true → Linked links r q
+  pub sources : (r q : ℕ) → names r (from_of (at ks q)) ≡ true → Linked below r q
+  pub lends : (r q : ℕ) → is_lent_of r (at ks q) ≡ true → Linked trees r q
+  pub loosened : (r q : ℕ) → is_lent_of r (at ks q) ≡ true → from_of (at ks q) ≡ None → Linked loose r q
+  pub holds : held ≡ true → AreHeld ks
   pub sees : AreSeen ks maps since
   pub counted : busy ≡ busy_in ks
   pub asks : AreAsked maps asked

@@ -1,5 +1,7 @@
 pub mod State
 pub mod Views
+pub mod Owners
+pub mod Climbs
 pub mod Rising
 pub mod Busy
 pub mod LabelSets
@@ -8,3 +10,4 @@ pub mod Sights
 pub mod Steps
 pub mod Arrivals
 pub mod Takes
+pub mod Sorted

@@ -10,6 +10,7 @@ use Rattle.sound_code.specs.Changes.{forget}
 use Rattle.sound_code.specs.Taking.{Part, Reaches, IsReached, part, is_heir, ends, fate, part_kind, credit}
 use Rattle.register_kinds.specs.declared.take.Piece.{Piece}
 use Rattle.register_kinds.specs.Kept.{is_lent, kept_at}
+use Rattle.register_kinds.specs.Owners.{root_by, swapped}
 
 -- the part that a piece stands for
 abbrev pub as_part : Option Piece → Option Part
@@ -53,21 +54,27 @@ is_used r parts q = is_some (parts q) || (q == r)
 abbrev pub forgotten : ℕ → (ℕ → Option Part) → (ℕ → Bool) → ℕ → Kind → Kind
 forgotten r parts ended q k = if is_used r parts q then k else forget ended k
 
--- a register of kind k that isn't used, once it has the heir that it reaches as root
-abbrev pub fated : ℕ → (ℕ → Option Part) → List (Option ℕ) → ℕ → Kind → Kind
-fated r parts os q k = if is_used r parts q then k else fate (seen_by os q k) r k
+-- the root that stands for an heir d until register r and the one that keeps its name, where there is one, change names
+abbrev pub stands_for : Option ℕ → ℕ → ℕ → ℕ
+stands_for None r d = d
+stands_for (Some keeper) r d = swapped r keeper d
+
+-- a register of kind k that isn't used, once it has what stands for the heir that it reaches as root
+abbrev pub fated : (ℕ → ℕ) → ℕ → (ℕ → Option Part) → List (Option ℕ) → ℕ → Kind → Kind
+fated f r parts os q k = if is_used r parts q then k else fate (root_by f (seen_by os q k)) r k
 
 -- a register of kind k that gets one of the first n parts
 abbrev pub filled_by : Table → ℕ → ℕ → Kind → Option Part → Kind
 filled_by w r n k None = k
 filled_by w r n k (Some p) = if nat_lt p.field n then part_kind w r k p else k
 
--- Registers that aren't used have what was read through heirs, or are gone; those that are used stay.
+-- Registers that aren't used have what was read through heirs, or are gone; those that get a part get it as before.
 pub record IsPassed (w : Table) (ks : List Kind) (r : ℕ) (ds ts : List ℕ) (second : List Kind) : Type 0 where
   pub reached : ℕ → Option ℕ
   pub reaches : (q : ℕ) → IsReached ks (is_heir w ks r (part ds ts)) q (reached q)
   pub long : length second ≡ length ks
-  pub used : (q : ℕ) → q < length ks → is_used r (part ds ts) q ≡ true → at second q ≡ at ks q
+  pub used : (q : ℕ) → q < length ks → (p : Part) → part ds ts q ≡ Some p →
+      part_kind w r (at second q) p ≡ part_kind w r (at ks q) p
   pub unused : (q : ℕ) → q < length ks → is_used r (part ds ts) q ≡ false →
       at second q ≡ forget (ends w ks r (part ds ts) (length ds) reached) (fate (reached q) r (at ks q))
 

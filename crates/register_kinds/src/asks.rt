@@ -5,9 +5,7 @@ ghost use Rattle.sound_code.specs.Asked.{may_have, known_fields, can_take, are_p
 ghost use Rattle.sound_code.specs.Handing.{is_lendable};
 ghost use Rattle.sound_code.specs.Kinds.{at, has, is_free, are_free, is_gone, is_scalar_of, is_owned, is_owned_of};
 ghost use Rattle.sound_code.specs.Kinds.{is_credit, is_credit_of};
-ghost use Rattle.register_kinds.specs.Views.{kinds_of};
 
-use crate::known::Known;
 use crate::registers::Registers;
 use crate::table::Table;
 
@@ -23,7 +21,7 @@ impl<'a> Registers<'a> {
     pub fn are_free(&self) -> bool
         ensures is { result ≡ are_free self.now.kinds }
     {
-        all_free(&self.known)
+        self.known.are_free()
     }
 
     /// Whether nothing is known of a register.
@@ -129,16 +127,4 @@ fn stands_in(numbers: &[u16], number: u16) -> bool
         }
     }
     false
-}
-
-// Whether all may be overwritten.
-fn all_free(known: &[Known]) -> bool
-    ensures is { result ≡ are_free (kinds_of known.now) }
-{
-    for one in known {
-        if !one.is_free() {
-            return false;
-        }
-    }
-    true
 }

@@ -11,12 +11,13 @@ ghost use Rattle.register_kinds.specs.Kept.{KindsRise};
 ghost use Rattle.register_kinds.specs.declared.label_sets.Origin.{Origin};
 ghost use Rattle.register_kinds.specs.LabelSets.{AreComparable, MapsRise, origin_at, set_at};
 ghost use Rattle.register_kinds.specs.Rising.{Rise, less};
-ghost use Rattle.register_kinds.specs.Views.{constructors_in, kind_of, kinds_of};
+ghost use Rattle.register_kinds.specs.Views.{constructors_in, kind_of};
 
 use crate::asked::{Ask, Asked, Says};
+use crate::kinds::Kinds;
 use crate::known::{Known, same_root};
 use crate::label_sets::{LabelSets, Origin};
-use crate::registers::{Registers, known_in, map_of};
+use crate::registers::{Registers, map_of};
 use crate::set::Set;
 use cell_code::{From, Kind};
 
@@ -130,7 +131,7 @@ impl<'a> Registers<'a> {
 
 // Whether all registers fit: those of which the map says more than Gone, and by their number the others.
 fn asked_fit(
-    known: &[Known],
+    known: &Kinds,
     kinds: &[Kind],
     tested: Option<Tested>,
     busy: usize,
@@ -138,12 +139,12 @@ fn asked_fit(
     sets: &mut LabelSets,
     label: usize,
 ) -> bool
-    requires known_rise { KindsRise (kinds_of known.now) }
+    requires known_rise { KindsRise known.now }
     requires kinds_rise { KindsRise kinds.now }
-    requires comparable { AreComparable sets.old (kinds_of known.now) kinds.now label }
+    requires comparable { AreComparable sets.old known.now kinds.now label }
     requires said { AllSay kinds.now asked.now.asks.items }
-    ensures is { length kinds.now ≡ length (kinds_of known.now) → busy ≡ busy_in (kinds_of known.now) →
-        IsAsked kinds.now asked.now → result ≡ fit_all kinds.now (arrive tested 0 (kinds_of known.now)) }
+    ensures is { length kinds.now ≡ length known.now → busy ≡ busy_in known.now →
+        IsAsked kinds.now asked.now → result ≡ fit_all kinds.now (arrive tested 0 known.now) }
     ensures same { sets.new ≡ sets.old }
 {
     if busy != asked.busy {
@@ -154,18 +155,18 @@ fn asked_fit(
 
 // Whether all registers fit of which a label map says more than Gone. What it says of a tree stands in its kinds.
 fn asks_fit(
-    known: &[Known],
+    known: &Kinds,
     kinds: &[Kind],
     tested: Option<Tested>,
     asks: &[Ask],
     sets: &mut LabelSets,
     label: usize,
 ) -> bool
-    requires known_rise { KindsRise (kinds_of known.now) }
+    requires known_rise { KindsRise known.now }
     requires kinds_rise { KindsRise kinds.now }
-    requires comparable { AreComparable sets.old (kinds_of known.now) kinds.now label }
+    requires comparable { AreComparable sets.old known.now kinds.now label }
     requires said { AllSay kinds.now asks.now }
-    ensures is { result ≡ each_fits tested kinds.now (kinds_of known.now) (registers_of asks.now) }
+    ensures is { result ≡ each_fits tested kinds.now known.now (registers_of asks.now) }
     ensures same { sets.new ≡ sets.old }
 {
     for ask in asks {
@@ -178,41 +179,41 @@ fn asks_fit(
 
 // Whether one of them fits.
 fn ask_fits(
-    known: &[Known],
+    known: &Kinds,
     kinds: &[Kind],
     tested: Option<Tested>,
     ask: Ask,
     sets: &mut LabelSets,
     label: usize,
 ) -> bool
-    requires known_rise { KindsRise (kinds_of known.now) }
+    requires known_rise { KindsRise known.now }
     requires kinds_rise { KindsRise kinds.now }
-    requires comparable { AreComparable sets.old (kinds_of known.now) kinds.now label }
+    requires comparable { AreComparable sets.old known.now kinds.now label }
     requires said { says_of (at kinds.now ask.register) ≡ Some ask.says }
-    ensures is { result ≡ fits_at tested kinds.now (kinds_of known.now) ask.register }
+    ensures is { result ≡ fits_at tested kinds.now known.now ask.register }
     ensures same { sets.new ≡ sets.old }
 {
     match ask.says {
-        Says::Scalar(ty) => known_in(known, ask.register).is_scalar_of(ty),
-        Says::Credit(size) => known_in(known, ask.register).is_credit_of(size as usize),
+        Says::Scalar(ty) => known.get(ask.register).is_scalar_of(ty),
+        Says::Credit(size) => known.get(ask.register).is_credit_of(size as usize),
         Says::Tree => fits_at(known, kinds, tested, ask.register, sets, label),
     }
 }
 
 // Whether what was seen to fit fits still, where these registers have changed since.
 fn changed_fit(
-    known: &[Known],
+    known: &Kinds,
     kinds: &[Kind],
     tested: Option<Tested>,
     changed: &[u16],
     sets: &mut LabelSets,
     label: usize,
 ) -> bool
-    requires known_rise { KindsRise (kinds_of known.now) }
+    requires known_rise { KindsRise known.now }
     requires kinds_rise { KindsRise kinds.now }
-    requires comparable { AreComparable sets.old (kinds_of known.now) kinds.now label }
-    ensures is { result ≡ (each_fits tested kinds.now (kinds_of known.now) changed.now
-        && tested_fits tested kinds.now (kinds_of known.now)) }
+    requires comparable { AreComparable sets.old known.now kinds.now label }
+    ensures is { result ≡ (each_fits tested kinds.now known.now changed.now
+        && tested_fits tested kinds.now known.now) }
     ensures same { sets.new ≡ sets.old }
 {
     if !tested_fits(known, kinds, tested, sets, label) {
@@ -224,30 +225,30 @@ fn changed_fit(
 
 // Whether all registers fit.
 #[tactic(auto, using(crate::proofs::Short::drop_none))]
-fn all_fit(known: &[Known], kinds: &[Kind], tested: Option<Tested>) -> bool
-    requires known_rise { KindsRise (kinds_of known.now) }
+fn all_fit(known: &Kinds, kinds: &[Kind], tested: Option<Tested>) -> bool
+    requires known_rise { KindsRise known.now }
     requires kinds_rise { KindsRise kinds.now }
-    ensures is { result ≡ fit_all kinds.now (arrive tested 0 (kinds_of known.now)) }
+    ensures is { result ≡ fit_all kinds.now (arrive tested 0 known.now) }
 {
     let mut place = 0usize;
     for kind in kinds {
-        match known.get(place) {
+        match known.find(place) {
             None => return false,
             Some(one) => {
-                if !fits(one, kind, lacked_at(tested, place), None) {
+                if !fits(&one, kind, lacked_at(tested, place), None) {
                     return false;
                 }
             }
         }
         place += 1;
     }
-    known.get(place).is_none()
+    known.find(place).is_none()
 }
 
 // Whether these registers fit, where one is already known to fit. One that stands several times on end is looked at
 // once.
 fn each_fits(
-    known: &[Known],
+    known: &Kinds,
     kinds: &[Kind],
     tested: Option<Tested>,
     changed: &[u16],
@@ -255,11 +256,11 @@ fn each_fits(
     sets: &mut LabelSets,
     label: usize,
 ) -> bool
-    requires known_rise { KindsRise (kinds_of known.now) }
+    requires known_rise { KindsRise known.now }
     requires kinds_rise { KindsRise kinds.now }
-    requires comparable { AreComparable sets.old (kinds_of known.now) kinds.now label }
-    requires fitting { (r : ℕ) → fitting ≡ Some r → fits_at tested kinds.now (kinds_of known.now) r ≡ true }
-    ensures is { result ≡ each_fits tested kinds.now (kinds_of known.now) changed.now }
+    requires comparable { AreComparable sets.old known.now kinds.now label }
+    requires fitting { (r : ℕ) → fitting ≡ Some r → fits_at tested kinds.now known.now r ≡ true }
+    ensures is { result ≡ each_fits tested kinds.now known.now changed.now }
     ensures same { sets.new ≡ sets.old }
 {
     let mut last = fitting;
@@ -297,16 +298,16 @@ fn is_same(last: Option<u16>, register: u16) -> bool
 
 // Whether the register fits that was tested.
 fn tested_fits(
-    known: &[Known],
+    known: &Kinds,
     kinds: &[Kind],
     tested: Option<Tested>,
     sets: &mut LabelSets,
     label: usize,
 ) -> bool
-    requires known_rise { KindsRise (kinds_of known.now) }
+    requires known_rise { KindsRise known.now }
     requires kinds_rise { KindsRise kinds.now }
-    requires comparable { AreComparable sets.old (kinds_of known.now) kinds.now label }
-    ensures is { result ≡ tested_fits tested kinds.now (kinds_of known.now) }
+    requires comparable { AreComparable sets.old known.now kinds.now label }
+    ensures is { result ≡ tested_fits tested kinds.now known.now }
     ensures same { sets.new ≡ sets.old }
 {
     match tested {
@@ -317,31 +318,27 @@ fn tested_fits(
 
 // Whether one register fits.
 fn fits_at(
-    known: &[Known],
+    known: &Kinds,
     kinds: &[Kind],
     tested: Option<Tested>,
     register: u16,
     sets: &mut LabelSets,
     label: usize,
 ) -> bool
-    requires known_rise { KindsRise (kinds_of known.now) }
+    requires known_rise { KindsRise known.now }
     requires kinds_rise { KindsRise kinds.now }
-    requires comparable { AreComparable sets.old (kinds_of known.now) kinds.now label }
-    ensures is { result ≡ fits_at tested kinds.now (kinds_of known.now) register }
+    requires comparable { AreComparable sets.old known.now kinds.now label }
+    ensures is { result ≡ fits_at tested kinds.now known.now register }
     ensures same { sets.new ≡ sets.old }
 {
     let place = register as usize;
     match kinds.get(place) {
-        None => known_in(known, register).is_free(),
+        None => known.get(register).is_free(),
         Some(kind) => {
+            let one = known.get(register);
             let lacked = lacked_at(tested, place);
-            match known.get(place) {
-                None => fits(&Known::Gone, kind, lacked, None),
-                Some(one) => {
-                    let within = found_within(one, register, lacked, sets, label);
-                    fits(one, kind, lacked, within)
-                }
-            }
+            let within = found_within(&one, register, lacked, sets, label);
+            fits(&one, kind, lacked, within)
         }
     }
 }

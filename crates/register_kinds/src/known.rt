@@ -9,6 +9,7 @@ ghost use Rattle.sound_code.specs.Kinds.{is_credit_of, is_lent_of, same_root, fr
 ghost use Rattle.sound_code.specs.Leaves.{atom_kind};
 ghost use Rattle.sound_code.specs.Taking.{inherited, with_root};
 ghost use Rattle.sound_code.specs.Types.{field_kind, lent_kind};
+ghost use Rattle.register_kinds.specs.Climbs.{is_lent_in};
 ghost use Rattle.register_kinds.specs.Kept.{is_lent, leads, names};
 ghost use Rattle.register_kinds.specs.Rising.{Rise};
 ghost use Rattle.register_kinds.specs.Views.{kind_of, constructors_in};
@@ -304,6 +305,19 @@ impl<'a> Known<'a> {
             Known::Scalar { .. } => false,
             Known::Owned { .. } => false,
             Known::Lent { root, .. } => same_root(root, Some(register)),
+            Known::Credit { .. } => false,
+        }
+    }
+
+    /// Whether it reads the tree of this register, or, where there is none, of a frame below.
+    pub fn is_lent_in(self, owner: Option<u16>) -> bool
+        ensures is { result ≡ is_lent_in owner (kind_of self.entry) }
+    {
+        match self {
+            Known::Gone => false,
+            Known::Scalar { .. } => false,
+            Known::Owned { .. } => false,
+            Known::Lent { root, .. } => same_root(root, owner),
             Known::Credit { .. } => false,
         }
     }

@@ -1,5 +1,5 @@
 // The registers that a step looks at.
-ghost use Rattle.std.specs.Prelude.{◌≡◌, ℕ, ◌<◌, ◌≤◌, true, length, set, [], None, Some, slice_get, IfOk};
+ghost use Rattle.std.specs.Prelude.{◌≡◌, ◌⊎◌, ℕ, ◌<◌, ◌≤◌, true, false, length, set, [], None, Some, slice_get, IfOk};
 ghost use Rattle.sound_code.specs.Kinds.{has};
 ghost use Rattle.register_kinds.specs.Kept.{Grows, kept_at};
 
@@ -68,6 +68,7 @@ impl Lents {
     pub fn add(&mut self, register: u16)
         ensures added { register < self.old.room → has self.new.held register ≡ true }
         ensures more { Grows self.old.held self.new.held }
+        ensures only { (q : ℕ) → has self.new.held q ≡ true → (has self.old.held q ≡ true) ⊎ (register ≡ q) }
         ensures room { self.new.room ≡ self.old.room }
         ensures reached { self.new.reached ≡ self.old.reached }
     {
@@ -78,6 +79,33 @@ impl Lents {
                 self.listed.mark(register);
             }
         }
+    }
+
+    /// Lists a register that isn't listed, and keeps an heir for it, where there is room for it.
+    pub fn list(&mut self, register: u16, heir: Option<u16>)
+        ensures listed { register < self.old.room → has self.new.held register ≡ true }
+        ensures only { (q : ℕ) → has self.new.held q ≡ true →
+            ((has self.old.held q ≡ true) × (kept_at self.new.reached q ≡ kept_at self.old.reached q))
+            ⊎ ((register ≡ q) × (has self.old.held q ≡ false) × (kept_at self.new.reached q ≡ heir)) }
+        ensures more { Grows self.old.held self.new.held }
+        ensures room { self.new.room ≡ self.old.room }
+    {
+        if register as usize >= self.items.len() {
+            return;
+        }
+        if self.is_listed(register) {
+            return;
+        }
+        self.add(register);
+        self.reach(register, heir);
+    }
+
+    /// Whether a register is listed.
+    pub fn is_listed(&self, register: u16) -> bool
+        ensures listed { result ≡ true → has self.now.held register ≡ true }
+        ensures unlisted { result ≡ false → register < self.now.room → has self.now.held register ≡ false }
+    {
+        (register as usize) < self.items.len() && self.listed.is_marked(register)
     }
 
     /// The heir that was kept for a register.

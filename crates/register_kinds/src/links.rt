@@ -1,7 +1,8 @@
-// Which registers may lead to a register.
+// Which registers may lead to a register: came from its cell, or are lent of it.
 ghost use Rattle.std.specs.Prelude.{◌≡◌, ℕ, true, IfSome};
 ghost use Rattle.sound_code.specs.Kinds.{has};
 ghost use Rattle.register_kinds.specs.Kept.{Linked};
+ghost use Rattle.register_kinds.specs.Owners.{swapped};
 
 use fip_base::plain::NoMemory;
 use std::alloc::Global;
@@ -59,6 +60,19 @@ impl Links {
                 Ok(()) => (),
                 Err(_) => self.gap = true,
             }
+        } else {
+            self.gap = true;
+        }
+    }
+
+    /// Those that led to one of two registers lead to the other.
+    pub fn swap(&mut self, one: u16, other: u16)
+        ensures swapped { (r q : ℕ) → Linked self.old (swapped one other r) q → Linked self.new r q }
+    {
+        let first = one as usize;
+        let second = other as usize;
+        if first < self.lists.len() && second < self.lists.len() {
+            self.lists.swap(first, second);
         } else {
             self.gap = true;
         }

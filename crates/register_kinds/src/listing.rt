@@ -1,12 +1,13 @@
 // The registers that a step looks at: those that lead to what it changes.
 ghost use Rattle.std.specs.Prelude.{◌≡◌, ◌<◌, ◌≤◌, ℕ, true, false, [], length, None};
-ghost use Rattle.sound_code.specs.Kinds.{at, has};
-ghost use Rattle.register_kinds.specs.Kept.{ClosedBelow, Gathers, Grows, kept_at, leads};
-ghost use Rattle.register_kinds.specs.Views.{kind_of, kinds_of};
+ghost use Rattle.sound_code.specs.Kinds.{at, from_of, has, is_lent_of};
+ghost use Rattle.register_kinds.specs.Kept.{ClosedBelow, Gathers, Grows, kept_at, leads, names};
+ghost use Rattle.register_kinds.specs.Views.{kind_of};
 
+use crate::kinds::Kinds;
 use crate::known::Known;
 use crate::lents::Lents;
-use crate::registers::{Registers, known_in};
+use crate::registers::Registers;
 
 impl<'a> Registers<'a> {
     // Lists none.
@@ -27,7 +28,34 @@ impl<'a> Registers<'a> {
         ensures maps { self.new.maps ≡ self.old.maps }
         ensures reached { self.new.reached ≡ self.old.reached }
     {
-        match self.links.of(register) {
+        self.list_below(register);
+        self.list_tree(register);
+    }
+
+    // Lists also those that came from the cell of a register.
+    pub(crate) fn list_below(&mut self, register: u16)
+        ensures listed { (q : ℕ) → names register (from_of (at self.old.kinds q)) ≡ true →
+            has self.new.lent q ≡ true }
+        ensures more { Grows self.old.lent self.new.lent }
+        ensures kinds { self.new.kinds ≡ self.old.kinds }
+        ensures maps { self.new.maps ≡ self.old.maps }
+        ensures reached { self.new.reached ≡ self.old.reached }
+    {
+        match self.below.of(register) {
+            None => list_all(&mut self.lents, self.known.len() as u16),
+            Some(others) => list_those(&mut self.lents, &self.known, others, register),
+        }
+    }
+
+    // Lists also those that are lent of a register.
+    fn list_tree(&mut self, register: u16)
+        ensures listed { (q : ℕ) → is_lent_of register (at self.old.kinds q) ≡ true → has self.new.lent q ≡ true }
+        ensures more { Grows self.old.lent self.new.lent }
+        ensures kinds { self.new.kinds ≡ self.old.kinds }
+        ensures maps { self.new.maps ≡ self.old.maps }
+        ensures reached { self.new.reached ≡ self.old.reached }
+    {
+        match self.trees.of(register) {
             None => list_all(&mut self.lents, self.known.len() as u16),
             Some(others) => list_those(&mut self.lents, &self.known, others, register),
         }
@@ -83,12 +111,21 @@ impl<'a> Registers<'a> {
         self.list_further(settled);
     }
 
+    // Whether a register is there.
+    pub(crate) fn is_there(&self, register: u16) -> bool
+        ensures there { result ≡ true → register < length self.now.kinds }
+    {
+        (register as usize) < self.known.len()
+    }
+
     // Where nothing leads to a register any more, nothing is kept of what did.
     pub(crate) fn tidy(&mut self, register: u16)
         ensures same { self.new ≡ self.old }
     {
         if self.is_alone(register) {
-            self.links.clear(register);
+            self.below.clear(register);
+            self.trees.clear(register);
+            self.loose.clear(register);
         }
     }
 
@@ -96,9 +133,13 @@ impl<'a> Registers<'a> {
     fn is_alone(&self, register: u16) -> bool
         ensures alone { result ≡ true → (q : ℕ) → leads register (at self.now.kinds q) ≡ false }
     {
-        match self.links.of(register) {
+        match self.below.of(register) {
             None => false,
-            Some(others) => none_leads(&self.known, others, register),
+            Some(sources) => match self.trees.of(register) {
+                None => false,
+                Some(tree) => none_leads(&self.known, sources, register)
+                    && none_leads(&self.known, tree, register),
+            },
         }
     }
 }
@@ -116,15 +157,15 @@ fn list_all(lents: &mut Lents, count: u16)
 }
 
 // Lists also those of some registers that lead to one.
-fn list_those(lents: &mut Lents, known: &[Known], others: &[u16], register: u16)
-    ensures listed { (q : ℕ) → has others.now q ≡ true → leads register (at (kinds_of known.now) q) ≡ true →
+fn list_those(lents: &mut Lents, known: &Kinds, others: &[u16], register: u16)
+    ensures listed { (q : ℕ) → has others.now q ≡ true → leads register (at known.now q) ≡ true →
         q < lents.old.room → has lents.new.held q ≡ true }
     ensures more { Grows lents.old.held lents.new.held }
     ensures room { lents.new.room ≡ lents.old.room }
     ensures reached { lents.new.reached ≡ lents.old.reached }
 {
     for other in others {
-        list_one(lents, known_in(known, *other), *other, register);
+        list_one(lents, known.get(*other), *other, register);
     }
 }
 
@@ -142,12 +183,12 @@ fn list_one(lents: &mut Lents, known: Known, other: u16, register: u16)
 }
 
 // Whether none of some registers leads to one.
-fn none_leads(known: &[Known], others: &[u16], register: u16) -> bool
+fn none_leads(known: &Kinds, others: &[u16], register: u16) -> bool
     ensures none { result ≡ true → (q : ℕ) → has others.now q ≡ true →
-        leads register (at (kinds_of known.now) q) ≡ false }
+        leads register (at known.now q) ≡ false }
 {
     for other in others {
-        if known_in(known, *other).leads_to(register) {
+        if known.get(*other).leads_to(register) {
             return false;
         }
     }

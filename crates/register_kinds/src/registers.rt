@@ -6,8 +6,8 @@ ghost use Rattle.cell_code.specs.declared.kind.Kind.TheVariants.{Credit};
 ghost use Rattle.sound_code.specs.Codes.{LabelMap, plain_function, plain_label};
 ghost use Rattle.sound_code.specs.Entry.{entry, gones, param_kind};
 ghost use Rattle.sound_code.specs.Headers.{is_formed};
-ghost use Rattle.sound_code.specs.Kinds.{at, has, set_of};
-ghost use Rattle.register_kinds.specs.Kept.{KindsRise, Linked, leads};
+ghost use Rattle.sound_code.specs.Kinds.{at, from_of, has, is_lent_of, set_of};
+ghost use Rattle.register_kinds.specs.Kept.{KindsRise, Linked, names};
 ghost use Rattle.register_kinds.specs.declared.label_sets.Origin.{Origin};
 ghost use Rattle.register_kinds.specs.LabelSets.{set_at};
 ghost use Rattle.register_kinds.specs.Rising.{Rise};
@@ -16,6 +16,7 @@ ghost use Rattle.register_kinds.specs.Kept.{kept_at};
 ghost use Rattle.register_kinds.specs.Views.{kind_of, kinds_of};
 
 use crate::asked::{Asked, asked_by, count_known, recount};
+use crate::kinds::Kinds;
 use crate::known::Known;
 use crate::label_sets::{LabelSets, Origin};
 use crate::lents::Lents;
@@ -31,10 +32,17 @@ use std::marker::Model;
 /// What is known of each register of a function, which also knows the function's label maps.
 #[derive(Drop)]
 pub struct Registers<'a> {
-    pub(crate) known: Vec<Known<'a>>,
+    pub(crate) known: Kinds<'a>,
     pub(crate) labels: &'a [Label],
     pub(crate) lents: Lents,
-    pub(crate) links: Links,
+    // For each register those whose words came from its cell.
+    pub(crate) below: Links,
+    // For each register those that are lent of it.
+    pub(crate) trees: Links,
+    // For each register those that are lent of it and have no from.
+    pub(crate) loose: Links,
+    // The froms of each lent register lead to the owner of its tree, or to one that has no from.
+    pub(crate) held: bool,
     pub(crate) log: Log,
     pub(crate) busy: usize,
     pub(crate) asked: Vec<Asked>,
@@ -46,19 +54,18 @@ impl<'a> Model for Registers<'a> {
     ghost use Rattle.sound_code.specs.Codes.{plain_label};
     ghost use Rattle.register_kinds.specs.Kept.{IsKept};
     ghost use Rattle.register_kinds.specs.State.{RegisterState};
-    ghost use Rattle.register_kinds.specs.Views.{kinds_of};
 
     ghost Value = { RegisterState };
 
     ghost view = { λ v. record {
-      kinds = kinds_of v.known.items;
+      kinds = v.known;
       maps = map plain_label v.labels.now;
       lent = v.lents.held;
       reached = v.lents.reached;
     } };
 
-    ghost invariant = { λ v. IsKept (kinds_of v.known.items) (map plain_label v.labels.now) v.lents v.links v.log v.busy
-        v.asked.items v.sets };
+    ghost invariant = { λ v. IsKept v.known (map plain_label v.labels.now) v.lents v.below v.trees v.loose v.held v.log
+        v.busy v.asked.items v.sets };
 }
 
 impl<'a> Registers<'a> {
@@ -75,10 +82,13 @@ impl<'a> Registers<'a> {
         let known = entry_kinds(alloc, table, function)?;
         let busy = count_known(&known);
         Ok(Registers {
-            known,
+            known: Kinds::new(alloc, known, function.registers)?,
             labels: &function.labels,
             lents: Lents::new(alloc, function.registers)?,
-            links: Links::new(alloc, function.registers as usize)?,
+            below: Links::new(alloc, function.registers as usize)?,
+            trees: Links::new(alloc, function.registers as usize)?,
+            loose: Links::new(alloc, function.registers as usize)?,
+            held: true,
             log: Log::new(alloc, function.registers as usize, function.labels.len())?,
             busy,
             asked: asked_by(alloc, &function.labels)?,
@@ -114,6 +124,7 @@ impl<'a> Registers<'a> {
             self.change(register, Known::of(kind), Some(origin));
             register += 1;
         }
+        self.find_held();
     }
 }
 
@@ -123,7 +134,7 @@ impl<'a> Registers<'a> {
         ensures is { kind_of result ≡ at self.now.kinds register }
         ensures rises { Rise (set_of (kind_of result)) }
     {
-        known_in(&self.known, register)
+        self.known.get(register)
     }
 
     // The register of a label map whose set a register has, where that is known.
@@ -170,9 +181,13 @@ impl<'a> Registers<'a> {
     {
         let place = register as usize;
         if place < self.known.len() {
-            link(&mut self.links, register, self.known[place], known);
-            self.busy = recount(self.busy, self.known[place].is_free(), known.is_free());
-            self.known[place] = known;
+            let before = self.known.get(register);
+            link_source(&mut self.below, register, before, known.source());
+            link_owner(&mut self.trees, register, before, known.owner());
+            link_loose(&mut self.loose, register, before, known);
+            self.held = false;
+            self.busy = recount(self.busy, before.is_free(), known.is_free());
+            self.known.set(register, known);
             self.log.add(register);
             self.sets.set(register, origin);
         }
@@ -215,17 +230,6 @@ impl<'a> Registers<'a> {
     }
 }
 
-// What is known of a register.
-#[tactic(auto, using(crate::proofs::Places::kinds_get, crate::proofs::Places::kinds_none))]
-pub(crate) fn known_in<'a>(known: &[Known<'a>], register: u16) -> Known<'a>
-    ensures is { kind_of result ≡ at (kinds_of known.now) register }
-{
-    match known.get(register as usize) {
-        Some(known) => *known,
-        None => Known::Gone,
-    }
-}
-
 // The kinds of the label map of a number.
 pub(crate) fn map_of(labels: &[Label], label: usize) -> Option<&[Kind]>
     ensures found { IfSome result (λ ks. (m : LabelMap)
@@ -238,27 +242,54 @@ pub(crate) fn map_of(labels: &[Label], label: usize) -> Option<&[Kind]>
     }
 }
 
-// What a register leads to by a kind that it gets. What it led to before is known.
-fn link(links: &mut Links, register: u16, before: Known, known: Known)
-    requires linked { (r : ℕ) → leads r (kind_of before) ≡ true → Linked links.old r register }
-    ensures linked { (r : ℕ) → leads r (kind_of known.entry) ≡ true → Linked links.new r register }
-    ensures others { (r q : ℕ) → Linked links.old r q → Linked links.new r q }
+// A register's word came from the cell of another, where there is one. What it came from before is known.
+fn link_source(below: &mut Links, register: u16, before: Known, source: Option<u16>)
+    requires linked { (r : ℕ) → names r (from_of (kind_of before)) ≡ true → Linked below.old r register }
+    ensures linked { (r : ℕ) → source ≡ Some r → Linked below.new r register }
+    ensures others { (r q : ℕ) → Linked below.old r q → Linked below.new r q }
 {
-    link_to(links, register, before, known.source());
-    link_to(links, register, before, known.owner());
+    match source {
+        None => (),
+        Some(source) => {
+            if !before.came_from(source) {
+                below.add(source, register);
+            }
+        }
+    }
 }
 
-// A register leads to another, where there is one.
-fn link_to(links: &mut Links, register: u16, before: Known, target: Option<u16>)
-    requires linked { (r : ℕ) → leads r (kind_of before) ≡ true → Linked links.old r register }
-    ensures linked { (r : ℕ) → target ≡ Some r → Linked links.new r register }
-    ensures others { (r q : ℕ) → Linked links.old r q → Linked links.new r q }
+// A register is lent of another, where there is one. What it was lent of before is known.
+fn link_owner(trees: &mut Links, register: u16, before: Known, owner: Option<u16>)
+    requires linked { (r : ℕ) → is_lent_of r (kind_of before) ≡ true → Linked trees.old r register }
+    ensures linked { (r : ℕ) → owner ≡ Some r → Linked trees.new r register }
+    ensures others { (r q : ℕ) → Linked trees.old r q → Linked trees.new r q }
 {
-    match target {
+    match owner {
         None => (),
-        Some(target) => {
-            if !before.leads_to(target) {
-                links.add(target, register);
+        Some(owner) => {
+            if !before.is_lent_of(owner) {
+                trees.add(owner, register);
+            }
+        }
+    }
+}
+
+// A register is lent of another without a from, where it is. Whether it was so before is known.
+fn link_loose(loose: &mut Links, register: u16, before: Known, known: Known)
+    requires linked { (r : ℕ) → is_lent_of r (kind_of before) ≡ true → from_of (kind_of before) ≡ None →
+        Linked loose.old r register }
+    ensures linked { (r : ℕ) → is_lent_of r (kind_of known.entry) ≡ true → from_of (kind_of known.entry) ≡ None →
+        Linked loose.new r register }
+    ensures others { (r q : ℕ) → Linked loose.old r q → Linked loose.new r q }
+{
+    if known.from().is_some() {
+        return;
+    }
+    match known.owner() {
+        None => (),
+        Some(owner) => {
+            if before.from().is_some() || !before.is_lent_of(owner) {
+                loose.add(owner, register);
             }
         }
     }

@@ -141,8 +141,10 @@ impl<'a> Registers<'a> {
         ensures kinds { self.new.kinds ≡ written self.old.kinds register (kind_of known.entry) }
         ensures maps { self.new.maps ≡ self.old.maps }
     {
+        let held = self.stays_held(register, known);
         self.forget(register);
         self.change(register, known.forgetting(register), origin);
+        self.set_held(held);
     }
 
     /// A register gets a scalar of a type.
@@ -242,7 +244,9 @@ impl<'a> Registers<'a> {
         ensures maps { self.new.maps ≡ self.old.maps }
     {
         let known = self.known(register);
+        let held = self.all_held();
         self.put(register, known.narrowed(constructor));
+        self.set_held(held);
     }
 
     /// A register that owns a tree gives it up: it is gone, and so is each register that reads the tree.
@@ -250,7 +254,9 @@ impl<'a> Registers<'a> {
         ensures kinds { self.new.kinds ≡ used_up self.old.kinds register }
         ensures maps { self.new.maps ≡ self.old.maps }
     {
+        let held = self.all_held();
         self.lose(register);
         self.put(register, Known::Gone);
+        self.set_held(held);
     }
 }

@@ -1,10 +1,15 @@
 // Taking a cell apart: its fields go into registers, and the register that owned it keeps it as a credit.
-ghost use Rattle.std.specs.Prelude.{◌≡◌, ◌⊎◌, ◌<◌, ℕ, true, false, None, Some, set, length};
+ghost use Rattle.std.specs.Prelude.{◌≡◌, ◌⊎◌, ◌<◌, ℕ, true, false, None, Some, is_some, set, length, map};
 ghost use Rattle.sound_code.specs.Asked.{known_fields};
-ghost use Rattle.sound_code.specs.Kinds.{at, has};
+ghost use Rattle.sound_code.specs.Kinds.{at, has, is_lent_of, is_owned};
 ghost use Rattle.sound_code.specs.Taking.{IsTaken, IsReached, part, is_heir, is_field, part_kind, credit, ends};
+ghost use Rattle.sound_code.specs.Taking.{is_heir_by, with_root};
 ghost use Rattle.register_kinds.specs.Takes.{as_part, seen_at, next_at, AreReached, AreSettled, nones};
 ghost use Rattle.register_kinds.specs.Takes.{is_used, forgotten, fated, filled_by, filled_at, emptied, in_turn};
+ghost use Rattle.register_kinds.specs.Takes.{stands_for};
+ghost use Rattle.register_kinds.specs.Climbs.{AreHeld};
+ghost use Rattle.register_kinds.specs.Owners.{rooted};
+ghost use Rattle.register_kinds.specs.Sorted.{IsTakable};
 ghost use Rattle.register_kinds.specs.Takes.{IsPassed};
 ghost use Rattle.register_kinds.specs.Kept.{Gathers, kept_at, names};
 ghost use Rattle.register_kinds.specs.declared.label_sets.Origin.{Origin};
@@ -19,11 +24,17 @@ use crate::registers::Registers;
 use crate::table::Table;
 use cell_code::From;
 
+// So few registers get another root one by one: where names change, label maps are looked at anew.
+const FEW: usize = 16;
+
+// So often the number of registers that are looked at to find the largest part of a tree is doubled, at the most.
+const MOST_TURNS: usize = 16;
+
 /// A field of a cell, and its type.
 #[derive(Clone, Copy, Debug)]
 pub struct Piece {
-    field: usize,
-    ty: u32,
+    pub field: usize,
+    pub ty: u32,
 }
 
 impl<'a> Registers<'a> {
@@ -36,10 +47,213 @@ impl<'a> Registers<'a> {
         ensures maps { self.new.maps ≡ self.old.maps }
     {
         let types = self.known_fields(table, register);
-        self.pass_all_on(table, register, parts, types);
+        let held = self.can_sort(register, parts, types);
+        self.pass_either(table, register, parts, types, held);
         self.fill(table, register, parts, types);
         self.empty(register, parts, types);
         self.tidy(register);
+        self.settle(held);
+    }
+
+    // Whether all lent registers are held, the register owns a tree and gets no part, and no part's register owns one.
+    fn can_sort(&self, register: u16, parts: &[u16], types: &[u32]) -> bool
+        ensures takable { result ≡ true → IsTakable self.now.kinds register (part parts.now types.now) }
+        ensures free { result ≡ true → (q : ℕ) → is_some (part parts.now types.now q) ≡ true →
+            is_owned (at self.now.kinds q) ≡ false }
+    {
+        if !self.all_held() {
+            return false;
+        }
+        if !self.known(register).is_owned() {
+            return false;
+        }
+        if piece_of(parts, types, register).is_some() {
+            return false;
+        }
+        self.none_owned(parts)
+    }
+
+    // Whether none of some registers owns a tree.
+    fn none_owned(&self, registers: &[u16]) -> bool
+        ensures none { result ≡ true → (q : ℕ) → has registers.now q ≡ true → is_owned (at self.now.kinds q) ≡ false }
+    {
+        for register in registers {
+            if self.known(*register).is_owned() {
+                return false;
+            }
+        }
+        true
+    }
+
+    // It is known that all lent registers are held, or it is found out.
+    fn settle(&mut self, held: bool)
+        requires held { held ≡ true → AreHeld self.now.kinds }
+        ensures kinds { self.new.kinds ≡ self.old.kinds }
+        ensures maps { self.new.maps ≡ self.old.maps }
+    {
+        if held {
+            self.set_held(true);
+        } else {
+            self.find_held();
+        }
+    }
+
+    // What was read through an heir goes on to be read in its tree, and all else that was read of the register's is
+    // gone. Where all lent registers are held, only those are looked at that change one by one.
+    fn pass_either(
+        &mut self,
+        table: &Table<'a>,
+        register: u16,
+        parts: &[u16],
+        types: &[u32],
+        held: bool,
+    )
+        requires takable { held ≡ true → IsTakable self.now.kinds register (part parts.now types.now) }
+        ensures passed { IsPassed table.now self.old.kinds register parts.now types.now self.new.kinds }
+        ensures maps { self.new.maps ≡ self.old.maps }
+    {
+        if !held {
+            self.pass_all_on(table, register, parts, types);
+            return;
+        }
+        if !self.pass_sorted(table, register, parts, types) {
+            self.pass_all_on(table, register, parts, types);
+        }
+    }
+
+    // The same where all lent registers are held. Whether those that change one by one were found.
+    fn pass_sorted(
+        &mut self,
+        table: &Table<'a>,
+        register: u16,
+        parts: &[u16],
+        types: &[u32],
+    ) -> bool
+        requires takable { IsTakable self.now.kinds register (part parts.now types.now) }
+        ensures passed { result ≡ true →
+            IsPassed table.now self.old.kinds register parts.now types.now self.new.kinds }
+        ensures same { result ≡ false → self.new.kinds ≡ self.old.kinds }
+        ensures maps { self.new.maps ≡ self.old.maps }
+    {
+        let keeper = self.choose(table, register, parts, types);
+        if !self.sort(table, register, parts, types, keeper) {
+            return false;
+        }
+        self.forget_ended(table, register, parts, types);
+        self.pass_on(register, parts, types, keeper);
+        self.change_names(register, keeper);
+        true
+    }
+
+    // The heir that keeps the name of the register: the one that most registers reach, unless few do.
+    fn choose(
+        &mut self,
+        table: &Table<'a>,
+        register: u16,
+        parts: &[u16],
+        types: &[u32],
+    ) -> Option<u16>
+        requires held { AreHeld self.now.kinds }
+        ensures apart { (h : ℕ) → result ≡ Some h → (q : ℕ) → is_lent_of h (at self.old.kinds q) ≡ false }
+        ensures own { (h : ℕ) → result ≡ Some h → register < length self.new.kinds }
+        ensures other { (h : ℕ) → result ≡ Some h → h < length self.new.kinds }
+        ensures kinds { self.new.kinds ≡ self.old.kinds }
+        ensures maps { self.new.maps ≡ self.old.maps }
+    {
+        match self.largest(table, register, parts, types) {
+            None => None,
+            Some(heir) => self.checked(register, heir),
+        }
+    }
+
+    // A register as the one that keeps the name of another, where both are there and it owns no tree.
+    fn checked(&self, register: u16, heir: u16) -> Option<u16>
+        ensures free { (h : ℕ) → result ≡ Some h → is_owned (at self.now.kinds h) ≡ false }
+        ensures own { (h : ℕ) → result ≡ Some h → register < length self.now.kinds }
+        ensures other { (h : ℕ) → result ≡ Some h → h < length self.now.kinds }
+    {
+        if !self.is_there(register) {
+            return None;
+        }
+        if !self.is_there(heir) {
+            return None;
+        }
+        if self.known(heir).is_owned() {
+            None
+        } else {
+            Some(heir)
+        }
+    }
+
+    // The heir that most registers reach, as far as that is found by looking at twice as many registers each time until
+    // one heir at the most has more.
+    fn largest(
+        &mut self,
+        table: &Table<'a>,
+        register: u16,
+        parts: &[u16],
+        types: &[u32],
+    ) -> Option<u16>
+        ensures kinds { self.new.kinds ≡ self.old.kinds }
+        ensures maps { self.new.maps ≡ self.old.maps }
+    {
+        let mut largest = None;
+        let mut many = FEW;
+        for _ in 0..MOST_TURNS {
+            let first = self.large(table, register, parts, types, many, None);
+            if first.is_none() {
+                return largest;
+            }
+            largest = first;
+            let second = self.large(table, register, parts, types, many, first);
+            if second.is_none() {
+                return largest;
+            }
+            many = many.saturating_mul(2);
+        }
+        largest
+    }
+
+    // The first heir but one that so many registers reach, where there is one.
+    fn large(
+        &mut self,
+        table: &Table<'a>,
+        register: u16,
+        parts: &[u16],
+        types: &[u32],
+        many: usize,
+        but: Option<u16>,
+    ) -> Option<u16>
+        ensures kinds { self.new.kinds ≡ self.old.kinds }
+        ensures maps { self.new.maps ≡ self.old.maps }
+    {
+        for part in parts {
+            if !is_one(*part, but) && self.is_heir(table, register, parts, types, *part) {
+                if self.has_many(*part, many) {
+                    return Some(*part);
+                }
+            }
+        }
+        None
+    }
+
+    // Whether so many registers reach one.
+    fn has_many(&mut self, register: u16, many: usize) -> bool
+        ensures kinds { self.new.kinds ≡ self.old.kinds }
+        ensures maps { self.new.maps ≡ self.old.maps }
+    {
+        self.list_none();
+        self.list_below(register);
+        let mut place = 0usize;
+        while place < self.lent_len() {
+            if self.lent_len() >= many {
+                return true;
+            }
+            let listed = self.lent_at(place);
+            self.list_below(listed);
+            place += 1;
+        }
+        self.lent_len() >= many
     }
 
     // What was read through an heir goes on to be read in its tree, and all else that was read of the register's is
@@ -51,11 +265,11 @@ impl<'a> Registers<'a> {
         self.gather(register, parts);
         self.find_heirs(table, register, parts, types);
         self.forget_ended(table, register, parts, types);
-        self.pass_on(register, parts, types);
+        self.pass_on(register, parts, types, None);
     }
 
     // Whether a register is known to read the field that it gets, which is no scalar.
-    fn is_heir(
+    pub(crate) fn is_heir(
         &self,
         table: &Table<'a>,
         register: u16,
@@ -65,14 +279,7 @@ impl<'a> Registers<'a> {
     ) -> bool
         ensures is { result ≡ is_heir table.now self.now.kinds register (part parts.now types.now) other }
     {
-        let from = self.known(other).from();
-        if !is_of(register, from) {
-            return false;
-        }
-        match piece_of(parts, types, other) {
-            None => false,
-            Some(piece) => !table.is_scalar(piece.ty) && is_field(register, piece.field, from),
-        }
+        is_heir_by(table, register, parts, types, self.known(other), other)
     }
 
     // The heir that a lent register was seen to reach.
@@ -246,20 +453,29 @@ impl<'a> Registers<'a> {
     }
 
     // Registers that aren't used get the heirs that they reach as roots; where they reach none, and were lent of the
-    // register, they are gone.
-    fn pass_on(&mut self, register: u16, parts: &[u16], types: &[u32])
-        ensures kinds { self.new.kinds ≡ in_turn (fated register (part parts.now types.now) self.old.reached)
+    // register, they are gone. The register stands for the heir that keeps its name.
+    fn pass_on(&mut self, register: u16, parts: &[u16], types: &[u32], keeper: Option<u16>)
+        ensures kinds { self.new.kinds
+            ≡ in_turn (fated (stands_for keeper register) register (part parts.now types.now) self.old.reached)
             self.old.kinds self.old.lent }
         ensures maps { self.new.maps ≡ self.old.maps }
     {
         for place in 0..self.lent_len() {
-            self.pass_on_in(register, parts, types, self.lent_at(place));
+            self.pass_on_in(register, parts, types, keeper, self.lent_at(place));
         }
     }
 
     // The same of one register.
-    fn pass_on_in(&mut self, register: u16, parts: &[u16], types: &[u32], lent: u16)
-        ensures kinds { self.new.kinds ≡ set self.old.kinds lent (fated register (part parts.now types.now)
+    fn pass_on_in(
+        &mut self,
+        register: u16,
+        parts: &[u16],
+        types: &[u32],
+        keeper: Option<u16>,
+        lent: u16,
+    )
+        ensures kinds { self.new.kinds ≡ set self.old.kinds lent
+            (fated (stands_for keeper register) register (part parts.now types.now)
             self.old.reached lent (at self.old.kinds lent)) }
         ensures maps { self.new.maps ≡ self.old.maps }
         ensures lent { self.new.lent ≡ self.old.lent }
@@ -269,11 +485,43 @@ impl<'a> Registers<'a> {
             return;
         }
         match self.seen(lent) {
-            Some(heir) => self.put_alike(lent, self.known(lent).with_root(heir)),
+            Some(heir) => self.put_root(lent, stands_for(keeper, register, heir)),
             None => {
                 if self.known(lent).is_lent_of(register) {
                     self.put(lent, Known::Gone);
                 }
+            }
+        }
+    }
+
+    // A register that is lent is lent of another.
+    fn put_root(&mut self, lent: u16, owner: u16)
+        ensures kinds { self.new.kinds ≡ set self.old.kinds lent (with_root owner (at self.old.kinds lent)) }
+        ensures maps { self.new.maps ≡ self.old.maps }
+        ensures lent { self.new.lent ≡ self.old.lent }
+        ensures reached { self.new.reached ≡ self.old.reached }
+    {
+        let known = self.known(lent);
+        if !known.is_lent_of(owner) {
+            self.put_alike(lent, known.with_root(owner));
+        }
+    }
+
+    // A register and the heir that keeps its name change names, where there is such an heir.
+    fn change_names(&mut self, register: u16, keeper: Option<u16>)
+        requires own { (h : ℕ) → keeper ≡ Some h → register < length self.now.kinds }
+        requires other { (h : ℕ) → keeper ≡ Some h → h < length self.now.kinds }
+        ensures kinds { self.new.kinds ≡ map (rooted (stands_for keeper register)) self.old.kinds }
+        ensures maps { self.new.maps ≡ self.old.maps }
+    {
+        match keeper {
+            None => (),
+            Some(keeper) => {
+                self.known.swap(register, keeper);
+                self.trees.swap(register, keeper);
+                self.loose.swap(register, keeper);
+                self.held = false;
+                self.log.start();
             }
         }
     }
@@ -350,6 +598,32 @@ impl<'a> Registers<'a> {
     }
 }
 
+// The register that stands for an heir until a register and the one that keeps its name change names.
+fn stands_for(keeper: Option<u16>, register: u16, heir: u16) -> u16
+    ensures is { result ≡ stands_for keeper register heir }
+{
+    match keeper {
+        None => heir,
+        Some(keeper) => {
+            if heir == register {
+                keeper
+            } else if heir == keeper {
+                register
+            } else {
+                heir
+            }
+        }
+    }
+}
+
+// Whether a register is one, where there is one.
+fn is_one(register: u16, one: Option<u16>) -> bool {
+    match one {
+        None => false,
+        Some(one) => register == one,
+    }
+}
+
 // Whether one of two is so.
 fn either(one: bool, other: bool) -> bool
     ensures yes { result ≡ true → (one ≡ true) ⊎ (other ≡ true) }
@@ -358,8 +632,29 @@ fn either(one: bool, other: bool) -> bool
     one || other
 }
 
+// Whether a register of which this is known reads the field that it gets, which is no scalar.
+pub(crate) fn is_heir_by(
+    table: &Table,
+    register: u16,
+    parts: &[u16],
+    types: &[u32],
+    known: Known,
+    other: u16,
+) -> bool
+    ensures is { result ≡ is_heir_by table.now register (kind_of known.entry) (part parts.now types.now other) }
+{
+    let from = known.from();
+    if !is_of(register, from) {
+        return false;
+    }
+    match piece_of(parts, types, other) {
+        None => false,
+        Some(piece) => !table.is_scalar(piece.ty) && is_field(register, piece.field, from),
+    }
+}
+
 // The first part that a register gets.
-fn piece_of(parts: &[u16], types: &[u32], register: u16) -> Option<Piece>
+pub(crate) fn piece_of(parts: &[u16], types: &[u32], register: u16) -> Option<Piece>
     ensures is { as_part result ≡ part parts.now types.now register }
 {
     let mut field = 0usize;

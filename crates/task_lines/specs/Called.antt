@@ -51,7 +51,8 @@ needed_by_all (c ∷ cs) k = wanted c.function.credits.items c.values k + needed
 -- functions have one name.
 pub record IsReadable (code : Code) : Type 0 where
   pub table : IsSoundTable code.types
-  pub known : (n : ℕ) (f : Function) → slice_get code.functions.items n ≡ Some f → AreTypes code.types (types_of f.params)
+  pub known : (n : ℕ) (f : Function) → slice_get code.functions.items n ≡ Some f →
+      AreTypes code.types (types_of f.params)
   pub credits : (n : ℕ) (f : Function) → slice_get code.functions.items n ≡ Some f → AreCredits f.credits.items
   pub names : (name : Name) (m n : ℕ) → HasName code.functions.items name m → HasName code.functions.items name n →
       m ≡ n

@@ -33,7 +33,8 @@ AreStarted code limits (c ∷ cs) (l ∷ ls) (b ∷ bs) = IsStarted code limits 
 AreStarted code limits cs ls bs = ⊥
 
 -- The calls have their cells in the loader, apart from one another, and are started so.
-pub record AreReady (code : Code) (limits : RunLimits) (cs : List Called) (l : Loading) (starts : List Start) : Type 0 where
+pub record AreReady (code : Code) (limits : RunLimits) (cs : List Called) (l : Loading) (starts : List Start) :
+    Type 0 where
   pub lying : List Lying
   pub apart : LieApart (plain code) (store_of l.cells l.released) lying
   pub started : AreStarted code limits cs lying starts

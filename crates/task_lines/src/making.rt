@@ -1,5 +1,6 @@
 // The cells of a task's values and of its function's credits are made.
-ghost use Rattle.std.specs.Prelude.{◌≡◌, ◌<◌, ◌≤◌, ◌^◌, ◌++◌, ◌∷◌, ◌*◌, ◌+◌, ℕ, List, [], length, IfOk, OnOk, replicate};
+ghost use Rattle.std.specs.Prelude.{◌≡◌, ◌<◌, ◌≤◌, ◌^◌, ◌++◌, ◌∷◌, ◌*◌, ◌+◌, ℕ, List, [], length};
+ghost use Rattle.std.specs.Prelude.{IfOk, OnOk, replicate};
 ghost use Rattle.fip_language.specs.declared.limits.TheConstants.{MOST_FIELDS};
 ghost use Rattle.fip_language.specs.Store.{Parts};
 ghost use Rattle.fip_language.specs.Values.{Values};
@@ -95,8 +96,8 @@ impl<'l> TaskLine<'l> {
         code: &Code,
         loader: Loader,
     ) -> Result<(Loader, Words), NoMemory>
-        ensures made { IsReadable code.now → (c : Called) → IsLineOf code.now self.now c → IfOk result (λ r. (trees : Parts)
-            × (spares : List ℕ) × IsMadeOf code.now.types c loader r.0 trees spares r.1) }
+        ensures made { IsReadable code.now → (c : Called) → IsLineOf code.now self.now c → IfOk result (λ r.
+            (trees : Parts) × (spares : List ℕ) × IsMadeOf code.now.types c loader r.0 trees spares r.1) }
     {
         let Some(function) = function_at(code, self.entry) else {
             return Err(NoMemory);

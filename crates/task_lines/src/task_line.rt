@@ -1,5 +1,6 @@
 // The lines of tasks: the name of an entry, and in brackets values of its parameters' types, with commas between them.
-ghost use Rattle.std.specs.Prelude.{◌≡◌, ◌<◌, ◌≤◌, ℕ, List, [], ◌∷◌, true, false, length, drop, IfOk, IfSome, Ok, None, Some, slice_get};
+ghost use Rattle.std.specs.Prelude.{◌≡◌, ◌<◌, ◌≤◌, ℕ, List, [], ◌∷◌, true, false, length, drop, slice_get};
+ghost use Rattle.std.specs.Prelude.{IfOk, IfSome, Ok, None, Some};
 ghost use Rattle.fip_language.specs.Values.{Value, Values, cells, cells_of_all};
 ghost use Rattle.fip_language.specs.Store.{count};
 ghost use Rattle.session_meaning.specs.Lines.{Symbol, Comma, SignText};

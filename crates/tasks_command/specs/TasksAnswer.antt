@@ -6,8 +6,8 @@
 -- with the calls that are given, and the frames that a fip function needs or that are given. Whose turn it is when
 -- changes none of that, so neither the seed nor the number of turns is spoken of.
 --
--- The lines `rev(Cons(1, Nil), Nil)` and `rev(Nil, Nil)` come to `0: Cons(1, Nil)` and `1: Nil`. A third line `rev(Nil)`
--- makes it `bad task 3`, and with 2 words the store is too small, since 3 are needed.
+-- The lines `rev(Cons(1, Nil), Nil)` and `rev(Nil, Nil)` come to `0: Cons(1, Nil)` and `1: Nil`. A third line
+-- `rev(Nil)` makes it `bad task 3`, and with 2 words the store is too small, since 3 are needed.
 use Rattle.std.specs.Prelude.{◌≡◌, ℕ, List, Result}
 use Rattle.command_line.specs.Words.{Room}
 use Rattle.command_outcome.specs.declared.failure.Failure.{Failure}

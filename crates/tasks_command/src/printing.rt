@@ -1,6 +1,6 @@
 // The lines of tasks that ended.
-ghost use Rattle.std.specs.Prelude.{◌≡◌, ◌<◌, ◌++◌, ℕ, List, [], true, Some, codes, length, slice_get, IfOk, OnOk, string_bytes};
-ghost use Rattle.std.specs.Prelude.{if◌then◌else◌};
+ghost use Rattle.std.specs.Prelude.{◌≡◌, ◌<◌, ◌++◌, ℕ, List, [], true, Some, codes, length, slice_get};
+ghost use Rattle.std.specs.Prelude.{IfOk, OnOk, if◌then◌else◌, string_bytes};
 ghost use Rattle.std.specs.Fmt.{decimal};
 ghost use Rattle.fip_language.specs.Meaning.{Answer};
 ghost use Rattle.fip_language.specs.Values.{Values};

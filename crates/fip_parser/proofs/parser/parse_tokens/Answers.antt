@@ -31,8 +31,8 @@ loop-token-preserved c =
       well = c.in-Ok.ensures.well;
     }
 
-pub returns-in-Top-clause-spelt : goal.returns-in-Top-clause-spelt
-returns-in-Top-clause-spelt c =
+pub returns-then-is_ended-clause-spelt : goal.returns-then-is_ended-clause-spelt
+returns-then-is_ended-clause-spelt c =
     let r = c.loop-token.reading in
     let xs = c.args.tokens.now.tokens.items in
     let ys = c.as_slice-token-items.result.now in
@@ -40,10 +40,10 @@ returns-in-Top-clause-spelt c =
     let ds = map surface.declaration r.declarations.items in
     let h = c.loop-token.invariant.reads in
     reads_ended (tokens xs) i (reading_of r).machine (reading_of r).seen ds h (at_end xs ys i c.as_slice-token-items.ensures.value c.loop-token-test.false h.within)
-    (ap (λ s. machine.ended_in ds (view.state s)) c.in-Top.is)
+    (ap (λ s. machine.ended_in ds (view.state s)) (c.is_top-is_ended.ensures.top c.if-is_ended.true))
 
-pub returns-in_default : goal.returns-in_default
-returns-in_default c =
+pub returns : goal.returns
+returns c =
     let r = c.loop-token.reading in
     let end = c.args.tokens.now.end in
     let xs = c.args.tokens.now.tokens.items in
@@ -56,5 +56,5 @@ returns-in_default c =
       spelt = tt;
       misspelt =
           subst (IsMisspeltBy (tokens xs) end) (sym c.refused.ensures)
-          (R.E02, i, reads_unended (tokens xs) i (reading_of r).machine (reading_of r).seen h e (unended r.state ds c.in_default.not-Top), ap (refusal_of R.E02) (place_of_end (tokens xs) end i e));
+          (R.E02, i, reads_unended (tokens xs) i (reading_of r).machine (reading_of r).seen h e (unended r.state ds (c.is_top-is_ended.ensures.open c.if-is_ended.false)), ap (refusal_of R.E02) (place_of_end (tokens xs) end i e));
     }

@@ -1,4 +1,4 @@
-use Rattle.std.proofs.Common.{◌≡◌, ◌∙◌, [], map, None, sym, ap, subst}
+use Rattle.std.proofs.Common.{◌≡◌, ◌∙◌, [], map, None, sym, ap, subst, rules}
 use Rattle.fip_grammar.specs.Machine as machine
 use Rattle.fip_grammar.specs.declared.Sign.TheVariants as S
 use Rattle.fip_base.specs.SurfaceView.{bind, top, below}
@@ -24,3 +24,6 @@ returns-in_ok-push-in-Semicolon c =
           (sym (steps.let_pushed c.push.new.self.items b.partial.lets.items bs s c.in_ok-push-in-Semicolon.ensures.items one))
           ∙ ap (λ z. machine.in_body machine.AtBlock z) (sym c.start_expression.ensures.started));
     }
+
+pub returns-in_default : goal.returns-in_default
+returns-in_default c = record { next = λ negated w x e. c.refused.ensures.next negated w x (e ∙ search rules) }

@@ -1,4 +1,4 @@
-use Rattle.std.proofs.Common.{◌∙◌, sym, ap}
+use Rattle.std.proofs.Common.{◌∙◌, sym, ap, rules}
 use Rattle.fip_grammar.specs.Machine as machine
 use Rattle.fip_base.specs.SurfaceView.{block, pattern}
 use Rattle.parser_state.specs.StateView as view
@@ -30,3 +30,6 @@ returns-in-CurlyClose c =
           ∙ ap (λ z. machine.close_match (record m { clauses = z }) (view.under_operand b))
           (sym (steps.clause_pushed c.push.new.self.items c.args.clauses.clauses.items c.args.pattern c.args.block c.in_ok-push.ensures.items)));
     }
+
+pub returns-in_default : goal.returns-in_default
+returns-in_default c = record { next = λ negated w x e. c.refused.ensures.next negated w x (e ∙ search rules) }

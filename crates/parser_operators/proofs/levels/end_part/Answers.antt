@@ -1,4 +1,4 @@
-use Rattle.std.proofs.Common.{◌∙◌, map, sym, ap}
+use Rattle.std.proofs.Common.{◌∙◌, map, sym, ap, rules}
 use Rattle.fip_grammar.specs.Machine as machine
 use Rattle.fip_base.specs.SurfaceView.{block, expression}
 use Rattle.parser_state.specs.StateView as view
@@ -15,3 +15,6 @@ returns-in-RoundClose c =
           ∙ ap (λ s. machine.end_level (view.body b) (machine.ForTuple c.args.place (map expression c.args.done.items)) (block c.args.block) s) c.in-RoundClose.is
           ∙ steps.at_tuple b c.args.place _ _ (sym c.in_ok-done.ensures));
     }
+
+pub returns-in_default : goal.returns-in_default
+returns-in_default c = record { next = λ negated w x e. c.refused.ensures.next negated w x (e ∙ search rules) }

@@ -1,12 +1,11 @@
 use Rattle.std.proofs.Common.{◌≡◌, drop}
 use Rattle.sound_code.specs.Fitting.{fit_all}
 use Rattle.register_kinds.specs.Arrivals.{arrive}
-use Rattle.register_kinds.specs.Views.{kinds_of}
 use Rattle.register_kinds.proofs.fits.all_fit.Given as goal
 
 abbrev pub invariant-loop-kind : goal.invariant-loop-kind
 invariant-loop-kind l = record {
   step : l.place ≡ l.kind-index;
-  rest : fit_all (drop l.kind-index l.kinds) (arrive l.tested l.place (kinds_of (drop l.place l.known)))
-      ≡ fit_all l.kinds (arrive l.tested 0 (kinds_of l.known));
+  rest : fit_all (drop l.kind-index l.kinds) (arrive l.tested l.place (drop l.place l.known))
+      ≡ fit_all l.kinds (arrive l.tested 0 l.known);
 }

@@ -2,7 +2,6 @@ use Rattle.std.proofs.Common.{◌≡◌, ◌+◌, inl, inr, sym, ap, ◌∙◌, 
 use Rattle.std.specs.Prelude.{true, slice_index}
 use Rattle.sound_code.specs.Kinds.{at, has}
 use Rattle.register_kinds.specs.Kept.{leads}
-use Rattle.register_kinds.specs.Views.{kinds_of}
 use Rattle.register_kinds.proofs.LentLists.{grows_has, grows_on}
 use Rattle.register_kinds.proofs.Places.{drop_index}
 use Rattle.register_kinds.proofs.Reaching.{one_of}
@@ -17,8 +16,8 @@ loop-other-preserved c =
       listed = λ q a l b. elim (c.loop-other.invariant.listed q a l b) [
         | inl h ↦ elim (one_of x q (drop (i + 1) c.args.others.now) (ap (λ xs. has xs q) (sym next) ∙ h)) [
           | inl g ↦ inr (subst (λ z. has c.list_one.new.lents.held z ≡ true) g
-              (c.list_one.ensures.listed (ap (leads c.args.register) (c.known_in.ensures.is
-              ∙ ap (at (kinds_of c.args.known.now)) g) ∙ l)
+              (c.list_one.ensures.listed (ap (leads c.args.register) (c.get.ensures.is
+              ∙ ap (at c.args.known.now) g) ∙ l)
               (let r = c.loop-other.invariant.room in let z = g in omega arith)))
           | inr g ↦ inl g
         ]

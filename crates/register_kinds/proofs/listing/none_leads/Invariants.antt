@@ -2,10 +2,9 @@ use Rattle.std.proofs.Common.{◌≡◌, ◌⊎◌, ℕ, drop}
 use Rattle.std.specs.Prelude.{true, false}
 use Rattle.sound_code.specs.Kinds.{at, has}
 use Rattle.register_kinds.specs.Kept.{leads}
-use Rattle.register_kinds.specs.Views.{kinds_of}
 use Rattle.register_kinds.proofs.listing.none_leads.Given as goal
 
 abbrev pub invariant-loop-other : goal.invariant-loop-other
 invariant-loop-other l =
     (q : ℕ) → has l.others q ≡ true →
-    (has (drop l.other-index l.others) q ≡ true) ⊎ (leads l.register (at (kinds_of l.known) q) ≡ false)
+    (has (drop l.other-index l.others) q ≡ true) ⊎ (leads l.register (at l.known q) ≡ false)

@@ -1,11 +1,14 @@
 use Rattle.std.proofs.Common.{◌≡◌}
 use Rattle.cell_lower.specs.Scenes.{sides_of}
+use Rattle.cell_lower.specs.Writing.{setting}
 use Rattle.cell_lower.proofs.Choosing.{Turns}
+use Rattle.cell_lower.proofs.Sided.{TurnsLaid}
 use Rattle.cell_lower.proofs.lowerer.Lowerer.choose.Given as goal
 
 abbrev pub invariant-loop : goal.invariant-loop
 invariant-loop l = record {
   turns : Turns l.initial.self.context.now.program.now.types l.choice l.clause l.initial.self.buffer (sides_of l.initial.sides.items) l.self.buffer (sides_of l.sides.items);
+  laid : TurnsLaid (setting l.initial.self.context.now) l.initial.self.frame.held l.choice l.clause l.initial.self.buffer (sides_of l.initial.sides.items) l.self.buffer (sides_of l.sides.items);
   frame : l.self.frame ≡ l.initial.self.frame;
   context : l.self.context ≡ l.initial.self.context;
 }

@@ -1,7 +1,8 @@
-use Rattle.std.proofs.Common.{sym, ap, arith, subst, ◌∙◌, ◌+◌, set, take, refl}
+use Rattle.std.proofs.Common.{sym, ap, arith, subst, ◌≡◌, ◌⊎◌, ℕ, ◌∙◌, ◌+◌, set, take, refl}
+use Rattle.std.specs.Prelude.{true}
 use Rattle.sound_code.specs.Kinds.{has}
 use Rattle.register_kinds.specs.Kept.{AreLents, Grows}
-use Rattle.register_kinds.proofs.LentLists.{all_true, lents_added, held_new, grows_one, grows_same}
+use Rattle.register_kinds.proofs.LentLists.{all_true, lents_added, held_new, held_only, grows_one, grows_same}
 use Rattle.register_kinds.proofs.lents.Lents.add.Goals as goal
 
 pub invariant_of-self : goal.invariant_of-self
@@ -21,6 +22,13 @@ returns-then-not-is_marked-clause-more c =
     subst (λ v. Grows v.held (take (c.self.inside.top + 1) (set c.self.inside.items.items c.self.inside.top
     c.args.register))) c.self.view_is
     (grows_one c.self.inside.items.items c.self.inside.top c.args.register
+    (let a = c.if-self-len.true in let b = c.len.ensures in omega arith))
+
+pub returns-then-not-is_marked-clause-only : goal.returns-then-not-is_marked-clause-only
+returns-then-not-is_marked-clause-only c =
+    subst (λ v. (q : ℕ) → has (take (c.self.inside.top + 1) (set c.self.inside.items.items c.self.inside.top
+    c.args.register)) q ≡ true → (has v.held q ≡ true) ⊎ (c.args.register ≡ q)) c.self.view_is
+    (held_only c.self.inside.items.items c.self.inside.top c.args.register
     (let a = c.if-self-len.true in let b = c.len.ensures in omega arith))
 
 pub returns-else-not-is_marked-clause-more : goal.returns-else-not-is_marked-clause-more

@@ -1,14 +1,13 @@
 use Rattle.std.proofs.Common.{sym, ◌∙◌, ap, map, slice_get}
 use Rattle.sound_code.specs.Codes.{plain_label}
 use Rattle.sound_code.specs.Fitting.{fit_all}
-use Rattle.register_kinds.specs.Views.{kinds_of}
 use Rattle.register_kinds.proofs.Arriving.{arrive_none, keeps_seen}
 use Rattle.register_kinds.proofs.registers.Registers.fit.Goals as goal
 
 pub invariant_of-self : goal.invariant_of-self
 invariant_of-self c =
-    keeps_seen (kinds_of c.self.inside.known.items) (map plain_label c.self.inside.labels.now) c.self.inside.lents
-    c.self.inside.links c.self.inside.log c.see.new.self c.self.inside.busy c.self.inside.asked.items
+    keeps_seen c.self.inside.known (map plain_label c.self.inside.labels.now) c.self.inside.lents
+    c.self.inside.below c.self.inside.trees c.self.inside.loose c.self.inside.held c.self.inside.log c.see.new.self c.self.inside.busy c.self.inside.asked.items
     c.self.inside.sets c.args.label c.self.invariant
     (λ m e. ap (λ s. fit_all m.kinds s.kinds) (c.self.view_is ∙ c.fits_map-fits.ensures.same)
     ∙ ap (fit_all m.kinds) (sym (arrive_none 0 c.args.self.now.kinds))

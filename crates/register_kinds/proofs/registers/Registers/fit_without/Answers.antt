@@ -3,14 +3,13 @@ use Rattle.sound_code.specs.Codes.{plain_label}
 use Rattle.sound_code.specs.Fitting.{fit_all}
 use Rattle.register_kinds.specs.Arrivals.{arrive}
 use Rattle.std.specs.Prelude.{Some}
-use Rattle.register_kinds.specs.Views.{kinds_of}
 use Rattle.register_kinds.proofs.Arriving.{arrive_tested, keeps_seen_but}
 use Rattle.register_kinds.proofs.registers.Registers.fit_without.Goals as goal
 
 pub invariant_of-self : goal.invariant_of-self
 invariant_of-self c =
-    keeps_seen_but (kinds_of c.self.inside.known.items) (map plain_label c.self.inside.labels.now) c.self.inside.lents
-    c.self.inside.links c.self.inside.log c.see_but.new.self c.self.inside.busy c.self.inside.asked.items
+    keeps_seen_but c.self.inside.known (map plain_label c.self.inside.labels.now) c.self.inside.lents
+    c.self.inside.below c.self.inside.trees c.self.inside.loose c.self.inside.held c.self.inside.log c.see_but.new.self c.self.inside.busy c.self.inside.asked.items
     c.self.inside.sets c.args.label
     (record { register = c.args.register; constructor = c.args.constructor }) c.self.invariant
     (λ m e. ap (λ s. fit_all m.kinds (arrive (Some (record {

@@ -1,8 +1,7 @@
 use Rattle.std.proofs.Common.{sym, ◌∙◌, ap, length, slice_get, subst, arith}
 use Rattle.sound_code.specs.Fitting.{fit_all}
 use Rattle.register_kinds.specs.Arrivals.{arrive}
-use Rattle.register_kinds.specs.Busy.{IsAsked, busy_in}
-use Rattle.register_kinds.specs.Views.{kinds_of}
+use Rattle.register_kinds.specs.Busy.{IsAsked}
 use Rattle.register_kinds.proofs.AskedMaps.{got_asked}
 use Rattle.register_kinds.proofs.Sparse.{said_by}
 use Rattle.register_kinds.proofs.registers.Registers.fits_anew.Goals as goal
@@ -27,12 +26,11 @@ returns-in-Some-clause-is c =
     let long = c.self.invariant.are_maps.long c.args.label m g in
     let few = c.self.invariant.few in
     c.asked_fit.ensures.is
-    (ap length (sym c.requires.map.2) ∙ long ∙ ap (λ ks. length (kinds_of ks)) (sym c.deref-in-Some.ensures.value))
-    (c.self.invariant.counted ∙ ap (λ ks. busy_in (kinds_of ks)) (sym c.deref-in-Some.ensures.value))
+    (ap length (sym c.requires.map.2) ∙ long)
+    c.self.invariant.counted
     (subst (λ z. IsAsked z c.in-Some.asked.now) c.requires.map.2
     (c.self.invariant.asks c.args.label m c.in-Some.asked.now g
     (ap (λ xs. slice_get xs c.args.label) (sym c.deref.ensures.value)
     ∙ got_asked c.deref.result.now c.args.label c.in-Some.asked.now _ c.in-Some.ensures.lookup.3.0
     c.in-Some.ensures.lookup.1) (omega arith)))
-    ∙ ap (λ ks. fit_all c.args.kinds.now (arrive c.args.tested 0 (kinds_of ks))) c.deref-in-Some.ensures.value
     ∙ ap (λ s. fit_all c.args.kinds.now (arrive c.args.tested 0 s.kinds)) c.self.view_is

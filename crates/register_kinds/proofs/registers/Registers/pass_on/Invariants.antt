@@ -1,13 +1,13 @@
 use Rattle.std.proofs.Common.{◌≡◌, drop}
 use Rattle.sound_code.specs.Taking.{part}
-use Rattle.register_kinds.specs.Takes.{fated, in_turn}
+use Rattle.register_kinds.specs.Takes.{fated, in_turn, stands_for}
 use Rattle.register_kinds.proofs.registers.Registers.pass_on.Given as goal
 
 abbrev pub invariant-loop-place : goal.invariant-loop-place
 invariant-loop-place l = record {
-  kinds : in_turn (fated l.register (part l.parts l.types) l.initial.self.reached)
+  kinds : in_turn (fated (stands_for l.keeper l.register) l.register (part l.parts l.types) l.initial.self.reached)
       l.self.kinds (drop l.place l.initial.self.lent)
-      ≡ in_turn (fated l.register (part l.parts l.types) l.initial.self.reached)
+      ≡ in_turn (fated (stands_for l.keeper l.register) l.register (part l.parts l.types) l.initial.self.reached)
       l.initial.self.kinds l.initial.self.lent;
   maps : l.self.maps ≡ l.initial.self.maps;
   lent : l.self.lent ≡ l.initial.self.lent;

@@ -1,5 +1,5 @@
 use Rattle.std.proofs.Common.{sym, ◌∙◌, ◌+◌, ◌++◌, ap, length, set, take, drop}
-use Rattle.register_kinds.specs.Views.{kind_of, kinds_of}
+use Rattle.register_kinds.specs.Views.{kind_of}
 use Rattle.register_kinds.proofs.Entered.{set_next}
 use Rattle.register_kinds.proofs.registers.Registers.put_all.Goals as goal
 
@@ -8,9 +8,9 @@ loop-kind-preserved c = record {
   step = ap (λ n. n + 1) c.loop-kind.invariant.step;
   kinds = c.change.ensures.kinds
       ∙ ap (λ ks. set ks c.loop-kind.register (kind_of c.of.result)) c.loop-kind.invariant.kinds
-      ∙ ap (λ n. set (take c.loop-kind.kind-index c.args.kinds.now ++ drop c.loop-kind.kind-index (kinds_of c.self.inside.known.items)) n
+      ∙ ap (λ n. set (take c.loop-kind.kind-index c.args.kinds.now ++ drop c.loop-kind.kind-index c.self.inside.known) n
       (kind_of c.of.result)) c.loop-kind.invariant.step
-      ∙ set_next c.args.kinds.now (kinds_of c.self.inside.known.items) c.loop-kind.kind-index (kind_of c.of.result) _
+      ∙ set_next c.args.kinds.now c.self.inside.known c.loop-kind.kind-index (kind_of c.of.result) _
       c.loop-kind-test.true (c.requires.long ∙ ap (λ s. length s.kinds) (sym c.self.view_is)) (c.of.ensures.same ∙ c.kind-item.is);
   maps = c.change.ensures.maps ∙ c.loop-kind.invariant.maps;
 }

@@ -1,0 +1,9 @@
+use Rattle.std.proofs.Common.{◌≡◌}
+use Rattle.sound_code.specs.Types.{numbers}
+use Rattle.match_knowledge.specs.View.{known}
+use Rattle.laid_code.specs.Sights.{kept}
+use Rattle.cell_lower.specs.Overlays.{may_be}
+use Rattle.cell_lower.proofs.choices.left_of.Given as goal
+
+abbrev pub invariant-loop-number : goal.invariant-loop-number
+invariant-loop-number l = l.numbers.items ≡ kept (may_be (known l.known)) (numbers 0 l.number)

@@ -1,0 +1,17 @@
+use Rattle.std.proofs.Common.{ap, ◌∙◌, inl, inr}
+use Rattle.sound_code.specs.Kinds.{at, from_of, is_lent_of}
+use Rattle.register_kinds.specs.Kept.{names}
+use Rattle.register_kinds.proofs.Keeps.{or_cases}
+use Rattle.register_kinds.proofs.LentLists.{grows_has, grows_on}
+use Rattle.register_kinds.proofs.registers.Registers.list_to.Goals as goal
+
+pub returns-clause-listed : goal.returns-clause-listed
+returns-clause-listed c =
+    λ q e. elim (or_cases (names c.args.register (from_of (at c.args.self.now.kinds q)))
+    (is_lent_of c.args.register (at c.args.self.now.kinds q)) e) [
+      | inl h ↦ grows_has _ _ c.list_tree.ensures.more q (c.list_below.ensures.listed q h)
+      | inr h ↦ c.list_tree.ensures.listed q (ap (λ ks. is_lent_of c.args.register (at ks q)) c.list_below.ensures.kinds ∙ h)
+    ]
+
+pub returns-clause-more : goal.returns-clause-more
+returns-clause-more c = grows_on _ _ _ c.list_below.ensures.more c.list_tree.ensures.more

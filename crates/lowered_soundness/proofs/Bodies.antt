@@ -655,9 +655,9 @@ module _ (c : PlainCode) (f : PlainFunction) (st : Setting) (wd : W.World) (w : 
         let empty1 : (r : ℕ) → suc r ≤ k0.next → held_at k0.held r ≡ H.Nothing → held_at l1.held r ≡ H.Nothing = λ r low z. wide_empty (held_at l1.held r) (on.same_held r ∙ ap widened z) in
         let below1 = below_same k l1 n.next (on.same_names ∙ bare.names) below in
         let apart : ch.takes ≡ true → (r : ℕ) → IsUnused st l1 (Match g t p a q body cs) r → r ≡ register ch.root → ⊥ = λ takes r free same. (
-            let named = ap (λ ns. register_of ns (Some x.number)) on.same_names ∙ (ap (register_of k0.names) (sym x.is) ∙ (laid.begins.named ∙ ap Some (sym same))) in
-            let used = or_left (g && uses x.number a) (used_in_block st.instances x.number body || used_in_clauses st.instances x.number cs) (ap (λ b. b && uses x.number a) (and_left g (not (w.scalar t)) (sym on.takes ∙ takes)) ∙ variable_uses a laid.variable x.number laid.is_variable x.is) in
-            true≢false (sym used ∙ free x.number named)) in
+        let named = ap (λ ns. register_of ns (Some x.number)) on.same_names ∙ (ap (register_of k0.names) (sym x.is) ∙ (laid.begins.named ∙ ap Some (sym same))) in
+        let used = or_left (g && uses x.number a) (used_in_block st.instances x.number body || used_in_clauses st.instances x.number cs) (ap (λ b. b && uses x.number a) (and_left g (not (w.scalar t)) (sym on.takes ∙ takes)) ∙ variable_uses a laid.variable x.number laid.is_variable x.is) in
+        true≢false (sym used ∙ free x.number named)) in
         let takes_same : ch.takes ≡ gives_credits st g t = h.13.takes in
         let belongs : Belongs ch (Match g t p a q body cs) cs = record {
           uses = λ x e. or_right (g && uses x a) (used_in_block st.instances x body || used_in_clauses st.instances x cs) (or_right (used_in_block st.instances x body) (used_in_clauses st.instances x cs) e);

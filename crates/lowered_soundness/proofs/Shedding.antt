@@ -183,8 +183,8 @@ module _ (c : PlainCode) (f : PlainFunction) (s : Scope) (B : ℕ → Bool) (K :
         (subst (BareRight c.types) (sym held) (cleared_bares c.types g r ties.bares))
         enough
         (λ m q. counted_left k.credits h.size r h.rest g (held_at after.held) h.taken ties.credits
-            (λ m. ap (λ x. is_credit_of m (x r)) held ∙ ap (is_credit_of m) (setting_here g r H.Nothing))
-            (λ m p ne. ap (λ x. is_credit_of m (x p)) held ∙ ap (is_credit_of m) (setting_other g r H.Nothing p ne)) m q)
+        (λ m. ap (λ x. is_credit_of m (x r)) held ∙ ap (is_credit_of m) (setting_here g r H.Nothing))
+        (λ m p ne. ap (λ x. is_credit_of m (x p)) held ∙ ap (is_credit_of m) (setting_other g r H.Nothing p ne)) m q)
         (λ q past. ap (λ x. x q) held ∙ cleared q (ties.fresh q past));
     each = λ q. subst (λ x. (x q ≡ g q) ⊎ (x q ≡ H.Nothing)) (sym held) (setting_holds g r q);
     stays = subst (λ x. Stays g x n) (sym held) (setting_stays g r H.Nothing n (ap is_idle credit));

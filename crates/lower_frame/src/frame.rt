@@ -1,5 +1,6 @@
 // What is known of the registers of a function at a place of its code.
-ghost use Rattle.std.specs.Prelude.{◌≡◌, ◌<◌, ℕ, suc, true, [], ◌∷◌, Some, IfOk, IfSome, IfNone, OnOk, get_or, length, map, slice_get};
+ghost use Rattle.std.specs.Prelude.{◌≡◌, ◌<◌, ℕ, suc, true, [], ◌∷◌, Some, IfOk, IfSome, IfNone, OnOk, get_or};
+ghost use Rattle.std.specs.Prelude.{length, map, slice_get};
 ghost use Rattle.lowered_code.specs.Choosing.{Meets};
 ghost use Rattle.lowered_code.specs.Bodies as B;
 ghost use Rattle.lowered_code.specs.Functions.{nothing_known, unless_in, with_credit};

@@ -110,18 +110,18 @@ module _ (c : PlainCode) (st : Setting) (wd : W.World) (w : R.World) (shares : S
   owner true s sc n B K P X k a v t r cs kept x tree named d none ties =
       let sc0 = tree refl in
       let P0 = d.0 in
-      let R0 = d.1 in
+      let remains = d.1 in
       let just : DerivesValue fip P0 (C.Named x.number) = subst (DerivesValue fip P0) (x.value ∙ refused (is_scalar_type c.types t) C.Scalar (C.Named x.number) sc0) d.3 in
-      let parts : Ties fip c.types s B K (λ i. P0 i + (R0 i + X i)) (λ q. 0) k = ties_fits fip c.types s B K (λ i. P i + X i) (λ i. P0 i + (R0 i + X i)) (λ q. 0) k ties
-      (λ i. (let q : (P0 i + R0 i) + X i ≡ P0 i + (R0 i + X i) = omega arith in subst (Fits fip (P i + X i)) q (fits_sum fip (P i + X i) (P i) (X i) (P0 i + R0 i) (X i) (fits_same fip (P i + X i)) (d.2 i) (fits_same fip (X i))))) in
-      let got = owned_variable c f fip s B K P0 (λ i. R0 i + X i) (λ q. 0) 0 k x.number r t (ap (register_of k.names) (sym x.is) ∙ named) x.scope sc0 just (λ z y. let a = kept z y in omega (arith, a)) parts in
+      let parts : Ties fip c.types s B K (λ i. P0 i + (remains i + X i)) (λ q. 0) k = ties_fits fip c.types s B K (λ i. P i + X i) (λ i. P0 i + (remains i + X i)) (λ q. 0) k ties
+      (λ i. (let q : (P0 i + remains i) + X i ≡ P0 i + (remains i + X i) = omega arith in subst (Fits fip (P i + X i)) q (fits_sum fip (P i + X i) (P i) (X i) (P0 i + remains i) (X i) (fits_same fip (P i + X i)) (d.2 i) (fits_same fip (X i))))) in
+      let got = owned_variable c f fip s B K P0 (λ i. remains i + X i) (λ q. 0) 0 k x.number r t (ap (register_of k.names) (sym x.is) ∙ named) x.scope sc0 just (λ z y. let a = kept z y in omega (arith, a)) parts in
       record {
-        owned = R0;
+        owned = remains;
         read = λ i. 0;
         least = λ y. omega arith;
-        stands = (ties_owe fip c.types s B K (λ i. R0 i + X i) (λ q. owed c.types (r ∷ []) (t ∷ []) q + 0) (λ q. owe c.types t r q + 0) k (λ q. omega arith) got.ties, got.hold.0, sc0);
+        stands = (ties_owe fip c.types s B K (λ i. remains i + X i) (λ q. owed c.types (r ∷ []) (t ∷ []) q + 0) (λ q. owe c.types t r q + 0) k (λ q. omega arith) got.ties, got.hold.0, sc0);
         derives = d.4;
-        none = λ y low. (let a = none y low in let b = Rattle.own_calculus.proofs.Fit.fits_le fip (P (Own y)) (P0 (Own y) + R0 (Own y)) (d.2 (Own y)) in omega (arith, a, b));
+        none = λ y low. (let a = none y low in let b = Rattle.own_calculus.proofs.Fit.fits_le fip (P (Own y)) (P0 (Own y) + remains (Own y)) (d.2 (Own y)) in omega (arith, a, b));
       }
   owner false s sc n B K P X k a v t r cs kept x tree named d none ties = record {
     owned = P;

@@ -222,6 +222,46 @@ def reversed_heirs(room, depth=3000):
     return code_file(types, [function([(OWNED, top)], depth + 1, body, labels)])
 
 
+def circles(room, depth=2000):
+    """The same as `heirs`, behind a label map in which two registers that read another tree came from each other."""
+    types = [INT_CELL] + [cell(ty) for ty in range(2, depth + 3)]
+    top = len(types) + 1
+    first, second = REGISTERS - 2, REGISTERS - 1
+    others = range(depth + 5, REGISTERS - 5)
+    kinds = [GONE] * REGISTERS
+    kinds[0] = owned_kind(top, [0])
+    kinds[first] = lent_kind(top, [0], NONE, second)
+    kinds[second] = lent_kind(top, [0], NONE, first)
+    turn = [peek(place + 1, place) for place in range(depth)]
+    turn += [peek(register, depth) for register in others]
+    turn += [take(place, [place + 1]) for place in range(depth)]
+    turn += [put(place, top - place, [place + 1]) for place in reversed(range(depth))]
+    end = [drop(0), const(0), ret(0)]
+    body = fill(end, room - sum(map(len, types)) - sum(map(len, kinds)), lambda n: turn)
+    return code_file(types, [function([(OWNED, top)], REGISTERS, body + end, [(len(end), kinds)])])
+
+
+def circles_in_trees(room, trees=800):
+    """Label maps with many trees, each with two registers that came from each other. Each tree's cell is taken apart
+    into the next register of a chain that reads another tree, and put together again."""
+    chain = REGISTERS - 3 * trees
+    kinds = [owned_kind(2, [0])] * trees
+    for number in range(trees):
+        first = trees + 2 * number
+        kinds += [lent_kind(2, [0], number, first + 1), lent_kind(2, [0], number, first)]
+    start = len(kinds)
+    kinds += [lent_kind(2, [0])] + [lent_kind(2, [0], NONE, register) for register in range(start, start + chain - 1)]
+    turn = []
+    for number in range(trees):
+        turn += [take(number, [start + number]), put(number, 2, [start + number])]
+    turn += [drop(number) for number in range(trees)] + [const(0), ret(0)]
+    size = sum(map(len, turn)) + sum(map(len, kinds)) + 4
+    turns = how_many(room, size)
+    begin = [const(0), ret(0)]
+    labels = [(len(begin) + number * len(turn), kinds) for number in range(turns)]
+    return code_file([INT_CELL], [function([], REGISTERS, begin + turn * turns, labels)])
+
+
 def changing_heirs(room, depth=4000):
     """A chain of cells is taken apart once, where the lowest was read again and again before, by a register that read
     the one above it between."""
@@ -350,6 +390,8 @@ SHAPES = {
         wide_takes,
         heirs,
         reversed_heirs,
+        circles,
+        circles_in_trees,
         changing_heirs,
         heirs_on_both_sides,
         loose_heirs,

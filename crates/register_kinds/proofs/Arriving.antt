@@ -187,7 +187,7 @@ with_yes false = refl
 -- a label map that was seen to fit
 
 pub keeps_seen : (ks : List Kind) (maps : List LabelMap) (lents : Lents) (below trees loose : Links)
-    (held : Bool) (since after : List (Option (List ℕ))) (busy : ℕ) (asked : List Asked) (sets : LabelSets) (label : ℕ) →
+    (held : Option (List Bool)) (since after : List (Option (List ℕ))) (busy : ℕ) (asked : List Asked) (sets : LabelSets) (label : ℕ) →
     IsKept ks maps lents below trees loose held since busy asked sets →
     ((m : LabelMap) → slice_get maps label ≡ Some m → fit_all m.kinds ks ≡ true) →
     ((l : ℕ) (xs : List ℕ) → slice_get after l ≡ Some (Some xs) → (label ≡ l → ⊥) →
@@ -213,7 +213,7 @@ keeps_seen ks maps lents below trees loose held since after busy asked sets labe
 }
 
 pub keeps_seen_but : (ks : List Kind) (maps : List LabelMap) (lents : Lents) (below trees loose : Links)
-    (held : Bool) (since after : List (Option (List ℕ))) (busy : ℕ) (asked : List Asked) (sets : LabelSets) (label : ℕ) (x : Tested) →
+    (held : Option (List Bool)) (since after : List (Option (List ℕ))) (busy : ℕ) (asked : List Asked) (sets : LabelSets) (label : ℕ) (x : Tested) →
     IsKept ks maps lents below trees loose held since busy asked sets →
     ((m : LabelMap) → slice_get maps label ≡ Some m → fit_all m.kinds (arrive (Some x) 0 ks) ≡ true) →
     ((l : ℕ) (xs : List ℕ) → slice_get after l ≡ Some (Some xs) → HasBut since label x.register l xs) →

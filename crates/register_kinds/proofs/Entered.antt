@@ -24,7 +24,7 @@ use Rattle.register_kinds.specs.State.{of_types}
 use Rattle.register_kinds.specs.declared.known.Known.{Known}
 use Rattle.register_kinds.specs.declared.known.Known.TheVariants as N
 use Rattle.register_kinds.specs.Views.{kind_of, kinds_of}
-use Rattle.register_kinds.specs.Climbs.{Climb, IsHeld, is_lent_in}
+use Rattle.register_kinds.specs.Climbs.{IsWhole, tree_of}
 use Rattle.register_kinds.proofs.Climbing.{lent_in}
 use Rattle.register_kinds.proofs.Keeps.{unled}
 use Rattle.register_kinds.proofs.Subsets.{numbers_rise}
@@ -245,13 +245,15 @@ pub entered_long : (w : Table) (f : PlainFunction) (ks : List Kind) → is_forme
     ks ≡ entry (of_types w) f → length ks ≡ f.registers
 entered_long w f ks e i = entry_long w f ks e (i ∙ entry_is w f)
 
--- What is fresh has neither root nor from.
-held_fresh : (ks : List Kind) (o : Option ℕ) (k : Kind) → IsFresh k → is_lent_in o k ≡ true → IsHeld ks o (from_of k)
-held_fresh ks None k h l = record { owner = tt; steps = 0; climb = subst (Climb ks None 0) (sym h.from) tt }
-held_fresh ks (Some r) k h l = absurd (let y = h.root r in let z = lent_in r k in cc)
+-- What is fresh has neither root nor from, so all trees are whole.
+whole_fresh : (ks : List Kind) (r : ℕ) → ((q : ℕ) → IsFresh (at ks q)) → IsWhole ks r
+whole_fresh ks r h = record {
+  held = λ q l. absurd (let y = (h q).root r in let z = lent_in r (at ks q) in cc);
+  closed = λ q e. absurd (let z = ap (tree_of ks) (h q).from in cc);
+}
 
 pub entered : (w : Table) (f : PlainFunction) (ks : List Kind) (lents : Lents) (below trees loose : Links)
-    (held : Bool) (since : List (Option (List ℕ))) (busy : ℕ) (asked : List Asked) (sets : LabelSets) →
+    (held : Option (List Bool)) (since : List (Option (List ℕ))) (busy : ℕ) (asked : List Asked) (sets : LabelSets) →
     is_formed (of_types w) f ≡ true →
     ks ≡ entry (of_types w) f → f.registers < 65536 → lents.room ≡ f.registers →
     ((l : ℕ) (xs : List ℕ) → slice_get since l ≡ Some (Some xs) → ⊥) → busy ≡ busy_in ks → AreAsked f.labels asked →
@@ -273,7 +275,7 @@ entered w f ks lents below trees loose held since busy asked sets e i small room
       sources = λ r q g. absurd (let y = (unled r (at ks q) (fresh_leads r (at ks q) (fresh q))).0 in cc);
       lends = λ r q g. absurd (let y = (fresh q).root r in cc);
       loosened = λ r q g i. absurd (let y = (fresh q).root r in cc);
-      holds = λ g o q i. held_fresh ks o (at ks q) (fresh q) i;
+      holds = λ torn e r g. whole_fresh ks r fresh;
       sees = λ l m xs a b. absurd (none l xs b);
       counted = count;
       asks = asks;

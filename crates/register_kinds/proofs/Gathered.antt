@@ -21,17 +21,17 @@ or_not : (a b : Bool) → a ≡ false → b ≡ false → (a || b) ≡ false
 or_not true b e f = absurd (cc)
 or_not false b e f = f
 
-not_going : (r : ℕ) (ks : List Kind) (ds qs : List ℕ) (q : ℕ) (f : From) → Gathers ks r ds qs → has qs q ≡ false →
+not_going : (r : ℕ) (ks : List Kind) (qs : List ℕ) (q : ℕ) (f : From) → Gathers ks r qs → has qs q ≡ false →
     from_of (at ks q) ≡ Some f → goes ks r f.register ≡ false
-not_going r ks ds qs q f g e h =
-    let a = unlisted_from ks r ds qs q f g e h in
-    or_not (f.register == r) (is_lent_of r (at ks f.register)) a.own (unlisted_lent ks r ds qs f.register g a.listed)
+not_going r ks qs q f g e h =
+    let a = unlisted_from ks r qs q f g e h in
+    or_not (f.register == r) (is_lent_of r (at ks f.register)) a.own (unlisted_lent ks r qs f.register g a.listed)
 
-pub going_listed : (r : ℕ) (ks : List Kind) (ds qs : List ℕ) → Gathers ks r ds qs →
+pub going_listed : (r : ℕ) (ks : List Kind) (qs : List ℕ) → Gathers ks r qs →
     each (forget (goes ks r)) ks qs ≡ map (forget (goes ks r)) ks
-going_listed r ks ds qs g =
+going_listed r ks qs g =
     each_all (forget (goes ks r)) refl (forget_twice (goes ks r)) qs ks
-    (λ q e. forget_by (goes ks r) (at ks q) (from_of (at ks q)) refl (λ f h. not_going r ks ds qs q f g e h))
+    (λ q e. forget_by (goes ks r) (at ks q) (from_of (at ks q)) refl (λ f h. not_going r ks qs q f g e h))
 
 -- Forgetting leaves what is lent of a register.
 pub still_listed : (r : ℕ) (p : ℕ → Bool) (ks new : List Kind) (qs : List ℕ) → new ≡ map (forget p) ks →

@@ -13,7 +13,7 @@ use Rattle.register_kinds.specs.declared.asked.Asked.{Asked}
 use Rattle.register_kinds.specs.Busy.{busy_in, held}
 use Rattle.register_kinds.specs.declared.label_sets.Origin.{Origin}
 use Rattle.register_kinds.specs.LabelSets.{LabelSets, set_at}
-use Rattle.register_kinds.specs.Climbs.{AreHeld}
+use Rattle.register_kinds.specs.Climbs.{AreKnown}
 use Rattle.register_kinds.specs.Rising.{Rise}
 use Rattle.register_kinds.specs.Sights.{HasBefore}
 use Rattle.register_kinds.specs.Owners.{rooted, swapped}
@@ -40,7 +40,7 @@ sees_one ks maps since after d k h g l m xs a b q e =
     ∙ h l m before.before a before.is q (not_true (has before.before q) (has xs q) (before.more q) e)
 
 pub keeps_one : (ks : List Kind) (maps : List LabelMap) (lents : Lents) (below below2 trees trees2 loose loose2 : Links)
-    (held : Bool) (since after : List (Option (List ℕ))) (busy busy2 : ℕ) (asked : List Asked) (sets sets2 : LabelSets) (d : ℕ)
+    (held : Option (List Bool)) (since after : List (Option (List ℕ))) (busy busy2 : ℕ) (asked : List Asked) (sets sets2 : LabelSets) (d : ℕ)
     (k : Kind) (o : Option Origin) →
     IsKept ks maps lents below trees loose held since busy asked sets → Rise (set_of k) → busy2 ≡ busy_in (set ks d k) →
     ((r q : ℕ) → Linked below r q → Linked below2 r q) → ((r : ℕ) → names r (from_of k) ≡ true → Linked below2 r d) →
@@ -50,7 +50,7 @@ pub keeps_one : (ks : List Kind) (maps : List LabelMap) (lents : Lents) (below b
     ((l : ℕ) (xs : List ℕ) → slice_get after l ≡ Some (Some xs) → HasBefore since l xs d) → d < length ks →
     sets2.maps ≡ sets.maps → sets2.origins ≡ set sets.origins d o →
     ((p : Origin) → o ≡ Some p → set_of k ≡ set_at maps p) →
-    IsKept (set ks d k) maps lents below2 trees2 loose2 false after busy2 asked sets2
+    IsKept (set ks d k) maps lents below2 trees2 loose2 None after busy2 asked sets2
 keeps_one ks maps lents below below2 trees trees2 loose loose2 held since after busy busy2 asked sets sets2 d k o h r count keeps own stays root loosens free log l m e g =
     record {
       rise = either (λ q x. Rise (set_of x)) ks d k h.rise r;
@@ -63,7 +63,7 @@ keeps_one ks maps lents below below2 trees trees2 loose loose2 held since after 
           (λ q e. stays x q (h.lends x q e)) (root x);
       loosened = λ x. either (λ q z. is_lent_of x z ≡ true → from_of z ≡ None → Linked loose2 x q) ks d k
           (λ q e f. loosens x q (h.loosened x q e f)) (free x);
-      holds = λ f. absurd (cc);
+      holds = λ torn f. absurd (cc);
       sees = sees_one ks maps since after d k h.sees log;
       counted = count;
       asks = h.asks;
@@ -73,7 +73,7 @@ keeps_one ks maps lents below below2 trees trees2 loose loose2 held since after 
     }
 
 pub keeps_listed : (ks : List Kind) (maps : List LabelMap) (lents more : Lents) (below trees loose : Links)
-    (held : Bool) (since : List (Option (List ℕ))) (busy : ℕ) (asked : List Asked) (sets : LabelSets) →
+    (held : Option (List Bool)) (since : List (Option (List ℕ))) (busy : ℕ) (asked : List Asked) (sets : LabelSets) →
     IsKept ks maps lents below trees loose held since busy asked sets → more.room ≡ lents.room →
     IsKept ks maps more below trees loose held since busy asked sets
 keeps_listed ks maps lents more below trees loose held since busy asked sets h e = record {
@@ -122,7 +122,7 @@ pub unled : (r : ℕ) (k : Kind) → leads r k ≡ false → (names r (from_of k
 unled r k e = or_neither (names r (from_of k)) (is_lent_of r k) e
 
 -- Where nothing leads to a register, its lists may go.
-pub keeps_cleared : (ks : List Kind) (maps : List LabelMap) (lents : Lents) (below below2 trees trees2 loose loose2 : Links) (held : Bool)
+pub keeps_cleared : (ks : List Kind) (maps : List LabelMap) (lents : Lents) (below below2 trees trees2 loose loose2 : Links) (held : Option (List Bool))
     (since : List (Option (List ℕ))) (busy : ℕ) (asked : List Asked) (sets : LabelSets) (d : ℕ) →
     IsKept ks maps lents below trees loose held since busy asked sets → ((q : ℕ) → leads d (at ks q) ≡ false) →
     ((r q : ℕ) → (d ≡ r → ⊥) → Linked below r q → Linked below2 r q) →
@@ -155,17 +155,15 @@ leads_to_source r k source owner f g e =
     elim (or_cases (names r (from_of k)) (is_lent_of r k) e) [ inl h ↦ inl (f h) | inr h ↦ inr (g h) ]
 
 -- What a register that isn't listed came from isn't listed either.
-pub record IsApart (r p : ℕ) (ds qs : List ℕ) : Type 0 where
-  pub other : has ds p ≡ false
+pub record IsApart (r p : ℕ) (qs : List ℕ) : Type 0 where
   pub own : (p == r) ≡ false
   pub listed : has qs p ≡ false
 
-pub unlisted_from : (ks : List Kind) (r : ℕ) (ds qs : List ℕ) (q : ℕ) (f : From) → Gathers ks r ds qs →
-    has qs q ≡ false → from_of (at ks q) ≡ Some f → IsApart r f.register ds qs
-unlisted_from ks r ds qs q f g e h =
+pub unlisted_from : (ks : List Kind) (r : ℕ) (qs : List ℕ) (q : ℕ) (f : From) → Gathers ks r qs →
+    has qs q ≡ false → from_of (at ks q) ≡ Some f → IsApart r f.register qs
+unlisted_from ks r qs q f g e h =
     let l = from_leads (at ks q) f h in
     record {
-      other = not_true (has ds f.register) (has qs q) (λ i. g.others f.register q i l) e;
       own = elim (eqb_tells f.register r) [
         | inl i ↦ absurd (let j = g.own q (ap (λ x. leads x (at ks q)) (sym i.1) ∙ l) in cc)
         | inr i ↦ i.0
@@ -173,9 +171,9 @@ unlisted_from ks r ds qs q f g e h =
       listed = not_true (has qs f.register) (has qs q) (λ i. g.further f.register q i l) e;
     }
 
-pub unlisted_lent : (ks : List Kind) (r : ℕ) (ds qs : List ℕ) (p : ℕ) → Gathers ks r ds qs → has qs p ≡ false →
+pub unlisted_lent : (ks : List Kind) (r : ℕ) (qs : List ℕ) (p : ℕ) → Gathers ks r qs → has qs p ≡ false →
     is_lent_of r (at ks p) ≡ false
-unlisted_lent ks r ds qs p g e =
+unlisted_lent ks r qs p g e =
     not_true (is_lent_of r (at ks p)) (has qs p) (λ i. g.own p (lent_leads r (at ks p) i)) e
 
 busy_rooted : (f : ℕ → ℕ) (ks : List Kind) → busy_in ks ≡ busy_in (map (rooted f) ks)
@@ -185,12 +183,12 @@ busy_rooted f (k ∷ ks) =
 
 -- Two registers change names: what was lent of one is lent of the other.
 pub keeps_swapped : (ks : List Kind) (maps : List LabelMap) (lents : Lents) (below trees trees2 loose loose2 : Links)
-    (held : Bool) (since after : List (Option (List ℕ))) (busy : ℕ) (asked : List Asked) (sets : LabelSets) (a b : ℕ) →
+    (held : Option (List Bool)) (since after : List (Option (List ℕ))) (busy : ℕ) (asked : List Asked) (sets : LabelSets) (a b : ℕ) →
     IsKept ks maps lents below trees loose held since busy asked sets →
     ((r q : ℕ) → Linked trees (swapped a b r) q → Linked trees2 r q) →
     ((r q : ℕ) → Linked loose (swapped a b r) q → Linked loose2 r q) →
     ((l : ℕ) (xs : List ℕ) → slice_get after l ≡ Some (Some xs) → ⊥) →
-    IsKept (map (rooted (swapped a b)) ks) maps lents below trees2 loose2 false after busy asked sets
+    IsKept (map (rooted (swapped a b)) ks) maps lents below trees2 loose2 None after busy asked sets
 keeps_swapped ks maps lents below trees trees2 loose loose2 held since after busy asked sets a b h move part none =
     let f = swapped a b in
     record {
@@ -205,7 +203,7 @@ keeps_swapped ks maps lents below trees trees2 loose loose2 held since after bus
       loosened = λ r q e g. part r q (h.loosened (swapped a b r) q
           (lent_swapped a b r (at ks q) (ap (is_lent_of r) (sym (at_map (rooted f) refl ks q)) ∙ e))
           (sym (ap from_of (at_map (rooted f) refl ks q) ∙ rooted_from f (at ks q)) ∙ g));
-      holds = λ g. absurd (cc);
+      holds = λ torn g. absurd (cc);
       sees = λ l m xs i j. absurd (none l xs j);
       counted = h.counted ∙ busy_rooted f ks;
       asks = h.asks;
@@ -213,10 +211,10 @@ keeps_swapped ks maps lents below trees trees2 loose loose2 held since after bus
       origins = λ q o e. ap set_of (at_map (rooted f) refl ks q) ∙ rooted_set f (at ks q) ∙ h.origins q o e;
     }
 
--- What is known of all being held may change.
-pub keeps_held : (ks : List Kind) (maps : List LabelMap) (lents : Lents) (below trees loose : Links) (held now : Bool)
+-- What is known of which trees are torn may change.
+pub keeps_held : (ks : List Kind) (maps : List LabelMap) (lents : Lents) (below trees loose : Links) (held now : Option (List Bool))
     (since : List (Option (List ℕ))) (busy : ℕ) (asked : List Asked) (sets : LabelSets) →
-    IsKept ks maps lents below trees loose held since busy asked sets → (now ≡ true → AreHeld ks) →
+    IsKept ks maps lents below trees loose held since busy asked sets → AreKnown ks now →
     IsKept ks maps lents below trees loose now since busy asked sets
 keeps_held ks maps lents below trees loose held now since busy asked sets h e = record {
   rise = h.rise;

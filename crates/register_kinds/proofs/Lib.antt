@@ -19,6 +19,7 @@ pub mod Entered
 pub mod Reaching
 pub mod TakenKinds
 pub mod Climbing
+pub mod Torn
 pub mod Sorted
 pub mod Passed
 pub mod Less

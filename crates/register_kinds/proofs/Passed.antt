@@ -1,5 +1,5 @@
 -- What a Take makes of all kinds where only those are looked at whose froms or roots change one by one.
-use Rattle.std.proofs.Common.{◌≡◌, ℕ, zero, suc, ◌<◌, ◌⊎◌, inl, inr, List, [], ◌∷◌, length, map, set, refl, sym, ap, ◌∙◌, subst}
+use Rattle.std.proofs.Common.{◌≡◌, ℕ, ◌<◌, ◌⊎◌, inl, inr, List, [], ◌∷◌, length, map, set, refl, sym, ap, ◌∙◌, subst}
 use Rattle.std.specs.Prelude.{Bool, true, false, ◌||◌, ◌&&◌, not, is_some, ◌==◌, if◌then◌else◌, Option, Some, None}
 use Rattle.std.proofs.lemmas.Bool.{eq-eqb}
 use Rattle.std.proofs.lemmas.Bool.Decides.{eqb_tells}
@@ -7,19 +7,18 @@ use Rattle.fip_language.specs.Table.{Table}
 use Rattle.cell_code.specs.declared.kind.From.{From}
 use Rattle.cell_code.specs.declared.kind.Kind.{Kind}
 use Rattle.cell_code.specs.declared.kind.Kind.TheVariants.{Gone, Scalar, Owned, Lent, Credit}
-use Rattle.sound_code.specs.Kinds.{at, has, from_of, is_lent_of, is_owned}
+use Rattle.sound_code.specs.Kinds.{at, has, from_of, is_lent_of}
 use Rattle.sound_code.specs.Changes.{forget, forget_from}
 use Rattle.sound_code.specs.Taking.{IsReached, Part, Reaches, ends, fate, is_heir, part, part_kind, with_root}
-use Rattle.register_kinds.specs.Climbs.{Climb, HasOwner, is_lent_in}
 use Rattle.register_kinds.specs.Kept.{is_lent, kept_at, names}
 use Rattle.register_kinds.specs.Owners.{rooted, swapped}
 use Rattle.register_kinds.specs.Sorted.{IsSorted, IsTakable}
 use Rattle.register_kinds.specs.Takes.{IsPassed, fated, forgotten, in_turn, is_used, seen_at, seen_by, stands_for}
 use Rattle.register_kinds.proofs.Changed.{forget_by}
-use Rattle.register_kinds.proofs.Climbing.{apart_stays, apart_unreached, found_stays, heir_named, heir_part, heir_stays, held_named, lent_in, named_is, not_lent, owned_source, owned_unlent, some_one, true_or_false}
+use Rattle.register_kinds.proofs.Climbing.{apart_stays, found_stays, heir_named, heir_part, heir_stays, lent_in, named_is, outside_lent, outside_owner, outside_unreached, owned_source, true_or_false}
 use Rattle.register_kinds.proofs.Naming.{swapped_first}
 use Rattle.register_kinds.proofs.Places.{at_map, at_set_other, map_long}
-use Rattle.register_kinds.proofs.Sorted.{lent_some, named_lent, none_chain, own_chain, own_no_heir}
+use Rattle.register_kinds.proofs.Sorted.{own_chain, own_no_heir}
 use Rattle.register_kinds.proofs.TakenKinds.{fated_twice, forgotten_twice, in_turn_long, rooted_part, stands_apart, stands_twice, turned, unused_case, used_case}
 
 -- the heir that a register reaches: what isn't listed and reads the tree reaches the one that keeps the name
@@ -61,12 +60,7 @@ unlent_source (Credit n) e = refl
 other_unreached : (w : Table) (ks : List Kind) (r : ℕ) (parts : ℕ → Option Part) (q d : ℕ) → IsTakable ks r parts →
     is_lent_of r (at ks q) ≡ false → Reaches ks (is_heir w ks r parts) q d → ⊥
 other_unreached w ks r parts q d t l x =
-    elim (true_or_false (is_lent (at ks q))) [
-      | inl e ↦ (let s = lent_some (at ks q) e in
-          apart_unreached ks r (is_heir w ks r parts) s.0 q d t.held t.owned (heir_named w ks r parts)
-          (λ i. let z = lent_in r (at ks q) in let y = ap (λ o. is_lent_in o (at ks q)) i in let v = s.1 in cc) s.1 x)
-      | inr e ↦ none_chain ks (is_heir w ks r parts) x.0 (from_of (at ks q)) d (unlent_source (at ks q) e) x.1
-    ]
+    outside_unreached ks r (is_heir w ks r parts) q d t.whole t.owned (heir_named w ks r parts) l x
 
 heir_unreached : (w : Table) (ks : List Kind) (r : ℕ) (parts : ℕ → Option Part) (q d : ℕ) → IsTakable ks r parts →
     is_heir w ks r parts q ≡ true → Reaches ks (is_heir w ks r parts) q d → ⊥
@@ -246,30 +240,21 @@ rest_kind w ks r parts size keeper qs os q h t s e l n k x =
     ∙ ap (λ o. forget (ends w ks r parts size (star w ks r parts keeper qs os)) (fate o r (at ks q)))
     (sym (star_rest w ks r parts keeper qs os q e l n ∙ k))
 
-climb_apart : (ks : List Kind) (o : Option ℕ) (r n : ℕ) (f : From) → (o ≡ Some r → ⊥) → HasOwner ks o →
-    Climb ks o n (Some f) → is_lent_of r (at ks f.register) ≡ false
-climb_apart ks None r zero f m w c = absurd (cc)
-climb_apart ks (Some x) r zero f m w c =
-    owned_unlent r (at ks f.register) (ap (λ z. is_owned (at ks z)) (sym (some_one x f.register c)) ∙ w)
-climb_apart ks o r (suc n) f m w c = not_lent o r (at ks f.register) m c.0
-
 other_source : (w : Table) (ks : List Kind) (r : ℕ) (parts : ℕ → Option Part) (size : ℕ) (keeper : Option ℕ)
     (qs : List ℕ) (os : List (Option ℕ)) (q : ℕ) (f : From) → IsTakable ks r parts →
     IsSorted w ks r parts keeper qs os → has qs q ≡ false → is_lent_of r (at ks q) ≡ false →
     from_of (at ks q) ≡ Some f → ends w ks r parts size (star w ks r parts keeper qs os) f.register ≡ false
 other_source w ks r parts size keeper qs os q f t s e l i =
-    let o = lent_some (at ks q) (named_lent f.register (at ks q)
-    (ap (names f.register) i ∙ eq-eqb f.register f.register refl)) in
-    let m : (o.0 ≡ Some r → ⊥) = (λ x. let z = lent_in r (at ks q) in let y = ap (λ p. is_lent_in p (at ks q)) x in
-    let v = o.1 in cc) in
-    let h = t.held o.0 q o.1 in
+    let n = sym (lent_in r (at ks q)) ∙ l in
     elim (true_or_false (is_some (parts f.register))) [
       | inl p ↦ part_not_ended w ks r parts size keeper qs os q f s e i p
       | inr p ↦ elim (eqb_tells f.register r) [
-        | inl g ↦ absurd (m (held_named ks o.0 r (from_of (at ks q)) t.owned
-            (ap (names r) i ∙ g.0) h))
+        | inl g ↦ absurd (outside_owner ks r q f t.whole t.owned n i g.1)
         | inr g ↦ apart_stays w ks r parts size (star w ks r parts keeper qs os) f.register p g.0
-            (climb_apart ks o.0 r h.steps f m h.owner (subst (Climb ks o.0 h.steps) i h.climb))
+            (elim (true_or_false (is_lent_of r (at ks f.register))) [
+              | inl h ↦ absurd (outside_lent ks r q f t.whole n i (sym (lent_in r (at ks f.register)) ∙ h))
+              | inr h ↦ h
+            ])
       ]
     ]
 

@@ -1,4 +1,4 @@
--- Which registers are listed while a cell is taken apart and all lent ones are held.
+-- Which registers are listed while a cell is taken apart whose tree is whole.
 use Rattle.std.proofs.Common.{◌≡◌, ℕ, zero, suc, ◌+◌, ◌<◌, ◌≤◌, ◌⊎◌, inl, inr, List, [], ◌∷◌, drop, length, arith, refl, sym, ap, ◌∙◌, subst}
 use Rattle.std.specs.Prelude.{Bool, true, false, ◌&&◌, not, is_some, if◌then◌else◌, Option, Some, None}
 use Rattle.std.proofs.lemmas.Bool.{eq-eqb}
@@ -13,7 +13,7 @@ use Rattle.register_kinds.specs.Kept.{Grows, Linked, Links, is_lent, kept_at, na
 use Rattle.register_kinds.specs.Sorted.{AreGood, Candidate, IsGood, IsTakable, Rest, listed_if, listing}
 use Rattle.register_kinds.specs.declared.sorting.Wanted.{Wanted}
 use Rattle.register_kinds.specs.declared.sorting.Wanted.TheVariants.{Lost, Loose, Below, Ended}
-use Rattle.register_kinds.proofs.Climbing.{apart_unreached, heir_named, heir_part, in_lent, lent_in, lent_there, named_is, owned_lent, owned_source, rest_reaches, true_or_false}
+use Rattle.register_kinds.proofs.Climbing.{outside_unreached, heir_named, heir_part, in_lent, lent_in, lent_there, named_is, owned_lent, owned_source, rest_reaches, true_or_false}
 use Rattle.register_kinds.proofs.LentLists.{drop_append, grows_has, has_either, has_left, has_right, past_end}
 use Rattle.register_kinds.proofs.Reaching.{one_of}
 use Rattle.register_kinds.proofs.TakenKinds.{part_has}
@@ -160,9 +160,7 @@ ended_reached : (w : Table) (ks : List Kind) (r q : ℕ) (parts : ℕ → Option
 ended_reached w ks r q parts qs keeper true t rest l h u e =
     let i = rest q u e h in subst (IsReached ks (is_heir w ks r parts) q) (sym i.1) i.2
 ended_reached w ks r q parts qs keeper false t rest l h u e =
-    let s = lent_some (at ks q) l in
-    λ d x. apart_unreached ks r (is_heir w ks r parts) s.0 q d t.held t.owned (heir_named w ks r parts)
-    (λ i. let z = lent_in r (at ks q) in let y = ap (λ o. is_lent_in o (at ks q)) i in let v = s.1 in cc) s.1 x
+    λ d x. outside_unreached ks r (is_heir w ks r parts) q d t.whole t.owned (heir_named w ks r parts) e x
 
 pub good_ended : (w : Table) (ks : List Kind) (r p q : ℕ) (parts : ℕ → Option Part) (qs : List ℕ) (keeper : Option ℕ) →
     IsTakable ks r parts → Rest w ks r parts keeper qs → is_some (parts p) ≡ true → names p (from_of (at ks q)) ≡ true →
@@ -379,7 +377,7 @@ pub rest_by : (w : Table) (ks : List Kind) (r : ℕ) (parts : ℕ → Option Par
     ((p q : ℕ) → is_heir w ks r parts p ≡ true → (keeper ≡ Some p → ⊥) → names p (from_of (at ks q)) ≡ true →
     has qs q ≡ true) → Rest w ks r parts keeper qs
 rest_by w ks r parts keeper qs t one loose down other q u l n =
-    let i = t.held (Some r) q (sym (lent_in r (at ks q)) ∙ l) in
+    let i = t.whole.held q (sym (lent_in r (at ks q)) ∙ l) in
     rest_reaches ks r (is_heir w ks r parts) qs keeper one loose down other i.steps q (from_of (at ks q)) refl i.climb
     l n u
 

@@ -12,14 +12,14 @@ use Rattle.sound_code.specs.Types.{field_kind, is_scalar_type}
 use Rattle.sound_code.specs.Changes.{forget}
 use Rattle.sound_code.specs.Taking.{Part, part, part_from, is_heir, is_heir_by, fate, with_root, ends, part_kind, part_or, credit}
 use Rattle.sound_code.specs.Taking.{Reaches, IsReached, IsTaken, inherited, is_field}
-use Rattle.register_kinds.specs.Kept.{Gathers, is_lent, kept_at, names}
+use Rattle.register_kinds.specs.Kept.{is_lent, kept_at, names}
 use Rattle.register_kinds.specs.Takes.{seen_by, seen_at, is_used, forgotten, fated, filled_by, filled_at, emptied, in_turn, Alike}
-use Rattle.register_kinds.specs.Takes.{IsPassed, stands_for}
+use Rattle.register_kinds.specs.Takes.{GathersParts, IsPassed, stands_for}
 use Rattle.register_kinds.specs.Owners.{root_by, rooted}
 use Rattle.register_kinds.proofs.Naming.{rooted_apart, rooted_from, rooted_none, swapped_twice}
 use Rattle.register_kinds.proofs.Places.{at_map, at_set_same, at_set_other, map_long, set_long, set_same}
-use Rattle.register_kinds.proofs.Changed.{is_become, forget_by, forget_twice, forget_same, lent_forget}
-use Rattle.register_kinds.proofs.Keeps.{either, unlisted_from, unlisted_lent}
+use Rattle.register_kinds.proofs.Changed.{is_become, forget_by, forget_twice, forget_same, lent_forget, not_true}
+use Rattle.register_kinds.proofs.Keeps.{either, from_leads, unlisted_from, unlisted_lent}
 use Rattle.register_kinds.proofs.LentLists.{none_kept}
 use Rattle.register_kinds.proofs.Reaching.{reaches_listed}
 
@@ -577,31 +577,28 @@ no_part : (ds ts : List ℕ) (q : ℕ) (o : Option Part) → part ds ts q ≡ o 
 no_part ds ts q None e h = refl
 no_part ds ts q (Some p) e h = absurd (let g = part_has 0 ds ts q p e in cc)
 
-heir_by_has : (w : Table) (r : ℕ) (ds ts : List ℕ) (q : ℕ) (k : Kind) (o : Option Part) → part ds ts q ≡ o →
-    is_heir_by w r k o ≡ true → has ds q ≡ true
-heir_by_has w r ds ts q k None e h = absurd (cc)
-heir_by_has w r ds ts q k (Some p) e h = part_has 0 ds ts q p e
-
 -- All that reach an heir are listed.
-pub heirs_listed : (w : Table) (ks : List Kind) (r : ℕ) (ds ts qs : List ℕ) → Gathers ks r ds qs → (q d : ℕ) →
+pub heirs_listed : (w : Table) (ks : List Kind) (r : ℕ) (ds ts qs : List ℕ) →
+    GathersParts ks r (is_heir w ks r (part ds ts)) ds qs → (q d : ℕ) →
     Reaches ks (is_heir w ks r (part ds ts)) q d → has qs q ≡ true
-heirs_listed w ks r ds ts qs g =
-    reaches_listed ks (is_heir w ks r (part ds ts)) qs
-    (λ p q e l. g.others p q (heir_by_has w r ds ts p (at ks p) (part ds ts p) refl e) l) g.further
+heirs_listed w ks r ds ts qs g q d x =
+    g.inside q (reaches_listed ks (is_heir w ks r (part ds ts)) g.inner g.heirs g.gathers.further q d x)
 
 -- What a register that isn't listed came from doesn't end.
 not_ended : (w : Table) (ks : List Kind) (r : ℕ) (ds ts qs : List ℕ) (os : List (Option ℕ)) (q : ℕ) (f : From) →
-    Gathers ks r ds qs → has qs q ≡ false → from_of (at ks q) ≡ Some f →
+    GathersParts ks r (is_heir w ks r (part ds ts)) ds qs → has qs q ≡ false → from_of (at ks q) ≡ Some f →
     ends w ks r (part ds ts) (length ds) (seen_at ks os) f.register ≡ false
 not_ended w ks r ds ts qs os q f g e h =
-    let a = unlisted_from ks r ds qs q f g e h in
-    let b = no_part ds ts f.register (part ds ts f.register) refl a.other in
-    let c = unlisted_lent ks r ds qs f.register g a.listed in
+    let i = not_true (has g.inner q) (has qs q) (g.inside q) e in
+    let a = unlisted_from ks r g.inner q f g.gathers i h in
+    let b = no_part ds ts f.register (part ds ts f.register) refl
+    (not_true (has ds f.register) (has qs q) (λ j. g.parts f.register q j (from_leads (at ks q) f h)) e) in
+    let c = unlisted_lent ks r g.inner f.register g.gathers a.listed in
     let d = a.own in
     rw (b, d) (ap (λ z. z && not (is_some (seen_at ks os f.register))) c)
 
 unlisted_forgotten : (w : Table) (ks : List Kind) (r : ℕ) (ds ts qs : List ℕ) (os : List (Option ℕ)) (q : ℕ) →
-    Gathers ks r ds qs → has qs q ≡ false →
+    GathersParts ks r (is_heir w ks r (part ds ts)) ds qs → has qs q ≡ false →
     forgotten r (part ds ts) (ends w ks r (part ds ts) (length ds) (seen_at ks os)) q (at ks q) ≡ at ks q
 unlisted_forgotten w ks r ds ts qs os q g e =
     unused_forgotten r (part ds ts) (ends w ks r (part ds ts) (length ds) (seen_at ks os)) q (at ks q)
@@ -609,18 +606,20 @@ unlisted_forgotten w ks r ds ts qs os q g e =
     (λ f h. not_ended w ks r ds ts qs os q f g e h))
 
 unlisted_fated : (f : ℕ → ℕ) (w : Table) (ks : List Kind) (r : ℕ) (ds ts qs : List ℕ) (os : List (Option ℕ)) (q : ℕ) →
-    Gathers ks r ds qs → IsReached ks (is_heir w ks r (part ds ts)) q (seen_at ks os q) → has qs q ≡ false →
+    GathersParts ks r (is_heir w ks r (part ds ts)) ds qs →
+    IsReached ks (is_heir w ks r (part ds ts)) q (seen_at ks os q) → has qs q ≡ false →
     fated f r (part ds ts) os q (at ks q) ≡ at ks q
 unlisted_fated f w ks r ds ts qs os q g i e =
     fated_kept f r (part ds ts) os q (at ks q)
     (none_kept (seen_at ks os q) (λ d h. let l = heirs_listed w ks r ds ts qs g q d
     (subst (IsReached ks (is_heir w ks r (part ds ts)) q) h i) in cc))
-    (unlisted_lent ks r ds qs q g e)
+    (unlisted_lent ks r g.inner q g.gathers (not_true (has g.inner q) (has qs q) (g.inside q) e))
 
 -- what all registers have, once they forgot and had their fates
 passed_at : (f : ℕ → ℕ) (w : Table) (r : ℕ) (ds ts : List ℕ) (os : List (Option ℕ)) (ks first second : List Kind)
     (qs : List ℕ) →
-    Gathers ks r ds qs → ((q : ℕ) → IsReached ks (is_heir w ks r (part ds ts)) q (seen_at ks os q)) →
+    GathersParts ks r (is_heir w ks r (part ds ts)) ds qs →
+    ((q : ℕ) → IsReached ks (is_heir w ks r (part ds ts)) q (seen_at ks os q)) →
     first ≡ in_turn (forgotten r (part ds ts) (ends w ks r (part ds ts) (length ds) (seen_at ks os))) ks qs →
     second ≡ in_turn (fated f r (part ds ts) os) first qs → (q : ℕ) → q < length ks →
     at second q ≡ fated f r (part ds ts) os q
@@ -663,7 +662,8 @@ unused_case f r parts os ended q k t h u =
 -- where a function of numbers that is its own inverse changes the roots in the end
 pub passed_is : (f : ℕ → ℕ) (w : Table) (r : ℕ) (ds ts : List ℕ) (os : List (Option ℕ))
     (ks first second last : List Kind) (qs : List ℕ) →
-    Gathers ks r ds qs → ((q : ℕ) → IsReached ks (is_heir w ks r (part ds ts)) q (seen_at ks os q)) →
+    GathersParts ks r (is_heir w ks r (part ds ts)) ds qs →
+    ((q : ℕ) → IsReached ks (is_heir w ks r (part ds ts)) q (seen_at ks os q)) →
     ((d : ℕ) → f (f d) ≡ d) → ((q : ℕ) → is_lent_of r (at ks q) ≡ false → rooted f (at ks q) ≡ at ks q) →
     first ≡ in_turn (forgotten r (part ds ts) (ends w ks r (part ds ts) (length ds) (seen_at ks os))) ks qs →
     second ≡ in_turn (fated f r (part ds ts) os) first qs → last ≡ map (rooted f) second →

@@ -14,7 +14,7 @@ use Rattle.sound_code.specs.Fitting.{fits}
 use Rattle.register_kinds.specs.declared.asked.Asked.{Asked}
 use Rattle.register_kinds.specs.Busy.{IsAsked, busy_in}
 use Rattle.register_kinds.specs.LabelSets.{LabelSets, AreOrigins}
-use Rattle.register_kinds.specs.Climbs.{AreHeld}
+use Rattle.register_kinds.specs.Climbs.{AreKnown}
 use Rattle.register_kinds.specs.Rising.{Rise}
 
 -- A from names register r.
@@ -98,10 +98,9 @@ pub record AreLents (items : List ℕ) (top : ℕ) (listed : List Bool) (reached
   pub marks : (q : ℕ) → has (take top items) q ≡ true → slice_get listed q ≡ Some true
   pub only : (q d : ℕ) → kept_at reached q ≡ Some d → has (take top items) q ≡ true
 
--- A list has each register that leads to register r, to one of some others, or to one in the list.
-pub record Gathers (ks : List Kind) (r : ℕ) (ds qs : List ℕ) : Type 0 where
+-- A list has each register that leads to register r, or to one in the list.
+pub record Gathers (ks : List Kind) (r : ℕ) (qs : List ℕ) : Type 0 where
   pub own : (q : ℕ) → leads r (at ks q) ≡ true → has qs q ≡ true
-  pub others : (p q : ℕ) → has ds p ≡ true → leads p (at ks q) ≡ true → has qs q ≡ true
   pub further : (p q : ℕ) → has qs p ≡ true → leads p (at ks q) ≡ true → has qs q ≡ true
 
 -- What leads to a register of a list is in the list, unless that register stands from place n on.
@@ -115,8 +114,9 @@ AreAsked maps asked =
     (l : ℕ) (m : LabelMap) (a : Asked) → slice_get maps l ≡ Some m → slice_get asked l ≡ Some a →
     length m.kinds < 65536 → IsAsked m.kinds a
 
-pub record IsKept (ks : List Kind) (maps : List LabelMap) (lents : Lents) (below trees loose : Links) (held : Bool)
-    (since : List (Option (List ℕ))) (busy : ℕ) (asked : List Asked) (sets : LabelSets) : Type 0 where
+pub record IsKept (ks : List Kind) (maps : List LabelMap) (lents : Lents) (below trees loose : Links)
+    (held : Option (List Bool)) (since : List (Option (List ℕ))) (busy : ℕ) (asked : List Asked)
+    (sets : LabelSets) : Type 0 where
   pub rise : KindsRise ks
   pub are_maps : AreMaps (length ks) maps
   pub few : length ks < 65536
@@ -124,7 +124,7 @@ pub record IsKept (ks : List Kind) (maps : List LabelMap) (lents : Lents) (below
   pub sources : (r q : ℕ) → names r (from_of (at ks q)) ≡ true → Linked below r q
   pub lends : (r q : ℕ) → is_lent_of r (at ks q) ≡ true → Linked trees r q
   pub loosened : (r q : ℕ) → is_lent_of r (at ks q) ≡ true → from_of (at ks q) ≡ None → Linked loose r q
-  pub holds : held ≡ true → AreHeld ks
+  pub holds : AreKnown ks held
   pub sees : AreSeen ks maps since
   pub counted : busy ≡ busy_in ks
   pub asks : AreAsked maps asked

@@ -1,4 +1,4 @@
--- Only what this crate keeps while a cell is taken apart and all lent registers are held: which are listed, each with
+-- Only what this crate keeps while a cell is taken apart whose tree is whole: which registers are listed, each with
 -- the heir that it reaches, so that all that reads the tree and isn't listed reaches the heir that keeps its name.
 use Rattle.std.specs.Prelude.{◌≡◌, ◌⊎◌, ℕ, Bool, true, false, ◌&&◌, not, is_some, List, Option, Some, None}
 use Rattle.std.specs.Prelude.{if◌then◌else◌}
@@ -7,7 +7,7 @@ use Rattle.cell_code.specs.declared.kind.From.{From}
 use Rattle.cell_code.specs.declared.kind.Kind.{Kind}
 use Rattle.sound_code.specs.Kinds.{at, has, from_of, is_lent_of, is_owned}
 use Rattle.sound_code.specs.Taking.{IsReached, Part, Reaches, is_heir, is_heir_by}
-use Rattle.register_kinds.specs.Climbs.{AreHeld}
+use Rattle.register_kinds.specs.Climbs.{IsWhole}
 use Rattle.register_kinds.specs.Kept.{Linked, Links, is_lent, kept_at, names}
 use Rattle.register_kinds.specs.Takes.{seen_at}
 use Rattle.register_kinds.specs.declared.sorting.Wanted.{Wanted}
@@ -43,9 +43,9 @@ pub record IsGood (w : Table) (ks : List Kind) (r : ℕ) (parts : ℕ → Option
 abbrev pub AreGood : Table → List Kind → ℕ → (ℕ → Option Part) → List ℕ → List (Option ℕ) → Type 0
 AreGood w ks r parts qs os = (q : ℕ) → has qs q ≡ true → IsGood w ks r parts qs q (kept_at os q)
 
--- All are held, register r owns a tree, and it gets no part.
+-- Register r owns a tree, which is whole, and it gets no part.
 pub record IsTakable (ks : List Kind) (r : ℕ) (parts : ℕ → Option Part) : Type 0 where
-  pub held : AreHeld ks
+  pub whole : IsWhole ks r
   pub owned : is_owned (at ks r) ≡ true
   pub own : is_some (parts r) ≡ false
 

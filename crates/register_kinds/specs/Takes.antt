@@ -9,7 +9,7 @@ use Rattle.sound_code.specs.Kinds.{at, has, from_of, is_lent_of}
 use Rattle.sound_code.specs.Changes.{forget}
 use Rattle.sound_code.specs.Taking.{Part, Reaches, IsReached, part, is_heir, ends, fate, part_kind, credit}
 use Rattle.register_kinds.specs.declared.take.Piece.{Piece}
-use Rattle.register_kinds.specs.Kept.{is_lent, kept_at}
+use Rattle.register_kinds.specs.Kept.{Gathers, is_lent, kept_at, leads}
 use Rattle.register_kinds.specs.Owners.{root_by, swapped}
 
 -- the part that a piece stands for
@@ -35,6 +35,15 @@ next_at ks heir os q = next_by ks heir os (from_of (at ks q))
 -- Each heir that is kept is reached.
 abbrev pub AreReached : List Kind → (ℕ → Bool) → List (Option ℕ) → Type 0
 AreReached ks heir os = (q d : ℕ) → seen_at ks os q ≡ Some d → Reaches ks heir q d
+
+-- A list has each register that leads to one of the ds, and all registers of another, which has each that leads to
+-- register r, to an heir, or to one in it.
+pub record GathersParts (ks : List Kind) (r : ℕ) (heir : ℕ → Bool) (ds qs : List ℕ) : Type 0 where
+  pub inner : List ℕ
+  pub gathers : Gathers ks r inner
+  pub heirs : (p q : ℕ) → heir p ≡ true → leads p (at ks q) ≡ true → has inner q ≡ true
+  pub parts : (p q : ℕ) → has ds p ≡ true → leads p (at ks q) ≡ true → has qs q ≡ true
+  pub inside : (q : ℕ) → has inner q ≡ true → has qs q ≡ true
 
 -- None of these registers that reaches no heir yet has one next.
 abbrev pub AreSettled : List Kind → (ℕ → Bool) → List (Option ℕ) → List ℕ → Type 0

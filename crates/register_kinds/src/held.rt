@@ -1,58 +1,121 @@
-// Whether the froms of each lent register lead to the owner of its tree, or to one that reads the tree and has no from.
-ghost use Rattle.std.specs.Prelude.{◌≡◌, ◌⊎◌, ◌<◌, ℕ, true, Some, Option, length};
+// Which trees are whole: the froms of each register that reads one lead to its owner, or to a register that reads it
+// too and has no from; and what came from a register of the tree reads it.
+ghost use Rattle.std.specs.Prelude.{◌≡◌, ◌⊎◌, ℕ, List, true, false, slice_get, Some, None, Option};
 ghost use Rattle.sound_code.specs.Changes.{written};
 ghost use Rattle.sound_code.specs.Kinds.{at, from_of, has};
+ghost use Rattle.cell_code.specs.declared.kind.Kind.{Kind};
 ghost use Rattle.cell_code.specs.declared.kind.From.{From};
-ghost use Rattle.register_kinds.specs.Climbs.{AreHeld, Climb, HasOwner, IsHeld, is_lent_in};
-ghost use Rattle.register_kinds.specs.Kept.{Grows, is_lent, names};
+ghost use Rattle.register_kinds.specs.Climbs.{AreKnown, AreKnownOver, AreWhole, HasOwner, IsHeld, IsWhole};
+ghost use Rattle.register_kinds.specs.Climbs.{is_lent_in, tree_of};
+ghost use Rattle.register_kinds.specs.Kept.{Grows, names};
 ghost use Rattle.register_kinds.specs.Views.{kind_of};
 
 use crate::kinds::Kinds;
-use crate::known::Known;
+use crate::known::{Known, same_root};
 use crate::lents::Lents;
+use crate::marks::Marks;
 use crate::registers::Registers;
 use cell_code::From;
 
 impl<'a> Registers<'a> {
-    // Whether all are known to be held.
-    pub(crate) fn all_held(&self) -> bool
-        ensures held { result ≡ true → AreHeld self.now.kinds }
+    // Which trees are torn, where that is known. Until it is set again it isn't.
+    pub(crate) fn take_held(&mut self) -> Option<Marks>
+        ensures known { AreKnown self.old.kinds result }
+        ensures same { self.new ≡ self.old }
     {
-        self.held
+        self.held.take()
     }
 
-    // It becomes known whether all are held.
-    pub(crate) fn set_held(&mut self, held: bool)
-        requires held { held ≡ true → AreHeld self.now.kinds }
+    // It becomes known which trees are torn, or that isn't known any more.
+    pub(crate) fn set_held(&mut self, held: Option<Marks>)
+        requires known { AreKnown self.now.kinds held }
         ensures same { self.new ≡ self.old }
     {
         self.held = held;
     }
 
-    // Whether all are held still once a register is written.
-    pub(crate) fn stays_held(&self, register: u16, known: Known<'a>) -> bool
-        ensures held { result ≡ true → AreHeld (written self.now.kinds register (kind_of known.entry)) }
+    // Which trees are torn once a register is written.
+    pub(crate) fn stays_held(
+        &self,
+        held: Option<Marks>,
+        register: u16,
+        known: Known<'a>,
+    ) -> Option<Marks>
+        requires known { AreKnown self.now.kinds held }
+        ensures known { AreKnown (written self.now.kinds register (kind_of known.entry)) result }
     {
-        if self.known(register).is_owned() {
-            return false;
+        match held {
+            None => None,
+            Some(torn) => {
+                if self.stays_whole(&torn, register, known) {
+                    Some(torn)
+                } else {
+                    None
+                }
+            }
         }
-        if !self.all_held() {
-            return false;
-        }
-        self.is_held(known)
     }
 
-    // Whether a register of which this is known would be held.
-    fn is_held(&self, known: Known<'a>) -> bool
-        ensures held { result ≡ true → AreHeld self.now.kinds → (o : Option ℕ) →
-            is_lent_in o (kind_of known.entry) ≡ true → IsHeld self.now.kinds o (from_of (kind_of known.entry)) }
+    // Whether all trees that aren't torn stay whole when a register is written.
+    fn stays_whole(&self, torn: &Marks, register: u16, known: Known<'a>) -> bool
+        ensures whole { result ≡ true → AreWhole self.now.kinds torn.now →
+            AreWhole (written self.now.kinds register (kind_of known.entry)) torn.now }
+    {
+        !self.known(register).is_owned() && self.follows(torn, known)
+    }
+
+    // Whether a register of which this is known would leave all trees whole that aren't torn.
+    fn follows(&self, torn: &Marks, known: Known<'a>) -> bool
+        ensures held { result ≡ true → (r : ℕ) → slice_get torn.now r ≡ Some false → IsWhole self.now.kinds r →
+            is_lent_in (Some r) (kind_of known.entry) ≡ true →
+            IsHeld self.now.kinds (Some r) (from_of (kind_of known.entry)) }
+        ensures closed { result ≡ true → (r : ℕ) → slice_get torn.now r ≡ Some false →
+            tree_of self.now.kinds (from_of (kind_of known.entry)) ≡ Some r →
+            is_lent_in (Some r) (kind_of known.entry) ≡ true }
     {
         match known {
             Known::Gone => true,
             Known::Scalar { .. } => true,
             Known::Owned { .. } => true,
-            Known::Lent { root, from, .. } => self.has_owner(root) && self.climbs(root, from),
+            Known::Lent { root, from, .. } => {
+                self.is_sound(torn, root) && self.stays_in(torn, root, from)
+            }
             Known::Credit { .. } => true,
+        }
+    }
+
+    // Whether a root is owned, or its tree is torn.
+    fn is_sound(&self, torn: &Marks, root: Option<u16>) -> bool
+        ensures owned { result ≡ true → (r : ℕ) → slice_get torn.now r ≡ Some false → root ≡ Some r →
+            HasOwner self.now.kinds (Some r) }
+    {
+        is_torn(torn, root) || self.has_owner(root)
+    }
+
+    // Whether a from stays in the tree of a root, unless both trees are torn.
+    fn stays_in(&self, torn: &Marks, root: Option<u16>, from: Option<From>) -> bool
+        ensures inside { result ≡ true → (r : ℕ) → slice_get torn.now r ≡ Some false → root ≡ Some r →
+            (from ≡ None) ⊎ (tree_of self.now.kinds from ≡ Some r) }
+        ensures outside { result ≡ true → (r : ℕ) → slice_get torn.now r ≡ Some false →
+            tree_of self.now.kinds from ≡ Some r → root ≡ Some r }
+    {
+        if from.is_none() {
+            return true;
+        }
+        let tree = self.tree_of(from);
+        if same_root(root, tree) {
+            return true;
+        }
+        is_torn(torn, root) && is_torn(torn, tree)
+    }
+
+    // The register that owns the tree that a from leads into, where there is one.
+    fn tree_of(&self, from: Option<From>) -> Option<u16>
+        ensures is { result ≡ tree_of self.now.kinds from }
+    {
+        match from {
+            None => None,
+            Some(from) => self.known(from.register).root(from.register),
         }
     }
 
@@ -66,27 +129,61 @@ impl<'a> Registers<'a> {
         }
     }
 
-    // Whether a from leads to the owner of a tree where all are held, or is none.
-    fn climbs(&self, root: Option<u16>, from: Option<From>) -> bool
-        ensures climbs { result ≡ true → AreHeld self.now.kinds → (n : ℕ) × Climb self.now.kinds root n from }
+    // Finds out which trees are torn, and keeps that in what was known of it before.
+    pub(crate) fn find_held(&mut self, held: Option<Marks>)
+        ensures kinds { self.new.kinds ≡ self.old.kinds }
+        ensures maps { self.new.maps ≡ self.old.maps }
     {
-        match from {
-            None => true,
-            Some(from) => {
-                is_some_of(root, from.register) || self.known(from.register).is_lent_in(root)
+        match held {
+            None => (),
+            Some(torn) => {
+                self.list_none();
+                self.list_tops();
+                if self.list_climbing() {
+                    let found = self.find_torn(torn);
+                    self.set_held(Some(found));
+                }
             }
         }
     }
 
-    // Finds out whether all are held.
-    pub(crate) fn find_held(&mut self)
-        ensures kinds { self.new.kinds ≡ self.old.kinds }
-        ensures maps { self.new.maps ≡ self.old.maps }
+    // The trees that are torn, where each register that is listed is held.
+    fn find_torn(&self, torn: Marks) -> Marks
+        requires held { (q : ℕ) → has self.now.lent q ≡ true → (o : Option ℕ) →
+            is_lent_in o (at self.now.kinds q) ≡ true → IsHeld self.now.kinds o (from_of (at self.now.kinds q)) }
+        ensures whole { AreWhole self.now.kinds result }
     {
-        self.list_none();
-        self.list_tops();
-        let held = self.list_climbing() && self.are_listed();
-        self.set_held(held);
+        let mut found = torn;
+        for register in 0..self.known.len() as u16 {
+            found.clear(register);
+        }
+        for register in 0..self.known.len() as u16 {
+            self.mark_torn(&mut found, register);
+        }
+        found
+    }
+
+    // Marks also the trees that a register tears: its own where it isn't listed, and where its from leads into another
+    // both.
+    fn mark_torn(&self, torn: &mut Marks, register: u16)
+        ensures listed { (r : ℕ) → slice_get torn.new r ≡ Some false →
+            is_lent_in (Some r) (at self.now.kinds register) ≡ true → has self.now.lent register ≡ true }
+        ensures closed { (r : ℕ) → slice_get torn.new r ≡ Some false →
+            tree_of self.now.kinds (from_of (at self.now.kinds register)) ≡ Some r →
+            is_lent_in (Some r) (at self.now.kinds register) ≡ true }
+        ensures more { (r : ℕ) → slice_get torn.new r ≡ Some false → slice_get torn.old r ≡ Some false }
+    {
+        match self.known(register) {
+            Known::Gone => (),
+            Known::Scalar { .. } => (),
+            Known::Owned { .. } => (),
+            Known::Lent { root, from, .. } => {
+                let tree = self.tree_of(from);
+                mark_unless(torn, self.lents.is_listed(register), root);
+                mark_unless(torn, same_root(root, tree), tree);
+            }
+            Known::Credit { .. } => (),
+        }
     }
 
     // Lists those that came from no register, or from the owner of their tree.
@@ -164,18 +261,6 @@ impl<'a> Registers<'a> {
             Known::Credit { .. } => true,
         }
     }
-
-    // Whether all that are lent are listed.
-    fn are_listed(&self) -> bool
-        ensures listed { result ≡ true → (q : ℕ) → is_lent (at self.now.kinds q) ≡ true → has self.now.lent q ≡ true }
-    {
-        for register in 0..self.known.len() as u16 {
-            if self.known(register).is_lent() && !self.lents.is_listed(register) {
-                return false;
-            }
-        }
-        true
-    }
 }
 
 // Lists also those of some registers that came from one and read this tree.
@@ -212,6 +297,55 @@ pub(crate) fn is_some_of(one: Option<u16>, register: u16) -> bool
     match one {
         None => false,
         Some(one) => one == register,
+    }
+}
+
+// Whether the tree of a root is torn; yes where there is no root.
+fn is_torn(torn: &Marks, root: Option<u16>) -> bool
+    ensures torn { result ≡ true → (r : ℕ) → slice_get torn.now r ≡ Some false → root ≡ Some r → ⊥ }
+{
+    match root {
+        None => true,
+        Some(root) => torn.is_marked(root),
+    }
+}
+
+// Marks also the tree of a root, where there is one, unless it is fine.
+fn mark_unless(torn: &mut Marks, fine: bool, root: Option<u16>)
+    ensures marked { fine ≡ false → (r : ℕ) → slice_get torn.new r ≡ Some false → root ≡ Some r → ⊥ }
+    ensures more { (r : ℕ) → slice_get torn.new r ≡ Some false → slice_get torn.old r ≡ Some false }
+{
+    match root {
+        None => (),
+        Some(root) => {
+            if !fine {
+                torn.mark(root);
+            }
+        }
+    }
+}
+
+// Whether the tree of a register is known to be whole.
+pub(crate) fn is_whole(held: &Option<Marks>, register: u16) -> bool
+    ensures whole { (ks : List Kind) → result ≡ true → AreKnown ks held.now → IsWhole ks register }
+{
+    match held {
+        None => false,
+        Some(torn) => !torn.is_marked(register),
+    }
+}
+
+// The tree of a register is whole from now on.
+pub(crate) fn mended(held: Option<Marks>, register: u16) -> Option<Marks>
+    ensures is { (ks : List Kind) → AreKnownOver ks register held → AreKnown ks result }
+{
+    match held {
+        None => None,
+        Some(torn) => {
+            let mut torn = torn;
+            torn.clear(register);
+            Some(torn)
+        }
     }
 }
 

@@ -62,7 +62,7 @@ impl<'a> Registers<'a> {
     }
 
     // Lists also those that lead to some registers.
-    fn list_to_each(&mut self, registers: &[u16])
+    pub(crate) fn list_to_each(&mut self, registers: &[u16])
         ensures listed { (p q : ℕ) → has registers.now p ≡ true → leads p (at self.old.kinds q) ≡ true →
             has self.new.lent q ≡ true }
         ensures more { Grows self.old.lent self.new.lent }
@@ -76,7 +76,7 @@ impl<'a> Registers<'a> {
     }
 
     // Lists also those that lead to a register of the list, from a place in it on. The place where it ends.
-    fn list_further(&mut self, start: usize) -> usize
+    pub(crate) fn list_further(&mut self, start: usize) -> usize
         requires within { start ≤ length self.now.lent }
         requires closed { ClosedBelow self.now.kinds self.now.lent start }
         ensures end { result ≡ length self.new.lent }
@@ -96,19 +96,15 @@ impl<'a> Registers<'a> {
         place
     }
 
-    // Lists those that lead to a register, to one of some others, or to one that is listed. Those that lead to the
-    // others stand first, each behind the one that it leads to.
-    pub(crate) fn gather(&mut self, register: u16, others: &[u16])
-        ensures gathered { Gathers self.old.kinds register others.now self.new.lent }
-        ensures unreached { (q : ℕ) → kept_at self.new.reached q ≡ None }
+    // Lists those that lead to a register, or to one that is listed, each behind the one that it leads to.
+    pub(crate) fn gather(&mut self, register: u16)
+        ensures gathered { Gathers self.old.kinds register self.new.lent }
         ensures kinds { self.new.kinds ≡ self.old.kinds }
         ensures maps { self.new.maps ≡ self.old.maps }
     {
         self.list_none();
-        self.list_to_each(others);
-        let settled = self.list_further(0);
         self.list_to(register);
-        self.list_further(settled);
+        self.list_further(0);
     }
 
     // Whether a register is there.

@@ -22,6 +22,7 @@ use crate::label_sets::{LabelSets, Origin};
 use crate::lents::Lents;
 use crate::links::Links;
 use crate::log::Log;
+use crate::marks::Marks;
 use crate::set::Set;
 use crate::table::Table;
 use cell_code::{Function, Kind, Label};
@@ -41,8 +42,8 @@ pub struct Registers<'a> {
     pub(crate) trees: Links,
     // For each register those that are lent of it and have no from.
     pub(crate) loose: Links,
-    // The froms of each lent register lead to the owner of its tree, or to one that has no from.
-    pub(crate) held: bool,
+    // The registers whose trees may be torn, where that is known.
+    pub(crate) held: Option<Marks>,
     pub(crate) log: Log,
     pub(crate) busy: usize,
     pub(crate) asked: Vec<Asked>,
@@ -88,7 +89,7 @@ impl<'a> Registers<'a> {
             below: Links::new(alloc, function.registers as usize)?,
             trees: Links::new(alloc, function.registers as usize)?,
             loose: Links::new(alloc, function.registers as usize)?,
-            held: true,
+            held: Some(Marks::new(alloc, function.registers as usize)?),
             log: Log::new(alloc, function.registers as usize, function.labels.len())?,
             busy,
             asked: asked_by(alloc, &function.labels)?,
@@ -117,6 +118,7 @@ impl<'a> Registers<'a> {
         ensures kinds { self.new.kinds ≡ kinds.now }
         ensures maps { self.new.maps ≡ self.old.maps }
     {
+        let held = self.held.take();
         self.sets.start();
         let mut register = 0u16;
         for kind in kinds {
@@ -124,7 +126,7 @@ impl<'a> Registers<'a> {
             self.change(register, Known::of(kind), Some(origin));
             register += 1;
         }
-        self.find_held();
+        self.find_held(held);
     }
 }
 
@@ -185,7 +187,7 @@ impl<'a> Registers<'a> {
             link_source(&mut self.below, register, before, known.source());
             link_owner(&mut self.trees, register, before, known.owner());
             link_loose(&mut self.loose, register, before, known);
-            self.held = false;
+            self.held = None;
             self.busy = recount(self.busy, before.is_free(), known.is_free());
             self.known.set(register, known);
             self.log.add(register);

@@ -1,5 +1,5 @@
-// Which registers are listed while a cell is taken apart and all lent ones are held: those whose froms or roots change
-// one by one. What else reads the tree reaches the heir that keeps its name.
+// Which registers are listed while a cell is taken apart whose tree is whole: those whose froms or roots change one by
+// one. What else reads the tree reaches the heir that keeps its name.
 ghost use Rattle.std.specs.Prelude.{◌≡◌, ◌⊎◌, ◌<◌, ℕ, ◌&&◌, not, true, false, is_some, IfSome, Option, Some};
 ghost use Rattle.sound_code.specs.Kinds.{at, from_of, has, is_lent_of};
 ghost use Rattle.sound_code.specs.Taking.{is_heir, part};

@@ -12,6 +12,7 @@ ghost use Rattle.register_kinds.specs.Rising.{Rise};
 ghost use Rattle.register_kinds.specs.Steps.{forgets, lose};
 ghost use Rattle.register_kinds.specs.Views.{kind_of};
 
+use crate::held::mended;
 use crate::known::{Known, atom, part_of, whole};
 use crate::label_sets::Origin;
 use crate::registers::Registers;
@@ -60,7 +61,7 @@ impl<'a> Registers<'a> {
             ≡ map (lose register) (map (forget (goes self.old.kinds register)) self.old.kinds) }
         ensures maps { self.new.maps ≡ self.old.maps }
     {
-        self.gather(register, &[]);
+        self.gather(register);
         self.forget_going(register);
         self.lose_listed(register);
         self.tidy(register);
@@ -68,7 +69,7 @@ impl<'a> Registers<'a> {
 
     // No from names a register, or what is lent of it, where all that lead to these are listed.
     fn forget_going(&mut self, register: u16)
-        requires gathered { Gathers self.now.kinds register [] self.now.lent }
+        requires gathered { Gathers self.now.kinds register self.now.lent }
         ensures kinds { self.new.kinds ≡ map (forget (goes self.old.kinds register)) self.old.kinds }
         ensures maps { self.new.maps ≡ self.old.maps }
         ensures lent { self.new.lent ≡ self.old.lent }
@@ -141,7 +142,8 @@ impl<'a> Registers<'a> {
         ensures kinds { self.new.kinds ≡ written self.old.kinds register (kind_of known.entry) }
         ensures maps { self.new.maps ≡ self.old.maps }
     {
-        let held = self.stays_held(register, known);
+        let before = self.take_held();
+        let held = self.stays_held(before, register, known);
         self.forget(register);
         self.change(register, known.forgetting(register), origin);
         self.set_held(held);
@@ -244,7 +246,7 @@ impl<'a> Registers<'a> {
         ensures maps { self.new.maps ≡ self.old.maps }
     {
         let known = self.known(register);
-        let held = self.all_held();
+        let held = self.take_held();
         self.put(register, known.narrowed(constructor));
         self.set_held(held);
     }
@@ -254,9 +256,9 @@ impl<'a> Registers<'a> {
         ensures kinds { self.new.kinds ≡ used_up self.old.kinds register }
         ensures maps { self.new.maps ≡ self.old.maps }
     {
-        let held = self.all_held();
+        let held = self.take_held();
         self.lose(register);
         self.put(register, Known::Gone);
-        self.set_held(held);
+        self.set_held(mended(held, register));
     }
 }

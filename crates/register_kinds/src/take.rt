@@ -1,5 +1,5 @@
 // Taking a cell apart: its fields go into registers, and the register that owned it keeps it as a credit.
-ghost use Rattle.std.specs.Prelude.{◌≡◌, ◌⊎◌, ◌<◌, ℕ, true, false, None, Some, is_some, set, length, map};
+ghost use Rattle.std.specs.Prelude.{◌≡◌, ◌⊎◌, ◌<◌, ℕ, List, true, false, None, Some, is_some, set, length, map};
 ghost use Rattle.sound_code.specs.Asked.{known_fields};
 ghost use Rattle.sound_code.specs.Kinds.{at, has, is_lent_of, is_owned};
 ghost use Rattle.sound_code.specs.Taking.{IsTaken, IsReached, part, is_heir, is_field, part_kind, credit, ends};
@@ -7,19 +7,22 @@ ghost use Rattle.sound_code.specs.Taking.{is_heir_by, with_root};
 ghost use Rattle.register_kinds.specs.Takes.{as_part, seen_at, next_at, AreReached, AreSettled, nones};
 ghost use Rattle.register_kinds.specs.Takes.{is_used, forgotten, fated, filled_by, filled_at, emptied, in_turn};
 ghost use Rattle.register_kinds.specs.Takes.{stands_for};
-ghost use Rattle.register_kinds.specs.Climbs.{AreHeld};
+ghost use Rattle.register_kinds.specs.Climbs.{AreKnown, AreKnownOver, IsWhole};
+ghost use Rattle.cell_code.specs.declared.kind.Kind.{Kind};
 ghost use Rattle.register_kinds.specs.Owners.{rooted};
 ghost use Rattle.register_kinds.specs.Sorted.{IsTakable};
-ghost use Rattle.register_kinds.specs.Takes.{IsPassed};
-ghost use Rattle.register_kinds.specs.Kept.{Gathers, kept_at, names};
+ghost use Rattle.register_kinds.specs.Takes.{GathersParts, IsPassed};
+ghost use Rattle.register_kinds.specs.Kept.{Grows, kept_at, leads, names};
 ghost use Rattle.register_kinds.specs.declared.label_sets.Origin.{Origin};
 ghost use Rattle.register_kinds.specs.LabelSets.{set_at};
 ghost use Rattle.register_kinds.specs.Rising.{Rise};
 ghost use Rattle.sound_code.specs.Kinds.{set_of};
 ghost use Rattle.register_kinds.specs.Views.{kind_of};
 
+use crate::held::{is_whole, mended};
 use crate::known::{Known, whole};
 use crate::label_sets::Origin;
+use crate::marks::Marks;
 use crate::registers::Registers;
 use crate::table::Table;
 use cell_code::From;
@@ -46,24 +49,23 @@ impl<'a> Registers<'a> {
             (known_fields table.now (at self.old.kinds register)) self.new.kinds }
         ensures maps { self.new.maps ≡ self.old.maps }
     {
+        let held = self.take_held();
         let types = self.known_fields(table, register);
-        let held = self.can_sort(register, parts, types);
-        self.pass_either(table, register, parts, types, held);
+        let plain = self.is_plain(register, parts, types);
+        self.pass_either(table, register, parts, types, &held, plain);
         self.fill(table, register, parts, types);
         self.empty(register, parts, types);
         self.tidy(register);
-        self.settle(held);
+        self.settle(register, held, plain);
     }
 
-    // Whether all lent registers are held, the register owns a tree and gets no part, and no part's register owns one.
-    fn can_sort(&self, register: u16, parts: &[u16], types: &[u32]) -> bool
-        ensures takable { result ≡ true → IsTakable self.now.kinds register (part parts.now types.now) }
+    // Whether the register owns a tree and gets no part, and no part's register owns one.
+    fn is_plain(&self, register: u16, parts: &[u16], types: &[u32]) -> bool
+        ensures owned { result ≡ true → is_owned (at self.now.kinds register) ≡ true }
+        ensures own { result ≡ true → is_some (part parts.now types.now register) ≡ false }
         ensures free { result ≡ true → (q : ℕ) → is_some (part parts.now types.now q) ≡ true →
             is_owned (at self.now.kinds q) ≡ false }
     {
-        if !self.all_held() {
-            return false;
-        }
         if !self.known(register).is_owned() {
             return false;
         }
@@ -85,57 +87,66 @@ impl<'a> Registers<'a> {
         true
     }
 
-    // It is known that all lent registers are held, or it is found out.
-    fn settle(&mut self, held: bool)
-        requires held { held ≡ true → AreHeld self.now.kinds }
+    // It is known which trees are torn behind a Take, where it was before, or it is found out.
+    fn settle(&mut self, register: u16, held: Option<Marks>, plain: bool)
+        requires known { plain ≡ true → AreKnownOver self.now.kinds register held }
         ensures kinds { self.new.kinds ≡ self.old.kinds }
         ensures maps { self.new.maps ≡ self.old.maps }
     {
-        if held {
-            self.set_held(true);
+        if plain {
+            self.set_held(mended(held, register));
         } else {
-            self.find_held();
+            self.find_held(held);
         }
     }
 
     // What was read through an heir goes on to be read in its tree, and all else that was read of the register's is
-    // gone. Where all lent registers are held, only those are looked at that change one by one.
+    // gone. Where the tree is whole, only those are looked at that change one by one.
     fn pass_either(
         &mut self,
         table: &Table<'a>,
         register: u16,
         parts: &[u16],
         types: &[u32],
-        held: bool,
+        held: &Option<Marks>,
+        plain: bool,
     )
-        requires takable { held ≡ true → IsTakable self.now.kinds register (part parts.now types.now) }
+        requires known { AreKnown self.now.kinds held.now }
+        requires owned { plain ≡ true → is_owned (at self.now.kinds register) ≡ true }
+        requires own { plain ≡ true → is_some (part parts.now types.now register) ≡ false }
         ensures passed { IsPassed table.now self.old.kinds register parts.now types.now self.new.kinds }
         ensures maps { self.new.maps ≡ self.old.maps }
     {
-        if !held {
+        if !plain {
             self.pass_all_on(table, register, parts, types);
             return;
         }
-        if !self.pass_sorted(table, register, parts, types) {
+        if !is_whole(held, register) {
+            self.pass_all_on(table, register, parts, types);
+            return;
+        }
+        if !self.pass_sorted(table, register, parts, types, held) {
             self.pass_all_on(table, register, parts, types);
         }
     }
 
-    // The same where all lent registers are held. Whether those that change one by one were found.
+    // The same where the tree is whole. Whether those that change one by one were found.
     fn pass_sorted(
         &mut self,
         table: &Table<'a>,
         register: u16,
         parts: &[u16],
         types: &[u32],
+        held: &Option<Marks>,
     ) -> bool
         requires takable { IsTakable self.now.kinds register (part parts.now types.now) }
+        requires known { AreKnown self.now.kinds held.now }
         ensures passed { result ≡ true →
             IsPassed table.now self.old.kinds register parts.now types.now self.new.kinds }
         ensures same { result ≡ false → self.new.kinds ≡ self.old.kinds }
         ensures maps { self.new.maps ≡ self.old.maps }
     {
-        let keeper = self.choose(table, register, parts, types);
+        let keeper = self.choose(table, register, parts, types, held);
         if !self.sort(table, register, parts, types, keeper) {
             return false;
         }
@@ -152,8 +163,9 @@ impl<'a> Registers<'a> {
         register: u16,
         parts: &[u16],
         types: &[u32],
+        held: &Option<Marks>,
     ) -> Option<u16>
-        requires held { AreHeld self.now.kinds }
+        requires known { AreKnown self.now.kinds held.now }
         ensures apart { (h : ℕ) → result ≡ Some h → (q : ℕ) → is_lent_of h (at self.old.kinds q) ≡ false }
         ensures own { (h : ℕ) → result ≡ Some h → register < length self.new.kinds }
         ensures other { (h : ℕ) → result ≡ Some h → h < length self.new.kinds }
@@ -162,13 +174,14 @@ impl<'a> Registers<'a> {
     {
         match self.largest(table, register, parts, types) {
             None => None,
-            Some(heir) => self.checked(register, heir),
+            Some(heir) => self.checked(register, heir, held),
         }
     }
 
-    // A register as the one that keeps the name of another, where both are there and it owns no tree.
-    fn checked(&self, register: u16, heir: u16) -> Option<u16>
+    // A register as the one that keeps the name of another, where both are there and nothing is lent of it.
+    fn checked(&self, register: u16, heir: u16, held: &Option<Marks>) -> Option<u16>
         ensures free { (h : ℕ) → result ≡ Some h → is_owned (at self.now.kinds h) ≡ false }
+        ensures whole { (ks : List Kind) (h : ℕ) → result ≡ Some h → AreKnown ks held.now → IsWhole ks h }
         ensures own { (h : ℕ) → result ≡ Some h → register < length self.now.kinds }
         ensures other { (h : ℕ) → result ≡ Some h → h < length self.now.kinds }
     {
@@ -176,6 +189,9 @@ impl<'a> Registers<'a> {
             return None;
         }
         if !self.is_there(heir) {
+            return None;
+        }
+        if !is_whole(held, heir) {
             return None;
         }
         if self.known(heir).is_owned() {
@@ -262,10 +278,62 @@ impl<'a> Registers<'a> {
         ensures passed { IsPassed table.now self.old.kinds register parts.now types.now self.new.kinds }
         ensures maps { self.new.maps ≡ self.old.maps }
     {
-        self.gather(register, parts);
+        self.gather_parts(table, register, parts, types);
         self.find_heirs(table, register, parts, types);
         self.forget_ended(table, register, parts, types);
         self.pass_on(register, parts, types, None);
+    }
+
+    // Lists those that lead to the register, to heirs, or to one of these that are listed, and those that lead to parts.
+    // Those that lead to heirs stand first, each behind the one that it leads to.
+    fn gather_parts(&mut self, table: &Table<'a>, register: u16, parts: &[u16], types: &[u32])
+        ensures gathered { GathersParts self.old.kinds register
+            (is_heir table.now self.old.kinds register (part parts.now types.now)) parts.now self.new.lent }
+        ensures unreached { (q : ℕ) → kept_at self.new.reached q ≡ None }
+        ensures kinds { self.new.kinds ≡ self.old.kinds }
+        ensures maps { self.new.maps ≡ self.old.maps }
+    {
+        self.list_none();
+        self.list_to_heirs(table, register, parts, types);
+        let settled = self.list_further(0);
+        self.list_to(register);
+        self.list_further(settled);
+        self.list_to_each(parts);
+    }
+
+    // Lists also those that lead to heirs.
+    fn list_to_heirs(&mut self, table: &Table<'a>, register: u16, parts: &[u16], types: &[u32])
+        ensures listed { (p q : ℕ) → is_heir table.now self.old.kinds register (part parts.now types.now) p ≡ true →
+            leads p (at self.old.kinds q) ≡ true → has self.new.lent q ≡ true }
+        ensures more { Grows self.old.lent self.new.lent }
+        ensures kinds { self.new.kinds ≡ self.old.kinds }
+        ensures maps { self.new.maps ≡ self.old.maps }
+        ensures reached { self.new.reached ≡ self.old.reached }
+    {
+        for heir in parts {
+            self.list_to_heir(table, register, parts, types, *heir);
+        }
+    }
+
+    // Lists also those that lead to a register, where it is an heir.
+    fn list_to_heir(
+        &mut self,
+        table: &Table<'a>,
+        register: u16,
+        parts: &[u16],
+        types: &[u32],
+        heir: u16,
+    )
+        ensures listed { (q : ℕ) → is_heir table.now self.old.kinds register (part parts.now types.now) heir ≡ true →
+            leads heir (at self.old.kinds q) ≡ true → has self.new.lent q ≡ true }
+        ensures more { Grows self.old.lent self.new.lent }
+        ensures kinds { self.new.kinds ≡ self.old.kinds }
+        ensures maps { self.new.maps ≡ self.old.maps }
+        ensures reached { self.new.reached ≡ self.old.reached }
+    {
+        if self.is_heir(table, register, parts, types, heir) {
+            self.list_to(heir);
+        }
     }
 
     // Whether a register is known to read the field that it gets, which is no scalar.
@@ -320,7 +388,8 @@ impl<'a> Registers<'a> {
     // Finds the heirs that registers reach, where all that lead to the register, to its parts and to listed ones are
     // listed.
     fn find_heirs(&mut self, table: &Table<'a>, register: u16, parts: &[u16], types: &[u32])
-        requires gathered { Gathers self.now.kinds register parts.now self.now.lent }
+        requires gathered { GathersParts self.now.kinds register
+            (is_heir table.now self.now.kinds register (part parts.now types.now)) parts.now self.now.lent }
         requires unreached { (q : ℕ) → kept_at self.now.reached q ≡ None }
         ensures reached { (q : ℕ) → IsReached self.old.kinds
             (is_heir table.now self.old.kinds register (part parts.now types.now)) q
@@ -520,7 +589,7 @@ impl<'a> Registers<'a> {
                 self.known.swap(register, keeper);
                 self.trees.swap(register, keeper);
                 self.loose.swap(register, keeper);
-                self.held = false;
+                self.held = None;
                 self.log.start();
             }
         }

@@ -1,5 +1,5 @@
 use Rattle.std.proofs.Common.{sym, ap, map, ◌∙◌, ◌+◌, arith}
-use Rattle.std.specs.Prelude.{false}
+use Rattle.std.specs.Prelude.{None}
 use Rattle.sound_code.specs.Codes.{plain_label}
 use Rattle.sound_code.specs.Kinds.{is_free}
 use Rattle.register_kinds.specs.Busy.{held}
@@ -24,7 +24,7 @@ invariant_of-self c =
     let ks = c.self.inside.known in
     let r = rest_of ks c.args.register (let g = c.if-place-len.true in let h = c.len.ensures.is in omega arith) in
     subst (λ ks. IsKept ks (map plain_label c.self.inside.labels.now) c.self.inside.lents c.link_source.new.below
-    c.link_owner.new.trees c.link_loose.new.loose false c.add.new.self c.recount-self-inside.result c.self.inside.asked.items c.set-then-place-len.new.self)
+    c.link_owner.new.trees c.link_loose.new.loose None c.add.new.self c.recount-self-inside.result c.self.inside.asked.items c.set-then-place-len.new.self)
     (sym c.set.ensures.is)
     (keeps_one ks (map plain_label c.self.inside.labels.now) c.self.inside.lents
     c.self.inside.below c.link_source.new.below c.self.inside.trees c.link_owner.new.trees

@@ -1,5 +1,5 @@
 use Rattle.std.proofs.Common.{ap, sym, ◌∙◌, map, refl, subst}
-use Rattle.std.specs.Prelude.{false}
+use Rattle.std.specs.Prelude.{None}
 use Rattle.sound_code.specs.Codes.{plain_label}
 use Rattle.register_kinds.specs.Kept.{IsKept}
 use Rattle.register_kinds.specs.Owners.{rooted, swapped}
@@ -16,7 +16,7 @@ returns-in-None-clause-kinds c =
 pub invariant_of-self : goal.invariant_of-self
 invariant_of-self c =
     subst (λ ks. IsKept ks (map plain_label c.self.inside.labels.now) c.self.inside.lents c.self.inside.below
-    c.swap-in-Some.new.self c.swap-in-Some-2.new.self false c.start.new.self c.self.inside.busy c.self.inside.asked.items c.self.inside.sets)
+    c.swap-in-Some.new.self c.swap-in-Some-2.new.self None c.start.new.self c.self.inside.busy c.self.inside.asked.items c.self.inside.sets)
     (sym c.swap.ensures.is)
     (keeps_swapped c.self.inside.known (map plain_label c.self.inside.labels.now) c.self.inside.lents
     c.self.inside.below c.self.inside.trees c.swap-in-Some.new.self c.self.inside.loose c.swap-in-Some-2.new.self

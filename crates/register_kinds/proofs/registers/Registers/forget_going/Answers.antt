@@ -1,4 +1,4 @@
-use Rattle.std.proofs.Common.{sym, ◌∙◌, ◌+◌, [], ◌∷◌, ap, drop, arith}
+use Rattle.std.proofs.Common.{sym, ◌∙◌, ◌+◌, ◌∷◌, ap, drop, arith}
 use Rattle.std.specs.Prelude.{slice_index}
 use Rattle.sound_code.specs.Changes.{forget, goes}
 use Rattle.register_kinds.specs.Steps.{each}
@@ -31,4 +31,4 @@ returns-clause-kinds c =
     each_done (forget (goes c.args.self.now.kinds c.args.register)) c.loop-place.self.kinds c.args.self.now.lent
     c.loop-place.place (let h = c.loop-place-test.false in let g = c.lent_len-place-end.ensures.is in omega arith)
     ∙ c.loop-place.invariant.kinds
-    ∙ going_listed c.args.register c.args.self.now.kinds [] c.args.self.now.lent c.requires.gathered
+    ∙ going_listed c.args.register c.args.self.now.kinds c.args.self.now.lent c.requires.gathered

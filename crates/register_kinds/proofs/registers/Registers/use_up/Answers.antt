@@ -1,18 +1,23 @@
-use Rattle.std.proofs.Common.{◌∙◌, ap, set, sym, subst}
+use Rattle.std.proofs.Common.{◌∙◌, ap, map, set}
+use Rattle.sound_code.specs.Changes.{forget, goes}
+use Rattle.register_kinds.specs.Steps.{lose}
 use Rattle.cell_code.specs.declared.kind.Kind.TheVariants.{Gone}
-use Rattle.register_kinds.specs.Climbs.{AreHeld}
 use Rattle.register_kinds.proofs.Changed.{used_is}
-use Rattle.register_kinds.proofs.Climbing.{held_used}
+use Rattle.register_kinds.proofs.Torn.{over_used}
 use Rattle.register_kinds.proofs.registers.Registers.use_up.Goals as goal
 
 pub set_held-requires : goal.set_held-requires
 set_held-requires c = record {
-  held = λ e. subst AreHeld (sym (used_is c.args.self.now.kinds _ c.args.register
-      (c.put.ensures.kinds ∙ ap (λ ks. set ks c.args.register Gone) c.lose.ensures.kinds)))
-      (held_used c.args.self.now.kinds c.args.register (c.all_held-held.ensures.held e));
+  known = c.mended.ensures.is c.put.new.self.kinds
+      (over_used c.args.self.now.kinds c.put.new.self.kinds c.args.register c.take_held-held.result
+      (used_is c.args.self.now.kinds _ c.args.register
+      (c.put.ensures.kinds ∙ ap (λ ks. set ks c.args.register Gone) (c.lose.ensures.kinds
+      ∙ ap (λ s. map (lose c.args.register) (map (forget (goes s.kinds c.args.register)) s.kinds)) c.take_held-held.ensures.same)))
+      c.take_held-held.ensures.known);
 }
 
 pub returns-clause-kinds : goal.returns-clause-kinds
 returns-clause-kinds c =
     ap (λ s. s.kinds) c.set_held.ensures.same ∙ used_is c.args.self.now.kinds _ c.args.register
-    (c.put.ensures.kinds ∙ ap (λ ks. set ks c.args.register Gone) c.lose.ensures.kinds)
+    (c.put.ensures.kinds ∙ ap (λ ks. set ks c.args.register Gone) (c.lose.ensures.kinds
+    ∙ ap (λ s. map (lose c.args.register) (map (forget (goes s.kinds c.args.register)) s.kinds)) c.take_held-held.ensures.same))

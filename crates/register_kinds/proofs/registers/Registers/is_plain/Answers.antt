@@ -1,5 +1,5 @@
 use Rattle.register_kinds.proofs.Sorted.{part_listed}
-use Rattle.register_kinds.proofs.registers.Registers.can_sort.Goals as goal
+use Rattle.register_kinds.proofs.registers.Registers.is_plain.Goals as goal
 
 pub returns-clause-free : goal.returns-clause-free
 returns-clause-free c = λ e q s.

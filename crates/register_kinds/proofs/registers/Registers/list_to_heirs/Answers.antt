@@ -1,0 +1,45 @@
+use Rattle.std.proofs.Common.{◌+◌, inl, inr, sym, ap, ◌∙◌, drop, arith}
+use Rattle.std.specs.Prelude.{slice_index}
+use Rattle.sound_code.specs.Kinds.{at, has}
+use Rattle.sound_code.specs.Taking.{is_heir, part}
+use Rattle.register_kinds.specs.Kept.{leads}
+use Rattle.register_kinds.proofs.Climbing.{heir_part}
+use Rattle.register_kinds.proofs.LentLists.{grows_has, grows_on}
+use Rattle.register_kinds.proofs.Places.{drop_index}
+use Rattle.register_kinds.proofs.Reaching.{one_of}
+use Rattle.register_kinds.proofs.Sorted.{none_left, part_listed}
+use Rattle.register_kinds.proofs.registers.Registers.list_to_heirs.Goals as goal
+
+pub loop-heir-preserved : goal.loop-heir-preserved
+loop-heir-preserved c =
+    let i = c.loop-heir.heir-index in
+    let next = drop_index c.args.parts.now i (let h = c.loop-heir-test.true in omega arith) in
+    let x = slice_index c.args.parts.now i in
+    let ks = c.loop-heir.invariant.kinds in
+    record {
+      listed = λ p q a h l. elim (c.loop-heir.invariant.listed p q a h l) [
+        | inl g ↦ elim (one_of x p (drop (i + 1) c.args.parts.now) (ap (λ xs. has xs p) (sym next) ∙ g)) [
+          | inl e ↦ inr (c.list_to_heir.ensures.listed q
+              (ap (λ z. is_heir c.args.table.now c.loop-heir.self.kinds c.args.register
+              (part c.args.parts.now c.args.types.now) z) e
+              ∙ ap (λ z. is_heir c.args.table.now z c.args.register (part c.args.parts.now c.args.types.now) p) ks ∙ h)
+              (ap (λ z. leads z (at c.loop-heir.self.kinds q)) e ∙ ap (λ z. leads p (at z q)) ks ∙ l))
+          | inr e ↦ inl e
+        ]
+        | inr g ↦ inr (grows_has c.loop-heir.self.lent c.list_to_heir.new.self.lent c.list_to_heir.ensures.more q g)
+      ];
+      more = grows_on _ _ _ c.loop-heir.invariant.more c.list_to_heir.ensures.more;
+      kinds = c.list_to_heir.ensures.kinds ∙ ks;
+      maps = c.list_to_heir.ensures.maps ∙ c.loop-heir.invariant.maps;
+      reached = c.list_to_heir.ensures.reached ∙ c.loop-heir.invariant.reached;
+    }
+
+pub returns-clause-listed : goal.returns-clause-listed
+returns-clause-listed c = λ p q h l.
+    elim (c.loop-heir.invariant.listed p q (part_listed c.args.parts.now c.args.types.now p
+    (heir_part c.args.table.now c.args.register (at c.args.self.now.kinds p)
+    (part c.args.parts.now c.args.types.now p) h)) h l) [
+      | inl g ↦ absurd (none_left c.args.parts.now c.loop-heir.heir-index p
+          (let z = c.loop-heir-test.false in omega arith) g)
+      | inr g ↦ g
+    ]

@@ -1,3 +1,4 @@
 pub mod Tokens
+pub mod Writing
 mod Naming
 mod Splitting

@@ -1,2 +1,3 @@
 pub mod Scanned
+pub mod Completed
 pub mod Named

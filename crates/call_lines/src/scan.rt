@@ -1,11 +1,15 @@
 // The tokens of a line: names, values of any type, and signs, with blanks (space, tab, CR) between them. There are no
 // comments.
-ghost use Rattle.std.specs.Prelude.{◌≡◌, ◌≤◌, ◌-◌, ◌||◌, ℕ, List, [], true, false, None, IfSome, length, take, drop};
-ghost use Rattle.fip_language.specs.Character.{is_blank, is_digit, is_letter};
+ghost use Rattle.std.specs.Prelude.{◌≡◌, ◌<◌, ◌≤◌, ◌-◌, ◌||◌, ℕ, List, [], true, false, None, IfSome};
+ghost use Rattle.std.specs.Prelude.{length, take, drop};
+ghost use Rattle.fip_language.specs.Character.{is_blank, is_digit, is_letter, is_upper};
 ghost use Rattle.fip_language.specs.Core.{Name};
 ghost use Rattle.session_meaning.specs.Lines as L;
-ghost use Rattle.session_meaning.specs.Lines.{Symbol, symbols, skip, word, behind, NameText, SignText};
+ghost use Rattle.session_meaning.specs.Lines.{Symbol, symbols, skip, word, behind, after_number, NameText, SignText};
+ghost use Rattle.session_meaning.specs.Lines.{Written, WrittenText};
 ghost use Rattle.call_lines.specs.Scanned.{left, IsSignOf};
+ghost use Rattle.call_lines.specs.Completed.{BeginsDigit, IsUnsigned, HasParts, Completes, GoesOn};
+ghost use Rattle.call_lines.specs.declared.scan.Step.TheVariants.{Wants, Read};
 
 // Whether the byte is a space, a tab or a CR.
 fn is_blank(byte: u8) -> bool
@@ -34,6 +38,13 @@ fn is_keyword(text: &[u8]) -> bool
         || text == b"if".as_slice()
         || text == b"else".as_slice()
         || text == b"int".as_slice()
+}
+
+// Whether the name of a constructor begins with the byte.
+fn is_capital(byte: u8) -> bool
+    ensures { result ≡ is_upper byte }
+{
+    byte.is_ascii_uppercase()
 }
 
 // The first place from `at` on where no blank stands, or the end.
@@ -66,13 +77,33 @@ fn behind_name(bytes: &[u8], at: usize) -> usize
 }
 
 // The first place from `at` on where no digit stands, or the end.
-fn behind_digits(bytes: &[u8], at: usize) -> usize {
+fn behind_digits(bytes: &[u8], at: usize) -> usize
+    ensures from { at ≤ result }
+    ensures within { at ≤ length bytes.now → result ≤ length bytes.now }
+    ensures behind { after_number (symbols (drop at bytes.now)) ≡ symbols (drop result bytes.now) }
+    ensures some { at < result → BeginsDigit (symbols (drop at bytes.now)) }
+    ensures none { result ≡ at → BeginsDigit (symbols (drop at bytes.now)) → ⊥ }
+{
     for i in at..bytes.len() {
         if !bytes[i].is_ascii_digit() {
             return i;
         }
     }
     at.max(bytes.len())
+}
+
+// Where the digits of an int begin that stands at a place: there, or behind a minus.
+fn behind_minus(bytes: &[u8], at: usize) -> usize
+    requires there { at < length bytes.now }
+    ensures from { at ≤ result }
+    ensures within { result ≤ length bytes.now }
+    ensures digits { IsUnsigned (symbols (drop at bytes.now)) (symbols (drop result bytes.now)) }
+{
+    if bytes[at] == b'-' {
+        at.saturating_add(1)
+    } else {
+        at
+    }
 }
 
 /// Where a value stands in a line: the place of its first byte, and the place behind its last one.
@@ -89,6 +120,17 @@ enum Step {
     Wants,
     // A value was read.
     Read,
+}
+
+// Whether more of a value is to come, of which so many brackets are open.
+fn is_part(step: Step, depth: usize) -> bool
+    ensures more { result ≡ true → step ≡ Read → 0 < depth }
+    ensures whole { result ≡ false → (step ≡ Read) × (depth ≡ 0) }
+{
+    match step {
+        Step::Wants => true,
+        Step::Read => depth > 0,
+    }
 }
 
 /// Reads the tokens of a line from the left. A call that doesn't find what it asks for leaves it where it was.
@@ -127,6 +169,8 @@ impl<'l> Scanner<'l> {
         ensures bytes { self.new.bytes.now ≡ self.old.bytes.now }
         ensures within { self.old.at ≤ length self.old.bytes.now → self.new.at ≤ length self.old.bytes.now }
         ensures kept { result ≡ false → self.new ≡ self.old }
+        ensures on { result ≡ true → self.old.at < self.new.at }
+        ensures inside { result ≡ true → self.new.at ≤ length self.old.bytes.now }
         ensures read { result ≡ true → (c : Symbol) → IsSignOf wanted c → SignText c (left self.old) (left self.new) }
         ensures none { result ≡ false → (c : Symbol) (rest : List Symbol) → IsSignOf wanted c →
             SignText c (left self.old) rest → ⊥ }
@@ -143,6 +187,8 @@ impl<'l> Scanner<'l> {
     pub fn name(&mut self) -> Option<&'l [u8]>
         ensures bytes { self.new.bytes.now ≡ self.old.bytes.now }
         ensures within { self.old.at ≤ length self.old.bytes.now → self.new.at ≤ length self.old.bytes.now }
+        ensures on { self.old.at ≤ self.new.at }
+        ensures kept { result ≡ None → self.new ≡ self.old }
         ensures read { IfSome result (λ n. NameText (left self.old) n.now (left self.new)) }
         ensures none { result ≡ None → (name : Name) (rest : List Symbol) → NameText (left self.old) name rest → ⊥ }
     {
@@ -168,68 +214,146 @@ impl<'l> Scanner<'l> {
         behind_blanks(self.bytes, self.at) >= self.bytes.len()
     }
 
+    // The bracket behind the name of a constructor with fields; it is read and counted.
+    fn fields(&mut self, depth: &mut usize) -> Step
+        ensures bytes { self.new.bytes.now ≡ self.old.bytes.now }
+        ensures on { self.old.at ≤ self.new.at }
+        ensures within { self.old.at ≤ length self.old.bytes.now → self.new.at ≤ length self.old.bytes.now }
+        ensures few { depth.old < self.old.at → depth.new ≤ self.new.at }
+        ensures alike { depth.old < length self.old.bytes.now →
+            GoesOn (HasParts depth.old (left self.old)) (Completes result depth.new (left self.new)) }
+    {
+        if self.sign(b'(') {
+            *depth = depth.saturating_add(1);
+            return Step::Wants;
+        }
+        Step::Read
+    }
+
+    // The digits of an int, which begin at a place. Whether there are some.
+    fn digits(&mut self, place: usize) -> bool
+        ensures bytes { self.new.bytes.now ≡ self.old.bytes.now }
+        ensures kept { result ≡ false → self.new ≡ self.old }
+        ensures on { result ≡ true → place < self.new.at }
+        ensures within { place ≤ length self.old.bytes.now → result ≡ true →
+            self.new.at ≤ length self.old.bytes.now }
+        ensures some { result ≡ true → BeginsDigit (symbols (drop place self.old.bytes.now)) }
+        ensures behind { result ≡ true → after_number (symbols (drop place self.old.bytes.now)) ≡ left self.new }
+        ensures none { result ≡ false → BeginsDigit (symbols (drop place self.old.bytes.now)) → ⊥ }
+    {
+        let end = behind_digits(self.bytes, place);
+        let is_some = end > place;
+        if is_some {
+            self.at = end;
+        }
+        is_some
+    }
+
     // The first token of a value: an int, or the name of a constructor and the bracket behind it where it has fields,
     // which is counted.
-    fn first(&mut self, open: &mut usize) -> Option<Step> {
+    fn first(&mut self, depth: &mut usize) -> Option<Step>
+        ensures bytes { self.new.bytes.now ≡ self.old.bytes.now }
+        ensures on { IfSome result (λ s. self.old.at < self.new.at) }
+        ensures within { IfSome result (λ s. self.new.at ≤ length self.old.bytes.now) }
+        ensures few { IfSome result (λ s. depth.old ≤ self.old.at → depth.new ≤ self.new.at) }
+        ensures alike { IfSome result (λ s. depth.old ≤ self.old.at →
+            GoesOn (Completes Wants depth.old (left self.old)) (Completes s depth.new (left self.new))) }
+        ensures none { result ≡ None → (rest : List Symbol) → Completes Wants depth.old (left self.old) rest → ⊥ }
+    {
         let start = behind_blanks(self.bytes, self.at);
-        let first = *self.bytes.get(start)?;
-        if first.is_ascii_uppercase() {
-            self.at = behind_name(self.bytes, start);
-            if self.sign(b'(') {
-                *open = open.saturating_add(1);
-                return Some(Step::Wants);
-            }
-            return Some(Step::Read);
-        }
-        let digits = if first == b'-' {
-            start.saturating_add(1)
-        } else {
-            start
-        };
-        let end = behind_digits(self.bytes, digits);
-        if end == digits {
+        if start >= self.bytes.len() {
             return None;
         }
-        self.at = end;
-        Some(Step::Read)
+        if is_capital(self.bytes[start]) {
+            self.at = behind_name(self.bytes, start);
+            return Some(self.fields(depth));
+        }
+        if self.digits(behind_minus(self.bytes, start)) {
+            Some(Step::Read)
+        } else {
+            None
+        }
     }
 
     // Behind a value in brackets stands a comma, or their `)`.
-    fn next_or_close(&mut self, open: &mut usize) -> Option<Step> {
+    fn next_or_close(&mut self, depth: &mut usize) -> Option<Step>
+        requires some { 0 < depth.old }
+        ensures bytes { self.new.bytes.now ≡ self.old.bytes.now }
+        ensures on { IfSome result (λ s. self.old.at < self.new.at) }
+        ensures within { IfSome result (λ s. self.new.at ≤ length self.old.bytes.now) }
+        ensures few { IfSome result (λ s. depth.new ≤ depth.old) }
+        ensures alike { IfSome result (λ s.
+            GoesOn (Completes Read depth.old (left self.old)) (Completes s depth.new (left self.new))) }
+        ensures none { result ≡ None → (rest : List Symbol) → Completes Read depth.old (left self.old) rest → ⊥ }
+    {
         if self.sign(b',') {
             return Some(Step::Wants);
         }
         if self.sign(b')') {
-            *open = open.saturating_sub(1);
+            *depth = depth.saturating_sub(1);
             return Some(Step::Read);
         }
         None
     }
 
-    /// The value that comes next, with any names of constructors, any numbers of fields, and ints of any size. Each
-    /// step but the last reads a byte at least. Brackets are counted, so that nesting costs no stack of the program.
-    pub fn value(&mut self) -> Option<Span> {
-        let before = self.at;
-        let start = behind_blanks(self.bytes, self.at);
-        let mut open = 0;
+    // The next token of a value that isn't whole.
+    fn token(&mut self, step: Step, depth: &mut usize) -> Option<Step>
+        requires more { step ≡ Read → 0 < depth.old }
+        ensures bytes { self.new.bytes.now ≡ self.old.bytes.now }
+        ensures on { IfSome result (λ s. self.old.at < self.new.at) }
+        ensures within { IfSome result (λ s. self.new.at ≤ length self.old.bytes.now) }
+        ensures few { IfSome result (λ s. depth.old ≤ self.old.at → depth.new ≤ self.new.at) }
+        ensures alike { IfSome result (λ s. depth.old ≤ self.old.at →
+            GoesOn (Completes step depth.old (left self.old)) (Completes s depth.new (left self.new))) }
+        ensures none { result ≡ None → (rest : List Symbol) → Completes step depth.old (left self.old) rest → ⊥ }
+    {
+        match step {
+            Step::Wants => self.first(depth),
+            Step::Read => self.next_or_close(depth),
+        }
+    }
+
+    // Reads a value. Whether one comes next; where none does, the scanner stands anywhere.
+    fn whole_value(&mut self) -> bool
+        ensures bytes { self.new.bytes.now ≡ self.old.bytes.now }
+        ensures on { result ≡ true → self.old.at ≤ self.new.at }
+        ensures within { result ≡ true → self.old.at ≤ length self.old.bytes.now →
+            self.new.at ≤ length self.old.bytes.now }
+        ensures read { result ≡ true → (w : Written) × WrittenText (left self.old) w (left self.new) }
+        ensures none { result ≡ false → (w : Written) (rest : List Symbol) → WrittenText (left self.old) w rest → ⊥ }
+    {
+        let mut depth = 0;
         let mut step = Step::Wants;
-        for _ in 0..=self.bytes.len() {
-            let next = match step {
-                Step::Wants => self.first(&mut open),
-                Step::Read if open > 0 => self.next_or_close(&mut open),
-                Step::Read => {
-                    return Some(Span {
-                        start,
-                        end: self.at,
-                    });
-                }
-            };
-            match next {
+        while is_part(step, depth) {
+            match self.token(step, &mut depth) {
                 Some(next) => step = next,
-                None => break,
+                None => return false,
             }
         }
-        self.at = before;
-        None
+        true
+    }
+
+    /// The value that comes next, with any names of constructors, any numbers of fields, and ints of any size. Each
+    /// step reads a byte at least. Brackets are counted, so that nesting costs no stack of the program.
+    pub fn value(&mut self) -> Option<Span>
+        ensures bytes { self.new.bytes.now ≡ self.old.bytes.now }
+        ensures on { self.old.at ≤ self.new.at }
+        ensures within { self.old.at ≤ length self.old.bytes.now → self.new.at ≤ length self.old.bytes.now }
+        ensures kept { result ≡ None → self.new ≡ self.old }
+        ensures read { IfSome result (λ s. (w : Written) × WrittenText (left self.old) w (left self.new)) }
+        ensures start { IfSome result (λ s. symbols (drop s.start self.old.bytes.now) ≡ skip (left self.old)) }
+        ensures end { IfSome result (λ s. s.end ≡ self.new.at) }
+        ensures none { result ≡ None → (w : Written) (rest : List Symbol) → WrittenText (left self.old) w rest → ⊥ }
+    {
+        let start = behind_blanks(self.bytes, self.at);
+        let mut ahead = *self;
+        if !ahead.whole_value() {
+            return None;
+        }
+        *self = ahead;
+        Some(Span {
+            start,
+            end: ahead.at,
+        })
     }
 }

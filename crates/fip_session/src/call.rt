@@ -2,7 +2,6 @@
 ghost use Rattle.std.specs.Prelude.{◌<◌, length};
 
 use crate::book::{Book, Held};
-use crate::line::CallLine;
 use crate::plan::{Plan, plan_of};
 use crate::ready::{Ready, make_ready};
 use crate::reply::{Reply, Stop};
@@ -10,6 +9,7 @@ use crate::sweep::keep_only;
 use cell_store::{Loader, Sealed, seal};
 use fip_base::plain::NoMemory;
 use fip_machine::{Ended, Gauge, Machine};
+use session_lines::CallLine;
 use store_trees::{MOST_CELLS, Trees, release};
 
 // Cells of names that a call uses up are noted before it runs, as long as there are no more than so many. Where a run

@@ -4,7 +4,6 @@
 mod book;
 mod call;
 mod commands;
-mod line;
 mod plan;
 mod ready;
 mod reply;

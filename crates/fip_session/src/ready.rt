@@ -1,10 +1,10 @@
 // The values of a call come to life, and the cells of its entry's credits.
 use crate::book::{Book, Held};
-use crate::line::{CallLine, Written};
 use crate::plan::Plan;
 use cell_store::{CellError, Loader};
 use fip_base::plain::{NoMemory, Param};
 use fip_language::limits::MOST_FIELDS;
+use session_lines::{CallLine, Written};
 use value_text::make_value;
 
 /// What a call is run on.

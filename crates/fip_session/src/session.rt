@@ -7,12 +7,12 @@ ghost use Rattle.std.specs.Ordering.{nat_cmp};
 
 use crate::book::{Book, Held};
 use crate::call::call;
-use crate::line::{Line, line_of};
 use crate::reply::{Reply, reply_text};
 use cell_store::{Loader, Sealed, seal};
 use code_verify::Verified;
 use fip_base::plain::NoMemory;
 use fip_trees::program::Typed;
+use session_lines::{Line, line_of};
 use std::alloc::Global;
 
 /// A session over one store. Each name holds a value; the cells that aren't released are those of the held values. A

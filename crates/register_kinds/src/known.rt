@@ -332,6 +332,7 @@ impl<'a> Known<'a> {
     /// The register of whose cell its word is known to be a field.
     pub fn source(self) -> Option<u16>
         ensures is { (r : ℕ) → names r (from_of (kind_of self.entry)) ≡ true → result ≡ Some r }
+        ensures only { IfSome result (λ r. names r (from_of (kind_of self.entry)) ≡ true) }
     {
         match self.from() {
             None => None,
@@ -342,6 +343,7 @@ impl<'a> Known<'a> {
     /// The register whose tree it reads.
     pub fn owner(self) -> Option<u16>
         ensures is { (r : ℕ) → is_lent_of r (kind_of self.entry) ≡ true → result ≡ Some r }
+        ensures only { IfSome result (λ r. is_lent_of r (kind_of self.entry) ≡ true) }
     {
         match self {
             Known::Gone => None,

@@ -7,14 +7,14 @@ use Rattle.session_meaning.specs.Lines.{Written, Number, Named, Parts, NoParts, 
 use Rattle.session_meaning.specs.Lines.{WrittenText, PartsText, FurtherText, Given, Held, Fresh, GivenText, MoreGivenText, AllGivenText}
 use Rattle.session_meaning.specs.Lines.{MoreNamesText, CallText, Line, Calls, Shows, GivesUp, MarkedText, LineText, SpellsLine, fresh_of, SpellsTask}
 
-name_once : (cs r q : List Symbol) (n m : Name) → NameText cs n r → NameText cs m q → (n ≡ m) × (r ≡ q)
+pub name_once : (cs r q : List Symbol) (n m : Name) → NameText cs n r → NameText cs m q → (n ≡ m) × (r ≡ q)
 name_once cs r q n m a b = (a.is ∙ sym b.is, a.then' ∙ sym b.then')
 
 abbrev rest_of : List Symbol → List Symbol
 rest_of [] = []
 rest_of (c ∷ cs) = cs
 
-sign_once : (s : Symbol) (cs r q : List Symbol) → SignText s cs r → SignText s cs q → r ≡ q
+pub sign_once : (s : Symbol) (cs r q : List Symbol) → SignText s cs r → SignText s cs q → r ≡ q
 sign_once s cs r q a b = ap rest_of (sym a ∙ b)
 
 -- which sign is in front
@@ -22,7 +22,7 @@ abbrev is_close : List Symbol → Bool
 is_close (Close ∷ cs) = true
 is_close cs = false
 
-close_is_no_comma : (cs r q : List Symbol) → SignText Close cs r → SignText Comma cs q → ⊥
+pub close_is_no_comma : (cs r q : List Symbol) → SignText Close cs r → SignText Comma cs q → ⊥
 close_is_no_comma cs r q a b = let e : true ≡ false = ap is_close (sym a ∙ b) in absurd cc
 
 digits_once : (negative : Bool) (cs r q : List Symbol) (i j : ℤ) → DigitsText negative cs i r → DigitsText negative cs j q → (i ≡ j) × (r ≡ q)
@@ -55,7 +55,7 @@ number_once (Small c ∷ cs) r q i j a b = absurd a
 number_once (Capital c ∷ cs) r q i j a b = absurd a
 number_once (Other ∷ cs) r q i j a b = absurd a
 
-number_is_no_name : (cs r : List Symbol) (i : ℤ) → NumberText cs i r → BeginsCapital cs → ⊥
+pub number_is_no_name : (cs r : List Symbol) (i : ℤ) → NumberText cs i r → BeginsCapital cs → ⊥
 number_is_no_name (Capital c ∷ cs) r i a b = absurd a
 number_is_no_name [] r i a b = absurd b
 number_is_no_name (Digit d ∷ cs) r i a b = absurd b
@@ -70,7 +70,7 @@ number_is_no_name (Underscore ∷ cs) r i a b = absurd b
 number_is_no_name (Small c ∷ cs) r i a b = absurd b
 number_is_no_name (Other ∷ cs) r i a b = absurd b
 
-opened : (cs r : List Symbol) → SignText Open cs r → IsOpened (skip cs)
+pub opened : (cs r : List Symbol) → SignText Open cs r → IsOpened (skip cs)
 opened cs r a = subst IsOpened (sym a) tt
 
 mutual
@@ -139,7 +139,7 @@ name_is_no_value : (w : Written) (cs r q : List Symbol) (n : Name) → WrittenTe
 name_is_no_value (Number i) cs r q n a b = small_is_no_number (skip cs) r i a b.small
 name_is_no_value (Named m ws) cs r q n a b = small_is_no_capital (skip cs) a.0 b.small
 
-given_once : (g h : Given) (cs r q : List Symbol) → GivenText cs g r → GivenText cs h q → (g ≡ h) × (r ≡ q)
+pub given_once : (g h : Given) (cs r q : List Symbol) → GivenText cs g r → GivenText cs h q → (g ≡ h) × (r ≡ q)
 given_once (Held n) (Held m) cs r q a b = let same = name_once cs r q n m a b in (ap Held same.0, same.1)
 given_once (Held n) (Fresh u) cs r q a b = absurd (name_is_no_value u cs q r n b a)
 given_once (Fresh w) (Held m) cs r q a b = absurd (name_is_no_value w cs r q m a b)
@@ -211,7 +211,7 @@ given_is_open (Fresh (Named n ws)) cs r a = capital_is_open (skip cs) a.0
 no_given_closed : (g : Given) (cs r q : List Symbol) → GivenText cs g r → SignText Close cs q → ⊥
 no_given_closed g cs r q a b = let e : true ≡ false = sym (is_close_front cs q b) ∙ given_is_open g cs r a in absurd cc
 
-all_given_once : (gs hs : List Given) (cs r q : List Symbol) → AllGivenText cs gs r → AllGivenText cs hs q → (gs ≡ hs) × (r ≡ q)
+pub all_given_once : (gs hs : List Given) (cs r q : List Symbol) → AllGivenText cs gs r → AllGivenText cs hs q → (gs ≡ hs) × (r ≡ q)
 all_given_once [] [] cs r q a b = (refl, sign_once Close cs r q a b)
 all_given_once [] (h ∷ hs) cs r q a (after, x, y) = absurd (no_given_closed h cs after r x a)
 all_given_once (g ∷ gs) [] cs r q (after, x, y) b = absurd (no_given_closed g cs after q x b)
@@ -231,7 +231,7 @@ abbrev is_equals : List Symbol → Bool
 is_equals (Equals ∷ cs) = true
 is_equals cs = false
 
-names_once : (ns ms : List Name) (cs r q : List Symbol) → MoreNamesText cs ns r → MoreNamesText cs ms q → (ns ≡ ms) × (r ≡ q)
+pub names_once : (ns ms : List Name) (cs r q : List Symbol) → MoreNamesText cs ns r → MoreNamesText cs ms q → (ns ≡ ms) × (r ≡ q)
 names_once [] [] cs r q a b = (refl, sign_once Equals cs r q a b)
 names_once [] (m ∷ ms) cs r q a (next, after, comma, x, y) = let e : true ≡ false = ap is_equals (sym a ∙ comma) in absurd cc
 names_once (n ∷ ns) [] cs r q (next, after, comma, x, y) b = let e : true ≡ false = ap is_equals (sym b ∙ comma) in absurd cc

@@ -1,1 +1,3 @@
 pub mod GivenUp
+pub mod Added
+pub mod Walked

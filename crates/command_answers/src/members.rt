@@ -40,7 +40,8 @@ ghost use Rattle.command_answers.specs.Exec.{Start, RunsOn, IsTraced, IsUntracea
 ghost use Rattle.command_answers.specs.CodeRun.{Chosen, RunOf, SpellsFor, TellsCode};
 ghost use Rattle.command_answers.specs.Stored.{IsMade, IsBadProof};
 ghost use Rattle.command_answers.specs.Lines.{IsSetting};
-ghost use Rattle.command_answers.specs.Generating.{gen_room, gen_input, rbtree_text, lines_of_tree};
+ghost use Rattle.gen_command.specs.GenAnswer.{tree_source, gen_room};
+ghost use Rattle.gen_command.specs.MadeTree.{gen_input, lines_of_tree};
 ghost use Rattle.command_answers.specs.Asks.{ReadsInput, fetched_name, stored_name, wanted};
 ghost use Rattle.command_answers.specs.Answer.{IsAnswer, ComesTo, Does, IsTaken, told};
 
@@ -190,12 +191,12 @@ pub fn an_example_of_replay()
 pub fn texts_and_trees_are_printed()
     ensures library { (files : List File) (input : List ℕ) →
         ComesTo files input (Library (codes "list")) (printed list.TEXT.now) }
-    ensures made { (files : List File) (input : List ℕ) (seed count : ℕ) (s : Start rbtree_text (codes "build"))
+    ensures made { (files : List File) (input : List ℕ) (seed count : ℕ) (s : Start tree_source (codes "build"))
         (vs : Values) (tree : Value) (left : ℕ) (text : List ℕ) (l : Left) →
         Spells s.entry (gen_input seed count) vs → words_of s vs ≤ gen_room.words →
         RunsOn s vs gen_room false (Ok text) l → (run_of s vs gen_room).answer ≡ Gives (More tree End) left →
         ComesTo files input (Gen seed count) (ran (Ok (lines_of_tree count tree)) l) }
-    ensures unmade { (files : List File) (input : List ℕ) (seed count : ℕ) (s : Start rbtree_text (codes "build"))
+    ensures unmade { (files : List File) (input : List ℕ) (seed count : ℕ) (s : Start tree_source (codes "build"))
         (vs : Values) (f : Failure) (l : Left) → Spells s.entry (gen_input seed count) vs →
         words_of s vs ≤ gen_room.words → RunsOn s vs gen_room false (Err f) l →
         ComesTo files input (Gen seed count) (ran (Err f) l) }

@@ -23,7 +23,7 @@ use Rattle.loop_text.proofs.Exact.{accepts_text}
 use Rattle.command_line.specs.Words.{Request, Command, Exec, IsCommand}
 use Rattle.fip_driver.specs.Explained.{IsWritten}
 use Rattle.fip_driver.specs.Answered.{plain_request, Replies, IsRequest, Answer, NotUnderstood, Replied, Said, Beyond, IsAnswered}
-use Rattle.fip_driver.specs.Ends.{End, Checks, Says, Missing, OnSource, OnCode, OnAudit, OfLibrary, OnTrace, GenRefused, IsOpen, OpenSource, OpenGen}
+use Rattle.fip_driver.specs.Ends.{End, Checks, Says, Missing, OnSource, OnCode, OnAudit, OfLibrary, OnTrace, OfGen, IsOpen, OpenSource}
 use Rattle.source_commands.specs.Wanted.{Wanted, Compiled}
 use Rattle.std.proofs.lemmas.Option.{same_Some}
 use Rattle.fip_driver.proofs.Explaining.{file_reply, core_reply, not_right_reply}
@@ -95,11 +95,10 @@ module _ (words : List (List ℕ)) (files : List File) (input : List ℕ) where
   written_said r reply e h (OnAudit file proof source f is there k) = audit_wants (Exec r) file proof (Compiled r.entry) is refl
   written_said r reply e h (OnTrace trace step bytes f is there k) = replay_wants (Exec r) trace step (Compiled r.entry) is refl
   written_said r reply e h (OfLibrary name text same k) = library_fetches (Exec r) name r.file same refl
-  written_said r reply e h (GenRefused seed count source q same is k) = gen_fetches (Exec r) seed count r.file same refl
+  written_said r reply e h (OfGen seed count _ same k) = gen_fetches (Exec r) seed count r.file same refl
 
   written_open : (r : Request) (reply : Reply) → Written r reply → IsOpen source_spelling files input (Exec r) → ⊥
   written_open r reply h (OpenSource w source checks ready taken other) = written_checked r reply w source h checks
-  written_open r reply h (OpenGen seed count source same is ready) = gen_fetches (Exec r) seed count r.file same refl
 
   -- what the words ask for is `exec` of the request that is replied to
   exec_said : (r : Request) (reply : Reply) (c : Command) (e : End) → Written r reply → IsCommand words c → Says source_spelling files input c e → ⊥

@@ -1,16 +1,12 @@
 -- A command ends with one thing at most, where it is said; and then its answer isn't open.
-use Rattle.std.proofs.Common.{◌≡◌, ◌∙◌, ◌==◌, ℕ, true, false, true≢false, List, sym, ap, subst, refl, arith, [], slice_index, if◌then◌else◌}
-use Rattle.std.specs.Prelude.{Option, Some, None, Ok, Err, codes}
+use Rattle.std.proofs.Common.{◌≡◌, ◌∙◌, ℕ, true, false, true≢false, List, sym, ap, subst, refl, arith, []}
+use Rattle.std.specs.Prelude.{Option, Some, None, Ok, Err}
 use Rattle.std.proofs.lemmas.Option.{none-some, same_Some}
 use Rattle.fip_base.specs.Files.{File, file_of}
-use Rattle.fip_base.specs.declared.refusal.Refusal.{Refusal}
-use Rattle.fip_commands.specs.Generated.{IsTreeSource, build}
-use Rattle.fip_library.specs.Texts.{IsText, OfList, OfTree, OfRedBlackTree, OfFingerTree}
-use Rattle.fip_library.specs.declared.list.TheConstants as List'
-use Rattle.fip_library.specs.declared.tree.TheConstants as Tree
-use Rattle.fip_library.specs.declared.rbtree.TheConstants as RedBlackTree
-use Rattle.fip_library.specs.declared.finger.TheConstants as FingerTree
-use Rattle.command_line.specs.Words.{Request, Command, Check, Verify, Upgrade, Exec, Run, Derive, Audit, Replay, Library, Gen, Eval}
+use Rattle.gen_command.specs.GenAnswer.{Generates}
+use Rattle.gen_command.proofs.Once.{generated_once}
+use Rattle.gen_command.proofs.Texts.{text_once}
+use Rattle.command_line.specs.Words.{Room, Request, Command, Check, Verify, Upgrade, Exec, Run, Tasks, Derive, Audit, Replay, Library, Gen, Eval}
 use Rattle.command_outcome.specs.declared.failure.Failure.TheVariants as F
 use Rattle.eval_command.specs.EvalAnswer.{Evaluates}
 use Rattle.eval_command.proofs.Once.{evaluated_once, evaluated_ready}
@@ -22,12 +18,14 @@ use Rattle.loaded_runs.specs.Replaying.{replayed}
 use Rattle.source_commands.specs.Roots.{IsListing}
 use Rattle.run_command.specs.ExecAnswer.{Execs}
 use Rattle.run_command.proofs.ExecOnce.{exec_once}
-use Rattle.source_commands.specs.Wanted.{Wanted, Lawful, Root, Compiled, IsReady, Refuses}
+use Rattle.tasks_command.specs.TasksAnswer.{TakesTurns}
+use Rattle.tasks_command.proofs.Once.{turns_once, turns_ready}
+use Rattle.source_commands.specs.Wanted.{Wanted, Lawful, Root, Compiled, IsReady}
 use Rattle.source_commands.proofs.Deriving.{derived_ready, underived_ready, derived_or_underived}
 use Rattle.source_commands.proofs.Judging.{rejected_once, accepted_not_rejected}
 use Rattle.source_commands.proofs.Once.{listing_once, listing_ready, report_once, refused_once, refused_not_ready}
 use Rattle.fip_driver.specs.Commands.{ReadsInput, fetched_name, wanted}
-use Rattle.fip_driver.specs.Ends.{End, SaysOf, Refused, Listed, LongInput, Evaluated, Executed, Derived, Underived, IsTaken, Checks, Says, Missing, OnSource, OnCode, OnAudit, OfLibrary, AsksCode, SaysOfCode, IsVerdict, SaysOfAudit, Reported, NoProof, Judged, IsUnsaidOn, IsThere, OnTrace, SaysOfTrace, IsOpen, OpenSource, OpenGen, GenRefused}
+use Rattle.fip_driver.specs.Ends.{End, SaysOf, Refused, Listed, LongInput, Evaluated, Executed, TookTurns, Derived, Underived, IsTaken, Checks, Says, Missing, OnSource, OnCode, OnAudit, OfLibrary, AsksCode, SaysOfCode, IsVerdict, SaysOfAudit, Reported, NoProof, Judged, IsUnsaidOn, IsThere, OnTrace, SaysOfTrace, IsOpen, OpenSource, OfGen}
 use Rattle.fip_driver.proofs.OneCode.{says_asks, code_once}
 use Rattle.fip_driver.specs.Spelling.{Spelling}
 
@@ -92,6 +90,33 @@ is_exec c = 0
 
 eval_or_exec : (c : Command) (file entry : List ℕ) (calls frames : ℕ) (r : Request) → c ≡ Eval file entry calls frames → c ≡ Exec r → ⊥
 eval_or_exec c file entry calls frames r same is = let one : 0 ≡ 1 = sym (ap is_exec same) ∙ ap is_exec is in omega (arith, one)
+
+-- what the words of `tasks` ask for
+abbrev room_in : Room → Command → Room
+room_in q (Tasks file seed turns room) = room
+room_in q c = q
+
+one_room : (c : Command) (file other : List ℕ) (seed turns m n : ℕ) (room more : Room) → c ≡ Tasks file seed turns room → c ≡ Tasks other m n more → room ≡ more
+one_room c file other seed turns m n room more same is = sym (ap (room_in room) same) ∙ ap (room_in room) is
+
+turns_reads : (c : Command) (file : List ℕ) (seed turns : ℕ) (room : Room) → c ≡ Tasks file seed turns room → ReadsInput c
+turns_reads c file seed turns room same = subst ReadsInput (sym same) tt
+
+turns_wants : (c : Command) (w : Wanted) (file : List ℕ) (seed turns : ℕ) (room : Room) → c ≡ Tasks file seed turns room → wanted c ≡ Some w → w ≡ Lawful
+turns_wants c w file seed turns room same wants = sym (same_Some Lawful w (subst (λ c. wanted c ≡ Some w) same wants))
+
+turns_fits : (source input : List ℕ) (c : Command) (w : Wanted) (file : List ℕ) (seed turns : ℕ) (room : Room) (e : End) → c ≡ Tasks file seed turns room → wanted c ≡ Some w → TakesTurns source input room e → IsReady source w
+turns_fits source input c w file seed turns room e same wants h = subst (IsReady source) (sym (turns_wants c w file seed turns room same wants)) (turns_ready source input room e h)
+
+abbrev is_tasks : Command → ℕ
+is_tasks (Tasks file seed turns room) = 1
+is_tasks c = 0
+
+eval_or_tasks : (c : Command) (file entry other : List ℕ) (calls frames seed turns : ℕ) (room : Room) → c ≡ Eval file entry calls frames → c ≡ Tasks other seed turns room → ⊥
+eval_or_tasks c file entry other calls frames seed turns room same is = let one : 0 ≡ 1 = sym (ap is_tasks same) ∙ ap is_tasks is in omega (arith, one)
+
+exec_or_tasks : (c : Command) (r : Request) (file : List ℕ) (seed turns : ℕ) (room : Room) → c ≡ Exec r → c ≡ Tasks file seed turns room → ⊥
+exec_or_tasks c r file seed turns room same is = let one : 0 ≡ 1 = sym (ap is_tasks same) ∙ ap is_tasks is in omega (arith, one)
 
 -- what the words of `derive` ask for
 derived_wants : (c : Command) (w : Wanted) (file out : List ℕ) → c ≡ Derive file out → wanted c ≡ Some w → w ≡ Lawful
@@ -163,6 +188,22 @@ source_once source input c w d e wants (Underived file out is k) (Executed r f s
 source_once source input c w d e wants (Executed r f same off ready le h) (Executed q g is none again lo k) =
     exec_once source q.entry input q.room f g (subst (IsReady source) (executed_wants c w q is wants) ready)
     (subst (λ (r : Request). Execs source r.entry input r.room false f) (one_request c r q same is) h) k
+source_once source input c w d e wants (TookTurns file seed turns room f same le h) (Refused q k) = absurd (refused_not_ready source w q k (turns_fits source input c w file seed turns room f same wants h))
+source_once source input c w d e wants (Refused q k) (TookTurns file seed turns room f same le h) = absurd (refused_not_ready source w q k (turns_fits source input c w file seed turns room f same wants h))
+source_once source input c w d e wants (TookTurns file seed turns room f same le h) (Listed other text is k) = absurd (listed_reads c other is (turns_reads c file seed turns room same))
+source_once source input c w d e wants (Listed other text is k) (TookTurns file seed turns room f same le h) = absurd (listed_reads c other is (turns_reads c file seed turns room same))
+source_once source input c w d e wants (TookTurns file seed turns room f same le h) (LongInput ready reads more) = absurd (omega (arith, more, le))
+source_once source input c w d e wants (LongInput ready reads more) (TookTurns file seed turns room f same le h) = absurd (omega (arith, more, le))
+source_once source input c w d e wants (TookTurns file seed turns room f same le h) (Evaluated other entry calls frames g is lo k) = absurd (eval_or_tasks c other entry file calls frames seed turns room is same)
+source_once source input c w d e wants (Evaluated other entry calls frames g is lo k) (TookTurns file seed turns room f same le h) = absurd (eval_or_tasks c other entry file calls frames seed turns room is same)
+source_once source input c w d e wants (TookTurns file seed turns room f same le h) (Executed r g is off ready lo k) = absurd (exec_or_tasks c r file seed turns room is same)
+source_once source input c w d e wants (Executed r g is off ready lo k) (TookTurns file seed turns room f same le h) = absurd (exec_or_tasks c r file seed turns room is same)
+source_once source input c w d e wants (TookTurns file seed turns room f same le h) (Derived other out bytes is k) = absurd (derived_reads c other out is (turns_reads c file seed turns room same))
+source_once source input c w d e wants (Derived other out bytes is k) (TookTurns file seed turns room f same le h) = absurd (derived_reads c other out is (turns_reads c file seed turns room same))
+source_once source input c w d e wants (TookTurns file seed turns room f same le h) (Underived other out is k) = absurd (derived_reads c other out is (turns_reads c file seed turns room same))
+source_once source input c w d e wants (Underived other out is k) (TookTurns file seed turns room f same le h) = absurd (derived_reads c other out is (turns_reads c file seed turns room same))
+source_once source input c w d e wants (TookTurns file seed turns room f same le h) (TookTurns other m n more g is lo k) =
+    turns_once source input more f g (subst (λ (r : Room). TakesTurns source input r f) (one_room c file other seed turns m n room more same is) h) k
 
 source_not_open : (source input : List ℕ) (c : Command) (w : Wanted) (e : End) → SaysOf source input c w e → IsReady source w → IsTaken c input → IsUnsaidOn c → ⊥
 source_not_open source input c w e (Refused r h) ready taken other = refused_not_ready source w r h ready
@@ -170,6 +211,7 @@ source_not_open source input c w e (Listed file text same h) ready taken other =
 source_not_open source input c w e (LongInput r reads more) ready taken other = let le = taken reads in omega (arith, more, le)
 source_not_open source input c w e (Evaluated file entry calls frames f same le h) ready taken other = subst IsUnsaidOn same other
 source_not_open source input c w e (Executed r f same off again le h) ready taken other = let on : r.gauge ≡ true = subst IsUnsaidOn same other in true≢false (sym on ∙ off)
+source_not_open source input c w e (TookTurns file seed turns room f same le h) ready taken other = subst IsUnsaidOn same other
 source_not_open source input c w e (Derived file out bytes same h) ready taken other = subst IsUnsaidOn same other
 source_not_open source input c w e (Underived file out same h) ready taken other = subst IsUnsaidOn same other
 
@@ -226,23 +268,6 @@ audit_or_replay c file proof trace step same other = let one : 1 ≡ 0 = sym (ap
 
 -- ---- the library
 
--- the names differ by their first letters
-abbrev text_by : ℕ → List ℕ
-text_by k =
-    if k == 108 then List'.TEXT.now
-    else if k == 116 then Tree.TEXT.now
-    else if k == 114 then RedBlackTree.TEXT.now
-    else FingerTree.TEXT.now
-
-text_is : (name text : List ℕ) → IsText name text → text ≡ text_by (slice_index name 0)
-text_is _ _ OfList = refl
-text_is _ _ OfTree = refl
-text_is _ _ OfRedBlackTree = refl
-text_is _ _ OfFingerTree = refl
-
-text_once : (name other t u : List ℕ) → name ≡ other → IsText name t → IsText other u → t ≡ u
-text_once name other t u same h k = text_is name t h ∙ ap (λ n. text_by (slice_index n 0)) same ∙ sym (text_is other u k)
-
 abbrev library_name : Command → List ℕ
 library_name (Library name) = name
 library_name c = []
@@ -260,15 +285,20 @@ gen_fetches c seed count m same names = none-some m (subst (λ c. fetched_name c
 library_or_gen : (c : Command) (name : List ℕ) (seed count : ℕ) → c ≡ Library name → c ≡ Gen seed count → ⊥
 library_or_gen c name seed count same other = let one : 1 ≡ 0 = sym (ap is_of_library same) ∙ ap is_of_library other in omega (arith, one)
 
--- the text of `gen` is one
-tree_source_once : (s t : List ℕ) → IsTreeSource s → IsTreeSource t → s ≡ t
-tree_source_once s t h k = text_once (codes "rbtree") (codes "rbtree") s t refl h k
+-- what the words of `gen` ask for
+abbrev seed_of : Command → ℕ
+seed_of (Gen seed count) = seed
+seed_of c = 0
 
-tree_refused_once : (s t : List ℕ) (q r : Refusal) → IsTreeSource s → IsTreeSource t → Refuses s build q → Refuses t build r → q ≡ r
-tree_refused_once s t q r is was h k = refused_once t build q r (subst (λ x. Refuses x build q) (tree_source_once s t is was) h) k
+abbrev count_of : Command → ℕ
+count_of (Gen seed count) = count
+count_of c = 0
 
-tree_refused_not_ready : (s t : List ℕ) (r : Refusal) → IsTreeSource s → IsTreeSource t → Refuses s build r → IsReady t build → ⊥
-tree_refused_not_ready s t r is was h k = refused_not_ready t build r (subst (λ x. Refuses x build r) (tree_source_once s t is was) h) k
+-- the same words ask for the same
+pub gen_same : (c : Command) (seed count m n : ℕ) (e : End) → c ≡ Gen seed count → c ≡ Gen m n → Generates seed count e → Generates m n e
+gen_same c seed count m n e same other h =
+    let is = sym same ∙ other in
+    subst (λ j. Generates m j e) (ap count_of is) (subst (λ i. Generates i count e) (ap seed_of is) h)
 
 -- ---- of `replay`
 
@@ -343,45 +373,38 @@ module _ (spelling : Spelling) (files : List File) (input : List ℕ) (c : Comma
   says_once d e (OnAudit file proof s f is there h) (OnAudit again other t g was also k) =
       let one : proof ≡ other = ap proof_of (sym is ∙ was) in
       audit_once t (file_of proof files) (file_of other files) f g (ap (λ n. file_of n files) one) (subst (λ x. SaysOfAudit x (file_of proof files) f) (one_file s t there also) h) k
-  says_once d e (GenRefused seed count source r same is h) (Missing m o names gone) = absurd (gen_fetches c seed count m same names)
-  says_once d e (GenRefused seed count source r same is h) (OnSource w t g k others) = absurd (gen_fetches c seed count k.name same k.names)
-  says_once d e (GenRefused seed count source r same is h) (OnCode bytes g there says) = absurd (gen_fetches c seed count there.0 same there.1)
-  says_once d e (GenRefused seed count source r same is h) (OfLibrary name text other k) = absurd (library_or_gen c name seed count other same)
-  says_once d e (GenRefused seed count source r same is h) (OnAudit file proof t g other there k) = absurd (gen_fetches c seed count there.0 same there.1)
-  says_once d e (Missing m o names gone) (GenRefused seed count source r same is h) = absurd (gen_fetches c seed count m same names)
-  says_once d e (OnSource w t g k others) (GenRefused seed count source r same is h) = absurd (gen_fetches c seed count k.name same k.names)
-  says_once d e (OnCode bytes g there says) (GenRefused seed count source r same is h) = absurd (gen_fetches c seed count there.0 same there.1)
-  says_once d e (OfLibrary name text other k) (GenRefused seed count source r same is h) = absurd (library_or_gen c name seed count other same)
-  says_once d e (OnAudit file proof t g other there k) (GenRefused seed count source r same is h) = absurd (gen_fetches c seed count there.0 same there.1)
-  says_once d e (GenRefused seed count s q same is h) (GenRefused m n t r other was k) = ap (λ r. Err (F.Refused r)) (tree_refused_once s t q r is was h k)
+  says_once d e (OfGen seed count _ same h) (Missing m o names gone) = absurd (gen_fetches c seed count m same names)
+  says_once d e (OfGen seed count _ same h) (OnSource w t g k others) = absurd (gen_fetches c seed count k.name same k.names)
+  says_once d e (OfGen seed count _ same h) (OnCode bytes g there says) = absurd (gen_fetches c seed count there.0 same there.1)
+  says_once d e (OfGen seed count _ same h) (OfLibrary name text other k) = absurd (library_or_gen c name seed count other same)
+  says_once d e (OfGen seed count _ same h) (OnAudit file proof t g other there k) = absurd (gen_fetches c seed count there.0 same there.1)
+  says_once d e (Missing m o names gone) (OfGen seed count _ same h) = absurd (gen_fetches c seed count m same names)
+  says_once d e (OnSource w t g k others) (OfGen seed count _ same h) = absurd (gen_fetches c seed count k.name same k.names)
+  says_once d e (OnCode bytes g there says) (OfGen seed count _ same h) = absurd (gen_fetches c seed count there.0 same there.1)
+  says_once d e (OfLibrary name text other k) (OfGen seed count _ same h) = absurd (library_or_gen c name seed count other same)
+  says_once d e (OnAudit file proof t g other there k) (OfGen seed count _ same h) = absurd (gen_fetches c seed count there.0 same there.1)
+  says_once d e (OfGen seed count _ same h) (OfGen m n _ other k) = generated_once m n d e (gen_same c seed count m n d same other h) k
   says_once d e (OnTrace trace step bytes f is there h) (Missing m o names gone) = absurd (there_or_missing m there.0 bytes names there.1 gone there.2)
   says_once d e (OnTrace trace step bytes f is there h) (OnSource w t g k others) = absurd (replay_wants c trace step w is k.wants)
   says_once d e (OnTrace trace step bytes f is there h) (OnCode x g also says) = absurd (replay_asks c trace step is (says_asks x input c g says))
   says_once d e (OnTrace trace step bytes f is there h) (OfLibrary name text same k) = absurd (library_fetches c name there.0 same there.1)
   says_once d e (OnTrace trace step bytes f is there h) (OnAudit file proof t g was also k) = absurd (audit_or_replay c file proof trace step was is)
-  says_once d e (OnTrace trace step bytes f is there h) (GenRefused seed count source r same also k) = absurd (gen_fetches c seed count there.0 same there.1)
+  says_once d e (OnTrace trace step bytes f is there h) (OfGen seed count _ same k) = absurd (gen_fetches c seed count there.0 same there.1)
   says_once d e (Missing m o names gone) (OnTrace trace step bytes f is there h) = absurd (there_or_missing m there.0 bytes names there.1 gone there.2)
   says_once d e (OnSource w t g k others) (OnTrace trace step bytes f is there h) = absurd (replay_wants c trace step w is k.wants)
   says_once d e (OnCode x g also says) (OnTrace trace step bytes f is there h) = absurd (replay_asks c trace step is (says_asks x input c g says))
   says_once d e (OfLibrary name text same k) (OnTrace trace step bytes f is there h) = absurd (library_fetches c name there.0 same there.1)
   says_once d e (OnAudit file proof t g was also k) (OnTrace trace step bytes f is there h) = absurd (audit_or_replay c file proof trace step was is)
-  says_once d e (GenRefused seed count source r same also k) (OnTrace trace step bytes f is there h) = absurd (gen_fetches c seed count there.0 same there.1)
+  says_once d e (OfGen seed count _ same k) (OnTrace trace step bytes f is there h) = absurd (gen_fetches c seed count there.0 same there.1)
   says_once d e (OnTrace trace step x f is there h) (OnTrace other n y g was also k) = replayed_once x y step n f g (one_file x y there also) (ap step_of (sym is ∙ was)) h k
   says_once d e (OnSource v s f h says) (OnSource w t g k others) = source_once t input c w f g k.wants (moved v w s t f h k says) others
 
 module _ (spelling : Spelling) (files : List File) (input : List ℕ) (c : Command) where
   pub says_not_open : (e : End) → Says spelling files input c e → IsOpen spelling files input c → ⊥
   says_not_open e (Missing m o names gone) (OpenSource w source checks ready taken other) = there_or_missing spelling files input c m checks.name source names checks.names gone checks.there
-  says_not_open e (Missing m o names gone) (OpenGen seed count source same is ready) = gen_fetches c seed count m same names
   says_not_open e (OnSource v s f h says) (OpenSource w t k ready taken other) = source_not_open t input c w f (moved spelling files input c v w s t f h k says) ready taken other
-  says_not_open e (OnSource v s f h says) (OpenGen seed count source same is ready) = gen_fetches c seed count h.name same h.names
   says_not_open e (OnCode bytes f there says) (OpenSource w t k ready taken other) = asks_unwanted c w (says_asks bytes input c f says) k.wants
-  says_not_open e (OnCode bytes f there says) (OpenGen seed count source same is ready) = gen_fetches c seed count there.0 same there.1
   says_not_open e (OfLibrary name text same h) (OpenSource w t k ready taken other) = library_fetches c name k.name same k.names
-  says_not_open e (OfLibrary name text same h) (OpenGen seed count source other is ready) = library_or_gen c name seed count same other
   says_not_open e (OnAudit file proof source f is there h) (OpenSource w t k ready taken other) = audit_wants c file proof w is k.wants
-  says_not_open e (OnAudit file proof source f is there h) (OpenGen seed count s other was ready) = gen_fetches c seed count there.0 other there.1
   says_not_open e (OnTrace trace step bytes f is there h) (OpenSource w t k ready taken other) = replay_wants c trace step w is k.wants
-  says_not_open e (OnTrace trace step bytes f is there h) (OpenGen seed count source same was ready) = gen_fetches c seed count there.0 same there.1
-  says_not_open e (GenRefused seed count source r same is h) (OpenSource w t k ready taken other) = gen_fetches c seed count k.name same k.names
-  says_not_open e (GenRefused seed count s r same is h) (OpenGen m n t other was ready) = tree_refused_not_ready s t r is was h ready
+  says_not_open e (OfGen seed count _ same h) (OpenSource w t k ready taken other) = gen_fetches c seed count k.name same k.names

@@ -11,10 +11,11 @@ use Rattle.fip_base.specs.Faults.{Rose}
 use Rattle.fip_base.specs.Files.{File, file_of, HoldsFile, HoldsLonger, IsMissing}
 use Rattle.fip_trees.specs.Tree.{Program}
 use Rattle.loaded_runs.specs.TraceText.{trace_text}
+use Rattle.tasks_command.specs.TasksAnswer.{TakesTurns}
 use Rattle.trace_command.specs.TraceAnswer.{Kept, Traces, Ended, Stored, TooLong as LongTrace, KeptOrNoMemory}
 use Rattle.fip_driver.specs.Unread.{IsTraceFile}
-use Rattle.command_line.specs.Words.{Room, Request, Command, Check, Compile, Exec, Trace, Derive, Audit, Eval, Replay, Library, Gen, IsTextName}
-use Rattle.fip_commands.specs.Generated.{IsTreeSource, build, IsTreeText, KeepsFromTree}
+use Rattle.command_line.specs.Words.{Room, Request, Command, Check, Compile, Exec, Trace, Tasks, Derive, Audit, Eval, Replay, Library, Gen, IsTextName}
+use Rattle.gen_command.specs.GenAnswer.{GeneratesOr}
 use Rattle.fip_commands.specs.Replayed.{IsReplayed, KeepsFromReplay}
 use Rattle.fip_library.specs.Texts.{IsText}
 use Rattle.command_outcome.specs.Successes.{derived_text}
@@ -34,7 +35,7 @@ use Rattle.source_commands.proofs.Compiling.{uncompiled_ready}
 use Rattle.source_commands.specs.declared.files.Compiled.{Compiled as compiled_file}
 use Rattle.fip_driver.specs.Answered.{IsTold}
 use Rattle.fip_driver.specs.Commands.{IsOther, ReadsInput, CallsNoFolder, fetched_name, wanted}
-use Rattle.fip_driver.specs.Ends.{End, SaysOf, Refused, Listed, LongInput, Evaluated, Executed, Derived, Underived, MakesCode, ComesOf, Unsound, Ready, MayEnd, TracesTo, IsTaken, IsBeside, Checks, Says, Missing, OnSource, OnAudit, OnTrace, OfLibrary, Comes, MayOnSource, MayOfGen, IsThere, IsVerdict, SaysOfAudit, Reported, NoProof, Judged, GenRefused}
+use Rattle.fip_driver.specs.Ends.{End, SaysOf, Refused, Listed, LongInput, Evaluated, Executed, TookTurns, Derived, Underived, MakesCode, ComesOf, Unsound, Ready, MayEnd, TracesTo, IsTaken, IsBeside, Checks, Says, Missing, OnSource, OnAudit, OnTrace, OfLibrary, Comes, MayOnSource, MayOfGen, IsThere, IsVerdict, SaysOfAudit, Reported, NoProof, Judged, OfGen}
 use Rattle.fip_driver.specs.Fetched.{FetchFails, FileFails, StoreFails, JudgeFails, ReadFails}
 use Rattle.fip_driver.specs.Outcome.{end_of, compiled_end, IsFault, IsInputFault, ReadOutcome, InputOutcome, SourceOutcome, Closes, FileOutcome, AuditOutcome, CommandOutcome}
 use Rattle.fip_driver.specs.Spelling.{Spelling, source_spelling}
@@ -239,6 +240,18 @@ evaluated_ends file entry source calls frames left fr rose e ready (input, told,
     by (inr (inl (more, same))) = inr (inl (long e more same))
     by (inr (inr (le, m))) = inr (inl (Evaluated file entry calls frames e refl le m))
 
+-- what `tasks` tells
+pub turns_ends : (file source : List ℕ) (seed turns : ℕ) (room : Room) (left : Option (List ℕ)) (fr rose : Type 0) (e : End) → IsReady source Lawful → ReadOutcome (λ bytes. TakesTurns source bytes room) left rose e → SourceOutcome (Tasks file seed turns room) Lawful source left fr rose e
+turns_ends file source seed turns room left fr rose e ready (input, told, h) = (input, told, by h)
+  where
+    long : (d : End) → 16777216 < length input → d ≡ Err (F.BadInput 16777216) → SaysOf source input (Tasks file seed turns room) Lawful d
+    long d more same = subst (SaysOf source input (Tasks file seed turns room) Lawful) (sym same) (LongInput ready tt more)
+
+    by : IsInputFault rose e ⊎ (((16777216 < length input) × (e ≡ Err (F.BadInput 16777216))) ⊎ ((length input ≤ 16777216) × TakesTurns source input room e)) → IsFault (Tasks file seed turns room) fr rose e ⊎ (SaysOf source input (Tasks file seed turns room) Lawful e ⊎ ComesOf source input (Tasks file seed turns room) Lawful e)
+    by (inl f) = inl (input_fault_up (Tasks file seed turns room) fr rose e tt f)
+    by (inr (inl (more, same))) = inr (inl (long e more same))
+    by (inr (inr (le, m))) = inr (inl (TookTurns file seed turns room e refl le m))
+
 -- a trace that was made is stored
 pub trace_stored : (left : Option (List ℕ)) (rose : Type 0) (file entry out source text : List ℕ) (room : Room) (before mid now : ℕ) (w : Wanted) (o : Result (Vec ℕ Global) Failure) → before ≤ mid → IsReady source w → ReadOutcome (λ input. TracesTo source entry input room) left rose (Ok text) → IfOk o (λ v. v.items ≡ text) → IfErr o (StoreFails mid now) → SourceOutcome (Trace file entry out room) w source left (Rose before now) rose (end_of o)
 trace_stored left rose file entry out source text room before mid now w o le ready (input, told, h) ok err = (input, told, by o ok err)
@@ -317,26 +330,17 @@ library_ends name files left fr ir o known ok err =
     by (Err f) ok (inl same) = inl (subst (λ x. IsFault (Library name) fr ir (Err x)) (sym same) tt)
     by (Err f) ok (inr none) = absurd (none.1 known)
 
--- what keeps the text of `gen` from its lines
-gen_kept : (seed count : ℕ) (files : List File) (input : List ℕ) (fr ir : Type 0) (source : List ℕ) (f : Failure) → IsTreeSource source → KeepsFromTree source f → Closes source_spelling files input (Gen seed count) fr ir (Err f)
-gen_kept seed count files input fr ir source (F.Refused r) is (inl h) = inr (inl (GenRefused seed count source r refl is h))
-gen_kept seed count files input fr ir source (F.Unsound function at rule) is (inl h) = inr (inr (MayOfGen seed count source (Err (F.Unsound function at rule)) refl is h tt))
-gen_kept seed count files input fr ir source F.NoMemory is (inl h) = inl tt
-gen_kept seed count files input fr ir source f is (inl h) = absurd h
-gen_kept seed count files input fr ir source (F.Refused r) is (inr h) = absurd (h.1)
-gen_kept seed count files input fr ir source (F.Unsound function at rule) is (inr h) = absurd (h.1)
-gen_kept seed count files input fr ir source f is (inr h) = inr (inr (MayOfGen seed count source (Err f) refl is h.0 h.1))
-
-pub gen_ends : (seed count : ℕ) (files : Option (List File)) (left : Option (List ℕ)) (fr ir : Type 0) (o : Result (Vec ℕ Global) Failure) → IfOk o (λ v. IsTreeText count v.items) → OnOk o ((source : List ℕ) × IsTreeSource source × IsReady source build) → IfErr o (λ f. (f ≡ F.NoMemory) ⊎ ((source : List ℕ) × IsTreeSource source × KeepsFromTree source f)) → FileOutcome (Gen seed count) files left fr ir (end_of o)
-gen_ends seed count files left fr ir o lines ready kept =
+pub gen_ends : (seed count : ℕ) (files : Option (List File)) (left : Option (List ℕ)) (fr ir : Type 0) (o : Result (Vec ℕ Global) Failure) → GeneratesOr seed count o → FileOutcome (Gen seed count) files left fr ir (end_of o)
+gen_ends seed count files left fr ir o generates =
     let t = any_told files [] in
     let i = any_told left [] in
-    (t.0, i.0, t.1, i.1, by o lines ready kept)
+    (t.0, i.0, t.1, i.1, by o generates)
   where
-    by : (o : Result (Vec ℕ Global) Failure) → IfOk o (λ v. IsTreeText count v.items) → OnOk o ((source : List ℕ) × IsTreeSource source × IsReady source build) → IfErr o (λ f. (f ≡ F.NoMemory) ⊎ ((source : List ℕ) × IsTreeSource source × KeepsFromTree source f)) → Closes source_spelling (any_told files []).0 (any_told left []).0 (Gen seed count) fr ir (end_of o)
-    by (Ok v) lines ready kept = inr (inr (MayOfGen seed count ready.0 (Ok v.items) refl ready.1 ready.2 lines))
-    by (Err f) lines ready (inl same) = inl (subst (λ x. IsFault (Gen seed count) fr ir (Err x)) (sym same) tt)
-    by (Err f) lines ready (inr kept) = gen_kept seed count (any_told files []).0 (any_told left []).0 fr ir kept.0 f kept.1 kept.2
+    by : (o : Result (Vec ℕ Global) Failure) → GeneratesOr seed count o → Closes source_spelling (any_told files []).0 (any_told left []).0 (Gen seed count) fr ir (end_of o)
+    by (Ok v) h = inr (inl (OfGen seed count (Ok v.items) refl h))
+    by (Err F.NoMemory) h = inl tt
+    by (Err (F.Unsound function at rule)) h = inr (inr (MayOfGen seed count function at rule refl h))
+    by (Err f) h = inr (inl (OfGen seed count (Err f) refl h))
 
 -- ---- other files
 

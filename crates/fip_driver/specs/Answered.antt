@@ -1,8 +1,8 @@
 -- What the program answers, where the folder tells its files and the input its bytes.
 -- The definitions of the language say what `exec` answers for a source that is no program, and for a right program of
 -- the loop form. `Ends` says what every command answers for a source that is refused, what `run` answers, and for a
--- source that isn't refused `check`, `eval`, and `exec` without the gauge; and how the answers may be that aren't said
--- yet.
+-- source that isn't refused `check`, `eval`, `tasks`, and `exec` without the gauge; and how the answers may be that
+-- aren't said yet.
 use Rattle.std.specs.Prelude.{◌≡◌, ◌≤◌, ℕ, List, length, ◌⊎◌, Option, Some, None, Result, Ok, Err}
 use Rattle.std.specs.Io.KnownBytes.{Appends}
 use Rattle.std.specs.declared.vec.Vec.{Vec}

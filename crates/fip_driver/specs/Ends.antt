@@ -17,7 +17,6 @@ use Rattle.trace_command.specs.TraceAnswer.{Traces}
 use Rattle.command_line.specs.Words.{Room, Request, Command, Check, Compile, Verify, Upgrade, Exec, Run, Eval, Trace}
 use Rattle.command_line.specs.Words.{Session, Tasks, Derive, Audit, Replay, Library, Gen}
 use Rattle.command_outcome.specs.Failures.{failure_status, failure_text}
-use Rattle.command_outcome.specs.Stages.{IsOfRun}
 use Rattle.command_outcome.specs.Successes.{derived_text}
 use Rattle.command_outcome.specs.declared.failure.Failure.{Failure}
 use Rattle.command_outcome.specs.declared.failure.Failure.TheVariants as F
@@ -28,9 +27,9 @@ use Rattle.code_file.specs.Plain.{PlainCode}
 use Rattle.source_commands.specs.Codes.{sound_view, IsSoundFile, RefusesCode, IsCodeListing, IsUpgraded, IsUnspelt}
 use Rattle.source_commands.specs.Codes.{names_one, HasFunction}
 use Rattle.eval_command.specs.EvalAnswer.{Evaluates}
-use Rattle.fip_commands.specs.Generated.{IsTreeSource, build, IsTreeText}
 use Rattle.fip_commands.specs.Replayed.{IsReplayed}
 use Rattle.fip_library.specs.Texts.{IsText}
+use Rattle.gen_command.specs.GenAnswer.{tree_source, build, Generates}
 use Rattle.loaded_runs.specs.TraceReading.{IsBadTrace}
 use Rattle.run_command.specs.CodeRun.{RunsCode}
 use Rattle.run_command.specs.ExecAnswer.{Execs}
@@ -38,7 +37,7 @@ use Rattle.source_commands.specs.Derived.{IsDerivedFile, IsUnderived}
 use Rattle.source_commands.specs.Judged.{IsEarlyReport, IsProofOf, IsRejectedOf}
 use Rattle.source_commands.specs.ProgramCode.{IsUncompiled}
 use Rattle.source_commands.specs.Roots.{IsListing}
-use Rattle.source_commands.specs.Wanted.{Wanted, Refuses, IsReady, of_entry}
+use Rattle.source_commands.specs.Wanted.{Wanted, Compiled, Refuses, IsReady, of_entry}
 use Rattle.fip_driver.specs.Commands.{IsOther, ReadsInput, fetched_name, wanted}
 use Rattle.fip_driver.specs.Spelling.{Spelling, IsOutside}
 
@@ -48,8 +47,8 @@ End = Result (List ℕ) Failure
 -- ---- what is said of a source of which all rules are asked
 
 -- The command ends so on this source: it is refused; or it has what is wanted, and `check` lists its roots, the input
--- has too many bytes, or `eval` tells what the source means on the input, as `exec` does without the gauge; or `derive`
--- has made its derivation, or the text of this has too many bytes.
+-- has too many bytes, or `eval` tells what the source means on the input, as `exec` does without the gauge, and `tasks`
+-- what it means by each line; or `derive` has made its derivation, or the text of this has too many bytes.
 pub data SaysOf (source input : List ℕ) (c : Command) (w : Wanted) : End → Type 0 where
   Refused : (r : _) → Refuses source w r → SaysOf source input c w (Err (F.Refused r))
   Listed : (file text : List ℕ) → c ≡ Check file → IsListing source text → SaysOf source input c w (Ok text)
@@ -59,6 +58,8 @@ pub data SaysOf (source input : List ℕ) (c : Command) (w : Wanted) : End → T
       length input ≤ MOST_FILE_BYTES → Evaluates source entry input calls frames e → SaysOf source input c w e
   Executed : (r : Request) (e : End) → c ≡ Exec r → r.gauge ≡ false → IsReady source w →
       length input ≤ MOST_FILE_BYTES → Execs source r.entry input r.room false e → SaysOf source input c w e
+  TookTurns : (file : List ℕ) (seed turns : ℕ) (room : Room) (e : End) → c ≡ Tasks file seed turns room →
+      length input ≤ MOST_FILE_BYTES → TakesTurns source input room e → SaysOf source input c w e
   Derived : (file out bytes : List ℕ) → c ≡ Derive file out → IsDerivedFile source bytes →
       SaysOf source input c w (Ok derived_text)
   Underived : (file out : List ℕ) → c ≡ Derive file out → IsUnderived source →
@@ -82,13 +83,12 @@ IsCompileEnd source (Ok text) = IsListing source text
 IsCompileEnd source (Err failure) = IsUncompiled source × (failure ≡ F.Refused (bare E61))
 
 -- How a command may end on a source that has what is wanted. With the gauge `exec` ends with what the source means, and
--- behind it the gauge of a run of its code; `tasks` with what the source means by each line of the input.
+-- behind it the gauge of a run of its code.
 abbrev pub MayEnd : Command → (source input : List ℕ) → End → Type 0
 MayEnd (Compile file out) source input e = IsCompileEnd source e
 MayEnd (Exec r) source input e = (r.gauge ≡ true) × Execs source r.entry input r.room true e
 MayEnd (Trace file entry out room) source input e = TracesTo source entry input room e
 MayEnd (Session file room) source input e = IsSessionEnd e
-MayEnd (Tasks file seed turns room) source input e = TakesTurns source input room e
 MayEnd c source input e = ⊥
 
 -- an input that isn't read, or hasn't too many bytes
@@ -184,7 +184,7 @@ abbrev pub IsThere : List File → Command → List ℕ → Type 0
 IsThere files c bytes = (name : List ℕ) × (fetched_name c ≡ Some name) × (file_of name files ≡ Some bytes)
 
 -- The command ends so. A missing file of `exec` has a reply of its own. `library` prints a text of the library, and
--- `gen` tells what its text breaks, were it refused.
+-- `gen` tells of the tree that the source means which it runs.
 pub data Says (spelling : Spelling) (files : List File) (input : List ℕ) (c : Command) : End → Type 0 where
   Missing : (name : List ℕ) → IsOther c → fetched_name c ≡ Some name → file_of name files ≡ None →
       Says spelling files input c (Err (F.Fault O.Folder))
@@ -197,40 +197,32 @@ pub data Says (spelling : Spelling) (files : List File) (input : List ℕ) (c : 
   OnTrace : (trace : List ℕ) (step : ℕ) (bytes : List ℕ) (e : End) → c ≡ Replay trace step → IsThere files c bytes →
       SaysOfTrace bytes step e → Says spelling files input c e
   OfLibrary : (name text : List ℕ) → c ≡ Library name → IsText name text → Says spelling files input c (Ok text)
-  GenRefused : (seed count : ℕ) (source : List ℕ) (r : _) → c ≡ Gen seed count → IsTreeSource source →
-      Refuses source build r → Says spelling files input c (Err (F.Refused r))
+  OfGen : (seed count : ℕ) (e : End) → c ≡ Gen seed count → Generates seed count e → Says spelling files input c e
 
 -- ---- what isn't said of them yet
-
--- `gen` prints four lines on a tree of so many keys; or the code of its text isn't sound, or its run ends otherwise.
-abbrev pub IsGenEnd : ℕ → End → Type 0
-IsGenEnd count (Ok text) = IsTreeText count text
-IsGenEnd count (Err (F.Unsound function at rule)) = Unit {0}
-IsGenEnd count (Err failure) = IsOfRun failure
 
 -- the commands whose end isn't said on a source that has what they want
 abbrev pub IsUnsaidOn : Command → Type 0
 IsUnsaidOn (Check file) = ⊥
 IsUnsaidOn (Eval file entry calls frames) = ⊥
 IsUnsaidOn (Exec r) = r.gauge ≡ true
+IsUnsaidOn (Tasks file seed turns room) = ⊥
 IsUnsaidOn (Derive file out) = ⊥
 IsUnsaidOn c = Unit {0}
 
 -- The command may end so. It is never `check`, `eval`, `run`, `derive`, `audit` or `replay`, whose ends are all said;
--- nor `exec` without the gauge, but where its code were told as unsound.
+-- nor `gen`, nor `exec` without the gauge or `tasks`, but where their code were told as unsound.
 pub data Comes (spelling : Spelling) (files : List File) (input : List ℕ) (c : Command) : End → Type 0 where
   MayOnSource : (w : Wanted) (source : List ℕ) (e : End) → Checks spelling files c w source →
       ComesOf source input c w e → Comes spelling files input c e
-  MayOfGen : (seed count : ℕ) (source : List ℕ) (e : End) → c ≡ Gen seed count → IsTreeSource source →
-      IsReady source build → IsGenEnd count e → Comes spelling files input c e
+  MayOfGen : (seed count function at : ℕ) (rule : _) → c ≡ Gen seed count → IsReady tree_source (Compiled build) →
+      Comes spelling files input c (Err (F.Unsound function at rule))
 
--- The answer isn't said: the source has what a command wants, which is none of `check`, `eval`, `derive` and `exec`
--- without the gauge; or it is `gen` whose text is right.
+-- The answer isn't said: the source has what a command wants, which is none of `check`, `eval`, `derive`, `tasks` and
+-- `exec` without the gauge.
 pub data IsOpen (spelling : Spelling) (files : List File) (input : List ℕ) (c : Command) : Type 0 where
   OpenSource : (w : Wanted) (source : List ℕ) → Checks spelling files c w source → IsReady source w → IsTaken c input →
       IsUnsaidOn c → IsOpen spelling files input c
-  OpenGen : (seed count : ℕ) (source : List ℕ) → c ≡ Gen seed count → IsTreeSource source → IsReady source build →
-      IsOpen spelling files input c
 
 -- ---- how an end is told
 

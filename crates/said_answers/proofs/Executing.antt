@@ -4,7 +4,7 @@ use Rattle.std.proofs.Common.{◌≡◌, ◌∙◌, ℕ, false, List, Option, So
 use Rattle.std.specs.Prelude.{Err}
 use Rattle.std.proofs.lemmas.Option.{none-some, same_Some}
 use Rattle.fip_base.specs.Files.{File, file_of}
-use Rattle.command_line.specs.Words.{Request, Command, Check, Exec, Eval, Derive, Audit, Replay, Library, Gen}
+use Rattle.command_line.specs.Words.{Request, Command, Check, Exec, Eval, Tasks, Derive, Audit, Replay, Library, Gen}
 use Rattle.command_outcome.specs.declared.failure.Failure.TheVariants as F
 use Rattle.source_commands.specs.Wanted.{Wanted, Compiled}
 use Rattle.source_commands.proofs.Once.{refused_once, refused_not_ready}
@@ -49,6 +49,7 @@ module _ (source input : List ℕ) (r : Request) (off : r.gauge ≡ false) where
       let one : q ≡ r = sym (ap (request_in q) same) ∙ ap (request_in q) is in
       let runs = subst (λ (x : Request). R.Execs source x.entry input x.room false e) one h in
       entry_is_told source r.entry input r.room o e (subst (λ g. X.Execs source r.entry input r.room g o) off k) runs
+  on_source c e o is (E.TookTurns file seed turns room _ same le h) k = absurd (other c (Tasks file seed turns room) same (ap tag is) refl)
   on_source c _ o is (E.Derived file out bytes same h) k = absurd (other c (Derive file out) same (ap tag is) refl)
   on_source c _ o is (E.Underived file out same h) k = absurd (other c (Derive file out) same (ap tag is) refl)
 
@@ -72,7 +73,7 @@ module _ (files : List File) (input : List ℕ) (r : Request) (off : r.gauge ≡
   says_is c e o is (E.OnAudit file proof source _ same there k) h = absurd (other c (Audit file proof) same (ap tag is) refl)
   says_is c e o is (E.OnTrace trace step bytes _ same there k) h = absurd (other c (Replay trace step) same (ap tag is) refl)
   says_is c _ o is (E.OfLibrary name text same k) h = absurd (other c (Library name) same (ap tag is) refl)
-  says_is c _ o is (E.GenRefused seed count source q same made k) h = absurd (other c (Gen seed count) same (ap tag is) refl)
+  says_is c _ o is (E.OfGen seed count _ same k) h = absurd (other c (Gen seed count) same (ap tag is) refl)
 
 pub executed : (files : List File) (input : List ℕ) (r : Request) (e : End) (o : Outcome) → r.gauge ≡ false → Says source_spelling files input (Exec r) e → ComesTo files input (Exec r) o → e ≡ o.end
 executed files input r e o off says h = says_is files input r off (Exec r) e o refl says h

@@ -3,7 +3,7 @@ use Rattle.std.proofs.Common.{◌≡◌, inl, inr, ℕ, List, Option, Some, None
 use Rattle.fip_base.specs.Files.{File, file_of}
 use Rattle.fip_library.specs.Texts as L
 use Rattle.fip_trees.specs.Tree.{Program}
-use Rattle.command_line.specs.Words.{Request, Command, Check, Verify, Upgrade, Exec, Run, Eval, Trace, Session, Tasks, Audit, Replay, Library}
+use Rattle.command_line.specs.Words.{Room, Request, Command, Check, Verify, Upgrade, Exec, Run, Eval, Trace, Session, Tasks, Audit, Replay, Library}
 use Rattle.command_outcome.specs.declared.failure.Failure.TheVariants as F
 use Rattle.command_outcome.specs.declared.failure.Object.TheVariants as O
 use Rattle.derivation_trees.specs.Trees.{Entry}
@@ -16,6 +16,7 @@ use Rattle.command_answers.specs.Answer as A
 use Rattle.command_answers.specs.Answer.{ComesTo, Does, OnSource, OnCode, DoesCode, ListsRoots, Evals, Verifies, RunsFile}
 use Rattle.command_answers.specs.Asks as Asks
 use Rattle.command_answers.specs.Generating as G
+use Rattle.command_answers.specs.Lines as Turns
 use Rattle.command_answers.specs.Outcomes.{Outcome, failed}
 use Rattle.command_answers.specs.Replays as P
 use Rattle.command_answers.specs.Replays.{Replays}
@@ -53,6 +54,10 @@ check_said source input file _ (A.Listed text h) = E.Listed file text refl h
 
 eval_said : (source input file entry : List ℕ) (calls frames : ℕ) (o : Outcome) → A.IsTaken (Eval file entry calls frames) input → Evals source entry input calls frames o → SaysOf source input (Eval file entry calls frames) (Root entry) o.end
 eval_said source input file entry calls frames _ taken (A.Evaluated e h) = E.Evaluated file entry calls frames e refl (taken tt) h
+
+turns_said : (source input file : List ℕ) (seed turns : ℕ) (room : Room) (o : Outcome) → A.IsTaken (Tasks file seed turns room) input → Turns.TakesTurns source input room o → SaysOf source input (Tasks file seed turns room) Lawful o.end
+turns_said source input file seed turns room _ taken (Turns.Came o e s h) =
+    E.TookTurns file seed turns room e refl (taken tt) (o, record { accepted = s.accepted; found = s.found; words = s.words; calls = s.calls; frames = s.frames }, h)
 
 -- ---- a code file
 
@@ -118,6 +123,12 @@ module _ (files : List File) (input : List ℕ) where
       E.OnSource (Root entry) source o.end (checks_of files (Eval file entry calls frames) (Root entry) file source refl refl at tt)
       (source_said source input (Eval file entry calls frames) (Root entry) o (λ ready taken d. eval_said source input file entry calls frames o taken d) h)
 
+  tasks_file : (file : List ℕ) (seed turns : ℕ) (room : Room) (found : Option (List ℕ)) (o : Outcome) → file_of file files ≡ found → A.OnFound files input (Tasks file seed turns room) found o → Says source_spelling files input (Tasks file seed turns room) o.end
+  tasks_file file seed turns room None o at h = missing_said files input file (Tasks file seed turns room) o tt refl at h
+  tasks_file file seed turns room (Some source) o at h =
+      E.OnSource Lawful source o.end (checks_of files (Tasks file seed turns room) Lawful file source refl refl at tt)
+      (source_said source input (Tasks file seed turns room) Lawful o (λ ready taken d. turns_said source input file seed turns room o taken d) h)
+
   verify_file : (file : List ℕ) (found : Option (List ℕ)) (o : Outcome) → file_of file files ≡ found → A.OnFound files input (Verify file) found o → Says source_spelling files input (Verify file) o.end
   verify_file file None o at h = missing_said files input file (Verify file) o tt refl at h
   verify_file file (Some bytes) o at h = E.OnCode bytes o.end (file, refl, at) (code_said bytes input (Verify file) o tt (verify_said bytes input file o) h)
@@ -144,6 +155,7 @@ said files input (Verify file) o whole h = verify_file files input file (file_of
 said files input (Upgrade file out) o whole h = upgrade_file files input file out (file_of file files) o refl h
 said files input (Run r) o whole h = run_file files input r (file_of r.file files) o refl h
 said files input (Eval file entry calls frames) o whole h = eval_file files input file entry calls frames (file_of file files) o refl h
+said files input (Tasks file seed turns room) o whole h = tasks_file files input file seed turns room (file_of file files) o refl h
 said files input (Audit file proof) o whole h = audit_file files input file proof (file_of file files) o refl h
 said files input (Replay trace step) o whole h = replay_file files input trace step (file_of trace files) o refl h
 said files input (Library name) o whole h = library_said files input name o h

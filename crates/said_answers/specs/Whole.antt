@@ -1,7 +1,8 @@
 -- The commands of which the program's clauses say just what the one relation on all commands says.
 --
--- `eval` is one; `compile` is none, since its clauses say what it may come to.
-use Rattle.command_line.specs.Words.{Command, Check, Verify, Upgrade, Run, Eval, Audit, Replay, Library}
+-- `eval` is one, and `tasks`, though its clauses leave it open beside this that its code is told as unsound; `compile`
+-- is none, since they say what it may come to.
+use Rattle.command_line.specs.Words.{Command, Check, Verify, Upgrade, Run, Eval, Tasks, Audit, Replay, Library}
 
 abbrev pub IsWhole : Command → Type 0
 IsWhole (Check file) = Unit {0}
@@ -9,6 +10,7 @@ IsWhole (Verify file) = Unit {0}
 IsWhole (Upgrade file out) = Unit {0}
 IsWhole (Run r) = Unit {0}
 IsWhole (Eval file entry calls frames) = Unit {0}
+IsWhole (Tasks file seed turns room) = Unit {0}
 IsWhole (Audit file proof) = Unit {0}
 IsWhole (Replay trace step) = Unit {0}
 IsWhole (Library name) = Unit {0}

@@ -1,16 +1,16 @@
 // The laws on what the program's clauses say. Each is the contract of a function that does nothing.
-ghost use Rattle.std.specs.Prelude.{◌≡◌, ℕ, false, List};
+ghost use Rattle.std.specs.Prelude.{◌≡◌, ◌≤◌, ℕ, false, List};
 ghost use Rattle.fip_base.specs.Files.{File};
-ghost use Rattle.command_line.specs.Words.{Request, Command, Exec};
+ghost use Rattle.command_line.specs.Words.{Request, Command, Exec, Gen, most_count};
 ghost use Rattle.command_answers.specs.Answer.{ComesTo};
 ghost use Rattle.command_answers.specs.Outcomes.{Outcome};
 ghost use Rattle.fip_driver.specs.Ends.{End, Says};
 ghost use Rattle.fip_driver.specs.Spelling.{source_spelling};
 ghost use Rattle.said_answers.specs.Whole.{IsWhole};
 
-/// What `check`, `eval`, `verify`, `upgrade`, `run`, `audit`, `replay` and `library` come to by the one relation on all
-/// commands is what the program's clauses say of them; and what these say is the end of that outcome. For who reads
-/// either definition.
+/// What `check`, `eval`, `tasks`, `verify`, `upgrade`, `run`, `audit`, `replay` and `library` come to by the one
+/// relation on all commands is what the program's clauses say of them; and what these say is the end of that outcome.
+/// For who reads either definition.
 pub fn what_is_said_is_written()
     ensures said { (files : List File) (input : List ℕ) (c : Command) (o : Outcome) → IsWhole c →
         ComesTo files input c o → Says source_spelling files input c o.end }
@@ -23,4 +23,10 @@ pub fn what_is_said_is_written()
 pub fn what_is_said_of_exec_is_written()
     ensures law { (files : List File) (input : List ℕ) (r : Request) (e : End) (o : Outcome) → r.gauge ≡ false →
         Says source_spelling files input (Exec r) e → ComesTo files input (Exec r) o → e ≡ o.end }
+{}
+
+/// And of `gen`: what the program's clauses say of it is the end of its outcome. For who makes a tree.
+pub fn what_is_said_of_gen_is_written()
+    ensures law { (files : List File) (input : List ℕ) (seed count : ℕ) (e : End) (o : Outcome) → count ≤ most_count →
+        Says source_spelling files input (Gen seed count) e → ComesTo files input (Gen seed count) o → e ≡ o.end }
 {}

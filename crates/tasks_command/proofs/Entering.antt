@@ -4,7 +4,6 @@
 use Rattle.std.proofs.Common.{◌≡◌, ◌≢◌, inl, inr, ◌∙◌, ◌<◌, ◌≤◌, ◌+◌, ℕ, zero, suc, Bool, true, false, List, [], ◌∷◌, length, map, Option, Some, None, slice_get, option_map, if◌then◌else◌, refl, sym, ap, subst, arith}
 use Rattle.std.specs.Prelude.{min}
 use Rattle.std.proofs.lemmas.Option.{none-some, same_Some, slice_get-map}
-use Rattle.accepted_runs.proofs.Accepted.{accepted_in_place, accepted_stack}
 use Rattle.cell_code.specs.declared.code.Code.{Code}
 use Rattle.cell_code.specs.declared.code.Function.{Function}
 use Rattle.cell_lower.specs.Limits.{is_ruled, registers}
@@ -22,22 +21,21 @@ use Rattle.fip_language.specs.Meaning.{Answer, Gives, Trap, Out, Deep, Stuck, me
 use Rattle.fip_language.specs.SoundTable.{IsSoundTable}
 use Rattle.fip_language.specs.Statics.{NoClosed}
 use Rattle.fip_language.specs.Table.{Table, HaveTypes}
-use Rattle.fip_language.specs.Values.{Values, words_needed_by_all}
+use Rattle.fip_language.specs.Values.{words_needed_by_all}
 use Rattle.fip_language.specs.declared.FunKind.{FunKind}
 use Rattle.fip_language.specs.declared.FunKind.TheVariants.{Fip, Fbip, Fun}
-use Rattle.fip_language.specs.declared.limits.TheConstants.{FRAME_WORDS, MOST_FRAMES}
+use Rattle.fip_language.specs.declared.limits.TheConstants.{MOST_FRAMES}
 use Rattle.fip_trees.specs.declared.groups.Member.{Member}
 use Rattle.fip_trees.specs.Tree.{Instance, Program}
 use Rattle.flat_meaning.specs.Meaning.{flat_meaning}
 use Rattle.flat_meaning.proofs.Frames.{more_frames}
-use Rattle.in_place_runs.specs.InPlace.{EndsInPlace}
 use Rattle.loaded_runs.specs.Loading.{words_of_credits}
 use Rattle.lowered_code.specs.Functions.{AreLowered}
 use Rattle.meant_runs.specs.Starts.{IsCodeOf}
 use Rattle.run_command.proofs.Bounded.{one_of_name}
 use Rattle.run_command.proofs.Loaded.{IsLoadable, loadable}
 use Rattle.session_meaning.specs.Lines.{Symbol, Blank, Open, Close, Comma, Equals, Question, Minus, Underscore, Digit, Small, Capital, Other, BeginsSmall, skip, symbols, word}
-use Rattle.session_meaning.specs.Talk.{Setting, frames_by, frames_of, free_frames}
+use Rattle.session_meaning.specs.Talk.{Setting, frames_of, free_frames}
 use Rattle.session_meaning.specs.Talk.{answer_of as flat_answer}
 use Rattle.session_meaning.specs.Turns.{AreTasks, IsBadFrom, IsTask, Task, TaskLines, TaskText, credit_words, type_of, joined, words_of_tasks}
 use Rattle.session_meaning.specs.Typed.{AreValues}
@@ -48,15 +46,13 @@ use Rattle.source_commands.specs.ProgramCode.{IsLoweredFrom}
 use Rattle.source_commands.proofs.Compiling.{headers_same, instrs_same}
 use Rattle.source_meaning.proofs.Meant.{root_meant}
 use Rattle.source_report.specs.Report.{IsAccepted, IsTyped}
-use Rattle.source_report.proofs.FipCalls.{fip_calls}
-use Rattle.tail_groups.specs.Members.{AreMembers, frame, stack}
-use Rattle.tail_groups.specs.Registers as T
-use Rattle.tail_groups.specs.Rules as U
+use Rattle.tail_groups.specs.Members.{AreMembers}
 use Rattle.task_lines.specs.Called.{AreCalls, Called, IsCall, IsFirstBad, IsReadable}
 use Rattle.task_lines.specs.declared.list.RunLimits.{RunLimits}
 use Rattle.tasks_command.specs.Called.{AreCallLines, AreNamed, IsCallLine, answer_of}
 use Rattle.tasks_command.specs.TasksAnswer.{IsSetting}
 use Rattle.tasks_command.specs.Telling.{TellsAnswer}
+use Rattle.tasks_command.proofs.Frames.{free_given, never_deep}
 use Rattle.tasks_command.proofs.Weighing.{HaveCredits, all_typed, words_of_calls}
 use Rattle.value_text.specs.Loaded.{types_of}
 
@@ -313,42 +309,23 @@ module _ (source : List ℕ) (p : Program) (ms : List Member) (code : Code) (acc
         let fip : is_fip Fbip ≡ true = ap is_fip (sym kind ∙ sym twin.kind ∙ ap (λ (q : PlainFunction). q.kind) same) ∙ f.2 in
         absurd cc
 
-    none_held : (i : ℕ) (d : Instance) (m : Member) (s : Option Stack) → slice_get p.instances i ≡ Some d → d.kind ≡ Fbip → slice_get ms i ≡ Some m → m.stack ≡ s → frames_of room.frames s ≡ room.frames
-    none_held i d m None there kind at e = refl
-    none_held i d m (Some s) there kind at e =
-        let stacks = found.stacks (fip_calls source p accepted.tailed.credited.owned) in
-        let has = stacks.none i s (slice_get-map stack ms i ∙ ap (option_map stack) at ∙ ap Some e) in
-        let fr : Some (frame d) ≡ Some (Some has.0) = sym (slice_get-map frame p.instances i ∙ ap (option_map frame) there) ∙ has.1 in
-        let non : frame d ≡ None = ap (λ k. if U.is_fip k then Some (T.registers d + FRAME_WORDS) else None) kind in
-        absurd (none-some has.0 (sym non ∙ same_Some (frame d) (Some has.0) fr))
-
-    free_given : (i : ℕ) (d : Instance) (o : Option Member) → slice_get p.instances i ≡ Some d → d.kind ≡ Fbip → slice_get ms i ≡ o → frames_by room.frames o ≡ room.frames
-    free_given i d None there kind at = refl
-    free_given i d (Some m) there kind at = none_held i d m m.stack there kind at refl
-
-    not_deep : (f : Instance) (vs : Values) (a : Answer) → EndsInPlace p.types f vs a → a ≢ Deep
-    not_deep f vs a h e = subst (EndsInPlace p.types f vs) e h
-
     text_by : (c : Called) (t : Task) (line : List ℕ) (k : FunKind) → IsTwin p code c t → (t.header).kind ≡ k → IsCallLine core code limits c line → TaskText setting t (flat_answer setting t.entry t.values) line
     text_by c t line Fun twin kind is = absurd (twin.runs kind)
     text_by c t line Fbip twin kind is =
         let n : is.frames ≡ room.frames = code_frames c t is.frames is.has.held twin kind is.has.stack is.has.are in
-        let m : free_frames setting t.entry ≡ room.frames = free_given t.entry t.header (slice_get ms t.entry) twin.there kind refl in
+        let m : free_frames setting t.entry ≡ room.frames = free_given source setting accepted found t.entry t.header twin.there kind in
         let same : answer_of core limits is.frames c ≡ flat_answer setting t.entry t.values = flat_of c t is.frames twin ∙ ap (λ j. (flat_meaning p t.entry t.values room.calls j).answer) (n ∙ sym m) in
         subst (λ a. TaskText setting t a line) same (told_so c t is.frames (answer_of core limits is.frames c) line twin (λ e. n ∙ sym m) is.told)
     text_by c t line Fip twin kind is =
         let i = t.entry in
         let vs = t.values in
-        let r = accepted_stack source p ms i t.header accepted found twin.there kind in
-        let s : Stack = r.1 in
-        let free : free_frames setting i ≡ s.frames = ap (frames_by room.frames) r.2 ∙ ap (frames_of room.frames) r.3 in
-        let place = accepted_in_place source p ms i t.header r.0 s vs room.calls s.frames accepted found twin.there kind r.2 r.3 twin.typed (omega arith) in
-        let shallow = not_deep t.header vs (flat_meaning p i vs room.calls s.frames).answer place.ends in
+        let free = free_frames setting i in
+        let shallow : (flat_meaning p i vs room.calls free).answer ≢ Deep = never_deep source setting accepted found i t.header vs twin.there kind twin.typed in
         let never : answer_of core limits is.frames c ≢ Deep = is.never_deep (ap is_fip (twin.kind ∙ kind)) in
         let flat = flat_of c t is.frames twin in
-        let a = more_frames p i vs room.calls is.frames s.frames (λ e. never (flat ∙ e)) in
-        let b = more_frames p i vs room.calls s.frames is.frames shallow in
-        let both : flat_meaning p i vs room.calls is.frames ≡ flat_meaning p i vs room.calls (free_frames setting i) = sym a ∙ ap (flat_meaning p i vs room.calls) (let z : is.frames + s.frames ≡ s.frames + is.frames = omega arith in z) ∙ b ∙ ap (flat_meaning p i vs room.calls) (sym free) in
+        let a = more_frames p i vs room.calls is.frames free (λ e. never (flat ∙ e)) in
+        let b = more_frames p i vs room.calls free is.frames shallow in
+        let both : flat_meaning p i vs room.calls is.frames ≡ flat_meaning p i vs room.calls free = sym a ∙ ap (flat_meaning p i vs room.calls) (let z : is.frames + free ≡ free + is.frames = omega arith in z) ∙ b in
         let same : answer_of core limits is.frames c ≡ flat_answer setting i vs = flat ∙ ap (λ x. x.answer) both in
         subst (λ x. TaskText setting t x line) same (told_so c t is.frames (answer_of core limits is.frames c) line twin (λ e. absurd (never e)) is.told)
 

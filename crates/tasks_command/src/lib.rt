@@ -4,6 +4,7 @@
 
 mod answers;
 mod command;
+pub mod laws;
 mod printing;
 mod turns;
 

@@ -92,7 +92,7 @@ pub returns-in-Gen-clause-outcome : goal.returns-in-Gen-clause-outcome
 returns-in-Gen-clause-outcome g c =
     let fr = Rose (g.F.Folder.faults c.args.folder.now) (g.F.Folder.faults c.args.folder.now) in
     let ir = Rose (g.S.Source.faults c.args.input.now) (g.S.Source.faults c.args.input.now) in
-    subst (λ x. CommandOutcome (command_of x) (g.F.Folder.files c.args.folder.now) (g.S.Source.left c.args.input.now) fr ir c.generate.result) (sym c.in-Gen.is) (file_outcome _ (g.F.Folder.files c.args.folder.now) (g.S.Source.left c.args.input.now) fr ⊥ ir c.generate.result (λ r. absurd r) (gen_ends _ _ (g.F.Folder.files c.args.folder.now) (g.S.Source.left c.args.input.now) fr ⊥ c.generate.result c.generate.ensures.lines c.generate.ensures.ready c.generate.ensures.kept))
+    subst (λ x. CommandOutcome (command_of x) (g.F.Folder.files c.args.folder.now) (g.S.Source.left c.args.input.now) fr ir c.generate.result) (sym c.in-Gen.is) (file_outcome _ (g.F.Folder.files c.args.folder.now) (g.S.Source.left c.args.input.now) fr ⊥ ir c.generate.result (λ r. absurd r) (gen_ends _ _ (g.F.Folder.files c.args.folder.now) (g.S.Source.left c.args.input.now) fr ⊥ c.generate.result c.generate.ensures.generates))
 
 -- ---- what is stored, whatever the input told
 

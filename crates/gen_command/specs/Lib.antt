@@ -1,0 +1,3 @@
+pub mod MadeTree
+pub mod Reading
+pub mod GenAnswer

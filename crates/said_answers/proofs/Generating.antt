@@ -1,6 +1,6 @@
 -- What is said of `gen` is the end of its outcome: cause by cause, and where a tree is made both tell of what the source
 -- means.
-use Rattle.std.proofs.Common.{◌≡◌, ◌∙◌, ◌≤◌, ℕ, List, sym, ap, subst, refl, arith}
+use Rattle.std.proofs.Common.{◌≡◌, ◌∙◌, ◌≤◌, ℕ, false, List, sym, ap, subst, refl, arith}
 use Rattle.std.specs.Prelude.{Ok, Err}
 use Rattle.fip_language.specs.Meaning.{Gives}
 use Rattle.fip_language.specs.Values.{Values}

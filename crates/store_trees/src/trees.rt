@@ -1,5 +1,5 @@
 // The cells of the trees that words stand for.
-ghost use Rattle.std.specs.Prelude.{◌≡◌, ◌<◌, ◌≤◌, ◌+◌, ◌++◌, ◌^◌, ℕ, List, true, false, Some, IfOk, OnOk};
+ghost use Rattle.std.specs.Prelude.{◌≡◌, ◌<◌, ◌≤◌, ◌+◌, ◌++◌, ◌^◌, ℕ, List, [], true, false, Some, IfOk, OnOk};
 ghost use Rattle.std.specs.Prelude.{length, map, slice_get};
 ghost use Rattle.fip_language.specs.Store.{Cell, Placed, places, word_of};
 ghost use Rattle.fip_language.specs.Table.{Shape, Table, constructors};

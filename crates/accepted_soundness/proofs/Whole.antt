@@ -19,12 +19,13 @@ use Rattle.own_agreement.specs.Sized.{AreSizes, IsSized}
 use Rattle.derivation_making.specs.Numbered as N
 use Rattle.sound_code.specs.Breaks.{IsSound}
 use Rattle.sound_code.specs.Codes.{PlainCode, PlainFunction, function_at, is_fip}
-use Rattle.sound_code.specs.Headers.{is_size, are_sizes, are_good_maps}
+use Rattle.sound_code.specs.Headers.{is_size, are_sizes}
 use Rattle.kind_soundness.proofs.Basics.{below_is}
 use Rattle.lowered_code.specs.Bodies.{has_function, function_of}
 use Rattle.lowered_code.specs.Values.{Setting}
 use Rattle.lowered_soundness.specs.Accepted.{IsDerived, IsWithinLimits}
 use Rattle.lowered_soundness.specs.Built.{BuildsBlock}
+use Rattle.lowered_soundness.specs.Standing.{MapsStand}
 use Rattle.laid_code.specs.Functions.{AreLaid}
 use Rattle.lowered_soundness.proofs.Giving.{and_to}
 use Rattle.lowered_soundness.proofs.Joined.{has_one, sound_joined}
@@ -119,7 +120,7 @@ module _ (source : List ℕ) (p : Program) (h : IsAccepted source p) where
       }
 
   -- its function keeps the limits, as far as its header goes
-  pub function_limits : (c : PlainCode) → IsHeaded p c → (g n : ℕ) (d : Instance) (f : PlainFunction) → slice_get p.instances g ≡ Some d → function_of p.instances g ≡ Some n → function_at c n ≡ Some f → are_good_maps c.types f 0 f.labels ≡ true → IsWithinLimits c f d
+  pub function_limits : (c : PlainCode) → IsHeaded p c → (g n : ℕ) (d : Instance) (f : PlainFunction) → slice_get p.instances g ≡ Some d → function_of p.instances g ≡ Some n → function_at c n ≡ Some f → MapsStand f → IsWithinLimits c f d
   function_limits c headed g n d f there number is maps =
       let at = function_there p c headed g n d number there in
       let same : at.0 ≡ f = same_Some at.0 f (sym at.1 ∙ is) in
@@ -144,7 +145,7 @@ module _ (source : List ℕ) (p : Program) (h : IsAccepted source p) where
           omega (arith, own, few)
 
   -- code that is laid as the program asks is sound
-  pub laid_is_sound : (c : PlainCode) (st : Setting) → IsHeaded p c → AreLaid c st p → ((n : ℕ) (f : PlainFunction) → function_at c n ≡ Some f → are_good_maps c.types f 0 f.labels ≡ true) → IsSound c
+  pub laid_is_sound : (c : PlainCode) (st : Setting) → IsHeaded p c → AreLaid c st p → ((n : ℕ) (f : PlainFunction) → function_at c n ≡ Some f → MapsStand f) → IsSound c
   laid_is_sound c st headed all maps =
       let setting = all.setting in
       let formed = typed_formed source p typed in

@@ -14,9 +14,9 @@ ghost use Rattle.lowered_soundness.specs.Accepted.{IsDerived, IsWithinLimits};
 ghost use Rattle.lowered_soundness.specs.Laid.{Shares};
 ghost use Rattle.laid_code.specs.Functions.{AreLaid};
 ghost use Rattle.lowered_soundness.specs.Placed.{Callees};
+ghost use Rattle.lowered_soundness.specs.Standing.{MapsStand};
 ghost use Rattle.sound_code.specs.Breaks.{IsSound};
 ghost use Rattle.sound_code.specs.Codes.{PlainCode, PlainFunction, function_at, plain};
-ghost use Rattle.sound_code.specs.Headers.{are_good_maps};
 ghost use Rattle.sound_code.specs.Tables.{AreSoundTables};
 ghost use Rattle.source_report.specs.Report.{IsTyped, IsAccepted};
 ghost use Rattle.tail_groups.specs.Members.{AreMembers};
@@ -54,14 +54,13 @@ pub fn accepted_instances_are_derived()
 {}
 
 /// The function of an instance of an accepted source keeps the limits of sound code: at most 4,096 registers, 1 to 8
-/// results, and at most 16 credits of sizes 1 to 16; as long as its label maps are formed. For who asks whether lowered
-/// code is sound.
+/// results, and at most 16 credits of sizes 1 to 16; as long as its label maps stand in order. For who asks whether
+/// lowered code is sound.
 pub fn accepted_functions_keep_the_limits()
     ensures law { (source : List ℕ) (program : Program) (code : PlainCode) (i n : ℕ) (instance : Instance)
         (f : PlainFunction) → IsAccepted source program → IsHeaded program code →
         slice_get program.instances i ≡ Some instance → function_of program.instances i ≡ Some n →
-        function_at code n ≡ Some f → are_good_maps code.types f 0 f.labels ≡ Bool.true →
-        IsWithinLimits code f instance }
+        function_at code n ≡ Some f → MapsStand f → IsWithinLimits code f instance }
 {}
 
 /// Code that is headed as the typed program of a source tells has sound tables (S0): its types are sound, its functions
@@ -71,12 +70,11 @@ pub fn accepted_code_has_sound_tables()
         IsHeaded program code → AreSoundTables code }
 {}
 
-/// Code of an accepted source breaks no rule of sound code, where it is headed as the source's program tells, laid out
-/// as its instances ask, and its label maps are formed. Nothing is left to ask of the source. For who shows that what
-/// is lowered is sound.
+/// Code of an accepted source breaks no rule of sound code, where it is headed as the source's program tells and laid
+/// out as its instances ask, and its label maps stand in order and tell of each tree some constructor. Nothing is left
+/// to ask of the source. For who shows that what is lowered is sound.
 pub fn laid_accepted_code_is_sound()
     ensures law { (source : List ℕ) (program : Program) (code : PlainCode) (setting : Setting) →
         IsAccepted source program → IsHeaded program code → AreLaid code setting program →
-        ((n : ℕ) (f : PlainFunction) → function_at code n ≡ Some f →
-        are_good_maps code.types f 0 f.labels ≡ Bool.true) → IsSound code }
+        ((n : ℕ) (f : PlainFunction) → function_at code n ≡ Some f → MapsStand f) → IsSound code }
 {}

@@ -78,12 +78,12 @@ use Rattle.lowered_soundness.proofs.Lets.{ties_within, lent_in, ties_lending, sc
 use Rattle.lowered_soundness.proofs.Typed.{expression_types}
 use Rattle.lowered_soundness.proofs.Leaves.{values_done, give_into, give_ends, operator_into, operator_ends, called_into, called_ends}
 
-length_all_named : (names : List (Option ℕ)) (bs : List Binder) (rs : List ℕ) → length (all_named names bs rs) ≡ length names
+pub length_all_named : (names : List (Option ℕ)) (bs : List Binder) (rs : List ℕ) → length (all_named names bs rs) ≡ length names
 length_all_named names [] rs = refl
 length_all_named names (b ∷ bs) [] = refl
 length_all_named names (b ∷ bs) (r ∷ rs) = length_all_named (Rattle.lowered_code.specs.Known.named names b.number r) bs rs ∙ length_named names b.number r
 
-length_registers : (r : ℕ) (bs : List Binder) → length (registers_for r bs) ≡ length bs
+pub length_registers : (r : ℕ) (bs : List Binder) → length (registers_for r bs) ≡ length bs
 length_registers r [] = refl
 length_registers r (b ∷ bs) = ap suc (length_registers (suc r) bs)
 
@@ -93,7 +93,7 @@ among_registers r q (b ∷ bs) (inl e) = omega (arith, e)
 among_registers r q (b ∷ bs) (inr m) = let z = among_registers (suc r) q bs m in omega (arith, z)
 
 -- registers that were never used wait
-registers_wait : (k : Known) (r n : ℕ) (bs : List Binder) → ((q : ℕ) → r ≤ q → held_at k.held q ≡ H.Nothing) → r + length bs ≤ n → Waiting (record k { next = n }) (registers_for r bs)
+pub registers_wait : (k : Known) (r n : ℕ) (bs : List Binder) → ((q : ℕ) → r ≤ q → held_at k.held q ≡ H.Nothing) → r + length bs ≤ n → Waiting (record k { next = n }) (registers_for r bs)
 registers_wait k r n [] fresh room = tt
 registers_wait k r n (b ∷ bs) fresh room = (
   fresh r (omega arith),
@@ -102,34 +102,34 @@ registers_wait k r n (b ∷ bs) fresh room = (
   registers_wait k (suc r) n bs (λ q low. fresh q (omega (arith, low))) (omega (arith, room)),
 )
 
-waits_on : (k l : Known) (ds : List ℕ) → Waiting k ds → k.next ≤ l.next → ((r : ℕ) → Among r ds → held_at l.held r ≡ H.Nothing) → Waiting l ds
+pub waits_on : (k l : Known) (ds : List ℕ) → Waiting k ds → k.next ≤ l.next → ((r : ℕ) → Among r ds → held_at l.held r ≡ H.Nothing) → Waiting l ds
 waits_on k l [] w grows empty = tt
 waits_on k l (d ∷ ds) w grows empty = (empty d (inl refl), (let z = w.1 in omega (arith, z, grows)), w.2, waits_on k l ds w.3 grows (λ r m. empty r (inr m)))
 
-waiting_among : (k : Known) (ds : List ℕ) (r : ℕ) → Waiting k ds → Among r ds → (held_at k.held r ≡ H.Nothing) × (suc r ≤ k.next)
+pub waiting_among : (k : Known) (ds : List ℕ) (r : ℕ) → Waiting k ds → Among r ds → (held_at k.held r ≡ H.Nothing) × (suc r ≤ k.next)
 waiting_among k [] r w m = absurd m
 waiting_among k (d ∷ ds) r w (inl e) = (ap (held_at k.held) e ∙ w.0, (let z = w.1 in omega (arith, z, e)))
 waiting_among k (d ∷ ds) r w (inr m) = waiting_among k ds r w.3 m
 
-and_right : (a b : Bool) → (a && b) ≡ true → b ≡ true
+pub and_right : (a b : Bool) → (a && b) ≡ true → b ≡ true
 and_right true b e = e
 and_right false b e = absurd (true≢false (sym e))
 
-not_true : (b : Bool) → not b ≡ true → b ≡ false
+pub not_true : (b : Bool) → not b ≡ true → b ≡ false
 not_true true e = absurd (true≢false (sym e))
 not_true false e = refl
 
 module _ (c : PlainCode) (f : PlainFunction) (st : Setting) (wd : W.World) (w : R.World) (fip : Bool) (shares : Shares c st wd) (callees : Callees c st wd w) (N : ℕ) where
   -- ---- what a let binds is behind, and its variables come into scope
 
-  record Entered (s : Scope) (sc : Scalars) (n : Names) (bs : List Binder) (us : List ℕ) (B : ℕ → Bool) (K : ℕ → Item → ℕ) (Q X : Item → ℕ) (l : Known) : Type 0 where
+  pub record Entered (s : Scope) (sc : Scalars) (n : Names) (bs : List Binder) (us : List ℕ) (B : ℕ → Bool) (K : ℕ → Item → ℕ) (Q X : Item → ℕ) (l : Known) : Type 0 where
     pub placed : Placed c (s ++ entries bs (map Some us)) (entering w n.next sc bs) (inside w true n bs)
     pub ties : Ties fip c.types (s ++ entries bs (map Some us)) (O.setting (variables w n.next bs) false B) K (λ i. Q i + X i) (λ q. 0) l
     pub none : NoneFrom (inside w true n bs).next (λ i. Q i + X i)
     pub back : (x u : ℕ) → of_binder s (Some x) ≡ Some (Some u) → of_binder (s ++ entries bs (map Some us)) (Some x) ≡ Some (Some u)
     pub same : (x u : ℕ) → of_binder s (Some x) ≡ Some (Some u) → O.setting (variables w n.next bs) false B x ≡ B x
 
-  enter : (s : Scope) (sc : Scalars) (n : Names) (bs : List Binder) (us : List ℕ) (B : ℕ → Bool) (K : ℕ → Item → ℕ) (R Q X : Item → ℕ) (m : Known) (rs : List ℕ) → Placed c s sc n → InOrder n.next bs → n.next + length bs ≤ length m.names → Bind true bs us → AreTypes c us → Opens fip true (variables w n.next bs) [] R Q → NoneFrom n.next (λ i. R i + X i) → ((z y : ℕ) → K z (Own y) ≤ X (Own y)) → Ties fip c.types s B K (λ i. R i + X i) (λ q. owed c.types rs us q + 0) m → AllHold c.types (held_at m.held) rs us → Entered s sc n bs us B K Q X (with_names m bs rs)
+  pub enter : (s : Scope) (sc : Scalars) (n : Names) (bs : List Binder) (us : List ℕ) (B : ℕ → Bool) (K : ℕ → Item → ℕ) (R Q X : Item → ℕ) (m : Known) (rs : List ℕ) → Placed c s sc n → InOrder n.next bs → n.next + length bs ≤ length m.names → Bind true bs us → AreTypes c us → Opens fip true (variables w n.next bs) [] R Q → NoneFrom n.next (λ i. R i + X i) → ((z y : ℕ) → K z (Own y) ≤ X (Own y)) → Ties fip c.types s B K (λ i. R i + X i) (λ q. owed c.types rs us q + 0) m → AllHold c.types (held_at m.held) rs us → Entered s sc n bs us B K Q X (with_names m bs rs)
   enter s sc n bs us B K R Q X m rs placed order within bind types opens none kept ties hold =
       let slots = bind_slots c bs us bind types in
       let es = entries_same bs us bind in
@@ -166,7 +166,7 @@ module _ (c : PlainCode) (f : PlainFunction) (st : Setting) (wd : W.World) (w : 
 
   -- ---- names behind a part
 
-  behind_placed : (s : Scope) (sc : Scalars) (n : Names) (e : Expression) → n.next ≤ (behind n (shape w n e)).next → Placed c s sc n → Placed c s sc (behind n (shape w n e))
+  pub behind_placed : (s : Scope) (sc : Scalars) (n : Names) (e : Expression) → n.next ≤ (behind n (shape w n e)).next → Placed c s sc n → Placed c s sc (behind n (shape w n e))
   behind_placed s sc n e more p = record {
     seen = p.seen;
     scalar = p.scalar;
@@ -174,35 +174,35 @@ module _ (c : PlainCode) (f : PlainFunction) (st : Setting) (wd : W.World) (w : 
     typed = p.typed;
   }
 
-  later : (n : Names) (e : Expression) → n.next ≤ (behind n (shape w n e)).next
+  pub later : (n : Names) (e : Expression) → n.next ≤ (behind n (shape w n e)).next
   later n e = let z = next_behind w n e in omega (arith, z)
 
-  none_later : (n : Names) (e : Expression) (T : Item → ℕ) → NoneFrom n.next T → NoneFrom (behind n (shape w n e)).next T
+  pub none_later : (n : Names) (e : Expression) (T : Item → ℕ) → NoneFrom n.next T → NoneFrom (behind n (shape w n e)).next T
   none_later n e T h y low = h y (let z = later n e in omega (arith, z, low))
 
   -- what is owned in three parts
-  let_split : (s : Scope) (B : ℕ → Bool) (K : ℕ → Item → ℕ) (O P R X : Item → ℕ) (k : Known) → ((i : Item) → Fits fip (O i) (P i + R i)) → Ties fip c.types s B K (λ i. O i + X i) (λ q. 0) k → Ties fip c.types s B K (λ i. P i + (R i + X i)) (λ q. 0) k
+  pub let_split : (s : Scope) (B : ℕ → Bool) (K : ℕ → Item → ℕ) (O P R X : Item → ℕ) (k : Known) → ((i : Item) → Fits fip (O i) (P i + R i)) → Ties fip c.types s B K (λ i. O i + X i) (λ q. 0) k → Ties fip c.types s B K (λ i. P i + (R i + X i)) (λ q. 0) k
   let_split s B K O P R X k split ties =
       ties_worth fip c.types s B K (λ i. (P i + R i) + X i) (λ i. P i + (R i + X i)) (λ q. 0) k (λ i. omega arith)
       (ties_fits fip c.types s B K (λ i. O i + X i) (λ i. (P i + R i) + X i) (λ q. 0) k ties (λ i. fits_sum fip (O i + X i) (O i) (X i) (P i + R i) (X i) (fits_same fip (O i + X i)) (split i) (fits_same fip (X i))))
 
-  split_none : (n : ℕ) (O P R X : Item → ℕ) → ((i : Item) → Fits fip (O i) (P i + R i)) → NoneFrom n (λ i. O i + X i) → NoneFrom n (λ i. P i + (R i + X i))
+  pub split_none : (n : ℕ) (O P R X : Item → ℕ) → ((i : Item) → Fits fip (O i) (P i + R i)) → NoneFrom n (λ i. O i + X i) → NoneFrom n (λ i. P i + (R i + X i))
   split_none n O P R X split none y low =
       let a = none y low in
       let b = fits_le fip (O (Own y)) (P (Own y) + R (Own y)) (split (Own y)) in
       omega (arith, a, b)
 
-  rest_none : (n : ℕ) (P R X : Item → ℕ) → NoneFrom n (λ i. P i + (R i + X i)) → NoneFrom n (λ i. R i + X i)
+  pub rest_none : (n : ℕ) (P R X : Item → ℕ) → NoneFrom n (λ i. P i + (R i + X i)) → NoneFrom n (λ i. R i + X i)
   rest_none n P R X none y low = let a = none y low in omega (arith, a)
 
-  lent_kept : (B : ℕ → Bool) (K : ℕ → Item → ℕ) (R X : Item → ℕ) → ((z y : ℕ) → K z (Own y) ≤ X (Own y)) → (z y : ℕ) → lent_in B K R z (Own y) ≤ R (Own y) + X (Own y)
+  pub lent_kept : (B : ℕ → Bool) (K : ℕ → Item → ℕ) (R X : Item → ℕ) → ((z y : ℕ) → K z (Own y) ≤ X (Own y)) → (z y : ℕ) → lent_in B K R z (Own y) ≤ R (Own y) + X (Own y)
   lent_kept B K R X kept z y = by (B z)
     where
       by : (b : Bool) → (if b then K z else R) (Own y) ≤ R (Own y) + X (Own y)
       by true = let a = kept z y in omega (arith, a)
       by false = omega arith
 
-  unlent : (s : Scope) (B : ℕ → Bool) (K : ℕ → Item → ℕ) (R T : Item → ℕ) (e : ℕ → ℕ) (k : Known) → Ties fip c.types s (lending B R) (lent_in B K R) T e k → Ties fip c.types s B K T e k
+  pub unlent : (s : Scope) (B : ℕ → Bool) (K : ℕ → Item → ℕ) (R T : Item → ℕ) (e : ℕ → ℕ) (k : Known) → Ties fip c.types s (lending B R) (lent_in B K R) T e k → Ties fip c.types s B K T e k
   unlent s B K R T e k t =
       ties_within fip c.types s s (lending B R) B (lent_in B K R) K T e k t (λ x u h. h)
       (λ x u h b. (ap (λ b. b || Rattle.std.specs.Prelude.nat_lt 0 (R (Own x))) b, sym (Rattle.kind_soundness.proofs.Basics.chosen (B x) (K x) R b)))
@@ -262,7 +262,7 @@ module _ (c : PlainCode) (f : PlainFunction) (st : Setting) (wd : W.World) (w : 
       }
 
   -- values that only get names
-  named_done : (s : Scope) (sc : Scalars) (n : Names) (B : ℕ → Bool) (K : ℕ → Item → ℕ) → Placed c s sc n → (P X : Item → ℕ) (at : ℕ) (k : Known) (e : Expression) (rs : List ℕ) (mid : ℕ) (m : Known) (b : Bool) (us : List ℕ) → NamedLaid c st f at k e rs mid m → Types true wd s b e us → Derives fip B P (term w sc n e) → ((z y : ℕ) → K z (Own y) ≤ X (Own y)) → Ties fip c.types s B K (λ i. P i + X i) (λ q. 0) k → length k.held ≡ f.registers → Computed c f fip s B K X (λ q. 0) at k rs us mid m
+  pub named_done : (s : Scope) (sc : Scalars) (n : Names) (B : ℕ → Bool) (K : ℕ → Item → ℕ) → Placed c s sc n → (P X : Item → ℕ) (at : ℕ) (k : Known) (e : Expression) (rs : List ℕ) (mid : ℕ) (m : Known) (b : Bool) (us : List ℕ) → NamedLaid c st f at k e rs mid m → Types true wd s b e us → Derives fip B P (term w sc n e) → ((z y : ℕ) → K z (Own y) ≤ X (Own y)) → Ties fip c.types s B K (λ i. P i + X i) (λ q. 0) k → length k.held ≡ f.registers → Computed c f fip s B K X (λ q. 0) at k rs us mid m
   named_done s sc n B K placed P X at k (Give a) rs mid m b us h typed d kept ties wide =
       subst (λ us. Computed c f fip s B K X (λ q. 0) at k rs us mid m) (sym typed.1)
       (values_done c f st wd w fip shares callees s sc n B K placed P X (λ q. 0) at k (MoreArguments a NoArguments) rs mid m b (typed.0 ∷ []) h.values (typed.2, tt) d kept ties h.quiet wide)
@@ -288,12 +288,12 @@ module _ (c : PlainCode) (f : PlainFunction) (st : Setting) (wd : W.World) (w : 
   none_let : (n : Names) (e : Expression) (R X : Item → ℕ) → NoneFrom (behind n (shape w n e)).next (λ i. R i + X i) → NoneFrom (behind n (shape w n e)).next X
   none_let n e R X none y low = let a = none y low in omega (arith, a)
 
-  registers_apart : (k : Known) (bs : List Binder) (r : ℕ) → suc r ≤ k.next → Among r (registers_for k.next bs) → ⊥
+  pub registers_apart : (k : Known) (bs : List Binder) (r : ℕ) → suc r ≤ k.next → Among r (registers_for k.next bs) → ⊥
   registers_apart k bs r low m = let z = among_registers k.next r bs m in let y : ⊥ = omega (arith, low, z) in y
 
   -- ---- where the clauses of a let's match meet
 
-  wide_empty : (h : Held) → widened h ≡ H.Nothing → h ≡ H.Nothing
+  pub wide_empty : (h : Held) → widened h ≡ H.Nothing → h ≡ H.Nothing
   wide_empty H.Nothing e = refl
   wide_empty (H.Scalar t) e = e
   wide_empty (H.Owned t b) e = absurd (cc)
@@ -323,7 +323,7 @@ module _ (c : PlainCode) (f : PlainFunction) (st : Setting) (wd : W.World) (w : 
 
   -- ---- the clauses of a match
 
-  past_placed : (s : Scope) (sc : Scalars) (n : Names) (taken : Bool) (q : Pattern) (body : Block) → Placed c s sc n → Placed c s sc (past_clause w taken n q body)
+  pub past_placed : (s : Scope) (sc : Scalars) (n : Names) (taken : Bool) (q : Pattern) (body : Block) → Placed c s sc n → Placed c s sc (past_clause w taken n q body)
   past_placed s sc n taken q body p = record {
     seen = p.seen;
     scalar = p.scalar;
@@ -331,21 +331,21 @@ module _ (c : PlainCode) (f : PlainFunction) (st : Setting) (wd : W.World) (w : 
     typed = p.typed;
   }
 
-  past_none : (n : Names) (taken : Bool) (q : Pattern) (body : Block) (R : Item → ℕ) → NoneFrom n.next R → NoneFrom (past_clause w taken n q body).next R
+  pub past_none : (n : Names) (taken : Bool) (q : Pattern) (body : Block) (R : Item → ℕ) → NoneFrom n.next R → NoneFrom (past_clause w taken n q body).next R
   past_none n taken q body R none y low = none y (let past = next_past w taken n q body in omega (arith, low, past))
 
-  first_by : (taken : Bool) (sc : Scalars) (n0 : Names) (B : ℕ → Bool) (R : Item → ℕ) (n : Names) (ys ks : List ℕ) (te : Term) (cs : Clauses) → DerivesBy c st wd w shares callees f fip taken B R (clauses w sc taken n ys ks te cs) → (Q : Item → ℕ) × OpensBy c st wd w shares callees f fip taken ys ks R Q × Derives fip (O.setting ys (not taken) B) Q te
+  pub first_by : (taken : Bool) (sc : Scalars) (n0 : Names) (B : ℕ → Bool) (R : Item → ℕ) (n : Names) (ys ks : List ℕ) (te : Term) (cs : Clauses) → DerivesBy c st wd w shares callees f fip taken B R (clauses w sc taken n ys ks te cs) → (Q : Item → ℕ) × OpensBy c st wd w shares callees f fip taken ys ks R Q × Derives fip (O.setting ys (not taken) B) Q te
   first_by true sc n0 B R n ys ks te NoClauses d = (d.0, d.1, d.2)
   first_by true sc n0 B R n ys ks te (MoreClauses q b cs) d = (d.0, d.1, d.2)
   first_by false sc n0 B R n ys ks te NoClauses d = (d.0, d.1, d.2)
   first_by false sc n0 B R n ys ks te (MoreClauses q b cs) d = (d.0, d.1, d.2)
 
-  rest_by : (taken : Bool) (B : ℕ → Bool) (R : Item → ℕ) (ys ks : List ℕ) (te : Term) (cs : C.Clauses) → DerivesBy c st wd w shares callees f fip taken B R (C.MoreClauses ys ks te cs) → DerivesBy c st wd w shares callees f fip taken B R cs
+  pub rest_by : (taken : Bool) (B : ℕ → Bool) (R : Item → ℕ) (ys ks : List ℕ) (te : Term) (cs : C.Clauses) → DerivesBy c st wd w shares callees f fip taken B R (C.MoreClauses ys ks te cs) → DerivesBy c st wd w shares callees f fip taken B R cs
   rest_by true B R ys ks te cs d = d.3
   rest_by false B R ys ks te cs d = d.3
 
   -- a clause's body is entered
-  on_entry : (s : Scope) (sc : Scalars) (n : Names) (B : ℕ → Bool) (K : ℕ → Item → ℕ) (X L : Item → ℕ) → Kept K X → ((y : ℕ) → L (Own y) ≤ X (Own y)) → Placed c s sc n → (R : Item → ℕ) → NoneFrom n.next (λ i. R i + X i) → (u : ℕ) → is_type c.types u ≡ true → (taken : Bool) (ch : Choice) (k l : Known) (q0 : Pattern) (cs0 : Clauses) → MatchOn c st wd w shares callees f fip taken s B K R X L u ch k l q0 cs0 → (q : Pattern) (Q : Item → ℕ) (m : ℕ) → OpensBy c st wd w shares callees f fip taken (variables w n.next (binders q)) (nodes q) R Q → IsPattern true wd u q → Roomy q ch.root → InOrder n.next (binders q) → n.next + length (binders q) ≤ length l.names → l.next ≤ m → ClauseBegins c st wd w shares callees f fip s sc n taken u q B (reading taken (variables w n.next (binders q)) L K) Q X l (entered st ch q l m)
+  pub on_entry : (s : Scope) (sc : Scalars) (n : Names) (B : ℕ → Bool) (K : ℕ → Item → ℕ) (X L : Item → ℕ) → Kept K X → ((y : ℕ) → L (Own y) ≤ X (Own y)) → Placed c s sc n → (R : Item → ℕ) → NoneFrom n.next (λ i. R i + X i) → (u : ℕ) → is_type c.types u ≡ true → (taken : Bool) (ch : Choice) (k l : Known) (q0 : Pattern) (cs0 : Clauses) → MatchOn c st wd w shares callees f fip taken s B K R X L u ch k l q0 cs0 → (q : Pattern) (Q : Item → ℕ) (m : ℕ) → OpensBy c st wd w shares callees f fip taken (variables w n.next (binders q)) (nodes q) R Q → IsPattern true wd u q → Roomy q ch.root → InOrder n.next (binders q) → n.next + length (binders q) ≤ length l.names → l.next ≤ m → ClauseBegins c st wd w shares callees f fip s sc n taken u q B (reading taken (variables w n.next (binders q)) L K) Q X l (entered st ch q l m)
   on_entry s sc n B K X L kept least placed R none u utyped taken ch k l q0 cs0 on q Q m opens pattern roomy order room more =
       let stands = on.match_stands in
       enter_clause c st wd w shares callees f fip s sc n B K X L kept least placed R none u utyped ch stands.differ (λ a. (stands.unused (register ch.root) a).2 refl) l
@@ -366,21 +366,21 @@ module _ (c : PlainCode) (f : PlainFunction) (st : Setting) (wd : W.World) (w : 
 
   -- ---- variables with registers
 
-  entry_below : (n : Names) (taken : Bool) (q : Pattern) (ch : Choice) (l : Known) (m : ℕ) → InOrder n.next (binders q) → Below l n.next → Below (entered st ch q l m) (inside w taken n (binders q)).next
+  pub entry_below : (n : Names) (taken : Bool) (q : Pattern) (ch : Choice) (l : Known) (m : ℕ) → InOrder n.next (binders q) → Below l n.next → Below (entered st ch q l m) (inside w taken n (binders q)).next
   entry_below n taken q ch l m order below =
       let next = next_inside w taken n (binders q) in
       entered_below st ch q l m n.next (inside w taken n (binders q)).next order (omega (arith, next)) (below_more l n.next (inside w taken n (binders q)).next (omega (arith, next)) below)
 
-  past_below : (n : Names) (taken : Bool) (q : Pattern) (body : Block) (l : Known) → Below l n.next → Below l (past_clause w taken n q body).next
+  pub past_below : (n : Names) (taken : Bool) (q : Pattern) (body : Block) (l : Known) → Below l n.next → Below l (past_clause w taken n q body).next
   past_below n taken q body l below = below_more l n.next (past_clause w taken n q body).next (let past = next_past w taken n q body in omega (arith, past)) below
 
-  let_below_later : (n : Names) (e : Expression) (bs : List Binder) (rs : List ℕ) (m : Known) → InOrder (behind n (shape w n e)).next bs → Below m (behind n (shape w n e)).next → Below (with_names m bs rs) (inside w true (behind n (shape w n e)) bs).next
+  pub let_below_later : (n : Names) (e : Expression) (bs : List Binder) (rs : List ℕ) (m : Known) → InOrder (behind n (shape w n e)).next bs → Below m (behind n (shape w n e)).next → Below (with_names m bs rs) (inside w true (behind n (shape w n e)) bs).next
   let_below_later n e bs rs m order below =
       let n1 = behind n (shape w n e) in
       let next = next_inside w true n1 bs in
       lets_below bs rs m n1.next (inside w true n1 bs).next order (omega (arith, next)) (below_more m n1.next (inside w true n1 bs).next (omega (arith, next)) below)
 
-  let_below : (n : Names) (e : Expression) (bs : List Binder) (rs : List ℕ) (m : Known) → InOrder (behind n (shape w n e)).next bs → Below m n.next → Below (with_names m bs rs) (inside w true (behind n (shape w n e)) bs).next
+  pub let_below : (n : Names) (e : Expression) (bs : List Binder) (rs : List ℕ) (m : Known) → InOrder (behind n (shape w n e)).next bs → Below m n.next → Below (with_names m bs rs) (inside w true (behind n (shape w n e)) bs).next
   let_below n e bs rs m order below = let_below_later n e bs rs m order (below_more m n.next (behind n (shape w n e)).next (later n e) below)
 
   -- ---- what is owned beside a match
@@ -447,11 +447,11 @@ module _ (c : PlainCode) (f : PlainFunction) (st : Setting) (wd : W.World) (w : 
   -- ---- trees that aren't used up
 
   -- a tree stays where no variable that has its register is used
-  abbrev Stay : Known → Known → (ℕ → Bool) → Type 0
+  abbrev pub Stay : Known → Known → (ℕ → Bool) → Type 0
   Stay k l used = (r : ℕ) → is_tree (held_at k.held r) ≡ true → ((x : ℕ) → register_of k.names (Some x) ≡ Some r → used x ≡ false) → widened (held_at l.held r) ≡ widened (held_at k.held r)
 
   -- results came into registers, and in fbip trees that aren't used stay
-  record Done (s : Scope) (B : ℕ → Bool) (K : ℕ → Item → ℕ) (X : Item → ℕ) (at : ℕ) (k : Known) (ds ts : List ℕ) (end : ℕ) (l : Known) (used : ℕ → Bool) : Type 0 where
+  pub record Done (s : Scope) (B : ℕ → Bool) (K : ℕ → Item → ℕ) (X : Item → ℕ) (at : ℕ) (k : Known) (ds ts : List ℕ) (end : ℕ) (l : Known) (used : ℕ → Bool) : Type 0 where
     pub delivered : Delivered c f fip s B K X at k ds ts end l
     pub unused : fip ≡ false → Stay k l used
 
@@ -596,7 +596,7 @@ module _ (c : PlainCode) (f : PlainFunction) (st : Setting) (wd : W.World) (w : 
       ])
 
   mutual
-    into : (s : Scope) (sc : Scalars) (n : Names) (B : ℕ → Bool) (K : ℕ → Item → ℕ) → Placed c s sc n → (P X : Item → ℕ) (at : ℕ) (k : Known) (e : Expression) (ds : List ℕ) (end : ℕ) (l : Known) (b : Bool) (ts : List ℕ) → ExpressionLaid c st fip f at k e (Into ds) end l → Types true wd s b e ts → Derives fip B P (term w sc n e) → Numbered w N n e → Below k n.next → ((z y : ℕ) → K z (Own y) ≤ X (Own y)) → NoneFrom n.next (λ i. P i + X i) → Ties fip c.types s B K (λ i. P i + X i) (λ q. 0) k → Waiting k ds → length ds ≡ length ts → length k.names ≡ N → length k.held ≡ f.registers → Done s B K X at k ds ts end l (λ x. used_in st.instances x e)
+    pub into : (s : Scope) (sc : Scalars) (n : Names) (B : ℕ → Bool) (K : ℕ → Item → ℕ) → Placed c s sc n → (P X : Item → ℕ) (at : ℕ) (k : Known) (e : Expression) (ds : List ℕ) (end : ℕ) (l : Known) (b : Bool) (ts : List ℕ) → ExpressionLaid c st fip f at k e (Into ds) end l → Types true wd s b e ts → Derives fip B P (term w sc n e) → Numbered w N n e → Below k n.next → ((z y : ℕ) → K z (Own y) ≤ X (Own y)) → NoneFrom n.next (λ i. P i + X i) → Ties fip c.types s B K (λ i. P i + X i) (λ q. 0) k → Waiting k ds → length ds ≡ length ts → length k.names ≡ N → length k.held ≡ f.registers → Done s B K X at k ds ts end l (λ x. used_in st.instances x e)
     into s sc n B K placed P X at k (Give a) ds end l b ts h typed d num below kept none ties wait many names wide = record {
       delivered = subst (λ ts. Delivered c f fip s B K X at k ds ts end l) (sym typed.1)
           (settled c f fip s B K X at k ds (typed.0 ∷ []) end l (give_into c f st wd w fip shares callees s sc n B K placed P X (λ q. 0) at k (MoreArguments a NoArguments) ds end l b (typed.0 ∷ []) h (typed.2, tt) d kept ties wait (many ∙ ap length typed.1) wide));
@@ -689,7 +689,7 @@ module _ (c : PlainCode) (f : PlainFunction) (st : Setting) (wd : W.World) (w : 
     into s sc n B K placed P X at k (Nested body) ds end l b ts h typed d num below kept none ties wait many names wide =
         block_into s sc n B K placed P X at k body ds end l b ts h typed d num below kept none ties wait many names wide
 
-    block_into : (s : Scope) (sc : Scalars) (n : Names) (B : ℕ → Bool) (K : ℕ → Item → ℕ) → Placed c s sc n → (P X : Item → ℕ) (at : ℕ) (k : Known) (d : Block) (ds : List ℕ) (end : ℕ) (l : Known) (b : Bool) (ts : List ℕ) → BlockLaid c st fip f at k d (Into ds) end l → TypesBlock true wd s b d ts → Derives fip B P (term_block w sc n d) → NumberedBlock w N n d → Below k n.next → ((z y : ℕ) → K z (Own y) ≤ X (Own y)) → NoneFrom n.next (λ i. P i + X i) → Ties fip c.types s B K (λ i. P i + X i) (λ q. 0) k → Waiting k ds → length ds ≡ length ts → length k.names ≡ N → length k.held ≡ f.registers → Done s B K X at k ds ts end l (λ x. used_in_block st.instances x d)
+    pub block_into : (s : Scope) (sc : Scalars) (n : Names) (B : ℕ → Bool) (K : ℕ → Item → ℕ) → Placed c s sc n → (P X : Item → ℕ) (at : ℕ) (k : Known) (d : Block) (ds : List ℕ) (end : ℕ) (l : Known) (b : Bool) (ts : List ℕ) → BlockLaid c st fip f at k d (Into ds) end l → TypesBlock true wd s b d ts → Derives fip B P (term_block w sc n d) → NumberedBlock w N n d → Below k n.next → ((z y : ℕ) → K z (Own y) ≤ X (Own y)) → NoneFrom n.next (λ i. P i + X i) → Ties fip c.types s B K (λ i. P i + X i) (λ q. 0) k → Waiting k ds → length ds ≡ length ts → length k.names ≡ N → length k.held ≡ f.registers → Done s B K X at k ds ts end l (λ x. used_in_block st.instances x d)
     block_into s sc n B K placed P X at k (Last e) ds end l b ts h typed d num below kept none ties wait many names wide =
         into s sc n B K placed P X at k e ds end l b ts h typed d num below kept none ties wait many names wide
     block_into s sc n B K placed A X at k (Let bs e rest) ds end l b ts (inl h) typed d num below kept none ties wait many names wide =
@@ -803,7 +803,7 @@ module _ (c : PlainCode) (f : PlainFunction) (st : Setting) (wd : W.World) (w : 
 
   -- ---- the function's results
 
-  none_zero : (n : ℕ) (A P R : Item → ℕ) → ((i : Item) → Fits fip (A i) (P i + R i)) → NoneFrom n (λ i. A i + 0) → NoneFrom n (λ i. P i + (R i + 0))
+  pub none_zero : (n : ℕ) (A P R : Item → ℕ) → ((i : Item) → Fits fip (A i) (P i + R i)) → NoneFrom n (λ i. A i + 0) → NoneFrom n (λ i. P i + (R i + 0))
   none_zero n A P R split none = split_none n A P R (λ i. 0) split none
 
   mutual

@@ -87,7 +87,7 @@ module _ (c : PlainCode) (st : Setting) (f : PlainFunction) (ch : Choice) (k : K
     roomy = stands.roomy;
   }
 
-  right_wide : Right c f (wide_at g) ch
+  pub right_wide : Right c f (wide_at g) ch
   right_wide = record {
     seeing = wide_seen c.types ch.type (g (register ch.root)) stands.sees;
     fresh = λ z a. (let u = stands.unused z a in (ap widened u.0, (u.1, u.2)));

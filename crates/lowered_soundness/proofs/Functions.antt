@@ -9,9 +9,10 @@ use Rattle.fip_rules.specs.Shapes.{Names, within, parameters, no_names}
 use Rattle.type_check.specs.Binders.{entry}
 use Rattle.type_check.specs.Scope.{Scope, of_binder}
 use Rattle.type_check.specs.World as W
-use Rattle.type_check.specs.Typing.{Typed, Parameters, parameter_entries, parameter_scope}
+use Rattle.type_check.specs.Typing.{Typed, TypesBlock, Parameters, parameter_entries, parameter_scope}
 use Rattle.own_calculus.specs.Terms.{Item, Own, has, charge}
 use Rattle.own_calculus.specs.Rules as O
+use Rattle.own_calculus.specs.ByCases.{Derives}
 use Rattle.own_calculus.specs.Functions.{Derived, starting}
 use Rattle.own_calculus.proofs.Faithful.{by_cases}
 use Rattle.own_agreement.specs.Bodies.{Scalars, borrowed_parameters, owned_parameters, entering_parameters, no_variables, body_term, term_block}
@@ -27,7 +28,7 @@ use Rattle.lowered_soundness.specs.Parts.{IsKept, LastPart}
 use Rattle.lowered_soundness.specs.Ties.{one_if, owners, own, Ties}
 use Rattle.laid_code.specs.Labels.{told}
 use Rattle.lowered_soundness.specs.Laid.{Shares}
-use Rattle.lowered_soundness.specs.Placed.{Placed, NoneFrom, InOrder, ParamsTyped, Callees}
+use Rattle.lowered_soundness.specs.Placed.{Placed, NoneFrom, InOrder, NumberedBlock, ParamsTyped, Callees}
 use Rattle.laid_code.specs.Functions.{FunctionLaid}
 use Rattle.lowered_soundness.specs.Functions.{IsNumbered}
 use Rattle.lowered_soundness.proofs.Arguments.{ties_worth}
@@ -109,11 +110,10 @@ nothing_tied fip wt B K n v = record {
     bare t d e = absurd (cc)
 
 module _ (c : PlainCode) (f : PlainFunction) (st : Setting) (wd : W.World) (w : R.World) (fip : Bool) (shares : Shares c st wd) (callees : Callees c st wd w) where
-  pub function_part : (d : Instance) → FunctionLaid c st fip f d → IsNumbered w d → Typed true wd d → ParamsTyped c d.params → Derived fip (borrowed_parameters w 0 d.params d.binders) (owned_parameters w 0 d.params d.binders) d.credits (body_term w d) → LastPart c f 0 (told c (known_at_start st f.registers d)) (length f.instrs)
-  function_part d laid num typed params derived =
-      block_ends c f st wd w fip shares callees d.variables (parameter_scope d) sc n B K placed
-      O1 0 start d.body (length f.instrs) laid.after true d.results laid.body typed.3
-      (by_cases fip B O1 (term_block w sc n d.body) derived) num.body below unkept none ties laid.results names width
+  -- what is known at the start goes with the parameters in scope
+  pub function_begins : (A : Type 0) (d : Instance) → FunctionLaid c st fip f d → IsNumbered w d → Typed true wd d → ParamsTyped c d.params → Derived fip (borrowed_parameters w 0 d.params d.binders) (owned_parameters w 0 d.params d.binders) d.credits (body_term w d) → ((s : Scope) (sc : Scalars) (n : Names) (B : ℕ → Bool) (K : ℕ → Item → ℕ) → Placed c s sc n → (P : Item → ℕ) → TypesBlock true wd s true d.body d.results → Derives fip B P (term_block w sc n d.body) → NumberedBlock w d.variables n d.body → Below (known_at_start st f.registers d) n.next → ((z y : ℕ) → K z (Own y) ≤ 0) → NoneFrom n.next (λ i. P i + 0) → Ties fip c.types s B K (λ i. P i + 0) (λ q. 0) (known_at_start st f.registers d) → length (known_at_start st f.registers d).names ≡ d.variables → length (known_at_start st f.registers d).held ≡ f.registers → A) → A
+  function_begins A d laid num typed params derived so =
+      so (parameter_scope d) sc n B K placed O1 typed.3 (by_cases fip B O1 (term_block w sc n d.body) derived) num.body below unkept none ties names width
     where
       own_list : List ℕ
       own_list = owned_parameters w 0 d.params d.binders
@@ -195,6 +195,12 @@ module _ (c : PlainCode) (f : PlainFunction) (st : Setting) (wd : W.World) (w : 
 
       width : length start.held ≡ f.registers
       width = second.width ∙ (first.width ∙ length-replicate f.registers H.Nothing)
+
+  pub function_part : (d : Instance) → FunctionLaid c st fip f d → IsNumbered w d → Typed true wd d → ParamsTyped c d.params → Derived fip (borrowed_parameters w 0 d.params d.binders) (owned_parameters w 0 d.params d.binders) d.credits (body_term w d) → LastPart c f 0 (told c (known_at_start st f.registers d)) (length f.instrs)
+  function_part d laid num typed params derived =
+      function_begins (LastPart c f 0 (told c (known_at_start st f.registers d)) (length f.instrs)) d laid num typed params derived
+      (λ s sc n B K placed P typed derives numbered below unkept none ties names width.
+      block_ends c f st wd w fip shares callees d.variables s sc n B K placed P 0 (known_at_start st f.registers d) d.body (length f.instrs) laid.after true d.results laid.body typed derives numbered below unkept none ties laid.results names width)
 
   -- each of its instructions keeps the rules
   pub function_kept : (d : Instance) → FunctionLaid c st fip f d → IsNumbered w d → Typed true wd d → ParamsTyped c d.params → Derived fip (borrowed_parameters w 0 d.params d.binders) (owned_parameters w 0 d.params d.binders) d.credits (body_term w d) → (i : ℕ) → IsKept c f i

@@ -13,7 +13,7 @@ use Rattle.own_calculus.specs.Functions.{Derived}
 use Rattle.own_agreement.specs.Bodies.{body_term, borrowed_parameters, owned_parameters}
 use Rattle.sound_code.specs.Breaks.{IsSound}
 use Rattle.sound_code.specs.Codes.{PlainCode, PlainFunction, function_at, is_fip}
-use Rattle.sound_code.specs.Headers.{is_formed, are_params, are_sizes, are_types}
+use Rattle.sound_code.specs.Headers.{is_formed, are_params, are_sizes, are_types, are_good_maps}
 use Rattle.sound_code.specs.Limits.{most_credits, most_results, most_registers}
 use Rattle.sound_code.specs.Tables.{AreSoundTables}
 use Rattle.sound_code.specs.Types.{is_type}
@@ -28,6 +28,7 @@ use Rattle.lowered_soundness.specs.Whole.{KeepsRules}
 use Rattle.lowered_soundness.proofs.Functions.{function_part, function_kept}
 use Rattle.lowered_soundness.proofs.Giving.{and_to}
 use Rattle.lowered_soundness.proofs.Grouped.{waits_for_none, releases_nothing}
+use Rattle.lowered_soundness.proofs.Mapped.{maps_formed}
 use Rattle.lowered_soundness.proofs.Ranging.{ranged}
 use Rattle.lowered_soundness.proofs.Whole.{sound}
 
@@ -46,8 +47,8 @@ params_there : (c : PlainCode) (ps : List Param) → ParamsTyped c ps → are_pa
 params_there c [] h = refl
 params_there c (p ∷ ps) h = and_to (is_type c.types p.ty) (are_params c.types ps) h.0 (params_there c ps h.1)
 
-formed : (c : PlainCode) (f : PlainFunction) (d : Instance) → 0 < length f.instrs → length f.params + length f.credits ≤ f.registers → f.params ≡ d.params → f.credits ≡ d.credits → f.results ≡ d.results → ParamsTyped c d.params → are_types c.types d.results ≡ true → IsWithinLimits c f d → is_formed c f ≡ true
-formed c f d some room params credits results typed there limits =
+formed : (c : PlainCode) (f : PlainFunction) (d : Instance) → 0 < length f.instrs → length f.params + length f.credits ≤ f.registers → f.params ≡ d.params → f.credits ≡ d.credits → f.results ≡ d.results → ParamsTyped c d.params → are_types c.types d.results ≡ true → IsWithinLimits c f d → are_good_maps c.types f 0 f.labels ≡ true → is_formed c f ≡ true
+formed c f d some room params credits results typed there limits maps =
     and_to _ _ (some_there (length f.instrs) some)
     (and_to _ _ (not_below f.registers (length f.params + length f.credits) room)
     (and_to _ _ (let z = limits.registers in below_is f.registers (suc most_registers) (omega (arith, z)))
@@ -56,7 +57,7 @@ formed c f d some room params credits results typed there limits =
     (and_to _ _ (let z = subst (λ rs. length rs ≤ most_credits) (sym credits) limits.few_credits in below_is (length f.credits) (suc most_credits) (omega (arith, z)))
     (and_to _ _ (ap (are_params c.types) params ∙ params_there c d.params typed)
     (and_to _ _ (ap are_sizes credits ∙ limits.sizes)
-    (and_to _ _ (ap (are_types c.types) results ∙ there) limits.maps))))))))
+    (and_to _ _ (ap (are_types c.types) results ∙ there) maps))))))))
 
 -- ---- an instance with a function
 
@@ -79,19 +80,23 @@ module _ (c : PlainCode) (st : Setting) (p : Program) (wd : W.World) (w : R.Worl
   derived_for : (d : Instance) (k : FunKind) → k ≡ d.kind → IsDerived c wd w d → Derived (is_fip k) (borrowed_parameters w 0 d.params d.binders) (owned_parameters w 0 d.params d.binders) d.credits (body_term w d)
   derived_for d k same x = subst (λ k. Derived (is_fip k) (borrowed_parameters w 0 d.params d.binders) (owned_parameters w 0 d.params d.binders) d.credits (body_term w d)) (sym same) x.derived
 
-  one_formed : (n : ℕ) (f : PlainFunction) (l : IsLaid c st p n f) → IsDerived c wd w l.instance → IsWithinLimits c f l.instance → is_formed c f ≡ true
-  one_formed n f l x limits =
+  maps_right : AreSoundTables c → (n : ℕ) (f : PlainFunction) (l : IsLaid c st p n f) → IsDerived c wd w l.instance → IsWithinLimits c f l.instance → are_good_maps c.types f 0 f.labels ≡ true
+  maps_right tables n f l x limits =
+      maps_formed c f st wd w (is_fip f.kind) shares callees tables l.instance l.laid x.numbered x.typed x.params (derived_for l.instance f.kind l.kind x) x.builds limits.sizes limits.maps
+
+  one_formed : AreSoundTables c → (n : ℕ) (f : PlainFunction) (l : IsLaid c st p n f) → IsDerived c wd w l.instance → IsWithinLimits c f l.instance → is_formed c f ≡ true
+  one_formed tables n f l x limits =
       let part = function_part c f st wd w (is_fip f.kind) shares callees l.instance l.laid x.numbered x.typed x.params (derived_for l.instance f.kind l.kind x) in
       let own = shares.functions l.number n l.instance l.function (ap (λ ds. slice_get ds l.number) all.setting.instances ∙ l.there) in
       let room = l.laid.room in
       let a = ap length l.laid.params in
       let b = ap length l.laid.credits in
-      formed c f l.instance part.inside (omega (arith, room, a, b)) l.laid.params l.laid.credits l.laid.results x.params own.typed limits
+      formed c f l.instance part.inside (omega (arith, room, a, b)) l.laid.params l.laid.credits l.laid.results x.params own.typed limits (maps_right tables n f l x limits)
 
-  keeps_rules : FipCallsFip p.instances → ((v : Violation) → Violates p v → ⊥) → (n : ℕ) (f : PlainFunction) → function_at c n ≡ Some f → (l : IsLaid c st p n f) → IsDerived c wd w l.instance → IsWithinLimits c f l.instance → KeepsRules c n f
-  keeps_rules fips right n f there l x limits = record {
-    formed = one_formed n f l x limits;
-    ranged = λ i y is. record { ranged = ranged c st f limits.maps wd shares (is_fip f.kind) l.instance l.laid x.builds i y is; fip = λ fip. releases_nothing c st p all fips n f there fip i y is };
+  keeps_rules : AreSoundTables c → FipCallsFip p.instances → ((v : Violation) → Violates p v → ⊥) → (n : ℕ) (f : PlainFunction) → function_at c n ≡ Some f → (l : IsLaid c st p n f) → IsDerived c wd w l.instance → IsWithinLimits c f l.instance → KeepsRules c n f
+  keeps_rules tables fips right n f there l x limits = record {
+    formed = one_formed tables n f l x limits;
+    ranged = λ i y is. record { ranged = ranged c st f (maps_right tables n f l x limits) wd shares (is_fip f.kind) l.instance l.laid x.builds i y is; fip = λ fip. releases_nothing c st p all fips n f there fip i y is };
     kept = λ i. function_kept c f st wd w (is_fip f.kind) shares callees l.instance l.laid x.numbered x.typed x.params (derived_for l.instance f.kind l.kind x) i;
     calls = λ i callee calls fip group. waits_for_none c st p all right n f there fip i callee calls group;
   }
@@ -100,4 +105,4 @@ module _ (c : PlainCode) (st : Setting) (p : Program) (wd : W.World) (w : R.Worl
   sound_joined tables fips right derived limits = sound c tables (λ n f there. (
       let l = all.each n f there in
       let x = derived l.number l.instance l.there (has_one p.instances l.number n l.instance (sym (all.setting.functions l.number) ∙ l.function) l.there) in
-      keeps_rules fips right n f there l x (limits n f l there)))
+      keeps_rules tables fips right n f there l x (limits n f l there)))

@@ -70,7 +70,14 @@ pub mod ClauseEnding
 pub mod Bodies
 pub mod Starting
 pub mod Entry
+pub mod Labelled
+pub mod Linked
+pub mod Formed
+pub mod Shaped
+pub mod Mapping
 pub mod Functions
+pub mod Mapped
+pub mod Ordered
 pub mod Origins
 pub mod Grouped
 pub mod Known

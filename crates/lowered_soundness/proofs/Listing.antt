@@ -11,6 +11,7 @@ use Rattle.lowered_code.specs.Values.{is_scalar}
 use Rattle.lowered_code.specs.Functions.{IsSettingOf}
 use Rattle.lowered_soundness.specs.Accepted.{IsWithinLimits}
 use Rattle.lowered_soundness.specs.Built.{BuildsBlock}
+use Rattle.lowered_soundness.specs.Standing.{MapsStand}
 use Rattle.laid_code.specs.Example.{lists_code, reversing}
 use Rattle.laid_code.specs.Functions.{IsLaid, AreLaid}
 use Rattle.laid_code.proofs.Reversing.{rev_is_laid}
@@ -37,8 +38,11 @@ each (suc n) f h = absurd (none-some f h)
 pub lists_are_laid : AreLaid lists_code lists_setting lists
 lists_are_laid = record { setting = setting; each = each }
 
+rev_stands : MapsStand reversing
+rev_stands = record { rising = (omega arith, omega arith, (omega arith, omega arith, (omega arith, omega arith, tt))); opens = (refl, (refl, (refl, tt))) }
+
 pub rev_within : IsWithinLimits lists_code reversing rev
-rev_within = record { registers = omega arith; results = omega arith; few_results = omega arith; few_credits = omega arith; sizes = refl; maps = refl }
+rev_within = record { registers = omega arith; results = omega arith; few_results = omega arith; few_credits = omega arith; sizes = refl; maps = rev_stands }
 
 pub rev_builds : BuildsBlock lists.types rev.body
 rev_builds = (tt, ((tt, ((refl, (tt, (tt, tt))), tt)), tt))

@@ -9,12 +9,13 @@ use Rattle.own_agreement.specs.Bodies.{body_term, borrowed_parameters, owned_par
 use Rattle.own_calculus.specs.Functions.{Derived}
 use Rattle.sound_code.specs.Codes.{PlainCode, PlainFunction, is_fip}
 use Rattle.sound_code.specs.Flow.{IsInstr}
-use Rattle.sound_code.specs.Headers.{are_sizes, are_good_maps}
+use Rattle.sound_code.specs.Headers.{are_sizes}
 use Rattle.sound_code.specs.Limits.{most_credits, most_results, most_registers}
 use Rattle.sound_code.specs.Ranges.{in_range}
 use Rattle.lowered_soundness.specs.Placed.{ParamsTyped}
 use Rattle.lowered_soundness.specs.Functions.{IsNumbered}
 use Rattle.lowered_soundness.specs.Built.{BuildsBlock}
+use Rattle.lowered_soundness.specs.Standing.{MapsStand}
 
 -- a typed instance of which ownership and credits have a derivation, and whose constructors are of their types
 pub record IsDerived (c : PlainCode) (wd : W.World) (w : R.World) (d : Instance) : Type 0 where
@@ -25,14 +26,14 @@ pub record IsDerived (c : PlainCode) (wd : W.World) (w : R.World) (d : Instance)
       (owned_parameters w 0 d.params d.binders) d.credits (body_term w d)
   pub builds : BuildsBlock c.types d.body
 
--- its header is within the limits, and the label maps of its function are formed
+-- its header is within the limits, and the label maps of its function stand in order
 pub record IsWithinLimits (c : PlainCode) (f : PlainFunction) (d : Instance) : Type 0 where
   pub registers : f.registers ≤ most_registers
   pub results : 0 < length d.results
   pub few_results : length d.results ≤ most_results
   pub few_credits : length d.credits ≤ most_credits
   pub sizes : are_sizes d.credits ≡ true
-  pub maps : are_good_maps c.types f 0 f.labels ≡ true
+  pub maps : MapsStand f
 
 -- all numbers of its instructions are in range
 abbrev pub IsInRange : PlainCode → PlainFunction → Type 0

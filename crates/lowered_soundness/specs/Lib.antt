@@ -13,3 +13,4 @@ pub mod Functions
 pub mod Origins
 pub mod Accepted
 pub mod Built
+pub mod Standing

@@ -17,6 +17,7 @@ ghost use Rattle.lowered_soundness.specs.Laid.{Shares};
 ghost use Rattle.lowered_soundness.specs.Origins.{HasOrigin};
 ghost use Rattle.lowered_soundness.specs.Parts.{IsKept};
 ghost use Rattle.lowered_soundness.specs.Placed.{Callees, ParamsTyped};
+ghost use Rattle.lowered_soundness.specs.Standing.{MapsStand};
 ghost use Rattle.lowered_soundness.specs.Whole.{KeepsRules};
 ghost use Rattle.own_agreement.specs.Bodies.{body_term, borrowed_parameters, owned_parameters};
 ghost use Rattle.own_calculus.specs.Functions.{Derived};
@@ -25,7 +26,7 @@ ghost use Rattle.sound_code.specs.Calls.{CallsAt, SameGroup};
 ghost use Rattle.sound_code.specs.Codes.{PlainCode, PlainFunction, function_at, is_fip};
 ghost use Rattle.sound_code.specs.Endings.{releases};
 ghost use Rattle.sound_code.specs.Flow.{IsInstr};
-ghost use Rattle.sound_code.specs.Headers.{are_good_maps};
+ghost use Rattle.sound_code.specs.Headers.{are_good_maps, are_sizes};
 ghost use Rattle.sound_code.specs.Tables.{AreSoundTables};
 ghost use Rattle.tail_groups.specs.Members.{FipCallsFip};
 ghost use Rattle.tail_groups.specs.Rules.{Violates};
@@ -73,6 +74,21 @@ pub fn fip_functions_wait_for_no_group_member()
         is_fip f.kind ≡ Bool.true → (i callee : ℕ) → CallsAt c n i callee Bool.true → SameGroup c n callee → ⊥ }
 {}
 
+/// The label maps of the function of a typed instance of which ownership and credits have a derivation are formed: each
+/// tells of types, constructors and registers that are there, of roots that are owned, and of credits of the sizes of
+/// cells. Beside a sound table of types this asks that the instance's body builds constructors of their types, that its
+/// header's credits have such sizes, and that the maps stand in order and tell of each tree some constructor, as maps
+/// that are formed do.
+pub fn label_maps_are_formed()
+    ensures law { (c : PlainCode) (f : PlainFunction) (st : Setting) (wd : W.World) (w : R.World) (fip : Bool)
+        (d : Instance) → Shares c st wd → Callees c st wd w → AreSoundTables c → FunctionLaid c st fip f d →
+        IsNumbered w d → Typed Bool.true wd d → ParamsTyped c d.params → Derived fip
+        (borrowed_parameters w 0 d.params d.binders) (owned_parameters w 0 d.params d.binders) d.credits
+        (body_term w d) → BuildsBlock c.types d.body → are_sizes d.credits ≡ Bool.true →
+        MapsStand f → are_good_maps c.types f 0 f.labels ≡ Bool.true }
+    ensures stand { (c : PlainCode) (f : PlainFunction) → are_good_maps c.types f 0 f.labels ≡ Bool.true → MapsStand f }
+{}
+
 /// All numbers of the instructions of an instance's function are in range, where its label maps are formed and the
 /// constructors of the instance's body are of their types.
 pub fn numbers_are_in_range()
@@ -82,8 +98,8 @@ pub fn numbers_are_in_range()
 {}
 
 /// A code with sound tables is sound where each of its functions is that of an instance of a program: typed, derived
-/// and within the limits, with label maps that are formed; no fip instance calls one that isn't fip, or one of its own
-/// group outside tail position.
+/// and within the limits, with label maps that stand in order; no fip instance calls one that isn't fip, or one of its
+/// own group outside tail position.
 pub fn laid_functions_make_a_code_sound()
     ensures law { (c : PlainCode) (st : Setting) (p : Program) (wd : W.World) (w : R.World) → AreLaid c st p →
         Shares c st wd → Callees c st wd w → AreSoundTables c → FipCallsFip p.instances →
@@ -92,10 +108,11 @@ pub fn laid_functions_make_a_code_sound()
         function_at c n ≡ Some f → IsWithinLimits c f l.instance) → IsSound c }
 {}
 
-/// The code of `rev` is laid out as its program asks, within the limits and with label maps that are formed. For who
-/// asks whether the premises are met.
+/// The code of `rev` is laid out as its program asks, and within the limits, and its label maps are formed. For who asks
+/// whether the premises are met.
 pub fn an_example_code_is_laid()
     ensures laid { AreLaid lists_code lists_setting lists }
     ensures limits { IsWithinLimits lists_code reversing rev }
+    ensures formed { are_good_maps lists_code.types reversing 0 reversing.labels ≡ Bool.true }
     ensures builds { BuildsBlock lists.types rev.body }
 {}

@@ -1,9 +1,13 @@
 // What a session knows beside the cells: the program, the room of each run, and what names hold.
+ghost use Rattle.std.specs.Prelude.{◌≡◌, ◌<◌, ◌≤◌, ℕ, List, length, IfOk, IfSome, OnOk, Some, None, slice_get};
+ghost use Rattle.std.specs.Map.{update};
+ghost use Rattle.std.specs.Str.{bytes_eq};
+ghost use Rattle.cell_code.specs.declared.code.Function.{Function as a_function};
+ghost use Rattle.fip_language.specs.Core.{Name};
+ghost use Rattle.fip_language.specs.Table.{is_scalar};
 ghost use Rattle.fip_language.specs.declared.limits.TheConstants.{MOST_FRAMES};
-ghost use Rattle.std.specs.Prelude.{◌≡◌, ◌<◌, ◌≤◌, length, IfSome};
-ghost use Rattle.std.specs.BTreeMap.{get_by};
-ghost use Rattle.std.specs.Cmp.Lexicographic.{slice_cmp};
-ghost use Rattle.std.specs.Ordering.{nat_cmp};
+ghost use Rattle.call_lines.specs.Named.{AreEntries, HasName};
+ghost use Rattle.fip_session.specs.Named.{found};
 
 use call_lines::{Entries, frames_of};
 use cell_code::Function;
@@ -43,7 +47,13 @@ impl<'a> Book<'a> {
         verified: &'a Verified,
         calls: u64,
         frames: usize,
-    ) -> Result<Book<'a>, NoMemory> {
+    ) -> Result<Book<'a>, NoMemory>
+        ensures table { IfOk result (λ b. b.table.now ≡ table.now) }
+        ensures verified { IfOk result (λ b. b.verified.now ≡ verified.now) }
+        ensures calls { IfOk result (λ b. b.calls ≡ calls) }
+        ensures entries { IfOk result (λ b. AreEntries verified.now.code.functions.items b.entries.numbers) }
+        ensures empty { IfOk result (λ b. (name : Name) → found b.held name ≡ None) }
+    {
         Ok(Book {
             alloc,
             table,
@@ -56,13 +66,20 @@ impl<'a> Book<'a> {
     }
 
     /// The number of the entry with a name.
-    pub fn entry(&self, name: &[u8]) -> Option<usize> {
+    pub fn entry(&self, name: &[u8]) -> Option<usize>
+        ensures same { (fs : List a_function) → AreEntries fs self.now.entries.numbers →
+            IfSome result (HasName fs name.now) }
+        ensures none { (fs : List a_function) → AreEntries fs self.now.entries.numbers → result ≡ None → (n : ℕ) →
+            HasName fs name.now n → ⊥ }
+    {
         self.entries.find(name)
     }
 
     /// The function of a number.
     pub fn function(&self, number: usize) -> Option<&'a Function>
         ensures there { IfSome result (λ f. number < length self.now.verified.now.code.functions.items) }
+        ensures is { IfSome result (λ f. slice_get self.now.verified.now.code.functions.items number ≡ Some f.now) }
+        ensures none { result ≡ None → length self.now.verified.now.code.functions.items ≤ number }
     {
         let verified = self.verified;
         verified.code().functions.get(number)
@@ -76,26 +93,37 @@ impl<'a> Book<'a> {
     }
 
     /// Whether no value of a type has a cell.
-    pub fn is_scalar(&self, ty: u32) -> bool {
+    pub fn is_scalar(&self, ty: u32) -> bool
+        ensures known { ty ≤ length self.now.table.now → result ≡ is_scalar self.now.table.now ty }
+    {
         ty as usize > self.table.len() || self.table.is_scalar(ty)
     }
 
     /// What a name holds.
     pub fn find(&self, name: &[u8]) -> Option<Held>
-        ensures held { result ≡ get_by (λ k. slice_cmp nat_cmp name.now k.items) self.now.held }
+        ensures held { result ≡ found self.now.held name.now }
     {
         self.held.get(name).copied()
     }
 
     /// The name holds this from now on.
-    pub fn hold(&mut self, name: &[u8], held: Held) -> Result<(), NoMemory> {
+    pub fn hold(&mut self, name: &[u8], held: Held) -> Result<(), NoMemory>
+        ensures others { self.new ≡ record self.old { held = self.new.held } }
+        ensures holds { OnOk result ((other : Name) →
+            found self.new.held other ≡ update bytes_eq (found self.old.held) name.now (Some held) other) }
+    {
         let name = Vec::from_slice(self.alloc, name)?;
         self.held.insert(name, held)?;
         Ok(())
     }
 
     /// The name holds nothing from now on; what it held.
-    pub fn forget(&mut self, name: &[u8]) -> Option<Held> {
+    pub fn forget(&mut self, name: &[u8]) -> Option<Held>
+        ensures held { result ≡ found self.old.held name.now }
+        ensures others { self.new ≡ record self.old { held = self.new.held } }
+        ensures forgets { (other : Name) →
+            found self.new.held other ≡ update bytes_eq (found self.old.held) name.now None other }
+    {
         self.held.remove(name)
     }
 

@@ -1,4 +1,10 @@
 // The replies to the lines of a session.
+ghost use Rattle.std.specs.Prelude.{◌≡◌, ◌++◌, IfOk, codes, string_bytes};
+ghost use Rattle.std.specs.Fmt.{decimal};
+ghost use Rattle.command_outcome.specs.Texts.{line_end, trap_text, trap_name, out_of_calls_text, out_of_frames_text};
+ghost use Rattle.session_meaning.specs.Talk.{store_text};
+ghost use Rattle.fip_session.specs.Said.{end_said, said};
+
 use fip_base::plain::{NoMemory, TrapKind};
 use fip_machine::Ended;
 use std::alloc::{AllocError, Global};
@@ -44,55 +50,106 @@ pub enum Stop<'l> {
 }
 
 impl<'l> From<NoMemory> for Stop<'l> {
+    ghost use Rattle.fip_session.specs.declared.reply.Stop.TheVariants as S;
+
+    ghost from_gives = { λ _ e. e ≡ S.NoMemory };
+
     fn from(_: NoMemory) -> Stop<'l> {
         Stop::NoMemory
     }
 }
 
 impl<'l> From<AllocError> for Stop<'l> {
+    ghost use Rattle.fip_session.specs.declared.reply.Stop.TheVariants as S;
+
+    ghost from_gives = { λ _ e. e ≡ S.NoMemory };
+
     fn from(_: AllocError) -> Stop<'l> {
         Stop::NoMemory
     }
 }
 
 // Some words, and a name behind them.
-fn with_name(alloc: Global, words: &[u8], name: &[u8]) -> Result<Vec<u8>, NoMemory> {
+fn with_name(alloc: Global, words: &[u8], name: &[u8]) -> Result<Vec<u8>, NoMemory>
+    ensures text { IfOk result (λ t. t.items ≡ words.now ++ name.now) }
+{
     let mut text = Vec::from_slice(alloc, words)?;
     text.extend_from_slice(name)?;
     Ok(text)
 }
 
+// The name of a trap.
+fn trap_name(kind: TrapKind) -> &'static str
+    ensures name { result.now ≡ trap_name kind }
+{
+    match kind {
+        TrapKind::Overflow => "Overflow",
+        TrapKind::DivideByZero => "DivideByZero",
+    }
+}
+
 // A trap, with its place.
-fn trap_text(alloc: Global, kind: TrapKind, line: usize, col: usize) -> Result<Vec<u8>, NoMemory> {
-    let words = match kind {
-        TrapKind::Overflow => format!(in alloc; "trap Overflow at {line}:{col}")?,
-        TrapKind::DivideByZero => format!(in alloc; "trap DivideByZero at {line}:{col}")?,
-    };
-    Ok(words.into_bytes())
+fn trap_text(alloc: Global, kind: TrapKind, line: usize, col: usize) -> Result<String, AllocError>
+    ensures text { IfOk result (λ s. string_bytes s ++ line_end ≡ trap_text kind line col) }
+{
+    let name = trap_name(kind);
+    format!(in alloc; "trap {name} at {line}:{col}")
+}
+
+// A number behind some words.
+fn bad_argument(alloc: Global, number: usize) -> Result<String, AllocError>
+    ensures text { IfOk result (λ s. string_bytes s ≡ codes "bad argument " ++ decimal number) }
+{
+    format!(in alloc; "bad argument {number}")
+}
+
+// That a store is too small.
+fn store_too_small(alloc: Global, needed: usize, left: usize) -> Result<String, AllocError>
+    ensures text { IfOk result (λ s. string_bytes s ++ line_end ≡ store_text needed left) }
+{
+    format!(in alloc; "store too small: {needed} needed, {left} left")
+}
+
+// Want of calls.
+fn out_of_calls(alloc: Global, calls: u64) -> Result<String, AllocError>
+    ensures text { IfOk result (λ s. string_bytes s ++ line_end ≡ out_of_calls_text calls) }
+{
+    format!(in alloc; "out of calls: {calls}")
+}
+
+// Want of frames.
+fn out_of_frames(alloc: Global, frames: usize) -> Result<String, AllocError>
+    ensures text { IfOk result (λ s. string_bytes s ++ line_end ≡ out_of_frames_text frames) }
+{
+    format!(in alloc; "out of frames: {frames}")
 }
 
 // The text of an end that is no value, of a run that had so many calls and frames; that of a value is `ok`.
-fn end_text(alloc: Global, ended: Ended, calls: u64, frames: usize) -> Result<Vec<u8>, NoMemory> {
+fn end_text(alloc: Global, ended: Ended, calls: u64, frames: usize) -> Result<Vec<u8>, NoMemory>
+    ensures text { IfOk result (λ t. t.items ++ line_end ≡ end_said ended calls frames) }
+{
     match ended {
         Ended::Value => Ok(Vec::from_slice(alloc, b"ok")?),
-        Ended::Trap { kind, line, col } => trap_text(alloc, kind, line, col),
-        Ended::Out => Ok(format!(in alloc; "out of calls: {calls}")?.into_bytes()),
-        Ended::Deep => Ok(format!(in alloc; "out of frames: {frames}")?.into_bytes()),
+        Ended::Trap { kind, line, col } => Ok(trap_text(alloc, kind, line, col)?.into_bytes()),
+        Ended::Out => Ok(out_of_calls(alloc, calls)?.into_bytes()),
+        Ended::Deep => Ok(out_of_frames(alloc, frames)?.into_bytes()),
     }
 }
 
 /// The text of a reply, without an LF.
-pub fn reply_text(alloc: Global, reply: Reply) -> Result<Vec<u8>, NoMemory> {
+pub fn reply_text(alloc: Global, reply: Reply) -> Result<Vec<u8>, NoMemory>
+    ensures text { IfOk result (λ t. t.items ++ line_end ≡ said reply.entry) }
+{
     match reply {
         Reply::BadLine => Ok(Vec::from_slice(alloc, b"bad line")?),
         Reply::NoName(name) => with_name(alloc, b"no name ", name),
         Reply::NoEntry(name) => with_name(alloc, b"no entry ", name),
         Reply::WrongNumber => Ok(Vec::from_slice(alloc, b"wrong number")?),
-        Reply::BadArgument(number) => Ok(format!(in alloc; "bad argument {number}")?.into_bytes()),
+        Reply::BadArgument(number) => Ok(bad_argument(alloc, number)?.into_bytes()),
         Reply::BadResult(name) => with_name(alloc, b"bad result ", name),
-        Reply::StoreTooSmall { needed, left } => Ok(format!(in alloc;
-            "store too small: {needed} needed, {left} left"
-        )?.into_bytes()),
+        Reply::StoreTooSmall { needed, left } => {
+            Ok(store_too_small(alloc, needed, left)?.into_bytes())
+        }
         Reply::NoValue {
             ended,
             calls,

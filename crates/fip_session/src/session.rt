@@ -1,9 +1,7 @@
 // A session: a store whose values have names.
 ghost use Rattle.fip_language.specs.declared.limits.TheConstants.{MOST_FRAMES, MOST_STORE_WORDS};
 ghost use Rattle.std.specs.Prelude.{◌≡◌, ◌≤◌};
-ghost use Rattle.std.specs.BTreeMap.{get_by};
-ghost use Rattle.std.specs.Cmp.Lexicographic.{slice_cmp};
-ghost use Rattle.std.specs.Ordering.{nat_cmp};
+ghost use Rattle.fip_session.specs.Named.{found};
 
 use crate::book::{Book, Held};
 use crate::call::call;
@@ -86,7 +84,7 @@ impl<'a> Session<'a> {
 
     /// What a name holds; none where it isn't held.
     pub fn held(&self, name: &[u8]) -> Option<Held>
-        ensures same { result ≡ get_by (λ k. slice_cmp nat_cmp name.now k.items) self.now.book.held }
+        ensures same { result ≡ found self.now.book.held name.now }
     {
         self.book.find(name)
     }

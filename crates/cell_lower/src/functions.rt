@@ -13,6 +13,7 @@ ghost use Rattle.cell_lower.specs.Lowered.{AddsCode, HaveCodes, IsCodeOf, all_in
 ghost use Rattle.cell_lower.specs.Sizes.{AreSmall};
 ghost use Rattle.cell_lower.specs.Small.{AddsSmall, HaveSmall, IsSmallOf};
 ghost use Rattle.cell_lower.specs.Writing.{setting};
+ghost use Rattle.lower_frame.specs.Spelled.{AreSpelt, IsFunctionSpelt};
 
 use crate::copies::table_of;
 use crate::limits::{is_ruled, note_limits};
@@ -29,7 +30,7 @@ use std::alloc::Global;
 /// The code of a program: its types, and a function for each instance that isn't plain, in the order of their numbers,
 /// with the instance's kind, parameters, credits and results, and as many registers as the groups tell. The program is
 /// asked to have kept all rules up to E59, and `needs` and `groups` to be its own. Each function is as small as the
-/// places and registers of its instance tell.
+/// places and registers of its instance tell, and its instructions and label maps have a text in a code file.
 ///
 /// Refused exactly where E60 is broken, for the least violation by place and instance: an instance that isn't plain has
 /// more than 4,096 registers, or has a match and a parameter, a binder or a pattern node of a type with cells that has
@@ -49,6 +50,7 @@ pub fn lower(
         AreLowered (V.program typed.now.program) (all_instrs c)) }
     ensures bounded { IfOk result (λ c. IsWellMatched (V.program typed.now.program) →
         AreSmall (V.program typed.now.program) groups.now c.functions.items) }
+    ensures spelt { IfOk result (λ c. AreSpelt c.functions.items) }
 {
     match note_limits(alloc, &typed.program, groups) {
         Err(NoMemory) => Err(PhaseError::NoMemory),
@@ -83,6 +85,7 @@ fn code_of(
         AreLowered (V.program program.now) (all_instrs c)) }
     ensures bounded { IfOk result (λ c. IsWellMatched (V.program program.now) →
         AreSmall (V.program program.now) groups.now c.functions.items) }
+    ensures spelt { IfOk result (λ c. AreSpelt c.functions.items) }
 {
     let context = Context {
         alloc,
@@ -98,7 +101,7 @@ fn code_of(
 }
 
 // The functions of a program's instances.
-#[tactic(auto, using(crate::proofs::Headers::heading))]
+#[tactic(auto, using(crate::proofs::Headers::heading, lower_frame::proofs::Spelt::functions))]
 fn functions_of(
     context: &Context<'_>,
     instances: &[Instance],
@@ -110,6 +113,7 @@ fn functions_of(
         (map function_instrs fs.items)) }
     ensures small { IfOk result (λ fs. HaveSmall (setting context.now) groups.now (V.instances instances.now) 0 0
         fs.items) }
+    ensures spelt { IfOk result (λ fs. AreSpelt fs.items) }
 {
     let mut functions = Vec::new(context.alloc);
     let mut number = 0;
@@ -137,6 +141,7 @@ fn add_function(
         (map function_instrs functions.new.items)) }
     ensures small { OnOk result (AddsSmall (setting context.now) groups.now number (is_ruled instance.now.kind)
         (V.instance_of instance.now) functions.old.items functions.new.items) }
+    ensures spelt { OnOk result (AreSpelt functions.old.items → AreSpelt functions.new.items) }
 {
     if is_ruled(instance.kind) {
         let registers = groups.registers_of(number).ok_or(NoMemory)?;
@@ -174,6 +179,7 @@ fn function_of(
     ensures header { IfOk result (λ f. header f ≡ header_of registers (V.instance_of instance.now)) }
     ensures code { IfOk result (λ f. IsCodeOf (setting context.now) (V.instance_of instance.now) f.instrs.items) }
     ensures small { IfOk result (λ f. IsSmallOf (setting context.now) registers (V.instance_of instance.now) f) }
+    ensures spelt { IfOk result (λ f. IsFunctionSpelt f) }
 {
     let alloc = context.alloc;
     let mut lowerer = Lowerer::new(context, needs.of(number), instance, registers)?;

@@ -77,7 +77,7 @@ abbrev pub IsSessionEnd : End → Type 0
 IsSessionEnd (Ok text) = Unit {0}
 IsSessionEnd (Err failure) = ⊥
 
--- the lines of `check`; or E61, of a source with some code that no short enough file spells, which most have
+-- the lines of `check`; or E61, of a source with some code whose file is too long
 abbrev pub IsCompileEnd : List ℕ → End → Type 0
 IsCompileEnd source (Ok text) = IsListing source text
 IsCompileEnd source (Err failure) = IsUncompiled source × (failure ≡ F.Refused (bare E61))

@@ -1,4 +1,5 @@
 pub mod Frames
+pub mod Spelt
 pub mod Losing
 pub mod Labels
 pub mod Growing

@@ -3,3 +3,4 @@ pub mod Credits
 pub mod Frames
 pub mod Labels
 pub mod Positions
+pub mod Spelled

@@ -1,17 +1,20 @@
 // The code of a function while it is written.
-ghost use Rattle.std.specs.Prelude.{◌≡◌, ◌≤◌, ◌-◌, suc, [], ◌∷◌, ◌++◌, IfOk, OnOk, OnErr, length, map, slice_get};
+ghost use Rattle.std.specs.Prelude.{◌≡◌, ◌≤◌, ◌<◌, ◌-◌, suc, [], ◌∷◌, ◌++◌, IfOk, OnOk, OnErr, length, map, slice_get};
 ghost use Rattle.std.specs.Prelude.{slice_set, Some, None};
 ghost use Rattle.match_code.specs.Written.{Written as Writing, Extends, IsAt, added, place_of, settled, size};
 ghost use Rattle.sound_code.specs.Codes.{plain_label};
+ghost use Rattle.code_file.specs.CodeText.{instr_text};
 ghost use Rattle.lower_frame.specs.Labels.{labels, placed, stands_at, telling, untold, Rising};
+ghost use Rattle.lower_frame.specs.Spelled.{IsSpelt, AreInstrsSpelt, AreMapsSpelt, AreLabelsSpelt};
 
+use crate::spelling::{are_spelt, is_spelt};
 use cell_code::{Instr, Kind, Label};
 use fip_base::plain::NoMemory;
 use std::alloc::Global;
 use std::marker::Model;
 
 /// Instructions, whose jumps and tests go to labels; the places of labels, where they are known; and what is known of
-/// the registers at some places, which rise and have a label each.
+/// the registers at some places, which rise and have a label each. A file spells all of it.
 #[derive(Drop)]
 pub struct Buffer {
     instrs: Vec<Instr>,
@@ -29,7 +32,8 @@ impl Model for Buffer {
     } };
 
     ghost invariant = { λ b. (length b.labels.items ≤ placed b.places.items)
-        × Rising (length b.instrs.items) 0 (map plain_label b.labels.items) };
+        × Rising (length b.instrs.items) 0 (map plain_label b.labels.items)
+        × AreInstrsSpelt b.instrs.items × AreMapsSpelt (map plain_label b.labels.items) };
 }
 
 impl Buffer {
@@ -51,11 +55,17 @@ impl Buffer {
         u32::try_from(self.instrs.len()).map_err(|_| NoMemory)
     }
 
-    /// Writes an instruction; a jump or a test names a label.
-    #[tactic(auto, using(crate::proofs::Labels::placing))]
+    /// Writes an instruction; a jump or a test names a label. An error where no file spells it, or one more.
+    #[tactic(auto, using(crate::proofs::Labels::placing, crate::proofs::Spelt::spelling))]
     pub fn add(&mut self, instr: Instr) -> Result<(), NoMemory>
         ensures added { OnOk result (self.new ≡ added self.old instr) }
     {
+        if self.instrs.len() >= u32::MAX as usize {
+            return Err(NoMemory);
+        }
+        if !is_spelt(&instr) {
+            return Err(NoMemory);
+        }
         self.instrs.push(instr)?;
         Ok(())
     }
@@ -74,8 +84,8 @@ impl Buffer {
     }
 
     /// The place of a label is that of the next instruction, and these kinds are known there, in the place of narrower
-    /// ones that were told; an error where the label has a place.
-    #[tactic(auto, using(crate::proofs::Labels::placing))]
+    /// ones that were told; an error where the label has a place, or where no file spells one of the kinds.
+    #[tactic(auto, using(crate::proofs::Labels::placing, crate::proofs::Spelt::spelling))]
     pub fn put_label(&mut self, label: u32, kinds: Vec<Kind>) -> Result<(), NoMemory>
         ensures extends { OnOk result (Extends self.old self.new) }
         ensures instrs { OnOk result (self.new.instrs ≡ self.old.instrs) }
@@ -83,6 +93,9 @@ impl Buffer {
         ensures same { OnOk result (labels self.new ≡ labels self.old) }
         ensures told { OnOk result (self.new.maps ≡ telling (size self.old) kinds.items self.old.maps) }
     {
+        if !are_spelt(kinds.as_slice()) {
+            return Err(NoMemory);
+        }
         let here = self.here()?;
         place(&mut self.places, label, here)?;
         tell(&mut self.labels, here, kinds)?;
@@ -95,6 +108,7 @@ impl Buffer {
         ensures few { IfOk result (λ p. length p.1.items ≤ labels self) }
         ensures maps { IfOk result (λ p. map plain_label p.1.items ≡ self.maps) }
         ensures rising { IfOk result (λ p. Rising (size self) 0 (map plain_label p.1.items)) }
+        ensures spelt { IfOk result (λ p. AreInstrsSpelt p.0.items × AreLabelsSpelt p.1.items) }
     {
         let Buffer {
             mut instrs,
@@ -166,6 +180,7 @@ fn is_last_at(labels: &[Label], at: u32) -> bool
 #[tactic(auto, using(crate::proofs::Frames::mapping))]
 fn settle_all(instrs: &mut Vec<Instr>, places: &[Option<u32>]) -> Result<(), NoMemory>
     ensures settled { OnOk result (instrs.new.items ≡ map (settled (place_of places.now)) instrs.old.items) }
+    ensures spelt { OnOk result (AreInstrsSpelt instrs.old.items → AreInstrsSpelt instrs.new.items) }
 {
     for instr in instrs.iter_mut() {
         settle(instr, places)?;
@@ -174,8 +189,10 @@ fn settle_all(instrs: &mut Vec<Instr>, places: &[Option<u32>]) -> Result<(), NoM
 }
 
 // A jump or a test goes to the place of its label; an error where this has none.
+#[tactic(auto, using(crate::proofs::Spelt::settling))]
 fn settle(instr: &mut Instr, places: &[Option<u32>]) -> Result<(), NoMemory>
     ensures settled { OnOk result (instr.new ≡ settled (place_of places.now) instr.old) }
+    ensures spelt { OnOk result (IsSpelt (instr_text instr.old) → IsSpelt (instr_text instr.new)) }
 {
     match instr {
         Instr::Jump { target } => set_target(target, places),
@@ -187,6 +204,7 @@ fn settle(instr: &mut Instr, places: &[Option<u32>]) -> Result<(), NoMemory>
 
 fn set_target(target: &mut u32, places: &[Option<u32>]) -> Result<(), NoMemory>
     ensures set { OnOk result (target.new ≡ place_of places.now target.old) }
+    ensures small { OnOk result (target.new < 4294967296) }
 {
     match places.get(*target as usize) {
         Some(Some(place)) => {

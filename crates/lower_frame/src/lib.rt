@@ -4,6 +4,7 @@
 
 mod buffer;
 mod frame;
+mod spelling;
 mod spots;
 
 pub use buffer::Buffer;

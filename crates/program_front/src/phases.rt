@@ -9,6 +9,7 @@ ghost use Rattle.cell_lower.specs.Lowered.{all_instrs};
 ghost use Rattle.cell_lower.specs.Sizes.{AreSmall};
 ghost use Rattle.credit_check.specs.Tallies.{all_needs};
 ghost use Rattle.lowered_code.specs.Functions.{AreLowered};
+ghost use Rattle.lower_frame.specs.Spelled.{AreSpelt};
 ghost use Rattle.tail_groups.specs.Members.{AreMembers};
 ghost use Rattle.source_report.specs.Report.{bare, IsParsed, IsFlat, IsMatched, IsAccepted, Says};
 ghost use Rattle.program_front.specs.Unmatched.{IsUnmatched};
@@ -54,6 +55,7 @@ pub fn front(alloc: Global, source: &[u8]) -> Result<Lowered, PhaseError>
         map header l.code.functions.items ≡ headers l.groups (V.program l.typed.program).instances) }
     ensures lowered { IfOk result (λ l. AreLowered (V.program l.typed.program) (all_instrs l.code)) }
     ensures bounded { IfOk result (λ l. AreSmall (V.program l.typed.program) l.groups l.code.functions.items) }
+    ensures spelt { IfOk result (λ l. AreSpelt l.code.functions.items) }
     ensures reported { IfErr result (λ e. Says source.now e) }
 {
     match typed_of(alloc, source) {
@@ -159,6 +161,7 @@ fn lowered_of(alloc: Global, typed: Typed) -> Result<Lowered, PhaseError>
         IfOk result (λ l. AreLowered (V.program l.typed.program) (all_instrs l.code)) }
     ensures bounded { (source : List ℕ) → IsMatched source (V.program typed.program) →
         IfOk result (λ l. AreSmall (V.program l.typed.program) l.groups l.code.functions.items) }
+    ensures spelt { IfOk result (λ l. AreSpelt l.code.functions.items) }
     ensures reported { (source : List ℕ) → IsMatched source (V.program typed.program) →
         IfErr result (λ e. Says source e) }
 {

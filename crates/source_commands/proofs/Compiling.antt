@@ -13,6 +13,8 @@ use Rattle.code_size.specs.Places.{places}
 use Rattle.cell_lower.specs.Shape.{header, headers}
 use Rattle.code_runs.specs.Codes as R
 use Rattle.lowered_code.specs.Functions.{AreLowered}
+use Rattle.lower_frame.specs.Spelled.{AreSpelt}
+use Rattle.spelt_code.proofs.Whole.{typed_has_file}
 use Rattle.code_file.specs.CodeText.{CodeText}
 use Rattle.code_file.specs.Plain.{PlainFunction, plain_code, plain_function, plain_label}
 use Rattle.code_file.specs.declared.tags.Version.TheVariants.{Second}
@@ -28,7 +30,7 @@ use Rattle.source_report.specs.Report.{bare, IsAccepted}
 use Rattle.command_outcome.specs.declared.failure.Failure.{Failure}
 use Rattle.command_outcome.specs.declared.failure.Failure.TheVariants as F
 use Rattle.source_commands.specs.Codes.{IsSoundFile, IsUnspelt}
-use Rattle.source_commands.specs.ProgramCode.{plain_header, instrs_of, AreWithin, IsLoweredFrom, IsCodeOfSource, IsEntryOf, IsCompiledFile, IsUncompiled, KeepsFromCompile}
+use Rattle.source_commands.specs.ProgramCode.{plain_header, instrs_of, AreWithin, IsLoweredFrom, IsCodeOfSource, IsEntryOf, IsCompiledFile, HasFile, IsUncompiled, KeepsFromCompile}
 use Rattle.source_commands.specs.Entries.{Chosen, IsNamed, IsFunctionOf}
 use Rattle.source_commands.specs.Wanted.{Lawful, IsReady, IsRefusedBy}
 use Rattle.source_commands.specs.declared.known.Front.{Front}
@@ -96,11 +98,19 @@ pub compiled_file : (source file : List ℕ) (p : Program) (code : Code) → IsA
 compiled_file source file p code accepted headed sound spelt short =
     record { code = plain_code code; of' = code_of_source source p code accepted headed sound; spelt = spelt; short = short }
 
-pub uncompiled : (source : List ℕ) (p : Program) (code : Code) (f : Failure) → IsAccepted source p → IsLoweredFrom p (plain_code code) → IsSound (S.plain code) → ((r : Refusal) → ◌≡◌ {A = Failure} f (F.Refused r) → IsUnspelt (plain_code code)) → IsRefusedBy (λ r. r ≡ bare E61) f → KeepsFromCompile source f
-uncompiled source p code (F.Refused r) accepted headed sound unspelt h =
-    inr ((plain_code code, code_of_source source p code accepted headed sound, unspelt r refl), h)
-uncompiled source p code F.NoMemory accepted headed sound unspelt h = inl tt
-uncompiled source p code f accepted headed sound unspelt h = absurd h
+-- a code that was lowered and verified has a file
+has_file : (source : List ℕ) (p : Program) (code : Code) → IsAccepted source p → IsLoweredFrom p (plain_code code) → AreSpelt code.functions.items → IsSound (S.plain code) → HasFile (plain_code code)
+has_file source p code accepted headed spelt sound = typed_has_file source p headed.members code accepted.tailed.credited.owned.matched.typed headed.found headed.types (sym (headers_same code.functions.items) ∙ headed.functions) sound spelt
+
+pub filed_verified : (source : List ℕ) (p : Program) (code : Code) (o : Result Front Failure) → IsAccepted source p → IsLoweredFrom p (plain_code code) → AreSpelt code.functions.items → IfOk o (λ f. f.verified.code ≡ code) → IfOk o (λ f. IsSound (S.plain f.verified.code)) → IfOk o (λ f. HasFile (plain_code f.verified.code))
+filed_verified source p code (Ok f) accepted headed spelt same sound = subst (λ c. HasFile (plain_code c)) (sym same) (has_file source p code accepted headed spelt (subst (λ c. IsSound (S.plain c)) same sound))
+filed_verified source p code (Err f) accepted headed spelt same sound = tt
+
+pub uncompiled : (source : List ℕ) (p : Program) (code : Code) (f : Failure) → IsAccepted source p → IsLoweredFrom p (plain_code code) → IsSound (S.plain code) → HasFile (plain_code code) → ((r : Refusal) → ◌≡◌ {A = Failure} f (F.Refused r) → IsUnspelt (plain_code code)) → IsRefusedBy (λ r. r ≡ bare E61) f → KeepsFromCompile source f
+uncompiled source p code (F.Refused r) accepted headed sound filed unspelt h =
+    inr ((plain_code code, code_of_source source p code accepted headed sound, filed.0, filed.1, unspelt r refl filed.0 filed.1), h)
+uncompiled source p code F.NoMemory accepted headed sound filed unspelt h = inl tt
+uncompiled source p code f accepted headed sound filed unspelt h = absurd h
 
 -- a source of such a code breaks no rule
 pub uncompiled_ready : (source : List ℕ) → IsUncompiled source → IsReady source Lawful

@@ -2,14 +2,15 @@
 -- source's program. It has a function for each fip and fbip instance, in the order of their numbers: of the instance's
 -- kind, with its parameters, header credits and results, with as many registers as the groups tell, and with the
 -- instance's name where this is a root. Its instructions are such as the instance is lowered to, so each of its runs
--- ends as the source means; and it has no more of them, and of label maps, than the instance's places allow.
+-- ends as the source means; and it has no more of them, and of label maps, than the instance's places allow. It has a
+-- file; E61 is told only where that is too long.
 --
 -- Of the source
 --     fip fun rev(xs: list, acc: list): list { .. }
 --     fun dup(^xs: list): pair { .. }
 -- it has one function, which is fip, named rev, and has two parameters and one result; and
 -- `compile list.fip3 list.code` stores the second version's file of this code.
-use Rattle.std.specs.Prelude.{◌≡◌, ◌⊎◌, ◌≤◌, ℕ, List, map, length, Some, slice_get}
+use Rattle.std.specs.Prelude.{◌≡◌, ◌⊎◌, ◌≤◌, ◌<◌, ℕ, List, map, length, Some, slice_get}
 use Rattle.fip_language.specs.declared.limits.TheConstants.{MOST_FILE_BYTES}
 use Rattle.fip_language.specs.declared.rule.Rule.TheVariants.{E61}
 use Rattle.fip_trees.specs.declared.groups.Member.{Member}
@@ -25,7 +26,7 @@ use Rattle.lowered_code.specs.Bodies.{function_of}
 use Rattle.lowered_code.specs.Functions.{AreLowered}
 use Rattle.sound_code.specs.Breaks.{IsSound}
 use Rattle.source_report.specs.Report.{bare, IsAccepted}
-use Rattle.source_commands.specs.Codes.{sound_view, IsUnspelt}
+use Rattle.source_commands.specs.Codes.{sound_view}
 use Rattle.source_commands.specs.Entries.{Chosen, IsNamed}
 use Rattle.source_commands.specs.Wanted.{Lawful, IsRefusedBy, KeepsFromVerified}
 use Rattle.command_outcome.specs.declared.failure.Failure.{Failure}
@@ -76,10 +77,14 @@ pub record IsCompiledFile (source file : List ℕ) : Type 0 where
   pub spelt : CodeText file Second code
   pub short : length file ≤ MOST_FILE_BYTES
 
--- No file of the second version that isn't too long spells some such code, though it is no larger than its places
--- allow.
+-- A code that has a file of the second version.
+abbrev pub HasFile : PlainCode → Type 0
+HasFile code = (file : List ℕ) × CodeText file Second code
+
+-- Some such code, though it is no larger than its places allow, has a file of the second version that is too long.
 abbrev pub IsUncompiled : List ℕ → Type 0
-IsUncompiled source = (code : PlainCode) × IsCodeOfSource source code × IsUnspelt code
+IsUncompiled source = (code : PlainCode) × IsCodeOfSource source code × (file : List ℕ) × CodeText file Second code
+    × (MOST_FILE_BYTES < length file)
 
 -- What is said in place of such a file, or want of memory.
 abbrev pub KeepsFromCompile : List ℕ → Failure → Type 0

@@ -60,7 +60,7 @@ pub fn check(alloc: Global, source: &[u8]) -> Result<Vec<u8>, Failure>
 }
 
 /// The code file of a source that breaks no rule, and the lines of `check`. The refusals are those of `front`, and
-/// after them E61 where no code file of at most 16,777,216 bytes spells its code.
+/// after them E61 where the code file that spells its code has more than 16,777,216 bytes.
 pub fn compile(alloc: Global, source: &[u8]) -> Result<Compiled, Failure>
     ensures listed { IfOk result (λ c. IsListing source.now c.text.items) }
     ensures sound { IfOk result (λ c. (code : PlainCode) × IsSoundFile c.file.items code) }

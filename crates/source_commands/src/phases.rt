@@ -4,10 +4,11 @@ ghost use Rattle.code_file.specs.Plain.{plain_code};
 ghost use Rattle.sound_code.specs.Breaks.{IsSound};
 ghost use Rattle.sound_code.specs.Codes.{plain};
 ghost use Rattle.source_commands.specs.Codes.{IsSoundFile, IsLeastOf, KeepsFromCode};
-ghost use Rattle.source_commands.specs.ProgramCode.{IsLoweredFrom};
+ghost use Rattle.source_commands.specs.ProgramCode.{IsLoweredFrom, HasFile};
 ghost use Rattle.command_outcome.specs.Stages.{IsOfSource};
 ghost use Rattle.fip_trees.specs.TreeView as V;
 ghost use Rattle.credit_check.specs.Tallies.{all_needs};
+ghost use Rattle.lower_frame.specs.Spelled.{AreSpelt};
 ghost use Rattle.source_report.specs.Report.{bare, IsAccepted, IsMatched, Says};
 ghost use Rattle.source_commands.specs.Wanted.{Wanted, Lawful, IsReport, KeepsFrom, KeepsFromVerified};
 ghost use Rattle.program_front.specs.Unmatched.{IsUnmatched};
@@ -73,6 +74,7 @@ pub(crate) fn lawful(alloc: Global, source: &[u8]) -> Result<Lowered, Failure>
         all_needs (V.program l.typed.program) (V.program l.typed.program).instances) }
     ensures groups { IfOk result (λ l. AreMembers (V.program l.typed.program).instances l.groups) }
     ensures code { IfOk result (λ l. IsLoweredFrom (V.program l.typed.program) (plain_code l.code)) }
+    ensures spelt { IfOk result (λ l. AreSpelt l.code.functions.items) }
     ensures kept { (w : Wanted) → IfErr result (KeepsFrom source.now w) }
     ensures stage { IfErr result IsOfSource }
 {
@@ -83,12 +85,13 @@ pub(crate) fn lawful(alloc: Global, source: &[u8]) -> Result<Lowered, Failure>
 }
 
 /// What is known of a source that breaks no rule, its code verified; else the source's report. Of a code that was
-/// lowered, that it is sound is a test alone.
+/// lowered, that it is sound is a test alone. A file spells it, which may be too long.
 pub fn front(alloc: Global, source: &[u8]) -> Result<Front, Failure>
     ensures accepted { IfOk result (λ f. IsAccepted source.now (V.program f.typed.program)) }
     ensures groups { IfOk result (λ f. AreMembers (V.program f.typed.program).instances f.groups) }
     ensures sound { IfOk result (λ f. IsSound (plain f.verified.code)) }
     ensures code { IfOk result (λ f. IsLoweredFrom (V.program f.typed.program) (plain_code f.verified.code)) }
+    ensures filed { IfOk result (λ f. HasFile (plain_code f.verified.code)) }
     ensures kept { IfErr result (KeepsFromVerified source.now Lawful) }
     ensures stage { IfErr result IsOfSource }
 {

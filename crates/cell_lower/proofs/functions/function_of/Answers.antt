@@ -10,3 +10,6 @@ returns-clause-code c = code_from (setting c.args.context.now) (setting c.in_ok-
 
 pub returns-clause-small : goal.returns-clause-small
 returns-clause-small c = small_of (setting c.args.context.now) (setting c.in_ok-lowerer.lowerer.context.now) c.args.registers (instance_of c.args.instance.now) c.in_ok-lowerer.lowerer.frame c.block.new.self.frame c.in_ok-lowerer.lowerer.buffer c.block.new.self.buffer _ _ _ (ap setting c.in_ok-lowerer.ensures.context) c.in_ok-lowerer.ensures.known c.in_ok-lowerer.ensures.empty c.in_ok-block.ensures.writes c.in_ok-instrs.ensures.instrs c.in_ok-instrs.ensures.few refl refl
+
+pub returns-clause-spelt : goal.returns-clause-spelt
+returns-clause-spelt c = record { instrs = c.in_ok-instrs.ensures.spelt.0; labels = c.in_ok-instrs.ensures.spelt.1 }

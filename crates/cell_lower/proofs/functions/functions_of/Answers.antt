@@ -15,6 +15,7 @@ loop-instance-preserved c = record {
       c.loop-instance.invariant.rest;
   small = small_next (setting c.args.context.now) c.args.groups.now c.args.instances.now c.loop-instance.instance-index (c.loop-instance.instance-index + 1) c.loop-instance.number (c.loop-instance.number + 1) c.instance-item.result c.loop-instance.functions.items c.add_function.new.functions.items (omega arith) (omega arith) (item c.args.instances.now c.loop-instance.instance-index c.instance-item.result c.loop-instance-test.true c.instance-item.is) c.loop-instance.invariant.small c.in_ok-add_function.ensures.small;
   codes = codes_next (setting c.args.context.now) c.args.instances.now c.loop-instance.instance-index (c.loop-instance.instance-index + 1) c.instance-item.result (map function_instrs c.loop-instance.functions.items) (map function_instrs c.add_function.new.functions.items) (omega arith) (item c.args.instances.now c.loop-instance.instance-index c.instance-item.result c.loop-instance-test.true c.instance-item.is) c.loop-instance.invariant.codes c.in_ok-add_function.ensures.code;
+  spelt = c.in_ok-add_function.ensures.spelt c.loop-instance.invariant.spelt;
 }
 
 pub returns-clause-small : goal.returns-clause-small

@@ -5,6 +5,7 @@ use Rattle.cell_lower.specs.Shape.{header, headers, headers_from}
 use Rattle.cell_lower.specs.Writing.{setting}
 use Rattle.cell_lower.proofs.Programs.{FollowCodes}
 use Rattle.cell_lower.proofs.Smalls.{FollowSmall}
+use Rattle.lower_frame.specs.Spelled.{AreSpelt}
 use Rattle.cell_lower.proofs.functions.functions_of.Given as goal
 
 abbrev pub invariant-loop-instance : goal.invariant-loop-instance
@@ -13,4 +14,5 @@ invariant-loop-instance l = record {
   rest : map header l.functions.items ++ headers_from l.groups l.number (instances (drop l.instance-index l.instances)) ≡ headers l.groups (instances l.instances);
   small : FollowSmall (setting l.context) l.groups (instances l.instances) (instances (drop l.instance-index l.instances)) l.number l.functions.items;
   codes : FollowCodes (setting l.context) (instances l.instances) (instances (drop l.instance-index l.instances)) (map function_instrs l.functions.items);
+  spelt : AreSpelt l.functions.items;
 }

@@ -1,6 +1,6 @@
 use Rattle.fip_trees.specs.TreeView as V
 use Rattle.source_commands.specs.Wanted.{Lawful}
-use Rattle.source_commands.proofs.Compiling.{headed_verified}
+use Rattle.source_commands.proofs.Compiling.{headed_verified, filed_verified}
 use Rattle.source_commands.proofs.Told.{kept_verified, unsound_kept}
 use Rattle.source_commands.proofs.phases.front.Goals as goal
 
@@ -12,3 +12,6 @@ returns-in-Ok-clause-kept c = unsound_kept c.args.source.now Lawful c.verified_f
 
 pub returns-in-Ok-clause-code : goal.returns-in-Ok-clause-code
 returns-in-Ok-clause-code c = headed_verified (V.program c.in-Ok.lowered.typed.program) c.in-Ok.lowered.code c.verified_front.result c.in-Ok.ensures.code c.verified_front.ensures.typed c.verified_front.ensures.code
+
+pub returns-in-Ok-clause-filed : goal.returns-in-Ok-clause-filed
+returns-in-Ok-clause-filed c = filed_verified c.args.source.now (V.program c.in-Ok.lowered.typed.program) c.in-Ok.lowered.code c.verified_front.result c.in-Ok.ensures.accepted c.in-Ok.ensures.code c.in-Ok.ensures.spelt c.verified_front.ensures.code c.verified_front.ensures.sound

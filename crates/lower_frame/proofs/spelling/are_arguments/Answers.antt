@@ -1,0 +1,6 @@
+use Rattle.std.proofs.Common.{arith}
+use Rattle.lower_frame.proofs.Spelt.{arguments_spelt}
+use Rattle.lower_frame.proofs.spelling.are_arguments.Goals as goal
+
+pub returns : goal.returns
+returns c = record { spelt = λ e. arguments_spelt c.args.registers.now (grind (arith, e)) (λ i. let f = c.type_inv.registers i in omega (arith, f)) }

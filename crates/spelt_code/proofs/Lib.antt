@@ -1,0 +1,10 @@
+pub mod Tokens
+pub mod Passing
+pub mod Names
+pub mod Texts
+pub mod Tables
+pub mod Types
+pub mod Headers
+pub mod Functions
+pub mod Codes
+pub mod Whole

@@ -1,6 +1,6 @@
 -- The functions of a code that is headed as a program tells: each is that of an instance, with the instance's header;
 -- there are few, and no two have one name, since no two roots have.
-use Rattle.std.proofs.Common.{◌≡◌, ◌<◌, ◌≤◌, ◌+◌, ℕ, zero, suc, Bool, true, false, List, [], ◌∷◌, length, map, Option, Some, None, slice_get, option_map, if◌then◌else◌, refl, sym, ap, ap₂, ◌∙◌, subst, arith}
+use Rattle.std.proofs.Common.{◌≡◌, ◌<◌, ◌≤◌, ◌+◌, ℕ, zero, suc, Bool, true, false, List, [], ◌∷◌, length, map, Option, Some, None, slice_get, option_map, if◌then◌else◌, refl, sym, ap, ◌∙◌, subst, arith}
 use Rattle.std.proofs.lemmas.Option.{none-some, same_Some, slice_get-map}
 use Rattle.fip_language.specs.declared.FunKind.{FunKind}
 use Rattle.fip_language.specs.declared.FunKind.TheVariants.{Fip, Fbip, Fun}
@@ -18,6 +18,7 @@ use Rattle.sound_code.specs.Tables.{AreSoundTables}
 use Rattle.lowered_code.specs.Bodies.{has_function, one_more, if_function, function_of}
 use Rattle.cell_lower.specs.Limits.{is_ruled, registers}
 use Rattle.cell_lower.specs.Shape.{Header, header, header_of, entry_name, and_if, headers_from, headers}
+use Rattle.cell_lower.proofs.Headers.{IsOfInstance, instance_there}
 use Rattle.source_report.specs.Report.{IsTyped}
 use Rattle.accepted_code.proofs.SoundTypes.{typed_sound, tables_are_sound}
 use Rattle.accepted_soundness.specs.Headed.{plain_header, IsHeaded}
@@ -46,33 +47,6 @@ header_there ms i (x ∷ xs) (suc g) n d e there =
     let z : suc i + g ≡ i + suc g = omega arith in
     later_header x.kind (function_of xs g) n (header_of (registers ms i) x) (header_of (registers ms (i + suc g)) d) (headers_from ms (suc i) xs)
     (λ m q. header_there ms (suc i) xs g m d q there ∙ ap (λ k. Some (header_of (registers ms k) d)) z) e
-
--- ---- the instance of a function
-
-record IsOfInstance (ds : List Instance) (n : ℕ) (h : Header) : Type 0 where
-  pub place : ℕ
-  pub instance : Instance
-  pub there : slice_get ds place ≡ Some instance
-  pub function : function_of ds place ≡ Some n
-  pub registers : ℕ
-  pub is : h ≡ header_of registers instance
-
-here : (d : Instance) (ds : List Instance) (r : ℕ) (h : Header) → has_function d.kind ≡ true → Some (header_of r d) ≡ Some h → IsOfInstance (d ∷ ds) 0 h
-here d ds r h k e = record { place = 0; instance = d; there = refl; function = ap if_function k; registers = r; is = sym (same_Some (header_of r d) h e) }
-
-behind : (d : Instance) (ds : List Instance) (n m : ℕ) (h : Header) (b : Bool) → has_function d.kind ≡ b → one_more b (Some n) ≡ Some m → IsOfInstance ds n h → IsOfInstance (d ∷ ds) m h
-behind d ds n m h b k e x = record { place = suc x.place; instance = x.instance; there = x.there; function = ap₂ one_more k x.function ∙ e; registers = x.registers; is = x.is }
-
-one_step : (d : Instance) (ds : List Instance) (r : ℕ) (hs : List Header) (n : ℕ) (h : Header) → ((m : ℕ) → slice_get hs m ≡ Some h → IsOfInstance ds m h) → (k : FunKind) → d.kind ≡ k → slice_get (and_if (is_ruled k) (header_of r d) hs) n ≡ Some h → IsOfInstance (d ∷ ds) n h
-one_step d ds r hs zero h rest Fip k e = here d ds r h (ap has_function k) e
-one_step d ds r hs (suc n) h rest Fip k e = behind d ds n (suc n) h true (ap has_function k) refl (rest n e)
-one_step d ds r hs zero h rest Fbip k e = here d ds r h (ap has_function k) e
-one_step d ds r hs (suc n) h rest Fbip k e = behind d ds n (suc n) h true (ap has_function k) refl (rest n e)
-one_step d ds r hs n h rest Fun k e = behind d ds n n h false (ap has_function k) refl (rest n e)
-
-instance_there : (ms : List Member) (i : ℕ) (ds : List Instance) (n : ℕ) (h : Header) → slice_get (headers_from ms i ds) n ≡ Some h → IsOfInstance ds n h
-instance_there ms i [] n h e = absurd (none-some h e)
-instance_there ms i (d ∷ ds) n h e = one_step d ds (registers ms i) (headers_from ms (suc i) ds) n h (λ m x. instance_there ms (suc i) ds m h x) d.kind refl e
 
 -- ---- how many there are
 

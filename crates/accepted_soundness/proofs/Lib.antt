@@ -4,4 +4,5 @@ pub mod Regular
 pub mod Functions
 pub mod Sharing
 pub mod Building
+pub mod Asking
 pub mod Whole

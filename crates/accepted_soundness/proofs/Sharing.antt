@@ -33,7 +33,7 @@ use Rattle.accepted_soundness.proofs.Functions.{function_there}
 
 -- ---- types of the table
 
-in_table : (tb : Table) (t : ℕ) → t ≤ length tb → is_type tb t ≡ true
+pub in_table : (tb : Table) (t : ℕ) → t ≤ length tb → is_type tb t ≡ true
 in_table tb t h = below_is t (suc (length tb)) (omega (arith, h))
 
 all_in_table : (tb : Table) (ts : List ℕ) → AreKnown tb ts → are_types tb ts ≡ true
@@ -48,7 +48,7 @@ params_typed : (c : PlainCode) (ps : List Param) → AreKnown c.types (map type_
 params_typed c [] h = tt
 params_typed c (p ∷ ps) h = (in_table c.types p.ty h.0, params_typed c ps h.1)
 
-scalar_in_table : (tb : Table) (t : ℕ) → is_type tb t ≡ true → is_scalar tb t ≡ is_scalar_type tb t
+pub scalar_in_table : (tb : Table) (t : ℕ) → is_type tb t ≡ true → is_scalar tb t ≡ is_scalar_type tb t
 scalar_in_table tb t h = sym (ap (λ b. b && is_scalar tb t) h)
 
 -- ---- the types that constructors make

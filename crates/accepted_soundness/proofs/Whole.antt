@@ -1,16 +1,18 @@
 -- What the soundness of lowered code asks of a program and of what its code shares with it, an accepted source gives.
-use Rattle.std.proofs.Common.{◌≡◌, ◌≤◌, ℕ, zero, suc, true, List, [], ◌∷◌, Option, Some, None, slice_get, refl, sym, ap, ◌∙◌, subst, arith}
+use Rattle.std.proofs.Common.{◌≡◌, ◌≤◌, ℕ, zero, suc, true, List, [], ◌∷◌, length, Option, Some, None, slice_get, refl, sym, ap, ◌∙◌, subst, arith}
 use Rattle.std.proofs.lemmas.Option.{none-some, same_Some}
 use Rattle.fip_language.specs.declared.FunKind.{FunKind}
 use Rattle.fip_language.specs.declared.FunKind.TheVariants.{Fip, Fbip, Fun}
 use Rattle.fip_language.specs.declared.limits.TheConstants.{MOST_FIELDS, MOST_REGISTERS}
 use Rattle.fip_trees.specs.declared.groups.Member.{Member}
+use Rattle.fip_trees.specs.NeedsView.{needs_of}
 use Rattle.fip_trees.specs.Tree.{Instance, Program}
 use Rattle.fip_rules.specs.World as R
 use Rattle.static_params.proofs.TypeRows.{there_among}
-use Rattle.type_check.specs.Typing.{Typed, AllTyped}
+use Rattle.type_check.specs.Typing.{Typed, AllTyped, parameter_scope}
 use Rattle.type_check.specs.World as W
 use Rattle.tail_groups.specs.Registers as G
+use Rattle.credit_check.specs.Tallies.{all_needs}
 use Rattle.own_calculus.specs.Functions.{Derived}
 use Rattle.own_agreement.specs.Bodies.{body_term, borrowed_parameters, owned_parameters}
 use Rattle.own_agreement.proofs.Instances.{programs_agree}
@@ -22,23 +24,28 @@ use Rattle.sound_code.specs.Codes.{PlainCode, PlainFunction, function_at, is_fip
 use Rattle.sound_code.specs.Headers.{is_size, are_sizes}
 use Rattle.kind_soundness.proofs.Basics.{below_is}
 use Rattle.lowered_code.specs.Bodies.{has_function, function_of}
+use Rattle.lowered_code.specs.Functions.{IsSettingOf}
 use Rattle.lowered_code.specs.Values.{Setting}
 use Rattle.lowered_soundness.specs.Accepted.{IsDerived, IsWithinLimits}
 use Rattle.lowered_soundness.specs.Built.{BuildsBlock}
-use Rattle.lowered_soundness.specs.Standing.{MapsStand}
+use Rattle.laid_code.specs.Standing.{MapsStand}
 use Rattle.laid_code.specs.Functions.{AreLaid}
 use Rattle.lowered_soundness.proofs.Giving.{and_to}
 use Rattle.lowered_soundness.proofs.Joined.{has_one, sound_joined}
+use Rattle.cell_lower.specs.Bodies.{FoundedBlock}
+use Rattle.cell_lower.specs.LaidProgram.{AskedInstance, IsAsked, IsLaidOut}
 use Rattle.cell_lower.specs.Shape.{Header}
 use Rattle.cell_lower.specs.Limits.{registers, registers_of}
 use Rattle.source_report.specs.Report.{IsTyped, IsAccepted}
 use Rattle.source_report.proofs.FipCalls as F
 use Rattle.source_report.proofs.Ready.{typed_formed}
 use Rattle.accepted_runs.proofs.Formed.{typed_is_formed}
-use Rattle.accepted_code.proofs.SoundTypes.{typed_bool}
+use Rattle.accepted_programs.proofs.TypedOrder.{typed_in_order}
+use Rattle.accepted_code.proofs.SoundTypes.{typed_bool, typed_sound}
 use Rattle.accepted_derivations.proofs.Few.{few_registers}
 use Rattle.accepted_derivations.proofs.Whole as D
 use Rattle.accepted_soundness.specs.Headed.{IsHeaded}
+use Rattle.accepted_soundness.proofs.Asking.{block_founded, body_needs, scalars_right, sizes_in_range}
 use Rattle.accepted_soundness.proofs.Building.{block_builds, formed_at}
 use Rattle.accepted_soundness.proofs.Functions.{function_there, sound_tables}
 use Rattle.accepted_soundness.proofs.Worlds.{derived_plain}
@@ -155,3 +162,32 @@ module _ (source : List ℕ) (p : Program) (h : IsAccepted source p) where
       (λ n f l is. (
       let number = sym (all.setting.functions l.number) ∙ l.function in
       function_limits c headed l.number n l.instance f l.there number is (maps n f is)))
+
+  -- ---- what lowering asks
+
+  asked_at : (st : Setting) → IsSettingOf p st → (g : ℕ) (d : Instance) → slice_get p.instances g ≡ Some d → has_function d.kind ≡ true → AskedInstance st (needs_of (all_needs p p.instances) g) d
+  asked_at st so g d there has =
+      let formed = formed_at p p.instances g d (typed_is_formed source p typed).bodies there in
+      let sized = sized_at p p.instances g d (D.are_sized source p h) there in
+      let filled = typed_at (W.world p) p.instances g d (D.is_filled source p h) there in
+      let regular = typed_regular source p typed d (there_among p.instances g d there) in
+      let ordered = typed_in_order source p typed d (there_among p.instances g d there) in
+      record {
+        ruled = has;
+        binders = formed.binders;
+        sizes = sizes_in_range d.credits sized.header;
+        founded = subst (λ tb. FoundedBlock tb d.body) (sym so.types) (block_founded p (parameter_scope d) true d.body d.results (length d.params) ordered.next regular.results formed.body sized.body filled.3 ordered.body);
+        needs = body_needs p st so g d there has;
+      }
+
+  pub is_asked : IsAsked p (all_needs p p.instances)
+  is_asked = record {
+    scalars = λ st so. scalars_right p st (typed_sound source p typed) so;
+    each = λ st so g d there has. asked_at st so g d there has;
+  }
+
+  -- so its code is sound
+  pub laid_out_is_sound : (c : PlainCode) → IsHeaded p c → (IsAsked p (all_needs p p.instances) → IsLaidOut p c) → IsSound c
+  laid_out_is_sound c headed laid =
+      let l = laid is_asked in
+      laid_is_sound c l.setting headed l.laid l.stand

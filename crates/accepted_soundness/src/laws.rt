@@ -1,7 +1,9 @@
 // The laws on soundness of the code of accepted sources. Each is the contract of a function that does nothing.
 ghost use Rattle.std.specs.Prelude.{◌≡◌, ℕ, List, Bool, Some, map, slice_get};
 ghost use Rattle.cell_code.specs.declared.code.Code.{Code};
+ghost use Rattle.cell_lower.specs.LaidProgram.{IsAsked, IsLaidOut};
 ghost use Rattle.cell_lower.specs.Shape.{header, headers};
+ghost use Rattle.credit_check.specs.Tallies.{all_needs};
 ghost use Rattle.fip_language.specs.declared.FunKind.{FunKind};
 ghost use Rattle.fip_language.specs.declared.FunKind.TheVariants.{Fun};
 ghost use Rattle.fip_rules.specs.World as R;
@@ -14,7 +16,7 @@ ghost use Rattle.lowered_soundness.specs.Accepted.{IsDerived, IsWithinLimits};
 ghost use Rattle.lowered_soundness.specs.Laid.{Shares};
 ghost use Rattle.laid_code.specs.Functions.{AreLaid};
 ghost use Rattle.lowered_soundness.specs.Placed.{Callees};
-ghost use Rattle.lowered_soundness.specs.Standing.{MapsStand};
+ghost use Rattle.laid_code.specs.Standing.{MapsStand};
 ghost use Rattle.sound_code.specs.Breaks.{IsSound};
 ghost use Rattle.sound_code.specs.Codes.{PlainCode, PlainFunction, function_at, plain};
 ghost use Rattle.sound_code.specs.Tables.{AreSoundTables};
@@ -77,4 +79,19 @@ pub fn laid_accepted_code_is_sound()
     ensures law { (source : List ℕ) (program : Program) (code : PlainCode) (setting : Setting) →
         IsAccepted source program → IsHeaded program code → AreLaid code setting program →
         ((n : ℕ) (f : PlainFunction) → function_at code n ≡ Some f → MapsStand f) → IsSound code }
+{}
+
+/// The program of an accepted source is as lowering asks, with the needs that the rules on credits are told of, so that
+/// its code is laid out. For who lowers it.
+pub fn accepted_programs_are_as_asked()
+    ensures law { (source : List ℕ) (program : Program) → IsAccepted source program →
+        IsAsked program (all_needs program program.instances) }
+{}
+
+/// The code that lowering makes of an accepted source breaks no rule of sound code: it is headed as the source's
+/// program tells, and laid out where the program is as asked. For who verifies such code.
+pub fn lowered_accepted_code_is_sound()
+    ensures law { (source : List ℕ) (program : Program) (code : PlainCode) → IsAccepted source program →
+        IsHeaded program code → (IsAsked program (all_needs program program.instances) → IsLaidOut program code) →
+        IsSound code }
 {}

@@ -208,7 +208,7 @@ Follows tb s k0 v0 b0 k v b target = WellMatchedBlock tb b0 → FollowBlock s k0
 pub follows_start : (tb : Table) (s : Setting) (k : Known) (v : Written) (b : Block) (target : Target) → Follows tb s k v b k v b target
 follows_start tb s k v b target well = (record { by = λ l w h. h }, well)
 
-rest_at : (bs : List Binding) (i : ℕ) (b : Binding) (e : Expression) → slice_get bs i ≡ Some b → rest_of bs i e ≡ Let (binding b).binders (binding b).bound (rest_of bs (suc i) e)
+pub rest_at : (bs : List Binding) (i : ℕ) (b : Binding) (e : Expression) → slice_get bs i ≡ Some b → rest_of bs i e ≡ Let (binding b).binders (binding b).bound (rest_of bs (suc i) e)
 rest_at [] i b e h = absurd (cc)
 rest_at (c ∷ bs) zero b e h = ap (λ x. Let (binding x).binders (binding x).bound (block_of (bindings bs) e)) (same_some c b h)
 rest_at (c ∷ bs) (suc i) b e h = rest_at bs i b e h
@@ -228,7 +228,7 @@ follows_on tb s k0 v0 b0 k m v w bs i j b e target a h f c = subst (λ z. Follow
 pub follows_end : (tb : Table) (s : Setting) (k0 : Known) (v0 : Written) (b0 : Block) (k l : Known) (v w : Written) (e : Expression) (target : Target) → Follows tb s k0 v0 b0 k v (Last e) target → (WellMatched tb e → Writes s k v e target l w) → WellMatchedBlock tb b0 → WritesBlock s k0 v0 b0 target l w
 follows_end tb s k0 v0 b0 k l v w e target f h well = let g = f well in g.0.by l w (writes_last s k l v w e target (h g.1))
 
-rest_past : (bs : List Binding) (i : ℕ) (e : Expression) → length bs ≤ i → rest_of bs i e ≡ Last e
+pub rest_past : (bs : List Binding) (i : ℕ) (e : Expression) → length bs ≤ i → rest_of bs i e ≡ Last e
 rest_past [] zero e h = refl
 rest_past [] (suc i) e h = refl
 rest_past (b ∷ bs) zero e h = absurd (omega (arith, h))

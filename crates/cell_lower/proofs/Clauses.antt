@@ -5,7 +5,7 @@ use Rattle.fip_trees.specs.Tree.{Argument, Clauses, NoClauses, MoreClauses}
 use Rattle.fip_trees.specs.TreeView.{Case, clause, clauses}
 use Rattle.lowered_code.specs.Known.{Known}
 use Rattle.lowered_code.specs.Values.{Setting}
-use Rattle.lowered_code.specs.Choosing.{Meets, MeetsFirst}
+use Rattle.lowered_code.specs.Choosing.{Meets, FewerCredits, MeetsFirst}
 use Rattle.lowered_code.specs.Bodies as B
 use Rattle.lowered_code.proofs.Lists.{fewer_same}
 use Rattle.match_code.specs.Written.{Written, size, Extends, IsAt}
@@ -34,12 +34,12 @@ joins_none k m e = record {
   as_many = ap registers e;
 }
 
-pub joins_some : (k j m : Known) → Meets j m → Meets k m → m.credits ≡ j.credits → m.next ≡ j.next → registers m ≡ registers j → JoinsKnown k (Some j) (Some m)
+pub joins_some : (k j m : Known) → Meets j m → Meets k m → FewerCredits j.credits m.credits → m.next ≡ j.next → registers m ≡ registers j → JoinsKnown k (Some j) (Some m)
 joins_some k j m a b e f n = record {
   joined = m;
   is = refl;
   meets = b;
-  before = (a, record { credits = subst (Rattle.lowered_code.specs.Choosing.FewerCredits j.credits) (sym e) (fewer_same j.credits); grows = omega (arith, f) });
+  before = (a, record { credits = e; grows = omega (arith, f) });
   as_many = n;
 }
 
@@ -77,12 +77,12 @@ pub record FollowsClauses (s : Setting) (g : Matching) (target : B.Target) (p0 :
 pub clauses_start : (s : Setting) (g : Matching) (target : B.Target) (p : Progress) (v : Written) (cs : Clauses) → FollowsClauses s g target p v cs p v cs
 clauses_start s g target p v cs = record { by = λ t well. (λ o w h. h, well) }
 
-clauses_at : (cs : List Clause) (i : ℕ) (c : Clause) → slice_get cs i ≡ Some c → clauses (drop i cs) ≡ MoreClauses (clause c).pattern (clause c).body (clauses (drop (suc i) cs))
+pub clauses_at : (cs : List Clause) (i : ℕ) (c : Clause) → slice_get cs i ≡ Some c → clauses (drop i cs) ≡ MoreClauses (clause c).pattern (clause c).body (clauses (drop (suc i) cs))
 clauses_at [] i c e = absurd (cc)
 clauses_at (d ∷ cs) zero c e = ap (λ x. MoreClauses (clause x).pattern (clause x).body (clauses cs)) (same_some d c e)
 clauses_at (d ∷ cs) (suc i) c e = clauses_at cs i c e
 
-clauses_past : (cs : List Clause) (i : ℕ) → length cs ≤ i → clauses (drop i cs) ≡ NoClauses
+pub clauses_past : (cs : List Clause) (i : ℕ) → length cs ≤ i → clauses (drop i cs) ≡ NoClauses
 clauses_past [] zero h = refl
 clauses_past [] (suc i) h = refl
 clauses_past (c ∷ cs) zero h = absurd (omega (arith, h))

@@ -26,13 +26,13 @@ use Rattle.cell_lower.specs.Clauses.{WritesMatch}
 use Rattle.cell_lower.specs.Writing.{Computes, ComputesAll, AppliesTo, Writes, Binds}
 use Rattle.cell_lower.proofs.Blocks.{binds_give, binds_tuple, binds_into}
 
-expression_give : (a : Argument) → expression (EV.Give a) ≡ T.Give (argument a)
+pub expression_give : (a : Argument) → expression (EV.Give a) ≡ T.Give (argument a)
 expression_give a = ap expression (sym (EV.rolls-Give a)) ∙ fold-roll-Expression T.Expression BoundPart T.Block Case expression_step binding_step block_step clause_step (E.Give a)
 
-expression_tuple : (p : Place) (xs : Vec Argument Global) → expression (EV.Tuple p xs) ≡ T.Tuple p (arguments xs.items)
+pub expression_tuple : (p : Place) (xs : Vec Argument Global) → expression (EV.Tuple p xs) ≡ T.Tuple p (arguments xs.items)
 expression_tuple p xs = ap expression (sym (EV.rolls-Tuple p xs)) ∙ fold-roll-Expression T.Expression BoundPart T.Block Case expression_step binding_step block_step clause_step (E.Tuple p xs)
 
-expression_call : (g : ℕ) (n : Name) (p : Place) (xs : Vec Argument Global) → expression (EV.Call g n p xs) ≡ T.Call g n p (arguments xs.items)
+pub expression_call : (g : ℕ) (n : Name) (p : Place) (xs : Vec Argument Global) → expression (EV.Call g n p xs) ≡ T.Call g n p (arguments xs.items)
 expression_call g n p xs = ap expression (sym (EV.rolls-Call g n p xs)) ∙ fold-roll-Expression T.Expression BoundPart T.Block Case expression_step binding_step block_step clause_step (E.Call g n p xs)
 
 -- lets

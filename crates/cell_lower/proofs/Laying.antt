@@ -20,16 +20,18 @@ use Rattle.laid_code.specs.Describing.{held_at as holding_at, is_tree}
 use Rattle.laid_code.specs.Credits.{LastGone}
 use Rattle.laid_code.specs.GivenUp.{GivesUp, GivesOne}
 use Rattle.laid_code.specs.Handed.{GivenLaid, EndsCallLaid}
-use Rattle.lower_frame.specs.Registers.{HasRoom}
+use Rattle.lower_frame.specs.Registers.{HasRoom, registers}
 use Rattle.lower_frame.specs.Credits.{is_credit, Accounted, FewerTrees, NoBares, NoTrees, NoneBetween, is_bare, sized}
 use Rattle.lower_frame.specs.Frames.{Takes}
 use Rattle.lower_frame.proofs.Accounts.{last_same, all_solid_on, no_new_credit, not_of, put_accounted, received_accounted, set_itself, last_on, trees_same, trees_on, trees_set, trees_used, bare_accounted, used_accounted, used_all_accounted, taken_accounted, taken_less, taken_others, none_sized, no_credits, next_accounted, handed_accounted}
 use Rattle.cell_lower.specs.Laying.{IntoAt, ResultsIn, GivesUpLaid, SpendsAll, SpendsPast, AllGone, AccountedAt, GivesLaid, OperatesLaid, EndsLaid, CallsLaid}
 use Rattle.cell_lower.specs.Writing.{HandsOn, Moves, TakesAll}
+use Rattle.lower_frame.proofs.Growing.{room_same}
+use Rattle.cell_lower.proofs.Shedding.{goes_length, handed_length, taken_length}
 
 -- what registers hold
 
-held_get : (hs : List Held) (r : ℕ) (h : Held) → slice_get hs r ≡ Some h → holding_at hs r ≡ h
+pub held_get : (hs : List Held) (r : ℕ) (h : Held) → slice_get hs r ≡ Some h → holding_at hs r ≡ h
 held_get [] r h e = absurd (cc)
 held_get (x ∷ hs) zero h e = cc
 held_get (x ∷ hs) (suc r) h e = held_get hs r h e
@@ -39,7 +41,7 @@ get_held [] r h e ne = absurd (ne (sym e))
 get_held (x ∷ hs) zero h e ne = ap Some e
 get_held (x ∷ hs) (suc r) h e ne = get_held hs r h e ne
 
-owned_tree : (hs : List Held) (r : ℕ) → is_tree (holding_at hs r) ≡ is_owned (slice_get hs r)
+pub owned_tree : (hs : List Held) (r : ℕ) → is_tree (holding_at hs r) ≡ is_owned (slice_get hs r)
 owned_tree [] r = refl
 owned_tree (H.Nothing ∷ hs) zero = refl
 owned_tree (H.Scalar t ∷ hs) zero = refl
@@ -202,7 +204,7 @@ up_done k l n le a = record { by = λ x m low high. a.by x m low (omega (arith, 
 
 -- all that has to be given up is
 
-nothing_bare : (k : Known) → Accounted k → NoBares k.next k.held → (r t c : ℕ) → holding_at k.held r ≡ H.Bare t c → ⊥
+pub nothing_bare : (k : Known) → Accounted k → NoBares k.next k.held → (r t c : ℕ) → holding_at k.held r ≡ H.Bare t c → ⊥
 nothing_bare k a none r t c e = by (split r k.next)
   where
     there : slice_get k.held r ≡ Some (H.Bare t c)
@@ -257,11 +259,20 @@ gone_fbip true k m l v w z e x f none y g s = record {
 
 pub ruleset spending = (bares_start, trees_start, spends_one, spends_none, spends_start, spends_done, up_start, up_done, gone_fip, gone_fbip, laid_same, laid_on, laid_take, laid_drop, laid_free, laid_fbip)
 
+-- registers that are taken into use, one after another
+
+pub room_then : (k l m : Known) → registers l ≡ registers k → HasRoom k l → HasRoom l m → HasRoom k m
+room_then k l m n a b = omega (arith, n, a, b)
+
+room_after : (k l m : Known) → l.next ≡ k.next → registers l ≡ registers k → HasRoom l m → HasRoom k m
+room_after k l m e n a = room_then k l m n (room_same k l e) a
+
 -- the end of a function
 
 pub gives_laid_return : (fip : Bool) (k k1 k2 l : Known) (v w1 w2 w : Written) (rs : List ℕ) → k1 ≡ using k (used_all k.held rs) → GivesUpLaid true k1 v k2 w1 → NoBares k1.next k2.held → GivesUpLaid fip k2 w1 l w2 → AllGone fip k2 l → w ≡ added w2 (I.Ret rs) → GivesLaid fip k v rs Return l w
 gives_laid_return fip k k1 k2 l v w1 w2 w rs e a bares b gone f = subst (GivesLaid fip k v rs Return l) (sym f) (record {
   maps = both.maps;
+  room = room_same k l (both.next ∙ ap (λ (x : Known). x.next) e);
   by = λ ac to g h.
       let up = both.by to g (front (size v) w2 (added w2 (I.Ret rs)) to g.instrs (added_extends w2 (I.Ret rs)) h) in
       let second : Accounted k2 = a.accounts (subst Accounted (sym e) (used_all_accounted k rs ac)) in
@@ -281,11 +292,12 @@ gives_laid_return fip k k1 k2 l v w1 w2 w rs e a bares b gone f = subst (GivesLa
     both = laid_on fip k1 v k2 w1 l w2 (any_laid fip k1 v k2 w1 a) b
 
 pub gives_laid_into : (fip : Bool) (k l : Known) (v w : Written) (rs ds : List ℕ) → Moves k v rs ds l w → GivesLaid fip k v rs (Into ds) l w
-gives_laid_into fip k l v w rs ds m = record { maps = m.maps; by = λ a to f h. m.code to f.instrs h; into = m.hands }
+gives_laid_into fip k l v w rs ds m = record { maps = m.maps; room = room_same k l m.hands.next; by = λ a to f h. m.code to f.instrs h; into = m.hands }
 
 pub ends_laid_tail : (s : Setting) (fip : Bool) (k k2 l : Known) (v w1 w2 w : Written) (f : ℕ) (rs results : List ℕ) → GivesUpLaid true k v k2 w1 → NoBares k.next k2.held → GivesUpLaid fip k2 w1 l w2 → AllGone fip k2 l → w ≡ added w2 (I.Tail f rs) → EndsLaid s fip k v f rs results Return l w
 ends_laid_tail s fip k k2 l v w1 w2 w f rs results a bares b gone e = subst (EndsLaid s fip k v f rs results Return l) (sym e) (record {
   maps = both.maps;
+  room = room_same k l both.next;
   by = λ ac to g h.
       let up = both.by to g (front (size v) w2 (added w2 (I.Tail f rs)) to g.instrs (added_extends w2 (I.Tail f rs)) h) in
       record {
@@ -306,6 +318,7 @@ ends_laid_tail s fip k k2 l v w1 w2 w f rs results a bares b gone e = subst (End
 pub ends_laid_call : (s : Setting) (fip : Bool) (k l : Known) (v w : Written) (f : ℕ) (rs results ds : List ℕ) → w ≡ added v (I.Call f rs ds) → l ≡ using k (received s k.held results ds) → EndsLaid s fip k v f rs results (Into ds) l w
 ends_laid_call s fip k l v w f rs results ds e g = subst (EndsLaid s fip k v f rs results (Into ds) l) (sym e) (record {
   maps = refl;
+  room = room_same k l (ap (λ (x : Known). x.next) g);
   by = λ a to x h. record {
     written = stands v (I.Call f rs ds) (size v) to x.instrs (omega arith) h;
     one = one_longer v (I.Call f rs ds);
@@ -356,6 +369,7 @@ operates_laid fip k h l v u w o p x y d target g room e ex b = on (subst (λ z. 
     on : Extends (added v i) w → GivesLaid fip h (added v i) (d ∷ []) target l w → OperatesLaid fip k v o p x y target l w
     on later c = record {
       maps = c.maps;
+      room = room_then k h l (goes_length target k (H.Scalar (result_type o)) d h g) room c.room;
       by = λ a to f s. (
         record {
           destination = d;
@@ -398,6 +412,7 @@ called s (Into ds) k m1 m l v w d rs qs e t x = record {
 pub calls_laid : (s : Setting) (fip : Bool) (k m1 m l : Known) (v w : Written) (g f : ℕ) (d : Instance) (rs qs : List ℕ) (target : Target) → joined (slice_get s.functions g) ≡ Some f → slice_get s.instances g ≡ Some d → m1 ≡ using k (handed k.held d.params rs) → TakesAll m1 d.credits rs qs m → EndsLaid s fip m v f qs d.results target l w → CallsLaid s fip k v g rs target l w
 calls_laid s fip k m1 m l v w g f d rs qs target a b e t c = record {
   maps = c.maps;
+  room = room_after k m l (t.next ∙ ap (λ (y : Known). y.next) e) (taken_length m1 d.credits t.credits m t.taken ∙ ap registers e ∙ handed_length k.held d.params rs) c.room;
   by = λ ac to x h.
       let handed_over : Accounted m1 = subst Accounted (sym e) (handed_accounted k d.params rs ac) in
       let kept = t.kept handed_over in

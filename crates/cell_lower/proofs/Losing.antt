@@ -1,9 +1,10 @@
 -- What is forgotten where instructions give up what is left, and where labels stand.
-use Rattle.std.proofs.Common.{◌≡◌, ap, ◌∙◌, ℕ, [], length}
+use Rattle.std.proofs.Common.{◌≡◌, ap, ◌∙◌, subst, ℕ, [], length}
 use Rattle.cell_code.specs.declared.code.Instr.TheVariants as I
-use Rattle.match_code.specs.Written.{Written, added, GivesUp, Extends, size}
+use Rattle.match_code.specs.Written.{Written, added, GivesUp, Extends, IsAt, size}
 use Rattle.match_code.proofs.Placing.{gives_none, gives_up_on, gives_one, same_extends, extends_on}
 use Rattle.lower_frame.proofs.Losing.{loses_same, loses_on, loses_nothing, loses_used, loses_taken, loses_widened}
+use Rattle.cell_lower.specs.Laying.{HasLabelAt}
 use Rattle.cell_lower.proofs.Shedding.{sheds_same, sheds_on, sheds_take, sheds_drop, sheds_free, sheds_widened}
 
 -- and instructions that give up
@@ -24,4 +25,7 @@ pub ruleset leaving = (loses_same, loses_on, loses_widened, loses_nothing, loses
 pub label_on : (v w z : Written) → Extends v w → w.instrs ≡ v.instrs → Extends w z → z.instrs ≡ w.instrs → Extends v z × (size z ≡ size v)
 label_on v w z a e b f = (extends_on v w z a b, ap length (f ∙ e))
 
-pub ruleset forgetting = (loses_same, same_extends, label_on)
+pub label_stands : (v u w : Written) (label : ℕ) → u.instrs ≡ v.instrs → IsAt w label (size u) → HasLabelAt w (size v)
+label_stands v u w label e at = record { label = label; placed = subst (IsAt w label) (ap length e) at }
+
+pub ruleset forgetting = (loses_same, same_extends, label_on, label_stands)

@@ -70,7 +70,7 @@ first_on k l m a b = record {
 
 -- patterns of the match's type
 
-typed_in : (tb : Table) (t : ℕ) (cs : Clauses) → WellMatchedClauses tb t cs → (i : ℕ) (q : Pattern) → slice_get (patterns_in cs) i ≡ Some q → IsPattern tb t (row_of q)
+pub typed_in : (tb : Table) (t : ℕ) (cs : Clauses) → WellMatchedClauses tb t cs → (i : ℕ) (q : Pattern) → slice_get (patterns_in cs) i ≡ Some q → IsPattern tb t (row_of q)
 typed_in tb t NoClauses w i q e = absurd (cc)
 typed_in tb t (MoreClauses p b cs) w zero q e = subst (λ z. IsPattern tb t (row_of z)) (same_some p q e) w.0
   where
@@ -82,7 +82,7 @@ abbrev pub count : Clauses → ℕ
 count NoClauses = 0
 count (MoreClauses q b cs) = suc (count cs)
 
-counted : (cs : Clauses) → length (patterns_in cs) ≡ count cs
+pub counted : (cs : Clauses) → length (patterns_in cs) ≡ count cs
 counted NoClauses = refl
 counted (MoreClauses q b cs) = ap suc (counted cs)
 
@@ -378,8 +378,8 @@ ends_some : (g : Matching) (target : B.Target) (n : ℕ) (k : Known) (v : Writte
 ends_some g B.Return n k v j u jl e ds f = absurd (cc)
 ends_some g (B.Into es) n k v j u jl e ds f = (e.joins.joined, e.joins.is)
 
-all_rows : (c : Rattle.cell_lower.specs.declared.choices.Choice.Choice) (q : Pattern) (cs : Clauses) → HasRows c → patterns_of c ≡ q ∷ patterns_in cs → suc (count cs) ≡ length c.rows.items
-all_rows c q cs h e = sym (same_length c.rows.items (patterns_of c) h.same ∙ ap length e ∙ ap suc (counted cs))
+pub same_rows : (c : Rattle.cell_lower.specs.declared.choices.Choice.Choice) → HasRows c → length c.rows.items ≡ length (patterns_of c)
+same_rows c h = same_length c.rows.items (patterns_of c) h.same
   where
     mapped : {A B : Type 0} (f : A → B) (xs : List A) → length (map f xs) ≡ length xs
     mapped f [] = refl
@@ -387,6 +387,9 @@ all_rows c q cs h e = sym (same_length c.rows.items (patterns_of c) h.same ∙ a
 
     same_length : (rs : List Row) (qs : List Pattern) → rows rs ≡ map row_of qs → length rs ≡ length qs
     same_length rs qs f = sym (mapped Rattle.match_knowledge.specs.View.row rs) ∙ ap length f ∙ mapped row_of qs
+
+all_rows : (c : Rattle.cell_lower.specs.declared.choices.Choice.Choice) (q : Pattern) (cs : Clauses) → HasRows c → patterns_of c ≡ q ∷ patterns_in cs → suc (count cs) ≡ length c.rows.items
+all_rows c q cs h e = sym (same_rows c h ∙ ap length e ∙ ap suc (counted cs))
 
 module _ (s : Setting) (k : Known) (v : Written) (a : Argument) (t : ℕ) (q : Pattern) (b : Block) (cs : Clauses) (g : Matching) (w0 : Written) (target : B.Target) (p0 p1 p2 : Progress) (w1 w2 : Written) (l : Known) (w : Written) (begun : Begins s k v a t q cs g w0) (at_start : sides_of p0.sides.items ≡ first_side ∷ []) (none : p0.clause ≡ 0) (unjoined : p0.joined ≡ None) (clause : ClauseIn s g (record { pattern = q; body = b }) target p0 w0 p1 w1) (clauses : ClausesIn s g cs target p1 w1 p2 w2) (ended : EndsMatch g p2.joined w2 l w) (typed_first : IsPattern s.types t (row_of q)) (typed_others : WellMatchedClauses s.types t cs) where
   abbrev m : Known

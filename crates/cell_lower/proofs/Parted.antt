@@ -26,13 +26,14 @@ use Rattle.cell_lower.specs.Growth.{Stay}
 use Rattle.cell_lower.specs.Laying.{AccountedAt, IntoAt, ResultsIn, GivesLaid, OperatesLaid, CallsLaid, HasPart, Underway, GivesValuesLaid, AppliesLaid, AppliedLaid}
 use Rattle.cell_lower.specs.Writing.{HandsOn, Kept, Movable, Named, Still, Computes, ComputesAll, Gives, Operates, CallsAt}
 use Rattle.cell_lower.proofs.Writing.{computes_none, computes_more, named_on, solid_on}
+use Rattle.cell_lower.proofs.Laying.{room_then}
 
 -- no label stands past the last one
 
 unequal_is : (i j : ℕ) → (i ≡ j → ⊥) → (i == j) ≡ false
 unequal_is i j ne = grind (arith, nat_tests)
 
-none_past : (high low : ℕ) (ms : List LabelMap) (p : ℕ) → Rising high low ms → high < p → label_at ms p ≡ None
+pub none_past : (high low : ℕ) (ms : List LabelMap) (p : ℕ) → Rising high low ms → high < p → label_at ms p ≡ None
 none_past high low [] p r lt = refl
 none_past high low (m ∷ ms) p r lt = ap (λ b. if b then Some m.kinds else label_at ms p) (unequal_is m.at p (λ e. absurd (omega (arith, e, lt, r.1)))) ∙ none_past high m.at ms p r.2 lt
 
@@ -74,7 +75,7 @@ under_on tb m l u w same le still many a room named under = record {
         none_some : None ≡ Some map → ⊥
         none_some x = absurd (cc)
 
-under_values : (s : Setting) (k m : Known) (v u : Written) (as' : Arguments) (rs : List ℕ) → ComputesAll s k v as' rs m u → Underway s.types k v → Underway s.types m u
+pub under_values : (s : Setting) (k m : Known) (v u : Written) (as' : Arguments) (rs : List ℕ) → ComputesAll s k v as' rs m u → Underway s.types k v → Underway s.types m u
 under_values s k m v u as' rs p under =
     under_on s.types k m v u p.maps p.extends.grows p.still p.as_many (p.kept under.accounts).0 (let a = p.room in let b = under.room in let c = p.as_many in omega (arith, a, b, c))
     (named_on k m under.accounts p.kept p.names p.grows under.named) under
@@ -120,6 +121,7 @@ values_laid s k m v u w as' rs p later under c to f many has = record {
 pub gives_values_laid : (s : Setting) (fip : Bool) (k m l : Known) (v u w : Written) (as' : Arguments) (rs : List ℕ) (target : Target) → ComputesAll s k v as' rs m u → Gives m u rs target l w → GivesLaid fip m u rs target l w → GivesValuesLaid s fip k v as' target l w
 gives_values_laid s fip k m l v u w as' rs target p given g = record {
   maps = same;
+  room = room_then k m l p.as_many p.room g.room;
   by = λ under c to f types many has. record {
     registers = rs;
     mid = size u;
@@ -143,6 +145,7 @@ gives_one_laid s fip k m l v u w a r target p given g = gives_values_laid s fip 
 pub applies_laid : (s : Setting) (fip : Bool) (k m l : Known) (v u w : Written) (g : ℕ) (as' : Arguments) (rs : List ℕ) (target : Target) → ComputesAll s k v as' rs m u → CallsAt s m u g rs target l w → CallsLaid s fip m u g rs target l w → AppliesLaid s fip k v g as' target l w
 applies_laid s fip k m l v u w g as' rs target p at call = record {
   maps = same;
+  room = room_then k m l p.as_many p.room call.room;
   by = λ under c to f types many has. record {
     registers = rs;
     mid = size u;
@@ -160,6 +163,7 @@ applies_laid s fip k m l v u w g as' rs target p at call = record {
 pub applied_laid : (s : Setting) (fip : Bool) (k m n l : Known) (v u x w : Written) (o : Operator) (p : Place) (a b : Argument) (q r : ℕ) (target : Target) → Computes s k v a q m u → Computes s m u b r n x → Operates n x o p q r target l w → OperatesLaid fip n x o p q r target l w → AppliedLaid s fip k v o p a b target l w
 applied_laid s fip k m n l v u x w o p a b q r target one two at operates = record {
   maps = same;
+  room = room_then k n l both.as_many both.room operates.room;
   by = λ under c to f types many has.
       let done = operates.by (at_end target n (both.kept under.accounts).0) to f (back (size v) (size x) w to f.instrs both.extends.grows has.code) in
       record {

@@ -237,7 +237,7 @@ is_code s n d k l v w code e f b h = record {
 
 -- the whole
 
-at_place : {A : Type 0} (P : A → Type 0) (xs : List A) (i : ℕ) (x : A) → Every P xs → slice_get xs i ≡ Some x → P x
+pub at_place : {A : Type 0} (P : A → Type 0) (xs : List A) (i : ℕ) (x : A) → Every P xs → slice_get xs i ≡ Some x → P x
 at_place P [] i x h e = absurd (cc)
 at_place P (y ∷ xs) zero x h e = subst P (same_some y x e) h.0
 at_place P (y ∷ xs) (suc i) x h e = at_place P xs i x h.1 e

@@ -23,10 +23,10 @@ use Rattle.lowered_code.specs.declared.held.Held.{Held}
 use Rattle.lowered_code.specs.declared.held.Held.TheVariants as H
 use Rattle.lowered_code.specs.Values.{Setting}
 use Rattle.laid_code.specs.Describing.{Holding, held_at}
-use Rattle.laid_code.specs.Labels.{Catches, Tells, Quiet}
+use Rattle.laid_code.specs.Labels.{Tells, Quiet}
 use Rattle.laid_code.specs.Matches.{wide_at, widened}
-use Rattle.laid_code.specs.Sights.{Sight}
-use Rattle.laid_code.specs.Tests.{ChunkLaid, SideLaid, SidesLaid, TestsLaid}
+use Rattle.laid_code.specs.Tests.{BeginsBody, ChunkLaid, SideLaid, SidesLaid}
+use Rattle.laid_code.proofs.Growing.{at_once}
 use Rattle.lower_frame.specs.Labels.{Rising, telling, untold}
 use Rattle.lower_frame.proofs.Labels.{rising_higher, rising_told}
 use Rattle.lower_frame.specs.Positions.{spot_of}
@@ -49,7 +49,7 @@ or_not : (b : Bool) → (b ≡ true) ⊎ (b ≡ false)
 or_not true = inl refl
 or_not false = inr refl
 
-refused : (m p : ℕ) (k : List Kind) (o : Option (List Kind)) → (m ≡ p → ⊥) → (if m == p then Some k else o) ≡ o
+pub refused : (m p : ℕ) (k : List Kind) (o : Option (List Kind)) → (m ≡ p → ⊥) → (if m == p then Some k else o) ≡ o
 refused m p k o ne = elim (or_not (m == p)) as (λ b. (if m == p then Some k else o) ≡ o) [
   | inl e ↦ absurd (ne (eqb-true m p e))
   | inr e ↦ ap (λ b. if b then Some k else o) e
@@ -68,13 +68,13 @@ told_last n low [] ks r = ap (λ b. if b then Some ks else None) (eq-eqb n n ref
 told_last n low (m ∷ ms) ks r = let h = last_above n m.at ms ks r.2 in
     refused m.at n m.kinds (label_at (ms ++ record { at = n; kinds = ks } ∷ []) n) (λ e. absurd (omega (arith, h, e))) ∙ told_last n m.at ms ks r.2
 
-told_here : (n : ℕ) (ks : List Kind) (ms : List LabelMap) → 0 < n → Rising n 0 ms → label_at (telling n ks ms) n ≡ Some ks
+pub told_here : (n : ℕ) (ks : List Kind) (ms : List LabelMap) → 0 < n → Rising n 0 ms → label_at (telling n ks ms) n ≡ Some ks
 told_here zero ks ms lt r = absurd (omega (arith, lt))
 told_here (suc n) ks ms lt r = told_last (suc n) 0 (untold (suc n) ms) ks (rising_told (suc n) ks ms r)
 
 -- what registers hold
 
-widened_again : (h : Held) → widened (widened h) ≡ widened h
+pub widened_again : (h : Held) → widened (widened h) ≡ widened h
 widened_again H.Nothing = refl
 widened_again (H.Scalar t) = refl
 widened_again (H.Owned t b) = refl
@@ -82,7 +82,7 @@ widened_again (H.Lent t root) = refl
 widened_again (H.Credit n) = refl
 widened_again (H.Bare t c) = refl
 
-never_built : (h : Held) (t d : ℕ) → widened h ≡ H.Owned t (Some d) → ⊥
+pub never_built : (h : Held) (t d : ℕ) → widened h ≡ H.Owned t (Some d) → ⊥
 never_built H.Nothing t d e = absurd (cc)
 never_built (H.Scalar u) t d e = absurd (cc)
 never_built (H.Owned u b) t d e = absurd (cc)
@@ -96,16 +96,18 @@ wide_alike w hs = record { held = λ r. widened_again (held_at hs r); built = λ
 -- parts of a function
 
 module _ (to : ℕ → ℕ) (f : PlainFunction) where
-  front_part : (v w z : Written) → Extends w z → HasPart (size v) z to f → HasPart (size v) w to f
+  pub front_part : (v w z : Written) → Extends w z → HasPart (size v) z to f → HasPart (size v) w to f
   front_part v w z e h = record {
     code = front (size v) w z to f.instrs e h.code;
     told = λ p low high. h.told p low (let g = e.grows in omega (arith, g, high)) ∙ e.told p high;
+    labels = λ label p at. h.labels label p (e.placed label p at);
   }
 
-  back_part : (v w z : Written) → Extends v w → HasPart (size v) z to f → HasPart (size w) z to f
+  pub back_part : (v w z : Written) → Extends v w → HasPart (size v) z to f → HasPart (size w) z to f
   back_part v w z e h = record {
     code = back (size v) (size w) z to f.instrs e.grows h.code;
     told = λ p low high. h.told p (let g = e.grows in omega (arith, g, low)) high;
+    labels = h.labels;
   }
 
 sides_more : (c : PlainCode) (f : PlainFunction) (g : Holding) (ch : Rattle.laid_code.specs.Tests.Choice) (m n a b e : ℕ) → SidesLaid c f g ch m a b → SidesLaid c f g ch n b e → (k : ℕ) × SidesLaid c f g ch k a e
@@ -153,16 +155,28 @@ module _ (st : Setting) (hs : List Held) (s : Scene) (v w z : Written) (d : Side
       chunk = chunk_laid (wide_at (held_at hs)) (at kinds) label tried there goes side_quiet;
     }
 
-    -- its label takes what is told there
-    side_caught : (label : ℕ) → to label ≡ size v → (size z ≤ size v → (is_some (label_at f.labels (size v)) ≡ true) × ((g : Holding) → Alike c.types hs g → (m : ℕ → Kind) → Sight c.types g s.type s.root d.known d.read m → Catches f (size v) m)) → CaughtAt c f hs (choice_at to s) (size v) d.known d.read (to label)
-    side_caught label place empty = subst (CaughtAt c f hs (choice_at to s) (size v) d.known d.read) (sym place) (by (le_or_less (size z) (size v)))
+    -- its label takes what is told there, or the body of clause i begins there
+    side_caught : (label entry : ℕ) → to label ≡ size v → ((g : Holding) → Alike c.types hs g → Tried c f g (choice_at to s) (size v) d.known d.read i (size w)) → slice_get s.entries i ≡ Some entry → Goes (to entry) → size v ≤ size w → (size z ≤ size v → is_some (label_at f.labels (size v)) ≡ true) → CaughtAt c f hs (choice_at to s) (size v) d.known d.read (to label)
+    side_caught label entry place tried there goes grows empty = subst (CaughtAt c f hs (choice_at to s) (size v) d.known d.read) (sym place) (by (le_or_less (size z) (size v)))
       where
+        begins : (g : Holding) → Tried c f g (choice_at to s) (size v) d.known d.read i (size w) → size z ≤ size v → Goes (to entry) → BeginsBody c f (choice_at to s) (size v) d.known d.read
+        begins g t le (inl h) = absurd (let e = h.2 in let x : ⊥ = omega (arith, grows, le, e) in x)
+        begins g t le (inr h) =
+            let e = h.1 in
+            let same : size w ≡ size v = omega (arith, grows, le, e) in
+            record {
+              steps = t.0;
+              clause = i;
+              chosen = at_once f c g (choice_at to s) t.0 (size v) d.known d.read i (size w) same t.1;
+              entry = slice_get-map to s.entries i ∙ ap (option_map to) there ∙ ap Some (h.0 ∙ same);
+            }
+
         by : (size z ≤ size v) ⊎ (size v < size z) → CaughtAt c f hs (choice_at to s) (size v) d.known d.read (size v)
-        by (inl le) = let e = empty le in record { behind = omega arith; label = e.0; takes = e.1 }
+        by (inl le) = record { behind = omega arith; label = empty le; takes = λ g alike. inr (begins g (tried g alike) le goes) }
         by (inr lt) = record {
           behind = omega arith;
           label = ap is_some (told_at lt);
-          takes = λ g alike m sight. record { map = kinds; there = told_at lt; takes = record { wide = sighted.wide; each = sighted.takes g alike m sight } };
+          takes = λ g alike. inl (λ m sight. record { map = kinds; there = told_at lt; takes = record { wide = sighted.wide; each = sighted.takes g alike m sight } });
         }
 
 -- turns
@@ -213,7 +227,7 @@ module _ (st : Setting) (hs : List Held) (ch : Choice) where
       label : ℕ
       there : slice_get s.entries j ≡ Some label
       goes : Goes st hs s v w z d new j c to f (to label)
-      empty : 0 < size v → size z ≤ size v → (is_some (label_at f.labels (size v)) ≡ true) × ((g : Holding) → Alike c.types hs g → Tried c f g (choice_at to s) (size v) d.known d.read j (size w) → (m : ℕ → Kind) → Sight c.types g s.type s.root d.known d.read m → Catches f (size v) m)
+      empty : 0 < size v → size z ≤ size v → is_some (label_at f.labels (size v)) ≡ true
 
     turn_laid : (last : Bool) (i j : ℕ) (v w z : Written) (ds ds0 : List Side) (d : Side) (es : List Side) → ds0 ≡ ds ++ d ∷ [] → Ready start v ds0 → (g : FollowsIn s (told_of d) v d ds w es j) → Extends w z → z.maps ≡ w.maps →
         ((c : PlainCode) (to : ℕ → ℕ) (f : PlainFunction) → Premises st hs s i v ds0 z es last c to f → Went v w z d g.new j c to f) → (last ≡ true → Every (RuledSide s i) es → Every (RuledSide s (suc i)) es) → ChoosesLaidIn st hs s i v ds0 z es last
@@ -253,8 +267,7 @@ module _ (st : Setting) (hs : List Held) (ch : Choice) where
             let later = (every_split (LaterSide (size v)) ds (d ∷ []) (subst (Every (LaterSide (size v))) e p.later)).1.0 labelled in
             let sighted = sighted c f st hs s p.types p.scalars is p.long p.inside p.fresh d.known d.read seen in
             let caught = (every_split (Caught c f hs (choice_at to s) to (size z)) ds g.new (subst (Every (Caught c f hs (choice_at to s) to (size z))) g.behind p.caught)).0 in
-            let one = side_caught st hs s v w z d g.new j c to f told p.rising later p.part sighted l (p.part.code.at l (size v) (longer.placed l (size v) tells.0))
-            (λ le. let y = on.empty later le in (y.0, λ h alike m sight. y.1 h alike (tried c to f p h alike) m sight)) in (
+            let one = side_caught st hs s v w z d g.new j c to f told p.rising later p.part sighted l on.label (p.part.code.at l (size v) (longer.placed l (size v) tells.0)) (tried c to f p) on.there on.goes g.extends.grows (on.empty later) in (
               1,
               (size z, side_laid st hs s v w z d g.new j c to f told p.rising later p.part sighted on.label (tried c to f p (wide_at (held_at hs)) (wide_alike c.types hs)) on.there on.goes, refl),
               subst (Every (Caught c f hs (choice_at to s) to (size v))) (sym e) (every_append (Caught c f hs (choice_at to s) to (size v)) ds (d ∷ [])
@@ -300,11 +313,8 @@ module _ (st : Setting) (hs : List Held) (ch : Choice) where
           label = x.label;
           there = x.there;
           goes = inr (x.place, refl);
-          empty = λ later le. let same : size w ≡ size v = (let b = g.extends.grows in omega (arith, b, le)) in (
-            subst (λ n. is_some (label_at f.labels n) ≡ true) same (x.told (omega (arith, later, same))),
-            λ h alike tried m sight. subst (λ n. Catches f n m) same (x.takes (omega (arith, later, same)) h alike d.known d.read
-                (subst (λ n. Tried c f h (choice_at to (scene st.types low ch)) n d.known d.read i (size w)) (sym same) tried) m sight),
-          );
+          empty = λ later le. let same : size w ≡ size v = (let b = g.extends.grows in omega (arith, b, le)) in
+              subst (λ n. is_some (label_at f.labels n) ≡ true) same (x.told (omega (arith, later, same)));
         })
         (λ t h. ruled_next st.types low ch has i es missed h);
   }

@@ -54,16 +54,16 @@ as_long r k [] = refl
 as_long zero k (x ∷ ks) = refl
 as_long (suc r) k (x ∷ ks) = ap suc (as_long r k ks)
 
-told_kind : (w : Table) (hs : List Held) (r : ℕ) → at (kinds_told w hs) r ≡ kind_of w (widened (held_at hs r))
+pub told_kind : (w : Table) (hs : List Held) (r : ℕ) → at (kinds_told w hs) r ≡ kind_of w (widened (held_at hs r))
 told_kind w [] r = refl
 told_kind w (h ∷ hs) zero = refl
 told_kind w (h ∷ hs) (suc r) = told_kind w hs r
 
-told_long : (w : Table) (hs : List Held) → length (kinds_told w hs) ≡ length hs
+pub told_long : (w : Table) (hs : List Held) → length (kinds_told w hs) ≡ length hs
 told_long w [] = refl
 told_long w (h ∷ hs) = ap suc (told_long w hs)
 
-get_held : (hs : List Held) (r : ℕ) → get_or hs r H.Nothing ≡ held_at hs r
+pub get_held : (hs : List Held) (r : ℕ) → get_or hs r H.Nothing ≡ held_at hs r
 get_held [] r = refl
 get_held (h ∷ hs) zero = refl
 get_held (h ∷ hs) (suc r) = get_held hs r
@@ -313,7 +313,7 @@ from_self : (o : Option From) → takes_from o o ≡ true
 from_self None = refl
 from_self (Some g) = both_true (g.register == g.register) (g.field == g.field) (eq-eqb g.register g.register refl) (eq-eqb g.field g.field refl)
 
-fits_self : (k : Kind) → fits k k ≡ true
+pub fits_self : (k : Kind) → fits k k ≡ true
 fits_self K.Gone = refl
 fits_self (K.Scalar t) = eq-eqb t t refl
 fits_self (K.Owned t s) = both_true (t == t) (is_subset s s) (eq-eqb t t refl) (subset_by s s (λ x a. is_has s x a))
@@ -322,10 +322,10 @@ fits_self (K.Lent t s root from) =
     (both_true (is_subset s s) (same_root root root && takes_from from from) (subset_by s s (λ x a. is_has s x a)) (both_true (same_root root root) (takes_from from from) (root_self root) (from_self from)))
 fits_self (K.Credit n) = eq-eqb n n refl
 
-fits_same : (k l : Kind) → l ≡ k → fits k l ≡ true
+pub fits_same : (k l : Kind) → l ≡ k → fits k l ≡ true
 fits_same k l e = ap (fits k) e ∙ fits_self k
 
-numbers_has : (i n x : ℕ) → i ≤ x → x < i + n → has (numbers i n) x ≡ true
+pub numbers_has : (i n x : ℕ) → i ≤ x → x < i + n → has (numbers i n) x ≡ true
 numbers_has i zero x low high = absurd (omega (arith, low, high))
 numbers_has i (suc n) x low high = elim (or_not (i == x)) [
   | inl e ↦ ap (λ b. b || has (numbers (suc i) n) x) e

@@ -16,7 +16,7 @@ use Rattle.lowered_code.specs.declared.held.Held.{Held}
 use Rattle.lowered_code.specs.declared.held.Held.TheVariants as H
 use Rattle.lowered_code.specs.Values.{Setting, is_scalar}
 use Rattle.laid_code.specs.Describing.{Holding, held_at}
-use Rattle.laid_code.specs.Labels.{Catches, Tells}
+use Rattle.laid_code.specs.Labels.{Tells}
 use Rattle.laid_code.specs.Matches.{wide_at}
 use Rattle.laid_code.specs.Sights.{Sight}
 use Rattle.laid_code.specs.Tests.{ChunkLaid, SidesLaid}
@@ -24,7 +24,7 @@ use Rattle.lower_frame.specs.Labels.{Rising}
 use Rattle.cell_lower.specs.declared.choices.Choice.{Choice}
 use Rattle.cell_lower.specs.Laying.{HasPart}
 use Rattle.cell_lower.specs.Scenes.{scene, HasRows, first_side, HasLabel, Labelled, Ready}
-use Rattle.cell_lower.specs.Testing.{Alike, choice_at, Caught, Tried, SeenSide}
+use Rattle.cell_lower.specs.Testing.{Alike, choice_at, Caught, SeenSide}
 
 -- no value that comes to a side matches a clause before n
 abbrev pub RuledSide : Scene → ℕ → Side → Type 0
@@ -42,15 +42,12 @@ pub record Sighted (c : PlainCode) (f : PlainFunction) (hs : List Held) (s : Sce
   pub takes : (g : Holding) → Alike c.types hs g → (m : ℕ → Kind) → Sight c.types g s.type s.root known read m →
       (r : ℕ) → fits (at kinds r) (m r) ≡ true
 
--- The body of clause i begins at p. A label there takes what is told where it is chosen without an instruction.
-pub record Enters (c : PlainCode) (f : PlainFunction) (hs : List Held) (to : ℕ → ℕ) (s : Scene) (i p : ℕ) : Type 0 where
+-- The body of clause i begins at p, and a label stands there, but at the start of a function.
+pub record Enters (f : PlainFunction) (to : ℕ → ℕ) (s : Scene) (i p : ℕ) : Type 0 where
   pub label : ℕ
   pub there : slice_get s.entries i ≡ Some label
   pub place : to label ≡ p
   pub told : 0 < p → is_some (label_at f.labels p) ≡ true
-  pub takes : 0 < p → (g : Holding) → Alike c.types hs g → (known : Known) (read : List ℕ) →
-      Tried c f g (choice_at to s) p known read i p → (m : ℕ → Kind) →
-      Sight c.types g s.type s.root known read m → Catches f p m
 
 -- What is so of a function that has what was written from v to w, of the registers before the match, and of the sides
 -- that were to be written and those that still are: these have labels behind it, and so have the clauses whose bodies
@@ -69,7 +66,7 @@ pub record Premises (st : Setting) (hs : List Held) (s : Scene) (i : ℕ) (v : W
   pub fresh : (z : ℕ) → Among z (below s.root) → (z < length hs) × (held_at hs z ≡ H.Nothing)
   pub caught : Every (Caught c f hs (choice_at to s) to (size w)) es
   pub onward : (j label : ℕ) → i ≤ j → slice_get s.entries j ≡ Some label → size w ≤ to label
-  pub enters : last ≡ true → Enters c f hs to s i (size w)
+  pub enters : last ≡ true → Enters f to s i (size w)
 
 -- the sides are laid out, and their labels take what is told there
 abbrev pub LaidSides :

@@ -1,6 +1,6 @@
 -- It serves the proof that lowered code is laid out as asked: what the parts of the lowering of a function have laid
 -- out in each function that has what they have written, from v, where k was known, to w, where l is known.
-use Rattle.std.specs.Prelude.{◌≡◌, ◌⊎◌, ◌≤◌, ◌<◌, ℕ, suc, Bool, false, is_some, List, Some, get_or}
+use Rattle.std.specs.Prelude.{◌≡◌, ◌⊎◌, ◌≤◌, ◌<◌, ℕ, suc, Bool, true, false, is_some, List, Some, get_or}
 use Rattle.fip_language.specs.declared.limits.TheConstants.{MOST_FIELDS}
 use Rattle.fip_language.specs.declared.Operator.{Operator}
 use Rattle.fip_language.specs.declared.Place.{Place}
@@ -13,7 +13,7 @@ use Rattle.lowered_code.specs.declared.held.Held.TheVariants as H
 use Rattle.lowered_code.specs.Known.{Known, using}
 use Rattle.lowered_code.specs.Values.{Setting}
 use Rattle.lowered_code.specs.Bodies.{Target, Return, Into, received}
-use Rattle.match_code.specs.Written.{Written, size, Extends, HasFrom}
+use Rattle.match_code.specs.Written.{Written, size, Extends, HasFrom, IsAt}
 use Rattle.laid_code.specs.Credits.{LastGone}
 use Rattle.laid_code.specs.Describing.{held_at, kinds_of}
 use Rattle.laid_code.specs.Labels.{Tells}
@@ -72,6 +72,7 @@ pub record ResultsIn (k : Known) (v : Written) (ds : List ℕ) (l : Known) (w : 
 pub record GivesLaid (fip : Bool) (k : Known) (v : Written) (rs : List ℕ) (target : Target) (l : Known)
     (w : Written) : Type 0 where
   pub maps : w.maps ≡ v.maps
+  pub room : HasRoom k l
   pub by : AccountedAt target k → (to : ℕ → ℕ) (f : PlainFunction) → HasFrom (size v) w to f.instrs →
       GivenLaid fip f (size v) k rs target (size w) l
   pub into : IntoAt target (λ ds. HandsOn k v rs ds l w)
@@ -80,6 +81,7 @@ pub record GivesLaid (fip : Bool) (k : Known) (v : Written) (rs : List ℕ) (tar
 pub record OperatesLaid (fip : Bool) (k : Known) (v : Written) (o : Operator) (p : Place) (x y : ℕ) (target : Target)
     (l : Known) (w : Written) : Type 0 where
   pub maps : w.maps ≡ v.maps
+  pub room : HasRoom k l
   pub by : AccountedAt target k → (to : ℕ → ℕ) (f : PlainFunction) → HasFrom (size v) w to f.instrs →
       (operation : OperationLaid fip f (size v) k o p x y target (size w) l) × HasRoom k operation.holds
   pub into : IntoAt target (λ ds. ResultsIn k v ds l w)
@@ -87,6 +89,7 @@ pub record OperatesLaid (fip : Bool) (k : Known) (v : Written) (o : Operator) (p
 pub record EndsLaid (s : Setting) (fip : Bool) (k : Known) (v : Written) (g : ℕ) (rs results : List ℕ)
     (target : Target) (l : Known) (w : Written) : Type 0 where
   pub maps : w.maps ≡ v.maps
+  pub room : HasRoom k l
   pub by : AccountedAt target k → (to : ℕ → ℕ) (f : PlainFunction) → HasFrom (size v) w to f.instrs →
       EndsCallLaid s fip f (size v) k g rs results target (size w) l
   pub into : IntoAt target (λ ds. (l ≡ using k (received s k.held results ds)) × (size w ≡ suc (size v)))
@@ -95,6 +98,7 @@ pub record EndsLaid (s : Setting) (fip : Bool) (k : Known) (v : Written) (g : �
 pub record CallsLaid (s : Setting) (fip : Bool) (k : Known) (v : Written) (g : ℕ) (rs : List ℕ) (target : Target)
     (l : Known) (w : Written) : Type 0 where
   pub maps : w.maps ≡ v.maps
+  pub room : HasRoom k l
   pub by : Accounted k → (to : ℕ → ℕ) (f : PlainFunction) → HasFrom (size v) w to f.instrs →
       CallLaid s fip f (size v) k g rs target (size w) l
   pub into : IntoAt target (λ ds. ResultsIn k v ds l w)
@@ -107,16 +111,23 @@ is_built (H.Lent t root) = false
 is_built (H.Credit n) = false
 is_built (H.Bare t c) = false
 
--- where the tree in a register was just built, this is forgotten, and what is known then is told here
+-- a label has its place here
+pub record HasLabelAt (w : Written) (p : ℕ) : Type 0 where
+  pub label : ℕ
+  pub placed : IsAt w label p
+
+-- where the tree in a register was just built, this is forgotten, and what is known then is told here, at a label
 abbrev pub ForgetsLaid : Table → ℕ → Known → Written → Known → Written → Type 0
 ForgetsLaid tb r k v l w =
     ((l ≡ k) × (w.maps ≡ v.maps) × (is_built (get_or k.held r H.Nothing) ≡ false))
-    ⊎ ((l ≡ wide k) × (w.maps ≡ telling (size v) (kinds_told tb l.held) v.maps))
+    ⊎ ((l ≡ wide k) × (w.maps ≡ telling (size v) (kinds_told tb l.held) v.maps) × HasLabelAt w (size v))
 
--- a function has what is written from n on, where labels are at these places, with what is told there
+-- A function has what is written from n on, where labels are at these places, with what is told there. Where a label has
+-- its place, but for the first instruction, something is told.
 pub record HasPart (n : ℕ) (w : Written) (to : ℕ → ℕ) (f : PlainFunction) : Type 0 where
   pub code : HasFrom n w to f.instrs
   pub told : (p : ℕ) → n ≤ p → p < size w → label_at f.labels p ≡ label_at w.maps p
+  pub labels : (label p : ℕ) → IsAt w label p → 0 < p → is_some (label_at f.labels p) ≡ true
 
 -- this is so in each function of n registers, of a code with these types, that has what is written in w behind v
 abbrev pub InFunction : Table → ℕ → Written → Written → (PlainCode → PlainFunction → Type 0) → Type 0
@@ -136,6 +147,7 @@ pub record Underway (tb : Table) (k : Known) (v : Written) : Type 0 where
 pub record GivesValuesLaid (s : Setting) (fip : Bool) (k : Known) (v : Written) (as' : Arguments) (target : Target)
     (l : Known) (w : Written) : Type 0 where
   pub maps : w.maps ≡ v.maps
+  pub room : HasRoom k l
   pub by : Underway s.types k v → InFunction s.types (registers k) v w
       (λ c f. GiveLaid c s fip f (size v) k as' target (size w) l)
   pub into : IntoAt target (λ ds. Underway s.types k v → AllSolid k ds → Underway s.types l w)
@@ -144,6 +156,7 @@ pub record GivesValuesLaid (s : Setting) (fip : Bool) (k : Known) (v : Written) 
 pub record AppliesLaid (s : Setting) (fip : Bool) (k : Known) (v : Written) (g : ℕ) (as' : Arguments)
     (target : Target) (l : Known) (w : Written) : Type 0 where
   pub maps : w.maps ≡ v.maps
+  pub room : HasRoom k l
   pub by : Underway s.types k v → InFunction s.types (registers k) v w
       (λ c f. CalledLaid c s fip f (size v) k g as' target (size w) l)
   pub into : IntoAt target (λ ds. Underway s.types k v → AllSolid k ds → Underway s.types l w)
@@ -152,6 +165,7 @@ pub record AppliesLaid (s : Setting) (fip : Bool) (k : Known) (v : Written) (g :
 pub record AppliedLaid (s : Setting) (fip : Bool) (k : Known) (v : Written) (o : Operator) (p : Place)
     (a b : Argument) (target : Target) (l : Known) (w : Written) : Type 0 where
   pub maps : w.maps ≡ v.maps
+  pub room : HasRoom k l
   pub by : Underway s.types k v → InFunction s.types (registers k) v w
       (λ c f. OperatorLaid c s fip f (size v) k o p a b target (size w) l)
   pub into : IntoAt target (λ ds. Underway s.types k v → AllSolid k ds → Underway s.types l w)

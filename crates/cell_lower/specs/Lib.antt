@@ -8,8 +8,14 @@ pub mod Testing
 pub mod Scenes
 pub mod Writing
 pub mod Laying
+pub mod Bodies
+pub mod Marks
+pub mod Leaving
 pub mod Chosen
 pub mod Clauses
+pub mod Matches
 pub mod Lowered
 pub mod Sizes
+pub mod Instances
 pub mod Small
+pub mod LaidProgram

@@ -16,9 +16,7 @@ use Rattle.match_code.specs.Written.{Written, size, HasFrom, IsAt}
 use Rattle.lowered_code.specs.declared.held.Held.{Held}
 use Rattle.laid_code.specs.Describing.{Holding, held_at}
 use Rattle.laid_code.specs.Matches.{BuiltRight, widened}
-use Rattle.laid_code.specs.Labels.{Catches}
-use Rattle.laid_code.specs.Sights.{Sight}
-use Rattle.laid_code.specs.Tests.{Choice, TestsLaid}
+use Rattle.laid_code.specs.Tests.{Choice, TakenAt, TestsLaid}
 use Rattle.lower_frame.specs.Labels.{telling}
 use Rattle.cell_lower.specs.Seen.{Seen}
 
@@ -37,13 +35,13 @@ pub record Alike (w : Table) (hs : List Held) (g : Holding) : Type 0 where
   pub held : (r : ℕ) → widened (g r) ≡ widened (held_at hs r)
   pub built : (r : ℕ) → BuiltRight w (g r)
 
--- A label has its place at n or behind, and takes what is known there, whatever was built before the match.
+-- A label has its place at n or behind, and takes what is known there, whatever was built before the match, or the body
+-- of a clause begins there.
 pub record CaughtAt (c : PlainCode) (f : PlainFunction) (hs : List Held) (ch : Choice) (n : ℕ) (known : Known)
     (read : List ℕ) (place : ℕ) : Type 0 where
   pub behind : n ≤ place
   pub label : is_some (label_at f.labels place) ≡ true
-  pub takes : (g : Holding) → Alike c.types hs g → (m : ℕ → Kind) →
-      Sight c.types g ch.type ch.root known read m → Catches f place m
+  pub takes : (g : Holding) → Alike c.types hs g → TakenAt c f g ch place known read
 
 abbrev pub CaughtBy :
     PlainCode → PlainFunction → List Held → Choice → (ℕ → ℕ) → ℕ → Known → List ℕ → Option ℕ → Type 0

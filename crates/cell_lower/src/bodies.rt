@@ -1,16 +1,20 @@
 // Bodies of functions.
-ghost use Rattle.std.specs.Prelude.{◌≡◌, not, IfOk, OnOk, slice_get};
+ghost use Rattle.std.specs.Prelude.{◌≡◌, ◌<◌, ℕ, not, IfOk, OnOk, drop, length, slice_get};
 ghost use Rattle.fip_trees.specs.Tree as T;
 ghost use Rattle.fip_trees.specs.TreeView as V;
 ghost use Rattle.lowered_code.specs.Bodies as B;
 ghost use Rattle.match_code.specs.WellMatched.{WellMatched, WellMatchedBlock};
+ghost use Rattle.lower_frame.specs.Registers.{HasRoom};
+ghost use Rattle.cell_lower.specs.Bodies.{span, span_block, span_clauses, Asked, AskedBlock, AskedClauses};
+ghost use Rattle.cell_lower.specs.Bodies.{Lays, LaysBlock, LaysLet};
 ghost use Rattle.cell_lower.specs.Clauses.{WritesClause, WritesClauses};
 ghost use Rattle.cell_lower.specs.Laying.{AppliedLaid, AppliesLaid, GivesValuesLaid};
+ghost use Rattle.cell_lower.specs.Matches.{ClauseLays, ClausesLay};
 ghost use Rattle.cell_lower.specs.Writing.{setting, target_of, named_at, AppliesTo, Binds, GivesValues, Writes};
 ghost use Rattle.cell_lower.specs.Writing.{WritesBlock};
 
 use crate::calls::Applied;
-use crate::lowerer::{Lowerer, Target};
+use crate::lowerer::{Lowerer, Target, is_destructive};
 use crate::matches::{Matching, Progress, Written};
 use fip_base::plain::NoMemory;
 use fip_trees::program::{Argument, Binder, Binding, Block, Clause, Expression};
@@ -23,7 +27,13 @@ impl<'a> Lowerer<'a> {
         ensures writes { OnOk result (WellMatchedBlock self.old.context.now.program.now.types (V.block block.now) →
             WritesBlock (setting self.old.context.now) self.old.frame self.old.buffer (V.block block.now)
             (target_of target.entry) self.new.frame self.new.buffer) }
+        ensures laid { OnOk result (AskedBlock (setting self.old.context.now) (drop 1 self.old.walk.needs.now)
+            (V.block block.now) → LaysBlock (setting self.old.context.now) (not self.old.gives_up) self.old.frame
+            self.old.buffer (V.block block.now) (target_of target.entry) self.new.frame self.new.buffer) }
         ensures context { OnOk result (self.new.context ≡ self.old.context) }
+        ensures gives_up { OnOk result (self.new.gives_up ≡ self.old.gives_up) }
+        ensures walk { OnOk result (self.new.walk.needs.now ≡
+            drop (span_block (V.block block.now)) self.old.walk.needs.now) }
     {
         self.walk.enter();
         for binding in &block.bindings {
@@ -40,7 +50,14 @@ impl<'a> Lowerer<'a> {
         ensures binds { OnOk result (WellMatched self.old.context.now.program.now.types (V.binding binding.now).bound →
             Binds (setting self.old.context.now) self.old.frame self.old.buffer (V.binding binding.now).binders
             (V.binding binding.now).bound self.new.frame self.new.buffer) }
+        ensures laid { OnOk result (Asked (setting self.old.context.now) self.old.walk.needs.now
+            (V.binding binding.now).bound → 0 < length (V.binding binding.now).binders →
+            LaysLet (setting self.old.context.now) (not self.old.gives_up) self.old.frame self.old.buffer
+            (V.binding binding.now).binders (V.binding binding.now).bound self.new.frame self.new.buffer) }
         ensures context { OnOk result (self.new.context ≡ self.old.context) }
+        ensures gives_up { OnOk result (self.new.gives_up ≡ self.old.gives_up) }
+        ensures walk { OnOk result (self.new.walk.needs.now ≡
+            drop (span (V.binding binding.now).bound) self.old.walk.needs.now) }
     {
         match &binding.bound {
             Expression::Give(argument) => {
@@ -69,6 +86,8 @@ impl<'a> Lowerer<'a> {
     fn name_all(&mut self, binders: &[Binder], registers: &[u16])
         ensures named { self.new.frame ≡ B.with_names self.old.frame binders.now registers.now }
         ensures context { self.new.context ≡ self.old.context }
+        ensures gives_up { self.new.gives_up ≡ self.old.gives_up }
+        ensures walk { self.new.walk ≡ self.old.walk }
         ensures buffer { self.new.buffer ≡ self.old.buffer }
     {
         let mut place = 0;
@@ -81,6 +100,8 @@ impl<'a> Lowerer<'a> {
     fn name_one(&mut self, binder: &Binder, registers: &[u16], place: usize)
         ensures named { self.new.frame ≡ named_at self.old.frame binder.now (slice_get registers.now place) }
         ensures context { self.new.context ≡ self.old.context }
+        ensures gives_up { self.new.gives_up ≡ self.old.gives_up }
+        ensures walk { self.new.walk ≡ self.old.walk }
         ensures buffer { self.new.buffer ≡ self.old.buffer }
     {
         if let Some(register) = registers.get(place) {
@@ -93,7 +114,10 @@ impl<'a> Lowerer<'a> {
     fn reserve(&mut self, binders: &[Binder]) -> Result<Vec<u16>, NoMemory>
         ensures registers { IfOk result (λ rs. rs.items ≡ B.registers_for self.old.frame.next binders.now) }
         ensures reserved { OnOk result (self.new.frame ≡ B.reserved self.old.frame binders.now) }
+        ensures room { OnOk result (HasRoom self.old.frame self.new.frame) }
         ensures context { OnOk result (self.new.context ≡ self.old.context) }
+        ensures gives_up { OnOk result (self.new.gives_up ≡ self.old.gives_up) }
+        ensures walk { OnOk result (self.new.walk ≡ self.old.walk) }
         ensures buffer { OnOk result (self.new.buffer ≡ self.old.buffer) }
     {
         let mut registers = Vec::new(self.context.alloc);
@@ -109,7 +133,13 @@ impl<'a> Lowerer<'a> {
         ensures writes { OnOk result (WellMatched self.old.context.now.program.now.types (V.expression expression.now) →
             Writes (setting self.old.context.now) self.old.frame self.old.buffer (V.expression expression.now)
             (target_of target.entry) self.new.frame self.new.buffer) }
+        ensures laid { OnOk result (Asked (setting self.old.context.now) self.old.walk.needs.now
+            (V.expression expression.now) → Lays (setting self.old.context.now) (not self.old.gives_up) self.old.frame
+            self.old.buffer (V.expression expression.now) (target_of target.entry) self.new.frame self.new.buffer) }
         ensures context { OnOk result (self.new.context ≡ self.old.context) }
+        ensures gives_up { OnOk result (self.new.gives_up ≡ self.old.gives_up) }
+        ensures walk { OnOk result (self.new.walk.needs.now ≡
+            drop (span (V.expression expression.now)) self.old.walk.needs.now) }
     {
         match expression {
             Expression::Give(argument) => {
@@ -150,7 +180,7 @@ impl<'a> Lowerer<'a> {
                 ..
             } => {
                 let written = Written {
-                    takes: self.takes_apart(*kind, *ty),
+                    destructive: is_destructive(*kind),
                     ty: *ty,
                     scrutinee,
                     first,
@@ -175,6 +205,8 @@ impl<'a> Lowerer<'a> {
         ensures writes { OnOk result (Writes (setting self.old.context.now) self.old.frame self.old.buffer
             (T.Give (V.argument argument.now)) (target_of target.entry) self.new.frame self.new.buffer) }
         ensures context { OnOk result (self.new.context ≡ self.old.context) }
+        ensures gives_up { OnOk result (self.new.gives_up ≡ self.old.gives_up) }
+        ensures walk { OnOk result (self.new.walk.needs.now ≡ drop 1 self.old.walk.needs.now) }
         ensures laid { OnOk result (GivesValuesLaid (setting self.old.context.now) (not self.old.gives_up)
             self.old.frame self.old.buffer (T.MoreArguments (V.argument argument.now) T.NoArguments)
             (target_of target.entry) self.new.frame self.new.buffer) }
@@ -190,6 +222,8 @@ impl<'a> Lowerer<'a> {
         ensures gives { OnOk result (GivesValues (setting self.old.context.now) self.old.frame self.old.buffer
             (V.arguments arguments.now) (target_of target.entry) self.new.frame self.new.buffer) }
         ensures context { OnOk result (self.new.context ≡ self.old.context) }
+        ensures gives_up { OnOk result (self.new.gives_up ≡ self.old.gives_up) }
+        ensures walk { OnOk result (self.new.walk.needs.now ≡ drop 1 self.old.walk.needs.now) }
         ensures laid { OnOk result (GivesValuesLaid (setting self.old.context.now) (not self.old.gives_up)
             self.old.frame self.old.buffer (V.arguments arguments.now) (target_of target.entry) self.new.frame
             self.new.buffer) }
@@ -211,6 +245,8 @@ impl<'a> Lowerer<'a> {
         ensures applies { OnOk result (AppliesTo (setting self.old.context.now) self.old.frame self.old.buffer callee
             (V.arguments arguments.now) (target_of target.entry) self.new.frame self.new.buffer) }
         ensures context { OnOk result (self.new.context ≡ self.old.context) }
+        ensures gives_up { OnOk result (self.new.gives_up ≡ self.old.gives_up) }
+        ensures walk { OnOk result (self.new.walk.needs.now ≡ drop 1 self.old.walk.needs.now) }
         ensures laid { OnOk result (AppliesLaid (setting self.old.context.now) (not self.old.gives_up) self.old.frame
             self.old.buffer callee (V.arguments arguments.now) (target_of target.entry) self.new.frame
             self.new.buffer) }
@@ -233,6 +269,8 @@ impl<'a> Lowerer<'a> {
             (T.Operation applied.operator applied.place (V.argument left.now) (V.argument right.now))
             (target_of target.entry) self.new.frame self.new.buffer) }
         ensures context { OnOk result (self.new.context ≡ self.old.context) }
+        ensures gives_up { OnOk result (self.new.gives_up ≡ self.old.gives_up) }
+        ensures walk { OnOk result (self.new.walk.needs.now ≡ drop 1 self.old.walk.needs.now) }
         ensures laid { OnOk result (AppliedLaid (setting self.old.context.now) (not self.old.gives_up) self.old.frame
             self.old.buffer applied.operator applied.place (V.argument left.now) (V.argument right.now)
             (target_of target.entry) self.new.frame self.new.buffer) }
@@ -254,7 +292,14 @@ impl<'a> Lowerer<'a> {
     ) -> Result<(), NoMemory>
         ensures writes { OnOk result (WritesClause (setting self.old.context.now) matching.now (V.clause clause.now)
             (target_of target.entry) progress.old self.old.buffer progress.new self.new.buffer) }
+        ensures laid { OnOk result (AskedBlock (setting self.old.context.now) (drop 1 self.old.walk.needs.now)
+            (V.clause clause.now).body → ClauseLays (setting self.old.context.now) (not self.old.gives_up) matching.now
+            (V.clause clause.now) (target_of target.entry) progress.old self.old.frame self.old.buffer progress.new
+            self.new.frame self.new.buffer) }
         ensures context { OnOk result (self.new.context ≡ self.old.context) }
+        ensures gives_up { OnOk result (self.new.gives_up ≡ self.old.gives_up) }
+        ensures walk { OnOk result (self.new.walk.needs.now ≡
+            drop (span_block (V.clause clause.now).body) self.old.walk.needs.now) }
     {
         self.start_clause(matching, progress, clause)?;
         self.block(&clause.body, target)?;
@@ -273,7 +318,14 @@ impl<'a> Lowerer<'a> {
         ensures writes { OnOk result (WritesClauses (setting self.old.context.now) matching.now
             (V.clauses clauses.now) (target_of target.entry) progress.old self.old.buffer progress.new
             self.new.buffer) }
+        ensures laid { OnOk result ((t : ℕ) → AskedClauses (setting self.old.context.now) self.old.walk.needs.now t
+            (V.clauses clauses.now) → ClausesLay (setting self.old.context.now) (not self.old.gives_up) matching.now
+            (V.clauses clauses.now) (target_of target.entry) progress.old self.old.frame self.old.buffer progress.new
+            self.new.frame self.new.buffer) }
         ensures context { OnOk result (self.new.context ≡ self.old.context) }
+        ensures gives_up { OnOk result (self.new.gives_up ≡ self.old.gives_up) }
+        ensures walk { OnOk result (self.new.walk.needs.now ≡
+            drop (span_clauses (V.clauses clauses.now)) self.old.walk.needs.now) }
     {
         for clause in clauses {
             self.clause(matching, progress, clause, target)?;

@@ -35,6 +35,8 @@ impl<'a> Lowerer<'a> {
         ensures operates { OnOk result (Operates self.old.frame self.old.buffer applied.operator applied.place left
             right (target_of target.entry) self.new.frame self.new.buffer) }
         ensures context { OnOk result (self.new.context ≡ self.old.context) }
+        ensures gives_up { OnOk result (self.new.gives_up ≡ self.old.gives_up) }
+        ensures walk { OnOk result (self.new.walk ≡ self.old.walk) }
         ensures laid { OnOk result (OperatesLaid (not self.old.gives_up) self.old.frame self.old.buffer applied.operator
             applied.place left right (target_of target.entry) self.new.frame self.new.buffer) }
     {
@@ -58,6 +60,7 @@ impl<'a> Lowerer<'a> {
         ensures goes { IfOk result (λ d. (h : a_held) → B.GoesTo (target_of target.entry) self.old.frame h d
             (K.holding self.new.frame d h)) }
         ensures context { OnOk result (self.new.context ≡ self.old.context) }
+        ensures walk { OnOk result (self.new.walk ≡ self.old.walk) }
         ensures gives_up { OnOk result (self.new.gives_up ≡ self.old.gives_up) }
         ensures buffer { OnOk result (self.new.buffer ≡ self.old.buffer) }
         ensures room { OnOk result (HasRoom self.old.frame self.new.frame) }
@@ -83,6 +86,8 @@ impl<'a> Lowerer<'a> {
         ensures calls { OnOk result (CallsAt (setting self.old.context.now) self.old.frame self.old.buffer callee
             arguments.items (target_of target.entry) self.new.frame self.new.buffer) }
         ensures context { OnOk result (self.new.context ≡ self.old.context) }
+        ensures gives_up { OnOk result (self.new.gives_up ≡ self.old.gives_up) }
+        ensures walk { OnOk result (self.new.walk ≡ self.old.walk) }
         ensures laid { OnOk result (CallsLaid (setting self.old.context.now) (not self.old.gives_up) self.old.frame
             self.old.buffer callee arguments.items (target_of target.entry) self.new.frame self.new.buffer) }
     {
@@ -109,6 +114,8 @@ impl<'a> Lowerer<'a> {
         ensures ends { OnOk result (EndsCall (setting self.old.context.now) self.old.frame self.old.buffer function
             arguments instance.now.results (target_of target.entry) self.new.frame self.new.buffer) }
         ensures context { OnOk result (self.new.context ≡ self.old.context) }
+        ensures gives_up { OnOk result (self.new.gives_up ≡ self.old.gives_up) }
+        ensures walk { OnOk result (self.new.walk ≡ self.old.walk) }
         ensures laid { OnOk result (EndsLaid (setting self.old.context.now) (not self.old.gives_up) self.old.frame
             self.old.buffer function arguments instance.now.results (target_of target.entry) self.new.frame
             self.new.buffer) }
@@ -141,6 +148,7 @@ impl<'a> Lowerer<'a> {
         ensures handed { self.new.frame ≡ K.using self.old.frame
             (B.handed self.old.frame.held params.now registers.now) }
         ensures context { self.new.context ≡ self.old.context }
+        ensures walk { self.new.walk ≡ self.old.walk }
         ensures gives_up { self.new.gives_up ≡ self.old.gives_up }
         ensures buffer { self.new.buffer ≡ self.old.buffer }
     {
@@ -155,6 +163,7 @@ impl<'a> Lowerer<'a> {
         ensures handed { self.new.frame ≡ K.using self.old.frame
             (handed_at self.old.frame.held param.now (slice_get registers.now place)) }
         ensures context { self.new.context ≡ self.old.context }
+        ensures walk { self.new.walk ≡ self.old.walk }
         ensures gives_up { self.new.gives_up ≡ self.old.gives_up }
         ensures buffer { self.new.buffer ≡ self.old.buffer }
     {
@@ -171,6 +180,7 @@ impl<'a> Lowerer<'a> {
         ensures taken { OnOk result (TakesAll self.old.frame sizes.now registers.old.items registers.new.items
             self.new.frame) }
         ensures context { OnOk result (self.new.context ≡ self.old.context) }
+        ensures walk { OnOk result (self.new.walk ≡ self.old.walk) }
         ensures gives_up { OnOk result (self.new.gives_up ≡ self.old.gives_up) }
         ensures buffer { OnOk result (self.new.buffer ≡ self.old.buffer) }
     {
@@ -184,6 +194,7 @@ impl<'a> Lowerer<'a> {
         ensures taken { OnOk result (TakesOne self.old.frame size registers.old.items registers.new.items
             self.new.frame) }
         ensures context { OnOk result (self.new.context ≡ self.old.context) }
+        ensures walk { OnOk result (self.new.walk ≡ self.old.walk) }
         ensures gives_up { OnOk result (self.new.gives_up ≡ self.old.gives_up) }
         ensures buffer { OnOk result (self.new.buffer ≡ self.old.buffer) }
     {
@@ -198,6 +209,8 @@ impl<'a> Lowerer<'a> {
         ensures received { self.new.frame ≡ K.using self.old.frame
             (B.received (setting self.old.context.now) self.old.frame.held types.now destinations.now) }
         ensures context { self.new.context ≡ self.old.context }
+        ensures gives_up { self.new.gives_up ≡ self.old.gives_up }
+        ensures walk { self.new.walk ≡ self.old.walk }
         ensures buffer { self.new.buffer ≡ self.old.buffer }
     {
         let mut place = 0;
@@ -211,6 +224,8 @@ impl<'a> Lowerer<'a> {
         ensures received { self.new.frame ≡ K.using self.old.frame (received_at (setting self.old.context.now)
             self.old.frame.held ty (slice_get destinations.now place)) }
         ensures context { self.new.context ≡ self.old.context }
+        ensures gives_up { self.new.gives_up ≡ self.old.gives_up }
+        ensures walk { self.new.walk ≡ self.old.walk }
         ensures buffer { self.new.buffer ≡ self.old.buffer }
     {
         if let Some(register) = destinations.get(place) {

@@ -110,6 +110,8 @@ impl<'c> Choice<'c> {
     pub fn new(alloc: Global, root: u16, ty: u32, takes: bool) -> Choice<'c>
         ensures root { spot_of result.root ≡ S.At root S.NoSpots }
         ensures of_type { result.ty ≡ ty }
+        ensures takes { result.takes ≡ takes }
+        ensures entries { result.entries.items ≡ [] }
         ensures patterns { patterns_of result ≡ [] }
         ensures rows { HasRows result }
     {
@@ -128,6 +130,8 @@ impl<'c> Choice<'c> {
     pub fn add(&mut self, pattern: &'c Pattern, row: Row, entry: u32) -> Result<(), NoMemory>
         ensures root { OnOk result (self.new.root ≡ self.old.root) }
         ensures of_type { OnOk result (self.new.ty ≡ self.old.ty) }
+        ensures takes { OnOk result (self.new.takes ≡ self.old.takes) }
+        ensures entries { OnOk result (length self.new.entries.items ≡ suc (length self.old.entries.items)) }
         ensures patterns { OnOk result (patterns_of self.new ≡ patterns_of self.old ++ V.pattern pattern.now ∷ []) }
         ensures rows { OnOk result (View.row row ≡ row_of (V.pattern pattern.now) → HasRows self.old →
             HasRows self.new) }
@@ -236,6 +240,8 @@ impl<'a> Lowerer<'a> {
         ensures all { OnOk result (length choice.now.rows.items ≤ suc clause → sides.new.items ≡ []) }
         ensures frame { OnOk result (self.new.frame ≡ self.old.frame) }
         ensures context { OnOk result (self.new.context ≡ self.old.context) }
+        ensures gives_up { OnOk result (self.new.gives_up ≡ self.old.gives_up) }
+        ensures walk { OnOk result (self.new.walk ≡ self.old.walk) }
     {
         // Each turn but the last writes a jump, and code has fewer instructions than this.
         for _ in 0..u32::MAX {
@@ -261,6 +267,8 @@ impl<'a> Lowerer<'a> {
         ensures all { IfOk result (λ b. b ≡ true → length choice.now.rows.items ≤ suc clause → sides.new.items ≡ []) }
         ensures frame { OnOk result (self.new.frame ≡ self.old.frame) }
         ensures context { OnOk result (self.new.context ≡ self.old.context) }
+        ensures gives_up { OnOk result (self.new.gives_up ≡ self.old.gives_up) }
+        ensures walk { OnOk result (self.new.walk ≡ self.old.walk) }
     {
         if choice.is_written(sides.as_slice(), clause) {
             return Ok(true);
@@ -291,6 +299,8 @@ impl<'a> Lowerer<'a> {
         ensures all { IfOk result (λ b. b ≡ true → length choice.now.rows.items ≤ suc clause → sides.new.items ≡ []) }
         ensures frame { OnOk result (self.new.frame ≡ self.old.frame) }
         ensures context { OnOk result (self.new.context ≡ self.old.context) }
+        ensures gives_up { OnOk result (self.new.gives_up ≡ self.old.gives_up) }
+        ensures walk { OnOk result (self.new.walk ≡ self.old.walk) }
     {
         let chosen = self.follow(choice, sides, next)?;
         if chosen == clause && choice.is_written(sides.as_slice(), clause) {
@@ -314,6 +324,8 @@ impl<'a> Lowerer<'a> {
             (sides_of sides.old.items) self.new.buffer (sides_of sides.new.items)) }
         ensures frame { OnOk result (self.new.frame ≡ self.old.frame) }
         ensures context { OnOk result (self.new.context ≡ self.old.context) }
+        ensures gives_up { OnOk result (self.new.gives_up ≡ self.old.gives_up) }
+        ensures walk { OnOk result (self.new.walk ≡ self.old.walk) }
     {
         let Side {
             mut known,
@@ -344,6 +356,8 @@ impl<'a> Lowerer<'a> {
             self.new.buffer) }
         ensures frame { OnOk result (self.new.frame ≡ self.old.frame) }
         ensures context { OnOk result (self.new.context ≡ self.old.context) }
+        ensures gives_up { OnOk result (self.new.gives_up ≡ self.old.gives_up) }
+        ensures walk { OnOk result (self.new.walk ≡ self.old.walk) }
     {
         match label {
             None => Ok(()),
@@ -368,6 +382,8 @@ impl<'a> Lowerer<'a> {
             self.new.buffer (View.known known.new) read.new.items (sides_of sides.new.items)) }
         ensures frame { OnOk result (self.new.frame ≡ self.old.frame) }
         ensures context { OnOk result (self.new.context ≡ self.old.context) }
+        ensures gives_up { OnOk result (self.new.gives_up ≡ self.old.gives_up) }
+        ensures walk { OnOk result (self.new.walk ≡ self.old.walk) }
     {
         match choice.first_left(known)? {
             First::Chosen(clause) => {
@@ -395,6 +411,8 @@ impl<'a> Lowerer<'a> {
             self.new.buffer (View.known known.new) read.new.items (sides_of sides.new.items)) }
         ensures frame { OnOk result (self.new.frame ≡ self.old.frame) }
         ensures context { OnOk result (self.new.context ≡ self.old.context) }
+        ensures gives_up { OnOk result (self.new.gives_up ≡ self.old.gives_up) }
+        ensures walk { OnOk result (self.new.walk ≡ self.old.walk) }
     {
         let yes = side(self.context.alloc, true, row, known)?;
         if is_last(&self.context.program.types, row, known) {
@@ -420,6 +438,8 @@ impl<'a> Lowerer<'a> {
             (reading_of self.old.buffer read.old.items) self.new.buffer read.new.items (side_of d)) }
         ensures frame { OnOk result (self.new.frame ≡ self.old.frame) }
         ensures context { OnOk result (self.new.context ≡ self.old.context) }
+        ensures gives_up { OnOk result (self.new.gives_up ≡ self.old.gives_up) }
+        ensures walk { OnOk result (self.new.walk ≡ self.old.walk) }
     {
         let alloc = self.context.alloc;
         let Asked { register, head } = self.read_asked(
@@ -456,6 +476,8 @@ impl<'a> Lowerer<'a> {
             (View.known known.now) (spot_of spot.now) (reading_of self.old.buffer read.old.items)) }
         ensures frame { OnOk result (self.new.frame ≡ self.old.frame) }
         ensures context { OnOk result (self.new.context ≡ self.old.context) }
+        ensures gives_up { OnOk result (self.new.gives_up ≡ self.old.gives_up) }
+        ensures walk { OnOk result (self.new.walk ≡ self.old.walk) }
     {
         if depth == 0 {
             return Err(NoMemory);
@@ -492,6 +514,8 @@ impl<'a> Lowerer<'a> {
             (reading_of self.old.buffer read.old.items) register field destination) }
         ensures frame { OnOk result (self.new.frame ≡ self.old.frame) }
         ensures context { OnOk result (self.new.context ≡ self.old.context) }
+        ensures gives_up { OnOk result (self.new.gives_up ≡ self.old.gives_up) }
+        ensures walk { OnOk result (self.new.walk ≡ self.old.walk) }
     {
         if contains(read.as_slice(), destination) {
             return Ok(());
@@ -516,6 +540,8 @@ impl<'a> Lowerer<'a> {
             (reading_of self.new.buffer read.new.items)) }
         ensures frame { OnOk result (self.new.frame ≡ self.old.frame) }
         ensures context { OnOk result (self.new.context ≡ self.old.context) }
+        ensures gives_up { OnOk result (self.new.gives_up ≡ self.old.gives_up) }
+        ensures walk { OnOk result (self.new.walk ≡ self.old.walk) }
     {
         match choice.patterns.get(clause) {
             None => Err(NoMemory),
@@ -537,6 +563,8 @@ impl<'a> Lowerer<'a> {
             (reading_of self.old.buffer read.old.items) (reading_of self.new.buffer read.new.items)) }
         ensures frame { OnOk result (self.new.frame ≡ self.old.frame) }
         ensures context { OnOk result (self.new.context ≡ self.old.context) }
+        ensures gives_up { OnOk result (self.new.gives_up ≡ self.old.gives_up) }
+        ensures walk { OnOk result (self.new.walk ≡ self.old.walk) }
     {
         if takes {
             self.take_apart(pattern, root)?;
@@ -559,6 +587,8 @@ impl<'a> Lowerer<'a> {
             (spot_of spot.now) (reading_of self.old.buffer read.old.items)) }
         ensures frame { OnOk result (self.new.frame ≡ self.old.frame) }
         ensures context { OnOk result (self.new.context ≡ self.old.context) }
+        ensures gives_up { OnOk result (self.new.gives_up ≡ self.old.gives_up) }
+        ensures walk { OnOk result (self.new.walk ≡ self.old.walk) }
     {
         match pattern {
             Pattern::Binder(_) => Ok(()),
@@ -582,6 +612,8 @@ impl<'a> Lowerer<'a> {
             (reading_of self.old.buffer read.old.items)) }
         ensures frame { OnOk result (self.new.frame ≡ self.old.frame) }
         ensures context { OnOk result (self.new.context ≡ self.old.context) }
+        ensures gives_up { OnOk result (self.new.gives_up ≡ self.old.gives_up) }
+        ensures walk { OnOk result (self.new.walk ≡ self.old.walk) }
     {
         let mut place: usize = 0;
         for part in patterns {
@@ -604,6 +636,8 @@ impl<'a> Lowerer<'a> {
             (reading_of self.new.buffer read.new.items)) }
         ensures frame { OnOk result (self.new.frame ≡ self.old.frame) }
         ensures context { OnOk result (self.new.context ≡ self.old.context) }
+        ensures gives_up { OnOk result (self.new.gives_up ≡ self.old.gives_up) }
+        ensures walk { OnOk result (self.new.walk ≡ self.old.walk) }
     {
         let field = spot.field(place)?;
         if !names_any(part) {
@@ -782,6 +816,8 @@ impl<'a> Lowerer<'a> {
             self.old.buffer) }
         ensures frame { OnOk result (self.new.frame ≡ self.old.frame) }
         ensures context { OnOk result (self.new.context ≡ self.old.context) }
+        ensures gives_up { OnOk result (self.new.gives_up ≡ self.old.gives_up) }
+        ensures walk { OnOk result (self.new.walk ≡ self.old.walk) }
     {
         match pattern {
             Pattern::Binder(_) => Ok(()),
@@ -800,6 +836,8 @@ impl<'a> Lowerer<'a> {
             self.old.buffer) }
         ensures frame { OnOk result (self.new.frame ≡ self.old.frame) }
         ensures context { OnOk result (self.new.context ≡ self.old.context) }
+        ensures gives_up { OnOk result (self.new.gives_up ≡ self.old.gives_up) }
+        ensures walk { OnOk result (self.new.walk ≡ self.old.walk) }
     {
         let mut place: usize = 0;
         for part in patterns {
@@ -815,6 +853,8 @@ impl<'a> Lowerer<'a> {
             self.new.buffer) }
         ensures frame { OnOk result (self.new.frame ≡ self.old.frame) }
         ensures context { OnOk result (self.new.context ≡ self.old.context) }
+        ensures gives_up { OnOk result (self.new.gives_up ≡ self.old.gives_up) }
+        ensures walk { OnOk result (self.new.walk ≡ self.old.walk) }
     {
         let field = field_at(fields, place)?;
         self.take_apart(part, field)?;
@@ -827,6 +867,8 @@ impl<'a> Lowerer<'a> {
             (V.patterns patterns.now) (S.fields (spot_of spot.now)) self.old.buffer) }
         ensures frame { OnOk result (self.new.frame ≡ self.old.frame) }
         ensures context { OnOk result (self.new.context ≡ self.old.context) }
+        ensures gives_up { OnOk result (self.new.gives_up ≡ self.old.gives_up) }
+        ensures walk { OnOk result (self.new.walk ≡ self.old.walk) }
     {
         if patterns.is_empty() {
             return Ok(());
@@ -967,8 +1009,8 @@ fn known_at(knowns: &[Knowledge], place: usize) -> Result<&Knowledge, NoMemory>
     }
 }
 
-// Whether a register was read.
-fn contains(read: &[u16], register: u16) -> bool
+/// Whether a register is among these.
+pub fn contains(read: &[u16], register: u16) -> bool
     ensures { result ≡ contains register read.now }
 {
     for one in read {

@@ -1,8 +1,11 @@
 // The code of a program.
 ghost use Rattle.std.specs.Prelude.{◌≡◌, ℕ, [], ◌∷◌, ◌++◌, map, IfOk, IfErr, OnOk, Ok, slice_get};
 ghost use Rattle.fip_base.specs.declared.refusal.PhaseError.TheVariants as PhaseError;
+ghost use Rattle.fip_trees.specs.NeedsView.{needs_of};
 ghost use Rattle.fip_trees.specs.TreeView as V;
 ghost use Rattle.fip_trees.specs.declared.least.Violation.{Violation};
+ghost use Rattle.cell_lower.specs.Instances.{HaveEach, AddsEach};
+ghost use Rattle.cell_lower.specs.LaidProgram.{IsAsked, IsLaidOf, IsLaidOut, laid_at};
 ghost use Rattle.cell_lower.specs.Limits.{Breaks, Says, is_ruled};
 ghost use Rattle.cell_lower.specs.Shape.{header, header_of, headers, headers_from, entry_name};
 ghost use Rattle.lowered_code.specs.Bodies.{function_of};
@@ -13,6 +16,7 @@ ghost use Rattle.cell_lower.specs.Lowered.{AddsCode, HaveCodes, IsCodeOf, all_in
 ghost use Rattle.cell_lower.specs.Sizes.{AreSmall};
 ghost use Rattle.cell_lower.specs.Small.{AddsSmall, HaveSmall, IsSmallOf};
 ghost use Rattle.cell_lower.specs.Writing.{setting};
+ghost use Rattle.sound_code.specs.Codes.{plain};
 ghost use Rattle.lower_frame.specs.Spelled.{AreSpelt, IsFunctionSpelt};
 
 use crate::copies::table_of;
@@ -30,7 +34,8 @@ use std::alloc::Global;
 /// The code of a program: its types, and a function for each instance that isn't plain, in the order of their numbers,
 /// with the instance's kind, parameters, credits and results, and as many registers as the groups tell. The program is
 /// asked to have kept all rules up to E59, and `needs` and `groups` to be its own. Each function is as small as the
-/// places and registers of its instance tell, and its instructions and label maps have a text in a code file.
+/// places and registers of its instance tell, and its instructions and label maps have a text in a code file. They are
+/// laid out as the instance asks, where the program is as the proof of soundness asks.
 ///
 /// Refused exactly where E60 is broken, for the least violation by place and instance: an instance that isn't plain has
 /// more than 4,096 registers, or has a match and a parameter, a binder or a pattern node of a type with cells that has
@@ -51,6 +56,8 @@ pub fn lower(
     ensures bounded { IfOk result (λ c. IsWellMatched (V.program typed.now.program) →
         AreSmall (V.program typed.now.program) groups.now c.functions.items) }
     ensures spelt { IfOk result (λ c. AreSpelt c.functions.items) }
+    ensures laid { IfOk result (λ c. IsWellMatched (V.program typed.now.program) →
+        IsAsked (V.program typed.now.program) needs.now → IsLaidOut (V.program typed.now.program) (plain c)) }
 {
     match note_limits(alloc, &typed.program, groups) {
         Err(NoMemory) => Err(PhaseError::NoMemory),
@@ -86,6 +93,8 @@ fn code_of(
     ensures bounded { IfOk result (λ c. IsWellMatched (V.program program.now) →
         AreSmall (V.program program.now) groups.now c.functions.items) }
     ensures spelt { IfOk result (λ c. AreSpelt c.functions.items) }
+    ensures laid { IfOk result (λ c. IsWellMatched (V.program program.now) →
+        IsAsked (V.program program.now) needs.now → IsLaidOut (V.program program.now) (plain c)) }
 {
     let context = Context {
         alloc,
@@ -113,6 +122,8 @@ fn functions_of(
         (map function_instrs fs.items)) }
     ensures small { IfOk result (λ fs. HaveSmall (setting context.now) groups.now (V.instances instances.now) 0 0
         fs.items) }
+    ensures laid { IfOk result (λ fs. HaveEach (laid_at (setting context.now) needs.now) (V.instances instances.now)
+        0 0 fs.items) }
     ensures spelt { IfOk result (λ fs. AreSpelt fs.items) }
 {
     let mut functions = Vec::new(context.alloc);
@@ -141,6 +152,8 @@ fn add_function(
         (map function_instrs functions.new.items)) }
     ensures small { OnOk result (AddsSmall (setting context.now) groups.now number (is_ruled instance.now.kind)
         (V.instance_of instance.now) functions.old.items functions.new.items) }
+    ensures laid { OnOk result (AddsEach (laid_at (setting context.now) needs.now) number
+        (is_ruled instance.now.kind) (V.instance_of instance.now) functions.old.items functions.new.items) }
     ensures spelt { OnOk result (AreSpelt functions.old.items → AreSpelt functions.new.items) }
 {
     if is_ruled(instance.kind) {
@@ -179,6 +192,8 @@ fn function_of(
     ensures header { IfOk result (λ f. header f ≡ header_of registers (V.instance_of instance.now)) }
     ensures code { IfOk result (λ f. IsCodeOf (setting context.now) (V.instance_of instance.now) f.instrs.items) }
     ensures small { IfOk result (λ f. IsSmallOf (setting context.now) registers (V.instance_of instance.now) f) }
+    ensures laid { IfOk result (λ f. IsLaidOf (setting context.now) (needs_of needs.now number)
+        (V.instance_of instance.now) f) }
     ensures spelt { IfOk result (λ f. IsFunctionSpelt f) }
 {
     let alloc = context.alloc;

@@ -9,6 +9,7 @@ mod copies;
 mod functions;
 mod limits;
 mod lowerer;
+mod marks;
 mod matches;
 mod values;
 mod weakening;

@@ -1,16 +1,19 @@
 // What the lowering of a function knows and has written.
-ghost use Rattle.std.specs.Prelude.{◌≡◌, [], IfOk, OnOk, slice_get};
+ghost use Rattle.std.specs.Prelude.{◌≡◌, ◌&&◌, not, [], IfOk, OnOk, drop, slice_get};
 ghost use Rattle.fip_trees.specs.TreeView as V;
 ghost use Rattle.lowered_code.specs.Bodies as B;
 ghost use Rattle.lowered_code.specs.Functions as F;
 ghost use Rattle.lowered_code.specs.Values as S;
 ghost use Rattle.match_code.specs.Losing.{Loses};
 ghost use Rattle.match_code.specs.Written.{Extends, IsAt, size};
+ghost use Rattle.cell_lower.specs.Leaving.{is_fbip, sizes_of};
+ghost use Rattle.cell_lower.specs.LaidProgram.{IsInRoom};
 ghost use Rattle.cell_lower.specs.Writing.{param_at};
 ghost use Rattle.laid_code.specs.Matches.{wide};
 ghost use Rattle.lower_frame.specs.Frames.{kinds_told};
 ghost use Rattle.lower_frame.specs.Labels.{labels, telling};
 ghost use Rattle.lower_frame.specs.Registers.{registers};
+ghost use Rattle.cell_lower.specs.Leaving.{is_fbip, sizes_of};
 ghost use Rattle.cell_lower.specs.Writing.{setting};
 
 use fip_base::core_form::MatchKind;
@@ -45,21 +48,23 @@ pub enum Target<'t> {
 /// The expressions of a function, one after another.
 #[derive(Drop)]
 pub struct Walk<'a> {
-    /// Their needs.
+    /// The needs of those that are still to come, each before its parts.
     needs: &'a [Need],
-    /// The number of the next one, each before its parts.
-    number: usize,
 }
 
 impl<'a> Walk<'a> {
     /// Goes on to the next expression; what it needs.
-    pub fn enter(&mut self) -> Sizes {
-        let sizes = match self.needs.get(self.number) {
-            Some(need) => need.sizes,
+    pub fn enter(&mut self) -> Sizes
+        ensures need { result ≡ sizes_of (slice_get self.old.needs.now 0) }
+        ensures needs { self.new.needs.now ≡ drop 1 self.old.needs.now }
+    {
+        match self.needs.split_first() {
             None => Sizes::none(),
-        };
-        self.number = self.number.saturating_add(1);
-        sizes
+            Some((need, rest)) => {
+                self.needs = rest;
+                need.sizes
+            }
+        }
     }
 }
 
@@ -127,6 +132,7 @@ impl<'a> Context<'a> {
     pub fn start(&self, instance: &Instance, registers: usize) -> Result<Frame, NoMemory>
         ensures start { IfOk result (λ f.
             f ≡ F.known_at_start (setting self.now) registers (V.instance_of instance.now)) }
+        ensures room { IfOk result (λ f. IsInRoom f) }
     {
         let mut frame = Frame::new(self.alloc, registers, instance.variables)?;
         self.add_params(
@@ -146,6 +152,7 @@ impl<'a> Context<'a> {
         binders: &[Binder],
     ) -> Result<(), NoMemory>
         ensures added { OnOk result (frame.new ≡ F.with_params (setting self.now) frame.old params.now binders.now) }
+        ensures room { OnOk result (IsInRoom frame.old → IsInRoom frame.new) }
     {
         let mut place = 0;
         for param in params {
@@ -165,6 +172,7 @@ impl<'a> Context<'a> {
     ) -> Result<(), NoMemory>
         ensures added { OnOk result (frame.new ≡ param_at (setting self.now) frame.old param.now
             (slice_get binders.now place)) }
+        ensures room { OnOk result (IsInRoom frame.old → IsInRoom frame.new) }
     {
         match binders.get(place) {
             None => Ok(()),
@@ -181,6 +189,7 @@ impl<'a> Context<'a> {
 #[tactic(auto, using(crate::proofs::Starts::starting))]
 fn add_credits(frame: &mut Frame, sizes: &[u8]) -> Result<(), NoMemory>
     ensures added { OnOk result (frame.new ≡ F.with_credits frame.old sizes.now) }
+    ensures room { OnOk result (IsInRoom frame.old → IsInRoom frame.new) }
 {
     for size in sizes {
         add_one_credit(frame, *size)?;
@@ -190,6 +199,7 @@ fn add_credits(frame: &mut Frame, sizes: &[u8]) -> Result<(), NoMemory>
 
 fn add_one_credit(frame: &mut Frame, size: u8) -> Result<(), NoMemory>
     ensures added { OnOk result (frame.new ≡ F.with_next_credit frame.old size) }
+    ensures room { OnOk result (IsInRoom frame.old → IsInRoom frame.new) }
 {
     let register = frame.fresh()?;
     frame.add_credit(size as usize, register)
@@ -206,25 +216,32 @@ impl<'a> Lowerer<'a> {
         ensures context { IfOk result (λ l. l.context.now ≡ context.now) }
         ensures known { IfOk result (λ l.
             l.frame ≡ F.known_at_start (setting context.now) registers (V.instance_of instance.now)) }
+        ensures room { IfOk result (λ l. IsInRoom l.frame) }
         ensures empty { IfOk result (λ l. l.buffer ≡ record { instrs = []; places = []; maps = [] }) }
+        ensures walk { IfOk result (λ l. l.walk.needs.now ≡ needs.now) }
+        ensures gives_up { IfOk result (λ l. l.gives_up ≡ is_fbip instance.now.kind) }
     {
         Ok(Lowerer {
             context,
-            walk: Walk { needs, number: 0 },
-            gives_up: instance.kind == FunKind::Fbip,
+            walk: Walk { needs },
+            gives_up: is_fbip(instance.kind),
             frame: context.start(instance, registers)?,
             buffer: Buffer::new(context.alloc),
         })
     }
 
     /// Whether a type is scalar.
-    pub fn is_scalar(&self, ty: u32) -> bool {
+    pub fn is_scalar(&self, ty: u32) -> bool
+        ensures same { result ≡ S.is_scalar (setting self.now.context.now) ty }
+    {
         self.context.is_scalar(ty)
     }
 
     /// Whether a match takes cells apart.
-    pub fn takes_apart(&self, kind: MatchKind, ty: u32) -> bool {
-        kind == MatchKind::Destructive && !self.is_scalar(ty)
+    pub fn takes_apart(&self, destructive: bool, ty: u32) -> bool
+        ensures takes { result ≡ (destructive && not (S.is_scalar (setting self.now.context.now) ty)) }
+    {
+        destructive && !self.is_scalar(ty)
     }
 
     /// What a register holds that was given a value of a type.
@@ -250,11 +267,34 @@ impl<'a> Lowerer<'a> {
         ensures placed { OnOk result (IsAt self.new.buffer label (size self.old.buffer)) }
         ensures labels { OnOk result (labels self.new.buffer ≡ labels self.old.buffer) }
         ensures context { OnOk result (self.new.context ≡ self.old.context) }
+        ensures gives_up { OnOk result (self.new.gives_up ≡ self.old.gives_up) }
+        ensures walk { OnOk result (self.new.walk ≡ self.old.walk) }
     {
         self.frame.widen();
         let program = self.context.program;
         let kinds = self.frame.kinds(self.context.alloc, &program.types)?;
         self.buffer.put_label(label, kinds)?;
         Ok(())
+    }
+}
+
+// Whether what is left over in a function is given up.
+fn is_fbip(kind: FunKind) -> bool
+    ensures { result ≡ is_fbip kind }
+{
+    match kind {
+        FunKind::Fip => false,
+        FunKind::Fbip => true,
+        FunKind::Fun => false,
+    }
+}
+
+/// Whether a match is destructive.
+pub fn is_destructive(kind: MatchKind) -> bool
+    ensures { result ≡ V.is_destructive kind }
+{
+    match kind {
+        MatchKind::Borrowing => false,
+        MatchKind::Destructive => true,
     }
 }

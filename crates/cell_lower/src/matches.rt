@@ -1,5 +1,5 @@
 // Matches: for each clause the tests that choose it and its body, then the place where the clauses meet.
-ghost use Rattle.std.specs.Prelude.{◌≡◌, ◌≤◌, ◌+◌, suc, [], ◌∷◌, None, Some, IfOk, OnOk, length};
+ghost use Rattle.std.specs.Prelude.{◌≡◌, ◌≤◌, ◌+◌, ◌&&◌, not, suc, [], ◌∷◌, None, Some, IfOk, OnOk, drop, length};
 ghost use Rattle.fip_trees.specs.TreeView as V;
 ghost use Rattle.match_knowledge.specs.View as View;
 ghost use Rattle.match_code.specs.Entering.{entering, entering_all, entering_root, root_of, variable_held, with_cell};
@@ -14,7 +14,11 @@ ghost use Rattle.cell_lower.specs.Clauses.{JoinsKnown, StartsIn};
 ghost use Rattle.lower_frame.specs.Registers.{HasRoom, registers};
 ghost use Rattle.cell_lower.specs.Growth.{Sheds};
 ghost use Rattle.cell_lower.specs.Laying.{ForgetsLaid, is_built};
+ghost use Rattle.cell_lower.specs.Leaving.{ClauseLeavesLaid, EndsMatchedLaid};
+ghost use Rattle.cell_lower.specs.Marks.{MarkedFor, MarkedIf};
+ghost use Rattle.cell_lower.specs.Matches.{BeginsLaid, EndsInLaid, EndsMatchLaid, GoesLaid, JoinsLaid, StartsLaid};
 ghost use Rattle.lower_frame.specs.Labels.{labels};
+ghost use Rattle.lowered_code.specs.Values.{is_scalar};
 ghost use Rattle.match_code.proofs.Choices.{patterns_in};
 ghost use Rattle.cell_lower.specs.Writing.{setting, target_of};
 
@@ -71,7 +75,7 @@ impl Progress {
 /// A match as it is written.
 #[derive(Clone, Copy)]
 pub struct Written<'t> {
-    pub takes: bool,
+    pub destructive: bool,
     pub ty: u32,
     pub scrutinee: &'t Argument,
     pub first: &'t Clause,
@@ -96,7 +100,14 @@ impl<'a> Lowerer<'a> {
         ensures begins { IfOk result (λ g. IsBegun (setting self.old.context.now) self.old.frame self.old.buffer
             (V.argument written.now.scrutinee.now) written.now.ty (V.clause written.now.first.now).pattern
             (V.clauses written.now.others.now) g self.new.buffer) }
+        ensures laid { IfOk result (λ g. BeginsLaid (setting self.old.context.now) (not self.old.gives_up)
+            self.old.walk.needs.now self.old.frame self.old.buffer written.now.destructive
+            (V.argument written.now.scrutinee.now) written.now.ty (V.clause written.now.first.now)
+            (V.clauses written.now.others.now) (target_of target.entry) g self.new.buffer) }
+        ensures frame { IfOk result (λ g. self.new.frame ≡ g.entry) }
         ensures context { OnOk result (self.new.context ≡ self.old.context) }
+        ensures gives_up { OnOk result (self.new.gives_up ≡ self.old.gives_up) }
+        ensures walk { OnOk result (self.new.walk.needs.now ≡ drop 1 self.old.walk.needs.now) }
     {
         let need = self.walk.enter();
         let register = self.value(written.scrutinee)?;
@@ -119,12 +130,16 @@ impl<'a> Lowerer<'a> {
     }
 
     // Where the clauses meet, no constructor that was matched before is used in them.
-    #[tactic(auto, using(crate::proofs::Losing::giving_up))]
+    #[tactic(auto, using(crate::proofs::Losing::giving_up, crate::proofs::Leaving::ending_bares))]
     fn end_matched(&mut self, target: Target<'_>) -> Result<(), NoMemory>
         ensures given_up { OnOk result (GivesUp self.old.buffer self.new.buffer) }
         ensures loses { OnOk result (Loses self.old.frame self.new.frame) }
         ensures sheds { OnOk result (Sheds self.old.frame self.old.buffer self.new.frame self.new.buffer) }
         ensures context { OnOk result (self.new.context ≡ self.old.context) }
+        ensures gives_up { OnOk result (self.new.gives_up ≡ self.old.gives_up) }
+        ensures walk { OnOk result (self.new.walk ≡ self.old.walk) }
+        ensures laid { OnOk result (EndsMatchedLaid (target_of target.entry) self.old.frame self.old.buffer
+            self.new.frame self.new.buffer) }
     {
         match target {
             Target::Return => Ok(()),
@@ -141,6 +156,8 @@ impl<'a> Lowerer<'a> {
         ensures as_long { OnOk result (size self.new.buffer ≡ size self.old.buffer) }
         ensures labels { OnOk result (labels self.new.buffer ≤ suc (labels self.old.buffer)) }
         ensures context { OnOk result (self.new.context ≡ self.old.context) }
+        ensures gives_up { OnOk result (self.new.gives_up ≡ self.old.gives_up) }
+        ensures walk { OnOk result (self.new.walk ≡ self.old.walk) }
         ensures forgets { OnOk result (ForgetsLaid self.old.context.now.program.now.types register self.old.frame
             self.old.buffer self.new.frame self.new.buffer) }
     {
@@ -153,24 +170,33 @@ impl<'a> Lowerer<'a> {
     }
 
     // The registers of trees that a clause may use up, where the clauses meet again and may leave something.
-    fn used_by(&self, written: &Written<'_>, target: Target<'_>) -> Result<Vec<bool>, NoMemory> {
-        let mut used = Vec::new(self.context.alloc);
-        if let Target::Return = target {
-            return Ok(used);
+    fn used_by(&self, written: &Written<'_>, target: Target<'_>) -> Result<Vec<bool>, NoMemory>
+        ensures marked { IfOk result (λ v. MarkedFor (not self.now.gives_up) (target_of target.entry)
+            (setting self.now.context.now) self.now.frame written.now.destructive
+            (V.argument written.now.scrutinee.now) (V.clause written.now.first.now)
+            (V.clauses written.now.others.now) v.items) }
+    {
+        match target {
+            Target::Return => Ok(Vec::new(self.context.alloc)),
+            Target::Into(_) => self.marks_of(written),
         }
+    }
+
+    // The registers of trees that a clause may use up, where it may leave something.
+    #[tactic(auto, using(crate::proofs::Marking::marks))]
+    fn marks_of(&self, written: &Written<'_>) -> Result<Vec<bool>, NoMemory>
+        ensures marked { IfOk result (λ v. MarkedIf (not self.now.gives_up) (setting self.now.context.now)
+            self.now.frame written.now.destructive (V.argument written.now.scrutinee.now)
+            (V.clause written.now.first.now) (V.clauses written.now.others.now) v.items) }
+    {
+        let mut used = Vec::new(self.context.alloc);
         if !self.gives_up {
             return Ok(used);
         }
-        for _ in 0..self.frame.next() {
-            used.push(false)?;
-        }
-        if written.takes {
-            self.mark(&mut used, written.scrutinee);
-        }
+        used.resize(self.frame.next() as usize, false)?;
+        self.mark_if(&mut used, written.destructive, written.scrutinee);
         self.used_in(&mut used, &written.first.body);
-        for clause in written.others {
-            self.used_in(&mut used, &clause.body);
-        }
+        self.mark_clauses(&mut used, written.others);
         Ok(used)
     }
 
@@ -183,15 +209,22 @@ impl<'a> Lowerer<'a> {
             self.new.frame.next) }
         ensures patterns { IfOk result (λ c. patterns_of c ≡ (V.clause written.now.first.now).pattern
             ∷ patterns_in (V.clauses written.now.others.now)) }
+        ensures entries { IfOk result (λ c. length c.entries.items ≡ length (patterns_of c)) }
+        ensures takes { IfOk result (λ c. c.takes ≡ (written.now.destructive
+            && not (is_scalar (setting self.old.context.now) written.now.ty))) }
         ensures frame { OnOk result (self.new.frame ≡ reaching self.old.frame self.new.frame.next) }
         ensures room { OnOk result (HasRoom self.old.frame self.new.frame) }
         ensures extends { OnOk result (Extends self.old.buffer self.new.buffer) }
         ensures as_long { OnOk result (size self.new.buffer ≡ size self.old.buffer) }
         ensures labels { IfOk result (λ c. labels self.new.buffer ≡ labels self.old.buffer
             + length (patterns_of c)) }
+        ensures maps { OnOk result (self.new.buffer.maps ≡ self.old.buffer.maps) }
         ensures context { OnOk result (self.new.context ≡ self.old.context) }
+        ensures gives_up { OnOk result (self.new.gives_up ≡ self.old.gives_up) }
+        ensures walk { OnOk result (self.new.walk ≡ self.old.walk) }
     {
-        let mut choice = Choice::new(self.context.alloc, register, written.ty, written.takes);
+        let takes = self.takes_apart(written.destructive, written.ty);
+        let mut choice = Choice::new(self.context.alloc, register, written.ty, takes);
         self.add_pattern(&mut choice, &written.first.pattern)?;
         for clause in written.others {
             self.add_pattern(&mut choice, &clause.pattern)?;
@@ -207,12 +240,17 @@ impl<'a> Lowerer<'a> {
     ) -> Result<(), NoMemory>
         ensures adds { OnOk result (AddsPattern choice.old choice.new (V.pattern pattern.now) self.old.frame.next
             self.new.frame.next) }
+        ensures entries { OnOk result (length choice.new.entries.items ≡ suc (length choice.old.entries.items)) }
+        ensures takes { OnOk result (choice.new.takes ≡ choice.old.takes) }
         ensures frame { OnOk result (self.new.frame ≡ reaching self.old.frame self.new.frame.next) }
         ensures room { OnOk result (HasRoom self.old.frame self.new.frame) }
         ensures extends { OnOk result (Extends self.old.buffer self.new.buffer) }
         ensures as_long { OnOk result (size self.new.buffer ≡ size self.old.buffer) }
         ensures one { OnOk result (labels self.new.buffer ≡ suc (labels self.old.buffer)) }
+        ensures maps { OnOk result (self.new.buffer.maps ≡ self.old.buffer.maps) }
         ensures context { OnOk result (self.new.context ≡ self.old.context) }
+        ensures gives_up { OnOk result (self.new.gives_up ≡ self.old.gives_up) }
+        ensures walk { OnOk result (self.new.walk ≡ self.old.walk) }
     {
         let alloc = self.context.alloc;
         add_spots(alloc, pattern, &mut choice.root, &mut self.frame)?;
@@ -231,9 +269,14 @@ impl<'a> Lowerer<'a> {
         ensures starts { OnOk result (StartsIn (setting self.old.context.now) matching.now
             (V.clause clause.now).pattern progress.old.clause self.old.buffer (sides_of progress.old.sides.items)
             self.new.frame self.new.buffer (sides_of progress.new.sides.items)) }
+        ensures laid { OnOk result (StartsLaid (setting self.old.context.now) matching.now
+            (V.clause clause.now).pattern progress.old.clause self.old.frame self.old.buffer
+            (sides_of progress.old.sides.items) self.new.frame self.new.buffer (sides_of progress.new.sides.items)) }
         ensures next { OnOk result (progress.new.clause ≡ suc progress.old.clause) }
         ensures joined { OnOk result (progress.new.joined ≡ progress.old.joined) }
         ensures context { OnOk result (self.new.context ≡ self.old.context) }
+        ensures gives_up { OnOk result (self.new.gives_up ≡ self.old.gives_up) }
+        ensures walk { OnOk result (self.new.walk ≡ self.old.walk) }
     {
         let number = progress.clause;
         progress.clause = number.checked_add(1).ok_or(NoMemory)?;
@@ -255,6 +298,8 @@ impl<'a> Lowerer<'a> {
             (V.pattern pattern.now) (spot_of root.now) self.old.frame) }
         ensures buffer { OnOk result (self.new.buffer ≡ self.old.buffer) }
         ensures context { OnOk result (self.new.context ≡ self.old.context) }
+        ensures gives_up { OnOk result (self.new.gives_up ≡ self.old.gives_up) }
+        ensures walk { OnOk result (self.new.walk ≡ self.old.walk) }
     {
         match pattern {
             Pattern::Binder(binder) => {
@@ -276,6 +321,8 @@ impl<'a> Lowerer<'a> {
         ensures spent { self.new.frame ≡ spent_if takes register self.old.frame }
         ensures buffer { self.new.buffer ≡ self.old.buffer }
         ensures context { self.new.context ≡ self.old.context }
+        ensures gives_up { self.new.gives_up ≡ self.old.gives_up }
+        ensures walk { self.new.walk ≡ self.old.walk }
     {
         if takes {
             self.frame.use_up(register);
@@ -295,6 +342,8 @@ impl<'a> Lowerer<'a> {
             (V.pattern pattern.now) (spot_of spot.now) self.old.frame) }
         ensures buffer { OnOk result (self.new.buffer ≡ self.old.buffer) }
         ensures context { OnOk result (self.new.context ≡ self.old.context) }
+        ensures gives_up { OnOk result (self.new.gives_up ≡ self.old.gives_up) }
+        ensures walk { OnOk result (self.new.walk ≡ self.old.walk) }
     {
         match pattern {
             Pattern::Binder(binder) => {
@@ -332,6 +381,8 @@ impl<'a> Lowerer<'a> {
             (V.patterns patterns.now) (spots_of fields.now) self.old.frame) }
         ensures buffer { OnOk result (self.new.buffer ≡ self.old.buffer) }
         ensures context { OnOk result (self.new.context ≡ self.old.context) }
+        ensures gives_up { OnOk result (self.new.gives_up ≡ self.old.gives_up) }
+        ensures walk { OnOk result (self.new.walk ≡ self.old.walk) }
     {
         let mut place: usize = 0;
         for part in patterns {
@@ -354,6 +405,8 @@ impl<'a> Lowerer<'a> {
             (V.pattern part.now)) (spots_of fields.now) place self.old.frame self.new.frame) }
         ensures buffer { OnOk result (self.new.buffer ≡ self.old.buffer) }
         ensures context { OnOk result (self.new.context ≡ self.old.context) }
+        ensures gives_up { OnOk result (self.new.gives_up ≡ self.old.gives_up) }
+        ensures walk { OnOk result (self.new.walk ≡ self.old.walk) }
     {
         let field = field_at(fields, place)?;
         self.open_part(takes, root, part, field)?;
@@ -366,6 +419,8 @@ impl<'a> Lowerer<'a> {
             self.old.frame }
         ensures buffer { self.new.buffer ≡ self.old.buffer }
         ensures context { self.new.context ≡ self.old.context }
+        ensures gives_up { self.new.gives_up ≡ self.old.gives_up }
+        ensures walk { self.new.walk ≡ self.old.walk }
     {
         if takes || is_named(binder) {
             let held = self.variable_held(takes, root, binder.ty);
@@ -393,6 +448,8 @@ impl<'a> Lowerer<'a> {
             cell.constructor (V.patterns patterns.now) cell.register self.old.frame) }
         ensures buffer { OnOk result (self.new.buffer ≡ self.old.buffer) }
         ensures context { OnOk result (self.new.context ≡ self.old.context) }
+        ensures gives_up { OnOk result (self.new.gives_up ≡ self.old.gives_up) }
+        ensures walk { OnOk result (self.new.walk ≡ self.old.walk) }
     {
         if !takes {
             return Ok(());
@@ -422,9 +479,15 @@ impl<'a> Lowerer<'a> {
     ) -> Result<(), NoMemory>
         ensures ends { OnOk result (EndsIn matching.now (target_of target.entry) progress.old.clause self.old.frame
             self.old.buffer progress.old.joined self.new.buffer progress.new.joined) }
+        ensures laid { OnOk result (EndsInLaid (setting self.old.context.now) (not self.old.gives_up) matching.now
+            (target_of target.entry) progress.old.clause self.old.frame self.old.buffer progress.old.joined
+            self.new.buffer progress.new.joined) }
+        ensures next { OnOk result (self.new.frame.next ≡ self.old.frame.next) }
         ensures clause { OnOk result (progress.new.clause ≡ progress.old.clause) }
         ensures sides { OnOk result (progress.new.sides ≡ progress.old.sides) }
         ensures context { OnOk result (self.new.context ≡ self.old.context) }
+        ensures gives_up { OnOk result (self.new.gives_up ≡ self.old.gives_up) }
+        ensures walk { OnOk result (self.new.walk ≡ self.old.walk) }
     {
         match target {
             Target::Return => Ok(()),
@@ -444,6 +507,11 @@ impl<'a> Lowerer<'a> {
         ensures loses { OnOk result (Loses self.old.frame self.new.frame) }
         ensures sheds { OnOk result (Sheds self.old.frame self.old.buffer self.new.frame self.new.buffer) }
         ensures context { OnOk result (self.new.context ≡ self.old.context) }
+        ensures gives_up { OnOk result (self.new.gives_up ≡ self.old.gives_up) }
+        ensures walk { OnOk result (self.new.walk ≡ self.old.walk) }
+        ensures laid { OnOk result (ClauseLeavesLaid (setting self.old.context.now) (not self.old.gives_up)
+            self.old.frame self.old.buffer matching.now.entry matching.now.used.items matching.now.need given.now
+            self.new.frame self.new.buffer) }
     {
         self.end_bare()?;
         self.give_up_to(
@@ -459,8 +527,11 @@ impl<'a> Lowerer<'a> {
     // Behind the last clause the code goes on.
     fn go_to_end(&mut self, matching: &Matching<'_>, next: usize) -> Result<(), NoMemory>
         ensures goes { OnOk result (GoesToEnd matching.now next self.old.buffer self.new.buffer) }
+        ensures laid { OnOk result (GoesLaid matching.now next self.old.buffer self.new.buffer) }
         ensures frame { OnOk result (self.new.frame ≡ self.old.frame) }
         ensures context { OnOk result (self.new.context ≡ self.old.context) }
+        ensures gives_up { OnOk result (self.new.gives_up ≡ self.old.gives_up) }
+        ensures walk { OnOk result (self.new.walk ≡ self.old.walk) }
     {
         if next < matching.choice.len() {
             let target = matching.end;
@@ -472,9 +543,10 @@ impl<'a> Lowerer<'a> {
     }
 
     // What is known at the ends of the clauses so far and of this one.
-    #[tactic(auto, using(crate::proofs::Clauses::joining))]
+    #[tactic(auto, using(crate::proofs::Clauses::joining, crate::proofs::Matched::joining_laid))]
     fn joined(&self, before: &Option<Frame>) -> Result<Frame, NoMemory>
         ensures joins { IfOk result (λ f. JoinsKnown self.now.frame before.now (Some f)) }
+        ensures laid { IfOk result (λ f. JoinsLaid before.now self.now.frame (Some f)) }
     {
         match before {
             None => {
@@ -493,7 +565,11 @@ impl<'a> Lowerer<'a> {
     pub fn end_match(&mut self, matching: Matching<'_>, progress: Progress) -> Result<(), NoMemory>
         ensures ends { OnOk result (EndsMatch matching.entry progress.joined self.old.buffer
             self.new.frame self.new.buffer) }
+        ensures laid { OnOk result (EndsMatchLaid (setting self.old.context.now) matching.entry progress.joined
+            self.old.frame self.old.buffer self.new.frame self.new.buffer) }
         ensures context { OnOk result (self.new.context ≡ self.old.context) }
+        ensures gives_up { OnOk result (self.new.gives_up ≡ self.old.gives_up) }
+        ensures walk { OnOk result (self.new.walk ≡ self.old.walk) }
     {
         let Matching { end, .. } = matching;
         let Progress { joined, .. } = progress;

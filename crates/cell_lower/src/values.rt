@@ -28,6 +28,7 @@ impl<'a> Lowerer<'a> {
         ensures computes { IfOk result (λ r. Computes (setting self.old.context.now) self.old.frame self.old.buffer
             (V.argument argument.now) r self.new.frame self.new.buffer) }
         ensures context { OnOk result (self.new.context ≡ self.old.context) }
+        ensures walk { OnOk result (self.new.walk ≡ self.old.walk) }
         ensures gives_up { OnOk result (self.new.gives_up ≡ self.old.gives_up) }
     {
         match argument {
@@ -57,6 +58,7 @@ impl<'a> Lowerer<'a> {
         ensures computes { IfOk result (λ rs. ComputesAll (setting self.old.context.now) self.old.frame
             self.old.buffer (V.arguments arguments.now) rs.items self.new.frame self.new.buffer) }
         ensures context { OnOk result (self.new.context ≡ self.old.context) }
+        ensures walk { OnOk result (self.new.walk ≡ self.old.walk) }
         ensures gives_up { OnOk result (self.new.gives_up ≡ self.old.gives_up) }
     {
         let mut registers = Vec::new(self.context.alloc);
@@ -72,6 +74,7 @@ impl<'a> Lowerer<'a> {
         ensures written { OnOk result (self.new.buffer ≡ added self.old.buffer (I.Const self.old.frame.next value)) }
         ensures room { OnOk result (HasRoom self.old.frame self.new.frame) }
         ensures context { OnOk result (self.new.context ≡ self.old.context) }
+        ensures walk { OnOk result (self.new.walk ≡ self.old.walk) }
         ensures gives_up { OnOk result (self.new.gives_up ≡ self.old.gives_up) }
     {
         let destination = self.frame.fresh()?;
@@ -87,6 +90,7 @@ impl<'a> Lowerer<'a> {
         ensures builds { IfOk result (λ r. Builds (setting self.old.context.now) self.old.frame self.old.buffer ty
             constructor fields.now r self.new.frame self.new.buffer) }
         ensures context { OnOk result (self.new.context ≡ self.old.context) }
+        ensures walk { OnOk result (self.new.walk ≡ self.old.walk) }
         ensures gives_up { OnOk result (self.new.gives_up ≡ self.old.gives_up) }
     {
         if fields.is_empty() {
@@ -111,6 +115,7 @@ impl<'a> Lowerer<'a> {
         ensures builds { IfOk result (λ r. Builds (setting self.old.context.now) self.old.frame self.old.buffer ty
             constructor [] r self.new.frame self.new.buffer) }
         ensures context { OnOk result (self.new.context ≡ self.old.context) }
+        ensures walk { OnOk result (self.new.walk ≡ self.old.walk) }
         ensures gives_up { OnOk result (self.new.gives_up ≡ self.old.gives_up) }
     {
         match self.frame.take_bare(ty, constructor) {
@@ -138,6 +143,7 @@ impl<'a> Lowerer<'a> {
     pub fn use_up_all(&mut self, registers: &[u16])
         ensures used { self.new.frame ≡ K.using self.old.frame (K.used_all self.old.frame.held registers.now) }
         ensures context { self.new.context ≡ self.old.context }
+        ensures walk { self.new.walk ≡ self.old.walk }
         ensures buffer { self.new.buffer ≡ self.old.buffer }
         ensures gives_up { self.new.gives_up ≡ self.old.gives_up }
     {
@@ -156,6 +162,7 @@ impl<'a> Lowerer<'a> {
         ensures laid { OnOk result (GivesUpLaid true self.old.frame self.old.buffer self.new.frame self.new.buffer) }
         ensures bares { OnOk result (NoBares self.old.frame.next self.new.frame.held) }
         ensures gives_up { OnOk result (self.new.gives_up ≡ self.old.gives_up) }
+        ensures walk { OnOk result (self.new.walk ≡ self.old.walk) }
     {
         for register in 0..self.frame.next() {
             self.end_one(register)?;
@@ -172,6 +179,7 @@ impl<'a> Lowerer<'a> {
         ensures laid { OnOk result (GivesUpLaid true self.old.frame self.old.buffer self.new.frame self.new.buffer) }
         ensures bare { OnOk result (is_bare (slice_get self.new.frame.held register) ≡ false) }
         ensures gives_up { OnOk result (self.new.gives_up ≡ self.old.gives_up) }
+        ensures walk { OnOk result (self.new.walk ≡ self.old.walk) }
     {
         if self.frame.is_bare(register) {
             self.frame.set(register, Held::Nothing);
@@ -189,6 +197,8 @@ impl<'a> Lowerer<'a> {
         ensures gives { OnOk result (Gives self.old.frame self.old.buffer results.now (target_of target.entry)
             self.new.frame self.new.buffer) }
         ensures context { OnOk result (self.new.context ≡ self.old.context) }
+        ensures gives_up { OnOk result (self.new.gives_up ≡ self.old.gives_up) }
+        ensures walk { OnOk result (self.new.walk ≡ self.old.walk) }
         ensures laid { OnOk result (GivesLaid (not self.old.gives_up) self.old.frame self.old.buffer results.now
             (target_of target.entry) self.new.frame self.new.buffer) }
     {
@@ -215,6 +225,8 @@ impl<'a> Lowerer<'a> {
         ensures moves { OnOk result (Moves self.old.frame self.old.buffer sources.now destinations.now
             self.new.frame self.new.buffer) }
         ensures context { OnOk result (self.new.context ≡ self.old.context) }
+        ensures gives_up { OnOk result (self.new.gives_up ≡ self.old.gives_up) }
+        ensures walk { OnOk result (self.new.walk ≡ self.old.walk) }
     {
         let mut place = 0;
         for source in sources {
@@ -229,6 +241,8 @@ impl<'a> Lowerer<'a> {
         ensures moves { OnOk result (MovesTo self.old.frame self.old.buffer source (slice_get destinations.now place)
             self.new.frame self.new.buffer) }
         ensures context { OnOk result (self.new.context ≡ self.old.context) }
+        ensures gives_up { OnOk result (self.new.gives_up ≡ self.old.gives_up) }
+        ensures walk { OnOk result (self.new.walk ≡ self.old.walk) }
     {
         match destinations.get(place) {
             None => Ok(()),
@@ -242,6 +256,8 @@ impl<'a> Lowerer<'a> {
         ensures moves { OnOk result (MovesOne self.old.frame self.old.buffer source destination
             self.new.frame self.new.buffer) }
         ensures context { OnOk result (self.new.context ≡ self.old.context) }
+        ensures gives_up { OnOk result (self.new.gives_up ≡ self.old.gives_up) }
+        ensures walk { OnOk result (self.new.walk ≡ self.old.walk) }
     {
         if source == destination {
             return Ok(());

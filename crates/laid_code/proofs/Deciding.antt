@@ -23,9 +23,9 @@ use Rattle.lowered_code.specs.Bodies.{moved}
 use Rattle.lowered_code.specs.Functions.{known_at_start}
 use Rattle.lowered_code.specs.Example.{lists_setting}
 use Rattle.laid_code.specs.Describing.{held_at, kind_of}
-use Rattle.laid_code.specs.Labels.{Takes, Catches, Tells, Shows, told, Quiet}
+use Rattle.laid_code.specs.Labels.{Takes, Tells, Shows, told, Quiet}
 use Rattle.laid_code.specs.Sights.{Sight}
-use Rattle.laid_code.specs.Tests.{Choice, ChunkLaid, SideLaid}
+use Rattle.laid_code.specs.Tests.{Choice, BeginsBody, ChunkLaid, SideLaid}
 use Rattle.laid_code.specs.Matches.{BuiltRight, MatchBegins, MatchLaid, entered, wide_at}
 use Rattle.laid_code.specs.Joins.{ClauseEnds, Met}
 use Rattle.laid_code.specs.Functions.{FunctionLaid}
@@ -137,19 +137,19 @@ tells_met = record { wide = refl; each = each }
     each (suc (suc (suc zero))) = refl
     each (suc (suc (suc (suc r)))) = refl
 
--- what fails the test
-failed_takes : (m : ℕ → Kind) → Sight lists_code.types (held_at at_tests.held) 1 root not_no [] m → Catches choosing_digit 4 m
-failed_takes m sight = record { map = begun_kinds; there = refl; takes = record { wide = refl; each = each } }
-  where
-    other : (q : ℕ) → (q ≡ 0 → ⊥) → kind_of lists_code.types (held_at at_tests.held q) ≡ K.Gone → fits K.Gone (m q) ≡ true
-    other q ne is = ap (fits K.Gone) (sight.others q ne (λ a. a) ∙ is)
-
-    each : (r : ℕ) → fits (at begun_kinds r) (m r) ≡ true
-    each zero = ap (fits (K.Scalar 1)) sight.root
-    each (suc zero) = other 1 (λ e. absurd (omega (arith, e))) refl
-    each (suc (suc zero)) = other 2 (λ e. absurd (omega (arith, e))) refl
-    each (suc (suc (suc zero))) = other 3 (λ e. absurd (omega (arith, e))) refl
-    each (suc (suc (suc (suc r)))) = other (suc (suc (suc (suc r)))) (λ e. absurd (omega (arith, e))) refl
+-- what fails the test goes straight to the body of the second clause
+failed_begins : BeginsBody lists_code choosing_digit choice 4 not_no []
+failed_begins = record {
+  steps = 1;
+  clause = 1;
+  chosen = (
+    row_of yes,
+    record { number = 1; pattern = yes; there = refl; same = refl; asks = refl },
+    refl,
+    record { pattern = yes; there = refl; fits = refl; settled = ([], (refl, refl)) },
+  );
+  entry = refl;
+}
 
 failed_sight : Sight lists_code.types (wide_at (held_at at_tests.held)) 1 root not_no [] (at begun_kinds)
 failed_sight = record { root = refl; parts = λ z a. absurd a; others = others }
@@ -241,7 +241,7 @@ first_chunk = record {
         ahead = omega arith;
         label = refl;
         one = refl;
-        fails = failed_takes;
+        fails = inr failed_begins;
       },
       record { pattern = no; there = refl; fits = refl; settled = ([], (refl, refl)) },
     ),

@@ -1,3 +1,4 @@
 pub mod Reversing
 pub mod Deciding
 pub mod Picking
+pub mod Growing

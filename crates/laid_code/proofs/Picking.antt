@@ -247,7 +247,7 @@ first_chunk = record {
         ahead = omega arith;
         label = refl;
         one = refl;
-        fails = failed_takes;
+        fails = inl failed_takes;
       },
       record { pattern = no; there = refl; fits = refl; settled = ([], (refl, refl)) },
     ),

@@ -217,7 +217,7 @@ first_chunk = record {
         ahead = omega arith;
         label = refl;
         one = refl;
-        fails = failed_takes;
+        fails = inl failed_takes;
       },
       record { pattern = nil_pattern; there = refl; fits = refl; settled = (1, refl, refl) },
     ),

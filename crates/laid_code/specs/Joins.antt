@@ -5,11 +5,14 @@
 -- In  let y = match! xs { Nil -> a; Cons(x, t) -> b };  the code of the first clause ends in a move to the register of
 -- y, which is Move 3 1, and a Jump behind that of the second one. Where register 1 owns a list at the end of the first
 -- and not at that of the second, nothing is known of it where they meet.
-use Rattle.std.specs.Prelude.{◌≡◌, ◌⊎◌, ◌<◌, ◌≤◌, ℕ, suc, Bool, true, List, Some, None, length, slice_get}
+use Rattle.std.specs.Prelude.{◌≡◌, ◌⊎◌, ◌<◌, ◌≤◌, ℕ, suc, Bool, true, false, List, [], ◌∷◌, Some, None, length}
+use Rattle.std.specs.Prelude.{slice_get, if◌then◌else◌}
 use Rattle.cell_code.specs.declared.code.Instr.TheVariants as I
 use Rattle.cell_code.specs.declared.kind.Kind.{Kind}
 use Rattle.fip_trees.specs.Tree.{Expression, Clauses, NoClauses, MoreClauses}
 use Rattle.sound_code.specs.Codes.{PlainCode, PlainFunction, label_at}
+use Rattle.lowered_code.specs.declared.held.Credit.{Credit}
+use Rattle.lowered_code.specs.declared.held.Held.{Held}
 use Rattle.lowered_code.specs.declared.held.Held.TheVariants as H
 use Rattle.lowered_code.specs.Known.{Known, register_of}
 use Rattle.lowered_code.specs.Values.{Setting}
@@ -47,7 +50,22 @@ pub record ClauseEnds (c : PlainCode) (st : Setting) (fip : Bool) (f : PlainFunc
   pub goes : GoesOn f cs stop target next
   pub quiet : Quiet f at next (told c k)
 
--- m is what is known both where k and where l is known; a credit of k may be left
+abbrev pub holds_credit : Held → Bool
+holds_credit H.Nothing = false
+holds_credit (H.Scalar t) = false
+holds_credit (H.Owned t b) = false
+holds_credit (H.Lent t root) = false
+holds_credit (H.Credit n) = true
+holds_credit (H.Bare t c) = false
+
+-- the credits whose registers hold one
+abbrev pub still_held : List Held → List Credit → List Credit
+still_held hs [] = []
+still_held hs (c ∷ cs) =
+    if holds_credit (held_at hs c.register) then c ∷ still_held hs cs else still_held hs cs
+
+-- m is what is known both where k and where l is known; a credit of k may be left. The credits are those of k whose
+-- registers hold one still.
 pub record Met (k l m : Known) : Type 0 where
   pub held : (r : ℕ) →
       ((held_at k.held r ≡ held_at l.held r) × (held_at m.held r ≡ held_at k.held r))
@@ -60,7 +78,7 @@ pub record Met (k l m : Known) : Type 0 where
       × (register_of m.names (Some x) ≡ None))
   pub width : length m.held ≡ length k.held
   pub many : length m.names ≡ length k.names
-  pub credits : m.credits ≡ k.credits
+  pub credits : m.credits ≡ still_held m.held k.credits
   pub next : m.next ≡ k.next
 
 -- Where the clauses meet a label stands, and more registers may be used already. The label takes what is told where

@@ -12,4 +12,5 @@ pub mod Moves
 pub mod Handed
 pub mod Bodies
 pub mod Functions
+pub mod Standing
 pub mod Example

@@ -62,20 +62,6 @@ pub record Asking (ch : Choice) (k : Known) (p : M.Pattern) : Type 0 where
   pub same : p ≡ row_of pattern
   pub asks : compare p k ≡ Asks
 
--- the test of what it asks for first; a label stands where the test leads that fails, and takes what is told there
-pub record TestLaid (c : PlainCode) (f : PlainFunction) (g : Holding) (ch : Choice) (at : ℕ) (p : M.Pattern)
-    (k : Known) (read : List ℕ) (next : ℕ) (more : List ℕ) : Type 0 where
-  pub mid : ℕ
-  pub found : Asked
-  pub target : ℕ
-  pub reads : ReadsLaid f at p k ch.root read mid more
-  pub asks : asked p k ch.root ≡ Some found
-  pub written : slice_get f.instrs mid ≡ Some (test_of found.register found.head target)
-  pub ahead : mid < target
-  pub label : is_some (label_at f.labels target) ≡ true
-  pub one : next ≡ suc mid
-  pub fails : (m : ℕ → Kind) → Sight c.types g ch.type ch.root (side false p k) more m → Catches f target m
-
 -- cells are taken apart, from the root on; one without fields stays for its clause
 abbrev pub TakeLaid : PlainFunction → ℕ → ℕ → Patterns → Spots → ℕ → Type 0
 TakeLaid f at r NoPatterns ss mid = mid ≡ at
@@ -122,6 +108,41 @@ pub record ChosenLaid (f : PlainFunction) (ch : Choice) (at : ℕ) (k : Known) (
   pub there : slice_get ch.patterns i ≡ Some pattern
   pub fits : compare (row_of pattern) k ≡ Fits
   pub settled : SettledLaid ch.takes f at pattern ch.root read end
+
+-- n steps that no value fails, and then clause i is chosen: no instruction is written
+abbrev pub ChosenAtOnce : PlainCode → PlainFunction → Choice → ℕ → ℕ → Known → List ℕ → ℕ → Type 0
+ChosenAtOnce c f ch zero at k read i = ChosenLaid f ch at k read i at
+ChosenAtOnce c f ch (suc n) at k read i =
+    (p : M.Pattern) × Asking ch k p × (is_last c.types p k ≡ true)
+    × ChosenAtOnce c f ch n at (side true p k) read i
+
+-- The body of a clause begins at `at`, and where this is known it is chosen without an instruction.
+-- In match b { False -> x; y -> z } what fails the test of False goes straight to z.
+pub record BeginsBody (c : PlainCode) (f : PlainFunction) (ch : Choice) (at : ℕ) (k : Known) (read : List ℕ) :
+    Type 0 where
+  pub steps : ℕ
+  pub clause : ℕ
+  pub chosen : ChosenAtOnce c f ch steps at k read clause
+  pub entry : slice_get ch.entries clause ≡ Some at
+
+-- A label takes what is told where this is known, or a body begins there: its own label takes it then.
+abbrev pub TakenAt : PlainCode → PlainFunction → Holding → Choice → ℕ → Known → List ℕ → Type 0
+TakenAt c f g ch at k read =
+    ((m : ℕ → Kind) → Sight c.types g ch.type ch.root k read m → Catches f at m) ⊎ BeginsBody c f ch at k read
+
+-- the test of what a pattern asks for first; a label stands where what fails it goes, and takes what is told there
+pub record TestLaid (c : PlainCode) (f : PlainFunction) (g : Holding) (ch : Choice) (at : ℕ) (p : M.Pattern)
+    (k : Known) (read : List ℕ) (next : ℕ) (more : List ℕ) : Type 0 where
+  pub mid : ℕ
+  pub found : Asked
+  pub target : ℕ
+  pub reads : ReadsLaid f at p k ch.root read mid more
+  pub asks : asked p k ch.root ≡ Some found
+  pub written : slice_get f.instrs mid ≡ Some (test_of found.register found.head target)
+  pub ahead : mid < target
+  pub label : is_some (label_at f.labels target) ≡ true
+  pub one : next ≡ suc mid
+  pub fails : TakenAt c f g ch target (side false p k) more
 
 -- n steps, and then clause i is chosen
 abbrev pub TestsLaid :

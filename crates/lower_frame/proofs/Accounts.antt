@@ -21,14 +21,14 @@ same_some : {A : Type 0} (x y : A) → Some x ≡ Some y → x ≡ y
 same_some x y e = cc
 
 -- what stands where after a change
-get_other : {A : Type 0} (xs : List A) (i : ℕ) (x : A) (j : ℕ) → (j ≡ i → ⊥) → slice_get (slice_set xs i x) j ≡ slice_get xs j
+pub get_other : {A : Type 0} (xs : List A) (i : ℕ) (x : A) (j : ℕ) → (j ≡ i → ⊥) → slice_get (slice_set xs i x) j ≡ slice_get xs j
 get_other [] i x j h = refl
 get_other (z ∷ zs) zero x zero h = absurd (h refl)
 get_other (z ∷ zs) zero x (suc j) h = refl
 get_other (z ∷ zs) (suc i) x zero h = refl
 get_other (z ∷ zs) (suc i) x (suc j) h = get_other zs i x j (λ e. h (ap suc e))
 
-get_same : {A : Type 0} (P : Option A → Type 0) (xs : List A) (i : ℕ) (x : A) → P None → P (Some x) → P (slice_get (slice_set xs i x) i)
+pub get_same : {A : Type 0} (P : Option A → Type 0) (xs : List A) (i : ℕ) (x : A) → P None → P (Some x) → P (slice_get (slice_set xs i x) i)
 get_same P [] i x p q = p
 get_same P (z ∷ zs) zero x p q = q
 get_same P (z ∷ zs) (suc i) x p q = get_same P zs i x p q
@@ -108,7 +108,7 @@ one_true true h = refl
 one_true false h = absurd (omega (arith, h))
 
 -- a credit of the list is held
-credit_held : (k : Known) (n r : ℕ) → Accounted k → 1 ≤ counted n r k.credits → slice_get k.held r ≡ Some (H.Credit n)
+pub credit_held : (k : Known) (n r : ℕ) → Accounted k → 1 ≤ counted n r k.credits → slice_get k.held r ≡ Some (H.Credit n)
 credit_held k n r a h = credit_is n (slice_get k.held r) (one_true (is_credit_of n (slice_get k.held r)) (let e = a.credits n r in omega (arith, e, h)))
 
 held_of : (hs : List Held) (cs : List Credit) (i n m : ℕ) (c : Credit) → slice_get cs i ≡ Some c → c.size ≡ n → slice_get hs c.register ≡ Some (H.Credit m) → is_held_of hs n (slice_get cs i) ≡ true
@@ -182,11 +182,11 @@ size_both n (c ∷ a) b = one_more (c.size == n) c.register (of_size n (a ++ b))
     one_more true r all front back e = ap (λ xs. r ∷ xs) e
     one_more false r all front back e = e
 
-none_of : (n : ℕ) (cs : List Credit) → ((i : ℕ) (c : Credit) → slice_get cs i ≡ Some c → c.size ≡ n → ⊥) → of_size n cs ≡ []
+pub none_of : (n : ℕ) (cs : List Credit) → ((i : ℕ) (c : Credit) → slice_get cs i ≡ Some c → c.size ≡ n → ⊥) → of_size n cs ≡ []
 none_of n [] h = refl
 none_of n (c ∷ cs) h = ap (λ b. if b then c.register ∷ of_size n cs else of_size n cs) (unequal_is c.size n (h 0 c refl)) ∙ none_of n cs (λ i d e. h (suc i) d e)
 
-counted_there : (cs : List Credit) (i : ℕ) (c : Credit) → slice_get cs i ≡ Some c → 1 ≤ counted c.size c.register cs
+pub counted_there : (cs : List Credit) (i : ℕ) (c : Credit) → slice_get cs i ≡ Some c → 1 ≤ counted c.size c.register cs
 counted_there [] i c e = absurd (cc)
 counted_there (d ∷ cs) zero c e =
     let same : d ≡ c = same_some d c e in
@@ -263,7 +263,7 @@ pub ruleset taking = (taken_from, held_at)
 
 -- of each size the last ones are gone
 
-other_size : (cs : List Credit) (n r m : ℕ) (rest : List Credit) → IsTaken cs n r rest → (n ≡ m → ⊥) → of_size m cs ≡ of_size m rest
+pub other_size : (cs : List Credit) (n r m : ℕ) (rest : List Credit) → IsTaken cs n r rest → (n ≡ m → ⊥) → of_size m cs ≡ of_size m rest
 other_size cs n r m rest t ne =
     let c : Credit = record { size = n; register = r } in
     let past : of_size m (c ∷ t.behind) ≡ of_size m t.behind = ap (λ b. if b then r ∷ of_size m t.behind else of_size m t.behind) (unequal_is n m ne) in
@@ -289,7 +289,7 @@ taken_last k l n r t a = subst (λ (x : Known). LastGone k.credits x.credits) (s
   | inr ne ↦ ([], other_size k.credits n r m t.rest t.taken ne ∙ none_gone (of_size m t.rest))
 ])
 
-taken_held : (k : Known) (n r : ℕ) (rest : List Credit) → Accounted k → IsTaken k.credits n r rest → slice_get k.held r ≡ Some (H.Credit n)
+pub taken_held : (k : Known) (n r : ℕ) (rest : List Credit) → Accounted k → IsTaken k.credits n r rest → slice_get k.held r ≡ Some (H.Credit n)
 taken_held k n r rest a t = credit_held k n r a
     (let same : one_if ((n == n) && (r == r)) ≡ 1 = ap one_if (ap (λ b. b && (r == r)) (equal_is n n refl) ∙ equal_is r r refl) in omega (arith, counted_taken k.credits n r rest n r t, same))
 

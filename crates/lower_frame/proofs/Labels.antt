@@ -1,7 +1,7 @@
 -- Labels that are made, or get their place, and what is told where they stand.
-use Rattle.std.proofs.Common.{◌≡◌, refl, sym, ap, ◌∙◌, subst, arith, ℕ, zero, suc, ◌≤◌, ◌<◌, ◌-◌, Bool, true, false, List, [], ◌∷◌, ◌++◌, length, length-append, map, take, Option, Some, None, slice_get, slice_set}
-use Rattle.std.specs.Prelude.{option_map, if◌then◌else◌, ◌==◌}
-use Rattle.std.proofs.lemmas.Bool.{eqb-true, eqb-false}
+use Rattle.std.proofs.Common.{◌≡◌, ◌⊎◌, inl, inr, refl, sym, ap, ◌∙◌, subst, arith, true≢false, ℕ, zero, suc, ◌≤◌, ◌<◌, ◌-◌, Bool, true, false, List, [], ◌∷◌, ◌++◌, length, length-append, map, take, Option, Some, None, slice_get, slice_set}
+use Rattle.std.specs.Prelude.{option_map, is_some, if◌then◌else◌, ◌==◌}
+use Rattle.std.proofs.lemmas.Bool.{cases_eq, eqb-true, eqb-false}
 use Rattle.std.proofs.lemmas.Bool.Decides.{nat_tests}
 use Rattle.std.proofs.lemmas.List.{length-map, take-map}
 use Rattle.std.proofs.lemmas.Option.{slice_get-map}
@@ -9,9 +9,14 @@ use Rattle.cell_code.specs.declared.code.Instr.{Instr}
 use Rattle.cell_code.specs.declared.kind.Kind.{Kind}
 use Rattle.cell_code.specs.declared.kind.Label.{Label}
 use Rattle.sound_code.specs.Codes.{LabelMap, plain_label, label_at}
+use Rattle.lowered_code.specs.Known.{joined}
+use Rattle.laid_code.specs.Standing.{AreOpen, are_open}
 use Rattle.match_code.specs.Written.{Extends}
 use Rattle.match_code.proofs.Placing.{label_extends, put_extends, put_there, same_extends, added_to_extends}
-use Rattle.lower_frame.specs.Labels.{placed, stands_at, untold, telling, Rising}
+use Rattle.lower_frame.specs.Labels.{placed, stands_at, untold, telling, HaveMaps, Rising}
+
+same_some : {A : Type 0} (x y : A) → Some x ≡ Some y → x ≡ y
+same_some x y e = cc
 
 pub one_label : (ps qs : List (Option ℕ)) → qs ≡ ps ++ None ∷ [] → length qs ≡ suc (length ps)
 one_label ps qs e = ap length e ∙ omega (arith, length-append ps (None ∷ []))
@@ -69,13 +74,13 @@ last_none ls p e = sym (ap (stands_at p) (last_of ls ∙ ap (option_map plain_la
 pub last_some : (ls : List Label) (l : Label) (p : ℕ) → slice_get ls (length ls - 1) ≡ Some l → (l.at == p) ≡ stands_at p (slice_get (map plain_label ls) (length (map plain_label ls) - 1))
 last_some ls l p e = sym (ap (stands_at p) (last_of ls ∙ ap (option_map plain_label) e))
 
-pub untold_last : (ls ns : List Label) (p : ℕ) (b : Bool) → b ≡ stands_at p (slice_get (map plain_label ls) (length (map plain_label ls) - 1)) → b ≡ true → ns ≡ take (length ls - 1) ls → map plain_label ns ≡ untold p (map plain_label ls)
-untold_last ls ns p b e f g =
-    ap (map plain_label) g ∙ sym (take-map plain_label (length ls - 1) ls) ∙ ap (λ n. take (n - 1) (map plain_label ls)) (sym (length-map ls plain_label))
-    ∙ sym (ap (λ x. if x then take (length (map plain_label ls) - 1) (map plain_label ls) else map plain_label ls) (sym e ∙ f))
+untold_last : (ls : List Label) (p : ℕ) → stands_at p (slice_get (map plain_label ls) (length (map plain_label ls) - 1)) ≡ true → map plain_label (take (length ls - 1) ls) ≡ untold p (map plain_label ls)
+untold_last ls p e =
+    sym (take-map plain_label (length ls - 1) ls) ∙ ap (λ n. take (n - 1) (map plain_label ls)) (sym (length-map ls plain_label))
+    ∙ sym (ap (λ x. if x then take (length (map plain_label ls) - 1) (map plain_label ls) else map plain_label ls) e)
 
-pub untold_none : (ls : List Label) (p : ℕ) (b : Bool) → b ≡ stands_at p (slice_get (map plain_label ls) (length (map plain_label ls) - 1)) → b ≡ false → map plain_label ls ≡ untold p (map plain_label ls)
-untold_none ls p b e f = sym (ap (λ x. if x then take (length (map plain_label ls) - 1) (map plain_label ls) else map plain_label ls) (sym e ∙ f))
+untold_none : (ls : List Label) (p : ℕ) → stands_at p (slice_get (map plain_label ls) (length (map plain_label ls) - 1)) ≡ false → map plain_label ls ≡ untold p (map plain_label ls)
+untold_none ls p e = sym (ap (λ x. if x then take (length (map plain_label ls) - 1) (map plain_label ls) else map plain_label ls) e)
 
 pub told_first : (ks : List Kind) (ms : List LabelMap) (p : ℕ) → p ≡ 0 → ms ≡ telling p ks ms
 told_first ks ms zero e = refl
@@ -89,12 +94,30 @@ map_append : (ls : List Label) (l : Label) → map plain_label (ls ++ l ∷ []) 
 map_append [] l = refl
 map_append (k ∷ ls) l = ap (λ xs. plain_label k ∷ xs) (map_append ls l)
 
-pub told_pushed : (ls ks ns : List Label) (l : Label) (p : ℕ) → (p ≡ 0 → ⊥) → map plain_label ks ≡ untold p (map plain_label ls) → ns ≡ ks ++ l ∷ [] → l.at ≡ p → map plain_label ns ≡ telling p l.kinds.items (map plain_label ls)
-told_pushed ls ks ns l p h e f g =
-    ap (map plain_label) f ∙ map_append ks l ∙ ap (λ ms. ms ++ plain_label l ∷ []) e ∙ ap (λ x. untold p (map plain_label ls) ++ record { at = x; kinds = l.kinds.items } ∷ []) g
+told_behind : (ls ks : List Label) (l : Label) (p : ℕ) → (p ≡ 0 → ⊥) → map plain_label ks ≡ untold p (map plain_label ls) → l.at ≡ p → map plain_label (ks ++ l ∷ []) ≡ telling p l.kinds.items (map plain_label ls)
+told_behind ls ks l p h e f =
+    map_append ks l ∙ ap (λ ms. ms ++ plain_label l ∷ []) e ∙ ap (λ x. untold p (map plain_label ls) ++ record { at = x; kinds = l.kinds.items } ∷ []) f
     ∙ sym (told_later l.kinds.items (map plain_label ls) p h)
 
-pub ruleset telling_on = (last_none, last_some, untold_last, untold_none, told_first, told_pushed)
+pub told_pushed : (ls ns : List Label) (l : Label) (p : ℕ) (b : Bool) → (p ≡ 0 → ⊥) → b ≡ stands_at p (slice_get (map plain_label ls) (length (map plain_label ls) - 1)) → b ≡ false → ns ≡ ls ++ l ∷ [] → l.at ≡ p → map plain_label ns ≡ telling p l.kinds.items (map plain_label ls)
+told_pushed ls ns l p b h e f g at = ap (map plain_label) g ∙ told_behind ls ls l p h (untold_none ls p (sym e ∙ f)) at
+
+set_last : (ls : List Label) (l : Label) (n : ℕ) → suc n ≡ length ls → slice_set ls n l ≡ take n ls ++ l ∷ []
+set_last [] l n e = absurd (omega (arith, e))
+set_last (k ∷ []) l zero e = refl
+set_last (k ∷ j ∷ ls) l zero e = absurd (omega (arith, e))
+set_last (k ∷ ls) l (suc n) e = ap (λ ks. k ∷ ks) (set_last ls l n (omega (arith, e)))
+
+stands_some : (ls : List Label) (p : ℕ) → stands_at p (slice_get (map plain_label ls) (length (map plain_label ls) - 1)) ≡ true → suc (length ls - 1) ≡ length ls
+stands_some [] p e = absurd (true≢false (sym e))
+stands_some (l ∷ ls) p e = omega arith
+
+pub told_again : (ls ns : List Label) (l : Label) (p : ℕ) (b : Bool) → (p ≡ 0 → ⊥) → b ≡ stands_at p (slice_get (map plain_label ls) (length (map plain_label ls) - 1)) → b ≡ true → ns ≡ slice_set ls (length ls - 1) l → l.at ≡ p → map plain_label ns ≡ telling p l.kinds.items (map plain_label ls)
+told_again ls ns l p b h e f g at =
+    let here = sym e ∙ f in
+    ap (map plain_label) (g ∙ set_last ls l (length ls - 1) (stands_some ls p here)) ∙ told_behind ls (take (length ls - 1) ls) l p h (untold_last ls p here) at
+
+pub ruleset telling_on = (last_none, last_some, told_first, told_pushed, told_again)
 
 -- they rise
 
@@ -152,9 +175,6 @@ rising_told (suc n) ks (m ∷ ms) r = subst (λ j. Rising (suc n) 0 ((if stands_
 pub still_rising : (is : List Instr) (p : ℕ) (ks : List Kind) (ls ns : List Label) → p ≡ length is → map plain_label ns ≡ telling p ks (map plain_label ls) → Rising (length is) 0 (map plain_label ls) → Rising (length is) 0 (map plain_label ns)
 still_rising is p ks ls ns e f r = subst (Rising (length is) 0) (sym (f ∙ ap (λ x. telling x ks (map plain_label ls)) e)) (rising_told (length is) ks (map plain_label ls) r)
 
-pub rising_left : (n p : ℕ) (ls ns : List Label) → map plain_label ns ≡ untold p (map plain_label ls) → Rising n 0 (map plain_label ls) → Rising n 0 (map plain_label ns)
-rising_left n p ls ns e r = subst (Rising n 0) (sym e) (rising_untold n p (map plain_label ls) r)
-
 -- what was told before stays
 
 below_append : (ms : List LabelMap) (n p : ℕ) (ks : List Kind) → (n ≡ p → ⊥) → label_at (ms ++ record { at = n; kinds = ks } ∷ []) p ≡ label_at ms p
@@ -208,7 +228,72 @@ few_told (suc p) ks ms = omega (arith, few_untold (suc p) ms, length-append (unt
 pub few_more : (p : ℕ) (ks : List Kind) (ls ns : List Label) → map plain_label ns ≡ telling p ks (map plain_label ls) → length ns ≤ suc (length ls)
 few_more p ks ls ns e = omega (arith, ap length e, few_told p ks (map plain_label ls), length-map ls plain_label, length-map ns plain_label)
 
-pub few_left : (p : ℕ) (ls ns : List Label) → map plain_label ns ≡ untold p (map plain_label ls) → length ns ≤ suc (length ls)
-few_left p ls ns e = omega (arith, ap length e, few_untold p (map plain_label ls), length-map ls plain_label, length-map ns plain_label)
+-- where a label has its place
 
-pub ruleset placing = (rising_pushed, still_rising, rising_left, few_more, few_left, label_extends, same_extends, added_to_extends, one_label, as_many, placed_pushed, placed_more, placed_few)
+pub have_none : HaveMaps [] []
+have_none = record { by = λ l p e. absurd (cc) }
+
+pub have_pushed : (ps qs : List (Option ℕ)) (ms : List LabelMap) → qs ≡ ps ++ None ∷ [] → HaveMaps ps ms → HaveMaps qs ms
+have_pushed ps qs ms e h = record { by = λ l p f. h.by l p (before ps l p (ap (λ x. joined (slice_get x l)) (sym e) ∙ f)) }
+  where
+    before : (ps : List (Option ℕ)) (l p : ℕ) → joined (slice_get (ps ++ None ∷ []) l) ≡ Some p → joined (slice_get ps l) ≡ Some p
+    before [] zero p e = absurd (cc)
+    before [] (suc l) p e = absurd (cc)
+    before (o ∷ ps) zero p e = e
+    before (o ∷ ps) (suc l) p e = before ps l p e
+
+some_behind : (ms : List LabelMap) (n : ℕ) (ks : List Kind) → is_some (label_at (ms ++ record { at = n; kinds = ks } ∷ []) n) ≡ true
+some_behind [] n ks = ap (λ b. is_some (if b then Some ks else None)) (equal_is n n refl)
+some_behind (m ∷ ms) n ks = by (m.at == n) (some_behind ms n ks)
+  where
+    by : (b : Bool) → is_some (label_at (ms ++ record { at = n; kinds = ks } ∷ []) n) ≡ true → is_some (if b then Some m.kinds else label_at (ms ++ record { at = n; kinds = ks } ∷ []) n) ≡ true
+    by true rest = refl
+    by false rest = rest
+
+told_here : (n : ℕ) (ks : List Kind) (ms : List LabelMap) → 0 < n → is_some (label_at (telling n ks ms) n) ≡ true
+told_here zero ks ms h = absurd (omega (arith, h))
+told_here (suc n) ks ms h = some_behind (untold (suc n) ms) (suc n) ks
+
+set_at : (ps : List (Option ℕ)) (n here l p : ℕ) → joined (slice_get (slice_set ps n (Some here)) l) ≡ Some p → (here ≡ p) ⊎ (joined (slice_get ps l) ≡ Some p)
+set_at [] n here l p e = absurd (cc)
+set_at (o ∷ ps) zero here zero p e = inl (same_some here p e)
+set_at (o ∷ ps) zero here (suc l) p e = inr e
+set_at (o ∷ ps) (suc n) here zero p e = inr e
+set_at (o ∷ ps) (suc n) here (suc l) p e = set_at ps n here l p e
+
+pub have_told : (ps qs : List (Option ℕ)) (ls ns : List Label) (ks : List Kind) (n here : ℕ) → qs ≡ slice_set ps n (Some here) → map plain_label ns ≡ telling here ks (map plain_label ls) → HaveMaps ps (map plain_label ls) → HaveMaps qs (map plain_label ns)
+have_told ps qs ls ns ks n here e f h = record { by = λ l p at more. ap (λ ms. is_some (label_at ms p)) f ∙ by l p more (set_at ps n here l p (ap (λ x. joined (slice_get x l)) (sym e) ∙ at)) }
+  where
+    by : (l p : ℕ) → 0 < p → (here ≡ p) ⊎ (joined (slice_get ps l) ≡ Some p) → is_some (label_at (telling here ks (map plain_label ls)) p) ≡ true
+    by l p more (inl same) = subst (λ q. is_some (label_at (telling here ks (map plain_label ls)) q) ≡ true) same (told_here here ks (map plain_label ls) (omega (arith, more, same)))
+    by l p more (inr old) = elim (cases_eq here p) [
+      | inl same ↦ subst (λ q. is_some (label_at (telling here ks (map plain_label ls)) q) ≡ true) same (told_here here ks (map plain_label ls) (omega (arith, more, same)))
+      | inr ne ↦ ap is_some (told_other here p ks (map plain_label ls) ne) ∙ h.by l p old more
+    ]
+
+-- each tree may have some constructor
+
+opens_if : (b : Bool) (ms ks : List LabelMap) → AreOpen ms → AreOpen ks → AreOpen (if b then ms else ks)
+opens_if true ms ks h k = h
+opens_if false ms ks h k = k
+
+opens_first : (n : ℕ) (ms : List LabelMap) → AreOpen ms → AreOpen (take n ms)
+opens_first zero [] h = tt
+opens_first zero (m ∷ ms) h = tt
+opens_first (suc n) [] h = tt
+opens_first (suc n) (m ∷ ms) h = (h.0, opens_first n ms h.1)
+
+opens_behind : (ms : List LabelMap) (m : LabelMap) → are_open m.kinds ≡ true → AreOpen ms → AreOpen (ms ++ m ∷ [])
+opens_behind [] m k h = (k, tt)
+opens_behind (n ∷ ms) m k h = (h.0, opens_behind ms m k h.1)
+
+opens_telling : (p : ℕ) (ks : List Kind) (ms : List LabelMap) → are_open ks ≡ true → AreOpen ms → AreOpen (telling p ks ms)
+opens_telling zero ks ms k h = h
+opens_telling (suc p) ks ms k h =
+    opens_behind (untold (suc p) ms) (record { at = suc p; kinds = ks }) k
+    (opens_if (stands_at (suc p) (slice_get ms (length ms - 1))) (take (length ms - 1) ms) ms (opens_first (length ms - 1) ms h) h)
+
+pub opens_told : (p : ℕ) (ks : List Kind) (ls ns : List Label) → map plain_label ns ≡ telling p ks (map plain_label ls) → are_open ks ≡ true → AreOpen (map plain_label ls) → AreOpen (map plain_label ns)
+opens_told p ks ls ns e k h = subst AreOpen (sym e) (opens_telling p ks (map plain_label ls) k h)
+
+pub ruleset placing = (rising_pushed, still_rising, few_more, label_extends, same_extends, added_to_extends, one_label, as_many, placed_pushed, placed_more, have_none, have_pushed, have_told, opens_told)

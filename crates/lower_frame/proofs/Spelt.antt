@@ -258,10 +258,7 @@ telling_spelt (suc p) ks ms k h = record { by = all_of_more KindsHaveTexts (unto
 pub maps_told : (p : ℕ) (ks : List Kind) (ls ns : List Label) → map plain_label ns ≡ telling p ks (map plain_label ls) → AreKindsSpelt ks → AreMapsSpelt (map plain_label ls) → AreMapsSpelt (map plain_label ns)
 maps_told p ks ls ns e k h = subst AreMapsSpelt (sym e) (telling_spelt p ks (map plain_label ls) k h)
 
-pub maps_left : (p : ℕ) (ls ns : List Label) → map plain_label ns ≡ untold p (map plain_label ls) → AreMapsSpelt (map plain_label ls) → AreMapsSpelt (map plain_label ns)
-maps_left p ls ns e h = subst AreMapsSpelt (sym e) (untold_spelt p (map plain_label ls) h)
-
-pub ruleset spelling = (none_written, none_told, instrs_pushed, maps_told, maps_left)
+pub ruleset spelling = (none_written, none_told, instrs_pushed, maps_told)
 
 -- in the end: they rise, so there are no more of them than instructions
 

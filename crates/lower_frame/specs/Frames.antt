@@ -1,14 +1,14 @@
--- It serves the proofs on lowered code: what is known after a credit, or a constructor that was matched, is taken, and
--- what a verifier is told of the registers.
-use Rattle.std.specs.Prelude.{◌≡◌, ℕ, List, [], ◌∷◌, ◌++◌, Option, Some, None, map, slice_get, slice_set}
+-- It serves the proofs on lowered code: what is known after a credit, or a constructor that was matched, is taken, what
+-- is known at both of two places, and what a verifier is told of the registers.
+use Rattle.std.specs.Prelude.{◌≡◌, ◌⊎◌, ℕ, List, [], ◌∷◌, ◌++◌, Option, Some, None, map, slice_get, slice_set}
 use Rattle.fip_language.specs.Table.{Table}
 use Rattle.cell_code.specs.declared.kind.Kind.{Kind}
 use Rattle.lowered_code.specs.declared.held.Held.{Held}
 use Rattle.lowered_code.specs.declared.held.Held.TheVariants as H
 use Rattle.lowered_code.specs.declared.held.Credit.{Credit}
-use Rattle.lowered_code.specs.Known.{Known, holding, IsTaken}
+use Rattle.lowered_code.specs.Known.{Known, joined, holding, IsTaken}
 use Rattle.laid_code.specs.Credits.{of_size}
-use Rattle.laid_code.specs.Describing.{kind_of}
+use Rattle.laid_code.specs.Describing.{held_at, kind_of}
 use Rattle.laid_code.specs.Matches.{widened}
 use Rattle.lower_frame.specs.Credits.{Accounted}
 
@@ -28,19 +28,19 @@ pub record TakesBare (k : Known) (t c r : ℕ) (l : Known) : Type 0 where
   pub there : slice_get k.held r ≡ Some (H.Bare t c)
   pub known : l ≡ holding k r H.Nothing
 
--- constructors that were matched
+-- what is known at both of two places
 
-abbrev pub IsBare : Held → Type 0
-IsBare H.Nothing = ⊥
-IsBare (H.Scalar t) = ⊥
-IsBare (H.Owned t b) = ⊥
-IsBare (H.Lent t root) = ⊥
-IsBare (H.Credit n) = ⊥
-IsBare (H.Bare t c) = Unit {0}
+-- it is x where y is the same, and else it is nothing
+abbrev pub IsBoth : {A : Type 0} → A → A → A → A → Type 0
+IsBoth nothing x y both = ((x ≡ y) × (both ≡ x)) ⊎ ((x ≡ y → ⊥) × (both ≡ nothing))
 
--- each variable with a register had it before
-abbrev pub FewerNames : List (Option ℕ) → List (Option ℕ) → Type 0
-FewerNames ns ms = (x r : ℕ) → slice_get ms x ≡ Some (Some r) → slice_get ns x ≡ Some (Some r)
+-- of each register
+pub record HeldByBoth (hs gs both : List Held) : Type 0 where
+  pub by : (r : ℕ) → IsBoth H.Nothing (held_at hs r) (held_at gs r) (held_at both r)
+
+-- of the register of each variable
+pub record NamedByBoth (ns ms both : List (Option ℕ)) : Type 0 where
+  pub by : (x : ℕ) → IsBoth None (joined (slice_get ns x)) (joined (slice_get ms x)) (joined (slice_get both x))
 
 -- the kind of a register that holds this, where its tree may have each constructor of its type
 abbrev pub kind_told : Table → Held → Kind

@@ -2,10 +2,11 @@
 -- place once. What is known of the registers is told at places that rise, in the place of what was told there before;
 -- at the first instruction of a function nothing is told, since no other goes there.
 -- Where maps stand at 3 and 5, a map that is told at 5 takes the place of the second, and one at 7 stands behind both.
-use Rattle.std.specs.Prelude.{◌≤◌, ◌<◌, ◌-◌, ◌==◌, ℕ, zero, suc, Bool, false, List, [], ◌∷◌, ◌++◌, Option, Some}
-use Rattle.std.specs.Prelude.{None, length, take, slice_get, if◌then◌else◌}
+use Rattle.std.specs.Prelude.{◌≡◌, ◌≤◌, ◌<◌, ◌-◌, ◌==◌, ℕ, zero, suc, Bool, true, false, List, [], ◌∷◌, ◌++◌}
+use Rattle.std.specs.Prelude.{Option, Some, None, is_some, length, take, slice_get, if◌then◌else◌}
 use Rattle.cell_code.specs.declared.kind.Kind.{Kind}
-use Rattle.sound_code.specs.Codes.{LabelMap}
+use Rattle.sound_code.specs.Codes.{LabelMap, label_at}
+use Rattle.lowered_code.specs.Known.{joined}
 use Rattle.match_code.specs.Written.{Written}
 
 -- how many labels there are
@@ -35,3 +36,7 @@ telling (suc p) ks ms = untold (suc p) ms ++ record { at = suc p; kinds = ks } �
 abbrev pub Rising : ℕ → ℕ → List LabelMap → Type 0
 Rising high low [] = Unit {0}
 Rising high low (m ∷ ms) = (low < m.at) × (m.at ≤ high) × Rising high m.at ms
+
+-- A map stands where a label has its place, but for the first instruction.
+pub record HaveMaps (ps : List (Option ℕ)) (ms : List LabelMap) : Type 0 where
+  pub by : (label p : ℕ) → joined (slice_get ps label) ≡ Some p → 0 < p → is_some (label_at ms p) ≡ true

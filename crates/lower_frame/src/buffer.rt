@@ -1,10 +1,11 @@
 // The code of a function while it is written.
-ghost use Rattle.std.specs.Prelude.{◌≡◌, ◌≤◌, ◌<◌, ◌-◌, suc, [], ◌∷◌, ◌++◌, IfOk, OnOk, OnErr, length, map, slice_get};
-ghost use Rattle.std.specs.Prelude.{slice_set, Some, None};
+ghost use Rattle.std.specs.Prelude.{◌≡◌, ◌≤◌, ◌<◌, ◌-◌, suc, true, [], ◌∷◌, ◌++◌, IfOk, OnOk, OnErr, length, map};
+ghost use Rattle.std.specs.Prelude.{slice_get, slice_set, Some, None};
 ghost use Rattle.match_code.specs.Written.{Written as Writing, Extends, IsAt, added, place_of, settled, size};
 ghost use Rattle.sound_code.specs.Codes.{plain_label};
 ghost use Rattle.code_file.specs.CodeText.{instr_text};
-ghost use Rattle.lower_frame.specs.Labels.{labels, placed, stands_at, telling, untold, Rising};
+ghost use Rattle.laid_code.specs.Standing.{AreOpen, are_open, is_open};
+ghost use Rattle.lower_frame.specs.Labels.{labels, placed, stands_at, telling, untold, HaveMaps, Rising};
 ghost use Rattle.lower_frame.specs.Spelled.{IsSpelt, AreInstrsSpelt, AreMapsSpelt, AreLabelsSpelt};
 
 use crate::spelling::{are_spelt, is_spelt};
@@ -14,7 +15,8 @@ use std::alloc::Global;
 use std::marker::Model;
 
 /// Instructions, whose jumps and tests go to labels; the places of labels, where they are known; and what is known of
-/// the registers at some places, which rise and have a label each. A file spells all of it.
+/// the registers at some places, which rise and have a label each. A file spells all of it. Where a label has its place,
+/// it is told what is known, but at the first instruction; each tree may have some constructor.
 #[derive(Drop)]
 pub struct Buffer {
     instrs: Vec<Instr>,
@@ -33,7 +35,8 @@ impl Model for Buffer {
 
     ghost invariant = { λ b. (length b.labels.items ≤ placed b.places.items)
         × Rising (length b.instrs.items) 0 (map plain_label b.labels.items)
-        × AreInstrsSpelt b.instrs.items × AreMapsSpelt (map plain_label b.labels.items) };
+        × AreInstrsSpelt b.instrs.items × AreMapsSpelt (map plain_label b.labels.items)
+        × HaveMaps b.places.items (map plain_label b.labels.items) × AreOpen (map plain_label b.labels.items) };
 }
 
 impl Buffer {
@@ -84,7 +87,8 @@ impl Buffer {
     }
 
     /// The place of a label is that of the next instruction, and these kinds are known there, in the place of narrower
-    /// ones that were told; an error where the label has a place, or where no file spells one of the kinds.
+    /// ones that were told; an error where the label has a place, where no file spells one of the kinds, or where a tree
+    /// has no constructor. Behind an error all is as it was.
     #[tactic(auto, using(crate::proofs::Labels::placing, crate::proofs::Spelt::spelling))]
     pub fn put_label(&mut self, label: u32, kinds: Vec<Kind>) -> Result<(), NoMemory>
         ensures extends { OnOk result (Extends self.old self.new) }
@@ -92,13 +96,17 @@ impl Buffer {
         ensures placed { OnOk result (IsAt self.new label (size self.old)) }
         ensures same { OnOk result (labels self.new ≡ labels self.old) }
         ensures told { OnOk result (self.new.maps ≡ telling (size self.old) kinds.items self.old.maps) }
+        ensures failed { OnErr result (self.new ≡ self.old) }
     {
-        if !are_spelt(kinds.as_slice()) {
+        if !are_spelt(kinds.as_slice()) || !are_open(kinds.as_slice()) {
+            return Err(NoMemory);
+        }
+        if !is_free(self.places.as_slice(), label) {
             return Err(NoMemory);
         }
         let here = self.here()?;
-        place(&mut self.places, label, here)?;
         tell(&mut self.labels, here, kinds)?;
+        place(&mut self.places, label, here);
         Ok(())
     }
 
@@ -108,6 +116,8 @@ impl Buffer {
         ensures few { IfOk result (λ p. length p.1.items ≤ labels self) }
         ensures maps { IfOk result (λ p. map plain_label p.1.items ≡ self.maps) }
         ensures rising { IfOk result (λ p. Rising (size self) 0 (map plain_label p.1.items)) }
+        ensures have { IfOk result (λ p. HaveMaps self.places (map plain_label p.1.items)) }
+        ensures opens { IfOk result (λ p. AreOpen (map plain_label p.1.items)) }
         ensures spelt { IfOk result (λ p. AreInstrsSpelt p.0.items × AreLabelsSpelt p.1.items) }
     {
         let Buffer {
@@ -120,21 +130,22 @@ impl Buffer {
     }
 }
 
-// A label gets this place; an error where it has one.
-fn place(places: &mut Vec<Option<u32>>, label: u32, here: u32) -> Result<(), NoMemory>
-    ensures placed { OnOk result (places.new.items ≡ slice_set places.old.items label (Some here)) }
-    ensures free { OnOk result (slice_get places.old.items label ≡ Some None) }
-    ensures same { OnErr result (places.new.items ≡ places.old.items) }
+// Whether a label has no place yet.
+fn is_free(places: &[Option<u32>], label: u32) -> bool
+    ensures free { result ≡ true → slice_get places.now label ≡ Some None }
 {
-    match places.get_mut(label as usize) {
-        None => Err(NoMemory),
-        Some(place) => match *place {
-            Some(_) => Err(NoMemory),
-            None => {
-                *place = Some(here);
-                Ok(())
-            }
-        },
+    match places.get(label as usize) {
+        None => false,
+        Some(place) => place.is_none(),
+    }
+}
+
+// A label gets this place.
+fn place(places: &mut Vec<Option<u32>>, label: u32, here: u32)
+    ensures placed { places.new.items ≡ slice_set places.old.items label (Some here) }
+{
+    if let Some(place) = places.get_mut(label as usize) {
+        *place = Some(here);
     }
 }
 
@@ -144,24 +155,28 @@ fn place(places: &mut Vec<Option<u32>>, label: u32, here: u32) -> Result<(), NoM
 fn tell(labels: &mut Vec<Label>, at: u32, kinds: Vec<Kind>) -> Result<(), NoMemory>
     ensures told { OnOk result (map plain_label labels.new.items
         ≡ telling at kinds.items (map plain_label labels.old.items)) }
-    ensures failed { OnErr result (map plain_label labels.new.items
-        ≡ untold at (map plain_label labels.old.items)) }
+    ensures failed { OnErr result (map plain_label labels.new.items ≡ map plain_label labels.old.items) }
 {
     if at == 0 {
         return Ok(());
     }
-    forget(labels, at);
+    if is_last_at(labels.as_slice(), at) {
+        set_last(labels, Label { at, kinds });
+        return Ok(());
+    }
     labels.push(Label { at, kinds })?;
     Ok(())
 }
 
-// The last of what was told goes, where it was told here.
-#[tactic(auto, using(crate::proofs::Labels::telling_on))]
-fn forget(labels: &mut Vec<Label>, at: u32)
-    ensures forgot { map plain_label labels.new.items ≡ untold at (map plain_label labels.old.items) }
+// The last label is this one.
+fn set_last(labels: &mut Vec<Label>, label: Label)
+    ensures set { labels.new.items ≡ slice_set labels.old.items (length labels.old.items - 1) label }
 {
-    if is_last_at(labels.as_slice(), at) {
-        labels.pop();
+    let count = labels.len();
+    if count > 0 {
+        if let Some(last) = labels.get_mut(count - 1) {
+            *last = label;
+        }
     }
 }
 
@@ -174,6 +189,30 @@ fn is_last_at(labels: &[Label], at: u32) -> bool
     match labels.last() {
         None => false,
         Some(last) => last.at == at,
+    }
+}
+
+// Whether each tree may have some constructor.
+fn are_open(kinds: &[Kind]) -> bool
+    ensures opens { result ≡ are_open kinds.now }
+{
+    for kind in kinds {
+        if !is_open(kind) {
+            return false;
+        }
+    }
+    true
+}
+
+fn is_open(kind: &Kind) -> bool
+    ensures opens { result ≡ is_open kind.now }
+{
+    match kind {
+        Kind::Gone => true,
+        Kind::Scalar { .. } => true,
+        Kind::Owned { constructors, .. } => !constructors.as_slice().is_empty(),
+        Kind::Lent { constructors, .. } => !constructors.as_slice().is_empty(),
+        Kind::Credit { .. } => true,
     }
 }
 

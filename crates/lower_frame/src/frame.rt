@@ -1,19 +1,23 @@
 // What is known of the registers of a function at a place of its code.
-ghost use Rattle.std.specs.Prelude.{◌≡◌, ◌<◌, ℕ, suc, true, [], ◌∷◌, Some, IfOk, IfSome, IfNone, OnOk, get_or};
-ghost use Rattle.std.specs.Prelude.{length, map, slice_get};
-ghost use Rattle.lowered_code.specs.Choosing.{Meets};
+ghost use Rattle.std.specs.Prelude.{◌≡◌, ◌<◌, ℕ, suc, max, true, [], ◌∷◌, Some, None, IfOk, IfSome, IfNone, OnOk};
+ghost use Rattle.std.specs.Prelude.{get_or, length, map, slice_get};
+ghost use Rattle.lowered_code.specs.Choosing.{Meets, FewerCredits};
 ghost use Rattle.lowered_code.specs.Bodies as B;
 ghost use Rattle.lowered_code.specs.Functions.{nothing_known, unless_in, with_credit};
 ghost use Rattle.lowered_code.specs.Known as K;
 ghost use Rattle.lowered_code.specs.declared.held.Held.TheVariants as H;
 ghost use Rattle.match_code.specs.Entering.{unnaming};
-ghost use Rattle.match_code.specs.Losing.{Barer, Loses, Resumes};
+ghost use Rattle.match_code.specs.Losing.{Loses, Resumes};
 ghost use Rattle.fip_language.specs.Table.{constructors};
+ghost use Rattle.laid_code.specs.Describing.{held_at};
+ghost use Rattle.laid_code.specs.Joins.{Met, holds_credit, still_held};
 ghost use Rattle.laid_code.specs.Matches.{wide, widened};
 ghost use Rattle.sound_code.specs.Types as Y;
 ghost use Rattle.lower_frame.specs.Credits.{NoneBetween, is_credit, is_held_of, sized};
 ghost use Rattle.lower_frame.specs.Credits as C;
-ghost use Rattle.lower_frame.specs.Frames.{HasSize, Takes, TakesBare, IsBare, FewerNames, kind_told, kinds_told};
+ghost use Rattle.lower_frame.specs.Frames.{HasSize, Takes, TakesBare, IsBoth, HeldByBoth, NamedByBoth, kind_told};
+ghost use Rattle.lower_frame.specs.Frames.{kinds_told};
+ghost use Rattle.lower_frame.specs.Positions.{reaching};
 ghost use Rattle.lower_frame.specs.Registers.{HasRoom, IsFull, IsHeld, holds, registers};
 
 use cell_code::{Constructors, Kind};
@@ -81,6 +85,8 @@ impl Frame {
     pub fn resume(&mut self, elsewhere: Frame)
         ensures resumed { Resumes elsewhere self.new }
         ensures held { self.new.held ≡ elsewhere.held }
+        ensures whole { self.new ≡ reaching elsewhere self.new.next }
+        ensures next { self.new.next ≡ max self.old.next elsewhere.next }
     {
         let next = max(self.next, elsewhere.next);
         *self = elsewhere;
@@ -304,21 +310,24 @@ impl Frame {
         widen_all(&mut self.held);
     }
 
-    /// What is known here and in another frame, with the credits that are here.
-    #[tactic(auto, using(crate::proofs::Losing::losing))]
+    /// What is known here and in another frame, with the credits that are here and whose registers hold one in both.
+    #[tactic(auto, using(crate::proofs::Meeting::meeting))]
     pub fn meet(&self, alloc: Global, other: &Frame) -> Result<Frame, NoMemory>
+        ensures met { IfOk result (λ f. Met self.now other.now f) }
         ensures here { IfOk result (λ f. Meets self.now f) }
         ensures there { IfOk result (λ f. Meets other.now f) }
-        ensures credits { IfOk result (λ f. f.credits ≡ self.now.credits) }
+        ensures fewer { IfOk result (λ f. FewerCredits self.now.credits f.credits) }
+        ensures credits { IfOk result (λ f. f.credits ≡ still_held f.held self.now.credits) }
         ensures next { IfOk result (λ f. f.next ≡ self.now.next) }
         ensures registers { IfOk result (λ f. registers f ≡ registers self.now) }
     {
-        let mut credits = Vec::new(alloc);
-        credits.extend_from_slice(self.credits.as_slice())?;
+        let held = held_by_both(alloc, self.held.as_slice(), other.held.as_slice())?;
+        let credits = still_held(alloc, held.as_slice(), self.credits.as_slice())?;
+        let names = named_by_both(alloc, self.names.as_slice(), other.names.as_slice())?;
         Ok(Frame {
-            held: held_by_both(alloc, self.held.as_slice(), other.held.as_slice())?,
+            held,
             credits,
-            names: named_by_both(alloc, self.names.as_slice(), other.names.as_slice())?,
+            names,
             next: self.next,
         })
     }
@@ -359,6 +368,7 @@ fn is_bare(held: Held) -> bool
 // Whether this is a credit.
 fn is_credit(held: Held) -> bool
     ensures credit { result ≡ is_credit (Some held) }
+    ensures holds { result ≡ holds_credit held }
     ensures full { result ≡ true → holds held ≡ 1 }
 {
     match held {
@@ -428,10 +438,8 @@ fn wide(held: Held) -> Held
 }
 
 // What registers hold in both of two frames.
-#[tactic(auto, using(crate::proofs::Losing::pushing))]
 fn held_by_both(alloc: Global, here: &[Held], there: &[Held]) -> Result<Vec<Held>, NoMemory>
-    ensures here { IfOk result (λ v. Barer here.now v.items) }
-    ensures there { IfOk result (λ v. Barer there.now v.items) }
+    ensures both { IfOk result (λ v. HeldByBoth here.now there.now v.items) }
     ensures as_many { IfOk result (λ v. length v.items ≡ length here.now) }
 {
     let mut both = Vec::new(alloc);
@@ -443,8 +451,7 @@ fn held_by_both(alloc: Global, here: &[Held], there: &[Held]) -> Result<Vec<Held
 }
 
 fn held_if(held: Held, there: &[Held], place: usize) -> Held
-    ensures there { IsBare result → slice_get there.now place ≡ Some result }
-    ensures here { IsBare result → result ≡ held }
+    ensures both { IsBoth H.Nothing held (held_at there.now place) result }
 {
     match there.get(place) {
         None => Held::Nothing,
@@ -452,15 +459,36 @@ fn held_if(held: Held, there: &[Held], place: usize) -> Held
     }
 }
 
+// The credits whose registers hold one.
+fn still_held(alloc: Global, helds: &[Held], credits: &[Credit]) -> Result<Vec<Credit>, NoMemory>
+    ensures same { IfOk result (λ v. v.items ≡ still_held helds.now credits.now) }
+{
+    let mut left = Vec::new(alloc);
+    for credit in credits {
+        if holds_credit(helds, credit.register) {
+            left.push(*credit)?;
+        }
+    }
+    Ok(left)
+}
+
+fn holds_credit(helds: &[Held], register: u16) -> bool
+    ensures credit { result ≡ holds_credit (held_at helds.now register) }
+{
+    match helds.get(register as usize) {
+        None => false,
+        Some(held) => is_credit(*held),
+    }
+}
+
 // The registers of variables that have the same one in both of two frames.
-#[tactic(auto, using(crate::proofs::Losing::pushing))]
 fn named_by_both(
     alloc: Global,
     here: &[Option<u16>],
     there: &[Option<u16>],
 ) -> Result<Vec<Option<u16>>, NoMemory>
-    ensures here { IfOk result (λ v. FewerNames here.now v.items) }
-    ensures there { IfOk result (λ v. FewerNames there.now v.items) }
+    ensures both { IfOk result (λ v. NamedByBoth here.now there.now v.items) }
+    ensures as_many { IfOk result (λ v. length v.items ≡ length here.now) }
 {
     let mut both = Vec::new(alloc);
     for name in here {
@@ -470,9 +498,9 @@ fn named_by_both(
     Ok(both)
 }
 
+#[tactic(auto, using(crate::proofs::Meeting::agreeing))]
 fn name_if(name: Option<u16>, there: &[Option<u16>], place: usize) -> Option<u16>
-    ensures there { (r : ℕ) → result ≡ Some r → slice_get there.now place ≡ Some (Some r) }
-    ensures here { (r : ℕ) → result ≡ Some r → name ≡ Some r }
+    ensures both { IsBoth None name (K.joined (slice_get there.now place)) result }
 {
     match there.get(place) {
         None => None,

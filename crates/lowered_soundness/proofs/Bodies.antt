@@ -49,7 +49,7 @@ use Rattle.lowered_soundness.proofs.Owners.{owners_sum, owners_least}
 use Rattle.lowered_soundness.proofs.Stacks.{length_size}
 use Rattle.lowered_soundness.proofs.Asking.{let_scope, used_asks, block_asks, needs_asks}
 use Rattle.lowered_soundness.proofs.Unused.{values_stay, give_stays, operator_stays, call_stays}
-use Rattle.lowered_soundness.proofs.Bottoms.{Bottom, great_left, great_right, entry_bottom, block_bottom}
+use Rattle.lowered_soundness.proofs.Bottoms.{Bottom, great_left, great_right, bottom_on, entry_bottom, named_bottom, give_bottom, one_bottom, operator_bottom, called_bottom, match_bottom}
 use Rattle.lowered_soundness.proofs.EntryTrees.{entry_tree, entered_new, let_either}
 use Rattle.lowered_soundness.proofs.EntryNames.{root_old}
 use Rattle.lowered_soundness.proofs.Numbering.{Below, below_same, below_more, lets_below, entered_below, expression_below}
@@ -450,10 +450,11 @@ module _ (c : PlainCode) (f : PlainFunction) (st : Setting) (wd : W.World) (w : 
   abbrev pub Stay : Known → Known → (ℕ → Bool) → Type 0
   Stay k l used = (r : ℕ) → is_tree (held_at k.held r) ≡ true → ((x : ℕ) → register_of k.names (Some x) ≡ Some r → used x ≡ false) → widened (held_at l.held r) ≡ widened (held_at k.held r)
 
-  -- results came into registers, and in fbip trees that aren't used stay
-  pub record Done (s : Scope) (B : ℕ → Bool) (K : ℕ → Item → ℕ) (X : Item → ℕ) (at : ℕ) (k : Known) (ds ts : List ℕ) (end : ℕ) (l : Known) (used : ℕ → Bool) : Type 0 where
+  -- results came into registers, and in fbip trees that aren't used stay, and so do all credits but as many as are needed
+  pub record Done (s : Scope) (B : ℕ → Bool) (K : ℕ → Item → ℕ) (X : Item → ℕ) (at : ℕ) (k : Known) (ds ts : List ℕ) (end : ℕ) (l : Known) (used : ℕ → Bool) (needs : ℕ → ℕ) : Type 0 where
     pub delivered : Delivered c f fip s B K X at k ds ts end l
     pub unused : fip ≡ false → Stay k l used
+    pub bottom : fip ≡ false → (i : ℕ) → 0 < i → Bottom i (needs i) k.credits l.credits
 
   -- what clauses use and need the match does
   record Belongs (ch : Choice) (o : Expression) (cs : Clauses) : Type 0 where
@@ -491,9 +492,8 @@ module _ (c : PlainCode) (f : PlainFunction) (st : Setting) (wd : W.World) (w : 
     needs = λ i. (let a = h.needs i in let z = great_right (need_block st i b - given i ch.takes q) (need_clauses st i ch.takes cs) in omega (arith, a, z));
   }
 
-  clause_low : (ch : Choice) (l : Known) (o : Expression) (q : Pattern) (body : Block) (m at : ℕ) (ds : List ℕ) (mid : ℕ) (mk : Known) → Roomy q ch.root → ((i : ℕ) → need_block st i body - given i ch.takes q ≤ need st i o) → BlockLaid c st fip f at (entered st ch q l m) body (Into ds) mid mk → (i : ℕ) → 0 < i → Bottom i (need st i o) l.credits mk.credits
-  clause_low ch l o q body m at ds mid mk room le h i some =
-      entry_bottom i some st ch q l m (need_block st i body) (need st i o) mk.credits room (le i) (block_bottom i some c f st fip at (entered st ch q l m) body ds mid mk h)
+  clause_low : (ch : Choice) (l : Known) (o : Expression) (q : Pattern) (body : Block) (m : ℕ) (mk : Known) → Roomy q ch.root → ((i : ℕ) → need_block st i body - given i ch.takes q ≤ need st i o) → ((i : ℕ) → 0 < i → Bottom i (need_block st i body) (entered st ch q l m).credits mk.credits) → (i : ℕ) → 0 < i → Bottom i (need st i o) l.credits mk.credits
+  clause_low ch l o q body m mk room le low i some = entry_bottom i some st ch q l m (need_block st i body) (need st i o) mk.credits room (le i) (low i some)
 
   clause_stays : (s : Scope) (sc : Scalars) (n : Names) (B : ℕ → Bool) (K : ℕ → Item → ℕ) (X L : Item → ℕ) (R : Item → ℕ) → NoneFrom n.next (λ i. R i + X i) → (u : ℕ) (taken : Bool) (ch : Choice) (k l : Known) (q0 : Pattern) (cs0 : Clauses) → MatchOn c st wd w shares callees f fip taken s B K R X L u ch k l q0 cs0 → (o : Expression) → (ch.takes ≡ true → (r : ℕ) → IsUnused st l o r → r ≡ register ch.root → ⊥) → (q : Pattern) (body : Block) (Q : Item → ℕ) (m : ℕ) → InOrder n.next (binders q) → OpensBy c st wd w shares callees f fip taken (variables w n.next (binders q)) (nodes q) R Q → ClauseBegins c st wd w shares callees f fip s sc n taken u q B (reading taken (variables w n.next (binders q)) L K) Q X l (entered st ch q l m) → (b : Bool) (ts : List ℕ) → TypesBlock true wd (s ++ bound_by wd (Some u) q) b body ts → NumberedBlock w N (inside w taken n (binders q)) body → Derives fip (O.setting (variables w n.next (binders q)) (not taken) B) Q (term_block w (entering w n.next sc (binders q)) (inside w taken n (binders q)) body) → Below (entered st ch q l m) (inside w taken n (binders q)).next → ((x : ℕ) → used_in_block st.instances x body ≡ true → used_in st.instances x o ≡ true) → (mk : Known) → Stay (entered st ch q l m) mk (λ x. used_in_block st.instances x body) → (r : ℕ) → is_tree (held_at l.held r) ≡ true → IsUnused st l o r → widened (held_at mk.held r) ≡ widened (held_at l.held r)
   clause_stays s sc n B K X L R none u taken ch k l q0 cs0 on o apart q body Q m order opens cb b ts typed num d below belongs mk stay r tree unused =
@@ -596,26 +596,30 @@ module _ (c : PlainCode) (f : PlainFunction) (st : Setting) (wd : W.World) (w : 
       ])
 
   mutual
-    pub into : (s : Scope) (sc : Scalars) (n : Names) (B : ℕ → Bool) (K : ℕ → Item → ℕ) → Placed c s sc n → (P X : Item → ℕ) (at : ℕ) (k : Known) (e : Expression) (ds : List ℕ) (end : ℕ) (l : Known) (b : Bool) (ts : List ℕ) → ExpressionLaid c st fip f at k e (Into ds) end l → Types true wd s b e ts → Derives fip B P (term w sc n e) → Numbered w N n e → Below k n.next → ((z y : ℕ) → K z (Own y) ≤ X (Own y)) → NoneFrom n.next (λ i. P i + X i) → Ties fip c.types s B K (λ i. P i + X i) (λ q. 0) k → Waiting k ds → length ds ≡ length ts → length k.names ≡ N → length k.held ≡ f.registers → Done s B K X at k ds ts end l (λ x. used_in st.instances x e)
+    pub into : (s : Scope) (sc : Scalars) (n : Names) (B : ℕ → Bool) (K : ℕ → Item → ℕ) → Placed c s sc n → (P X : Item → ℕ) (at : ℕ) (k : Known) (e : Expression) (ds : List ℕ) (end : ℕ) (l : Known) (b : Bool) (ts : List ℕ) → ExpressionLaid c st fip f at k e (Into ds) end l → Types true wd s b e ts → Derives fip B P (term w sc n e) → Numbered w N n e → Below k n.next → ((z y : ℕ) → K z (Own y) ≤ X (Own y)) → NoneFrom n.next (λ i. P i + X i) → Ties fip c.types s B K (λ i. P i + X i) (λ q. 0) k → Waiting k ds → length ds ≡ length ts → length k.names ≡ N → length k.held ≡ f.registers → Done s B K X at k ds ts end l (λ x. used_in st.instances x e) (λ i. need st i e)
     into s sc n B K placed P X at k (Give a) ds end l b ts h typed d num below kept none ties wait many names wide = record {
       delivered = subst (λ ts. Delivered c f fip s B K X at k ds ts end l) (sym typed.1)
           (settled c f fip s B K X at k ds (typed.0 ∷ []) end l (give_into c f st wd w fip shares callees s sc n B K placed P X (λ q. 0) at k (MoreArguments a NoArguments) ds end l b (typed.0 ∷ []) h (typed.2, tt) d kept ties wait (many ∙ ap length typed.1) wide));
       unused = λ weak r tree none. ap widened
           (give_stays c st wd w shares callees f s sc n B K placed fip weak P X at k (MoreArguments a NoArguments) ds end l b (typed.0 ∷ []) h (typed.2, tt) d kept ties wait (many ∙ ap length typed.1) wide r tree (λ x is. or_false (uses x a) (none x is)));
+      bottom = λ weak i some. one_bottom i some c f st fip at k a ds end l h;
     }
     into s sc n B K placed P X at k (Tuple p as') ds end l b ts h typed d num below kept none ties wait many names wide = record {
       delivered = settled c f fip s B K X at k ds ts end l (give_into c f st wd w fip shares callees s sc n B K placed P X (λ q. 0) at k as' ds end l b ts h typed.1 d kept ties wait many wide);
       unused = λ weak r tree none. ap widened (give_stays c st wd w shares callees f s sc n B K placed fip weak P X at k as' ds end l b ts h typed.1 d kept ties wait many wide r tree none);
+      bottom = λ weak i some. give_bottom i some c f st fip at k as' ds end l h;
     }
     into s sc n B K placed P X at k (Operation o p x y) ds end l b ts h typed d num below kept none ties wait many names wide = record {
       delivered = subst (λ ts. Delivered c f fip s B K X at k ds ts end l) (sym typed.0)
           (settled c f fip s B K X at k ds (W.result_of o ∷ []) end l (operator_into c f st wd w fip shares callees s sc n B K placed P X (λ q. 0) at k o p x y ds end l h typed.1 typed.2 d kept ties wait (many ∙ ap length typed.0) wide));
       unused = λ weak r tree none. ap widened (operator_stays c st wd w shares callees f s sc n B K placed fip weak P X at k o p x y ds end l h typed.1 typed.2 d kept ties wait (many ∙ ap length typed.0) wide r tree);
+      bottom = λ weak i some. operator_bottom i some c f st fip at k o p x y ds end l h;
     }
     into s sc n B K placed P X at k (Call g nm p as') ds end l b ts h typed d num below kept none ties wait many names wide = record {
       delivered = subst (λ ts. Delivered c f fip s B K X at k ds ts end l) (sym typed.0)
           (settled c f fip s B K X at k ds (W.head wd g).results end l (called_into c f st wd w fip shares callees s sc n B K placed P X (λ q. 0) at k g as' ds end l h typed.1 d.1 kept ties wait (many ∙ ap length typed.0) wide));
       unused = λ weak r tree none. ap widened (call_stays c st wd w shares callees f s sc n B K placed fip weak P X at k g as' ds end l h typed.1 d.1 kept ties wait (many ∙ ap length typed.0) wide r tree none);
+      bottom = λ weak i some. called_bottom i some c f st fip at k g as' ds end l h;
     }
     into s sc n B K placed P X at k (Match g t p a q body cs) ds end l b ts h typed d num below kept none ties wait many names wide =
         let taken = takes w g t in
@@ -670,7 +674,7 @@ module _ (c : PlainCode) (f : PlainFunction) (st : Setting) (wd : W.World) (w : 
         let got = block_into (s ++ bound_by wd (Some u) q) (entering w n.next sc (binders q)) (inside w taken n (binders q)) (O.setting ys (not taken) B) (reading taken ys own.read K) cb.placed fb.0 X e (entered st ch q l1 m) body ds h.6 h.7 b ts h.15 typed.4 fb.2 num.2 belowq (reading_kept taken ys own.read X K kept own.least) cb.none cb.ties waits many (cb.names ∙ (many_names ∙ names0)) (cb.width ∙ (on.width ∙ wide0)) in
         let done = clause_done c st wd w shares callees f fip s sc n B K X own.read kept placed own.owned own.none u taken ch k0 l1 q cs on q m fb.0 num.0 entry.more cb from.back from.borrowed from.lends e h.6 h.7 ds ts got.delivered (Match g t p a q body cs) beside.unused beside.enough cs end next left h.16
         (λ weak. clause_stays s sc n B K X own.read own.owned own.none u taken ch k0 l1 q cs on (Match g t p a q body cs) apart q body fb.0 m num.0 fb.1 cb b ts typed.4 num.2 fb.2 belowq (λ x e. or_right (g && uses x a) (used_in_block st.instances x body || used_in_clauses st.instances x cs) (or_left (used_in_block st.instances x body) (used_in_clauses st.instances x cs) e)) h.7 (got.unused weak))
-        (clause_low ch l1 (Match g t p a q body cs) q body m e ds h.6 h.7 roomy (λ i. let z = great_left (need_block st i body - given i (gives_credits st g t) q) (need_clauses st i (gives_credits st g t) cs) in let y = ap (λ b. given i b q) takes_same in omega (arith, z, y)) h.15) in
+        (λ weak. clause_low ch l1 (Match g t p a q body cs) q body m h.7 roomy (λ i. let z = great_left (need_block st i body - given i (gives_credits st g t) q) (need_clauses st i (gives_credits st g t) cs) in let y = ap (λ b. given i b q) takes_same in omega (arith, z, y)) (got.bottom weak)) in
         let rest = clauses_into s sc (past_clause w taken n q body) B K X own.read kept own.least (past_placed s sc n taken q body placed) own.owned (past_none n taken q body (λ i. own.owned i + X i) own.none) u utyped taken ch k0 l1 q cs on (Match g t p a q body cs) beside 1 cs belongs
         (λ j r there. laid.begins.roomy (suc j) r (ap (λ ps. slice_get ps (suc j)) laid.patterns ∙ there)) ys (nodes q) tb ds ts end left next met h.17 typed.5 own.derives num.3 (past_below n taken q body l1 below1) empty1 wait0 many (many_names ∙ names0) (on.width ∙ wide0) done.arrived in
         record {
@@ -685,11 +689,12 @@ module _ (c : PlainCode) (f : PlainFunction) (st : Setting) (wd : W.World) (w : 
               let tree_l : is_tree (held_at l1.held r) ≡ true = sym (wide_tree (held_at l1.held r)) ∙ (ap is_tree same_l ∙ (wide_tree (held_at k.held r) ∙ tree)) in
               let met_stays = (rest.arrived.by weak).stays r tree_l (λ x is. none x (ap (λ ns. register_of ns (Some x)) (sym (on.same_names ∙ bare.names)) ∙ is)) in
               ap (λ (l : Known). widened (held_at l.held r)) meets.known ∙ (ap widened met_stays ∙ (twice (held_at l1.held r) ∙ same_l)));
+          bottom = λ weak i some. match_bottom i some c f st fip at k h.0 k0 g t a q cs ch l1 e (need st i (Match g t p a q body cs)) met l h.11 h.13 ((rest.arrived.by weak).credits i some) (ap (λ (l : Known). l.credits) meets.known);
         }
     into s sc n B K placed P X at k (Nested body) ds end l b ts h typed d num below kept none ties wait many names wide =
         block_into s sc n B K placed P X at k body ds end l b ts h typed d num below kept none ties wait many names wide
 
-    pub block_into : (s : Scope) (sc : Scalars) (n : Names) (B : ℕ → Bool) (K : ℕ → Item → ℕ) → Placed c s sc n → (P X : Item → ℕ) (at : ℕ) (k : Known) (d : Block) (ds : List ℕ) (end : ℕ) (l : Known) (b : Bool) (ts : List ℕ) → BlockLaid c st fip f at k d (Into ds) end l → TypesBlock true wd s b d ts → Derives fip B P (term_block w sc n d) → NumberedBlock w N n d → Below k n.next → ((z y : ℕ) → K z (Own y) ≤ X (Own y)) → NoneFrom n.next (λ i. P i + X i) → Ties fip c.types s B K (λ i. P i + X i) (λ q. 0) k → Waiting k ds → length ds ≡ length ts → length k.names ≡ N → length k.held ≡ f.registers → Done s B K X at k ds ts end l (λ x. used_in_block st.instances x d)
+    pub block_into : (s : Scope) (sc : Scalars) (n : Names) (B : ℕ → Bool) (K : ℕ → Item → ℕ) → Placed c s sc n → (P X : Item → ℕ) (at : ℕ) (k : Known) (d : Block) (ds : List ℕ) (end : ℕ) (l : Known) (b : Bool) (ts : List ℕ) → BlockLaid c st fip f at k d (Into ds) end l → TypesBlock true wd s b d ts → Derives fip B P (term_block w sc n d) → NumberedBlock w N n d → Below k n.next → ((z y : ℕ) → K z (Own y) ≤ X (Own y)) → NoneFrom n.next (λ i. P i + X i) → Ties fip c.types s B K (λ i. P i + X i) (λ q. 0) k → Waiting k ds → length ds ≡ length ts → length k.names ≡ N → length k.held ≡ f.registers → Done s B K X at k ds ts end l (λ x. used_in_block st.instances x d) (λ i. need_block st i d)
     block_into s sc n B K placed P X at k (Last e) ds end l b ts h typed d num below kept none ties wait many names wide =
         into s sc n B K placed P X at k e ds end l b ts h typed d num below kept none ties wait many names wide
     block_into s sc n B K placed A X at k (Let bs e rest) ds end l b ts (inl h) typed d num below kept none ties wait many names wide =
@@ -724,6 +729,7 @@ module _ (c : PlainCode) (f : PlainFunction) (st : Setting) (wd : W.World) (w : 
                 | inl old ↦ (neither (used_in st.instances x e) (used_in_block st.instances x rest) (none x (ap (λ ns. register_of ns (Some x)) (sym comp.names) ∙ old))).1
                 | inr new ↦ absurd (kept_tree.1 new)
               ]) ∙ ap widened kept_tree.0);
+          bottom = λ weak i some. bottom_on i (need st i e) (need_block st i rest) k.credits m.credits l.credits (named_bottom i some c f st fip at k e rs mid m h.3) (more.bottom weak i some);
         }
     block_into s sc n B K placed A X at k (Let bs e rest) ds end l b ts (inr h) typed d num below kept none ties wait many names wide =
         let P = d.0 in
@@ -760,6 +766,7 @@ module _ (c : PlainCode) (f : PlainFunction) (st : Setting) (wd : W.World) (w : 
               let tree_m : is_tree (held_at m.held r) ≡ true = sym (wide_tree (held_at m.held r)) ∙ (ap is_tree first ∙ (wide_tree (held_at k.held r) ∙ tree)) in
               more.unused weak r tree_m (λ x is. let_unused s sc n e bs us B K R Q X rest b ts m k ds rs r x typed.1 typed.2 num.0 num.3 typed.3 ent.placed below_m below_after got.delivered.keeps
               (λ a. absurd (let z = among_registers k.next r bs a in true≢false (sym tree ∙ ap is_tree (ties.fresh r z)))) none is) ∙ first);
+          bottom = λ weak i some. bottom_on i (need st i e) (need_block st i rest) k.credits m.credits l.credits (got.bottom weak i some) (more.bottom weak i some);
         }
 
     -- the clauses behind one
@@ -789,7 +796,7 @@ module _ (c : PlainCode) (f : PlainFunction) (st : Setting) (wd : W.World) (w : 
         let got = block_into (s ++ bound_by wd (Some u) q) (entering w n.next sc (binders q)) (inside w taken n (binders q)) (O.setting zs (not taken) B) (reading taken zs L K) cb.placed fb.0 X start (entered st ch q l m) body ds h.3 h.4 true ts h.10 typed.1 fb.2 num.2 belowq (reading_kept taken zs L X K kept least) cb.none cb.ties waits many (cb.names ∙ names) (cb.width ∙ wide) in
         let done = clause_done c st wd w shares callees f fip s sc n B K X L kept placed R none u taken ch k l q0 cs0 on q m fb.0 num.0 entry.more cb from.back from.borrowed from.lends start h.3 h.4 ds ts got.delivered o beside.unused beside.enough cs end next left h.11
         (λ weak. clause_stays s sc n B K X L R none u taken ch k l q0 cs0 on o beside.apart q body fb.0 m num.0 fb.1 cb true ts typed.1 num.2 fb.2 belowq (λ x e. belongs.uses x (or_left (used_in_block st.instances x body) (used_in_clauses st.instances x cs) e)) h.4 (got.unused weak))
-        (clause_low ch l o q body m start ds h.3 h.4 (roomy 0 q refl) (λ i. let z = great_left (need_block st i body - given i ch.takes q) (need_clauses st i ch.takes cs) in let y = belongs.needs i in omega (arith, z, y)) h.10) in
+        (λ weak. clause_low ch l o q body m h.4 (roomy 0 q refl) (λ i. let z = great_left (need_block st i body - given i ch.takes q) (need_clauses st i ch.takes cs) in let y = belongs.needs i in omega (arith, z, y)) (got.bottom weak)) in
         let meeting = joined st o fip c.types s B K (λ i. R i + X i) X (λ q. owing taken c.types u (register ch.root) q) l k.next ds ts (start_ties c st wd w shares callees f fip taken s B K R X L u (register ch.root) l on.stands) (λ i. omega arith) kept j left both arrived done.arrived h.12 in
         let rest = clauses_into s sc (past_clause w taken n q body) B K X L kept least (past_placed s sc n taken q body placed) R (past_none n taken q body (λ i. R i + X i) none) u utyped taken ch k l q0 cs0 on o beside (suc i) cs (later_belongs ch o q body cs belongs)
         (λ j r there. roomy (suc j) r there) zs (nodes q) tb ds ts end both next met h.13 typed.2 later num.3 (past_below n taken q body l below) empty wait many names wide meeting.arrived in record {

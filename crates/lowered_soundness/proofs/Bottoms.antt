@@ -1,12 +1,14 @@
 -- Of the credits of a size, the first ones stay: all but as many as an expression needs.
 use Rattle.std.proofs.Common.{◌≡◌, inl, inr, ℕ, zero, suc, ◌+◌, ◌-◌, ◌<◌, ◌≤◌, Bool, true, false, ◌||◌, List, [], ◌∷◌, length, take, slice_get, get_or, Option, refl, sym, ap, ◌∙◌, subst, arith, if◌then◌else◌, ◌==◌}
 use Rattle.std.proofs.lemmas.Bool.Decides.{nat_tests}
+use Rattle.fip_language.specs.declared.Operator.{Operator}
+use Rattle.fip_language.specs.declared.Place.{Place}
 use Rattle.fip_trees.specs.Sizes as Z
 use Rattle.fip_trees.specs.Sizes.{greater}
 use Rattle.fip_trees.specs.declared.program.Binder.{Binder}
 use Rattle.fip_trees.specs.Tree.{Argument, Variable, Literal, Constructor, Arguments, NoArguments, MoreArguments, count}
 use Rattle.fip_trees.specs.Tree.{Pattern, BinderPattern, LiteralPattern, ConstructorPattern, Patterns, NoPatterns, MorePatterns, count_patterns}
-use Rattle.fip_trees.specs.Tree.{Expression, Give, Tuple, Operation, Call, Match, Nested, Block, Last, Let, Clauses, NoClauses, MoreClauses}
+use Rattle.fip_trees.specs.Tree.{Expression, Give, Tuple, Operation, Call, Match, Nested, Clauses}
 use Rattle.credit_check.specs.Needs as N
 use Rattle.credit_check.specs.Needs.{made, made_all, marked, asked, given}
 use Rattle.cell_code.specs.declared.code.Instr.{Instr}
@@ -21,14 +23,13 @@ use Rattle.lowered_code.specs.Known.{Known, naming, holding}
 use Rattle.lowered_code.specs.Values.{Setting, is_scalar, ArgumentAt, ArgumentsAt, BuiltAt}
 use Rattle.lowered_code.specs.Bodies.{Into, registers_for, reserved, with_names, GoesTo, AreTaken}
 use Rattle.laid_code.specs.Credits.{of_size, LastGone}
-use Rattle.laid_code.specs.Uses.{gives_credits, need, need_block, need_clauses}
+use Rattle.laid_code.specs.Uses.{need}
 use Rattle.laid_code.specs.GivenUp.{GivesUp}
 use Rattle.laid_code.specs.Moves.{MoveLaid, MovesLaid}
 use Rattle.laid_code.specs.Matches.{entered, Forgets, MatchLaid}
 use Rattle.laid_code.specs.Tests.{Choice}
-use Rattle.laid_code.specs.Leftover.{LeavesOver}
-use Rattle.laid_code.specs.Joins.{ClauseEnds}
-use Rattle.laid_code.specs.Bodies.{NamedLaid, ExpressionLaid, BlockLaid, ClausesMeet}
+use Rattle.laid_code.specs.Joins.{BaresEnd}
+use Rattle.laid_code.specs.Bodies.{GiveLaid, OperatorLaid, CalledLaid, NamedLaid}
 use Rattle.lowered_soundness.specs.Ties.{one_if, sized}
 use Rattle.lowered_soundness.proofs.Owners.{sized_both, sized_taken}
 use Rattle.lowered_soundness.proofs.Stacks.{take_lower, take_less, length_size, stack_less, stack_more}
@@ -246,21 +247,7 @@ module _ (n : ℕ) (some : 0 < n) where
         by (inl y) = ap (λ (l : Known). l.credits) y.0
         by (inr y) = ap (λ (l : Known). l.credits) y.0
 
-    -- behind a clause just what stays is left
-    ends_bottom : (o : Known) (e : Expression) (rs : List ℕ) (cs : Clauses) (at : ℕ) (k : Known) (target next : ℕ) (l : Known) → ClauseEnds c st fip f o e rs cs at k target next l → Bottom n (need st n e) o.credits k.credits → Bottom n (need st n e) o.credits l.credits
-    ends_bottom o e rs cs at k target next l h low =
-        subst (Bottom n (need st n e) o.credits) (sym (ap (λ (l : Known). l.credits) h.known)) (by fip h.over)
-      where
-        bare : h.bare.credits ≡ k.credits
-        bare = bares_credits h.bares.steps at k h.mid h.bare h.bares.gives
-
-        by : (b : Bool) → LeavesOver b st f o e rs h.mid h.bare h.stop h.left → Bottom n (need st n e) o.credits h.left.credits
-        by true over = subst (Bottom n (need st n e) o.credits) (sym (ap (λ (l : Known). l.credits) over.1 ∙ bare)) low
-        by false over =
-            let m = length (of_size n o.credits) - need st n e in
-            ap (take m) (over.credits n some ∙ ap (λ cs. take m (of_size n cs)) bare) ∙ (take_less m m (of_size n k.credits) (omega arith) ∙ low)
-
-    named_bottom : (at : ℕ) (k : Known) (e : Expression) (rs : List ℕ) (mid : ℕ) (m : Known) → NamedLaid c st f at k e rs mid m → Bottom n (need st n e) k.credits m.credits
+    pub named_bottom : (at : ℕ) (k : Known) (e : Expression) (rs : List ℕ) (mid : ℕ) (m : Known) → NamedLaid c st f at k e rs mid m → Bottom n (need st n e) k.credits m.credits
     named_bottom at k (Give a) rs mid m h = let few = arguments_sized st f.instrs at k (MoreArguments a NoArguments) rs mid m h.values.arguments in bottom_gone n (made n a) k.credits m.credits h.values.last (omega (arith, few))
     named_bottom at k (Tuple p as') rs mid m h = let few = arguments_sized st f.instrs at k as' rs mid m h.values.arguments in bottom_gone n (made_all n as') k.credits m.credits h.values.last (omega (arith, few))
     named_bottom at k (Operation o p x y) rs mid m h = absurd h
@@ -268,51 +255,35 @@ module _ (n : ℕ) (some : 0 < n) where
     named_bottom at k (Match d t p a q b cs) rs mid m h = absurd h
     named_bottom at k (Nested b) rs mid m h = absurd h
 
-    clause_first : (g : Bool) (t : ℕ) (q : Pattern) (body : Block) (cs : Clauses) (ch : Choice) (l : Known) (m : ℕ) (k : Known) → ch.takes ≡ gives_credits st g t → Roomy q ch.root → Bottom n (need_block st n body) (entered st ch q l m).credits k.credits → Bottom n (greater (need_block st n body - given n (gives_credits st g t) q) (need_clauses st n (gives_credits st g t) cs)) l.credits k.credits
-    clause_first g t q body cs ch l m k takes room low =
-        entry_bottom st ch q l m (need_block st n body) (greater (need_block st n body - given n (gives_credits st g t) q) (need_clauses st n (gives_credits st g t) cs)) k.credits room
-        (let le = great_left (need_block st n body - given n (gives_credits st g t) q) (need_clauses st n (gives_credits st g t) cs) in let e = ap (λ b. given n b q) takes in omega (arith, le, e)) low
+    pub give_bottom : (at : ℕ) (k : Known) (as' : Arguments) (ds : List ℕ) (end : ℕ) (l : Known) → GiveLaid c st fip f at k as' (Into ds) end l → Bottom n (made_all n as') k.credits l.credits
+    give_bottom at k as' ds end l h =
+        let same = moves_credits f.instrs h.mid h.m h.registers ds end l h.given in
+        let few = arguments_sized st f.instrs at k as' h.registers h.mid h.m h.values.arguments in
+        subst (Bottom n (made_all n as') k.credits) (sym same) (bottom_gone n (made_all n as') k.credits h.m.credits h.values.last (omega (arith, few)))
 
-    met_credits : (ch : Choice) (l : Known) (o : Expression) (i : ℕ) (cs : Clauses) (ds : List ℕ) (end : ℕ) (j : Known) (at : ℕ) (met : Known) → ClausesMeet c st fip f ch l o i cs ds end j at met → met.credits ≡ j.credits
-    met_credits ch l o i NoClauses ds end j at met h = ap (λ (l : Known). l.credits) h.1
-    met_credits ch l o i (MoreClauses q body cs) ds end j at met h = met_credits ch l o (suc i) cs ds end h.7 h.5 met h.13 ∙ h.12.credits
+    pub one_bottom : (at : ℕ) (k : Known) (a : Argument) (ds : List ℕ) (end : ℕ) (l : Known) → GiveLaid c st fip f at k (MoreArguments a NoArguments) (Into ds) end l → Bottom n (made n a) k.credits l.credits
+    one_bottom at k a ds end l h = bottom_more n (made_all n (MoreArguments a NoArguments)) (made n a) k.credits l.credits (omega arith) (give_bottom at k (MoreArguments a NoArguments) ds end l h)
 
-    mutual
-      pub expression_bottom : (at : ℕ) (k : Known) (e : Expression) (ds : List ℕ) (end : ℕ) (l : Known) → ExpressionLaid c st fip f at k e (Into ds) end l → Bottom n (need st n e) k.credits l.credits
-      expression_bottom at k (Give a) ds end l h =
-          let same = moves_credits f.instrs h.mid h.m h.registers ds end l h.given in
-          let few = arguments_sized st f.instrs at k (MoreArguments a NoArguments) h.registers h.mid h.m h.values.arguments in
-          subst (Bottom n (made n a) k.credits) (sym same) (bottom_gone n (made n a) k.credits h.m.credits h.values.last (omega (arith, few)))
-      expression_bottom at k (Tuple p as') ds end l h =
-          let same = moves_credits f.instrs h.mid h.m h.registers ds end l h.given in
-          let few = arguments_sized st f.instrs at k as' h.registers h.mid h.m h.values.arguments in
-          subst (Bottom n (made_all n as') k.credits) (sym same) (bottom_gone n (made_all n as') k.credits h.m.credits h.values.last (omega (arith, few)))
-      expression_bottom at k (Operation o p x y) ds end l h =
-          let same = moves_credits f.instrs (suc h.mid) h.operation.holds (h.operation.destination ∷ []) ds end l h.operation.given ∙ goes_credits ds h.m (H.Scalar (Rattle.lowered_code.specs.Bodies.result_type o)) h.operation.destination h.operation.holds h.operation.goes in
-          let few = arguments_sized st f.instrs at k (MoreArguments x (MoreArguments y NoArguments)) (h.left ∷ h.right ∷ []) h.mid h.m h.values.arguments in
-          subst (Bottom n (made n x + made n y) k.credits) (sym same) (bottom_gone n (made n x + made n y) k.credits h.m.credits h.values.last (omega (arith, few)))
-      expression_bottom at k (Call g o p as') ds end l h =
-          let same = ap (λ (l : Known). l.credits) h.call.ends.known in
-          let first = arguments_sized st f.instrs at k as' h.registers h.mid h.m h.values.arguments in
-          let last = taken_sized (record h.m { held = Rattle.lowered_code.specs.Bodies.handed h.m.held h.call.instance.params h.registers }) h.call.instance.credits h.call.credits h.call.m h.call.taken in
-          let headed : asked n (slice_get st.instances g) ≡ marked n h.call.instance.credits = ap (asked n) h.call.there in
-          subst (Bottom n (made_all n as' + asked n (slice_get st.instances g)) k.credits) (sym same)
-          (bottom_on n (made_all n as') (asked n (slice_get st.instances g)) k.credits h.m.credits h.call.m.credits
-          (bottom_gone n (made_all n as') k.credits h.m.credits h.values.last (omega (arith, first)))
-          (bottom_gone n (asked n (slice_get st.instances g)) h.m.credits h.call.m.credits h.call.last (omega (arith, last, headed))))
-      expression_bottom at k (Match g t p a q body cs) ds end l (begin, k0, ch, l1, e, next', mid, behind', next, left, met, bare, quiet', laid, entry, inner, ends, others, meets) =
-          let N = need st n (Match g t p a q body cs) in
-          let start = match_credits begin k0 g t a q cs ch l1 e laid ∙ bares_credits bare.steps at k begin k0 bare.gives in
-          let low = block_bottom e (entered st ch q l1 next') body ds mid behind' inner in
-          let first = clause_first g t q body cs ch l1 next' behind' laid.takes (laid.begins.roomy 0 q (ap (λ ps. slice_get ps 0) laid.patterns)) low in
-          let ended = ends_bottom l1 (Match g t p a q body cs) ds cs mid behind' end next left ends first in
-          let met_same = met_credits ch l1 (Match g t p a q body cs) 1 cs ds end left next met others in
-          subst (λ xs. Bottom n N xs l.credits) start (subst (Bottom n N l1.credits) (sym (ap (λ (l : Known). l.credits) meets.known ∙ met_same)) ended)
-      expression_bottom at k (Nested b) ds end l h = block_bottom at k b ds end l h
+    pub operator_bottom : (at : ℕ) (k : Known) (o : Operator) (p : Place) (x y : Argument) (ds : List ℕ) (end : ℕ) (l : Known) → OperatorLaid c st fip f at k o p x y (Into ds) end l → Bottom n (made n x + made n y) k.credits l.credits
+    operator_bottom at k o p x y ds end l h =
+        let same = moves_credits f.instrs (suc h.mid) h.operation.holds (h.operation.destination ∷ []) ds end l h.operation.given ∙ goes_credits ds h.m (H.Scalar (Rattle.lowered_code.specs.Bodies.result_type o)) h.operation.destination h.operation.holds h.operation.goes in
+        let few = arguments_sized st f.instrs at k (MoreArguments x (MoreArguments y NoArguments)) (h.left ∷ h.right ∷ []) h.mid h.m h.values.arguments in
+        subst (Bottom n (made n x + made n y) k.credits) (sym same) (bottom_gone n (made n x + made n y) k.credits h.m.credits h.values.last (omega (arith, few)))
 
-      pub block_bottom : (at : ℕ) (k : Known) (d : Block) (ds : List ℕ) (end : ℕ) (l : Known) → BlockLaid c st fip f at k d (Into ds) end l → Bottom n (need_block st n d) k.credits l.credits
-      block_bottom at k (Last e) ds end l h = expression_bottom at k e ds end l h
-      block_bottom at k (Let bs e rest) ds end l (inl h) =
-          bottom_on n (need st n e) (need_block st n rest) k.credits h.2.credits l.credits (named_bottom at k e h.0 h.1 h.2 h.3) (block_bottom h.1 (with_names h.2 bs h.0) rest ds end l h.4)
-      block_bottom at k (Let bs e rest) ds end l (inr h) =
-          bottom_on n (need st n e) (need_block st n rest) k.credits h.1.credits l.credits (expression_bottom at (reserved k bs) e (registers_for k.next bs) h.0 h.1 h.2) (block_bottom h.0 (with_names h.1 bs (registers_for k.next bs)) rest ds end l h.3)
+    pub called_bottom : (at : ℕ) (k : Known) (g : ℕ) (as' : Arguments) (ds : List ℕ) (end : ℕ) (l : Known) → CalledLaid c st fip f at k g as' (Into ds) end l → Bottom n (made_all n as' + asked n (slice_get st.instances g)) k.credits l.credits
+    called_bottom at k g as' ds end l h =
+        let same = ap (λ (l : Known). l.credits) h.call.ends.known in
+        let first = arguments_sized st f.instrs at k as' h.registers h.mid h.m h.values.arguments in
+        let last = taken_sized (record h.m { held = Rattle.lowered_code.specs.Bodies.handed h.m.held h.call.instance.params h.registers }) h.call.instance.credits h.call.credits h.call.m h.call.taken in
+        let headed : asked n (slice_get st.instances g) ≡ marked n h.call.instance.credits = ap (asked n) h.call.there in
+        subst (Bottom n (made_all n as' + asked n (slice_get st.instances g)) k.credits) (sym same)
+        (bottom_on n (made_all n as') (asked n (slice_get st.instances g)) k.credits h.m.credits h.call.m.credits
+        (bottom_gone n (made_all n as') k.credits h.m.credits h.values.last (omega (arith, first)))
+        (bottom_gone n (asked n (slice_get st.instances g)) h.m.credits h.call.m.credits h.call.last (omega (arith, last, headed))))
+
+    -- where the clauses of a match leave what stays of the credits that were there where it began
+    pub match_bottom : (at : ℕ) (k : Known) (begin : ℕ) (k0 : Known) (g : Bool) (t : ℕ) (a : Argument) (q : Pattern) (cs : Clauses) (ch : Choice) (l1 : Known) (e x : ℕ) (met l : Known) → BaresEnd c f at k begin k0 → MatchLaid c st f begin k0 g t a q cs ch l1 e → of_size n met.credits ≡ take (length (of_size n l1.credits) - x) (of_size n l1.credits) → l.credits ≡ met.credits → Bottom n x k.credits l.credits
+    match_bottom at k begin k0 g t a q cs ch l1 e x met l bare laid left after =
+        let start = match_credits begin k0 g t a q cs ch l1 e laid ∙ bares_credits bare.steps at k begin k0 bare.gives in
+        let kept = length (of_size n l1.credits) - x in
+        subst (λ xs. Bottom n x xs l.credits) start (ap (take kept) (ap (of_size n) after ∙ left) ∙ take_less kept kept (of_size n l1.credits) (omega arith))

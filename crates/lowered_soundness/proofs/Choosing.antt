@@ -1,5 +1,5 @@
 -- Tests, one after another, up to the clause that is chosen.
-use Rattle.std.proofs.Common.{◌≡◌, inl, inr, ℕ, zero, suc, ◌≤◌, Bool, true, false, List, [], ◌∷◌, slice_get, Option, Some, None, refl, sym, ap, ◌∙◌, subst, arith, ◌==◌}
+use Rattle.std.proofs.Common.{◌≡◌, inl, inr, ℕ, zero, suc, ◌<◌, ◌≤◌, Bool, true, false, List, [], ◌∷◌, slice_get, Option, Some, None, refl, sym, ap, ◌∙◌, subst, arith, ◌==◌}
 use Rattle.fip_language.specs.Table.{Table}
 use Rattle.fip_language.specs.Every.{Among}
 use Rattle.cell_code.specs.declared.kind.Kind.{Kind}
@@ -16,7 +16,7 @@ use Rattle.match_knowledge.specs.declared.verdicts.Verdict.TheVariants.{Asks}
 use Rattle.match_knowledge.specs.Patterns as M
 use Rattle.match_knowledge.specs.Patterns.{IsPattern}
 use Rattle.match_knowledge.specs.Known.{Known, compare, side, is_last}
-use Rattle.match_code.specs.Spots.{Spot, register, below, Differ}
+use Rattle.match_code.specs.Spots.{register, below, Differ}
 use Rattle.match_code.specs.Rows.{row_of}
 use Rattle.match_code.specs.Opening.{Roomy}
 use Rattle.match_code.specs.Entering.{root_of}
@@ -24,17 +24,16 @@ use Rattle.lowered_code.specs.declared.held.Held.{Held}
 use Rattle.lowered_code.specs.declared.held.Held.TheVariants as H
 use Rattle.laid_code.specs.Describing.{Holding}
 use Rattle.lowered_soundness.specs.Ties.{Rooted}
-use Rattle.laid_code.specs.Labels.{Quiet}
+use Rattle.laid_code.specs.Labels.{Catches, Quiet}
 use Rattle.lowered_soundness.proofs.Standing.{Seeing, SeesScalar, SeesLent, SeesOwned}
 use Rattle.laid_code.specs.Sights.{left, seen_kind, Sight}
-use Rattle.laid_code.specs.Tests.{Choice, TestLaid, SettledLaid, ChosenLaid, TestsLaid, ReadsLaid}
+use Rattle.laid_code.specs.Tests.{Choice, Asking, TestLaid, ChosenLaid, TestsLaid, ReadsLaid, ChosenAtOnce, BeginsBody, TakenAt}
+use Rattle.laid_code.proofs.Growing.{tests_end}
 use Rattle.lowered_soundness.proofs.Branches.{Came, came_none, came_one, came_on, came_quiet}
 use Rattle.lowered_soundness.proofs.Looking.{sided, test_part}
 use Rattle.lowered_soundness.proofs.Positions.{Froms}
-use Rattle.lowered_soundness.proofs.Peeking.{Ready, OwnKind, MayRead, reads, reads_end}
+use Rattle.lowered_soundness.proofs.Peeking.{Ready, OwnKind, MayRead, reads}
 use Rattle.lowered_soundness.proofs.Testing.{Form, AsScalar, AsOwned, AsLent, formed, FormRight, Here, Tested, tests, sided_other}
-use Rattle.lowered_soundness.proofs.NamedReads.{names_end}
-use Rattle.lowered_soundness.proofs.Dismantling.{takes_end}
 use Rattle.lowered_soundness.proofs.Lasting.{last_left, last_below}
 
 -- ---- the scrutinee's register
@@ -95,6 +94,14 @@ pub record Looks (c : PlainCode) (g : Holding) (ch : Choice) (k : Known) (read :
   pub sight : Sight c.types g ch.type ch.root k read m
   pub froms : Froms (register ch.root) read m
 
+-- a label where a body begins that is chosen there without an instruction takes what is told
+pub record BodiesTake (c : PlainCode) (f : PlainFunction) (g : Holding) (ch : Choice) : Type 0 where
+  pub by : (at : ℕ) (k : Known) (read : List ℕ) (m : ℕ → Kind) → 0 < at → Looks c g ch k read m → BeginsBody c f ch at k read → Catches f at m
+
+caught_at : (c : PlainCode) (f : PlainFunction) (g : Holding) (ch : Choice) (at : ℕ) (k : Known) (read : List ℕ) (m : ℕ → Kind) → BodiesTake c f g ch → 0 < at → Looks c g ch k read m → TakenAt c f g ch at k read → Catches f at m
+caught_at c f g ch at k read m bodies low looks (inl h) = h m looks.sight
+caught_at c f g ch at k read m bodies low looks (inr h) = bodies.by at k read m low looks h
+
 module _ (c : PlainCode) (f : PlainFunction) (g : Holding) (ch : Choice) (right : Right c f g ch) where
   abbrev Root : Option ℕ
   Root = root_of (register ch.root) (g (register ch.root))
@@ -130,6 +137,15 @@ module _ (c : PlainCode) (f : PlainFunction) (g : Holding) (ch : Choice) (right 
     };
     froms = looks.froms;
   }
+
+  typed_at : (k : Known) (p : M.Pattern) → Asking ch k p → IsPattern c.types ch.type p
+  typed_at k p asking = subst (IsPattern c.types ch.type) (sym asking.same) (right.typed asking.number asking.pattern asking.there)
+
+  -- a clause is chosen without an instruction
+  pub run_at_once : (n : ℕ) (k : Known) (read : List ℕ) (m : ℕ → Kind) (at i : ℕ) → Looks c g ch k read m → ChosenAtOnce c f ch n at k read i → Ran at m i at
+  run_at_once zero k read m at i looks h = record { place = at; known = k; read = read; behind = m; came = came_none c f at m; looks = looks; chosen = h }
+  run_at_once (suc n) k read m at i looks (p, asking, last, h) =
+      run_at_once n (side true p k) read m at i (last_looks k read m p (typed_at k p asking) asking.asks last looks) h
 
   -- the positions that a test needs were read
   record ReadOn (k : Known) (p : M.Pattern) (at : ℕ) (m : ℕ → Kind) (mid : ℕ) (more : List ℕ) : Type 0 where
@@ -169,15 +185,17 @@ module _ (c : PlainCode) (f : PlainFunction) (g : Holding) (ch : Choice) (right 
       out q ne away (inl e) = ne e
       out q ne away (inr a) = away a
 
-  one_test : (k : Known) (read : List ℕ) (m : ℕ → Kind) (p : M.Pattern) (at mid end : ℕ) (more : List ℕ) → IsPattern c.types ch.type p → compare p k ≡ Asks → Looks c g ch k read m → TestLaid c f g ch at p k read mid more → Quiet f at end m → mid ≤ end → (l : ℕ → Kind) × Came c f at m mid l × Looks c g ch (side true p k) more l
-  one_test k read m p at mid end more typed asks looks h quiet le =
+  one_test : BodiesTake c f g ch → (k : Known) (read : List ℕ) (m : ℕ → Kind) (p : M.Pattern) (at mid end : ℕ) (more : List ℕ) → IsPattern c.types ch.type p → compare p k ≡ Asks → Looks c g ch k read m → TestLaid c f g ch at p k read mid more → Quiet f at end m → mid ≤ end → (l : ℕ → Kind) × Came c f at m mid l × Looks c g ch (side true p k) more l
+  one_test bodies k read m p at mid end more typed asks looks h quiet le =
       let one = h.one in
       let r = read_on k read m p at h.mid end more typed asks looks h.reads quiet (omega (arith, one, le)) in
       let form = seen_form c.types ch.type (g (register ch.root)) right.seeing in
       let tested = tests c.types Root ch.type form.0 p k ch.root h.found more r.behind typed asks right.differ (right_off c f g ch right) form.1
       (record { own = r.looks.sight.root ∙ form.2 k; parts = r.looks.sight.parts }) r.ready h.asks in
       let yes = sided h.found.head h.found.register true r.behind in
-      let caught = h.fails (sided h.found.head h.found.register false r.behind) (tested_sight k more r.behind p form.0 h.found false form.2 r.looks tested) in
+      let ahead = h.ahead in
+      let failed = sided h.found.head h.found.register false r.behind in
+      let caught = caught_at c f g ch h.target (side false p k) more failed bodies (omega (arith, ahead)) (record { sight = tested_sight k more r.behind p form.0 h.found false form.2 r.looks tested; froms = froms_sided (register ch.root) more h.found.head h.found.register false r.behind r.looks.froms }) h.fails in
       let quiet2 = came_quiet c f at h.mid end m r.behind r.came quiet in
       let part = test_part c f h.mid r.behind h.found.register h.found.head h.target h.written tested.may caught (quiet2.first (omega (arith, one, le))) in (
         yes,
@@ -185,30 +203,11 @@ module _ (c : PlainCode) (f : PlainFunction) (g : Holding) (ch : Choice) (right 
         record { sight = tested_sight k more r.behind p form.0 h.found true form.2 r.looks tested; froms = froms_sided (register ch.root) more h.found.head h.found.register true r.behind r.looks.froms },
       )
 
-  -- tests only go on
-  settled_end : (takes : Bool) (at : ℕ) (q : Pattern) (s : Spot) (read : List ℕ) (end : ℕ) → SettledLaid takes f at q s read end → at ≤ end
-  settled_end true at q s read end h = takes_end c f at q s end h
-  settled_end false at q s read end h = names_end c f (register ch.root) at q s read end h.0 h.1
-
-  tests_on : (n at : ℕ) (k : Known) (read : List ℕ) (i end : ℕ) → TestsLaid c f g ch (suc n) at k read i end → ((mid : ℕ) (l : Known) (more : List ℕ) → TestsLaid c f g ch n mid l more i end → mid ≤ end) → at ≤ end
-  tests_on n at k read i end (p, asking, inl y) on = on at (side true p k) read y.1
-  tests_on n at k read i end (p, asking, inr y) on =
-      let a = reads_end c f (register ch.root) at p k ch.root read y.2.mid y.1 y.2.reads in
-      let b = y.2.one in
-      let d = on y.0 (side true p k) y.1 y.3 in
-      omega (arith, a, b, d)
-
-  pub tests_end : (n at : ℕ) (k : Known) (read : List ℕ) (i end : ℕ) → TestsLaid c f g ch n at k read i end → at ≤ end
-  tests_end zero at k read i end h = settled_end ch.takes at h.pattern ch.root read end h.settled
-  tests_end (suc n) at k read i end h = tests_on n at k read i end h (λ mid l more t. tests_end n mid l more i end t)
-
-  pub run : (n : ℕ) (k : Known) (read : List ℕ) (m : ℕ → Kind) (at i end next : ℕ) → Looks c g ch k read m → TestsLaid c f g ch n at k read i end → Quiet f at next m → end ≤ next → Ran at m i end
-  run zero k read m at i end next looks h quiet le = record { place = at; known = k; read = read; behind = m; came = came_none c f at m; looks = looks; chosen = h }
-  run (suc n) k read m at i end next looks (p, asking, inl y) quiet le =
-      let typed = subst (IsPattern c.types ch.type) (sym asking.same) (right.typed asking.number asking.pattern asking.there) in
-      run n (side true p k) read m at i end next (last_looks k read m p typed asking.asks y.0 looks) y.1 quiet le
-  run (suc n) k read m at i end next looks (p, asking, inr y) quiet le =
-      let typed = subst (IsPattern c.types ch.type) (sym asking.same) (right.typed asking.number asking.pattern asking.there) in
-      let later = tests_end n y.0 (side true p k) y.1 i end y.3 in
-      let one = one_test k read m p at y.0 next y.1 typed asking.asks looks y.2 quiet (omega (arith, later, le)) in
-      ran_on at y.0 m one.0 i end one.1 (run n (side true p k) y.1 one.0 y.0 i end next one.2 y.3 (came_quiet c f at y.0 next m one.0 one.1 quiet) le)
+  pub run : BodiesTake c f g ch → (n : ℕ) (k : Known) (read : List ℕ) (m : ℕ → Kind) (at i end next : ℕ) → Looks c g ch k read m → TestsLaid c f g ch n at k read i end → Quiet f at next m → end ≤ next → Ran at m i end
+  run bodies zero k read m at i end next looks h quiet le = record { place = at; known = k; read = read; behind = m; came = came_none c f at m; looks = looks; chosen = h }
+  run bodies (suc n) k read m at i end next looks (p, asking, inl y) quiet le =
+      run bodies n (side true p k) read m at i end next (last_looks k read m p (typed_at k p asking) asking.asks y.0 looks) y.1 quiet le
+  run bodies (suc n) k read m at i end next looks (p, asking, inr y) quiet le =
+      let later = tests_end f c g ch n y.0 (side true p k) y.1 i end y.3 in
+      let one = one_test bodies k read m p at y.0 next y.1 (typed_at k p asking) asking.asks looks y.2 quiet (omega (arith, later, le)) in
+      ran_on at y.0 m one.0 i end one.1 (run bodies n (side true p k) y.1 one.0 y.0 i end next one.2 y.3 (came_quiet c f at y.0 next m one.0 one.1 quiet) le)

@@ -123,13 +123,13 @@ module _ (c : PlainCode) (st : Setting) (f : PlainFunction) (ch : Choice) (k : K
   }
 
   pub match_grows : (at mid : ℕ) → ChunkLaid c f g ch at (Open []) [] (told c k) mid → at ≤ mid
-  match_grows at mid first = chunk_grows c f g ch right at (Open []) [] (told c k) mid first
+  match_grows at mid first = chunk_grows c f g ch at (Open []) [] (told c k) mid first
 
   pub sides_grow : (n at end : ℕ) → SidesLaid c f (wide_at g) ch n at end → at ≤ end
   sides_grow zero at end h = let z = h in omega (arith, z)
   sides_grow (suc n) at end h =
       let side = h.1 in
-      let a = chunk_grows c f (wide_at g) ch right_wide at side.known side.read side.told h.0 side.chunk in
+      let a = chunk_grows c f (wide_at g) ch at side.known side.read side.told h.0 side.chunk in
       let b = sides_grow n h.0 end h.2 in
       omega (arith, a, b)
 

@@ -24,9 +24,10 @@ use Rattle.lowered_code.specs.Known.{Known}
 use Rattle.lowered_code.specs.Values.{Setting}
 use Rattle.laid_code.specs.Describing.{Holding, held_at, kind_of}
 use Rattle.lowered_soundness.specs.Parts.{Arrives, Admits, IsKept, AreKept, Part, LastPart}
-use Rattle.laid_code.specs.Labels.{Takes, Catches, told}
+use Rattle.laid_code.specs.Labels.{Takes, Catches, Quiet, told}
 use Rattle.laid_code.specs.Sights.{left, part_kind, Below, AllBelow, seen_kind, Sight}
-use Rattle.laid_code.specs.Tests.{Choice, ChunkLaid, SidesLaid}
+use Rattle.laid_code.specs.Tests.{Choice, BeginsBody, ChunkLaid, SidesLaid}
+use Rattle.laid_code.proofs.Growing.{tests_end}
 use Rattle.laid_code.specs.Matches.{widened, wide_at, entered, EntryLaid}
 use Rattle.lowered_soundness.proofs.Fitting.{takes_less}
 use Rattle.lowered_soundness.proofs.Parts.{part_and_last, both_parts}
@@ -34,7 +35,7 @@ use Rattle.lowered_soundness.proofs.Branches.{jump_last, catch_part, came_quiet}
 use Rattle.lowered_soundness.proofs.Positions.{OnePart}
 use Rattle.lowered_soundness.proofs.Peeking.{Seen}
 use Rattle.lowered_soundness.proofs.Heirs.{has_among, not_among, from_at}
-use Rattle.lowered_soundness.proofs.Choosing.{Right, Looks, Ran, run, tests_end}
+use Rattle.lowered_soundness.proofs.Choosing.{Right, Looks, BodiesTake, Ran, run_at_once, run}
 use Rattle.lowered_soundness.proofs.Settling.{Based, settle}
 
 -- ---- froms name positions that were read
@@ -179,9 +180,9 @@ part_stretch c f a m b l x caught = record {
     admits : Admits f b l
     admits map there = subst (λ map. Takes f.registers map l) (same_Some caught.map map (sym caught.there ∙ there)) caught.takes
 
-pub chunk_grows : (c : PlainCode) (f : PlainFunction) (g : Holding) (ch : Choice) (right : Right c f g ch) (at : ℕ) (κ : M.Known) (read : List ℕ) (m : ℕ → Kind) (next : ℕ) → ChunkLaid c f g ch at κ read m next → at ≤ next
-chunk_grows c f g ch right at κ read m next h =
-    let a = tests_end c f g ch right h.steps at κ read h.clause h.end h.tests in
+pub chunk_grows : (c : PlainCode) (f : PlainFunction) (g : Holding) (ch : Choice) (at : ℕ) (κ : M.Known) (read : List ℕ) (m : ℕ → Kind) (next : ℕ) → ChunkLaid c f g ch at κ read m next → at ≤ next
+chunk_grows c f g ch at κ read m next h =
+    let a = tests_end f c g ch h.steps at κ read h.clause h.end h.tests in
     elim h.goes as (λ v. at ≤ next) [
       | inl j ↦ (let one = j.2 in omega (arith, a, one))
       | inr j ↦ (let one = j.1 in omega (arith, a, one))
@@ -198,11 +199,30 @@ module _ (c : PlainCode) (f : PlainFunction) (st : Setting) (ch : Choice) (k : K
   caught_by : (e : ℕ) (l m : ℕ → Kind) → Catches f e l → ((r : ℕ) → Rattle.sound_code.specs.Fitting.fits (l r) (m r) ≡ true) → Catches f e m
   caught_by e l m caught less = record { map = caught.map; there = caught.there; takes = takes_less f.registers caught.map m l caught.takes less }
 
+  none_told : (at : ℕ) (m : ℕ → Kind) → Quiet f at at m
+  none_told at m = record {
+    first = λ low. absurd (let x : ⊥ = omega (arith, low) in x);
+    others = λ p low high. absurd (let x : ⊥ = omega (arith, low, high) in x);
+  }
+
+  -- the label of a body takes what is told where it is chosen without an instruction
+  pub bodies_take : (g : Holding) (right : Right c f g ch) (based : Based c st ch k g) → BodiesTake c f g ch
+  bodies_take g right based = record { by = take }
+    where
+      take : (at : ℕ) (κ : M.Known) (read : List ℕ) (m : ℕ → Kind) → 0 < at → Looks c g ch κ read m → BeginsBody c f ch at κ read → Catches f at m
+      take at κ read m low looks h =
+          let ran = run_at_once c f g ch right h.steps κ read m at h.clause looks h.chosen in
+          let s = settle c f st g ch right k based h.clause at at at m ran (none_told at m) (omega arith) in
+          let entry = entries h.clause ran.chosen.pattern at ran.chosen.there h.entry in
+          let l = told c (entered st ch ran.chosen.pattern k entry.0) in
+          caught_by at l m (positive_entry h.clause ran.chosen.pattern at entry.0 low entry.1)
+          (λ r. ap (Rattle.sound_code.specs.Fitting.fits (l r)) (s.came.still refl r) ∙ s.enters entry.0 r)
+
   pub chunk_stretch : (g : Holding) (right : Right c f g ch) (based : Based c st ch k g) (at : ℕ) (κ : M.Known) (read : List ℕ) (m : ℕ → Kind) (next : ℕ) → Looks c g ch κ read m → ChunkLaid c f g ch at κ read m next → 0 < next → Stretch c f at m next
   chunk_stretch g right based at κ read m next looks h low = by h.goes
     where
       ran_to : h.end ≤ next → Ran c f g ch right at m h.clause h.end
-      ran_to le = run c f g ch right h.steps κ read m at h.clause h.end next looks h.tests h.quiet le
+      ran_to le = run c f g ch right (bodies_take g right based) h.steps κ read m at h.clause h.end next looks h.tests h.quiet le
 
       by : ((slice_get f.instrs h.end ≡ Some (I.Jump h.place)) × (h.end < h.place) × (next ≡ suc h.end)) ⊎ ((h.place ≡ h.end) × (next ≡ h.end)) → Stretch c f at m next
       by (inl j) =
@@ -240,7 +260,7 @@ module _ (c : PlainCode) (f : PlainFunction) (st : Setting) (ch : Choice) (k : K
   sides_on right based zero a m at end x h = subst (Stretch c f a m) (sym h) x
   sides_on right based (suc n) a m at end x h =
       let side = h.1 in
-      let grows = chunk_grows c f (wide_at (held_at k.held)) ch right at side.known side.read side.told h.0 side.chunk in
+      let grows = chunk_grows c f (wide_at (held_at k.held)) ch at side.known side.read side.told h.0 side.chunk in
       let later = side.later in
       let one = chunk_stretch (wide_at (held_at k.held)) right based at side.known side.read side.told h.0 (sight_looks c (wide_at (held_at k.held)) ch side.known side.read side.told side.sight) side.chunk (omega (arith, grows, later)) in
       sides_on right based n a m h.0 end (stretch_on c f a m at side.told h.0 x one) h.2

@@ -158,7 +158,7 @@ module _ (c : PlainCode) (st : Setting) (wd : W.World) (w : R.World) (shares : S
       entry_waits q m ds more empty wait.3,
     )
 
-    pub clause_done : (q : Pattern) (m : ℕ) (Q : Item → ℕ) → InOrder n.next (binders q) → l.next ≤ m → ClauseBegins c st wd w shares callees f fip s sc n taken u q B (reading taken (variables w n.next (binders q)) L K) Q X l (entered st ch q l m) → ((x v : ℕ) → of_binder s (Some x) ≡ Some (Some v) → of_binder (s ++ bound_by wd (Some u) q) (Some x) ≡ Some (Some v)) → ((x v : ℕ) → of_binder s (Some x) ≡ Some (Some v) → O.setting (variables w n.next (binders q)) (not taken) B x ≡ B x) → ((x v : ℕ) → of_binder s (Some x) ≡ Some (Some v) → reading taken (variables w n.next (binders q)) L K x ≡ K x) → (at mid : ℕ) (mk : Known) (ds ts : List ℕ) → Delivered c f fip (s ++ bound_by wd (Some u) q) (O.setting (variables w n.next (binders q)) (not taken) B) (reading taken (variables w n.next (binders q)) L K) X at (entered st ch q l m) ds ts mid mk → (whole : Expression) → ((r : ℕ) → 1 ≤ owners l.names (own X) r → IsUnused st l whole r) → ((i : ℕ) → 0 < i → X (Credit i) ≤ length (of_size i l.credits) - need st i whole) → (cs : Clauses) (end next : ℕ) (left : Known) → ClauseEnds c st fip f l whole ds cs mid mk end next left → (fip ≡ false → (r : ℕ) → is_tree (held_at l.held r) ≡ true → IsUnused st l whole r → widened (held_at mk.held r) ≡ widened (held_at l.held r)) → ((i : ℕ) → 0 < i → Bottom i (need st i whole) l.credits mk.credits) → ClauseDone st whole c f fip s B K X l k.next ds ts cs end at (entered st ch q l m) next left
+    pub clause_done : (q : Pattern) (m : ℕ) (Q : Item → ℕ) → InOrder n.next (binders q) → l.next ≤ m → ClauseBegins c st wd w shares callees f fip s sc n taken u q B (reading taken (variables w n.next (binders q)) L K) Q X l (entered st ch q l m) → ((x v : ℕ) → of_binder s (Some x) ≡ Some (Some v) → of_binder (s ++ bound_by wd (Some u) q) (Some x) ≡ Some (Some v)) → ((x v : ℕ) → of_binder s (Some x) ≡ Some (Some v) → O.setting (variables w n.next (binders q)) (not taken) B x ≡ B x) → ((x v : ℕ) → of_binder s (Some x) ≡ Some (Some v) → reading taken (variables w n.next (binders q)) L K x ≡ K x) → (at mid : ℕ) (mk : Known) (ds ts : List ℕ) → Delivered c f fip (s ++ bound_by wd (Some u) q) (O.setting (variables w n.next (binders q)) (not taken) B) (reading taken (variables w n.next (binders q)) L K) X at (entered st ch q l m) ds ts mid mk → (whole : Expression) → ((r : ℕ) → 1 ≤ owners l.names (own X) r → IsUnused st l whole r) → ((i : ℕ) → 0 < i → X (Credit i) ≤ length (of_size i l.credits) - need st i whole) → (cs : Clauses) (end next : ℕ) (left : Known) → ClauseEnds c st fip f l whole ds cs mid mk end next left → (fip ≡ false → (r : ℕ) → is_tree (held_at l.held r) ≡ true → IsUnused st l whole r → widened (held_at mk.held r) ≡ widened (held_at l.held r)) → (fip ≡ false → (i : ℕ) → 0 < i → Bottom i (need st i whole) l.credits mk.credits) → ClauseDone st whole c f fip s B K X l k.next ds ts cs end at (entered st ch q l m) next left
     clause_done q m Q order more cb back borrowed lends at mid mk ds ts got whole unused enough cs end next left ends stay bottom = record { grows = (let a = got.grows in let b = bare.grows in let o = over.grows in let z = stops in omega (arith, a, b, o, z)); arrived = subst (Arrived st whole fip c.types s B K X l k.next ds ts) (sym ends.known) arrived; code = code }
       where
         e : Known
@@ -271,7 +271,7 @@ module _ (c : PlainCode) (st : Setting) (wd : W.World) (w : R.World) (shares : S
                   let second = bare_tree r mid_tree in
                   let third = same_tree r (h.unused r tree none (ap is_tree second ∙ mid_tree)) in
                   held_wide ends.left.held r ∙ (ap widened (third ∙ second) ∙ first));
-              credits = λ i some. h.credits i some ∙ (ap (λ cs. Rattle.std.proofs.Common.take (length (of_size i l.credits) - need st i whole) (of_size i cs)) bare.credits ∙ bottom i some);
+              credits = λ i some. h.credits i some ∙ (ap (λ cs. Rattle.std.proofs.Common.take (length (of_size i l.credits) - need st i whole) (of_size i cs)) bare.credits ∙ bottom weak i some);
               none = nothing_of (of_size 0 ends.left.credits) (over.last 0).0 (sym h.none ∙ (over.last 0).1);
             }
 

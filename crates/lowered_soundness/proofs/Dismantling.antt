@@ -24,6 +24,7 @@ use Rattle.match_code.proofs.Lists.{among_either, in_head, in_tail, in_part}
 use Rattle.laid_code.specs.Labels.{Quiet}
 use Rattle.laid_code.specs.Sights.{left, Below, AllBelow}
 use Rattle.laid_code.specs.Tests.{TakeLaid, TakesLaid, TakeAll}
+use Rattle.laid_code.proofs.Growing.{take_all_end}
 use Rattle.lowered_soundness.proofs.Arguments.{int_scalar, with_field}
 use Rattle.lowered_soundness.proofs.Parts.{one_row}
 use Rattle.lowered_soundness.proofs.Branches.{Came, came_none, came_one, came_on, came_quiet}
@@ -134,27 +135,6 @@ alone_outside r zs m alone q ne =
     }
 
 module _ (c : PlainCode) (f : PlainFunction) where
-  pub take_end : (at r : ℕ) (ps : Patterns) (fs : Spots) (mid : ℕ) → TakeLaid f at r ps fs mid → at ≤ mid
-  take_end at r NoPatterns fs mid h = omega (arith, h)
-  take_end at r (MorePatterns p ps) fs mid h = let z = h.1 in omega (arith, z)
-
-  mutual
-    pub takes_end : (at : ℕ) (q : Pattern) (s : Spot) (end : ℕ) → TakesLaid f at q s end → at ≤ end
-    takes_end at (BinderPattern b) s end h = omega (arith, h)
-    takes_end at (LiteralPattern i p) s end h = omega (arith, h)
-    takes_end at (ConstructorPattern t d n m p ps) (At r fs) end h =
-        let a = take_end at r ps fs h.0 h.1 in
-        let b = take_all_end h.0 ps fs end h.2 in
-        omega (arith, a, b)
-
-    pub take_all_end : (at : ℕ) (ps : Patterns) (ss : Spots) (end : ℕ) → TakeAll f at ps ss end → at ≤ end
-    take_all_end at NoPatterns ss end h = omega (arith, h)
-    take_all_end at (MorePatterns p ps) NoSpots end h = omega (arith, h)
-    take_all_end at (MorePatterns p ps) (MoreSpots s ss) end h =
-        let a = takes_end at p s h.0 h.1 in
-        let b = take_all_end h.0 ps ss end h.2 in
-        omega (arith, a, b)
-
   -- behind some that are taken apart: registers outside stay, but for what is lent of r
   pub record Took (zs : List ℕ) (r : ℕ) (P : (ℕ → Kind) → Type 0) (at : ℕ) (m : ℕ → Kind) (end : ℕ) : Type 0 where
     pub behind : ℕ → Kind
@@ -389,7 +369,7 @@ module _ (c : PlainCode) (f : PlainFunction) where
       let may' : MayTake c f m r t n (MorePatterns q qs) ks fs read = may_take t n l q qs ks r fs read m fit.0 hf.0 are room differ off within own below' out in
       let next = taken_at c.types r (length (as_many (MorePatterns q qs) fs)) (fields c.types t n) ks fs m in
       let sized : CellTaken (fields c.types t n) ks r fs (suc (count_patterns qs)) read m next = subst (λ x. CellTaken (fields c.types t n) ks r fs x read m next) (roomy_count (MorePatterns q qs) fs room) (cell_taken t n r (MorePatterns q qs) ks fs read m may') in
-      let later = take_all_end h.0 (MorePatterns q qs) fs mid h.2 in
+      let later = take_all_end f h.0 (MorePatterns q qs) fs mid h.2 in
       let one = h.1.1 in
       let first : Came c f at m (suc at) next = came_one c f at m next (one_row c f at m next (I.Take r (as_many (MorePatterns q qs) fs)) h.1.0 refl (take_row c f m r t n (MorePatterns q qs) ks fs read may') (quiet.first (omega (arith, later, le, one)))) in
       record {
@@ -437,7 +417,7 @@ module _ (c : PlainCode) (f : PlainFunction) where
     all_takes (MorePatterns p ps) (t ∷ ts) NoKnowns (MoreSpots s ss) read at m mid end are fit room differ within parts alone h quiet le = absurd parts
     all_takes (MorePatterns p ps) (t ∷ ts) (MoreKnowns k ks) (MoreSpots s ss) read at m mid end are fit room differ within parts alone h quiet le =
         let b = both_fits (compare (row_of p) k) (compare_all (rows_of ps) ks) fit in
-        let later = take_all_end h.0 ps ss mid h.2 in
+        let later = take_all_end f h.0 ps ss mid h.2 in
         let mine = first_alone ts ks s ss read m differ alone parts.2 in
         let a = takes p t k s read at m h.0 end are.0 b.0 room.0 differ.3 differ.0 (λ z x. within z (in_head z s ss x)) parts.0 parts.1 (alone_outside (register s) (below s) m mine) h.1 quiet (omega (arith, later, le)) in
         let none : (q : ℕ) → (Among q (register s ∷ below s) → ⊥) → is_lent_of (register s) (m q) ≡ false = λ q ne. (mine q ne).0 (register s) (inl refl) in

@@ -2,7 +2,7 @@
 -- cells. So it is behind each value that is computed, each result that is handed on, and at the entry of each clause.
 use Rattle.std.proofs.Common.{◌≡◌, ◌⊎◌, inl, inr, ℕ, zero, suc, ◌<◌, ◌≤◌, Bool, true, false, ◌||◌, ◌&&◌, not, List, [], ◌∷◌, length, map, replicate, Option, Some, None, slice_get, slice_set, get_or, refl, sym, ap, ◌∙◌, subst, true≢false, arith, if◌then◌else◌, ◌==◌, nat_lt}
 use Rattle.fip_base.specs.declared.plain.Param.{Param}
-use Rattle.fip_language.specs.Table.{Table, constructors, shapes}
+use Rattle.fip_language.specs.Table.{Table, shapes}
 use Rattle.fip_language.specs.declared.Operator.{Operator}
 use Rattle.fip_language.specs.declared.Operator.TheVariants as O
 use Rattle.fip_trees.specs.declared.program.Binder.{Binder}

@@ -18,6 +18,8 @@ use Rattle.lowered_code.specs.Known.{Known, joined, register_of, named, used, Is
 use Rattle.lowered_code.specs.Values.{Setting, is_scalar}
 use Rattle.lowered_code.specs.Bodies.{AreTaken, handed, received, given, all_named, registers_for}
 use Rattle.lowered_code.specs.Functions.{with_param, with_params, with_credit, with_credits, unless_in, param_held}
+use Rattle.laid_code.specs.Describing.{held_at}
+use Rattle.laid_code.specs.Joins.{holds_credit, still_held}
 use Rattle.laid_code.specs.Matches.{wide, widened}
 use Rattle.lowered_soundness.proofs.Helds.{length_set, length_used}
 use Rattle.lowered_soundness.proofs.Giving.{and_to}
@@ -122,6 +124,14 @@ module _ (n : ℕ) where
   taken_under cs m r rest t h =
       let z = split_under t.before t.behind (record { size = m; register = r }) (subst (CreditsUnder n) t.was h) in
       (z.0, subst (CreditsUnder n) (sym t.left) z.1)
+
+  pub still_under : (hs : List Held) (cs : List Credit) → CreditsUnder n cs → CreditsUnder n (still_held hs cs)
+  still_under hs [] h = tt
+  still_under hs (q ∷ cs) h = by (holds_credit (held_at hs q.register)) (still_under hs cs h.1)
+    where
+      by : (b : Bool) → CreditsUnder n (still_held hs cs) → CreditsUnder n (if b then q ∷ still_held hs cs else still_held hs cs)
+      by true rest = (h.0, rest)
+      by false rest = rest
 
   push_under : (cs : List Credit) (q : Credit) → q.register < n → CreditsUnder n cs → CreditsUnder n (cs ++ q ∷ [])
   push_under [] q low h = (low, tt)

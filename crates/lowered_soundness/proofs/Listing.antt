@@ -11,7 +11,7 @@ use Rattle.lowered_code.specs.Values.{is_scalar}
 use Rattle.lowered_code.specs.Functions.{IsSettingOf}
 use Rattle.lowered_soundness.specs.Accepted.{IsWithinLimits}
 use Rattle.lowered_soundness.specs.Built.{BuildsBlock}
-use Rattle.lowered_soundness.specs.Standing.{MapsStand}
+use Rattle.laid_code.specs.Standing.{MapsStand}
 use Rattle.laid_code.specs.Example.{lists_code, reversing}
 use Rattle.laid_code.specs.Functions.{IsLaid, AreLaid}
 use Rattle.laid_code.proofs.Reversing.{rev_is_laid}

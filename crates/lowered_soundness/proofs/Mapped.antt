@@ -19,7 +19,7 @@ use Rattle.lowered_soundness.specs.Built.{BuildsBlock}
 use Rattle.lowered_soundness.specs.Functions.{IsNumbered}
 use Rattle.lowered_soundness.specs.Laid.{Shares}
 use Rattle.lowered_soundness.specs.Placed.{ParamsTyped, Callees}
-use Rattle.lowered_soundness.specs.Standing.{AreRising, MapsStand}
+use Rattle.laid_code.specs.Standing.{AreRising, MapsStand}
 use Rattle.lowered_soundness.proofs.Formed.{start_formed}
 use Rattle.lowered_soundness.proofs.Functions.{function_begins}
 use Rattle.lowered_soundness.proofs.Giving.{and_to}

@@ -32,7 +32,7 @@ use Rattle.lowered_code.specs.Values.{Setting}
 use Rattle.lowered_code.specs.Bodies.{Return, Into, result_type, handed, registers_for, reserved, with_names}
 use Rattle.laid_code.specs.Describing.{held_at}
 use Rattle.laid_code.specs.Labels.{told, Tells, Quiet}
-use Rattle.lowered_soundness.specs.Standing.{is_open, AreOpen}
+use Rattle.laid_code.specs.Standing.{is_open, AreOpen}
 use Rattle.laid_code.specs.Joins.{ClauseEnds}
 use Rattle.laid_code.specs.Tests.{Choice, SidesLaid}
 use Rattle.laid_code.specs.Matches.{widened, wide_at, clause_patterns, entered, MatchLaid}

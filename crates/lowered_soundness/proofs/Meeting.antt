@@ -1,6 +1,6 @@
 -- Where clauses meet: what is known there goes with the variables, and is what is known at the end of each; what one of
 -- them still owns all do.
-use Rattle.std.proofs.Common.{◌≡◌, ◌⊎◌, inl, inr, ℕ, zero, suc, ◌+◌, ◌-◌, ◌<◌, ◌≤◌, Bool, true, false, List, [], ◌∷◌, length, Option, Some, None, refl, sym, ap, ◌∙◌, subst, subst₂, true≢false, arith, ◌==◌}
+use Rattle.std.proofs.Common.{◌≡◌, ◌⊎◌, inl, inr, ℕ, zero, suc, ◌+◌, ◌-◌, ◌<◌, ◌≤◌, Bool, true, false, List, [], ◌∷◌, length, Option, Some, None, refl, sym, ap, ◌∙◌, subst, subst₂, true≢false, arith, ◌==◌, ◌&&◌, if◌then◌else◌}
 use Rattle.std.proofs.lemmas.Option.{none-some}
 use Rattle.fip_language.specs.Table.{Table}
 use Rattle.fip_language.specs.Every.{Among}
@@ -14,16 +14,17 @@ use Rattle.sound_code.specs.Fitting.{fits}
 use Rattle.kind_soundness.proofs.Basics.{chosen, refused, or_not, equal, equal_is, less_or_not}
 use Rattle.lowered_code.specs.declared.held.Held.{Held}
 use Rattle.lowered_code.specs.declared.held.Held.TheVariants as H
+use Rattle.lowered_code.specs.declared.held.Credit as D
 use Rattle.lowered_code.specs.Known.{Known, register_of}
 use Rattle.lowered_code.specs.Values.{Setting}
 use Rattle.laid_code.specs.Describing.{Holding, held_at, kind_of, is_tree, is_spare}
 use Rattle.laid_code.specs.Matches.{widened, wide, wide_at, BuiltRight}
 use Rattle.laid_code.specs.Credits.{of_size}
-use Rattle.laid_code.specs.Joins.{Met}
+use Rattle.laid_code.specs.Joins.{Met, holds_credit, still_held}
 use Rattle.laid_code.specs.Uses.{need}
 use Rattle.laid_code.specs.Leftover.{IsUnused}
 use Rattle.lowered_soundness.specs.Giving.{is_owned_of, is_credit_of}
-use Rattle.lowered_soundness.specs.Ties.{one_if, owners, sized, own, AllHold, owed, Balanced, Ties}
+use Rattle.lowered_soundness.specs.Ties.{one_if, owners, sized, counted, own, AllHold, owed, Balanced, Ties}
 use Rattle.lowered_soundness.specs.Delivered.{Keeps}
 use Rattle.lowered_soundness.proofs.Covering.{covers_spare}
 use Rattle.lowered_soundness.proofs.Giving.{owned_tree}
@@ -86,6 +87,15 @@ one_true false d e t = absurd (true≢false (sym t))
 pub one_positive : (b : Bool) (n : ℕ) → n ≤ one_if b → 1 ≤ n → b ≡ true
 one_positive true n le more = refl
 one_positive false n le more = absurd (let z : ⊥ = omega (arith, le, more) in z)
+
+-- where each credit's register holds one still, all credits are left
+all_still : (hs : List Held) (cs : List D.Credit) → ((n r : ℕ) → 1 ≤ counted n r cs → holds_credit (held_at hs r) ≡ true) → still_held hs cs ≡ cs
+all_still hs [] h = refl
+all_still hs (c ∷ cs) h =
+    ap (λ b. if b then c ∷ still_held hs cs else still_held hs cs) (h c.size c.register here) ∙ ap (λ ds. c ∷ ds) (all_still hs cs (λ n r more. h n r (omega (arith, more))))
+  where
+    here : 1 ≤ counted c.size c.register (c ∷ cs)
+    here = let one : one_if ((c.size == c.size) && (c.register == c.register)) ≡ 1 = ap (λ b. one_if (b && (c.register == c.register))) (equal_is c.size c.size refl) ∙ ap one_if (equal_is c.register c.register refl) in omega (arith, one)
 
 -- where a register owns what is owed, it is one of those that are given
 owed_one : (w : Table) (g : Holding) (ds ts : List ℕ) (r : ℕ) → AllHold w g ds ts → 1 ≤ owed w ds ts r → (t : ℕ) × (is_owned_of t (g r) ≡ true) × ((h : Holding) → AllHold w h ds ts → is_owned_of t (h r) ≡ true)
@@ -328,6 +338,19 @@ module _ (st : Setting) (o : Expression) (fip : Bool) (w : Table) (s : Scope) (B
         ]
       ]
 
+      by_credit : (n r : ℕ) → is_credit_of n (held_at j.held r) ≡ is_credit_of n (held_at m.held r)
+      by_credit n r = elim (first r) as (λ v. is_credit_of n (held_at j.held r) ≡ is_credit_of n (held_at m.held r)) [
+        | inl p ↦ ap (is_credit_of n) (sym p)
+        | inr p ↦ spare_no_credit n (held_at j.held r) p.0 ∙ sym (ap (is_credit_of n) p.1)
+      ]
+
+      -- no credit is lost
+      credits : m.credits ≡ j.credits
+      credits = met.credits ∙ all_still m.held j.credits (λ n r more.
+          let count = x.ties.credits n r in
+          let held = sym (by_credit n r) ∙ one_positive (is_credit_of n (held_at j.held r)) (counted n r j.credits) (omega (arith, count)) more in
+          ap holds_credit (credit_is n (held_at m.held r) held))
+
       -- what both hold is known
       agreed : (r : ℕ) → held_at j.held r ≡ held_at l.held r → held_at m.held r ≡ held_at j.held r
       agreed r e = elim (met.held r) as (λ v. held_at m.held r ≡ held_at j.held r) [
@@ -371,8 +394,8 @@ module _ (st : Setting) (o : Expression) (fip : Bool) (w : Table) (s : Scope) (B
           record {
             trees = λ r tree. z.trees r (tree_first r tree);
             stays = λ r tree unused. (let same = z.stays r tree unused in tree_stays r (ap is_tree same ∙ (wide_tree (held_at k.held r) ∙ tree)) ∙ same);
-            credits = λ n some. ap (of_size n) met.credits ∙ z.credits n some;
-            none = ap (of_size 0) met.credits ∙ z.none;
+            credits = λ n some. ap (of_size n) credits ∙ z.credits n some;
+            none = ap (of_size 0) credits ∙ z.none;
           }
 
       hold : (qs us : List ℕ) → AllHold w (held_at j.held) qs us → AllHold w (held_at l.held) qs us → AllHold w (held_at m.held) qs us
@@ -401,7 +424,7 @@ module _ (st : Setting) (o : Expression) (fip : Bool) (w : Table) (s : Scope) (B
           | inl p ↦ x.keeps.old z u r o (sym p.1 ∙ e)
           | inr p ↦ absurd (none-some r (sym p.1 ∙ e))
         ];
-        stack = λ n. ap (λ cs. Rattle.std.proofs.Common.take (X (Credit n)) (of_size n cs)) met.credits ∙ x.keeps.stack n;
+        stack = λ n. ap (λ cs. Rattle.std.proofs.Common.take (X (Credit n)) (of_size n cs)) credits ∙ x.keeps.stack n;
       }
 
       spare_tree : (h : Held) → is_spare h ≡ true → is_tree H.Nothing ≡ is_tree h
@@ -428,8 +451,8 @@ module _ (st : Setting) (o : Expression) (fip : Bool) (w : Table) (s : Scope) (B
             | inr p ↦ absurd (nothing_lent t (Some q) (sym p.1 ∙ e))
           ])
           (λ r t d e. absurd (bare r t d e))
-          (λ n. subst (λ cs. Fits fip (sized n cs) (X (Credit n))) (sym met.credits) (x.ties.sizes n))
-          (λ n r. ap (λ cs. Rattle.lowered_soundness.specs.Ties.counted n r cs) met.credits ∙ (x.ties.credits n r ∙ ap one_if (by_credit n r)))
+          (λ n. subst (λ cs. Fits fip (sized n cs) (X (Credit n))) (sym credits) (x.ties.sizes n))
+          (λ n r. ap (counted n r) credits ∙ (x.ties.credits n r ∙ ap one_if (by_credit n r)))
           (λ r low. elim (first r) as (λ v. held_at m.held r ≡ H.Nothing) [
             | inl p ↦ p ∙ x.ties.fresh r (let z = met.next in omega (arith, z, low))
             | inr p ↦ p.1
@@ -438,9 +461,3 @@ module _ (st : Setting) (o : Expression) (fip : Bool) (w : Table) (s : Scope) (B
             | inl p ↦ (let low = x.ties.named z r (sym p.1 ∙ e) in let n = met.next in omega (arith, low, n))
             | inr p ↦ absurd (none-some r (sym p.1 ∙ e))
           ])
-        where
-          by_credit : (n r : ℕ) → is_credit_of n (held_at j.held r) ≡ is_credit_of n (held_at m.held r)
-          by_credit n r = elim (first r) as (λ v. is_credit_of n (held_at j.held r) ≡ is_credit_of n (held_at m.held r)) [
-            | inl p ↦ ap (is_credit_of n) (sym p)
-            | inr p ↦ spare_no_credit n (held_at j.held r) p.0 ∙ sym (ap (is_credit_of n) p.1)
-          ]

@@ -22,11 +22,12 @@ use Rattle.match_code.proofs.Lists.{in_head, in_tail, in_part}
 use Rattle.laid_code.specs.Labels.{Quiet}
 use Rattle.laid_code.specs.Sights.{Below, AllBelow}
 use Rattle.laid_code.specs.Tests.{ReadOne, NamesLaid, NameAll}
+use Rattle.laid_code.proofs.Growing.{names_end, name_all_end}
 use Rattle.lowered_soundness.proofs.Arguments.{with_field}
 use Rattle.lowered_soundness.proofs.Branches.{came_on, came_quiet}
 use Rattle.lowered_soundness.proofs.Lefts.{head_fields}
 use Rattle.lowered_soundness.proofs.Positions.{OnePart, part_on, all_below_on, Froms}
-use Rattle.lowered_soundness.proofs.Peeking.{OwnKind, own_part, Seen, MayRead, Reads, One, read_one, reads_none, one_end, FieldsFrom, fields_start, fields_next, fields_here, apart_head, own_tree}
+use Rattle.lowered_soundness.proofs.Peeking.{OwnKind, own_part, Seen, MayRead, Reads, One, read_one, reads_none, FieldsFrom, fields_start, fields_next, fields_here, apart_head, own_tree}
 
 -- ---- what is known where a pattern matches all
 
@@ -96,27 +97,6 @@ module _ (c : PlainCode) (f : PlainFunction) (r0 : ℕ) where
   are_some [] q qs h = absurd h
   are_some (t ∷ ts) q qs h = (length ts, refl)
 
-  name_one_end : (at : ℕ) (p : Pattern) (s : Spot) (r i : ℕ) (read : List ℕ) (last : ℕ) (seen : List ℕ) → (((names_any p ≡ true) × (mid : ℕ) × (one : List ℕ) × ReadOne f at r i (register s) read mid one × NamesLaid f mid p s one last seen) ⊎ ((names_any p ≡ false) × (last ≡ at) × (seen ≡ read))) → ((mid : ℕ) (one : List ℕ) → NamesLaid f mid p s one last seen → mid ≤ last) → at ≤ last
-  name_one_end at p s r i read last seen (inl h) deep =
-      let a = one_end c f r0 at r i (register s) read h.1 h.2 h.3 in
-      let b = deep h.1 h.2 h.4 in
-      omega (arith, a, b)
-  name_one_end at p s r i read last seen (inr h) deep = let z = h.1 in omega (arith, z)
-
-  mutual
-    pub names_end : (at : ℕ) (q : Pattern) (s : Spot) (read : List ℕ) (end : ℕ) (more : List ℕ) → NamesLaid f at q s read end more → at ≤ end
-    names_end at (BinderPattern b) s read end more h = let z = h.0 in omega (arith, z)
-    names_end at (LiteralPattern i p) s read end more h = let z = h.0 in omega (arith, z)
-    names_end at (ConstructorPattern t d n m p ps) (At r fs) read end more h = name_all_end at ps fs r 0 read end more h
-
-    pub name_all_end : (at : ℕ) (ps : Patterns) (ss : Spots) (r i : ℕ) (read : List ℕ) (end : ℕ) (more : List ℕ) → NameAll f at ps ss r i read end more → at ≤ end
-    name_all_end at NoPatterns ss r i read end more h = let z = h.0 in omega (arith, z)
-    name_all_end at (MorePatterns p ps) NoSpots r i read end more h = let z = h.0 in omega (arith, z)
-    name_all_end at (MorePatterns p ps) (MoreSpots s ss) r i read end more h =
-        let rest = name_all_end h.0 ps ss r (suc i) h.1 end more h.3 in
-        let first = name_one_end at p s r i read h.0 h.1 h.2 (λ mid one l. names_end mid p s one h.0 h.1 l) in
-        omega (arith, first, rest)
-
   -- one part and those behind it
   joined : (root : Option ℕ) (t : ℕ) (ts : List ℕ) (p : Pattern) (ps : Patterns) (k : Known) (ks : Knowns) (s : Spot) (ss : Spots) (r i at : ℕ) (read : List ℕ) (m : ℕ → Kind) (one : ℕ) (seen : List ℕ) (mid : ℕ) (more : List ℕ) → AllDiffer (MoreSpots s ss) → (o : Reads c f r0 (NamedRead p s) (OnePart c.types root t k s r i) (register s ∷ below s) at read m one seen) → Reads c f r0 (AllNamedRead ps ss) (AllBelow c.types root ts ks ss r (suc i)) (all_in ss) one seen o.behind mid more → Reads c f r0 (AllNamedRead (MorePatterns p ps) (MoreSpots s ss)) (AllBelow c.types root (t ∷ ts) (MoreKnowns k ks) (MoreSpots s ss) r i) (all_in (MoreSpots s ss)) at read m mid more
   joined root t ts p ps k ks s ss r i at read m one seen mid more differ o rest = record {
@@ -164,7 +144,7 @@ module _ (c : PlainCode) (f : PlainFunction) (r0 : ℕ) where
   part_names root t p k s r i at read m last seen end off other low there roots known part (inr h) froms quiet le deep =
       reads_none c f r0 (NamedRead p s) (OnePart c.types root t k s r i) (register s ∷ below s) at read m last seen h.1 h.2 (none_named p s read h.0) part froms
   part_names root t p k s r i at read m last seen end off other low there roots known part (inl h) froms quiet le deep =
-      let high = names_end h.1 p s h.2 last seen h.4 in
+      let high = names_end f h.1 p s h.2 last seen h.4 in
       let o = read_one c f r0 root t k s r i at read m h.1 h.2 end there roots known other low off part h.3 froms quiet (omega (arith, high, le)) in
       let sub = deep h.1 h.2 o.behind (subst (OwnKind c.types root t k (register s)) (sym o.kind) (own_part c.types root t k (register s) r i)) (inr o.seen) o.seen o.parts h.4 o.froms (came_quiet c f at h.1 end m o.behind o.came quiet) in
       part_read root t p k s r i at read m h.1 h.2 last seen off o sub
@@ -191,7 +171,7 @@ module _ (c : PlainCode) (f : PlainFunction) (r0 : ℕ) where
     all_names root all' [] (MorePatterns p ps) ks (MoreSpots s ss) r i at read m mid more end are fit differ off may from fs roots known parts h froms quiet le = absurd are
     all_names root all' (t ∷ ts) (MorePatterns p ps) NoKnowns (MoreSpots s ss) r i at read m mid more end are fit differ off may from fs roots known parts h froms quiet le = absurd parts
     all_names root all' (t ∷ ts) (MorePatterns p ps) (MoreKnowns k ks) (MoreSpots s ss) r i at read m mid more end are fit differ off may from fs roots known parts h froms quiet le =
-        let high = name_all_end h.0 ps ss r (suc i) h.1 mid more h.3 in
+        let high = name_all_end f h.0 ps ss r (suc i) h.1 mid more h.3 in
         let b = both_fits (compare (row_of p) k) (compare_all (rows_of ps) ks) fit in
         let o = part_names root t p k s r i at read m h.0 h.1 end differ.0 (λ e. off (inl (sym e))) (may (register s) (inl refl)) (ap (λ ts. slice_get ts i) fs ∙ fields_here c f r0 all' t ts i from) roots known parts.0 h.2 froms quiet (omega (arith, high, le))
         (λ mid' one l own' seen' there' parts' laid froms' quiet'. names root t p k s mid' one l h.0 h.1 end are.0 b.0 differ.3 differ.0 (λ z a. may z (in_head z s ss a)) own' seen' (λ e y. there') parts' laid froms' quiet' (omega (arith, high, le))) in

@@ -7,7 +7,7 @@ use Rattle.sound_code.specs.Codes.{PlainFunction, LabelMap}
 use Rattle.sound_code.specs.Headers.{are_rising, is_set, is_good_root, is_good_from, is_good_kind, are_good_kinds, are_good_maps}
 use Rattle.sound_code.specs.Types.{count}
 use Rattle.kind_soundness.proofs.Basics.{both, below}
-use Rattle.lowered_soundness.specs.Standing.{AreRising, is_open, are_open, AreOpen, MapsStand}
+use Rattle.laid_code.specs.Standing.{AreRising, is_open, are_open, AreOpen, MapsStand}
 use Rattle.lowered_soundness.proofs.Giving.{and_to}
 
 set_open : (w : Table) (t : ℕ) (s : List ℕ) → is_set w t s ≡ true → not (length s == 0) ≡ true

@@ -28,6 +28,7 @@ use Rattle.match_code.proofs.Lists.{in_head, in_tail, in_part}
 use Rattle.laid_code.specs.Labels.{Quiet}
 use Rattle.laid_code.specs.Sights.{left, part_kind, Unread, Fresh, Below, AllBelow}
 use Rattle.laid_code.specs.Tests.{ReadOne, ReadsLaid, ReadsFirst}
+use Rattle.laid_code.proofs.Growing.{one_end, reads_end}
 use Rattle.lowered_soundness.proofs.Arguments.{with_field}
 use Rattle.lowered_soundness.proofs.Parts.{one_row}
 use Rattle.lowered_soundness.proofs.Branches.{Came, came_none, came_one, came_on, came_quiet}
@@ -204,27 +205,6 @@ module _ (c : PlainCode) (f : PlainFunction) (r0 : ℕ) where
     froms = subst (λ rs. Froms r0 rs m) (sym d) froms;
   }
 
-  -- reads only go on
-  pub one_end : (at r i d : ℕ) (read : List ℕ) (mid : ℕ) (more : List ℕ) → ReadOne f at r i d read mid more → at ≤ mid
-  one_end at r i d read mid more (inl h) = let z = h.1 in omega (arith, z)
-  one_end at r i d read mid more (inr h) = let z = h.2 in omega (arith, z)
-
-  mutual
-    pub reads_end : (at : ℕ) (p : M.Pattern) (k : Known) (s : Spot) (read : List ℕ) (end : ℕ) (more : List ℕ) → ReadsLaid f at p k s read end more → at ≤ end
-    reads_end at M.Any k s read end more h = let z = h.0 in omega (arith, z)
-    reads_end at (M.Test t h ps) (Open out) s read end more e = let z = e.0 in omega (arith, z)
-    reads_end at (M.Test t h ps) (Is g ks) (At r fs) read end more e = first_end at ps ks fs r 0 read end more e
-
-    pub first_end : (at : ℕ) (ps : M.Patterns) (ks : Knowns) (ss : Spots) (r i : ℕ) (read : List ℕ) (end : ℕ) (more : List ℕ) → ReadsFirst f at ps ks ss r i read end more → at ≤ end
-    first_end at M.NoPatterns ks ss r i read end more h = let z = h.0 in omega (arith, z)
-    first_end at (M.MorePatterns p ps) NoKnowns ss r i read end more h = let z = h.0 in omega (arith, z)
-    first_end at (M.MorePatterns p ps) (MoreKnowns k ks) NoSpots r i read end more h = let z = h.0 in omega (arith, z)
-    first_end at (M.MorePatterns p ps) (MoreKnowns k ks) (MoreSpots s ss) r i read end more (inl h) =
-        let a = one_end at r i (register s) read h.1 h.2 h.3 in
-        let b = reads_end h.1 p k s h.2 end more h.4 in
-        omega (arith, a, b)
-    first_end at (M.MorePatterns p ps) (MoreKnowns k ks) (MoreSpots s ss) r i read end more (inr h) = first_end at ps ks ss r (suc i) read end more h.1
-
   -- the types of the fields from number i on
   abbrev pub FieldsFrom : List ℕ → List ℕ → ℕ → Type 0
   FieldsFrom all' ts i = (j t : ℕ) → slice_get ts j ≡ Some t → slice_get all' (i + j) ≡ Some t
@@ -300,8 +280,8 @@ module _ (c : PlainCode) (f : PlainFunction) (r0 : ℕ) where
     all_reads root all' (t ∷ ts) (M.MorePatterns p ps) (MoreKnowns k ks) NoSpots r i at read m mid more end are asks differ off may from fs roots known parts h froms quiet le =
         reads_none (ReadyFirst (M.MorePatterns p ps) (MoreKnowns k ks) NoSpots) (AllBelow c.types root (t ∷ ts) (MoreKnowns k ks) NoSpots r i) [] at read m mid more h.0 h.1 tt tt froms
     all_reads root all' (t ∷ ts) (M.MorePatterns p ps) (MoreKnowns k ks) (MoreSpots s ss) r i at read m mid more end are asks differ off may from fs roots known parts (inl h) froms quiet le =
-        let low = one_end at r i (register s) read h.1 h.2 h.3 in
-        let high = reads_end h.1 p k s h.2 mid more h.4 in
+        let low = one_end f at r i (register s) read h.1 h.2 h.3 in
+        let high = reads_end f h.1 p k s h.2 mid more h.4 in
         let o = read_one root t k s r i at read m h.1 h.2 end (ap (λ ts. slice_get ts i) fs ∙ fields_here all' t ts i from) roots known (λ e. off (inl (sym e))) (may (register s) (inl refl)) differ.0 parts.0 h.3 froms quiet (omega (arith, high, le)) in
         let sub = reads root t p k s h.1 h.2 o.behind mid more end are.0 (is_asking (compare p k) h.0) differ.3 differ.0 (λ z a. may z (in_head z s ss a))
         (subst (OwnKind c.types root t k (register s)) (sym o.kind) (own_part c.types root t k (register s) r i)) (inr o.seen) o.parts h.4 o.froms (came_quiet c f at h.1 end m o.behind o.came quiet) le in

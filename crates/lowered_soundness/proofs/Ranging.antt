@@ -46,7 +46,7 @@ use Rattle.lowered_soundness.specs.Built.{BuildsArgument, BuildsArguments, Build
 use Rattle.laid_code.specs.Functions.{FunctionLaid}
 use Rattle.lowered_soundness.proofs.Giving.{and_to}
 use Rattle.lowered_soundness.proofs.Helds.{held_within, length_used, length_used_all, length_set}
-use Rattle.lowered_soundness.proofs.Known.{Under, CreditsUnder, Fits, names_by, are_under, both_under, left_under, right_under, all_under, for_under, register_under, named_under, fits_held, fits_next, fits_set, fits_paid, fits_taken, length_handed, length_received, fits_wide, fits_params, fits_credits, fits_root}
+use Rattle.lowered_soundness.proofs.Known.{Under, CreditsUnder, Fits, names_by, are_under, both_under, left_under, right_under, all_under, for_under, register_under, named_under, still_under, fits_held, fits_next, fits_set, fits_paid, fits_taken, length_handed, length_received, fits_wide, fits_params, fits_credits, fits_root}
 
 -- ---- labels are in the function
 
@@ -444,7 +444,7 @@ module _ (c : PlainCode) (st : Setting) (f : PlainFunction) (good : are_good_map
       | inr p ↦ absurd (none-some r (sym p.1 ∙ e))
     ]);
     held = h.width ∙ fits.held;
-    credits = subst (CreditsUnder f.registers) (sym h.credits) fits.credits;
+    credits = subst (CreditsUnder f.registers) (sym h.credits) (still_under f.registers m.held k.credits fits.credits);
   }
 
   goes_on : (cs : Clauses) (stop target next : ℕ) → GoesOn f cs stop target next → is_some (label_at f.labels target) ≡ true → In stop next

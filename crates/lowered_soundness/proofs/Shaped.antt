@@ -20,7 +20,7 @@ use Rattle.lowered_code.specs.declared.held.Held.TheVariants as H
 use Rattle.lowered_code.specs.Known.{Known}
 use Rattle.laid_code.specs.Describing.{Holding, held_at, set_of, kind_of}
 use Rattle.laid_code.specs.Labels.{told}
-use Rattle.lowered_soundness.specs.Standing.{is_open, are_open, AreOpen}
+use Rattle.laid_code.specs.Standing.{is_open, are_open, AreOpen}
 use Rattle.laid_code.specs.Sights.{kept, not_in, is_tag, left, seen_kind, Sight}
 use Rattle.laid_code.specs.Tests.{Choice}
 use Rattle.lowered_soundness.proofs.Choosing.{Right}

@@ -15,7 +15,7 @@ use Rattle.sound_code.specs.Ranges.{in_range}
 use Rattle.lowered_soundness.specs.Placed.{ParamsTyped}
 use Rattle.lowered_soundness.specs.Functions.{IsNumbered}
 use Rattle.lowered_soundness.specs.Built.{BuildsBlock}
-use Rattle.lowered_soundness.specs.Standing.{MapsStand}
+use Rattle.laid_code.specs.Standing.{MapsStand}
 
 -- a typed instance of which ownership and credits have a derivation, and whose constructors are of their types
 pub record IsDerived (c : PlainCode) (wd : W.World) (w : R.World) (d : Instance) : Type 0 where

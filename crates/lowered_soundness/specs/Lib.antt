@@ -13,4 +13,3 @@ pub mod Functions
 pub mod Origins
 pub mod Accepted
 pub mod Built
-pub mod Standing

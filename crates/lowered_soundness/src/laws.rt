@@ -17,7 +17,7 @@ ghost use Rattle.lowered_soundness.specs.Laid.{Shares};
 ghost use Rattle.lowered_soundness.specs.Origins.{HasOrigin};
 ghost use Rattle.lowered_soundness.specs.Parts.{IsKept};
 ghost use Rattle.lowered_soundness.specs.Placed.{Callees, ParamsTyped};
-ghost use Rattle.lowered_soundness.specs.Standing.{MapsStand};
+ghost use Rattle.laid_code.specs.Standing.{MapsStand};
 ghost use Rattle.lowered_soundness.specs.Whole.{KeepsRules};
 ghost use Rattle.own_agreement.specs.Bodies.{body_term, borrowed_parameters, owned_parameters};
 ghost use Rattle.own_calculus.specs.Functions.{Derived};

@@ -5,11 +5,13 @@ ghost use Rattle.fip_base.specs.CoreView as core_view;
 ghost use Rattle.fip_trees.specs.SoundProgram.{IsSoundProgram};
 ghost use Rattle.fip_trees.specs.TreeView as V;
 ghost use Rattle.cell_lower.specs.Shape.{header, headers};
+ghost use Rattle.cell_lower.specs.LaidProgram.{IsAsked, IsLaidOut};
 ghost use Rattle.cell_lower.specs.Lowered.{all_instrs};
 ghost use Rattle.cell_lower.specs.Sizes.{AreSmall};
 ghost use Rattle.credit_check.specs.Tallies.{all_needs};
 ghost use Rattle.lowered_code.specs.Functions.{AreLowered};
 ghost use Rattle.lower_frame.specs.Spelled.{AreSpelt};
+ghost use Rattle.sound_code.specs.Codes.{plain};
 ghost use Rattle.tail_groups.specs.Members.{AreMembers};
 ghost use Rattle.source_report.specs.Report.{bare, IsParsed, IsFlat, IsMatched, IsAccepted, Says};
 ghost use Rattle.program_front.specs.Unmatched.{IsUnmatched};
@@ -56,6 +58,8 @@ pub fn front(alloc: Global, source: &[u8]) -> Result<Lowered, PhaseError>
     ensures lowered { IfOk result (λ l. AreLowered (V.program l.typed.program) (all_instrs l.code)) }
     ensures bounded { IfOk result (λ l. AreSmall (V.program l.typed.program) l.groups l.code.functions.items) }
     ensures spelt { IfOk result (λ l. AreSpelt l.code.functions.items) }
+    ensures laid { IfOk result (λ l. IsAsked (V.program l.typed.program) l.needs →
+        IsLaidOut (V.program l.typed.program) (plain l.code)) }
     ensures reported { IfErr result (λ e. Says source.now e) }
 {
     match typed_of(alloc, source) {
@@ -162,6 +166,9 @@ fn lowered_of(alloc: Global, typed: Typed) -> Result<Lowered, PhaseError>
     ensures bounded { (source : List ℕ) → IsMatched source (V.program typed.program) →
         IfOk result (λ l. AreSmall (V.program l.typed.program) l.groups l.code.functions.items) }
     ensures spelt { IfOk result (λ l. AreSpelt l.code.functions.items) }
+    ensures laid { (source : List ℕ) → IsMatched source (V.program typed.program) →
+        IfOk result (λ l. IsAsked (V.program l.typed.program) l.needs →
+        IsLaidOut (V.program l.typed.program) (plain l.code)) }
     ensures reported { (source : List ℕ) → IsMatched source (V.program typed.program) →
         IfErr result (λ e. Says source e) }
 {

@@ -12,7 +12,7 @@ use Rattle.command_outcome.specs.declared.failure.Failure.TheVariants as F
 use Rattle.source_report.specs.Report.{IsAccepted}
 use Rattle.source_commands.specs.Entries.{IsRootedIn}
 use Rattle.source_commands.specs.Roots.{root_named}
-use Rattle.source_commands.specs.Wanted.{Wanted, Root, MissesRoot, Has, IsReady, IsRefusedBy, KeepsFrom, of_entry}
+use Rattle.source_commands.specs.Wanted.{Wanted, Root, Compiled, MissesRoot, MissesCode, Has, IsReady, IsRefusedBy, KeepsFrom, of_entry}
 
 pub ready : {T : Type 0} (source : List ℕ) (w : Wanted) (p : Program) (o : Result T Failure) → IsAccepted source p → Has w p → OnOk o (IsReady source w)
 ready source w p (Ok t) h k = record { program = p; accepted = h; has = k }
@@ -31,3 +31,8 @@ pub root_missing : (source name : List ℕ) (p : Program) (f : Failure) → IsAc
 root_missing source name p (F.Refused r) h none e = inr (p, h, subst (λ o. MissesRoot o name r) (sym none) e)
 root_missing source name p F.NoMemory h none e = tt
 root_missing source name p f h none e = absurd e
+
+pub code_missing : (source name : List ℕ) (p : Program) (f : Failure) → IsAccepted source p → IsRefusedBy (MissesCode (root_named name p.instances) name) f → KeepsFrom source (Compiled name) f
+code_missing source name p (F.Refused r) h e = inr (p, h, e)
+code_missing source name p F.NoMemory h e = tt
+code_missing source name p f h e = absurd e

@@ -4,5 +4,6 @@ pub mod Roots
 pub mod Once
 pub mod CodeFiles
 pub mod Compiling
+pub mod Rooted
 pub mod Deriving
 pub mod Entries

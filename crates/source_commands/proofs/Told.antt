@@ -1,7 +1,10 @@
 -- What a phase says is what its failure tells.
-use Rattle.std.proofs.Common.{ℕ, List, inl}
+use Rattle.std.proofs.Common.{◌≡◌, ℕ, List, inl, refl, sym, subst}
 use Rattle.std.specs.Prelude.{Result, Ok, Err, IfErr}
-use Rattle.source_commands.specs.Wanted.{Wanted, IsReady, IsRefusedBy, IsReport, IsUnsound, KeepsFrom, KeepsFromVerified}
+use Rattle.sound_code.specs.Breaks.{IsSound}
+use Rattle.sound_code.specs.Codes.{PlainCode}
+use Rattle.source_commands.specs.Codes.{IsLeastOf}
+use Rattle.source_commands.specs.Wanted.{Wanted, IsRefusedBy, IsReport, KeepsFrom}
 use Rattle.command_outcome.specs.declared.failure.Failure.{Failure}
 use Rattle.command_outcome.specs.declared.failure.Failure.TheVariants as F
 
@@ -11,18 +14,13 @@ report_keeps source w (F.Refused r) h = inl h
 report_keeps source w F.NoMemory h = tt
 report_keeps source w failure h = absurd h
 
--- also where its code would be verified
-pub kept_verified : (source : List ℕ) (w : Wanted) (failure : Failure) → KeepsFrom source w failure → KeepsFromVerified source w failure
-kept_verified source w (F.Refused r) h = h
-kept_verified source w F.NoMemory h = tt
-kept_verified source w failure h = absurd h
+-- of sound code only want of memory can be told
+pub sound_wants : (c : PlainCode) (failure : Failure) → IsSound c → IsLeastOf c failure → ◌≡◌ {A = Failure} failure F.NoMemory
+sound_wants c (F.Unsound function at rule) sound h = absurd (sound function at rule h.breaks)
+sound_wants c F.NoMemory sound h = refl
+sound_wants c failure sound h = absurd h
 
--- and so does code that isn't sound
-unsound_keeps : (source : List ℕ) (w : Wanted) (failure : Failure) → IsReady source w → IsUnsound failure → KeepsFromVerified source w failure
-unsound_keeps source w (F.Unsound function at rule) h k = h
-unsound_keeps source w F.NoMemory h k = tt
-unsound_keeps source w failure h k = absurd k
-
-pub unsound_kept : {T : Type 0} (source : List ℕ) (w : Wanted) (o : Result T Failure) → IsReady source w → IfErr o IsUnsound → IfErr o (KeepsFromVerified source w)
-unsound_kept source w (Ok t) h k = tt
-unsound_kept source w (Err f) h k = unsound_keeps source w f h k
+-- want of memory keeps a source from whatever is wanted
+pub wanting_keeps : {T : Type 0} (source : List ℕ) (w : Wanted) (o : Result T Failure) → IfErr o (λ f. f ≡ F.NoMemory) → IfErr o (KeepsFrom source w)
+wanting_keeps source w (Ok t) h = tt
+wanting_keeps source w (Err f) h = subst (KeepsFrom source w) (sym h) tt

@@ -28,7 +28,7 @@ use Rattle.sound_code.specs.Breaks.{IsSound}
 use Rattle.source_report.specs.Report.{bare, IsAccepted}
 use Rattle.source_commands.specs.Codes.{sound_view}
 use Rattle.source_commands.specs.Entries.{Chosen, IsNamed}
-use Rattle.source_commands.specs.Wanted.{Lawful, IsRefusedBy, KeepsFromVerified}
+use Rattle.source_commands.specs.Wanted.{Lawful, IsRefusedBy, KeepsFrom}
 use Rattle.command_outcome.specs.declared.failure.Failure.{Failure}
 
 -- what a function says beside its instructions and labels
@@ -88,5 +88,5 @@ IsUncompiled source = (code : PlainCode) × IsCodeOfSource source code × (file 
 
 -- What is said in place of such a file, or want of memory.
 abbrev pub KeepsFromCompile : List ℕ → Failure → Type 0
-KeepsFromCompile source failure = KeepsFromVerified source Lawful failure
+KeepsFromCompile source failure = KeepsFrom source Lawful failure
     ⊎ (IsUncompiled source × IsRefusedBy (λ r. r ≡ bare E61) failure)

@@ -79,20 +79,6 @@ IsRefusedBy Says (F.Refused r) = Says r
 IsRefusedBy Says F.NoMemory = Unit {0}
 IsRefusedBy Says failure = ⊥
 
--- The code isn't sound, or memory is wanting.
-abbrev pub IsUnsound : Failure → Type 0
-IsUnsound (F.Unsound function at rule) = Unit {0}
-IsUnsound F.NoMemory = Unit {0}
-IsUnsound failure = ⊥
-
 -- What is said in place of what is wanted, or want of memory.
 abbrev pub KeepsFrom : List ℕ → Wanted → Failure → Type 0
 KeepsFrom source w failure = IsRefusedBy (Refuses source w) failure
-
--- The same of what is wanted with its code verified. No clause says yet that the code of an accepted source is sound:
--- were it not so, it would be told as unsound.
-abbrev pub KeepsFromVerified : List ℕ → Wanted → Failure → Type 0
-KeepsFromVerified source w (F.Refused r) = Refuses source w r
-KeepsFromVerified source w (F.Unsound function at rule) = IsReady source w
-KeepsFromVerified source w F.NoMemory = Unit {0}
-KeepsFromVerified source w failure = ⊥

@@ -1,5 +1,5 @@
 // The function that is run or evaluated.
-ghost use Rattle.std.specs.Prelude.{◌≡◌, ◌<◌, ℕ, List, IfOk, IfErr, IfSome, OnOk, MatchOption, None, Some, false};
+ghost use Rattle.std.specs.Prelude.{◌≡◌, ◌<◌, ℕ, List, IfOk, IfErr, IfSome, OnOk, OnErr, MatchOption, None, Some, false};
 ghost use Rattle.std.specs.Prelude.{length};
 ghost use Rattle.std.specs.Prelude.{◌⊎◌, true, map, slice_get, bytes_eq, if◌then◌else◌};
 ghost use Rattle.fip_language.specs.declared.rule.Rule.TheVariants.{E70};
@@ -17,7 +17,7 @@ ghost use Rattle.source_commands.specs.Entries.{IsFunctionOf, IsNamed, IsRootedI
 ghost use Rattle.source_commands.specs.ProgramCode.{IsLoweredFrom, IsEntryOf};
 ghost use Rattle.source_commands.specs.Roots as R;
 ghost use Rattle.source_commands.specs.Wanted.{Root, Compiled, MissesRoot, MissesCode, IsRoot, IsCompiled, IsReady};
-ghost use Rattle.source_commands.specs.Wanted.{IsRefusedBy, IsUnsound, KeepsFrom, KeepsFromVerified, of_entry};
+ghost use Rattle.source_commands.specs.Wanted.{IsRefusedBy, KeepsFrom, of_entry};
 
 use crate::phases::{code_of, lawful, verified_front};
 use cell_code::Function;
@@ -210,12 +210,12 @@ fn ask_compiled(alloc: Global, instances: &[Instance], entry: &str) -> Result<()
     }
 }
 
-// The function of a root's name. That a code that was lowered has it is a test alone: else it is told as unsound, at
-// the function that would stand behind its last one.
+// The function of a root's name, which a code that was lowered has. Where a code hasn't, it is told as unsound, at the
+// function that would stand behind its last one.
 fn chosen(verified: Verified, entry: &str) -> Result<Ready, Failure>
     ensures same { IfOk result (λ r. r.checked.code ≡ verified.code) }
     ensures named { IfOk result (λ r. IsNamed entry.now r.checked.code.functions.items r.entry) }
-    ensures told { IfErr result IsUnsound }
+    ensures none { OnErr result (names_one entry.now (plain verified.code).functions ≡ false) }
     ensures stage { IfErr result IsOfSource }
 {
     match function_named(verified.code().functions.as_slice(), entry.as_bytes()) {
@@ -236,7 +236,8 @@ fn verified_entry(alloc: Global, lowered: Lowered, entry: &str) -> Result<Ready,
     ensures same { IfOk result (λ r. r.checked.code ≡ lowered.code) }
     ensures sound { IfOk result (λ r. IsSound (plain r.checked.code)) }
     ensures named { IfOk result (λ r. IsNamed entry.now r.checked.code.functions.items r.entry) }
-    ensures told { IfErr result IsUnsound }
+    ensures wanting { IsSound (plain lowered.code) → names_one entry.now (plain lowered.code).functions ≡ true →
+        IfErr result (λ f. f ≡ NoMemory) }
     ensures stage { IfErr result IsOfSource }
 {
     match verified_front(alloc, lowered) {
@@ -253,7 +254,8 @@ fn compiled(alloc: Global, lowered: Lowered, entry: &str) -> Result<Ready, Failu
         IsLoweredFrom (V.program lowered.typed.program) (plain_code lowered.code) →
         IfOk result (IsEntryOf source entry.now) }
     ensures kept { (source : List ℕ) → IsAccepted source (V.program lowered.typed.program) →
-        IfErr result (KeepsFromVerified source (Compiled entry.now)) }
+        IsLoweredFrom (V.program lowered.typed.program) (plain_code lowered.code) → IsSound (plain lowered.code) →
+        IfErr result (KeepsFrom source (Compiled entry.now)) }
     ensures stage { IfErr result IsOfSource }
 {
     match ask_compiled(alloc, lowered.typed.program.instances.as_slice(), entry) {
@@ -267,7 +269,7 @@ fn compiled(alloc: Global, lowered: Lowered, entry: &str) -> Result<Ready, Failu
 pub fn exec_entry(alloc: Global, source: &[u8], entry: &str) -> Result<Ready, Failure>
     ensures ready { OnOk result (IsReady source.now (Compiled entry.now)) }
     ensures code { IfOk result (IsEntryOf source.now entry.now) }
-    ensures kept { IfErr result (KeepsFromVerified source.now (Compiled entry.now)) }
+    ensures kept { IfErr result (KeepsFrom source.now (Compiled entry.now)) }
     ensures stage { IfErr result IsOfSource }
 {
     match lawful(alloc, source) {

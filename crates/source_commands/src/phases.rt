@@ -6,14 +6,14 @@ ghost use Rattle.sound_code.specs.Codes.{plain};
 ghost use Rattle.source_commands.specs.Codes.{IsSoundFile, IsLeastOf, KeepsFromCode};
 ghost use Rattle.source_commands.specs.ProgramCode.{IsLoweredFrom, HasFile};
 ghost use Rattle.command_outcome.specs.Stages.{IsOfSource};
+ghost use Rattle.command_outcome.specs.declared.failure.Failure.TheVariants.{NoMemory};
 ghost use Rattle.fip_trees.specs.TreeView as V;
 ghost use Rattle.credit_check.specs.Tallies.{all_needs};
 ghost use Rattle.lower_frame.specs.Spelled.{AreSpelt};
 ghost use Rattle.source_report.specs.Report.{bare, IsAccepted, IsMatched, Says};
-ghost use Rattle.source_commands.specs.Wanted.{Wanted, Lawful, IsReport, KeepsFrom, KeepsFromVerified};
+ghost use Rattle.source_commands.specs.Wanted.{Wanted, Lawful, IsReport, IsRefusedBy, KeepsFrom};
 ghost use Rattle.program_front.specs.Unmatched.{IsUnmatched};
 ghost use Rattle.source_commands.specs.Judged.{IsEarlyReport};
-ghost use Rattle.source_commands.specs.Wanted.{IsRefusedBy, IsUnsound};
 ghost use Rattle.tail_groups.specs.Members.{AreMembers};
 
 use crate::known::Front;
@@ -66,7 +66,7 @@ fn failure_of(source: &[u8], error: PhaseError) -> Failure
     }
 }
 
-/// What is known of a source that breaks no rule, its code as it was lowered; else the source's report
+/// What is known of a source that breaks no rule, its code as it was lowered, which is sound; else the source's report
 /// (`program_front::front`).
 pub(crate) fn lawful(alloc: Global, source: &[u8]) -> Result<Lowered, Failure>
     ensures accepted { IfOk result (λ l. IsAccepted source.now (V.program l.typed.program)) }
@@ -75,6 +75,7 @@ pub(crate) fn lawful(alloc: Global, source: &[u8]) -> Result<Lowered, Failure>
     ensures groups { IfOk result (λ l. AreMembers (V.program l.typed.program).instances l.groups) }
     ensures code { IfOk result (λ l. IsLoweredFrom (V.program l.typed.program) (plain_code l.code)) }
     ensures spelt { IfOk result (λ l. AreSpelt l.code.functions.items) }
+    ensures sound { IfOk result (λ l. IsSound (plain l.code)) }
     ensures kept { (w : Wanted) → IfErr result (KeepsFrom source.now w) }
     ensures stage { IfErr result IsOfSource }
 {
@@ -84,15 +85,15 @@ pub(crate) fn lawful(alloc: Global, source: &[u8]) -> Result<Lowered, Failure>
     }
 }
 
-/// What is known of a source that breaks no rule, its code verified; else the source's report. Of a code that was
-/// lowered, that it is sound is a test alone. A file spells it, which may be too long.
+/// What is known of a source that breaks no rule, its code verified; else the source's report. Code that was lowered is
+/// sound, so it is verified. A file spells it, which may be too long.
 pub fn front(alloc: Global, source: &[u8]) -> Result<Front, Failure>
     ensures accepted { IfOk result (λ f. IsAccepted source.now (V.program f.typed.program)) }
     ensures groups { IfOk result (λ f. AreMembers (V.program f.typed.program).instances f.groups) }
     ensures sound { IfOk result (λ f. IsSound (plain f.verified.code)) }
     ensures code { IfOk result (λ f. IsLoweredFrom (V.program f.typed.program) (plain_code f.verified.code)) }
     ensures filed { IfOk result (λ f. HasFile (plain_code f.verified.code)) }
-    ensures kept { IfErr result (KeepsFromVerified source.now Lawful) }
+    ensures kept { IfErr result (KeepsFrom source.now Lawful) }
     ensures stage { IfErr result IsOfSource }
 {
     match lawful(alloc, source) {
@@ -107,7 +108,7 @@ pub(crate) fn verified_front(alloc: Global, lowered: Lowered) -> Result<Front, F
     ensures groups { IfOk result (λ f. f.groups ≡ lowered.groups) }
     ensures code { IfOk result (λ f. f.verified.code ≡ lowered.code) }
     ensures sound { IfOk result (λ f. IsSound (plain f.verified.code)) }
-    ensures told { IfErr result IsUnsound }
+    ensures wanting { IsSound (plain lowered.code) → IfErr result (λ f. f ≡ NoMemory) }
     ensures stage { IfErr result IsOfSource }
 {
     let Lowered {
@@ -126,12 +127,11 @@ pub(crate) fn verified_front(alloc: Global, lowered: Lowered) -> Result<Front, F
     }
 }
 
-/// A code that is sound; else the least violation. Of a code that was lowered from a source it is a test alone.
+/// A code that is sound; else the least violation.
 pub(crate) fn verified_of(alloc: Global, code: Code) -> Result<Verified, Failure>
     ensures same { IfOk result (λ v. v.code ≡ code) }
     ensures sound { IfOk result (λ v. IsSound (plain code)) }
     ensures least { IfErr result (IsLeastOf (plain code)) }
-    ensures told { IfErr result IsUnsound }
     ensures stage { IfErr result IsOfSource }
 {
     match verify(alloc, code) {

@@ -24,16 +24,17 @@ use Rattle.type_check.specs.Faults.{fill_instance, filled}
 use Rattle.cell_lower.specs.Limits.{is_ruled, registers}
 use Rattle.cell_lower.specs.Shape.{Header, header_of, and_if, headers_from}
 use Rattle.source_report.specs.Report.{IsFlat, IsTyped}
-use Rattle.code_file.specs.Spelling.{is_function_name, function_name_text}
+use Rattle.code_file.specs.Spelling.{function_name_text}
 use Rattle.code_file.specs.CodeText.{fun_kind_text}
 use Rattle.lower_frame.specs.Spelled.{IsSpelt}
 use Rattle.spelt_code.proofs.Names.{NamedFunction}
+use Rattle.spelt_code.proofs.Tokens.{IsProperName}
 use Rattle.spelt_code.proofs.Texts.{function_name_spelt}
 use Rattle.spelt_code.proofs.Types.{parsed_names}
 
 -- an instance has the name of a function
 abbrev pub IsNamed : T.Instance → Type 0
-IsNamed d = (is_function_name d.name ≡ true) × (length d.name ≤ MOST_SOURCE_BYTES)
+IsNamed d = IsProperName d.name × (length d.name ≤ MOST_SOURCE_BYTES)
 
 module _ (core : Core) (ns : Numbers) (named : Every (NamedFunction MOST_SOURCE_BYTES) core.functions) where
   abbrev s : Source
@@ -66,7 +67,7 @@ flat_all_named source p h =
     subst (λ (q : Program). (d : T.Instance) → Among d q.instances → IsNamed d) (sym h.is)
     (all_named h.core h.numbers (parsed_names source h.core h.declared.parsed).1)
 
-typed_named : (source : List ℕ) (p : Program) → IsTyped source p → (d : T.Instance) → Among d p.instances → IsNamed d
+pub typed_named : (source : List ℕ) (p : Program) → IsTyped source p → (d : T.Instance) → Among d p.instances → IsNamed d
 typed_named source p h =
     subst (λ (q : Program). (d : T.Instance) → Among d q.instances → IsNamed d) (sym h.is)
     (filled_named h.untyped (flat_all_named source h.untyped h.flat))
@@ -88,7 +89,7 @@ entry_spelt false name h = no_name
 header_spelt : (n : ℕ) (d : T.Instance) → IsNamed d → IsSpelt (fun_kind_text d.kind) → IsHeaderSpelt (header_of n d)
 header_spelt n d named kind =
     let short = named.1 in
-    record { kind = kind; name = entry_spelt d.root d.name (function_name_spelt d.name named.0 (omega (arith, short))) }
+    record { kind = kind; name = entry_spelt d.root d.name (function_name_spelt d.name named.0.0 (omega (arith, short))) }
 
 one_spelt : (n : ℕ) (d : T.Instance) (hs : List Header) → IsNamed d → (k : FunKind) → d.kind ≡ k → Every IsHeaderSpelt hs → Every IsHeaderSpelt (and_if (is_ruled k) (header_of n d) hs)
 one_spelt n d hs named Fip e h = (header_spelt n d named (subst (λ k. IsSpelt (fun_kind_text k)) (sym e) refl), h)

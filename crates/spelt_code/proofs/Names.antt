@@ -11,8 +11,7 @@ use Rattle.fip_grammar.specs.declared.Sign.TheVariants as S
 use Rattle.fip_grammar.specs.Token.{Upper, Token, token}
 use Rattle.fip_grammar.specs.Grammar.{DataConstructor', FurtherConstructors, DataConstructors, Declaration', Spells}
 use Rattle.fip_grammar.specs.Limits.{IsSpelt}
-use Rattle.code_file.specs.Spelling.{is_function_name}
-use Rattle.spelt_code.proofs.Tokens.{AreProper, proper_tokens}
+use Rattle.spelt_code.proofs.Tokens.{IsProperName, AreProper, proper_tokens}
 use Rattle.spelt_code.proofs.Passing.{past, field_types_past, name_on, constructors_on, declaration_past}
 
 abbrev pub NamedConstructor : ℕ → DataConstructor → Type 0
@@ -22,11 +21,11 @@ abbrev pub NamedData : ℕ → Data → Type 0
 NamedData n d = Every (NamedConstructor n) d.constructors × (length d.constructors ≤ n)
 
 abbrev pub NamedFunction : ℕ → C.Function → Type 0
-NamedFunction n f = (is_function_name f.name ≡ true) × (length f.name ≤ n)
+NamedFunction n f = IsProperName f.name × (length f.name ≤ n)
 
 abbrev NamedDeclaration : ℕ → T.Declaration → Type 0
 NamedDeclaration n (T.DataDeclaration d) = NamedData n d
-NamedDeclaration n (T.FunctionDeclaration f) = (is_function_name f.name ≡ true) × (length f.name ≤ n)
+NamedDeclaration n (T.FunctionDeclaration f) = IsProperName f.name × (length f.name ≤ n)
 
 -- a constructor has a token
 shorter : (ts : List Token) (c : DataConstructor) (rest : List Token) → DataConstructor' ts c rest → suc (length rest) ≤ length ts

@@ -1,6 +1,6 @@
 -- The tokens that a source is cut into: no name is longer than the source, a lower-case name is a function's and an
 -- upper-case name a constructor's, and there are no more tokens than the source has bytes.
-use Rattle.std.proofs.Common.{◌≡◌, ◌≤◌, ◌+◌, ℕ, zero, suc, Bool, true, false, cond, ◌&&◌, ◌||◌, ◌==◌, codes, List, [], ◌∷◌, ◌++◌, length, take, Option, Some, None, refl, sym, ap, subst, arith}
+use Rattle.std.proofs.Common.{◌≡◌, ◌≤◌, ◌<◌, ◌+◌, ℕ, zero, suc, Bool, true, false, cond, ◌&&◌, ◌||◌, ◌==◌, codes, List, [], ◌∷◌, ◌++◌, length, take, Option, Some, None, refl, sym, ap, subst, arith}
 use Rattle.std.specs.Prelude.{not}
 use Rattle.std.specs.List.{list_all}
 use Rattle.std.specs.Str.{bytes_eq}
@@ -15,9 +15,13 @@ use Rattle.fip_grammar.specs.Token.{Word, Lower, Upper, Number, Operate, Mark, T
 use Rattle.fip_grammar.specs.Cut.{is_lower, is_upper, is_digit, is_name, keyword_or_name, single_sign, double_sign, sign_of, lower_word, word_of, IsFirst, Piece, Blank, Comment, Cut, behind, Pieces, tokens_of, first_place, IsCut}
 use Rattle.code_file.specs.Spelling.{is_keyword, is_function_name}
 
+-- a name of a function, which isn't empty
+abbrev pub IsProperName : List ℕ → Type 0
+IsProperName x = (is_function_name x ≡ true) × (0 < length x)
+
 -- names of at most n bytes, of functions and of constructors
 abbrev pub Proper : ℕ → Word → Type 0
-Proper n (Lower x) = (is_function_name x ≡ true) × (length x ≤ n)
+Proper n (Lower x) = IsProperName x × (length x ≤ n)
 Proper n (Upper x) = (is_upper_name x ≡ true) × (length x ≤ n)
 Proper n _ = Unit {0}
 
@@ -132,7 +136,7 @@ lower_name b bs l n k =
     (and_from (is_lower b) (are_name_bytes bs) l (name_bytes bs n)) (not_of (is_keyword (b ∷ bs)) k)
 
 proper_keyword : (b : ℕ) (bs : List ℕ) (names : Bool) → is_lower b ≡ true → list_all is_name bs ≡ names → ProperOption (suc (length bs)) (lower_word names (b ∷ bs))
-proper_keyword b bs true l e = proper_lower (suc (length bs)) (b ∷ bs) (λ k. (lower_name b bs l e k, omega arith))
+proper_keyword b bs true l e = proper_lower (suc (length bs)) (b ∷ bs) (λ k. ((lower_name b bs l e k, omega arith), omega arith))
 proper_keyword b bs false l e = holds_if (ProperOption (suc (length bs))) (bytes_eq (b ∷ bs) (codes "match!")) (Some (Mark S.MatchBang)) None tt tt
 
 proper_name : (b : ℕ) (bs : List ℕ) (names : Bool) → is_upper b ≡ true → list_all is_name bs ≡ names → ProperOption (suc (length bs)) (cond names (Some (Upper (b ∷ bs))) None)

@@ -6,6 +6,7 @@ use Rattle.cell_lower.specs.Limits.{is_ruled}
 use Rattle.cell_lower.specs.Writing.{setting}
 use Rattle.cell_lower.proofs.Headers.{registers-some}
 use Rattle.cell_lower.proofs.Smalls.{small_added}
+use Rattle.cell_lower.proofs.Standing.{laid_added}
 use Rattle.lower_frame.proofs.Spelt.{function_pushed}
 use Rattle.cell_lower.proofs.functions.add_function.Goals as goal
 
@@ -16,3 +17,6 @@ returns-in_ok-push-clause-small c =
 
 pub returns-in_ok-push-clause-spelt : goal.returns-in_ok-push-clause-spelt
 returns-in_ok-push-clause-spelt c = function_pushed c.args.functions.now.items c.push.new.self.items c.in_ok-function.function c.in_ok-push.ensures.items c.in_ok-function.ensures.spelt
+
+pub returns-in_ok-push-clause-laid : goal.returns-in_ok-push-clause-laid
+returns-in_ok-push-clause-laid c = laid_added (setting c.args.context.now) c.args.needs.now c.args.number (is_ruled c.args.instance.now.kind) (instance_of c.args.instance.now) c.args.functions.now.items c.push.new.self.items c.in_ok-function.function (sym c.is_ruled.ensures ∙ c.if-is_ruled.true) c.in_ok-push.ensures.items c.in_ok-function.ensures.laid

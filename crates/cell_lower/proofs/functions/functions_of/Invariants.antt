@@ -4,7 +4,9 @@ use Rattle.cell_lower.specs.Lowered.{function_instrs}
 use Rattle.cell_lower.specs.Shape.{header, headers, headers_from}
 use Rattle.cell_lower.specs.Writing.{setting}
 use Rattle.cell_lower.proofs.Programs.{FollowCodes}
-use Rattle.cell_lower.proofs.Smalls.{FollowSmall}
+use Rattle.cell_lower.specs.LaidProgram.{laid_at}
+use Rattle.cell_lower.specs.Small.{small_at}
+use Rattle.cell_lower.proofs.Instances.{FollowEach}
 use Rattle.lower_frame.specs.Spelled.{AreSpelt}
 use Rattle.cell_lower.proofs.functions.functions_of.Given as goal
 
@@ -12,7 +14,8 @@ abbrev pub invariant-loop-instance : goal.invariant-loop-instance
 invariant-loop-instance l = record {
   number : l.number ≡ l.instance-index;
   rest : map header l.functions.items ++ headers_from l.groups l.number (instances (drop l.instance-index l.instances)) ≡ headers l.groups (instances l.instances);
-  small : FollowSmall (setting l.context) l.groups (instances l.instances) (instances (drop l.instance-index l.instances)) l.number l.functions.items;
+  laid : FollowEach (laid_at (setting l.context) l.needs) (instances l.instances) (instances (drop l.instance-index l.instances)) l.number l.functions.items;
+  small : FollowEach (small_at (setting l.context) l.groups) (instances l.instances) (instances (drop l.instance-index l.instances)) l.number l.functions.items;
   codes : FollowCodes (setting l.context) (instances l.instances) (instances (drop l.instance-index l.instances)) (map function_instrs l.functions.items);
   spelt : AreSpelt l.functions.items;
 }

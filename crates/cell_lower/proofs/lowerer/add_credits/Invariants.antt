@@ -1,6 +1,10 @@
 use Rattle.std.proofs.Common.{◌≡◌, drop}
 use Rattle.lowered_code.specs.Functions.{with_credits}
+use Rattle.cell_lower.specs.LaidProgram.{IsInRoom}
 use Rattle.cell_lower.proofs.lowerer.add_credits.Given as goal
 
 abbrev pub invariant-loop-size : goal.invariant-loop-size
-invariant-loop-size l = with_credits l.frame (drop l.size-index l.sizes) ≡ with_credits l.initial.frame l.sizes
+invariant-loop-size l = record {
+  rest : with_credits l.frame (drop l.size-index l.sizes) ≡ with_credits l.initial.frame l.sizes;
+  room : IsInRoom l.initial.frame → IsInRoom l.frame;
+}

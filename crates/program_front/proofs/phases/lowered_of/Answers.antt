@@ -31,3 +31,7 @@ returns-in-Ok-lower-clause-lowered c = λ source matched.
 pub returns-in-Ok-lower-clause-bounded : goal.returns-in-Ok-lower-clause-bounded
 returns-in-Ok-lower-clause-bounded c = λ source matched.
     c.in-Ok-lower.ensures.bounded (typed_well_matched source (program c.args.typed.program) matched.typed)
+
+pub returns-in-Ok-lower-clause-laid : goal.returns-in-Ok-lower-clause-laid
+returns-in-Ok-lower-clause-laid c = λ source matched.
+    c.in-Ok-lower.ensures.laid (typed_well_matched source (program c.args.typed.program) matched.typed)

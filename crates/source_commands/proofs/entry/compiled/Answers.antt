@@ -1,9 +1,10 @@
 use Rattle.std.proofs.Common.{subst}
 use Rattle.fip_trees.specs.TreeView.{program, instances}
 use Rattle.source_commands.specs.Roots.{root_named}
-use Rattle.source_commands.specs.Wanted.{Compiled, IsCompiled}
-use Rattle.source_commands.proofs.Entries.{ready}
-use Rattle.source_commands.proofs.Told.{unsound_kept}
+use Rattle.source_commands.specs.Wanted.{Compiled, IsCompiled, IsRefusedBy, MissesCode}
+use Rattle.source_commands.proofs.Entries.{ready, code_missing}
+use Rattle.source_commands.proofs.Rooted.{root_has_function}
+use Rattle.source_commands.proofs.Told.{wanting_keeps}
 use Rattle.source_commands.proofs.Compiling.{entry_of}
 use Rattle.source_commands.proofs.entry.compiled.Goals as goal
 
@@ -11,7 +12,14 @@ pub returns-in-Ok-clause-ready : goal.returns-in-Ok-clause-ready
 returns-in-Ok-clause-ready c = λ source accepted. ready source (Compiled c.args.entry.now) (program c.args.lowered.typed.program) c.verified_entry.result accepted (subst (λ ds. IsCompiled (root_named c.args.entry.now (instances ds))) c.as_slice.ensures.value c.in-Ok.ensures.compiled)
 
 pub returns-in-Ok-clause-kept : goal.returns-in-Ok-clause-kept
-returns-in-Ok-clause-kept c = λ source accepted. unsound_kept source (Compiled c.args.entry.now) c.verified_entry.result (record { program = program c.args.lowered.typed.program; accepted = accepted; has = subst (λ ds. IsCompiled (root_named c.args.entry.now (instances ds))) c.as_slice.ensures.value c.in-Ok.ensures.compiled }) c.verified_entry.ensures.told
+returns-in-Ok-clause-kept c = λ source accepted lowered sound.
+    wanting_keeps source (Compiled c.args.entry.now) c.verified_entry.result (c.verified_entry.ensures.wanting sound
+    (root_has_function source c.args.entry.now (program c.args.lowered.typed.program) c.args.lowered.code accepted lowered (subst (λ ds. IsCompiled (root_named c.args.entry.now (instances ds))) c.as_slice.ensures.value c.in-Ok.ensures.compiled)))
 
 pub returns-in-Ok-clause-code : goal.returns-in-Ok-clause-code
 returns-in-Ok-clause-code c = λ source accepted lowered. entry_of source c.args.entry.now (program c.args.lowered.typed.program) c.args.lowered.code c.verified_entry.result accepted lowered c.verified_entry.ensures.same c.verified_entry.ensures.sound c.verified_entry.ensures.named
+
+pub returns-in-Err-clause-kept : goal.returns-in-Err-clause-kept
+returns-in-Err-clause-kept c = λ source accepted lowered sound.
+    code_missing source c.args.entry.now (program c.args.lowered.typed.program) c.in-Err.failure accepted
+    (subst (λ ds. IsRefusedBy (MissesCode (root_named c.args.entry.now (instances ds)) c.args.entry.now) c.in-Err.failure) c.as_slice.ensures.value c.in-Err.ensures.missed)

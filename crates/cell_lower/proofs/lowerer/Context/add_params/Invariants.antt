@@ -1,5 +1,6 @@
 use Rattle.std.proofs.Common.{◌≡◌, drop}
 use Rattle.lowered_code.specs.Functions.{with_params}
+use Rattle.cell_lower.specs.LaidProgram.{IsInRoom}
 use Rattle.cell_lower.specs.Writing.{setting}
 use Rattle.cell_lower.proofs.lowerer.Context.add_params.Given as goal
 
@@ -7,4 +8,5 @@ abbrev pub invariant-loop-param : goal.invariant-loop-param
 invariant-loop-param l = record {
   place : l.place ≡ l.param-index;
   rest : with_params (setting l.self) l.frame (drop l.place l.params) (drop l.place l.binders) ≡ with_params (setting l.self) l.initial.frame l.params l.binders;
+  room : IsInRoom l.initial.frame → IsInRoom l.frame;
 }

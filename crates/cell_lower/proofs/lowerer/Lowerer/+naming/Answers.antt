@@ -30,4 +30,6 @@ read_fields-loop-part-preserved t c = record {
       (subst (λ z. AtSpot (naming_part (S.register (spot_of c.args.spot.now)) z (pattern c.part-item.result)) (S.fields (spot_of c.args.spot.now)) c.loop-part.place (reading_of c.loop-part.self.buffer c.loop-part.read.items) (reading_of c.read_field.new.self.buffer c.read_field.new.read.items)) c.loop-part.invariant.place c.in_ok-read_field.ensures.reads) ∙ c.loop-part.invariant.reads;
   frame = c.in_ok-read_field.ensures.frame ∙ c.loop-part.invariant.frame;
   context = c.in_ok-read_field.ensures.context ∙ c.loop-part.invariant.context;
+  gives_up = c.in_ok-read_field.ensures.gives_up ∙ c.loop-part.invariant.gives_up;
+  walk = c.in_ok-read_field.ensures.walk ∙ c.loop-part.invariant.walk;
 }

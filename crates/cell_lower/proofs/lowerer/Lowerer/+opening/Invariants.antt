@@ -11,4 +11,6 @@ invariant-open_all-loop-part l = record {
   opens : entering_all (setting l.initial.self.context.now) l.takes l.root (patterns (drop l.part-index l.patterns)) (past l.part-index (spots_of l.fields)) l.self.frame ≡ entering_all (setting l.initial.self.context.now) l.takes l.root (patterns l.patterns) (spots_of l.fields) l.initial.self.frame;
   buffer : l.self.buffer ≡ l.initial.self.buffer;
   context : l.self.context ≡ l.initial.self.context;
+  gives_up : l.self.gives_up ≡ l.initial.self.gives_up;
+  walk : l.self.walk ≡ l.initial.self.walk;
 }

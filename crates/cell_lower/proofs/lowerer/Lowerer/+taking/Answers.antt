@@ -9,6 +9,8 @@ take_all-loop-part-preserved t c = record {
   takes = taken_next c.args.patterns.now (spots_of c.args.fields.now) c.loop-part.part-index c.loop-part.place (c.loop-part.part-index + 1) c.part-item.result c.loop-part.self.buffer c.take_part.new.self.buffer c.loop-part.invariant.place (omega arith) (item c.args.patterns.now c.loop-part.part-index c.part-item.result c.loop-part-test.true c.part-item.is) c.in_ok-take_part.ensures.takes ∙ c.loop-part.invariant.takes;
   frame = c.in_ok-take_part.ensures.frame ∙ c.loop-part.invariant.frame;
   context = c.in_ok-take_part.ensures.context ∙ c.loop-part.invariant.context;
+  gives_up = c.in_ok-take_part.ensures.gives_up ∙ c.loop-part.invariant.gives_up;
+  walk = c.in_ok-take_part.ensures.walk ∙ c.loop-part.invariant.walk;
 }
 
 pub take_part-returns-clause-takes : goal.take_part-returns-clause-takes

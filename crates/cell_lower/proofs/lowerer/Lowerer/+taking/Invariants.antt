@@ -10,4 +10,6 @@ invariant-take_all-loop-part l = record {
   takes : taking_all (patterns (drop l.part-index l.patterns)) (past l.part-index (spots_of l.fields)) l.self.buffer ≡ taking_all (patterns l.patterns) (spots_of l.fields) l.initial.self.buffer;
   frame : l.self.frame ≡ l.initial.self.frame;
   context : l.self.context ≡ l.initial.self.context;
+  gives_up : l.self.gives_up ≡ l.initial.self.gives_up;
+  walk : l.self.walk ≡ l.initial.self.walk;
 }

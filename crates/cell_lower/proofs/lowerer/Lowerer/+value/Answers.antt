@@ -24,6 +24,7 @@ value-returns-in_ok-register-in-Constructor-clause-computes t c =
 pub values-loop-argument-preserved : goal.values-loop-argument-preserved
 values-loop-argument-preserved t c = record {
   context = c.in_ok-value.ensures.context ∙ c.loop-argument.invariant.context;
+  walk = c.in_ok-value.ensures.walk ∙ c.loop-argument.invariant.walk;
   gives_up = c.in_ok-value.ensures.gives_up ∙ c.loop-argument.invariant.gives_up;
   rest = follow_to (setting c.args.self.now.context.now) c.args.self.now.frame c.args.self.now.buffer (arguments c.args.arguments.now) c.loop-argument.self.frame c.loop-argument.self.buffer c.args.arguments.now c.loop-argument.argument-index (c.loop-argument.argument-index + 1) c.argument-item.result c.loop-argument.registers.items c.push.new.self.items c.in_ok-value.field-0 c.value.new.self.frame c.value.new.self.buffer (omega arith) (item c.args.arguments.now c.loop-argument.argument-index c.argument-item.result c.loop-argument-test.true c.argument-item.is) c.loop-argument.invariant.rest
       (subst (λ (x : Bor Context). Computes (setting x.now) c.loop-argument.self.frame c.loop-argument.self.buffer (argument c.argument-item.result) c.in_ok-value.field-0 c.value.new.self.frame c.value.new.self.buffer) c.loop-argument.invariant.context c.in_ok-value.ensures.computes) c.in_ok-push.ensures.items;

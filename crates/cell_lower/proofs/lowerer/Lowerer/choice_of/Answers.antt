@@ -7,6 +7,7 @@ use Rattle.cell_lower.specs.Clauses.{AddsPattern}
 use Rattle.cell_lower.proofs.Folding.{item}
 use Rattle.lower_frame.proofs.Growing.{reached_on, room_on}
 use Rattle.cell_lower.proofs.Beginning.{positions_new, positions_on, patterns_next, labels_first, labels_next}
+use Rattle.cell_lower.proofs.Matched.{entries_first, entries_next}
 use Rattle.cell_lower.proofs.lowerer.Lowerer.choice_of.Goals as goal
 
 pub loop-clause-init : goal.loop-clause-init
@@ -19,8 +20,13 @@ loop-clause-init c =
       extends = c.in_ok-add_pattern.ensures.extends;
       room = c.in_ok-add_pattern.ensures.room;
       as_long = c.in_ok-add_pattern.ensures.as_long;
+      entries = entries_first c.new-choice.result c.add_pattern.new.choice (clause c.args.written.now.first.now).pattern c.args.self.now.frame.next c.add_pattern.new.self.frame.next adds c.in_ok-add_pattern.ensures.entries c.new-choice.ensures.entries c.new-choice.ensures.patterns;
+      takes = c.in_ok-add_pattern.ensures.takes ∙ c.new-choice.ensures.takes ∙ c.takes_apart-takes.ensures.takes;
+      maps = c.in_ok-add_pattern.ensures.maps;
       labels = labels_first c.new-choice.result c.add_pattern.new.choice (clause c.args.written.now.first.now).pattern c.args.self.now.frame.next c.add_pattern.new.self.frame.next c.args.self.now.buffer c.add_pattern.new.self.buffer c.new-choice.ensures.patterns adds c.in_ok-add_pattern.ensures.one;
       context = c.in_ok-add_pattern.ensures.context;
+      gives_up = c.in_ok-add_pattern.ensures.gives_up;
+      walk = c.in_ok-add_pattern.ensures.walk;
     }
 
 pub loop-clause-preserved : goal.loop-clause-preserved
@@ -33,6 +39,11 @@ loop-clause-preserved c =
       extends = extends_on c.args.self.now.buffer c.loop-clause.self.buffer c.add_pattern-in-loop-clause.new.self.buffer c.loop-clause.invariant.extends c.in_ok-add_pattern-2.ensures.extends;
       room = room_on c.args.self.now.frame c.loop-clause.self.frame c.add_pattern-in-loop-clause.new.self.frame c.loop-clause.invariant.frame c.loop-clause.invariant.room c.in_ok-add_pattern-2.ensures.room;
       as_long = c.in_ok-add_pattern-2.ensures.as_long ∙ c.loop-clause.invariant.as_long;
+      entries = entries_next c.loop-clause.choice c.add_pattern-in-loop-clause.new.choice (clause c.clause-item.result).pattern c.loop-clause.self.frame.next c.add_pattern-in-loop-clause.new.self.frame.next adds c.in_ok-add_pattern-2.ensures.entries c.loop-clause.invariant.entries;
+      takes = c.in_ok-add_pattern-2.ensures.takes ∙ c.loop-clause.invariant.takes;
+      maps = c.in_ok-add_pattern-2.ensures.maps ∙ c.loop-clause.invariant.maps;
       labels = labels_next c.loop-clause.choice c.add_pattern-in-loop-clause.new.choice (clause c.clause-item.result).pattern c.loop-clause.self.frame.next c.add_pattern-in-loop-clause.new.self.frame.next c.args.self.now.buffer c.loop-clause.self.buffer c.add_pattern-in-loop-clause.new.self.buffer adds c.loop-clause.invariant.labels c.in_ok-add_pattern-2.ensures.one;
       context = c.in_ok-add_pattern-2.ensures.context ∙ c.loop-clause.invariant.context;
+      gives_up = c.in_ok-add_pattern-2.ensures.gives_up ∙ c.loop-clause.invariant.gives_up;
+      walk = c.in_ok-add_pattern-2.ensures.walk ∙ c.loop-clause.invariant.walk;
     }

@@ -1,4 +1,4 @@
-use Rattle.std.proofs.Common.{◌≡◌, drop, ◌+◌, ◌++◌, ◌∷◌, length}
+use Rattle.std.proofs.Common.{◌≡◌, drop, ◌+◌, ◌++◌, ◌∷◌, ◌&&◌, not, length}
 use Rattle.fip_trees.specs.TreeView as V
 use Rattle.match_code.specs.Written.{Extends, size}
 use Rattle.match_code.proofs.Choices.{patterns_in}
@@ -7,6 +7,8 @@ use Rattle.lower_frame.specs.Labels.{labels}
 use Rattle.lower_frame.specs.Positions.{reaching}
 use Rattle.cell_lower.specs.Scenes.{patterns_of}
 use Rattle.cell_lower.specs.Clauses.{HasPositions}
+use Rattle.lowered_code.specs.Values.{is_scalar}
+use Rattle.cell_lower.specs.Writing.{setting}
 use Rattle.cell_lower.proofs.lowerer.Lowerer.choice_of.Given as goal
 
 abbrev pub invariant-loop-clause : goal.invariant-loop-clause
@@ -17,6 +19,11 @@ invariant-loop-clause l = record {
   extends : Extends l.fn.self.buffer l.self.buffer;
   room : HasRoom l.fn.self.frame l.self.frame;
   as_long : size l.self.buffer ≡ size l.fn.self.buffer;
+  entries : length l.choice.entries.items ≡ length (patterns_of l.choice);
+  takes : l.choice.takes ≡ (l.written.destructive && not (is_scalar (setting l.fn.self.context.now) l.written.ty));
+  maps : l.self.buffer.maps ≡ l.fn.self.buffer.maps;
   labels : labels l.self.buffer ≡ labels l.fn.self.buffer + length (patterns_of l.choice);
   context : l.self.context ≡ l.fn.self.context;
+  gives_up : l.self.gives_up ≡ l.fn.self.gives_up;
+  walk : l.self.walk ≡ l.fn.self.walk;
 }

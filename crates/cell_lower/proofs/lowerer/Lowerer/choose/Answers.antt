@@ -15,6 +15,8 @@ loop-init c = record {
   laid = laid_start (setting c.args.self.now.context.now) c.args.self.now.frame.held c.args.choice.now c.args.clause c.args.self.now.buffer (sides_of c.args.sides.now.items);
   frame = refl;
   context = refl;
+  gives_up = refl;
+  walk = refl;
 }
 
 pub loop-preserved : goal.loop-preserved
@@ -26,6 +28,8 @@ loop-preserved c = record {
       (subst (λ (k : Known). ChoosesLaid (setting c.loop.self.context.now) k.held c.args.choice.now c.args.clause c.loop.self.buffer (sides_of c.loop.sides.items) c.choose_on.new.self.buffer (sides_of c.choose_on.new.sides.items) c.in_ok-choose_on.field-0) c.loop.invariant.frame c.in_ok-choose_on.ensures.laid));
   frame = c.in_ok-choose_on.ensures.frame ∙ c.loop.invariant.frame;
   context = c.in_ok-choose_on.ensures.context ∙ c.loop.invariant.context;
+  gives_up = c.in_ok-choose_on.ensures.gives_up ∙ c.loop.invariant.gives_up;
+  walk = c.in_ok-choose_on.ensures.walk ∙ c.loop.invariant.walk;
 }
 
 pub returns-then-branch-clause-chooses : goal.returns-then-branch-clause-chooses

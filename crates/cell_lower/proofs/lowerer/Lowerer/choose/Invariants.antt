@@ -11,4 +11,6 @@ invariant-loop l = record {
   laid : TurnsLaid (setting l.initial.self.context.now) l.initial.self.frame.held l.choice l.clause l.initial.self.buffer (sides_of l.initial.sides.items) l.self.buffer (sides_of l.sides.items);
   frame : l.self.frame ≡ l.initial.self.frame;
   context : l.self.context ≡ l.initial.self.context;
+  gives_up : l.self.gives_up ≡ l.initial.self.gives_up;
+  walk : l.self.walk ≡ l.initial.self.walk;
 }

@@ -1,7 +1,10 @@
 use Rattle.std.proofs.Common.{◌≡◌}
 use Rattle.match_code.specs.Losing.{Loses}
 use Rattle.match_code.specs.Written.{GivesUp}
+use Rattle.std.proofs.Common.{false}
 use Rattle.cell_lower.specs.Growth.{Sheds}
+use Rattle.cell_lower.specs.Laying.{GivesUpLaid}
+use Rattle.cell_lower.specs.Leaving.{DropsBut}
 use Rattle.cell_lower.proofs.lowerer.Lowerer.drop_but.Given as goal
 
 abbrev pub invariant-loop-register : goal.invariant-loop-register
@@ -10,4 +13,8 @@ invariant-loop-register l = record {
   loses : Loses l.initial.self.frame l.self.frame;
   sheds : Sheds l.initial.self.frame l.initial.self.buffer l.self.frame l.self.buffer;
   context : l.self.context ≡ l.initial.self.context;
+  gives_up : l.self.gives_up ≡ l.initial.self.gives_up;
+  walk : l.self.walk ≡ l.initial.self.walk;
+  laid : GivesUpLaid false l.initial.self.frame l.initial.self.buffer l.self.frame l.self.buffer;
+  drops : DropsBut l.entry l.used l.given l.register l.initial.self.frame l.self.frame;
 }

@@ -3,6 +3,7 @@ use Rattle.lowered_code.specs.Known.{Known}
 use Rattle.lower_frame.proofs.Accounts.{tree_gone}
 use Rattle.lower_frame.proofs.Losing.{loses_used}
 use Rattle.cell_lower.proofs.Laying.{laid_drop}
+use Rattle.cell_lower.proofs.Leaving.{drops_used}
 use Rattle.cell_lower.proofs.Shedding.{sheds_drop}
 use Rattle.cell_lower.proofs.lowerer.Lowerer.drop_tree.Goals as goal
 
@@ -17,3 +18,6 @@ returns-clause-laid c = laid_drop c.args.self.now.frame c.use_up.new.self c.args
 
 pub returns-clause-tree : goal.returns-clause-tree
 returns-clause-tree c = tree_gone c.args.self.now.frame.held c.use_up.new.self.held c.args.register (ap (λ (x : Known). x.held) c.use_up.ensures.used)
+
+pub returns-clause-drops : goal.returns-clause-drops
+returns-clause-drops c = drops_used c.args.self.now.frame c.use_up.new.self c.args.register c.use_up.ensures.used

@@ -13,6 +13,7 @@ loop-register-preserved c = record {
   sheds = sheds_on _ _ _ _ _ _ c.loop-register.invariant.sheds c.in_ok-end_one.ensures.sheds;
   context = c.in_ok-end_one.ensures.context ∙ c.loop-register.invariant.context;
   gives_up = c.in_ok-end_one.ensures.gives_up ∙ c.loop-register.invariant.gives_up;
+  walk = c.in_ok-end_one.ensures.walk ∙ c.loop-register.invariant.walk;
   laid = laid_on true _ _ _ _ _ _ c.loop-register.invariant.laid c.in_ok-end_one.ensures.laid;
   bares = bares_next c.loop-register.self.frame c.end_one.new.self.frame c.loop-register.register (c.loop-register.register + 1) (omega arith) c.in_ok-end_one.ensures.loses c.in_ok-end_one.ensures.bare c.loop-register.invariant.bares;
 }

@@ -14,6 +14,7 @@ invariant-loop-register l = record {
   sheds : Sheds l.initial.self.frame l.initial.self.buffer l.self.frame l.self.buffer;
   context : l.self.context ≡ l.initial.self.context;
   gives_up : l.self.gives_up ≡ l.initial.self.gives_up;
+  walk : l.self.walk ≡ l.initial.self.walk;
   laid : GivesUpLaid true l.initial.self.frame l.initial.self.buffer l.self.frame l.self.buffer;
   bares : NoBares l.register l.self.frame.held;
 }

@@ -21,4 +21,6 @@ loop-preserved c = record {
       (subst (λ (x : Bor Context). Advances x.now.program.now.types c.args.choice.now c.loop.self.buffer (known c.loop.known) c.loop.read.items (sides_of c.loop.sides.items) c.advance.new.self.buffer (known c.advance.new.known) c.advance.new.read.items (sides_of c.advance.new.sides.items) c.in_ok-clause.field-0) c.loop.invariant.context c.in_ok-clause.ensures.advances);
   frame = c.in_ok-clause.ensures.frame ∙ c.loop.invariant.frame;
   context = c.in_ok-clause.ensures.context ∙ c.loop.invariant.context;
+  gives_up = c.in_ok-clause.ensures.gives_up ∙ c.loop.invariant.gives_up;
+  walk = c.in_ok-clause.ensures.walk ∙ c.loop.invariant.walk;
 }

@@ -9,4 +9,6 @@ invariant-loop l = record {
   goes : Goes l.initial.self.context.now.program.now.types l.choice l.initial.self.buffer (known l.initial.known) l.initial.read.items (sides_of l.initial.sides.items) l.self.buffer (known l.known) l.read.items (sides_of l.sides.items);
   frame : l.self.frame ≡ l.initial.self.frame;
   context : l.self.context ≡ l.initial.self.context;
+  gives_up : l.self.gives_up ≡ l.initial.self.gives_up;
+  walk : l.self.walk ≡ l.initial.self.walk;
 }

@@ -13,6 +13,8 @@ invariant-loop-below l = record {
   loses : Loses l.initial.self.frame l.self.frame;
   sheds : Sheds l.initial.self.frame l.initial.self.buffer l.self.frame l.self.buffer;
   context : l.self.context ≡ l.initial.self.context;
+  gives_up : l.self.gives_up ≡ l.initial.self.gives_up;
+  walk : l.self.walk ≡ l.initial.self.walk;
   laid : GivesUpLaid false l.initial.self.frame l.initial.self.buffer l.self.frame l.self.buffer;
   spent : SpendsUp l.below l.initial.self.frame l.self.frame;
 }

@@ -1,9 +1,10 @@
-use Rattle.std.proofs.Common.{◌≡◌}
+use Rattle.std.proofs.Common.{◌≡◌, ◌⊎◌, ◌≤◌}
 use Rattle.match_code.specs.Losing.{Loses}
 use Rattle.match_code.specs.Written.{GivesUp}
 use Rattle.cell_lower.specs.Growth.{Sheds}
 use Rattle.lower_frame.specs.Credits.{sized}
 use Rattle.cell_lower.specs.Laying.{GivesUpLaid, SpendsPast}
+use Rattle.cell_lower.specs.Leaving.{FreesPast}
 use Rattle.std.proofs.Common.{false, ◌-◌}
 use Rattle.cell_lower.proofs.lowerer.Lowerer.free_past.Given as goal
 
@@ -13,6 +14,10 @@ invariant-loop-freed l = record {
   loses : Loses l.initial.self.frame l.self.frame;
   sheds : Sheds l.initial.self.frame l.initial.self.buffer l.self.frame l.self.buffer;
   context : l.self.context ≡ l.initial.self.context;
+  gives_up : l.self.gives_up ≡ l.initial.self.gives_up;
+  walk : l.self.walk ≡ l.initial.self.walk;
   laid : GivesUpLaid false l.initial.self.frame l.initial.self.buffer l.self.frame l.self.buffer;
   spent : SpendsPast l.size (sized l.size l.initial.self.frame.credits - (l._freed - l.kept)) l.initial.self.frame l.self.frame;
+  within : (l._freed ≡ l.kept) ⊎ (l._freed ≤ sized l.size l.initial.self.frame.credits);
+  frees : FreesPast l.size (sized l.size l.initial.self.frame.credits - (l._freed - l.kept)) l.initial.self.frame l.self.frame;
 }

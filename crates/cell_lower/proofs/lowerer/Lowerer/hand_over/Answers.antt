@@ -8,6 +8,7 @@ loop-param-preserved c = record {
   place = search rules;
   handed = handed_to c.loop-param.self.frame c.hand_one.new.self.frame c.args.params.now c.args.registers.now c.loop-param.param-index c.loop-param.place (c.loop-param.place + 1) _ c.loop-param.invariant.place (omega arith) (slice_get-get_or c.args.params.now c.loop-param.param-index _ c.loop-param-test.true) c.hand_one.ensures.handed ∙ c.loop-param.invariant.handed;
   context = c.hand_one.ensures.context ∙ c.loop-param.invariant.context;
+  walk = c.hand_one.ensures.walk ∙ c.loop-param.invariant.walk;
   gives_up = c.hand_one.ensures.gives_up ∙ c.loop-param.invariant.gives_up;
   buffer = c.hand_one.ensures.buffer ∙ c.loop-param.invariant.buffer;
 }

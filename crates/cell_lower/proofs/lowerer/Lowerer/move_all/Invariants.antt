@@ -7,4 +7,6 @@ invariant-loop-source l = record {
   place : l.place ≡ l.source-index;
   rest : FollowMoves l.initial.self.frame l.initial.self.buffer l.sources l.destinations l.self.frame l.self.buffer (drop l.place l.sources) (drop l.place l.destinations);
   context : l.self.context ≡ l.initial.self.context;
+  gives_up : l.self.gives_up ≡ l.initial.self.gives_up;
+  walk : l.self.walk ≡ l.initial.self.walk;
 }

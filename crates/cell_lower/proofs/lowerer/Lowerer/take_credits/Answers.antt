@@ -7,6 +7,7 @@ pub loop-size-preserved : goal.loop-size-preserved
 loop-size-preserved c = record {
   rest = takes_to c.args.self.now.frame c.args.sizes.now c.args.registers.now.items c.loop-size.self.frame c.take_one.new.self.frame c.args.sizes.now c.loop-size.registers.items c.take_one.new.registers.items c.loop-size.size-index (c.loop-size.size-index + 1) _ (omega arith) (slice_get-get_or c.args.sizes.now c.loop-size.size-index 0 c.loop-size-test.true) c.loop-size.invariant.rest c.in_ok-take_one.ensures.taken;
   context = c.in_ok-take_one.ensures.context ∙ c.loop-size.invariant.context;
+  walk = c.in_ok-take_one.ensures.walk ∙ c.loop-size.invariant.walk;
   gives_up = c.in_ok-take_one.ensures.gives_up ∙ c.loop-size.invariant.gives_up;
   buffer = c.in_ok-take_one.ensures.buffer ∙ c.loop-size.invariant.buffer;
 }

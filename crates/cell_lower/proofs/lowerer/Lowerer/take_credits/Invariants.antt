@@ -6,6 +6,7 @@ abbrev pub invariant-loop-size : goal.invariant-loop-size
 invariant-loop-size l = record {
   rest : FollowCredits l.initial.self.frame l.sizes l.initial.registers.items l.self.frame (drop l.size-index l.sizes) l.registers.items;
   context : l.self.context ≡ l.initial.self.context;
+  walk : l.self.walk ≡ l.initial.self.walk;
   gives_up : l.self.gives_up ≡ l.initial.self.gives_up;
   buffer : l.self.buffer ≡ l.initial.self.buffer;
 }

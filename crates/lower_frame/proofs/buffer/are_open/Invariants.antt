@@ -1,0 +1,6 @@
+use Rattle.std.proofs.Common.{◌≡◌, drop}
+use Rattle.laid_code.specs.Standing.{are_open}
+use Rattle.lower_frame.proofs.buffer.are_open.Given as goal
+
+abbrev pub invariant-loop-kind : goal.invariant-loop-kind
+invariant-loop-kind l = are_open (drop l.kind-index l.kinds) ≡ are_open l.kinds

@@ -15,7 +15,7 @@ use Rattle.tasks_command.specs.TasksAnswer.{TakesTurns}
 use Rattle.trace_command.specs.TraceAnswer.{Kept, Traces, Ended, Stored, TooLong as LongTrace, KeptOrNoMemory}
 use Rattle.fip_driver.specs.Unread.{IsTraceFile}
 use Rattle.command_line.specs.Words.{Room, Request, Command, Check, Compile, Exec, Trace, Tasks, Derive, Audit, Eval, Replay, Library, Gen, IsTextName}
-use Rattle.gen_command.specs.GenAnswer.{GeneratesOr}
+use Rattle.gen_command.specs.GenAnswer.{Generates}
 use Rattle.fip_commands.specs.Replayed.{IsReplayed, KeepsFromReplay}
 use Rattle.fip_library.specs.Texts.{IsText}
 use Rattle.command_outcome.specs.Successes.{derived_text}
@@ -29,13 +29,13 @@ use Rattle.source_commands.specs.Judged.{IsEarlyReport, IsBadProof, IsProofOf, I
 use Rattle.source_commands.specs.Derived.{IsDerivedFile, KeepsFromDerive}
 use Rattle.source_commands.specs.ProgramCode.{KeepsFromCompile}
 use Rattle.source_commands.specs.Roots.{IsListing}
-use Rattle.source_commands.specs.Wanted.{Wanted, Lawful, Root, Compiled, IsReady, IsRefusedBy, KeepsFrom, KeepsFromVerified, of_entry}
+use Rattle.source_commands.specs.Wanted.{Wanted, Lawful, Root, Compiled, IsReady, IsRefusedBy, KeepsFrom, of_entry}
 use Rattle.source_commands.proofs.Once.{listing_ready}
 use Rattle.source_commands.proofs.Compiling.{uncompiled_ready}
 use Rattle.source_commands.specs.declared.files.Compiled.{Compiled as compiled_file}
 use Rattle.fip_driver.specs.Answered.{IsTold}
 use Rattle.fip_driver.specs.Commands.{IsOther, ReadsInput, CallsNoFolder, fetched_name, wanted}
-use Rattle.fip_driver.specs.Ends.{End, SaysOf, Refused, Listed, LongInput, Evaluated, Executed, TookTurns, Derived, Underived, MakesCode, ComesOf, Unsound, Ready, MayEnd, TracesTo, IsTaken, IsBeside, Checks, Says, Missing, OnSource, OnAudit, OnTrace, OfLibrary, Comes, MayOnSource, MayOfGen, IsThere, IsVerdict, SaysOfAudit, Reported, NoProof, Judged, OfGen}
+use Rattle.fip_driver.specs.Ends.{End, SaysOf, Refused, Listed, LongInput, Evaluated, Executed, TookTurns, Derived, Underived, ComesOf, Ready, MayEnd, TracesTo, IsTaken, IsBeside, Checks, Says, Missing, OnSource, OnAudit, OnTrace, OfLibrary, Comes, MayOnSource, IsThere, IsVerdict, SaysOfAudit, Reported, NoProof, Judged, OfGen}
 use Rattle.fip_driver.specs.Fetched.{FetchFails, FileFails, StoreFails, JudgeFails, ReadFails}
 use Rattle.fip_driver.specs.Outcome.{end_of, compiled_end, IsFault, IsInputFault, ReadOutcome, InputOutcome, SourceOutcome, Closes, FileOutcome, AuditOutcome, CommandOutcome}
 use Rattle.fip_driver.specs.Spelling.{Spelling, source_spelling}
@@ -128,16 +128,6 @@ kept_ends c w source left fr ir f h = let i = any_told left [] in (i.0, i.1, by 
     by F.NoMemory input h = inl tt
     by failure input h = absurd h
 
--- the same of a command that makes code
-pub verified_ends : (c : Command) (w : Wanted) (source : List ℕ) (left : Option (List ℕ)) (fr ir : Type 0) (f : Failure) → MakesCode c → KeepsFromVerified source w f → SourceOutcome c w source left fr ir (Err f)
-verified_ends c w source left fr ir f makes h = let i = any_told left [] in (i.0, i.1, by f i.0 h)
-  where
-    by : (f : Failure) (input : List ℕ) → KeepsFromVerified source w f → IsFault c fr ir (Err f) ⊎ (SaysOf source input c w (Err f) ⊎ ComesOf source input c w (Err f))
-    by (F.Refused r) input h = inr (inl (Refused r h))
-    by (F.Unsound function at rule) input h = inr (inr (Unsound function at rule makes h))
-    by F.NoMemory input h = inl tt
-    by failure input h = absurd h
-
 -- `check`
 pub check_ends : (file source : List ℕ) (left : Option (List ℕ)) (fr ir : Type 0) (o : Result (Vec ℕ Global) Failure) → IfOk o (λ v. IsListing source v.items) → IfErr o (KeepsFrom source Lawful) → SourceOutcome (Check file) Lawful source left fr ir (end_of o)
 check_ends file source left fr ir (Ok v) h k = let i = any_told left [] in (i.0, i.1, inr (inl (Listed file v.items refl h)))
@@ -158,7 +148,7 @@ stored_ends c source left ir before mid now o calls never le ready ok err = let 
 
 -- `compile`
 pub compile_refused : (file out source : List ℕ) (left : Option (List ℕ)) (fr ir : Type 0) (f : Failure) → KeepsFromCompile source f → SourceOutcome (Compile file out) Lawful source left fr ir (Err f)
-compile_refused file out source left fr ir f (inl h) = verified_ends (Compile file out) Lawful source left fr ir f tt h
+compile_refused file out source left fr ir f (inl h) = kept_ends (Compile file out) Lawful source left fr ir f h
 compile_refused file out source left fr ir f (inr h) = let i = any_told left [] in (i.0, i.1, by f i.0 h.1)
   where
     ready : IsReady source Lawful
@@ -330,16 +320,15 @@ library_ends name files left fr ir o known ok err =
     by (Err f) ok (inl same) = inl (subst (λ x. IsFault (Library name) fr ir (Err x)) (sym same) tt)
     by (Err f) ok (inr none) = absurd (none.1 known)
 
-pub gen_ends : (seed count : ℕ) (files : Option (List File)) (left : Option (List ℕ)) (fr ir : Type 0) (o : Result (Vec ℕ Global) Failure) → GeneratesOr seed count o → FileOutcome (Gen seed count) files left fr ir (end_of o)
+pub gen_ends : (seed count : ℕ) (files : Option (List File)) (left : Option (List ℕ)) (fr ir : Type 0) (o : Result (Vec ℕ Global) Failure) → OrNoMemory (Generates seed count) o → FileOutcome (Gen seed count) files left fr ir (end_of o)
 gen_ends seed count files left fr ir o generates =
     let t = any_told files [] in
     let i = any_told left [] in
     (t.0, i.0, t.1, i.1, by o generates)
   where
-    by : (o : Result (Vec ℕ Global) Failure) → GeneratesOr seed count o → Closes source_spelling (any_told files []).0 (any_told left []).0 (Gen seed count) fr ir (end_of o)
+    by : (o : Result (Vec ℕ Global) Failure) → OrNoMemory (Generates seed count) o → Closes source_spelling (any_told files []).0 (any_told left []).0 (Gen seed count) fr ir (end_of o)
     by (Ok v) h = inr (inl (OfGen seed count (Ok v.items) refl h))
     by (Err F.NoMemory) h = inl tt
-    by (Err (F.Unsound function at rule)) h = inr (inr (MayOfGen seed count function at rule refl h))
     by (Err f) h = inr (inl (OfGen seed count (Err f) refl h))
 
 -- ---- other files

@@ -29,7 +29,7 @@ use Rattle.source_commands.specs.Codes.{names_one, HasFunction}
 use Rattle.eval_command.specs.EvalAnswer.{Evaluates}
 use Rattle.fip_commands.specs.Replayed.{IsReplayed}
 use Rattle.fip_library.specs.Texts.{IsText}
-use Rattle.gen_command.specs.GenAnswer.{tree_source, build, Generates}
+use Rattle.gen_command.specs.GenAnswer.{Generates}
 use Rattle.loaded_runs.specs.TraceReading.{IsBadTrace}
 use Rattle.run_command.specs.CodeRun.{RunsCode}
 use Rattle.run_command.specs.ExecAnswer.{Execs}
@@ -37,7 +37,7 @@ use Rattle.source_commands.specs.Derived.{IsDerivedFile, IsUnderived}
 use Rattle.source_commands.specs.Judged.{IsEarlyReport, IsProofOf, IsRejectedOf}
 use Rattle.source_commands.specs.ProgramCode.{IsUncompiled}
 use Rattle.source_commands.specs.Roots.{IsListing}
-use Rattle.source_commands.specs.Wanted.{Wanted, Compiled, Refuses, IsReady, of_entry}
+use Rattle.source_commands.specs.Wanted.{Wanted, Refuses, IsReady, of_entry}
 use Rattle.fip_driver.specs.Commands.{IsOther, ReadsInput, fetched_name, wanted}
 use Rattle.fip_driver.specs.Spelling.{Spelling, IsOutside}
 
@@ -95,20 +95,8 @@ MayEnd c source input e = ⊥
 abbrev pub IsTaken : Command → List ℕ → Type 0
 IsTaken c input = ReadsInput c → length input ≤ MOST_FILE_BYTES
 
--- those that make the code of a source, and verify it
-abbrev pub MakesCode : Command → Type 0
-MakesCode (Compile file out) = Unit {0}
-MakesCode (Exec r) = Unit {0}
-MakesCode (Trace file entry out room) = Unit {0}
-MakesCode (Session file room) = Unit {0}
-MakesCode (Tasks file seed turns room) = Unit {0}
-MakesCode c = ⊥
-
--- The command may end so on this source, which has what is wanted. No clause says yet that the code of such a source is
--- sound: were it not so, it would be told as unsound.
+-- The command may end so on this source, which has what is wanted.
 pub data ComesOf (source input : List ℕ) (c : Command) (w : Wanted) : End → Type 0 where
-  Unsound : (function at : ℕ) (rule : _) → MakesCode c → IsReady source w →
-      ComesOf source input c w (Err (F.Unsound function at rule))
   Ready : (e : End) → IsReady source w → IsTaken c input → MayEnd c source input e → ComesOf source input c w e
 
 -- ---- what is said of a code file
@@ -210,13 +198,10 @@ IsUnsaidOn (Tasks file seed turns room) = ⊥
 IsUnsaidOn (Derive file out) = ⊥
 IsUnsaidOn c = Unit {0}
 
--- The command may end so. It is never `check`, `eval`, `run`, `derive`, `audit` or `replay`, whose ends are all said;
--- nor `gen`, nor `exec` without the gauge or `tasks`, but where their code were told as unsound.
+-- The command may end so. It is `compile`, `exec` with the gauge, `trace` or `session`: the ends of all others are said.
 pub data Comes (spelling : Spelling) (files : List File) (input : List ℕ) (c : Command) : End → Type 0 where
   MayOnSource : (w : Wanted) (source : List ℕ) (e : End) → Checks spelling files c w source →
       ComesOf source input c w e → Comes spelling files input c e
-  MayOfGen : (seed count function at : ℕ) (rule : _) → c ≡ Gen seed count → IsReady tree_source (Compiled build) →
-      Comes spelling files input c (Err (F.Unsound function at rule))
 
 -- The answer isn't said: the source has what a command wants, which is none of `check`, `eval`, `derive`, `tasks` and
 -- `exec` without the gauge.

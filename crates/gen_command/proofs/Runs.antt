@@ -26,7 +26,7 @@ use Rattle.sound_code.specs.Codes.{PlainFunction, plain, plain_function, functio
 use Rattle.session_meaning.specs.Talk.{frames_of}
 use Rattle.source_commands.specs.Entries.{Chosen}
 use Rattle.source_commands.specs.ProgramCode.{IsEntryOf}
-use Rattle.source_commands.specs.Wanted.{Compiled, Refuses, IsReady, KeepsFromVerified}
+use Rattle.source_commands.specs.Wanted.{Compiled, Refuses, IsReady, KeepsFrom}
 use Rattle.value_text.specs.Loaded.{types_of}
 use Rattle.eval_command.specs.EvalAnswer.{Entry, Spells, OrNoMemory}
 use Rattle.eval_command.proofs.Once.{one_text}
@@ -42,7 +42,7 @@ use Rattle.run_command.proofs.Execs as X
 use Rattle.run_command.proofs.Entry as N
 use Rattle.run_command.proofs.Entry.{IsEntry}
 use Rattle.run_command.proofs.Ran as P
-use Rattle.gen_command.specs.GenAnswer.{tree_source, build, gen_room, Makes, LongInput, NoTree, Made, Refused, Ran as Done, GeneratesOr}
+use Rattle.gen_command.specs.GenAnswer.{tree_source, build, gen_room, Makes, LongInput, NoTree, Made, Refused, Ran as Done, Generates}
 use Rattle.gen_command.specs.MadeTree.{gen_input, lines_of_results}
 use Rattle.gen_command.proofs.Words.{printed_once}
 
@@ -165,14 +165,12 @@ module _ (source : List ℕ) (seed count : ℕ) (input : List ℕ) (is : input �
 -- ---- of the library's text
 
 module _ (seed count : ℕ) (text : List ℕ) (same : text ≡ tree_source) where
-  pub ran_text : (o : Result (Vec ℕ Global) Failure) → IsReady text (Compiled build) → OrNoMemory (Makes text seed count) o → GeneratesOr seed count o
+  pub ran_text : (o : Result (Vec ℕ Global) Failure) → IsReady text (Compiled build) → OrNoMemory (Makes text seed count) o → OrNoMemory (Generates seed count) o
   ran_text (Ok v) ready h = Done (Ok v.items) (subst (λ t. IsReady t (Compiled build)) same ready) (subst (λ t. Makes t seed count (Ok v.items)) same h)
   ran_text (Err F.NoMemory) ready h = tt
-  ran_text (Err (F.Unsound function at rule)) ready h = subst (λ t. IsReady t (Compiled build)) same ready
   ran_text (Err f) ready h = Done (Err f) (subst (λ t. IsReady t (Compiled build)) same ready) (subst (λ t. Makes t seed count (Err f)) same h)
 
-  pub kept_text : (f : Failure) → KeepsFromVerified text (Compiled build) f → GeneratesOr seed count (Err f)
+  pub kept_text : (f : Failure) → KeepsFrom text (Compiled build) f → OrNoMemory (Generates seed count) (Err f)
   kept_text (F.Refused r) h = Refused r (subst (λ t. Refuses t (Compiled build) r) same h)
-  kept_text (F.Unsound function at rule) h = subst (λ t. IsReady t (Compiled build)) same h
   kept_text F.NoMemory h = tt
   kept_text f h = absurd h

@@ -10,8 +10,6 @@
 -- `gen 1 3` makes a tree of 1103527590, 377401575 and 662824084, and prints `keys 3`, `nodes 3`, `least 377401575` and
 -- `greatest 1103527590`.
 use Rattle.std.specs.Prelude.{◌≡◌, ◌<◌, ◌≤◌, ℕ, false, List, length, codes, Result, Ok, Err}
-use Rattle.std.specs.declared.vec.Vec.{Vec}
-use Rattle.std.specs.declared.alloc.Global.{Global}
 use Rattle.fip_language.specs.Meaning.{Gives}
 use Rattle.fip_language.specs.Values.{Values}
 use Rattle.fip_language.specs.declared.limits.TheConstants.{MOST_FILE_BYTES, MOST_STORE_WORDS}
@@ -56,11 +54,3 @@ pub data Generates (seed count : ℕ) : Result (List ℕ) Failure → Type 0 whe
   Refused : (r : _) → Refuses tree_source (Compiled build) r → Generates seed count (Err (F.Refused r))
   Ran : (e : Result (List ℕ) Failure) → IsReady tree_source (Compiled build) → Makes tree_source seed count e →
       Generates seed count e
-
--- This is said of a result, whatever memory its bytes lie in; or memory is wanting. No clause says yet that the code of
--- a source that isn't refused is sound: were it not so, it would be told as unsound.
-abbrev pub GeneratesOr : ℕ → ℕ → Result (Vec ℕ Global) Failure → Type 0
-GeneratesOr seed count (Ok text) = Generates seed count (Ok text.items)
-GeneratesOr seed count (Err F.NoMemory) = Unit {0}
-GeneratesOr seed count (Err (F.Unsound function at rule)) = IsReady tree_source (Compiled build)
-GeneratesOr seed count (Err failure) = Generates seed count (Err failure)

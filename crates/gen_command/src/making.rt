@@ -8,7 +8,7 @@ ghost use Rattle.meant_runs.specs.Meant.{ArePrintable};
 ghost use Rattle.source_commands.specs.ProgramCode.{IsEntryOf};
 ghost use Rattle.source_commands.specs.Wanted.{Compiled, IsReady};
 ghost use Rattle.eval_command.specs.EvalAnswer.{OrNoMemory};
-ghost use Rattle.gen_command.specs.GenAnswer.{build, Makes, GeneratesOr};
+ghost use Rattle.gen_command.specs.GenAnswer.{build, Makes, Generates};
 ghost use Rattle.gen_command.specs.MadeTree.{keys_of_first, lines_of_keys, lines_of_results};
 ghost use Rattle.gen_command.specs.Reading.{ints};
 
@@ -97,7 +97,7 @@ fn make(alloc: Global, ready: &Ready, seed: u64, count: u64) -> Result<Vec<u8>, 
 /// the greatest key. It is what `build` of the library's text `rbtree` gives for these keys, a pad for each, and no
 /// node. What keeps the text from being run, or its run from a tree, is told as `exec` tells it.
 pub fn generate(alloc: Global, seed: u64, count: u64) -> Result<Vec<u8>, Failure>
-    ensures generates { GeneratesOr seed count result }
+    ensures generates { OrNoMemory (Generates seed count) result }
     ensures stage { IfErr result (λ f. IsOfSource f ⊎ IsOfRun f) }
 {
     match text("rbtree") {

@@ -1,7 +1,6 @@
 -- The commands of which the program's clauses say just what the one relation on all commands says.
 --
--- `eval` is one, and `tasks`, though its clauses leave it open beside this that its code is told as unsound; `compile`
--- is none, since they say what it may come to.
+-- `eval` and `tasks` are such; `compile` is none, since they say what it may come to.
 use Rattle.command_line.specs.Words.{Command, Check, Verify, Upgrade, Run, Eval, Tasks, Audit, Replay, Library}
 
 abbrev pub IsWhole : Command → Type 0

@@ -5,7 +5,7 @@ use Rattle.fip_trees.specs.TreeView.{program}
 use Rattle.source_commands.specs.Wanted.{Lawful}
 use Rattle.fip_driver.specs.Ends.{IsSessionEnd}
 use Rattle.fip_driver.specs.Outcome.{end_of}
-use Rattle.fip_driver.proofs.SourceEnds.{input_ends, verified_ends, source_ends, fetch_ends}
+use Rattle.fip_driver.proofs.SourceEnds.{input_ends, kept_ends, source_ends, fetch_ends}
 use Rattle.fip_driver.proofs.Counted.{late_counted, source_counted, fetch_counted}
 use Rattle.fip_driver.proofs.sessions.session.Goals as goal
 
@@ -13,7 +13,7 @@ pub returns-in-Ok-front-clause-outcome : goal.returns-in-Ok-front-clause-outcome
 returns-in-Ok-front-clause-outcome g c = source_ends (W.Session c.args.file.now (room_of c.args.room)) Lawful c.args.file.now (g.F.Folder.files c.args.folder.now) (g.S.Source.left c.args.input.now) ⊥ _ _ _ c.in-Ok.source.items c.as_slice.result.now (end_of c.talk.result) (λ r. absurd r) (λ r. r) c.in-Ok.ensures.found refl refl tt c.as_slice.ensures.value (input_ends (W.Session c.args.file.now (room_of c.args.room)) Lawful c.as_slice.result.now (g.S.Source.left c.args.input.now) ⊥ _ (λ input. IsSessionEnd) (end_of c.talk.result) (record { program = program c.in-Ok-front.front.typed.program; accepted = c.in-Ok-front.ensures.accepted; has = tt }) tt (λ input d m. m) c.talk.ensures.outcome)
 
 pub returns-in-Ok-clause-outcome : goal.returns-in-Ok-clause-outcome
-returns-in-Ok-clause-outcome g c = source_ends (W.Session c.args.file.now (room_of c.args.room)) Lawful c.args.file.now (g.F.Folder.files c.args.folder.now) (g.S.Source.left c.args.input.now) ⊥ ⊥ _ _ c.in-Ok.source.items c.as_slice.result.now _ (λ r. absurd r) (λ r. absurd r) c.in-Ok.ensures.found refl refl tt c.as_slice.ensures.value (verified_ends (W.Session c.args.file.now (room_of c.args.room)) Lawful c.as_slice.result.now (g.S.Source.left c.args.input.now) ⊥ ⊥ c.in-Err-front.failure tt c.in-Err-front.ensures.kept)
+returns-in-Ok-clause-outcome g c = source_ends (W.Session c.args.file.now (room_of c.args.room)) Lawful c.args.file.now (g.F.Folder.files c.args.folder.now) (g.S.Source.left c.args.input.now) ⊥ ⊥ _ _ c.in-Ok.source.items c.as_slice.result.now _ (λ r. absurd r) (λ r. absurd r) c.in-Ok.ensures.found refl refl tt c.as_slice.ensures.value (kept_ends (W.Session c.args.file.now (room_of c.args.room)) Lawful c.as_slice.result.now (g.S.Source.left c.args.input.now) ⊥ ⊥ c.in-Err-front.failure c.in-Err-front.ensures.kept)
 
 pub returns-clause-outcome : goal.returns-clause-outcome
 returns-clause-outcome g c = fetch_ends (W.Session c.args.file.now (room_of c.args.room)) Lawful c.args.file.now (g.F.Folder.files c.args.folder.now) (g.S.Source.left c.args.input.now) _ _ _ c.in-Err.failure tt refl refl (λ r. r) c.in-Err.ensures.fails

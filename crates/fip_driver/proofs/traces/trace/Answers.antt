@@ -5,7 +5,7 @@ use Rattle.source_commands.specs.Wanted.{Compiled, IsReady}
 use Rattle.fip_driver.specs.Ends.{TracesTo}
 use Rattle.fip_driver.specs.Unread.{IsTraceFile}
 use Rattle.fip_driver.specs.Outcome.{end_of}
-use Rattle.fip_driver.proofs.SourceEnds.{trace_stored, input_ends, verified_ends, source_ends, fetch_ends}
+use Rattle.fip_driver.proofs.SourceEnds.{trace_stored, input_ends, kept_ends, source_ends, fetch_ends}
 use Rattle.fip_driver.proofs.Storing.{stored_kept, unstored}
 use Rattle.fip_driver.proofs.Unread.{late_after_input, stored_after_input}
 use Rattle.fip_driver.proofs.Counted.{stored_counted, late_failure_counted, source_counted, fetch_counted}
@@ -18,7 +18,7 @@ pub returns-in-Ok-exec_entry-clause-outcome : goal.returns-in-Ok-exec_entry-clau
 returns-in-Ok-exec_entry-clause-outcome g c = source_ends (W.Trace c.args.file.now c.args.entry.now c.args.out.now (room_of c.args.room)) (Compiled c.args.entry.now) c.args.file.now (g.F.Folder.files c.args.folder.now) (g.S.Source.left c.args.input.now) ⊥ _ _ _ c.in-Ok.source.items c.as_slice.result.now _ (λ r. absurd r) (λ r. r) c.in-Ok.ensures.found refl refl tt c.as_slice.ensures.value (input_ends (W.Trace c.args.file.now c.args.entry.now c.args.out.now (room_of c.args.room)) (Compiled c.args.entry.now) c.as_slice.result.now (g.S.Source.left c.args.input.now) ⊥ _ (λ input. TracesTo c.as_slice.result.now c.args.entry.now input (room_of c.args.room)) _ c.in-Ok-exec_entry.ensures.ready tt (λ input d m. m) (c.in-Err-traced.ensures.outcome c.as_slice.result.now c.args.entry.now c.in-Ok-exec_entry.ensures.ready c.in-Ok-exec_entry.ensures.code))
 
 pub returns-in-Ok-clause-outcome : goal.returns-in-Ok-clause-outcome
-returns-in-Ok-clause-outcome g c = source_ends (W.Trace c.args.file.now c.args.entry.now c.args.out.now (room_of c.args.room)) (Compiled c.args.entry.now) c.args.file.now (g.F.Folder.files c.args.folder.now) (g.S.Source.left c.args.input.now) ⊥ ⊥ _ _ c.in-Ok.source.items c.as_slice.result.now _ (λ r. absurd r) (λ r. absurd r) c.in-Ok.ensures.found refl refl tt c.as_slice.ensures.value (verified_ends (W.Trace c.args.file.now c.args.entry.now c.args.out.now (room_of c.args.room)) (Compiled c.args.entry.now) c.as_slice.result.now (g.S.Source.left c.args.input.now) ⊥ ⊥ c.in-Err-exec_entry.failure tt c.in-Err-exec_entry.ensures.kept)
+returns-in-Ok-clause-outcome g c = source_ends (W.Trace c.args.file.now c.args.entry.now c.args.out.now (room_of c.args.room)) (Compiled c.args.entry.now) c.args.file.now (g.F.Folder.files c.args.folder.now) (g.S.Source.left c.args.input.now) ⊥ ⊥ _ _ c.in-Ok.source.items c.as_slice.result.now _ (λ r. absurd r) (λ r. absurd r) c.in-Ok.ensures.found refl refl tt c.as_slice.ensures.value (kept_ends (W.Trace c.args.file.now c.args.entry.now c.args.out.now (room_of c.args.room)) (Compiled c.args.entry.now) c.as_slice.result.now (g.S.Source.left c.args.input.now) ⊥ ⊥ c.in-Err-exec_entry.failure c.in-Err-exec_entry.ensures.kept)
 
 pub returns-clause-outcome : goal.returns-clause-outcome
 returns-clause-outcome g c = fetch_ends (W.Trace c.args.file.now c.args.entry.now c.args.out.now (room_of c.args.room)) (Compiled c.args.entry.now) c.args.file.now (g.F.Folder.files c.args.folder.now) (g.S.Source.left c.args.input.now) _ _ _ c.in-Err.failure tt refl refl (λ r. r) c.in-Err.ensures.fails

@@ -9,7 +9,7 @@ use Rattle.command_outcome.specs.Successes.{tree_text}
 use Rattle.command_outcome.specs.declared.failure.Failure.TheVariants as F
 use Rattle.command_answers.specs.Exec.{TellsAll}
 use Rattle.command_answers.specs.Stored.{Weakens}
-use Rattle.gen_command.specs.MadeTree.{keys_line, pads_line, lines_of_tree}
+use Rattle.library_commands.specs.MadeTree.{keys_line, pads_line, lines_of_tree}
 use Rattle.command_answers.specs.Example.{three_items, reversing, four_lines, increasing, increased_lines, cons, nil}
 use Rattle.command_answers.specs.Example.{three_keys, weakened, weakened_in_vain, weakened_twice}
 

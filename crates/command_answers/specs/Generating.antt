@@ -17,8 +17,8 @@ use Rattle.fip_library.specs.declared.finger.TheConstants as finger
 use Rattle.command_outcome.specs.declared.failure.Failure.TheVariants as F
 use Rattle.source_commands.specs.Wanted.{Compiled, Refuses}
 use Rattle.eval_command.specs.EvalAnswer.{Spells}
-use Rattle.gen_command.specs.GenAnswer.{tree_source, build, gen_room}
-use Rattle.gen_command.specs.MadeTree.{gen_input, lines_of_results}
+use Rattle.library_commands.specs.GenAnswer.{tree_source, build, gen_room}
+use Rattle.library_commands.specs.MadeTree.{gen_input, lines_of_results}
 use Rattle.command_answers.specs.Outcomes.{Left, Outcome, printed, failed, ran}
 use Rattle.command_answers.specs.Exec.{Start, run_of, words_of, RunsOn, Execs}
 

@@ -31,7 +31,7 @@ ghost use Rattle.command_answers.specs.OfProgram.{IsCodeOf, IsLoaded};
 ghost use Rattle.command_answers.specs.GaugeText.{highest_of, lowest_of};
 ghost use Rattle.command_answers.specs.Exec.{TellsAll};
 ghost use Rattle.command_answers.specs.Stored.{Weakens};
-ghost use Rattle.gen_command.specs.MadeTree.{keys_line, pads_line, lines_of_tree};
+ghost use Rattle.library_commands.specs.MadeTree.{keys_line, pads_line, lines_of_tree};
 ghost use Rattle.command_answers.specs.Answer.{Answer, IsAnswer, ComesTo, OnSource, told};
 ghost use Rattle.command_answers.specs.Facts.{IsRunStatus, end_status, LeavesCells};
 ghost use Rattle.command_answers.specs.Example.{three_items, reversing, four_lines, increasing, increased_lines, cons};

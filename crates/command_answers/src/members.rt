@@ -40,8 +40,8 @@ ghost use Rattle.command_answers.specs.Exec.{Start, RunsOn, IsTraced, IsUntracea
 ghost use Rattle.command_answers.specs.CodeRun.{Chosen, RunOf, SpellsFor, TellsCode};
 ghost use Rattle.command_answers.specs.Stored.{IsMade, IsBadProof};
 ghost use Rattle.command_answers.specs.Lines.{IsSetting};
-ghost use Rattle.gen_command.specs.GenAnswer.{tree_source, gen_room};
-ghost use Rattle.gen_command.specs.MadeTree.{gen_input, lines_of_tree};
+ghost use Rattle.library_commands.specs.GenAnswer.{tree_source, gen_room};
+ghost use Rattle.library_commands.specs.MadeTree.{gen_input, lines_of_tree};
 ghost use Rattle.command_answers.specs.Asks.{ReadsInput, fetched_name, stored_name, wanted};
 ghost use Rattle.command_answers.specs.Answer.{IsAnswer, ComesTo, Does, IsTaken, told};
 

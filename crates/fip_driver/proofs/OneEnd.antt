@@ -3,9 +3,9 @@ use Rattle.std.proofs.Common.{◌≡◌, ◌∙◌, ℕ, true, false, true≢fal
 use Rattle.std.specs.Prelude.{Option, Some, None, Ok, Err}
 use Rattle.std.proofs.lemmas.Option.{none-some, same_Some}
 use Rattle.fip_base.specs.Files.{File, file_of}
-use Rattle.gen_command.specs.GenAnswer.{Generates}
-use Rattle.gen_command.proofs.Once.{generated_once}
-use Rattle.gen_command.proofs.Texts.{text_once}
+use Rattle.library_commands.specs.GenAnswer.{Generates}
+use Rattle.library_commands.proofs.Once.{generated_once}
+use Rattle.library_commands.proofs.Texts.{text_once}
 use Rattle.command_line.specs.Words.{Room, Request, Command, Check, Verify, Upgrade, Exec, Run, Tasks, Derive, Audit, Replay, Library, Gen, Eval}
 use Rattle.command_outcome.specs.declared.failure.Failure.TheVariants as F
 use Rattle.eval_command.specs.EvalAnswer.{Evaluates}

@@ -12,11 +12,11 @@ use Rattle.fip_base.specs.Files.{File, file_of, HoldsFile, HoldsLonger, IsMissin
 use Rattle.fip_trees.specs.Tree.{Program}
 use Rattle.loaded_runs.specs.TraceText.{trace_text}
 use Rattle.tasks_command.specs.TasksAnswer.{TakesTurns}
-use Rattle.trace_command.specs.TraceAnswer.{Kept, Traces, Ended, Stored, TooLong as LongTrace, KeptOrNoMemory}
+use Rattle.trace_commands.specs.TraceAnswer.{Kept, Traces, Ended, Stored, TooLong as LongTrace, KeptOrNoMemory}
 use Rattle.fip_driver.specs.Unread.{IsTraceFile}
 use Rattle.command_line.specs.Words.{Room, Request, Command, Check, Compile, Exec, Trace, Tasks, Derive, Audit, Eval, Replay, Library, Gen, IsTextName}
-use Rattle.gen_command.specs.GenAnswer.{Generates}
-use Rattle.fip_commands.specs.Replayed.{IsReplayed, KeepsFromReplay}
+use Rattle.library_commands.specs.GenAnswer.{Generates}
+use Rattle.trace_commands.specs.Replayed.{IsReplayed, KeepsFromReplay}
 use Rattle.fip_library.specs.Texts.{IsText}
 use Rattle.command_outcome.specs.Successes.{derived_text}
 use Rattle.command_outcome.specs.declared.failure.Failure.{Failure}

@@ -13,7 +13,7 @@ use Rattle.fip_language.specs.declared.limits.TheConstants.{MOST_SOURCE_BYTES, M
 use Rattle.fip_language.specs.declared.rule.Rule.TheVariants.{E61, E70, E74}
 use Rattle.fip_base.specs.Files.{File, file_of}
 use Rattle.tasks_command.specs.TasksAnswer.{TakesTurns}
-use Rattle.trace_command.specs.TraceAnswer.{Traces}
+use Rattle.trace_commands.specs.TraceAnswer.{Traces}
 use Rattle.command_line.specs.Words.{Room, Request, Command, Check, Compile, Verify, Upgrade, Exec, Run, Eval, Trace}
 use Rattle.command_line.specs.Words.{Session, Tasks, Derive, Audit, Replay, Library, Gen}
 use Rattle.command_outcome.specs.Failures.{failure_status, failure_text}
@@ -27,9 +27,9 @@ use Rattle.code_file.specs.Plain.{PlainCode}
 use Rattle.source_commands.specs.Codes.{sound_view, IsSoundFile, RefusesCode, IsCodeListing, IsUpgraded, IsUnspelt}
 use Rattle.source_commands.specs.Codes.{names_one, HasFunction}
 use Rattle.eval_command.specs.EvalAnswer.{Evaluates}
-use Rattle.fip_commands.specs.Replayed.{IsReplayed}
+use Rattle.trace_commands.specs.Replayed.{IsReplayed}
 use Rattle.fip_library.specs.Texts.{IsText}
-use Rattle.gen_command.specs.GenAnswer.{Generates}
+use Rattle.library_commands.specs.GenAnswer.{Generates}
 use Rattle.loaded_runs.specs.TraceReading.{IsBadTrace}
 use Rattle.run_command.specs.CodeRun.{RunsCode}
 use Rattle.run_command.specs.ExecAnswer.{Execs}

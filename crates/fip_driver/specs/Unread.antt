@@ -17,7 +17,7 @@ use Rattle.source_commands.specs.ProgramCode.{IsCompiledFile}
 use Rattle.source_commands.specs.Wanted.{Compiled, IsReady}
 use Rattle.loaded_runs.specs.TraceText as T
 use Rattle.loaded_runs.specs.TraceText.{trace_text}
-use Rattle.trace_command.specs.TraceAnswer.{IsTraceOf, IsLong}
+use Rattle.trace_commands.specs.TraceAnswer.{IsTraceOf, IsLong}
 use Rattle.fip_driver.specs.Answered.{IsTold}
 use Rattle.fip_driver.specs.Commands.{ReadsInput, CallsNoFolder}
 use Rattle.fip_driver.specs.Delivered.{Seen}

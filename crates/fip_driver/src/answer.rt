@@ -51,8 +51,8 @@ pub fn answer<F: Folder, S: Source>(
             calls,
             frames,
         } => eval(alloc, file, entry, *calls, *frames, folder, input),
-        Command::Library { name } => fip_commands::library(alloc, name),
-        Command::Gen { seed, count } => fip_commands::generate(alloc, *seed, *count),
+        Command::Library { name } => library_commands::library(alloc, name),
+        Command::Gen { seed, count } => library_commands::generate(alloc, *seed, *count),
         Command::Trace {
             file,
             entry,

@@ -14,7 +14,7 @@ use crate::fetched::{fetch_code, fetch_source, read_input};
 use crate::stored::store;
 use command_outcome::Failure;
 use fip_base::outside::{Folder, Source};
-use fip_commands::Evaluable;
+use source_commands::Evaluable;
 use std::alloc::Global;
 
 /// The lines of a source that breaks no rule.
@@ -26,7 +26,7 @@ pub fn check<F: Folder>(alloc: Global, file: &str, folder: &mut F) -> Result<Vec
     ensures files { F.files folder.new ≡ F.files folder.old }
 {
     match fetch_source(alloc, folder, file) {
-        Ok(bytes) => fip_commands::check(alloc, bytes.as_slice()),
+        Ok(bytes) => source_commands::check(alloc, bytes.as_slice()),
         Err(failure) => Err(failure),
     }
 }
@@ -46,7 +46,7 @@ pub fn compile<F: Folder>(
     ensures understood { IsBeforeSource result → ⊥ }
 {
     match fetch_source(alloc, folder, file) {
-        Ok(bytes) => match fip_commands::compile(alloc, bytes.as_slice()) {
+        Ok(bytes) => match source_commands::compile(alloc, bytes.as_slice()) {
             Ok(compiled) => store(folder, out, compiled),
             Err(failure) => Err(failure),
         },
@@ -63,7 +63,7 @@ pub fn verify<F: Folder>(alloc: Global, file: &str, folder: &mut F) -> Result<Ve
     ensures files { F.files folder.new ≡ F.files folder.old }
 {
     match fetch_code(folder, file) {
-        Ok(bytes) => fip_commands::verify_file(alloc, bytes.as_slice()),
+        Ok(bytes) => source_commands::verify_file(alloc, bytes.as_slice()),
         Err(failure) => Err(failure),
     }
 }
@@ -83,7 +83,7 @@ pub fn upgrade<F: Folder>(
     ensures understood { IsBeforeSource result → ⊥ }
 {
     match fetch_code(folder, file) {
-        Ok(bytes) => match fip_commands::upgrade(alloc, bytes.as_slice()) {
+        Ok(bytes) => match source_commands::upgrade(alloc, bytes.as_slice()) {
             Ok(compiled) => store(folder, out, compiled),
             Err(failure) => Err(failure),
         },
@@ -108,7 +108,7 @@ fn evaluate<S: Source>(
     ensures late { IsBeforeInput result → ⊥ }
 {
     match read_input(alloc, input) {
-        Ok(bytes) => fip_commands::evaluate(
+        Ok(bytes) => eval_command::evaluate(
             alloc,
             program,
             bytes.as_slice(),
@@ -140,7 +140,7 @@ pub fn eval<F: Folder, S: Source>(
     ensures files { F.files folder.new ≡ F.files folder.old }
 {
     match fetch_source(alloc, folder, file) {
-        Ok(source) => match fip_commands::eval_entry(alloc, source.as_slice(), entry) {
+        Ok(source) => match source_commands::eval_entry(alloc, source.as_slice(), entry) {
             Ok(program) => evaluate(alloc, program, calls, frames, input),
             Err(failure) => Err(failure),
         },

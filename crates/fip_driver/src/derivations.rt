@@ -32,7 +32,7 @@ pub fn derive<F: Folder>(
     ensures understood { IsBeforeSource result → ⊥ }
 {
     match fetch_source(alloc, folder, file) {
-        Ok(bytes) => match fip_commands::derive(alloc, bytes.as_slice()) {
+        Ok(bytes) => match source_commands::derive(alloc, bytes.as_slice()) {
             Ok(derived) => store(folder, out, derived),
             Err(failure) => Err(failure),
         },
@@ -58,7 +58,7 @@ fn judge<F: Folder>(
     ensures files { F.files folder.new ≡ F.files folder.old }
 {
     match fetch_proof(alloc, folder, proof) {
-        Ok(bytes) => fip_commands::audit(alloc, typed, bytes.as_slice()),
+        Ok(bytes) => source_commands::audit(alloc, typed, bytes.as_slice()),
         Err(failure) => Err(failure),
     }
 }
@@ -78,7 +78,7 @@ pub fn audit<F: Folder>(
     ensures files { F.files folder.new ≡ F.files folder.old }
 {
     match fetch_source(alloc, folder, file) {
-        Ok(source) => match fip_commands::typed_of(alloc, source.as_slice()) {
+        Ok(source) => match source_commands::typed_of(alloc, source.as_slice()) {
             Ok(typed) => judge(alloc, &typed, proof, folder),
             Err(failure) => Err(failure),
         },

@@ -22,8 +22,8 @@ use crate::run::run_loop;
 use command_line::{Room, RunRequest};
 use command_outcome::Failure;
 use fip_base::outside::{Folder, Source};
-use fip_commands::Ready;
 use loop_form::program::LoopProgram;
+use source_commands::Ready;
 use std::alloc::Global;
 
 // Reads the input and runs the entry's loop program.
@@ -73,7 +73,7 @@ fn run_ready<S: Source>(
     ensures late { IsBeforeInput result → ⊥ }
 {
     match read_input(alloc, input) {
-        Ok(bytes) => fip_commands::run(alloc, ready, bytes.as_slice(), room, gauge),
+        Ok(bytes) => run_command::run(alloc, ready, bytes.as_slice(), room, gauge),
         Err(failure) => Err(failure),
     }
 }
@@ -94,7 +94,7 @@ fn exec_whole<S: Source>(
     ensures understood { IsBeforeSource result → ⊥ }
     ensures unfaulted { IsFolderFault result → ⊥ }
 {
-    match fip_commands::exec_entry(alloc, source, request.entry) {
+    match source_commands::exec_entry(alloc, source, request.entry) {
         Ok(ready) => run_ready(alloc, ready, request.room, request.gauge, input),
         Err(failure) => Err(failure),
     }
@@ -146,7 +146,7 @@ pub fn run<F: Folder, S: Source>(
     ensures files { F.files folder.new ≡ F.files folder.old }
 {
     match fetch_code(folder, request.file) {
-        Ok(bytes) => match fip_commands::run_entry(alloc, bytes.as_slice(), request.entry) {
+        Ok(bytes) => match source_commands::run_entry(alloc, bytes.as_slice(), request.entry) {
             Ok(ready) => run_ready(alloc, ready, request.room, request.gauge, input),
             Err(failure) => Err(failure),
         },

@@ -12,8 +12,8 @@ use fip_base::all::{ReadError, read_all};
 use fip_base::outside::{FetchError, Folder, Source};
 use fip_base::plain::Detail;
 use fip_base::refusal::{Refusal, Rule};
-use fip_commands::bad_proof;
 use fip_language::limits::{MOST_FILE_BYTES, MOST_SOURCE_BYTES};
+use source_commands::bad_proof;
 use std::alloc::Global;
 
 /// The bytes of the source's file, at most 1,048,576. E05 where there are more; a fault of the folder where it failed

@@ -15,8 +15,28 @@ use crate::fetched::{fetch_source, read_input};
 use command_line::Room;
 use command_outcome::Failure;
 use fip_base::outside::{Folder, Source};
-use fip_commands::Front;
+use fip_base::plain::NoMemory;
+use fip_language::limits::{MOST_FRAMES, MOST_STORE_WORDS};
+use fip_session::session_reply;
+use source_commands::Front;
 use std::alloc::Global;
+
+// The room of the runs of a session, with a store of at most 16,777,216 words and at most 1,000,000 frames.
+fn runs_room(room: Room) -> fip_session::Room
+    ensures words { result.words ≤ MOST_STORE_WORDS }
+    ensures frames { result.frames ≤ MOST_FRAMES }
+{
+    fip_session::Room {
+        words: room.words.min(MOST_STORE_WORDS as u64) as usize,
+        calls: room.calls,
+        frames: room.frames.min(MOST_FRAMES as u64) as usize,
+    }
+}
+
+// The replies to the lines of an input, each ended by LF. Nothing but want of memory ends a session early.
+fn replies(alloc: Global, front: &Front, input: &[u8], room: Room) -> Result<Vec<u8>, NoMemory> {
+    session_reply(alloc, &front.typed, &front.verified, runs_room(room), input)
+}
 
 // Reads the input and answers its lines.
 fn talk<S: Source>(
@@ -31,7 +51,7 @@ fn talk<S: Source>(
     ensures late { IsBeforeInput result → ⊥ }
 {
     match read_input(alloc, input) {
-        Ok(bytes) => Ok(fip_commands::session(alloc, front, bytes.as_slice(), room)?),
+        Ok(bytes) => Ok(replies(alloc, front, bytes.as_slice(), room)?),
         Err(failure) => Err(failure),
     }
 }
@@ -54,7 +74,7 @@ pub fn session<F: Folder, S: Source>(
     ensures files { F.files folder.new ≡ F.files folder.old }
 {
     match fetch_source(alloc, folder, file) {
-        Ok(source) => match fip_commands::front(alloc, source.as_slice()) {
+        Ok(source) => match source_commands::front(alloc, source.as_slice()) {
             Ok(front) => talk(alloc, &front, room, input),
             Err(failure) => Err(failure),
         },
@@ -80,7 +100,7 @@ fn take_turns<S: Source>(
     ensures late { IsBeforeInput result → ⊥ }
 {
     match read_input(alloc, input) {
-        Ok(bytes) => fip_commands::tasks(alloc, front, bytes.as_slice(), seed, turns, room),
+        Ok(bytes) => tasks_command::tasks(alloc, front, bytes.as_slice(), seed, turns, room),
         Err(failure) => Err(failure),
     }
 }
@@ -107,7 +127,7 @@ pub fn tasks<F: Folder, S: Source>(
     ensures files { F.files folder.new ≡ F.files folder.old }
 {
     match fetch_source(alloc, folder, file) {
-        Ok(source) => match fip_commands::front(alloc, source.as_slice()) {
+        Ok(source) => match source_commands::front(alloc, source.as_slice()) {
             Ok(front) => take_turns(alloc, &front, seed, turns, room, input),
             Err(failure) => Err(failure),
         },

@@ -17,7 +17,7 @@ use crate::stored::store;
 use command_line::Room;
 use command_outcome::Failure;
 use fip_base::outside::{Folder, Source};
-use fip_commands::{Compiled, Ready};
+use source_commands::{Compiled, Ready};
 use std::alloc::Global;
 
 // Reads the input, runs the entry and keeps what it writes.
@@ -38,7 +38,7 @@ fn traced<S: Source>(
     ensures fails { IfErr result IsLateFailure }
 {
     match read_input(alloc, input) {
-        Ok(bytes) => fip_commands::trace(alloc, ready, bytes.as_slice(), room),
+        Ok(bytes) => trace_commands::trace(alloc, ready, bytes.as_slice(), room),
         Err(failure) => Err(failure),
     }
 }
@@ -68,7 +68,7 @@ pub fn trace<F: Folder, S: Source>(
     ensures understood { IsBeforeSource result → ⊥ }
 {
     match fetch_source(alloc, folder, file) {
-        Ok(source) => match fip_commands::exec_entry(alloc, source.as_slice(), entry) {
+        Ok(source) => match source_commands::exec_entry(alloc, source.as_slice(), entry) {
             Ok(ready) => match traced(alloc, ready, room, input) {
                 Ok(compiled) => store(folder, out, compiled),
                 Err(failure) => Err(failure),
@@ -93,7 +93,7 @@ pub fn replay<F: Folder>(
     ensures files { F.files folder.new ≡ F.files folder.old }
 {
     match fetch_trace(folder, name) {
-        Ok(bytes) => fip_commands::replay(alloc, bytes.as_slice(), step),
+        Ok(bytes) => trace_commands::replay(alloc, bytes.as_slice(), step),
         Err(failure) => Err(failure),
     }
 }

@@ -12,11 +12,11 @@ use Rattle.source_commands.specs.Wanted.{Compiled, IsCompiled, IsReady}
 use Rattle.source_commands.proofs.Once.{refused_once, refused_not_ready}
 use Rattle.eval_command.specs.EvalAnswer.{Spells}
 use Rattle.run_command.specs.ExecAnswer as R
-use Rattle.gen_command.specs.GenAnswer as M
-use Rattle.gen_command.specs.GenAnswer.{tree_source, build, gen_room}
-use Rattle.gen_command.specs.MadeTree.{gen_input, lines_of_results}
-use Rattle.gen_command.proofs.Once.{values_once}
-use Rattle.gen_command.proofs.Short.{input_short}
+use Rattle.library_commands.specs.GenAnswer as M
+use Rattle.library_commands.specs.GenAnswer.{tree_source, build, gen_room}
+use Rattle.library_commands.specs.MadeTree.{gen_input, lines_of_results}
+use Rattle.library_commands.proofs.Once.{values_once}
+use Rattle.library_commands.proofs.Short.{input_short}
 use Rattle.command_answers.specs.Answer.{ComesTo}
 use Rattle.command_answers.specs.Exec as X
 use Rattle.command_answers.specs.Generating as G

@@ -1,0 +1,12 @@
+// Tests at run time of parts of the program by their public calls: what no clause says, or examples from outside of what
+// one says. Those of the whole program are in `fip_tests`.
+#![tactic(auto)]
+
+#[cfg(test)]
+mod core_forms;
+#[cfg(test)]
+mod core_text;
+#[cfg(test)]
+mod parts;
+#[cfg(test)]
+mod sessions;

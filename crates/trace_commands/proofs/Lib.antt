@@ -1,0 +1,4 @@
+pub mod Plain
+pub mod Valued
+pub mod Kept
+pub mod Replaying

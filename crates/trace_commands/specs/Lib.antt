@@ -1,0 +1,2 @@
+pub mod TraceAnswer
+pub mod Replayed

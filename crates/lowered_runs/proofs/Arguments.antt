@@ -15,7 +15,7 @@ use Rattle.lowered_code.specs.Tidy.{Fixed, Tidy}
 use Rattle.lowered_code.specs.declared.held.Held.TheVariants as H
 use Rattle.lowered_code.specs.Known.{Known, register_of}
 use Rattle.lowered_code.specs.Values.{Setting, Stands, BuiltAt, ArgumentAt, ArgumentsAt}
-use Rattle.lowered_runs.proofs.Leads.{Coming, At, LeadsTo, and_on, does, next_is}
+use Rattle.lowered_runs.proofs.Leads.{Coming, At, LeadsTo, and_on, steps, next_is}
 use Rattle.lowered_code.proofs.Lists.{taken_other, same_some}
 use Rattle.lowered_runs.proofs.Statics.{Step, tidy_on, argument_step, arguments_step, argument_fixed, fixed_on}
 
@@ -52,7 +52,7 @@ more_inv (Some w) None vs e = absurd cc
 more_inv (Some w) (Some ws) vs e = (w, ws, refl, refl, cc)
 
 -- A function's code, as it stands in a whole code: instruction p of `is` is instruction p of function f.
-module _ (code : PlainCode) (f : ℕ) (is : List Instr) (has : (p : ℕ) (i : Instr) → slice_get is p ≡ Some i → instr_at code f p ≡ Some i) (waiting : List Frame) (free : ℕ) where
+module _ (code : PlainCode) (width : ℕ → ℕ) (f : ℕ) (is : List Instr) (has : (p : ℕ) (i : Instr) → slice_get is p ≡ Some i → instr_at code f p ≡ Some i) (waiting : List Frame) (free : ℕ) where
   -- its frame runs, at p and with these registers
   abbrev pub state : ℕ → Contents → State
   state p cs = record { running = record { function = f; at = p; contents = cs }; waiting = waiting; free = free }
@@ -61,19 +61,19 @@ module _ (code : PlainCode) (f : ℕ) (is : List Instr) (has : (p : ℕ) (i : In
   here p cs left = At (state p cs) left
 
   -- an instruction that only writes registers
-  pub goes_on : (p q : ℕ) (i : Instr) (cs ds : Contents) (left : ℕ) (c : Coming) → Stands is p i → q ≡ suc p → act code (state p cs) i ≡ Went (state (suc p) ds) → LeadsTo code (here q ds left) c → LeadsTo code (here p cs left) c
+  pub goes_on : (p q : ℕ) (i : Instr) (cs ds : Contents) (left : ℕ) (c : Coming) → Stands is p i → q ≡ suc p → act code (state p cs) i ≡ Went (state (suc p) ds) → LeadsTo code width (here q ds left) c → LeadsTo code width (here p cs left) c
   goes_on p q i cs ds left c h e a go =
-      and_on code (here p cs left) (here (suc p) ds left) c
-      (does code (state p cs) left (Went (state (suc p) ds)) (next_is code (state p cs) i (has p i h) ∙ a))
-      (subst (λ n. LeadsTo code (here n ds left) c) e go)
+      and_on code width (here p cs left) (here (suc p) ds left) c
+      (steps code width (state p cs) (state (suc p) ds) left refl (next_is code width (state p cs) i (has p i h) ∙ a))
+      (subst (λ n. LeadsTo code width (here n ds left) c) e go)
 
-  pub comes_there : (p q : ℕ) (cs : Contents) (left : ℕ) (c : Coming) → q ≡ p → LeadsTo code (here q cs left) c → LeadsTo code (here p cs left) c
-  comes_there p q cs left c e go = subst (λ n. LeadsTo code (here n cs left) c) e go
+  pub comes_there : (p q : ℕ) (cs : Contents) (left : ℕ) (c : Coming) → q ≡ p → LeadsTo code width (here q cs left) c → LeadsTo code width (here p cs left) c
+  comes_there p q cs left c e go = subst (λ n. LeadsTo code width (here n cs left) c) e go
 
   next_kept : (k : Known) (r : ℕ) (v : Value) (cs : Contents) → r ≡ k.next → Kept k cs (put cs r v)
   next_kept k r v cs e = record { by = λ q h. put_other cs r v q (λ same. let lt = h.used in absurd (omega (arith, e, same, lt))) }
 
-  pub built_runs : (setting : Setting) (at : ℕ) (k : Known) (t c : ℕ) (rs : List ℕ) (r end : ℕ) (l : Known) (env : Environment) (cs : Contents) (left : ℕ) (to : Coming) → BuiltAt setting is at k t c rs r end l → World k env cs → ((ds : Contents) → Kept k cs ds → ds r ≡ Node c (read_all cs rs) → LeadsTo code (here end ds left) to) → LeadsTo code (here at cs left) to
+  pub built_runs : (setting : Setting) (at : ℕ) (k : Known) (t c : ℕ) (rs : List ℕ) (r end : ℕ) (l : Known) (env : Environment) (cs : Contents) (left : ℕ) (to : Coming) → BuiltAt setting is at k t c rs r end l → World k env cs → ((ds : Contents) → Kept k cs ds → ds r ≡ Node c (read_all cs rs) → LeadsTo code width (here end ds left) to) → LeadsTo code width (here at cs left) to
   built_runs setting at k t c [] r end l env cs left to (inl h) w go =
       comes_there at end cs left to h.nothing (go cs (kept_same k cs) (w.bares r t c h.held))
   built_runs setting at k t c [] r end l env cs left to (inr h) w go =
@@ -91,7 +91,7 @@ module _ (code : PlainCode) (f : ℕ) (is : List Instr) (has : (p : ℕ) (i : In
   variable_is k (Some x) r env cs v w h e = w.agrees x r v h e
 
   mutual
-    pub argument_runs : (setting : Setting) (at : ℕ) (k : Known) (a : Argument) (r end : ℕ) (l : Known) (env : Environment) (cs : Contents) (left : ℕ) (v : Value) (to : Coming) → ArgumentAt setting is at k a r end l → World k env cs → argument_value env a ≡ Some v → ((ds : Contents) → Kept k cs ds → ds r ≡ v → LeadsTo code (here end ds left) to) → LeadsTo code (here at cs left) to
+    pub argument_runs : (setting : Setting) (at : ℕ) (k : Known) (a : Argument) (r end : ℕ) (l : Known) (env : Environment) (cs : Contents) (left : ℕ) (v : Value) (to : Coming) → ArgumentAt setting is at k a r end l → World k env cs → argument_value env a ≡ Some v → ((ds : Contents) → Kept k cs ds → ds r ≡ v → LeadsTo code width (here end ds left) to) → LeadsTo code width (here at cs left) to
     argument_runs setting at k (Variable x n p) r end l env cs left v to h w e go =
         comes_there at end cs left to h.nothing (go cs (kept_same k cs) (variable_is k x r env cs v w h.named e))
     argument_runs setting at k (Literal i p) r end l env cs left v to h w e go =
@@ -104,7 +104,7 @@ module _ (code : PlainCode) (f : ℕ) (is : List Instr) (has : (p : ℕ) (i : In
         (λ ds kept same. built_runs setting h.1 h.2 t c h.0 r end l env ds left to h.4 (world_on k h.2 env cs ds s kept w)
         (λ es kept2 is2. go es (kept_on k h.2 cs ds es s kept kept2) (is2 ∙ ap (Node c) same ∙ inv.2)))
 
-    pub arguments_runs : (setting : Setting) (at : ℕ) (k : Known) (as' : Arguments) (rs : List ℕ) (end : ℕ) (l : Known) (env : Environment) (cs : Contents) (left : ℕ) (vs : Values) (to : Coming) → ArgumentsAt setting is at k as' rs end l → World k env cs → argument_values env as' ≡ Some vs → ((ds : Contents) → Kept k cs ds → read_all ds rs ≡ vs → LeadsTo code (here end ds left) to) → LeadsTo code (here at cs left) to
+    pub arguments_runs : (setting : Setting) (at : ℕ) (k : Known) (as' : Arguments) (rs : List ℕ) (end : ℕ) (l : Known) (env : Environment) (cs : Contents) (left : ℕ) (vs : Values) (to : Coming) → ArgumentsAt setting is at k as' rs end l → World k env cs → argument_values env as' ≡ Some vs → ((ds : Contents) → Kept k cs ds → read_all ds rs ≡ vs → LeadsTo code width (here end ds left) to) → LeadsTo code width (here at cs left) to
     arguments_runs setting at k NoArguments [] end l env cs left vs to h w e go =
         comes_there at end cs left to h.0 (go cs (kept_same k cs) (same_some End vs e))
     arguments_runs setting at k NoArguments (r ∷ rs) end l env cs left vs to h w e go = absurd h

@@ -3,7 +3,7 @@ use Rattle.std.proofs.Common.{◌≡◌, ℕ, zero, suc, List, Bool, true, false
 use Rattle.std.specs.Prelude.{option_map, option_and_then, if◌then◌else◌}
 use Rattle.fip_language.specs.Values.{Value, Values}
 use Rattle.fip_language.specs.Matching.{Binding}
-use Rattle.fip_language.specs.Meaning.{Environment, nothing_bound, bind_matched, Run as Evaluation, if_matches}
+use Rattle.fip_language.specs.Meaning.{Environment, nothing_bound, bind_matched, Peak, Run as Evaluation, if_matches}
 use Rattle.cell_code.specs.declared.code.Instr.{Instr}
 use Rattle.cell_code.specs.declared.code.Instr.TheVariants as I
 use Rattle.code_runs.specs.Codes.{PlainCode, instr_at}
@@ -13,7 +13,7 @@ use Rattle.tree_runs.specs.Steps.{act, branch, peeked, is_node, is_int}
 use Rattle.lowered_code.specs.Tidy.{Fixed, Tidy}
 use Rattle.lowered_code.specs.Known.{Known}
 use Rattle.lowered_code.specs.Choosing.{Place, place, followed, after, Reaches, Entry, binders_of, Arrives, ArrivesIf, Opens, Meets}
-use Rattle.lowered_runs.proofs.Leads.{Coming, LeadsTo, and_on, stays, does, next_is, answer_coming}
+use Rattle.lowered_runs.proofs.Leads.{Coming, LeadsTo, and_on, stays, steps, next_is, run_coming}
 use Rattle.lowered_code.proofs.Lists.{same_some}
 use Rattle.lowered_runs.proofs.Arguments.{World, state, here}
 use Rattle.lowered_runs.proofs.Matching.{among_or_not, unmatched_same, matched_same}
@@ -38,16 +38,16 @@ world_met k l env more cs t m h w = record {
 }
 
 -- the first clause that matches, or the others
-pub case_runs : (code : PlainCode) (c : Coming) (is : List Instr) (p : Place) (k : Known) (e : Entry) (other : Type 0) (o : Option (List Binding)) (body : List Binding → Evaluation) (rest : Evaluation) (go : Values → ℕ → Coming) → ArrivesIf is p k o e other → ((bs : List Binding) → o ≡ Some bs → Arrives is p k bs e → LeadsTo code c (answer_coming (body bs).answer go)) → (o ≡ None → other → LeadsTo code c (answer_coming rest.answer go)) → LeadsTo code c (answer_coming (if_matches o body rest).answer go)
-case_runs code c is p k e other None body rest go a first others = others refl a
-case_runs code c is p k e other (Some bs) body rest go a first others = first bs refl a
+pub case_runs : (code : PlainCode) (width : ℕ → ℕ) (up : Peak → Peak) (c : Coming) (is : List Instr) (p : Place) (k : Known) (e : Entry) (other : Type 0) (o : Option (List Binding)) (body : List Binding → Evaluation) (rest : Evaluation) (go : Values → ℕ → Coming) → ArrivesIf is p k o e other → ((bs : List Binding) → o ≡ Some bs → Arrives is p k bs e → LeadsTo code width c (run_coming up (body bs) go)) → (o ≡ None → other → LeadsTo code width c (run_coming up rest go)) → LeadsTo code width c (run_coming up (if_matches o body rest) go)
+case_runs code width up c is p k e other None body rest go a first others = others refl a
+case_runs code width up c is p k e other (Some bs) body rest go a first others = first bs refl a
 
-module _ (code : PlainCode) (f : ℕ) (is : List Instr) (has : (p : ℕ) (i : Instr) → slice_get is p ≡ Some i → instr_at code f p ≡ Some i) (waiting : List Frame) (free : ℕ) where
+module _ (code : PlainCode) (width : ℕ → ℕ) (f : ℕ) (is : List Instr) (has : (p : ℕ) (i : Instr) → slice_get is p ≡ Some i → instr_at code f p ≡ Some i) (waiting : List Frame) (free : ℕ) where
   abbrev Standing : Place → Rattle.tree_runs.specs.States.State
-  Standing p = state code f is has waiting free p.at p.contents
+  Standing p = state code width f is has waiting free p.at p.contents
 
   abbrev Its : Place → ℕ → Coming
-  Its p left = here code f is has waiting free p.at p.contents left
+  Its p left = here code width f is has waiting free p.at p.contents left
 
   test_goes : (b : Bool) (p q : Place) (target : ℕ) → Some (place (if b then suc p.at else target) p.contents) ≡ Some q → branch (Standing p) target b ≡ Went (Standing q)
   test_goes true p q target e = ap (λ x. Went (Standing x)) (same_some (place (suc p.at) p.contents) q e)
@@ -75,22 +75,22 @@ module _ (code : PlainCode) (f : ℕ) (is : List Instr) (has : (p : ℕ) (i : In
   follows_one p q (Some (I.Ret ss)) e = absurd (cc)
   follows_one p q (Some (I.Jump target)) e = (I.Jump target, refl, ap (λ x. Went (Standing x)) (same_some _ q e))
 
-  goes_one : (p q : Place) (left : ℕ) → followed p (slice_get is p.at) ≡ Some q → LeadsTo code (Its p left) (Its q left)
+  goes_one : (p q : Place) (left : ℕ) → followed p (slice_get is p.at) ≡ Some q → LeadsTo code width (Its p left) (Its q left)
   goes_one p q left e =
       let one = follows_one p q (slice_get is p.at) e in
-      does code (Standing p) left (Went (Standing q)) (next_is code (Standing p) one.0 (has p.at one.0 one.1) ∙ one.2)
+      steps code width (Standing p) (Standing q) left refl (next_is code width (Standing p) one.0 (has p.at one.0 one.1) ∙ one.2)
 
-  reach : (n : ℕ) (p q : Place) (left : ℕ) → after is n p ≡ Some q → LeadsTo code (Its p left) (Its q left)
-  reach zero p q left e = subst (λ x. LeadsTo code (Its p left) (Its x left)) (same_some p q e) (stays code (Its p left))
+  reach : (n : ℕ) (p q : Place) (left : ℕ) → after is n p ≡ Some q → LeadsTo code width (Its p left) (Its q left)
+  reach zero p q left e = subst (λ x. LeadsTo code width (Its p left) (Its x left)) (same_some p q e) (stays code width (Its p left))
   reach (suc n) p q left e = by_step (followed p (slice_get is p.at)) refl e (λ m. reach n m q left)
     where
-      by_step : (o : Option Place) → followed p (slice_get is p.at) ≡ o → option_and_then (λ m. after is n m) o ≡ Some q → ((m : Place) → after is n m ≡ Some q → LeadsTo code (Its m left) (Its q left)) → LeadsTo code (Its p left) (Its q left)
+      by_step : (o : Option Place) → followed p (slice_get is p.at) ≡ o → option_and_then (λ m. after is n m) o ≡ Some q → ((m : Place) → after is n m ≡ Some q → LeadsTo code width (Its m left) (Its q left)) → LeadsTo code width (Its p left) (Its q left)
       by_step None h g ih = absurd (cc)
-      by_step (Some m) h g ih = and_on code (Its p left) (Its m left) (Its q left) (goes_one p m left h) (ih m g)
+      by_step (Some m) h g ih = and_on code width (Its p left) (Its m left) (Its q left) (goes_one p m left h) (ih m g)
 
-  pub reaches_run : (p q : Place) (left : ℕ) → Reaches is p q → LeadsTo code (Its p left) (Its q left)
+  pub reaches_run : (p q : Place) (left : ℕ) → Reaches is p q → LeadsTo code width (Its p left) (Its q left)
   reaches_run p q left h = reach h.steps p q left h.is
 
   -- a jump
-  pub jumps : (p target : ℕ) (cs : Contents) (left : ℕ) → slice_get is p ≡ Some (I.Jump target) → LeadsTo code (here code f is has waiting free p cs left) (here code f is has waiting free target cs left)
+  pub jumps : (p target : ℕ) (cs : Contents) (left : ℕ) → slice_get is p ≡ Some (I.Jump target) → LeadsTo code width (here code width f is has waiting free p cs left) (here code width f is has waiting free target cs left)
   jumps p target cs left h = goes_one (place p cs) (place target cs) left (ap (followed (place p cs)) h)

@@ -1,7 +1,7 @@
 -- A run gives up what is left, and hands results on.
-use Rattle.std.proofs.Common.{◌≡◌, ◌⊎◌, inl, inr, ℕ, zero, suc, ◌≤◌, ◌+◌, List, [], ◌∷◌, Option, Some, None, refl, sym, ap, ◌∙◌, subst, arith, slice_get}
+use Rattle.std.proofs.Common.{◌≡◌, ◌⊎◌, inl, inr, ℕ, zero, suc, ◌≤◌, ◌+◌, List, [], ◌∷◌, Option, Some, None, refl, sym, ap, ◌∙◌, subst, arith, slice_get, length}
 use Rattle.fip_language.specs.Values.{Values, End, More}
-use Rattle.fip_language.specs.Meaning.{Answer, Gives, Environment}
+use Rattle.fip_language.specs.Meaning.{Answer, Gives, Peak, Environment}
 use Rattle.fip_language.specs.Every.{Every, Among}
 use Rattle.cell_code.specs.declared.code.Instr.{Instr}
 use Rattle.cell_code.specs.declared.code.Instr.TheVariants as I
@@ -14,7 +14,8 @@ use Rattle.lowered_code.specs.Tidy.{Fixed, Unknown}
 use Rattle.lowered_code.specs.Known.{Known, register_of}
 use Rattle.lowered_code.specs.Bodies.{Target, Return, Into, GivesUp, GiveUp, IsMove, IsThere, MovedAt, GivenAt}
 use Rattle.lowered_runs.specs.Distinct.{Differ}
-use Rattle.lowered_runs.proofs.Leads.{Coming, LeadsTo, and_on, coming, does, next_is}
+use Rattle.lowered_runs.specs.Ends.{words_of_all}
+use Rattle.lowered_runs.proofs.Leads.{Coming, Behind, LeadsTo, and_on, behind, behind_own, coming, does, next_is}
 use Rattle.lowered_runs.proofs.Statics.{Step, tidy_on, unknown_on}
 use Rattle.lowered_runs.proofs.Naming.{Holds}
 use Rattle.lowered_runs.proofs.Later.{moved_step}
@@ -80,12 +81,12 @@ put_all_holds cs [] vs d = tt
 put_all_holds cs (e ∷ ds) End d = tt
 put_all_holds cs (e ∷ ds) (More v vs) d = (put_all_other (put cs e v) ds vs e d.0 ∙ put_same cs e v e refl, put_all_holds (put cs e v) ds vs d.1)
 
-module _ (code : PlainCode) (f : ℕ) (is : List Instr) (has : (p : ℕ) (i : Instr) → slice_get is p ≡ Some i → instr_at code f p ≡ Some i) (waiting : List Frame) (free : ℕ) where
+module _ (code : PlainCode) (width : ℕ → ℕ) (f : ℕ) (is : List Instr) (has : (p : ℕ) (i : Instr) → slice_get is p ≡ Some i → instr_at code f p ≡ Some i) (waiting : List Frame) (free : ℕ) where
   abbrev There : ℕ → Contents → ℕ → Coming
-  There p cs left = here code f is has waiting free p cs left
+  There p cs left = here code width f is has waiting free p cs left
 
   -- an instruction that gives up only goes on
-  gives_up_one : (o : Option Instr) (p : ℕ) (cs : Contents) → GivesUp o → (i : Instr) × (o ≡ Some i) × (act code (state code f is has waiting free p cs) i ≡ Went (state code f is has waiting free (suc p) cs))
+  gives_up_one : (o : Option Instr) (p : ℕ) (cs : Contents) → GivesUp o → (i : Instr) × (o ≡ Some i) × (act code (state code width f is has waiting free p cs) i ≡ Went (state code width f is has waiting free (suc p) cs))
   gives_up_one None p cs h = absurd h
   gives_up_one (Some (I.Const d v)) p cs h = absurd h
   gives_up_one (Some (I.Atom d t c)) p cs h = absurd h
@@ -104,26 +105,26 @@ module _ (code : PlainCode) (f : ℕ) (is : List Instr) (has : (p : ℕ) (i : In
   gives_up_one (Some (I.Ret ss)) p cs h = absurd h
   gives_up_one (Some (I.Jump target)) p cs h = absurd h
 
-  pub gives_up : (n at : ℕ) (cs : Contents) (left : ℕ) (to : Coming) → GiveUp is n at → LeadsTo code (There (at + n) cs left) to → LeadsTo code (There at cs left) to
-  gives_up zero at cs left to h go = comes_there code f is has waiting free at (at + zero) cs left to (omega arith) go
+  pub gives_up : (n at : ℕ) (cs : Contents) (left : ℕ) (to : Coming) → GiveUp is n at → LeadsTo code width (There (at + n) cs left) to → LeadsTo code width (There at cs left) to
+  gives_up zero at cs left to h go = comes_there code width f is has waiting free at (at + zero) cs left to (omega arith) go
   gives_up (suc n) at cs left to h go =
       let one = gives_up_one (slice_get is at) at cs (h at (omega arith) (omega arith)) in
-      goes_on code f is has waiting free at (suc at) one.0 cs cs left to one.1 refl one.2
+      goes_on code width f is has waiting free at (suc at) one.0 cs cs left to one.1 refl one.2
       (gives_up n (suc at) cs left to (λ p le lt. h p (omega (arith, le)) (omega (arith, lt)))
-      (comes_there code f is has waiting free (suc at + n) (at + suc n) cs left to (omega arith) go))
+      (comes_there code width f is has waiting free (suc at + n) (at + suc n) cs left to (omega arith) go))
 
-  moves_one : (at : ℕ) (k : Known) (r d end : ℕ) (l : Known) (cs : Contents) (left : ℕ) (to : Coming) → IsMove is at k r d end l ⊎ IsThere at k r d end l → ((es : Contents) → es d ≡ cs r → ((q : ℕ) → (q ≡ d → ⊥) → es q ≡ cs q) → LeadsTo code (There end es left) to) → LeadsTo code (There at cs left) to
+  moves_one : (at : ℕ) (k : Known) (r d end : ℕ) (l : Known) (cs : Contents) (left : ℕ) (to : Coming) → IsMove is at k r d end l ⊎ IsThere at k r d end l → ((es : Contents) → es d ≡ cs r → ((q : ℕ) → (q ≡ d → ⊥) → es q ≡ cs q) → LeadsTo code width (There end es left) to) → LeadsTo code width (There at cs left) to
   moves_one at k r d end l cs left to (inl h) go =
-      goes_on code f is has waiting free at end (I.Move d r) cs (put cs d (cs r)) left to h.written h.one refl
+      goes_on code width f is has waiting free at end (I.Move d r) cs (put cs d (cs r)) left to h.written h.one refl
       (go (put cs d (cs r)) (put_same cs d (cs r) d refl) (λ q ne. put_other cs d (cs r) q ne))
   moves_one at k r d end l cs left to (inr h) go =
-      comes_there code f is has waiting free at end cs left to h.nothing (go cs (ap cs (sym h.same)) (λ q ne. refl))
+      comes_there code width f is has waiting free at end cs left to h.nothing (go cs (ap cs (sym h.same)) (λ q ne. refl))
 
-  pub moves_run : (at : ℕ) (k : Known) (rs ds : List ℕ) (end : ℕ) (l : Known) (cs : Contents) (left : ℕ) (to : Coming) → MovedAt is at k rs ds end l → Clean rs ds → Differ ds → ((es : Contents) → ((r : ℕ) → (Among r ds → ⊥) → es r ≡ cs r) → Holds es ds (read_all cs rs) → LeadsTo code (There end es left) to) → LeadsTo code (There at cs left) to
+  pub moves_run : (at : ℕ) (k : Known) (rs ds : List ℕ) (end : ℕ) (l : Known) (cs : Contents) (left : ℕ) (to : Coming) → MovedAt is at k rs ds end l → Clean rs ds → Differ ds → ((es : Contents) → ((r : ℕ) → (Among r ds → ⊥) → es r ≡ cs r) → Holds es ds (read_all cs rs) → LeadsTo code width (There end es left) to) → LeadsTo code width (There at cs left) to
   moves_run at k [] ds end l cs left to h c d go =
-      comes_there code f is has waiting free at end cs left to h.0 (go cs (λ r n. refl) (holds_none cs ds))
+      comes_there code width f is has waiting free at end cs left to h.0 (go cs (λ r n. refl) (holds_none cs ds))
   moves_run at k (r ∷ rs) [] end l cs left to h c d go =
-      comes_there code f is has waiting free at end cs left to h.0 (go cs (λ q n. refl) tt)
+      comes_there code width f is has waiting free at end cs left to h.0 (go cs (λ q n. refl) tt)
   moves_run at k (r ∷ rs) (e ∷ ds) end l cs left to h c d go =
       moves_one at k r e h.0 h.1 cs left to h.2
       (λ cs1 is1 same1. moves_run h.0 h.1 rs ds end l cs1 left to h.3 c.1 d.1
@@ -133,20 +134,25 @@ module _ (code : PlainCode) (f : ℕ) (is : List Instr) (has : (p : ℕ) (i : In
 
   -- where the results of an expression go on, whose answer is a
   abbrev pub Goes : Target → Known → Environment → ℕ → ℕ → Answer → (Values → ℕ → Coming) → Type 0
-  Goes Return l env end m a go = (vs : Values) (n : ℕ) → LeadsTo code (coming n (returned code waiting free vs)) (go vs n)
-  Goes (Into ds) l env end m a go = (vs : Values) (n : ℕ) (es : Contents) → a ≡ Gives vs n → n ≤ m → World l env es → Holds es ds vs → LeadsTo code (There end es n) (go vs n)
+  Goes Return l env end m a go = (vs : Values) (n : ℕ) → LeadsTo code width (coming n (returned code waiting free vs)) (go vs n)
+  Goes (Into ds) l env end m a go = (vs : Values) (n : ℕ) (es : Contents) → a ≡ Gives vs n → n ≤ m → World l env es → Holds es ds vs → LeadsTo code width (There end es n) (go vs n)
 
   -- the same answer
   pub goes_as : (target : Target) (l : Known) (env : Environment) (end m : ℕ) (a b : Answer) (go : Values → ℕ → Coming) → a ≡ b → Goes target l env end m a go → Goes target l env end m b go
   goes_as Return l env end m a b go e goes = goes
   goes_as (Into ds) l env end m a b go e goes = λ vs n es f le w held. goes vs n es (e ∙ f) le w held
 
-  pub given_runs : (at : ℕ) (k : Known) (rs : List ℕ) (target : Target) (end : ℕ) (l : Known) (env : Environment) (cs : Contents) (left m : ℕ) (a : Answer) (go : Values → ℕ → Coming) → GivenAt is at k rs target end l → CleanTarget rs target → Ready target k env cs → left ≤ m → a ≡ Gives (read_all cs rs) left → Goes target l env end m a go → LeadsTo code (There at cs left) (go (read_all cs rs) left)
+  -- the height of its frame, with those that wait
+  abbrev pub own : Peak
+  own = record { frames = length waiting; words = width f + words_of_all width waiting }
+
+  pub given_runs : (at : ℕ) (k : Known) (rs : List ℕ) (target : Target) (end : ℕ) (l : Known) (env : Environment) (cs : Contents) (left m : ℕ) (a : Answer) (go : Values → ℕ → Coming) → GivenAt is at k rs target end l → CleanTarget rs target → Ready target k env cs → left ≤ m → a ≡ Gives (read_all cs rs) left → Goes target l env end m a go → LeadsTo code width (There at cs left) (Behind own (go (read_all cs rs) left))
   given_runs at k rs Return end l env cs left m a go h c ready le e goes =
-      gives_up h.given_up at cs left (go (read_all cs rs) left) h.give_up
-      (and_on code (There (at + h.given_up) cs left) (coming left (returned code waiting free (read_all cs rs))) (go (read_all cs rs) left)
-      (does code (state code f is has waiting free (at + h.given_up) cs) left (returned code waiting free (read_all cs rs)) (next_is code (state code f is has waiting free (at + h.given_up) cs) (I.Ret rs) (has (at + h.given_up) (I.Ret rs) h.written)))
-      (goes (read_all cs rs) left))
+      gives_up h.given_up at cs left (Behind own (go (read_all cs rs) left)) h.give_up
+      (and_on code width (There (at + h.given_up) cs left) (Behind own (coming left (returned code waiting free (read_all cs rs)))) (Behind own (go (read_all cs rs) left))
+      (does code width (state code width f is has waiting free (at + h.given_up) cs) left (returned code waiting free (read_all cs rs)) (next_is code width (state code width f is has waiting free (at + h.given_up) cs) (I.Ret rs) (has (at + h.given_up) (I.Ret rs) h.written)))
+      (behind code width own (coming left (returned code waiting free (read_all cs rs))) (go (read_all cs rs) left) (goes (read_all cs rs) left)))
   given_runs at k rs (Into ds) end l env cs left m a go h c ready le e goes =
-      moves_run at k rs ds end l cs left (go (read_all cs rs) left) h c.0 c.1
-      (λ es same held. goes (read_all cs rs) left es e le (world_but k l ds env cs es (moved_step is at k rs ds end l h) (λ r fixed no. same r no) ready.1 ready.0) held)
+      behind_own code width (state code width f is has waiting free at cs) left (go (read_all cs rs) left)
+      (moves_run at k rs ds end l cs left (go (read_all cs rs) left) h c.0 c.1
+      (λ es same held. goes (read_all cs rs) left es e le (world_but k l ds env cs es (moved_step is at k rs ds end l h) (λ r fixed no. same r no) ready.1 ready.0) held))

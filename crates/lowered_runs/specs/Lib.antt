@@ -2,3 +2,4 @@ pub mod Distinct
 pub mod Ends
 pub mod Lowered
 pub mod Guarded
+pub mod Wide

@@ -1,5 +1,5 @@
 // The laws on runs of lowered code. Each is the contract of a function that does nothing.
-ghost use Rattle.std.specs.Prelude.{◌≡◌, ◌≢◌, ℕ, Some};
+ghost use Rattle.std.specs.Prelude.{◌≡◌, ◌≢◌, ℕ, suc, Some};
 ghost use Rattle.fip_language.specs.Meaning.{Answer, Stuck};
 ghost use Rattle.fip_language.specs.Values.{Values};
 ghost use Rattle.fip_trees.specs.Tree.{Program};
@@ -9,9 +9,10 @@ ghost use Rattle.tree_runs.specs.Runs.{Run, begun, entry};
 ghost use Rattle.lowered_code.specs.Bodies.{function_of};
 ghost use Rattle.lowered_code.specs.Functions.{AreLowered};
 ghost use Rattle.lowered_runs.specs.Distinct.{AreDistinct};
-ghost use Rattle.lowered_runs.specs.Ends.{EndsIn};
+ghost use Rattle.lowered_runs.specs.Ends.{EndsIn, RunsTo};
 ghost use Rattle.lowered_runs.specs.Guarded.{IsGuarded, Takes};
 ghost use Rattle.lowered_runs.specs.Lowered.{all_instrs};
+ghost use Rattle.lowered_runs.specs.Wide.{AreWide};
 
 /// A run on trees of lowered code, from the function of an instance, ends as the instance means: with the same values
 /// and calls left, in the same trap, or out of calls or frames. For who runs code in place of its program. It is said
@@ -22,6 +23,18 @@ pub fn lowered_code_means_its_program()
         (answer : Answer) → function_of program.instances g ≡ Some f → Takes program g arguments →
         (flat_meaning program g arguments calls frames).answer ≡ answer → answer ≢ Stuck →
         EndsIn code (begun (entry f arguments frames) calls) answer }
+{}
+
+/// A run on trees of lowered code, with one call at least, has the peak of its evaluation: over all its states the most
+/// frames beside the entry's, and the most words of all frames, where the frame of each function has the words of its
+/// instance's. For who tells how high the stack of a run was, or asks whether two codes of one program differ in this.
+pub fn lowered_code_has_the_peak_of_its_program()
+    ensures law { (code : PlainCode) (width : ℕ → ℕ) (program : Program) → AreLowered program (all_instrs code) →
+        IsGuarded program → AreDistinct program → AreWide program width → (g f : ℕ) (arguments : Values)
+        (calls frames : ℕ) → function_of program.instances g ≡ Some f → Takes program g arguments →
+        (flat_meaning program g arguments (suc calls) frames).answer ≢ Stuck →
+        RunsTo code width (begun (entry f arguments frames) (suc calls))
+        (flat_meaning program g arguments (suc calls) frames) }
 {}
 
 /// A run ends in one answer at most. For who asks whether it can end otherwise than its program means.

@@ -59,7 +59,7 @@ all_variables p (d ∷ ds) h = (block_variables p d.body h.0.body, all_variables
 derived : (p : Program) (ms : List Member) → IsChecked p ms → AreFipDerived p p.instances
 derived p ms c = fip_of p p.instances ((programs_agree p c.sized).0 c.owned)
 
-bounded : (p : Program) (ms : List Member) → IsChecked p ms → AreBounded p.instances ms
+pub bounded : (p : Program) (ms : List Member) → IsChecked p ms → AreBounded p.instances ms
 bounded p ms c = record {
   members = c.members;
   fip = fip_calls_fip p c.typed.formed (derived p ms c);

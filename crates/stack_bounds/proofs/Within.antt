@@ -71,12 +71,12 @@ mutual
       let g = block_same body h.0 in
       let i = clauses_same cs h.1 in omega arith
 
-frame_same : (d : Instance) → BlockMatchesVariables d.body → T.registers d + FRAME_WORDS ≡ frame_words d
+pub frame_same : (d : Instance) → BlockMatchesVariables d.body → T.registers d + FRAME_WORDS ≡ frame_words d
 frame_same d h = let g = block_same d.body h in omega arith
 
 -- ---- instances by number
 
-variables_at : (ds : List Instance) (i : ℕ) (d : Instance) → AllMatchVariables ds → slice_get ds i ≡ Some d → BlockMatchesVariables d.body
+pub variables_at : (ds : List Instance) (i : ℕ) (d : Instance) → AllMatchVariables ds → slice_get ds i ≡ Some d → BlockMatchesVariables d.body
 variables_at [] i d h e = cc
 variables_at (x ∷ ds) zero d h e = let same : x ≡ d = cc in subst (λ (y : Instance). BlockMatchesVariables y.body) same h.0
 variables_at (x ∷ ds) (suc i) d h e = variables_at ds i d h.1 e

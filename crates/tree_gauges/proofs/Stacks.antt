@@ -27,26 +27,26 @@ use Rattle.tree_gauges.proofs.Overs.{seen_enough}
 
 -- ---- by the run on trees
 
-abbrev wide : Option PlainFunction → ℕ
+abbrev pub wide : Option PlainFunction → ℕ
 wide None = 0
 wide (Some f) = f.registers + frame_words
 
 -- the words of a frame of function n
-abbrev wide_at : PlainCode → ℕ → ℕ
+abbrev pub wide_at : PlainCode → ℕ → ℕ
 wide_at c n = wide (function_at c n)
 
-abbrev wide_all : PlainCode → List U.Frame → ℕ
+abbrev pub wide_all : PlainCode → List U.Frame → ℕ
 wide_all c [] = 0
 wide_all c (g ∷ gs) = wide_at c g.function + wide_all c gs
 
-abbrev tree_frames : PlainCode → U.State → ℕ
+abbrev pub tree_frames : PlainCode → U.State → ℕ
 tree_frames c t = length t.waiting
 
-abbrev tree_words : PlainCode → U.State → ℕ
+abbrev pub tree_words : PlainCode → U.State → ℕ
 tree_words c t = wide_at c t.running.function + wide_all c t.waiting
 
 -- the highest of a number over the states of a run on trees
-abbrev tree_highest : (U.State → ℕ) → R.PlainCode → ℕ → T.Run → ℕ
+abbrev pub tree_highest : (U.State → ℕ) → R.PlainCode → ℕ → T.Run → ℕ
 tree_highest f code zero (T.Going t left m) = max (f t) 0
 tree_highest f code (suc n) (T.Going t left m) = max (f t) (tree_highest f code n (T.later code (T.Going t left m)))
 tree_highest f code zero (T.Over a t left m) = max (f t) 0
@@ -110,7 +110,7 @@ module _ (c : PlainCode) (before waits : Kinds) (n : ℕ) (kept : List ℕ) (s :
   frames_end (Over e u left j) (T.Going v l k) i = absurd i
   frames_end (Over e u left j) (T.Over a v l k) i = ap (λ x. max x 0) (state_frames c before waits u v i.1)
 
-  frames_from : (m k : ℕ) → highest_frames (seen before (run_code c) m (moment k)) ≡ tree_highest (tree_frames c) (run_code c) m (tree_moment k)
+  pub frames_from : (m k : ℕ) → highest_frames (seen before (run_code c) m (moment k)) ≡ tree_highest (tree_frames c) (run_code c) m (tree_moment k)
   frames_from zero k = frames_end (moment k) (tree_moment k) (run_same c before waits n kept s vs calls k t b)
   frames_from (suc m) k =
       let rest = subst (λ r. highest_frames (seen before (run_code c) m r) ≡ tree_highest (tree_frames c) (run_code c) m (T.later (run_code c) (tree_moment k))) (after_later before (run_code c) k (begun s calls))
@@ -129,7 +129,7 @@ module _ (c : PlainCode) (before waits : Kinds) (n : ℕ) (kept : List ℕ) (s :
   words_end (Over e u left j) (T.Going v l k) a i = absurd i
   words_end (Over e u left j) (T.Over x v l k) a i = ap (λ y. max y 0) (state_words c before waits (results c n) kept u v a i.1)
 
-  words_from : (m k : ℕ) → highest_words (seen before (run_code c) m (moment k)) ≡ tree_highest (tree_words c) (run_code c) m (tree_moment k)
+  pub words_from : (m k : ℕ) → highest_words (seen before (run_code c) m (moment k)) ≡ tree_highest (tree_words c) (run_code c) m (tree_moment k)
   words_from zero k = words_end (moment k) (tree_moment k) (run_alive c before waits n kept s calls k t) (run_same c before waits n kept s vs calls k t b)
   words_from (suc m) k =
       let rest = subst (λ r. highest_words (seen before (run_code c) m r) ≡ tree_highest (tree_words c) (run_code c) m (T.later (run_code c) (tree_moment k))) (after_later before (run_code c) k (begun s calls))

@@ -51,7 +51,7 @@ instance_at (d ∷ ds) (suc i) f e = has_at (has_function d.kind) (function_of d
 sound_not_stuck : (tb : Table) (ts : List ℕ) (a : Answer) → IsSoundAnswer tb ts a → a ≢ Stuck
 sound_not_stuck tb ts a h e = subst (IsSoundAnswer tb ts) e h
 
-not_stuck : (source : List ℕ) (p : Program) → IsMatched source p → (i f : ℕ) (vs : Values) (calls frames : ℕ) → function_of p.instances i ≡ Some f → Takes p i vs → (flat_meaning p i vs calls frames).answer ≢ Stuck
+pub not_stuck : (source : List ℕ) (p : Program) → IsMatched source p → (i f : ℕ) (vs : Values) (calls frames : ℕ) → function_of p.instances i ≡ Some f → Takes p i vs → (flat_meaning p i vs calls frames).answer ≢ Stuck
 not_stuck source p h i f vs calls frames e takes =
     let d = instance_at p.instances i f e in
     sound_not_stuck p.types d.0.results (flat_meaning p i vs calls frames).answer (matched_sound source p i d.0 vs calls frames h d.1 (takes d.0 d.1))
@@ -69,7 +69,7 @@ on_trees source p code h lowered i f vs calls frames e takes =
     i f vs calls frames (flat_meaning p i vs calls frames).answer e takes refl (not_stuck source p matched i f vs calls frames e takes)
 
 -- the arguments have the types of the instance's parameters
-begun_takes : (c : PlainCode) (p : Program) (i f : ℕ) (s : State) (vs : Values) → IsFunctionOf p i c f → BeginsWith c f s vs → Takes p i vs
+pub begun_takes : (c : PlainCode) (p : Program) (i f : ℕ) (s : State) (vs : Values) → IsFunctionOf p i c f → BeginsWith c f s vs → Takes p i vs
 begun_takes c p i f s vs o b d is =
     let types : HaveTypes c.types (map type_of (params c f)) vs = words_types c.types s.store (map type_of (params c f)) (take (length (params c f)) s.running.words) vs b in
     subst (λ tb. HaveTypes tb (map type_of d.params) vs) o.types (subst (λ ps. HaveTypes c.types (map type_of ps) vs) (o.takes d is) types)

@@ -6,3 +6,4 @@ pub mod Sharing
 pub mod Building
 pub mod Asking
 pub mod Whole
+pub mod StackNumbers

@@ -19,6 +19,7 @@ ghost use Rattle.lowered_soundness.specs.Placed.{Callees};
 ghost use Rattle.laid_code.specs.Standing.{MapsStand};
 ghost use Rattle.sound_code.specs.Breaks.{IsSound};
 ghost use Rattle.sound_code.specs.Codes.{PlainCode, PlainFunction, function_at, plain};
+ghost use Rattle.sound_code.specs.StackNumbers.{HasStack};
 ghost use Rattle.sound_code.specs.Tables.{AreSoundTables};
 ghost use Rattle.source_report.specs.Report.{IsTyped, IsAccepted};
 ghost use Rattle.tail_groups.specs.Members.{AreMembers};
@@ -94,4 +95,15 @@ pub fn lowered_accepted_code_is_sound()
     ensures law { (source : List ℕ) (program : Program) (code : PlainCode) → IsAccepted source program →
         IsHeaded program code → (IsAsked program (all_needs program program.instances) → IsLaidOut program code) →
         IsSound code }
+{}
+
+/// The functions of the code that lowering makes of an accepted source hold of the stack at the most what the groups of
+/// its program tell of their instances: they call each other just as these do, and their frames have as many words. So
+/// what `check` prints is what the code says. For who gives a run its stack.
+pub fn lowered_accepted_code_has_its_stack_numbers()
+    ensures law { (source : List ℕ) (program : Program) (code : PlainCode) (members : List Member) (i n : ℕ)
+        (m : Member) → IsAccepted source program → IsHeaded program code →
+        (IsAsked program (all_needs program program.instances) → IsLaidOut program code) →
+        AreMembers program.instances members → function_of program.instances i ≡ Some n →
+        slice_get members i ≡ Some m → HasStack code n m.stack }
 {}

@@ -1,10 +1,9 @@
 // The laws that runs, and commands on the files of codes and of traces, have one answer. Each is the contract of a
 // function that does nothing.
-ghost use Rattle.std.specs.Prelude.{◌≡◌, ℕ, Bool, false, List};
+ghost use Rattle.std.specs.Prelude.{◌≡◌, ℕ, Bool, List};
 ghost use Rattle.fip_base.specs.Files.{File};
 ghost use Rattle.command_line.specs.Words.{Request, Run, Room, Verify, Upgrade, Replay};
 ghost use Rattle.source_commands.specs.Codes.{HasFunction};
-ghost use Rattle.source_commands.specs.Wanted.{Compiled, IsReady};
 ghost use Rattle.run_command.specs.CodeRun as R;
 ghost use Rattle.run_command.specs.ExecAnswer as E;
 ghost use Rattle.command_answers.specs.Answer.{ComesTo};
@@ -34,13 +33,14 @@ pub fn what_is_told_of_a_run_is_its_end()
         R.RunsCode bytes name input room gauge e → R.RunsCode bytes name input room gauge d → e ≡ d }
 {}
 
-/// Without the gauge a run of a source's entry is told as one thing, whichever code of the source is run, and wherever
-/// its cells lie; and this is the end of the entry's outcome. For who replaces a compiler.
+/// A run of a source's entry is told as one thing, with the gauge as without, whichever code of the source is run, and
+/// wherever its cells lie; and this is the end of the entry's outcome, which tells the gauge by trees. For who replaces a
+/// compiler.
 pub fn what_is_told_of_an_entry_is_one()
-    ensures one { (source name input : List ℕ) (room : Room) (e d : an_end) → IsReady source (Compiled name) →
-        E.Execs source name input room false e → E.Execs source name input room false d → e ≡ d }
-    ensures is { (source name input : List ℕ) (room : Room) (o : Outcome) (e : an_end) →
-        Execs source name input room false o → E.Execs source name input room false e → e ≡ o.end }
+    ensures one { (source name input : List ℕ) (room : Room) (gauge : Bool) (e d : an_end) →
+        E.Execs source name input room gauge e → E.Execs source name input room gauge d → e ≡ d }
+    ensures is { (source name input : List ℕ) (room : Room) (gauge : Bool) (o : Outcome) (e : an_end) →
+        Execs source name input room gauge o → E.Execs source name input room gauge e → e ≡ o.end }
 {}
 
 /// `run` is never without an outcome, whatever files and input there are, and it has one. For who asks whether it has

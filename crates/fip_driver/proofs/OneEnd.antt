@@ -173,21 +173,20 @@ source_once source input c w d e wants (LongInput ready reads more) (Underived f
 source_once source input c w d e wants (Evaluated other entry calls frames f is le k) (Underived file out same h) = absurd (derived_reads c file out same (evaluated_reads c other entry calls frames is))
 source_once source input c w d e wants (Evaluated file entry calls frames f same le h) (Evaluated other name m n g is ge k) =
     evaluated_once source name input m n f g (evaluated_same source input file entry other name calls frames m n c f same is h) k
-source_once source input c w d e wants (Executed r f same off ready le h) (Refused q k) = absurd (refused_not_ready source w q k ready)
-source_once source input c w d e wants (Executed r f same off ready le h) (Listed file text is k) = absurd (listed_reads c file is (executed_reads c r same))
-source_once source input c w d e wants (Executed r f same off ready le h) (LongInput again reads more) = absurd (omega (arith, more, le))
-source_once source input c w d e wants (Executed r f same off ready le h) (Evaluated file entry calls frames g is lo k) = absurd (eval_or_exec c file entry calls frames r is same)
-source_once source input c w d e wants (Executed r f same off ready le h) (Derived file out bytes is k) = absurd (derived_reads c file out is (executed_reads c r same))
-source_once source input c w d e wants (Executed r f same off ready le h) (Underived file out is k) = absurd (derived_reads c file out is (executed_reads c r same))
-source_once source input c w d e wants (Refused q k) (Executed r f same off ready le h) = absurd (refused_not_ready source w q k ready)
-source_once source input c w d e wants (Listed file text is k) (Executed r f same off ready le h) = absurd (listed_reads c file is (executed_reads c r same))
-source_once source input c w d e wants (LongInput again reads more) (Executed r f same off ready le h) = absurd (omega (arith, more, le))
-source_once source input c w d e wants (Evaluated file entry calls frames g is lo k) (Executed r f same off ready le h) = absurd (eval_or_exec c file entry calls frames r is same)
-source_once source input c w d e wants (Derived file out bytes is k) (Executed r f same off ready le h) = absurd (derived_reads c file out is (executed_reads c r same))
-source_once source input c w d e wants (Underived file out is k) (Executed r f same off ready le h) = absurd (derived_reads c file out is (executed_reads c r same))
-source_once source input c w d e wants (Executed r f same off ready le h) (Executed q g is none again lo k) =
-    exec_once source q.entry input q.room f g (subst (IsReady source) (executed_wants c w q is wants) ready)
-    (subst (λ (r : Request). Execs source r.entry input r.room false f) (one_request c r q same is) h) k
+source_once source input c w d e wants (Executed r f same ready le h) (Refused q k) = absurd (refused_not_ready source w q k ready)
+source_once source input c w d e wants (Executed r f same ready le h) (Listed file text is k) = absurd (listed_reads c file is (executed_reads c r same))
+source_once source input c w d e wants (Executed r f same ready le h) (LongInput again reads more) = absurd (omega (arith, more, le))
+source_once source input c w d e wants (Executed r f same ready le h) (Evaluated file entry calls frames g is lo k) = absurd (eval_or_exec c file entry calls frames r is same)
+source_once source input c w d e wants (Executed r f same ready le h) (Derived file out bytes is k) = absurd (derived_reads c file out is (executed_reads c r same))
+source_once source input c w d e wants (Executed r f same ready le h) (Underived file out is k) = absurd (derived_reads c file out is (executed_reads c r same))
+source_once source input c w d e wants (Refused q k) (Executed r f same ready le h) = absurd (refused_not_ready source w q k ready)
+source_once source input c w d e wants (Listed file text is k) (Executed r f same ready le h) = absurd (listed_reads c file is (executed_reads c r same))
+source_once source input c w d e wants (LongInput again reads more) (Executed r f same ready le h) = absurd (omega (arith, more, le))
+source_once source input c w d e wants (Evaluated file entry calls frames g is lo k) (Executed r f same ready le h) = absurd (eval_or_exec c file entry calls frames r is same)
+source_once source input c w d e wants (Derived file out bytes is k) (Executed r f same ready le h) = absurd (derived_reads c file out is (executed_reads c r same))
+source_once source input c w d e wants (Underived file out is k) (Executed r f same ready le h) = absurd (derived_reads c file out is (executed_reads c r same))
+source_once source input c w d e wants (Executed r f same ready le h) (Executed q g is again lo k) =
+    exec_once source q.entry input q.room q.gauge f g (subst (λ (r : Request). Execs source r.entry input r.room r.gauge f) (one_request c r q same is) h) k
 source_once source input c w d e wants (TookTurns file seed turns room f same le h) (Refused q k) = absurd (refused_not_ready source w q k (turns_fits source input c w file seed turns room f same wants h))
 source_once source input c w d e wants (Refused q k) (TookTurns file seed turns room f same le h) = absurd (refused_not_ready source w q k (turns_fits source input c w file seed turns room f same wants h))
 source_once source input c w d e wants (TookTurns file seed turns room f same le h) (Listed other text is k) = absurd (listed_reads c other is (turns_reads c file seed turns room same))
@@ -196,8 +195,8 @@ source_once source input c w d e wants (TookTurns file seed turns room f same le
 source_once source input c w d e wants (LongInput ready reads more) (TookTurns file seed turns room f same le h) = absurd (omega (arith, more, le))
 source_once source input c w d e wants (TookTurns file seed turns room f same le h) (Evaluated other entry calls frames g is lo k) = absurd (eval_or_tasks c other entry file calls frames seed turns room is same)
 source_once source input c w d e wants (Evaluated other entry calls frames g is lo k) (TookTurns file seed turns room f same le h) = absurd (eval_or_tasks c other entry file calls frames seed turns room is same)
-source_once source input c w d e wants (TookTurns file seed turns room f same le h) (Executed r g is off ready lo k) = absurd (exec_or_tasks c r file seed turns room is same)
-source_once source input c w d e wants (Executed r g is off ready lo k) (TookTurns file seed turns room f same le h) = absurd (exec_or_tasks c r file seed turns room is same)
+source_once source input c w d e wants (TookTurns file seed turns room f same le h) (Executed r g is ready lo k) = absurd (exec_or_tasks c r file seed turns room is same)
+source_once source input c w d e wants (Executed r g is ready lo k) (TookTurns file seed turns room f same le h) = absurd (exec_or_tasks c r file seed turns room is same)
 source_once source input c w d e wants (TookTurns file seed turns room f same le h) (Derived other out bytes is k) = absurd (derived_reads c other out is (turns_reads c file seed turns room same))
 source_once source input c w d e wants (Derived other out bytes is k) (TookTurns file seed turns room f same le h) = absurd (derived_reads c other out is (turns_reads c file seed turns room same))
 source_once source input c w d e wants (TookTurns file seed turns room f same le h) (Underived other out is k) = absurd (derived_reads c other out is (turns_reads c file seed turns room same))
@@ -210,7 +209,7 @@ source_not_open source input c w e (Refused r h) ready taken other = refused_not
 source_not_open source input c w e (Listed file text same h) ready taken other = subst IsUnsaidOn same other
 source_not_open source input c w e (LongInput r reads more) ready taken other = let le = taken reads in omega (arith, more, le)
 source_not_open source input c w e (Evaluated file entry calls frames f same le h) ready taken other = subst IsUnsaidOn same other
-source_not_open source input c w e (Executed r f same off again le h) ready taken other = let on : r.gauge ≡ true = subst IsUnsaidOn same other in true≢false (sym on ∙ off)
+source_not_open source input c w e (Executed r f same again le h) ready taken other = subst IsUnsaidOn same other
 source_not_open source input c w e (TookTurns file seed turns room f same le h) ready taken other = subst IsUnsaidOn same other
 source_not_open source input c w e (Derived file out bytes same h) ready taken other = subst IsUnsaidOn same other
 source_not_open source input c w e (Underived file out same h) ready taken other = subst IsUnsaidOn same other

@@ -208,15 +208,10 @@ executed_ends r source left fr rose e ready (input, told, h) = (input, told, by 
     long : (d : End) → 16777216 < length input → d ≡ Err (F.BadInput 16777216) → SaysOf source input (Exec r) (Compiled r.entry) d
     long d more same = subst (SaysOf source input (Exec r) (Compiled r.entry)) (sym same) (LongInput ready tt more)
 
-    -- without the gauge, or with it
-    ran : (gauge : Bool) → r.gauge ≡ gauge → length input ≤ 16777216 → Execs source r.entry input r.room gauge e → SaysOf source input (Exec r) (Compiled r.entry) e ⊎ ComesOf source input (Exec r) (Compiled r.entry) e
-    ran false is le m = inl (Executed r e refl is ready le m)
-    ran true is le m = inr (Ready e ready (λ reads. le) (is, m))
-
     by : IsInputFault rose e ⊎ (((16777216 < length input) × (e ≡ Err (F.BadInput 16777216))) ⊎ ((length input ≤ 16777216) × Execs source r.entry input r.room r.gauge e)) → IsFault (Exec r) fr rose e ⊎ (SaysOf source input (Exec r) (Compiled r.entry) e ⊎ ComesOf source input (Exec r) (Compiled r.entry) e)
     by (inl f) = inl (input_fault_up (Exec r) fr rose e tt f)
     by (inr (inl (more, same))) = inr (inl (long e more same))
-    by (inr (inr (le, m))) = inr (ran r.gauge refl le m)
+    by (inr (inr (le, m))) = inr (inl (Executed r e refl ready le m))
 
 -- what `eval` tells
 pub evaluated_ends : (file entry source : List ℕ) (calls frames : ℕ) (left : Option (List ℕ)) (fr rose : Type 0) (e : End) → IsReady source (Root entry) → ReadOutcome (λ bytes. Evaluates source entry bytes calls frames) left rose e → SourceOutcome (Eval file entry calls frames) (Root entry) source left fr rose e

@@ -47,8 +47,8 @@ End = Result (List ℕ) Failure
 -- ---- what is said of a source of which all rules are asked
 
 -- The command ends so on this source: it is refused; or it has what is wanted, and `check` lists its roots, the input
--- has too many bytes, or `eval` tells what the source means on the input, as `exec` does without the gauge, and `tasks`
--- what it means by each line; or `derive` has made its derivation, or the text of this has too many bytes.
+-- has too many bytes, or `eval` tells what the source means on the input, as `exec` does, with the gauge if asked, and
+-- `tasks` what it means by each line; or `derive` has made its derivation, or the text of this has too many bytes.
 pub data SaysOf (source input : List ℕ) (c : Command) (w : Wanted) : End → Type 0 where
   Refused : (r : _) → Refuses source w r → SaysOf source input c w (Err (F.Refused r))
   Listed : (file text : List ℕ) → c ≡ Check file → IsListing source text → SaysOf source input c w (Ok text)
@@ -56,8 +56,8 @@ pub data SaysOf (source input : List ℕ) (c : Command) (w : Wanted) : End → T
       SaysOf source input c w (Err (F.BadInput MOST_FILE_BYTES))
   Evaluated : (file entry : List ℕ) (calls frames : ℕ) (e : End) → c ≡ Eval file entry calls frames →
       length input ≤ MOST_FILE_BYTES → Evaluates source entry input calls frames e → SaysOf source input c w e
-  Executed : (r : Request) (e : End) → c ≡ Exec r → r.gauge ≡ false → IsReady source w →
-      length input ≤ MOST_FILE_BYTES → Execs source r.entry input r.room false e → SaysOf source input c w e
+  Executed : (r : Request) (e : End) → c ≡ Exec r → IsReady source w → length input ≤ MOST_FILE_BYTES →
+      Execs source r.entry input r.room r.gauge e → SaysOf source input c w e
   TookTurns : (file : List ℕ) (seed turns : ℕ) (room : Room) (e : End) → c ≡ Tasks file seed turns room →
       length input ≤ MOST_FILE_BYTES → TakesTurns source input room e → SaysOf source input c w e
   Derived : (file out bytes : List ℕ) → c ≡ Derive file out → IsDerivedFile source bytes →
@@ -82,11 +82,9 @@ abbrev pub IsCompileEnd : List ℕ → End → Type 0
 IsCompileEnd source (Ok text) = IsListing source text
 IsCompileEnd source (Err failure) = IsUncompiled source × (failure ≡ F.Refused (bare E61))
 
--- How a command may end on a source that has what is wanted. With the gauge `exec` ends with what the source means, and
--- behind it the gauge of a run of its code.
+-- How a command may end on a source that has what is wanted.
 abbrev pub MayEnd : Command → (source input : List ℕ) → End → Type 0
 MayEnd (Compile file out) source input e = IsCompileEnd source e
-MayEnd (Exec r) source input e = (r.gauge ≡ true) × Execs source r.entry input r.room true e
 MayEnd (Trace file entry out room) source input e = TracesTo source entry input room e
 MayEnd (Session file room) source input e = IsSessionEnd e
 MayEnd c source input e = ⊥
@@ -193,18 +191,18 @@ pub data Says (spelling : Spelling) (files : List File) (input : List ℕ) (c : 
 abbrev pub IsUnsaidOn : Command → Type 0
 IsUnsaidOn (Check file) = ⊥
 IsUnsaidOn (Eval file entry calls frames) = ⊥
-IsUnsaidOn (Exec r) = r.gauge ≡ true
+IsUnsaidOn (Exec r) = ⊥
 IsUnsaidOn (Tasks file seed turns room) = ⊥
 IsUnsaidOn (Derive file out) = ⊥
 IsUnsaidOn c = Unit {0}
 
--- The command may end so. It is `compile`, `exec` with the gauge, `trace` or `session`: the ends of all others are said.
+-- The command may end so. It is `compile`, `trace` or `session`: the ends of all others are said.
 pub data Comes (spelling : Spelling) (files : List File) (input : List ℕ) (c : Command) : End → Type 0 where
   MayOnSource : (w : Wanted) (source : List ℕ) (e : End) → Checks spelling files c w source →
       ComesOf source input c w e → Comes spelling files input c e
 
--- The answer isn't said: the source has what a command wants, which is none of `check`, `eval`, `derive`, `tasks` and
--- `exec` without the gauge.
+-- The answer isn't said: the source has what a command wants, which is none of `check`, `eval`, `exec`, `derive` and
+-- `tasks`.
 pub data IsOpen (spelling : Spelling) (files : List File) (input : List ℕ) (c : Command) : Type 0 where
   OpenSource : (w : Wanted) (source : List ℕ) → Checks spelling files c w source → IsReady source w → IsTaken c input →
       IsUnsaidOn c → IsOpen spelling files input c

@@ -32,14 +32,14 @@ module _ (source : List ℕ) (seed count : ℕ) where
 
   module _ (ready : IsReady source (Compiled build)) where
     fails_or_prints : (failure : Failure) (text : List ℕ) → Execs source build input gen_room false (Err failure) → Execs source build input gen_room false (Ok text) → ⊥
-    fails_or_prints failure text h k = no_text failure text (exec_once source build input gen_room (Err failure) (Ok text) ready h k)
+    fails_or_prints failure text h k = no_text failure text (exec_once source build input gen_room false (Err failure) (Ok text) h k)
 
     pub makes_once : (d e : Result (List ℕ) Failure) → Makes source seed count d → Makes source seed count e → d ≡ e
     makes_once _ _ (LongInput more) (LongInput again) = refl
     makes_once _ _ (LongInput more) (NoTree f short h) = absurd (omega (arith, more, short))
     makes_once _ _ (LongInput more) (Made x vs rs l text short spelt fits runs gives) = absurd (omega (arith, more, short))
     makes_once _ _ (NoTree f short h) (LongInput more) = absurd (omega (arith, more, short))
-    makes_once _ _ (NoTree f short h) (NoTree g also k) = exec_once source build input gen_room (Err f) (Err g) ready h k
+    makes_once _ _ (NoTree f short h) (NoTree g also k) = exec_once source build input gen_room false (Err f) (Err g) h k
     makes_once _ _ (NoTree f short h) (Made x vs rs l text also spelt fits runs gives) = absurd (fails_or_prints f text h (Ran x vs (Ok text) spelt fits runs))
     makes_once _ _ (Made x vs rs l text short spelt fits runs gives) (LongInput more) = absurd (omega (arith, more, short))
     makes_once _ _ (Made x vs rs l text short spelt fits runs gives) (NoTree f also h) = absurd (fails_or_prints f text h (Ran x vs (Ok text) spelt fits runs))

@@ -4,8 +4,8 @@
 
 mod arguments;
 mod keys;
-mod library;
 mod making;
+mod printing;
 
-pub use library::library;
 pub use making::generate;
+pub use printing::library;

@@ -38,7 +38,7 @@ not_first false o n x y = none-some n x
 not_first true None n x y = none-some n y
 not_first true (Some f) n x y = let a = same_Some 0 n x in let b = same_Some (suc f) n y in absurd (omega (arith, a, b))
 
-function_once : (ds : List Instance) (i j n : ℕ) → function_of ds i ≡ Some n → function_of ds j ≡ Some n → i ≡ j
+pub function_once : (ds : List Instance) (i j n : ℕ) → function_of ds i ≡ Some n → function_of ds j ≡ Some n → i ≡ j
 function_once [] i j n a b = absurd (none-some n a)
 function_once (d ∷ ds) zero zero n a b = refl
 function_once (d ∷ ds) zero (suc j) n a b = absurd (not_first (has_function d.kind) (function_of ds j) n a b)
@@ -47,7 +47,7 @@ function_once (d ∷ ds) (suc i) (suc j) n a b = let z = less (has_function d.ki
 
 -- ---- rows of calls
 
-row_of : (ds : List Instance) (i : ℕ) (d : Instance) → slice_get ds i ≡ Some d → calls_of (call_rows ds) i ≡ instance_calls d
+pub row_of : (ds : List Instance) (i : ℕ) (d : Instance) → slice_get ds i ≡ Some d → calls_of (call_rows ds) i ≡ instance_calls d
 row_of [] i d h = absurd (none-some d h)
 row_of (e ∷ ds) zero d h = ap instance_calls (same_Some e d h)
 row_of (e ∷ ds) (suc i) d h = row_of ds i d h
@@ -71,7 +71,7 @@ module _ (c : PlainCode) (st : Setting) (p : Program) (all : AreLaid c st p) whe
   once i j n a b = function_once p.instances i j n (sym (all.setting.functions i) ∙ a) (sym (all.setting.functions j) ∙ b)
 
   -- a call of the code is one of its program
-  calls_same : (i a g : ℕ) (waits : Bool) → joined (slice_get st.functions i) ≡ Some a → Calls c a g waits → (j : ℕ) × (joined (slice_get st.functions j) ≡ Some g) × G.Calls (call_rows p.instances) i j waits
+  pub calls_same : (i a g : ℕ) (waits : Bool) → joined (slice_get st.functions i) ≡ Some a → Calls c a g waits → (j : ℕ) × (joined (slice_get st.functions j) ≡ Some g) × G.Calls (call_rows p.instances) i j waits
   calls_same i a g waits number k =
       let here = k.1 in
       let l = all.each a here.function here.is in

@@ -3,3 +3,4 @@ pub mod Starting
 pub mod Texts
 pub mod Ends
 pub mod Flat
+pub mod Peaks

@@ -80,6 +80,13 @@ of_start code before waits n vs s t b = record {
   loaded = ap (λ (q : R.PlainCode). loaded q n s.store t.words t.free) (sym (read code)) ∙ t.loaded;
 }
 
+-- the same of the function and the frames that one names
+pub begins_of : (code : Code) (before waits : Kinds) (n : ℕ) (f : PlainFunction) (vs : Values) (frames : ℕ) (s : State) → (t : IsStart (plain code) before waits n [] s) → BeginsWith (plain code) n s vs → function_at (plain code) n ≡ Some f → s.free ≡ frames → Begins code n f vs frames s
+begins_of code before waits n f vs frames s t b is free =
+    let own : t.function ≡ f = same_Some t.function f (sym t.is ∙ is) in
+    let has : s.free ≡ t.free = ap (λ (u : State). u.free) (loaded_is (plain code) n t.function s.store t.words t.free s t.is t.loaded) in
+    subst (λ g. Begins code n g vs frames s) own (subst (λ m. Begins code n t.function vs m s) (sym has ∙ free) (of_start code before waits n vs s t b))
+
 pub loaded_begins : (code : Code) (n : ℕ) (f : PlainFunction) (vs : Values) (frames : ℕ) (s : State) → IsSoundCode code → function_at (plain code) n ≡ Some f → HaveTypes code.types (map (λ p. p.ty) f.params) vs → loaded (R.plain code) n (first_store vs f.credits) (first_words vs f.credits) frames ≡ Some s → Begins code n f vs frames s
 loaded_begins code n f vs frames s sound is have loads =
     let c = plain code in

@@ -1,7 +1,7 @@
 // The laws on runs of an accepted source's code. Each is the contract of a function that does nothing.
 ghost use Rattle.std.specs.Prelude.{◌≡◌, ◌≢◌, ◌<◌, ◌≤◌, ◌+◌, ℕ, List, [], true, length, map, Some};
 ghost use Rattle.fip_language.specs.Core.{Core};
-ghost use Rattle.fip_language.specs.Meaning.{Deep, meaning};
+ghost use Rattle.fip_language.specs.Meaning.{Deep, Gives, meaning};
 ghost use Rattle.fip_language.specs.Statics.{NoClosed};
 ghost use Rattle.fip_language.specs.Store.{count, values_of};
 ghost use Rattle.fip_language.specs.Table.{Table, HaveTypes};
@@ -11,12 +11,14 @@ ghost use Rattle.cell_code.specs.declared.code.Code.{Code};
 ghost use Rattle.cell_store.specs.Made.{Loading};
 ghost use Rattle.code_runs.specs.Cells.{IsStore, count_held};
 ghost use Rattle.code_runs.specs.Codes as R;
-ghost use Rattle.code_runs.specs.Runs.{loaded, state_of, begun, after};
+ghost use Rattle.code_runs.specs.Gauges.{seen};
+ghost use Rattle.code_runs.specs.Runs.{End, Ends, loaded, state_of, begun, after};
 ghost use Rattle.code_runs.specs.States.{State, frames_held, words_held};
 ghost use Rattle.code_runs.specs.Steps.{Kinds};
+ghost use Rattle.tail_groups.specs.Members.{AreMembers};
 ghost use Rattle.sound_code.specs.Codes.{PlainFunction, plain, function_at, is_fip};
 ghost use Rattle.sound_code.specs.StackNumbers.{IsStack};
-ghost use Rattle.code_separation.specs.Codes.{AreKinds};
+ghost use Rattle.code_separation.specs.Codes.{run_code, AreKinds};
 ghost use Rattle.tree_agreement.specs.Agreement.{AreWordsOf};
 ghost use Rattle.code_verify.specs.Checked.{Checked};
 ghost use Rattle.fip_machine.specs.declared.gauge.Gauge.{Gauge};
@@ -26,7 +28,7 @@ ghost use Rattle.fip_machine.specs.GaugeView.{TellsRun};
 ghost use Rattle.loaded_runs.specs.Loading.{first_store, first_words};
 ghost use Rattle.machine_cells.specs.Small.{store_of};
 ghost use Rattle.value_text.specs.Loaded.{types_of, IsLoaded};
-ghost use Rattle.meant_runs.specs.Gauges.{IsFlat};
+ghost use Rattle.meant_runs.specs.Gauges.{IsFlat, IsMeasured};
 ghost use Rattle.meant_runs.specs.Meant.{IsMeant, ArePrintable};
 ghost use Rattle.meant_runs.specs.Starts.{IsSoundCode, IsCodeOf, Begins};
 
@@ -102,4 +104,20 @@ pub fn a_gauge_of_a_fip_entry_is_flat()
         (s : State) (calls : ℕ) (stack : Stack) (g : Gauge) → IsSoundCode v.code →
         AreKinds (plain v.code) before waits → Begins v.code n f vs frames s → is_fip f.kind ≡ true →
         IsStack (plain v.code) n stack → TellsRun before (R.plain v.code) s calls g → IsFlat g vs f.credits stack }
+{}
+
+/// What is seen of the states of a run that gives values, by the evaluation that the source means: as the lowest number
+/// of cells of each size that of the results' and the lent arguments' cells, as the highest that of the arguments' cells
+/// and of the header's credits; and the most frames beside the entry's and the most words of all frames are its peak. It
+/// is said of code whose functions have as many registers as the groups of its program tell. For who computes a gauge
+/// without a run, or asks whether two codes of a source differ in it.
+pub fn a_run_is_measured_by_its_evaluation()
+    ensures law { (source : List ℕ) (core : Core) (code : Code) (before waits : Kinds) (n : ℕ) (f : PlainFunction)
+        (vs results : Values) (frames : ℕ) (s : State) (calls rest : ℕ) (end : End) (last : State) (left steps : ℕ) →
+        (h : IsCodeOf source core code) → AreMembers h.program.instances h.members →
+        AreKinds (plain code) before waits → Begins code n f vs frames s → 0 < length f.name →
+        (meaning core f.name NoClosed vs calls frames).answer ≡ Gives results rest →
+        (e : Ends before (run_code (plain code)) s calls end last left steps) →
+        IsMeasured vs results f.params f.credits (meaning core f.name NoClosed vs calls frames).peak
+        (seen before (run_code (plain code)) e.enough (begun s calls)) }
 {}

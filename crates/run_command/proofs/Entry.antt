@@ -9,6 +9,7 @@ use Rattle.fip_language.specs.declared.FunKind.TheVariants.{Fip, Fbip, Fun}
 use Rattle.fip_language.specs.SoundTable.{IsSoundTable}
 use Rattle.fip_trees.specs.declared.groups.Member.{Member}
 use Rattle.fip_trees.specs.Tree.{Instance, Program}
+use Rattle.tail_groups.specs.Members.{AreMembers}
 use Rattle.cell_code.specs.declared.code.Code.{Code}
 use Rattle.cell_code.specs.declared.code.Function.{Function}
 use Rattle.cell_lower.specs.Limits.{is_ruled, registers}
@@ -161,3 +162,7 @@ module _ (source name : List ℕ) (r : Chosen) (ready : IsReady source (Compiled
     lowered = subst (AreLowered program) (instrs_same code.functions.items) ((h.code).lowered).lowered;
     is_sound = record { sound = sound; literals = literals };
   }
+
+  pub members_found : (literals : HasLiterals (plain code)) → AreMembers (code_of literals).program.instances (code_of literals).members
+  unfolding code_of
+  members_found literals = ((h.code).lowered).found

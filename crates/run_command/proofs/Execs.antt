@@ -8,7 +8,7 @@ use Rattle.fip_language.specs.declared.FunKind.{FunKind}
 use Rattle.fip_language.specs.declared.FunKind.TheVariants.{Fip}
 use Rattle.fip_language.specs.Core.{Core}
 use Rattle.fip_language.specs.Gauge.{Seen as a_seen}
-use Rattle.fip_language.specs.Meaning.{Answer, Deep, meaning}
+use Rattle.fip_language.specs.Meaning.{Answer, Gives, Deep, Run, meaning}
 use Rattle.fip_language.specs.Prefix.{IsPlace}
 use Rattle.fip_language.specs.Statics.{NoClosed}
 use Rattle.fip_language.specs.Table.{Table}
@@ -31,6 +31,10 @@ use Rattle.fip_machine.specs.Machines.{Seen}
 use Rattle.fip_machine.specs.Tasks.{state_with}
 use Rattle.sound_code.specs.Codes.{PlainCode, PlainFunction, plain, plain_function, function_at, is_fip}
 use Rattle.sound_code.specs.StackNumbers.{HasStack}
+use Rattle.sound_code.proofs.Numbers.{has_once}
+use Rattle.tail_groups.specs.Members.{AreMembers}
+use Rattle.lowered_code.specs.Bodies.{function_of}
+use Rattle.accepted_code.proofs.SoundTypes.{typed_sound}
 use Rattle.session_meaning.specs.Talk.{frames_of}
 use Rattle.source_commands.specs.Codes.{sound_view}
 use Rattle.source_commands.specs.Entries.{Chosen}
@@ -40,13 +44,16 @@ use Rattle.source_commands.proofs.CodeFiles.{view_same}
 use Rattle.type_soundness.specs.Soundness.{parameter_types}
 use Rattle.value_text.specs.Loaded.{types_of}
 use Rattle.eval_command.specs.EvalAnswer.{Entry, OrNoMemory}
-use Rattle.meant_runs.specs.Gauges.{IsFlat}
+use Rattle.meant_runs.specs.Gauges.{IsFlat, IsMeasured}
 use Rattle.meant_runs.specs.Starts.{IsCodeOf, Begins}
 use Rattle.meant_runs.proofs.Ends.{answers_as_meant, not_deep}
+use Rattle.meant_runs.proofs.Entries.{named}
 use Rattle.meant_runs.proofs.Flat.{gauge_flat}
+use Rattle.meant_runs.proofs.Peaks.{measured}
+use Rattle.meant_runs.proofs.Starting.{begins_of}
 use Rattle.run_command.specs.CodeRun as D
 use Rattle.run_command.specs.CodeRun.{all_seen, words_for}
-use Rattle.run_command.specs.ExecAnswer.{TellsRun as TellsMeant, Coded, RunsInPlace, RunsOn, Execs, Misspelt, Small, Ran}
+use Rattle.run_command.specs.ExecAnswer.{TellsRun as TellsMeant, Coded, IsBoundOf, RunsInPlace, RunsOn, Execs, Misspelt, Small, Ran}
 use Rattle.run_command.specs.GaugeText.{gauge_by_states, if_asked}
 use Rattle.run_command.specs.Starting.{IsStarted, KeepsFromLoading, KeepsFromStart, TellsEnded, gauge_lines}
 use Rattle.run_command.proofs.Came.{Came}
@@ -75,10 +82,11 @@ record MeantSo (core : Core) (name : List ℕ) (tb : Table) (c : PlainCode) (n :
   pub stack : HasStack c n held
   pub run : D.Run c n vs room.calls (frames_of room.frames held)
   pub told : TellsMeant tb f.results room.calls (frames_of room.frames held) (λ _. if_asked gauge (gauge_by_states (all_seen run) held)) (meaning core name NoClosed vs room.calls (frames_of room.frames held)).answer e
+  pub measured : (results : Values) (left : ℕ) → (meaning core name NoClosed vs room.calls (frames_of room.frames held)).answer ≡ Gives results left → IsMeasured vs results f.params f.credits (meaning core name NoClosed vs room.calls (frames_of room.frames held)).peak (all_seen run)
   pub in_place : is_fip f.kind ≡ true → RunsInPlace vs f.credits (all_seen run) held
   pub never_deep : is_fip f.kind ≡ true → (meaning core name NoClosed vs room.calls (frames_of room.frames held)).answer ≢ Deep
 
-module _ (source : List ℕ) (core : Core) (r : Chosen) (is : IsCodeOf source core r.checked.code) (f : PlainFunction) (vs : Values) (room : Room) (gauge : Bool) (s : State) (some : 0 < length f.name) where
+module _ (source : List ℕ) (core : Core) (r : Chosen) (is : IsCodeOf source core r.checked.code) (found : AreMembers is.program.instances is.members) (f : PlainFunction) (vs : Values) (room : Room) (gauge : Bool) (s : State) (some : 0 < length f.name) where
   module _ (held : Option Stack) (stack : HasStack (plain r.checked.code) r.entry held) (b : Begins r.checked.code r.entry f vs (frames_of room.frames held) s) where
     abbrev frames : ℕ
     frames = frames_of room.frames held
@@ -116,6 +124,8 @@ module _ (source : List ℕ) (core : Core) (r : Chosen) (is : IsCodeOf source co
         run = q;
         told = told_meant tb f.results room frames (if_asked gauge (gauge_by_states (all_seen q) held)) o last given (meaning core f.name NoClosed vs room.calls frames).answer e meant (deep_frames held stack b)
             (subst (λ xs. TellsEnded tb f.results room (if_asked gauge xs) last.store given o e) lines told);
+        measured = λ us rest gives. measured source core r.checked.code q.before q.waits r.entry f vs us frames q.first room.calls rest q.end q.last q.left q.steps is found (q.starts).kinds
+            (begins_of r.checked.code q.before q.waits r.entry f vs frames q.first q.starts q.arguments b.is q.free) some gives q.ends;
         in_place = λ fip. meant_flat held stack b before waits g (all_seen q) kinds tells came.tells fip held stack;
         never_deep = fip_not_deep held stack b;
       }
@@ -157,12 +167,22 @@ module _ (source name input : List ℕ) (r : Chosen) (ready : IsReady source (Co
     stack = stack;
   }
 
+  -- what the run holds of the stack is what is told of the root
+  bound_is : (held : Option Stack) → HasStack (sound_view (plain_code r.checked.code)) r.entry held → IsBoundOf entry held
+  bound_is held stack ms found i m at there =
+      let root = N.root_at name entry.program.instances entry.root entry.named in
+      let x = named entry.program h.code.lowered.members r.checked.code r.entry f types_same (N.headed source name r ready h) there_is header.some in
+      let one : x.place ≡ i = (typed_sound source entry.program (N.types source name r ready h)).roots x.place i x.instance entry.root x.there at x.root root.root (sym x.name ∙ header.named ∙ sym root.named) in
+      let number : function_of entry.program.instances i ≡ Some r.entry = subst (λ j. function_of entry.program.instances j ≡ Some r.entry) one x.of'.function in
+      has_once (sound_view (plain_code r.checked.code)) r.entry held m.stack stack (h.code.lowered.stacks ms found i r.entry m number there)
+
   -- what is told by the function's header is told by the root's
   on_root : (vs : Values) (held : Option Stack) (e : Result (List ℕ) Failure) → MeantSo entry.core f.name r.checked.code.types (sound_view (plain_code r.checked.code)) r.entry f vs room held gauge e → RunsOn entry vs room gauge e
   on_root vs held e x =
       let frames : ℕ = frames_of room.frames held in
       let behind : Values → List ℕ = λ _. if_asked gauge (gauge_by_states (all_seen x.run) held) in
       let answer : List ℕ → Answer = λ n. (meaning entry.core n NoClosed vs room.calls frames).answer in
+      let run : Core → List ℕ → Run = λ c n. meaning c n NoClosed vs room.calls frames in
       let by_name = subst (λ n. TellsMeant r.checked.code.types f.results room.calls frames behind (answer n) e) header.named x.told in
       let by_types = subst (λ tb. TellsMeant tb f.results room.calls frames behind (answer name) e) types_same by_name in
       let by_results = subst (λ rs. TellsMeant entry.program.types rs room.calls frames behind (answer name) e) header.results by_types in
@@ -170,6 +190,12 @@ module _ (source name input : List ℕ) (r : Chosen) (ready : IsReady source (Co
         code = coded held x.there x.stack;
         run = x.run;
         told = by_results;
+        measured = λ us rest gives.
+            subst (λ ps. IsMeasured vs us ps entry.root.credits (run entry.core name).peak (all_seen x.run)) header.params
+            (subst (λ ks. IsMeasured vs us f.params ks (run entry.core name).peak (all_seen x.run)) header.credits
+            (subst (λ n. IsMeasured vs us f.params f.credits (run entry.core n).peak (all_seen x.run)) header.named
+            (x.measured us rest (subst (λ n. (run entry.core n).answer ≡ Gives us rest) (sym header.named) gives))));
+        bound = bound_is held x.stack;
         in_place = λ fip. subst (λ ks. RunsInPlace vs ks (all_seen x.run) held) header.credits (x.in_place (fip_kind f.kind (header.kind ∙ fip)));
         never_deep = λ fip. subst (λ n. answer n ≢ Deep) header.named (x.never_deep (fip_kind f.kind (header.kind ∙ fip)));
       }
@@ -190,7 +216,7 @@ module _ (source name input : List ℕ) (r : Chosen) (ready : IsReady source (Co
       (subst (λ n. Begins r.checked.code r.entry st.function st.values n st.state) st.has_frames.are st.begins) in
       let came : Came r.checked r.entry st.values room.calls (frames_of room.frames held) st.state o last new.stack.given g = subst (λ n. Came r.checked r.entry st.values room.calls n st.state o last new.stack.given g) st.has_frames.are ran.came in
       let said : TellsEnded r.checked.code.types f.results room (if_asked gauge (gauge_lines g held)) new.store new.stack.given o e = subst (λ (q : PlainFunction). TellsEnded r.checked.code.types q.results room (if_asked gauge (gauge_lines g held)) new.store new.stack.given o e) own told in
-      let so = meant_so source entry.core r (N.code_of source name r ready h literals) f st.values room gauge st.state header.some held st.has_frames.stack begins ran.before ran.waits o last new.stack.given g e ran.kinds ran.runs ran.tells came said in
+      let so = meant_so source entry.core r (N.code_of source name r ready h literals) (N.members_found source name r ready h literals) f st.values room gauge st.state header.some held st.has_frames.stack begins ran.before ran.waits o last new.stack.given g e ran.kinds ran.runs ran.tells came said in
       let x = subst (λ c. MeantSo entry.core f.name r.checked.code.types c r.entry f st.values room held gauge e) (sym (view_same r.checked.code)) so in
       Ran entry st.values e (spells st.values spelt) (subst (λ ks. words_for st.values ks ≤ room.words) header.credits fits) (on_root st.values held e x)
 

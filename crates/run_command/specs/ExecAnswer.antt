@@ -7,25 +7,29 @@
 -- or that are given: its values, each in a line of its own; or the trap and its place, or that calls or frames ran out,
 -- where frames never run out of a fip entry.
 --
--- Where the gauge is asked for, its lines stand behind the values. They tell of a run of the code, which is lowered
--- from the source. For a fip entry they tell, as the lowest and the highest number of cells of each size, how many of
--- them the arguments and the header's credits have, and a stack within its bound.
+-- Where the gauge is asked for, its lines stand behind the values. They tell of a run of a code that is lowered from the
+-- source, and of each such run the same: as the lowest number of cells of each size how many of them the results and the
+-- lent arguments have, as the highest how many the arguments and the header's credits have, as the stack the peak of the
+-- evaluation, and as its bound the stack number that `check` tells of the entry. For a fip entry both numbers of cells
+-- are those of the arguments and credits, in all states of the run, and the stack is within its bound.
 --
 -- With `rev` on Cons(1, Cons(2, Cons(3, Nil))) and Nil and the gauge, these are four lines: the reversed list, `cells
 -- of 2: 3 to 3`, `stack: 0 frames, 9 words` and `bound: 0 frames, 9 words`. With 8 words the store is too small, since
 -- 9 are needed; and with 3 calls it is out of calls.
 use Rattle.std.specs.Prelude.{◌≡◌, ◌≢◌, ◌<◌, ◌≤◌, ℕ, Bool, List, [], ◌++◌, Option, Some, None}
-use Rattle.std.specs.Prelude.{Result, Ok, Err}
+use Rattle.std.specs.Prelude.{Result, Ok, Err, slice_get}
 use Rattle.fip_language.specs.declared.FunKind.TheVariants.{Fip}
 use Rattle.fip_language.specs.declared.limits.TheConstants.{MOST_FIELDS}
 use Rattle.fip_language.specs.Gauge.{Seen, lowest, highest}
-use Rattle.fip_language.specs.Meaning.{Answer, Gives, Trap, Out, Deep, Stuck, meaning}
+use Rattle.fip_language.specs.Meaning.{Answer, Gives, Trap, Out, Deep, Stuck, Peak, meaning}
 use Rattle.fip_language.specs.Prefix.{IsPlace}
 use Rattle.fip_language.specs.PrintedText.{printed_lines}
 use Rattle.fip_language.specs.Statics.{NoClosed}
 use Rattle.fip_language.specs.Table.{Table}
 use Rattle.fip_language.specs.Values.{Values}
 use Rattle.fip_base.specs.declared.plain.Stack.{Stack}
+use Rattle.fip_trees.specs.declared.groups.Member.{Member}
+use Rattle.tail_groups.specs.Members.{AreMembers}
 use Rattle.command_line.specs.Words.{Room}
 use Rattle.command_outcome.specs.declared.failure.Failure.{Failure}
 use Rattle.command_outcome.specs.declared.failure.Failure.TheVariants as F
@@ -36,7 +40,7 @@ use Rattle.session_meaning.specs.Talk.{frames_of}
 use Rattle.source_commands.specs.Codes.{sound_view}
 use Rattle.source_commands.specs.ProgramCode.{IsCodeOfSource}
 use Rattle.eval_command.specs.EvalAnswer.{Entry, Spells}
-use Rattle.meant_runs.specs.Gauges.{cells_given}
+use Rattle.meant_runs.specs.Gauges.{cells_given, IsMeasured}
 use Rattle.run_command.specs.CodeRun.{Run, all_seen, words_for}
 use Rattle.run_command.specs.GaugeText.{gauge_by_states, highest_stack, if_asked}
 
@@ -73,6 +77,14 @@ words_of entry vs = words_for vs (entry.root).credits
 abbrev pub answer_of : {source name : List ℕ} → Entry source name → Values → ℕ → ℕ → Answer
 answer_of {name = name} entry vs calls frames = (meaning entry.core name NoClosed vs calls frames).answer
 
+abbrev pub peak_of : {source name : List ℕ} → Entry source name → Values → ℕ → ℕ → Peak
+peak_of {name = name} entry vs calls frames = (meaning entry.core name NoClosed vs calls frames).peak
+
+-- The groups of the program tell this of the entry.
+abbrev pub IsBoundOf : {source name : List ℕ} → Entry source name → Option Stack → Type 0
+IsBoundOf entry held = (members : List Member) → AreMembers entry.program.instances members → (i : ℕ) (m : Member) →
+    slice_get entry.program.instances i ≡ Some entry.root → slice_get members i ≡ Some m → held ≡ m.stack
+
 abbrev pub IsWithin : Stack → Option Stack → Type 0
 IsWithin stack None = ⊥
 IsWithin stack (Some bound) = (stack.frames ≤ bound.frames) × (stack.words ≤ bound.words)
@@ -92,6 +104,11 @@ pub record RunsOn {source name : List ℕ} (entry : Entry source name) (vs : Val
   pub told : TellsRun entry.program.types (entry.root).results room.calls (frames_for code room)
       (λ results. if_asked gauge (gauge_by_states (all_seen run) code.held))
       (answer_of entry vs room.calls (frames_for code room)) e
+  pub measured : (results : Values) (left : ℕ) →
+      answer_of entry vs room.calls (frames_for code room) ≡ Gives results left →
+      IsMeasured vs results (entry.root).params (entry.root).credits
+      (peak_of entry vs room.calls (frames_for code room)) (all_seen run)
+  pub bound : IsBoundOf entry code.held
   pub in_place : (entry.root).kind ≡ Fip → RunsInPlace vs (entry.root).credits (all_seen run) code.held
   pub never_deep : (entry.root).kind ≡ Fip → answer_of entry vs room.calls (frames_for code room) ≢ Deep
 

@@ -1,4 +1,4 @@
--- What is said of `exec` without the gauge is the end of its outcome: cause by cause, and where it is run both are what
+-- What is said of `exec` is the end of its outcome: cause by cause, and where it is run both are what
 -- the source means.
 use Rattle.std.proofs.Common.{◌≡◌, ◌∙◌, ℕ, false, List, Option, Some, None, refl, sym, ap, subst, arith}
 use Rattle.std.specs.Prelude.{Err}
@@ -32,7 +32,7 @@ abbrev request_in : Request → Command → Request
 request_in q (Exec r) = r
 request_in q c = q
 
-module _ (source input : List ℕ) (r : Request) (off : r.gauge ≡ false) where
+module _ (source input : List ℕ) (r : Request) where
   -- the outcome on a source
   on_source : (c : Command) (e : End) (o : Outcome) → c ≡ Exec r → SaysOf source input c (Compiled r.entry) e → OnSource source input (Exec r) (Compiled r.entry) o → e ≡ o.end
   on_source c _ _ is (E.Refused q h) (A.Refused p k) = ap (λ x. Err (F.Refused x)) (refused_once source (Compiled r.entry) q p h k)
@@ -43,17 +43,17 @@ module _ (source input : List ℕ) (r : Request) (off : r.gauge ≡ false) where
   on_source c _ _ is (E.LongInput ready reads more) (A.LongInput again also further) = refl
   on_source c _ o is (E.LongInput ready reads more) (A.Ready _ again taken k) = let le = taken tt in absurd (omega (arith, more, le))
   on_source c e o is (E.Evaluated file entry calls frames _ same le h) k = absurd (other c (Eval file entry calls frames) same (ap tag is) refl)
-  on_source c e _ is (E.Executed q _ same gone ready le h) (A.Refused p k) = absurd (refused_not_ready source (Compiled r.entry) p k ready)
-  on_source c e _ is (E.Executed q _ same gone ready le h) (A.LongInput again reads more) = absurd (omega (arith, more, le))
-  on_source c e o is (E.Executed q _ same gone ready le h) (A.Ready _ again taken k) =
+  on_source c e _ is (E.Executed q _ same ready le h) (A.Refused p k) = absurd (refused_not_ready source (Compiled r.entry) p k ready)
+  on_source c e _ is (E.Executed q _ same ready le h) (A.LongInput again reads more) = absurd (omega (arith, more, le))
+  on_source c e o is (E.Executed q _ same ready le h) (A.Ready _ again taken k) =
       let one : q ≡ r = sym (ap (request_in q) same) ∙ ap (request_in q) is in
-      let runs = subst (λ (x : Request). R.Execs source x.entry input x.room false e) one h in
-      entry_is_told source r.entry input r.room o e (subst (λ g. X.Execs source r.entry input r.room g o) off k) runs
+      let runs = subst (λ (x : Request). R.Execs source x.entry input x.room x.gauge e) one h in
+      entry_is_told source r.entry input r.room r.gauge o e k runs
   on_source c e o is (E.TookTurns file seed turns room _ same le h) k = absurd (other c (Tasks file seed turns room) same (ap tag is) refl)
   on_source c _ o is (E.Derived file out bytes same h) k = absurd (other c (Derive file out) same (ap tag is) refl)
   on_source c _ o is (E.Underived file out same h) k = absurd (other c (Derive file out) same (ap tag is) refl)
 
-module _ (files : List File) (input : List ℕ) (r : Request) (off : r.gauge ≡ false) where
+module _ (files : List File) (input : List ℕ) (r : Request) where
   -- the outcome on the file that is found
   on_found : (found : Option (List ℕ)) (w : Wanted) (source : List ℕ) (e : End) (o : Outcome) → file_of r.file files ≡ found → Checks source_spelling files (Exec r) w source → SaysOf source input (Exec r) w e → A.OnFound files input (Exec r) found o → e ≡ o.end
   on_found None w source e o at checks says h =
@@ -63,7 +63,7 @@ module _ (files : List File) (input : List ℕ) (r : Request) (off : r.gauge ≡
       let name : r.file ≡ checks.name = same_Some r.file checks.name checks.names in
       let same : source ≡ bytes = same_Some source bytes (sym checks.there ∙ (ap (λ n. file_of n files) (sym name) ∙ at)) in
       let wants : w ≡ Compiled r.entry = sym (same_Some (Compiled r.entry) w checks.wants) in
-      on_source bytes input r off (Exec r) e o refl (subst (λ x. SaysOf x input (Exec r) (Compiled r.entry) e) same (subst (λ v. SaysOf source input (Exec r) v e) wants says)) h
+      on_source bytes input r (Exec r) e o refl (subst (λ x. SaysOf x input (Exec r) (Compiled r.entry) e) same (subst (λ v. SaysOf source input (Exec r) v e) wants says)) h
 
   says_is : (c : Command) (e : End) (o : Outcome) → c ≡ Exec r → Says source_spelling files input c e → ComesTo files input (Exec r) o → e ≡ o.end
   says_is c _ o is (E.Missing name others names gone) h = absurd (subst (λ d. IsOther d) is others)
@@ -75,5 +75,5 @@ module _ (files : List File) (input : List ℕ) (r : Request) (off : r.gauge ≡
   says_is c _ o is (E.OfLibrary name text same k) h = absurd (other c (Library name) same (ap tag is) refl)
   says_is c _ o is (E.OfGen seed count _ same k) h = absurd (other c (Gen seed count) same (ap tag is) refl)
 
-pub executed : (files : List File) (input : List ℕ) (r : Request) (e : End) (o : Outcome) → r.gauge ≡ false → Says source_spelling files input (Exec r) e → ComesTo files input (Exec r) o → e ≡ o.end
-executed files input r e o off says h = says_is files input r off (Exec r) e o refl says h
+pub executed : (files : List File) (input : List ℕ) (r : Request) (e : End) (o : Outcome) → Says source_spelling files input (Exec r) e → ComesTo files input (Exec r) o → e ≡ o.end
+executed files input r e o says h = says_is files input r (Exec r) e o refl says h

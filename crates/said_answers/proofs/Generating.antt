@@ -45,15 +45,15 @@ module _ (seed count : ℕ) (few : count ≤ 100000) where
   -- no tree
   fails : (e : End) (o : Outcome) (f : Failure) → M.Makes tree_source seed count e → X.Execs tree_source build keys gen_room false o → o.end ≡ Err f → e ≡ o.end
   fails _ o f (M.LongInput more) x is = let short = input_short seed count few in absurd (omega (arith, more, short))
-  fails _ o f (M.NoTree g short h) x is = entry_is_told tree_source build keys gen_room o (Err g) x h
+  fails _ o f (M.NoTree g short h) x is = entry_is_told tree_source build keys gen_room false o (Err g) x h
   fails _ o f (M.Made y us rs l text short spelt fits runs gives) x is =
-      absurd (prints_or_fails text f (entry_is_told tree_source build keys gen_room o (Ok text) x (R.Ran y us (Ok text) spelt fits runs) ∙ is))
+      absurd (prints_or_fails text f (entry_is_told tree_source build keys gen_room false o (Ok text) x (R.Ran y us (Ok text) spelt fits runs) ∙ is))
 
   -- a tree
   makes : (e : End) (s : X.Start tree_source build) (vs results : Values) (left : ℕ) (text : List ℕ) (l : _) → M.Makes tree_source seed count e → Spells s.entry keys vs → X.words_of s vs ≤ gen_room.words → X.RunsOn s vs gen_room false (Ok text) l → (X.run_of s vs gen_room).answer ≡ Gives results left → e ≡ Ok (lines_of_results count results)
   makes _ s vs results left text l (M.LongInput more) spelt fits runs gives = let short = input_short seed count few in absurd (omega (arith, more, short))
   makes _ s vs results left text l (M.NoTree g short h) spelt fits runs gives =
-      absurd (prints_or_fails text g (sym (entry_is_told tree_source build keys gen_room _ (Err g) (X.Ran s vs (Ok text) l spelt fits runs) h)))
+      absurd (prints_or_fails text g (sym (entry_is_told tree_source build keys gen_room false _ (Err g) (X.Ran s vs (Ok text) l spelt fits runs) h)))
   makes _ s vs results left text l (M.Made y us rs k other short also within on means) spelt fits runs gives =
       ap (λ ws. Ok (lines_of_results count ws)) (values_once tree_source seed count y s.entry us vs rs results k left (R.frames_for on.code gen_room) (X.frames_for s gen_room) also spelt means gives)
 

@@ -1,5 +1,5 @@
 // The laws on what the program's clauses say. Each is the contract of a function that does nothing.
-ghost use Rattle.std.specs.Prelude.{◌≡◌, ◌≤◌, ℕ, false, List};
+ghost use Rattle.std.specs.Prelude.{◌≡◌, ◌≤◌, ℕ, List};
 ghost use Rattle.fip_base.specs.Files.{File};
 ghost use Rattle.command_line.specs.Words.{Request, Command, Exec, Gen, most_count};
 ghost use Rattle.command_answers.specs.Answer.{ComesTo};
@@ -18,10 +18,10 @@ pub fn what_is_said_is_written()
         Says source_spelling files input c e → ComesTo files input c o → e ≡ o.end }
 {}
 
-/// So it is of `exec` without the gauge, where its source isn't a program of the loop form, which has a definition of
-/// its own: what the program's clauses say of it is the end of its outcome. For who runs a source.
+/// So it is of `exec`, with the gauge as without, where its source isn't a program of the loop form, which has a
+/// definition of its own: what the program's clauses say of it is the end of its outcome. For who runs a source.
 pub fn what_is_said_of_exec_is_written()
-    ensures law { (files : List File) (input : List ℕ) (r : Request) (e : End) (o : Outcome) → r.gauge ≡ false →
+    ensures law { (files : List File) (input : List ℕ) (r : Request) (e : End) (o : Outcome) →
         Says source_spelling files input (Exec r) e → ComesTo files input (Exec r) o → e ≡ o.end }
 {}
 

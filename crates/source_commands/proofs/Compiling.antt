@@ -12,6 +12,7 @@ use Rattle.code_size.specs.Bounds.{IsWithin, most_for, most_labels}
 use Rattle.code_size.specs.Places.{places}
 use Rattle.cell_lower.specs.Shape.{header, headers}
 use Rattle.code_runs.specs.Codes as R
+use Rattle.lowered_code.specs.Bodies.{function_of}
 use Rattle.lowered_code.specs.Functions.{AreLowered}
 use Rattle.lower_frame.specs.Spelled.{AreSpelt}
 use Rattle.spelt_code.proofs.Whole.{typed_has_file}
@@ -25,6 +26,7 @@ use Rattle.fip_trees.specs.Tree.{Instance, Program}
 use Rattle.fip_trees.specs.TreeView.{program}
 use Rattle.sound_code.specs.Breaks.{IsSound}
 use Rattle.sound_code.specs.Codes as S
+use Rattle.sound_code.specs.StackNumbers.{HasStack}
 use Rattle.tail_groups.specs.Members.{AreMembers}
 use Rattle.source_report.specs.Report.{bare, IsAccepted}
 use Rattle.command_outcome.specs.declared.failure.Failure.{Failure}
@@ -81,9 +83,9 @@ within p ms fs found small i n d f at is there = subst (λ (x : PlainFunction). 
     counted : registers ms i ≡ Rattle.tail_groups.specs.Registers.registers d
     counted = ap registers_of m.1 ∙ found.counted i d m.0 at m.1
 
-pub headed : (p : Program) (code : Code) (ms : List Member) → AreMembers p.instances ms → code.types ≡ p.types → map header code.functions.items ≡ headers ms p.instances → AreLowered p (all_instrs code) → AreSmall p ms code.functions.items → IsLoweredFrom p (plain_code code)
-headed p code ms found types functions lowered small =
-    record { types = types; members = ms; found = found; functions = headers_same code.functions.items ∙ functions; lowered = subst (AreLowered p) (sym (instrs_same code.functions.items)) lowered; bounded = within p ms code.functions.items found small }
+pub headed : (p : Program) (code : Code) (ms : List Member) → AreMembers p.instances ms → code.types ≡ p.types → map header code.functions.items ≡ headers ms p.instances → AreLowered p (all_instrs code) → AreSmall p ms code.functions.items → ((os : List Member) → AreMembers p.instances os → (i n : ℕ) (m : Member) → function_of p.instances i ≡ Some n → slice_get os i ≡ Some m → HasStack (S.plain code) n m.stack) → IsLoweredFrom p (plain_code code)
+headed p code ms found types functions lowered small stacks =
+    record { types = types; members = ms; found = found; functions = headers_same code.functions.items ∙ functions; lowered = subst (AreLowered p) (sym (instrs_same code.functions.items)) lowered; bounded = within p ms code.functions.items found small; stacks = λ os f i n m e there. subst (λ c. HasStack c n m.stack) (sym (view_same code)) (stacks os f i n m e there) }
 
 -- the code is verified, and it is the same
 pub headed_verified : (p : Program) (code : Code) (o : Result Front Failure) → IsLoweredFrom p (plain_code code) → IfOk o (λ f. program f.typed.program ≡ p) → IfOk o (λ f. f.verified.code ≡ code) → IfOk o (λ f. IsLoweredFrom (program f.typed.program) (plain_code f.verified.code))
@@ -132,6 +134,6 @@ named_one name fs None some h = tt
 named_one name fs (Some i) some h = record { some = some; function = h.0; there = h.1; named = h.2 }
 
 -- a code of a file, and its function of a name
-pub function_of : (bytes name : List ℕ) (code : Code) (o : Result Chosen Failure) → IsSoundFile bytes (plain_code code) → IfOk o (λ r. r.checked.code ≡ code) → IfOk o (λ r. IsNamed name r.checked.code.functions.items r.entry) → IfOk o (IsFunctionOf bytes name)
-function_of bytes name code (Ok r) file same named = record { file = subst (λ c. IsSoundFile bytes (plain_code c)) (sym same) file; named = named }
-function_of bytes name code (Err f) file same named = tt
+pub chosen_function : (bytes name : List ℕ) (code : Code) (o : Result Chosen Failure) → IsSoundFile bytes (plain_code code) → IfOk o (λ r. r.checked.code ≡ code) → IfOk o (λ r. IsNamed name r.checked.code.functions.items r.entry) → IfOk o (IsFunctionOf bytes name)
+chosen_function bytes name code (Ok r) file same named = record { file = subst (λ c. IsSoundFile bytes (plain_code c)) (sym same) file; named = named }
+chosen_function bytes name code (Err f) file same named = tt

@@ -11,7 +11,7 @@ use Rattle.fip_trees.specs.Tree.{Instance, Program}
 use Rattle.cell_code.specs.declared.code.Code.{Code}
 use Rattle.cell_code.specs.declared.code.Function.{Function}
 use Rattle.cell_lower.specs.Limits.{is_ruled, registers}
-use Rattle.cell_lower.specs.Shape.{Header, header, header_of, and_if, headers_from, headers}
+use Rattle.cell_lower.specs.Shape.{Header, header, header_of, and_if, headers_from}
 use Rattle.code_file.specs.Plain.{plain_code}
 use Rattle.sound_code.specs.Codes as S
 use Rattle.command_outcome.specs.declared.failure.Failure.{Failure}

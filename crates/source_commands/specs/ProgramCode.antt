@@ -1,9 +1,9 @@
 -- The code that `compile` stores of a source, as far as it is said. It is sound, and its types are those of the
 -- source's program. It has a function for each fip and fbip instance, in the order of their numbers: of the instance's
 -- kind, with its parameters, header credits and results, with as many registers as the groups tell, and with the
--- instance's name where this is a root. Its instructions are such as the instance is lowered to, so each of its runs
--- ends as the source means; and it has no more of them, and of label maps, than the instance's places allow. It has a
--- file; E61 is told only where that is too long.
+-- instance's name where this is a root; and it holds of the stack at the most what `check` tells of the instance. Its
+-- instructions are such as the instance is lowered to, so each of its runs ends as the source means; and it has no more
+-- of them, and of label maps, than the instance's places allow. It has a file; E61 is told only where that is too long.
 --
 -- Of the source
 --     fip fun rev(xs: list, acc: list): list { .. }
@@ -25,6 +25,7 @@ use Rattle.code_file.specs.declared.tags.Version.TheVariants.{Second}
 use Rattle.lowered_code.specs.Bodies.{function_of}
 use Rattle.lowered_code.specs.Functions.{AreLowered}
 use Rattle.sound_code.specs.Breaks.{IsSound}
+use Rattle.sound_code.specs.StackNumbers.{HasStack}
 use Rattle.source_report.specs.Report.{bare, IsAccepted}
 use Rattle.source_commands.specs.Codes.{sound_view}
 use Rattle.source_commands.specs.Entries.{Chosen, IsNamed}
@@ -48,8 +49,13 @@ AreWithin p fs = (i n : ℕ) (d : Instance) (f : PlainFunction) → slice_get p.
     function_of p.instances i ≡ Some n → slice_get fs n ≡ Some f →
     IsWithin p.types d (length f.instrs) (length f.labels)
 
+-- Each function holds of the stack at the most what the groups tell of its instance, or nothing is told of either.
+abbrev pub HaveStacks : Program → PlainCode → Type 0
+HaveStacks p code = (members : List Member) → AreMembers p.instances members → (i n : ℕ) (m : Member) →
+    function_of p.instances i ≡ Some n → slice_get members i ≡ Some m → HasStack (sound_view code) n m.stack
+
 -- The code's types are the program's, its functions are headed as the program's instances tell, and their instructions
--- are lowered from these and no more than their places allow.
+-- are lowered from these and no more than their places allow, and hold of the stack what is told of these.
 pub record IsLoweredFrom (p : Program) (code : PlainCode) : Type 0 where
   pub types : code.types ≡ p.types
   pub members : List Member
@@ -57,6 +63,7 @@ pub record IsLoweredFrom (p : Program) (code : PlainCode) : Type 0 where
   pub functions : map plain_header code.functions ≡ headers members p.instances
   pub lowered : AreLowered p (map instrs_of code.functions)
   pub bounded : AreWithin p code.functions
+  pub stacks : HaveStacks p code
 
 -- a code that is made of this source, which breaks no rule
 pub record IsCodeOfSource (source : List ℕ) (code : PlainCode) : Type 0 where

@@ -1,4 +1,4 @@
 pub mod Plain
 pub mod Valued
 pub mod Kept
-pub mod Replaying
+pub mod Played

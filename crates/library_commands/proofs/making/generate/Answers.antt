@@ -1,4 +1,4 @@
-use Rattle.std.proofs.Common.{◌∙◌, inl, inr, refl}
+use Rattle.std.proofs.Common.{◌∙◌}
 use Rattle.library_commands.proofs.Runs.{ran_text, kept_text}
 use Rattle.library_commands.proofs.Texts.{tree_text_is}
 use Rattle.library_commands.proofs.making.generate.Goals as goal

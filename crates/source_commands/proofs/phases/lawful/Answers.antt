@@ -4,6 +4,7 @@ use Rattle.cell_lower.specs.LaidProgram.{IsAsked, IsLaidOut}
 use Rattle.sound_code.specs.Codes.{plain}
 use Rattle.accepted_soundness.proofs.Functions.{headed_in_memory}
 use Rattle.accepted_soundness.proofs.Whole.{laid_out_is_sound}
+use Rattle.accepted_soundness.proofs.StackNumbers.{laid_out_has_stacks}
 use Rattle.source_commands.proofs.Compiling.{headed}
 use Rattle.source_commands.proofs.Told.{report_keeps}
 use Rattle.source_commands.proofs.phases.lawful.Goals as goal
@@ -13,6 +14,10 @@ returns-in-Err-clause-kept c = λ w. report_keeps c.args.source.now w c.failure_
 
 pub returns-in-Ok-clause-code : goal.returns-in-Ok-clause-code
 returns-in-Ok-clause-code c = headed (program c.in-Ok.lowered.typed.program) c.in-Ok.lowered.code c.in-Ok.lowered.groups c.in-Ok.ensures.groups c.in-Ok.ensures.types c.in-Ok.ensures.functions c.in-Ok.ensures.lowered c.in-Ok.ensures.bounded
+    (let p = program c.in-Ok.lowered.typed.program in
+    laid_out_has_stacks c.args.source.now p c.in-Ok.ensures.accepted (plain c.in-Ok.lowered.code)
+    (headed_in_memory p c.in-Ok.lowered.groups c.in-Ok.lowered.code c.in-Ok.ensures.groups c.in-Ok.ensures.types c.in-Ok.ensures.functions)
+    (subst (λ ns. IsAsked p ns → IsLaidOut p (plain c.in-Ok.lowered.code)) c.in-Ok.ensures.needs c.in-Ok.ensures.laid))
 
 pub returns-in-Ok-clause-sound : goal.returns-in-Ok-clause-sound
 returns-in-Ok-clause-sound c =

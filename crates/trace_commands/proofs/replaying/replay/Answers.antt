@@ -1,7 +1,7 @@
 use Rattle.std.proofs.Common.{ap, sym, subst, Err}
 use Rattle.loaded_runs.specs.TraceReading.{IsBadTrace}
 use Rattle.trace_files.specs.Plain.{plain_trace}
-use Rattle.trace_commands.proofs.Replaying.{played, long_bad, bad_at}
+use Rattle.trace_commands.proofs.Played.{played, long_bad, bad_at}
 use Rattle.trace_commands.proofs.replaying.replay.Goals as goal
 
 pub returns-then-bytes-gt-MOST_FILE_BYTES-clause-bad : goal.returns-then-bytes-gt-MOST_FILE_BYTES-clause-bad

@@ -18,7 +18,6 @@ use Rattle.fip_driver.specs.Commands.{fetched_name}
 use Rattle.fip_driver.specs.Ends.{End, SaysOfCode, CodeRefused, CodeListed, CodeUpgraded, CodeUnspelt, NoFunction, LongRun, CodeRan, AsksCode, Says, OnCode, Comes, IsThere}
 use Rattle.fip_driver.specs.Fetched.{StoreFails}
 use Rattle.fip_driver.specs.Outcome.{end_of, IsFault, IsInputFault, ReadOutcome, CodeOutcome, Closes, FileOutcome}
-use Rattle.fip_driver.specs.Spelling.{source_spelling}
 use Rattle.fip_driver.proofs.SourceEnds.{fault_up, input_fault_up, rose_later}
 use Rattle.fip_driver.proofs.Telling.{any_told, held}
 
@@ -86,11 +85,11 @@ code_ends c name files left fr ir mf mi bytes text e f i holds names same k =
     let t = held files name bytes holds in
     (t.0, h.0, t.1, h.1, by h.0 t.0 (name, names, t.2) h.2)
   where
-    by : (input : List ℕ) (all : List File) → IsThere all c bytes → IsFault c fr ir e ⊎ SaysOfCode bytes input c e → Closes source_spelling all input c mf mi e
+    by : (input : List ℕ) (all : List File) → IsThere all c bytes → IsFault c fr ir e ⊎ SaysOfCode bytes input c e → Closes all input c mf mi e
     by input all there (inl g) = inl (fault_up c fr ir mf mi e f i g)
     by input all there (inr s) = inr (inl (OnCode bytes e there s))
 
 -- a code file that is too long
-pub long_code : (c : Command) → AsksCode c → (all : List File) (input bytes : List ℕ) (e : Failure) → e ≡ F.BadCode 16777216 → 16777216 < length bytes → IsThere all c bytes → Says source_spelling all input c (Err e) ⊎ Comes source_spelling all input c (Err e)
+pub long_code : (c : Command) → AsksCode c → (all : List File) (input bytes : List ℕ) (e : Failure) → e ≡ F.BadCode 16777216 → 16777216 < length bytes → IsThere all c bytes → Says all input c (Err e) ⊎ Comes all input c (Err e)
 long_code c asks all input bytes e same more there =
-    inl (subst (λ f. Says source_spelling all input c (Err f)) (sym same) (OnCode bytes (Err (F.BadCode 16777216)) there (CodeRefused (F.BadCode 16777216) asks (LongFile more))))
+    inl (subst (λ f. Says all input c (Err f)) (sym same) (OnCode bytes (Err (F.BadCode 16777216)) there (CodeRefused (F.BadCode 16777216) asks (LongFile more))))

@@ -9,9 +9,7 @@ use Rattle.command_outcome.specs.declared.failure.Failure.{Failure}
 use Rattle.command_outcome.specs.declared.failure.Failure.TheVariants as F
 use Rattle.command_outcome.specs.declared.failure.Object.TheVariants as O
 use Rattle.fip_driver.specs.Fetched.{FetchFails, FileFails, StoreFails, JudgeFails, IsLateFailure}
-use Rattle.fip_driver.specs.Fronted.{FrontFails}
 use Rattle.fip_driver.specs.Outcome.{RoseUntold, IsCounted, IsFolderFault}
-use Rattle.fip_driver.specs.Spelling.{Spelling}
 use Rattle.fip_driver.specs.Unread.{Outcome, IsBeforeInput}
 use Rattle.fip_driver.proofs.SourceEnds.{rose_later}
 
@@ -65,14 +63,6 @@ late_failure_unfaulted f h b = b
 
 pub late_failure_counted : (files : Option (List File)) (rose : Type 0) (f : Failure) → IsLateFailure f → IsCounted files rose (Err f)
 late_failure_counted files rose f h = unfaulted_counted files rose (Err f) (late_failure_unfaulted f h)
-
-front_unfaulted : (spelling : Spelling) (source entry : List ℕ) (f : Failure) → FrontFails spelling source entry f → IsFolderFault (Err f) → ⊥
-front_unfaulted spelling source entry (F.Fault object) (inl h) b = h
-front_unfaulted spelling source entry (F.Fault object) (inr (core, spelt, right, h)) b = h
-front_unfaulted spelling source entry f h b = b
-
-pub front_counted : (spelling : Spelling) (source entry : List ℕ) (files : Option (List File)) (rose : Type 0) (f : Failure) → FrontFails spelling source entry f → IsCounted files rose (Err f)
-front_counted spelling source entry files rose f h = unfaulted_counted files rose (Err f) (front_unfaulted spelling source entry f h)
 
 -- ---- what is one
 

@@ -1,5 +1,5 @@
 -- A command ends with one thing at most, where it is said; and then its answer isn't open.
-use Rattle.std.proofs.Common.{◌≡◌, ◌∙◌, ℕ, true, false, true≢false, List, sym, ap, subst, refl, arith, []}
+use Rattle.std.proofs.Common.{◌≡◌, ◌∙◌, ℕ, List, sym, ap, subst, refl, arith, []}
 use Rattle.std.specs.Prelude.{Option, Some, None, Ok, Err}
 use Rattle.std.proofs.lemmas.Option.{none-some, same_Some}
 use Rattle.fip_base.specs.Files.{File, file_of}
@@ -27,7 +27,6 @@ use Rattle.source_commands.proofs.Once.{listing_once, listing_ready, report_once
 use Rattle.fip_driver.specs.Commands.{ReadsInput, fetched_name, wanted}
 use Rattle.fip_driver.specs.Ends.{End, SaysOf, Refused, Listed, LongInput, Evaluated, Executed, TookTurns, Derived, Underived, IsTaken, Checks, Says, Missing, OnSource, OnCode, OnAudit, OfLibrary, AsksCode, SaysOfCode, IsVerdict, SaysOfAudit, Reported, NoProof, Judged, IsUnsaidOn, IsThere, OnTrace, SaysOfTrace, IsOpen, OpenSource, OfGen}
 use Rattle.fip_driver.proofs.OneCode.{says_asks, code_once}
-use Rattle.fip_driver.specs.Spelling.{Spelling}
 
 -- ---- on a source
 
@@ -326,70 +325,70 @@ asks_unwanted (Upgrade file out) w a e = none-some w e
 asks_unwanted (Run r) w a e = none-some w e
 asks_unwanted c w a e = a
 
-module _ (spelling : Spelling) (files : List File) (input : List ℕ) (c : Command) where
+module _ (files : List File) (input : List ℕ) (c : Command) where
   one_name : (m n : List ℕ) → fetched_name c ≡ Some m → fetched_name c ≡ Some n → m ≡ n
   one_name m n h k = same_Some m n (sym h ∙ k)
 
   there_or_missing : (m n bytes : List ℕ) → fetched_name c ≡ Some m → fetched_name c ≡ Some n → file_of m files ≡ None → file_of n files ≡ Some bytes → ⊥
   there_or_missing m n bytes h k gone there = none-some bytes (sym (subst (λ x. file_of x files ≡ None) (one_name m n h k) gone) ∙ there)
 
-  one_want : (v w : Wanted) (s t : List ℕ) → Checks spelling files c v s → Checks spelling files c w t → v ≡ w
+  one_want : (v w : Wanted) (s t : List ℕ) → Checks files c v s → Checks files c w t → v ≡ w
   one_want v w s t h k = same_Some v w (sym h.wants ∙ k.wants)
 
-  one_source : (v w : Wanted) (s t : List ℕ) → Checks spelling files c v s → Checks spelling files c w t → s ≡ t
+  one_source : (v w : Wanted) (s t : List ℕ) → Checks files c v s → Checks files c w t → s ≡ t
   one_source v w s t h k = same_Some s t (sym (subst (λ x. file_of x files ≡ Some s) (one_name h.name k.name h.names k.names) h.there) ∙ k.there)
 
-  moved : (v w : Wanted) (s t : List ℕ) (e : End) → Checks spelling files c v s → Checks spelling files c w t → SaysOf s input c v e → SaysOf t input c w e
+  moved : (v w : Wanted) (s t : List ℕ) (e : End) → Checks files c v s → Checks files c w t → SaysOf s input c v e → SaysOf t input c w e
   moved v w s t e h k says = subst (λ x. SaysOf t input c x e) (one_want v w s t h k) (subst (λ x. SaysOf x input c v e) (one_source v w s t h k) says)
 
   one_file : (x y : List ℕ) → IsThere files c x → IsThere files c y → x ≡ y
   one_file x y h k = same_Some x y (sym (subst (λ n. file_of n files ≡ Some x) (one_name h.0 k.0 h.1 k.1) h.2) ∙ k.2)
 
-  pub says_once : (d e : End) → Says spelling files input c d → Says spelling files input c e → d ≡ e
-  says_once d e (Missing m o names gone) (Missing n p called lost) = refl
-  says_once d e (Missing m o names gone) (OnSource w source f checks h) = absurd (there_or_missing m checks.name source names checks.names gone checks.there)
-  says_once d e (OnSource w source f checks h) (Missing m o names gone) = absurd (there_or_missing m checks.name source names checks.names gone checks.there)
-  says_once d e (Missing m o names gone) (OnCode bytes f there says) = absurd (there_or_missing m there.0 bytes names there.1 gone there.2)
-  says_once d e (OnCode bytes f there says) (Missing m o names gone) = absurd (there_or_missing m there.0 bytes names there.1 gone there.2)
+  pub says_once : (d e : End) → Says files input c d → Says files input c e → d ≡ e
+  says_once d e (Missing m names gone) (Missing n called lost) = refl
+  says_once d e (Missing m names gone) (OnSource w source f checks h) = absurd (there_or_missing m checks.name source names checks.names gone checks.there)
+  says_once d e (OnSource w source f checks h) (Missing m names gone) = absurd (there_or_missing m checks.name source names checks.names gone checks.there)
+  says_once d e (Missing m names gone) (OnCode bytes f there says) = absurd (there_or_missing m there.0 bytes names there.1 gone there.2)
+  says_once d e (OnCode bytes f there says) (Missing m names gone) = absurd (there_or_missing m there.0 bytes names there.1 gone there.2)
   says_once d e (OnSource w source f checks h) (OnCode bytes g there says) = absurd (asks_unwanted c w (says_asks bytes input c g says) checks.wants)
   says_once d e (OnCode bytes g there says) (OnSource w source f checks h) = absurd (asks_unwanted c w (says_asks bytes input c g says) checks.wants)
   says_once d e (OnCode x f there says) (OnCode y g also others) = code_once y input c f g (subst (λ b. SaysOfCode b input c f) (one_file x y there also) says) others
-  says_once d e (Missing m o names gone) (OfLibrary name text same h) = absurd (library_fetches c name m same names)
+  says_once d e (Missing m names gone) (OfLibrary name text same h) = absurd (library_fetches c name m same names)
   says_once d e (OnSource w source f checks h) (OfLibrary name text same k) = absurd (library_fetches c name checks.name same checks.names)
   says_once d e (OnCode bytes f there says) (OfLibrary name text same h) = absurd (library_fetches c name there.0 same there.1)
-  says_once d e (OfLibrary name text same h) (Missing m o names gone) = absurd (library_fetches c name m same names)
+  says_once d e (OfLibrary name text same h) (Missing m names gone) = absurd (library_fetches c name m same names)
   says_once d e (OfLibrary name text same k) (OnSource w source f checks h) = absurd (library_fetches c name checks.name same checks.names)
   says_once d e (OfLibrary name text same h) (OnCode bytes f there says) = absurd (library_fetches c name there.0 same there.1)
   says_once d e (OfLibrary name text same h) (OfLibrary other more is k) = ap (λ t. Ok t) (text_once name other text more (ap library_name (sym same ∙ is)) h k)
-  says_once d e (Missing m o names gone) (OnAudit file proof source f is there h) = absurd (there_or_missing m there.0 source names there.1 gone there.2)
+  says_once d e (Missing m names gone) (OnAudit file proof source f is there h) = absurd (there_or_missing m there.0 source names there.1 gone there.2)
   says_once d e (OnSource w source f checks h) (OnAudit file proof s g is there k) = absurd (audit_wants c file proof w is checks.wants)
   says_once d e (OnCode bytes f there says) (OnAudit file proof source g is also h) = absurd (audit_asks c file proof is (says_asks bytes input c f says))
   says_once d e (OfLibrary name text same h) (OnAudit file proof source f is there k) = absurd (library_fetches c name there.0 same there.1)
-  says_once d e (OnAudit file proof source f is there h) (Missing m o names gone) = absurd (there_or_missing m there.0 source names there.1 gone there.2)
+  says_once d e (OnAudit file proof source f is there h) (Missing m names gone) = absurd (there_or_missing m there.0 source names there.1 gone there.2)
   says_once d e (OnAudit file proof s g is there k) (OnSource w source f checks h) = absurd (audit_wants c file proof w is checks.wants)
   says_once d e (OnAudit file proof source g is also h) (OnCode bytes f there says) = absurd (audit_asks c file proof is (says_asks bytes input c f says))
   says_once d e (OnAudit file proof source f is there k) (OfLibrary name text same h) = absurd (library_fetches c name there.0 same there.1)
   says_once d e (OnAudit file proof s f is there h) (OnAudit again other t g was also k) =
       let one : proof ≡ other = ap proof_of (sym is ∙ was) in
       audit_once t (file_of proof files) (file_of other files) f g (ap (λ n. file_of n files) one) (subst (λ x. SaysOfAudit x (file_of proof files) f) (one_file s t there also) h) k
-  says_once d e (OfGen seed count _ same h) (Missing m o names gone) = absurd (gen_fetches c seed count m same names)
+  says_once d e (OfGen seed count _ same h) (Missing m names gone) = absurd (gen_fetches c seed count m same names)
   says_once d e (OfGen seed count _ same h) (OnSource w t g k others) = absurd (gen_fetches c seed count k.name same k.names)
   says_once d e (OfGen seed count _ same h) (OnCode bytes g there says) = absurd (gen_fetches c seed count there.0 same there.1)
   says_once d e (OfGen seed count _ same h) (OfLibrary name text other k) = absurd (library_or_gen c name seed count other same)
   says_once d e (OfGen seed count _ same h) (OnAudit file proof t g other there k) = absurd (gen_fetches c seed count there.0 same there.1)
-  says_once d e (Missing m o names gone) (OfGen seed count _ same h) = absurd (gen_fetches c seed count m same names)
+  says_once d e (Missing m names gone) (OfGen seed count _ same h) = absurd (gen_fetches c seed count m same names)
   says_once d e (OnSource w t g k others) (OfGen seed count _ same h) = absurd (gen_fetches c seed count k.name same k.names)
   says_once d e (OnCode bytes g there says) (OfGen seed count _ same h) = absurd (gen_fetches c seed count there.0 same there.1)
   says_once d e (OfLibrary name text other k) (OfGen seed count _ same h) = absurd (library_or_gen c name seed count other same)
   says_once d e (OnAudit file proof t g other there k) (OfGen seed count _ same h) = absurd (gen_fetches c seed count there.0 same there.1)
   says_once d e (OfGen seed count _ same h) (OfGen m n _ other k) = generated_once m n d e (gen_same c seed count m n d same other h) k
-  says_once d e (OnTrace trace step bytes f is there h) (Missing m o names gone) = absurd (there_or_missing m there.0 bytes names there.1 gone there.2)
+  says_once d e (OnTrace trace step bytes f is there h) (Missing m names gone) = absurd (there_or_missing m there.0 bytes names there.1 gone there.2)
   says_once d e (OnTrace trace step bytes f is there h) (OnSource w t g k others) = absurd (replay_wants c trace step w is k.wants)
   says_once d e (OnTrace trace step bytes f is there h) (OnCode x g also says) = absurd (replay_asks c trace step is (says_asks x input c g says))
   says_once d e (OnTrace trace step bytes f is there h) (OfLibrary name text same k) = absurd (library_fetches c name there.0 same there.1)
   says_once d e (OnTrace trace step bytes f is there h) (OnAudit file proof t g was also k) = absurd (audit_or_replay c file proof trace step was is)
   says_once d e (OnTrace trace step bytes f is there h) (OfGen seed count _ same k) = absurd (gen_fetches c seed count there.0 same there.1)
-  says_once d e (Missing m o names gone) (OnTrace trace step bytes f is there h) = absurd (there_or_missing m there.0 bytes names there.1 gone there.2)
+  says_once d e (Missing m names gone) (OnTrace trace step bytes f is there h) = absurd (there_or_missing m there.0 bytes names there.1 gone there.2)
   says_once d e (OnSource w t g k others) (OnTrace trace step bytes f is there h) = absurd (replay_wants c trace step w is k.wants)
   says_once d e (OnCode x g also says) (OnTrace trace step bytes f is there h) = absurd (replay_asks c trace step is (says_asks x input c g says))
   says_once d e (OfLibrary name text same k) (OnTrace trace step bytes f is there h) = absurd (library_fetches c name there.0 same there.1)
@@ -398,10 +397,10 @@ module _ (spelling : Spelling) (files : List File) (input : List ℕ) (c : Comma
   says_once d e (OnTrace trace step x f is there h) (OnTrace other n y g was also k) = replayed_once x y step n f g (one_file x y there also) (ap step_of (sym is ∙ was)) h k
   says_once d e (OnSource v s f h says) (OnSource w t g k others) = source_once t input c w f g k.wants (moved v w s t f h k says) others
 
-module _ (spelling : Spelling) (files : List File) (input : List ℕ) (c : Command) where
-  pub says_not_open : (e : End) → Says spelling files input c e → IsOpen spelling files input c → ⊥
-  says_not_open e (Missing m o names gone) (OpenSource w source checks ready taken other) = there_or_missing spelling files input c m checks.name source names checks.names gone checks.there
-  says_not_open e (OnSource v s f h says) (OpenSource w t k ready taken other) = source_not_open t input c w f (moved spelling files input c v w s t f h k says) ready taken other
+module _ (files : List File) (input : List ℕ) (c : Command) where
+  pub says_not_open : (e : End) → Says files input c e → IsOpen files input c → ⊥
+  says_not_open e (Missing m names gone) (OpenSource w source checks ready taken other) = there_or_missing files input c m checks.name source names checks.names gone checks.there
+  says_not_open e (OnSource v s f h says) (OpenSource w t k ready taken other) = source_not_open t input c w f (moved files input c v w s t f h k says) ready taken other
   says_not_open e (OnCode bytes f there says) (OpenSource w t k ready taken other) = asks_unwanted c w (says_asks bytes input c f says) k.wants
   says_not_open e (OfLibrary name text same h) (OpenSource w t k ready taken other) = library_fetches c name k.name same k.names
   says_not_open e (OnAudit file proof source f is there h) (OpenSource w t k ready taken other) = audit_wants c file proof w is k.wants

@@ -1,5 +1,5 @@
 -- From what a part answered to what a command ends with: on an input, on a source, on the file, and for the words.
-use Rattle.std.proofs.Common.{◌≡◌, ◌∙◌, ◌<◌, ◌≤◌, ℕ, Bool, true, false, List, [], length, sym, ap, subst, refl, inl, inr, arith}
+use Rattle.std.proofs.Common.{◌≡◌, ◌∙◌, ◌<◌, ◌≤◌, ℕ, List, [], length, sym, ap, subst, refl, inl, inr, arith}
 use Rattle.std.specs.Prelude.{◌⊎◌, Option, Some, None, Result, Ok, Err, IfOk, IfErr, OnOk, IsSomeAnd}
 use Rattle.std.specs.Io.KnownBytes.{Consumes, IsAtEnd}
 use Rattle.std.specs.declared.vec.Vec.{Vec}
@@ -34,11 +34,10 @@ use Rattle.source_commands.proofs.Once.{listing_ready}
 use Rattle.source_commands.proofs.Compiling.{uncompiled_ready}
 use Rattle.source_commands.specs.declared.files.Compiled.{Compiled as compiled_file}
 use Rattle.fip_driver.specs.Answered.{IsTold}
-use Rattle.fip_driver.specs.Commands.{IsOther, ReadsInput, CallsNoFolder, fetched_name, wanted}
-use Rattle.fip_driver.specs.Ends.{End, SaysOf, Refused, Listed, LongInput, Evaluated, Executed, TookTurns, Derived, Underived, ComesOf, Ready, MayEnd, TracesTo, IsTaken, IsBeside, Checks, Says, Missing, OnSource, OnAudit, OnTrace, OfLibrary, Comes, MayOnSource, IsThere, IsVerdict, SaysOfAudit, Reported, NoProof, Judged, OfGen}
+use Rattle.fip_driver.specs.Commands.{ReadsInput, CallsNoFolder, fetched_name, wanted}
+use Rattle.fip_driver.specs.Ends.{End, SaysOf, Refused, Listed, LongInput, Evaluated, Executed, TookTurns, Derived, Underived, ComesOf, Ready, MayEnd, TracesTo, IsTaken, Checks, Says, Missing, OnSource, OnAudit, OnTrace, OfLibrary, Comes, MayOnSource, IsThere, IsVerdict, SaysOfAudit, Reported, NoProof, Judged, OfGen}
 use Rattle.fip_driver.specs.Fetched.{FetchFails, FileFails, StoreFails, JudgeFails, ReadFails}
 use Rattle.fip_driver.specs.Outcome.{end_of, compiled_end, IsFault, IsInputFault, ReadOutcome, InputOutcome, SourceOutcome, Closes, FileOutcome, AuditOutcome, CommandOutcome}
-use Rattle.fip_driver.specs.Spelling.{Spelling, source_spelling}
 use Rattle.fip_driver.proofs.Telling.{any_told, held, bytes_of, longer, told_fetch, told_input, whole_of, more_left}
 
 -- ---- faults
@@ -263,39 +262,35 @@ trace_stored left rose file entry out source text room before mid now w o le rea
 -- ---- the file
 
 -- what comes of a source that is checked, of files
-pub checked_closes : (c : Command) (w : Wanted) (files : List File) (source input : List ℕ) (fr ir more_fr more_ir : Type 0) (e : End) → (fr → more_fr) → (ir → more_ir) → Checks source_spelling files c w source → IsFault c fr ir e ⊎ (SaysOf source input c w e ⊎ ComesOf source input c w e) → Closes source_spelling files input c more_fr more_ir e
+pub checked_closes : (c : Command) (w : Wanted) (files : List File) (source input : List ℕ) (fr ir more_fr more_ir : Type 0) (e : End) → (fr → more_fr) → (ir → more_ir) → Checks files c w source → IsFault c fr ir e ⊎ (SaysOf source input c w e ⊎ ComesOf source input c w e) → Closes files input c more_fr more_ir e
 checked_closes c w files source input fr ir mf mi e f i checks (inl h) = inl (fault_up c fr ir mf mi e f i h)
 checked_closes c w files source input fr ir mf mi e f i checks (inr (inl s)) = inr (inl (OnSource w source e checks s))
 checked_closes c w files source input fr ir mf mi e f i checks (inr (inr s)) = inr (inr (MayOnSource w source e checks s))
 
-beside_other : (spelling : Spelling) (c : Command) (source : List ℕ) → IsOther c → IsBeside spelling c source
-beside_other spelling (Exec r) source other = absurd other
-beside_other spelling c source other = tt
-
 -- what comes of the source of a file
-pub source_ends : (c : Command) (w : Wanted) (name : List ℕ) (files : Option (List File)) (left : Option (List ℕ)) (fr ir more_fr more_ir : Type 0) (source text : List ℕ) (e : End) → (fr → more_fr) → (ir → more_ir) → HoldsFile files name source → fetched_name c ≡ Some name → wanted c ≡ Some w → IsOther c → text ≡ source → SourceOutcome c w text left fr ir e → FileOutcome c files left more_fr more_ir e
-source_ends c w name files left fr ir mf mi source text e f i holds names wants other same k =
+pub source_ends : (c : Command) (w : Wanted) (name : List ℕ) (files : Option (List File)) (left : Option (List ℕ)) (fr ir more_fr more_ir : Type 0) (source text : List ℕ) (e : End) → (fr → more_fr) → (ir → more_ir) → HoldsFile files name source → fetched_name c ≡ Some name → wanted c ≡ Some w → text ≡ source → SourceOutcome c w text left fr ir e → FileOutcome c files left more_fr more_ir e
+source_ends c w name files left fr ir mf mi source text e f i holds names wants same k =
     let h = subst (λ s. SourceOutcome c w s left fr ir e) same k in
     let t = held files name source holds in
-    let checks : Checks source_spelling t.0 c w source = record { wants = wants; name = name; names = names; there = t.2; beside = beside_other source_spelling c source other } in
+    let checks : Checks t.0 c w source = record { wants = wants; name = name; names = names; there = t.2 } in
     (t.0, h.0, t.1, h.1, checked_closes c w t.0 source h.0 fr ir mf mi e f i checks h.2)
 
 -- what keeps a source from being fetched
-too_long_said : (c : Command) (w : Wanted) (name : List ℕ) (files : List File) (input : List ℕ) (r : Refusal) (o : Option (List ℕ)) → file_of name files ≡ o → IsOther c → fetched_name c ≡ Some name → wanted c ≡ Some w → r ≡ bare E05 → IsSomeAnd o (λ bytes. 1048576 < length bytes) → Says source_spelling files input c (Err (F.Refused r))
-too_long_said c w name files input r None e other names wants same h = absurd h
-too_long_said c w name files input r (Some source) e other names wants same h =
-    let checks : Checks source_spelling files c w source = record { wants = wants; name = name; names = names; there = e; beside = beside_other source_spelling c source other } in
-    subst (λ r. Says source_spelling files input c (Err (F.Refused r))) (sym same) (OnSource w source (Err (F.Refused (bare E05))) checks (Refused (bare E05) (inl (bare E05, TooLong h, refl))))
+too_long_said : (c : Command) (w : Wanted) (name : List ℕ) (files : List File) (input : List ℕ) (r : Refusal) (o : Option (List ℕ)) → file_of name files ≡ o → fetched_name c ≡ Some name → wanted c ≡ Some w → r ≡ bare E05 → IsSomeAnd o (λ bytes. 1048576 < length bytes) → Says files input c (Err (F.Refused r))
+too_long_said c w name files input r None e names wants same h = absurd h
+too_long_said c w name files input r (Some source) e names wants same h =
+    let checks : Checks files c w source = record { wants = wants; name = name; names = names; there = e } in
+    subst (λ r. Says files input c (Err (F.Refused r))) (sym same) (OnSource w source (Err (F.Refused (bare E05))) checks (Refused (bare E05) (inl (bare E05, TooLong h, refl))))
 
-pub fetch_ends : (c : Command) (w : Wanted) (name : List ℕ) (files : Option (List File)) (left : Option (List ℕ)) (before now : ℕ) (ir : Type 0) (f : Failure) → IsOther c → fetched_name c ≡ Some name → wanted c ≡ Some w → (CallsNoFolder c → ⊥) → FetchFails files name before now f → FileOutcome c files left (Rose before now) ir (Err f)
-fetch_ends c w name files left before now ir f other names wants calls h =
+pub fetch_ends : (c : Command) (w : Wanted) (name : List ℕ) (files : Option (List File)) (left : Option (List ℕ)) (before now : ℕ) (ir : Type 0) (f : Failure) → fetched_name c ≡ Some name → wanted c ≡ Some w → (CallsNoFolder c → ⊥) → FetchFails files name before now f → FileOutcome c files left (Rose before now) ir (Err f)
+fetch_ends c w name files left before now ir f names wants calls h =
     let t = told_fetch files name before now f h in
     let i = any_told left [] in
     (t.0, i.0, t.1, i.1, by f t.0 i.0 t.2)
   where
-    by : (f : Failure) (all : List File) (input : List ℕ) → FetchFails (Some all) name before now f → Closes source_spelling all input c (Rose before now) ir (Err f)
-    by (F.Refused r) all input h = inr (inl (too_long_said c w name all input r (file_of name all) refl other names wants h.0 h.1))
-    by (F.Fault O.Folder) all input h = elim h.1 [ inl up ↦ inl (up, calls) | inr gone ↦ inr (inl (Missing name other names gone)) ]
+    by : (f : Failure) (all : List File) (input : List ℕ) → FetchFails (Some all) name before now f → Closes all input c (Rose before now) ir (Err f)
+    by (F.Refused r) all input h = inr (inl (too_long_said c w name all input r (file_of name all) refl names wants h.0 h.1))
+    by (F.Fault O.Folder) all input h = elim h.1 [ inl up ↦ inl (up, calls) | inr gone ↦ inr (inl (Missing name names gone)) ]
     by (F.Fault O.Input) all input h = absurd (let same = h.0 in cc)
     by (F.Fault O.Out) all input h = absurd (let same = h.0 in cc)
     by (F.Fault O.Err) all input h = absurd (let same = h.0 in cc)
@@ -310,7 +305,7 @@ library_ends name files left fr ir o known ok err =
     let i = any_told left [] in
     (t.0, i.0, t.1, i.1, by o ok err)
   where
-    by : (o : Result (Vec ℕ Global) Failure) → IfOk o (λ v. IsText name v.items) → IfErr o (λ f. (f ≡ F.NoMemory) ⊎ ((f ≡ F.NotUnderstood) × (IsTextName name → ⊥))) → Closes source_spelling (any_told files []).0 (any_told left []).0 (Library name) fr ir (end_of o)
+    by : (o : Result (Vec ℕ Global) Failure) → IfOk o (λ v. IsText name v.items) → IfErr o (λ f. (f ≡ F.NoMemory) ⊎ ((f ≡ F.NotUnderstood) × (IsTextName name → ⊥))) → Closes (any_told files []).0 (any_told left []).0 (Library name) fr ir (end_of o)
     by (Ok v) ok err = inr (inl (OfLibrary name v.items refl ok))
     by (Err f) ok (inl same) = inl (subst (λ x. IsFault (Library name) fr ir (Err x)) (sym same) tt)
     by (Err f) ok (inr none) = absurd (none.1 known)
@@ -321,7 +316,7 @@ gen_ends seed count files left fr ir o generates =
     let i = any_told left [] in
     (t.0, i.0, t.1, i.1, by o generates)
   where
-    by : (o : Result (Vec ℕ Global) Failure) → OrNoMemory (Generates seed count) o → Closes source_spelling (any_told files []).0 (any_told left []).0 (Gen seed count) fr ir (end_of o)
+    by : (o : Result (Vec ℕ Global) Failure) → OrNoMemory (Generates seed count) o → Closes (any_told files []).0 (any_told left []).0 (Gen seed count) fr ir (end_of o)
     by (Ok v) h = inr (inl (OfGen seed count (Ok v.items) refl h))
     by (Err F.NoMemory) h = inl tt
     by (Err f) h = inr (inl (OfGen seed count (Err f) refl h))
@@ -336,18 +331,18 @@ told_file IsLong None name before now F.NoMemory h = ([], tt, tt)
 told_file IsLong None name before now failure h = let l = longer name 16777216 in (l.0, tt, (h.0, l.1))
 
 -- what keeps a file from being fetched; of one that is too long this is said, or may come
-pub missed_ends : (c : Command) (IsLong : Failure → Type 0) (name : List ℕ) (files : Option (List File)) (left : Option (List ℕ)) (before now : ℕ) (ir : Type 0) (f : Failure) → IsOther c → fetched_name c ≡ Some name → (CallsNoFolder c → ⊥) → ((all : List File) (input bytes : List ℕ) (e : Failure) → IsLong e → 16777216 < length bytes → IsThere all c bytes → Says source_spelling all input c (Err e) ⊎ Comes source_spelling all input c (Err e)) → FileFails IsLong files name before now f → FileOutcome c files left (Rose before now) ir (Err f)
-missed_ends c IsLong name files left before now ir f other names calls long h =
+pub missed_ends : (c : Command) (IsLong : Failure → Type 0) (name : List ℕ) (files : Option (List File)) (left : Option (List ℕ)) (before now : ℕ) (ir : Type 0) (f : Failure) → fetched_name c ≡ Some name → (CallsNoFolder c → ⊥) → ((all : List File) (input bytes : List ℕ) (e : Failure) → IsLong e → 16777216 < length bytes → IsThere all c bytes → Says all input c (Err e) ⊎ Comes all input c (Err e)) → FileFails IsLong files name before now f → FileOutcome c files left (Rose before now) ir (Err f)
+missed_ends c IsLong name files left before now ir f names calls long h =
     let t = told_file IsLong files name before now f h in
     let i = any_told left [] in
     (t.0, i.0, t.1, i.1, by f t.0 i.0 t.2)
   where
-    too_long : (f : Failure) (all : List File) (input : List ℕ) (o : Option (List ℕ)) → IsLong f → file_of name all ≡ o → IsSomeAnd o (λ bytes. 16777216 < length bytes) → Closes source_spelling all input c (Rose before now) ir (Err f)
+    too_long : (f : Failure) (all : List File) (input : List ℕ) (o : Option (List ℕ)) → IsLong f → file_of name all ≡ o → IsSomeAnd o (λ bytes. 16777216 < length bytes) → Closes all input c (Rose before now) ir (Err f)
     too_long f all input None is e h = absurd h
     too_long f all input (Some bytes) is e h = inr (long all input bytes f is h (name, names, e))
 
-    by : (f : Failure) (all : List File) (input : List ℕ) → FileFails IsLong (Some all) name before now f → Closes source_spelling all input c (Rose before now) ir (Err f)
-    by (F.Fault O.Folder) all input h = elim h.1 [ inl up ↦ inl (up, calls) | inr gone ↦ inr (inl (Missing name other names gone)) ]
+    by : (f : Failure) (all : List File) (input : List ℕ) → FileFails IsLong (Some all) name before now f → Closes all input c (Rose before now) ir (Err f)
+    by (F.Fault O.Folder) all input h = elim h.1 [ inl up ↦ inl (up, calls) | inr gone ↦ inr (inl (Missing name names gone)) ]
     by (F.Fault O.Input) all input h = absurd (let same = h.0 in cc)
     by (F.Fault O.Out) all input h = absurd (let same = h.0 in cc)
     by (F.Fault O.Err) all input h = absurd (let same = h.0 in cc)
@@ -356,9 +351,9 @@ missed_ends c IsLong name files left before now ir f other names calls long h =
 
 -- ---- `replay`
 
-pub long_trace : (trace : List ℕ) (step : ℕ) (all : List File) (input bytes : List ℕ) (e : Failure) → e ≡ F.BadTrace 16777216 → 16777216 < length bytes → IsThere all (Replay trace step) bytes → Says source_spelling all input (Replay trace step) (Err e) ⊎ Comes source_spelling all input (Replay trace step) (Err e)
+pub long_trace : (trace : List ℕ) (step : ℕ) (all : List File) (input bytes : List ℕ) (e : Failure) → e ≡ F.BadTrace 16777216 → 16777216 < length bytes → IsThere all (Replay trace step) bytes → Says all input (Replay trace step) (Err e) ⊎ Comes all input (Replay trace step) (Err e)
 long_trace trace step all input bytes e same more there =
-    inl (subst (λ f. Says source_spelling all input (Replay trace step) (Err f)) (sym same) (OnTrace trace step bytes (Err (F.BadTrace 16777216)) refl there (inl (more, refl))))
+    inl (subst (λ f. Says all input (Replay trace step) (Err f)) (sym same) (OnTrace trace step bytes (Err (F.BadTrace 16777216)) refl there (inl (more, refl))))
 
 pub replay_ends : (trace : List ℕ) (step : ℕ) (files : Option (List File)) (left : Option (List ℕ)) (fr ir : Type 0) (bytes text : List ℕ) (o : Result (Vec ℕ Global) Failure) → HoldsFile files trace bytes → text ≡ bytes → IfOk o (λ v. IsReplayed text step v.items) → IfErr o (KeepsFromReplay text) → FileOutcome (Replay trace step) files left fr ir (end_of o)
 replay_ends trace step files left fr ir bytes text o holds same shown bad =
@@ -366,7 +361,7 @@ replay_ends trace step files left fr ir bytes text o holds same shown bad =
     let i = any_told left [] in
     (t.0, i.0, t.1, i.1, by o t.0 (trace, refl, t.2) i.0 (subst (λ xs. IfOk o (λ v. IsReplayed xs step v.items)) same shown) (subst (λ xs. IfErr o (KeepsFromReplay xs)) same bad))
   where
-    by : (o : Result (Vec ℕ Global) Failure) (all : List File) → IsThere all (Replay trace step) bytes → (input : List ℕ) → IfOk o (λ v. IsReplayed bytes step v.items) → IfErr o (KeepsFromReplay bytes) → Closes source_spelling all input (Replay trace step) fr ir (end_of o)
+    by : (o : Result (Vec ℕ Global) Failure) (all : List File) → IsThere all (Replay trace step) bytes → (input : List ℕ) → IfOk o (λ v. IsReplayed bytes step v.items) → IfErr o (KeepsFromReplay bytes) → Closes all input (Replay trace step) fr ir (end_of o)
     by (Ok v) all there input shown bad = inr (inl (OnTrace trace step bytes (Ok v.items) refl there shown))
     by (Err (F.BadTrace at)) all there input shown bad = inr (inl (OnTrace trace step bytes (Err (F.BadTrace at)) refl there bad))
     by (Err F.NoMemory) all there input shown bad = inl tt
@@ -461,7 +456,7 @@ reported_ends file proof files left fr ir source text f holds same h =
     let i = any_told left [] in
     inl (t.0, i.0, t.1, i.1, by f t.0 i.0 t.2 (subst (λ s. IsRefusedBy (IsEarlyReport s) f) same h))
   where
-    by : (f : Failure) (all : List File) (input : List ℕ) → file_of file all ≡ Some source → IsRefusedBy (IsEarlyReport source) f → Closes source_spelling all input (Audit file proof) fr ir (Err f)
+    by : (f : Failure) (all : List File) (input : List ℕ) → file_of file all ≡ Some source → IsRefusedBy (IsEarlyReport source) f → Closes all input (Audit file proof) fr ir (Err f)
     by (F.Refused r) all input there h = inr (inl (OnAudit file proof source (Err (F.Refused r)) refl (file, refl, there) (Reported r (file_of proof all) h)))
     by F.NoMemory all input there h = inl tt
     by failure all input there h = absurd h
@@ -480,13 +475,13 @@ audit_unfetched file proof files left before now ir f h =
     let i = any_told left [] in
     inl (t.0, i.0, t.1, i.1, by f t.0 i.0 t.2)
   where
-    long : (r : Refusal) (all : List File) (input : List ℕ) (o : Option (List ℕ)) → file_of file all ≡ o → r ≡ bare E05 → IsSomeAnd o (λ bytes. 1048576 < length bytes) → Closes source_spelling all input (Audit file proof) (Rose before now) ir (Err (F.Refused r))
+    long : (r : Refusal) (all : List File) (input : List ℕ) (o : Option (List ℕ)) → file_of file all ≡ o → r ≡ bare E05 → IsSomeAnd o (λ bytes. 1048576 < length bytes) → Closes all input (Audit file proof) (Rose before now) ir (Err (F.Refused r))
     long r all input None e same h = absurd h
     long r all input (Some source) e same h = inr (inl (OnAudit file proof source (Err (F.Refused r)) refl (file, refl, e) (Reported r (file_of proof all) (subst (IsEarlyReport source) (sym same) (long_early source h)))))
 
-    by : (f : Failure) (all : List File) (input : List ℕ) → FetchFails (Some all) file before now f → Closes source_spelling all input (Audit file proof) (Rose before now) ir (Err f)
+    by : (f : Failure) (all : List File) (input : List ℕ) → FetchFails (Some all) file before now f → Closes all input (Audit file proof) (Rose before now) ir (Err f)
     by (F.Refused r) all input h = long r all input (file_of file all) refl h.0 h.1
-    by (F.Fault O.Folder) all input h = elim h.1 [ inl up ↦ inl (up, λ r. r) | inr gone ↦ inr (inl (Missing file tt refl gone)) ]
+    by (F.Fault O.Folder) all input h = elim h.1 [ inl up ↦ inl (up, λ r. r) | inr gone ↦ inr (inl (Missing file refl gone)) ]
     by (F.Fault O.Input) all input h = absurd (let same = h.0 in cc)
     by (F.Fault O.Out) all input h = absurd (let same = h.0 in cc)
     by (F.Fault O.Err) all input h = absurd (let same = h.0 in cc)
@@ -498,7 +493,7 @@ audit_unfetched file proof files left before now ir f h =
 pub file_outcome : (c : Command) (files : Option (List File)) (left : Option (List ℕ)) (fr ir more_ir : Type 0) (o : Result (Vec ℕ Global) Failure) → (ir → more_ir) → FileOutcome c files left fr ir (end_of o) → CommandOutcome c files left fr more_ir o
 file_outcome c files left fr ir mi o up h words asked = (h.0, h.1, h.2, h.3, inr (inl (c, asked, by h.4)))
   where
-    by : Closes source_spelling h.0 h.1 c fr ir (end_of o) → Closes source_spelling h.0 h.1 c fr mi (end_of o)
+    by : Closes h.0 h.1 c fr ir (end_of o) → Closes h.0 h.1 c fr mi (end_of o)
     by (inl f) = inl (fault_up c fr ir fr mi (end_of o) (λ r. r) up f)
     by (inr k) = inr k
 

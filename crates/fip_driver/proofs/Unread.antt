@@ -1,33 +1,20 @@
 -- An object is left alone where the command ended before its turn.
 use Rattle.std.proofs.Common.{◌≡◌, ◌∙◌, ◌≤◌, ℕ, List, sym, subst, refl, arith, inl, inr}
-use Rattle.std.specs.Prelude.{◌⊎◌, Bool, Option, Some, None, Ok, Err, IfErr, OnOk}
+use Rattle.std.specs.Prelude.{◌⊎◌, Option, Some, None, Ok, Err, IfErr, OnOk}
 use Rattle.fip_language.specs.declared.rule.Rule.{Rule}
 use Rattle.fip_language.specs.declared.rule.Rule.TheVariants.{E75}
-use Rattle.loop_form.specs.Loop.{Loop}
 use Rattle.fip_base.specs.Files.{File}
 use Rattle.command_line.specs.Words.{Command, Exec, Run, Eval, Trace, Session, Tasks, Library, Gen, IsCommand}
 use Rattle.command_outcome.specs.Stages.{IsOfSource, IsOfRun, IsOfTasks, IsOfTrace}
 use Rattle.command_outcome.specs.Failures.{failure_status, failure_text}
 use Rattle.command_outcome.specs.Texts.{no_memory_text}
 use Rattle.fip_driver.specs.Delivered.{Seen, Told, ToldFailure, Delivered}
-use Rattle.fip_driver.specs.Spelling.{Spelling}
 use Rattle.fip_driver.specs.Commands.{ReadsInput, CallsNoFolder}
 use Rattle.fip_driver.specs.Fetched.{FetchFails, StoreFails, ReadFails, IsEarlyFailure, IsLateFailure}
-use Rattle.fip_driver.specs.Fronted.{FrontFails}
-use Rattle.fip_driver.specs.LoopRun.{IsLoopRun}
 use Rattle.fip_driver.specs.Unread.{Outcome, IsBeforeSource, IsBeforeInput, IsBeforeTrace, IsBeforeInputOf, FindsSource, WaitsOr, HadInput, HadFolder, LeavesInput, AreKept, IsEarly, MayHaveRead, HasRead, HasCalled, AreAfter}
 use Rattle.command_outcome.specs.declared.failure.Failure.{Failure}
 use Rattle.command_outcome.specs.declared.failure.Failure.TheVariants as F
 use Rattle.command_outcome.specs.declared.failure.Object.TheVariants as O
-
--- what a run comes to has read its input
-pub run_reads : (l : Loop) (input : List ℕ) (words calls : ℕ) (gauge : Bool) (o : Outcome) → IsLoopRun l input words calls gauge o → IsBeforeInput o → ⊥
-run_reads l input words calls gauge (Ok text) h b = b
-run_reads l input words calls gauge (Err (F.BadInput at)) h b = b
-run_reads l input words calls gauge (Err (F.TooSmall needed given)) h b = b
-run_reads l input words calls gauge (Err (F.OutOfCalls given)) h b = b
-run_reads l input words calls gauge (Err F.NoMemory) h b = b
-run_reads l input words calls gauge (Err failure) h b = h
 
 -- what keeps an input from being read isn't before it
 pub read_fails_late : (left left' : Option (List ℕ)) (before now : ℕ) (f : Failure) → ReadFails left left' before now f → IsBeforeInput (Err f) → ⊥
@@ -43,11 +30,6 @@ read_fails_late left left' before now failure h b = h
 pub fetch_understood : (files : Option (List File)) (name : List ℕ) (before now : ℕ) (f : Failure) → FetchFails files name before now f → IsBeforeSource (Err f) → ⊥
 fetch_understood files name before now F.NotUnderstood h b = h
 fetch_understood files name before now failure h b = b
-
-pub front_understood : (spelling : Spelling) (source entry : List ℕ) (f : Failure) → FrontFails spelling source entry f → IsBeforeSource (Err f) → ⊥
-front_understood spelling source entry F.NotUnderstood (inl h) b = h
-front_understood spelling source entry F.NotUnderstood (inr (core, spelt, right, h)) b = h
-front_understood spelling source entry failure h b = b
 
 pub source_understood : (f : Failure) → IsOfSource f → IsBeforeSource (Err f) → ⊥
 source_understood F.NotUnderstood h b = h

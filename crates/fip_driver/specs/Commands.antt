@@ -5,11 +5,6 @@ use Rattle.command_line.specs.Words.{Command, Check, Compile, Verify, Upgrade, E
 use Rattle.command_line.specs.Words.{Derive, Audit, Replay, Library, Gen}
 use Rattle.source_commands.specs.Wanted.{Wanted, Lawful, Root, Compiled}
 
--- another command than `exec`
-abbrev pub IsOther : Command → Type 0
-IsOther (Exec r) = ⊥
-IsOther c = Unit {0}
-
 -- those that read the input
 abbrev pub ReadsInput : Command → Type 0
 ReadsInput (Exec r) = Unit {0}

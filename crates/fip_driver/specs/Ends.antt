@@ -1,15 +1,13 @@
--- What a command ends with, by the files and the input: a text on out, or what keeps it from one. The reply to a right
--- program of the loop form isn't said here, but in `fip_language`'s `Answer`; for `exec` of another program it goes on
--- here.
+-- What a command ends with, by the files and the input: a text on out, or what keeps it from one.
 --
 -- The causes come in this order: the file is missing; the source or the code is refused, then the entry; the input has
 -- too many bytes. So `check list.fip3` ends with `fault: folder` where there is no such file, with the report of
 -- the source where it breaks a rule, and else with a line for each root; and `eval list.fip3 rev` with what the source
 -- means, once the input is read. `audit list.fip3 list.proof` fetches the proof file once the types and the matches of
 -- the source are right; `audit list.fip3 list.fip3` judges the source's own bytes, which are no derivation's text.
-use Rattle.std.specs.Prelude.{◌≡◌, ℕ, ◌<◌, ◌≤◌, true, false, List, length, Option, Some, None, Result, Ok, Err}
+use Rattle.std.specs.Prelude.{◌≡◌, ℕ, ◌<◌, ◌≤◌, false, List, length, Option, Some, None, Result, Ok, Err}
 use Rattle.std.specs.Io.KnownBytes.{Appends}
-use Rattle.fip_language.specs.declared.limits.TheConstants.{MOST_SOURCE_BYTES, MOST_FILE_BYTES}
+use Rattle.fip_language.specs.declared.limits.TheConstants.{MOST_FILE_BYTES}
 use Rattle.fip_language.specs.declared.rule.Rule.TheVariants.{E61, E70, E74}
 use Rattle.fip_base.specs.Files.{File, file_of}
 use Rattle.tasks_command.specs.TasksAnswer.{TakesTurns}
@@ -38,8 +36,7 @@ use Rattle.source_commands.specs.Judged.{IsEarlyReport, IsProofOf, IsRejectedOf}
 use Rattle.source_commands.specs.ProgramCode.{IsUncompiled}
 use Rattle.source_commands.specs.Roots.{IsListing}
 use Rattle.source_commands.specs.Wanted.{Wanted, Refuses, IsReady, of_entry}
-use Rattle.fip_driver.specs.Commands.{IsOther, ReadsInput, fetched_name, wanted}
-use Rattle.fip_driver.specs.Spelling.{Spelling, IsOutside}
+use Rattle.fip_driver.specs.Commands.{ReadsInput, fetched_name, wanted}
 
 abbrev pub End : Type 0
 End = Result (List ℕ) Failure
@@ -152,38 +149,32 @@ SaysOfTrace bytes step (Err failure) = ⊥
 
 -- ---- what is said of the files
 
--- what `exec` asks first: that the source has no reply as a program of the loop form
-abbrev pub IsBeside : Spelling → Command → List ℕ → Type 0
-IsBeside spelling (Exec r) source = (length source ≤ MOST_SOURCE_BYTES) × IsOutside spelling source
-IsBeside spelling c source = Unit {0}
-
 -- The command asks all rules of this source.
-pub record Checks (spelling : Spelling) (files : List File) (c : Command) (w : Wanted) (source : List ℕ) : Type 0 where
+pub record Checks (files : List File) (c : Command) (w : Wanted) (source : List ℕ) : Type 0 where
   pub wants : wanted c ≡ Some w
   pub name : List ℕ
   pub names : fetched_name c ≡ Some name
   pub there : file_of name files ≡ Some source
-  pub beside : IsBeside spelling c source
 
 -- The file that is fetched first is there, and has these bytes.
 abbrev pub IsThere : List File → Command → List ℕ → Type 0
 IsThere files c bytes = (name : List ℕ) × (fetched_name c ≡ Some name) × (file_of name files ≡ Some bytes)
 
--- The command ends so. A missing file of `exec` has a reply of its own. `library` prints a text of the library, and
--- `gen` tells of the tree that the source means which it runs.
-pub data Says (spelling : Spelling) (files : List File) (input : List ℕ) (c : Command) : End → Type 0 where
-  Missing : (name : List ℕ) → IsOther c → fetched_name c ≡ Some name → file_of name files ≡ None →
-      Says spelling files input c (Err (F.Fault O.Folder))
-  OnSource : (w : Wanted) (source : List ℕ) (e : End) → Checks spelling files c w source →
-      SaysOf source input c w e → Says spelling files input c e
+-- The command ends so. `library` prints a text of the library, and `gen` tells of the tree that the source means which
+-- it runs.
+pub data Says (files : List File) (input : List ℕ) (c : Command) : End → Type 0 where
+  Missing : (name : List ℕ) → fetched_name c ≡ Some name → file_of name files ≡ None →
+      Says files input c (Err (F.Fault O.Folder))
+  OnSource : (w : Wanted) (source : List ℕ) (e : End) → Checks files c w source →
+      SaysOf source input c w e → Says files input c e
   OnCode : (bytes : List ℕ) (e : End) → IsThere files c bytes → SaysOfCode bytes input c e →
-      Says spelling files input c e
+      Says files input c e
   OnAudit : (file proof source : List ℕ) (e : End) → c ≡ Audit file proof → IsThere files c source →
-      SaysOfAudit source (file_of proof files) e → Says spelling files input c e
+      SaysOfAudit source (file_of proof files) e → Says files input c e
   OnTrace : (trace : List ℕ) (step : ℕ) (bytes : List ℕ) (e : End) → c ≡ Replay trace step → IsThere files c bytes →
-      SaysOfTrace bytes step e → Says spelling files input c e
-  OfLibrary : (name text : List ℕ) → c ≡ Library name → IsText name text → Says spelling files input c (Ok text)
-  OfGen : (seed count : ℕ) (e : End) → c ≡ Gen seed count → Generates seed count e → Says spelling files input c e
+      SaysOfTrace bytes step e → Says files input c e
+  OfLibrary : (name text : List ℕ) → c ≡ Library name → IsText name text → Says files input c (Ok text)
+  OfGen : (seed count : ℕ) (e : End) → c ≡ Gen seed count → Generates seed count e → Says files input c e
 
 -- ---- what isn't said of them yet
 
@@ -197,15 +188,15 @@ IsUnsaidOn (Derive file out) = ⊥
 IsUnsaidOn c = Unit {0}
 
 -- The command may end so. It is `compile`, `trace` or `session`: the ends of all others are said.
-pub data Comes (spelling : Spelling) (files : List File) (input : List ℕ) (c : Command) : End → Type 0 where
-  MayOnSource : (w : Wanted) (source : List ℕ) (e : End) → Checks spelling files c w source →
-      ComesOf source input c w e → Comes spelling files input c e
+pub data Comes (files : List File) (input : List ℕ) (c : Command) : End → Type 0 where
+  MayOnSource : (w : Wanted) (source : List ℕ) (e : End) → Checks files c w source →
+      ComesOf source input c w e → Comes files input c e
 
 -- The answer isn't said: the source has what a command wants, which is none of `check`, `eval`, `exec`, `derive` and
 -- `tasks`.
-pub data IsOpen (spelling : Spelling) (files : List File) (input : List ℕ) (c : Command) : Type 0 where
-  OpenSource : (w : Wanted) (source : List ℕ) → Checks spelling files c w source → IsReady source w → IsTaken c input →
-      IsUnsaidOn c → IsOpen spelling files input c
+pub data IsOpen (files : List File) (input : List ℕ) (c : Command) : Type 0 where
+  OpenSource : (w : Wanted) (source : List ℕ) → Checks files c w source → IsReady source w → IsTaken c input →
+      IsUnsaidOn c → IsOpen files input c
 
 -- ---- how an end is told
 

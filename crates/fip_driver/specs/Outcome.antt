@@ -4,13 +4,12 @@ use Rattle.std.specs.declared.vec.Vec.{Vec}
 use Rattle.std.specs.declared.alloc.Global.{Global}
 use Rattle.fip_language.specs.declared.limits.TheConstants.{MOST_FILE_BYTES}
 use Rattle.fip_base.specs.Files.{File}
-use Rattle.command_line.specs.Words.{Request, Command, Audit, IsCommand}
+use Rattle.command_line.specs.Words.{Command, Audit, IsCommand}
 use Rattle.source_commands.specs.Wanted.{Wanted}
 use Rattle.source_commands.specs.declared.files.Compiled.{Compiled}
-use Rattle.fip_driver.specs.Answered.{IsTold, Explained, IsRequest}
+use Rattle.fip_driver.specs.Answered.{IsTold, IsUnasked}
 use Rattle.fip_driver.specs.Commands.{ReadsInput, CallsNoFolder}
 use Rattle.fip_driver.specs.Ends.{End, SaysOf, ComesOf, SaysOfCode, SaysOfAudit, Says, Comes}
-use Rattle.fip_driver.specs.Spelling.{Spelling, source_spelling}
 use Rattle.command_outcome.specs.declared.failure.Failure.{Failure}
 use Rattle.command_outcome.specs.declared.failure.Failure.TheVariants as F
 use Rattle.command_outcome.specs.declared.failure.Object.TheVariants as O
@@ -75,15 +74,15 @@ CodeOutcome c bytes left folder_rose input_rose e =
     (input : List ℕ) × IsTold left input × (IsFault c folder_rose input_rose e ⊎ SaysOfCode bytes input c e)
 
 -- What a command comes to on files: it is said, or may come.
-abbrev pub Closes : Spelling → List File → List ℕ → Command → Type 0 → Type 0 → End → Type 0
-Closes spelling files input c folder_rose input_rose e =
-    IsFault c folder_rose input_rose e ⊎ (Says spelling files input c e ⊎ Comes spelling files input c e)
+abbrev pub Closes : List File → List ℕ → Command → Type 0 → Type 0 → End → Type 0
+Closes files input c folder_rose input_rose e =
+    IsFault c folder_rose input_rose e ⊎ (Says files input c e ⊎ Comes files input c e)
 
 -- The same of the files and the input that the folder and the source told, where they told something.
 abbrev pub FileOutcome : Command → Option (List File) → Option (List ℕ) → Type 0 → Type 0 → End → Type 0
 FileOutcome c files left folder_rose input_rose e =
     (all : List File) × (input : List ℕ) × IsTold files all × IsTold left input
-    × Closes source_spelling all input c folder_rose input_rose e
+    × Closes all input c folder_rose input_rose e
 
 -- A folder that tells nothing may give other bytes at each fetch, even under one name. So of `audit` it is said then
 -- that some bytes of the source and of the proof file end it so.
@@ -97,21 +96,16 @@ abbrev pub AuditOutcome : Command → Option (List File) → Option (List ℕ) �
 AuditOutcome c files left folder_rose input_rose e =
     FileOutcome c files left folder_rose input_rose e ⊎ IsUntoldAudit files c e
 
--- What words come to: it is explained by the reply to files and an input, which are what the folder and the source
--- told, where they told something; or it is what a command ends with on them, or `audit` where the folder tells none.
+-- What words come to: they ask for no command, or memory is wanting; or it is what a command ends with on files and an
+-- input, which are what the folder and the source told, where they told something; or `audit` where the folder tells
+-- none.
 abbrev pub WordsOutcome : List (List ℕ) → Option (List File) → Option (List ℕ) → Type 0 → Type 0 →
     Result (Vec ℕ Global) Failure → Type 0
 WordsOutcome words files left folder_rose input_rose o =
     (all : List File) × (input : List ℕ) × IsTold files all × IsTold left input
-    × (Explained source_spelling words all input folder_rose input_rose o
-    ⊎ ((c : Command) × IsCommand words c × Closes source_spelling all input c folder_rose input_rose (end_of o))
+    × (IsUnasked words o
+    ⊎ ((c : Command) × IsCommand words c × Closes all input c folder_rose input_rose (end_of o))
     ⊎ ((c : Command) × IsCommand words c × IsUntoldAudit files c (end_of o)))
-
--- what a request comes to, whatever words ask for it
-abbrev pub RequestOutcome : Request → Option (List File) → Option (List ℕ) → Type 0 → Type 0 →
-    Result (Vec ℕ Global) Failure → Type 0
-RequestOutcome r files left folder_rose input_rose o =
-    (words : List (List ℕ)) → IsRequest words r → WordsOutcome words files left folder_rose input_rose o
 
 -- what a command comes to, whatever words ask for it
 abbrev pub CommandOutcome : Command → Option (List File) → Option (List ℕ) → Type 0 → Type 0 →

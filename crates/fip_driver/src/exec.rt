@@ -1,9 +1,8 @@
-// What running an entry comes to: a source's on either path, and a code's.
+// What running an entry comes to: a source's and a code's.
 ghost use Rattle.std.specs.Prelude.{◌≡◌, ◌≤◌, ℕ, List, OnOk};
 ghost use Rattle.std.specs.Io.KnownBytes.{IsAtEnd};
 ghost use Rattle.fip_language.specs.declared.limits.TheConstants.{MOST_FRAMES, MOST_STORE_WORDS};
 ghost use Rattle.fip_base.specs.Faults.{Rose};
-ghost use Rattle.loop_form.specs.View.{loop_of};
 ghost use Rattle.command_line.specs.View.{room_of, request_of};
 ghost use Rattle.command_line.specs.Words as W;
 ghost use Rattle.source_commands.specs.Entries.{IsFunctionOf};
@@ -11,47 +10,15 @@ ghost use Rattle.source_commands.specs.ProgramCode.{IsEntryOf};
 ghost use Rattle.source_commands.specs.Wanted.{Compiled, IsReady};
 ghost use Rattle.run_command.specs.CodeRun.{RunsCode};
 ghost use Rattle.run_command.specs.ExecAnswer.{Execs};
-ghost use Rattle.fip_driver.specs.Fronted.{IsSoundLoop, EntryOutcome};
-ghost use Rattle.fip_driver.specs.Outcome.{RequestOutcome, FileOutcome, ReadOutcome, SourceOutcome, IsCounted};
-ghost use Rattle.fip_driver.specs.Outcome.{end_of, IsFolderFault};
+ghost use Rattle.fip_driver.specs.Outcome.{FileOutcome, ReadOutcome, IsCounted, end_of};
 ghost use Rattle.fip_driver.specs.Unread.{IsBeforeSource, IsBeforeInput};
 
 use crate::fetched::{fetch_code, fetch_source, read_input};
-use crate::front::{Path, path_of};
-use crate::run::run_loop;
 use command_line::{Room, RunRequest};
 use command_outcome::Failure;
 use fip_base::outside::{Folder, Source};
-use loop_form::program::LoopProgram;
 use source_commands::Ready;
 use std::alloc::Global;
-
-// Reads the input and runs the entry's loop program.
-fn exec_loop<S: Source>(
-    alloc: Global,
-    request: &RunRequest<'_>,
-    program: LoopProgram,
-    input: &mut S,
-) -> Result<Vec<u8>, Failure>
-    requires sound { IsSoundLoop (loop_of program) }
-    requires store { request.now.room.words ≤ MOST_STORE_WORDS }
-    ensures outcome { EntryOutcome (loop_of program) (request_of request.now) (S.left input.old)
-        (Rose (S.faults input.old) (S.faults input.new)) result }
-    ensures read { OnOk result (IsAtEnd (S.left input.new)) }
-    ensures late { IsBeforeInput result → ⊥ }
-{
-    match read_input(alloc, input) {
-        Ok(bytes) => run_loop(
-            alloc,
-            program,
-            bytes.as_slice(),
-            request.room.words as usize,
-            request.room.calls,
-            request.gauge,
-        ),
-        Err(failure) => Err(failure),
-    }
-}
 
 // Reads the input and runs the entry of a verified code.
 fn run_ready<S: Source>(
@@ -78,39 +45,18 @@ fn run_ready<S: Source>(
     }
 }
 
-// Checks a source by the rules of the whole language, reads the input and runs the entry.
-fn exec_whole<S: Source>(
-    alloc: Global,
-    request: &RunRequest<'_>,
-    source: &[u8],
-    input: &mut S,
-) -> Result<Vec<u8>, Failure>
-    requires words { request.now.room.words ≤ MOST_STORE_WORDS }
-    requires frames { request.now.room.frames ≤ MOST_FRAMES }
-    ensures outcome { SourceOutcome (W.Exec (request_of request.now)) (Compiled request.now.entry.now) source.now
-        (S.left input.old) ⊥ (Rose (S.faults input.old) (S.faults input.new)) (end_of result) }
-    ensures read { OnOk result (IsAtEnd (S.left input.new)) }
-    ensures before { IsBeforeInput result → input.new ≡ input.old }
-    ensures understood { IsBeforeSource result → ⊥ }
-    ensures unfaulted { IsFolderFault result → ⊥ }
-{
-    match source_commands::exec_entry(alloc, source, request.entry) {
-        Ok(ready) => run_ready(alloc, ready, request.room, request.gauge, input),
-        Err(failure) => Err(failure),
-    }
-}
-
-/// What a run of a source comes to. The one place that chooses between the loop's path and that of the whole language.
+/// What a run of a source comes to.
 pub fn exec<F: Folder, S: Source>(
     alloc: Global,
     request: &RunRequest<'_>,
     folder: &mut F,
     input: &mut S,
 ) -> Result<Vec<u8>, Failure>
-    requires store { request.now.room.words ≤ MOST_STORE_WORDS }
+    requires words { request.now.room.words ≤ MOST_STORE_WORDS }
     requires frames { request.now.room.frames ≤ MOST_FRAMES }
-    ensures outcome { RequestOutcome (request_of request.now) (F.files folder.old) (S.left input.old)
-        (Rose (F.faults folder.old) (F.faults folder.new)) (Rose (S.faults input.old) (S.faults input.new)) result }
+    ensures outcome { FileOutcome (W.Exec (request_of request.now)) (F.files folder.old) (S.left input.old)
+        (Rose (F.faults folder.old) (F.faults folder.new)) (Rose (S.faults input.old) (S.faults input.new))
+        (end_of result) }
     ensures read { OnOk result (IsAtEnd (S.left input.new)) }
     ensures before { IsBeforeInput result → input.new ≡ input.old }
     ensures counted { IsCounted (F.files folder.old) (Rose (F.faults folder.old) (F.faults folder.new)) result }
@@ -118,9 +64,8 @@ pub fn exec<F: Folder, S: Source>(
     ensures files { F.files folder.new ≡ F.files folder.old }
 {
     match fetch_source(alloc, folder, request.file) {
-        Ok(source) => match path_of(alloc, source.as_slice(), request.entry) {
-            Ok(Path::Loop(program)) => exec_loop(alloc, request, program, input),
-            Ok(Path::Whole) => exec_whole(alloc, request, source.as_slice(), input),
+        Ok(source) => match source_commands::exec_entry(alloc, source.as_slice(), request.entry) {
+            Ok(ready) => run_ready(alloc, ready, request.room, request.gauge, input),
             Err(failure) => Err(failure),
         },
         Err(failure) => Err(failure),

@@ -7,7 +7,6 @@ ghost use Rattle.fip_base.specs.Faults.{Rose};
 ghost use Rattle.fip_base.specs.Files.{File};
 ghost use Rattle.command_outcome.specs.declared.failure.Failure.{Failure as a_failure};
 ghost use Rattle.fip_driver.specs.Answered.{Answer, Answered, IsAnswered};
-ghost use Rattle.fip_driver.specs.Spelling.{source_spelling};
 ghost use Rattle.fip_driver.specs.Delivered.{seen, NotRisen, Delivered};
 ghost use Rattle.command_line.specs.Words.{Command, IsCommand};
 ghost use Rattle.fip_driver.specs.Commands.{stored_name};
@@ -80,12 +79,12 @@ pub fn fp2<F: Folder, S: Source, O: Sink, E: Sink>(
         S.left input.old ≡ Some bytes → NotRisen (F.faults folder.old) (F.faults folder.new) →
         NotRisen (S.faults input.old) (S.faults input.new) → NotRisen (O.faults out.old) (O.faults out.new) →
         NotRisen (E.faults err.old) (E.faults err.new) →
-        Answered source_spelling (map string_bytes words.now) files bytes (O.written out.old) (O.written out.new)
+        Answered (map string_bytes words.now) files bytes (O.written out.old) (O.written out.new)
         (E.written err.old) (E.written err.new) result.0 }
     // There is one written answer.
     ensures one { (files : List File) (bytes : List ℕ) (a b : Answer) →
-        IsAnswered source_spelling (map string_bytes words.now) files bytes a →
-        IsAnswered source_spelling (map string_bytes words.now) files bytes b → a ≡ b }
+        IsAnswered (map string_bytes words.now) files bytes a →
+        IsAnswered (map string_bytes words.now) files bytes b → a ≡ b }
     // Where the words, the source or the code are refused, or the command doesn't read it, the input waits untouched.
     ensures unread { (input.new ≡ input.old)
         ⊎ HasRead (map string_bytes words.now) (F.files folder.old) result.0 }

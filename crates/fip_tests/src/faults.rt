@@ -1,5 +1,5 @@
 // Objects whose calls fail, each in turn.
 
 mod commands;
-mod loops;
+mod running;
 mod tasks;

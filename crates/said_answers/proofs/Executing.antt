@@ -6,6 +6,7 @@ use Rattle.std.proofs.lemmas.Option.{none-some, same_Some}
 use Rattle.fip_base.specs.Files.{File, file_of}
 use Rattle.command_line.specs.Words.{Request, Command, Check, Exec, Eval, Tasks, Derive, Audit, Replay, Library, Gen}
 use Rattle.command_outcome.specs.declared.failure.Failure.TheVariants as F
+use Rattle.command_outcome.specs.declared.failure.Object.TheVariants as O
 use Rattle.source_commands.specs.Wanted.{Wanted, Compiled}
 use Rattle.source_commands.proofs.Once.{refused_once, refused_not_ready}
 use Rattle.run_command.specs.ExecAnswer as R
@@ -14,10 +15,9 @@ use Rattle.command_answers.specs.Answer.{ComesTo, OnSource}
 use Rattle.command_answers.specs.Exec as X
 use Rattle.command_answers.specs.Outcomes.{Outcome}
 use Rattle.command_answers.proofs.ExecJoined.{entry_is_told}
-use Rattle.fip_driver.specs.Commands.{IsOther}
+use Rattle.fip_driver.specs.Commands.{fetched_name}
 use Rattle.fip_driver.specs.Ends as E
 use Rattle.fip_driver.specs.Ends.{End, SaysOf, Checks, AsksCode, Says}
-use Rattle.fip_driver.specs.Spelling.{source_spelling}
 use Rattle.fip_driver.proofs.OneCode.{says_asks}
 
 -- which command it is
@@ -55,7 +55,7 @@ module _ (source input : List ℕ) (r : Request) where
 
 module _ (files : List File) (input : List ℕ) (r : Request) where
   -- the outcome on the file that is found
-  on_found : (found : Option (List ℕ)) (w : Wanted) (source : List ℕ) (e : End) (o : Outcome) → file_of r.file files ≡ found → Checks source_spelling files (Exec r) w source → SaysOf source input (Exec r) w e → A.OnFound files input (Exec r) found o → e ≡ o.end
+  on_found : (found : Option (List ℕ)) (w : Wanted) (source : List ℕ) (e : End) (o : Outcome) → file_of r.file files ≡ found → Checks files (Exec r) w source → SaysOf source input (Exec r) w e → A.OnFound files input (Exec r) found o → e ≡ o.end
   on_found None w source e o at checks says h =
       let name : r.file ≡ checks.name = same_Some r.file checks.name checks.names in
       absurd (none-some source (sym at ∙ (ap (λ n. file_of n files) name ∙ checks.there)))
@@ -65,15 +65,21 @@ module _ (files : List File) (input : List ℕ) (r : Request) where
       let wants : w ≡ Compiled r.entry = sym (same_Some (Compiled r.entry) w checks.wants) in
       on_source bytes input r (Exec r) e o refl (subst (λ x. SaysOf x input (Exec r) (Compiled r.entry) e) same (subst (λ v. SaysOf source input (Exec r) v e) wants says)) h
 
-  says_is : (c : Command) (e : End) (o : Outcome) → c ≡ Exec r → Says source_spelling files input c e → ComesTo files input (Exec r) o → e ≡ o.end
-  says_is c _ o is (E.Missing name others names gone) h = absurd (subst (λ d. IsOther d) is others)
+  on_missing : (found : Option (List ℕ)) (o : Outcome) → found ≡ None → A.OnFound files input (Exec r) found o → Err (F.Fault O.Folder) ≡ o.end
+  on_missing None o gone h = ap (λ (u : Outcome). u.end) (sym h)
+  on_missing (Some bytes) o gone h = absurd (none-some bytes (sym gone))
+
+  says_is : (c : Command) (e : End) (o : Outcome) → c ≡ Exec r → Says files input c e → ComesTo files input (Exec r) o → e ≡ o.end
+  says_is c _ o is (E.Missing name names gone) h =
+      let same : r.file ≡ name = same_Some r.file name (sym (ap fetched_name is) ∙ names) in
+      on_missing (file_of r.file files) o (ap (λ n. file_of n files) same ∙ gone) h
   says_is c e o is (E.OnSource w source _ checks says) h =
-      on_found (file_of r.file files) w source e o refl (subst (λ d. Checks source_spelling files d w source) is checks) (subst (λ d. SaysOf source input d w e) is says) h
+      on_found (file_of r.file files) w source e o refl (subst (λ d. Checks files d w source) is checks) (subst (λ d. SaysOf source input d w e) is says) h
   says_is c e o is (E.OnCode bytes _ there says) h = absurd (subst AsksCode is (says_asks bytes input c e says))
   says_is c e o is (E.OnAudit file proof source _ same there k) h = absurd (other c (Audit file proof) same (ap tag is) refl)
   says_is c e o is (E.OnTrace trace step bytes _ same there k) h = absurd (other c (Replay trace step) same (ap tag is) refl)
   says_is c _ o is (E.OfLibrary name text same k) h = absurd (other c (Library name) same (ap tag is) refl)
   says_is c _ o is (E.OfGen seed count _ same k) h = absurd (other c (Gen seed count) same (ap tag is) refl)
 
-pub executed : (files : List File) (input : List ℕ) (r : Request) (e : End) (o : Outcome) → Says source_spelling files input (Exec r) e → ComesTo files input (Exec r) o → e ≡ o.end
+pub executed : (files : List File) (input : List ℕ) (r : Request) (e : End) (o : Outcome) → Says files input (Exec r) e → ComesTo files input (Exec r) o → e ≡ o.end
 executed files input r e o says h = says_is files input r (Exec r) e o refl says h

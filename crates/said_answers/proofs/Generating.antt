@@ -24,7 +24,6 @@ use Rattle.command_answers.specs.Outcomes.{Outcome}
 use Rattle.command_answers.proofs.ExecJoined.{entry_is_told}
 use Rattle.fip_driver.specs.Ends as E
 use Rattle.fip_driver.specs.Ends.{End, Says}
-use Rattle.fip_driver.specs.Spelling.{source_spelling}
 use Rattle.fip_driver.proofs.OneEnd.{gen_fetches, gen_same}
 
 start_ready : (source name : List ℕ) → X.Start source name → IsReady source (Compiled name)
@@ -70,8 +69,8 @@ module _ (seed count : ℕ) (few : count ≤ 100000) where
   tag (Library name) = 1
   tag c = 0
 
-  says_tree : (files : List File) (input : List ℕ) (c : Command) (e : End) (o : Outcome) → c ≡ Gen seed count → Says source_spelling files input c e → G.Generates seed count o → e ≡ o.end
-  says_tree files input c _ o is (E.Missing name others names gone) h = absurd (gen_fetches c seed count name is names)
+  says_tree : (files : List File) (input : List ℕ) (c : Command) (e : End) (o : Outcome) → c ≡ Gen seed count → Says files input c e → G.Generates seed count o → e ≡ o.end
+  says_tree files input c _ o is (E.Missing name names gone) h = absurd (gen_fetches c seed count name is names)
   says_tree files input c e o is (E.OnSource w source _ checks says) h = absurd (gen_fetches c seed count checks.name is checks.names)
   says_tree files input c e o is (E.OnCode bytes _ there says) h = absurd (gen_fetches c seed count there.0 is there.1)
   says_tree files input c e o is (E.OnAudit file proof source _ same there k) h = absurd (gen_fetches c seed count there.0 is there.1)
@@ -79,5 +78,5 @@ module _ (seed count : ℕ) (few : count ≤ 100000) where
   says_tree files input c _ o is (E.OfLibrary name text same k) h = let one : 1 ≡ 0 = ap tag (sym same ∙ is) in absurd (omega (arith, one))
   says_tree files input c e o is (E.OfGen m n _ same k) h = on_tree e o (gen_same c m n seed count e same is k) h
 
-pub generated : (files : List File) (input : List ℕ) (seed count : ℕ) (e : End) (o : Outcome) → count ≤ 100000 → Says source_spelling files input (Gen seed count) e → ComesTo files input (Gen seed count) o → e ≡ o.end
+pub generated : (files : List File) (input : List ℕ) (seed count : ℕ) (e : End) (o : Outcome) → count ≤ 100000 → Says files input (Gen seed count) e → ComesTo files input (Gen seed count) o → e ≡ o.end
 generated files input seed count e o few says h = says_tree seed count few files input (Gen seed count) e o refl says h

@@ -23,10 +23,9 @@ use Rattle.command_answers.specs.Replays.{Replays}
 use Rattle.command_answers.specs.Stored as T
 use Rattle.command_answers.specs.Stored.{Upgrades, Judges, Audits}
 use Rattle.command_answers.proofs.Joined.{run_is_told}
-use Rattle.fip_driver.specs.Commands.{IsOther, ReadsInput, fetched_name, wanted}
+use Rattle.fip_driver.specs.Commands.{ReadsInput, fetched_name, wanted}
 use Rattle.fip_driver.specs.Ends as E
-use Rattle.fip_driver.specs.Ends.{End, SaysOf, SaysOfCode, SaysOfAudit, IsVerdict, IsBeside, Checks, AsksCode, IsThere, Says}
-use Rattle.fip_driver.specs.Spelling.{source_spelling}
+use Rattle.fip_driver.specs.Ends.{End, SaysOf, SaysOfCode, SaysOfAudit, IsVerdict, Checks, AsksCode, IsThere, Says}
 use Rattle.said_answers.specs.Whole.{IsWhole}
 
 -- both tell the same commands that read the input
@@ -41,8 +40,8 @@ reads_same c h = absurd h
 
 -- ---- a source
 
-pub checks_of : (files : List File) (c : Command) (w : Wanted) (name source : List ℕ) → wanted c ≡ Some w → fetched_name c ≡ Some name → file_of name files ≡ Some source → IsBeside source_spelling c source → Checks source_spelling files c w source
-checks_of files c w name source wants names there beside = record { wants = wants; name = name; names = names; there = there; beside = beside }
+pub checks_of : (files : List File) (c : Command) (w : Wanted) (name source : List ℕ) → wanted c ≡ Some w → fetched_name c ≡ Some name → file_of name files ≡ Some source → Checks files c w source
+checks_of files c w name source wants names there = record { wants = wants; name = name; names = names; there = there }
 
 source_said : (source input : List ℕ) (c : Command) (w : Wanted) (o : Outcome) → (IsReady source w → A.IsTaken c input → Does source input c o → SaysOf source input c w o.end) → OnSource source input c w o → SaysOf source input c w o.end
 source_said source input c w _ does (A.Refused r h) = E.Refused r h
@@ -104,52 +103,52 @@ text_said _ _ G.Tree' = L.OfTree
 text_said _ _ G.RedBlack = L.OfRedBlackTree
 text_said _ _ G.Finger = L.OfFingerTree
 
-library_said : (files : List File) (input name : List ℕ) (o : Outcome) → G.PrintsText name o → Says source_spelling files input (Library name) o.end
+library_said : (files : List File) (input name : List ℕ) (o : Outcome) → G.PrintsText name o → Says files input (Library name) o.end
 library_said files input name _ (G.Printed text h) = E.OfLibrary name text refl (text_said name text h)
 
 -- ---- the file
 
-missing_said : (files : List File) (input name : List ℕ) (c : Command) (o : Outcome) → IsOther c → fetched_name c ≡ Some name → file_of name files ≡ None → o ≡ failed (F.Fault O.Folder) → Says source_spelling files input c o.end
-missing_said files input name c o other names gone is = subst (λ (u : Outcome). Says source_spelling files input c u.end) (sym is) (E.Missing name other names gone)
+missing_said : (files : List File) (input name : List ℕ) (c : Command) (o : Outcome) → fetched_name c ≡ Some name → file_of name files ≡ None → o ≡ failed (F.Fault O.Folder) → Says files input c o.end
+missing_said files input name c o names gone is = subst (λ (u : Outcome). Says files input c u.end) (sym is) (E.Missing name names gone)
 
 module _ (files : List File) (input : List ℕ) where
-  check_file : (file : List ℕ) (found : Option (List ℕ)) (o : Outcome) → file_of file files ≡ found → A.OnFound files input (Check file) found o → Says source_spelling files input (Check file) o.end
-  check_file file None o at h = missing_said files input file (Check file) o tt refl at h
-  check_file file (Some source) o at h = E.OnSource Lawful source o.end (checks_of files (Check file) Lawful file source refl refl at tt) (source_said source input (Check file) Lawful o (λ ready taken d. check_said source input file o d) h)
+  check_file : (file : List ℕ) (found : Option (List ℕ)) (o : Outcome) → file_of file files ≡ found → A.OnFound files input (Check file) found o → Says files input (Check file) o.end
+  check_file file None o at h = missing_said files input file (Check file) o refl at h
+  check_file file (Some source) o at h = E.OnSource Lawful source o.end (checks_of files (Check file) Lawful file source refl refl at) (source_said source input (Check file) Lawful o (λ ready taken d. check_said source input file o d) h)
 
-  eval_file : (file entry : List ℕ) (calls frames : ℕ) (found : Option (List ℕ)) (o : Outcome) → file_of file files ≡ found → A.OnFound files input (Eval file entry calls frames) found o → Says source_spelling files input (Eval file entry calls frames) o.end
-  eval_file file entry calls frames None o at h = missing_said files input file (Eval file entry calls frames) o tt refl at h
+  eval_file : (file entry : List ℕ) (calls frames : ℕ) (found : Option (List ℕ)) (o : Outcome) → file_of file files ≡ found → A.OnFound files input (Eval file entry calls frames) found o → Says files input (Eval file entry calls frames) o.end
+  eval_file file entry calls frames None o at h = missing_said files input file (Eval file entry calls frames) o refl at h
   eval_file file entry calls frames (Some source) o at h =
-      E.OnSource (Root entry) source o.end (checks_of files (Eval file entry calls frames) (Root entry) file source refl refl at tt)
+      E.OnSource (Root entry) source o.end (checks_of files (Eval file entry calls frames) (Root entry) file source refl refl at)
       (source_said source input (Eval file entry calls frames) (Root entry) o (λ ready taken d. eval_said source input file entry calls frames o taken d) h)
 
-  tasks_file : (file : List ℕ) (seed turns : ℕ) (room : Room) (found : Option (List ℕ)) (o : Outcome) → file_of file files ≡ found → A.OnFound files input (Tasks file seed turns room) found o → Says source_spelling files input (Tasks file seed turns room) o.end
-  tasks_file file seed turns room None o at h = missing_said files input file (Tasks file seed turns room) o tt refl at h
+  tasks_file : (file : List ℕ) (seed turns : ℕ) (room : Room) (found : Option (List ℕ)) (o : Outcome) → file_of file files ≡ found → A.OnFound files input (Tasks file seed turns room) found o → Says files input (Tasks file seed turns room) o.end
+  tasks_file file seed turns room None o at h = missing_said files input file (Tasks file seed turns room) o refl at h
   tasks_file file seed turns room (Some source) o at h =
-      E.OnSource Lawful source o.end (checks_of files (Tasks file seed turns room) Lawful file source refl refl at tt)
+      E.OnSource Lawful source o.end (checks_of files (Tasks file seed turns room) Lawful file source refl refl at)
       (source_said source input (Tasks file seed turns room) Lawful o (λ ready taken d. turns_said source input file seed turns room o taken d) h)
 
-  verify_file : (file : List ℕ) (found : Option (List ℕ)) (o : Outcome) → file_of file files ≡ found → A.OnFound files input (Verify file) found o → Says source_spelling files input (Verify file) o.end
-  verify_file file None o at h = missing_said files input file (Verify file) o tt refl at h
+  verify_file : (file : List ℕ) (found : Option (List ℕ)) (o : Outcome) → file_of file files ≡ found → A.OnFound files input (Verify file) found o → Says files input (Verify file) o.end
+  verify_file file None o at h = missing_said files input file (Verify file) o refl at h
   verify_file file (Some bytes) o at h = E.OnCode bytes o.end (file, refl, at) (code_said bytes input (Verify file) o tt (verify_said bytes input file o) h)
 
-  upgrade_file : (file out : List ℕ) (found : Option (List ℕ)) (o : Outcome) → file_of file files ≡ found → A.OnFound files input (Upgrade file out) found o → Says source_spelling files input (Upgrade file out) o.end
-  upgrade_file file out None o at h = missing_said files input file (Upgrade file out) o tt refl at h
+  upgrade_file : (file out : List ℕ) (found : Option (List ℕ)) (o : Outcome) → file_of file files ≡ found → A.OnFound files input (Upgrade file out) found o → Says files input (Upgrade file out) o.end
+  upgrade_file file out None o at h = missing_said files input file (Upgrade file out) o refl at h
   upgrade_file file out (Some bytes) o at h = E.OnCode bytes o.end (file, refl, at) (code_said bytes input (Upgrade file out) o tt (upgrade_said bytes input file out o) h)
 
-  run_file : (r : Request) (found : Option (List ℕ)) (o : Outcome) → file_of r.file files ≡ found → A.OnFound files input (Run r) found o → Says source_spelling files input (Run r) o.end
-  run_file r None o at h = missing_said files input r.file (Run r) o tt refl at h
+  run_file : (r : Request) (found : Option (List ℕ)) (o : Outcome) → file_of r.file files ≡ found → A.OnFound files input (Run r) found o → Says files input (Run r) o.end
+  run_file r None o at h = missing_said files input r.file (Run r) o refl at h
   run_file r (Some bytes) o at h = E.OnCode bytes o.end (r.file, refl, at) (code_said bytes input (Run r) o tt (run_said bytes input r o) h)
 
-  audit_file : (file proof : List ℕ) (found : Option (List ℕ)) (o : Outcome) → file_of file files ≡ found → A.OnFound files input (Audit file proof) found o → Says source_spelling files input (Audit file proof) o.end
-  audit_file file proof None o at h = missing_said files input file (Audit file proof) o tt refl at h
+  audit_file : (file proof : List ℕ) (found : Option (List ℕ)) (o : Outcome) → file_of file files ≡ found → A.OnFound files input (Audit file proof) found o → Says files input (Audit file proof) o.end
+  audit_file file proof None o at h = missing_said files input file (Audit file proof) o refl at h
   audit_file file proof (Some source) o at h = E.OnAudit file proof source o.end refl (file, refl, at) (audit_said source (file_of proof files) o h)
 
-  replay_file : (trace : List ℕ) (step : ℕ) (found : Option (List ℕ)) (o : Outcome) → file_of trace files ≡ found → A.OnFound files input (Replay trace step) found o → Says source_spelling files input (Replay trace step) o.end
-  replay_file trace step None o at h = missing_said files input trace (Replay trace step) o tt refl at h
+  replay_file : (trace : List ℕ) (step : ℕ) (found : Option (List ℕ)) (o : Outcome) → file_of trace files ≡ found → A.OnFound files input (Replay trace step) found o → Says files input (Replay trace step) o.end
+  replay_file trace step None o at h = missing_said files input trace (Replay trace step) o refl at h
   replay_file trace step (Some bytes) o at h = E.OnTrace trace step bytes o.end refl (trace, refl, at) (trace_said bytes step o h)
 
-pub said : (files : List File) (input : List ℕ) (c : Command) (o : Outcome) → IsWhole c → ComesTo files input c o → Says source_spelling files input c o.end
+pub said : (files : List File) (input : List ℕ) (c : Command) (o : Outcome) → IsWhole c → ComesTo files input c o → Says files input c o.end
 said files input (Check file) o whole h = check_file files input file (file_of file files) o refl h
 said files input (Verify file) o whole h = verify_file files input file (file_of file files) o refl h
 said files input (Upgrade file out) o whole h = upgrade_file files input file out (file_of file files) o refl h

@@ -5,7 +5,6 @@ ghost use Rattle.command_line.specs.Words.{Request, Command, Exec, Gen, most_cou
 ghost use Rattle.command_answers.specs.Answer.{ComesTo};
 ghost use Rattle.command_answers.specs.Outcomes.{Outcome};
 ghost use Rattle.fip_driver.specs.Ends.{End, Says};
-ghost use Rattle.fip_driver.specs.Spelling.{source_spelling};
 ghost use Rattle.said_answers.specs.Whole.{IsWhole};
 
 /// What `check`, `eval`, `tasks`, `verify`, `upgrade`, `run`, `audit`, `replay` and `library` come to by the one
@@ -13,20 +12,20 @@ ghost use Rattle.said_answers.specs.Whole.{IsWhole};
 /// For who reads either definition.
 pub fn what_is_said_is_written()
     ensures said { (files : List File) (input : List ℕ) (c : Command) (o : Outcome) → IsWhole c →
-        ComesTo files input c o → Says source_spelling files input c o.end }
+        ComesTo files input c o → Says files input c o.end }
     ensures is { (files : List File) (input : List ℕ) (c : Command) (e : End) (o : Outcome) → IsWhole c →
-        Says source_spelling files input c e → ComesTo files input c o → e ≡ o.end }
+        Says files input c e → ComesTo files input c o → e ≡ o.end }
 {}
 
-/// So it is of `exec`, with the gauge as without, where its source isn't a program of the loop form, which has a
-/// definition of its own: what the program's clauses say of it is the end of its outcome. For who runs a source.
+/// So it is of `exec`, with the gauge as without: what the program's clauses say of it is the end of its outcome. For
+/// who runs a source.
 pub fn what_is_said_of_exec_is_written()
     ensures law { (files : List File) (input : List ℕ) (r : Request) (e : End) (o : Outcome) →
-        Says source_spelling files input (Exec r) e → ComesTo files input (Exec r) o → e ≡ o.end }
+        Says files input (Exec r) e → ComesTo files input (Exec r) o → e ≡ o.end }
 {}
 
 /// And of `gen`: what the program's clauses say of it is the end of its outcome. For who makes a tree.
 pub fn what_is_said_of_gen_is_written()
     ensures law { (files : List File) (input : List ℕ) (seed count : ℕ) (e : End) (o : Outcome) → count ≤ most_count →
-        Says source_spelling files input (Gen seed count) e → ComesTo files input (Gen seed count) o → e ≡ o.end }
+        Says files input (Gen seed count) e → ComesTo files input (Gen seed count) o → e ≡ o.end }
 {}

@@ -50,6 +50,12 @@ returns-in-Replay-clause-outcome g c =
     let ir = Rose (g.S.Source.faults c.args.input.now) (g.S.Source.faults c.args.input.now) in
     subst (λ x. CommandOutcome (command_of x) (g.F.Folder.files c.args.folder.now) (g.S.Source.left c.args.input.now) fr ir c.replay.result) (sym c.in-Replay.is) (file_outcome _ (g.F.Folder.files c.args.folder.now) (g.S.Source.left c.args.input.now) fr ⊥ ir c.replay.result (λ r. absurd r) (c.replay.ensures.outcome (g.S.Source.left c.args.input.now)))
 
+pub returns-in-Exec-clause-outcome : goal.returns-in-Exec-clause-outcome
+returns-in-Exec-clause-outcome g c =
+    let fr = Rose (g.F.Folder.faults c.args.folder.now) (g.F.Folder.faults c.exec.new.folder) in
+    let ir = Rose (g.S.Source.faults c.args.input.now) (g.S.Source.faults c.exec.new.input) in
+    subst (λ x. CommandOutcome (command_of x) (g.F.Folder.files c.args.folder.now) (g.S.Source.left c.args.input.now) fr ir c.exec.result) (sym c.in-Exec.is) (file_outcome _ (g.F.Folder.files c.args.folder.now) (g.S.Source.left c.args.input.now) fr ir ir c.exec.result (λ r. r) c.exec.ensures.outcome)
+
 pub returns-in-Run-clause-outcome : goal.returns-in-Run-clause-outcome
 returns-in-Run-clause-outcome g c =
     let fr = Rose (g.F.Folder.faults c.args.folder.now) (g.F.Folder.faults c.run.new.folder) in

@@ -7,10 +7,10 @@ use Rattle.fip_driver.proofs.Counted.{sources_counted, fetch_counted}
 use Rattle.fip_driver.proofs.commands.check.Goals as goal
 
 pub returns-in-Ok-clause-outcome : goal.returns-in-Ok-clause-outcome
-returns-in-Ok-clause-outcome g c = λ left. source_ends (W.Check c.args.file.now) Lawful c.args.file.now (g.F.Folder.files c.args.folder.now) left ⊥ ⊥ _ _ c.in-Ok.bytes.items c.as_slice.result.now (end_of c.check.result) (λ r. absurd r) (λ r. r) c.in-Ok.ensures.found refl refl tt c.as_slice.ensures.value (check_ends c.args.file.now c.as_slice.result.now left ⊥ ⊥ c.check.result c.check.ensures.listed c.check.ensures.kept)
+returns-in-Ok-clause-outcome g c = λ left. source_ends (W.Check c.args.file.now) Lawful c.args.file.now (g.F.Folder.files c.args.folder.now) left ⊥ ⊥ _ _ c.in-Ok.bytes.items c.as_slice.result.now (end_of c.check.result) (λ r. absurd r) (λ r. r) c.in-Ok.ensures.found refl refl c.as_slice.ensures.value (check_ends c.args.file.now c.as_slice.result.now left ⊥ ⊥ c.check.result c.check.ensures.listed c.check.ensures.kept)
 
 pub returns-in-Err-clause-outcome : goal.returns-in-Err-clause-outcome
-returns-in-Err-clause-outcome g c = λ left. fetch_ends (W.Check c.args.file.now) Lawful c.args.file.now (g.F.Folder.files c.args.folder.now) left _ _ _ c.in-Err.failure tt refl refl (λ r. r) c.in-Err.ensures.fails
+returns-in-Err-clause-outcome g c = λ left. fetch_ends (W.Check c.args.file.now) Lawful c.args.file.now (g.F.Folder.files c.args.folder.now) left _ _ _ c.in-Err.failure refl refl (λ r. r) c.in-Err.ensures.fails
 
 pub returns-in-Ok-clause-counted : goal.returns-in-Ok-clause-counted
 returns-in-Ok-clause-counted g c = sources_counted (g.F.Folder.files c.args.folder.now) _ c.check.result c.check.ensures.stage

@@ -16,7 +16,7 @@ pub returns-in-Ok-clause-outcome : goal.returns-in-Ok-clause-outcome
 returns-in-Ok-clause-outcome g c = λ left. code_ends (W.Upgrade c.args.file.now c.args.out.now) c.args.file.now (g.F.Folder.files c.args.folder.now) left ⊥ ⊥ _ _ c.in-Ok.bytes.items c.as_slice.result.now _ (λ r. absurd r) (λ r. r) c.in-Ok.ensures.found refl c.as_slice.ensures.value (upgrade_refused c.args.file.now c.args.out.now c.as_slice.result.now left ⊥ ⊥ c.in-Err-upgrade.failure c.in-Err-upgrade.ensures.kept)
 
 pub returns-clause-outcome : goal.returns-clause-outcome
-returns-clause-outcome g c = λ left. missed_ends (W.Upgrade c.args.file.now c.args.out.now) (λ f. f ≡ BadCode 16777216) c.args.file.now (g.F.Folder.files c.args.folder.now) left _ _ _ c.in-Err.failure tt refl (λ r. r) (long_code (W.Upgrade c.args.file.now c.args.out.now) tt) c.in-Err.ensures.fails
+returns-clause-outcome g c = λ left. missed_ends (W.Upgrade c.args.file.now c.args.out.now) (λ f. f ≡ BadCode 16777216) c.args.file.now (g.F.Folder.files c.args.folder.now) left _ _ _ c.in-Err.failure refl (λ r. r) (long_code (W.Upgrade c.args.file.now c.args.out.now) tt) c.in-Err.ensures.fails
 
 pub returns-in-Ok-upgrade-clause-kept : goal.returns-in-Ok-upgrade-clause-kept
 returns-in-Ok-upgrade-clause-kept g c = λ left. stored_kept (W.Upgrade c.args.file.now c.args.out.now) left c.args.out.now c.in-Ok-upgrade.compiled.file.items (g.F.Folder.files c.args.folder.now) _ _ _ _ _ c.store.result c.in-Ok.ensures.same c.in-Ok.ensures.later (c.in-Ok.bytes.items, c.in-Ok.ensures.found, subst (λ xs. IsUpgraded xs c.in-Ok-upgrade.compiled.file.items) c.as_slice.ensures.value c.in-Ok-upgrade.ensures.spelt) c.store.ensures.fails c.store.ensures.kept

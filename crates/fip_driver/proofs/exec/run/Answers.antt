@@ -15,7 +15,7 @@ pub returns-in-Ok-clause-outcome : goal.returns-in-Ok-clause-outcome
 returns-in-Ok-clause-outcome g c = code_ends (W.Run (request_of c.args.request.now)) c.args.request.now.file.now (g.F.Folder.files c.args.folder.now) (g.S.Source.left c.args.input.now) ⊥ ⊥ _ _ c.in-Ok.bytes.items c.as_slice.result.now _ (λ r. absurd r) (λ r. absurd r) c.in-Ok.ensures.found refl c.as_slice.ensures.value (run_refused (request_of c.args.request.now) c.as_slice.result.now (g.S.Source.left c.args.input.now) ⊥ ⊥ c.in-Err-run_entry.failure c.in-Err-run_entry.ensures.kept)
 
 pub returns-clause-outcome : goal.returns-clause-outcome
-returns-clause-outcome g c = missed_ends (W.Run (request_of c.args.request.now)) (λ f. f ≡ BadCode 16777216) c.args.request.now.file.now (g.F.Folder.files c.args.folder.now) (g.S.Source.left c.args.input.now) _ _ _ c.in-Err.failure tt refl (λ r. r) (long_code (W.Run (request_of c.args.request.now)) tt) c.in-Err.ensures.fails
+returns-clause-outcome g c = missed_ends (W.Run (request_of c.args.request.now)) (λ f. f ≡ BadCode 16777216) c.args.request.now.file.now (g.F.Folder.files c.args.folder.now) (g.S.Source.left c.args.input.now) _ _ _ c.in-Err.failure refl (λ r. r) (long_code (W.Run (request_of c.args.request.now)) tt) c.in-Err.ensures.fails
 
 pub returns-in-Ok-run_entry-clause-counted : goal.returns-in-Ok-run_entry-clause-counted
 returns-in-Ok-run_entry-clause-counted g c = late_counted (g.F.Folder.files c.args.folder.now) _ c.run_ready.result c.run_ready.ensures.late

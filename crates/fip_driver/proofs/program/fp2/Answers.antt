@@ -3,7 +3,7 @@ use Rattle.fip_driver.specs.Delivered.{seen}
 use Rattle.fip_driver.proofs.Outcomes.{whole_outcome}
 use Rattle.fip_driver.proofs.OneAnswer.{one_answer}
 use Rattle.fip_driver.specs.Commands.{stored_name}
-use Rattle.fip_driver.proofs.Unread.{input_read, folder_called, files_after}
+use Rattle.fip_driver.proofs.Unread.{input_read, folder_called, files_after, last_status}
 use Rattle.fip_driver.proofs.program.fp2.Goals as goal
 
 pub returns-clause-files : goal.returns-clause-files
@@ -20,3 +20,6 @@ returns-clause-unread g c = input_read (map string_bytes c.args.words.now) (seen
 
 pub returns-clause-unfetched : goal.returns-clause-unfetched
 returns-clause-unfetched g c = folder_called (map string_bytes c.args.words.now) (seen (g.O.Sink.written c.args.out.now) (g.O.Sink.faults c.args.out.now)) (seen (g.O.Sink.written c.deliver.new.out) (g.O.Sink.faults c.deliver.new.out)) (seen (g.E.Sink.written c.args.err.now) (g.E.Sink.faults c.args.err.now)) (seen (g.E.Sink.written c.deliver.new.err) (g.E.Sink.faults c.deliver.new.err)) c.outcome-outcome.result c.deliver.result.0 c.deliver.ensures.delivered _ c.outcome-outcome.ensures.unfetched
+
+pub returns-clause-read : goal.returns-clause-read
+returns-clause-read g c = last_status (seen (g.O.Sink.written c.args.out.now) (g.O.Sink.faults c.args.out.now)) (seen (g.O.Sink.written c.deliver.new.out) (g.O.Sink.faults c.deliver.new.out)) (seen (g.E.Sink.written c.args.err.now) (g.E.Sink.faults c.args.err.now)) (seen (g.E.Sink.written c.deliver.new.err) (g.E.Sink.faults c.deliver.new.err)) c.outcome-outcome.result c.deliver.result.0 _ c.deliver.ensures.delivered c.outcome-outcome.ensures.read

@@ -9,13 +9,13 @@ use Rattle.fip_driver.proofs.Counted.{late_counted, source_counted, fetch_counte
 use Rattle.fip_driver.proofs.sessions.tasks.Goals as goal
 
 pub returns-in-Ok-front-clause-outcome : goal.returns-in-Ok-front-clause-outcome
-returns-in-Ok-front-clause-outcome g c = source_ends (W.Tasks c.args.file.now c.args.seed c.args.turns (room_of c.args.room)) Lawful c.args.file.now (g.F.Folder.files c.args.folder.now) (g.S.Source.left c.args.input.now) ⊥ _ _ _ c.in-Ok.source.items c.as_slice.result.now (end_of c.take_turns.result) (λ r. absurd r) (λ r. r) c.in-Ok.ensures.found refl refl tt c.as_slice.ensures.value (turns_ends c.args.file.now c.as_slice.result.now c.args.seed c.args.turns (room_of c.args.room) (g.S.Source.left c.args.input.now) ⊥ _ (end_of c.take_turns.result) (record { program = program c.in-Ok-front.front.typed.program; accepted = c.in-Ok-front.ensures.accepted; has = tt }) (c.take_turns.ensures.outcome c.as_slice.result.now (record { accepted = c.in-Ok-front.ensures.accepted; found = c.in-Ok-front.ensures.groups; sound = c.in-Ok-front.ensures.sound; code = c.in-Ok-front.ensures.code })))
+returns-in-Ok-front-clause-outcome g c = source_ends (W.Tasks c.args.file.now c.args.seed c.args.turns (room_of c.args.room)) Lawful c.args.file.now (g.F.Folder.files c.args.folder.now) (g.S.Source.left c.args.input.now) ⊥ _ _ _ c.in-Ok.source.items c.as_slice.result.now (end_of c.take_turns.result) (λ r. absurd r) (λ r. r) c.in-Ok.ensures.found refl refl c.as_slice.ensures.value (turns_ends c.args.file.now c.as_slice.result.now c.args.seed c.args.turns (room_of c.args.room) (g.S.Source.left c.args.input.now) ⊥ _ (end_of c.take_turns.result) (record { program = program c.in-Ok-front.front.typed.program; accepted = c.in-Ok-front.ensures.accepted; has = tt }) (c.take_turns.ensures.outcome c.as_slice.result.now (record { accepted = c.in-Ok-front.ensures.accepted; found = c.in-Ok-front.ensures.groups; sound = c.in-Ok-front.ensures.sound; code = c.in-Ok-front.ensures.code })))
 
 pub returns-in-Ok-clause-outcome : goal.returns-in-Ok-clause-outcome
-returns-in-Ok-clause-outcome g c = source_ends (W.Tasks c.args.file.now c.args.seed c.args.turns (room_of c.args.room)) Lawful c.args.file.now (g.F.Folder.files c.args.folder.now) (g.S.Source.left c.args.input.now) ⊥ ⊥ _ _ c.in-Ok.source.items c.as_slice.result.now _ (λ r. absurd r) (λ r. absurd r) c.in-Ok.ensures.found refl refl tt c.as_slice.ensures.value (kept_ends (W.Tasks c.args.file.now c.args.seed c.args.turns (room_of c.args.room)) Lawful c.as_slice.result.now (g.S.Source.left c.args.input.now) ⊥ ⊥ c.in-Err-front.failure c.in-Err-front.ensures.kept)
+returns-in-Ok-clause-outcome g c = source_ends (W.Tasks c.args.file.now c.args.seed c.args.turns (room_of c.args.room)) Lawful c.args.file.now (g.F.Folder.files c.args.folder.now) (g.S.Source.left c.args.input.now) ⊥ ⊥ _ _ c.in-Ok.source.items c.as_slice.result.now _ (λ r. absurd r) (λ r. absurd r) c.in-Ok.ensures.found refl refl c.as_slice.ensures.value (kept_ends (W.Tasks c.args.file.now c.args.seed c.args.turns (room_of c.args.room)) Lawful c.as_slice.result.now (g.S.Source.left c.args.input.now) ⊥ ⊥ c.in-Err-front.failure c.in-Err-front.ensures.kept)
 
 pub returns-clause-outcome : goal.returns-clause-outcome
-returns-clause-outcome g c = fetch_ends (W.Tasks c.args.file.now c.args.seed c.args.turns (room_of c.args.room)) Lawful c.args.file.now (g.F.Folder.files c.args.folder.now) (g.S.Source.left c.args.input.now) _ _ _ c.in-Err.failure tt refl refl (λ r. r) c.in-Err.ensures.fails
+returns-clause-outcome g c = fetch_ends (W.Tasks c.args.file.now c.args.seed c.args.turns (room_of c.args.room)) Lawful c.args.file.now (g.F.Folder.files c.args.folder.now) (g.S.Source.left c.args.input.now) _ _ _ c.in-Err.failure refl refl (λ r. r) c.in-Err.ensures.fails
 
 pub returns-in-Ok-front-clause-counted : goal.returns-in-Ok-front-clause-counted
 returns-in-Ok-front-clause-counted g c = late_counted (g.F.Folder.files c.args.folder.now) _ c.take_turns.result c.take_turns.ensures.late

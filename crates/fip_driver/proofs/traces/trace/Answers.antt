@@ -12,16 +12,16 @@ use Rattle.fip_driver.proofs.Counted.{stored_counted, late_failure_counted, sour
 use Rattle.fip_driver.proofs.traces.trace.Goals as goal
 
 pub returns-in-Ok-traced-clause-outcome : goal.returns-in-Ok-traced-clause-outcome
-returns-in-Ok-traced-clause-outcome g c = source_ends (W.Trace c.args.file.now c.args.entry.now c.args.out.now (room_of c.args.room)) (Compiled c.args.entry.now) c.args.file.now (g.F.Folder.files c.args.folder.now) (g.S.Source.left c.args.input.now) _ _ _ _ c.in-Ok.source.items c.as_slice.result.now (end_of c.store.result) (λ r. r) (λ r. r) c.in-Ok.ensures.found refl refl tt c.as_slice.ensures.value (trace_stored (g.S.Source.left c.args.input.now) _ c.args.file.now c.args.entry.now c.args.out.now c.as_slice.result.now c.in-Ok-traced.compiled.text.items (room_of c.args.room) _ _ _ (Compiled c.args.entry.now) c.store.result c.in-Ok.ensures.later c.in-Ok-exec_entry.ensures.ready (c.in-Ok-traced.ensures.outcome c.as_slice.result.now c.args.entry.now c.in-Ok-exec_entry.ensures.ready c.in-Ok-exec_entry.ensures.code) c.store.ensures.told c.store.ensures.fails)
+returns-in-Ok-traced-clause-outcome g c = source_ends (W.Trace c.args.file.now c.args.entry.now c.args.out.now (room_of c.args.room)) (Compiled c.args.entry.now) c.args.file.now (g.F.Folder.files c.args.folder.now) (g.S.Source.left c.args.input.now) _ _ _ _ c.in-Ok.source.items c.as_slice.result.now (end_of c.store.result) (λ r. r) (λ r. r) c.in-Ok.ensures.found refl refl c.as_slice.ensures.value (trace_stored (g.S.Source.left c.args.input.now) _ c.args.file.now c.args.entry.now c.args.out.now c.as_slice.result.now c.in-Ok-traced.compiled.text.items (room_of c.args.room) _ _ _ (Compiled c.args.entry.now) c.store.result c.in-Ok.ensures.later c.in-Ok-exec_entry.ensures.ready (c.in-Ok-traced.ensures.outcome c.as_slice.result.now c.args.entry.now c.in-Ok-exec_entry.ensures.ready c.in-Ok-exec_entry.ensures.code) c.store.ensures.told c.store.ensures.fails)
 
 pub returns-in-Ok-exec_entry-clause-outcome : goal.returns-in-Ok-exec_entry-clause-outcome
-returns-in-Ok-exec_entry-clause-outcome g c = source_ends (W.Trace c.args.file.now c.args.entry.now c.args.out.now (room_of c.args.room)) (Compiled c.args.entry.now) c.args.file.now (g.F.Folder.files c.args.folder.now) (g.S.Source.left c.args.input.now) ⊥ _ _ _ c.in-Ok.source.items c.as_slice.result.now _ (λ r. absurd r) (λ r. r) c.in-Ok.ensures.found refl refl tt c.as_slice.ensures.value (input_ends (W.Trace c.args.file.now c.args.entry.now c.args.out.now (room_of c.args.room)) (Compiled c.args.entry.now) c.as_slice.result.now (g.S.Source.left c.args.input.now) ⊥ _ (λ input. TracesTo c.as_slice.result.now c.args.entry.now input (room_of c.args.room)) _ c.in-Ok-exec_entry.ensures.ready tt (λ input d m. m) (c.in-Err-traced.ensures.outcome c.as_slice.result.now c.args.entry.now c.in-Ok-exec_entry.ensures.ready c.in-Ok-exec_entry.ensures.code))
+returns-in-Ok-exec_entry-clause-outcome g c = source_ends (W.Trace c.args.file.now c.args.entry.now c.args.out.now (room_of c.args.room)) (Compiled c.args.entry.now) c.args.file.now (g.F.Folder.files c.args.folder.now) (g.S.Source.left c.args.input.now) ⊥ _ _ _ c.in-Ok.source.items c.as_slice.result.now _ (λ r. absurd r) (λ r. r) c.in-Ok.ensures.found refl refl c.as_slice.ensures.value (input_ends (W.Trace c.args.file.now c.args.entry.now c.args.out.now (room_of c.args.room)) (Compiled c.args.entry.now) c.as_slice.result.now (g.S.Source.left c.args.input.now) ⊥ _ (λ input. TracesTo c.as_slice.result.now c.args.entry.now input (room_of c.args.room)) _ c.in-Ok-exec_entry.ensures.ready tt (λ input d m. m) (c.in-Err-traced.ensures.outcome c.as_slice.result.now c.args.entry.now c.in-Ok-exec_entry.ensures.ready c.in-Ok-exec_entry.ensures.code))
 
 pub returns-in-Ok-clause-outcome : goal.returns-in-Ok-clause-outcome
-returns-in-Ok-clause-outcome g c = source_ends (W.Trace c.args.file.now c.args.entry.now c.args.out.now (room_of c.args.room)) (Compiled c.args.entry.now) c.args.file.now (g.F.Folder.files c.args.folder.now) (g.S.Source.left c.args.input.now) ⊥ ⊥ _ _ c.in-Ok.source.items c.as_slice.result.now _ (λ r. absurd r) (λ r. absurd r) c.in-Ok.ensures.found refl refl tt c.as_slice.ensures.value (kept_ends (W.Trace c.args.file.now c.args.entry.now c.args.out.now (room_of c.args.room)) (Compiled c.args.entry.now) c.as_slice.result.now (g.S.Source.left c.args.input.now) ⊥ ⊥ c.in-Err-exec_entry.failure c.in-Err-exec_entry.ensures.kept)
+returns-in-Ok-clause-outcome g c = source_ends (W.Trace c.args.file.now c.args.entry.now c.args.out.now (room_of c.args.room)) (Compiled c.args.entry.now) c.args.file.now (g.F.Folder.files c.args.folder.now) (g.S.Source.left c.args.input.now) ⊥ ⊥ _ _ c.in-Ok.source.items c.as_slice.result.now _ (λ r. absurd r) (λ r. absurd r) c.in-Ok.ensures.found refl refl c.as_slice.ensures.value (kept_ends (W.Trace c.args.file.now c.args.entry.now c.args.out.now (room_of c.args.room)) (Compiled c.args.entry.now) c.as_slice.result.now (g.S.Source.left c.args.input.now) ⊥ ⊥ c.in-Err-exec_entry.failure c.in-Err-exec_entry.ensures.kept)
 
 pub returns-clause-outcome : goal.returns-clause-outcome
-returns-clause-outcome g c = fetch_ends (W.Trace c.args.file.now c.args.entry.now c.args.out.now (room_of c.args.room)) (Compiled c.args.entry.now) c.args.file.now (g.F.Folder.files c.args.folder.now) (g.S.Source.left c.args.input.now) _ _ _ c.in-Err.failure tt refl refl (λ r. r) c.in-Err.ensures.fails
+returns-clause-outcome g c = fetch_ends (W.Trace c.args.file.now c.args.entry.now c.args.out.now (room_of c.args.room)) (Compiled c.args.entry.now) c.args.file.now (g.F.Folder.files c.args.folder.now) (g.S.Source.left c.args.input.now) _ _ _ c.in-Err.failure refl refl (λ r. r) c.in-Err.ensures.fails
 
 pub returns-in-Ok-traced-clause-before : goal.returns-in-Ok-traced-clause-before
 returns-in-Ok-traced-clause-before g c = λ b. absurd (stored_after_input _ _ c.store.result c.store.ensures.fails b)

@@ -1,4 +1,3 @@
-use Rattle.fip_driver.specs.Spelling.{source_spelling}
 use Rattle.fip_driver.proofs.OneEnd.{says_once}
 use Rattle.said_answers.proofs.Saying.{said}
 use Rattle.said_answers.proofs.laws.what_is_said_is_written.Goals as goal
@@ -6,5 +5,5 @@ use Rattle.said_answers.proofs.laws.what_is_said_is_written.Goals as goal
 pub returns : goal.returns
 returns c = record {
   said = said;
-  is = λ files input c e o whole says comes. says_once source_spelling files input c e o.end says (said files input c o whole comes);
+  is = λ files input c e o whole says comes. says_once files input c e o.end says (said files input c o whole comes);
 }

@@ -1,4 +1,4 @@
-// `exec` on the path of the loop form.
+// `exec` of a source that breaks no rule, and of some that do.
 
 use crate::host::programs::{ARGUMENTS, NOT_UNDERSTOOD, REVERSED};
 use crate::host::{
@@ -61,7 +61,7 @@ const ROWS: &[Row<'static>] = &[
 ];
 
 #[test]
-fn a_loop_program_runs(rt: HostRuntime) -> Result<(), Fail> {
+fn a_source_runs(rt: HostRuntime) -> Result<(), Fail> {
     assert_eq!(rt;
         first_wrong_run(rt.alloc(), "exec a.fp ", REVERSE.as_bytes(), ROWS)?,
         None

@@ -1,7 +1,0 @@
-use Rattle.std.proofs.Common.{◌≡◌, map, drop}
-use Rattle.loop_check.specs.Types as t
-use Rattle.fip_base.specs.CoreView.{data_constructor}
-use Rattle.loop_check.proofs.table.are_right_constructors.Given as goal
-
-abbrev pub invariant-loop-k : goal.invariant-loop-k
-invariant-loop-k l = t.right_constructors l.names (map data_constructor (drop l.k-index l.constructors)) ≡ t.right_constructors l.names (map data_constructor l.constructors)

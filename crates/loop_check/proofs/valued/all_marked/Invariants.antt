@@ -1,6 +1,0 @@
-use Rattle.std.proofs.Common.{◌≡◌, ℕ, ◌+◌, ◌<◌, true}
-use Rattle.loop_check.specs.Marks as m
-use Rattle.loop_check.proofs.valued.all_marked.Given as goal
-
-abbrev pub invariant-loop-t : goal.invariant-loop-t
-invariant-loop-t l = (u : ℕ) → u < l.t → m.is_marked l.marks (u + 1) ≡ true

@@ -1,2 +1,0 @@
-pub mod FunctionReads
-pub mod Puts

@@ -1,3 +1,0 @@
-pub mod Counts
-pub mod Counted
-pub mod Standing

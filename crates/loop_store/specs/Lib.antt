@@ -1,3 +1,0 @@
-pub mod Count
-pub mod Stored
-pub mod Kept

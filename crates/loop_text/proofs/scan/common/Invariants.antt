@@ -1,6 +1,0 @@
-use Rattle.std.proofs.Common.{◌≡◌, take, true}
-use Rattle.loop_text.specs.Scan.{begins_bytes}
-use Rattle.loop_text.proofs.scan.common.Given as goal
-
-abbrev pub invariant-loop-i : goal.invariant-loop-i
-invariant-loop-i l = begins_bytes (take l.i l.text) l.other ≡ true

@@ -141,8 +141,9 @@ pub fn only_a_long_code_is_unspelt()
         (file : List ℕ) × CodeText file Second code × (MOST_FILE_BYTES < length file) }
 {}
 
-/// What runs of a function of a program's code hold of the stack at the most is what `check` tells of its instance, and
-/// a run that gives words held what the instance means. For who compares the gauge of `exec` with that of `run`.
+/// What runs of a function of a program's code hold of the stack at the most is what the groups tell of its instance,
+/// and a run that gives words held as many frames as the instance means. For who compares the gauge of `exec` with that
+/// of `run`.
 pub fn a_code_holds_what_its_program_does()
     ensures stacks { (p : Program) (code : PlainCode) (c : IsCodeOf p code) (i n : ℕ) (m : Member) →
         function_of p.instances i ≡ Some n → slice_get c.members i ≡ Some m →

@@ -34,8 +34,8 @@ pub fn what_is_told_of_a_run_is_its_end()
 {}
 
 /// A run of a source's entry is told as one thing, with the gauge as without, whichever code of the source is run, and
-/// wherever its cells lie; and this is the end of the entry's outcome, which tells the gauge by trees. For who replaces a
-/// compiler.
+/// wherever its cells lie; and where the entry has an outcome, it is the end of that, which tells the gauge by trees. For
+/// who replaces a compiler.
 pub fn what_is_told_of_an_entry_is_one()
     ensures one { (source name input : List ℕ) (room : Room) (gauge : Bool) (e d : an_end) →
         E.Execs source name input room gauge e → E.Execs source name input room gauge d → e ≡ d }

@@ -1,7 +1,7 @@
 -- What the program answers, where the folder tells its files and the input its bytes: words that are no command, and
--- those that are one. `Ends` says what every command answers for a source that is refused, what `run` answers, and for a
--- source that isn't refused `check`, `eval`, `exec`, `derive` and `tasks`; and how the answers may be that aren't said
--- yet.
+-- those that are one. `Ends` says what every command answers for a source that is refused; what `verify`, `upgrade`,
+-- `run`, `audit`, `replay`, `library` and `gen` answer, and for a source that isn't refused `check`, `eval`, `exec`,
+-- `derive` and `tasks`; and how the answers may be that aren't said yet.
 use Rattle.std.specs.Prelude.{◌≡◌, ℕ, List, ◌⊎◌, Option, Some, None, Result, Err}
 use Rattle.std.specs.Io.KnownBytes.{Appends}
 use Rattle.std.specs.declared.vec.Vec.{Vec}

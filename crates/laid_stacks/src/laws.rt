@@ -25,9 +25,9 @@ pub fn calls_of_bodies_are_reached()
         × Calls c n g (not s.is_tail) }
 {}
 
-/// Where the functions of a code call each other just as the instances of a program do, and their frames have as many
-/// words, each function holds of the stack at the most what the groups of the program tell of its instance. For who
-/// gives a run its stack.
+/// Where the functions of a code call each other just as the instances of a program do, their frames have as many words,
+/// and fip instances call fip ones alone, each function holds of the stack at the most what the groups of the program
+/// tell of its instance. For who gives a run its stack.
 pub fn alike_functions_have_the_stack_numbers()
     ensures law { (c : PlainCode) (ds : List Instance) (ms : List Member) → Alike c ds → AreMembers ds ms →
         FipCallsFip ds → (i n : ℕ) (m : Member) → function_of ds i ≡ Some n → slice_get ms i ≡ Some m →

@@ -1,11 +1,9 @@
 -- `exec` comes to one thing: a source means one thing, its input spells one list of arguments, and each of its codes
 -- holds of the stack what is told of the entry, so that it has as many frames. What the gauge tells of a run is told by
 -- the evaluation.
-use Rattle.std.proofs.Common.{◌≡◌, ◌≢◌, ◌∙◌, ◌⊎◌, inl, inr, ◌+◌, ◌-◌, ◌<◌, ◌≤◌, ℕ, zero, suc, Bool, false, List, [], ◌∷◌, ◌++◌, length, map, Option, Some, None, slice_get, option_map, if◌then◌else◌, refl, sym, ap, ap₂, subst, true≢false, arith}
+use Rattle.std.proofs.Common.{◌≡◌, ◌≢◌, ◌∙◌, inl, inr, ◌+◌, ◌-◌, ◌≤◌, ℕ, zero, suc, Bool, List, [], ◌∷◌, ◌++◌, length, Option, Some, slice_get, refl, sym, ap, ap₂, subst, arith}
 use Rattle.std.specs.Prelude.{Result, Ok, Err}
-use Rattle.std.proofs.lemmas.Option.{none-some, same_Some, slice_get-map}
-use Rattle.fip_language.specs.declared.FunKind.{FunKind}
-use Rattle.fip_language.specs.declared.FunKind.TheVariants.{Fip, Fbip, Fun}
+use Rattle.std.proofs.lemmas.Option.{none-some}
 use Rattle.fip_language.specs.Core.{Core}
 use Rattle.fip_language.specs.Meaning.{Answer, Gives, Trap, Out, Deep, Stuck, Peak, Run, meaning}
 use Rattle.fip_language.specs.declared.limits.TheConstants.{MOST_FIELDS}
@@ -24,71 +22,20 @@ use Rattle.fip_trees.specs.declared.groups.Member.{Member}
 use Rattle.tail_groups.specs.Members.{AreMembers}
 use Rattle.meant_runs.specs.Gauges.{IsMeasured}
 use Rattle.fip_trees.specs.Tree.{Instance, Program}
-use Rattle.cell_lower.specs.Shape.{Header, header_of, headers}
 use Rattle.command_line.specs.Words.{Room}
 use Rattle.command_outcome.specs.declared.failure.Failure.{Failure}
 use Rattle.command_outcome.specs.declared.failure.Failure.TheVariants as F
-use Rattle.code_file.specs.Plain.{PlainFunction}
 use Rattle.kind_soundness.proofs.Basics.{less_or_not}
-use Rattle.sound_code.specs.Codes as S
-use Rattle.sound_code.specs.Codes.{is_fip, function_at}
-use Rattle.sound_code.specs.StackNumbers.{HasStack}
 use Rattle.session_meaning.specs.Talk.{frames_of}
-use Rattle.source_commands.specs.Codes.{sound_view, sound_function}
-use Rattle.source_commands.specs.ProgramCode.{plain_header}
-use Rattle.source_commands.specs.Roots.{root_named}
-use Rattle.source_commands.specs.Wanted.{Compiled, IsCompiled, IsReady}
 use Rattle.source_report.proofs.Once.{accepted_once}
 use Rattle.eval_command.specs.EvalAnswer.{Entry, Spells}
 use Rattle.eval_command.proofs.Once.{one_program, one_root, one_core, typed_alike, one_text}
 use Rattle.run_command.specs.CodeRun.{all_seen, words_for}
-use Rattle.run_command.specs.ExecAnswer.{Coded, Execs, Misspelt, Small, Ran, RunsOn, TellsRun, answer_of, frames_for, peak_of, words_of}
+use Rattle.run_command.specs.ExecAnswer.{Execs, Misspelt, Small, Ran, RunsOn, TellsRun, answer_of, frames_for, peak_of, words_of}
 use Rattle.run_command.specs.GaugeText.{gauge_by_states, gauge_text, highest_stack, if_asked, size_line, size_lines, stack_lines}
-use Rattle.run_command.proofs.Bounded.{one_of_name}
-use Rattle.run_command.proofs.CodeOnce.{long}
-use Rattle.run_command.proofs.Entry.{root_at, header_at}
-
--- ---- the function of the entry's name has the root's kind
-
-function_with : (fs : List PlainFunction) (m : ℕ) (h : Header) → slice_get (map plain_header fs) m ≡ Some h → (g : PlainFunction) × (slice_get fs m ≡ Some g) × (plain_header g ≡ h)
-function_with [] m h e = absurd (none-some h e)
-function_with (g ∷ fs) zero h e = (g, refl, same_Some (plain_header g) h e)
-function_with (g ∷ fs) (suc m) h e = function_with fs m h e
-
-module _ (source name : List ℕ) where
-  pub compiled_kind : (x : Entry source name) → IsReady source (Compiled name) → x.root.kind ≡ Fun → ⊥
-  compiled_kind x ready =
-      let there : IsCompiled (root_named name x.program.instances) = subst (λ (p : Program). IsCompiled (root_named name p.instances)) (accepted_once source ready.program x.program ready.accepted x.accepted) ready.has in
-      subst IsCompiled x.named there
-
-  pub kind_is : (x : Entry source name) (c : Coded source name) → (x.root.kind ≡ Fun → ⊥) → c.function.kind ≡ x.root.kind
-  kind_is x c some =
-      let of = c.of' in
-      let d : Instance = x.root in
-      let root = root_at name x.program.instances d x.named in
-      let h = header_at of.lowered.members 0 x.program.instances root.place d root.there some in
-      let headed : map plain_header c.code.functions ≡ headers of.lowered.members x.program.instances = of.lowered.functions ∙ ap (λ (p : Program). headers of.lowered.members p.instances) (accepted_once source of.program x.program of.accepted x.accepted) in
-      let g = function_with c.code.functions h.0 (header_of h.1 d) (ap (λ hs. slice_get hs h.0) headed ∙ h.2) in
-      let called : (g.0).name ≡ name = ap (λ (q : Header). q.name) g.2 ∙ (ap (λ b. if b then d.name else []) root.root ∙ root.named) in
-      let some_name : 0 < length (g.0).name = subst (λ s. 0 < length s) (sym called) (long name c.some) in
-      let there : function_at (sound_view c.code) h.0 ≡ Some (sound_function g.0) = slice_get-map sound_function c.code.functions h.0 ∙ ap (option_map sound_function) g.1 in
-      let one : h.0 ≡ c.number = one_of_name (sound_view c.code) h.0 c.number (sound_function g.0) c.function of.sound there c.there some_name (called ∙ sym c.named) in
-      let same : sound_function g.0 ≡ c.function = same_Some (sound_function g.0) c.function (sym there ∙ (ap (function_at (sound_view c.code)) one ∙ c.there)) in
-      ap (λ (f : S.PlainFunction). f.kind) (sym same) ∙ ap (λ (q : Header). q.signature.kind) g.2
+use Rattle.run_command.proofs.Entry.{root_at}
 
 -- ---- frames
-
-pub fip_or : (k : FunKind) → (k ≡ Fip) ⊎ (is_fip k ≡ false)
-fip_or Fip = inl refl
-fip_or Fbip = inr refl
-fip_or Fun = inr refl
-
-pub given_frames : (c : S.PlainCode) (n given : ℕ) (f : S.PlainFunction) (held : Option Stack) → function_at c n ≡ Some f → is_fip f.kind ≡ false → HasStack c n held → frames_of given held ≡ given
-given_frames c n given f None is off h = refl
-given_frames c n given f (Some s) is off h =
-    let same : h.0.0 ≡ f = same_Some h.0.0 f (sym h.0.1 ∙ is) in
-    let yes = ap (λ (g : S.PlainFunction). is_fip g.kind) same in
-    absurd (true≢false (sym h.0.2 ∙ (yes ∙ off)))
 
 -- an answer that isn't for want of frames is the same with others
 pub same_answer : (core : Core) (name : List ℕ) (vs : Values) (calls m n : ℕ) → (meaning core name NoClosed vs calls m).answer ≢ Deep → (meaning core name NoClosed vs calls n).answer ≢ Deep → (meaning core name NoClosed vs calls m).answer ≡ (meaning core name NoClosed vs calls n).answer
@@ -126,13 +73,6 @@ gauge_alike vs us ps ks peak ss ts held x y =
     ap (λ (s : Stack). gauge_text (λ k. lowest k ss) (λ k. highest k ss) s held) (ap₂ (λ f w. record { frames = f; words = w }) (x.frames ∙ sym y.frames) (x.words ∙ sym y.words))
     ∙ sizes_alike (λ k. lowest k ss) (λ k. lowest k ts) (λ k. highest k ss) (λ k. highest k ts) (λ k one. x.lowest k one ∙ sym (y.lowest k one)) (λ k one. x.highest k one ∙ sym (y.highest k one)) MOST_FIELDS (omega arith) (stack_lines (highest_stack ts) held)
 
-pub tells_once : (tb : Table) (results : List ℕ) (calls m n : ℕ) (a : Answer) (d e : Result (List ℕ) Failure) → (a ≡ Deep → m ≡ n) → TellsRun tb results calls m (λ vs. []) a d → TellsRun tb results calls n (λ vs. []) a e → d ≡ e
-tells_once tb results calls m n (Gives vs left) d e deep h k = h ∙ sym k
-tells_once tb results calls m n (Trap kind line col) d e deep h k = h ∙ sym k
-tells_once tb results calls m n Out d e deep h k = h ∙ sym k
-tells_once tb results calls m n Deep d e deep h k = h ∙ (ap (λ f. Err (F.OutOfFrames f)) (deep refl) ∙ sym k)
-tells_once tb results calls m n Stuck d e deep h k = absurd h
-
 -- each instance has a member
 pub member_at : (ds : List Instance) (ms : List Member) (i : ℕ) (d : Instance) → length ms ≡ length ds → slice_get ds i ≡ Some d → (m : Member) × (slice_get ms i ≡ Some m)
 member_at [] ms i d l e = absurd (none-some d e)
@@ -141,15 +81,6 @@ member_at (x ∷ ds) (m ∷ ms) zero d l e = (m, refl)
 member_at (x ∷ ds) (m ∷ ms) (suc i) d l e = member_at ds ms i d (omega (arith, l)) e
 
 module _ (source name : List ℕ) (x y : Entry source name) where
-  pub told_alike : (vs : Values) (calls frames : ℕ) (e : Result (List ℕ) Failure) → TellsRun y.program.types y.root.results calls frames (λ us. []) (answer_of y vs calls frames) e → TellsRun x.program.types x.root.results calls frames (λ us. []) (answer_of x vs calls frames) e
-  told_alike vs calls frames e h =
-      subst (λ (c : Core). TellsRun x.program.types x.root.results calls frames (λ us. []) (meaning c name NoClosed vs calls frames).answer e) (one_core source name x y)
-      (subst (λ (d : Instance). TellsRun x.program.types d.results calls frames (λ us. []) (meaning y.core name NoClosed vs calls frames).answer e) (one_root source name x y)
-      (subst (λ (p : Program). TellsRun p.types y.root.results calls frames (λ us. []) (meaning y.core name NoClosed vs calls frames).answer e) (one_program source name x y) h))
-
-  pub kinds_alike : y.root.kind ≡ x.root.kind
-  kinds_alike = ap (λ (d : Instance). d.kind) (one_root source name x y)
-
   pub answers_alike : (vs : Values) (calls frames : ℕ) → answer_of y vs calls frames ≡ answer_of x vs calls frames
   answers_alike vs calls frames = ap (λ (c : Core). (meaning c name NoClosed vs calls frames).answer) (one_core source name x y)
 

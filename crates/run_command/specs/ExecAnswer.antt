@@ -10,8 +10,9 @@
 -- Where the gauge is asked for, its lines stand behind the values. They tell of a run of a code that is lowered from the
 -- source, and of each such run the same: as the lowest number of cells of each size how many of them the results and the
 -- lent arguments have, as the highest how many the arguments and the header's credits have, as the stack the peak of the
--- evaluation, and as its bound the stack number that `check` tells of the entry. For a fip entry both numbers of cells
--- are those of the arguments and credits, in all states of the run, and the stack is within its bound.
+-- evaluation; and for a fip entry as its bound the stack number that `check` tells of it, while an fbip entry has no such
+-- line. For a fip entry both numbers of cells are those of the arguments and credits, in all states of the run, and the
+-- stack is within its bound.
 --
 -- With `rev` on Cons(1, Cons(2, Cons(3, Nil))) and Nil and the gauge, these are four lines: the reversed list, `cells
 -- of 2: 3 to 3`, `stack: 0 frames, 9 words` and `bound: 0 frames, 9 words`. With 8 words the store is too small, since
@@ -53,7 +54,7 @@ TellsRun types results calls frames behind Out e = e ≡ Err (F.OutOfCalls calls
 TellsRun types results calls frames behind Deep e = e ≡ Err (F.OutOfFrames frames)
 TellsRun types results calls frames behind Stuck e = ⊥
 
--- the code of a source, its function of the entry's name, which isn't empty, and what runs of this hold of the stack at
+-- a code of a source, its function of the entry's name, which isn't empty, and what runs of this hold of the stack at
 -- the most
 pub record Coded (source name : List ℕ) : Type 0 where
   pub code : PlainCode
@@ -96,7 +97,9 @@ pub record RunsInPlace (vs : Values) (credits : List ℕ) (ss : List Seen) (boun
   pub highest : (size : ℕ) → 1 ≤ size → size ≤ MOST_FIELDS → highest size ss ≡ cells_given size vs credits
   pub within : IsWithin (highest_stack ss) bound
 
--- The code runs on these arguments, and the meaning of the entry on them is told, with the gauge of the run.
+-- The code runs on these arguments, and the meaning of the entry on them is told, with the gauge of the run. Where values
+-- are given, the states of the run are measured by the evaluation. Its bound is what the program's groups tell of the
+-- entry. A fip entry runs in place, and never lacks frames.
 pub record RunsOn {source name : List ℕ} (entry : Entry source name) (vs : Values) (room : Room) (gauge : Bool)
     (e : Result (List ℕ) Failure) : Type 0 where
   pub code : Coded source name

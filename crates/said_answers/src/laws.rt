@@ -17,14 +17,14 @@ pub fn what_is_said_is_written()
         Says files input c e → ComesTo files input c o → e ≡ o.end }
 {}
 
-/// So it is of `exec`, with the gauge as without: what the program's clauses say of it is the end of its outcome. For
+/// Of `exec`, with the gauge as without, what the program's clauses say is the end of its outcome, where it has one. For
 /// who runs a source.
 pub fn what_is_said_of_exec_is_written()
     ensures law { (files : List File) (input : List ℕ) (r : Request) (e : End) (o : Outcome) →
         Says files input (Exec r) e → ComesTo files input (Exec r) o → e ≡ o.end }
 {}
 
-/// And of `gen`: what the program's clauses say of it is the end of its outcome. For who makes a tree.
+/// And of `gen`: what the program's clauses say of it is the end of its outcome, where it has one. For who makes a tree.
 pub fn what_is_said_of_gen_is_written()
     ensures law { (files : List File) (input : List ℕ) (seed count : ℕ) (e : End) (o : Outcome) → count ≤ most_count →
         Says files input (Gen seed count) e → ComesTo files input (Gen seed count) o → e ≡ o.end }

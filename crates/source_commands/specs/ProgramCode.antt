@@ -1,9 +1,10 @@
 -- The code that `compile` stores of a source, as far as it is said. It is sound, and its types are those of the
 -- source's program. It has a function for each fip and fbip instance, in the order of their numbers: of the instance's
 -- kind, with its parameters, header credits and results, with as many registers as the groups tell, and with the
--- instance's name where this is a root; and it holds of the stack at the most what `check` tells of the instance. Its
--- instructions are such as the instance is lowered to, so each of its runs ends as the source means; and it has no more
--- of them, and of label maps, than the instance's places allow. It has a file; E61 is told only where that is too long.
+-- instance's name where this is a root; and it holds of the stack at the most what the groups tell of the instance, as
+-- `check` prints it of a root. Its instructions are such as the instance is lowered to, so each of its runs ends as the
+-- source means; and it has no more of them, and of label maps, than the instance's places allow. The one that is stored
+-- has a file; E61 is told only where some code of which all this is so has a file that is too long.
 --
 -- Of the source
 --     fip fun rev(xs: list, acc: list): list { .. }
@@ -54,8 +55,8 @@ abbrev pub HaveStacks : Program → PlainCode → Type 0
 HaveStacks p code = (members : List Member) → AreMembers p.instances members → (i n : ℕ) (m : Member) →
     function_of p.instances i ≡ Some n → slice_get members i ≡ Some m → HasStack (sound_view code) n m.stack
 
--- The code's types are the program's, its functions are headed as the program's instances tell, and their instructions
--- are lowered from these and no more than their places allow, and hold of the stack what is told of these.
+-- The code's types are the program's; its functions are headed as the program's instances tell, and hold of the stack
+-- what is told of these; their instructions are lowered from these, and no more than their places allow.
 pub record IsLoweredFrom (p : Program) (code : PlainCode) : Type 0 where
   pub types : code.types ≡ p.types
   pub members : List Member

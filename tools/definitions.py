@@ -190,7 +190,7 @@ def tables(kept):
         if crate in PARTS:
             continue
         for of, clause, paths in theorems(crate, specs):
-            is_top = of == "fp2" or crate == "fip_base" and of in ("Source", "Sink", "Folder")
+            is_top = of == "fp2" or crate == "fip_outside" and of in ("Source", "Sink", "Folder")
             for path in paths:
                 rests = (of_top if is_top else of_others).setdefault(path, [])
                 word = (clause if of == "fp2" else of) if is_top else f"{crate} {of}"

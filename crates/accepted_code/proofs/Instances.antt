@@ -8,7 +8,7 @@ use Rattle.fip_language.specs.Meaning.{meaning}
 use Rattle.fip_language.specs.Statics.{Closeds}
 use Rattle.fip_language.specs.Values.{Values}
 use Rattle.fip_language.proofs.Search.{slice_get_there}
-use Rattle.fip_language.proofs.SoundTables.{map_at}
+use Rattle.fip_language.proofs.Words.{map_at}
 use Rattle.fip_trees.specs.Tree.{Instance, Program}
 use Rattle.reached_instances.specs.declared.closed.Head.TheVariants as H
 use Rattle.reached_instances.specs.Closed as Z

@@ -15,14 +15,14 @@ use std::alloc::Global;
 
 /// A call: the number of the function that is called, and whether the caller's frame waits for it, as it does outside
 /// tail position.
-#[derive(Clone, Copy, Debug, PartialEq, Eq)]
+#[derive(Clone, Copy, PartialEq, Eq)]
 pub struct Call {
     pub callee: usize,
     pub waits: bool,
 }
 
 /// How far the search is with a function.
-#[derive(Clone, Copy, Debug, PartialEq, Eq)]
+#[derive(Clone, Copy, PartialEq, Eq)]
 pub enum Standing {
     /// It wasn't met yet.
     New,
@@ -76,7 +76,7 @@ pub fn partition_of(alloc: Global, calls: &[Vec<Call>]) -> Result<Partition, NoM
 }
 
 // A function whose calls are followed: its place on the path, and the number of its next call.
-#[derive(Clone, Copy, Debug)]
+#[derive(Clone, Copy)]
 struct Visit {
     function: usize,
     place: usize,
@@ -97,7 +97,7 @@ struct Search {
 }
 
 // A call of a new function: the function, and the number of the call behind it.
-#[derive(Clone, Copy, Debug)]
+#[derive(Clone, Copy)]
 struct Step {
     callee: usize,
     next: usize,

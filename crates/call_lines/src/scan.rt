@@ -107,7 +107,7 @@ fn behind_minus(bytes: &[u8], at: usize) -> usize
 }
 
 /// Where a value stands in a line: the place of its first byte, and the place behind its last one.
-#[derive(Clone, Copy, Debug, PartialEq, Eq)]
+#[derive(Clone, Copy, PartialEq, Eq)]
 pub struct Span {
     pub start: usize,
     pub end: usize,

@@ -1,5 +1,7 @@
 // Instructions, functions and codes.
-ghost use Rattle.std.specs.Prelude.{◌<◌, length};
+ghost use Rattle.std.specs.Prelude.{◌≡◌, ℕ, ◌<◌, length, bytes_eq, Some, IfSome, IfNone, slice_get};
+ghost use Rattle.cell_code.specs.Naming.{IsNamed};
+ghost use Rattle.cell_code.specs.declared.code.Function.{Function as a_function};
 
 use crate::kind::Label;
 use crate::registers::Registers;
@@ -121,19 +123,43 @@ pub struct Code {
 /// The number of registers of function `f`.
 pub fn code_registers(code: &Code, f: usize) -> usize
     requires there { f < length code.now.functions.items }
+    ensures is { (g : a_function) × (slice_get code.now.functions.items f ≡ Some g) × (result ≡ g.registers) }
 {
     code.functions[f].registers as usize
 }
 
-/// The number of the first function with this name; none where no function has it. The empty name names none.
-pub fn named(code: &Code, name: &[u8]) -> Option<usize> {
-    if name.is_empty() {
-        return None;
-    }
-    for (f, function) in code.functions.iter().enumerate() {
-        if function.name.as_slice() == name {
-            return Some(f);
+// Whether a function has this name.
+fn is_named(function: &Function, name: &[u8]) -> bool
+    ensures is { result ≡ bytes_eq function.now.name name.now }
+{
+    function.name.as_slice() == name
+}
+
+// The number of the first function with this name.
+fn first_named(functions: &[Function], name: &[u8]) -> Option<usize>
+    ensures within { IfSome result (λ f. f < length functions.now) }
+    ensures found { IfSome result (IsNamed functions.now name.now) }
+    ensures first { IfSome result (λ f. (g : ℕ) → g < f → IsNamed functions.now name.now g → ⊥) }
+    ensures none { IfNone result ((f : ℕ) → IsNamed functions.now name.now f → ⊥) }
+{
+    for (number, function) in functions.iter().enumerate() {
+        if is_named(function, name) {
+            return Some(number);
         }
     }
     None
+}
+
+/// The number of the first function with this name; none exactly where no function has it. The empty name names none.
+pub fn named(code: &Code, name: &[u8]) -> Option<usize>
+    ensures within { IfSome result (λ f. f < length code.now.functions.items) }
+    ensures found { IfSome result (IsNamed code.now.functions.items name.now) }
+    ensures first { IfSome result (λ f. (g : ℕ) → g < f → IsNamed code.now.functions.items name.now g → ⊥) }
+    ensures named { IfSome result (λ _. 0 < length name.now) }
+    ensures none { IfNone result ((f : ℕ) → 0 < length name.now → IsNamed code.now.functions.items name.now f → ⊥) }
+{
+    if name.is_empty() {
+        return None;
+    }
+    first_named(code.functions.as_slice(), name)
 }

@@ -6,7 +6,7 @@ use std::alloc::Global;
 use std::marker::Model;
 
 /// Numbers of constructors of one type, rising: those that a value may have.
-#[derive(Debug, Drop)]
+#[derive(Drop)]
 pub struct Constructors {
     numbers: Vec<u32>,
 }
@@ -43,14 +43,14 @@ impl Constructors {
 }
 
 /// Where a lent word came from: it is a field, from 0, of the cell in a register.
-#[derive(Clone, Copy, Debug, PartialEq, Eq)]
+#[derive(Clone, Copy, PartialEq, Eq)]
 pub struct From {
     pub register: u16,
     pub field: u8,
 }
 
 /// What is known of a register.
-#[derive(Debug, Drop)]
+#[derive(Drop)]
 pub enum Kind {
     /// Nothing; its word is not used any more.
     Gone,
@@ -80,7 +80,7 @@ pub enum Kind {
 
 /// A place in a function where instructions meet: the number of the instruction, and what is known of each register
 /// there, on whatever way it is reached.
-#[derive(Debug, Drop)]
+#[derive(Drop)]
 pub struct Label {
     pub at: u32,
     pub kinds: Vec<Kind>,

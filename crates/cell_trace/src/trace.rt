@@ -1,7 +1,7 @@
 // Traces.
 
 /// A cell as it was before the first step: its place, the number of its constructor, the words of its fields (1 to 16).
-#[derive(Debug, Drop)]
+#[derive(Drop)]
 pub struct LoadedCell {
     pub place: u32,
     pub tag: u32,
@@ -9,7 +9,7 @@ pub struct LoadedCell {
 }
 
 /// What a step did to a cell. Steps are numbered from 1.
-#[derive(Debug, Drop)]
+#[derive(Drop)]
 pub enum Event {
     /// The cell at the place got this constructor and these words, as many as it has fields.
     Put {
@@ -36,7 +36,7 @@ impl Event {
 
 /// What a run wrote: the cells before it in order of place, what happened to them in order of steps, and the number of
 /// steps.
-#[derive(Debug, Drop)]
+#[derive(Drop)]
 pub struct Trace {
     pub cells: Vec<LoadedCell>,
     pub events: Vec<Event>,

@@ -6,7 +6,7 @@ use Rattle.std.specs.Str.{bytes_eq}
 use Rattle.std.proofs.lemmas.Bool.{eqb-true, eq-eqb}
 use Rattle.std.proofs.lemmas.List.{append-nil}
 use Rattle.fip_language.specs.Character.{is_upper, is_upper_name, are_name_bytes}
-use Rattle.fip_base.proofs.Stored.{bytes_eq-other}
+use Rattle.fip_language.proofs.Search.{bytes_eq-other}
 use Rattle.code_file.specs.Spelling.{◌+++◌, each, mark, only, four, is_lower, is_keyword, is_function_name, name_text, upper_name_text, function_name_text}
 use Rattle.code_file.specs.Reading.{Reader, Give, Byte, ◌>>=◌, byte, any, is_byte, four_reader, times, length_reader, is_name_byte, upper_name_reader, may_follow, may_stand, name_on, function_name_reader}
 use Rattle.code_file.proofs.Readers.{Takes, Alive, Front, IsField, bind_takes, bind_gives, then_alive, front_join, front_split, takes_times, gives_times, times_alive}

@@ -18,7 +18,7 @@ pub enum ReadCodeError {
 }
 
 /// Why reading stopped.
-#[derive(Clone, Copy, Debug, PartialEq, Eq)]
+#[derive(Clone, Copy, PartialEq, Eq)]
 pub enum ReadStop {
     /// No code file goes on with the next byte, or the end; so many bytes were left, that one among them.
     Left(usize),

@@ -9,7 +9,7 @@ use fip_base::plain::Operator;
 pub const MAGIC: &[u8] = b"FP2C";
 
 /// A version of the format.
-#[derive(Clone, Copy, Debug, PartialEq, Eq)]
+#[derive(Clone, Copy, PartialEq, Eq)]
 pub enum Version {
     /// The first one, in which no function states a credit.
     First,

@@ -6,7 +6,7 @@ ghost use Rattle.code_rows.specs.Noting.{broken, precedes, better, better_if, is
 use sound_code::SoundRule;
 
 /// A rule that is broken, and where.
-#[derive(Clone, Copy, Debug)]
+#[derive(Clone, Copy)]
 pub struct Violation {
     pub function: usize,
     pub at: usize,
@@ -15,7 +15,7 @@ pub struct Violation {
 
 /// The least of the violations that were noted: by function, then instruction, then rule. So the order in which they
 /// are noted doesn't matter.
-#[derive(Clone, Copy, Debug)]
+#[derive(Clone, Copy)]
 pub struct Least {
     first: Option<Violation>,
 }

@@ -137,7 +137,7 @@ fn mark_if_valued(types: &TypeTable, marks: &mut Vec<bool>, ty: u32) -> bool
 }
 
 // A constructor of a type.
-#[derive(Clone, Copy, Debug)]
+#[derive(Clone, Copy)]
 struct Place {
     ty: u32,
     constructor: u32,

@@ -26,14 +26,14 @@ use sound_code::SoundRule;
 use std::alloc::Global;
 
 /// A call outside tail position: its instruction, and the function that is called.
-#[derive(Clone, Copy, Debug)]
+#[derive(Clone, Copy)]
 pub struct Waiting {
     pub at: usize,
     pub callee: usize,
 }
 
 /// The type of the tree that a Drop releases.
-#[derive(Clone, Copy, Debug)]
+#[derive(Clone, Copy)]
 pub struct DropType {
     pub at: usize,
     pub ty: u32,

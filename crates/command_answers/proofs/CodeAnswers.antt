@@ -3,7 +3,7 @@
 -- place.
 use Rattle.std.proofs.Common.{◌≡◌, ◌⊎◌, inl, inr, ℕ, suc, ◌<◌, ◌++◌, List, [], ◌∷◌, Option, Some, None, length, refl, sym, ap, ap₂, ◌∙◌, subst, arith}
 use Rattle.std.proofs.lemmas.Option.{none-some, same_Some}
-use Rattle.fip_base.specs.Files.{File, file_of}
+use Rattle.fip_outside.specs.Files.{File, file_of}
 use Rattle.fip_language.proofs.Search.{le_or_less}
 use Rattle.fip_language.specs.declared.limits.TheConstants.{MOST_FILE_BYTES}
 use Rattle.fip_language.specs.declared.rule.Rule.TheVariants.{E61}

@@ -3,7 +3,7 @@ use Rattle.std.proofs.Common.{◌≡◌, ◌<◌, ℕ, List, Some, None, refl, s
 use Rattle.std.specs.Prelude.{Option}
 use Rattle.fip_language.specs.declared.limits.TheConstants.{MOST_SOURCE_BYTES}
 use Rattle.fip_language.specs.declared.rule.Rule.TheVariants.{E05}
-use Rattle.fip_base.specs.Files.{File, file_of}
+use Rattle.fip_outside.specs.Files.{File, file_of}
 use Rattle.command_line.specs.Words.{Command, Check, Compile, Verify, Upgrade, Exec, Run, Eval, Trace, Session, Tasks, Derive, Audit, Replay, Library, Gen, IsCommand}
 use Rattle.command_outcome.specs.declared.failure.Failure.TheVariants as F
 use Rattle.command_outcome.specs.declared.failure.Object.TheVariants as O

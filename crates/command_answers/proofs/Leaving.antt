@@ -1,6 +1,6 @@
 -- What is left behind an answer: by cases on the command, and on how its run ended.
 use Rattle.std.proofs.Common.{◌≡◌, ℕ, List, Option, Some, None, Ok, Err, refl, sym, subst, inl, inr}
-use Rattle.fip_base.specs.Files.{File, file_of}
+use Rattle.fip_outside.specs.Files.{File, file_of}
 use Rattle.fip_language.specs.Values.{Values}
 use Rattle.fip_language.specs.Meaning.{Answer, Gives, Trap, Out, Deep, Stuck, Peak}
 use Rattle.fip_trees.specs.Tree.{Program}

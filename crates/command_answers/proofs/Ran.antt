@@ -1,7 +1,7 @@
 -- What ran is left: by cases on the command, and on what it comes to. All other ends of these commands have statuses
 -- that no run has.
 use Rattle.std.proofs.Common.{◌≡◌, ℕ, List, Option, Some, None, refl, subst, inl, inr}
-use Rattle.fip_base.specs.Files.{File, file_of}
+use Rattle.fip_outside.specs.Files.{File, file_of}
 use Rattle.command_line.specs.Words.{Request, Command, Check, Compile, Verify, Upgrade, Exec, Run, Eval, Trace, Session}
 use Rattle.command_line.specs.Words.{Tasks, Derive, Audit, Replay, Library, Gen, Room}
 use Rattle.command_outcome.specs.Failures.{failure_status}

@@ -1,7 +1,7 @@
 -- What is told of an outcome, by cases on its end.
 use Rattle.std.proofs.Common.{◌≡◌, ◌≢◌, ℕ, List, [], Some, None, Ok, Err, refl}
 use Rattle.std.specs.Prelude.{Option}
-use Rattle.fip_base.specs.Files.{File}
+use Rattle.fip_outside.specs.Files.{File}
 use Rattle.command_line.specs.Words.{Command, IsCommand}
 use Rattle.command_outcome.specs.Failures.{failure_status}
 use Rattle.command_outcome.specs.declared.failure.Failure.{Failure}

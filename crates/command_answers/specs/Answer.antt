@@ -14,7 +14,7 @@
 use Rattle.std.specs.Prelude.{◌≡◌, ◌<◌, ◌≤◌, ℕ, false, List, [], length, Option, Some, None, Ok, Err}
 use Rattle.fip_language.specs.declared.limits.TheConstants.{MOST_FILE_BYTES}
 use Rattle.fip_language.specs.declared.rule.Rule.TheVariants.{E70}
-use Rattle.fip_base.specs.Files.{File, file_of, put_file}
+use Rattle.fip_outside.specs.Files.{File, file_of, put_file}
 use Rattle.command_line.specs.Words.{Request, Command, Check, Compile, Verify, Upgrade, Exec, Run, Eval, Trace, Session}
 use Rattle.command_line.specs.Words.{Tasks, Derive, Audit, Replay, Library, Gen, IsCommand}
 use Rattle.command_outcome.specs.Failures.{failure_status, failure_text}

@@ -2,7 +2,7 @@
 // is the contract of a function that does nothing.
 ghost use Rattle.std.specs.Prelude.{◌≡◌, ℕ, List, [], ◌∷◌, Some, None, codes};
 ghost use Rattle.fip_language.specs.declared.rule.Rule.TheVariants.{E70};
-ghost use Rattle.fip_base.specs.Files.{File, file_of};
+ghost use Rattle.fip_outside.specs.Files.{File, file_of};
 ghost use Rattle.command_line.specs.Words.{Request, Check, Compile, Verify, Upgrade, Exec, Run, Eval, Trace, Session};
 ghost use Rattle.command_line.specs.Words.{Tasks, Derive, Audit, Room};
 ghost use Rattle.command_outcome.specs.Successes.{derived_text};

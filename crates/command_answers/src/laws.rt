@@ -2,7 +2,7 @@
 ghost use Rattle.std.specs.Prelude.{◌≡◌, ◌≢◌, ◌<◌, ℕ, pos, true, List, [], ◌∷◌, ◌++◌, Some, None, Ok, Err, codes};
 ghost use Rattle.std.specs.Prelude.{length, slice_get};
 ghost use Rattle.std.specs.Fmt.{decimal};
-ghost use Rattle.fip_base.specs.Files.{File};
+ghost use Rattle.fip_outside.specs.Files.{File};
 ghost use Rattle.fip_base.specs.declared.refusal.Refusal.{Refusal as a_refusal};
 ghost use Rattle.fip_language.specs.Values.{Values, End, More};
 ghost use Rattle.flat_meaning.specs.Meaning.{flat_meaning};

@@ -7,7 +7,7 @@ ghost use Rattle.fip_language.specs.declared.rule.Rule.TheVariants.{E05, E61, E7
 ghost use Rattle.fip_language.specs.Meaning.{Gives};
 ghost use Rattle.fip_language.specs.Prefix.{IsPlace};
 ghost use Rattle.fip_language.specs.Values.{Value, Values, End, More};
-ghost use Rattle.fip_base.specs.Files.{File, file_of};
+ghost use Rattle.fip_outside.specs.Files.{File, file_of};
 ghost use Rattle.fip_base.specs.declared.refusal.Refusal.{Refusal as a_refusal};
 ghost use Rattle.fip_library.specs.declared.list.TheConstants as list;
 ghost use Rattle.fip_trees.specs.Tree.{Program};

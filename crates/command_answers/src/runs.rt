@@ -1,7 +1,7 @@
 // The laws that runs, and commands on the files of codes and of traces, have one answer. Each is the contract of a
 // function that does nothing.
 ghost use Rattle.std.specs.Prelude.{◌≡◌, ℕ, Bool, List};
-ghost use Rattle.fip_base.specs.Files.{File};
+ghost use Rattle.fip_outside.specs.Files.{File};
 ghost use Rattle.command_line.specs.Words.{Request, Run, Room, Verify, Upgrade, Replay};
 ghost use Rattle.source_commands.specs.Codes.{HasFunction};
 ghost use Rattle.run_command.specs.CodeRun as R;

@@ -14,7 +14,7 @@ use clap::error::ErrorKind;
 use std::alloc::Global;
 
 /// The room that a run is given.
-#[derive(Clone, Copy, Debug)]
+#[derive(Clone, Copy)]
 pub struct Room {
     /// How many calls it may take.
     pub calls: u64,
@@ -25,7 +25,7 @@ pub struct Room {
 }
 
 /// A run of an entry of a file.
-#[derive(Clone, Copy, Debug)]
+#[derive(Clone, Copy)]
 pub struct RunRequest<'a> {
     /// The name of the file of the source or of the code.
     pub file: &'a str,
@@ -37,7 +37,7 @@ pub struct RunRequest<'a> {
 }
 
 /// What words ask for. Files are names in the folder.
-#[derive(Clone, Copy, Debug)]
+#[derive(Clone, Copy)]
 pub enum Command<'a> {
     /// All rules of a source.
     Check {
@@ -118,7 +118,7 @@ pub enum Command<'a> {
 }
 
 /// Why there is no command.
-#[derive(Clone, Copy, Debug, PartialEq, Eq)]
+#[derive(Clone, Copy, PartialEq, Eq)]
 pub enum WordsError {
     /// The words aren't a command.
     NotUnderstood,

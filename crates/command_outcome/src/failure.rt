@@ -9,7 +9,7 @@ use fip_base::refusal::{Refusal, refusal_text};
 use std::alloc::{AllocError, Global};
 
 /// An object that a host hands in.
-#[derive(Clone, Copy, Debug, PartialEq, Eq)]
+#[derive(Clone, Copy, PartialEq, Eq)]
 pub enum Object {
     Folder,
     Input,
@@ -32,7 +32,7 @@ impl Object {
 }
 
 /// What keeps a command from its result. Offsets are bytes, sizes of the store are words.
-#[derive(Debug, Drop)]
+#[derive(Drop)]
 pub enum Failure {
     /// The words are no command.
     NotUnderstood,

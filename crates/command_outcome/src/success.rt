@@ -78,7 +78,7 @@ pub fn derived_line() -> &'static str
 }
 
 /// The least and the greatest key of a tree.
-#[derive(Clone, Copy, Debug, PartialEq, Eq)]
+#[derive(Clone, Copy, PartialEq, Eq)]
 pub struct Ends {
     pub least: i64,
     pub greatest: i64,

@@ -23,14 +23,14 @@ use std::mem;
 pub const MOST_KEPT: usize = 16_777_216;
 
 /// A data type by its place, and which of its arguments have a value.
-#[derive(PartialEq, Eq, Hash, Drop, Debug)]
+#[derive(PartialEq, Eq, Hash, Drop)]
 pub struct Pair {
     pub ty: u32,
     pub bits: Vec<bool>,
 }
 
 /// A constructor of the type of the pair at a place.
-#[derive(Clone, Copy, PartialEq, Eq, Hash, Debug)]
+#[derive(Clone, Copy, PartialEq, Eq, Hash)]
 pub struct Waiter {
     pub place: u32,
     pub number: usize,

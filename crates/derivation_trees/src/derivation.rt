@@ -8,7 +8,7 @@ use fip_base::plain::NoMemory;
 use std::alloc::Global;
 
 /// A rule of the calculus.
-#[derive(Clone, Copy, Debug, PartialEq, Eq)]
+#[derive(Clone, Copy, PartialEq, Eq)]
 pub enum RuleName {
     Variable,
     Scalar,
@@ -25,7 +25,7 @@ pub enum RuleName {
 }
 
 /// Credits of one size.
-#[derive(Clone, Copy, Debug, PartialEq, Eq)]
+#[derive(Clone, Copy, PartialEq, Eq)]
 pub struct Credit {
     /// From 1 to 16.
     pub size: u8,
@@ -35,7 +35,7 @@ pub struct Credit {
 
 /// A node of a derivation: a rule, and what it uses up. The variables are the function's parameters and then its
 /// binders in the order of the core form, a let's before those inside what it binds, all numbered from 0.
-#[derive(Debug, Drop)]
+#[derive(Drop)]
 pub struct Node {
     pub rule: RuleName,
     /// The owned variables' numbers, rising.
@@ -50,7 +50,7 @@ pub struct Node {
 }
 
 /// The derivation of an instance: the nodes of a tree, each before its parts, its first part directly behind it.
-#[derive(Debug, Drop)]
+#[derive(Drop)]
 pub struct Line {
     instance: u32,
     nodes: Vec<Node>,
@@ -84,7 +84,7 @@ impl Line {
 }
 
 /// A derivation: lines for instances, their numbers rising.
-#[derive(Debug, Drop)]
+#[derive(Drop)]
 pub struct Derivation {
     lines: Vec<Line>,
 }

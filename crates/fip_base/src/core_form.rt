@@ -63,7 +63,7 @@ pub enum Pattern {
 }
 
 /// What a match does with its scrutinee: `match` and `if` only read it, `match!` takes it apart.
-#[derive(Clone, Copy, Debug, PartialEq, Eq)]
+#[derive(Clone, Copy, PartialEq, Eq)]
 pub enum MatchKind {
     Borrowing,
     Destructive,

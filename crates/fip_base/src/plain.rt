@@ -8,18 +8,18 @@ use std::marker::Model;
 use thiserror::Error;
 
 /// How a program ends; 0 is success.
-#[derive(Clone, Copy, Debug, PartialEq, Eq)]
+#[derive(Clone, Copy, PartialEq, Eq)]
 pub struct Status(pub u8);
 
 /// What a run holds of the stack at the most: frames beside the first one, and words in all frames.
-#[derive(Clone, Copy, Debug, PartialEq, Eq)]
+#[derive(Clone, Copy, PartialEq, Eq)]
 pub struct Stack {
     pub frames: usize,
     pub words: usize,
 }
 
 /// A parameter: the number of its type, and whether it is lent.
-#[derive(Clone, Copy, Debug, PartialEq, Eq)]
+#[derive(Clone, Copy, PartialEq, Eq)]
 pub struct Param {
     pub ty: u32,
     pub lent: bool,
@@ -43,7 +43,7 @@ impl<T: Drop> From<AllocFailed<T>> for NoMemory {
 }
 
 /// A name, of a type, a constructor, a function or a variable.
-#[derive(Debug, Drop)]
+#[derive(Drop)]
 pub struct Name {
     bytes: Vec<u8>,
 }
@@ -131,7 +131,7 @@ impl Detail {
 }
 
 /// The parameters of a function.
-#[derive(Debug, Drop)]
+#[derive(Drop)]
 pub struct Params {
     params: Vec<Param>,
 }
@@ -175,7 +175,7 @@ impl Params {
 }
 
 /// Numbers of types.
-#[derive(Debug, Drop)]
+#[derive(Drop)]
 pub struct Types {
     types: Vec<u32>,
 }
@@ -219,7 +219,7 @@ impl Types {
 }
 
 /// Words of the store.
-#[derive(Debug, Drop)]
+#[derive(Drop)]
 pub struct Words {
     words: Vec<u64>,
 }

@@ -9,7 +9,7 @@ use std::alloc::Global;
 use std::marker::Model;
 
 /// A constructor: its name, and the types of its fields.
-#[derive(Debug, Drop)]
+#[derive(Drop)]
 pub struct Constructor {
     name: Name,
     fields: Types,
@@ -46,7 +46,7 @@ impl Constructor {
 }
 
 /// A data type: its constructors, in the order of their numbers from 0.
-#[derive(Debug, Drop)]
+#[derive(Drop)]
 pub struct DataType {
     constructors: Vec<Constructor>,
 }
@@ -78,7 +78,7 @@ impl DataType {
 }
 
 /// The types of a program. Type 0 is int, and stands in no list.
-#[derive(Debug, Drop)]
+#[derive(Drop)]
 pub struct TypeTable {
     types: Vec<DataType>,
 }

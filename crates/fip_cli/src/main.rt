@@ -2,7 +2,7 @@
 #![tactic(auto)]
 
 use fip_base::plain::NoMemory;
-use fip_base::real::{FileFolder, StdSink, StdSource};
+use fip_outside::real::{FileFolder, StdSink, StdSource};
 use fip_driver::{fp2, tell_no_memory};
 use std::env;
 use std::io::ErrorKind;

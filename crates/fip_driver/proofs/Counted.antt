@@ -2,8 +2,8 @@
 use Rattle.std.proofs.Common.{◌≡◌, ◌≤◌, ℕ, List, subst, inl, inr}
 use Rattle.std.specs.Prelude.{◌⊎◌, Option, Some, None, Ok, Err, IfErr}
 use Rattle.fip_base.specs.declared.refusal.Refusal.{Refusal}
-use Rattle.fip_base.specs.Faults.{Rose}
-use Rattle.fip_base.specs.Files.{File, IsMissing}
+use Rattle.fip_outside.specs.Faults.{Rose}
+use Rattle.fip_outside.specs.Files.{File, IsMissing}
 use Rattle.command_outcome.specs.Stages.{IsOfSource, IsOfReplay}
 use Rattle.command_outcome.specs.declared.failure.Failure.{Failure}
 use Rattle.command_outcome.specs.declared.failure.Failure.TheVariants as F

@@ -1,7 +1,7 @@
 -- Words ask for one command at most, and a command ends with one thing at most, where it is said: so there is one
 -- written answer.
 use Rattle.std.proofs.Common.{◌≡◌, ℕ, List, ap₂, subst, refl}
-use Rattle.fip_base.specs.Files.{File}
+use Rattle.fip_outside.specs.Files.{File}
 use Rattle.command_line.specs.Words.{Command, IsCommand}
 use Rattle.fip_driver.specs.Answered.{Answer, NotUnderstood, Said, Beyond, IsAnswered}
 use Rattle.fip_driver.specs.Ends.{End, Says, IsOpen}

@@ -7,8 +7,8 @@ use Rattle.std.specs.declared.alloc.Global.{Global}
 use Rattle.fip_language.specs.declared.rule.Rule.TheVariants.{E05, E61, E72, E74}
 use Rattle.std.specs.Fmt.{decimal}
 use Rattle.fip_base.specs.declared.refusal.Refusal.{Refusal}
-use Rattle.fip_base.specs.Faults.{Rose}
-use Rattle.fip_base.specs.Files.{File, file_of, HoldsFile, HoldsLonger, IsMissing}
+use Rattle.fip_outside.specs.Faults.{Rose}
+use Rattle.fip_outside.specs.Files.{File, file_of, HoldsFile, HoldsLonger, IsMissing}
 use Rattle.fip_trees.specs.Tree.{Program}
 use Rattle.loaded_runs.specs.TraceText.{trace_text}
 use Rattle.tasks_command.specs.TasksAnswer.{TakesTurns}

@@ -1,8 +1,8 @@
 -- What a command that stores leaves of the files.
 use Rattle.std.proofs.Common.{◌≡◌, ◌≤◌, ℕ, List, subst, refl, inl, inr}
 use Rattle.std.specs.Prelude.{Option, Some, None, Ok, Err, IfErr}
-use Rattle.fip_base.specs.Faults.{Rose}
-use Rattle.fip_base.specs.Files.{File}
+use Rattle.fip_outside.specs.Faults.{Rose}
+use Rattle.fip_outside.specs.Files.{File}
 use Rattle.command_line.specs.Words.{Command}
 use Rattle.command_outcome.specs.declared.failure.Failure.{Failure}
 use Rattle.command_outcome.specs.declared.failure.Failure.TheVariants as F

@@ -4,8 +4,8 @@ use Rattle.std.specs.Prelude.{Option, Some, None, IsSomeAnd}
 use Rattle.std.specs.Io.KnownBytes.{Consumes, IsAtEnd}
 use Rattle.std.proofs.lemmas.List.{length-append, length-replicate}
 use Rattle.std.proofs.lemmas.Slice.Eq.{bytes_eq-Decides}
-use Rattle.fip_base.specs.Files.{File, file_of, HoldsFile, HoldsLonger}
-use Rattle.fip_base.specs.Takes.{Takes}
+use Rattle.fip_outside.specs.Files.{File, file_of, HoldsFile, HoldsLonger}
+use Rattle.fip_outside.specs.Takes.{Takes}
 use Rattle.fip_driver.specs.Answered.{IsTold}
 use Rattle.fip_driver.specs.Fetched.{FetchFails, ReadFails}
 use Rattle.command_outcome.specs.declared.failure.Failure.{Failure}

@@ -4,8 +4,8 @@ use Rattle.std.specs.Prelude.{◌⊎◌, Option, Some, None, Result, Ok, Err}
 use Rattle.std.specs.Io.KnownBytes.{Appends}
 use Rattle.std.specs.declared.vec.Vec.{Vec}
 use Rattle.std.specs.declared.alloc.Global.{Global}
-use Rattle.fip_base.specs.Faults.{Rose}
-use Rattle.fip_base.specs.Files.{File}
+use Rattle.fip_outside.specs.Faults.{Rose}
+use Rattle.fip_outside.specs.Files.{File}
 use Rattle.command_outcome.specs.Texts.{no_memory_text}
 use Rattle.fip_driver.specs.Delivered.{Seen, Tried, Told, ToldFailure, Delivered}
 use Rattle.fip_driver.specs.Answered.{Answered, IsUnasked}

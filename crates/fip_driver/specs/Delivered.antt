@@ -4,8 +4,8 @@ use Rattle.std.specs.Prelude.{◌≡◌, ℕ, List, ◌⊎◌, Option, Result, O
 use Rattle.std.specs.Io.KnownBytes.{Appends}
 use Rattle.std.specs.declared.vec.Vec.{Vec}
 use Rattle.std.specs.declared.alloc.Global.{Global}
-use Rattle.fip_base.specs.Faults.{Rose}
-use Rattle.fip_base.specs.Takes.{WritesPrefix}
+use Rattle.fip_outside.specs.Faults.{Rose}
+use Rattle.fip_outside.specs.Takes.{WritesPrefix}
 use Rattle.command_outcome.specs.Failures.{failure_status, failure_text, fault_text}
 use Rattle.command_outcome.specs.Texts.{no_memory_text, out_fault_text, err_fault_text}
 use Rattle.command_outcome.specs.declared.failure.Failure.{Failure}

@@ -9,7 +9,7 @@ use Rattle.std.specs.Prelude.{◌≡◌, ℕ, ◌<◌, ◌≤◌, false, List, l
 use Rattle.std.specs.Io.KnownBytes.{Appends}
 use Rattle.fip_language.specs.declared.limits.TheConstants.{MOST_FILE_BYTES}
 use Rattle.fip_language.specs.declared.rule.Rule.TheVariants.{E61, E70, E74}
-use Rattle.fip_base.specs.Files.{File, file_of}
+use Rattle.fip_outside.specs.Files.{File, file_of}
 use Rattle.tasks_command.specs.TasksAnswer.{TakesTurns}
 use Rattle.trace_commands.specs.TraceAnswer.{Traces}
 use Rattle.command_line.specs.Words.{Room, Request, Command, Check, Compile, Verify, Upgrade, Exec, Run, Eval, Trace}

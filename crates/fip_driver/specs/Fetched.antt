@@ -5,9 +5,9 @@ use Rattle.std.specs.declared.alloc.Global.{Global}
 use Rattle.fip_language.specs.declared.limits.TheConstants.{MOST_SOURCE_BYTES, MOST_FILE_BYTES}
 use Rattle.fip_base.specs.declared.refusal.Refusal.{Refusal}
 use Rattle.fip_language.specs.declared.rule.Rule.TheVariants.{E05, E70}
-use Rattle.fip_base.specs.Faults.{Rose}
-use Rattle.fip_base.specs.Files.{File, HoldsFile, HoldsLonger, IsMissing, KeepsOthers}
-use Rattle.fip_base.specs.Takes.{Takes}
+use Rattle.fip_outside.specs.Faults.{Rose}
+use Rattle.fip_outside.specs.Files.{File, HoldsFile, HoldsLonger, IsMissing, KeepsOthers}
+use Rattle.fip_outside.specs.Takes.{Takes}
 use Rattle.command_outcome.specs.Stages.{IsOfSource, IsOfTrace}
 use Rattle.command_outcome.specs.declared.failure.Object.TheVariants as O
 use Rattle.command_outcome.specs.declared.failure.Failure.{Failure}

@@ -3,7 +3,7 @@ use Rattle.std.specs.Prelude.{◌≡◌, ◌⊎◌, ℕ, ◌<◌, ◌≤◌, Lis
 use Rattle.std.specs.declared.vec.Vec.{Vec}
 use Rattle.std.specs.declared.alloc.Global.{Global}
 use Rattle.fip_language.specs.declared.limits.TheConstants.{MOST_FILE_BYTES}
-use Rattle.fip_base.specs.Files.{File}
+use Rattle.fip_outside.specs.Files.{File}
 use Rattle.command_line.specs.Words.{Command, Audit, IsCommand}
 use Rattle.source_commands.specs.Wanted.{Wanted}
 use Rattle.source_commands.specs.declared.files.Compiled.{Compiled}

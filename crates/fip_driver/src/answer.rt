@@ -1,7 +1,7 @@
 // What a command comes to: one arm for each, which says in what order the objects of a host are called.
 ghost use Rattle.std.specs.Prelude.{◌≡◌, ℕ, List, OnOk};
 ghost use Rattle.std.specs.Io.KnownBytes.{IsAtEnd};
-ghost use Rattle.fip_base.specs.Faults.{Rose};
+ghost use Rattle.fip_outside.specs.Faults.{Rose};
 ghost use Rattle.command_line.specs.Words.{IsCommand};
 ghost use Rattle.command_line.specs.View.{command_of};
 ghost use Rattle.fip_driver.specs.Commands.{ReadsInput, CallsNoFolder, stored_name};
@@ -15,7 +15,7 @@ use crate::sessions::{session, tasks};
 use crate::traces::{replay, trace};
 use command_line::Command;
 use command_outcome::Failure;
-use fip_base::outside::{Folder, Source};
+use fip_outside::outside::{Folder, Source};
 use std::alloc::Global;
 
 /// What a command comes to.

@@ -2,7 +2,7 @@
 ghost use Rattle.std.specs.Prelude.{◌≡◌, ◌≤◌, ℕ, List, Option, OnOk, Some};
 ghost use Rattle.std.specs.Io.KnownBytes.{IsAtEnd};
 ghost use Rattle.fip_language.specs.declared.limits.TheConstants.{MOST_FRAMES};
-ghost use Rattle.fip_base.specs.Faults.{Rose};
+ghost use Rattle.fip_outside.specs.Faults.{Rose};
 ghost use Rattle.fip_trees.specs.TreeView as V;
 ghost use Rattle.command_line.specs.Words as W;
 ghost use Rattle.source_commands.specs.Entries.{IsRootedIn};
@@ -13,7 +13,7 @@ ghost use Rattle.fip_driver.specs.Unread.{AreKept, IsBeforeSource, IsBeforeInput
 use crate::fetched::{fetch_code, fetch_source, read_input};
 use crate::stored::store;
 use command_outcome::Failure;
-use fip_base::outside::{Folder, Source};
+use fip_outside::outside::{Folder, Source};
 use source_commands::Evaluable;
 use std::alloc::Global;
 

@@ -1,13 +1,13 @@
 // How an answer reaches the sinks of a host.
 ghost use Rattle.std.specs.Prelude.{◌≡◌, ℕ, ◌≤◌, OnOk, OnErr};
 ghost use Rattle.std.specs.Io.KnownBytes.{Appends};
-ghost use Rattle.fip_base.specs.Faults.{Rose};
+ghost use Rattle.fip_outside.specs.Faults.{Rose};
 ghost use Rattle.fip_driver.specs.Delivered.{seen, Tried, Told, ToldFailure, Delivered};
 ghost use Rattle.command_outcome.specs.Texts.{err_fault_text, no_memory_text};
 
 use command_outcome::{Failure, Object};
-use fip_base::all::write_all;
-use fip_base::outside::Sink;
+use fip_outside::all::write_all;
+use fip_outside::outside::Sink;
 use fip_base::plain::Status;
 use std::alloc::Global;
 

@@ -1,7 +1,7 @@
 // What the commands on derivations come to: which object is called when.
 ghost use Rattle.std.specs.Prelude.{◌≡◌, ◌≤◌, ℕ, List, Option, IfOk, IfErr, OnOk, Some};
-ghost use Rattle.fip_base.specs.Faults.{Rose};
-ghost use Rattle.fip_base.specs.Files.{HoldsFile};
+ghost use Rattle.fip_outside.specs.Faults.{Rose};
+ghost use Rattle.fip_outside.specs.Files.{HoldsFile};
 ghost use Rattle.command_line.specs.Words as W;
 ghost use Rattle.command_outcome.specs.Successes.{derived_text};
 ghost use Rattle.fip_trees.specs.TreeView as V;
@@ -13,7 +13,7 @@ ghost use Rattle.fip_driver.specs.Unread.{AreKept, IsBeforeSource};
 use crate::fetched::{fetch_proof, fetch_source};
 use crate::stored::store;
 use command_outcome::Failure;
-use fip_base::outside::Folder;
+use fip_outside::outside::Folder;
 use fip_trees::program::Typed;
 use std::alloc::Global;
 

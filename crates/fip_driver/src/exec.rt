@@ -2,7 +2,7 @@
 ghost use Rattle.std.specs.Prelude.{◌≡◌, ◌≤◌, ℕ, List, OnOk};
 ghost use Rattle.std.specs.Io.KnownBytes.{IsAtEnd};
 ghost use Rattle.fip_language.specs.declared.limits.TheConstants.{MOST_FRAMES, MOST_STORE_WORDS};
-ghost use Rattle.fip_base.specs.Faults.{Rose};
+ghost use Rattle.fip_outside.specs.Faults.{Rose};
 ghost use Rattle.command_line.specs.View.{room_of, request_of};
 ghost use Rattle.command_line.specs.Words as W;
 ghost use Rattle.source_commands.specs.Entries.{IsFunctionOf};
@@ -16,7 +16,7 @@ ghost use Rattle.fip_driver.specs.Unread.{IsBeforeSource, IsBeforeInput};
 use crate::fetched::{fetch_code, fetch_source, read_input};
 use command_line::{Room, RunRequest};
 use command_outcome::Failure;
-use fip_base::outside::{Folder, Source};
+use fip_outside::outside::{Folder, Source};
 use source_commands::Ready;
 use std::alloc::Global;
 

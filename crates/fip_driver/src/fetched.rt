@@ -2,14 +2,14 @@
 ghost use Rattle.std.specs.Prelude.{◌≡◌, ◌≤◌, length, IfOk, OnOk, IfErr};
 ghost use Rattle.std.specs.Io.KnownBytes.{Consumes, IsAtEnd};
 ghost use Rattle.fip_language.specs.declared.limits.TheConstants.{MOST_FILE_BYTES, MOST_SOURCE_BYTES};
-ghost use Rattle.fip_base.specs.Files.{HoldsFile};
+ghost use Rattle.fip_outside.specs.Files.{HoldsFile};
 ghost use Rattle.command_outcome.specs.declared.failure.Failure.TheVariants.{BadCode, BadTrace};
 ghost use Rattle.source_commands.specs.Judged.{IsBadProof};
 ghost use Rattle.fip_driver.specs.Fetched.{FetchFails, FileFails, JudgeFails, ReadFails, IsEarlyFailure};
 
 use command_outcome::{Failure, Object};
-use fip_base::all::{ReadError, read_all};
-use fip_base::outside::{FetchError, Folder, Source};
+use fip_outside::all::{ReadError, read_all};
+use fip_outside::outside::{FetchError, Folder, Source};
 use fip_base::plain::Detail;
 use fip_base::refusal::{Refusal, Rule};
 use fip_language::limits::{MOST_FILE_BYTES, MOST_SOURCE_BYTES};

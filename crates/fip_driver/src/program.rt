@@ -3,8 +3,8 @@ ghost use Rattle.std.specs.Prelude.{◌≡◌, ◌⊎◌, ℕ, List, Some, OnOk,
 ghost use Rattle.std.specs.Io.KnownBytes.{IsAtEnd};
 ghost use Rattle.std.specs.declared.vec.Vec.{Vec as a_vec};
 ghost use Rattle.std.specs.declared.alloc.Global.{Global as an_allocator};
-ghost use Rattle.fip_base.specs.Faults.{Rose};
-ghost use Rattle.fip_base.specs.Files.{File};
+ghost use Rattle.fip_outside.specs.Faults.{Rose};
+ghost use Rattle.fip_outside.specs.Files.{File};
 ghost use Rattle.command_outcome.specs.declared.failure.Failure.{Failure as a_failure};
 ghost use Rattle.fip_driver.specs.Answered.{Answer, Answered, IsAnswered};
 ghost use Rattle.fip_driver.specs.Delivered.{seen, NotRisen, Delivered};
@@ -17,7 +17,7 @@ use crate::answer::answer;
 use crate::delivery::deliver;
 use command_line::{WordsError, read_words};
 use command_outcome::Failure;
-use fip_base::outside::{Folder, Sink, Source};
+use fip_outside::outside::{Folder, Sink, Source};
 use fip_base::plain::Status;
 use std::alloc::Global;
 

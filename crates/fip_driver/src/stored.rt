@@ -4,7 +4,7 @@ ghost use Rattle.fip_driver.specs.Fetched.{StoreFails, StoreKeeps};
 ghost use Rattle.fip_driver.specs.Unread.{IsBeforeSource};
 
 use command_outcome::{Failure, Object};
-use fip_base::outside::{Folder, StoreError};
+use fip_outside::outside::{Folder, StoreError};
 use source_commands::Compiled;
 
 /// Stores a file under a name, and gives the text that is printed. A fault of the folder where it failed.

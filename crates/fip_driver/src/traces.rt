@@ -2,7 +2,7 @@
 ghost use Rattle.std.specs.Prelude.{◌≡◌, ◌≤◌, ℕ, List, Option, IfOk, IfErr, OnOk, Some};
 ghost use Rattle.std.specs.Io.KnownBytes.{IsAtEnd};
 ghost use Rattle.fip_language.specs.declared.limits.TheConstants.{MOST_FRAMES, MOST_STORE_WORDS};
-ghost use Rattle.fip_base.specs.Faults.{Rose};
+ghost use Rattle.fip_outside.specs.Faults.{Rose};
 ghost use Rattle.command_line.specs.View.{room_of};
 ghost use Rattle.command_line.specs.Words as W;
 ghost use Rattle.source_commands.specs.ProgramCode.{IsEntryOf};
@@ -16,7 +16,7 @@ use crate::fetched::{fetch_source, fetch_trace, read_input};
 use crate::stored::store;
 use command_line::Room;
 use command_outcome::Failure;
-use fip_base::outside::{Folder, Source};
+use fip_outside::outside::{Folder, Source};
 use source_commands::{Compiled, Ready};
 use std::alloc::Global;
 

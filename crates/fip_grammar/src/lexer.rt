@@ -17,7 +17,7 @@ use fip_language::{Operator, Place};
 use std::alloc::{AllocError, AllocFailed, Global};
 
 /// Why a source isn't cut.
-#[derive(Debug, Drop)]
+#[derive(Drop)]
 pub enum LexError {
     /// Want of memory.
     Memory,
@@ -281,7 +281,7 @@ fn comment_rest<'a>(first: u8, rest: &'a [u8]) -> Option<&'a [u8]>
 }
 
 /// What stands at the start of a text.
-#[derive(Clone, Copy, Debug)]
+#[derive(Clone, Copy)]
 enum Front<'a> {
     /// A blank or a comment, and the place behind it.
     Gap { next: Place },

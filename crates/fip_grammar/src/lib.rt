@@ -5,7 +5,7 @@ pub mod lexer;
 pub mod token;
 
 /// A keyword or a sign that is no operator.
-#[derive(Clone, Copy, Debug, PartialEq, Eq)]
+#[derive(Clone, Copy, PartialEq, Eq)]
 pub enum Sign {
     Data,
     Fip,

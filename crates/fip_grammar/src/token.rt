@@ -4,7 +4,7 @@ use crate::Sign;
 use fip_language::{Operator, Place};
 
 /// What a token is. A name and a literal are a piece of the source.
-#[derive(Clone, Copy, Debug, PartialEq, Eq)]
+#[derive(Clone, Copy, PartialEq, Eq)]
 pub enum Word<'a> {
     Lower(&'a [u8]),
     Upper(&'a [u8]),
@@ -14,7 +14,7 @@ pub enum Word<'a> {
 }
 
 /// A token, and the place of its first byte.
-#[derive(Clone, Copy, Debug, PartialEq, Eq)]
+#[derive(Clone, Copy, PartialEq, Eq)]
 pub struct Token<'a> {
     pub word: Word<'a>,
     pub place: Place,

@@ -9,7 +9,6 @@ use Rattle.fip_language.specs.Values.{Int, End, More}
 use Rattle.fip_language.specs.Core.{Name, Written, Writtens, WrittenInt, WrittenName, NoWritten, MoreWritten, OneResult, TupleResult, Argument, Literal, NoArguments, MoreArguments, BinderPattern, LiteralPattern, ConstructorPattern, NoPatterns, MorePatterns, Expression, Give, Tuple, Operation, Call, Match, Last, Let, NoClauses, MoreClauses, TypeParameter, FunctionParameter, Function, Data}
 use Rattle.fip_language.specs.Statics.{NoClosed}
 use Rattle.fip_language.specs.Registers.{registers}
-use Rattle.fip_language.specs.Gauge.{lowest_by_trees}
 use Rattle.fip_language.specs.Example.{at, here, bound, var, two, ints, int_list, nil, cons, owned, rev, reversing, empty, item, pair, three, three_reversed}
 use Rattle.fip_language.specs.Meaning.{Answer, Gives, Trap, Out, Deep, Run, meaning}
 
@@ -141,9 +140,6 @@ len = record {
 length_of_three : meaning (record { types = int_list ∷ []; functions = len ∷ [] }) (codes "len") NoClosed (pair three (Int (pos 0))) 4 0 ≡ record { answer = Gives (More (Int (pos 3)) End) 0; peak = record { frames = 0; words = 10 } }
 unfolding meaning
 length_of_three = refl
-
-lent_cells_are_held : lowest_by_trees 2 len.parameters (pair three (Int (pos 0))) (More (Int (pos 3)) End) ≡ 3
-lent_cells_are_held = refl
 
 -- ---- tuples, literals in patterns, static arguments
 

@@ -1,5 +1,5 @@
 -- No call is made up: an evaluation never leaves more calls than it was given.
-use Rattle.std.proofs.Common.{ℕ, zero, suc, ◌≤◌, List, Bool, true, false, Option, Some, None, arith}
+use Rattle.std.proofs.Common.{◌≡◌, ℕ, zero, suc, ◌≤◌, List, Bool, true, false, Option, Some, None, refl, arith}
 use Rattle.fip_language.specs.declared.Place.{Place}
 use Rattle.fip_language.specs.declared.Operator.{Operator}
 use Rattle.fip_language.specs.Values.{Value, Int, Node, Values}
@@ -9,7 +9,7 @@ use Rattle.fip_language.specs.Matching.{Binding, matching}
 use Rattle.fip_language.specs.Arithmetic.{Operated, Is, Fails, operate}
 use Rattle.fip_language.specs.Registers.{frame_words}
 use Rattle.fip_language.specs.Statics.{Closed, Closeds, ClosedInt, ClosedName, Instance, callee}
-use Rattle.fip_language.specs.Meaning.{Answer, Gives, Trap, Out, Deep, Stuck, Run, go_on, counted, in_frame, Environment, nothing_bound, bind_matched, bind_binders, bind_parameters, argument_value, argument_values, with_value, with_values, operated, operation, if_matches, Calls, eval, eval_block, eval_clauses, body_run, function_run, calls_of, evaluate, meaning}
+use Rattle.fip_language.specs.Meaning.{Answer, Gives, Trap, Out, Deep, Stuck, Run, ends, go_on, counted, in_frame, Environment, nothing_bound, bind_matched, bind_binders, bind_parameters, argument_value, argument_values, with_value, with_values, operated, operation, if_matches, Calls, eval, eval_block, eval_clauses, body_run, function_run, calls_of, evaluate, meaning}
 use Rattle.fip_language.specs.Laws.{AtMost}
 
 pub AtMost-wider : (j k : ℕ) (a : Answer) → j ≤ k → AtMost j a → AtMost k a
@@ -107,3 +107,8 @@ meaning_left core name given vs n d = AtMost-counted n _ (λ left. calls_left co
 pub entry_left : (core : Core) (name : Name) (given : Closeds) (vs : Values) (n d : ℕ) → AtMost n (meaning core name given vs (suc n) d).answer
 unfolding meaning
 entry_left core name given vs n d = calls_left core (suc n) d (ClosedName name given) vs n
+
+-- no call is left
+pub meaning_out : (core : Core) (name : Name) (given : Closeds) (vs : Values) (d : ℕ) → meaning core name given vs zero d ≡ ends Out
+unfolding meaning
+meaning_out core name given vs d = refl

@@ -1,9 +1,6 @@
--- Laws of sums and of what holds of every item of a list.
-use Rattle.std.proofs.Common.{◌≡◌, ℕ, zero, suc, ◌+◌, List, [], ◌∷◌, ◌++◌, Some, subst, arith, slice_get}
+-- Laws of what holds of every item of a list.
+use Rattle.std.proofs.Common.{◌≡◌, ℕ, zero, suc, List, [], ◌∷◌, ◌++◌, Some, subst, slice_get}
 use Rattle.fip_language.specs.Every.{Every}
-
-pub next_sum : (n m : ℕ) → n + 1 + m ≡ n + suc m
-next_sum n m = omega arith
 
 pub every_append : {A : Type 0} (P : A → Type 0) (xs ys : List A) → Every P xs → Every P ys → Every P (xs ++ ys)
 every_append P [] ys h g = g

@@ -2,10 +2,9 @@
 -- is declared before all others. Where a name is declared twice, the first declaration is the one that it means.
 -- In `data ints { Nil; Cons(int, ints) }` the type ints has the number 2, Nil is its constructor 0 and Cons its
 -- constructor 1, with the fields int and ints.
-use Rattle.std.specs.Prelude.{ℕ, suc, Bool, List, [], ◌∷◌, map, Option, Some, None, bytes_eq, codes, if◌then◌else◌}
+use Rattle.std.specs.Prelude.{ℕ, suc, Bool, List, [], ◌∷◌, Option, Some, None, bytes_eq, codes, if◌then◌else◌}
 use Rattle.fip_language.specs.declared.Place.{Place}
-use Rattle.fip_language.specs.Core.{Name, Written, WrittenInt, WrittenName, Function, DataConstructor, Data, Core}
-use Rattle.fip_language.specs.Table.{Shape, Table}
+use Rattle.fip_language.specs.Core.{Name, Written, Function, DataConstructor, Data, Core}
 
 abbrev pub same_name : Name → Name → Bool
 same_name = bytes_eq
@@ -52,36 +51,9 @@ constructor_in name t (d ∷ ds) = or_else (constructor_among name t 0 d.constru
 abbrev pub constructor_of : Core → Name → Option Declared
 constructor_of core name = constructor_in name 1 (data_types core)
 
-abbrev pub type_in : Name → ℕ → List Data → Option ℕ
-type_in name t [] = None
-type_in name t (d ∷ ds) = if same_name name d.name then Some t else type_in name (suc t) ds
-
--- the number of the data type of a name
-abbrev pub type_of_name : Core → Name → Option ℕ
-type_of_name core name = type_in name 1 (data_types core)
-
 abbrev pub function_in : Name → List Function → Option Function
 function_in name [] = None
 function_in name (f ∷ fs) = if same_name name f.name then Some f else function_in name fs
 
 abbrev pub function_of : Core → Name → Option Function
 function_of core name = function_in name core.functions
-
--- The table of a program whose types have no parameters: all declared types, also those that no function uses. A name
--- that is unknown is taken as int there.
-abbrev pub number_or_int : Option ℕ → ℕ
-number_or_int None = 0
-number_or_int (Some t) = t
-
-abbrev pub type_number : Core → Written → ℕ
-type_number core (WrittenInt p) = 0
-type_number core (WrittenName name p arguments) = number_or_int (type_of_name core name)
-
-abbrev pub shape_of : Core → DataConstructor → Shape
-shape_of core k = record { name = k.name; fields = map (type_number core) k.fields }
-
-abbrev pub row_of : Core → Data → List Shape
-row_of core d = map (shape_of core) d.constructors
-
-abbrev pub table_of : Core → Table
-table_of core = map (row_of core) (data_types core)

@@ -1,5 +1,5 @@
 -- Words on lists: what holds of every item, whether something is an item, and how often a name stands.
-use Rattle.std.specs.Prelude.{◌≡◌, ◌⊎◌, ℕ, ◌+◌, ◌≤◌, List, [], ◌∷◌, if◌then◌else◌}
+use Rattle.std.specs.Prelude.{◌≡◌, ◌⊎◌, ℕ, ◌+◌, List, [], ◌∷◌, if◌then◌else◌}
 use Rattle.fip_language.specs.Core.{Name}
 use Rattle.fip_language.specs.Declarations.{same_name}
 
@@ -19,7 +19,3 @@ one_if_named name n = if same_name name n then 1 else 0
 abbrev pub times : Name → List Name → ℕ
 times name [] = 0
 times name (n ∷ ns) = one_if_named name n + times name ns
-
--- no name stands twice
-abbrev pub Once : List Name → Type 0
-Once names = (name : Name) → times name names ≤ 1

@@ -1,12 +1,8 @@
 -- The gauge of a run: over all states from the first to the last the lowest and the highest number of held cells of
 -- each size (those of live trees and of credits), the most frames and the most words of stack. All are 0 where no state
 -- was seen.
--- Of a run that gives values the same is said by trees: the highest number is that of all arguments' cells, the lowest
--- that of the results' cells and the lent arguments'. rev of Cons(1, Cons(2, Nil)) and Nil holds 2 cells of size 2 all
--- the time.
-use Rattle.std.specs.Prelude.{ℕ, ◌+◌, min, max, List, [], ◌∷◌, if◌then◌else◌}
-use Rattle.fip_language.specs.Values.{Values, End, More, cells_of_all}
-use Rattle.fip_language.specs.Core.{Parameter}
+-- For instance, rev of Cons(1, Cons(2, Nil)) and Nil holds 2 cells of size 2 all the time: both numbers are 2.
+use Rattle.std.specs.Prelude.{ℕ, min, max, List, [], ◌∷◌}
 
 -- what is seen of a state: how many cells of each size are held, the frames, and the words of stack
 pub record Seen : Type 0 where
@@ -30,17 +26,3 @@ highest_frames (s ∷ ss) = max s.frames (highest_frames ss)
 abbrev pub highest_words : List Seen → ℕ
 highest_words [] = 0
 highest_words (s ∷ ss) = max s.words (highest_words ss)
-
--- the values of lent parameters
-abbrev pub lent_values : List Parameter → Values → Values
-lent_values [] vs = End
-lent_values (p ∷ ps) End = End
-lent_values (p ∷ ps) (More v vs) = if p.lent then More v (lent_values ps vs) else lent_values ps vs
-
--- by trees, of a run from these arguments to these results
-abbrev pub highest_by_trees : ℕ → Values → ℕ
-highest_by_trees k arguments = cells_of_all k arguments
-
-abbrev pub lowest_by_trees : ℕ → List Parameter → Values → Values → ℕ
-lowest_by_trees k parameters arguments results =
-    cells_of_all k results + cells_of_all k (lent_values parameters arguments)

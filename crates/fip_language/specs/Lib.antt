@@ -10,7 +10,6 @@ pub mod SoundTable
 pub mod UpperNames
 pub mod ValueText
 pub mod PrintedText
-pub mod Layout
 pub mod Declarations
 pub mod Matching
 pub mod Registers
@@ -18,15 +17,10 @@ pub mod Arithmetic
 pub mod Statics
 pub mod Meaning
 pub mod Every
-pub mod LoopForm
 pub mod Mentions
-pub mod Right
 pub mod RuleText
 pub mod RuleOrder
-pub mod Violations
-pub mod Scoped
 pub mod Stack
 pub mod Gauge
-pub mod Answer
 pub mod Laws
 pub mod Example

@@ -1,13 +1,12 @@
--- What a program mentions, each name with its place: the types that are written in data types and in the parameters and
--- results of functions, the constructors that expressions and patterns name, and the functions that are called.
+-- What an expression mentions, each name with its place: the constructors that expressions and patterns name. Of
+-- Cons(x, Nil) these are Cons and Nil.
 use Rattle.std.specs.Prelude.{List, [], ◌∷◌, ◌++◌}
 use Rattle.fip_language.specs.declared.Place.{Place}
-use Rattle.fip_language.specs.Core.{Name, Written, Writtens, WrittenInt, WrittenName, NoWritten, MoreWritten, Result}
-use Rattle.fip_language.specs.Core.{OneResult, TupleResult, Argument, Variable, Literal, Constructor, Arguments}
+use Rattle.fip_language.specs.Core.{Name}
+use Rattle.fip_language.specs.Core.{Argument, Variable, Literal, Constructor, Arguments}
 use Rattle.fip_language.specs.Core.{NoArguments, MoreArguments, Pattern, BinderPattern, LiteralPattern}
 use Rattle.fip_language.specs.Core.{ConstructorPattern, Patterns, NoPatterns, MorePatterns, Expression, Give, Tuple}
 use Rattle.fip_language.specs.Core.{Operation, Call, Match, Nested, Block, Last, Let, Clauses, NoClauses, MoreClauses}
-use Rattle.fip_language.specs.Core.{Parameter, Function, DataConstructor, Data}
 
 pub record Mention : Type 0 where
   pub name : Name
@@ -20,28 +19,6 @@ mention n p = record { name = n; place = p }
 abbrev pub all_of : {A B : Type 0} → (A → List B) → List A → List B
 all_of f [] = []
 all_of f (x ∷ xs) = f x ++ all_of f xs
-
-abbrev mutual
-  pub types_in_written : Written → List Mention
-  types_in_written (WrittenInt p) = []
-  types_in_written (WrittenName n p ws) = mention n p ∷ types_in_writtens ws
-
-  pub types_in_writtens : Writtens → List Mention
-  types_in_writtens NoWritten = []
-  types_in_writtens (MoreWritten w ws) = types_in_written w ++ types_in_writtens ws
-
-abbrev pub types_in_result : Result → List Mention
-types_in_result (OneResult t) = types_in_written t
-types_in_result (TupleResult p ts) = all_of types_in_written ts
-
-abbrev pub types_in_parameters : List Parameter → List Mention
-types_in_parameters ps = all_of (λ (p : Parameter). types_in_written p.type) ps
-
-abbrev pub types_in_header : Function → List Mention
-types_in_header f = types_in_parameters f.parameters ++ types_in_result f.result
-
-abbrev pub types_in_data : Data → List Mention
-types_in_data d = all_of (λ (k : DataConstructor). all_of types_in_written k.fields) d.constructors
 
 abbrev mutual
   pub constructors_in_argument : Argument → List Mention
@@ -81,20 +58,3 @@ abbrev mutual
   constructors_in_clauses NoClauses = []
   constructors_in_clauses (MoreClauses pattern body rest) =
       constructors_in_pattern pattern ++ (constructors_in_block body ++ constructors_in_clauses rest)
-
-abbrev mutual
-  pub calls_in_expression : Expression → List Mention
-  calls_in_expression (Give a) = []
-  calls_in_expression (Tuple p as') = []
-  calls_in_expression (Operation o p a b) = []
-  calls_in_expression (Call n p statics as') = mention n p ∷ []
-  calls_in_expression (Match destructive p x clauses) = calls_in_clauses clauses
-  calls_in_expression (Nested block) = calls_in_block block
-
-  pub calls_in_block : Block → List Mention
-  calls_in_block (Last e) = calls_in_expression e
-  calls_in_block (Let binders e rest) = calls_in_expression e ++ calls_in_block rest
-
-  pub calls_in_clauses : Clauses → List Mention
-  calls_in_clauses NoClauses = []
-  calls_in_clauses (MoreClauses pattern body rest) = calls_in_block body ++ calls_in_clauses rest

@@ -1,4 +1,4 @@
--- What a function needs of the stack, and the groups of functions that call each other.
+-- What a function needs of the stack.
 -- A call is in tail position where nothing is left to do after it: the body of a function is in tail position, and
 -- where an expression is, so are its clauses' bodies and the last expression of its block. A bound expression never is.
 use Rattle.std.specs.Prelude.{◌≡◌, ℕ, ◌+◌, ◌≤◌, Bool, true, false, List, [], ◌∷◌, ◌++◌, Option, Some, None}
@@ -58,10 +58,6 @@ Along core f (g ∷ gs) h = (here : Instance) × (site : CallSite) × CallsAt co
 
 abbrev pub Reaches : Core → Closed → Closed → Type 0
 Reaches core f h = (gs : List Closed) × Along core f gs h
-
--- they are of one group
-abbrev pub OneGroup : Core → Closed → Closed → Type 0
-OneGroup core f g = Reaches core f g × Reaches core g f
 
 -- frames a caller holds, in tail position none
 abbrev pub held_by : Bool → ℕ → ℕ

@@ -18,7 +18,7 @@ pub struct Place {
 
 /// A mark in the header of a function, `+` and a size: its caller must hold a credit of that size. The first place is
 /// that of the `+`, the other that of the digits.
-#[derive(Clone, Copy, Debug, PartialEq, Eq)]
+#[derive(Clone, Copy, PartialEq, Eq)]
 pub struct CreditMark {
     pub place: Place,
     pub size_place: Place,
@@ -26,7 +26,7 @@ pub struct CreditMark {
 }
 
 /// What a function promises: to work in the cells that it is given, to make none and free some, or nothing.
-#[derive(Clone, Copy, Debug, PartialEq, Eq)]
+#[derive(Clone, Copy, PartialEq, Eq)]
 pub enum FunKind {
     Fip,
     Fbip,
@@ -34,14 +34,14 @@ pub enum FunKind {
 }
 
 /// Why an operator has no value.
-#[derive(Clone, Copy, Debug, PartialEq, Eq)]
+#[derive(Clone, Copy, PartialEq, Eq)]
 pub enum TrapKind {
     Overflow,
     DivideByZero,
 }
 
 /// An operator between two ints. The first five give an int, the others a bool.
-#[derive(Clone, Copy, Debug, PartialEq, Eq)]
+#[derive(Clone, Copy, PartialEq, Eq)]
 pub enum Operator {
     Add,
     Subtract,

@@ -9,7 +9,7 @@ use machine_cells::SIZES;
 
 /// The lowest and the highest number of held cells of each size, and the most frames and words, over the states that
 /// were seen. All are 0 before a state was seen.
-#[derive(Clone, Copy, Debug, PartialEq, Eq)]
+#[derive(Clone, Copy, PartialEq, Eq)]
 pub struct Gauge {
     seen: bool,
     lowest: [u64; SIZES],

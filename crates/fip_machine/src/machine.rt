@@ -22,7 +22,7 @@ use std::alloc::Global;
 use std::marker::Model;
 
 /// How a run ended.
-#[derive(Clone, Copy, Debug, PartialEq, Eq)]
+#[derive(Clone, Copy, PartialEq, Eq)]
 pub enum Ended {
     /// With a value; its words are the machine's results.
     Value,

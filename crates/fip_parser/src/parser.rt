@@ -40,7 +40,7 @@ pub enum ParseError {
 }
 
 // A rule that a token breaks although it fits.
-#[derive(Clone, Copy, Debug, PartialEq, Eq)]
+#[derive(Clone, Copy, PartialEq, Eq)]
 enum Fault {
     TooDeep,
     TooLarge,

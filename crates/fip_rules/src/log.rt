@@ -9,7 +9,7 @@ use std::alloc::Global;
 use std::marker::Model;
 
 // A variable's number, and the place before this one where it stands too.
-#[derive(Clone, Copy, Debug)]
+#[derive(Clone, Copy)]
 struct Step {
     number: usize,
     before: Option<usize>,

@@ -11,7 +11,7 @@ use std::marker::Model;
 
 /// An occurrence of a variable, or its binder: what the variable is known by in its instance, its number in the tree,
 /// and where it stands with which name.
-#[derive(Clone, Copy, Debug)]
+#[derive(Clone, Copy)]
 pub struct Mark<'a> {
     /// How many binders stand before the variable's own; no two variables of an instance have the same.
     pub id: usize,
@@ -21,7 +21,7 @@ pub struct Mark<'a> {
 }
 
 /// How a variable is bound.
-#[derive(Clone, Copy, Debug, PartialEq, Eq)]
+#[derive(Clone, Copy, PartialEq, Eq)]
 pub enum Ownership {
     Scalar,
     Borrowed,
@@ -29,7 +29,7 @@ pub enum Ownership {
 }
 
 /// A variable in scope, with its binder, and how many bound expressions stand around that.
-#[derive(Clone, Copy, Debug)]
+#[derive(Clone, Copy)]
 pub struct Entry<'a> {
     pub mark: Mark<'a>,
     pub ownership: Ownership,

@@ -56,7 +56,7 @@ impl<'a> Model for State<'a> {
 }
 
 /// Where the walk stood at some time.
-#[derive(Clone, Copy, Debug)]
+#[derive(Clone, Copy)]
 pub struct Kept {
     pub(crate) level: usize,
     pub(crate) waiting: usize,

@@ -21,7 +21,7 @@ use store_trees::{MOST_CELLS, Trees};
 use value_text::print_value;
 
 /// What a name holds: a value, as its type and its word.
-#[derive(Clone, Copy, Debug, PartialEq, Eq)]
+#[derive(Clone, Copy, PartialEq, Eq)]
 pub struct Held {
     pub ty: u32,
     pub word: u64,

@@ -11,7 +11,7 @@ use std::alloc::Global;
 
 /// The room of runs: the words of their store, at most 16,777,216, the calls of each run, and the frames of each run
 /// of a function that isn't fip, at most 1,000,000.
-#[derive(Clone, Copy, Debug, PartialEq, Eq)]
+#[derive(Clone, Copy, PartialEq, Eq)]
 pub struct Room {
     pub words: usize,
     pub calls: u64,

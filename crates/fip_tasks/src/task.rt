@@ -27,7 +27,7 @@ pub struct Start {
 }
 
 /// What a turn came to.
-#[derive(Clone, Copy, Debug, PartialEq, Eq)]
+#[derive(Clone, Copy, PartialEq, Eq)]
 pub enum Turned {
     /// An instruction was done, and the task goes on.
     Went,

@@ -4,5 +4,4 @@ pub mod NeedsView
 pub mod Sizes
 pub mod Tree
 pub mod TreeView
-pub mod Groups
 pub mod SoundProgram

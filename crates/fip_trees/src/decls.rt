@@ -34,14 +34,14 @@ pub struct DeclaredType<'a> {
 }
 
 /// What the name of a data type means: its number, and how many type parameters it has.
-#[derive(Clone, Copy, Debug, PartialEq, Eq)]
+#[derive(Clone, Copy, PartialEq, Eq)]
 pub struct TypeHead {
     pub number: u32,
     pub arity: usize,
 }
 
 /// What the name of a constructor means: the number of its data type, and its own in it, from 0.
-#[derive(Clone, Copy, Debug, PartialEq, Eq)]
+#[derive(Clone, Copy, PartialEq, Eq)]
 pub struct ConstructorId {
     pub data: u32,
     pub number: u32,

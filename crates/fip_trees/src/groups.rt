@@ -1,13 +1,12 @@
 // The call groups of a program, and what its instances hold of the stack.
 ghost use Rattle.std.specs.Prelude.{◌≡◌, List, None, Some, MatchOption, option_map, option_and_then, slice_get};
-ghost use Rattle.fip_trees.specs.Groups.{together};
 ghost use Rattle.fip_trees.specs.declared.groups.Member.{Member as a_member};
 
 use fip_base::plain::Stack;
 use std::marker::Model;
 
 /// What is known of an instance: the number of its group, its registers, and what a run of it holds of the stack.
-#[derive(Clone, Copy, Debug, PartialEq, Eq)]
+#[derive(Clone, Copy, PartialEq, Eq)]
 pub struct Member {
     /// Two instances have the same number exactly where each reaches the other by calls, or they are one.
     pub group: usize,
@@ -62,16 +61,6 @@ impl Groups {
         match self.members.get(instance) {
             Some(member) => Some(member.registers),
             None => None,
-        }
-    }
-
-    /// Whether two instances are of one group; not so where there are fewer instances.
-    pub fn are_together(&self, one: usize, other: usize) -> bool
-        ensures same { result ≡ together (slice_get self.now one) (slice_get self.now other) }
-    {
-        match (self.members.get(one), self.members.get(other)) {
-            (Some(first), Some(second)) => first.group == second.group,
-            _ => false,
         }
     }
 }

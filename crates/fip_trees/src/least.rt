@@ -11,7 +11,7 @@ use std::marker::Model;
 
 /// A rule that is broken: where, in which instance (0 where there are none yet), the size of the cells that it speaks
 /// of (0 where it speaks of none), and what it names (empty where it names nothing).
-#[derive(Debug, Drop)]
+#[derive(Drop)]
 pub struct Violation {
     pub rule: Rule,
     pub place: Place,
@@ -22,7 +22,7 @@ pub struct Violation {
 
 /// The least of the violations that were noted: by place, then rule, then instance, then size, then detail. So the
 /// order in which they are noted doesn't matter.
-#[derive(Debug, Drop)]
+#[derive(Drop)]
 pub struct Least {
     alloc: Global,
     first: Option<Violation>,

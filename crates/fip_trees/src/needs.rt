@@ -7,7 +7,7 @@ use crate::sizes::Sizes;
 use std::marker::Model;
 
 /// What an expression needs: the credits of each size that it takes from around it.
-#[derive(Clone, Copy, Debug, PartialEq, Eq)]
+#[derive(Clone, Copy, PartialEq, Eq)]
 pub struct Need {
     pub sizes: Sizes,
     /// The number of the expressions in it, itself counted: the next expression that isn't a part of it has its number
@@ -48,10 +48,5 @@ impl Needs {
             Some(needs) => needs.as_slice(),
             None => &[],
         }
-    }
-
-    /// What an expression of an instance needs; none where there is no such expression.
-    pub fn need_of(&self, instance: usize, expression: usize) -> Option<&Need> {
-        self.of(instance).get(expression)
     }
 }

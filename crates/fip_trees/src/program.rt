@@ -133,7 +133,7 @@ pub struct Clause {
 }
 
 /// A tuple of results in a header: the place of its bracket, and how many results it has.
-#[derive(Clone, Copy, Debug, PartialEq, Eq)]
+#[derive(Clone, Copy, PartialEq, Eq)]
 pub struct TupleResult {
     pub place: Place,
     pub count: usize,

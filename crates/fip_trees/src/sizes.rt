@@ -6,7 +6,7 @@ use fip_base::plain::NoMemory;
 use std::marker::Model;
 
 /// A number for each size of cells from 1 to 16.
-#[derive(Clone, Copy, Debug, PartialEq, Eq)]
+#[derive(Clone, Copy, PartialEq, Eq)]
 pub struct Sizes {
     numbers: [u32; 17],
 }

@@ -1,7 +1,7 @@
 // What is known of a register.
 
 /// What a register holds.
-#[derive(Clone, Copy, Debug, PartialEq, Eq)]
+#[derive(Clone, Copy, PartialEq, Eq)]
 pub enum Held {
     /// Nothing that is used any more.
     Nothing,
@@ -19,7 +19,7 @@ pub enum Held {
 }
 
 /// A credit: the size of its cell, and the register that names it.
-#[derive(Clone, Copy, Debug, PartialEq, Eq)]
+#[derive(Clone, Copy, PartialEq, Eq)]
 pub struct Credit {
     pub size: usize,
     pub register: u16,

@@ -44,7 +44,7 @@ use machine_cells::{
 };
 
 /// What a step came to.
-#[derive(Clone, Copy, Debug, PartialEq, Eq)]
+#[derive(Clone, Copy, PartialEq, Eq)]
 pub enum Stepped {
     /// An instruction that isn't a call was done.
     Went,

@@ -12,7 +12,7 @@ use std::alloc::Global;
 
 /// The number of a match: matches are counted from 0 over the instances in their order, and in each body in the order
 /// of the text.
-#[derive(Clone, Copy, Debug, PartialEq, Eq)]
+#[derive(Clone, Copy, PartialEq, Eq)]
 pub struct MatchId(pub usize);
 
 /// The decision tree of the match with this number, in a program that `cover` accepts; none exactly where there is no

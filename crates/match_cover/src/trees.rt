@@ -20,7 +20,7 @@ use match_knowledge::{Head, Knowledge, Row, compare, is_asks, is_fits, is_last, 
 use std::alloc::Global;
 
 /// The decision tree of a match.
-#[derive(Debug, Drop)]
+#[derive(Drop)]
 pub enum Tree {
     /// The clause with this number, from 0, is chosen.
     Leaf(usize),
@@ -37,14 +37,14 @@ pub enum Tree {
 }
 
 // The first clause that isn't ruled out: it matches all values, or it asks.
-#[derive(Clone, Copy, Debug)]
+#[derive(Clone, Copy)]
 enum First {
     Done(usize),
     Split(usize),
 }
 
 // A tree, and how many branches more it might have had.
-#[derive(Debug, Drop)]
+#[derive(Drop)]
 struct Grown {
     tree: Tree,
     left: usize,

@@ -5,7 +5,7 @@ ghost use Rattle.match_knowledge.specs.Known.{is_in};
 ghost use Rattle.match_knowledge.specs.declared.heads.Head.TheVariants.{Tag};
 
 /// What a value is at its root.
-#[derive(Clone, Copy, Debug)]
+#[derive(Clone, Copy)]
 pub enum Head {
     /// This int.
     Number(i64),

@@ -10,7 +10,7 @@ use fip_base::plain::NoMemory;
 use std::alloc::Global;
 
 /// What is known of a value.
-#[derive(Drop, Debug)]
+#[derive(Drop)]
 pub enum Knowledge {
     /// It has none of these heads.
     Open(Vec<Head>),

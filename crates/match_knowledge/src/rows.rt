@@ -2,7 +2,7 @@
 use crate::heads::Head;
 
 /// A pattern without names.
-#[derive(Drop, Debug)]
+#[derive(Drop)]
 pub enum Row {
     /// It matches every value.
     Any,

@@ -15,7 +15,7 @@ use std::alloc::Global;
 
 // What the rows say of the values that agree with what is known: one row matches them all, or each row misses them all,
 // or the row that is asked next, with its weight.
-#[derive(Clone, Copy, Debug)]
+#[derive(Clone, Copy)]
 enum Choice {
     Covered,
     Nothing,

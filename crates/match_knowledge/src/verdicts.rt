@@ -8,7 +8,7 @@ use crate::knowledge::Knowledge;
 use crate::rows::Row;
 
 /// What a pattern says of all values that agree with what is known: it matches all of them or none, or asks for more.
-#[derive(Clone, Copy, Debug)]
+#[derive(Clone, Copy)]
 pub enum Verdict {
     Fits,
     Misses,

@@ -19,7 +19,7 @@ use parser_state::state::{
 use std::alloc::{AllocError, Global};
 
 /// How tightly an operator binds.
-#[derive(Clone, Copy, Debug, PartialEq, Eq)]
+#[derive(Clone, Copy, PartialEq, Eq)]
 pub enum Tightness {
     /// A comparison: no other one stands beside it.
     Comparison,

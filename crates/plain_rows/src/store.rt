@@ -8,7 +8,7 @@ use fip_base::plain::NoMemory;
 use std::alloc::Global;
 
 /// A value of an int or of a data type.
-#[derive(Clone, Copy, Debug, PartialEq, Eq)]
+#[derive(Clone, Copy, PartialEq, Eq)]
 pub enum Value {
     Int(i64),
     /// A constructor without fields, by its number in its type.
@@ -20,7 +20,7 @@ pub enum Value {
 }
 
 /// The constructor of a row, and where its fields lie in the list of all fields.
-#[derive(Clone, Copy, Debug)]
+#[derive(Clone, Copy)]
 pub struct Head {
     tag: u32,
     first: usize,

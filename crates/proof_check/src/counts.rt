@@ -10,7 +10,7 @@ use derivation_trees::Credit;
 use fip_trees::program::Pattern;
 
 /// The credits that are left, of each size.
-#[derive(Clone, Copy, Debug)]
+#[derive(Clone, Copy)]
 pub struct Counts {
     pub counts: [u32; 17],
     pub ghost long: { length counts ≡ 17 },

@@ -21,7 +21,7 @@ use fip_base::plain::Param;
 use fip_trees::program::{Binder, Binding, Pattern};
 
 /// A variable where it occurs.
-#[derive(Clone, Copy, Debug)]
+#[derive(Clone, Copy)]
 pub struct Variable {
     /// Its number in a derivation.
     pub number: usize,

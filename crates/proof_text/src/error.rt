@@ -18,7 +18,7 @@ pub enum ProofError {
 }
 
 /// Why a byte wasn't taken.
-#[derive(Clone, Copy, Debug, PartialEq, Eq)]
+#[derive(Clone, Copy, PartialEq, Eq)]
 pub enum ByteError {
     /// No text goes on with it.
     Bad,

@@ -1,7 +1,7 @@
 // Where in a text the reader is.
 
 /// What stands before the next byte of a text.
-#[derive(Clone, Copy, Debug, PartialEq, Eq)]
+#[derive(Clone, Copy, PartialEq, Eq)]
 pub enum Spot {
     /// Whole lines.
     Line,

@@ -13,14 +13,14 @@ use std::alloc::Global;
 use std::marker::Model;
 
 /// What stands at the head of a closed tree: a data type by its number, or a function by its place in the core form.
-#[derive(Clone, Copy, Debug, PartialEq, Eq, Hash)]
+#[derive(Clone, Copy, PartialEq, Eq, Hash)]
 pub enum Head {
     Type(u32),
     Function(usize),
 }
 
 /// A closed tree: its head, and the places of its arguments.
-#[derive(Debug, Drop, PartialEq, Eq, Hash)]
+#[derive(Drop, PartialEq, Eq, Hash)]
 pub struct Closed {
     pub head: Head,
     pub arguments: Vec<u32>,
@@ -28,7 +28,7 @@ pub struct Closed {
 
 /// A closed function in the place of a function parameter. What is given for the type parameters beside it stands in
 /// the tree at `there`, in which the functions are left out.
-#[derive(Clone, Copy, Debug, PartialEq, Eq, Hash)]
+#[derive(Clone, Copy, PartialEq, Eq, Hash)]
 pub struct Passing {
     pub there: u32,
     pub parameter: usize,

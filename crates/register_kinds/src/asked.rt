@@ -12,7 +12,7 @@ use fip_base::plain::NoMemory;
 use std::alloc::Global;
 
 /// What a label map says of a register, where that is more than Gone; of a tree it says more than this.
-#[derive(Clone, Copy, Debug)]
+#[derive(Clone, Copy)]
 pub enum Says {
     /// It holds a value of this scalar type.
     Scalar(u32),
@@ -23,7 +23,7 @@ pub enum Says {
 }
 
 /// A register of which a label map says more than Gone.
-#[derive(Clone, Copy, Debug)]
+#[derive(Clone, Copy)]
 pub struct Ask {
     pub register: u16,
     pub says: Says,

@@ -22,7 +22,7 @@ use crate::set::Set;
 use cell_code::{From, Kind};
 
 /// A register that was tested, and a constructor that its value doesn't have.
-#[derive(Clone, Copy, Debug)]
+#[derive(Clone, Copy)]
 pub struct Tested {
     register: u16,
     constructor: u32,

@@ -19,7 +19,7 @@ use crate::table::Table;
 use cell_code::{From, Kind};
 
 /// What is known of a register. It is the kind of a label, save that sets of constructors take no memory.
-#[derive(Clone, Copy, Debug)]
+#[derive(Clone, Copy)]
 pub enum Known<'a> {
     /// Nothing; its word is not used any more.
     Gone,

@@ -10,7 +10,7 @@ use std::alloc::Global;
 use std::marker::Model;
 
 /// When a label map was seen to fit: before which changes.
-#[derive(Clone, Copy, Debug)]
+#[derive(Clone, Copy)]
 pub struct Seen {
     turn: u64,
     changes: usize,

@@ -8,7 +8,7 @@ ghost use Rattle.register_kinds.specs.Rising.{Rise};
 use crate::set::{behind, is_lacked, is_listed_within};
 
 /// What of a set isn't in another.
-#[derive(Clone, Copy, Debug)]
+#[derive(Clone, Copy)]
 pub enum Missing {
     /// All of it is.
     Nothing,

@@ -19,7 +19,7 @@ const MANY: usize = 64;
 const PIECE: usize = 256;
 
 /// The constructors that a value may have.
-#[derive(Clone, Copy, Debug)]
+#[derive(Clone, Copy)]
 pub enum Set<'a> {
     /// All of a type with so many.
     All(usize),

@@ -17,7 +17,7 @@ use crate::table::Table;
 use crate::take::{is_heir_by, piece_of};
 
 /// Which registers are listed.
-#[derive(Clone, Copy, Debug)]
+#[derive(Clone, Copy)]
 pub enum Wanted {
     /// Those that came from the register whose cell is taken apart, and are no heirs.
     Lost,

@@ -34,7 +34,7 @@ const FEW: usize = 16;
 const MOST_TURNS: usize = 16;
 
 /// A field of a cell, and its type.
-#[derive(Clone, Copy, Debug)]
+#[derive(Clone, Copy)]
 pub struct Piece {
     pub field: usize,
     pub ty: u32,

@@ -4,7 +4,7 @@ use Rattle.std.proofs.Common.{◌≡◌, ◌∙◌, ◌≤◌, ℕ, false, List,
 use Rattle.std.specs.Prelude.{Ok, Err}
 use Rattle.fip_language.specs.Meaning.{Gives}
 use Rattle.fip_language.specs.Values.{Values}
-use Rattle.fip_base.specs.Files.{File}
+use Rattle.fip_outside.specs.Files.{File}
 use Rattle.command_line.specs.Words.{Command, Library, Gen}
 use Rattle.command_outcome.specs.declared.failure.Failure.{Failure}
 use Rattle.command_outcome.specs.declared.failure.Failure.TheVariants as F

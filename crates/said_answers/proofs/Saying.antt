@@ -1,6 +1,6 @@
 -- From what the one relation on commands comes to, to what the program's clauses say: cause by cause.
 use Rattle.std.proofs.Common.{◌≡◌, inl, inr, ℕ, List, Option, Some, None, refl, sym, subst}
-use Rattle.fip_base.specs.Files.{File, file_of}
+use Rattle.fip_outside.specs.Files.{File, file_of}
 use Rattle.fip_library.specs.Texts as L
 use Rattle.fip_trees.specs.Tree.{Program}
 use Rattle.command_line.specs.Words.{Room, Request, Command, Check, Verify, Upgrade, Exec, Run, Eval, Trace, Session, Tasks, Audit, Replay, Library}

@@ -1,6 +1,6 @@
 // The laws on what the program's clauses say. Each is the contract of a function that does nothing.
 ghost use Rattle.std.specs.Prelude.{◌≡◌, ◌≤◌, ℕ, List};
-ghost use Rattle.fip_base.specs.Files.{File};
+ghost use Rattle.fip_outside.specs.Files.{File};
 ghost use Rattle.command_line.specs.Words.{Request, Command, Exec, Gen, most_count};
 ghost use Rattle.command_answers.specs.Answer.{ComesTo};
 ghost use Rattle.command_answers.specs.Outcomes.{Outcome};

@@ -20,7 +20,7 @@ use fip_base::plain::NoMemory;
 use std::alloc::Global;
 
 /// An argument, as it is written.
-#[derive(Clone, Copy, Debug, PartialEq, Eq)]
+#[derive(Clone, Copy, PartialEq, Eq)]
 pub enum Written<'l> {
     /// What a name holds.
     Name(&'l [u8]),

@@ -2,7 +2,7 @@
 -- than 16 fields, one of a scalar type has none, and credits have sizes from 1 to 16.
 use Rattle.std.proofs.Common.{◌≡◌, ◌<◌, ◌^◌, ◌==◌, ◌||◌, ◌&&◌, inl, inr, ℕ, zero, suc, Bool, true, false, nat_lt, List, [], ◌∷◌, ◌++◌, length, map, Option, Some, None, slice_get, if◌then◌else◌, refl, sym, ap, ap₂, subst, arith}
 use Rattle.std.proofs.lemmas.Bool.Decides.{nat_tests}
-use Rattle.fip_language.proofs.SoundTables.{map_at}
+use Rattle.fip_language.proofs.Words.{map_at}
 use Rattle.fip_language.specs.declared.CreditMark.{CreditMark}
 use Rattle.fip_language.specs.declared.limits.TheConstants.{MOST_FIELDS}
 use Rattle.fip_language.specs.declared.rule.Rule.TheVariants.{E14, E63}

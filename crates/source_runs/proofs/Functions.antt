@@ -6,7 +6,7 @@ use Rattle.fip_language.specs.Core as C
 use Rattle.fip_language.specs.Core.{Static, Function, Core}
 use Rattle.fip_language.specs.Every.{Every, Among}
 use Rattle.fip_language.specs.Mentions.{all_of}
-use Rattle.fip_language.proofs.SoundTables.{map_at}
+use Rattle.fip_language.proofs.Words.{map_at}
 use Rattle.fip_language.specs.Meaning.{meaning}
 use Rattle.fip_language.specs.Statics.{Closeds, NoClosed}
 use Rattle.fip_language.specs.Values.{Values}

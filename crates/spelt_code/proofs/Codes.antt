@@ -1,7 +1,7 @@
 -- Sound code has a file where its types, the kinds and names of its functions, and what stands in these have texts.
 use Rattle.std.proofs.Common.{◌≡◌, ℕ, List, length, map, Some, slice_get, refl, subst, arith}
 use Rattle.std.proofs.lemmas.List.{length-map}
-use Rattle.fip_language.proofs.SoundTables.{map_at}
+use Rattle.fip_language.proofs.Words.{map_at}
 use Rattle.fip_language.proofs.Words.{slice_get-map}
 use Rattle.cell_code.specs.declared.code.Code.{Code}
 use Rattle.cell_code.specs.declared.code.Function.{Function}

@@ -6,7 +6,7 @@ use Rattle.std.proofs.lemmas.Bool.Decides.{nat_tests}
 use Rattle.std.proofs.lemmas.Option.{none-some, same_Some}
 use Rattle.fip_language.specs.declared.limits.TheConstants.{MOST_CREDITS, MOST_FIELDS, MOST_INSTANCES}
 use Rattle.fip_language.specs.Table.{Table}
-use Rattle.fip_language.proofs.SoundTables.{map_at}
+use Rattle.fip_language.proofs.Words.{map_at}
 use Rattle.fip_base.specs.declared.plain.Param.{Param}
 use Rattle.cell_code.specs.declared.code.Function.{Function}
 use Rattle.cell_code.specs.declared.kind.Label.{Label}

@@ -12,7 +12,7 @@ use Rattle.fip_language.specs.Core.{Name, Written, DataConstructor, Data, Core}
 use Rattle.fip_language.specs.Declarations.{same_name, bool_type, data_types}
 use Rattle.fip_language.specs.Mentions.{Mention, mention}
 use Rattle.fip_language.specs.Table.{Shape, Table, shapes}
-use Rattle.fip_language.proofs.SoundTables.{map_at}
+use Rattle.fip_language.proofs.Words.{map_at}
 use Rattle.fip_base.specs.CoreView.{writtens_of}
 use Rattle.fip_trees.specs.declared.least.Violation.{Violation}
 use Rattle.fip_trees.specs.Least.{In}

@@ -2,7 +2,7 @@
 -- types that are there; and it has a value. And each instance that is numbered is one of the program.
 use Rattle.std.proofs.Common.{◌≡◌, ◌≤◌, ◌<◌, inl, inr, ℕ, zero, suc, List, [], ◌∷◌, length, map, Some, slice_get, refl, sym, ap, ◌∙◌, subst, arith}
 use Rattle.fip_language.proofs.Search.{slice_get_there}
-use Rattle.fip_language.proofs.SoundTables.{map_at}
+use Rattle.fip_language.proofs.Words.{map_at}
 use Rattle.fip_language.specs.Core.{Core, Data}
 use Rattle.fip_language.specs.Declarations.{data_types}
 use Rattle.fip_language.specs.Every.{Among}

@@ -1,7 +1,7 @@
 -- Each type of the table has a value. A data type has one with leaves for its parameters; each leaf is replaced by a value
 -- of the argument, and each node is a node of the type's instance, whose fields' types are in the table too.
 use Rattle.std.proofs.Common.{◌≡◌, ◌<◌, ◌+◌, ◌⊎◌, inl, inr, ℕ, zero, suc, List, [], ◌∷◌, length, map, Some, None, slice_get, pos, refl, sym, ap, ap₂, ◌∙◌, subst, arith}
-use Rattle.fip_language.proofs.SoundTables.{map_at}
+use Rattle.fip_language.proofs.Words.{map_at}
 use Rattle.fip_language.specs.Core.{Data, DataConstructor, Core}
 use Rattle.fip_language.specs.Declarations.{data_types}
 use Rattle.fip_language.specs.Every.{Among}

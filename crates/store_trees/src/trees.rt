@@ -18,7 +18,7 @@ use std::alloc::Global;
 pub const MOST_CELLS: usize = 8_388_608;
 
 /// A tree that has a cell: its type, and its root's place.
-#[derive(Clone, Copy, Debug, PartialEq, Eq)]
+#[derive(Clone, Copy, PartialEq, Eq)]
 pub struct Tree {
     pub ty: u32,
     pub place: u32,

@@ -79,7 +79,7 @@ fn calls_of(alloc: Global, instances: &[Instance]) -> Result<Vec<Vec<Call>>, NoM
 }
 
 // An instance's kind and its registers.
-#[derive(Clone, Copy, Debug)]
+#[derive(Clone, Copy)]
 struct Counted {
     kind: FunKind,
     registers: usize,

@@ -22,7 +22,7 @@ pub fn registers(instance: &Instance) -> Result<usize, NoMemory>
 }
 
 // How many were counted.
-#[derive(Clone, Copy, Debug)]
+#[derive(Clone, Copy)]
 struct Count {
     number: usize,
 }

@@ -26,7 +26,7 @@ use thiserror::Error;
 use value_text::Counts;
 
 /// The calls of each run, and the frames of each run of a function that isn't fip.
-#[derive(Clone, Copy, Debug, PartialEq, Eq)]
+#[derive(Clone, Copy, PartialEq, Eq)]
 pub struct RunLimits {
     pub calls: u64,
     pub frames: usize,

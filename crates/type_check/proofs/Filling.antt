@@ -1,6 +1,6 @@
 -- A program stays sound when its slots are filled: its types, and the names of its instances, stay.
 use Rattle.std.proofs.Common.{◌≡◌, ◌≤◌, ◌∙◌, ℕ, suc, List, [], ◌∷◌, length, map, Result, Ok, Err, IfOk, sym, ap, refl, subst}
-use Rattle.fip_language.proofs.SoundTables.{map_at}
+use Rattle.fip_language.proofs.Words.{map_at}
 use Rattle.fip_language.specs.declared.limits.TheConstants.{MOST_INSTANCES}
 use Rattle.fip_base.specs.declared.refusal.PhaseError.{PhaseError}
 use Rattle.fip_trees.specs.SoundProgram.{IsSoundProgram}

@@ -23,7 +23,7 @@ use fip_language::limits::MOST_FIELDS;
 use std::alloc::{AllocError, Global};
 
 /// Why nothing more was built.
-#[derive(Clone, Copy, Debug)]
+#[derive(Clone, Copy)]
 pub enum Stopped {
     BadValue(usize),
     /// The store has no cell of the size, and no room for one.

@@ -10,7 +10,7 @@ use fip_language::limits::MOST_FIELDS;
 const SIZES: usize = MOST_FIELDS + 1;
 
 /// How many cells of each size from 1 to 16: that of size k is number k of the list. Number 0 stays 0.
-#[derive(Clone, Copy, Debug, PartialEq, Eq)]
+#[derive(Clone, Copy, PartialEq, Eq)]
 pub struct Counts {
     numbers: [usize; SIZES],
 }

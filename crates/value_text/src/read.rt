@@ -40,7 +40,7 @@ pub struct Cursor<'a> {
 }
 
 /// What one step read.
-#[derive(Clone, Copy, Debug)]
+#[derive(Clone, Copy)]
 pub enum Event {
     Number(i64),
     /// A constructor without fields.
@@ -52,7 +52,7 @@ pub enum Event {
 }
 
 /// Why a step read nothing.
-#[derive(Clone, Copy, Debug)]
+#[derive(Clone, Copy)]
 pub enum Refused {
     BadValue(usize),
     NoMemory,

@@ -13,7 +13,7 @@ use fip_base::table::TypeTable;
 use std::alloc::Global;
 
 /// Why a value wasn't read.
-#[derive(Clone, Copy, Debug, PartialEq, Eq)]
+#[derive(Clone, Copy, PartialEq, Eq)]
 pub enum ReadError {
     /// The first offset with which no value of the type goes on.
     BadValue { at: usize },
@@ -22,7 +22,7 @@ pub enum ReadError {
 }
 
 /// Why the cells of a value weren't made.
-#[derive(Clone, Copy, Debug, PartialEq, Eq)]
+#[derive(Clone, Copy, PartialEq, Eq)]
 pub enum MakeError {
     /// The first offset with which no value of the type goes on.
     BadValue { at: usize },

@@ -1,6 +1,6 @@
 // What a host hands in, and what it finds afterwards.
 
-use fip_base::memory::{MemFolder, MemSink, MemSource};
+use fip_outside::memory::{MemFolder, MemSink, MemSource};
 use fip_driver::fp2;
 use std::alloc::{AllocError, Global};
 

@@ -1,8 +1,8 @@
 // Readers, writers and files of the real thing.
 
-use fip_base::all::{read_all, write_all};
-use fip_base::outside::{FetchError, Folder, StoreError};
-use fip_base::real::{FileFolder, StdSink, StdSource};
+use fip_outside::all::{read_all, write_all};
+use fip_outside::outside::{FetchError, Folder, StoreError};
+use fip_outside::real::{FileFolder, StdSink, StdSource};
 use std::test::Fail;
 
 #[test]

@@ -1,7 +1,7 @@
 // Streams in memory that are read and written whole.
 
-use fip_base::all::{ReadError, read_all, write_all};
-use fip_base::memory::{MemSink, MemSource};
+use fip_outside::all::{ReadError, read_all, write_all};
+use fip_outside::memory::{MemSink, MemSource};
 use std::alloc::{AllocError, Global};
 use std::test::Fail;
 

@@ -1,5 +1,5 @@
 use Rattle.std.proofs.Common.{◌≡◌, sym, subst}
-use Rattle.fip_base.specs.Faults.{Rose}
+use Rattle.fip_outside.specs.Faults.{Rose}
 use Rattle.command_line.specs.View.{command_of}
 use Rattle.fip_driver.specs.Commands.{stored_name}
 use Rattle.fip_driver.specs.Outcome.{CommandOutcome}

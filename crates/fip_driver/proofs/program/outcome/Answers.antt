@@ -1,5 +1,5 @@
 use Rattle.std.proofs.Common.{ap, subst, Err, map, string_bytes}
-use Rattle.fip_base.specs.Faults.{Rose}
+use Rattle.fip_outside.specs.Faults.{Rose}
 use Rattle.command_line.specs.View.{command_of}
 use Rattle.fip_driver.proofs.Outcomes.{no_command_outcome, no_memory_outcome}
 use Rattle.command_outcome.specs.declared.failure.Failure.TheVariants as F

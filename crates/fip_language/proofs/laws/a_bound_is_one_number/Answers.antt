@@ -1,4 +1,4 @@
-use Rattle.fip_language.proofs.LoopStack.{AreFrames-unique, AreWords-unique}
+use Rattle.fip_language.proofs.Stacks.{AreFrames-unique, AreWords-unique}
 use Rattle.fip_language.proofs.laws.a_bound_is_one_number.Goals as goal
 
 pub returns-clause-frames : goal.returns-clause-frames

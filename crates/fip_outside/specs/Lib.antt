@@ -1,0 +1,5 @@
+pub mod Entries
+pub mod Faults
+pub mod Files
+pub mod Objects
+pub mod Takes

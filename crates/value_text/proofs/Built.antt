@@ -20,6 +20,8 @@ use Rattle.value_text.specs.Loaded.{words_up_to, free_in}
 use Rattle.value_text.specs.Standing.{Holds, HoldAll}
 use Rattle.value_text.specs.Building.{Puts, CanPut, IsTaken, IsBuilt, IsBuilding, IsRead, HasRoom}
 use Rattle.value_text.proofs.Counted.{Grows, values_grow, cells_grow, count_join, reading_starts, alone_starts, reading_on, no_values, values_last, cells_fit}
+use Rattle.value_text.specs.FirstStore.{value_places, value_word}
+use Rattle.value_text.proofs.Order.{lies_leaf, lies_closed, lies_starts}
 use Rattle.value_text.proofs.Taken.{Made, made, taken_on, room_for, hold_all_on, one_here, words_same}
 
 -- trees in a row
@@ -100,13 +102,14 @@ taken_starts want done uses first now e f d u = subst (IsTaken want done uses fi
 })
 
 -- a further tree without a cell
-leaf_on : (want : ℕ → ℕ) (first now : Loading) (vs vs' : Values) (ws ws' : List ℕ) (x : Placed) (e : Event) → ((q : ℕ) → uses q x ≡ 0) → Holds now.cells x → vs' ≡ snoc vs (value_of x) → ws' ≡ ws ++ word_of x ∷ [] → ((k : ℕ) → cells_of_all k vs' ≡ cells_of_all k vs) → IsBuilt want first now vs ws → IsBuilt want first now vs' ws'
-leaf_on want first now vs vs' ws ws' x e u hold v w d h = record {
+leaf_on : (want : ℕ → ℕ) (first now : Loading) (vs vs' : Values) (ws ws' : List ℕ) (x : Placed) (e : Event) → ((q : ℕ) → uses q x ≡ 0) → ((n : ℕ) → value_places n (value_of x) ≡ []) → ((n : ℕ) → value_word n (value_of x) ≡ word_of x) → Holds now.cells x → vs' ≡ snoc vs (value_of x) → ws' ≡ ws ++ word_of x ∷ [] → ((k : ℕ) → cells_of_all k vs' ≡ cells_of_all k vs) → IsBuilt want first now vs ws → IsBuilt want first now vs' ws'
+leaf_on want first now vs vs' ws ws' x e u none word hold v w d h = record {
   trees = parts_join h.trees (MoreParts x NoParts);
   values = values_join h.trees (MoreParts x NoParts) ∙ ap (λ vs. snoc vs (value_of x)) h.values ∙ sym v;
   words = w ∙ ap (λ ws. ws ++ word_of x ∷ []) h.words ∙ sym (words_join h.trees (MoreParts x NoParts));
   held = hold_join now.cells h.trees (MoreParts x NoParts) h.held (hold, tt);
   taken = taken_same want (λ k. cells_of_all k vs) (λ k. cells_of_all k vs') (λ p. uses_of_all p h.trees) (λ p. uses_of_all p (parts_join h.trees (MoreParts x NoParts))) first now d (λ q. let a = uses_join q h.trees (MoreParts x NoParts) in let b = u q in omega (arith, a, b)) h.taken;
+  order = λ free. lies_leaf first now vs vs' ws ws' (value_of x) (word_of x) none word v w (h.order free);
 }
 
 same_on : (want : ℕ → ℕ) (first now new : Loading) (vs vs' : Values) (ws ws' : List ℕ) → vs' ≡ vs → ws' ≡ ws → new ≡ now → IsBuilt want first now vs ws → IsBuilt want first new vs' ws'
@@ -182,12 +185,13 @@ module _ (want : ℕ → ℕ) (first now new : Loading) (vs vs' : Values) (ws ws
     words = u.3 ∙ ap (λ ws. ws ++ (2 * p + 1) ∷ []) front ∙ sym (words_join parts.left (MoreParts tree NoParts));
     held = hold_join new.cells parts.left (MoreParts tree NoParts) held_left ((facts.here ∙ ap (λ ws. Some (record { tag = c; fields = ws })) back, held_right), tt);
     taken = taken_on want (λ k. cells_of_all k vs) (λ k. cells_of_all k vs') (λ q. uses_of_all q h.trees) (λ q. uses_of_all q trees) first now new p cell h.taken facts (let s = sized in let z = u.1 in omega (arith, s, z)) (let s = sized in omega (arith, s, narrow)) (λ k le. more k) (subst (λ n. cells_of_all n vs' ≤ want n) (sym sized) in_want) used;
+    order = lies_closed first now new vs vs' ws ws' c n p h.order (h.taken).flags g u.3 u.4;
   }
 
 -- each event
 pub built_on : (want : ℕ → ℕ) (first now new : Loading) (vs vs' : Values) (ws ws' : List ℕ) (e : Event) → IsBuilt want first now vs ws → Grows e vs vs' → Puts e ws now ws' new → IsNarrow e → ((k : ℕ) → cells_of_all k vs' ≤ want k) → IsBuilt want first new vs' ws'
-built_on want first now new vs vs' ws ws' (E.Number i) h g u n w = subst (λ new. IsBuilt want first new vs' ws') (sym u.1) (leaf_on want first now vs vs' ws ws' (PlacedInt i) (E.Number i) (λ q. refl) tt g u.0 (λ k. let a = cells_grow (E.Number i) vs vs' g k in omega (arith, a)) h)
-built_on want first now new vs vs' ws ws' (E.Bare c) h g u n w = subst (λ new. IsBuilt want first new vs' ws') (sym u.1) (leaf_on want first now vs vs' ws ws' (Bare c) (E.Bare c) (λ q. refl) tt g u.0 (λ k. let a = cells_grow (E.Bare c) vs vs' g k in omega (arith, a)) h)
+built_on want first now new vs vs' ws ws' (E.Number i) h g u n w = subst (λ new. IsBuilt want first new vs' ws') (sym u.1) (leaf_on want first now vs vs' ws ws' (PlacedInt i) (E.Number i) (λ q. refl) (λ n. refl) (λ n. refl) tt g u.0 (λ k. let a = cells_grow (E.Number i) vs vs' g k in omega (arith, a)) h)
+built_on want first now new vs vs' ws ws' (E.Bare c) h g u n w = subst (λ new. IsBuilt want first new vs' ws') (sym u.1) (leaf_on want first now vs vs' ws ws' (Bare c) (E.Bare c) (λ q. refl) (λ n. refl) (λ n. refl) tt g u.0 (λ k. let a = cells_grow (E.Bare c) vs vs' g k in omega (arith, a)) h)
 built_on want first now new vs vs' ws ws' (E.Closed c n) h g u narrow w = closed_on want first now new vs vs' ws ws' c n h g u narrow (w n)
 built_on want first now new vs vs' ws ws' E.Opened h g u n w = same_on want first now new vs vs' ws ws' g u.0 u.1 h
 built_on want first now new vs vs' ws ws' E.Comma h g u n w = same_on want first now new vs vs' ws ws' g u.0 u.1 h
@@ -218,6 +222,7 @@ building_starts tb types bytes want first now o at ws vs t z e n w r = subst (λ
     words = w;
     held = tt;
     taken = taken_starts want (λ k. cells_of_all k (values_to (spot_of types))) (λ p. 0) first now n r.flags (λ k. ap (cells_of_all k) (no_values types)) (λ q. refl);
+    order = λ free. lies_starts first now (values_to (spot_of types)) ws n (no_values types) w;
   };
 })
 
@@ -231,6 +236,7 @@ alone_builds tb k at n bytes want first now o ws vs t l e m w r = record {
     words = w;
     held = tt;
     taken = taken_starts want (λ k. 0) (λ p. 0) first now m r.flags (λ k. refl) (λ q. refl);
+    order = λ free. lies_starts first now End ws m refl w;
   };
 }
 

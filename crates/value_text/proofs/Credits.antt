@@ -13,6 +13,7 @@ use Rattle.cell_store.proofs.Freed.{one_size}
 use Rattle.value_text.specs.Loaded.{AreSizes, AreCredits, wanted, words_up_to, free_in, AreZero, cell_words}
 use Rattle.value_text.specs.Building.{IsMade, IsBuilt, IsCrediting}
 use Rattle.value_text.proofs.Taken.{Made, made, taken_on, room_for, hold_all_on, one_here, one_other, unlike_of, words_same, words_zero, words_suc, times_suc}
+use Rattle.value_text.proofs.Order.{lies_credited, lies_credit}
 use Rattle.value_text.proofs.Built.{taken_same}
 
 -- places and sizes in rows
@@ -71,6 +72,7 @@ module _ (ks : List ℕ) (s : ℕ) (want : ℕ → ℕ) (first now new : Loading
     held = hold_all_on now.cells new.cells p h.trees facts.others (let n = none in omega (arith, n)) h.held;
     zero = zero_on now.cells new.cells h.places ks p s facts.others (let n = none in omega (arith, n)) facts.here h.zero;
     taken = taken_on want (wanted ks vs) (wanted (ks ++ s ∷ []) vs) (λ q. uses_of_all q h.trees + count q h.places) (λ q. uses_of_all q h.trees + count q (h.places ++ p ∷ [])) first now new p cell h.taken facts (let z = sized in omega (arith, z, some)) (let z = sized in omega (arith, z, few)) (λ k le. done k) (subst (λ n. wanted (ks ++ s ∷ []) vs n ≤ want n) (sym sized) in_want) (λ q. let a = count_append q h.places (p ∷ []) in omega (arith, a));
+    order = lies_credit ks s first now new vs ws ws' p h.order (h.taken).flags w m;
   }
 
 pub crediting_starts : (want : ℕ → ℕ) (first now : Loading) (vs : Values) (ws : List ℕ) → IsBuilt want first now vs ws → IsCrediting [] want first now vs ws
@@ -82,6 +84,7 @@ crediting_starts want first now vs ws h = record {
   held = h.held;
   zero = tt;
   taken = taken_same want (λ k. cells_of_all k vs) (wanted [] vs) (λ p. uses_of_all p h.trees) (λ p. uses_of_all p h.trees + 0) first now (λ k. omega arith) (λ q. omega arith) h.taken;
+  order = λ free. lies_credited first now vs ws (h.order free);
 }
 
 -- credit number i

@@ -9,6 +9,7 @@ pub mod Typed
 pub mod Steps
 pub mod Counted
 pub mod Taken
+pub mod Order
 pub mod Built
 pub mod Advanced
 pub mod Credits

@@ -18,7 +18,8 @@ use Rattle.value_text.proofs.Exact.{accepts_text, accepted_text, stopped_text}
 use Rattle.value_text.proofs.Typed.{input_typed}
 use Rattle.value_text.specs.declared.load.LoadError.{LoadError}
 use Rattle.value_text.specs.declared.load.LoadError.TheVariants as L
-use Rattle.value_text.specs.Loaded.{IsGiven, IsLoaded, needed, wanted, words_up_to, free_in}
+use Rattle.value_text.specs.FirstStore.{IsInOrder}
+use Rattle.value_text.specs.Loaded.{IsGiven, IsLoaded, HasNoFree, needed, wanted, words_up_to, free_in}
 use Rattle.value_text.specs.Standing.{Stands, StandAll, Holds, HoldAll}
 use Rattle.value_text.specs.Answered.{IsAnswer}
 use Rattle.value_text.proofs.Whole.{nothing_left, accepted_same}
@@ -73,6 +74,13 @@ module _ (tb : Table) (types credits bytes : List ℕ) (given : IsGiven tb types
         left = ap (λ vs. r.0.left + needed first credits vs) k.values ∙ (let a : r.0.left + needed first credits vs ≡ first.left + words_up_to 16 (λ k. wanted credits vs k - wanted credits vs k) (free_in r.0) = l in omega (arith, a, z));
       }
   answer_loads (Err e) h = tt
+
+  pub answer_order : HasNoFree first → (r : Answer) → IsAnswer tb types credits bytes first r → IfOk r (λ r. IsInOrder tb types credits bytes first r.0 r.1.items)
+  answer_order free (Ok r) h =
+      let k = h.2 in
+      let l = k.order free in
+      record { values = h.0; spelled = spells h.0 (h.1).reads; behind = l.0; named = l.1 }
+  answer_order free (Err e) h = tt
 
   pub answer_complete : (r : Answer) → IsAnswer tb types credits bytes first r → (vs : Values) → SpellsValues tb types bytes vs → needed first credits vs ≤ first.left → MatchResult r (λ r. ℕ) (λ e. e ≡ L.NoMemory)
   answer_complete (Ok r) h vs s le = 0

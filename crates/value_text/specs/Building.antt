@@ -16,7 +16,8 @@ use Rattle.value_text.specs.declared.read.Event.TheVariants.{Number, Bare, Close
 use Rattle.value_text.specs.Counting.{values_to}
 use Rattle.value_text.specs.declared.build.Stopped.{Stopped}
 use Rattle.value_text.specs.declared.build.Stopped.TheVariants as S
-use Rattle.value_text.specs.Loaded.{live, words_up_to, free_in, cell_words, wanted, AreZero}
+use Rattle.value_text.specs.FirstStore.{all_places, all_words, loaded_places, loaded_words, IsBehind}
+use Rattle.value_text.specs.Loaded.{live, words_up_to, free_in, cell_words, wanted, AreZero, HasNoFree}
 use Rattle.value_text.specs.declared.read.Refused.{Refused}
 use Rattle.value_text.specs.declared.read.Refused.TheVariants.{BadValue, NoMemory}
 use Rattle.value_text.specs.Reading.{Outline, Spot, state_at, outline_at, Stepped, IsKnown, IsNarrow, GoesOn}
@@ -87,6 +88,15 @@ pub record IsTaken (want done uses : ℕ → ℕ) (first now : Loading) : Type 0
   pub left : now.left + words_up_to MOST_FIELDS want (free_in first)
       ≡ first.left + words_up_to MOST_FIELDS (λ k. want k - done k) (free_in now)
 
+-- The cells of the values lie in order behind those of the first store, and these are the words.
+abbrev pub Lie : Loading → Loading → Values → List ℕ → Type 0
+Lie first now vs ws = IsBehind first now (all_places (length first.cells) vs) × (ws ≡ all_words (length first.cells) vs)
+
+-- and the cells of credits behind them
+abbrev pub LieWith : List ℕ → Loading → Loading → Values → List ℕ → Type 0
+LieWith credits first now vs ws = IsBehind first now (loaded_places (length first.cells) vs credits)
+    × (ws ≡ loaded_words (length first.cells) vs credits)
+
 -- trees with these values and words, whose cells are just those that were made or taken
 pub record IsBuilt (want : ℕ → ℕ) (first now : Loading) (vs : Values) (ws : List ℕ) : Type 0 where
   pub trees : Parts
@@ -94,6 +104,7 @@ pub record IsBuilt (want : ℕ → ℕ) (first now : Loading) (vs : Values) (ws 
   pub words : ws ≡ words_of trees
   pub held : HoldAll now.cells trees
   pub taken : IsTaken want (λ k. cells_of_all k vs) (λ p. uses_of_all p trees) first now
+  pub order : HasNoFree first → Lie first now vs ws
 
 -- where the reader is, and what was built of the values before
 pub record IsBuilding (tb : Table) (from : Origin) (bytes : List ℕ) (want : ℕ → ℕ) (first now : Loading)
@@ -112,6 +123,7 @@ pub record IsCrediting (credits : List ℕ) (want : ℕ → ℕ) (first now : Lo
   pub held : HoldAll now.cells trees
   pub zero : AreZero now.cells places credits
   pub taken : IsTaken want (wanted credits vs) (λ p. uses_of_all p trees + count p places) first now
+  pub order : HasNoFree first → LieWith credits first now vs ws
 
 -- what is read is of these values, which are a part of what is wanted
 pub record IsRead (tb : Table) (from : Origin) (bytes : List ℕ) (want : ℕ → ℕ) (first : Loading) (vs : Values) :

@@ -1,4 +1,5 @@
 pub mod Standing
+pub mod FirstStore
 pub mod Loaded
 pub mod Machine
 pub mod Scan

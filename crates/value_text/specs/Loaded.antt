@@ -60,6 +60,10 @@ words_up_to (suc k) want free = words_up_to k want free + (suc k + 1) * (want (s
 abbrev pub free_in : Loading → ℕ → ℕ
 free_in l k = count_free k l.cells l.released
 
+-- No cell is released.
+abbrev pub HasNoFree : Loading → Type 0
+HasNoFree l = (k : ℕ) → free_in l k ≡ 0
+
 -- the words that the values' and the credits' cells need of a store
 abbrev pub needed : Loading → List ℕ → Values → ℕ
 needed l credits vs = words_up_to MOST_FIELDS (wanted credits vs) (free_in l)

@@ -10,8 +10,9 @@ ghost use Rattle.fip_language.specs.Values.{Values};
 ghost use Rattle.cell_store.specs.Made.{Loading};
 ghost use Rattle.fip_language.specs.Store.{count as cells_in};
 ghost use Rattle.fip_language.specs.Table.{Table};
+ghost use Rattle.value_text.specs.FirstStore.{IsInOrder};
 ghost use Rattle.value_text.specs.Loaded.{types_of, AreSizes, AreCredits, IsGiven, IsLoaded, needed, wanted};
-ghost use Rattle.value_text.specs.Loaded.{words_up_to, free_in};
+ghost use Rattle.value_text.specs.Loaded.{words_up_to, free_in, HasNoFree};
 ghost use Rattle.value_text.specs.Building.{IsBuilt};
 ghost use Rattle.value_text.specs.Counting.{IsCounted, count_at};
 ghost use Rattle.value_text.specs.Answered.{CanLoad, Credited, WholeBuilt, AllBuilt, IsAnswer, IsTried};
@@ -334,6 +335,11 @@ pub fn load_values(
     // were live stay.
     ensures loads { IsGiven table.now (types_of params.now) credits.now bytes.now → IfOk result (λ r.
         IsLoaded table.now (types_of params.now) credits.now bytes.now loader r.0 r.1.items) }
+    // Where no cell is released, their cells are made behind all others, in the order of their `)` in the text, and
+    // then the credits'.
+    ensures order { IsGiven table.now (types_of params.now) credits.now bytes.now → HasNoFree loader →
+        IfOk result (λ r.
+        IsInOrder table.now (types_of params.now) credits.now bytes.now loader r.0 r.1.items) }
     // What the text spells is loaded, where the words suffice and memory does.
     ensures complete { IsGiven table.now (types_of params.now) credits.now bytes.now → (vs : Values) →
         SpellsValues table.now (types_of params.now) bytes.now vs → needed loader credits.now vs ≤ loader.left →

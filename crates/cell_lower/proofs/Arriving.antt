@@ -8,28 +8,28 @@ use Rattle.fip_language.specs.declared.limits.TheConstants.{MOST_FIELDS}
 use Rattle.fip_language.specs.Every.{Among}
 use Rattle.fip_language.specs.Table.{Table}
 use Rattle.fip_trees.specs.Tree.{Pattern, BinderPattern, LiteralPattern, ConstructorPattern, Patterns, NoPatterns, MorePatterns, count_patterns}
-use Rattle.sound_code.specs.Types.{count, fields, fields_of}
+use Rattle.code_rules.specs.Types.{count, fields, fields_of}
 use Rattle.match_knowledge.specs.declared.heads.Head.TheVariants.{Tag}
 use Rattle.match_knowledge.specs.ValueHeads.{IsHead}
 use Rattle.match_knowledge.specs.Patterns.{IsPattern, ArePatterns}
-use Rattle.lowered_code.specs.declared.held.Held.{Held}
-use Rattle.lowered_code.specs.declared.held.Held.TheVariants as H
-use Rattle.lowered_code.specs.declared.held.Credit.{Credit}
-use Rattle.lowered_code.specs.Known.{Known, holding, naming, using, used, used_if, is_owned, without}
-use Rattle.lowered_code.specs.Values.{Setting, is_scalar}
-use Rattle.lowered_code.specs.Bodies.{given_if}
-use Rattle.lowered_code.specs.Functions.{with_credit}
-use Rattle.lowered_code.specs.Tidy.{Unknown}
-use Rattle.lowered_code.proofs.Lists.{set_get, barer_set, barer_used, NotBare}
-use Rattle.match_code.specs.Spots.{Spot, At, Spots, NoSpots, MoreSpots, register, below, all_in, Differ, AllDiffer}
-use Rattle.match_code.specs.Rows.{row_of, rows_of}
-use Rattle.match_code.specs.Opening.{is_named}
-use Rattle.match_code.specs.Entering.{unnaming, variable_held, with_variable, with_cell, entering, entering_all, root_of, spent_if, entering_root}
-use Rattle.match_code.proofs.Lists.{among_left, among_right}
-use Rattle.match_code.proofs.Entries.{name_set, name_lost, variable_not}
-use Rattle.match_code.proofs.Opens.{Enters, enters_root}
-use Rattle.laid_code.specs.Describing.{held_at}
-use Rattle.laid_code.specs.Matches.{widened, wide}
+use Rattle.lowering_relation.specs.declared.held.Held.{Held}
+use Rattle.lowering_relation.specs.declared.held.Held.TheVariants as H
+use Rattle.lowering_relation.specs.declared.held.Credit.{Credit}
+use Rattle.lowering_relation.specs.Known.{Known, holding, naming, using, used, used_if, is_owned, without}
+use Rattle.lowering_relation.specs.Values.{Setting, is_scalar}
+use Rattle.lowering_relation.specs.LoweredBodies.{given_if}
+use Rattle.lowering_relation.specs.LoweredFunctions.{with_credit}
+use Rattle.lowering_relation.specs.Tidy.{Unknown}
+use Rattle.lowering_relation.proofs.LoweredLists.{set_get, barer_set, barer_used, NotBare}
+use Rattle.lowering_relation.specs.Spots.{Spot, At, Spots, NoSpots, MoreSpots, register, below, all_in, Differ, AllDiffer}
+use Rattle.lowering_relation.specs.Rows.{row_of, rows_of}
+use Rattle.lowering_relation.specs.Opening.{is_named}
+use Rattle.lowering_relation.specs.Entering.{unnaming, variable_held, with_variable, with_cell, entering, entering_all, root_of, spent_if, entering_root}
+use Rattle.lowering_relation.proofs.MatchLists.{among_left, among_right}
+use Rattle.lowering_relation.proofs.Entries.{name_set, name_lost, variable_not}
+use Rattle.lowering_relation.proofs.Opens.{Enters, enters_root}
+use Rattle.lowering_relation.specs.Describing.{held_at}
+use Rattle.lowering_relation.specs.Matches.{widened, wide}
 use Rattle.lower_frame.specs.Credits.{Accounted, AllSolid, one_if, counted, is_credit, is_credit_of}
 use Rattle.lower_frame.specs.Positions.{reaching}
 use Rattle.lower_frame.specs.Registers.{registers}

@@ -7,28 +7,28 @@ use Rattle.fip_trees.specs.Tree.{Argument, Pattern, count_patterns}
 use Rattle.fip_trees.specs.TreeView.{patterns, clause, clauses}
 use Rattle.match_knowledge.specs.declared.rows.Row.{Row}
 use Rattle.match_knowledge.specs.View.{row}
-use Rattle.lowered_code.specs.declared.held.Held.TheVariants as H
-use Rattle.lowered_code.specs.Known.{Known, holding}
-use Rattle.lowered_code.specs.Values.{Setting, is_scalar}
-use Rattle.lowered_code.specs.Functions.{with_credit}
-use Rattle.match_code.specs.Spots as S
-use Rattle.match_code.specs.Rows.{row_of}
-use Rattle.match_code.specs.Growing.{Grows}
-use Rattle.match_code.specs.Opening.{Roomy}
-use Rattle.match_code.specs.Entering.{with_cell}
-use Rattle.match_code.specs.Losing.{Loses, Resumes}
-use Rattle.match_code.proofs.Arriving.{resumes_lost}
-use Rattle.match_code.proofs.Choices.{patterns_in}
-use Rattle.lowered_code.proofs.Lists.{fewer_on, barer_on}
+use Rattle.lowering_relation.specs.declared.held.Held.TheVariants as H
+use Rattle.lowering_relation.specs.Known.{Known, holding}
+use Rattle.lowering_relation.specs.Values.{Setting, is_scalar}
+use Rattle.lowering_relation.specs.LoweredFunctions.{with_credit}
+use Rattle.lowering_relation.specs.Spots as S
+use Rattle.lowering_relation.specs.Rows.{row_of}
+use Rattle.lowering_relation.specs.Growing.{Grows}
+use Rattle.lowering_relation.specs.Opening.{Roomy}
+use Rattle.lowering_relation.specs.Entering.{with_cell}
+use Rattle.lowering_relation.specs.Losing.{Loses, Resumes}
+use Rattle.lowering_relation.proofs.Arriving.{resumes_lost}
+use Rattle.lowering_relation.proofs.Choices.{patterns_in}
+use Rattle.lowering_relation.proofs.LoweredLists.{fewer_on, barer_on}
 use Rattle.cell_lower.specs.declared.choices.Choice.{Choice}
 use Rattle.lower_frame.specs.declared.spots.Spot.{Spot}
 use Rattle.lower_frame.specs.Positions.{spot_of, reaching}
 use Rattle.cell_lower.specs.declared.matches.Matching.{Matching}
 use Rattle.cell_lower.specs.Scenes.{patterns_of, HasRows, ChoosesIf}
 use Rattle.cell_lower.specs.Clauses.{Spotted, AddsPattern, HasPositions, StartsIn}
-use Rattle.match_code.specs.Written.{Written, size, Extends, IsAt}
-use Rattle.match_code.specs.Landing.{Side}
-use Rattle.match_code.specs.Entering.{entering_root}
+use Rattle.lowering_relation.specs.Written.{Written, size, Extends, IsAt}
+use Rattle.lowering_relation.specs.Landing.{Side}
+use Rattle.lowering_relation.specs.Entering.{entering_root}
 use Rattle.code_size.specs.Places.{argument_places}
 use Rattle.cell_lower.specs.Growth.{Adds, Sheds}
 use Rattle.lower_frame.specs.Registers.{HasRoom, registers}

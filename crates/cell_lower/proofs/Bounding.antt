@@ -7,14 +7,14 @@ use Rattle.match_knowledge.specs.Patterns as M
 use Rattle.match_knowledge.specs.Known.{Open}
 use Rattle.match_knowledge.specs.View.{rows}
 use Rattle.match_cover.specs.PatternView.{pattern_nodes}
-use Rattle.lowered_code.specs.Known.{Known}
-use Rattle.lowered_code.specs.Values.{Setting}
-use Rattle.lowered_code.specs.Bodies as B
-use Rattle.match_code.specs.Written.{Written, size}
-use Rattle.match_code.specs.Rows.{row_of, rows_of}
-use Rattle.match_code.specs.Spots as S
-use Rattle.match_code.proofs.Choices.{patterns_in}
-use Rattle.match_code.proofs.Placing.{one_longer}
+use Rattle.lowering_relation.specs.Known.{Known}
+use Rattle.lowering_relation.specs.Values.{Setting}
+use Rattle.lowering_relation.specs.LoweredBodies as B
+use Rattle.lowering_relation.specs.Written.{Written, size}
+use Rattle.lowering_relation.specs.Rows.{row_of, rows_of}
+use Rattle.lowering_relation.specs.Spots as S
+use Rattle.lowering_relation.proofs.Choices.{patterns_in}
+use Rattle.lowering_relation.proofs.Placing.{one_longer}
 use Rattle.code_size.specs.Bounds.{most_for}
 use Rattle.code_size.specs.Places as P
 use Rattle.code_size.specs.Places.{argument_places, block_places, clauses_places, match_branches}

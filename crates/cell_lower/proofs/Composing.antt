@@ -11,26 +11,26 @@ use Rattle.fip_trees.specs.Tree.{Pattern, Expression, Block, Clauses, NoClauses,
 use Rattle.cell_code.specs.declared.code.Instr.TheVariants as I
 use Rattle.cell_code.specs.declared.kind.Kind.{Kind}
 use Rattle.fip_language.specs.declared.FunKind.TheVariants.{Fun}
-use Rattle.sound_code.specs.Codes.{PlainCode, PlainFunction, LabelMap, label_at}
+use Rattle.code_rules.specs.Codes.{PlainCode, PlainFunction, LabelMap, label_at}
 use Rattle.match_knowledge.specs.Known.{Open}
-use Rattle.lowered_code.specs.declared.held.Held.{Held}
-use Rattle.lowered_code.specs.declared.held.Held.TheVariants as H
-use Rattle.lowered_code.specs.Known.{Known}
-use Rattle.lowered_code.specs.Values.{Setting}
-use Rattle.lowered_code.specs.Bodies.{Target, Return, Into}
-use Rattle.match_code.specs.Written.{Written, size, settled, Extends, HasFrom, IsAt, place_of}
-use Rattle.match_code.specs.Spots as S
-use Rattle.match_code.specs.Landing.{Scene, Side}
-use Rattle.match_code.specs.Entering.{entering_root}
-use Rattle.match_code.proofs.Choices.{patterns_in}
-use Rattle.match_code.proofs.Placing.{same_extends, extends_on, added_extends, one_longer, front, back, stands, has_all}
-use Rattle.laid_code.specs.Describing.{held_at, kinds_of}
-use Rattle.laid_code.specs.Labels.{told, Takes, Tells}
-use Rattle.laid_code.specs.Standing.{AreRising}
-use Rattle.laid_code.specs.Tests.{Choice, ChunkLaid, SidesLaid}
-use Rattle.laid_code.specs.Matches.{BuiltRight, widened, wide_at, entered, EntryLaid}
-use Rattle.laid_code.specs.Joins.{GoesOn, ClauseEnds, Met}
-use Rattle.laid_code.specs.Bodies.{BlockLaid, ClausesLaid, ClausesMeet}
+use Rattle.lowering_relation.specs.declared.held.Held.{Held}
+use Rattle.lowering_relation.specs.declared.held.Held.TheVariants as H
+use Rattle.lowering_relation.specs.Known.{Known}
+use Rattle.lowering_relation.specs.Values.{Setting}
+use Rattle.lowering_relation.specs.LoweredBodies.{Target, Return, Into}
+use Rattle.lowering_relation.specs.Written.{Written, size, settled, Extends, HasFrom, IsAt, place_of}
+use Rattle.lowering_relation.specs.Spots as S
+use Rattle.lowering_relation.specs.Landing.{Scene, Side}
+use Rattle.lowering_relation.specs.Entering.{entering_root}
+use Rattle.lowering_relation.proofs.Choices.{patterns_in}
+use Rattle.lowering_relation.proofs.Placing.{same_extends, extends_on, added_extends, one_longer, front, back, stands, has_all}
+use Rattle.lowering_relation.specs.Describing.{held_at, kinds_of}
+use Rattle.lowering_relation.specs.Labels.{told, Takes, Tells}
+use Rattle.lowering_relation.specs.Standing.{AreRising}
+use Rattle.lowering_relation.specs.Tests.{Choice, ChunkLaid, SidesLaid}
+use Rattle.lowering_relation.specs.Matches.{BuiltRight, widened, wide_at, entered, EntryLaid}
+use Rattle.lowering_relation.specs.Joins.{GoesOn, ClauseEnds, Met}
+use Rattle.lowering_relation.specs.LaidBodies.{BlockLaid, ClausesLaid, ClausesMeet}
 use Rattle.lower_frame.specs.Credits.{Accounted}
 use Rattle.lower_frame.specs.Labels.{Rising}
 use Rattle.lower_frame.specs.Positions.{reaching, spot_of}

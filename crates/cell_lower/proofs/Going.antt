@@ -10,23 +10,23 @@ use Rattle.fip_trees.specs.declared.program.Binder.{Binder}
 use Rattle.fip_trees.specs.Tree.{Name, Argument, Arguments, NoArguments, MoreArguments, Expression, Give, Tuple, Operation, Call, Nested, Block, Last, Let, count}
 use Rattle.cell_code.specs.declared.code.Instr.{Instr}
 use Rattle.cell_code.specs.declared.kind.Kind.{Kind}
-use Rattle.sound_code.specs.Codes.{PlainCode, PlainFunction, LabelMap, label_at}
-use Rattle.sound_code.specs.Fitting.{fits}
-use Rattle.sound_code.specs.Kinds.{at as kind_at}
-use Rattle.lowered_code.specs.declared.held.Held.{Held}
-use Rattle.lowered_code.specs.declared.held.Held.TheVariants as H
-use Rattle.lowered_code.specs.declared.held.Credit.{Credit}
-use Rattle.lowered_code.specs.Known.{Known, joined, named, register_of, holding, with_next}
-use Rattle.lowered_code.specs.Tidy.{NotIn, Fixed}
-use Rattle.lowered_code.specs.Values.{Setting, ArgumentsAt}
-use Rattle.lowered_code.specs.Bodies.{Target, Return, Into, registers_for, reserved, all_named, with_names, handed, received, result_type, GivenAt, MovedAt, GoesTo, IsOperation, IsCall, IsCallOf}
-use Rattle.lowered_code.proofs.Lists.{fewer_same}
-use Rattle.match_code.specs.Written.{Written, size, Extends, HasFrom, settled, place_of}
-use Rattle.match_code.proofs.Placing.{extends_on, back, has_all}
-use Rattle.laid_code.specs.Describing.{held_at}
-use Rattle.laid_code.specs.Labels.{told, Takes, Tells}
-use Rattle.laid_code.specs.Bodies.{ExpressionLaid, BlockLaid, BoundLaid, NamedLaid}
-use Rattle.laid_code.specs.Standing.{AreRising}
+use Rattle.code_rules.specs.Codes.{PlainCode, PlainFunction, LabelMap, label_at}
+use Rattle.code_rules.specs.Fitting.{fits}
+use Rattle.code_rules.specs.Kinds.{at as kind_at}
+use Rattle.lowering_relation.specs.declared.held.Held.{Held}
+use Rattle.lowering_relation.specs.declared.held.Held.TheVariants as H
+use Rattle.lowering_relation.specs.declared.held.Credit.{Credit}
+use Rattle.lowering_relation.specs.Known.{Known, joined, named, register_of, holding, with_next}
+use Rattle.lowering_relation.specs.Tidy.{NotIn, Fixed}
+use Rattle.lowering_relation.specs.Values.{Setting, ArgumentsAt}
+use Rattle.lowering_relation.specs.LoweredBodies.{Target, Return, Into, registers_for, reserved, all_named, with_names, handed, received, result_type, GivenAt, MovedAt, GoesTo, IsOperation, IsCall, IsCallOf}
+use Rattle.lowering_relation.proofs.LoweredLists.{fewer_same}
+use Rattle.lowering_relation.specs.Written.{Written, size, Extends, HasFrom, settled, place_of}
+use Rattle.lowering_relation.proofs.Placing.{extends_on, back, has_all}
+use Rattle.lowering_relation.specs.Describing.{held_at}
+use Rattle.lowering_relation.specs.Labels.{told, Takes, Tells}
+use Rattle.lowering_relation.specs.LaidBodies.{ExpressionLaid, BlockLaid, BoundLaid, NamedLaid}
+use Rattle.lowering_relation.specs.Standing.{AreRising}
 use Rattle.lower_frame.specs.Credits.{Accounted, AllSolid, one_if, counted, is_credit, is_credit_of}
 use Rattle.lower_frame.specs.Labels.{Rising}
 use Rattle.lower_frame.specs.Registers.{registers, HasRoom}

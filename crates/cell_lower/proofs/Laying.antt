@@ -7,19 +7,19 @@ use Rattle.fip_language.specs.declared.Place.{Place}
 use Rattle.fip_trees.specs.Tree.{Instance}
 use Rattle.cell_code.specs.declared.code.Instr.{Instr}
 use Rattle.cell_code.specs.declared.code.Instr.TheVariants as I
-use Rattle.sound_code.specs.Codes.{PlainFunction}
-use Rattle.lowered_code.specs.declared.held.Held.{Held}
-use Rattle.lowered_code.specs.declared.held.Held.TheVariants as H
-use Rattle.lowered_code.specs.Known.{Known, joined, holding, using, used, used_all, is_owned}
-use Rattle.lowered_code.specs.Values.{Setting}
-use Rattle.lowered_code.specs.Bodies.{Target, Return, Into, GoesTo, result_type, handed, AreTaken, received}
-use Rattle.match_code.specs.Losing.{Barer, Loses}
-use Rattle.match_code.specs.Written.{Written, size, added, settled, Extends}
-use Rattle.match_code.proofs.Placing.{same_extends, extends_on, added_extends, one_longer, front, back, stands}
-use Rattle.laid_code.specs.Describing.{held_at as holding_at, is_tree}
-use Rattle.laid_code.specs.Credits.{LastGone}
-use Rattle.laid_code.specs.GivenUp.{GivesUp, GivesOne}
-use Rattle.laid_code.specs.Handed.{GivenLaid, EndsCallLaid}
+use Rattle.code_rules.specs.Codes.{PlainFunction}
+use Rattle.lowering_relation.specs.declared.held.Held.{Held}
+use Rattle.lowering_relation.specs.declared.held.Held.TheVariants as H
+use Rattle.lowering_relation.specs.Known.{Known, joined, holding, using, used, used_all, is_owned}
+use Rattle.lowering_relation.specs.Values.{Setting}
+use Rattle.lowering_relation.specs.LoweredBodies.{Target, Return, Into, GoesTo, result_type, handed, AreTaken, received}
+use Rattle.lowering_relation.specs.Losing.{Barer, Loses}
+use Rattle.lowering_relation.specs.Written.{Written, size, added, settled, Extends}
+use Rattle.lowering_relation.proofs.Placing.{same_extends, extends_on, added_extends, one_longer, front, back, stands}
+use Rattle.lowering_relation.specs.Describing.{held_at as holding_at, is_tree}
+use Rattle.lowering_relation.specs.Credits.{LastGone}
+use Rattle.lowering_relation.specs.GivenUp.{GivesUp, GivesOne}
+use Rattle.lowering_relation.specs.Handed.{GivenLaid, EndsCallLaid}
 use Rattle.lower_frame.specs.Registers.{HasRoom, registers}
 use Rattle.lower_frame.specs.Credits.{is_credit, Accounted, FewerTrees, NoBares, NoTrees, NoneBetween, is_bare, sized}
 use Rattle.lower_frame.specs.Frames.{Takes}

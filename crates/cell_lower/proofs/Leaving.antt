@@ -10,24 +10,24 @@ use Rattle.fip_language.specs.declared.FunKind.TheVariants as F
 use Rattle.fip_language.specs.declared.limits.TheConstants.{MOST_FIELDS}
 use Rattle.fip_language.proofs.Search.{le_or_less}
 use Rattle.fip_trees.specs.Tree.{Expression}
-use Rattle.sound_code.specs.Codes.{PlainCode, PlainFunction}
-use Rattle.lowered_code.specs.declared.held.Held.{Held}
-use Rattle.lowered_code.specs.declared.held.Held.TheVariants as H
-use Rattle.lowered_code.specs.declared.held.Credit.{Credit}
-use Rattle.lowered_code.specs.Known.{Known, using, used, used_if, is_owned, without, lent_by, register_of}
-use Rattle.lowered_code.specs.Values.{Setting}
-use Rattle.match_code.specs.Losing.{Loses}
-use Rattle.match_code.specs.Reading.{contains}
-use Rattle.match_code.specs.Written.{Written, size, settled, place_of, HasFrom}
-use Rattle.match_code.proofs.Lists.{contains_among}
-use Rattle.match_code.proofs.Placing.{front, back, has_all}
-use Rattle.laid_code.specs.Credits.{of_size}
-use Rattle.laid_code.specs.Describing.{held_at as holding_at, is_tree}
-use Rattle.laid_code.specs.GivenUp.{GivesUp, GivesOne}
-use Rattle.laid_code.specs.Joins.{BaresEnd}
-use Rattle.laid_code.specs.Leftover.{IsUnused}
-use Rattle.laid_code.specs.Matches.{wide, widened}
-use Rattle.laid_code.specs.Uses.{need, used_in}
+use Rattle.code_rules.specs.Codes.{PlainCode, PlainFunction}
+use Rattle.lowering_relation.specs.declared.held.Held.{Held}
+use Rattle.lowering_relation.specs.declared.held.Held.TheVariants as H
+use Rattle.lowering_relation.specs.declared.held.Credit.{Credit}
+use Rattle.lowering_relation.specs.Known.{Known, using, used, used_if, is_owned, without, lent_by, register_of}
+use Rattle.lowering_relation.specs.Values.{Setting}
+use Rattle.lowering_relation.specs.Losing.{Loses}
+use Rattle.lowering_relation.specs.Reading.{contains}
+use Rattle.lowering_relation.specs.Written.{Written, size, settled, place_of, HasFrom}
+use Rattle.lowering_relation.proofs.MatchLists.{contains_among}
+use Rattle.lowering_relation.proofs.Placing.{front, back, has_all}
+use Rattle.lowering_relation.specs.Credits.{of_size}
+use Rattle.lowering_relation.specs.Describing.{held_at as holding_at, is_tree}
+use Rattle.lowering_relation.specs.GivenUp.{GivesUp, GivesOne}
+use Rattle.lowering_relation.specs.Joins.{BaresEnd}
+use Rattle.lowering_relation.specs.Leftover.{IsUnused}
+use Rattle.lowering_relation.specs.Matches.{wide, widened}
+use Rattle.lowering_relation.specs.Uses.{need, used_in}
 use Rattle.lower_frame.specs.Credits.{is_credit_of, Accounted, FewerTrees, NoBares, NoneBetween, one_if, sized}
 use Rattle.lower_frame.specs.Frames.{Takes}
 use Rattle.lower_frame.proofs.Accounts.{counted_there, credit_held, get_other, get_same, none_of, none_sized, other_size, taken_held, taken_less, tree_gone}

@@ -8,16 +8,16 @@ use Rattle.fip_language.specs.declared.Place.{Place}
 use Rattle.fip_language.specs.Table.{Table}
 use Rattle.fip_trees.specs.Tree.{Argument, Arguments, NoArguments, MoreArguments}
 use Rattle.cell_code.specs.declared.kind.Kind.{Kind}
-use Rattle.sound_code.specs.Codes.{PlainCode, PlainFunction, LabelMap, label_at}
-use Rattle.lowered_code.specs.Known.{Known}
-use Rattle.lowered_code.specs.Values.{Setting}
-use Rattle.lowered_code.specs.Bodies.{Target, Return, Into}
-use Rattle.match_code.specs.Written.{Written, size, Extends, HasFrom}
-use Rattle.match_code.proofs.Placing.{front, back}
-use Rattle.laid_code.specs.Credits.{LastGone}
-use Rattle.laid_code.specs.Describing.{held_at, kind_of, kinds_of}
-use Rattle.laid_code.specs.Labels.{told, Tells, Quiet}
-use Rattle.laid_code.specs.Bodies.{ValuesLaid}
+use Rattle.code_rules.specs.Codes.{PlainCode, PlainFunction, LabelMap, label_at}
+use Rattle.lowering_relation.specs.Known.{Known}
+use Rattle.lowering_relation.specs.Values.{Setting}
+use Rattle.lowering_relation.specs.LoweredBodies.{Target, Return, Into}
+use Rattle.lowering_relation.specs.Written.{Written, size, Extends, HasFrom}
+use Rattle.lowering_relation.proofs.Placing.{front, back}
+use Rattle.lowering_relation.specs.Credits.{LastGone}
+use Rattle.lowering_relation.specs.Describing.{held_at, kind_of, kinds_of}
+use Rattle.lowering_relation.specs.Labels.{told, Tells, Quiet}
+use Rattle.lowering_relation.specs.LaidBodies.{ValuesLaid}
 use Rattle.lower_frame.specs.Credits.{Accounted, AllSolid}
 use Rattle.lower_frame.specs.Labels.{Rising}
 use Rattle.lower_frame.specs.Registers.{registers}

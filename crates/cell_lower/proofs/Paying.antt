@@ -14,13 +14,13 @@ use Rattle.match_knowledge.specs.View.{row, rows}
 use Rattle.match_cover.specs.DecisionTree.{by_verdict, Done, Split, first_live}
 use Rattle.match_cover.specs.TreeView.{IsSplit}
 use Rattle.match_cover.proofs.TreeGrowth.{last_arm, count_arm}
-use Rattle.match_code.specs.Written.{Written, size}
-use Rattle.match_code.specs.Spots as S
-use Rattle.match_code.specs.Opening.{naming, naming_all, names_any, taking, taking_all, take_if}
-use Rattle.match_code.specs.Reading.{Reading, read_if, read_one, reading, reading_first, contains}
-use Rattle.match_code.specs.Landing.{Side}
-use Rattle.match_code.proofs.Lists.{among_left, among_right, among_either, contains_among}
-use Rattle.match_code.proofs.Placing.{one_longer}
+use Rattle.lowering_relation.specs.Written.{Written, size}
+use Rattle.lowering_relation.specs.Spots as S
+use Rattle.lowering_relation.specs.Opening.{naming, naming_all, names_any, taking, taking_all, take_if}
+use Rattle.lowering_relation.specs.Reading.{Reading, read_if, read_one, reading, reading_first, contains}
+use Rattle.lowering_relation.specs.Landing.{Side}
+use Rattle.lowering_relation.proofs.MatchLists.{among_left, among_right, among_either, contains_among}
+use Rattle.lowering_relation.proofs.Placing.{one_longer}
 use Rattle.lower_frame.specs.Labels.{labels}
 use Rattle.cell_lower.specs.Growth.{unread, IsRoom, left, Spends, sides_cost, sides_left, side_cost, way_cost, way_left}
 
@@ -188,7 +188,7 @@ room_below n s h = fit n (S.below s) (below_differ s h.differ) h.within
 
 take_size : (r : ℕ) (ps : Patterns) (ss : S.Spots) (w : Written) → size (take_if r ps ss w) ≤ suc (size w)
 take_size r NoPatterns ss w = omega arith
-take_size r (MorePatterns p ps) ss w = omega (arith, one_longer w (I.Take r (Rattle.match_code.specs.Opening.as_many (MorePatterns p ps) ss)))
+take_size r (MorePatterns p ps) ss w = omega (arith, one_longer w (I.Take r (Rattle.lowering_relation.specs.Opening.as_many (MorePatterns p ps) ss)))
 
 take_labels : (r : ℕ) (ps : Patterns) (ss : S.Spots) (w : Written) → labels (take_if r ps ss w) ≡ labels w
 take_labels r NoPatterns ss w = refl

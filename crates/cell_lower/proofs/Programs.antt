@@ -8,14 +8,14 @@ use Rattle.fip_trees.specs.Tree.{Instance, Program}
 use Rattle.fip_trees.specs.TreeView.{instance_of, instances}
 use Rattle.cell_code.specs.declared.code.Function.{Function}
 use Rattle.cell_code.specs.declared.code.Instr.{Instr}
-use Rattle.code_runs.specs.Codes.{plain_function}
-use Rattle.lowered_code.specs.Known.{Known, joined}
-use Rattle.lowered_code.specs.Values.{Setting}
-use Rattle.lowered_code.specs.Bodies.{Return, has_function, one_more, if_function, function_of}
-use Rattle.lowered_code.specs.Functions.{IsSettingOf, AreLowered, known_at_start}
-use Rattle.match_code.specs.Written.{Written, settled, place_of}
-use Rattle.match_code.specs.WellMatched.{WellMatchedBlock, IsWellMatched}
-use Rattle.match_code.proofs.Placing.{has_all}
+use Rattle.machine_semantics.specs.Codes.{plain_function}
+use Rattle.lowering_relation.specs.Known.{Known, joined}
+use Rattle.lowering_relation.specs.Values.{Setting}
+use Rattle.lowering_relation.specs.LoweredBodies.{Return, has_function, one_more, if_function, function_of}
+use Rattle.lowering_relation.specs.LoweredFunctions.{IsSettingOf, AreLowered, known_at_start}
+use Rattle.lowering_relation.specs.Written.{Written, settled, place_of}
+use Rattle.lowering_relation.specs.WellMatched.{WellMatchedBlock, IsWellMatched}
+use Rattle.lowering_relation.proofs.Placing.{has_all}
 use Rattle.fip_trees.specs.declared.groups.Member.{Member}
 use Rattle.cell_lower.specs.Limits.{is_ruled, registers}
 use Rattle.cell_lower.specs.Shape.{Header, header_of, headers_from}

@@ -5,12 +5,12 @@ use Rattle.fip_trees.specs.Tree.{Instance, Program}
 use Rattle.cell_code.specs.declared.code.Function.{Function}
 use Rattle.cell_code.specs.declared.code.Instr.{Instr}
 use Rattle.cell_code.specs.declared.kind.Label.{Label}
-use Rattle.lowered_code.specs.Known.{Known}
-use Rattle.lowered_code.specs.Values.{Setting}
-use Rattle.lowered_code.specs.Bodies.{Return}
-use Rattle.lowered_code.specs.Functions.{IsSettingOf, known_at_start}
-use Rattle.match_code.specs.Written.{Written, size, settled, place_of}
-use Rattle.match_code.specs.WellMatched.{WellMatchedBlock, IsWellMatched}
+use Rattle.lowering_relation.specs.Known.{Known}
+use Rattle.lowering_relation.specs.Values.{Setting}
+use Rattle.lowering_relation.specs.LoweredBodies.{Return}
+use Rattle.lowering_relation.specs.LoweredFunctions.{IsSettingOf, known_at_start}
+use Rattle.lowering_relation.specs.Written.{Written, size, settled, place_of}
+use Rattle.lowering_relation.specs.WellMatched.{WellMatchedBlock, IsWellMatched}
 use Rattle.code_size.specs.Bounds.{most_for}
 use Rattle.code_size.specs.Places.{block_places}
 use Rattle.cell_lower.specs.Limits.{registers}

@@ -12,23 +12,23 @@ use Rattle.fip_trees.specs.Tree.{Argument, Variable, Literal, Constructor, Argum
 use Rattle.fip_trees.specs.Tree.{Expression, Give, Tuple, Operation, Call, Match, Nested, Block, Last, Let}
 use Rattle.fip_trees.specs.Tree.{Clauses, NoClauses, MoreClauses}
 use Rattle.cell_code.specs.declared.kind.Kind.{Kind}
-use Rattle.sound_code.specs.Codes.{PlainCode, PlainFunction, label_at}
-use Rattle.sound_code.specs.Types as Y
-use Rattle.sound_code.specs.Types.{fields, is_scalar_type}
-use Rattle.lowered_code.specs.declared.held.Held.{Held}
-use Rattle.lowered_code.specs.declared.held.Held.TheVariants as H
-use Rattle.lowered_code.specs.Known.{Known, register_of}
-use Rattle.lowered_code.specs.Values.{Setting, is_scalar}
-use Rattle.lowered_code.specs.Bodies.{Target, Return, Into}
-use Rattle.lowered_code.specs.Tidy.{NotIn}
-use Rattle.match_code.specs.WellMatched.{WellMatched, WellMatchedBlock, WellMatchedClauses}
-use Rattle.match_code.specs.Written.{Written, size, Extends}
-use Rattle.laid_code.specs.Describing.{held_at}
-use Rattle.laid_code.specs.Labels.{told, Takes}
-use Rattle.laid_code.specs.Matches.{variable_of, BuiltRight}
-use Rattle.laid_code.specs.Standing.{AreRising}
-use Rattle.laid_code.specs.Uses as U
-use Rattle.laid_code.specs.Bodies.{ExpressionLaid, BlockLaid}
+use Rattle.code_rules.specs.Codes.{PlainCode, PlainFunction, label_at}
+use Rattle.code_rules.specs.Types as Y
+use Rattle.code_rules.specs.Types.{fields, is_scalar_type}
+use Rattle.lowering_relation.specs.declared.held.Held.{Held}
+use Rattle.lowering_relation.specs.declared.held.Held.TheVariants as H
+use Rattle.lowering_relation.specs.Known.{Known, register_of}
+use Rattle.lowering_relation.specs.Values.{Setting, is_scalar}
+use Rattle.lowering_relation.specs.LoweredBodies.{Target, Return, Into}
+use Rattle.lowering_relation.specs.Tidy.{NotIn}
+use Rattle.lowering_relation.specs.WellMatched.{WellMatched, WellMatchedBlock, WellMatchedClauses}
+use Rattle.lowering_relation.specs.Written.{Written, size, Extends}
+use Rattle.lowering_relation.specs.Describing.{held_at}
+use Rattle.lowering_relation.specs.Labels.{told, Takes}
+use Rattle.lowering_relation.specs.Matches.{variable_of, BuiltRight}
+use Rattle.lowering_relation.specs.Standing.{AreRising}
+use Rattle.lowering_relation.specs.Uses as U
+use Rattle.lowering_relation.specs.LaidBodies.{ExpressionLaid, BlockLaid}
 use Rattle.lower_frame.specs.Credits.{AllSolid, is_bare}
 use Rattle.lower_frame.specs.Registers.{registers}
 use Rattle.cell_lower.specs.Growth.{Stay}

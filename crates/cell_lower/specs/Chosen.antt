@@ -4,22 +4,22 @@
 use Rattle.std.specs.Prelude.{◌≡◌, ◌≤◌, ◌<◌, ℕ, suc, Bool, true, List, [], ◌∷◌, Some, length, slice_get, is_some}
 use Rattle.fip_language.specs.Every.{Among, Every}
 use Rattle.cell_code.specs.declared.kind.Kind.{Kind}
-use Rattle.sound_code.specs.Codes.{PlainCode, PlainFunction, label_at}
-use Rattle.sound_code.specs.Kinds.{at}
-use Rattle.sound_code.specs.Fitting.{fits}
-use Rattle.sound_code.specs.Types.{fields, is_scalar_type}
+use Rattle.code_rules.specs.Codes.{PlainCode, PlainFunction, label_at}
+use Rattle.code_rules.specs.Kinds.{at}
+use Rattle.code_rules.specs.Fitting.{fits}
+use Rattle.code_rules.specs.Types.{fields, is_scalar_type}
 use Rattle.match_knowledge.specs.Known.{Known, Open}
-use Rattle.match_code.specs.Spots.{register, below}
-use Rattle.match_code.specs.Landing.{Scene, Side, IsScene, RuledOut}
-use Rattle.match_code.specs.Written.{Written, size, Extends}
-use Rattle.lowered_code.specs.declared.held.Held.{Held}
-use Rattle.lowered_code.specs.declared.held.Held.TheVariants as H
-use Rattle.lowered_code.specs.Values.{Setting, is_scalar}
-use Rattle.laid_code.specs.Describing.{Holding, held_at}
-use Rattle.laid_code.specs.Labels.{Tells}
-use Rattle.laid_code.specs.Matches.{wide_at}
-use Rattle.laid_code.specs.Sights.{Sight}
-use Rattle.laid_code.specs.Tests.{ChunkLaid, SidesLaid}
+use Rattle.lowering_relation.specs.Spots.{register, below}
+use Rattle.lowering_relation.specs.Landing.{Scene, Side, IsScene, RuledOut}
+use Rattle.lowering_relation.specs.Written.{Written, size, Extends}
+use Rattle.lowering_relation.specs.declared.held.Held.{Held}
+use Rattle.lowering_relation.specs.declared.held.Held.TheVariants as H
+use Rattle.lowering_relation.specs.Values.{Setting, is_scalar}
+use Rattle.lowering_relation.specs.Describing.{Holding, held_at}
+use Rattle.lowering_relation.specs.Labels.{Tells}
+use Rattle.lowering_relation.specs.Matches.{wide_at}
+use Rattle.lowering_relation.specs.Sights.{Sight}
+use Rattle.lowering_relation.specs.Tests.{ChunkLaid, SidesLaid}
 use Rattle.lower_frame.specs.Labels.{Rising}
 use Rattle.cell_lower.specs.declared.choices.Choice.{Choice}
 use Rattle.cell_lower.specs.Laying.{HasPart}

@@ -8,19 +8,19 @@ use Rattle.fip_language.specs.declared.Place.{Place}
 use Rattle.fip_trees.specs.Tree.{Pattern, Argument, Match, Clauses, NoClauses, MoreClauses}
 use Rattle.fip_trees.specs.TreeView.{Case}
 use Rattle.cell_code.specs.declared.code.Instr.TheVariants as I
-use Rattle.lowered_code.specs.Known.{Known}
-use Rattle.lowered_code.specs.Values.{Setting}
-use Rattle.lowered_code.specs.Choosing.{Meets, MeetsFirst}
-use Rattle.lowered_code.specs.Bodies as B
-use Rattle.match_code.specs.Written.{Written, size, Extends, IsAt, GivesUp, added}
-use Rattle.match_code.specs.Spots as S
-use Rattle.match_code.specs.Growing.{Grows}
-use Rattle.match_code.specs.Opening.{Roomy}
-use Rattle.match_code.specs.Landing.{Side}
-use Rattle.match_code.specs.Entering.{entering_root}
-use Rattle.match_code.specs.Losing.{Loses, Resumes}
-use Rattle.match_code.specs.WellMatched.{WellMatched, WellMatchedBlock, WellMatchedClauses}
-use Rattle.match_code.proofs.Choices.{patterns_in}
+use Rattle.lowering_relation.specs.Known.{Known}
+use Rattle.lowering_relation.specs.Values.{Setting}
+use Rattle.lowering_relation.specs.Choosing.{Meets, MeetsFirst}
+use Rattle.lowering_relation.specs.LoweredBodies as B
+use Rattle.lowering_relation.specs.Written.{Written, size, Extends, IsAt, GivesUp, added}
+use Rattle.lowering_relation.specs.Spots as S
+use Rattle.lowering_relation.specs.Growing.{Grows}
+use Rattle.lowering_relation.specs.Opening.{Roomy}
+use Rattle.lowering_relation.specs.Landing.{Side}
+use Rattle.lowering_relation.specs.Entering.{entering_root}
+use Rattle.lowering_relation.specs.Losing.{Loses, Resumes}
+use Rattle.lowering_relation.specs.WellMatched.{WellMatched, WellMatchedBlock, WellMatchedClauses}
+use Rattle.lowering_relation.proofs.Choices.{patterns_in}
 use Rattle.cell_lower.specs.declared.choices.Choice.{Choice}
 use Rattle.cell_lower.specs.declared.matches.Matching.{Matching}
 use Rattle.cell_lower.specs.declared.matches.Progress.{Progress}

@@ -7,13 +7,13 @@ use Rattle.fip_language.specs.Table.{Table}
 use Rattle.match_knowledge.specs.Patterns.{Pattern}
 use Rattle.match_knowledge.specs.Known.{Known as Learnt}
 use Rattle.match_cover.specs.DecisionTree.{branches, tree_at}
-use Rattle.lowered_code.specs.declared.held.Held.{Held}
-use Rattle.lowered_code.specs.Known.{Known}
-use Rattle.lowered_code.specs.Bodies as B
-use Rattle.match_code.specs.Written.{Written, size}
-use Rattle.match_code.specs.Spots as S
-use Rattle.match_code.specs.Reading.{contains}
-use Rattle.match_code.specs.Landing.{Side}
+use Rattle.lowering_relation.specs.declared.held.Held.{Held}
+use Rattle.lowering_relation.specs.Known.{Known}
+use Rattle.lowering_relation.specs.LoweredBodies as B
+use Rattle.lowering_relation.specs.Written.{Written, size}
+use Rattle.lowering_relation.specs.Spots as S
+use Rattle.lowering_relation.specs.Reading.{contains}
+use Rattle.lowering_relation.specs.Landing.{Side}
 use Rattle.lower_frame.specs.Labels.{labels}
 use Rattle.lower_frame.specs.Registers.{registers, holds}
 

@@ -12,19 +12,19 @@ use Rattle.fip_language.specs.declared.limits.TheConstants.{MOST_FIELDS}
 use Rattle.fip_trees.specs.Sizes.{no_sizes, number}
 use Rattle.fip_trees.specs.Tree.{Expression}
 use Rattle.fip_trees.specs.declared.needs.Need.{Need}
-use Rattle.sound_code.specs.Codes.{PlainCode, PlainFunction}
-use Rattle.lowered_code.specs.declared.held.Held.TheVariants as H
-use Rattle.lowered_code.specs.Known.{Known, is_owned}
-use Rattle.lowered_code.specs.Values.{Setting}
-use Rattle.lowered_code.specs.Bodies.{Target, Return, Into}
-use Rattle.match_code.specs.Reading.{contains}
-use Rattle.match_code.specs.Written.{Written, size, HasFrom}
-use Rattle.laid_code.specs.Credits.{of_size}
-use Rattle.laid_code.specs.Describing.{held_at}
-use Rattle.laid_code.specs.Joins.{BaresEnd}
-use Rattle.laid_code.specs.Leftover.{LeavesOver}
-use Rattle.laid_code.specs.Matches.{wide}
-use Rattle.laid_code.specs.Uses as U
+use Rattle.code_rules.specs.Codes.{PlainCode, PlainFunction}
+use Rattle.lowering_relation.specs.declared.held.Held.TheVariants as H
+use Rattle.lowering_relation.specs.Known.{Known, is_owned}
+use Rattle.lowering_relation.specs.Values.{Setting}
+use Rattle.lowering_relation.specs.LoweredBodies.{Target, Return, Into}
+use Rattle.lowering_relation.specs.Reading.{contains}
+use Rattle.lowering_relation.specs.Written.{Written, size, HasFrom}
+use Rattle.lowering_relation.specs.Credits.{of_size}
+use Rattle.lowering_relation.specs.Describing.{held_at}
+use Rattle.lowering_relation.specs.Joins.{BaresEnd}
+use Rattle.lowering_relation.specs.Leftover.{LeavesOver}
+use Rattle.lowering_relation.specs.Matches.{wide}
+use Rattle.lowering_relation.specs.Uses as U
 use Rattle.lower_frame.specs.Credits.{Accounted, sized}
 use Rattle.cell_lower.specs.Marks.{AreMarked, is_marked}
 

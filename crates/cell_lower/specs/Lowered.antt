@@ -5,11 +5,11 @@ use Rattle.fip_trees.specs.Tree.{Instance}
 use Rattle.cell_code.specs.declared.code.Code.{Code}
 use Rattle.cell_code.specs.declared.code.Function.{Function}
 use Rattle.cell_code.specs.declared.code.Instr.{Instr}
-use Rattle.code_runs.specs.Codes.{PlainFunction, plain}
-use Rattle.lowered_code.specs.Values.{Setting}
-use Rattle.lowered_code.specs.Bodies.{function_of}
-use Rattle.lowered_code.specs.Functions.{IsFunction}
-use Rattle.match_code.specs.WellMatched.{WellMatchedBlock}
+use Rattle.machine_semantics.specs.Codes.{PlainFunction, plain}
+use Rattle.lowering_relation.specs.Values.{Setting}
+use Rattle.lowering_relation.specs.LoweredBodies.{function_of}
+use Rattle.lowering_relation.specs.LoweredFunctions.{IsFunction}
+use Rattle.lowering_relation.specs.WellMatched.{WellMatchedBlock}
 
 abbrev pub instrs_of : PlainFunction → List Instr
 instrs_of f = f.instrs

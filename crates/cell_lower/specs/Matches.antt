@@ -7,16 +7,16 @@ use Rattle.fip_trees.specs.declared.needs.Need.{Need}
 use Rattle.fip_trees.specs.Tree.{Pattern, Argument, Clauses, NoClauses, MoreClauses}
 use Rattle.fip_trees.specs.TreeView.{Case}
 use Rattle.cell_code.specs.declared.code.Instr.TheVariants as I
-use Rattle.lowered_code.specs.Known.{Known}
-use Rattle.lowered_code.specs.Values.{Setting, is_scalar}
-use Rattle.lowered_code.specs.Bodies.{Target, Return, Into}
-use Rattle.lowered_code.specs.Choosing.{FewerCredits}
-use Rattle.match_code.specs.Written.{Written, size, Extends, IsAt, added}
-use Rattle.match_code.specs.Landing.{Side}
-use Rattle.match_code.specs.Entering.{entering_root}
-use Rattle.match_code.proofs.Choices.{patterns_in}
-use Rattle.laid_code.specs.Joins.{Met}
-use Rattle.laid_code.specs.Matches.{wide}
+use Rattle.lowering_relation.specs.Known.{Known}
+use Rattle.lowering_relation.specs.Values.{Setting, is_scalar}
+use Rattle.lowering_relation.specs.LoweredBodies.{Target, Return, Into}
+use Rattle.lowering_relation.specs.Choosing.{FewerCredits}
+use Rattle.lowering_relation.specs.Written.{Written, size, Extends, IsAt, added}
+use Rattle.lowering_relation.specs.Landing.{Side}
+use Rattle.lowering_relation.specs.Entering.{entering_root}
+use Rattle.lowering_relation.proofs.Choices.{patterns_in}
+use Rattle.lowering_relation.specs.Joins.{Met}
+use Rattle.lowering_relation.specs.Matches.{wide}
 use Rattle.lower_frame.specs.Credits.{Accounted}
 use Rattle.lower_frame.specs.Frames.{kinds_told}
 use Rattle.lower_frame.specs.Labels.{telling}

@@ -16,12 +16,12 @@ use Rattle.match_knowledge.specs.Patterns as M
 use Rattle.match_knowledge.specs.Known.{Known, Open, Knowns, NoKnowns, MoreKnowns, compare, is_asks, side}
 use Rattle.match_knowledge.specs.View as View
 use Rattle.match_cover.specs.DecisionTree.{first_live, Split}
-use Rattle.match_code.specs.Spots as S
-use Rattle.match_code.specs.Rows.{row_of}
-use Rattle.match_code.specs.Reading.{Reading, Asked, asked, reading, read_one}
-use Rattle.match_code.specs.Opening.{names_any, naming, taking}
-use Rattle.match_code.specs.Landing.{Scene, Side, IsScene, Good, AllGood, LeadsTo, place_of_side, test_of}
-use Rattle.match_code.specs.Written.{Written, size, Extends, HasFrom, IsAt, added}
+use Rattle.lowering_relation.specs.Spots as S
+use Rattle.lowering_relation.specs.Rows.{row_of}
+use Rattle.lowering_relation.specs.Reading.{Reading, Asked, asked, reading, read_one}
+use Rattle.lowering_relation.specs.Opening.{names_any, naming, taking}
+use Rattle.lowering_relation.specs.Landing.{Scene, Side, IsScene, Good, AllGood, LeadsTo, place_of_side, test_of}
+use Rattle.lowering_relation.specs.Written.{Written, size, Extends, HasFrom, IsAt, added}
 use Rattle.cell_lower.specs.declared.choices.Choice.{Choice}
 use Rattle.cell_lower.specs.declared.choices.Side.{Side as Kept}
 use Rattle.cell_lower.specs.declared.choices.Asked.{Asked as Found}

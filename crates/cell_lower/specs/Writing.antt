@@ -9,21 +9,21 @@ use Rattle.fip_trees.specs.declared.program.Binder.{Binder}
 use Rattle.fip_trees.specs.Tree.{Name, Argument, Arguments, Expression, Call, Block, Let}
 use Rattle.fip_trees.specs.TreeView.{instances}
 use Rattle.fip_base.specs.declared.plain.Param.{Param}
-use Rattle.lowered_code.specs.declared.held.Held.{Held}
-use Rattle.lowered_code.specs.Known.{Known, naming, register_of, used}
-use Rattle.lowered_code.specs.Values.{Setting, BuiltAt, ArgumentAt, ArgumentsAt}
-use Rattle.lowered_code.specs.Bodies as B
-use Rattle.lowered_code.specs.Functions.{with_param}
+use Rattle.lowering_relation.specs.declared.held.Held.{Held}
+use Rattle.lowering_relation.specs.Known.{Known, naming, register_of, used}
+use Rattle.lowering_relation.specs.Values.{Setting, BuiltAt, ArgumentAt, ArgumentsAt}
+use Rattle.lowering_relation.specs.LoweredBodies as B
+use Rattle.lowering_relation.specs.LoweredFunctions.{with_param}
 use Rattle.code_size.specs.Bounds.{most_for}
 use Rattle.code_size.specs.Places.{argument_places, arguments_places, expression_places, block_places}
-use Rattle.laid_code.specs.Credits.{LastGone}
-use Rattle.laid_code.specs.Describing.{held_at, kind_of}
-use Rattle.laid_code.specs.Moves.{MoveLaid, MovesLaid}
+use Rattle.lowering_relation.specs.Credits.{LastGone}
+use Rattle.lowering_relation.specs.Describing.{held_at, kind_of}
+use Rattle.lowering_relation.specs.Moves.{MoveLaid, MovesLaid}
 use Rattle.lower_frame.specs.Credits.{Accounted, AllSolid, is_credit}
 use Rattle.lower_frame.specs.Frames.{Takes}
 use Rattle.lower_frame.specs.Registers.{registers, HasRoom}
 use Rattle.cell_lower.specs.Growth.{Adds, Stay}
-use Rattle.match_code.specs.Written.{Written, size, Extends, InCode}
+use Rattle.lowering_relation.specs.Written.{Written, size, Extends, InCode}
 use Rattle.cell_lower.specs.declared.lowerer.Context.{Context}
 use Rattle.cell_lower.specs.declared.lowerer.Target.{Target}
 use Rattle.cell_lower.specs.declared.lowerer.Target.TheVariants as T

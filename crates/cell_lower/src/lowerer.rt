@@ -1,15 +1,15 @@
 // What the lowering of a function knows and has written.
 ghost use Rattle.std.specs.Prelude.{◌≡◌, ◌&&◌, not, [], IfOk, OnOk, drop, slice_get};
 ghost use Rattle.fip_trees.specs.TreeView as V;
-ghost use Rattle.lowered_code.specs.Bodies as B;
-ghost use Rattle.lowered_code.specs.Functions as F;
-ghost use Rattle.lowered_code.specs.Values as S;
-ghost use Rattle.match_code.specs.Losing.{Loses};
-ghost use Rattle.match_code.specs.Written.{Extends, IsAt, size};
+ghost use Rattle.lowering_relation.specs.LoweredBodies as B;
+ghost use Rattle.lowering_relation.specs.LoweredFunctions as F;
+ghost use Rattle.lowering_relation.specs.Values as S;
+ghost use Rattle.lowering_relation.specs.Losing.{Loses};
+ghost use Rattle.lowering_relation.specs.Written.{Extends, IsAt, size};
 ghost use Rattle.cell_lower.specs.Leaving.{is_fbip, sizes_of};
 ghost use Rattle.cell_lower.specs.LaidProgram.{IsInRoom};
 ghost use Rattle.cell_lower.specs.Writing.{param_at};
-ghost use Rattle.laid_code.specs.Matches.{wide};
+ghost use Rattle.lowering_relation.specs.Matches.{wide};
 ghost use Rattle.lower_frame.specs.Frames.{kinds_told};
 ghost use Rattle.lower_frame.specs.Labels.{labels, telling};
 ghost use Rattle.lower_frame.specs.Registers.{registers};
@@ -23,7 +23,7 @@ use fip_trees::program::{Binder, Instance, Program};
 use fip_trees::scalars::Scalars;
 use fip_trees::sizes::Sizes;
 use lower_frame::{Buffer, Frame};
-use lowered_code::Held;
+use lowering_relation::Held;
 use std::alloc::Global;
 
 /// What all functions of a program share.

@@ -2,11 +2,11 @@
 ghost use Rattle.std.specs.Prelude.{◌≡◌, ◌≤◌, ◌+◌, ◌&&◌, not, suc, [], ◌∷◌, None, Some, IfOk, OnOk, drop, length};
 ghost use Rattle.fip_trees.specs.TreeView as V;
 ghost use Rattle.match_knowledge.specs.View as View;
-ghost use Rattle.match_code.specs.Entering.{entering, entering_all, entering_root, root_of, variable_held, with_cell};
-ghost use Rattle.match_code.specs.Entering.{with_variable, spent_if};
-ghost use Rattle.match_code.specs.Losing.{Loses};
-ghost use Rattle.match_code.specs.Rows.{row_of, rows_of};
-ghost use Rattle.match_code.specs.Written.{Extends, GivesUp, size};
+ghost use Rattle.lowering_relation.specs.Entering.{entering, entering_all, entering_root, root_of, variable_held, with_cell};
+ghost use Rattle.lowering_relation.specs.Entering.{with_variable, spent_if};
+ghost use Rattle.lowering_relation.specs.Losing.{Loses};
+ghost use Rattle.lowering_relation.specs.Rows.{row_of, rows_of};
+ghost use Rattle.lowering_relation.specs.Written.{Extends, GivesUp, size};
 ghost use Rattle.lower_frame.specs.Positions.{reaching, spot_of, spots_of};
 ghost use Rattle.cell_lower.specs.Scenes.{AtSpot, first_side, patterns_of, sides_of};
 ghost use Rattle.cell_lower.specs.Clauses.{AddsPattern, IsBegun, EndsIn, EndsMatch, GoesToEnd, HasPositions};
@@ -18,8 +18,8 @@ ghost use Rattle.cell_lower.specs.Leaving.{ClauseLeavesLaid, EndsMatchedLaid};
 ghost use Rattle.cell_lower.specs.Marks.{MarkedFor, MarkedIf};
 ghost use Rattle.cell_lower.specs.Matches.{BeginsLaid, EndsInLaid, EndsMatchLaid, GoesLaid, JoinsLaid, StartsLaid};
 ghost use Rattle.lower_frame.specs.Labels.{labels};
-ghost use Rattle.lowered_code.specs.Values.{is_scalar};
-ghost use Rattle.match_code.proofs.Choices.{patterns_in};
+ghost use Rattle.lowering_relation.specs.Values.{is_scalar};
+ghost use Rattle.lowering_relation.proofs.Choices.{patterns_in};
 ghost use Rattle.cell_lower.specs.Writing.{setting, target_of};
 
 use crate::choices::{Choice, Side, is_named, start_of};
@@ -29,7 +29,7 @@ use fip_base::plain::NoMemory;
 use fip_trees::program::{Argument, Binder, Clause, Pattern};
 use fip_trees::sizes::Sizes;
 use lower_frame::{Frame, Spot, add_spots, field_at};
-use lowered_code::Held;
+use lowering_relation::Held;
 use match_knowledge::{Head, Row};
 use std::alloc::Global;
 

@@ -24,7 +24,7 @@
 mod error;
 mod instructions;
 mod kinds;
-pub mod laws;
+pub mod theorems;
 mod names;
 mod read;
 mod reader;

@@ -7,13 +7,13 @@ use Rattle.fip_language.specs.Table.{Table}
 use Rattle.cell_code.specs.declared.code.Function.{Function}
 use Rattle.cell_code.specs.declared.kind.Kind.{Kind}
 use Rattle.cell_code.specs.declared.kind.Label.{Label}
-use Rattle.sound_code.specs.Codes.{PlainFunction, LabelMap, plain_label, plain_function, label_at}
+use Rattle.code_rules.specs.Codes.{PlainFunction, LabelMap, plain_label, plain_function, label_at}
 use Rattle.std.specs.Prelude.{nat_lt}
-use Rattle.sound_code.specs.Headers.{are_good_maps, are_good_kinds, are_params, are_sizes, are_types, is_formed}
-use Rattle.sound_code.specs.Limits.{most_credits, most_results, most_registers}
+use Rattle.code_rules.specs.Headers.{are_good_maps, are_good_kinds, are_params, are_sizes, are_types, is_formed}
+use Rattle.code_rules.specs.Limits.{most_credits, most_results, most_registers}
 use Rattle.register_kinds.specs.State.{of_types}
-use Rattle.sound_code.specs.Asked.{same_types}
-use Rattle.sound_code.specs.Handing.{kept_if}
+use Rattle.code_rules.specs.Asked.{same_types}
+use Rattle.code_rules.specs.Handing.{kept_if}
 use Rattle.code_rows.specs.Numbering.{IsNumber, IsNumberFrom, AreNumbers, AreBelow, is_good_label, are_good_labels, has_registers, has_few, has_types}
 
 -- ---- label maps by instruction

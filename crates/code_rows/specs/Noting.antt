@@ -2,8 +2,8 @@
 -- least of them.
 use Rattle.std.specs.Prelude.{◌≡◌, ◌⊎◌, ℕ, Bool, true, false, List, [], ◌∷◌, Option, Some, None, if◌then◌else◌}
 use Rattle.std.specs.Prelude.{◌==◌, nat_lt}
-use Rattle.sound_code.specs.declared.rule.SoundRule.{SoundRule}
-use Rattle.sound_code.specs.Breaks.{digit, IsBefore}
+use Rattle.code_rules.specs.declared.rule.SoundRule.{SoundRule}
+use Rattle.code_rules.specs.Breaks.{digit, IsBefore}
 use Rattle.code_rows.specs.declared.least.Violation.{Violation}
 
 -- function n breaks a rule at instruction i

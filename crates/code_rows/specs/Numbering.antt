@@ -4,9 +4,9 @@ use Rattle.std.specs.Prelude.{◌≡◌, ℕ, ◌<◌, suc, ◌+◌, Bool, true,
 use Rattle.std.specs.Prelude.{slice_get, get_or, length, drop, ◌==◌, nat_lt}
 use Rattle.fip_language.specs.Table.{Table}
 use Rattle.cell_code.specs.declared.kind.Label.{Label}
-use Rattle.sound_code.specs.Codes.{PlainFunction, LabelMap, label_at}
-use Rattle.sound_code.specs.Headers.{are_good_kinds, are_params, are_sizes, are_types}
-use Rattle.sound_code.specs.Limits.{most_credits, most_results, most_registers}
+use Rattle.code_rules.specs.Codes.{PlainFunction, LabelMap, label_at}
+use Rattle.code_rules.specs.Headers.{are_good_kinds, are_params, are_sizes, are_types}
+use Rattle.code_rules.specs.Limits.{most_credits, most_results, most_registers}
 
 -- Number j is that of the label map of instruction i, or that has none.
 abbrev pub IsNumber : List LabelMap → ℕ → Option ℕ → Type 0

@@ -4,15 +4,15 @@ use Rattle.std.specs.Prelude.{◌≡◌, ◌⊎◌, ℕ, Bool, true, false, ◌&
 use Rattle.cell_code.specs.declared.code.Instr.{Instr}
 use Rattle.cell_code.specs.declared.code.Instr.TheVariants as I
 use Rattle.cell_code.specs.declared.kind.Kind.{Kind}
-use Rattle.sound_code.specs.declared.rule.SoundRule.{SoundRule}
-use Rattle.sound_code.specs.declared.rule.SoundRule.TheVariants.{S2, S3, S5, S6}
-use Rattle.sound_code.specs.Codes.{PlainCode, PlainFunction, LabelMap, label_at}
-use Rattle.sound_code.specs.Kinds.{at, set_of}
-use Rattle.sound_code.specs.Changes.{tested, without}
-use Rattle.sound_code.specs.Fitting.{fit_all}
-use Rattle.sound_code.specs.Asked.{sources, destinations}
-use Rattle.sound_code.specs.Leaves.{Leaves}
-use Rattle.sound_code.specs.Endings.{is_end, spends_all}
+use Rattle.code_rules.specs.declared.rule.SoundRule.{SoundRule}
+use Rattle.code_rules.specs.declared.rule.SoundRule.TheVariants.{S2, S3, S5, S6}
+use Rattle.code_rules.specs.Codes.{PlainCode, PlainFunction, LabelMap, label_at}
+use Rattle.code_rules.specs.Kinds.{at, set_of}
+use Rattle.code_rules.specs.Changes.{tested, without}
+use Rattle.code_rules.specs.Fitting.{fit_all}
+use Rattle.code_rules.specs.Asked.{sources, destinations}
+use Rattle.code_rules.specs.Leaves.{Leaves}
+use Rattle.code_rules.specs.Endings.{is_end, spends_all}
 
 -- a target, and the kinds that come to it
 pub record Arrival : Type 0 where

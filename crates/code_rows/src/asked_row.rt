@@ -1,6 +1,6 @@
 // The row of an instruction.
 ghost use Rattle.std.specs.Prelude.{◌≡◌, ◌∷◌, [], ◌&&◌};
-ghost use Rattle.sound_code.specs.declared.rule.SoundRule.TheVariants.{S2, S3};
+ghost use Rattle.code_rules.specs.declared.rule.SoundRule.TheVariants.{S2, S3};
 ghost use Rattle.code_rows.specs.Noting.{noted_unless, noted_all};
 ghost use Rattle.code_rows.specs.Placing.{code_of, function_of};
 ghost use Rattle.code_rows.specs.Rows.{row_kept, GoesOn};
@@ -13,7 +13,7 @@ use crate::plain_rows::{row_arith, row_atom, row_const, row_move};
 use crate::tree_rows::{row_drop, row_free, row_peek, row_take};
 use cell_code::Instr;
 use register_kinds::Registers;
-use sound_code::SoundRule;
+use code_rules::SoundRule;
 
 /// Asks the row of an instruction that keeps S1, and changes what is known of the registers to what is known behind it.
 /// Whether anything is.

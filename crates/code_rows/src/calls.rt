@@ -1,7 +1,7 @@
 // What a code says of a function that is called. A number that is no function's has nothing.
 ghost use Rattle.std.specs.Prelude.{◌≡◌, map};
-ghost use Rattle.sound_code.specs.Codes.{params, credits, results};
-ghost use Rattle.sound_code.specs.Codes as codes;
+ghost use Rattle.code_rules.specs.Codes.{params, credits, results};
+ghost use Rattle.code_rules.specs.Codes as codes;
 ghost use Rattle.code_rows.specs.Placing.{code_of};
 
 use crate::ends::is_fip;

@@ -1,7 +1,7 @@
 // What may stand last, and what a fip function may not do.
 ghost use Rattle.std.specs.Prelude.{◌≡◌};
-ghost use Rattle.sound_code.specs.Codes as codes;
-ghost use Rattle.sound_code.specs.Endings as endings;
+ghost use Rattle.code_rules.specs.Codes as codes;
+ghost use Rattle.code_rules.specs.Endings as endings;
 ghost use Rattle.code_rows.specs.Placing.{code_of};
 
 use crate::calls::is_weaker;

@@ -1,10 +1,10 @@
 // S9: a function's header and label maps.
 ghost use Rattle.std.specs.Prelude.{◌≡◌, ℕ, length};
-ghost use Rattle.sound_code.specs.Asked.{known_fields, only_fields};
-ghost use Rattle.sound_code.specs.Codes.{plain_function, plain_label};
-ghost use Rattle.sound_code.specs.Headers as h;
-ghost use Rattle.sound_code.specs.Kinds.{at, root_of};
-ghost use Rattle.sound_code.specs.Kinds as k;
+ghost use Rattle.code_rules.specs.Asked.{known_fields, only_fields};
+ghost use Rattle.code_rules.specs.Codes.{plain_function, plain_label};
+ghost use Rattle.code_rules.specs.Headers as h;
+ghost use Rattle.code_rules.specs.Kinds.{at, root_of};
+ghost use Rattle.code_rules.specs.Kinds as k;
 ghost use Rattle.register_kinds.specs.State.{of_types};
 ghost use Rattle.code_rows.specs.Numbering.{is_good_label, are_good_labels, has_registers, has_few, has_types};
 

@@ -1,11 +1,11 @@
 // The rows of instructions that hand registers over.
 ghost use Rattle.std.specs.Prelude.{◌≡◌};
 ghost use Rattle.cell_code.specs.declared.code.Instr.TheVariants as I;
-ghost use Rattle.sound_code.specs.Asked.{tail_left};
-ghost use Rattle.sound_code.specs.Asked as asked;
-ghost use Rattle.sound_code.specs.Endings.{nothing_owned};
-ghost use Rattle.sound_code.specs.Handing.{kept_if};
-ghost use Rattle.sound_code.specs.Handing as handing;
+ghost use Rattle.code_rules.specs.Asked.{tail_left};
+ghost use Rattle.code_rules.specs.Asked as asked;
+ghost use Rattle.code_rules.specs.Endings.{nothing_owned};
+ghost use Rattle.code_rules.specs.Handing.{kept_if};
+ghost use Rattle.code_rules.specs.Handing as handing;
 ghost use Rattle.code_rows.specs.Noting.{noted_all};
 ghost use Rattle.code_rows.specs.Placing.{code_of, function_of};
 ghost use Rattle.code_rows.specs.Rows.{row_kept, GoesOn};
@@ -15,7 +15,7 @@ use crate::calls::{credits_of, params_of, results_of};
 use crate::least::Least;
 use crate::place::Place;
 use register_kinds::Registers;
-use sound_code::SoundRule;
+use code_rules::SoundRule;
 
 /// Put.
 pub fn row_put<'a>(

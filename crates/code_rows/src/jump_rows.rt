@@ -1,9 +1,9 @@
 // The rows of instructions that may go on at a target.
 ghost use Rattle.std.specs.Prelude.{◌≡◌, ℤ};
 ghost use Rattle.cell_code.specs.declared.code.Instr.TheVariants as I;
-ghost use Rattle.sound_code.specs.declared.rule.SoundRule.TheVariants.{S5};
-ghost use Rattle.sound_code.specs.Changes.{tested, without};
-ghost use Rattle.sound_code.specs.Kinds.{at, set_of};
+ghost use Rattle.code_rules.specs.declared.rule.SoundRule.TheVariants.{S5};
+ghost use Rattle.code_rules.specs.Changes.{tested, without};
+ghost use Rattle.code_rules.specs.Kinds.{at, set_of};
 ghost use Rattle.code_rows.specs.Noting.{broken, noted_all, noted_unless};
 ghost use Rattle.code_rows.specs.Placing.{code_of, function_of};
 ghost use Rattle.code_rows.specs.Rows.{row_kept, GoesOn, fit_at};
@@ -12,7 +12,7 @@ use crate::asked_row::judge;
 use crate::least::{Least, Violation};
 use crate::place::Place;
 use register_kinds::Registers;
-use sound_code::SoundRule;
+use code_rules::SoundRule;
 
 const INT: u32 = 0;
 

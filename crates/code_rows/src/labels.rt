@@ -1,6 +1,6 @@
 // The label maps of a function, by instruction.
 ghost use Rattle.std.specs.Prelude.{◌≡◌, Some, is_some, set, replicate, length, map, IfOk};
-ghost use Rattle.sound_code.specs.Codes.{plain_label, plain_function, label_at};
+ghost use Rattle.code_rules.specs.Codes.{plain_label, plain_function, label_at};
 ghost use Rattle.code_rows.specs.Numbering.{IsNumber, AreNumbers, AreBelow};
 
 use cell_code::{Function, Label};
@@ -17,7 +17,7 @@ pub struct Labels<'a> {
 
 impl<'a> Model for Labels<'a> {
     ghost use Rattle.std.specs.Prelude.{List, map};
-    ghost use Rattle.sound_code.specs.Codes.{LabelMap, plain_label};
+    ghost use Rattle.code_rules.specs.Codes.{LabelMap, plain_label};
     ghost use Rattle.code_rows.specs.Numbering.{AreNumbers};
 
     ghost Value = { List LabelMap };

@@ -1,9 +1,9 @@
 // The least violation of a walk.
 ghost use Rattle.std.specs.Prelude.{◌≡◌, None};
-ghost use Rattle.sound_code.specs.Breaks.{digit};
+ghost use Rattle.code_rules.specs.Breaks.{digit};
 ghost use Rattle.code_rows.specs.Noting.{broken, precedes, better, better_if, is_before};
 
-use sound_code::SoundRule;
+use code_rules::SoundRule;
 
 /// A rule that is broken, and where.
 #[derive(Clone, Copy)]

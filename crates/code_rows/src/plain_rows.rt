@@ -2,8 +2,8 @@
 ghost use Rattle.std.specs.Prelude.{◌≡◌, ◌&&◌, ◌==◌, not, ℕ, ℤ};
 ghost use Rattle.fip_language.specs.declared.Operator.{Operator};
 ghost use Rattle.cell_code.specs.declared.code.Instr.TheVariants as I;
-ghost use Rattle.sound_code.specs.Kinds.{at, is_free, is_scalar_of};
-ghost use Rattle.sound_code.specs.Leaves.{result_type};
+ghost use Rattle.code_rules.specs.Kinds.{at, is_free, is_scalar_of};
+ghost use Rattle.code_rules.specs.Leaves.{result_type};
 ghost use Rattle.code_rows.specs.Noting.{noted_all};
 ghost use Rattle.code_rows.specs.Placing.{code_of, function_of};
 ghost use Rattle.code_rows.specs.Rows.{row_kept, GoesOn};

@@ -1,6 +1,6 @@
 // S1: the numbers in an instruction.
 ghost use Rattle.std.specs.Prelude.{◌≡◌};
-ghost use Rattle.sound_code.specs.Ranges.{are_below, is_target, in_range};
+ghost use Rattle.code_rules.specs.Ranges.{are_below, is_target, in_range};
 ghost use Rattle.code_rows.specs.Placing.{code_of, function_of};
 
 use crate::place::Place;

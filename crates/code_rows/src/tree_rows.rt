@@ -1,8 +1,8 @@
 // The rows of instructions that read a cell, take it apart, or release it.
 ghost use Rattle.std.specs.Prelude.{◌≡◌, ◌&&◌, not};
 ghost use Rattle.cell_code.specs.declared.code.Instr.TheVariants as I;
-ghost use Rattle.sound_code.specs.Asked.{are_places};
-ghost use Rattle.sound_code.specs.Kinds as kinds;
+ghost use Rattle.code_rules.specs.Asked.{are_places};
+ghost use Rattle.code_rules.specs.Kinds as kinds;
 ghost use Rattle.code_rows.specs.Noting.{noted_all};
 ghost use Rattle.code_rows.specs.Placing.{code_of, function_of};
 ghost use Rattle.code_rows.specs.Rows.{row_kept, GoesOn};

@@ -1,6 +1,6 @@
 -- The places of the examples, by computation alone.
 use Rattle.std.proofs.Common.{◌≡◌, refl}
-use Rattle.flat_meaning.specs.Example.{lists, rev, number}
+use Rattle.instance_semantics.specs.Example.{lists, rev, number}
 use Rattle.code_size.specs.Places.{places}
 use Rattle.code_size.specs.Bounds.{most_instructions, most_labels}
 

@@ -9,10 +9,10 @@ use Rattle.std.proofs.lemmas.List.{length-map}
 use Rattle.fip_language.specs.Table.{Table, Shape, shapes, constructors, no_fields}
 use Rattle.cell_code.specs.declared.code.Code.{Code}
 use Rattle.cell_code.specs.declared.code.Function.{Function}
-use Rattle.sound_code.specs.Limits.{most_types, most_functions, most_fields}
-use Rattle.sound_code.specs.Codes.{PlainFunction, plain, plain_function, function_at}
-use Rattle.sound_code.specs.Headers.{are_types}
-use Rattle.sound_code.specs.Tables.{bare, bool_shapes, IsSoundShape, IsSoundType, AreSoundTables}
+use Rattle.code_rules.specs.Limits.{most_types, most_functions, most_fields}
+use Rattle.code_rules.specs.Codes.{PlainFunction, plain, plain_function, function_at}
+use Rattle.code_rules.specs.Headers.{are_types}
+use Rattle.code_rules.specs.Tables.{bare, bool_shapes, IsSoundShape, IsSoundType, AreSoundTables}
 use Rattle.code_tables.specs.Apart.{none_met, is_any_name, is_some_name, apart, shape_name, shape_names, function_name, function_names}
 use Rattle.code_tables.specs.Rows.{is_bare, is_bool_row, is_narrow, are_narrow, is_sound_row, are_sound_rows}
 use Rattle.code_tables.specs.Marks.{HaveValues}

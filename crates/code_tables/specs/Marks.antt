@@ -4,7 +4,7 @@ use Rattle.std.specs.Prelude.{◌≡◌, ℕ, suc, ◌+◌, ◌<◌, ◌≤◌, 
 use Rattle.std.specs.Prelude.{Option, Some, None, slice_get, if◌then◌else◌}
 use Rattle.fip_language.specs.Table.{Table, Shape, constructors, HasType}
 use Rattle.fip_language.specs.Values.{Value}
-use Rattle.sound_code.specs.Tables.{IsShape}
+use Rattle.code_rules.specs.Tables.{IsShape}
 
 abbrev pub mark_or_not : Option Bool → Bool
 mark_or_not None = false

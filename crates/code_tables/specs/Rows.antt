@@ -2,8 +2,8 @@
 use Rattle.std.specs.Prelude.{ℕ, Bool, true, false, ◌&&◌, not, List, [], ◌∷◌, length, nat_lt, codes}
 use Rattle.std.specs.Str.{bytes_eq}
 use Rattle.fip_language.specs.Table.{Table, Shape, no_fields}
-use Rattle.sound_code.specs.Headers.{are_types}
-use Rattle.sound_code.specs.Limits.{most_fields}
+use Rattle.code_rules.specs.Headers.{are_types}
+use Rattle.code_rules.specs.Limits.{most_fields}
 use Rattle.code_tables.specs.Apart.{none_met, is_any_name, apart, shape_names}
 
 abbrev pub is_bare : List ℕ → Shape → Bool

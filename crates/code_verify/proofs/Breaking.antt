@@ -4,17 +4,17 @@ use Rattle.std.proofs.lemmas.Bool.{and_parts, and_from, or_parts, or_from, not-f
 use Rattle.std.proofs.lemmas.Option.{same_Some}
 use Rattle.cell_code.specs.declared.code.Instr.{Instr}
 use Rattle.cell_code.specs.declared.kind.Kind.{Kind}
-use Rattle.sound_code.specs.declared.rule.SoundRule.{SoundRule}
-use Rattle.sound_code.specs.declared.rule.SoundRule.TheVariants.{S0, S1, S2, S3, S4, S5, S6, S7, S8, S9}
-use Rattle.sound_code.specs.Codes.{PlainCode, PlainFunction, LabelMap, label_at, is_fip}
-use Rattle.sound_code.specs.Fitting.{fit_all}
-use Rattle.sound_code.specs.Ranges.{in_range}
-use Rattle.sound_code.specs.Asked.{sources, destinations}
-use Rattle.sound_code.specs.Leaves.{Leaves, Jumps}
-use Rattle.sound_code.specs.Flow.{is_as_asked, IsInstr, KnownAt, IsReachedAt, GoesTo}
-use Rattle.sound_code.specs.Endings.{is_end, spends_all, releases}
-use Rattle.sound_code.specs.Breaks.{BreaksRange, BreaksSource, BreaksDestination, BreaksLast, BreaksLabel, BreaksEnd, BreaksFip}
-use Rattle.sound_code.proofs.Once.{leaves_once, known_once}
+use Rattle.code_rules.specs.declared.rule.SoundRule.{SoundRule}
+use Rattle.code_rules.specs.declared.rule.SoundRule.TheVariants.{S0, S1, S2, S3, S4, S5, S6, S7, S8, S9}
+use Rattle.code_rules.specs.Codes.{PlainCode, PlainFunction, LabelMap, label_at, is_fip}
+use Rattle.code_rules.specs.Fitting.{fit_all}
+use Rattle.code_rules.specs.Ranges.{in_range}
+use Rattle.code_rules.specs.Asked.{sources, destinations}
+use Rattle.code_rules.specs.Leaves.{Leaves, Jumps}
+use Rattle.code_rules.specs.Flow.{is_as_asked, IsInstr, KnownAt, IsReachedAt, GoesTo}
+use Rattle.code_rules.specs.Endings.{is_end, spends_all, releases}
+use Rattle.code_rules.specs.Breaks.{BreaksRange, BreaksSource, BreaksDestination, BreaksLast, BreaksLabel, BreaksEnd, BreaksFip}
+use Rattle.code_rules.proofs.Once.{leaves_once, known_once}
 use Rattle.code_rows.specs.Noting.{InKept}
 use Rattle.code_rows.specs.Rows.{Arrival, jumps, fit_map, fit_at, arrives, is_asked, row_kept}
 use Rattle.code_verify.specs.Steps.{last_kept, fip_kept, known_kept, fits_next, GoesFrom}

@@ -5,9 +5,9 @@ use Rattle.std.proofs.lemmas.Bool.{and_parts, not-true, ltb-true, ltb-false}
 use Rattle.std.proofs.lemmas.Option.{same_Some, none-some}
 use Rattle.fip_language.specs.Table.{Table}
 use Rattle.cell_code.specs.declared.kind.Label.{Label}
-use Rattle.sound_code.specs.Limits.{most_credits, most_results, most_registers}
-use Rattle.sound_code.specs.Codes.{PlainCode, PlainFunction, plain_label}
-use Rattle.sound_code.specs.Headers.{are_params, are_sizes, are_types, are_good_kinds, are_good_maps, is_formed}
+use Rattle.code_rules.specs.Limits.{most_credits, most_results, most_registers}
+use Rattle.code_rules.specs.Codes.{PlainCode, PlainFunction, plain_label}
+use Rattle.code_rules.specs.Headers.{are_params, are_sizes, are_types, are_good_kinds, are_good_maps, is_formed}
 
 -- the parts that are used
 pub record IsForm (c : PlainCode) (f : PlainFunction) : Type 0 where

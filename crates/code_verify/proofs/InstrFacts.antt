@@ -9,11 +9,11 @@ use Rattle.cell_code.specs.declared.code.Instr.{Instr}
 use Rattle.cell_code.specs.declared.code.Instr.TheVariants as I
 use Rattle.cell_code.specs.declared.kind.Kind.{Kind}
 use Rattle.cell_code.specs.declared.kind.Kind.TheVariants.{Gone, Scalar, Owned, Lent, Credit}
-use Rattle.sound_code.specs.Codes.{PlainCode}
-use Rattle.sound_code.specs.Kinds.{at}
-use Rattle.sound_code.specs.Leaves.{Leaves, Jumps}
-use Rattle.sound_code.specs.Endings.{is_end}
-use Rattle.sound_code.specs.Calls.{IsCall}
+use Rattle.code_rules.specs.Codes.{PlainCode}
+use Rattle.code_rules.specs.Kinds.{at}
+use Rattle.code_rules.specs.Leaves.{Leaves, Jumps}
+use Rattle.code_rules.specs.Endings.{is_end}
+use Rattle.code_rules.specs.Calls.{IsCall}
 use Rattle.code_rows.specs.Rows.{Arrival, jumps}
 use Rattle.code_verify.specs.declared.walk.Waiting.{Waiting}
 use Rattle.code_verify.specs.declared.walk.DropType.{DropType}

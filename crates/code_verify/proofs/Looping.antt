@@ -5,10 +5,10 @@ use Rattle.cell_code.specs.declared.code.Code.{Code}
 use Rattle.cell_code.specs.declared.code.Function.{Function}
 use Rattle.cell_code.specs.declared.code.Instr.{Instr}
 use Rattle.cell_code.specs.declared.kind.Kind.{Kind}
-use Rattle.sound_code.specs.Codes.{PlainCode, PlainFunction, LabelMap, plain, plain_function, label_at}
-use Rattle.sound_code.specs.Entry.{entry}
-use Rattle.sound_code.specs.Flow.{IsInstr}
-use Rattle.sound_code.specs.Handing.{kept_if}
+use Rattle.code_rules.specs.Codes.{PlainCode, PlainFunction, LabelMap, plain, plain_function, label_at}
+use Rattle.code_rules.specs.Entry.{entry}
+use Rattle.code_rules.specs.Flow.{IsInstr}
+use Rattle.code_rules.specs.Handing.{kept_if}
 use Rattle.register_kinds.specs.State.{of_types}
 use Rattle.code_rows.specs.Placing.{code_in, with_maps}
 use Rattle.code_verify.specs.declared.walk.Found.{Found}

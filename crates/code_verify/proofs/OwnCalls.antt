@@ -8,14 +8,14 @@ use Rattle.call_groups.specs.CallGraph.{In, group_number, IsPartition, rows, row
 use Rattle.call_groups.specs.CallGraph as G
 use Rattle.call_groups.specs.declared.search.Call.{Call}
 use Rattle.call_groups.specs.declared.search.Partition.{Partition}
-use Rattle.sound_code.specs.declared.rule.SoundRule.{SoundRule}
-use Rattle.sound_code.specs.declared.rule.SoundRule.TheVariants.{S0, S1, S2, S3, S4, S5, S6, S7, S8, S9}
-use Rattle.sound_code.specs.Codes.{PlainCode, PlainFunction, function_at, is_fip}
-use Rattle.sound_code.specs.Headers.{is_formed}
-use Rattle.sound_code.specs.Tables.{AreSoundTables}
-use Rattle.sound_code.specs.Calls.{Calls, CallsAt, SameGroup, AreRows}
-use Rattle.sound_code.specs.Breaks.{BreaksWithin, BreaksFunction, BreaksGroup, Breaks, IsSound, IsLeast, IsBefore}
-use Rattle.sound_code.proofs.Numbers.{groups_in_rows}
+use Rattle.code_rules.specs.declared.rule.SoundRule.{SoundRule}
+use Rattle.code_rules.specs.declared.rule.SoundRule.TheVariants.{S0, S1, S2, S3, S4, S5, S6, S7, S8, S9}
+use Rattle.code_rules.specs.Codes.{PlainCode, PlainFunction, function_at, is_fip}
+use Rattle.code_rules.specs.Headers.{is_formed}
+use Rattle.code_rules.specs.Tables.{AreSoundTables}
+use Rattle.code_rules.specs.Calls.{Calls, CallsAt, SameGroup, AreRows}
+use Rattle.code_rules.specs.Breaks.{BreaksWithin, BreaksFunction, BreaksGroup, Breaks, IsSound, IsLeast, IsBefore}
+use Rattle.code_rules.proofs.Numbers.{groups_in_rows}
 use Rattle.code_rows.specs.declared.least.Violation.{Violation}
 use Rattle.code_rows.specs.Noting.{noted_unless, InKept, Answers}
 use Rattle.code_rows.proofs.Noted.{OrKept, answers_same, answers_noted}

@@ -1,9 +1,9 @@
 -- What a refusal names is the least violation.
 use Rattle.std.proofs.Common.{◌≡◌, ℕ, Result, Ok, Err, ap, subst}
-use Rattle.sound_code.specs.declared.rule.SoundRule.{SoundRule}
-use Rattle.sound_code.specs.declared.rule.SoundRule.TheVariants.{S0}
-use Rattle.sound_code.specs.Codes.{PlainCode}
-use Rattle.sound_code.specs.Breaks.{IsLeast}
+use Rattle.code_rules.specs.declared.rule.SoundRule.{SoundRule}
+use Rattle.code_rules.specs.declared.rule.SoundRule.TheVariants.{S0}
+use Rattle.code_rules.specs.Codes.{PlainCode}
+use Rattle.code_rules.specs.Breaks.{IsLeast}
 use Rattle.code_verify.specs.declared.accept.VerifyError.{VerifyError}
 use Rattle.code_verify.specs.declared.accept.VerifyError.TheVariants.{Unsound, NoMemory}
 

@@ -15,22 +15,22 @@ use Rattle.cell_code.specs.declared.code.Instr.TheVariants as I
 use Rattle.cell_code.specs.declared.kind.Kind.{Kind}
 use Rattle.cell_code.specs.declared.kind.Kind.TheVariants.{Gone, Scalar, Owned, Lent, Credit}
 use Rattle.cell_code.specs.Runnable.{body_of, AreBelow, AreOthers, CanCall, Covers, Row, Follows, IsFunction, IsRunnable}
-use Rattle.sound_code.specs.declared.rule.SoundRule.TheVariants.{S1, S2, S3, S4, S9}
-use Rattle.sound_code.specs.Limits.{most_fields}
-use Rattle.sound_code.specs.Types.{fields, fields_of, count}
-use Rattle.sound_code.specs.Codes.{PlainCode, PlainFunction, plain, plain_function, function_at, params, credits, results, params_of, credits_of, label_at, is_fip}
-use Rattle.sound_code.specs.Kinds.{at, has}
-use Rattle.sound_code.specs.Tables.{AreSoundTables}
-use Rattle.sound_code.specs.Headers.{is_formed}
-use Rattle.sound_code.specs.Ranges.{are_below, is_target, in_range}
-use Rattle.sound_code.specs.Handing.{give, give_all, arguments}
-use Rattle.sound_code.specs.Asked.{only_fields, can_take, is_one, are_places, sources, destinations, tail_left, same_types}
-use Rattle.sound_code.specs.Flow.{is_as_asked, IsInstr, Holds, Comes, KnownAt, IsReachedAt}
-use Rattle.sound_code.specs.Entry.{entry}
-use Rattle.sound_code.specs.Endings.{is_end}
-use Rattle.sound_code.specs.Calls.{IsCall, Calls}
-use Rattle.sound_code.specs.Breaks.{IsSound}
-use Rattle.sound_code.specs.StackNumbers.{words_at, words_of, HasStack}
+use Rattle.code_rules.specs.declared.rule.SoundRule.TheVariants.{S1, S2, S3, S4, S9}
+use Rattle.code_rules.specs.Limits.{most_fields}
+use Rattle.code_rules.specs.Types.{fields, fields_of, count}
+use Rattle.code_rules.specs.Codes.{PlainCode, PlainFunction, plain, plain_function, function_at, params, credits, results, params_of, credits_of, label_at, is_fip}
+use Rattle.code_rules.specs.Kinds.{at, has}
+use Rattle.code_rules.specs.Tables.{AreSoundTables}
+use Rattle.code_rules.specs.Headers.{is_formed}
+use Rattle.code_rules.specs.Ranges.{are_below, is_target, in_range}
+use Rattle.code_rules.specs.Handing.{give, give_all, arguments}
+use Rattle.code_rules.specs.Asked.{only_fields, can_take, is_one, are_places, sources, destinations, tail_left, same_types}
+use Rattle.code_rules.specs.Flow.{is_as_asked, IsInstr, Holds, Comes, KnownAt, IsReachedAt}
+use Rattle.code_rules.specs.Entry.{entry}
+use Rattle.code_rules.specs.Endings.{is_end}
+use Rattle.code_rules.specs.Calls.{IsCall, Calls}
+use Rattle.code_rules.specs.Breaks.{IsSound}
+use Rattle.code_rules.specs.StackNumbers.{words_at, words_of, HasStack}
 use Rattle.code_verify.specs.Checked.{stack_at, stack_or_none, HaveStacks}
 use Rattle.code_verify.specs.Releasing.{AreShort}
 use Rattle.code_verify.specs.Surveying.{Flows}

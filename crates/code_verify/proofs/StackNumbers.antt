@@ -13,15 +13,15 @@ use Rattle.cell_code.specs.declared.code.Code.{Code}
 use Rattle.cell_code.specs.declared.code.Function.{Function}
 use Rattle.cell_code.specs.declared.code.Instr.{Instr}
 use Rattle.cell_code.specs.declared.code.Instr.TheVariants as I
-use Rattle.sound_code.specs.declared.rule.SoundRule.TheVariants.{S7, S8}
-use Rattle.sound_code.specs.Limits as limits
-use Rattle.sound_code.specs.Codes.{PlainCode, PlainFunction, plain, plain_function, function_at, is_fip, is_weak, is_weaker}
-use Rattle.sound_code.specs.Headers.{is_formed}
-use Rattle.sound_code.specs.Tables.{AreSoundTables}
-use Rattle.sound_code.specs.Endings.{releases}
-use Rattle.sound_code.specs.Calls.{IsCall, Calls, SameGroup, AreRows}
-use Rattle.sound_code.specs.Breaks.{BreaksFip, BreaksGroup, IsSound}
-use Rattle.sound_code.specs.StackNumbers.{IsFip, FipCalls, words_of, words_at, IsStack, HasStack}
+use Rattle.code_rules.specs.declared.rule.SoundRule.TheVariants.{S7, S8}
+use Rattle.code_rules.specs.Limits as limits
+use Rattle.code_rules.specs.Codes.{PlainCode, PlainFunction, plain, plain_function, function_at, is_fip, is_weak, is_weaker}
+use Rattle.code_rules.specs.Headers.{is_formed}
+use Rattle.code_rules.specs.Tables.{AreSoundTables}
+use Rattle.code_rules.specs.Endings.{releases}
+use Rattle.code_rules.specs.Calls.{IsCall, Calls, SameGroup, AreRows}
+use Rattle.code_rules.specs.Breaks.{BreaksFip, BreaksGroup, IsSound}
+use Rattle.code_rules.specs.StackNumbers.{IsFip, FipCalls, words_of, words_at, IsStack, HasStack}
 use Rattle.code_verify.specs.declared.walk.Waiting.{Waiting}
 use Rattle.code_verify.specs.declared.walk.DropType.{DropType}
 use Rattle.code_verify.specs.Checked.{stack_or_none, HaveStacks}

@@ -7,13 +7,13 @@ use Rattle.std.proofs.lemmas.Option.{same_Some, none-some, slice_get_within}
 use Rattle.std.proofs.lemmas.List.{length_push}
 use Rattle.call_groups.specs.CallGraph.{In}
 use Rattle.call_groups.specs.declared.search.Call.{Call}
-use Rattle.sound_code.specs.declared.rule.SoundRule.{SoundRule}
-use Rattle.sound_code.specs.declared.rule.SoundRule.TheVariants.{S0, S1, S2, S3, S4, S5, S6, S7, S8, S9}
-use Rattle.sound_code.specs.Codes.{PlainCode, PlainFunction, function_at}
-use Rattle.sound_code.specs.Headers.{is_formed}
-use Rattle.sound_code.specs.Flow.{is_as_asked, IsInstr, IsReachedAt}
-use Rattle.sound_code.specs.Calls.{Calls, CallsAt}
-use Rattle.sound_code.specs.Breaks.{digit, IsBefore}
+use Rattle.code_rules.specs.declared.rule.SoundRule.{SoundRule}
+use Rattle.code_rules.specs.declared.rule.SoundRule.TheVariants.{S0, S1, S2, S3, S4, S5, S6, S7, S8, S9}
+use Rattle.code_rules.specs.Codes.{PlainCode, PlainFunction, function_at}
+use Rattle.code_rules.specs.Headers.{is_formed}
+use Rattle.code_rules.specs.Flow.{is_as_asked, IsInstr, IsReachedAt}
+use Rattle.code_rules.specs.Calls.{Calls, CallsAt}
+use Rattle.code_rules.specs.Breaks.{digit, IsBefore}
 use Rattle.code_rows.specs.declared.least.Violation.{Violation}
 use Rattle.code_rows.specs.Noting.{broken, better_if, Answers}
 use Rattle.code_rows.proofs.Noted.{Both, answers_same, answers_both}

@@ -7,17 +7,17 @@ use Rattle.call_groups.specs.CallGraph.{In}
 use Rattle.cell_code.specs.declared.code.Instr.{Instr}
 use Rattle.cell_code.specs.declared.code.Instr.TheVariants as I
 use Rattle.cell_code.specs.declared.kind.Kind.{Kind}
-use Rattle.sound_code.specs.declared.rule.SoundRule.{SoundRule}
-use Rattle.sound_code.specs.declared.rule.SoundRule.TheVariants.{S1, S5}
-use Rattle.sound_code.specs.Codes.{PlainCode, PlainFunction, label_at}
-use Rattle.sound_code.specs.Handing.{kept_if}
-use Rattle.sound_code.specs.Ranges.{in_range}
-use Rattle.sound_code.specs.Leaves.{Leaves}
-use Rattle.sound_code.specs.Flow.{is_as_asked, IsInstr, Holds, Comes, KnownAt, IsReachedAt}
-use Rattle.sound_code.specs.Entry.{entry}
-use Rattle.sound_code.specs.Endings.{is_end}
-use Rattle.sound_code.specs.Calls.{IsCall}
-use Rattle.sound_code.proofs.Once.{known_once}
+use Rattle.code_rules.specs.declared.rule.SoundRule.{SoundRule}
+use Rattle.code_rules.specs.declared.rule.SoundRule.TheVariants.{S1, S5}
+use Rattle.code_rules.specs.Codes.{PlainCode, PlainFunction, label_at}
+use Rattle.code_rules.specs.Handing.{kept_if}
+use Rattle.code_rules.specs.Ranges.{in_range}
+use Rattle.code_rules.specs.Leaves.{Leaves}
+use Rattle.code_rules.specs.Flow.{is_as_asked, IsInstr, Holds, Comes, KnownAt, IsReachedAt}
+use Rattle.code_rules.specs.Entry.{entry}
+use Rattle.code_rules.specs.Endings.{is_end}
+use Rattle.code_rules.specs.Calls.{IsCall}
+use Rattle.code_rules.proofs.Once.{known_once}
 use Rattle.code_rows.specs.declared.least.Violation.{Violation}
 use Rattle.code_rows.specs.Noting.{noted_unless, noted_all, InKept, Answers}
 use Rattle.code_rows.proofs.Noted.{OrKept, answers_same, answers_noted}

@@ -4,15 +4,15 @@ use Rattle.std.specs.Prelude.{◌≡◌, ℕ, ℤ, true, List, Option, Some, Non
 use Rattle.std.specs.Int.{w64}
 use Rattle.fip_base.specs.declared.plain.Stack.{Stack}
 use Rattle.cell_code.specs.declared.code.Code.{Code}
-use Rattle.sound_code.specs.Codes.{PlainCode, PlainFunction, function_at}
-use Rattle.sound_code.specs.Headers.{is_formed}
-use Rattle.sound_code.specs.StackNumbers.{HasStack}
+use Rattle.code_rules.specs.Codes.{PlainCode, PlainFunction, function_at}
+use Rattle.code_rules.specs.Headers.{is_formed}
+use Rattle.code_rules.specs.StackNumbers.{HasStack}
 use Rattle.cell_code.specs.declared.code.Instr.{Instr}
 use Rattle.cell_code.specs.declared.code.Instr.TheVariants as I
 use Rattle.cell_code.specs.declared.kind.Kind.{Kind}
 use Rattle.cell_code.specs.declared.kind.Kind.TheVariants.{Owned}
-use Rattle.sound_code.specs.Kinds.{at}
-use Rattle.sound_code.specs.Flow.{IsInstr, IsReachedAt}
+use Rattle.code_rules.specs.Kinds.{at}
+use Rattle.code_rules.specs.Flow.{IsInstr, IsReachedAt}
 
 pub record Checked : Type 0 where
   pub code : Code

@@ -5,14 +5,14 @@ use Rattle.std.specs.Prelude.{slice_get}
 use Rattle.call_groups.specs.CallGraph.{In}
 use Rattle.cell_code.specs.declared.code.Instr.{Instr}
 use Rattle.cell_code.specs.declared.kind.Kind.{Kind}
-use Rattle.sound_code.specs.declared.rule.SoundRule.{SoundRule}
-use Rattle.sound_code.specs.declared.rule.SoundRule.TheVariants.{S0, S1, S2, S3, S4, S5, S6, S7, S8, S9}
-use Rattle.sound_code.specs.Codes.{PlainCode, PlainFunction}
-use Rattle.sound_code.specs.Leaves.{Leaves}
-use Rattle.sound_code.specs.Flow.{is_as_asked, IsInstr, Comes, KnownAt, IsReachedAt}
-use Rattle.sound_code.specs.Endings.{is_end}
-use Rattle.sound_code.specs.Calls.{IsCall}
-use Rattle.sound_code.specs.Breaks.{BreaksWithin}
+use Rattle.code_rules.specs.declared.rule.SoundRule.{SoundRule}
+use Rattle.code_rules.specs.declared.rule.SoundRule.TheVariants.{S0, S1, S2, S3, S4, S5, S6, S7, S8, S9}
+use Rattle.code_rules.specs.Codes.{PlainCode, PlainFunction}
+use Rattle.code_rules.specs.Leaves.{Leaves}
+use Rattle.code_rules.specs.Flow.{is_as_asked, IsInstr, Comes, KnownAt, IsReachedAt}
+use Rattle.code_rules.specs.Endings.{is_end}
+use Rattle.code_rules.specs.Calls.{IsCall}
+use Rattle.code_rules.specs.Breaks.{BreaksWithin}
 use Rattle.code_rows.specs.Noting.{Answers}
 use Rattle.code_verify.specs.declared.walk.DropType.{DropType}
 use Rattle.code_verify.specs.declared.walk.Found.{Found}

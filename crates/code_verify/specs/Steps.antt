@@ -6,14 +6,14 @@ use Rattle.cell_code.specs.declared.code.Instr.{Instr}
 use Rattle.cell_code.specs.declared.code.Instr.TheVariants as I
 use Rattle.cell_code.specs.declared.kind.Kind.{Kind}
 use Rattle.cell_code.specs.declared.kind.Kind.TheVariants.{Gone, Scalar, Owned, Lent, Credit}
-use Rattle.sound_code.specs.declared.rule.SoundRule.{SoundRule}
-use Rattle.sound_code.specs.declared.rule.SoundRule.TheVariants.{S1, S4, S5, S7}
-use Rattle.sound_code.specs.Codes.{PlainCode, PlainFunction, is_fip}
-use Rattle.sound_code.specs.Kinds.{at}
-use Rattle.sound_code.specs.Ranges.{in_range}
-use Rattle.sound_code.specs.Leaves.{Leaves}
-use Rattle.sound_code.specs.Flow.{is_as_asked}
-use Rattle.sound_code.specs.Endings.{is_end, releases}
+use Rattle.code_rules.specs.declared.rule.SoundRule.{SoundRule}
+use Rattle.code_rules.specs.declared.rule.SoundRule.TheVariants.{S1, S4, S5, S7}
+use Rattle.code_rules.specs.Codes.{PlainCode, PlainFunction, is_fip}
+use Rattle.code_rules.specs.Kinds.{at}
+use Rattle.code_rules.specs.Ranges.{in_range}
+use Rattle.code_rules.specs.Leaves.{Leaves}
+use Rattle.code_rules.specs.Flow.{is_as_asked}
+use Rattle.code_rules.specs.Endings.{is_end, releases}
 use Rattle.code_rows.specs.declared.least.Violation.{Violation}
 use Rattle.code_rows.specs.Noting.{noted_unless, noted_all}
 use Rattle.code_rows.specs.Rows.{row_kept, fit_at}

@@ -1,7 +1,7 @@
 -- For the proofs alone: what the survey of a code's functions is.
 use Rattle.std.specs.Prelude.{length}
 use Rattle.call_groups.specs.CallGraph.{rows, IsPartition}
-use Rattle.sound_code.specs.Codes.{PlainCode}
+use Rattle.code_rules.specs.Codes.{PlainCode}
 use Rattle.code_rows.specs.Noting.{Answers}
 use Rattle.code_verify.specs.declared.accept.Survey.{Survey}
 use Rattle.code_verify.specs.Surveying.{AreRowsBelow, OtherBelow}

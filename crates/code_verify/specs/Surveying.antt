@@ -9,16 +9,16 @@ use Rattle.call_groups.specs.declared.search.Partition.{Partition}
 use Rattle.cell_code.specs.declared.code.Function.{Function}
 use Rattle.cell_code.specs.declared.code.Instr.{Instr}
 use Rattle.cell_code.specs.declared.kind.Kind.{Kind}
-use Rattle.sound_code.specs.declared.rule.SoundRule.{SoundRule}
-use Rattle.sound_code.specs.declared.rule.SoundRule.TheVariants.{S8, S9}
-use Rattle.sound_code.specs.Codes.{PlainCode, PlainFunction, function_at, is_fip}
-use Rattle.sound_code.specs.Limits.{frame_words}
-use Rattle.sound_code.specs.Headers.{is_formed}
-use Rattle.sound_code.specs.Leaves.{Leaves}
-use Rattle.sound_code.specs.Flow.{is_as_asked, IsInstr, IsReachedAt}
-use Rattle.sound_code.specs.Endings.{is_end}
-use Rattle.sound_code.specs.Calls.{Calls, CallsAt}
-use Rattle.sound_code.specs.Breaks.{BreaksGroup}
+use Rattle.code_rules.specs.declared.rule.SoundRule.{SoundRule}
+use Rattle.code_rules.specs.declared.rule.SoundRule.TheVariants.{S8, S9}
+use Rattle.code_rules.specs.Codes.{PlainCode, PlainFunction, function_at, is_fip}
+use Rattle.code_rules.specs.Limits.{frame_words}
+use Rattle.code_rules.specs.Headers.{is_formed}
+use Rattle.code_rules.specs.Leaves.{Leaves}
+use Rattle.code_rules.specs.Flow.{is_as_asked, IsInstr, IsReachedAt}
+use Rattle.code_rules.specs.Endings.{is_end}
+use Rattle.code_rules.specs.Calls.{Calls, CallsAt}
+use Rattle.code_rules.specs.Breaks.{BreaksGroup}
 use Rattle.code_rows.specs.declared.least.Violation.{Violation}
 use Rattle.code_rows.specs.Noting.{noted_unless, Answers}
 use Rattle.code_verify.specs.declared.walk.Waiting.{Waiting}

@@ -2,11 +2,11 @@
 ghost use Rattle.std.specs.Prelude.{◌≡◌, ◌<◌, ◌==◌, not, ℕ, [], length, map, slice_get, Some, Err, IfOk, IsTrue};
 ghost use Rattle.std.specs.Prelude.{if◌then◌else◌};
 ghost use Rattle.call_groups.specs.CallGraph.{group_number};
-ghost use Rattle.sound_code.specs.declared.rule.SoundRule.{SoundRule};
-ghost use Rattle.sound_code.specs.declared.rule.SoundRule.TheVariants.{S8, S9};
-ghost use Rattle.sound_code.specs.Breaks.{IsLeast, IsSound};
-ghost use Rattle.sound_code.specs.Codes.{plain, is_fip};
-ghost use Rattle.sound_code.specs.Tables.{AreSoundTables};
+ghost use Rattle.code_rules.specs.declared.rule.SoundRule.{SoundRule};
+ghost use Rattle.code_rules.specs.declared.rule.SoundRule.TheVariants.{S8, S9};
+ghost use Rattle.code_rules.specs.Breaks.{IsLeast, IsSound};
+ghost use Rattle.code_rules.specs.Codes.{plain, is_fip};
+ghost use Rattle.code_rules.specs.Tables.{AreSoundTables};
 ghost use Rattle.code_rows.specs.Noting.{broken, noted_unless, Answers};
 ghost use Rattle.code_verify.specs.Surveying.{IsFoundOf, OwnBelow, own_noted, row_at, frame_of};
 ghost use Rattle.code_verify.specs.Survey.{IsSurvey};
@@ -23,7 +23,7 @@ use code_tables::are_sound_tables;
 use fip_base::plain::{NoMemory, Stack};
 use fip_language::limits::FRAME_WORDS;
 use register_kinds::Table;
-use sound_code::SoundRule;
+use code_rules::SoundRule;
 use std::alloc::Global;
 use thiserror::Error;
 

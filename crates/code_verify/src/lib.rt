@@ -10,5 +10,5 @@ mod verified;
 mod walk;
 
 pub use accept::{VerifyError, verify};
-pub use sound_code::SoundRule;
+pub use code_rules::SoundRule;
 pub use verified::Verified;

@@ -2,10 +2,10 @@
 ghost use Rattle.std.specs.Prelude.{◌≡◌, ◌↔◌, ◌<◌, ◌≤◌, ℕ, Some, length, slice_get};
 ghost use Rattle.call_groups.specs.CallGraph.{In};
 ghost use Rattle.cell_code.specs.Runnable.{IsRunnable};
-ghost use Rattle.sound_code.specs.Breaks.{IsSound};
-ghost use Rattle.sound_code.specs.Codes.{plain};
-ghost use Rattle.sound_code.specs.StackNumbers.{HasStack};
-ghost use Rattle.sound_code.specs.Tables.{AreSoundTables};
+ghost use Rattle.code_rules.specs.Breaks.{IsSound};
+ghost use Rattle.code_rules.specs.Codes.{plain};
+ghost use Rattle.code_rules.specs.StackNumbers.{HasStack};
+ghost use Rattle.code_rules.specs.Tables.{AreSoundTables};
 ghost use Rattle.code_verify.specs.Checked.{HasMachineInts, ReleasesAt, stack_at};
 ghost use Rattle.code_verify.specs.Surveying.{row_at};
 ghost use Rattle.code_verify.specs.Finding.{AreInOrder};

@@ -1,13 +1,13 @@
 // A walk over a function's instructions.
 ghost use Rattle.std.specs.Prelude.{◌≡◌, ◌<◌, ◌++◌, [], slice_get, length, None, Some, IfOk, OnOk, true, FitsSigned};
 ghost use Rattle.std.specs.Int.{w64};
-ghost use Rattle.sound_code.specs.Codes.{plain, plain_function, label_at};
-ghost use Rattle.sound_code.specs.Kinds.{at};
-ghost use Rattle.sound_code.specs.Ranges.{in_range};
-ghost use Rattle.sound_code.specs.Headers as headers;
-ghost use Rattle.sound_code.specs.Handing.{kept_if};
+ghost use Rattle.code_rules.specs.Codes.{plain, plain_function, label_at};
+ghost use Rattle.code_rules.specs.Kinds.{at};
+ghost use Rattle.code_rules.specs.Ranges.{in_range};
+ghost use Rattle.code_rules.specs.Headers as headers;
+ghost use Rattle.code_rules.specs.Handing.{kept_if};
 ghost use Rattle.code_verify.specs.Checked.{HasMachineInt};
-ghost use Rattle.sound_code.specs.declared.rule.SoundRule.TheVariants.{S1};
+ghost use Rattle.code_rules.specs.declared.rule.SoundRule.TheVariants.{S1};
 ghost use Rattle.code_rows.specs.Noting.{noted_unless};
 ghost use Rattle.code_rows.specs.Placing.{code_of, function_of};
 ghost use Rattle.code_verify.specs.Steps.{last_kept, fip_kept, asked, GoesAfter, here, Took};
@@ -22,7 +22,7 @@ use code_rows::{
 };
 use fip_base::plain::NoMemory;
 use register_kinds::{Registers, Table};
-use sound_code::SoundRule;
+use code_rules::SoundRule;
 use std::alloc::Global;
 
 /// A call outside tail position: its instruction, and the function that is called.

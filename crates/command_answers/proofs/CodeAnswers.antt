@@ -7,23 +7,23 @@ use Rattle.fip_outside.specs.Files.{File, file_of}
 use Rattle.fip_language.proofs.Search.{le_or_less}
 use Rattle.fip_language.specs.declared.limits.TheConstants.{MOST_FILE_BYTES}
 use Rattle.fip_language.specs.declared.rule.Rule.TheVariants.{E61}
-use Rattle.command_line.specs.Words.{Verify, Upgrade, Replay}
+use Rattle.command_words.specs.Words.{Verify, Upgrade, Replay}
 use Rattle.command_outcome.specs.Successes.{function_text}
 use Rattle.command_outcome.specs.declared.failure.Failure.TheVariants as F
 use Rattle.command_outcome.specs.declared.failure.Object.TheVariants as O
 use Rattle.code_file.specs.CodeText.{CodeText, code_text}
 use Rattle.code_file.specs.Plain.{PlainCode}
 use Rattle.code_file.specs.declared.tags.Version.TheVariants.{Second}
-use Rattle.sound_code.specs.Breaks.{IsSound}
-use Rattle.sound_code.specs.Codes as S
-use Rattle.sound_code.proofs.Numbers.{has_once}
-use Rattle.code_stacks.proofs.Numbers.{has_stack}
-use Rattle.loaded_runs.specs.Replaying.{replayed}
-use Rattle.loaded_runs.specs.TraceReading.{IsBadTrace, IsTraceFile}
-use Rattle.loaded_runs.specs.TraceText.{Trace}
-use Rattle.loaded_runs.proofs.Either.{is_one, one_trace, not_both, one_place}
+use Rattle.code_rules.specs.Breaks.{IsSound}
+use Rattle.code_rules.specs.Codes as S
+use Rattle.code_rules.proofs.Numbers.{has_once}
+use Rattle.separation_bounds.proofs.Numbers.{has_stack}
+use Rattle.run_loading.specs.Replaying.{replayed}
+use Rattle.run_loading.specs.TraceReading.{IsBadTrace, IsTraceFile}
+use Rattle.run_loading.specs.TraceText.{Trace}
+use Rattle.run_loading.proofs.Either.{is_one, one_trace, not_both, one_place}
 use Rattle.source_report.specs.Report.{bare}
-use Rattle.source_commands.specs.Codes.{sound_view, IsSoundFile, IsLine, AreLines, IsCodeListing, IsUpgraded, IsUnspelt}
+use Rattle.command_source.specs.Codes.{sound_view, IsSoundFile, IsLine, AreLines, IsCodeListing, IsUpgraded, IsUnspelt}
 use Rattle.command_answers.specs.Answer.{OnCode, CodeRefused, CodeSound, Verified, OnFound, ComesTo}
 use Rattle.command_answers.specs.Outcomes.{Outcome, printed, failed, storing}
 use Rattle.command_answers.specs.Replays.{Replays, BadTrace, Shown}

@@ -6,22 +6,22 @@ use Rattle.fip_language.specs.declared.limits.TheConstants.{MOST_FILE_BYTES}
 use Rattle.fip_language.specs.declared.rule.Rule.TheVariants.{E70}
 use Rattle.fip_language.specs.Table.{Shape}
 use Rattle.fip_language.specs.Values.{Node, End}
-use Rattle.sound_code.specs.Tables.{bare, IsSoundShape, IsSoundType, AreSoundTables}
-use Rattle.sound_code.specs.Breaks.{IsSound}
-use Rattle.command_line.specs.Words.{Room}
+use Rattle.code_rules.specs.Tables.{bare, IsSoundShape, IsSoundType, AreSoundTables}
+use Rattle.code_rules.specs.Breaks.{IsSound}
+use Rattle.command_words.specs.Words.{Room}
 use Rattle.command_outcome.specs.Successes.{derived_text}
 use Rattle.command_outcome.specs.declared.failure.Failure.TheVariants as F
 use Rattle.code_file.specs.CodeText.{CodeText, code_text, table_text, type_text, shape_text, types_text, functions_text}
 use Rattle.code_file.specs.Spelling.{◌+++◌, each, one, two, four, upper_name_text, name_text}
 use Rattle.code_file.specs.declared.tags.Version.TheVariants.{Second}
-use Rattle.source_commands.specs.Codes.{sound_view, names_one, IsSoundFile, IsCodeListing, IsUpgraded}
-use Rattle.source_commands.specs.Roots.{IsListing}
-use Rattle.source_commands.specs.Wanted.{Lawful, Root, Compiled, IsReady, Refuses, of_entry}
-use Rattle.session_meaning.specs.Lines.{Symbol, Line, Calls, Shows, GivesUp, SpellsLine}
-use Rattle.session_meaning.specs.Talk as T
-use Rattle.session_meaning.specs.Talk.{Setting, at_first}
-use Rattle.session_meaning.specs.Turns as U
-use Rattle.session_meaning.specs.Turns.{Task, IsTask}
+use Rattle.command_source.specs.Codes.{sound_view, names_one, IsSoundFile, IsCodeListing, IsUpgraded}
+use Rattle.command_source.specs.Roots.{IsListing}
+use Rattle.command_source.specs.Wanted.{Lawful, Root, Compiled, IsReady, Refuses, of_entry}
+use Rattle.session_semantics.specs.Lines.{Symbol, Line, Calls, Shows, GivesUp, SpellsLine}
+use Rattle.session_semantics.specs.Talk as T
+use Rattle.session_semantics.specs.Talk.{Setting, at_first}
+use Rattle.session_semantics.specs.Turns as U
+use Rattle.session_semantics.specs.Turns.{Task, IsTask}
 use Rattle.command_answers.specs.OfProgram.{IsCodeOf}
 use Rattle.command_answers.specs.Outcomes.{printed, failed, storing}
 use Rattle.command_answers.specs.Answer as A

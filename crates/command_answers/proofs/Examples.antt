@@ -3,13 +3,13 @@ use Rattle.std.proofs.Common.{◌≡◌, pos, true, [], ◌∷◌, ◌++◌, Som
 use Rattle.std.specs.Prelude.{codes}
 use Rattle.std.specs.Fmt.{decimal}
 use Rattle.fip_language.specs.Values.{End, More}
-use Rattle.flat_meaning.specs.Meaning.{flat_meaning}
-use Rattle.flat_meaning.specs.Example.{lists}
+use Rattle.instance_semantics.specs.Meaning.{flat_meaning}
+use Rattle.instance_semantics.specs.Example.{lists}
 use Rattle.command_outcome.specs.Successes.{tree_text}
 use Rattle.command_outcome.specs.declared.failure.Failure.TheVariants as F
 use Rattle.command_answers.specs.Exec.{TellsAll}
 use Rattle.command_answers.specs.Stored.{Weakens}
-use Rattle.library_commands.specs.MadeTree.{keys_line, pads_line, lines_of_tree}
+use Rattle.command_library.specs.MadeTree.{keys_line, pads_line, lines_of_tree}
 use Rattle.command_answers.specs.Example.{three_items, reversing, four_lines, increasing, increased_lines, cons, nil}
 use Rattle.command_answers.specs.Example.{three_keys, weakened, weakened_in_vain, weakened_twice}
 

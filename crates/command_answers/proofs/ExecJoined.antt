@@ -16,18 +16,18 @@ use Rattle.fip_base.specs.declared.plain.Stack.{Stack}
 use Rattle.fip_trees.specs.declared.groups.Member.{Member}
 use Rattle.fip_trees.specs.Tree.{Program}
 use Rattle.tail_groups.specs.Members.{AreMembers}
-use Rattle.command_line.specs.Words.{Room}
+use Rattle.command_words.specs.Words.{Room}
 use Rattle.command_outcome.specs.declared.failure.Failure.{Failure}
 use Rattle.command_outcome.specs.declared.failure.Failure.TheVariants as F
-use Rattle.session_meaning.specs.Talk.{credits_of, frames_of, frames_by}
-use Rattle.meant_runs.specs.Gauges.{IsMeasured}
-use Rattle.eval_command.specs.EvalAnswer.{Entry, Spells}
-use Rattle.eval_command.proofs.Once.{one_program, one_root, typed_alike, one_text}
-use Rattle.run_command.specs.CodeRun.{all_seen}
-use Rattle.run_command.specs.ExecAnswer as R
-use Rattle.run_command.specs.ExecAnswer.{RunsOn}
-use Rattle.run_command.specs.GaugeText.{stack_lines}
-use Rattle.run_command.proofs.ExecOnce.{member_at, sizes_alike, behind_alike, measured_alike, answers_alike, words_alike, spelt_alike}
+use Rattle.session_semantics.specs.Talk.{credits_of, frames_of, frames_by}
+use Rattle.machine_correctness.specs.Gauges.{IsMeasured}
+use Rattle.command_eval.specs.EvalAnswer.{Entry, Spells}
+use Rattle.command_eval.proofs.Once.{one_program, one_root, typed_alike, one_text}
+use Rattle.command_run.specs.CodeRun.{all_seen}
+use Rattle.command_run.specs.ExecAnswer as R
+use Rattle.command_run.specs.ExecAnswer.{RunsOn}
+use Rattle.command_run.specs.GaugeText.{stack_lines}
+use Rattle.command_run.proofs.ExecOnce.{member_at, sizes_alike, behind_alike, measured_alike, answers_alike, words_alike, spelt_alike}
 use Rattle.command_answers.specs.Exec as X
 use Rattle.command_answers.specs.Exec.{Start, Running, run_of, gauge_by_trees}
 use Rattle.command_answers.specs.GaugeText.{gauge_text, gauge_by_states, if_asked, highest_of, lowest_of}

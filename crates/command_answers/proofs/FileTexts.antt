@@ -15,10 +15,10 @@ use Rattle.code_file.proofs.Readers.{Front}
 use Rattle.code_file.specs.declared.tags.Version.{Version}
 use Rattle.code_file.proofs.Fields.{front_only}
 use Rattle.code_file.proofs.InstrTexts.{const_is}
-use Rattle.sound_code.specs.Codes as S
-use Rattle.row_soundness.specs.Rows.{FitsLiteral}
-use Rattle.code_separation.specs.Codes.{HasLiterals}
-use Rattle.source_commands.specs.Codes.{sound_function, sound_view}
+use Rattle.code_rules.specs.Codes as S
+use Rattle.separation.specs.Rows.{FitsLiteral}
+use Rattle.separation.specs.Codes.{HasLiterals}
+use Rattle.command_source.specs.Codes.{sound_function, sound_view}
 
 -- ---- pieces
 

@@ -5,23 +5,23 @@ use Rattle.fip_language.specs.Character.{characters}
 use Rattle.fip_language.specs.PrintedText.{printed_lines}
 use Rattle.fip_language.specs.Table.{HaveTypes}
 use Rattle.fip_language.specs.Values.{Values}
-use Rattle.command_line.specs.Words.{Room}
+use Rattle.command_words.specs.Words.{Room}
 use Rattle.command_outcome.specs.declared.failure.Failure.{Failure}
-use Rattle.code_runs.specs.Runs as R
-use Rattle.code_runs.specs.States.{State}
-use Rattle.sound_code.specs.Codes as S
-use Rattle.code_separation.specs.Starts.{IsStart}
-use Rattle.code_separation.proofs.Loading.{loaded_is}
-use Rattle.tree_agreement.specs.Runs.{BeginsWith}
-use Rattle.loaded_runs.specs.Loading.{first_store, first_words}
-use Rattle.loaded_runs.proofs.Begins.{begins}
-use Rattle.tree_gauges.proofs.Overs.{seen_at_end}
+use Rattle.machine_semantics.specs.Runs as R
+use Rattle.machine_semantics.specs.States.{State}
+use Rattle.code_rules.specs.Codes as S
+use Rattle.separation.specs.Starts.{IsStart}
+use Rattle.separation.proofs.Loading.{loaded_is}
+use Rattle.tree_refinement.specs.Runs.{BeginsWith}
+use Rattle.run_loading.specs.Loading.{first_store, first_words}
+use Rattle.run_loading.proofs.Begins.{begins}
+use Rattle.tree_refinement.proofs.Overs.{seen_at_end}
 use Rattle.value_text.specs.Loaded.{types_of}
 use Rattle.value_text.proofs.Typed.{input_typed}
-use Rattle.source_commands.specs.Codes.{sound_view, HasFunction}
-use Rattle.run_command.specs.CodeRun as D
-use Rattle.run_command.specs.GaugeText.{gauge_by_states, if_asked}
-use Rattle.run_command.proofs.CodeOnce.{code_run_once}
+use Rattle.command_source.specs.Codes.{sound_view, HasFunction}
+use Rattle.command_run.specs.CodeRun as D
+use Rattle.command_run.specs.GaugeText.{gauge_by_states, if_asked}
+use Rattle.command_run.proofs.CodeOnce.{code_run_once}
 use Rattle.command_answers.specs.CodeRun.{Chosen, SpellsFor, RunOf, frames_for, TellsCode, RunsCode, BadText, Small, Ran}
 use Rattle.command_answers.specs.Outcomes.{End, Outcome}
 use Rattle.command_answers.proofs.FileTexts.{literals}

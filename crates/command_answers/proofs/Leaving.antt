@@ -4,10 +4,10 @@ use Rattle.fip_outside.specs.Files.{File, file_of}
 use Rattle.fip_language.specs.Values.{Values}
 use Rattle.fip_language.specs.Meaning.{Answer, Gives, Trap, Out, Deep, Stuck, Peak}
 use Rattle.fip_trees.specs.Tree.{Program}
-use Rattle.command_line.specs.Words.{Request, Command, Check, Compile, Verify, Upgrade, Exec, Run, Eval, Trace, Session}
-use Rattle.command_line.specs.Words.{Tasks, Derive, Audit, Replay, Library, Gen, Room}
-use Rattle.code_runs.specs.Runs as R
-use Rattle.source_commands.specs.Wanted.{Wanted}
+use Rattle.command_words.specs.Words.{Request, Command, Check, Compile, Verify, Upgrade, Exec, Run, Eval, Trace, Session}
+use Rattle.command_words.specs.Words.{Tasks, Derive, Audit, Replay, Library, Gen, Room}
+use Rattle.machine_semantics.specs.Runs as R
+use Rattle.command_source.specs.Wanted.{Wanted}
 use Rattle.command_answers.specs.Outcomes.{End, Left, Outcome}
 use Rattle.command_answers.specs.Exec as X
 use Rattle.command_answers.specs.Exec.{Running, TellsRun, Execs, Traces}

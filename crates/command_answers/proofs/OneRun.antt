@@ -9,23 +9,23 @@ use Rattle.fip_language.specs.Gauge.{Seen}
 use Rattle.fip_language.specs.Prefix.{IsPlace}
 use Rattle.fip_language.specs.PrintedText.{printed_lines}
 use Rattle.fip_language.specs.Values.{Values}
-use Rattle.command_line.specs.Words.{Room}
+use Rattle.command_words.specs.Words.{Room}
 use Rattle.command_outcome.specs.declared.failure.Failure.TheVariants as F
-use Rattle.code_runs.specs.Cells.{Store}
-use Rattle.code_runs.specs.Gauges.{seen}
-use Rattle.code_runs.specs.Runs as R
-use Rattle.code_runs.specs.States.{State}
-use Rattle.sound_code.specs.Codes as S
-use Rattle.code_separation.specs.Codes.{run_code}
-use Rattle.code_separation.specs.Starts.{IsStart}
-use Rattle.code_bounds.proofs.Ending.{ends_once, seen_once}
-use Rattle.tree_agreement.specs.Agreement.{AreWordsOf}
-use Rattle.loaded_runs.proofs.Begins.{begins}
-use Rattle.session_meaning.specs.Talk.{frames_of}
+use Rattle.machine_semantics.specs.Cells.{Store}
+use Rattle.machine_semantics.specs.Gauges.{seen}
+use Rattle.machine_semantics.specs.Runs as R
+use Rattle.machine_semantics.specs.States.{State}
+use Rattle.code_rules.specs.Codes as S
+use Rattle.separation.specs.Codes.{run_code}
+use Rattle.separation.specs.Starts.{IsStart}
+use Rattle.separation_bounds.proofs.Ending.{ends_once, seen_once}
+use Rattle.tree_refinement.specs.Agreement.{AreWordsOf}
+use Rattle.run_loading.proofs.Begins.{begins}
+use Rattle.session_semantics.specs.Talk.{frames_of}
 use Rattle.value_text.specs.Loaded.{types_of}
 use Rattle.value_text.proofs.Typed.{input_typed}
-use Rattle.source_commands.specs.Codes.{sound_view}
-use Rattle.run_command.proofs.CodeOnce.{What, IsWhat, what, what_is, same_what, Spelt, words_of, results_once, values_once}
+use Rattle.command_source.specs.Codes.{sound_view}
+use Rattle.command_run.proofs.CodeOnce.{What, IsWhat, what, what_is, same_what, Spelt, words_of, results_once, values_once}
 use Rattle.command_answers.specs.CodeRun as C
 use Rattle.command_answers.specs.CodeRun.{Chosen, gauge_by_states, TellsCode, RunsCode}
 use Rattle.command_answers.specs.GaugeText.{if_asked}

@@ -9,7 +9,7 @@ use Rattle.fip_language.proofs.OnePlace.{IsPlace-unique, IsPlace-not_spelt}
 use Rattle.fip_language.proofs.Search.{le_or_less}
 use Rattle.fip_language.specs.declared.limits.TheConstants.{MOST_FILE_BYTES}
 use Rattle.fip_language.specs.declared.rule.Rule.TheVariants.{E70}
-use Rattle.command_line.specs.Words.{Request, Run, Room}
+use Rattle.command_words.specs.Words.{Request, Run, Room}
 use Rattle.command_outcome.specs.declared.failure.Failure.{Failure}
 use Rattle.command_outcome.specs.declared.failure.Failure.TheVariants as F
 use Rattle.command_outcome.specs.declared.failure.Object.TheVariants as O
@@ -18,13 +18,13 @@ use Rattle.code_file.specs.Plain.{PlainCode}
 use Rattle.code_file.specs.Reading.{Answer, Got, Stop, read_all, code_reader}
 use Rattle.code_file.specs.declared.tags.Version.{Version}
 use Rattle.code_file.proofs.Whole.{one_code, read_text, read_place}
-use Rattle.sound_code.specs.Breaks.{IsSound, Breaks, IsLeast, IsBefore, digit}
-use Rattle.sound_code.specs.Codes as S
-use Rattle.sound_code.specs.declared.rule.SoundRule.{SoundRule}
-use Rattle.sound_code.proofs.Order.{least_once}
-use Rattle.code_stacks.proofs.Solving.{least_one}
-use Rattle.source_commands.specs.Codes.{sound_view, IsSoundFile, RefusesCode, LongFile, BadFile, UnsoundFile, has_named, names_one, HasFunction}
-use Rattle.source_commands.specs.Wanted.{of_entry}
+use Rattle.code_rules.specs.Breaks.{IsSound, Breaks, IsLeast, IsBefore, digit}
+use Rattle.code_rules.specs.Codes as S
+use Rattle.code_rules.specs.declared.rule.SoundRule.{SoundRule}
+use Rattle.code_rules.proofs.Order.{least_once}
+use Rattle.separation_bounds.proofs.Solving.{least_one}
+use Rattle.command_source.specs.Codes.{sound_view, IsSoundFile, RefusesCode, LongFile, BadFile, UnsoundFile, has_named, names_one, HasFunction}
+use Rattle.command_source.specs.Wanted.{of_entry}
 use Rattle.command_answers.specs.Answer.{OnCode, CodeRefused, CodeSound, RunsFile, NoFunction, LongInput, Runs, OnFound, ComesTo}
 use Rattle.command_answers.specs.CodeRun as C
 use Rattle.command_answers.specs.CodeRun.{Chosen, RunsCode}

@@ -11,27 +11,27 @@ use Rattle.fip_language.specs.PrintedText.{printed_lines}
 use Rattle.fip_language.specs.SoundTable.{AreTypes, IsSoundTable}
 use Rattle.fip_language.specs.Table.{Table, HaveTypes}
 use Rattle.fip_language.specs.Values.{Values}
-use Rattle.command_line.specs.Words.{Room}
+use Rattle.command_words.specs.Words.{Room}
 use Rattle.command_outcome.specs.declared.failure.Failure.TheVariants as F
 use Rattle.code_file.specs.Plain.{PlainCode}
-use Rattle.code_runs.specs.Runs as R
-use Rattle.sound_code.specs.Codes as S
-use Rattle.sound_code.specs.Tables.{AreSoundTables}
-use Rattle.code_separation.proofs.KindsFound.{kinds_found}
-use Rattle.code_separation.proofs.Sound.{formed, has_form}
-use Rattle.code_bounds.proofs.Ending.{run_ends}
-use Rattle.code_stacks.proofs.Numbers.{has_stack}
-use Rattle.tree_agreement.specs.Runs as A
-use Rattle.tree_agreement.proofs.Running.{trees_end}
-use Rattle.loaded_runs.proofs.Begins.{begins, is_loaded}
+use Rattle.machine_semantics.specs.Runs as R
+use Rattle.code_rules.specs.Codes as S
+use Rattle.code_rules.specs.Tables.{AreSoundTables}
+use Rattle.separation.proofs.KindsFound.{kinds_found}
+use Rattle.separation.proofs.Sound.{formed, has_form}
+use Rattle.separation_bounds.proofs.Ending.{run_ends}
+use Rattle.separation_bounds.proofs.Numbers.{has_stack}
+use Rattle.tree_refinement.specs.Runs as A
+use Rattle.tree_refinement.proofs.Running.{trees_end}
+use Rattle.run_loading.proofs.Begins.{begins, is_loaded}
 use Rattle.value_text.specs.Loaded.{types_of}
 use Rattle.value_text.specs.Machine.{step, final, start}
 use Rattle.value_text.proofs.Exact.{accepted_text, stopped_text}
 use Rattle.value_text.proofs.Tables.{is_table, types_alive}
 use Rattle.value_text.proofs.Typed.{input_typed}
-use Rattle.source_commands.specs.Codes.{sound_view, IsSoundFile, has_named, names_one, HasFunction}
-use Rattle.run_command.proofs.FileTypes.{file_spelt}
-use Rattle.run_command.proofs.RunTables.{tables, sound_table, params_known}
+use Rattle.command_source.specs.Codes.{sound_view, IsSoundFile, has_named, names_one, HasFunction}
+use Rattle.command_run.proofs.FileTypes.{file_spelt}
+use Rattle.command_run.proofs.RunTables.{tables, sound_table, params_known}
 use Rattle.command_answers.specs.CodeRun.{Chosen, SpellsFor, RunOf, frames_for, gauge_by_states, TellsCode, RunsCode, BadText, Small, Ran}
 use Rattle.command_answers.specs.GaugeText.{if_asked}
 use Rattle.command_answers.specs.Outcomes.{End, Outcome, failed, ran}

@@ -2,7 +2,7 @@
 use Rattle.std.proofs.Common.{◌≡◌, ◌≢◌, ℕ, List, [], Some, None, Ok, Err, refl}
 use Rattle.std.specs.Prelude.{Option}
 use Rattle.fip_outside.specs.Files.{File}
-use Rattle.command_line.specs.Words.{Command, IsCommand}
+use Rattle.command_words.specs.Words.{Command, IsCommand}
 use Rattle.command_outcome.specs.Failures.{failure_status}
 use Rattle.command_outcome.specs.declared.failure.Failure.{Failure}
 use Rattle.command_outcome.specs.declared.failure.Failure.TheVariants as F

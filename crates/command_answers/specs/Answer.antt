@@ -15,17 +15,17 @@ use Rattle.std.specs.Prelude.{◌≡◌, ◌<◌, ◌≤◌, ℕ, false, List, [
 use Rattle.fip_language.specs.declared.limits.TheConstants.{MOST_FILE_BYTES}
 use Rattle.fip_language.specs.declared.rule.Rule.TheVariants.{E70}
 use Rattle.fip_outside.specs.Files.{File, file_of, put_file}
-use Rattle.command_line.specs.Words.{Request, Command, Check, Compile, Verify, Upgrade, Exec, Run, Eval, Trace, Session}
-use Rattle.command_line.specs.Words.{Tasks, Derive, Audit, Replay, Library, Gen, IsCommand}
+use Rattle.command_words.specs.Words.{Request, Command, Check, Compile, Verify, Upgrade, Exec, Run, Eval, Trace, Session}
+use Rattle.command_words.specs.Words.{Tasks, Derive, Audit, Replay, Library, Gen, IsCommand}
 use Rattle.command_outcome.specs.Failures.{failure_status, failure_text}
 use Rattle.command_outcome.specs.declared.failure.Failure.{Failure}
 use Rattle.command_outcome.specs.declared.failure.Failure.TheVariants as F
 use Rattle.command_outcome.specs.declared.failure.Object.TheVariants as O
 use Rattle.code_file.specs.Plain.{PlainCode}
-use Rattle.source_commands.specs.Codes.{sound_view, IsSoundFile, RefusesCode, IsCodeListing, names_one, HasFunction}
-use Rattle.source_commands.specs.Roots.{IsListing}
-use Rattle.source_commands.specs.Wanted.{Wanted, Refuses, IsReady, of_entry}
-use Rattle.eval_command.specs.EvalAnswer.{Evaluates}
+use Rattle.command_source.specs.Codes.{sound_view, IsSoundFile, RefusesCode, IsCodeListing, names_one, HasFunction}
+use Rattle.command_source.specs.Roots.{IsListing}
+use Rattle.command_source.specs.Wanted.{Wanted, Refuses, IsReady, of_entry}
+use Rattle.command_eval.specs.EvalAnswer.{Evaluates}
 use Rattle.command_answers.specs.Outcomes.{End, Left, Outcome, printed, failed, ended}
 use Rattle.command_answers.specs.Asks.{ReadsInput, stored_name, fetched_name, wanted}
 use Rattle.command_answers.specs.Exec.{Execs, Traces}

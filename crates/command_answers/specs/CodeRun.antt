@@ -10,13 +10,13 @@ use Rattle.std.specs.Prelude.{◌≡◌, ◌<◌, ◌≤◌, ℕ, Bool, List, �
 use Rattle.fip_language.specs.Prefix.{IsPlace}
 use Rattle.fip_language.specs.PrintedText.{printed_lines}
 use Rattle.fip_language.specs.Values.{Values}
-use Rattle.command_line.specs.Words.{Room}
+use Rattle.command_words.specs.Words.{Room}
 use Rattle.command_outcome.specs.declared.failure.Failure.TheVariants as F
-use Rattle.code_runs.specs.Runs.{Value, Trap, Out, Deep, Unsound}
-use Rattle.code_runs.specs.Runs as R
-use Rattle.tree_agreement.specs.Agreement.{AreWordsOf}
-pub use Rattle.run_command.specs.CodeRun.{Chosen, SpellsFor, frames_for}
-pub use Rattle.run_command.specs.GaugeText.{gauge_by_states}
+use Rattle.machine_semantics.specs.Runs.{Value, Trap, Out, Deep, Unsound}
+use Rattle.machine_semantics.specs.Runs as R
+use Rattle.tree_refinement.specs.Agreement.{AreWordsOf}
+pub use Rattle.command_run.specs.CodeRun.{Chosen, SpellsFor, frames_for}
+pub use Rattle.command_run.specs.GaugeText.{gauge_by_states}
 use Rattle.command_answers.specs.Outcomes.{End, Outcome, failed, ran}
 use Rattle.command_answers.specs.GaugeText.{if_asked}
 use Rattle.command_answers.specs.Runs.{words_for, Run, all_seen}

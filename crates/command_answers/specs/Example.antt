@@ -2,11 +2,11 @@
 use Rattle.std.specs.Prelude.{ℕ, pos, List, [], ◌∷◌, ◌++◌, Some, None}
 use Rattle.fip_language.specs.Values.{Value, Int, Node, Values, End, More}
 use Rattle.fip_language.specs.PrintedText.{printed_lines}
-use Rattle.flat_meaning.specs.Example.{lists, rev, inc, ints}
+use Rattle.instance_semantics.specs.Example.{lists, rev, inc, ints}
 use Rattle.command_outcome.specs.Texts.{cells_text, stack_text, bound_text}
 use Rattle.derivation_trees.specs.declared.derivation.RuleName.TheVariants as R
 use Rattle.derivation_trees.specs.Trees.{Tree, Branch, NoTrees, MoreTrees}
-use Rattle.session_meaning.specs.Example.{needs_words}
+use Rattle.session_semantics.specs.Example.{needs_words}
 use Rattle.command_answers.specs.Exec.{Running}
 
 abbrev pub nil : Value

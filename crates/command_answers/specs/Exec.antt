@@ -27,13 +27,13 @@ use Rattle.fip_base.specs.declared.plain.Stack.{Stack}
 use Rattle.fip_trees.specs.declared.groups.Member.{Member}
 use Rattle.fip_trees.specs.Tree.{Instance}
 use Rattle.tail_groups.specs.Members.{AreMembers}
-use Rattle.command_line.specs.Words.{Room}
+use Rattle.command_words.specs.Words.{Room}
 use Rattle.command_outcome.specs.declared.failure.Failure.TheVariants as F
 use Rattle.source_report.specs.Report.{bare}
-use Rattle.eval_command.specs.EvalAnswer.{Entry, Spells}
-use Rattle.session_meaning.specs.Talk.{frames_by}
-use Rattle.lowered_code.specs.Bodies.{function_of}
-use Rattle.loaded_runs.specs.TraceText.{IsTraceText}
+use Rattle.command_eval.specs.EvalAnswer.{Entry, Spells}
+use Rattle.session_semantics.specs.Talk.{frames_by}
+use Rattle.lowering_relation.specs.LoweredBodies.{function_of}
+use Rattle.run_loading.specs.TraceText.{IsTraceText}
 use Rattle.command_answers.specs.Outcomes.{End, Left, Outcome, failed, ran}
 use Rattle.command_answers.specs.GaugeText.{gauge_text, if_asked, highest_of, lowest_of}
 use Rattle.command_answers.specs.OfProgram.{IsCodeOf, stack_of_peak}

@@ -1,6 +1,6 @@
 -- What the laws say of answers.
 use Rattle.std.specs.Prelude.{◌≡◌, ◌⊎◌, ℕ, Ok, Err}
-use Rattle.command_line.specs.Words.{Command, Exec, Run, Trace, Gen}
+use Rattle.command_words.specs.Words.{Command, Exec, Run, Trace, Gen}
 use Rattle.command_outcome.specs.Failures.{failure_status}
 use Rattle.command_answers.specs.Outcomes.{End}
 

@@ -8,9 +8,9 @@
 use Rattle.std.specs.Prelude.{ℕ, ◌+◌, List}
 use Rattle.fip_language.specs.Values.{Values, cells_of_all}
 use Rattle.fip_base.specs.declared.plain.Param.{Param}
-use Rattle.session_meaning.specs.Talk.{credits_of}
-pub use Rattle.tree_gauges.specs.LentValues.{lent_values}
-pub use Rattle.run_command.specs.GaugeText.{gauge_text, gauge_by_states, highest_stack, if_asked}
+use Rattle.session_semantics.specs.Talk.{credits_of}
+pub use Rattle.tree_refinement.specs.LentValues.{lent_values}
+pub use Rattle.command_run.specs.GaugeText.{gauge_text, gauge_by_states, highest_stack, if_asked}
 
 -- most cells of size k: those of the arguments and of the header's credits
 abbrev pub highest_of : List ℕ → Values → ℕ → ℕ

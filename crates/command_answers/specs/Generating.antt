@@ -15,10 +15,10 @@ use Rattle.fip_library.specs.declared.list.TheConstants as list
 use Rattle.fip_library.specs.declared.tree.TheConstants as tree
 use Rattle.fip_library.specs.declared.finger.TheConstants as finger
 use Rattle.command_outcome.specs.declared.failure.Failure.TheVariants as F
-use Rattle.source_commands.specs.Wanted.{Compiled, Refuses}
-use Rattle.eval_command.specs.EvalAnswer.{Spells}
-use Rattle.library_commands.specs.GenAnswer.{tree_source, build, gen_room}
-use Rattle.library_commands.specs.MadeTree.{gen_input, lines_of_results}
+use Rattle.command_source.specs.Wanted.{Compiled, Refuses}
+use Rattle.command_eval.specs.EvalAnswer.{Spells}
+use Rattle.command_library.specs.GenAnswer.{tree_source, build, gen_room}
+use Rattle.command_library.specs.MadeTree.{gen_input, lines_of_results}
 use Rattle.command_answers.specs.Outcomes.{Left, Outcome, printed, failed, ran}
 use Rattle.command_answers.specs.Exec.{Start, run_of, words_of, RunsOn, Execs}
 

@@ -8,11 +8,11 @@
 -- and `Cons(1, Nil)`.
 use Rattle.std.specs.Prelude.{◌≡◌, ℕ, List}
 use Rattle.tail_groups.specs.Members.{AreMembers}
-use Rattle.command_line.specs.Words.{Room}
+use Rattle.command_words.specs.Words.{Room}
 use Rattle.source_report.specs.Report.{IsAccepted}
-use Rattle.session_meaning.specs.Lines.{lines_of}
-use Rattle.session_meaning.specs.Talk.{Setting, Talks, at_first}
-use Rattle.session_meaning.specs.Turns.{Comes}
+use Rattle.session_semantics.specs.Lines.{lines_of}
+use Rattle.session_semantics.specs.Talk.{Setting, Talks, at_first}
+use Rattle.session_semantics.specs.Turns.{Comes}
 use Rattle.command_answers.specs.Outcomes.{End, Outcome, printed, ended}
 
 -- the program of an accepted source, in this room

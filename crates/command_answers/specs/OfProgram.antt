@@ -16,26 +16,26 @@ use Rattle.fip_base.specs.declared.plain.Stack.{Stack}
 use Rattle.fip_trees.specs.declared.groups.Member.{Member}
 use Rattle.fip_trees.specs.Tree.{Instance, Program}
 use Rattle.tail_groups.specs.Members.{AreMembers}
-use Rattle.flat_meaning.specs.Meaning.{flat_meaning}
+use Rattle.instance_semantics.specs.Meaning.{flat_meaning}
 use Rattle.cell_lower.specs.Shape.{Header, headers}
 use Rattle.code_file.specs.CodeText.{CodeText}
 use Rattle.code_file.specs.Plain.{PlainFunction, PlainCode}
 use Rattle.code_file.specs.declared.tags.Version.TheVariants.{Second}
-use Rattle.code_runs.specs.States.{State}
-use Rattle.code_runs.specs.Steps.{Kinds}
-use Rattle.code_runs.specs.Runs.{Value, Ends, loaded, begun}
-use Rattle.code_runs.specs.Gauges.{seen}
-use Rattle.sound_code.specs.Breaks.{IsSound}
-use Rattle.sound_code.specs.Codes as S
-use Rattle.sound_code.specs.StackNumbers.{HasStack}
-use Rattle.code_separation.specs.Codes.{run_code, AreKinds}
-use Rattle.lowered_code.specs.Bodies.{function_of}
-use Rattle.lowered_cells.specs.Ends.{EndsAs}
-use Rattle.type_soundness.specs.Soundness.{parameter_types}
-use Rattle.source_commands.specs.Codes.{sound_view}
-use Rattle.source_commands.specs.ProgramCode.{AreWithin}
-use Rattle.loaded_runs.specs.Loading.{first_store, first_words}
-pub use Rattle.run_command.specs.GaugeText.{highest_stack}
+use Rattle.machine_semantics.specs.States.{State}
+use Rattle.machine_semantics.specs.Steps.{Kinds}
+use Rattle.machine_semantics.specs.Runs.{Value, Ends, loaded, begun}
+use Rattle.machine_semantics.specs.Gauges.{seen}
+use Rattle.code_rules.specs.Breaks.{IsSound}
+use Rattle.code_rules.specs.Codes as S
+use Rattle.code_rules.specs.StackNumbers.{HasStack}
+use Rattle.separation.specs.Codes.{run_code, AreKinds}
+use Rattle.lowering_relation.specs.LoweredBodies.{function_of}
+use Rattle.lowering_simulation.specs.CellEnds.{EndsAs}
+use Rattle.type_safety.specs.Soundness.{parameter_types}
+use Rattle.command_source.specs.Codes.{sound_view}
+use Rattle.command_source.specs.ProgramCode.{AreWithin}
+use Rattle.run_loading.specs.Loading.{first_store, first_words}
+pub use Rattle.command_run.specs.GaugeText.{highest_stack}
 
 abbrev pub plain_header : PlainFunction → Header
 plain_header f = record {

@@ -6,7 +6,7 @@
 -- the lines of the roots, stores a code file, and leaves nothing.
 use Rattle.std.specs.Prelude.{ℕ, List, Option, Some, None, Result, Ok, Err}
 use Rattle.command_outcome.specs.declared.failure.Failure.{Failure}
-use Rattle.code_runs.specs.Cells.{Store}
+use Rattle.machine_semantics.specs.Cells.{Store}
 use Rattle.code_file.specs.Plain.{PlainCode}
 
 -- a text for out, or what keeps from it

@@ -7,16 +7,16 @@ use Rattle.std.specs.Prelude.{◌≡◌, ℕ, List, Some}
 use Rattle.fip_language.specs.Gauge.{Seen}
 use Rattle.fip_language.specs.Values.{Values}
 use Rattle.code_file.specs.Plain.{PlainCode}
-use Rattle.code_runs.specs.States.{State}
-use Rattle.code_runs.specs.Steps.{Kinds}
-use Rattle.code_runs.specs.Runs.{End, Ends, loaded, begun}
-use Rattle.code_runs.specs.Gauges.{seen}
-use Rattle.code_separation.specs.Codes.{run_code, AreKinds}
-use Rattle.source_commands.specs.Codes.{sound_view}
-use Rattle.loaded_runs.specs.Loading.{first_store, first_words}
-use Rattle.loaded_runs.specs.TraceText.{Trace}
-use Rattle.loaded_runs.specs.Replaying.{trace_of}
-pub use Rattle.run_command.specs.CodeRun.{words_for}
+use Rattle.machine_semantics.specs.States.{State}
+use Rattle.machine_semantics.specs.Steps.{Kinds}
+use Rattle.machine_semantics.specs.Runs.{End, Ends, loaded, begun}
+use Rattle.machine_semantics.specs.Gauges.{seen}
+use Rattle.separation.specs.Codes.{run_code, AreKinds}
+use Rattle.command_source.specs.Codes.{sound_view}
+use Rattle.run_loading.specs.Loading.{first_store, first_words}
+use Rattle.run_loading.specs.TraceText.{Trace}
+use Rattle.run_loading.specs.Replaying.{trace_of}
+pub use Rattle.command_run.specs.CodeRun.{words_for}
 use Rattle.command_answers.specs.Outcomes.{Left}
 
 -- function n of the code runs on these arguments, with cells for these credits, so many calls and free frames

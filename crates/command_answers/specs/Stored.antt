@@ -21,9 +21,9 @@ use Rattle.fip_trees.specs.Tree.{Program}
 use Rattle.derivation_trees.specs.declared.derivation.RuleName.{RuleName}
 use Rattle.derivation_trees.specs.declared.derivation.RuleName.TheVariants as R
 use Rattle.derivation_trees.specs.declared.derivation.Credit.{Credit}
-use Rattle.proof_check.specs.Accepted.{IsDerivation}
+use Rattle.derivation_check.specs.Accepted.{IsDerivation}
 use Rattle.derivation_trees.specs.Trees.{Tree, Missing, Branch, Trees, NoTrees, MoreTrees, Entry}
-use Rattle.proof_text.specs.ProofText.{IsProofText}
+use Rattle.derivation_text.specs.ProofText.{IsProofText}
 use Rattle.code_file.specs.CodeText.{CodeText}
 use Rattle.code_file.specs.Plain.{PlainCode}
 use Rattle.code_file.specs.declared.tags.Version.TheVariants.{Second}
@@ -31,9 +31,9 @@ use Rattle.command_outcome.specs.Successes.{derived_text}
 use Rattle.command_outcome.specs.declared.failure.Failure.TheVariants as F
 use Rattle.command_outcome.specs.declared.failure.Object.TheVariants as O
 use Rattle.source_report.specs.Report.{bare, IsAccepted, IsMatched}
-use Rattle.source_commands.specs.Codes.{IsSoundFile, IsCodeListing, IsUpgraded, IsUnspelt}
-use Rattle.source_commands.specs.Roots.{IsListing}
-use Rattle.source_commands.specs.Wanted.{of_entry, IsReport}
+use Rattle.command_source.specs.Codes.{IsSoundFile, IsCodeListing, IsUpgraded, IsUnspelt}
+use Rattle.command_source.specs.Roots.{IsListing}
+use Rattle.command_source.specs.Wanted.{of_entry, IsReport}
 use Rattle.command_answers.specs.Outcomes.{Outcome, printed, failed, storing}
 use Rattle.command_answers.specs.OfProgram.{IsCodeOf}
 

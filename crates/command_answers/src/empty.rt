@@ -3,12 +3,12 @@
 ghost use Rattle.std.specs.Prelude.{◌≡◌, ℕ, List, [], ◌∷◌, Some, None, codes};
 ghost use Rattle.fip_language.specs.declared.rule.Rule.TheVariants.{E70};
 ghost use Rattle.fip_outside.specs.Files.{File, file_of};
-ghost use Rattle.command_line.specs.Words.{Request, Check, Compile, Verify, Upgrade, Exec, Run, Eval, Trace, Session};
-ghost use Rattle.command_line.specs.Words.{Tasks, Derive, Audit, Room};
+ghost use Rattle.command_words.specs.Words.{Request, Check, Compile, Verify, Upgrade, Exec, Run, Eval, Trace, Session};
+ghost use Rattle.command_words.specs.Words.{Tasks, Derive, Audit, Room};
 ghost use Rattle.command_outcome.specs.Successes.{derived_text};
 ghost use Rattle.command_outcome.specs.declared.failure.Failure.TheVariants as F;
-ghost use Rattle.source_commands.specs.Codes.{IsSoundFile};
-ghost use Rattle.source_commands.specs.Wanted.{of_entry};
+ghost use Rattle.command_source.specs.Codes.{IsSoundFile};
+ghost use Rattle.command_source.specs.Wanted.{of_entry};
 ghost use Rattle.command_answers.specs.Outcomes.{printed, failed, storing};
 ghost use Rattle.command_answers.specs.OfProgram.{IsCodeOf};
 ghost use Rattle.command_answers.specs.Answer.{IsAnswer, ComesTo};

@@ -7,25 +7,25 @@ use Rattle.fip_trees.specs.Tree.{Expression, Give, Tuple, Operation, Call, Match
 use Rattle.fip_rules.specs.Marks.{Mark}
 use Rattle.fip_rules.specs.World.{World, is_fip, weaker, weaker_than, is_weaker}
 use Rattle.fip_rules.specs.Shapes.{Names, behind, binders, takes, shape}
-use Rattle.own_calculus.specs.Terms.{Item, Own, Credit, only, one, given, paid, charge}
-use Rattle.own_calculus.specs.Terms as T
-use Rattle.own_calculus.specs.Rules.{Fits, ValueDerivation, VAR, NONE, MORE, Extends, setting, Derivation, TUPLE, CALL, LET, MATCH, TAKE, WEAKEN, LentDerivation, LENT_LAST, LENT_MORE, TakenDerivation, TAKEN_LAST, TAKEN_MORE}
-use Rattle.own_calculus.specs.Rules as C
-use Rattle.own_agreement.specs.Bodies.{Scalars, variable, seen, value, values, lent_value, passed, variables, entering, node, nodes, nodes_all, inside, past_clause, matched, term, term_block, clauses}
+use Rattle.ownership_calculus.specs.Terms.{Item, Own, Credit, only, one, given, paid, charge}
+use Rattle.ownership_calculus.specs.Terms as T
+use Rattle.ownership_calculus.specs.Rules.{Fits, ValueDerivation, VAR, NONE, MORE, Extends, setting, Derivation, TUPLE, CALL, LET, MATCH, TAKE, WEAKEN, LentDerivation, LENT_LAST, LENT_MORE, TakenDerivation, TAKEN_LAST, TAKEN_MORE}
+use Rattle.ownership_calculus.specs.Rules as C
+use Rattle.ownership_agreement.specs.Bodies.{Scalars, variable, seen, value, values, lent_value, passed, variables, entering, node, nodes, nodes_all, inside, past_clause, matched, term, term_block, clauses}
 use Rattle.derivation_trees.specs.declared.derivation.RuleName.{RuleName}
 use Rattle.derivation_trees.specs.declared.derivation.RuleName.TheVariants as R
 use Rattle.derivation_trees.specs.declared.derivation.Credit as D
 use Rattle.derivation_trees.specs.Trees.{Tree, Missing, Branch, Trees, NoTrees, MoreTrees}
-use Rattle.proof_check.specs.Owned.{owned, root, roots, Rising, IsOwned, Under, UnderPart, Leaf, Splits}
-use Rattle.proof_check.specs.Patterns as N
-use Rattle.proof_check.specs.Scopes.{Known, Scope, known, meant, named, binding, lending, AreNumbered}
-use Rattle.proof_check.specs.Scopes as Q
-use Rattle.proof_check.specs.Calculus.{numbers, bound, gained, own_variables, FirstOf, IsClause, GoesOn, is_taken, Matches, Scrutinised}
-use Rattle.proof_check.specs.Calculus as P
+use Rattle.derivation_check.specs.Owned.{owned, root, roots, Rising, IsOwned, Under, UnderPart, Leaf, Splits}
+use Rattle.derivation_check.specs.Patterns as N
+use Rattle.derivation_check.specs.Scopes.{Known, Scope, known, meant, named, binding, lending, AreNumbered}
+use Rattle.derivation_check.specs.Scopes as Q
+use Rattle.derivation_check.specs.Calculus.{numbers, bound, gained, own_variables, FirstOf, IsClause, GoesOn, is_taken, Matches, Scrutinised}
+use Rattle.derivation_check.specs.Calculus as P
 use Rattle.derivation_agreement.proofs.Names.{expr_next, block_next, inside_next, scope_next}
 use Rattle.derivation_agreement.proofs.Sharing.{count_of, env, env_sum, env_none, env_fits, nothing, under_fits, fits_same}
 use Rattle.derivation_agreement.proofs.Scoping.{Sees, later, sees_lending, sees_open, opens, given_before, given_past, given_below, given_most, numbers_rise, one_same, one_other, one_false, either, same_number}
-use Rattle.derivation_agreement.proofs.Values.{variable_is, env_only, env_same, value_derived, values_derived, operand_derived, lends_lent, charged, passed_derived}
+use Rattle.derivation_agreement.proofs.CalculusValues.{variable_is, env_only, env_same, value_derived, values_derived, operand_derived, lends_lent, charged, passed_derived}
 
 -- ---- nodes
 

@@ -8,14 +8,14 @@ use Rattle.fip_rules.specs.Marks.{Mark}
 use Rattle.fip_rules.specs.World.{World, is_fip}
 use Rattle.fip_rules.specs.Shapes.{Names, mark, within}
 use Rattle.fip_rules.specs.Shapes as S
-use Rattle.own_calculus.specs.Terms.{Item, Own, Credit, has, given}
-use Rattle.own_calculus.specs.Rules.{Fits, setting, Derivation, WEAKEN}
-use Rattle.own_calculus.specs.Functions as F
-use Rattle.own_agreement.specs.Bodies.{Scalars, borrowed_parameters, owned_parameters, entering_parameters, no_variables, term_block, body_term}
+use Rattle.ownership_calculus.specs.Terms.{Item, Own, Credit, has, given}
+use Rattle.ownership_calculus.specs.Rules.{Fits, setting, Derivation, WEAKEN}
+use Rattle.ownership_calculus.specs.Functions as F
+use Rattle.ownership_agreement.specs.Bodies.{Scalars, borrowed_parameters, owned_parameters, entering_parameters, no_variables, term_block, body_term}
 use Rattle.derivation_trees.specs.Trees.{Tree}
-use Rattle.proof_check.specs.Owned.{root}
-use Rattle.proof_check.specs.Scopes.{Known, Scope, known, parameters, AreNumbered}
-use Rattle.proof_check.specs.Accepted as A
+use Rattle.derivation_check.specs.Owned.{root}
+use Rattle.derivation_check.specs.Scopes.{Known, Scope, known, parameters, AreNumbered}
+use Rattle.derivation_check.specs.Accepted as A
 use Rattle.derivation_agreement.proofs.Sharing.{count_of, env, fits_same}
 use Rattle.derivation_agreement.proofs.Scoping.{Sees, seen_as, same_number, number_test, other_test, one_same, one_other, either, end_same, end_other, has_none, chosen, passed_over}
 

@@ -6,17 +6,17 @@ use Rattle.fip_trees.specs.Tree.{Instance, Program}
 use Rattle.fip_rules.specs.World.{World, world, is_fip, is_ruled}
 use Rattle.fip_rules.specs.Shapes.{Names, Bind, within, no_names}
 use Rattle.fip_rules.specs.Shapes as S
-use Rattle.own_calculus.specs.Rules.{Fits, setting, Derivation, WEAKEN}
-use Rattle.own_calculus.specs.Terms.{has}
-use Rattle.own_calculus.specs.Functions as F
-use Rattle.own_agreement.specs.Agreement.{IsDerived, AreDerived}
-use Rattle.own_agreement.specs.Bodies.{borrowed_parameters, owned_parameters, entering_parameters, no_variables}
+use Rattle.ownership_calculus.specs.Rules.{Fits, setting, Derivation, WEAKEN}
+use Rattle.ownership_calculus.specs.Terms.{has}
+use Rattle.ownership_calculus.specs.Functions as F
+use Rattle.ownership_agreement.specs.Agreement.{IsDerived, AreDerived}
+use Rattle.ownership_agreement.specs.Bodies.{borrowed_parameters, owned_parameters, entering_parameters, no_variables}
 use Rattle.derivation_trees.specs.Trees.{Tree, Entry}
-use Rattle.proof_check.specs.Owned.{root}
-use Rattle.proof_check.specs.Scopes.{parameters}
-use Rattle.proof_check.specs.Calculus.{Choice, DerivesBlock}
-use Rattle.proof_check.specs.Accepted.{DerivesInstance, FirstEntry, header_scope}
-use Rattle.proof_check.specs.Accepted as A
+use Rattle.derivation_check.specs.Owned.{root}
+use Rattle.derivation_check.specs.Scopes.{parameters}
+use Rattle.derivation_check.specs.Calculus.{Choice, DerivesBlock}
+use Rattle.derivation_check.specs.Accepted.{DerivesInstance, FirstEntry, header_scope}
+use Rattle.derivation_check.specs.Accepted as A
 use Rattle.derivation_agreement.proofs.Sharing.{env, fits_same}
 use Rattle.derivation_agreement.proofs.Header.{sees_header, starts_env}
 use Rattle.derivation_agreement.proofs.Bodies.{block_derived}

@@ -1,7 +1,21 @@
 mod Names
 mod Sharing
 mod Scoping
-mod Values
+mod CalculusValues
 mod Bodies
 mod Header
 mod Instances
+pub mod Spelt
+pub mod Callees
+pub mod Amounts
+pub mod Depths
+pub mod TextWhole
+pub mod Seeing
+pub mod Hitting
+pub mod Sited
+pub mod Ranks
+pub mod Nodes
+pub mod WalkValues
+pub mod Parts
+pub mod Agreeing
+pub mod WalkWhole

@@ -11,7 +11,7 @@ use Rattle.fip_rules.specs.Rules.{next}
 use Rattle.fip_rules.specs.World.{World, lends, weaker}
 use Rattle.fip_rules.specs.Shapes.{Names, Bind, token, owning, owning_all, passing, passing_all, called, mark, binds, within, behind, taking, binders, takes, clause_shape, shape, shape_block, shape_clauses}
 use Rattle.fip_rules.proofs.Orders.{next_passing}
-use Rattle.proof_check.specs.Scopes as P
+use Rattle.derivation_check.specs.Scopes as P
 
 owning_all_next : (n : ℕ) (w : World) (ms : List Mark) (as' : Arguments) → next n (owning_all ms as') ≡ n
 owning_all_next n w ms NoArguments = refl

@@ -7,15 +7,15 @@ use Rattle.fip_rules.specs.Marks.{Mark}
 use Rattle.fip_rules.specs.World.{World}
 use Rattle.fip_rules.specs.Shapes.{Names, mark, or_later}
 use Rattle.fip_rules.specs.Shapes as S
-use Rattle.own_calculus.specs.Terms.{Item, Own, Credit, has, given, one}
-use Rattle.own_calculus.specs.Rules.{Fits, worth, Extends, setting}
-use Rattle.own_calculus.specs.Rules as C
-use Rattle.own_agreement.specs.Bodies.{Scalars, variables, entering, inside}
+use Rattle.ownership_calculus.specs.Terms.{Item, Own, Credit, has, given, one}
+use Rattle.ownership_calculus.specs.Rules.{Fits, worth, Extends, setting}
+use Rattle.ownership_calculus.specs.Rules as C
+use Rattle.ownership_agreement.specs.Bodies.{Scalars, variables, entering, inside}
 use Rattle.derivation_trees.specs.declared.derivation.Credit as D
 use Rattle.derivation_trees.specs.Trees.{Tree, Missing, Branch}
-use Rattle.proof_check.specs.Owned.{owned, root, Rising, IsOwned}
-use Rattle.proof_check.specs.Scopes.{Known, Scope, known, named, binding, lending, AreNumbered}
-use Rattle.proof_check.specs.Calculus.{numbers, own_variables}
+use Rattle.derivation_check.specs.Owned.{owned, root, Rising, IsOwned}
+use Rattle.derivation_check.specs.Scopes.{Known, Scope, known, named, binding, lending, AreNumbered}
+use Rattle.derivation_check.specs.Calculus.{numbers, own_variables}
 use Rattle.derivation_agreement.proofs.Sharing.{count_of, env, fits_same}
 
 -- ---- numbers

@@ -1,15 +1,10 @@
-// Derivations as they are checked, and the calculus of ownership.
+// Derivations agree with what defines them: with the calculus of ownership, with their text, and with what one walk makes.
 #![tactic(auto)]
 
-ghost use Rattle.std.specs.Prelude.{List};
-ghost use Rattle.fip_trees.specs.Tree.{Program};
-ghost use Rattle.derivation_trees.specs.Trees.{Entry};
-ghost use Rattle.own_agreement.specs.Agreement.{AreDerived, AreSized, IsAccepted};
-ghost use Rattle.proof_check.specs.Accepted.{IsDerivation};
+mod calculus_theorems;
+mod text_theorems;
+mod walk_theorems;
 
-/// Where a program has a derivation, the calculus of ownership derives each of its fip and fbip instances. So none of
-/// them breaks a rule on ownership (E50 to E55) or on credits (E56 to E58, E62).
-pub fn agreement()
-    ensures calculus { (p : Program) (es : List Entry) → IsDerivation p es → AreDerived p p.instances }
-    ensures rules { (p : Program) (es : List Entry) → AreSized p p.instances → IsDerivation p es → IsAccepted p }
-{}
+pub use calculus_theorems::derivations_follow_the_calculus;
+pub use text_theorems::derivations_are_read_from_their_text;
+pub use walk_theorems::walked_derivations_are_the_defined_ones;

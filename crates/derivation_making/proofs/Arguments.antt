@@ -9,20 +9,20 @@ use Rattle.fip_rules.specs.World.{World, is_fip}
 use Rattle.fip_rules.specs.Shapes as H
 use Rattle.fip_rules.specs.Shapes.{Names}
 use Rattle.credit_check.specs.Needs.{made, made_all}
-use Rattle.own_calculus.specs.Terms as T
-use Rattle.own_calculus.specs.Terms.{Item, Own, Credit, one, given, paid, size}
-use Rattle.own_calculus.specs.Clean.{used_up, all_used_up}
-use Rattle.own_agreement.specs.Bodies.{Scalars, variable, value, values}
-use Rattle.own_agreement.specs.Sized.{SizedArgument, SizedArguments}
-use Rattle.own_agreement.proofs.Amounts.{IsOut}
-use Rattle.own_agreement.proofs.Basics.{pos}
+use Rattle.ownership_calculus.specs.Terms as T
+use Rattle.ownership_calculus.specs.Terms.{Item, Own, Credit, one, given, paid, size}
+use Rattle.ownership_calculus.specs.Clean.{used_up, all_used_up}
+use Rattle.ownership_agreement.specs.Bodies.{Scalars, variable, value, values}
+use Rattle.ownership_agreement.specs.Sized.{SizedArgument, SizedArguments}
+use Rattle.ownership_agreement.proofs.Amounts.{IsOut}
+use Rattle.ownership_agreement.proofs.Basics.{pos}
 use Rattle.derivation_trees.specs.declared.derivation.RuleName.{RuleName}
 use Rattle.derivation_trees.specs.declared.derivation.RuleName.TheVariants as R
 use Rattle.derivation_trees.specs.declared.derivation.Credit as D
 use Rattle.derivation_trees.specs.Trees.{Tree, Branch, Trees, NoTrees}
-use Rattle.proof_check.specs.Owned.{amount, owned, root, roots, Rising, IsOwned, AreOwned, is_weaken, Under, Leaf}
-use Rattle.proof_check.specs.Scopes.{Known, known, meant}
-use Rattle.proof_check.specs.Calculus.{Choice, UsesVariable, DerivesValue, DerivesValues}
+use Rattle.derivation_check.specs.Owned.{amount, owned, root, roots, Rising, IsOwned, AreOwned, is_weaken, Under, Leaf}
+use Rattle.derivation_check.specs.Scopes.{Known, known, meant}
+use Rattle.derivation_check.specs.Calculus.{Choice, UsesVariable, DerivesValue, DerivesValues}
 use Rattle.derivation_making.specs.Uses.{names, occurs_value, occurs_values}
 use Rattle.derivation_making.specs.Made.{those, numbers, credits, rule_of_variable, constructor_rule, rule_of, made_value, made_values, made_fields}
 use Rattle.derivation_making.specs.Fitting.{FitsValue, FitValues}

@@ -9,26 +9,26 @@ use Rattle.fip_rules.specs.World.{World, world, is_fip, is_weaker, weaker, weake
 use Rattle.fip_rules.specs.Shapes.{Names, behind, binders, takes, shape}
 use Rattle.credit_check.specs.Needs as N
 use Rattle.credit_check.specs.Needs.{made, made_all, need, need_block, need_clauses}
-use Rattle.own_calculus.specs.Terms as C
-use Rattle.own_calculus.specs.Terms.{Item, Own, Credit, given, charge}
-use Rattle.own_calculus.specs.Rules.{Fits}
-use Rattle.own_calculus.specs.Clean as K
-use Rattle.own_calculus.specs.Clean.{used_up, all_used_up, lent_used_up, asks, asks_lent, Status, after}
-use Rattle.own_calculus.proofs.Fit.{fits_same}
-use Rattle.own_agreement.specs.Bodies.{Scalars, value, values, passed, variable, variables, entering, inside, past_clause, matched, nodes, term, term_block, clauses, seen}
-use Rattle.own_agreement.specs.Sized.{SizedHeader, SizedExpression, SizedBlock, SizedClauses}
-use Rattle.own_agreement.proofs.Amounts.{gives, asks_of, term_need, block_need, gives_given, header_given, header_out}
+use Rattle.ownership_calculus.specs.Terms as C
+use Rattle.ownership_calculus.specs.Terms.{Item, Own, Credit, given, charge}
+use Rattle.ownership_calculus.specs.Rules.{Fits}
+use Rattle.ownership_calculus.specs.Clean as K
+use Rattle.ownership_calculus.specs.Clean.{used_up, all_used_up, lent_used_up, asks, asks_lent, Status, after}
+use Rattle.ownership_calculus.proofs.Fit.{fits_same}
+use Rattle.ownership_agreement.specs.Bodies.{Scalars, value, values, passed, variable, variables, entering, inside, past_clause, matched, nodes, term, term_block, clauses, seen}
+use Rattle.ownership_agreement.specs.Sized.{SizedHeader, SizedExpression, SizedBlock, SizedClauses}
+use Rattle.ownership_agreement.proofs.Amounts.{gives, asks_of, term_need, block_need, gives_given, header_given, header_out}
 use Rattle.derivation_trees.specs.declared.derivation.RuleName.TheVariants as R
 use Rattle.derivation_trees.specs.declared.derivation.Credit as D
 use Rattle.derivation_trees.specs.Trees.{Tree, Branch, NoTrees, MoreTrees}
-use Rattle.proof_check.specs.Owned.{amount, owned, roots, Rising, is_weaken, Under, Leaf}
-use Rattle.proof_check.specs.Scopes.{Known, Scope, named, binding, lending, within, within_block}
-use Rattle.proof_check.specs.Calculus.{Operand, Plain, Calls, IsClause, FirstOf, is_taken, Derives, DerivesBlock, DerivesClauses}
+use Rattle.derivation_check.specs.Owned.{amount, owned, roots, Rising, is_weaken, Under, Leaf}
+use Rattle.derivation_check.specs.Scopes.{Known, Scope, named, binding, lending, within, within_block}
+use Rattle.derivation_check.specs.Calculus.{Operand, Plain, Calls, IsClause, FirstOf, is_taken, Derives, DerivesBlock, DerivesClauses}
 use Rattle.derivation_making.specs.Uses.{occurs_value, occurs_values, occurs, occurs_block, occurs_clauses, uses}
 use Rattle.derivation_making.specs.Made.{those, numbers, credits, added, remaining, clause_variables, node, rule_of, match_rule, params_of, made_values, made_fields, made_passed, made_expression, made_block, made_clauses}
 use Rattle.derivation_making.specs.Fitting.{FitsCall, FitPassed, FitsScrutinee, Fitting, FittingBlock, FittingClauses}
-use Rattle.own_agreement.proofs.Basics as B
-use Rattle.own_agreement.specs.Sized.{AreSizes, SizedArguments}
+use Rattle.ownership_agreement.proofs.Basics as B
+use Rattle.ownership_agreement.specs.Sized.{AreSizes, SizedArguments}
 use Rattle.derivation_making.proofs.Lists as L
 use Rattle.derivation_making.proofs.Lists.{tally, EachOf, each_of, none_those, tally_those, rising_those, numbers_append, rising_append, either, not_both}
 use Rattle.derivation_making.proofs.Credits.{by_size, amount_in, amount_out, no_credits}

@@ -3,8 +3,8 @@ use Rattle.std.proofs.Common.{◌≡◌, ℕ, zero, suc, ◌<◌, ◌≤◌, ◌
 use Rattle.std.specs.Prelude.{◌==◌, nat_lt, if◌then◌else◌}
 use Rattle.std.proofs.lemmas.Bool.Decides.{nat_tests}
 use Rattle.derivation_trees.specs.declared.derivation.Credit as D
-use Rattle.own_agreement.proofs.Amounts.{IsOut}
-use Rattle.proof_check.specs.Owned.{amount, RisingSizes}
+use Rattle.ownership_agreement.proofs.Amounts.{IsOut}
+use Rattle.derivation_check.specs.Owned.{amount, RisingSizes}
 use Rattle.derivation_making.specs.Made.{counted, credits, same_from}
 use Rattle.derivation_making.proofs.Lists.{either, both_are, and_true, same_number}
 

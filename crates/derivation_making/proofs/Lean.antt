@@ -9,14 +9,14 @@ use Rattle.fip_trees.specs.Tree.{Program, Instance, Argument, Variable, Literal,
 use Rattle.fip_rules.specs.World.{World, world, is_ruled}
 use Rattle.fip_rules.specs.Shapes.{binders, takes}
 use Rattle.credit_check.specs.Needs.{made, made_all, marked, given, need, need_block, need_clauses}
-use Rattle.own_calculus.specs.Terms.{Item, Own, Credit}
-use Rattle.own_calculus.specs.Terms as C
+use Rattle.ownership_calculus.specs.Terms.{Item, Own, Credit}
+use Rattle.ownership_calculus.specs.Terms as C
 use Rattle.derivation_trees.specs.declared.derivation.RuleName.{RuleName}
 use Rattle.derivation_trees.specs.declared.derivation.RuleName.TheVariants as R
 use Rattle.derivation_trees.specs.Trees.{Tree, Branch, Trees, NoTrees, MoreTrees, Entry}
-use Rattle.proof_check.specs.Owned.{owned, is_weaken}
-use Rattle.proof_check.specs.Scopes.{Known, named, parameters, within, within_block}
-use Rattle.proof_check.specs.Calculus.{Choice}
+use Rattle.derivation_check.specs.Owned.{owned, is_weaken}
+use Rattle.derivation_check.specs.Scopes.{Known, named, parameters, within, within_block}
+use Rattle.derivation_check.specs.Calculus.{Choice}
 use Rattle.derivation_making.specs.Uses.{occurs_value, occurs_values, occurs, occurs_block, uses}
 use Rattle.derivation_making.specs.Made.{those, all_those, numbers, credits, same_from, weakened, node, added, clause_variables, constructor_rule, rule_of, match_rule, params_of, made_value, made_values, made_fields, made_passed, made_expression, made_block, made_clauses, owned_ones, made_instance, made_entries}
 use Rattle.derivation_making.specs.Weakening.{LeavesOut, IsLean, AreLean, AllLean}

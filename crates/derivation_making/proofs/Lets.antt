@@ -6,17 +6,17 @@ use Rattle.fip_trees.specs.Tree as T
 use Rattle.fip_trees.specs.Tree.{Expression, Block}
 use Rattle.fip_rules.specs.World.{World, is_fip}
 use Rattle.fip_rules.specs.Shapes.{Names}
-use Rattle.own_calculus.specs.Terms.{Term, Let, Item, Own, Credit, has, given}
-use Rattle.own_calculus.specs.Clean.{outside, asks, fewest, Status, Free, Owned, after, lent}
-use Rattle.own_calculus.specs.Clean as K
-use Rattle.own_calculus.proofs.Fit.{held, visible, held_after, held_lent}
-use Rattle.own_agreement.specs.Bodies.{Scalars}
-use Rattle.own_agreement.proofs.Basics.{pos}
+use Rattle.ownership_calculus.specs.Terms.{Term, Let, Item, Own, Credit, has, given}
+use Rattle.ownership_calculus.specs.Clean.{outside, asks, fewest, Status, Free, Owned, after, lent}
+use Rattle.ownership_calculus.specs.Clean as K
+use Rattle.ownership_calculus.proofs.Fit.{held, visible, held_after, held_lent}
+use Rattle.ownership_agreement.specs.Bodies.{Scalars}
+use Rattle.ownership_agreement.proofs.Basics.{pos}
 use Rattle.derivation_trees.specs.declared.derivation.RuleName.TheVariants as R
 use Rattle.derivation_trees.specs.Trees.{Tree, Branch, NoTrees, MoreTrees}
-use Rattle.proof_check.specs.Owned.{amount, owned, Rising, Under}
-use Rattle.proof_check.specs.Scopes.{Known, Scope, known, lending, binding, within, AreNumbered}
-use Rattle.proof_check.specs.Calculus.{bound, Derives, DerivesBlock}
+use Rattle.derivation_check.specs.Owned.{amount, owned, Rising, Under}
+use Rattle.derivation_check.specs.Scopes.{Known, Scope, known, lending, binding, within, AreNumbered}
+use Rattle.derivation_check.specs.Calculus.{bound, Derives, DerivesBlock}
 use Rattle.derivation_making.specs.Made.{those, numbers, credits, added}
 use Rattle.derivation_making.proofs.Lists.{tally, AreKnown, known_those, tally_those, given_parts, given_append, given_most, numbers_append, rising_those, rising_up, rising_append, number_there, has_none, has_some}
 use Rattle.derivation_making.proofs.Credits.{by_size, amount_in, amount_out}

@@ -7,13 +7,13 @@ use Rattle.fip_rules.specs.Marks.{Mark}
 use Rattle.fip_rules.specs.World.{World}
 use Rattle.fip_rules.specs.Shapes as S
 use Rattle.fip_rules.specs.Shapes.{Names, mark, or_later}
-use Rattle.own_calculus.specs.Terms.{has}
-use Rattle.own_calculus.specs.Rules.{worth}
-use Rattle.own_agreement.specs.Bodies.{Scalars, variables, entering, inside}
-use Rattle.own_agreement.proofs.Basics.{past, past_inside, not_owned}
-use Rattle.proof_check.specs.Owned.{Rising}
-use Rattle.proof_check.specs.Scopes.{Known, known, named, AreNumbered}
-use Rattle.proof_check.specs.Calculus as C
+use Rattle.ownership_calculus.specs.Terms.{has}
+use Rattle.ownership_calculus.specs.Rules.{worth}
+use Rattle.ownership_agreement.specs.Bodies.{Scalars, variables, entering, inside}
+use Rattle.ownership_agreement.proofs.Basics.{past, past_inside, not_owned}
+use Rattle.derivation_check.specs.Owned.{Rising}
+use Rattle.derivation_check.specs.Scopes.{Known, known, named, AreNumbered}
+use Rattle.derivation_check.specs.Calculus as C
 use Rattle.derivation_making.specs.Made.{unscalar, numbers, added}
 use Rattle.derivation_making.proofs.Lists.{tally, AreKnown, EachOf, same_number, number_self, one_true, one_false, either, rising_later}
 

@@ -3,9 +3,9 @@ use Rattle.std.proofs.Common.{◌≡◌, ℕ, zero, ◌<◌, ◌≤◌, ◌+◌,
 use Rattle.std.specs.Prelude.{◌==◌, ◌&&◌, if◌then◌else◌}
 use Rattle.std.proofs.lemmas.Bool.Decides.{nat_tests}
 use Rattle.fip_rules.specs.World.{World}
-use Rattle.own_calculus.specs.Terms.{one, given, has}
-use Rattle.proof_check.specs.Owned.{Rising}
-use Rattle.proof_check.specs.Scopes.{Known, known}
+use Rattle.ownership_calculus.specs.Terms.{one, given, has}
+use Rattle.derivation_check.specs.Owned.{Rising}
+use Rattle.derivation_check.specs.Scopes.{Known, known}
 use Rattle.derivation_making.specs.Made.{those, all_those, numbers}
 
 abbrev pub flag : Bool → ℕ

@@ -10,22 +10,22 @@ use Rattle.fip_rules.specs.World.{World, is_fip}
 use Rattle.fip_rules.specs.Shapes as H
 use Rattle.fip_rules.specs.Shapes.{Names, binders}
 use Rattle.credit_check.specs.Needs as N
-use Rattle.own_calculus.specs.Terms as C
-use Rattle.own_calculus.specs.Terms.{Term, Clauses, LastClause, MoreClauses, Item, Own, Credit, has, one, only, paid, given}
-use Rattle.own_calculus.specs.Rules.{Fits}
-use Rattle.own_calculus.specs.Clean as K
-use Rattle.own_calculus.specs.Clean.{used_up, lent_used_up, outside, asks, asks_lent, asks_taken, fewest, fewest_of, Status, Free, Owned, after, AllUsed, Clean, CleanLent, CleanTaken, Even, EvenLent, EvenTaken}
-use Rattle.own_calculus.proofs.Fit.{held, held_after}
-use Rattle.own_agreement.specs.Bodies.{Scalars, variable, lent_value, matched}
-use Rattle.own_agreement.specs.Sized.{SizedPattern, SizedPatterns}
-use Rattle.own_agreement.proofs.Amounts.{IsOut, gives, asks_of}
-use Rattle.own_agreement.proofs.Basics.{lent_taken}
+use Rattle.ownership_calculus.specs.Terms as C
+use Rattle.ownership_calculus.specs.Terms.{Term, Clauses, LastClause, MoreClauses, Item, Own, Credit, has, one, only, paid, given}
+use Rattle.ownership_calculus.specs.Rules.{Fits}
+use Rattle.ownership_calculus.specs.Clean as K
+use Rattle.ownership_calculus.specs.Clean.{used_up, lent_used_up, outside, asks, asks_lent, asks_taken, fewest, fewest_of, Status, Free, Owned, after, AllUsed, Clean, CleanLent, CleanTaken, Even, EvenLent, EvenTaken}
+use Rattle.ownership_calculus.proofs.Fit.{held, held_after}
+use Rattle.ownership_agreement.specs.Bodies.{Scalars, variable, lent_value, matched}
+use Rattle.ownership_agreement.specs.Sized.{SizedPattern, SizedPatterns}
+use Rattle.ownership_agreement.proofs.Amounts.{IsOut, gives, asks_of}
+use Rattle.ownership_agreement.proofs.Basics.{lent_taken}
 use Rattle.derivation_trees.specs.declared.derivation.RuleName.TheVariants as R
 use Rattle.derivation_trees.specs.Trees.{Tree, Branch, Trees}
-use Rattle.proof_check.specs.Owned.{amount, owned, root, Rising, Under}
-use Rattle.proof_check.specs.Patterns as P
-use Rattle.proof_check.specs.Scopes.{Known, Scope, known, meant, binding, AreNumbered}
-use Rattle.proof_check.specs.Calculus.{Matches, Scrutinised, GoesOn, IsClause, is_taken, gained, DerivesBlock}
+use Rattle.derivation_check.specs.Owned.{amount, owned, root, Rising, Under}
+use Rattle.derivation_check.specs.Patterns as P
+use Rattle.derivation_check.specs.Scopes.{Known, Scope, known, meant, binding, AreNumbered}
+use Rattle.derivation_check.specs.Calculus.{Matches, Scrutinised, GoesOn, IsClause, is_taken, gained, DerivesBlock}
 use Rattle.derivation_making.specs.Uses.{occurs_value}
 use Rattle.derivation_making.specs.Made.{those, numbers, credits, added, remaining, clause_variables, match_rule}
 use Rattle.derivation_making.specs.Fitting.{IsThere, IsScrutinised, FitsScrutinee}

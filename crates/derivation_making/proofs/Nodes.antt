@@ -1,16 +1,16 @@
 -- A node, and the one that weakens above it.
 use Rattle.std.proofs.Common.{◌≡◌, ℕ, ◌<◌, ◌≤◌, inl, inr, refl, sym, ap, subst, ◌∙◌, List, Bool, true, false, arith}
 use Rattle.std.specs.Prelude.{◌&&◌}
-use Rattle.own_calculus.specs.Terms.{Item, Own, Credit}
-use Rattle.own_calculus.specs.Rules.{Fits}
-use Rattle.own_calculus.proofs.Fit.{fits_le}
+use Rattle.ownership_calculus.specs.Terms.{Item, Own, Credit}
+use Rattle.ownership_calculus.specs.Rules.{Fits}
+use Rattle.ownership_calculus.proofs.Fit.{fits_le}
 use Rattle.derivation_trees.specs.declared.derivation.RuleName.{RuleName}
 use Rattle.derivation_trees.specs.declared.derivation.RuleName.TheVariants as R
 use Rattle.derivation_trees.specs.declared.derivation.Credit as D
 use Rattle.derivation_trees.specs.Trees.{Tree, Branch, Trees, NoTrees, MoreTrees}
-use Rattle.proof_check.specs.Owned.{amount, owned, root, Rising, IsOwned, is_weaken, Under}
-use Rattle.proof_check.specs.Scopes.{Known}
-use Rattle.proof_check.specs.Calculus.{own_variables}
+use Rattle.derivation_check.specs.Owned.{amount, owned, root, Rising, IsOwned, is_weaken, Under}
+use Rattle.derivation_check.specs.Scopes.{Known}
+use Rattle.derivation_check.specs.Calculus.{own_variables}
 use Rattle.derivation_making.specs.Made.{those, all_those, numbers, credits, same_from, weakened, node}
 use Rattle.derivation_making.proofs.Lists.{both_are, and_true, given_less, rising_those, all_are}
 use Rattle.derivation_making.proofs.Credits.{by_size, amount_in, amount_out, rising_credits, same_credits, same_sizes}

@@ -8,20 +8,20 @@ use Rattle.fip_rules.specs.World.{World, is_fip, lends, lends_to, lends_paramete
 use Rattle.fip_rules.specs.Shapes as H
 use Rattle.fip_rules.specs.Shapes.{Names}
 use Rattle.credit_check.specs.Needs.{made, made_all}
-use Rattle.own_calculus.specs.Terms as T
-use Rattle.own_calculus.specs.Terms.{Item, Own, Credit, given}
-use Rattle.own_calculus.specs.Clean as K
-use Rattle.own_calculus.specs.Clean.{used_up, lent_used_up, passed_used_up, Status, Free, Owned, after}
-use Rattle.own_calculus.proofs.Fit.{held, visible}
-use Rattle.own_agreement.specs.Bodies as B
-use Rattle.own_agreement.specs.Bodies.{Scalars, variable, value, lent_value, passed}
-use Rattle.own_agreement.specs.Sized.{SizedArgument, SizedArguments}
-use Rattle.own_agreement.proofs.Amounts.{IsOut}
-use Rattle.own_agreement.proofs.Basics.{pos}
+use Rattle.ownership_calculus.specs.Terms as T
+use Rattle.ownership_calculus.specs.Terms.{Item, Own, Credit, given}
+use Rattle.ownership_calculus.specs.Clean as K
+use Rattle.ownership_calculus.specs.Clean.{used_up, lent_used_up, passed_used_up, Status, Free, Owned, after}
+use Rattle.ownership_calculus.proofs.Fit.{held, visible}
+use Rattle.ownership_agreement.specs.Bodies as B
+use Rattle.ownership_agreement.specs.Bodies.{Scalars, variable, value, lent_value, passed}
+use Rattle.ownership_agreement.specs.Sized.{SizedArgument, SizedArguments}
+use Rattle.ownership_agreement.proofs.Amounts.{IsOut}
+use Rattle.ownership_agreement.proofs.Basics.{pos}
 use Rattle.derivation_trees.specs.Trees.{Trees, MoreTrees}
-use Rattle.proof_check.specs.Owned.{roots, AreOwned}
-use Rattle.proof_check.specs.Scopes.{Known, Scope, known}
-use Rattle.proof_check.specs.Calculus.{Choice, IsScalar, Plain, MayLend, Lends, FirstOf, DerivesValue, DerivesPassed}
+use Rattle.derivation_check.specs.Owned.{roots, AreOwned}
+use Rattle.derivation_check.specs.Scopes.{Known, Scope, known}
+use Rattle.derivation_check.specs.Calculus.{Choice, IsScalar, Plain, MayLend, Lends, FirstOf, DerivesValue, DerivesPassed}
 use Rattle.derivation_making.specs.Uses.{occurs_value, occurs_values}
 use Rattle.derivation_making.specs.Made.{those, numbers, made_value, made_passed}
 use Rattle.derivation_making.specs.Fitting.{FitsValue, FitsLent, FitPassed}

@@ -5,16 +5,16 @@ use Rattle.fip_rules.specs.World.{world, is_fip}
 use Rattle.fip_rules.specs.Shapes as H
 use Rattle.fip_rules.specs.Shapes.{no_names}
 use Rattle.credit_check.specs.Needs.{need_block}
-use Rattle.own_calculus.specs.Terms.{Credit, given}
-use Rattle.own_calculus.specs.Clean.{asks}
-use Rattle.own_calculus.specs.Functions.{Accepted}
-use Rattle.own_calculus.proofs.Fit.{fits_le}
-use Rattle.own_calculus.proofs.Whole.{is_accepted}
-use Rattle.own_agreement.specs.Bodies.{borrowed_parameters, owned_parameters, entering_parameters, no_variables, body_term}
-use Rattle.own_agreement.specs.Agreement.{IsDerived, AreDerived, AreSized, IsAccepted}
-use Rattle.own_agreement.proofs.Amounts.{header_given, block_need}
-use Rattle.own_agreement.proofs.Instances.{programs_agree}
-use Rattle.proof_check.specs.Accepted.{IsDerivation}
+use Rattle.ownership_calculus.specs.Terms.{Credit, given}
+use Rattle.ownership_calculus.specs.Clean.{asks}
+use Rattle.ownership_calculus.specs.Functions.{Accepted}
+use Rattle.ownership_calculus.proofs.Fit.{fits_le}
+use Rattle.ownership_calculus.proofs.Whole.{is_accepted}
+use Rattle.ownership_agreement.specs.Bodies.{borrowed_parameters, owned_parameters, entering_parameters, no_variables, body_term}
+use Rattle.ownership_agreement.specs.Agreement.{IsDerived, AreDerived, AreSized, IsAccepted}
+use Rattle.ownership_agreement.proofs.Amounts.{header_given, block_need}
+use Rattle.ownership_agreement.proofs.Instances.{programs_agree}
+use Rattle.derivation_check.specs.Accepted.{IsDerivation}
 use Rattle.derivation_making.specs.Made.{made_entries}
 use Rattle.derivation_making.specs.Fitting.{AreFitting}
 use Rattle.derivation_making.specs.Weakening.{AllLean}

@@ -15,16 +15,16 @@ use Rattle.fip_rules.specs.Rules.{next}
 use Rattle.fip_rules.specs.World.{World, world, lends, weaker}
 use Rattle.fip_rules.specs.Shapes as H
 use Rattle.fip_rules.specs.Shapes.{Names, Bind, binds, behind, taking, binders, takes, owning, owning_all, lending, passing, passing_all, called, token, used_at, lent_at, clause_shape, shape, shape_block, shape_clauses}
-use Rattle.own_calculus.specs.Terms as T
-use Rattle.own_calculus.specs.Terms.{Own, one, has, paid, size}
-use Rattle.own_calculus.specs.Clean.{used_up, all_used_up, lent_used_up, passed_used_up, outside, asks, asks_lent, asks_taken}
-use Rattle.own_agreement.specs.Bodies.{Scalars, variable, value, values, lent_value, passed, variables, entering, inside, past_clause, matched, nodes, term, term_block, clauses}
-use Rattle.own_agreement.specs.Sized.{SizedArgument, SizedArguments, SizedExpression, SizedBlock, SizedClauses}
-use Rattle.own_agreement.proofs.Basics.{pos, pos_sum, pos_max, paid_none, var_pos, past, past_inside, not_owned}
-use Rattle.proof_check.specs.Scopes.{Known, known, meant, named, within, within_block, within_clauses}
-use Rattle.proof_check.specs.Scopes as P
-use Rattle.own_agreement.proofs.Basics as B
-use Rattle.proof_check.specs.Calculus.{IsScalar, Operand}
+use Rattle.ownership_calculus.specs.Terms as T
+use Rattle.ownership_calculus.specs.Terms.{Own, one, has, paid, size}
+use Rattle.ownership_calculus.specs.Clean.{used_up, all_used_up, lent_used_up, passed_used_up, outside, asks, asks_lent, asks_taken}
+use Rattle.ownership_agreement.specs.Bodies.{Scalars, variable, value, values, lent_value, passed, variables, entering, inside, past_clause, matched, nodes, term, term_block, clauses}
+use Rattle.ownership_agreement.specs.Sized.{SizedArgument, SizedArguments, SizedExpression, SizedBlock, SizedClauses}
+use Rattle.ownership_agreement.proofs.Basics.{pos, pos_sum, pos_max, paid_none, var_pos, past, past_inside, not_owned}
+use Rattle.derivation_check.specs.Scopes.{Known, known, meant, named, within, within_block, within_clauses}
+use Rattle.derivation_check.specs.Scopes as P
+use Rattle.ownership_agreement.proofs.Basics as B
+use Rattle.derivation_check.specs.Calculus.{IsScalar, Operand}
 use Rattle.derivation_making.specs.Uses.{occurs_value, occurs_values, occurs, occurs_block, occurs_clauses, uses_lent, uses_passed, uses, uses_block, uses_clauses}
 use Rattle.derivation_making.specs.Fitting.{IsThere, FitsValue, FitValues, FitPassed, FitsCall, IsScrutinised, FitsScrutinee, Fitting, FittingBlock, FittingClauses}
 use Rattle.derivation_making.proofs.Linking.{Linked, inside_linked, later_linked, next_inside}

@@ -4,16 +4,16 @@ use Rattle.std.specs.Prelude.{◌||◌, if◌then◌else◌}
 use Rattle.fip_trees.specs.declared.program.Binder.{Binder}
 use Rattle.fip_rules.specs.World.{World}
 use Rattle.fip_rules.specs.Shapes.{Names}
-use Rattle.own_calculus.specs.Terms.{Term, Clauses, Results, Call, Let, Match, Take, LastClause, MoreClauses, Own, has}
-use Rattle.own_calculus.specs.Rules.{worth}
-use Rattle.own_calculus.specs.Clean.{outside, asks, asks_lent, asks_taken, fewest, fewest_of, Status, Free, Owned, fresh, after, lent, AllUsed, Clean, Even}
-use Rattle.own_calculus.specs.Clean as K
-use Rattle.own_calculus.proofs.Fit.{held, room, visible}
-use Rattle.own_calculus.proofs.Forth.{clean_room, all_used_at}
-use Rattle.own_agreement.specs.Bodies.{Scalars, variables}
-use Rattle.own_agreement.proofs.Basics.{not_owned}
-use Rattle.proof_check.specs.Owned.{Rising}
-use Rattle.proof_check.specs.Scopes.{Known, Scope, known, named, binding, AreNumbered}
+use Rattle.ownership_calculus.specs.Terms.{Term, Clauses, Results, Call, Let, Match, Take, LastClause, MoreClauses, Own, has}
+use Rattle.ownership_calculus.specs.Rules.{worth}
+use Rattle.ownership_calculus.specs.Clean.{outside, asks, asks_lent, asks_taken, fewest, fewest_of, Status, Free, Owned, fresh, after, lent, AllUsed, Clean, Even}
+use Rattle.ownership_calculus.specs.Clean as K
+use Rattle.ownership_calculus.proofs.Fit.{held, room, visible}
+use Rattle.ownership_calculus.proofs.Forth.{clean_room, all_used_at}
+use Rattle.ownership_agreement.specs.Bodies.{Scalars, variables}
+use Rattle.ownership_agreement.proofs.Basics.{not_owned}
+use Rattle.derivation_check.specs.Owned.{Rising}
+use Rattle.derivation_check.specs.Scopes.{Known, Scope, known, named, binding, AreNumbered}
 use Rattle.derivation_making.specs.Made.{those, all_those, numbers, added}
 use Rattle.derivation_making.proofs.Lists.{tally, AreKnown, each_of, each_all, known_append, tally_those, tally_less, tally_append, numbers_append, rising_append, not_both}
 use Rattle.derivation_making.proofs.Linking.{Linked, there_before, tally_added, named_known, added_known, base_known, added_rising}

@@ -16,10 +16,10 @@ use Rattle.type_check.specs.Scope as S
 use Rattle.type_check.specs.Scope.{look, or_else, of_binder}
 use Rattle.type_check.specs.World.{World, Head, world, is_of, chosen, fields_of, field_types, head, head_of, head_or_none, type_of}
 use Rattle.type_check.specs.Typing.{bound_by, bound_by_all, HasType, HaveTypes, IsPattern, ArePatterns, Annotated, Bind, Types, TypesBlock, TypesClauses, parameter_entries, Typed, AllTyped}
-use Rattle.own_agreement.specs.Sized.{IsVariable, SizedArgument, SizedArguments, SizedExpression, SizedBlock, SizedClauses, IsSized}
-use Rattle.own_agreement.specs.Agreement.{AreSized}
-use Rattle.proof_check.specs.Scopes.{Known, known, named, parameters, AreNumbered, within, within_block}
-use Rattle.proof_check.specs.Calculus.{Choice, IsScalar, Operand, Plain}
+use Rattle.ownership_agreement.specs.Sized.{IsVariable, SizedArgument, SizedArguments, SizedExpression, SizedBlock, SizedClauses, IsSized}
+use Rattle.ownership_agreement.specs.Agreement.{AreSized}
+use Rattle.derivation_check.specs.Scopes.{Known, known, named, parameters, AreNumbered, within, within_block}
+use Rattle.derivation_check.specs.Calculus.{Choice, IsScalar, Operand, Plain}
 use Rattle.derivation_making.specs.Fitting.{IsThere, FitsValue, FitValues, FitsLent, FitPassed, FitsCall, IsScrutinised, FitsScrutinee, Fitting, FittingBlock, FittingClauses, IsFitting, AreFitting}
 use Rattle.derivation_making.specs.Numbered.{Numbered, NumberedBlock, NumberedClauses, IsNumbered, AllNumbered}
 use Rattle.derivation_making.proofs.Lists.{either, not_both, same_number}

@@ -9,22 +9,22 @@ use Rattle.fip_rules.specs.World.{World, world, is_fip, is_ruled}
 use Rattle.fip_rules.specs.Shapes as H
 use Rattle.fip_rules.specs.Shapes.{Names, mark, or_later, no_names}
 use Rattle.credit_check.specs.Needs.{marked, need_block}
-use Rattle.own_calculus.specs.Terms.{Term, Item, Own, Credit, has, given}
-use Rattle.own_calculus.specs.Rules.{Fits}
-use Rattle.own_calculus.specs.Clean.{asks, fewest, Status, Free, Owned}
-use Rattle.own_calculus.specs.Functions.{Accepted}
-use Rattle.own_calculus.specs.Functions as F
-use Rattle.own_calculus.proofs.Fit.{held, room, visible}
-use Rattle.own_calculus.proofs.Forth.{clean_room, all_used_at}
-use Rattle.own_agreement.specs.Bodies.{Scalars, borrowed_parameters, owned_parameters, entering_parameters, no_variables, body_term}
-use Rattle.own_agreement.specs.Sized.{IsSized, AreSizes}
-use Rattle.own_agreement.proofs.Amounts.{header_given, header_out, block_need}
+use Rattle.ownership_calculus.specs.Terms.{Term, Item, Own, Credit, has, given}
+use Rattle.ownership_calculus.specs.Rules.{Fits}
+use Rattle.ownership_calculus.specs.Clean.{asks, fewest, Status, Free, Owned}
+use Rattle.ownership_calculus.specs.Functions.{Accepted}
+use Rattle.ownership_calculus.specs.Functions as F
+use Rattle.ownership_calculus.proofs.Fit.{held, room, visible}
+use Rattle.ownership_calculus.proofs.Forth.{clean_room, all_used_at}
+use Rattle.ownership_agreement.specs.Bodies.{Scalars, borrowed_parameters, owned_parameters, entering_parameters, no_variables, body_term}
+use Rattle.ownership_agreement.specs.Sized.{IsSized, AreSizes}
+use Rattle.ownership_agreement.proofs.Amounts.{header_given, header_out, block_need}
 use Rattle.derivation_trees.specs.Trees.{Tree, Entry}
-use Rattle.proof_check.specs.Owned.{amount, root, Rising}
-use Rattle.proof_check.specs.Scopes.{Known, known, parameters, AreNumbered}
-use Rattle.proof_check.specs.Calculus.{Choice}
-use Rattle.proof_check.specs.Accepted as A
-use Rattle.proof_check.specs.Accepted.{starting, header_scope, DerivesInstance, FirstEntry, AreDerived}
+use Rattle.derivation_check.specs.Owned.{amount, root, Rising}
+use Rattle.derivation_check.specs.Scopes.{Known, known, parameters, AreNumbered}
+use Rattle.derivation_check.specs.Calculus.{Choice}
+use Rattle.derivation_check.specs.Accepted as A
+use Rattle.derivation_check.specs.Accepted.{starting, header_scope, DerivesInstance, FirstEntry, AreDerived}
 use Rattle.derivation_making.specs.Uses.{occurs_block}
 use Rattle.derivation_making.specs.Made.{numbers, credits, owned_ones, made_instance, made_entries}
 use Rattle.derivation_making.specs.Fitting.{IsFitting}

@@ -11,8 +11,8 @@ use Rattle.fip_trees.specs.Tree.{Expression, Give, Tuple, Operation, Call, Match
 use Rattle.fip_trees.specs.Tree.{Clauses, NoClauses, MoreClauses, Instance, Program}
 use Rattle.fip_rules.specs.World.{World, world, is_ruled}
 use Rattle.fip_rules.specs.Shapes.{binders, takes}
-use Rattle.proof_check.specs.Scopes.{Known, meant, named, parameters, AreNumbered, within, within_block}
-use Rattle.proof_check.specs.Calculus.{Choice, Operand, Plain}
+use Rattle.derivation_check.specs.Scopes.{Known, meant, named, parameters, AreNumbered, within, within_block}
+use Rattle.derivation_check.specs.Calculus.{Choice, Operand, Plain}
 
 abbrev pub IsThere : Option Known → Type 0
 IsThere None = ⊥

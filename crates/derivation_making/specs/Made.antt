@@ -19,7 +19,7 @@ use Rattle.derivation_trees.specs.declared.derivation.RuleName.{RuleName}
 use Rattle.derivation_trees.specs.declared.derivation.RuleName.TheVariants as R
 use Rattle.derivation_trees.specs.declared.derivation.Credit as D
 use Rattle.derivation_trees.specs.Trees.{Tree, Branch, Trees, NoTrees, MoreTrees, Entry}
-use Rattle.proof_check.specs.Scopes.{Known, meant, named, parameters, within, within_block}
+use Rattle.derivation_check.specs.Scopes.{Known, meant, named, parameters, within, within_block}
 use Rattle.derivation_making.specs.Uses.{names, occurs_value, occurs_values, occurs, occurs_block, uses}
 
 -- ---- what is there

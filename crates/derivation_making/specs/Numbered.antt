@@ -6,7 +6,7 @@ use Rattle.fip_trees.specs.Tree.{Expression, Give, Tuple, Operation, Call, Match
 use Rattle.fip_trees.specs.Tree.{Clauses, NoClauses, MoreClauses, Instance, Program}
 use Rattle.fip_rules.specs.Shapes.{binders}
 use Rattle.fip_rules.specs.World.{is_ruled}
-use Rattle.proof_check.specs.Scopes.{AreNumbered, within, within_block}
+use Rattle.derivation_check.specs.Scopes.{AreNumbered, within, within_block}
 
 abbrev mutual
   pub Numbered : Program → ℕ → ℕ → Expression → Type 0

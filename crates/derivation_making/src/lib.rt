@@ -3,8 +3,8 @@
 
 ghost use Rattle.fip_trees.specs.Tree.{Program};
 ghost use Rattle.type_check.specs.Typing.{IsFilled};
-ghost use Rattle.own_agreement.specs.Agreement.{AreSized, IsAccepted};
-ghost use Rattle.proof_check.specs.Accepted.{IsDerivation};
+ghost use Rattle.ownership_agreement.specs.Agreement.{AreSized, IsAccepted};
+ghost use Rattle.derivation_check.specs.Accepted.{IsDerivation};
 ghost use Rattle.derivation_making.specs.Made.{made_entries};
 ghost use Rattle.derivation_making.specs.Numbered.{AllNumbered};
 ghost use Rattle.derivation_making.specs.Weakening.{AllLean};

@@ -1,7 +1,11 @@
+pub mod UsesRows
+pub mod Searching
+pub mod Rising
+pub mod UsesSteps
 pub mod Growing
 pub mod Whole
 pub mod Sorting
-pub mod Steps
-pub mod Rows
+pub mod WalkSteps
+pub mod WalkRows
 pub mod Costs
 pub mod Short

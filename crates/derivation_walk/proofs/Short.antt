@@ -14,7 +14,7 @@ use Rattle.derivation_walk.specs.declared.error.LineError.TheVariants.{TooLong}
 use Rattle.derivation_walk.specs.Growing.{grown, grown_all, closed_times, Awaits}
 use Rattle.derivation_walk.specs.Walked.{Guided, Owned, Asked, asked, those, used, sorted, owning, credits, value, fields, passed, rule_of, node, let_node, behind, rest_owned, size, walked, walked_parts}
 use Rattle.derivation_walk.specs.Costs.{cost_of, cost, cost_all}
-use Rattle.derivation_walk.proofs.Steps.{value_grown, let_opened}
+use Rattle.derivation_walk.proofs.WalkSteps.{value_grown, let_opened}
 use Rattle.derivation_walk.proofs.Costs.{cost_append, tree_kept, trees_kept, closed_cost, awaited_cost, awaited_one_cost}
 
 one_error : {A : Type 0} (r : Result A LineError) (y z : LineError) → r ≡ Err y → r ≡ Err z → y ≡ z

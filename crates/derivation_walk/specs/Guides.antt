@@ -4,9 +4,9 @@ use Rattle.fip_trees.specs.declared.needs.Need.{Need}
 use Rattle.fip_trees.specs.Tree.{Instance}
 use Rattle.fip_rules.specs.World.{World}
 use Rattle.derivation_trees.specs.Trees.{Tree}
-use Rattle.variable_uses.specs.Seen.{world_of}
-use Rattle.variable_uses.specs.Lookups.{IsOf}
-use Rattle.variable_uses.specs.declared.tables.Uses.{Uses}
+use Rattle.derivation_walk.specs.Seen.{world_of}
+use Rattle.derivation_walk.specs.Lookups.{IsOf}
+use Rattle.derivation_walk.specs.declared.tables.Uses.{Uses}
 use Rattle.derivation_walk.specs.declared.make.Guide.{Guide}
 use Rattle.derivation_walk.specs.declared.make.Owned as M
 use Rattle.derivation_walk.specs.declared.make.Asked as N

@@ -1,3 +1,6 @@
+pub mod Seen
+pub mod Tables
+pub mod Lookups
 pub mod Growing
 pub mod Walked
 pub mod Guides

@@ -22,8 +22,8 @@ use Rattle.derivation_trees.specs.declared.derivation.RuleName.{RuleName}
 use Rattle.derivation_trees.specs.declared.derivation.RuleName.TheVariants as R
 use Rattle.derivation_trees.specs.declared.derivation.Credit as D
 use Rattle.derivation_trees.specs.Trees.{Tree, Branch, Trees, NoTrees, MoreTrees}
-use Rattle.variable_uses.specs.declared.tables.Uses.{Uses}
-use Rattle.variable_uses.specs.Lookups.{number_at, is_scalar_at, is_bound_by, uses_at, occurs_at}
+use Rattle.derivation_walk.specs.declared.tables.Uses.{Uses}
+use Rattle.derivation_walk.specs.Lookups.{number_at, is_scalar_at, is_bound_by, uses_at, occurs_at}
 
 -- what the walk looks up
 pub record Guided : Type 0 where

@@ -15,7 +15,7 @@ ghost use Rattle.derivation_trees.specs.Trees.{Tree, Trees, NoTrees, entry, entr
 ghost use Rattle.derivation_trees.specs.WholeTrees.{IsTree, IsWhole, AreTrees};
 ghost use Rattle.derivation_walk.specs.Growing.{closed_times, grown, grown_all, Awaits, AwaitsOne};
 ghost use Rattle.derivation_walk.specs.Guides.{guided, holding, asking, IsWalked};
-ghost use Rattle.variable_uses.specs.Seen.{world_of};
+ghost use Rattle.derivation_walk.specs.Seen.{world_of};
 ghost use Rattle.derivation_walk.specs.Walked as W;
 ghost use Rattle.derivation_walk.specs.Walks.{AreWalked};
 ghost use Rattle.derivation_walk.specs.Costs.{cost, cost_all, total};
@@ -32,7 +32,7 @@ use fip_trees::program::{
 use fip_trees::scalars::Scalars;
 use fip_trees::sizes::Sizes;
 use std::alloc::Global;
-use variable_uses::{Context, Uses};
+use crate::{Context, Uses};
 
 /// The derivation of a typed program, which is asked to break no rule on ownership and credits, and whose needs these
 /// are. NoMemory: no memory is left.

@@ -2,7 +2,7 @@
 -- written answer.
 use Rattle.std.proofs.Common.{◌≡◌, ℕ, List, ap₂, subst, refl}
 use Rattle.fip_outside.specs.Files.{File}
-use Rattle.command_line.specs.Words.{Command, IsCommand}
+use Rattle.command_words.specs.Words.{Command, IsCommand}
 use Rattle.fip_driver.specs.Answered.{Answer, NotUnderstood, Said, Beyond, IsAnswered}
 use Rattle.fip_driver.specs.Ends.{End, Says, IsOpen}
 use Rattle.fip_driver.proofs.OneCommand.{command_once}

@@ -4,8 +4,8 @@ use Rattle.std.proofs.Common.{◌≡◌, ◌∙◌, ◌+◌, ◌*◌, ◌==◌, 
 use Rattle.std.specs.Prelude.{Option, Some, None, Bool, true, false, codes}
 use Rattle.std.specs.Str.Parse.{digits_value, without_leading_plus}
 use Rattle.clap.specs.Words.{Text, Row, one_of, first_of, subcommand_of}
-use Rattle.command_line.specs.Words.{Request, Room, Command, Check, Compile, Verify, Upgrade, Exec, Run, Eval, Trace, Session, Tasks, Derive, Audit, Replay, Library, Gen}
-use Rattle.command_line.specs.Words.{AsksFor, AsksToRun, IsRoom, IsCommand, IsNumberIn, flag_text, command_app, command_name}
+use Rattle.command_words.specs.Words.{Request, Room, Command, Check, Compile, Verify, Upgrade, Exec, Run, Eval, Trace, Session, Tasks, Derive, Audit, Replay, Library, Gen}
+use Rattle.command_words.specs.Words.{AsksFor, AsksToRun, IsRoom, IsCommand, IsNumberIn, flag_text, command_app, command_name}
 
 -- ---- what stands in the rows
 

@@ -3,27 +3,27 @@ use Rattle.std.proofs.Common.{◌≡◌, ◌∙◌, ℕ, List, sym, ap, subst, r
 use Rattle.std.specs.Prelude.{Option, Some, None, Ok, Err}
 use Rattle.std.proofs.lemmas.Option.{none-some, same_Some}
 use Rattle.fip_outside.specs.Files.{File, file_of}
-use Rattle.library_commands.specs.GenAnswer.{Generates}
-use Rattle.library_commands.proofs.Once.{generated_once}
-use Rattle.library_commands.proofs.Texts.{text_once}
-use Rattle.command_line.specs.Words.{Room, Request, Command, Check, Verify, Upgrade, Exec, Run, Tasks, Derive, Audit, Replay, Library, Gen, Eval}
+use Rattle.command_library.specs.GenAnswer.{Generates}
+use Rattle.command_library.proofs.Once.{generated_once}
+use Rattle.command_library.proofs.Texts.{text_once}
+use Rattle.command_words.specs.Words.{Room, Request, Command, Check, Verify, Upgrade, Exec, Run, Tasks, Derive, Audit, Replay, Library, Gen, Eval}
 use Rattle.command_outcome.specs.declared.failure.Failure.TheVariants as F
-use Rattle.eval_command.specs.EvalAnswer.{Evaluates}
-use Rattle.eval_command.proofs.Once.{evaluated_once, evaluated_ready}
+use Rattle.command_eval.specs.EvalAnswer.{Evaluates}
+use Rattle.command_eval.proofs.Once.{evaluated_once, evaluated_ready}
 use Rattle.fip_trees.specs.Tree.{Program}
 use Rattle.source_report.specs.Report.{IsMatched}
 use Rattle.source_report.proofs.Once.{typed_once}
-use Rattle.loaded_runs.proofs.Either.{one_trace, not_both, one_place}
-use Rattle.loaded_runs.specs.Replaying.{replayed}
-use Rattle.source_commands.specs.Roots.{IsListing}
-use Rattle.run_command.specs.ExecAnswer.{Execs}
-use Rattle.run_command.proofs.ExecOnce.{exec_once}
-use Rattle.tasks_command.specs.TasksAnswer.{TakesTurns}
-use Rattle.tasks_command.proofs.Once.{turns_once, turns_ready}
-use Rattle.source_commands.specs.Wanted.{Wanted, Lawful, Root, Compiled, IsReady}
-use Rattle.source_commands.proofs.Deriving.{derived_ready, underived_ready, derived_or_underived}
-use Rattle.source_commands.proofs.Judging.{rejected_once, accepted_not_rejected}
-use Rattle.source_commands.proofs.Once.{listing_once, listing_ready, report_once, refused_once, refused_not_ready}
+use Rattle.run_loading.proofs.Either.{one_trace, not_both, one_place}
+use Rattle.run_loading.specs.Replaying.{replayed}
+use Rattle.command_source.specs.Roots.{IsListing}
+use Rattle.command_run.specs.ExecAnswer.{Execs}
+use Rattle.command_run.proofs.ExecOnce.{exec_once}
+use Rattle.command_tasks.specs.TasksAnswer.{TakesTurns}
+use Rattle.command_tasks.proofs.Once.{turns_once, turns_ready}
+use Rattle.command_source.specs.Wanted.{Wanted, Lawful, Root, Compiled, IsReady}
+use Rattle.command_source.proofs.Deriving.{derived_ready, underived_ready, derived_or_underived}
+use Rattle.command_source.proofs.Judging.{rejected_once, accepted_not_rejected}
+use Rattle.command_source.proofs.Once.{listing_once, listing_ready, report_once, refused_once, refused_not_ready}
 use Rattle.fip_driver.specs.Commands.{ReadsInput, fetched_name, wanted}
 use Rattle.fip_driver.specs.Ends.{End, SaysOf, Refused, Listed, LongInput, Evaluated, Executed, TookTurns, Derived, Underived, IsTaken, Checks, Says, Missing, OnSource, OnCode, OnAudit, OfLibrary, AsksCode, SaysOfCode, IsVerdict, SaysOfAudit, Reported, NoProof, Judged, IsUnsaidOn, IsThere, OnTrace, SaysOfTrace, IsOpen, OpenSource, OfGen}
 use Rattle.fip_driver.proofs.OneCode.{says_asks, code_once}

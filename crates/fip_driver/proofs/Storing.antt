@@ -3,7 +3,7 @@ use Rattle.std.proofs.Common.{◌≡◌, ◌≤◌, ℕ, List, subst, refl, inl,
 use Rattle.std.specs.Prelude.{Option, Some, None, Ok, Err, IfErr}
 use Rattle.fip_outside.specs.Faults.{Rose}
 use Rattle.fip_outside.specs.Files.{File}
-use Rattle.command_line.specs.Words.{Command}
+use Rattle.command_words.specs.Words.{Command}
 use Rattle.command_outcome.specs.declared.failure.Failure.{Failure}
 use Rattle.command_outcome.specs.declared.failure.Failure.TheVariants as F
 use Rattle.command_outcome.specs.declared.failure.Object.TheVariants as O

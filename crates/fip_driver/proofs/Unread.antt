@@ -4,7 +4,7 @@ use Rattle.std.specs.Prelude.{◌⊎◌, Option, Some, None, Ok, Err, IfErr, OnO
 use Rattle.fip_language.specs.declared.rule.Rule.{Rule}
 use Rattle.fip_language.specs.declared.rule.Rule.TheVariants.{E75}
 use Rattle.fip_outside.specs.Files.{File}
-use Rattle.command_line.specs.Words.{Command, Exec, Run, Eval, Trace, Session, Tasks, Library, Gen, IsCommand}
+use Rattle.command_words.specs.Words.{Command, Exec, Run, Eval, Trace, Session, Tasks, Library, Gen, IsCommand}
 use Rattle.command_outcome.specs.Stages.{IsOfSource, IsOfRun, IsOfTasks, IsOfTrace}
 use Rattle.command_outcome.specs.Failures.{failure_status, failure_text}
 use Rattle.command_outcome.specs.Texts.{no_memory_text}

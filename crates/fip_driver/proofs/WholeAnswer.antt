@@ -11,7 +11,7 @@ use Rattle.fip_driver.specs.Delivered.{Seen, Tried, Told, ToldFailure, Delivered
 use Rattle.fip_driver.specs.Answered.{Answered, IsUnasked}
 use Rattle.fip_driver.specs.Ends.{End, Ends}
 use Rattle.fip_driver.specs.Outcome.{end_of, IsFault, Closes}
-use Rattle.command_line.specs.Words.{Command, IsCommand}
+use Rattle.command_words.specs.Words.{Command, IsCommand}
 use Rattle.command_outcome.specs.Failures.{failure_text, failure_status, fault_text}
 use Rattle.command_outcome.specs.declared.failure.Failure.{Failure}
 use Rattle.command_outcome.specs.declared.failure.Failure.TheVariants as F

@@ -1,9 +1,9 @@
 -- What each command asks of a host: which read the input, which fetch a file, and which store one; and what it wants of
 -- a source.
 use Rattle.std.specs.Prelude.{ℕ, List, Option, Some, None}
-use Rattle.command_line.specs.Words.{Command, Check, Compile, Verify, Upgrade, Exec, Run, Eval, Trace, Session, Tasks}
-use Rattle.command_line.specs.Words.{Derive, Audit, Replay, Library, Gen}
-use Rattle.source_commands.specs.Wanted.{Wanted, Lawful, Root, Compiled}
+use Rattle.command_words.specs.Words.{Command, Check, Compile, Verify, Upgrade, Exec, Run, Eval, Trace, Session, Tasks}
+use Rattle.command_words.specs.Words.{Derive, Audit, Replay, Library, Gen}
+use Rattle.command_source.specs.Wanted.{Wanted, Lawful, Root, Compiled}
 
 -- those that read the input
 abbrev pub ReadsInput : Command → Type 0

@@ -10,10 +10,10 @@ use Rattle.std.specs.Io.KnownBytes.{Appends}
 use Rattle.fip_language.specs.declared.limits.TheConstants.{MOST_FILE_BYTES}
 use Rattle.fip_language.specs.declared.rule.Rule.TheVariants.{E61, E70, E74}
 use Rattle.fip_outside.specs.Files.{File, file_of}
-use Rattle.tasks_command.specs.TasksAnswer.{TakesTurns}
-use Rattle.trace_commands.specs.TraceAnswer.{Traces}
-use Rattle.command_line.specs.Words.{Room, Request, Command, Check, Compile, Verify, Upgrade, Exec, Run, Eval, Trace}
-use Rattle.command_line.specs.Words.{Session, Tasks, Derive, Audit, Replay, Library, Gen}
+use Rattle.command_tasks.specs.TasksAnswer.{TakesTurns}
+use Rattle.command_trace.specs.TraceAnswer.{Traces}
+use Rattle.command_words.specs.Words.{Room, Request, Command, Check, Compile, Verify, Upgrade, Exec, Run, Eval, Trace}
+use Rattle.command_words.specs.Words.{Session, Tasks, Derive, Audit, Replay, Library, Gen}
 use Rattle.command_outcome.specs.Failures.{failure_status, failure_text}
 use Rattle.command_outcome.specs.Successes.{derived_text}
 use Rattle.command_outcome.specs.declared.failure.Failure.{Failure}
@@ -22,20 +22,20 @@ use Rattle.command_outcome.specs.declared.failure.Object.TheVariants as O
 use Rattle.fip_trees.specs.Tree.{Program}
 use Rattle.source_report.specs.Report.{bare, IsMatched}
 use Rattle.code_file.specs.Plain.{PlainCode}
-use Rattle.source_commands.specs.Codes.{sound_view, IsSoundFile, RefusesCode, IsCodeListing, IsUpgraded, IsUnspelt}
-use Rattle.source_commands.specs.Codes.{names_one, HasFunction}
-use Rattle.eval_command.specs.EvalAnswer.{Evaluates}
-use Rattle.trace_commands.specs.Replayed.{IsReplayed}
+use Rattle.command_source.specs.Codes.{sound_view, IsSoundFile, RefusesCode, IsCodeListing, IsUpgraded, IsUnspelt}
+use Rattle.command_source.specs.Codes.{names_one, HasFunction}
+use Rattle.command_eval.specs.EvalAnswer.{Evaluates}
+use Rattle.command_trace.specs.Replayed.{IsReplayed}
 use Rattle.fip_library.specs.Texts.{IsText}
-use Rattle.library_commands.specs.GenAnswer.{Generates}
-use Rattle.loaded_runs.specs.TraceReading.{IsBadTrace}
-use Rattle.run_command.specs.CodeRun.{RunsCode}
-use Rattle.run_command.specs.ExecAnswer.{Execs}
-use Rattle.source_commands.specs.Derived.{IsDerivedFile, IsUnderived}
-use Rattle.source_commands.specs.Judged.{IsEarlyReport, IsProofOf, IsRejectedOf}
-use Rattle.source_commands.specs.ProgramCode.{IsUncompiled}
-use Rattle.source_commands.specs.Roots.{IsListing}
-use Rattle.source_commands.specs.Wanted.{Wanted, Refuses, IsReady, of_entry}
+use Rattle.command_library.specs.GenAnswer.{Generates}
+use Rattle.run_loading.specs.TraceReading.{IsBadTrace}
+use Rattle.command_run.specs.CodeRun.{RunsCode}
+use Rattle.command_run.specs.ExecAnswer.{Execs}
+use Rattle.command_source.specs.Derived.{IsDerivedFile, IsUnderived}
+use Rattle.command_source.specs.Judged.{IsEarlyReport, IsProofOf, IsRejectedOf}
+use Rattle.command_source.specs.ProgramCode.{IsUncompiled}
+use Rattle.command_source.specs.Roots.{IsListing}
+use Rattle.command_source.specs.Wanted.{Wanted, Refuses, IsReady, of_entry}
 use Rattle.fip_driver.specs.Commands.{ReadsInput, fetched_name, wanted}
 
 abbrev pub End : Type 0

@@ -4,9 +4,9 @@ use Rattle.std.specs.declared.vec.Vec.{Vec}
 use Rattle.std.specs.declared.alloc.Global.{Global}
 use Rattle.fip_language.specs.declared.limits.TheConstants.{MOST_FILE_BYTES}
 use Rattle.fip_outside.specs.Files.{File}
-use Rattle.command_line.specs.Words.{Command, Audit, IsCommand}
-use Rattle.source_commands.specs.Wanted.{Wanted}
-use Rattle.source_commands.specs.declared.files.Compiled.{Compiled}
+use Rattle.command_words.specs.Words.{Command, Audit, IsCommand}
+use Rattle.command_source.specs.Wanted.{Wanted}
+use Rattle.command_source.specs.declared.files.Compiled.{Compiled}
 use Rattle.fip_driver.specs.Answered.{IsTold, IsUnasked}
 use Rattle.fip_driver.specs.Commands.{ReadsInput, CallsNoFolder}
 use Rattle.fip_driver.specs.Ends.{End, SaysOf, ComesOf, SaysOfCode, SaysOfAudit, Says, Comes}

@@ -7,17 +7,17 @@ use Rattle.std.specs.declared.vec.Vec.{Vec}
 use Rattle.std.specs.declared.alloc.Global.{Global}
 use Rattle.fip_outside.specs.Faults.{Rose}
 use Rattle.fip_outside.specs.Files.{File, HoldsFile, KeepsOthers}
-use Rattle.command_line.specs.Words.{Room, Command, Compile, Derive, Trace, Upgrade, IsCommand}
+use Rattle.command_words.specs.Words.{Room, Command, Compile, Derive, Trace, Upgrade, IsCommand}
 use Rattle.command_outcome.specs.declared.failure.Failure.{Failure}
 use Rattle.command_outcome.specs.declared.failure.Failure.TheVariants as F
 use Rattle.command_outcome.specs.declared.failure.Object.TheVariants as O
-use Rattle.source_commands.specs.Codes.{IsUpgraded}
-use Rattle.source_commands.specs.Derived.{IsDerivedFile}
-use Rattle.source_commands.specs.ProgramCode.{IsCompiledFile}
-use Rattle.source_commands.specs.Wanted.{Compiled, IsReady}
-use Rattle.loaded_runs.specs.TraceText as T
-use Rattle.loaded_runs.specs.TraceText.{trace_text}
-use Rattle.trace_commands.specs.TraceAnswer.{IsTraceOf, IsLong}
+use Rattle.command_source.specs.Codes.{IsUpgraded}
+use Rattle.command_source.specs.Derived.{IsDerivedFile}
+use Rattle.command_source.specs.ProgramCode.{IsCompiledFile}
+use Rattle.command_source.specs.Wanted.{Compiled, IsReady}
+use Rattle.run_loading.specs.TraceText as T
+use Rattle.run_loading.specs.TraceText.{trace_text}
+use Rattle.command_trace.specs.TraceAnswer.{IsTraceOf, IsLong}
 use Rattle.fip_driver.specs.Answered.{IsTold}
 use Rattle.fip_driver.specs.Commands.{ReadsInput, CallsNoFolder}
 use Rattle.fip_driver.specs.Delivered.{Seen}

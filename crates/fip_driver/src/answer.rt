@@ -2,8 +2,8 @@
 ghost use Rattle.std.specs.Prelude.{◌≡◌, ℕ, List, OnOk};
 ghost use Rattle.std.specs.Io.KnownBytes.{IsAtEnd};
 ghost use Rattle.fip_outside.specs.Faults.{Rose};
-ghost use Rattle.command_line.specs.Words.{IsCommand};
-ghost use Rattle.command_line.specs.View.{command_of};
+ghost use Rattle.command_words.specs.Words.{IsCommand};
+ghost use Rattle.command_words.specs.View.{command_of};
 ghost use Rattle.fip_driver.specs.Commands.{ReadsInput, CallsNoFolder, stored_name};
 ghost use Rattle.fip_driver.specs.Outcome.{CommandOutcome, IsCounted};
 ghost use Rattle.fip_driver.specs.Unread.{IsBeforeSource, IsBeforeInputOf, AreKept, WaitsOr};
@@ -13,7 +13,7 @@ use crate::derivations::{audit, derive};
 use crate::exec::{exec, run};
 use crate::sessions::{session, tasks};
 use crate::traces::{replay, trace};
-use command_line::Command;
+use command_words::Command;
 use command_outcome::Failure;
 use fip_outside::outside::{Folder, Source};
 use std::alloc::Global;
@@ -51,8 +51,8 @@ pub fn answer<F: Folder, S: Source>(
             calls,
             frames,
         } => eval(alloc, file, entry, *calls, *frames, folder, input),
-        Command::Library { name } => library_commands::library(alloc, name),
-        Command::Gen { seed, count } => library_commands::generate(alloc, *seed, *count),
+        Command::Library { name } => command_library::library(alloc, name),
+        Command::Gen { seed, count } => command_library::generate(alloc, *seed, *count),
         Command::Trace {
             file,
             entry,

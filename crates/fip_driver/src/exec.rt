@@ -3,21 +3,21 @@ ghost use Rattle.std.specs.Prelude.{◌≡◌, ◌≤◌, ℕ, List, OnOk};
 ghost use Rattle.std.specs.Io.KnownBytes.{IsAtEnd};
 ghost use Rattle.fip_language.specs.declared.limits.TheConstants.{MOST_FRAMES, MOST_STORE_WORDS};
 ghost use Rattle.fip_outside.specs.Faults.{Rose};
-ghost use Rattle.command_line.specs.View.{room_of, request_of};
-ghost use Rattle.command_line.specs.Words as W;
-ghost use Rattle.source_commands.specs.Entries.{IsFunctionOf};
-ghost use Rattle.source_commands.specs.ProgramCode.{IsEntryOf};
-ghost use Rattle.source_commands.specs.Wanted.{Compiled, IsReady};
-ghost use Rattle.run_command.specs.CodeRun.{RunsCode};
-ghost use Rattle.run_command.specs.ExecAnswer.{Execs};
+ghost use Rattle.command_words.specs.View.{room_of, request_of};
+ghost use Rattle.command_words.specs.Words as W;
+ghost use Rattle.command_source.specs.Entries.{IsFunctionOf};
+ghost use Rattle.command_source.specs.ProgramCode.{IsEntryOf};
+ghost use Rattle.command_source.specs.Wanted.{Compiled, IsReady};
+ghost use Rattle.command_run.specs.CodeRun.{RunsCode};
+ghost use Rattle.command_run.specs.ExecAnswer.{Execs};
 ghost use Rattle.fip_driver.specs.Outcome.{FileOutcome, ReadOutcome, IsCounted, end_of};
 ghost use Rattle.fip_driver.specs.Unread.{IsBeforeSource, IsBeforeInput};
 
 use crate::fetched::{fetch_code, fetch_source, read_input};
-use command_line::{Room, RunRequest};
+use command_words::{Room, RunRequest};
 use command_outcome::Failure;
 use fip_outside::outside::{Folder, Source};
-use source_commands::Ready;
+use command_source::Ready;
 use std::alloc::Global;
 
 // Reads the input and runs the entry of a verified code.
@@ -40,7 +40,7 @@ fn run_ready<S: Source>(
     ensures late { IsBeforeInput result → ⊥ }
 {
     match read_input(alloc, input) {
-        Ok(bytes) => run_command::run(alloc, ready, bytes.as_slice(), room, gauge),
+        Ok(bytes) => command_run::run(alloc, ready, bytes.as_slice(), room, gauge),
         Err(failure) => Err(failure),
     }
 }
@@ -64,7 +64,7 @@ pub fn exec<F: Folder, S: Source>(
     ensures files { F.files folder.new ≡ F.files folder.old }
 {
     match fetch_source(alloc, folder, request.file) {
-        Ok(source) => match source_commands::exec_entry(alloc, source.as_slice(), request.entry) {
+        Ok(source) => match command_source::exec_entry(alloc, source.as_slice(), request.entry) {
             Ok(ready) => run_ready(alloc, ready, request.room, request.gauge, input),
             Err(failure) => Err(failure),
         },
@@ -91,7 +91,7 @@ pub fn run<F: Folder, S: Source>(
     ensures files { F.files folder.new ≡ F.files folder.old }
 {
     match fetch_code(folder, request.file) {
-        Ok(bytes) => match source_commands::run_entry(alloc, bytes.as_slice(), request.entry) {
+        Ok(bytes) => match command_source::run_entry(alloc, bytes.as_slice(), request.entry) {
             Ok(ready) => run_ready(alloc, ready, request.room, request.gauge, input),
             Err(failure) => Err(failure),
         },

@@ -8,14 +8,14 @@ ghost use Rattle.fip_outside.specs.Files.{File};
 ghost use Rattle.command_outcome.specs.declared.failure.Failure.{Failure as a_failure};
 ghost use Rattle.fip_driver.specs.Answered.{Answer, Answered, IsAnswered};
 ghost use Rattle.fip_driver.specs.Delivered.{seen, NotRisen, Delivered};
-ghost use Rattle.command_line.specs.Words.{Command, IsCommand};
+ghost use Rattle.command_words.specs.Words.{Command, IsCommand};
 ghost use Rattle.fip_driver.specs.Commands.{stored_name};
 ghost use Rattle.fip_driver.specs.Outcome.{WordsOutcome, IsCounted};
 ghost use Rattle.fip_driver.specs.Unread.{HadInput, HadFolder, LeavesInput, HasRead, HasCalled, AreKept, AreAfter};
 
 use crate::answer::answer;
 use crate::delivery::deliver;
-use command_line::{WordsError, read_words};
+use command_words::{WordsError, read_words};
 use command_outcome::Failure;
 use fip_outside::outside::{Folder, Sink, Source};
 use fip_base::plain::Status;

@@ -3,22 +3,22 @@ ghost use Rattle.std.specs.Prelude.{◌≡◌, ◌≤◌, ℕ, List, OnOk};
 ghost use Rattle.std.specs.Io.KnownBytes.{IsAtEnd};
 ghost use Rattle.fip_language.specs.declared.limits.TheConstants.{MOST_FRAMES, MOST_STORE_WORDS};
 ghost use Rattle.fip_outside.specs.Faults.{Rose};
-ghost use Rattle.command_line.specs.View.{room_of};
-ghost use Rattle.command_line.specs.Words as W;
-ghost use Rattle.tasks_command.specs.Fronts.{IsFrontOf};
-ghost use Rattle.tasks_command.specs.TasksAnswer.{TakesTurns};
+ghost use Rattle.command_words.specs.View.{room_of};
+ghost use Rattle.command_words.specs.Words as W;
+ghost use Rattle.command_tasks.specs.Fronts.{IsFrontOf};
+ghost use Rattle.command_tasks.specs.TasksAnswer.{TakesTurns};
 ghost use Rattle.fip_driver.specs.Ends.{IsSessionEnd};
 ghost use Rattle.fip_driver.specs.Outcome.{FileOutcome, InputOutcome, IsCounted, ReadOutcome, end_of};
 ghost use Rattle.fip_driver.specs.Unread.{IsBeforeSource, IsBeforeInput};
 
 use crate::fetched::{fetch_source, read_input};
-use command_line::Room;
+use command_words::Room;
 use command_outcome::Failure;
 use fip_outside::outside::{Folder, Source};
 use fip_base::plain::NoMemory;
 use fip_language::limits::{MOST_FRAMES, MOST_STORE_WORDS};
 use fip_session::session_reply;
-use source_commands::Front;
+use command_source::Front;
 use std::alloc::Global;
 
 // The room of the runs of a session, with a store of at most 16,777,216 words and at most 1,000,000 frames.
@@ -74,7 +74,7 @@ pub fn session<F: Folder, S: Source>(
     ensures files { F.files folder.new ≡ F.files folder.old }
 {
     match fetch_source(alloc, folder, file) {
-        Ok(source) => match source_commands::front(alloc, source.as_slice()) {
+        Ok(source) => match command_source::front(alloc, source.as_slice()) {
             Ok(front) => talk(alloc, &front, room, input),
             Err(failure) => Err(failure),
         },
@@ -100,7 +100,7 @@ fn take_turns<S: Source>(
     ensures late { IsBeforeInput result → ⊥ }
 {
     match read_input(alloc, input) {
-        Ok(bytes) => tasks_command::tasks(alloc, front, bytes.as_slice(), seed, turns, room),
+        Ok(bytes) => command_tasks::tasks(alloc, front, bytes.as_slice(), seed, turns, room),
         Err(failure) => Err(failure),
     }
 }
@@ -127,7 +127,7 @@ pub fn tasks<F: Folder, S: Source>(
     ensures files { F.files folder.new ≡ F.files folder.old }
 {
     match fetch_source(alloc, folder, file) {
-        Ok(source) => match source_commands::front(alloc, source.as_slice()) {
+        Ok(source) => match command_source::front(alloc, source.as_slice()) {
             Ok(front) => take_turns(alloc, &front, seed, turns, room, input),
             Err(failure) => Err(failure),
         },

@@ -5,7 +5,7 @@ ghost use Rattle.fip_driver.specs.Unread.{IsBeforeSource};
 
 use command_outcome::{Failure, Object};
 use fip_outside::outside::{Folder, StoreError};
-use source_commands::Compiled;
+use command_source::Compiled;
 
 /// Stores a file under a name, and gives the text that is printed. A fault of the folder where it failed.
 pub fn store<F: Folder>(folder: &mut F, name: &str, compiled: Compiled) -> Result<Vec<u8>, Failure>

@@ -3,10 +3,10 @@ ghost use Rattle.std.specs.Prelude.{◌≡◌, ◌≤◌, ℕ, List, Option, IfO
 ghost use Rattle.std.specs.Io.KnownBytes.{IsAtEnd};
 ghost use Rattle.fip_language.specs.declared.limits.TheConstants.{MOST_FRAMES, MOST_STORE_WORDS};
 ghost use Rattle.fip_outside.specs.Faults.{Rose};
-ghost use Rattle.command_line.specs.View.{room_of};
-ghost use Rattle.command_line.specs.Words as W;
-ghost use Rattle.source_commands.specs.ProgramCode.{IsEntryOf};
-ghost use Rattle.source_commands.specs.Wanted.{Compiled as compiled_entry, IsReady};
+ghost use Rattle.command_words.specs.View.{room_of};
+ghost use Rattle.command_words.specs.Words as W;
+ghost use Rattle.command_source.specs.ProgramCode.{IsEntryOf};
+ghost use Rattle.command_source.specs.Wanted.{Compiled as compiled_entry, IsReady};
 ghost use Rattle.fip_driver.specs.Ends.{TracesTo};
 ghost use Rattle.fip_driver.specs.Fetched.{IsLateFailure};
 ghost use Rattle.fip_driver.specs.Outcome.{FileOutcome, ReadOutcome, IsCounted, end_of, compiled_end};
@@ -14,10 +14,10 @@ ghost use Rattle.fip_driver.specs.Unread.{AreKept, IsBeforeSource, IsBeforeTrace
 
 use crate::fetched::{fetch_source, fetch_trace, read_input};
 use crate::stored::store;
-use command_line::Room;
+use command_words::Room;
 use command_outcome::Failure;
 use fip_outside::outside::{Folder, Source};
-use source_commands::{Compiled, Ready};
+use command_source::{Compiled, Ready};
 use std::alloc::Global;
 
 // Reads the input, runs the entry and keeps what it writes.
@@ -38,7 +38,7 @@ fn traced<S: Source>(
     ensures fails { IfErr result IsLateFailure }
 {
     match read_input(alloc, input) {
-        Ok(bytes) => trace_commands::trace(alloc, ready, bytes.as_slice(), room),
+        Ok(bytes) => command_trace::trace(alloc, ready, bytes.as_slice(), room),
         Err(failure) => Err(failure),
     }
 }
@@ -68,7 +68,7 @@ pub fn trace<F: Folder, S: Source>(
     ensures understood { IsBeforeSource result → ⊥ }
 {
     match fetch_source(alloc, folder, file) {
-        Ok(source) => match source_commands::exec_entry(alloc, source.as_slice(), entry) {
+        Ok(source) => match command_source::exec_entry(alloc, source.as_slice(), entry) {
             Ok(ready) => match traced(alloc, ready, room, input) {
                 Ok(compiled) => store(folder, out, compiled),
                 Err(failure) => Err(failure),
@@ -93,7 +93,7 @@ pub fn replay<F: Folder>(
     ensures files { F.files folder.new ≡ F.files folder.old }
 {
     match fetch_trace(folder, name) {
-        Ok(bytes) => trace_commands::replay(alloc, bytes.as_slice(), step),
+        Ok(bytes) => command_trace::replay(alloc, bytes.as_slice(), step),
         Err(failure) => Err(failure),
     }
 }

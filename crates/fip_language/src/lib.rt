@@ -2,7 +2,7 @@
 // specs/; its laws are in `laws`.
 #![tactic(auto)]
 
-pub mod laws;
+pub mod theorems;
 pub mod limits;
 mod rule;
 

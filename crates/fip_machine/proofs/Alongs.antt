@@ -9,25 +9,25 @@ use Rattle.cell_code.specs.declared.code.Instr.TheVariants as I
 use Rattle.cell_code.specs.declared.kind.Kind.{Kind}
 use Rattle.cell_store.specs.Made.{Stored}
 use Rattle.code_verify.specs.Checked.{Checked}
-use Rattle.code_runs.specs.Codes.{PlainFunction, PlainCode, plain, function_at}
-use Rattle.code_runs.specs.Cells.{Store}
-use Rattle.code_runs.specs.States.{Frame, State, frames_held, words_held, Next, Went, Entered, Gave, Trapped, TooDeep, Stuck}
-use Rattle.code_runs.specs.Rows.{Done, read_all, write_all, operated, done, trap}
-use Rattle.code_runs.specs.Steps.{Kinds, went_with, went, called_with, called, replaced, destinations, resumed, returned, trapped, act_at, instr_of, kinds_of, next}
-use Rattle.code_runs.specs.Cells.{changed_by}
+use Rattle.machine_semantics.specs.Codes.{PlainFunction, PlainCode, plain, function_at}
+use Rattle.machine_semantics.specs.Cells.{Store}
+use Rattle.machine_semantics.specs.States.{Frame, State, frames_held, words_held, Next, Went, Entered, Gave, Trapped, TooDeep, Stuck}
+use Rattle.machine_semantics.specs.Rows.{Done, read_all, write_all, operated, done, trap}
+use Rattle.machine_semantics.specs.Steps.{Kinds, went_with, went, called_with, called, replaced, destinations, resumed, returned, trapped, act_at, instr_of, kinds_of, next}
+use Rattle.machine_semantics.specs.Cells.{changed_by}
 use Rattle.fip_language.specs.Gauge.{highest_frames, highest_words}
-use Rattle.code_runs.specs.Gauges.{seen}
-use Rattle.code_runs.specs.Runs.{Value, Trap, Out, Deep, Unsound, Run, Going, Over, state_of, begun, comes, later}
+use Rattle.machine_semantics.specs.Gauges.{seen}
+use Rattle.machine_semantics.specs.Runs.{Value, Trap, Out, Deep, Unsound, Run, Going, Over, state_of, begun, comes, later}
 use Rattle.machine_cells.specs.Small.{IsSmall, store_of}
-use Rattle.frame_stack.specs.Keeping.{Keeps}
-use Rattle.machine_rows.specs.declared.cursor.Bounds.{Bounds}
-use Rattle.machine_rows.specs.declared.cursor.Cursor.{Cursor}
-use Rattle.machine_rows.specs.declared.rows.Beside.{Beside}
-use Rattle.machine_rows.specs.declared.rows.Stepped.{Stepped}
-use Rattle.machine_rows.specs.declared.rows.Stepped.TheVariants as S
-use Rattle.machine_rows.specs.Coming.{Comes, KnowsAt}
-use Rattle.machine_rows.specs.Going.{Lead, ComesWithMore}
-use Rattle.machine_rows.specs.Placed.{weight}
+use Rattle.machine_frames.specs.Keeping.{Keeps}
+use Rattle.machine_step.specs.declared.cursor.Bounds.{Bounds}
+use Rattle.machine_step.specs.declared.cursor.Cursor.{Cursor}
+use Rattle.machine_step.specs.declared.rows.Beside.{Beside}
+use Rattle.machine_step.specs.declared.rows.Stepped.{Stepped}
+use Rattle.machine_step.specs.declared.rows.Stepped.TheVariants as S
+use Rattle.machine_step.specs.Coming.{Comes, KnowsAt}
+use Rattle.machine_step.specs.Going.{Lead, ComesWithMore}
+use Rattle.machine_step.specs.Placed.{weight}
 use Rattle.fip_machine.specs.declared.machine.Ended.{Ended}
 use Rattle.fip_machine.specs.declared.machine.Ended.TheVariants as M
 use Rattle.fip_machine.specs.Tasks.{Stand, IsMeasured, IsRaised, ended_by}

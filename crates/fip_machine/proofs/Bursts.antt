@@ -3,19 +3,19 @@ use Rattle.std.proofs.Common.{◌≡◌, ◌≢◌, ℕ, ◌+◌, ◌-◌, ◌<�
 use Rattle.std.specs.Prelude.{sum}
 use Rattle.cell_store.specs.Made.{Stored}
 use Rattle.code_verify.specs.Checked.{Checked}
-use Rattle.code_runs.specs.States.{words_of_frame}
-use Rattle.code_runs.specs.Steps.{Kinds}
+use Rattle.machine_semantics.specs.States.{words_of_frame}
+use Rattle.machine_semantics.specs.Steps.{Kinds}
 use Rattle.machine_cells.specs.Small.{IsSmall, store_of}
-use Rattle.machine_rows.specs.declared.cursor.Bounds.{Bounds}
-use Rattle.machine_rows.specs.declared.cursor.Cursor.{Cursor}
-use Rattle.machine_rows.specs.declared.rows.Beside.{Beside}
-use Rattle.machine_rows.specs.declared.rows.Stepped.{Stepped}
-use Rattle.machine_rows.specs.declared.rows.Stepped.TheVariants as S
-use Rattle.machine_rows.specs.Placed.{Waiting}
-use Rattle.machine_rows.specs.Highest.{IsHigh, IsRaised}
-use Rattle.machine_rows.specs.Coming.{KnowsAt}
-use Rattle.machine_rows.specs.Going.{IsToldWithMore}
-use Rattle.machine_rows.proofs.Highs.{high_raised}
+use Rattle.machine_step.specs.declared.cursor.Bounds.{Bounds}
+use Rattle.machine_step.specs.declared.cursor.Cursor.{Cursor}
+use Rattle.machine_step.specs.declared.rows.Beside.{Beside}
+use Rattle.machine_step.specs.declared.rows.Stepped.{Stepped}
+use Rattle.machine_step.specs.declared.rows.Stepped.TheVariants as S
+use Rattle.machine_step.specs.Placed.{Waiting}
+use Rattle.machine_step.specs.Highest.{IsHigh, IsRaised}
+use Rattle.machine_step.specs.Coming.{KnowsAt}
+use Rattle.machine_step.specs.Going.{IsToldWithMore}
+use Rattle.machine_step.proofs.Highs.{high_raised}
 use Rattle.fip_machine.specs.Tasks.{Stand, IsMeasured}
 use Rattle.fip_machine.specs.declared.stack.Pause.{Pause}
 use Rattle.fip_machine.specs.declared.stack.Pause.TheVariants as P

@@ -3,17 +3,17 @@
 use Rattle.std.proofs.Common.{◌≡◌, ℕ, zero, suc, ◌+◌, ◌-◌, ◌≤◌, List, ◌∷◌, length, map, take, get_or, refl, sym, ap, ◌∙◌, arith}
 use Rattle.std.specs.Prelude.{sum}
 use Rattle.code_verify.specs.Checked.{Checked}
-use Rattle.code_runs.specs.States.{Frame, words_of_frame}
-use Rattle.code_runs.proofs.Falling.{all_words}
-use Rattle.frame_stack.specs.View.{registers_of, frame_at, waiting_in}
-use Rattle.frame_stack.proofs.Viewed.{frame_long, waiting_at}
-use Rattle.machine_rows.specs.declared.cursor.Bounds.{Bounds}
-use Rattle.machine_rows.specs.declared.cursor.Cursor.{Cursor}
-use Rattle.machine_rows.specs.declared.rows.Beside.{Beside}
-use Rattle.machine_rows.specs.Placed.{Waiting}
-use Rattle.machine_rows.specs.Highest.{IsHigh}
-use Rattle.machine_rows.specs.View.{words_of}
-use Rattle.machine_rows.proofs.Calls.{registers_is}
+use Rattle.machine_semantics.specs.States.{Frame, words_of_frame}
+use Rattle.machine_semantics.proofs.Falling.{all_words}
+use Rattle.machine_frames.specs.View.{registers_of, frame_at, waiting_in}
+use Rattle.machine_frames.proofs.Viewed.{frame_long, waiting_at}
+use Rattle.machine_step.specs.declared.cursor.Bounds.{Bounds}
+use Rattle.machine_step.specs.declared.cursor.Cursor.{Cursor}
+use Rattle.machine_step.specs.declared.rows.Beside.{Beside}
+use Rattle.machine_step.specs.Placed.{Waiting}
+use Rattle.machine_step.specs.Highest.{IsHigh}
+use Rattle.machine_step.specs.View.{words_of}
+use Rattle.machine_step.proofs.Calls.{registers_is}
 use Rattle.fip_machine.specs.Tasks.{IsMeasured}
 use Rattle.fip_machine.specs.Along.{task_of}
 

@@ -3,15 +3,15 @@ use Rattle.std.proofs.Common.{◌≡◌, ℕ, ◌+◌, ◌-◌, ◌<◌, ◌≤�
 use Rattle.std.proofs.lemmas.Bool.{cases_lt}
 use Rattle.std.proofs.lemmas.List.{ext_get_or, get_or-take, get_or-replicate, get_or_append_left, get_or-append_right, length-take-le, length-replicate, take_all}
 use Rattle.code_verify.specs.Checked.{Checked}
-use Rattle.code_runs.specs.Cells.{Store}
-use Rattle.code_runs.specs.States.{Typed}
-use Rattle.frame_stack.specs.Keeping.{Keeps}
-use Rattle.frame_stack.proofs.Viewed.{frame_kept}
-use Rattle.machine_rows.specs.declared.cursor.Bounds.{Bounds}
-use Rattle.machine_rows.specs.declared.cursor.Cursor.{Cursor}
-use Rattle.machine_rows.specs.View.{words_of, state_of}
-use Rattle.machine_rows.proofs.Nexts.{frame_moved}
-use Rattle.machine_rows.proofs.Stacked.{keeps_less}
+use Rattle.machine_semantics.specs.Cells.{Store}
+use Rattle.machine_semantics.specs.States.{Typed}
+use Rattle.machine_frames.specs.Keeping.{Keeps}
+use Rattle.machine_frames.proofs.Viewed.{frame_kept}
+use Rattle.machine_step.specs.declared.cursor.Bounds.{Bounds}
+use Rattle.machine_step.specs.declared.cursor.Cursor.{Cursor}
+use Rattle.machine_step.specs.View.{words_of, state_of}
+use Rattle.machine_step.proofs.Nexts.{frame_moved}
+use Rattle.machine_step.proofs.Stacked.{keeps_less}
 
 pub room_same : (v : Checked) (b : Bounds) (lent : List Typed) (s : Store) (ws us : List ℕ) (c : Cursor) → c.base + c.registers ≤ length ws → length ws ≤ length us → Keeps (length ws) ws us → state_of v b lent s us c ≡ state_of v b lent s ws c
 room_same v b lent s ws us c room more keeps =

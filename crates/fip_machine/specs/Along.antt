@@ -6,20 +6,20 @@ use Rattle.cell_code.specs.declared.code.Instr.TheVariants as I
 use Rattle.cell_store.specs.Cells.{Cells}
 use Rattle.cell_store.specs.Made.{Stored}
 use Rattle.code_verify.specs.Checked.{Checked}
-use Rattle.code_runs.specs.Codes.{plain, instr_at}
-use Rattle.code_runs.specs.States.{Typed, State}
-use Rattle.code_runs.specs.Steps.{Kinds}
-use Rattle.code_runs.specs.Gauges.{seen}
-use Rattle.code_runs.specs.Runs.{Value, Trap, Out, Deep, Unsound, Run, Going, Over, begun, after}
+use Rattle.machine_semantics.specs.Codes.{plain, instr_at}
+use Rattle.machine_semantics.specs.States.{Typed, State}
+use Rattle.machine_semantics.specs.Steps.{Kinds}
+use Rattle.machine_semantics.specs.Gauges.{seen}
+use Rattle.machine_semantics.specs.Runs.{Value, Trap, Out, Deep, Unsound, Run, Going, Over, begun, after}
 use Rattle.machine_cells.specs.Small.{IsSmall, store_of}
-use Rattle.frame_stack.specs.View.{waiting_in}
-use Rattle.machine_rows.specs.declared.cursor.Bounds.{Bounds}
-use Rattle.machine_rows.specs.declared.cursor.Cursor.{Cursor}
-use Rattle.machine_rows.specs.declared.rows.Beside.{Beside}
-use Rattle.machine_rows.specs.declared.rows.Stepped.{Stepped}
-use Rattle.machine_rows.specs.declared.rows.Stepped.TheVariants as S
-use Rattle.machine_rows.specs.Placed.{weight}
-use Rattle.machine_rows.specs.View.{words_of}
+use Rattle.machine_frames.specs.View.{waiting_in}
+use Rattle.machine_step.specs.declared.cursor.Bounds.{Bounds}
+use Rattle.machine_step.specs.declared.cursor.Cursor.{Cursor}
+use Rattle.machine_step.specs.declared.rows.Beside.{Beside}
+use Rattle.machine_step.specs.declared.rows.Stepped.{Stepped}
+use Rattle.machine_step.specs.declared.rows.Stepped.TheVariants as S
+use Rattle.machine_step.specs.Placed.{weight}
+use Rattle.machine_step.specs.View.{words_of}
 use Rattle.fip_machine.specs.declared.machine.Ended.{Ended}
 use Rattle.fip_machine.specs.declared.machine.Ended.TheVariants as M
 use Rattle.fip_machine.specs.declared.stack.Pause.{Pause}

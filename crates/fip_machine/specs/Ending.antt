@@ -4,11 +4,11 @@
 -- the machine answers Out, and stands before that call.
 use Rattle.std.specs.Prelude.{◌≡◌, ℕ, List}
 use Rattle.code_verify.specs.Checked.{Checked}
-use Rattle.code_runs.specs.Codes.{PlainCode, plain}
-use Rattle.code_runs.specs.States.{State}
-use Rattle.code_runs.specs.Steps.{Kinds}
-use Rattle.code_runs.specs.Runs.{End, Value, Trap, Out, Deep, Unsound, Run, Going, Over, begun, after}
-use Rattle.machine_rows.specs.Coming.{KnowsAt}
+use Rattle.machine_semantics.specs.Codes.{PlainCode, plain}
+use Rattle.machine_semantics.specs.States.{State}
+use Rattle.machine_semantics.specs.Steps.{Kinds}
+use Rattle.machine_semantics.specs.Runs.{End, Value, Trap, Out, Deep, Unsound, Run, Going, Over, begun, after}
+use Rattle.machine_step.specs.Coming.{KnowsAt}
 use Rattle.fip_machine.specs.declared.machine.Ended.{Ended}
 use Rattle.fip_machine.specs.declared.machine.Ended.TheVariants as M
 

@@ -1,15 +1,15 @@
 -- What a task keeps to at every moment, and what callers see of it.
 use Rattle.std.specs.Prelude.{◌≡◌, ◌≢◌, ℕ, ◌<◌, ◌≤◌, List, ◌∷◌, Option, None, Some, length, map, max, sum}
-use Rattle.code_runs.specs.Cells.{Store}
-use Rattle.code_runs.specs.States.{Frame, Typed, State, words_of_frame}
+use Rattle.machine_semantics.specs.Cells.{Store}
+use Rattle.machine_semantics.specs.States.{Frame, Typed, State, words_of_frame}
 use Rattle.code_verify.specs.Checked.{Checked}
-use Rattle.machine_rows.specs.declared.cursor.Bounds.{Bounds}
-use Rattle.machine_rows.specs.declared.cursor.Cursor.{Cursor}
-use Rattle.machine_rows.specs.declared.rows.Stepped.{Stepped}
-use Rattle.machine_rows.specs.declared.rows.Stepped.TheVariants.{Went, Entered, Value, Trap, Deep}
-use Rattle.machine_rows.specs.Bounding.{AreAtMost}
-use Rattle.machine_rows.specs.Placed.{IsPlaced, Waiting}
-use Rattle.machine_rows.specs.Highest.{IsHigh}
+use Rattle.machine_step.specs.declared.cursor.Bounds.{Bounds}
+use Rattle.machine_step.specs.declared.cursor.Cursor.{Cursor}
+use Rattle.machine_step.specs.declared.rows.Stepped.{Stepped}
+use Rattle.machine_step.specs.declared.rows.Stepped.TheVariants.{Went, Entered, Value, Trap, Deep}
+use Rattle.machine_step.specs.Bounding.{AreAtMost}
+use Rattle.machine_step.specs.Placed.{IsPlaced, Waiting}
+use Rattle.machine_step.specs.Highest.{IsHigh}
 
 -- The words of all frames, how many the memory that was taken can hold, how many words are spare, and how the run
 -- ended.

@@ -1,12 +1,12 @@
 // A machine: a task with a store of its own.
 ghost use Rattle.fip_language.specs.declared.limits.TheConstants.{MOST_FRAMES};
 ghost use Rattle.std.specs.Prelude.{◌≡◌, ◌<◌, ◌≤◌, List, [], length, IfOk, None, Some, slice_get};
-ghost use Rattle.code_runs.specs.Codes.{plain};
-ghost use Rattle.code_runs.specs.States.{Typed, State};
-ghost use Rattle.code_runs.specs.Steps.{Kinds, next};
-ghost use Rattle.code_runs.specs.Runs.{loaded};
+ghost use Rattle.machine_semantics.specs.Codes.{plain};
+ghost use Rattle.machine_semantics.specs.States.{Typed, State};
+ghost use Rattle.machine_semantics.specs.Steps.{Kinds, next};
+ghost use Rattle.machine_semantics.specs.Runs.{loaded};
 ghost use Rattle.machine_cells.specs.Small.{IsSmall, store_of};
-ghost use Rattle.machine_rows.specs.Coming.{Comes, KnowsAt};
+ghost use Rattle.machine_step.specs.Coming.{Comes, KnowsAt};
 ghost use Rattle.fip_machine.specs.Tasks.{state_with, ended_by, IsFresh};
 ghost use Rattle.fip_machine.specs.GaugeView.{IsUnseen, TellsRun};
 ghost use Rattle.fip_machine.specs.Ending.{KnowsRun, RunsTo};
@@ -17,7 +17,7 @@ use crate::stack::TaskStack;
 use cell_store::{Loader, Sealed, seal};
 use code_verify::Verified;
 use fip_base::plain::{NoMemory, TrapKind};
-use machine_rows::Stepped;
+use machine_step::Stepped;
 use std::alloc::Global;
 use std::marker::Model;
 

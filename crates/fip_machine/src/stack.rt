@@ -1,25 +1,25 @@
 // The frames of a task.
 ghost use Rattle.std.specs.Prelude.{◌≡◌, ◌≢◌, ℕ, ◌+◌, ◌*◌, ◌<◌, ◌≤◌, List, [], ◌++◌, length, vec_len, IfOk, None, Some};
 ghost use Rattle.std.specs.Prelude.{slice_get, false};
-ghost use Rattle.code_runs.specs.Codes.{plain};
-ghost use Rattle.code_runs.specs.Cells.{Store};
-ghost use Rattle.code_runs.specs.States.{Typed, State};
-ghost use Rattle.code_runs.specs.Steps.{Kinds, first_words, next};
-ghost use Rattle.code_runs.specs.Runs.{loaded};
-ghost use Rattle.frame_stack.specs.View.{frame_at};
+ghost use Rattle.machine_semantics.specs.Codes.{plain};
+ghost use Rattle.machine_semantics.specs.Cells.{Store};
+ghost use Rattle.machine_semantics.specs.States.{Typed, State};
+ghost use Rattle.machine_semantics.specs.Steps.{Kinds, first_words, next};
+ghost use Rattle.machine_semantics.specs.Runs.{loaded};
+ghost use Rattle.machine_frames.specs.View.{frame_at};
 ghost use Rattle.machine_cells.specs.Small.{IsSmall, store_of};
 ghost use Rattle.cell_store.specs.Told.{Told};
-ghost use Rattle.machine_rows.specs.Coming.{Comes, KnowsAt};
-ghost use Rattle.machine_rows.specs.Telling.{IsKnown, next_tells};
+ghost use Rattle.machine_step.specs.Coming.{Comes, KnowsAt};
+ghost use Rattle.machine_step.specs.Telling.{IsKnown, next_tells};
 ghost use Rattle.fip_machine.specs.Tasks.{state_with, ended_by, IsMeasured, IsRaised, IsFresh};
 ghost use Rattle.fip_machine.specs.Along.{Origin, IsAlong, HasRun, HasPaused, is_call, calls_next, end_after};
 ghost use Rattle.fip_machine.specs.Along.{task_of, stored};
 ghost use Rattle.std.specs.Vec.{vec_capacity};
 ghost use Rattle.fip_language.specs.declared.limits.TheConstants.{MOST_FIELDS, MOST_FRAMES, MOST_REGISTERS};
-ghost use Rattle.machine_rows.specs.Bounding.{AreAtMost, Fits};
-ghost use Rattle.frame_stack.specs.Keeping.{Keeps};
-ghost use Rattle.machine_rows.specs.Placed.{IsPlaced, IsRoomy, Waiting};
-ghost use Rattle.machine_rows.specs.Highest.{IsHigh};
+ghost use Rattle.machine_step.specs.Bounding.{AreAtMost, Fits};
+ghost use Rattle.machine_frames.specs.Keeping.{Keeps};
+ghost use Rattle.machine_step.specs.Placed.{IsPlaced, IsRoomy, Waiting};
+ghost use Rattle.machine_step.specs.Highest.{IsHigh};
 
 use cell_code::Instr;
 use cell_store::Cells;
@@ -27,7 +27,7 @@ use code_verify::Verified;
 use fip_base::plain::NoMemory;
 use fip_language::limits::MOST_RESULTS;
 use machine_cells::SIZES;
-use machine_rows::{Beside, Bounds, Cursor, Highest, Stepped, advance, function_at};
+use machine_step::{Beside, Bounds, Cursor, Highest, Stepped, advance, function_at};
 use std::alloc::Global;
 use std::marker::Model;
 
@@ -45,9 +45,9 @@ pub struct TaskStack<'a> {
 impl<'a> Model for TaskStack<'a> {
     ghost use Rattle.std.specs.Prelude.{ℕ, ◌+◌, ◌-◌, take, vec_len};
     ghost use Rattle.std.specs.Vec.{vec_capacity};
-    ghost use Rattle.frame_stack.specs.View.{waiting_in};
-    ghost use Rattle.machine_rows.specs.Placed.{weight};
-    ghost use Rattle.machine_rows.specs.View.{words_of};
+    ghost use Rattle.machine_frames.specs.View.{waiting_in};
+    ghost use Rattle.machine_step.specs.Placed.{weight};
+    ghost use Rattle.machine_step.specs.View.{words_of};
     ghost use Rattle.fip_machine.specs.Tasks.{Stand, IsTask};
 
     ghost Value = { Stand };

@@ -1,8 +1,8 @@
 // Runs that keep what they write.
 ghost use Rattle.std.specs.Prelude.{◌≡◌, ◌≢◌, ℕ, ◌-◌, ◌<◌, List, [], IfOk, OnOk, IfNone, IfSome, Some, None, Err, not};
-ghost use Rattle.code_runs.specs.Codes.{plain};
-ghost use Rattle.code_runs.specs.States.{Typed};
-ghost use Rattle.code_runs.specs.Steps.{Kinds};
+ghost use Rattle.machine_semantics.specs.Codes.{plain};
+ghost use Rattle.machine_semantics.specs.States.{Typed};
+ghost use Rattle.machine_semantics.specs.Steps.{Kinds};
 ghost use Rattle.machine_cells.specs.Small.{IsSmall};
 ghost use Rattle.fip_machine.specs.GaugeView.{IsUnseen, TellsRun};
 ghost use Rattle.fip_machine.specs.Tasks.{state_with, IsMeasured, IsFresh, IsRaised};
@@ -15,7 +15,7 @@ use crate::gauge::{Gauge, held};
 use crate::machine::{Ended, Machine, ended_of};
 use crate::stack::TaskStack;
 use cell_trace::{Recorder, Trace, TraceError};
-use machine_rows::Stepped;
+use machine_step::Stepped;
 use std::alloc::Global;
 
 impl<'a> Machine<'a> {

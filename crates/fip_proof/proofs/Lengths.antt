@@ -4,7 +4,7 @@ use Rattle.std.proofs.lemmas.List.{length-append}
 use Rattle.std.specs.Fmt.{decimal}
 use Rattle.derivation_trees.specs.declared.derivation.Credit.{Credit}
 use Rattle.derivation_trees.specs.Trees.{Tree, Missing, Branch, Trees, NoTrees, MoreTrees, Entry, flat, flat_all}
-use Rattle.proof_text.specs.ProofText.{rule_text, more_variables, variables_text, credit_text, more_credits, credits_text, tree_text, parts_text, more_parts, line_text}
+use Rattle.derivation_text.specs.ProofText.{rule_text, more_variables, variables_text, credit_text, more_credits, credits_text, tree_text, parts_text, more_parts, line_text}
 use Rattle.derivation_walk.specs.Costs.{cost, cost_all}
 use Rattle.derivation_walk.proofs.Costs.{cost_append}
 

@@ -3,12 +3,12 @@ use Rattle.std.proofs.Common.{◌≡◌, List, sym, subst}
 use Rattle.fip_trees.specs.declared.needs.Need.{Need}
 use Rattle.fip_trees.specs.Tree.{Program}
 use Rattle.derivation_trees.specs.Trees.{Entry}
-use Rattle.proof_check.specs.Accepted.{IsDerivation}
+use Rattle.derivation_check.specs.Accepted.{IsDerivation}
 use Rattle.derivation_making.specs.Made.{made_entries}
 use Rattle.derivation_making.specs.Weakening.{AllLean}
 use Rattle.derivation_making.proofs.Programs.{program_derived, program_lean}
 use Rattle.derivation_walk.specs.Walks.{AreWalked}
-use Rattle.walk_agreement.proofs.Whole.{program_is}
+use Rattle.derivation_agreement.proofs.WalkWhole.{program_is}
 use Rattle.fip_proof.specs.Ready.{IsReady}
 
 pub is_made : (p : Program) (needs : List (List Need)) (es : List Entry) → AreWalked p needs 0 p.instances es → IsReady p needs → es ≡ made_entries p 0 p.instances

@@ -11,26 +11,26 @@ use Rattle.fip_trees.specs.Tree.{Instance, Program}
 use Rattle.fip_trees.specs.TreeView.{instance_of}
 use Rattle.fip_trees.specs.declared.program.Instance as A
 use Rattle.fip_rules.specs.World.{world, is_ruled}
-use Rattle.own_agreement.specs.Agreement.{AreSized}
+use Rattle.ownership_agreement.specs.Agreement.{AreSized}
 use Rattle.derivation_trees.specs.Trees.{Entry}
 use Rattle.derivation_trees.specs.WholeTrees.{IsWhole}
-use Rattle.proof_check.specs.Calculus.{Choice}
-use Rattle.proof_check.specs.Accepted.{DerivesInstance, FirstEntry, AreDerived, IsDerivation}
-use Rattle.proof_text.specs.declared.error.TextError.{TextError}
-use Rattle.proof_text.specs.declared.error.TextError.TheVariants.{TooLong}
-use Rattle.proof_text.specs.Limited.{Limited}
-use Rattle.proof_text.specs.ProofText.{tree_text, line_text, lines_text, IsProofText}
-use Rattle.proof_text.proofs.Whole.{one_derivation}
-use Rattle.proof_text.proofs.Written.{tree_on}
+use Rattle.derivation_check.specs.Calculus.{Choice}
+use Rattle.derivation_check.specs.Accepted.{DerivesInstance, FirstEntry, AreDerived, IsDerivation}
+use Rattle.derivation_text.specs.declared.error.TextError.{TextError}
+use Rattle.derivation_text.specs.declared.error.TextError.TheVariants.{TooLong}
+use Rattle.derivation_text.specs.Limited.{Limited}
+use Rattle.derivation_text.specs.ProofText.{tree_text, line_text, lines_text, IsProofText}
+use Rattle.derivation_text.proofs.Whole.{one_derivation}
+use Rattle.derivation_text.proofs.Written.{tree_on}
 use Rattle.derivation_making.specs.Made.{made_instance, made_entries}
 use Rattle.derivation_making.specs.Numbered.{AllNumbered}
 use Rattle.derivation_making.specs.Weakening.{AllLean}
 use Rattle.derivation_making.proofs.Programs.{program_derived, program_lean}
-use Rattle.derivation_spelling.specs.Limits.{KeepsLimits}
-use Rattle.derivation_spelling.proofs.Whole.{made_is_read}
+use Rattle.derivation_agreement.specs.Limits.{KeepsLimits}
+use Rattle.derivation_agreement.proofs.TextWhole.{made_is_read}
 use Rattle.derivation_walk.specs.Guides.{IsWalked}
-use Rattle.walk_agreement.proofs.Sited.{Piece, piece_second}
-use Rattle.walk_agreement.proofs.Whole.{walked_is}
+use Rattle.derivation_agreement.proofs.Sited.{Piece, piece_second}
+use Rattle.derivation_agreement.proofs.WalkWhole.{walked_is}
 use Rattle.fip_proof.specs.Ready.{IsReady}
 use Rattle.fip_proof.specs.Lines.{IsLine}
 

@@ -5,8 +5,8 @@ use Rattle.fip_trees.specs.Tree.{Instance}
 use Rattle.fip_rules.specs.World.{World}
 use Rattle.derivation_trees.specs.Trees.{Tree}
 use Rattle.derivation_trees.specs.WholeTrees.{IsWhole}
-use Rattle.proof_text.specs.ProofText.{line_text}
-use Rattle.proof_text.specs.Limited.{Limited}
+use Rattle.derivation_text.specs.ProofText.{line_text}
+use Rattle.derivation_text.specs.Limited.{Limited}
 use Rattle.derivation_walk.specs.Guides.{IsWalked}
 
 -- new is old with the line of what the walk gives for the instance of this number

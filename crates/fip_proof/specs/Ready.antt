@@ -6,7 +6,7 @@ use Rattle.fip_trees.specs.declared.needs.Need.{Need}
 use Rattle.fip_trees.specs.Tree.{Program}
 use Rattle.type_check.specs.Typing.{IsFilled}
 use Rattle.credit_check.specs.Tallies.{all_needs}
-use Rattle.own_agreement.specs.Agreement.{AreSized, IsAccepted}
+use Rattle.ownership_agreement.specs.Agreement.{AreSized, IsAccepted}
 use Rattle.derivation_making.specs.Numbered.{AllNumbered}
 
 pub record IsReady (p : Program) (held : List (List Need)) : Type 0 where

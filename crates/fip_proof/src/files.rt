@@ -4,14 +4,14 @@ ghost use Rattle.fip_language.specs.Prefix.{IsPlace};
 ghost use Rattle.fip_language.specs.declared.limits.TheConstants.{MOST_FILE_BYTES};
 ghost use Rattle.fip_trees.specs.TreeView as V;
 ghost use Rattle.derivation_trees.specs.Trees.{Entry, entries};
-ghost use Rattle.proof_check.specs.Accepted.{IsDerivation};
-ghost use Rattle.proof_text.specs.declared.error.TextError.TheVariants.{TooLong};
-ghost use Rattle.proof_text.specs.Limited.{Limited};
-ghost use Rattle.proof_text.specs.ProofText.{lines_text, IsProofText};
+ghost use Rattle.derivation_check.specs.Accepted.{IsDerivation};
+ghost use Rattle.derivation_text.specs.declared.error.TextError.TheVariants.{TooLong};
+ghost use Rattle.derivation_text.specs.Limited.{Limited};
+ghost use Rattle.derivation_text.specs.ProofText.{lines_text, IsProofText};
 ghost use Rattle.derivation_making.specs.Made.{made_entries};
 ghost use Rattle.derivation_making.specs.Weakening.{AllLean};
-ghost use Rattle.derivation_spelling.specs.Limits.{KeepsLimits};
-ghost use Rattle.variable_uses.specs.Seen.{world_of};
+ghost use Rattle.derivation_agreement.specs.Limits.{KeepsLimits};
+ghost use Rattle.derivation_walk.specs.Seen.{world_of};
 ghost use Rattle.fip_proof.specs.Ready.{IsReady};
 ghost use Rattle.fip_proof.specs.Lines.{IsLine};
 ghost use Rattle.fip_proof.specs.declared.error.AuditError.TheVariants.{BadProof, NotDerived};
@@ -23,10 +23,10 @@ use fip_language::limits::MOST_FILE_BYTES;
 use fip_trees::needs::{Need, Needs};
 use fip_trees::program::{Instance, Typed};
 use fip_trees::scalars::Scalars;
-use proof_check::check;
-use proof_text::{ProofError, Text, TextError, read_derivation};
+use derivation_check::check;
+use derivation_text::{ProofError, Text, TextError, read_derivation};
 use std::alloc::Global;
-use variable_uses::Context;
+use derivation_walk::Context;
 
 /// The text of the derivation of a typed program, which is asked to break no rule on ownership and credits, and whose
 /// needs these are. TooLong: it has more than `limit` bytes. NoMemory: no memory is left. It takes memory for one

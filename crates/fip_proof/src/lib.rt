@@ -27,5 +27,5 @@ pub use derivation_trees::{Credit, Derivation, Line, Node, RuleName};
 pub use error::AuditError;
 pub use files::{audit, derivation_text};
 pub use make::derive;
-pub use proof_check::check;
-pub use proof_text::{ProofError, TextError, read_derivation, write_derivation};
+pub use derivation_check::check;
+pub use derivation_text::{ProofError, TextError, read_derivation, write_derivation};

@@ -6,7 +6,7 @@ use Rattle.std.specs.Fmt.{decimal}
 use Rattle.command_outcome.specs.Texts.{line_end, trap_text, out_of_calls_text, out_of_frames_text}
 use Rattle.fip_machine.specs.declared.machine.Ended.{Ended}
 use Rattle.fip_machine.specs.declared.machine.Ended.TheVariants as M
-use Rattle.session_meaning.specs.Talk.{told, ok_text, store_text}
+use Rattle.session_semantics.specs.Talk.{told, ok_text, store_text}
 use Rattle.fip_session.specs.declared.reply.Reply.{Reply}
 use Rattle.fip_session.specs.declared.reply.Reply.TheVariants as R
 

@@ -6,10 +6,10 @@ ghost use Rattle.cell_code.specs.declared.code.Function.{Function as a_function}
 ghost use Rattle.fip_language.specs.Core.{Name};
 ghost use Rattle.fip_language.specs.Table.{is_scalar};
 ghost use Rattle.fip_language.specs.declared.limits.TheConstants.{MOST_FRAMES};
-ghost use Rattle.call_lines.specs.Named.{AreEntries, HasName};
+ghost use Rattle.session_lines.specs.Named.{AreEntries, HasName};
 ghost use Rattle.fip_session.specs.Named.{found};
 
-use call_lines::{Entries, frames_of};
+use session_lines::{Entries, frames_of};
 use cell_code::Function;
 use cell_store::{Cells, Sealed};
 use code_verify::Verified;

@@ -3,7 +3,7 @@ ghost use Rattle.std.specs.Prelude.{◌≤◌};
 ghost use Rattle.fip_language.specs.declared.limits.TheConstants.{MOST_FRAMES, MOST_STORE_WORDS};
 
 use crate::session::Session;
-use call_lines::line_at;
+use session_lines::line_at;
 use code_verify::Verified;
 use fip_base::plain::NoMemory;
 use fip_trees::program::Typed;

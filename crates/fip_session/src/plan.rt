@@ -3,7 +3,7 @@ ghost use Rattle.std.specs.Prelude.{◌<◌, length, IfOk};
 
 use crate::book::Book;
 use crate::reply::{Reply, Stop};
-use call_lines::Span;
+use session_lines::Span;
 use cell_code::Function;
 use cell_store::Loader;
 use fip_base::plain::{NoMemory, Param};

@@ -5,12 +5,12 @@ use Rattle.fip_language.specs.declared.TrapKind.{TrapKind}
 use Rattle.cell_code.specs.declared.code.Instr.{Instr}
 use Rattle.cell_code.specs.declared.code.Instr.TheVariants as I
 use Rattle.cell_code.specs.declared.kind.Kind.{Kind}
-use Rattle.code_runs.specs.Codes.{PlainFunction, PlainCode, function_at}
-use Rattle.code_runs.specs.Cells.{Store, changed_by}
-use Rattle.code_runs.specs.States.{Frame, State, Next, Went, Entered, Gave, Trapped, TooDeep, Stuck}
-use Rattle.code_runs.specs.Rows.{Done, read_all, write_all, operated, done, trap}
-use Rattle.code_runs.specs.Steps.{went_with, went, called_with, called, replaced, destinations, resumed, returned, trapped, act_at}
-use Rattle.code_runs.specs.Runs.{Out, Over, comes}
+use Rattle.machine_semantics.specs.Codes.{PlainFunction, PlainCode, function_at}
+use Rattle.machine_semantics.specs.Cells.{Store, changed_by}
+use Rattle.machine_semantics.specs.States.{Frame, State, Next, Went, Entered, Gave, Trapped, TooDeep, Stuck}
+use Rattle.machine_semantics.specs.Rows.{Done, read_all, write_all, operated, done, trap}
+use Rattle.machine_semantics.specs.Steps.{went_with, went, called_with, called, replaced, destinations, resumed, returned, trapped, act_at}
+use Rattle.machine_semantics.specs.Runs.{Out, Over, comes}
 use Rattle.fip_machine.specs.Along.{is_call_in}
 
 -- what comes next, by whether the instruction is a call

@@ -4,21 +4,21 @@
 use Rattle.std.proofs.Common.{◌≡◌, ◌≢◌, ℕ, zero, suc, ◌-◌, ◌<◌, arith, Bool, true, false, List, [], Option, Some, None, refl, sym, ap, subst, ◌∙◌}
 use Rattle.cell_store.specs.Made.{Stored}
 use Rattle.code_verify.specs.Checked.{Checked}
-use Rattle.code_runs.specs.Codes.{PlainCode, plain}
-use Rattle.code_runs.specs.Cells.{Store}
-use Rattle.code_runs.specs.States.{Typed, State, Next, Went, Entered, Gave, Trapped, TooDeep, Stuck}
-use Rattle.code_runs.specs.Steps.{Kinds, instr_of, kinds_of, next}
-use Rattle.code_runs.specs.Runs.{End, Value, Trap, Out, Deep, Unsound, Run, Going, Over, state_of, begun, comes, later, after}
+use Rattle.machine_semantics.specs.Codes.{PlainCode, plain}
+use Rattle.machine_semantics.specs.Cells.{Store}
+use Rattle.machine_semantics.specs.States.{Typed, State, Next, Went, Entered, Gave, Trapped, TooDeep, Stuck}
+use Rattle.machine_semantics.specs.Steps.{Kinds, instr_of, kinds_of, next}
+use Rattle.machine_semantics.specs.Runs.{End, Value, Trap, Out, Deep, Unsound, Run, Going, Over, state_of, begun, comes, later, after}
 use Rattle.machine_cells.specs.Small.{IsSmall}
-use Rattle.machine_rows.specs.declared.rows.Stepped.{Stepped}
-use Rattle.machine_rows.specs.declared.rows.Stepped.TheVariants as S
-use Rattle.machine_rows.specs.Coming.{Comes, KnowsAt}
+use Rattle.machine_step.specs.declared.rows.Stepped.{Stepped}
+use Rattle.machine_step.specs.declared.rows.Stepped.TheVariants as S
+use Rattle.machine_step.specs.Coming.{Comes, KnowsAt}
 use Rattle.fip_machine.specs.declared.machine.Ended.{Ended}
 use Rattle.fip_machine.specs.declared.machine.Ended.TheVariants as M
 use Rattle.fip_machine.specs.Along.{is_call_in, calls_next}
 use Rattle.fip_machine.specs.Tasks.{Stand, state_with, ended_by}
 use Rattle.fip_machine.proofs.Mosts.{after_later}
-use Rattle.task_schedules.specs.Schedules.{in_store}
+use Rattle.task_semantics.specs.Schedules.{in_store}
 use Rattle.fip_tasks.specs.Landing.{IsLanded, Lands, Goes, IsNew, cells_of}
 use Rattle.fip_tasks.specs.Shown.{IsAt, HasEnded, StandsAt, CanGo, IsStarted}
 use Rattle.fip_tasks.specs.Turns.{Standing}

@@ -4,12 +4,12 @@ use Rattle.std.proofs.lemmas.Option.{same_Some, slice_get-map, slice_get_read}
 use Rattle.std.specs.Prelude.{slice_get, slice_set, option_map}
 use Rattle.cell_store.specs.Made.{Stored}
 use Rattle.code_verify.specs.Checked.{Checked}
-use Rattle.code_runs.specs.Codes.{PlainCode, plain}
-use Rattle.code_runs.specs.Cells.{Store}
-use Rattle.code_runs.specs.Steps.{Kinds}
-use Rattle.code_runs.specs.Runs.{Run, state_of, later, after}
+use Rattle.machine_semantics.specs.Codes.{PlainCode, plain}
+use Rattle.machine_semantics.specs.Cells.{Store}
+use Rattle.machine_semantics.specs.Steps.{Kinds}
+use Rattle.machine_semantics.specs.Runs.{Run, state_of, later, after}
 use Rattle.machine_cells.specs.Small.{IsSmall, store_of}
-use Rattle.task_schedules.specs.Schedules.{Shared, turn, turned, settled, scheduled, in_store}
+use Rattle.task_semantics.specs.Schedules.{Shared, turn, turned, settled, scheduled, in_store}
 use Rattle.fip_tasks.specs.declared.task.Start.{Start}
 use Rattle.fip_tasks.specs.declared.task.Task.{Task}
 use Rattle.fip_tasks.specs.Landing.{standing, cells_of, IsLanded, Lands, Goes, IsNew}

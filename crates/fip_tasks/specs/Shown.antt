@@ -4,18 +4,18 @@
 -- second at its second, as the runs of the two do behind this schedule; neither has ended.
 use Rattle.std.specs.Prelude.{◌≡◌, ◌≢◌, ℕ, ◌≤◌, List, [], Option, Some, None, length, replicate, slice_get}
 use Rattle.cell_code.specs.declared.code.Function.{Function}
-use Rattle.code_runs.specs.Codes.{plain}
-use Rattle.code_runs.specs.Cells.{Store}
-use Rattle.code_runs.specs.States.{State, Stuck}
-use Rattle.code_runs.specs.Steps.{Kinds, next}
-use Rattle.code_runs.specs.Runs.{End, Value, Trap, Out, Deep, Unsound, Run, Going, Over, begun, loaded}
+use Rattle.machine_semantics.specs.Codes.{plain}
+use Rattle.machine_semantics.specs.Cells.{Store}
+use Rattle.machine_semantics.specs.States.{State, Stuck}
+use Rattle.machine_semantics.specs.Steps.{Kinds, next}
+use Rattle.machine_semantics.specs.Runs.{End, Value, Trap, Out, Deep, Unsound, Run, Going, Over, begun, loaded}
 use Rattle.code_verify.specs.Checked.{Checked}
 use Rattle.machine_cells.specs.Small.{IsSmall}
-use Rattle.machine_rows.specs.Coming.{KnowsAt}
+use Rattle.machine_step.specs.Coming.{KnowsAt}
 use Rattle.fip_machine.specs.declared.machine.Ended.{Ended}
 use Rattle.fip_machine.specs.declared.machine.Ended.TheVariants as M
 use Rattle.fip_machine.specs.Tasks.{state_with}
-use Rattle.task_schedules.specs.Schedules.{Shared, scheduled, in_store}
+use Rattle.task_semantics.specs.Schedules.{Shared, scheduled, in_store}
 use Rattle.fip_tasks.specs.declared.task.Start.{Start}
 use Rattle.fip_tasks.specs.declared.task.Turned.{Turned}
 use Rattle.fip_tasks.specs.declared.task.Turned.TheVariants as T

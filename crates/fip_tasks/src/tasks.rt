@@ -1,10 +1,10 @@
 // Tasks in one store.
 ghost use Rattle.std.specs.Prelude.{◌≡◌, ℕ, ◌<◌, length, IfOk, All, Some, slice_get, replicate};
-ghost use Rattle.code_runs.specs.Codes.{plain};
-ghost use Rattle.code_runs.specs.Steps.{Kinds};
+ghost use Rattle.machine_semantics.specs.Codes.{plain};
+ghost use Rattle.machine_semantics.specs.Steps.{Kinds};
 ghost use Rattle.code_verify.specs.Checked.{Checked};
 ghost use Rattle.machine_cells.specs.Small.{store_of};
-ghost use Rattle.task_schedules.specs.Schedules.{Shared, turn, scheduled};
+ghost use Rattle.task_semantics.specs.Schedules.{Shared, turn, scheduled};
 ghost use Rattle.fip_tasks.specs.Turns.{CanStart, Standing};
 ghost use Rattle.fip_tasks.specs.Shown.{Shows, CanTurn, CanFinish, AreStarted, turned_by};
 

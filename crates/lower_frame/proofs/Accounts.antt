@@ -5,14 +5,14 @@ use Rattle.std.proofs.lemmas.Bool.{cases_eq, eqb-true}
 use Rattle.std.proofs.lemmas.Bool.Decides.{nat_tests}
 use Rattle.std.proofs.lemmas.Option.{slice_get-map, get_or_from_slice_get}
 use Rattle.fip_language.specs.declared.limits.TheConstants.{MOST_FIELDS}
-use Rattle.lowered_code.specs.declared.held.Held.{Held}
-use Rattle.lowered_code.specs.declared.held.Held.TheVariants as H
-use Rattle.lowered_code.specs.declared.held.Credit.{Credit}
+use Rattle.lowering_relation.specs.declared.held.Held.{Held}
+use Rattle.lowering_relation.specs.declared.held.Held.TheVariants as H
+use Rattle.lowering_relation.specs.declared.held.Credit.{Credit}
 use Rattle.fip_base.specs.declared.plain.Param.{Param}
-use Rattle.lowered_code.specs.Bodies.{handed, as_value, moved, given, given_if, received}
-use Rattle.lowered_code.specs.Values.{Setting, is_scalar}
-use Rattle.lowered_code.specs.Known.{Known, IsTaken, holding, with_next, using, used, used_if, used_all, is_owned, without, lent_by}
-use Rattle.laid_code.specs.Credits.{of_size, LastGone}
+use Rattle.lowering_relation.specs.LoweredBodies.{handed, as_value, moved, given, given_if, received}
+use Rattle.lowering_relation.specs.Values.{Setting, is_scalar}
+use Rattle.lowering_relation.specs.Known.{Known, IsTaken, holding, with_next, using, used, used_if, used_all, is_owned, without, lent_by}
+use Rattle.lowering_relation.specs.Credits.{of_size, LastGone}
 use Rattle.lower_frame.specs.Frames.{HasSize, Takes, TakesBare}
 use Rattle.lower_frame.specs.Registers.{IsFull, IsHeld}
 use Rattle.lower_frame.specs.Credits.{AllSolid, one_if, sized, counted, is_credit, is_credit_of, is_bare, is_held_of, NoneBetween, Accounted, FewerTrees, NoTrees}

@@ -8,11 +8,11 @@ use Rattle.fip_trees.specs.declared.program.Pattern.TheVariants as PV
 use Rattle.fip_trees.specs.Tree.{Name, Pattern}
 use Rattle.fip_trees.specs.TreeView.{pattern, patterns}
 use Rattle.fip_trees.proofs.TreeViews.{pattern_constructor}
-use Rattle.lowered_code.specs.Known.{Known, with_used}
-use Rattle.match_code.specs.Spots as S
-use Rattle.match_code.specs.Opening.{Roomy, AllRoomy}
-use Rattle.match_code.specs.Growing.{Grows, AllGrow}
-use Rattle.match_code.proofs.Growths.{grow_none, grow_on, with_spot, grow_spot, grow_first, grow_later, grow_fields}
+use Rattle.lowering_relation.specs.Known.{Known, with_used}
+use Rattle.lowering_relation.specs.Spots as S
+use Rattle.lowering_relation.specs.Opening.{Roomy, AllRoomy}
+use Rattle.lowering_relation.specs.Growing.{Grows, AllGrow}
+use Rattle.lowering_relation.proofs.Growths.{grow_none, grow_on, with_spot, grow_spot, grow_first, grow_later, grow_fields}
 use Rattle.lower_frame.specs.declared.spots.Spot.{Spot, out-Spot, roll-Spot}
 use Rattle.lower_frame.specs.declared.spots.Spot.TheFolds.{fold_out-Spot, fold-roll-Spot}
 use Rattle.lower_frame.specs.Registers.{HasRoom, registers}

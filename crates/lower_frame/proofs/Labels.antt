@@ -8,11 +8,11 @@ use Rattle.std.proofs.lemmas.Option.{slice_get-map}
 use Rattle.cell_code.specs.declared.code.Instr.{Instr}
 use Rattle.cell_code.specs.declared.kind.Kind.{Kind}
 use Rattle.cell_code.specs.declared.kind.Label.{Label}
-use Rattle.sound_code.specs.Codes.{LabelMap, plain_label, label_at}
-use Rattle.lowered_code.specs.Known.{joined}
-use Rattle.laid_code.specs.Standing.{AreOpen, are_open}
-use Rattle.match_code.specs.Written.{Extends}
-use Rattle.match_code.proofs.Placing.{label_extends, put_extends, put_there, same_extends, added_to_extends}
+use Rattle.code_rules.specs.Codes.{LabelMap, plain_label, label_at}
+use Rattle.lowering_relation.specs.Known.{joined}
+use Rattle.lowering_relation.specs.Standing.{AreOpen, are_open}
+use Rattle.lowering_relation.specs.Written.{Extends}
+use Rattle.lowering_relation.proofs.Placing.{label_extends, put_extends, put_there, same_extends, added_to_extends}
 use Rattle.lower_frame.specs.Labels.{placed, stands_at, untold, telling, HaveMaps, Rising}
 
 same_some : {A : Type 0} (x y : A) → Some x ≡ Some y → x ≡ y

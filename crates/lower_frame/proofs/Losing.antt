@@ -2,13 +2,13 @@
 use Rattle.std.proofs.Common.{◌≡◌, refl, sym, ◌∙◌, subst, ℕ, List, ◌≤◌, Option, Some, None, map, slice_get}
 use Rattle.std.specs.Prelude.{option_map}
 use Rattle.std.proofs.lemmas.Option.{slice_get-map}
-use Rattle.lowered_code.specs.declared.held.Held.{Held}
-use Rattle.lowered_code.specs.declared.held.Held.TheVariants as H
-use Rattle.lowered_code.specs.declared.held.Credit.{Credit}
-use Rattle.lowered_code.specs.Known.{Known, holding, using, used}
-use Rattle.lowered_code.proofs.Lists.{fewer_same, fewer_on, taken_fewer, barer_on, barer_set, barer_used}
-use Rattle.laid_code.specs.Matches.{widened}
-use Rattle.match_code.specs.Losing.{Loses, Resumes}
+use Rattle.lowering_relation.specs.declared.held.Held.{Held}
+use Rattle.lowering_relation.specs.declared.held.Held.TheVariants as H
+use Rattle.lowering_relation.specs.declared.held.Credit.{Credit}
+use Rattle.lowering_relation.specs.Known.{Known, holding, using, used}
+use Rattle.lowering_relation.proofs.LoweredLists.{fewer_same, fewer_on, taken_fewer, barer_on, barer_set, barer_used}
+use Rattle.lowering_relation.specs.Matches.{widened}
+use Rattle.lowering_relation.specs.Losing.{Loses, Resumes}
 use Rattle.lower_frame.specs.Frames.{Takes}
 
 pub loses_same : (k : Known) → Loses k k

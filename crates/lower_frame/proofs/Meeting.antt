@@ -6,14 +6,14 @@ use Rattle.std.proofs.lemmas.Bool.{cases_eq}
 use Rattle.std.proofs.lemmas.Bool.Decides.{nat_tests}
 use Rattle.std.proofs.lemmas.Option.{none-some}
 use Rattle.fip_language.proofs.Search.{le_or_less}
-use Rattle.lowered_code.specs.declared.held.Held.{Held}
-use Rattle.lowered_code.specs.declared.held.Held.TheVariants as H
-use Rattle.lowered_code.specs.declared.held.Credit.{Credit}
-use Rattle.lowered_code.specs.Known.{Known, joined}
-use Rattle.lowered_code.specs.Tidy.{NotIn, Once, Below}
-use Rattle.lowered_code.specs.Choosing.{Meets, FewerCredits}
-use Rattle.laid_code.specs.Describing.{held_at}
-use Rattle.laid_code.specs.Joins.{Met, holds_credit, still_held}
+use Rattle.lowering_relation.specs.declared.held.Held.{Held}
+use Rattle.lowering_relation.specs.declared.held.Held.TheVariants as H
+use Rattle.lowering_relation.specs.declared.held.Credit.{Credit}
+use Rattle.lowering_relation.specs.Known.{Known, joined}
+use Rattle.lowering_relation.specs.Tidy.{NotIn, Once, Below}
+use Rattle.lowering_relation.specs.Choosing.{Meets, FewerCredits}
+use Rattle.lowering_relation.specs.Describing.{held_at}
+use Rattle.lowering_relation.specs.Joins.{Met, holds_credit, still_held}
 use Rattle.lower_frame.specs.Credits.{Accounted, one_if, counted, is_credit_of}
 use Rattle.lower_frame.specs.Frames.{IsBoth, HeldByBoth, NamedByBoth}
 

@@ -3,13 +3,13 @@
 use Rattle.std.specs.Prelude.{◌≡◌, ◌⊎◌, ℕ, List, [], ◌∷◌, ◌++◌, Option, Some, None, map, slice_get, slice_set}
 use Rattle.fip_language.specs.Table.{Table}
 use Rattle.cell_code.specs.declared.kind.Kind.{Kind}
-use Rattle.lowered_code.specs.declared.held.Held.{Held}
-use Rattle.lowered_code.specs.declared.held.Held.TheVariants as H
-use Rattle.lowered_code.specs.declared.held.Credit.{Credit}
-use Rattle.lowered_code.specs.Known.{Known, joined, holding, IsTaken}
-use Rattle.laid_code.specs.Credits.{of_size}
-use Rattle.laid_code.specs.Describing.{held_at, kind_of}
-use Rattle.laid_code.specs.Matches.{widened}
+use Rattle.lowering_relation.specs.declared.held.Held.{Held}
+use Rattle.lowering_relation.specs.declared.held.Held.TheVariants as H
+use Rattle.lowering_relation.specs.declared.held.Credit.{Credit}
+use Rattle.lowering_relation.specs.Known.{Known, joined, holding, IsTaken}
+use Rattle.lowering_relation.specs.Credits.{of_size}
+use Rattle.lowering_relation.specs.Describing.{held_at, kind_of}
+use Rattle.lowering_relation.specs.Matches.{widened}
 use Rattle.lower_frame.specs.Credits.{Accounted}
 
 abbrev pub HasSize : ℕ → Option Credit → Type 0

@@ -5,9 +5,9 @@
 use Rattle.std.specs.Prelude.{◌≡◌, ◌≤◌, ◌<◌, ◌-◌, ◌==◌, ℕ, zero, suc, Bool, true, false, List, [], ◌∷◌, ◌++◌}
 use Rattle.std.specs.Prelude.{Option, Some, None, is_some, length, take, slice_get, if◌then◌else◌}
 use Rattle.cell_code.specs.declared.kind.Kind.{Kind}
-use Rattle.sound_code.specs.Codes.{LabelMap, label_at}
-use Rattle.lowered_code.specs.Known.{joined}
-use Rattle.match_code.specs.Written.{Written}
+use Rattle.code_rules.specs.Codes.{LabelMap, label_at}
+use Rattle.lowering_relation.specs.Known.{joined}
+use Rattle.lowering_relation.specs.Written.{Written}
 
 -- how many labels there are
 abbrev pub labels : Written → ℕ

@@ -1,9 +1,9 @@
 -- It serves the proofs on lowered code: the positions of a match, as the code keeps them.
 use Rattle.std.specs.Prelude.{ℕ, zero, suc, List, [], ◌∷◌, Option, Some, None, map}
 use Rattle.fip_trees.specs.Tree.{Pattern}
-use Rattle.lowered_code.specs.Known.{Known}
-use Rattle.match_code.specs.Spots as S
-use Rattle.match_code.specs.Opening.{Roomy}
+use Rattle.lowering_relation.specs.Known.{Known}
+use Rattle.lowering_relation.specs.Spots as S
+use Rattle.lowering_relation.specs.Opening.{Roomy}
 use Rattle.lower_frame.specs.declared.spots.Spot.{Spot}
 use Rattle.lower_frame.specs.declared.spots.Spot.TheOpen as O
 use Rattle.lower_frame.specs.declared.spots.Spot.TheFolds.{fold-Spot}

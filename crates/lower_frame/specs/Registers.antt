@@ -1,9 +1,9 @@
 -- It serves the proofs on lowered code: how many registers a function has, and which of them hold something.
 use Rattle.std.specs.Prelude.{◌≡◌, ◌≤◌, ℕ, max, List, Option, Some, None, length, slice_get}
-use Rattle.lowered_code.specs.declared.held.Held.{Held}
-use Rattle.lowered_code.specs.declared.held.Held.TheVariants as H
-use Rattle.lowered_code.specs.declared.held.Credit.{Credit}
-use Rattle.lowered_code.specs.Known.{Known}
+use Rattle.lowering_relation.specs.declared.held.Held.{Held}
+use Rattle.lowering_relation.specs.declared.held.Held.TheVariants as H
+use Rattle.lowering_relation.specs.declared.held.Credit.{Credit}
+use Rattle.lowering_relation.specs.Known.{Known}
 
 abbrev pub registers : Known → ℕ
 registers k = length k.held

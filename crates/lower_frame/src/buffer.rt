@@ -1,10 +1,10 @@
 // The code of a function while it is written.
 ghost use Rattle.std.specs.Prelude.{◌≡◌, ◌≤◌, ◌<◌, ◌-◌, suc, true, [], ◌∷◌, ◌++◌, IfOk, OnOk, OnErr, length, map};
 ghost use Rattle.std.specs.Prelude.{slice_get, slice_set, Some, None};
-ghost use Rattle.match_code.specs.Written.{Written as Writing, Extends, IsAt, added, place_of, settled, size};
-ghost use Rattle.sound_code.specs.Codes.{plain_label};
+ghost use Rattle.lowering_relation.specs.Written.{Written as Writing, Extends, IsAt, added, place_of, settled, size};
+ghost use Rattle.code_rules.specs.Codes.{plain_label};
 ghost use Rattle.code_file.specs.CodeText.{instr_text};
-ghost use Rattle.laid_code.specs.Standing.{AreOpen, are_open, is_open};
+ghost use Rattle.lowering_relation.specs.Standing.{AreOpen, are_open, is_open};
 ghost use Rattle.lower_frame.specs.Labels.{labels, placed, stands_at, telling, untold, HaveMaps, Rising};
 ghost use Rattle.lower_frame.specs.Spelled.{IsSpelt, AreInstrsSpelt, AreMapsSpelt, AreLabelsSpelt};
 

@@ -1,18 +1,18 @@
 // What is known of the registers of a function at a place of its code.
 ghost use Rattle.std.specs.Prelude.{◌≡◌, ◌<◌, ℕ, suc, max, true, [], ◌∷◌, Some, None, IfOk, IfSome, IfNone, OnOk};
 ghost use Rattle.std.specs.Prelude.{get_or, length, map, slice_get};
-ghost use Rattle.lowered_code.specs.Choosing.{Meets, FewerCredits};
-ghost use Rattle.lowered_code.specs.Bodies as B;
-ghost use Rattle.lowered_code.specs.Functions.{nothing_known, unless_in, with_credit};
-ghost use Rattle.lowered_code.specs.Known as K;
-ghost use Rattle.lowered_code.specs.declared.held.Held.TheVariants as H;
-ghost use Rattle.match_code.specs.Entering.{unnaming};
-ghost use Rattle.match_code.specs.Losing.{Loses, Resumes};
+ghost use Rattle.lowering_relation.specs.Choosing.{Meets, FewerCredits};
+ghost use Rattle.lowering_relation.specs.LoweredBodies as B;
+ghost use Rattle.lowering_relation.specs.LoweredFunctions.{nothing_known, unless_in, with_credit};
+ghost use Rattle.lowering_relation.specs.Known as K;
+ghost use Rattle.lowering_relation.specs.declared.held.Held.TheVariants as H;
+ghost use Rattle.lowering_relation.specs.Entering.{unnaming};
+ghost use Rattle.lowering_relation.specs.Losing.{Loses, Resumes};
 ghost use Rattle.fip_language.specs.Table.{constructors};
-ghost use Rattle.laid_code.specs.Describing.{held_at};
-ghost use Rattle.laid_code.specs.Joins.{Met, holds_credit, still_held};
-ghost use Rattle.laid_code.specs.Matches.{wide, widened};
-ghost use Rattle.sound_code.specs.Types as Y;
+ghost use Rattle.lowering_relation.specs.Describing.{held_at};
+ghost use Rattle.lowering_relation.specs.Joins.{Met, holds_credit, still_held};
+ghost use Rattle.lowering_relation.specs.Matches.{wide, widened};
+ghost use Rattle.code_rules.specs.Types as Y;
 ghost use Rattle.lower_frame.specs.Credits.{NoneBetween, is_credit, is_held_of, sized};
 ghost use Rattle.lower_frame.specs.Credits as C;
 ghost use Rattle.lower_frame.specs.Frames.{HasSize, Takes, TakesBare, IsBoth, HeldByBoth, NamedByBoth, kind_told};
@@ -23,7 +23,7 @@ ghost use Rattle.lower_frame.specs.Registers.{HasRoom, IsFull, IsHeld, holds, re
 use cell_code::{Constructors, Kind};
 use fip_base::plain::NoMemory;
 use fip_base::table::{Constructor, TypeTable};
-use lowered_code::{Credit, Held};
+use lowering_relation::{Credit, Held};
 use std::alloc::Global;
 use std::cmp::max;
 use std::marker::Model;

@@ -1,9 +1,9 @@
 // The positions of a match and their registers.
 ghost use Rattle.std.specs.Prelude.{◌≡◌, IfOk, OnOk, Some, slice_get};
 ghost use Rattle.fip_trees.specs.TreeView as V;
-ghost use Rattle.match_code.specs.Spots as S;
-ghost use Rattle.match_code.specs.Growing.{AllGrow, Grows};
-ghost use Rattle.match_code.specs.Opening.{AllRoomy, Roomy};
+ghost use Rattle.lowering_relation.specs.Spots as S;
+ghost use Rattle.lowering_relation.specs.Growing.{AllGrow, Grows};
+ghost use Rattle.lowering_relation.specs.Opening.{AllRoomy, Roomy};
 ghost use Rattle.lower_frame.specs.declared.spots.Spot.{out-Spot};
 ghost use Rattle.lower_frame.specs.Registers.{HasRoom};
 ghost use Rattle.lower_frame.specs.Positions.{reaching, spot_of, spots_of, RoomyAt};

@@ -8,8 +8,8 @@ use Rattle.fip_language.specs.Table.{Shape, Table, constructors}
 use Rattle.fip_language.specs.Store.{Cell, Placed, PlacedInt, Bare, At, Parts, NoParts, MoreParts, words_of, places, places_of_all}
 use Rattle.fip_base.specs.TableView.{fields_at}
 use Rattle.cell_store.specs.Cells.{Cells, cell_at, number}
-use Rattle.code_runs.specs.Cells.{Store, Change, Release, cell_in, given_up, changed, changed_by}
-use Rattle.code_runs.specs.Trees.{Stands, StandAll, IsTree}
+use Rattle.machine_semantics.specs.Cells.{Store, Change, Release, cell_in, given_up, changed, changed_by}
+use Rattle.machine_semantics.specs.Trees.{Stands, StandAll, IsTree}
 use Rattle.machine_cells.specs.Live.{number_live}
 use Rattle.machine_cells.specs.Small.{store_of}
 use Rattle.machine_cells.specs.Pending.{entry, in_list, field_entry, entries, Node, tree, word, words, all_places, AllStand, Pending, Held, HeldBut}

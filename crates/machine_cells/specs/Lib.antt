@@ -1,3 +1,4 @@
+pub mod Outcomes
 pub mod Small
 pub mod Live
 pub mod Pending

@@ -6,8 +6,8 @@ use Rattle.std.specs.Prelude.{◌≡◌, ℕ, ◌+◌, ◌*◌, ◌/◌, ◌%◌
 use Rattle.std.specs.Prelude.{Option, Some, None, nat_eq, map, slice_index_or, if◌then◌else◌}
 use Rattle.fip_language.specs.Table.{Table}
 use Rattle.fip_language.specs.Store.{Placed, At, Parts, places, places_of_all}
-use Rattle.code_runs.specs.Cells.{Store, Release, changed_by}
-use Rattle.code_runs.specs.Trees.{Stands}
+use Rattle.machine_semantics.specs.Cells.{Store, Release, changed_by}
+use Rattle.machine_semantics.specs.Trees.{Stands}
 
 -- the word of a tree of type t whose word is w; none where it has no cell
 abbrev pub entry : ℕ → ℕ → Option ℕ

@@ -1,7 +1,7 @@
 -- Stores whose places have 32 bits.
 use Rattle.std.specs.Prelude.{ℕ, ◌≤◌, Bool, List, length}
 use Rattle.cell_store.specs.Cells.{Cells}
-use Rattle.code_runs.specs.Cells.{Store}
+use Rattle.machine_semantics.specs.Cells.{Store}
 
 abbrev pub IsSmall : Cells → Type 0
 IsSmall cs = length cs ≤ 4294967296

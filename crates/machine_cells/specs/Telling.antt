@@ -1,6 +1,6 @@
 -- A change of the cells of a run, as a store is told of it: a write of Cons(2, Nil) into cell 0 is Overwritten 0 1
 -- (2 ∷ 0 ∷ []), and the release of cell 0 is Released 0.
-use Rattle.code_runs.specs.Cells.{Change, Write, Release}
+use Rattle.machine_semantics.specs.Cells.{Change, Write, Release}
 use Rattle.cell_store.specs.Told.{Told, Overwritten, Released}
 
 abbrev pub as_told : Change → Told

@@ -3,7 +3,7 @@
 #![tactic(auto)]
 
 mod coverage;
-pub mod laws;
+pub mod theorems;
 mod matches;
 mod missing;
 mod numbers;

@@ -18,7 +18,7 @@ use Rattle.fip_trees.specs.declared.program.Pattern.TheOpen as PO
 use Rattle.fip_trees.specs.declared.program.Pattern.TheFolds.{fold-roll-Pattern}
 use Rattle.fip_trees.specs.TreeView.{pattern_step}
 use Rattle.fip_trees.proofs.TreeViews.{pattern_constructor}
-use Rattle.flat_meaning.specs.Matching.{matching, matching_all}
+use Rattle.instance_semantics.specs.Matching.{matching, matching_all}
 use Rattle.plain_rows.specs.declared.store.Value.{Value}
 use Rattle.plain_rows.specs.declared.store.Value.TheVariants as V
 use Rattle.plain_rows.specs.declared.store.Store.{Store}

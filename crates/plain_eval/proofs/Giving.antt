@@ -6,7 +6,7 @@ use Rattle.fip_trees.specs.Tree.{Arguments, NoArguments, MoreArguments, count}
 use Rattle.fip_trees.specs.declared.program.Argument.{Argument as CodeArgument}
 use Rattle.fip_trees.specs.TreeView.{arguments}
 use Rattle.fip_trees.proofs.TreeViews.{count_view}
-use Rattle.flat_meaning.specs.Meaning.{argument_value, argument_values, node_of}
+use Rattle.instance_semantics.specs.Meaning.{argument_value, argument_values, node_of}
 use Rattle.plain_rows.specs.declared.store.Value.{Value}
 use Rattle.plain_rows.specs.declared.store.Store.{Store}
 use Rattle.plain_rows.specs.Rows.{count_rows, HoldAll, Stands, StandAll, More}

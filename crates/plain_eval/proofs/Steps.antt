@@ -14,10 +14,10 @@ use Rattle.fip_trees.specs.Tree as T
 use Rattle.fip_trees.specs.TreeView.{block}
 use Rattle.fip_trees.specs.declared.program.Block.{Block}
 use Rattle.fip_trees.specs.declared.program.Binder.{Binder}
-use Rattle.flat_meaning.specs.Matching.{matching}
-use Rattle.flat_meaning.specs.Meaning.{argument_value, argument_values, bind_binders, evaluate, evaluate_block, evaluate_clauses, flat_meaning}
-use Rattle.flat_meaning.proofs.Equations.{evaluate_clause, evaluate_no_clause, evaluate_let, evaluate_last, body_meaning, instance_meaning, meaning_entry}
-use Rattle.flat_meaning.specs.Registers.{frame_words}
+use Rattle.instance_semantics.specs.Matching.{matching}
+use Rattle.instance_semantics.specs.Meaning.{argument_value, argument_values, bind_binders, evaluate, evaluate_block, evaluate_clauses, flat_meaning}
+use Rattle.instance_semantics.proofs.Equations.{evaluate_clause, evaluate_no_clause, evaluate_let, evaluate_last, body_meaning, instance_meaning, meaning_entry}
+use Rattle.instance_semantics.specs.Registers.{frame_words}
 use Rattle.std.proofs.lemmas.List.{map-append}
 use Rattle.plain_rows.specs.declared.store.Value.{Value}
 use Rattle.plain_rows.specs.declared.store.Value.TheVariants as V

@@ -7,7 +7,7 @@ use Rattle.fip_language.specs.Meaning.{Environment, bind_matched}
 use Rattle.fip_trees.specs.declared.program.Block.{Block}
 use Rattle.fip_trees.specs.Tree as T
 use Rattle.fip_trees.specs.TreeView.{block}
-use Rattle.flat_meaning.specs.Matching.{matching}
+use Rattle.instance_semantics.specs.Matching.{matching}
 use Rattle.plain_rows.specs.declared.store.Store.{Store}
 use Rattle.plain_eval.specs.declared.variables.Variables.{Variables}
 use Rattle.plain_eval.specs.Slots.{CoversNow}

@@ -6,8 +6,8 @@ use Rattle.fip_language.specs.Meaning.{Answer, Gives, Trap, Out, Deep, Stuck, Ru
 use Rattle.fip_trees.specs.declared.program.Block.{Block, out-Block}
 use Rattle.fip_trees.specs.Tree as T
 use Rattle.fip_trees.specs.TreeView.{expression, block_of, binding}
-use Rattle.flat_meaning.specs.Meaning.{bind_binders, evaluate, evaluate_block}
-use Rattle.flat_meaning.proofs.Equations.{instance_meaning}
+use Rattle.instance_semantics.specs.Meaning.{bind_binders, evaluate, evaluate_block}
+use Rattle.instance_semantics.proofs.Equations.{instance_meaning}
 use Rattle.plain_rows.specs.declared.store.Value.{Value}
 use Rattle.plain_rows.specs.declared.store.Store.{Store}
 use Rattle.plain_rows.specs.Rows.{StandAll}

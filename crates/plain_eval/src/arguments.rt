@@ -3,7 +3,7 @@ ghost use Rattle.std.specs.Prelude.{◌≡◌, Some, OnOk};
 ghost use Rattle.fip_language.specs.Values.{Value as Tree};
 ghost use Rattle.fip_language.specs.Meaning.{Environment, binder_value};
 ghost use Rattle.fip_trees.specs.TreeView as T;
-ghost use Rattle.flat_meaning.specs.Meaning.{argument_value, argument_values};
+ghost use Rattle.instance_semantics.specs.Meaning.{argument_value, argument_values};
 ghost use Rattle.plain_rows.specs.Rows.{More, Stands};
 ghost use Rattle.plain_eval.specs.Slots.{CoversNow};
 ghost use Rattle.plain_eval.specs.Giving.{GivesOne, GivesAll};

@@ -12,9 +12,9 @@ ghost use Rattle.fip_language.specs.Meaning.{Answer, Gives, Deep, Stuck, Run, en
 ghost use Rattle.fip_language.specs.Meaning.{counted, in_frame, Environment, nothing_bound};
 ghost use Rattle.fip_trees.specs.Tree as T;
 ghost use Rattle.fip_trees.specs.TreeView as V;
-ghost use Rattle.flat_meaning.specs.Meaning.{argument_value, argument_values, bind_binders};
-ghost use Rattle.flat_meaning.specs.Meaning.{evaluate_clauses, flat_meaning};
-ghost use Rattle.flat_meaning.proofs.Equations.{instance_meaning};
+ghost use Rattle.instance_semantics.specs.Meaning.{argument_value, argument_values, bind_binders};
+ghost use Rattle.instance_semantics.specs.Meaning.{evaluate_clauses, flat_meaning};
+ghost use Rattle.instance_semantics.proofs.Equations.{instance_meaning};
 ghost use Rattle.plain_rows.specs.Rows.{AreRows, StandAll};
 ghost use Rattle.plain_eval.specs.Ended.{IsEnd};
 ghost use Rattle.plain_eval.specs.Slots.{CoversNow, Keeps, KeepsAll};

@@ -5,7 +5,7 @@ ghost use Rattle.std.specs.Borrow.{Bor};
 ghost use Rattle.fip_language.specs.Values.{Value as Tree, Int, Node, Values};
 ghost use Rattle.fip_language.specs.Meaning.{Environment};
 ghost use Rattle.fip_trees.specs.TreeView as T;
-ghost use Rattle.flat_meaning.specs.Matching.{matching, matching_all};
+ghost use Rattle.instance_semantics.specs.Matching.{matching, matching_all};
 ghost use Rattle.plain_rows.specs.Rows.{Stands, StandAll};
 ghost use Rattle.plain_eval.specs.Slots.{CoversNow, KeepsAll};
 ghost use Rattle.plain_eval.specs.Choosing.{Matches, Tries, Chooses};

@@ -4,12 +4,12 @@ use Rattle.std.specs.Prelude.{Bool, true, false, ◌&&◌, ◌==◌, if◌then�
 use Rattle.std.proofs.lemmas.Bool.Decides.{eqb_tells}
 use Rattle.cell_code.specs.declared.kind.Kind.{Kind}
 use Rattle.cell_code.specs.declared.kind.Kind.TheVariants.{Gone, Scalar, Owned, Lent, Credit}
-use Rattle.sound_code.specs.Kinds.{at, has, is_free, set_of}
-use Rattle.sound_code.specs.Changes.{narrow, without, tested}
-use Rattle.sound_code.specs.Fitting.{fits, fit_all}
+use Rattle.code_rules.specs.Kinds.{at, has, is_free, set_of}
+use Rattle.code_rules.specs.Changes.{narrow, without, tested}
+use Rattle.code_rules.specs.Fitting.{fits, fit_all}
 use Rattle.register_kinds.specs.declared.fits.Tested.{Tested}
 use Rattle.register_kinds.specs.Arrivals.{lessened, lacked_at, arrive, fits_at, each_fits, tested_fits}
-use Rattle.sound_code.specs.Codes.{LabelMap, plain_label}
+use Rattle.code_rules.specs.Codes.{LabelMap, plain_label}
 use Rattle.cell_code.specs.declared.kind.Label.{Label}
 use Rattle.register_kinds.specs.Arrivals.{HasBut}
 use Rattle.register_kinds.specs.Kept.{Lents, Links, IsKept, KindsRise}

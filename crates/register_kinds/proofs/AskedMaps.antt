@@ -1,7 +1,7 @@
 -- What is kept of label maps, as one after another is gone through.
 use Rattle.std.proofs.Common.{◌≡◌, ℕ, zero, suc, ◌+◌, ◌<◌, ◌⊎◌, inl, inr, List, [], ◌∷◌, ◌++◌, length, get_or, refl, sym, ap, ◌∙◌, subst, arith}
 use Rattle.std.specs.Prelude.{Some, slice_get}
-use Rattle.sound_code.specs.Codes.{LabelMap}
+use Rattle.code_rules.specs.Codes.{LabelMap}
 use Rattle.register_kinds.specs.declared.asked.Asked.{Asked}
 use Rattle.register_kinds.specs.Busy.{IsAsked}
 use Rattle.register_kinds.specs.Kept.{AreAsked}

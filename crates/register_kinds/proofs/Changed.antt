@@ -5,9 +5,9 @@ use Rattle.std.proofs.lemmas.Bool.Decides.{eqb_tells}
 use Rattle.cell_code.specs.declared.kind.From.{From}
 use Rattle.cell_code.specs.declared.kind.Kind.{Kind}
 use Rattle.cell_code.specs.declared.kind.Kind.TheVariants.{Gone, Scalar, Owned, Lent, Credit}
-use Rattle.sound_code.specs.Types.{numbers}
-use Rattle.sound_code.specs.Kinds.{at, has, from_of, is_lent_of}
-use Rattle.sound_code.specs.Changes.{become, forget, forget_from, written, goes, used_up, narrow, tested}
+use Rattle.code_rules.specs.Types.{numbers}
+use Rattle.code_rules.specs.Kinds.{at, has, from_of, is_lent_of}
+use Rattle.code_rules.specs.Changes.{become, forget, forget_from, written, goes, used_up, narrow, tested}
 use Rattle.register_kinds.specs.Kept.{names}
 use Rattle.register_kinds.specs.Steps.{each, forgets, lose}
 use Rattle.register_kinds.proofs.Places.{at_set_same, at_set_other, at_map, same_at, set_long, map_long, at_past, each_all}

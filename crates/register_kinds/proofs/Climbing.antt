@@ -7,10 +7,10 @@ use Rattle.fip_language.specs.Table.{Table}
 use Rattle.cell_code.specs.declared.kind.From.{From}
 use Rattle.cell_code.specs.declared.kind.Kind.{Kind}
 use Rattle.cell_code.specs.declared.kind.Kind.TheVariants.{Gone, Scalar, Owned, Lent, Credit}
-use Rattle.sound_code.specs.Types.{is_scalar_type}
-use Rattle.sound_code.specs.Kinds.{at, from_of, has, is_lent_of, is_owned, root_of, same_root}
-use Rattle.sound_code.specs.Changes.{forget, forget_from, goes, narrow, tested, used_up, written}
-use Rattle.sound_code.specs.Taking.{Chain, IsReached, IsTaken, Part, Reaches, credit, ends, fate, inherited, is_field, is_heir, is_heir_by, part, part_kind, part_or, with_root}
+use Rattle.code_rules.specs.Types.{is_scalar_type}
+use Rattle.code_rules.specs.Kinds.{at, from_of, has, is_lent_of, is_owned, root_of, same_root}
+use Rattle.code_rules.specs.Changes.{forget, forget_from, goes, narrow, tested, used_up, written}
+use Rattle.code_rules.specs.Taking.{Chain, IsReached, IsTaken, Part, Reaches, credit, ends, fate, inherited, is_field, is_heir, is_heir_by, part, part_kind, part_or, with_root}
 use Rattle.register_kinds.specs.Climbs.{AreHeld, Climb, HasOwner, IsHeld, IsWhole, is_lent_in, tree_of}
 use Rattle.register_kinds.specs.Kept.{is_lent, names}
 use Rattle.register_kinds.proofs.Changed.{at_become, become_long}

@@ -7,13 +7,13 @@ use Rattle.fip_language.specs.Table.{Table}
 use Rattle.fip_base.specs.declared.plain.Param.{Param}
 use Rattle.cell_code.specs.declared.kind.Kind.{Kind}
 use Rattle.cell_code.specs.declared.kind.Kind.TheVariants.{Gone, Scalar, Owned, Lent, Credit}
-use Rattle.sound_code.specs.Codes.{PlainFunction, LabelMap}
-use Rattle.sound_code.specs.Types.{all, count, is_scalar_type}
-use Rattle.sound_code.specs.Kinds.{at, set_of, from_of, is_lent_of}
-use Rattle.sound_code.specs.Entry.{entry, gones, param_kind}
-use Rattle.sound_code.specs.Headers.{is_formed, are_good_maps, are_good_kinds, is_good_kind, is_set, are_rising}
-use Rattle.sound_code.specs.Headers.{are_params, are_sizes, are_types}
-use Rattle.sound_code.specs.Limits.{most_registers, most_results, most_credits}
+use Rattle.code_rules.specs.Codes.{PlainFunction, LabelMap}
+use Rattle.code_rules.specs.Types.{all, count, is_scalar_type}
+use Rattle.code_rules.specs.Kinds.{at, set_of, from_of, is_lent_of}
+use Rattle.code_rules.specs.Entry.{entry, gones, param_kind}
+use Rattle.code_rules.specs.Headers.{is_formed, are_good_maps, are_good_kinds, is_good_kind, is_set, are_rising}
+use Rattle.code_rules.specs.Headers.{are_params, are_sizes, are_types}
+use Rattle.code_rules.specs.Limits.{most_registers, most_results, most_credits}
 use Rattle.register_kinds.specs.Kept.{Lents, Links, AreAsked, IsKept, KindsRise, leads, names}
 use Rattle.register_kinds.specs.declared.asked.Asked.{Asked}
 use Rattle.register_kinds.specs.declared.label_sets.Origin.{Origin}

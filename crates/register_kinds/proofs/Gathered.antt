@@ -3,8 +3,8 @@ use Rattle.std.proofs.Common.{◌≡◌, ℕ, List, map, refl, sym, ap, ◌∙�
 use Rattle.std.specs.Prelude.{Bool, true, false, ◌||◌, ◌==◌, Some}
 use Rattle.cell_code.specs.declared.kind.From.{From}
 use Rattle.cell_code.specs.declared.kind.Kind.{Kind}
-use Rattle.sound_code.specs.Kinds.{at, has, from_of, is_lent_of}
-use Rattle.sound_code.specs.Changes.{forget, goes}
+use Rattle.code_rules.specs.Kinds.{at, has, from_of, is_lent_of}
+use Rattle.code_rules.specs.Changes.{forget, goes}
 use Rattle.register_kinds.specs.Kept.{Gathers, leads}
 use Rattle.register_kinds.specs.Steps.{each, forgets}
 use Rattle.register_kinds.proofs.Places.{at_map, each_all}

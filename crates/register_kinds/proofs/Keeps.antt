@@ -5,9 +5,9 @@ use Rattle.std.proofs.lemmas.Bool.{eq-eqb}
 use Rattle.std.proofs.lemmas.Bool.Decides.{eqb_tells}
 use Rattle.cell_code.specs.declared.kind.From.{From}
 use Rattle.cell_code.specs.declared.kind.Kind.{Kind}
-use Rattle.sound_code.specs.Codes.{LabelMap}
-use Rattle.sound_code.specs.Kinds.{at, has, set_of, from_of, is_free, is_lent_of}
-use Rattle.sound_code.specs.Fitting.{fits}
+use Rattle.code_rules.specs.Codes.{LabelMap}
+use Rattle.code_rules.specs.Kinds.{at, has, set_of, from_of, is_free, is_lent_of}
+use Rattle.code_rules.specs.Fitting.{fits}
 use Rattle.register_kinds.specs.Kept.{Lents, Links, Linked, Gathers, IsKept, AreSeen, AreMaps, leads, names}
 use Rattle.register_kinds.specs.declared.asked.Asked.{Asked}
 use Rattle.register_kinds.specs.Busy.{busy_in, held}

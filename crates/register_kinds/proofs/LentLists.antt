@@ -3,7 +3,7 @@ use Rattle.std.proofs.Common.{◌≡◌, ℕ, zero, suc, ◌<◌, ◌≤◌, ◌
 use Rattle.std.specs.Prelude.{Bool, true, false, ◌||◌, Option, Some, None, slice_get, ◌==◌}
 use Rattle.cell_code.specs.declared.kind.Kind.{Kind}
 use Rattle.std.proofs.lemmas.Bool.Decides.{eqb_tells}
-use Rattle.sound_code.specs.Kinds.{at, has}
+use Rattle.code_rules.specs.Kinds.{at, has}
 use Rattle.register_kinds.specs.Kept.{trues, AreLents, Grows, ClosedBelow, kept_at, leads}
 
 pub trues_few : (bs : List Bool) → trues bs ≤ length bs

@@ -3,7 +3,7 @@ use Rattle.std.proofs.Common.{◌≡◌, ℕ, refl}
 use Rattle.std.specs.Prelude.{Option}
 use Rattle.cell_code.specs.declared.kind.Kind.{Kind}
 use Rattle.cell_code.specs.declared.kind.Kind.TheVariants.{Gone, Scalar, Owned, Lent, Credit}
-use Rattle.sound_code.specs.Kinds.{is_free, is_scalar_of, is_credit_of}
+use Rattle.code_rules.specs.Kinds.{is_free, is_scalar_of, is_credit_of}
 use Rattle.register_kinds.specs.Arrivals.{lessened}
 
 pub free : (l : Option ℕ) (k : Kind) → is_free (lessened l k) ≡ is_free k

@@ -5,7 +5,7 @@ use Rattle.std.proofs.lemmas.Bool.Decides.{eqb_tells}
 use Rattle.std.specs.declared.vec.Vec.{Vec}
 use Rattle.std.specs.declared.alloc.Global.{Global}
 use Rattle.cell_code.specs.declared.kind.Kind.{Kind}
-use Rattle.sound_code.specs.Kinds.{at, has}
+use Rattle.code_rules.specs.Kinds.{at, has}
 use Rattle.register_kinds.specs.Kept.{leads, list_at}
 use Rattle.register_kinds.specs.Views.{row_of}
 use Rattle.std.specs.List.{SwappedAt}

@@ -5,7 +5,7 @@ use Rattle.std.proofs.lemmas.Bool.{eq-eqb, ne_eqb}
 use Rattle.std.proofs.lemmas.Bool.Decides.{eqb_tells}
 use Rattle.cell_code.specs.declared.kind.Kind.{Kind}
 use Rattle.cell_code.specs.declared.kind.Kind.TheVariants.{Gone, Scalar, Owned, Lent, Credit}
-use Rattle.sound_code.specs.Kinds.{at, are_free, from_of, is_free, is_lent_of, set_of}
+use Rattle.code_rules.specs.Kinds.{at, are_free, from_of, is_free, is_lent_of, set_of}
 use Rattle.register_kinds.specs.Owners.{AreNames, number_at, number_or, rooted, swapped}
 use Rattle.register_kinds.specs.declared.known.Known.{Known}
 use Rattle.register_kinds.specs.Views.{kind_of, kinds_of}

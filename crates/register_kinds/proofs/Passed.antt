@@ -7,9 +7,9 @@ use Rattle.fip_language.specs.Table.{Table}
 use Rattle.cell_code.specs.declared.kind.From.{From}
 use Rattle.cell_code.specs.declared.kind.Kind.{Kind}
 use Rattle.cell_code.specs.declared.kind.Kind.TheVariants.{Gone, Scalar, Owned, Lent, Credit}
-use Rattle.sound_code.specs.Kinds.{at, has, from_of, is_lent_of}
-use Rattle.sound_code.specs.Changes.{forget, forget_from}
-use Rattle.sound_code.specs.Taking.{IsReached, Part, Reaches, ends, fate, is_heir, part, part_kind, with_root}
+use Rattle.code_rules.specs.Kinds.{at, has, from_of, is_lent_of}
+use Rattle.code_rules.specs.Changes.{forget, forget_from}
+use Rattle.code_rules.specs.Taking.{IsReached, Part, Reaches, ends, fate, is_heir, part, part_kind, with_root}
 use Rattle.register_kinds.specs.Kept.{is_lent, kept_at, names}
 use Rattle.register_kinds.specs.Owners.{rooted, swapped}
 use Rattle.register_kinds.specs.Sorted.{IsSorted, IsTakable}

@@ -2,8 +2,8 @@
 use Rattle.std.proofs.Common.{◌≡◌, ℕ, zero, suc, ◌+◌, ◌-◌, ◌<◌, ◌≤◌, ◌⊎◌, inl, inr, List, [], ◌∷◌, length, drop, take, get_or, refl, sym, ap, ◌∙◌, subst, arith}
 use Rattle.std.specs.Prelude.{Bool, true, false, Option}
 use Rattle.std.proofs.lemmas.Bool.{lt-ltb, le-ltb}
-use Rattle.sound_code.specs.Kinds.{has}
-use Rattle.sound_code.specs.Fitting.{is_subset}
+use Rattle.code_rules.specs.Kinds.{has}
+use Rattle.code_rules.specs.Fitting.{is_subset}
 use Rattle.register_kinds.specs.Rising.{RiseFrom, Rise, less, beyond, is_one}
 use Rattle.register_kinds.proofs.Sets.{has_none, has_at, rise_order}
 use Rattle.register_kinds.proofs.Subsets.{above_found, among_skip, less_has, one_more, own_first, rise_less}

@@ -5,8 +5,8 @@ use Rattle.std.proofs.lemmas.Bool.Decides.{eqb_tells}
 use Rattle.cell_code.specs.declared.kind.From.{From}
 use Rattle.cell_code.specs.declared.kind.Kind.{Kind}
 use Rattle.cell_code.specs.declared.kind.Kind.TheVariants.{Gone, Scalar, Owned, Lent, Credit}
-use Rattle.sound_code.specs.Kinds.{at, has, from_of}
-use Rattle.sound_code.specs.Taking.{Chain, Reaches, IsReached}
+use Rattle.code_rules.specs.Kinds.{at, has, from_of}
+use Rattle.code_rules.specs.Taking.{Chain, Reaches, IsReached}
 use Rattle.register_kinds.specs.Kept.{is_lent, leads, AreLents}
 use Rattle.register_kinds.proofs.Keeps.{from_leads}
 use Rattle.register_kinds.proofs.LentLists.{none_kept}

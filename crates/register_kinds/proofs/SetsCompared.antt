@@ -9,10 +9,10 @@ use Rattle.std.specs.Ordering.{is_eq, nat_cmp, ordering_then}
 use Rattle.std.proofs.lemmas.Bool.Decides.{eqb_tells}
 use Rattle.std.proofs.lemmas.Map.Lookups.{exact_unsigned}
 use Rattle.cell_code.specs.declared.kind.Kind.{Kind}
-use Rattle.sound_code.specs.Changes.{without}
-use Rattle.sound_code.specs.Codes.{LabelMap}
-use Rattle.sound_code.specs.Fitting.{is_subset}
-use Rattle.sound_code.specs.Kinds.{at, has, set_of}
+use Rattle.code_rules.specs.Changes.{without}
+use Rattle.code_rules.specs.Codes.{LabelMap}
+use Rattle.code_rules.specs.Fitting.{is_subset}
+use Rattle.code_rules.specs.Kinds.{at, has, set_of}
 use Rattle.register_kinds.specs.declared.label_sets.Origin.{Origin}
 use Rattle.register_kinds.specs.declared.missing.Missing.{Missing}
 use Rattle.register_kinds.specs.declared.missing.Missing.TheVariants.{Nothing, One, More}

@@ -4,9 +4,9 @@ use Rattle.std.specs.Prelude.{Bool, true}
 use Rattle.fip_language.specs.Table.{Table}
 use Rattle.fip_base.specs.declared.plain.Param.{Param}
 use Rattle.cell_code.specs.declared.kind.Kind.{Kind}
-use Rattle.sound_code.specs.Handing.{give_all, pass_all, hand_all, lend_all}
-use Rattle.sound_code.specs.Leaves.{received}
-use Rattle.sound_code.specs.Taking.{part_from}
+use Rattle.code_rules.specs.Handing.{give_all, pass_all, hand_all, lend_all}
+use Rattle.code_rules.specs.Leaves.{received}
+use Rattle.code_rules.specs.Taking.{part_from}
 
 pub drop_none : {X : Type 0} (xs : List X) (j : ℕ) → slice_get xs j ≡ None → drop j xs ≡ []
 drop_none [] zero h = refl

@@ -6,8 +6,8 @@ use Rattle.fip_language.specs.Table.{Table}
 use Rattle.cell_code.specs.declared.kind.From.{From}
 use Rattle.cell_code.specs.declared.kind.Kind.{Kind}
 use Rattle.cell_code.specs.declared.kind.Kind.TheVariants.{Gone, Scalar, Owned, Lent, Credit}
-use Rattle.sound_code.specs.Kinds.{at, has, from_of, is_lent_of, same_root}
-use Rattle.sound_code.specs.Taking.{Chain, IsReached, Part, Reaches, is_heir, is_heir_by, part}
+use Rattle.code_rules.specs.Kinds.{at, has, from_of, is_lent_of, same_root}
+use Rattle.code_rules.specs.Taking.{Chain, IsReached, Part, Reaches, is_heir, is_heir_by, part}
 use Rattle.register_kinds.specs.Climbs.{is_lent_in}
 use Rattle.register_kinds.specs.Kept.{Grows, Linked, Links, is_lent, kept_at, names}
 use Rattle.register_kinds.specs.Sorted.{AreGood, Candidate, IsGood, IsTakable, Rest, listed_if, listing}

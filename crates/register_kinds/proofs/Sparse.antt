@@ -5,8 +5,8 @@ use Rattle.std.proofs.lemmas.Bool.{eq-eqb, ne_eqb}
 use Rattle.std.proofs.lemmas.Bool.Decides.{eqb_tells}
 use Rattle.cell_code.specs.declared.kind.Kind.{Kind}
 use Rattle.cell_code.specs.declared.kind.Kind.TheVariants.{Gone, Scalar, Owned, Lent, Credit}
-use Rattle.sound_code.specs.Kinds.{at, is_credit_of, is_free, is_scalar_of}
-use Rattle.sound_code.specs.Fitting.{fits, fit_all}
+use Rattle.code_rules.specs.Kinds.{at, is_credit_of, is_free, is_scalar_of}
+use Rattle.code_rules.specs.Fitting.{fits, fit_all}
 use Rattle.register_kinds.specs.declared.fits.Tested.{Tested}
 use Rattle.register_kinds.specs.Arrivals.{lessened, lacked_at, arrive, fits_at, each_fits}
 use Rattle.register_kinds.specs.declared.asked.Ask.{Ask}

@@ -3,10 +3,10 @@ use Rattle.std.proofs.Common.{◌≡◌, ℕ, zero, suc, ◌+◌, ◌-◌, ◌<�
 use Rattle.std.specs.Prelude.{Bool, true, false, ◌||◌, ◌&&◌, ◌==◌, Option, Some, None, Result, Ok, Err, MatchResult}
 use Rattle.std.proofs.lemmas.Bool.{eq-eqb, ne_eqb, lt-ltb, le-ltb}
 use Rattle.std.proofs.lemmas.Bool.Decides.{eqb_tells}
-use Rattle.sound_code.specs.Kinds.{has}
-use Rattle.sound_code.specs.Types.{numbers}
-use Rattle.sound_code.specs.Changes.{without}
-use Rattle.sound_code.specs.Fitting.{is_subset}
+use Rattle.code_rules.specs.Kinds.{has}
+use Rattle.code_rules.specs.Types.{numbers}
+use Rattle.code_rules.specs.Changes.{without}
+use Rattle.code_rules.specs.Fitting.{is_subset}
 use Rattle.register_kinds.specs.Rising.{RiseFrom, Rise, less, beyond, is_one}
 
 pub numbers_rise : (i n : ℕ) → RiseFrom i (numbers i n)

@@ -7,11 +7,11 @@ use Rattle.fip_language.specs.Table.{Table}
 use Rattle.cell_code.specs.declared.kind.From.{From}
 use Rattle.cell_code.specs.declared.kind.Kind.{Kind}
 use Rattle.cell_code.specs.declared.kind.Kind.TheVariants.{Gone, Scalar, Owned, Lent, Credit}
-use Rattle.sound_code.specs.Kinds.{at, has, from_of, is_lent_of}
-use Rattle.sound_code.specs.Types.{field_kind, is_scalar_type}
-use Rattle.sound_code.specs.Changes.{forget}
-use Rattle.sound_code.specs.Taking.{Part, part, part_from, is_heir, is_heir_by, fate, with_root, ends, part_kind, part_or, credit}
-use Rattle.sound_code.specs.Taking.{Reaches, IsReached, IsTaken, inherited, is_field}
+use Rattle.code_rules.specs.Kinds.{at, has, from_of, is_lent_of}
+use Rattle.code_rules.specs.Types.{field_kind, is_scalar_type}
+use Rattle.code_rules.specs.Changes.{forget}
+use Rattle.code_rules.specs.Taking.{Part, part, part_from, is_heir, is_heir_by, fate, with_root, ends, part_kind, part_or, credit}
+use Rattle.code_rules.specs.Taking.{Reaches, IsReached, IsTaken, inherited, is_field}
 use Rattle.register_kinds.specs.Kept.{is_lent, kept_at, names}
 use Rattle.register_kinds.specs.Takes.{seen_by, seen_at, is_used, forgotten, fated, filled_by, filled_at, emptied, in_turn, Alike}
 use Rattle.register_kinds.specs.Takes.{GathersParts, IsPassed, stands_for}

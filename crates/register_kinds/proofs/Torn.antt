@@ -6,9 +6,9 @@ use Rattle.fip_language.specs.Table.{Table}
 use Rattle.cell_code.specs.declared.kind.From.{From}
 use Rattle.cell_code.specs.declared.kind.Kind.{Kind}
 use Rattle.cell_code.specs.declared.kind.Kind.TheVariants.{Lent}
-use Rattle.sound_code.specs.Kinds.{at, from_of, has, is_owned, same_root}
-use Rattle.sound_code.specs.Changes.{tested, used_up, written}
-use Rattle.sound_code.specs.Taking.{IsTaken, part}
+use Rattle.code_rules.specs.Kinds.{at, from_of, has, is_owned, same_root}
+use Rattle.code_rules.specs.Changes.{tested, used_up, written}
+use Rattle.code_rules.specs.Taking.{IsTaken, part}
 use Rattle.register_kinds.specs.Climbs.{AreKnown, AreKnownOver, AreWhole, IsHeld, IsWhole, is_lent_in, tree_of}
 use Rattle.register_kinds.proofs.Climbing.{lent_there, root_is, sourced_there, true_or_false, whole_taken, whole_tested, whole_used, whole_written}
 

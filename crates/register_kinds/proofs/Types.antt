@@ -3,7 +3,7 @@ use Rattle.std.proofs.Common.{◌≡◌, ℕ, zero, suc, ◌<◌, ◌≤◌, Lis
 use Rattle.std.specs.Prelude.{Bool, false, ◌&&◌}
 use Rattle.std.proofs.lemmas.Bool.{lt-ltb, le-ltb}
 use Rattle.fip_language.specs.Table.{Table, Shape, shapes, constructors, is_scalar}
-use Rattle.sound_code.specs.Types.{fields_of, is_scalar_type}
+use Rattle.code_rules.specs.Types.{fields_of, is_scalar_type}
 use Rattle.register_kinds.specs.Kept.{IsMarked}
 
 shapes_past : (w : Table) (t : ℕ) → length w ≤ t → shapes w t ≡ []

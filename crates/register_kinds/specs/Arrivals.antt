@@ -3,9 +3,9 @@
 use Rattle.std.specs.Prelude.{◌≡◌, ℕ, suc, Bool, true, ◌&&◌, ◌==◌, List, [], ◌∷◌, Option, Some, None}
 use Rattle.std.specs.Prelude.{if◌then◌else◌}
 use Rattle.cell_code.specs.declared.kind.Kind.{Kind}
-use Rattle.sound_code.specs.Kinds.{at, has, set_of}
-use Rattle.sound_code.specs.Changes.{narrow}
-use Rattle.sound_code.specs.Fitting.{fits}
+use Rattle.code_rules.specs.Kinds.{at, has, set_of}
+use Rattle.code_rules.specs.Changes.{narrow}
+use Rattle.code_rules.specs.Fitting.{fits}
 use Rattle.register_kinds.specs.declared.fits.Tested.{Tested}
 use Rattle.register_kinds.specs.Rising.{less}
 use Rattle.register_kinds.specs.Sights.{HasBefore}

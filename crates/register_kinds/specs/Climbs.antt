@@ -5,7 +5,7 @@ use Rattle.std.specs.Prelude.{◌≡◌, ℕ, zero, suc, Bool, true, false, List
 use Rattle.cell_code.specs.declared.kind.From.{From}
 use Rattle.cell_code.specs.declared.kind.Kind.{Kind}
 use Rattle.cell_code.specs.declared.kind.Kind.TheVariants.{Gone, Scalar, Owned, Lent, Credit}
-use Rattle.sound_code.specs.Kinds.{at, from_of, is_owned, root_of, same_root}
+use Rattle.code_rules.specs.Kinds.{at, from_of, is_owned, root_of, same_root}
 
 -- It reads the tree of this register, or, where there is none, of a frame below.
 abbrev pub is_lent_in : Option ℕ → Kind → Bool

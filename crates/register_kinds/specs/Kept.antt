@@ -8,9 +8,9 @@ use Rattle.fip_language.specs.Table.{Table, is_scalar}
 use Rattle.cell_code.specs.declared.kind.From.{From}
 use Rattle.cell_code.specs.declared.kind.Kind.{Kind}
 use Rattle.cell_code.specs.declared.kind.Kind.TheVariants.{Gone, Scalar, Owned, Lent, Credit}
-use Rattle.sound_code.specs.Codes.{LabelMap}
-use Rattle.sound_code.specs.Kinds.{has, at, set_of, from_of, is_lent_of}
-use Rattle.sound_code.specs.Fitting.{fits}
+use Rattle.code_rules.specs.Codes.{LabelMap}
+use Rattle.code_rules.specs.Kinds.{has, at, set_of, from_of, is_lent_of}
+use Rattle.code_rules.specs.Fitting.{fits}
 use Rattle.register_kinds.specs.declared.asked.Asked.{Asked}
 use Rattle.register_kinds.specs.Busy.{IsAsked, busy_in}
 use Rattle.register_kinds.specs.LabelSets.{LabelSets, AreOrigins}

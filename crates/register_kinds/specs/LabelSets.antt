@@ -4,9 +4,9 @@ use Rattle.std.specs.Prelude.{◌≡◌, ℕ, zero, suc, Bool, true, false, List
 use Rattle.std.specs.declared.cmp.Ordering.{Ordering}
 use Rattle.std.specs.Ordering.{nat_cmp, ordering_then}
 use Rattle.cell_code.specs.declared.kind.Kind.{Kind}
-use Rattle.sound_code.specs.Codes.{LabelMap}
-use Rattle.sound_code.specs.Fitting.{is_subset}
-use Rattle.sound_code.specs.Kinds.{at, set_of}
+use Rattle.code_rules.specs.Codes.{LabelMap}
+use Rattle.code_rules.specs.Fitting.{is_subset}
+use Rattle.code_rules.specs.Kinds.{at, set_of}
 use Rattle.register_kinds.specs.declared.label_sets.Origin.{Origin}
 use Rattle.register_kinds.specs.declared.missing.Missing.{Missing}
 use Rattle.register_kinds.specs.declared.missing.Missing.TheVariants.{Nothing, One, More}

@@ -1,6 +1,6 @@
 -- Only what this crate keeps: lists of constructors rise, so that they can be searched.
 use Rattle.std.specs.Prelude.{ℕ, suc, ◌≤◌, ◌==◌, Bool, false, List, [], ◌∷◌, Option, Some, None, nat_lt, if◌then◌else◌}
-use Rattle.sound_code.specs.Changes.{without}
+use Rattle.code_rules.specs.Changes.{without}
 
 -- They rise, and none is below a number.
 abbrev pub RiseFrom : ℕ → List ℕ → Type 0

@@ -1,7 +1,7 @@
 -- Only what this crate keeps: changes since a time.
 use Rattle.std.specs.Prelude.{◌≡◌, ◌⊎◌, ◌<◌, ◌≤◌, ◌==◌, true, length, slice_get, drop, ℕ, List, Option, Some, None}
 use Rattle.std.specs.Prelude.{if◌then◌else◌}
-use Rattle.sound_code.specs.Kinds.{has}
+use Rattle.code_rules.specs.Kinds.{has}
 use Rattle.register_kinds.specs.declared.log.Seen.{Seen}
 
 -- the changes since something was seen, where no new turn was begun

@@ -5,8 +5,8 @@ use Rattle.std.specs.Prelude.{if◌then◌else◌}
 use Rattle.fip_language.specs.Table.{Table}
 use Rattle.cell_code.specs.declared.kind.From.{From}
 use Rattle.cell_code.specs.declared.kind.Kind.{Kind}
-use Rattle.sound_code.specs.Kinds.{at, has, from_of, is_lent_of, is_owned}
-use Rattle.sound_code.specs.Taking.{IsReached, Part, Reaches, is_heir, is_heir_by}
+use Rattle.code_rules.specs.Kinds.{at, has, from_of, is_lent_of, is_owned}
+use Rattle.code_rules.specs.Taking.{IsReached, Part, Reaches, is_heir, is_heir_by}
 use Rattle.register_kinds.specs.Climbs.{IsWhole}
 use Rattle.register_kinds.specs.Kept.{Linked, Links, is_lent, kept_at, names}
 use Rattle.register_kinds.specs.Takes.{seen_at}

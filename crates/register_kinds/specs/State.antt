@@ -6,8 +6,8 @@ use Rattle.std.specs.Prelude.{if◌then◌else◌}
 use Rattle.fip_language.specs.Table.{Table}
 use Rattle.fip_base.specs.declared.plain.Param.{Param}
 use Rattle.cell_code.specs.declared.kind.Kind.{Kind}
-use Rattle.sound_code.specs.Codes.{PlainCode, LabelMap}
-use Rattle.sound_code.specs.Handing.{pass_all, hand_all, lend_all, kept_if}
+use Rattle.code_rules.specs.Codes.{PlainCode, LabelMap}
+use Rattle.code_rules.specs.Handing.{pass_all, hand_all, lend_all, kept_if}
 
 pub record RegisterState : Type 0 where
   pub kinds : List Kind

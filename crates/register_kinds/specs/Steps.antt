@@ -3,8 +3,8 @@
 use Rattle.std.specs.Prelude.{ℕ, List, [], ◌∷◌, set, if◌then◌else◌, ◌==◌}
 use Rattle.cell_code.specs.declared.kind.Kind.{Kind}
 use Rattle.cell_code.specs.declared.kind.Kind.TheVariants.{Gone}
-use Rattle.sound_code.specs.Kinds.{at, is_lent_of}
-use Rattle.sound_code.specs.Changes.{forget}
+use Rattle.code_rules.specs.Kinds.{at, is_lent_of}
+use Rattle.code_rules.specs.Changes.{forget}
 
 abbrev pub each : (Kind → Kind) → List Kind → List ℕ → List Kind
 each f ks [] = ks

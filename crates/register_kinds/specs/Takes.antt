@@ -5,9 +5,9 @@ use Rattle.std.specs.Prelude.{◌<◌, length, set, if◌then◌else◌, ◌==�
 use Rattle.fip_language.specs.Table.{Table}
 use Rattle.cell_code.specs.declared.kind.From.{From}
 use Rattle.cell_code.specs.declared.kind.Kind.{Kind}
-use Rattle.sound_code.specs.Kinds.{at, has, from_of, is_lent_of}
-use Rattle.sound_code.specs.Changes.{forget}
-use Rattle.sound_code.specs.Taking.{Part, Reaches, IsReached, part, is_heir, ends, fate, part_kind, credit}
+use Rattle.code_rules.specs.Kinds.{at, has, from_of, is_lent_of}
+use Rattle.code_rules.specs.Changes.{forget}
+use Rattle.code_rules.specs.Taking.{Part, Reaches, IsReached, part, is_heir, ends, fate, part_kind, credit}
 use Rattle.register_kinds.specs.declared.take.Piece.{Piece}
 use Rattle.register_kinds.specs.Kept.{Gathers, is_lent, kept_at, leads}
 use Rattle.register_kinds.specs.Owners.{root_by, swapped}

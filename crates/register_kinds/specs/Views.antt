@@ -4,7 +4,7 @@ use Rattle.std.specs.declared.vec.Vec.{Vec}
 use Rattle.std.specs.declared.alloc.Global.{Global}
 use Rattle.cell_code.specs.declared.kind.Kind.{Kind}
 use Rattle.cell_code.specs.declared.kind.Kind.TheVariants as K
-use Rattle.sound_code.specs.Types.{numbers}
+use Rattle.code_rules.specs.Types.{numbers}
 use Rattle.register_kinds.specs.declared.set.Set.{Set}
 use Rattle.register_kinds.specs.declared.set.Set.TheVariants.{All, One, Listed}
 use Rattle.register_kinds.specs.declared.known.Known.{Known}

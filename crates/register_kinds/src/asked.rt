@@ -1,7 +1,7 @@
 // What label maps ask of registers.
 ghost use Rattle.std.specs.Prelude.{◌≡◌, ◌<◌, ◌≤◌, ◌++◌, ◌+◌, ℕ, length, map, IfOk, OnOk};
-ghost use Rattle.sound_code.specs.Codes.{plain_label};
-ghost use Rattle.sound_code.specs.Kinds.{is_free};
+ghost use Rattle.code_rules.specs.Codes.{plain_label};
+ghost use Rattle.code_rules.specs.Kinds.{is_free};
 ghost use Rattle.register_kinds.specs.Busy.{IsAsked, ask_by, asks_from, busy_in, held, says_of};
 ghost use Rattle.register_kinds.specs.Kept.{AreAsked};
 ghost use Rattle.register_kinds.specs.Views.{kinds_of};

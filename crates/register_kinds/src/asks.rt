@@ -1,10 +1,10 @@
 // What instructions ask of registers.
 ghost use Rattle.std.specs.Prelude.{◌≡◌, ℕ, ◌∷◌, is_some, IfSome, List};
 ghost use Rattle.cell_code.specs.declared.kind.Kind.TheVariants.{Owned};
-ghost use Rattle.sound_code.specs.Asked.{may_have, known_fields, can_take, are_places};
-ghost use Rattle.sound_code.specs.Handing.{is_lendable};
-ghost use Rattle.sound_code.specs.Kinds.{at, has, is_free, are_free, is_gone, is_scalar_of, is_owned, is_owned_of};
-ghost use Rattle.sound_code.specs.Kinds.{is_credit, is_credit_of};
+ghost use Rattle.code_rules.specs.Asked.{may_have, known_fields, can_take, are_places};
+ghost use Rattle.code_rules.specs.Handing.{is_lendable};
+ghost use Rattle.code_rules.specs.Kinds.{at, has, is_free, are_free, is_gone, is_scalar_of, is_owned, is_owned_of};
+ghost use Rattle.code_rules.specs.Kinds.{is_credit, is_credit_of};
 
 use crate::registers::Registers;
 use crate::table::Table;

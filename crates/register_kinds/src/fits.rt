@@ -1,10 +1,10 @@
 // Whether what is known fits a label map.
 ghost use Rattle.std.specs.Prelude.{◌≡◌, ◌&&◌, ℕ, Bool, List, true, Some, IfSome, length, slice_get};
 ghost use Rattle.cell_code.specs.declared.kind.Kind.{Kind as a_kind};
-ghost use Rattle.sound_code.specs.Changes.{tested, without};
-ghost use Rattle.sound_code.specs.Codes.{LabelMap};
-ghost use Rattle.sound_code.specs.Fitting.{fits, fit_all, is_subset, takes_from};
-ghost use Rattle.sound_code.specs.Kinds.{at, set_of};
+ghost use Rattle.code_rules.specs.Changes.{tested, without};
+ghost use Rattle.code_rules.specs.Codes.{LabelMap};
+ghost use Rattle.code_rules.specs.Fitting.{fits, fit_all, is_subset, takes_from};
+ghost use Rattle.code_rules.specs.Kinds.{at, set_of};
 ghost use Rattle.register_kinds.specs.Arrivals.{arrive, each_fits, fits_at, lacked_at, lessened, tested_fits};
 ghost use Rattle.register_kinds.specs.Busy.{AllSay, IsAsked, busy_in, registers_of, says_of};
 ghost use Rattle.register_kinds.specs.Kept.{KindsRise};

@@ -1,6 +1,6 @@
 // Registers that are handed over: as the fields of a Put, as results, and as arguments. Each is used up in its turn.
 ghost use Rattle.std.specs.Prelude.{◌≡◌};
-ghost use Rattle.sound_code.specs.Handing.{give, give_all, pass, pass_all, hand, hand_all, lends, lend_all, kept_if};
+ghost use Rattle.code_rules.specs.Handing.{give, give_all, pass, pass_all, hand, hand_all, lends, lend_all, kept_if};
 ghost use Rattle.register_kinds.specs.State.{handed};
 
 use crate::registers::Registers;

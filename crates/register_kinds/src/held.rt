@@ -1,8 +1,8 @@
 // Which trees are whole: the froms of each register that reads one lead to its owner, or to a register that reads it
 // too and has no from; and what came from a register of the tree reads it.
 ghost use Rattle.std.specs.Prelude.{◌≡◌, ◌⊎◌, ℕ, List, true, false, slice_get, Some, None, Option};
-ghost use Rattle.sound_code.specs.Changes.{written};
-ghost use Rattle.sound_code.specs.Kinds.{at, from_of, has};
+ghost use Rattle.code_rules.specs.Changes.{written};
+ghost use Rattle.code_rules.specs.Kinds.{at, from_of, has};
 ghost use Rattle.cell_code.specs.declared.kind.Kind.{Kind};
 ghost use Rattle.cell_code.specs.declared.kind.From.{From};
 ghost use Rattle.register_kinds.specs.Climbs.{AreKnown, AreKnownOver, AreWhole, HasOwner, IsHeld, IsWhole};

@@ -1,6 +1,6 @@
 // What is known of each register, with names for the roots of lent ones.
 ghost use Rattle.std.specs.Prelude.{◌≡◌, ◌∷◌, ◌+◌, ◌<◌, ℕ, [], set, map, drop, length, None, IfOk, IfSome};
-ghost use Rattle.sound_code.specs.Kinds.{are_free, at};
+ghost use Rattle.code_rules.specs.Kinds.{are_free, at};
 ghost use Rattle.register_kinds.specs.Owners.{number_at, root_by, rooted, swapped};
 ghost use Rattle.register_kinds.specs.Views.{kind_of, kinds_of};
 

@@ -1,14 +1,14 @@
 // What is known of one register.
 ghost use Rattle.std.specs.Prelude.{◌≡◌, ◌==◌, ℕ, true, [], ◌∷◌, is_some, IfSome, List, Some};
 ghost use Rattle.cell_code.specs.declared.kind.Kind.TheVariants as K;
-ghost use Rattle.sound_code.specs.Asked.{may_have, known_fields, only_fields, can_take};
-ghost use Rattle.sound_code.specs.Changes.{forget, forget_from, narrow};
-ghost use Rattle.sound_code.specs.Handing.{is_lendable};
-ghost use Rattle.sound_code.specs.Kinds.{is_free, is_gone, is_scalar_of, is_owned, is_owned_of, is_credit};
-ghost use Rattle.sound_code.specs.Kinds.{is_credit_of, is_lent_of, same_root, from_of, root_of, set_of};
-ghost use Rattle.sound_code.specs.Leaves.{atom_kind};
-ghost use Rattle.sound_code.specs.Taking.{inherited, with_root};
-ghost use Rattle.sound_code.specs.Types.{field_kind, lent_kind};
+ghost use Rattle.code_rules.specs.Asked.{may_have, known_fields, only_fields, can_take};
+ghost use Rattle.code_rules.specs.Changes.{forget, forget_from, narrow};
+ghost use Rattle.code_rules.specs.Handing.{is_lendable};
+ghost use Rattle.code_rules.specs.Kinds.{is_free, is_gone, is_scalar_of, is_owned, is_owned_of, is_credit};
+ghost use Rattle.code_rules.specs.Kinds.{is_credit_of, is_lent_of, same_root, from_of, root_of, set_of};
+ghost use Rattle.code_rules.specs.Leaves.{atom_kind};
+ghost use Rattle.code_rules.specs.Taking.{inherited, with_root};
+ghost use Rattle.code_rules.specs.Types.{field_kind, lent_kind};
 ghost use Rattle.register_kinds.specs.Climbs.{is_lent_in};
 ghost use Rattle.register_kinds.specs.Kept.{is_lent, leads, names};
 ghost use Rattle.register_kinds.specs.Rising.{Rise};

@@ -1,8 +1,8 @@
 // The sets of constructors of label maps: which registers have one, and what of one isn't in another.
 ghost use Rattle.std.specs.Prelude.{◌≡◌, ℕ, Some, None, set, map, slice_get, IfOk, IfSome};
-ghost use Rattle.sound_code.specs.Codes.{plain_label};
-ghost use Rattle.sound_code.specs.Fitting.{is_subset};
-ghost use Rattle.sound_code.specs.Kinds.{set_of};
+ghost use Rattle.code_rules.specs.Codes.{plain_label};
+ghost use Rattle.code_rules.specs.Fitting.{is_subset};
+ghost use Rattle.code_rules.specs.Kinds.{set_of};
 ghost use Rattle.register_kinds.specs.declared.label_sets.Origin.{Origin};
 ghost use Rattle.register_kinds.specs.LabelSets.{IsMissing, MapsRise, origin_at, pair_of, set_at};
 ghost use Rattle.register_kinds.specs.Rising.{Rise, less};
@@ -34,7 +34,7 @@ pub struct LabelSets<'a> {
 impl<'a> Model for LabelSets<'a> {
     ghost use Rattle.std.specs.BTreeMap.{get_by};
     ghost use Rattle.std.specs.Prelude.{map};
-    ghost use Rattle.sound_code.specs.Codes.{plain_label};
+    ghost use Rattle.code_rules.specs.Codes.{plain_label};
     ghost use Rattle.register_kinds.specs.LabelSets.{AreAnswers, LabelSets as Held, pair_cmp};
 
     ghost Value = { Held };

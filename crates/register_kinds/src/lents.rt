@@ -1,6 +1,6 @@
 // The registers that a step looks at.
 ghost use Rattle.std.specs.Prelude.{◌≡◌, ◌⊎◌, ℕ, ◌<◌, ◌≤◌, true, false, length, set, [], None, Some, slice_get, IfOk};
-ghost use Rattle.sound_code.specs.Kinds.{has};
+ghost use Rattle.code_rules.specs.Kinds.{has};
 ghost use Rattle.register_kinds.specs.Kept.{Grows, kept_at};
 
 use crate::marks::Marks;

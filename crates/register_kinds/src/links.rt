@@ -1,6 +1,6 @@
 // Which registers may lead to a register: came from its cell, or are lent of it.
 ghost use Rattle.std.specs.Prelude.{◌≡◌, ℕ, true, IfSome};
-ghost use Rattle.sound_code.specs.Kinds.{has};
+ghost use Rattle.code_rules.specs.Kinds.{has};
 ghost use Rattle.register_kinds.specs.Kept.{Linked};
 ghost use Rattle.register_kinds.specs.Owners.{swapped};
 

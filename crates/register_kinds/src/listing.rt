@@ -1,6 +1,6 @@
 // The registers that a step looks at: those that lead to what it changes.
 ghost use Rattle.std.specs.Prelude.{◌≡◌, ◌<◌, ◌≤◌, ℕ, true, false, [], length, None};
-ghost use Rattle.sound_code.specs.Kinds.{at, from_of, has, is_lent_of};
+ghost use Rattle.code_rules.specs.Kinds.{at, from_of, has, is_lent_of};
 ghost use Rattle.register_kinds.specs.Kept.{ClosedBelow, Gathers, Grows, kept_at, leads, names};
 ghost use Rattle.register_kinds.specs.Views.{kind_of};
 

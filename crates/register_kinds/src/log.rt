@@ -1,6 +1,6 @@
 // Which label maps were seen to fit, and what has changed since.
 ghost use Rattle.std.specs.Prelude.{◌≡◌, ℕ, true, false, None, Some, IfOk, IfSome, List, slice_get, set};
-ghost use Rattle.sound_code.specs.Kinds.{has};
+ghost use Rattle.code_rules.specs.Kinds.{has};
 ghost use Rattle.register_kinds.specs.Arrivals.{HasBut};
 ghost use Rattle.register_kinds.specs.Sights.{HasBefore};
 ghost use Rattle.register_kinds.specs.declared.log.Seen.{Seen};

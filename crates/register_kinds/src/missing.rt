@@ -1,7 +1,7 @@
 // What of one set of constructors isn't in another.
 ghost use Rattle.std.specs.Prelude.{◌≡◌, true, false, None, IfSome};
-ghost use Rattle.sound_code.specs.Fitting.{is_subset};
-ghost use Rattle.sound_code.specs.Kinds.{has};
+ghost use Rattle.code_rules.specs.Fitting.{is_subset};
+ghost use Rattle.code_rules.specs.Kinds.{has};
 ghost use Rattle.register_kinds.specs.LabelSets.{IsMissing, allows};
 ghost use Rattle.register_kinds.specs.Rising.{Rise};
 

@@ -3,10 +3,10 @@ ghost use Rattle.std.specs.Prelude.{◌≡◌, ◌<◌, ◌≤◌, ◌++◌, ℕ
 ghost use Rattle.std.specs.Prelude.{IfOk, IfSome, OnOk};
 ghost use Rattle.std.specs.Prelude.{slice_get, slice_index};
 ghost use Rattle.cell_code.specs.declared.kind.Kind.TheVariants.{Credit};
-ghost use Rattle.sound_code.specs.Codes.{LabelMap, plain_function, plain_label};
-ghost use Rattle.sound_code.specs.Entry.{entry, gones, param_kind};
-ghost use Rattle.sound_code.specs.Headers.{is_formed};
-ghost use Rattle.sound_code.specs.Kinds.{at, from_of, has, is_lent_of, set_of};
+ghost use Rattle.code_rules.specs.Codes.{LabelMap, plain_function, plain_label};
+ghost use Rattle.code_rules.specs.Entry.{entry, gones, param_kind};
+ghost use Rattle.code_rules.specs.Headers.{is_formed};
+ghost use Rattle.code_rules.specs.Kinds.{at, from_of, has, is_lent_of, set_of};
 ghost use Rattle.register_kinds.specs.Kept.{KindsRise, Linked, names};
 ghost use Rattle.register_kinds.specs.declared.label_sets.Origin.{Origin};
 ghost use Rattle.register_kinds.specs.LabelSets.{set_at};
@@ -52,7 +52,7 @@ pub struct Registers<'a> {
 
 impl<'a> Model for Registers<'a> {
     ghost use Rattle.std.specs.Prelude.{map};
-    ghost use Rattle.sound_code.specs.Codes.{plain_label};
+    ghost use Rattle.code_rules.specs.Codes.{plain_label};
     ghost use Rattle.register_kinds.specs.Kept.{IsKept};
     ghost use Rattle.register_kinds.specs.State.{RegisterState};
 

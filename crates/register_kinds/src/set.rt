@@ -2,10 +2,10 @@
 // longer one is that of a label.
 ghost use Rattle.std.specs.Prelude.{◌≡◌, ◌+◌, ◌<◌, ◌≤◌, ℕ, suc, true, false, List, [], ◌∷◌, None, IfSome};
 ghost use Rattle.std.specs.Prelude.{drop, get_or, length, take};
-ghost use Rattle.sound_code.specs.Changes.{without};
-ghost use Rattle.sound_code.specs.Fitting.{is_subset};
-ghost use Rattle.sound_code.specs.Kinds.{has};
-ghost use Rattle.sound_code.specs.Types.{numbers};
+ghost use Rattle.code_rules.specs.Changes.{without};
+ghost use Rattle.code_rules.specs.Fitting.{is_subset};
+ghost use Rattle.code_rules.specs.Kinds.{has};
+ghost use Rattle.code_rules.specs.Types.{numbers};
 ghost use Rattle.register_kinds.specs.Rising.{Rise, RiseFrom, less, beyond, is_one};
 ghost use Rattle.register_kinds.specs.Views.{constructors_in};
 

@@ -1,8 +1,8 @@
 // Which registers are listed while a cell is taken apart whose tree is whole: those whose froms or roots change one by
 // one. What else reads the tree reaches the heir that keeps its name.
 ghost use Rattle.std.specs.Prelude.{◌≡◌, ◌⊎◌, ◌<◌, ℕ, ◌&&◌, not, true, false, is_some, IfSome, Option, Some};
-ghost use Rattle.sound_code.specs.Kinds.{at, from_of, has, is_lent_of};
-ghost use Rattle.sound_code.specs.Taking.{is_heir, part};
+ghost use Rattle.code_rules.specs.Kinds.{at, from_of, has, is_lent_of};
+ghost use Rattle.code_rules.specs.Taking.{is_heir, part};
 ghost use Rattle.register_kinds.specs.Kept.{Grows, kept_at, names};
 ghost use Rattle.register_kinds.specs.Sorted.{AreGood, Candidate, IsSorted, IsTakable, Rest, listed_if, listing};
 ghost use Rattle.register_kinds.specs.Views.{kind_of};

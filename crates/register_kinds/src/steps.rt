@@ -1,13 +1,13 @@
 // What becomes of all registers where one is written, used up, moved or tested.
 ghost use Rattle.std.specs.Prelude.{◌≡◌, ◌==◌, ℕ, [], ◌∷◌, true, Some, map, set};
 ghost use Rattle.cell_code.specs.declared.kind.Kind.TheVariants.{Gone, Scalar, Owned};
-ghost use Rattle.sound_code.specs.Changes.{written, used_up, moved, tested, forget, goes};
-ghost use Rattle.sound_code.specs.Kinds.{at, has, is_lent_of, root_of, set_of};
+ghost use Rattle.code_rules.specs.Changes.{written, used_up, moved, tested, forget, goes};
+ghost use Rattle.code_rules.specs.Kinds.{at, has, is_lent_of, root_of, set_of};
 ghost use Rattle.register_kinds.specs.Kept.{Gathers, leads};
 ghost use Rattle.register_kinds.specs.declared.label_sets.Origin.{Origin};
 ghost use Rattle.register_kinds.specs.LabelSets.{set_at};
-ghost use Rattle.sound_code.specs.Leaves.{atom_kind, received};
-ghost use Rattle.sound_code.specs.Types.{field_kind, lent_kind};
+ghost use Rattle.code_rules.specs.Leaves.{atom_kind, received};
+ghost use Rattle.code_rules.specs.Types.{field_kind, lent_kind};
 ghost use Rattle.register_kinds.specs.Rising.{Rise};
 ghost use Rattle.register_kinds.specs.Steps.{forgets, lose};
 ghost use Rattle.register_kinds.specs.Views.{kind_of};

@@ -1,8 +1,8 @@
 // What the numbers of types and constructors of a code mean.
 ghost use Rattle.std.specs.Prelude.{◌≡◌, IfOk};
 ghost use Rattle.fip_language.specs.Table.{constructors};
-ghost use Rattle.sound_code.specs.Ranges.{is_constructor};
-ghost use Rattle.sound_code.specs.Types.{count, fields, is_scalar_type, is_type};
+ghost use Rattle.code_rules.specs.Ranges.{is_constructor};
+ghost use Rattle.code_rules.specs.Types.{count, fields, is_scalar_type, is_type};
 ghost use Rattle.register_kinds.specs.Kept.{IsMarked};
 
 use fip_base::plain::NoMemory;

@@ -1,9 +1,9 @@
 // Taking a cell apart: its fields go into registers, and the register that owned it keeps it as a credit.
 ghost use Rattle.std.specs.Prelude.{◌≡◌, ◌⊎◌, ◌<◌, ℕ, List, true, false, None, Some, is_some, set, length, map};
-ghost use Rattle.sound_code.specs.Asked.{known_fields};
-ghost use Rattle.sound_code.specs.Kinds.{at, has, is_lent_of, is_owned};
-ghost use Rattle.sound_code.specs.Taking.{IsTaken, IsReached, part, is_heir, is_field, part_kind, credit, ends};
-ghost use Rattle.sound_code.specs.Taking.{is_heir_by, with_root};
+ghost use Rattle.code_rules.specs.Asked.{known_fields};
+ghost use Rattle.code_rules.specs.Kinds.{at, has, is_lent_of, is_owned};
+ghost use Rattle.code_rules.specs.Taking.{IsTaken, IsReached, part, is_heir, is_field, part_kind, credit, ends};
+ghost use Rattle.code_rules.specs.Taking.{is_heir_by, with_root};
 ghost use Rattle.register_kinds.specs.Takes.{as_part, seen_at, next_at, AreReached, AreSettled, nones};
 ghost use Rattle.register_kinds.specs.Takes.{is_used, forgotten, fated, filled_by, filled_at, emptied, in_turn};
 ghost use Rattle.register_kinds.specs.Takes.{stands_for};
@@ -16,7 +16,7 @@ ghost use Rattle.register_kinds.specs.Kept.{Grows, kept_at, leads, names};
 ghost use Rattle.register_kinds.specs.declared.label_sets.Origin.{Origin};
 ghost use Rattle.register_kinds.specs.LabelSets.{set_at};
 ghost use Rattle.register_kinds.specs.Rising.{Rise};
-ghost use Rattle.sound_code.specs.Kinds.{set_of};
+ghost use Rattle.code_rules.specs.Kinds.{set_of};
 ghost use Rattle.register_kinds.specs.Views.{kind_of};
 
 use crate::held::{is_whole, mended};

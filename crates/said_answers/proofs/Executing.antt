@@ -4,12 +4,12 @@ use Rattle.std.proofs.Common.{◌≡◌, ◌∙◌, ℕ, false, List, Option, So
 use Rattle.std.specs.Prelude.{Err}
 use Rattle.std.proofs.lemmas.Option.{none-some, same_Some}
 use Rattle.fip_outside.specs.Files.{File, file_of}
-use Rattle.command_line.specs.Words.{Request, Command, Check, Exec, Eval, Tasks, Derive, Audit, Replay, Library, Gen}
+use Rattle.command_words.specs.Words.{Request, Command, Check, Exec, Eval, Tasks, Derive, Audit, Replay, Library, Gen}
 use Rattle.command_outcome.specs.declared.failure.Failure.TheVariants as F
 use Rattle.command_outcome.specs.declared.failure.Object.TheVariants as O
-use Rattle.source_commands.specs.Wanted.{Wanted, Compiled}
-use Rattle.source_commands.proofs.Once.{refused_once, refused_not_ready}
-use Rattle.run_command.specs.ExecAnswer as R
+use Rattle.command_source.specs.Wanted.{Wanted, Compiled}
+use Rattle.command_source.proofs.Once.{refused_once, refused_not_ready}
+use Rattle.command_run.specs.ExecAnswer as R
 use Rattle.command_answers.specs.Answer as A
 use Rattle.command_answers.specs.Answer.{ComesTo, OnSource}
 use Rattle.command_answers.specs.Exec as X

@@ -5,18 +5,18 @@ use Rattle.std.specs.Prelude.{Ok, Err}
 use Rattle.fip_language.specs.Meaning.{Gives}
 use Rattle.fip_language.specs.Values.{Values}
 use Rattle.fip_outside.specs.Files.{File}
-use Rattle.command_line.specs.Words.{Command, Library, Gen}
+use Rattle.command_words.specs.Words.{Command, Library, Gen}
 use Rattle.command_outcome.specs.declared.failure.Failure.{Failure}
 use Rattle.command_outcome.specs.declared.failure.Failure.TheVariants as F
-use Rattle.source_commands.specs.Wanted.{Compiled, IsCompiled, IsReady}
-use Rattle.source_commands.proofs.Once.{refused_once, refused_not_ready}
-use Rattle.eval_command.specs.EvalAnswer.{Spells}
-use Rattle.run_command.specs.ExecAnswer as R
-use Rattle.library_commands.specs.GenAnswer as M
-use Rattle.library_commands.specs.GenAnswer.{tree_source, build, gen_room}
-use Rattle.library_commands.specs.MadeTree.{gen_input, lines_of_results}
-use Rattle.library_commands.proofs.Once.{values_once}
-use Rattle.library_commands.proofs.Short.{input_short}
+use Rattle.command_source.specs.Wanted.{Compiled, IsCompiled, IsReady}
+use Rattle.command_source.proofs.Once.{refused_once, refused_not_ready}
+use Rattle.command_eval.specs.EvalAnswer.{Spells}
+use Rattle.command_run.specs.ExecAnswer as R
+use Rattle.command_library.specs.GenAnswer as M
+use Rattle.command_library.specs.GenAnswer.{tree_source, build, gen_room}
+use Rattle.command_library.specs.MadeTree.{gen_input, lines_of_results}
+use Rattle.command_library.proofs.Once.{values_once}
+use Rattle.command_library.proofs.Short.{input_short}
 use Rattle.command_answers.specs.Answer.{ComesTo}
 use Rattle.command_answers.specs.Exec as X
 use Rattle.command_answers.specs.Generating as G

@@ -3,15 +3,15 @@ use Rattle.std.proofs.Common.{◌≡◌, inl, inr, ℕ, List, Option, Some, None
 use Rattle.fip_outside.specs.Files.{File, file_of}
 use Rattle.fip_library.specs.Texts as L
 use Rattle.fip_trees.specs.Tree.{Program}
-use Rattle.command_line.specs.Words.{Room, Request, Command, Check, Verify, Upgrade, Exec, Run, Eval, Trace, Session, Tasks, Audit, Replay, Library}
+use Rattle.command_words.specs.Words.{Room, Request, Command, Check, Verify, Upgrade, Exec, Run, Eval, Trace, Session, Tasks, Audit, Replay, Library}
 use Rattle.command_outcome.specs.declared.failure.Failure.TheVariants as F
 use Rattle.command_outcome.specs.declared.failure.Object.TheVariants as O
 use Rattle.derivation_trees.specs.Trees.{Entry}
-use Rattle.proof_check.specs.Accepted.{IsDerivation}
-use Rattle.proof_text.specs.ProofText.{IsProofText}
-use Rattle.proof_text.proofs.Whole.{one_derivation}
-use Rattle.source_commands.specs.Judged.{IsProofOf}
-use Rattle.source_commands.specs.Wanted.{Wanted, Lawful, Root, IsReady}
+use Rattle.derivation_check.specs.Accepted.{IsDerivation}
+use Rattle.derivation_text.specs.ProofText.{IsProofText}
+use Rattle.derivation_text.proofs.Whole.{one_derivation}
+use Rattle.command_source.specs.Judged.{IsProofOf}
+use Rattle.command_source.specs.Wanted.{Wanted, Lawful, Root, IsReady}
 use Rattle.command_answers.specs.Answer as A
 use Rattle.command_answers.specs.Answer.{ComesTo, Does, OnSource, OnCode, DoesCode, ListsRoots, Evals, Verifies, RunsFile}
 use Rattle.command_answers.specs.Asks as Asks

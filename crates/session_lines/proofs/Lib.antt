@@ -1,1 +1,5 @@
+pub mod Tokens
+pub mod Writing
+mod Naming
+mod Splitting
 mod Reading

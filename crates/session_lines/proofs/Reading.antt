@@ -1,16 +1,16 @@
 -- The parts of a line, one behind another.
 use Rattle.std.proofs.Common.{◌≡◌, ◌∙◌, ℕ, List, [], ◌∷◌, ◌++◌, append_assoc, append-nil, refl, sym, ap, ap₂, subst, drop}
 use Rattle.fip_language.specs.Core.{Name}
-use Rattle.session_meaning.specs.Lines.{Symbol, Blank, Open, Close, Comma, Equals, Question, Minus}
-use Rattle.session_meaning.specs.Lines.{symbol, symbols, skip, word, behind, BeginsSmall, BeginsCapital, NameText, SignText}
-use Rattle.session_meaning.specs.Lines.{Written, Number, Named, NumberText, WrittenText, PartsText}
-use Rattle.session_meaning.specs.Lines.{Given, Held, Fresh, GivenText, MoreGivenText, AllGivenText, MoreNamesText, CallText, Line, Calls, Shows, GivesUp, LineText}
-use Rattle.session_meaning.proofs.OneForm.{name_once, sign_once, close_is_no_comma, given_once, all_given_once, names_once}
+use Rattle.session_semantics.specs.Lines.{Symbol, Blank, Open, Close, Comma, Equals, Question, Minus}
+use Rattle.session_semantics.specs.Lines.{symbol, symbols, skip, word, behind, BeginsSmall, BeginsCapital, NameText, SignText}
+use Rattle.session_semantics.specs.Lines.{Written, Number, Named, NumberText, WrittenText, PartsText}
+use Rattle.session_semantics.specs.Lines.{Given, Held, Fresh, GivenText, MoreGivenText, AllGivenText, MoreNamesText, CallText, Line, Calls, Shows, GivesUp, LineText}
+use Rattle.session_semantics.proofs.OneForm.{name_once, sign_once, close_is_no_comma, given_once, all_given_once, names_once}
 use Rattle.std.specs.Borrow.{Bor}
-use Rattle.call_lines.proofs.Tokens.{IsOf, of_symbol}
-use Rattle.call_lines.specs.Scanned.{IsSignOf, left}
-use Rattle.call_lines.specs.declared.scan.Scanner.{Scanner}
-use Rattle.call_lines.specs.declared.scan.Span.{Span}
+use Rattle.session_lines.proofs.Tokens.{IsOf, of_symbol}
+use Rattle.session_lines.specs.Scanned.{IsSignOf, left}
+use Rattle.session_lines.specs.declared.scan.Scanner.{Scanner}
+use Rattle.session_lines.specs.declared.scan.Span.{Span}
 use Rattle.session_lines.specs.declared.line.CallLine.{CallLine}
 use Rattle.session_lines.specs.declared.line.Line.TheVariants as R
 use Rattle.session_lines.specs.declared.line.Written.{Written as Argument}

@@ -1,8 +1,8 @@
 -- For private contracts alone: the parts of a line, as they are read one behind another.
 use Rattle.std.specs.Prelude.{◌≡◌, ℕ, List, [], ◌∷◌, ◌++◌}
 use Rattle.fip_language.specs.Core.{Name}
-use Rattle.session_meaning.specs.Lines.{Symbol, Open, NameText, SignText, Given, GivenText, MoreGivenText, AllGivenText}
-use Rattle.session_meaning.specs.Lines.{MoreNamesText, LineText, Calls, skip}
+use Rattle.session_semantics.specs.Lines.{Symbol, Open, NameText, SignText, Given, GivenText, MoreGivenText, AllGivenText}
+use Rattle.session_semantics.specs.Lines.{MoreNamesText, LineText, Calls, skip}
 use Rattle.session_lines.specs.declared.line.CallLine.{CallLine}
 use Rattle.session_lines.specs.declared.line.Written.{Written}
 use Rattle.session_lines.specs.Said.{IsGiven, AreGiven, IsCall}

@@ -6,8 +6,8 @@
 use Rattle.std.specs.Prelude.{◌≡◌, ℕ, List, [], ◌∷◌, map, drop}
 use Rattle.std.specs.Borrow.{Bor}
 use Rattle.fip_language.specs.Core.{Name}
-use Rattle.session_meaning.specs.Lines.{Given, Held, Fresh, Line, Calls, Shows, GivesUp, SpellsLine}
-use Rattle.session_meaning.specs.Lines.{WrittenText, symbols}
+use Rattle.session_semantics.specs.Lines.{Given, Held, Fresh, Line, Calls, Shows, GivesUp, SpellsLine}
+use Rattle.session_semantics.specs.Lines.{WrittenText, symbols}
 use Rattle.session_lines.specs.declared.line.CallLine.{CallLine}
 use Rattle.session_lines.specs.declared.line.Line.{Line as LineRead}
 use Rattle.session_lines.specs.declared.line.Line.TheVariants as R

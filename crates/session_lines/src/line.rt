@@ -7,15 +7,15 @@
 // An argument is a name or a value.
 ghost use Rattle.std.specs.Prelude.{◌≡◌, ◌≤◌, ℕ, List, true, false, Ok, None, IfOk, IfSome};
 ghost use Rattle.fip_language.specs.Core.{Name};
-ghost use Rattle.session_meaning.specs.Lines as L;
-ghost use Rattle.session_meaning.specs.Lines.{Symbol, GivenText, AllGivenText, MoreGivenText};
-ghost use Rattle.session_meaning.specs.Lines.{MoreNamesText, SignText, LineText, SpellsLine, symbols};
-ghost use Rattle.call_lines.specs.Scanned.{left};
+ghost use Rattle.session_semantics.specs.Lines as L;
+ghost use Rattle.session_semantics.specs.Lines.{Symbol, GivenText, AllGivenText, MoreGivenText};
+ghost use Rattle.session_semantics.specs.Lines.{MoreNamesText, SignText, LineText, SpellsLine, symbols};
+ghost use Rattle.session_lines.specs.Scanned.{left};
 ghost use Rattle.session_lines.specs.Said.{AreGiven, names_of, Says};
 ghost use Rattle.session_lines.specs.Parts.{GivenRead, MoreNames, MoreGiven, Results, AllGiven, InBrackets, LastName};
 ghost use Rattle.session_lines.specs.Parts.{CallRead};
 
-use call_lines::{Scanner, Span};
+use crate::{Scanner, Span};
 use fip_base::plain::NoMemory;
 use std::alloc::Global;
 

@@ -15,3 +15,7 @@ pub mod Sizing
 pub mod SpeltLiterals
 pub mod Steps
 pub mod TypedMatches
+pub mod SpeltBinders
+pub mod CoreOrder
+pub mod TypedOrder
+pub mod Distinct

@@ -36,8 +36,8 @@ use Rattle.type_check.specs.Faults.{fill, fill_block, fill_clauses, fill_argumen
 use Rattle.type_check.specs.Typing as Y
 use Rattle.type_check.specs.Typing.{bound_by, parameter_scope}
 use Rattle.type_check.specs.World.{World, world, fields_of}
-use Rattle.own_agreement.specs.Sized.{AreSizes, SizedHeader, IsVariable, SizedArgument, SizedArguments, SizedPattern, SizedPatterns, SizedExpression, SizedBlock, SizedClauses}
-use Rattle.own_agreement.specs.Agreement.{AreSized}
+use Rattle.ownership_agreement.specs.Sized.{AreSizes, SizedHeader, IsVariable, SizedArgument, SizedArguments, SizedPattern, SizedPatterns, SizedExpression, SizedBlock, SizedClauses}
+use Rattle.ownership_agreement.specs.Agreement.{AreSized}
 use Rattle.static_params.specs.FlatSource.{flat_source, fields, constructor, declared}
 use Rattle.source_report.specs.Report.{IsFlat, IsTyped}
 use Rattle.static_params.proofs.GoodTypes.{all_of_have}

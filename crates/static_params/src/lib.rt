@@ -3,7 +3,7 @@
 #![tactic(auto)]
 
 mod flatten;
-pub mod laws;
+pub mod theorems;
 mod specialised;
 mod table;
 

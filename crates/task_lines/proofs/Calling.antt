@@ -8,14 +8,14 @@ use Rattle.cell_code.specs.declared.code.Function.{Function}
 use Rattle.fip_language.specs.Core.{Name}
 use Rattle.fip_language.specs.Table.{Table}
 use Rattle.fip_language.specs.Values.{Values, End, More}
-use Rattle.session_meaning.specs.Lines.{Symbol, Open, SignText, NameText, symbols, skip, Parts, NoParts, MoreParts, fresh_of}
-use Rattle.session_meaning.specs.Lines.{AllGivenText, MoreGivenText, CallText}
-use Rattle.session_meaning.specs.Typed.{AreValues}
+use Rattle.session_semantics.specs.Lines.{Symbol, Open, SignText, NameText, symbols, skip, Parts, NoParts, MoreParts, fresh_of}
+use Rattle.session_semantics.specs.Lines.{AllGivenText, MoreGivenText, CallText}
+use Rattle.session_semantics.specs.Typed.{AreValues}
 use Rattle.value_text.specs.Loaded.{types_of, wanted}
 use Rattle.value_text.specs.declared.counts.Counts.{Counts}
-use Rattle.call_lines.specs.Named.{HasName}
-use Rattle.call_lines.specs.declared.scan.Scanner.{Scanner}
-use Rattle.call_lines.specs.Scanned.{left}
+use Rattle.session_lines.specs.Named.{HasName}
+use Rattle.session_lines.specs.declared.scan.Scanner.{Scanner}
+use Rattle.session_lines.specs.Scanned.{left}
 use Rattle.task_lines.specs.Called.{Called, IsCall, IsReadable}
 use Rattle.task_lines.specs.Reading.{Adds, AreAt, Further, Given, IsAt, IsCalled}
 

@@ -2,10 +2,10 @@
 use Rattle.std.proofs.Common.{◌≡◌, ◌∙◌, ◌≤◌, ◌<◌, ℕ, zero, suc, List, [], ◌∷◌, length, drop, refl, sym, ap, subst, arith}
 use Rattle.fip_language.specs.Table.{Table}
 use Rattle.fip_language.specs.Values.{Value, Values, End, More}
-use Rattle.session_meaning.specs.Lines.{Symbol, Comma, SignText, symbols}
+use Rattle.session_semantics.specs.Lines.{Symbol, Comma, SignText, symbols}
 use Rattle.value_text.specs.Single.{BeginsWith, IsPlaced, IsValueAt}
-use Rattle.call_lines.specs.declared.scan.Scanner.{Scanner}
-use Rattle.call_lines.specs.Scanned.{left}
+use Rattle.session_lines.specs.declared.scan.Scanner.{Scanner}
+use Rattle.session_lines.specs.Scanned.{left}
 use Rattle.task_lines.specs.Reading.{IsTextOf, Behind, IsAt, IsLine, IsNext, AreParams}
 use Rattle.task_lines.proofs.Arguments.{begins_with}
 

@@ -5,11 +5,11 @@ use Rattle.fip_language.specs.SoundTable.{AreTypes}
 use Rattle.fip_language.specs.Store.{count}
 use Rattle.fip_language.specs.Table.{Table}
 use Rattle.fip_language.specs.Values.{Value, Values, cells, cells_of_all}
-use Rattle.session_meaning.specs.Lines.{Symbol, Close, SignText, symbols, skip}
+use Rattle.session_semantics.specs.Lines.{Symbol, Close, SignText, symbols, skip}
 use Rattle.value_text.specs.Loaded.{types_of, wanted}
 use Rattle.value_text.specs.declared.counts.Counts.{Counts}
-use Rattle.call_lines.specs.declared.scan.Scanner.{Scanner}
-use Rattle.call_lines.specs.Scanned.{left}
+use Rattle.session_lines.specs.declared.scan.Scanner.{Scanner}
+use Rattle.session_lines.specs.Scanned.{left}
 use Rattle.task_lines.specs.Reading.{Adds, AreAt, AreParams, Closes, Given, IsAt, IsNext}
 use Rattle.task_lines.proofs.Arguments.{adds_both}
 use Rattle.task_lines.proofs.Next.{left_is}

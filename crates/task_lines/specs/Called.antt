@@ -9,10 +9,10 @@ use Rattle.fip_language.specs.Core.{Name}
 use Rattle.fip_language.specs.SoundTable.{IsSoundTable, AreTypes}
 use Rattle.fip_language.specs.Values.{Values}
 use Rattle.value_text.specs.Loaded.{types_of, AreCredits, wanted}
-use Rattle.call_lines.specs.Named.{HasName}
-use Rattle.session_meaning.specs.Lines.{Parts, SpellsTask}
-use Rattle.session_meaning.specs.Typed.{AreValues}
-use Rattle.session_meaning.specs.Turns.{most_tasks}
+use Rattle.session_lines.specs.Named.{HasName}
+use Rattle.session_semantics.specs.Lines.{Parts, SpellsTask}
+use Rattle.session_semantics.specs.Typed.{AreValues}
+use Rattle.session_semantics.specs.Turns.{most_tasks}
 
 -- a call of a function of a code, by its number
 pub record Called : Type 0 where

@@ -8,9 +8,9 @@ use Rattle.cell_store.specs.Cells.{cell_at}
 use Rattle.cell_store.specs.Made.{Loading}
 use Rattle.value_text.specs.Loaded.{live, types_of, AreZero, cell_words}
 use Rattle.value_text.specs.Standing.{StandAll}
-use Rattle.sound_code.specs.Codes.{plain}
+use Rattle.code_rules.specs.Codes.{plain}
 use Rattle.fip_tasks.specs.declared.task.Start.{Start}
-use Rattle.call_lines.specs.Named.{HasFrames}
+use Rattle.session_lines.specs.Named.{HasFrames}
 use Rattle.task_lines.specs.Called.{Called}
 use Rattle.task_lines.specs.declared.list.RunLimits.{RunLimits}
 

@@ -5,11 +5,11 @@
 use Rattle.std.specs.Prelude.{◌≡◌, List, [], ◌∷◌}
 use Rattle.cell_code.specs.declared.code.Code.{Code}
 use Rattle.cell_store.specs.Made.{Loading}
-use Rattle.sound_code.specs.Codes.{plain, plain_function}
+use Rattle.code_rules.specs.Codes.{plain, plain_function}
 use Rattle.machine_cells.specs.Small.{store_of}
-use Rattle.apart_tasks.specs.Lying.{Lying, LieApart, call_words}
+use Rattle.task_semantics.specs.Lying.{Lying, LieApart, call_words}
 use Rattle.fip_tasks.specs.declared.task.Start.{Start}
-use Rattle.call_lines.specs.Named.{HasFrames}
+use Rattle.session_lines.specs.Named.{HasFrames}
 use Rattle.task_lines.specs.Called.{Called}
 use Rattle.task_lines.specs.declared.list.RunLimits.{RunLimits}
 

@@ -2,10 +2,10 @@
 ghost use Rattle.std.specs.Prelude.{◌≡◌, ◌<◌, ◌≤◌, ◌^◌, ℕ, List, [], length, IfOk, All, Err};
 ghost use Rattle.fip_language.specs.declared.limits.TheConstants.{MOST_FIELDS};
 ghost use Rattle.fip_language.specs.Store.{Parts};
-ghost use Rattle.session_meaning.specs.Lines.{lines_of};
+ghost use Rattle.session_semantics.specs.Lines.{lines_of};
 ghost use Rattle.value_text.specs.Counting.{count_at};
 ghost use Rattle.value_text.specs.Loaded.{words_up_to};
-ghost use Rattle.call_lines.specs.Named.{AreEntries};
+ghost use Rattle.session_lines.specs.Named.{AreEntries};
 ghost use Rattle.fip_tasks.specs.Turns.{CanStart};
 ghost use Rattle.task_lines.specs.Called.{Called, IsFirstBad, IsReadable};
 ghost use Rattle.task_lines.specs.Listed.{IsListOf};
@@ -14,7 +14,7 @@ ghost use Rattle.task_lines.specs.Reading.{AreLinesOf, IsLineOf};
 ghost use Rattle.task_lines.specs.Started.{AreReady};
 
 use crate::task_line::{TaskLine, task_of};
-use call_lines::{Entries, frames_of, line_at};
+use session_lines::{Entries, frames_of, line_at};
 use cell_code::Code;
 use cell_store::Loader;
 use code_verify::Verified;

@@ -3,16 +3,16 @@ ghost use Rattle.std.specs.Prelude.{◌≡◌, ◌<◌, ◌≤◌, ℕ, List, []
 ghost use Rattle.std.specs.Prelude.{IfOk, IfSome, Ok, None, Some};
 ghost use Rattle.fip_language.specs.Values.{Value, Values, cells, cells_of_all};
 ghost use Rattle.fip_language.specs.Store.{count};
-ghost use Rattle.session_meaning.specs.Lines.{Symbol, Comma, SignText};
+ghost use Rattle.session_semantics.specs.Lines.{Symbol, Comma, SignText};
 ghost use Rattle.value_text.specs.Loaded.{AreCredits, types_of, wanted};
 ghost use Rattle.value_text.specs.Single.{BeginsWith, IsPlaced, IsValueAt};
-ghost use Rattle.call_lines.specs.Named.{AreEntries};
-ghost use Rattle.call_lines.specs.Scanned.{left};
+ghost use Rattle.session_lines.specs.Named.{AreEntries};
+ghost use Rattle.session_lines.specs.Scanned.{left};
 ghost use Rattle.task_lines.specs.Called.{Called, IsCall, IsReadable};
 ghost use Rattle.task_lines.specs.Reading.{Adds, AreAt, AreParams, Behind, Given, IsAt, IsCalled, IsLine, IsLineOf};
 ghost use Rattle.task_lines.specs.Reading.{IsNext};
 
-use call_lines::{Entries, Scanner};
+use session_lines::{Entries, Scanner};
 use cell_code::{Code, Function};
 use fip_base::plain::{NoMemory, Param};
 use fip_base::table::TypeTable;

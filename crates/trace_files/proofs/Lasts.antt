@@ -2,7 +2,7 @@
 use Rattle.std.proofs.Common.{◌≡◌, ℕ, zero, suc, ◌-◌, ◌<◌, List, [], ◌∷◌, length, map, Some, None, slice_get, refl, sym, ap, arith}
 use Rattle.std.proofs.lemmas.Option.{none-some, same_Some}
 use Rattle.cell_trace.specs.declared.trace.Event.{Event}
-use Rattle.loaded_runs.specs.TraceReading.{last_step}
+use Rattle.run_loading.specs.TraceReading.{last_step}
 use Rattle.trace_files.specs.Plain.{plain_event}
 
 at_end : (es : List Event) (k : ℕ) (e : Event) → suc k ≡ length es → slice_get es k ≡ Some e → last_step (map plain_event es) ≡ (plain_event e).step

@@ -3,7 +3,7 @@ use Rattle.std.proofs.Common.{◌≡◌, ◌≢◌, ◌∙◌, ℕ, zero, suc, �
 use Rattle.std.specs.Prelude.{◌⊎◌, ◌==◌, slice_set, replicate, if◌then◌else◌}
 use Rattle.std.proofs.lemmas.Bool.{eqb-true, eq-eqb, cases_lt}
 use Rattle.std.proofs.lemmas.Option.{none-some, same_Some}
-use Rattle.loaded_runs.specs.TraceText.{Loaded, size_at, without}
+use Rattle.run_loading.specs.TraceText.{Loaded, size_at, without}
 use Rattle.cell_trace.specs.declared.trace.LoadedCell.{LoadedCell}
 use Rattle.trace_files.specs.Plain.{plain_cell}
 use Rattle.trace_files.specs.Reading.{AreRising, left, IsLive}

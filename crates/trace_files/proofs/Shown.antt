@@ -7,11 +7,11 @@ use Rattle.std.specs.Prelude.{◌==◌, nat_eq, nat_le, slice_set, replicate, if
 use Rattle.std.proofs.lemmas.Bool.{eqb-true, eq-eqb}
 use Rattle.std.proofs.lemmas.Option.{none-some, same_Some}
 use Rattle.fip_language.specs.Store.{Cell}
-use Rattle.code_runs.specs.Cells.{Store, Change, Write, Release, cell_in, size_of, written, given_up, changed}
-use Rattle.code_runs.specs.Traces.{Event, changed_or, applied_if, replay}
-use Rattle.loaded_runs.specs.Loading.{unreleased}
-use Rattle.loaded_runs.specs.TraceText.{Loaded, Trace, size_at, without, left_by, IsChange, AreCells, AreEvents, IsTrace}
-use Rattle.loaded_runs.specs.Replaying.{place_line, lines_from, store_text, places_from, replayed}
+use Rattle.machine_semantics.specs.Cells.{Store, Change, Write, Release, cell_in, size_of, written, given_up, changed}
+use Rattle.machine_semantics.specs.Traces.{Event, changed_or, applied_if, replay}
+use Rattle.run_loading.specs.Loading.{unreleased}
+use Rattle.run_loading.specs.TraceText.{Loaded, Trace, size_at, without, left_by, IsChange, AreCells, AreEvents, IsTrace}
+use Rattle.run_loading.specs.Replaying.{place_line, lines_from, store_text, places_from, replayed}
 use Rattle.trace_files.specs.Lines.{plain, place_of, told_line, change_line, latest, told_lines}
 
 -- ---- lists with a front

@@ -4,11 +4,11 @@ use Rattle.std.specs.Prelude.{nat_le, codes, Err}
 use Rattle.std.proofs.lemmas.Bool.{le-leb}
 use Rattle.std.proofs.lemmas.List.{append-nil}
 use native.Mathlib.Nat.{pow-suc}
-use Rattle.code_runs.specs.Traces.{Event}
+use Rattle.machine_semantics.specs.Traces.{Event}
 use Rattle.cell_trace.specs.declared.error.ReadTraceError.{ReadTraceError}
 use Rattle.cell_trace.specs.declared.error.ReadTraceError.TheVariants as E
-use Rattle.loaded_runs.specs.TraceReading.{Read, Got, Bad, then_read, asked, read_number, read_exactly, read_words, read_cell, read_cells, read_event, read_events, last_step, read_end, read_steps, read_all_events, read_all_cells, read_trace}
-use Rattle.loaded_runs.specs.TraceText.{Loaded, Trace, left_by}
+use Rattle.run_loading.specs.TraceReading.{Read, Got, Bad, then_read, asked, read_number, read_exactly, read_words, read_cell, read_cells, read_event, read_events, last_step, read_end, read_steps, read_all_events, read_all_cells, read_trace}
+use Rattle.run_loading.specs.TraceText.{Loaded, Trace, left_by}
 use Rattle.trace_files.specs.Reading.{Spot, Reads, read_byte}
 
 -- ---- what follows

@@ -5,12 +5,12 @@ use Rattle.std.specs.Fmt.{decimal}
 use Rattle.std.proofs.lemmas.List.{append-nil}
 use Rattle.std.proofs.lemmas.Option.{none-some, same_Some}
 use Rattle.std.proofs.lemmas.Bool.{eqb-true, eq-eqb, leb-true, le-leb}
-use Rattle.code_runs.specs.Traces.{Event}
+use Rattle.machine_semantics.specs.Traces.{Event}
 use Rattle.cell_trace.specs.declared.trace.LoadedCell.{LoadedCell}
 use Rattle.cell_trace.specs.declared.trace.Event.{Event as a_event}
 use Rattle.cell_trace.specs.declared.trace.Trace.{Trace as Memory}
-use Rattle.loaded_runs.specs.TraceText.{Loaded, AreCells, IsTrace}
-use Rattle.loaded_runs.specs.Replaying.{fields_text, replayed}
+use Rattle.run_loading.specs.TraceText.{Loaded, AreCells, IsTrace}
+use Rattle.run_loading.specs.Replaying.{fields_text, replayed}
 use Rattle.trace_files.specs.Lines.{place_of, told_line, latest, told_lines, numbered, lines_by, words_line, IsMarked}
 use Rattle.trace_files.specs.Plain.{plain_cell, plain_event, plain_trace}
 use Rattle.trace_files.specs.Reading.{AreRising}

@@ -3,9 +3,9 @@ use Rattle.std.proofs.Common.{ℕ, suc, ◌<◌, List, [], ◌∷◌, get_or}
 use Rattle.std.specs.Prelude.{Result, Ok, Err, IfOk}
 use Rattle.cell_trace.specs.declared.error.ReadTraceError.{ReadTraceError}
 use Rattle.cell_trace.specs.declared.trace.Trace.{Trace}
-use Rattle.loaded_runs.specs.TraceText.{IsTrace}
-use Rattle.loaded_runs.specs.TraceReading.{read_trace, AreBytes}
-use Rattle.loaded_runs.proofs.Inverse.{read_is_a_trace}
+use Rattle.run_loading.specs.TraceText.{IsTrace}
+use Rattle.run_loading.specs.TraceReading.{read_trace, AreBytes}
+use Rattle.run_loading.proofs.Inverse.{read_is_a_trace}
 use Rattle.trace_files.specs.Plain.{plain_trace}
 use Rattle.trace_files.specs.Reading.{ReadsAll}
 

@@ -4,7 +4,7 @@ use Rattle.std.specs.Int.{bytes_high_first}
 use Rattle.std.proofs.lemmas.List.{append_assoc, append-nil}
 use Rattle.cell_trace.specs.declared.trace.LoadedCell.{LoadedCell}
 use Rattle.cell_trace.specs.declared.trace.Event.{Event}
-use Rattle.loaded_runs.specs.TraceText.{big_endian, words_text, cell_text, cells_text, change_text, events_text}
+use Rattle.run_loading.specs.TraceText.{big_endian, words_text, cell_text, cells_text, change_text, events_text}
 use Rattle.trace_files.specs.Plain.{plain_cell, plain_event}
 
 -- one piece behind another

@@ -4,10 +4,10 @@ use Rattle.std.specs.Prelude.{◌≡◌, ℕ, List, [], ◌∷◌, ◌++◌, Opt
 use Rattle.std.specs.Prelude.{option_and_then, if◌then◌else◌}
 use Rattle.std.specs.Fmt.{decimal}
 use Rattle.fip_language.specs.Store.{Cell}
-use Rattle.code_runs.specs.Cells.{Change, Write, Release}
-use Rattle.code_runs.specs.Traces.{Event}
-use Rattle.loaded_runs.specs.TraceText.{Loaded}
-use Rattle.loaded_runs.specs.Replaying.{live_line, free_line}
+use Rattle.machine_semantics.specs.Cells.{Change, Write, Release}
+use Rattle.machine_semantics.specs.Traces.{Event}
+use Rattle.run_loading.specs.TraceText.{Loaded}
+use Rattle.run_loading.specs.Replaying.{live_line, free_line}
 
 abbrev pub plain : Loaded → Cell
 plain c = record { tag = c.tag; fields = c.fields }

@@ -3,13 +3,13 @@
 use Rattle.std.specs.Prelude.{◌≡◌, ◌≤◌, ℕ, suc, Bool, true, false, List, [], ◌∷◌, map, Some, slice_get, Result, Ok, Err}
 use Rattle.std.specs.declared.vec.Vec.{Vec}
 use Rattle.std.specs.declared.alloc.Global.{Global}
-use Rattle.code_runs.specs.Traces as D
+use Rattle.machine_semantics.specs.Traces as D
 use Rattle.cell_trace.specs.declared.error.ReadTraceError.{ReadTraceError}
 use Rattle.cell_trace.specs.declared.error.ReadTraceError.TheVariants as E
 use Rattle.cell_trace.specs.declared.trace.LoadedCell.{LoadedCell}
 use Rattle.cell_trace.specs.declared.trace.Event.{Event}
-use Rattle.loaded_runs.specs.TraceReading.{Read, Got, Bad}
-use Rattle.loaded_runs.specs.TraceText.{Loaded, Trace}
+use Rattle.run_loading.specs.TraceReading.{Read, Got, Bad}
+use Rattle.run_loading.specs.TraceText.{Loaded, Trace}
 use Rattle.trace_files.specs.Plain.{plain_cell, plain_event}
 
 -- the bytes that are left, and the offset of the first of them

@@ -2,8 +2,8 @@
 ghost use Rattle.std.specs.Prelude.{◌≡◌, ◌≢◌, ◌<◌, ◌≤◌, ℕ, List, [], length, map, slice_get, Err, IfOk, IfSome, IfNone};
 ghost use Rattle.std.specs.Prelude.{MatchOption, None, Some};
 ghost use Rattle.cell_trace.specs.declared.trace.LoadedCell.{LoadedCell as a_cell};
-ghost use Rattle.loaded_runs.specs.TraceReading as S;
-ghost use Rattle.loaded_runs.specs.TraceText.{IsTrace, Loaded, left_by, size_at};
+ghost use Rattle.run_loading.specs.TraceReading as S;
+ghost use Rattle.run_loading.specs.TraceText.{IsTrace, Loaded, left_by, size_at};
 ghost use Rattle.cell_trace.specs.declared.error.ReadTraceError.TheVariants.{BadTrace};
 ghost use Rattle.trace_files.specs.Lines.{place_of as change_place};
 ghost use Rattle.trace_files.specs.Plain.{plain_cell, plain_event, plain_trace};

@@ -1,6 +1,6 @@
 // Bytes of a trace read from the front to the end.
 ghost use Rattle.std.specs.Prelude.{◌≡◌, ◌<◌, ◌≤◌, ◌^◌, IfOk, vec_items};
-ghost use Rattle.loaded_runs.specs.TraceReading.{read_number, read_words, read_exactly, read_end};
+ghost use Rattle.run_loading.specs.TraceReading.{read_number, read_words, read_exactly, read_end};
 ghost use Rattle.trace_files.specs.Reading.{Reads, same, nothing, read_byte};
 
 use cell_trace::ReadTraceError;

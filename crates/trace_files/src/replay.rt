@@ -1,8 +1,8 @@
 // The cells after so many steps.
 ghost use Rattle.std.specs.Prelude.{◌≡◌, ◌++◌, ℕ, Option, length, map, slice_get, OnOk, IfOk, Some, None};
 ghost use Rattle.std.specs.Fmt.{decimal};
-ghost use Rattle.loaded_runs.specs.TraceText.{IsTrace};
-ghost use Rattle.loaded_runs.specs.Replaying.{replayed, live_line, free_line};
+ghost use Rattle.run_loading.specs.TraceText.{IsTrace};
+ghost use Rattle.run_loading.specs.Replaying.{replayed, live_line, free_line};
 ghost use Rattle.cell_trace.specs.declared.trace.LoadedCell.{LoadedCell as a_cell};
 ghost use Rattle.trace_files.specs.Plain.{plain_cell, plain_event, plain_trace};
 ghost use Rattle.trace_files.specs.Reading.{AreRising};

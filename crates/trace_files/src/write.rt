@@ -1,6 +1,6 @@
 // Writing a trace.
 ghost use Rattle.std.specs.Prelude.{◌≡◌, ◌∷◌, [], ◌++◌, length, map, IfOk};
-ghost use Rattle.loaded_runs.specs.TraceText.{big_endian, words_text, cell_text, cells_text, events_text, trace_text};
+ghost use Rattle.run_loading.specs.TraceText.{big_endian, words_text, cell_text, cells_text, events_text, trace_text};
 ghost use Rattle.trace_files.specs.Plain.{plain_cell, plain_event, plain_trace};
 
 use cell_trace::{Event, LoadedCell, Trace};

@@ -8,7 +8,7 @@ mod arguments;
 mod check;
 mod expected;
 mod expressions;
-pub mod laws;
+pub mod theorems;
 mod lets;
 mod patterns;
 mod results;

@@ -12,7 +12,7 @@ use Rattle.match_knowledge.specs.declared.heads.Head.TheVariants.{Number, Tag}
 use Rattle.match_knowledge.specs.Patterns.{some_fits}
 use Rattle.match_knowledge.specs.Known.{Known, Open, Is, Knowns, NoKnowns, MoreKnowns, agrees, agree_all}
 use Rattle.match_cover.specs.Missing.{open_fields, Before, MayBe, IsMissingOf}
-use Rattle.flat_meaning.specs.Example.{lists, a_shape}
+use Rattle.instance_semantics.specs.Example.{lists, a_shape}
 use Rattle.worked_examples.specs.Matches.{two_or_none, just_one, one_or_two, literal}
 
 small_fits : (n : ℕ) → n < 9 → FitsSigned w64 (pos n)

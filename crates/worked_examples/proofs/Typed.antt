@@ -5,7 +5,7 @@ use Rattle.fip_language.specs.declared.rule.Rule.TheVariants.{E30, E31}
 use Rattle.fip_language.specs.Example.{at, here}
 use Rattle.fip_trees.specs.Least.{violation}
 use Rattle.fip_trees.specs.Tree.{Literal}
-use Rattle.flat_meaning.specs.Example.{lists, nil}
+use Rattle.instance_semantics.specs.Example.{lists, nil}
 use Rattle.type_check.specs.Faults.{type_faults, filled}
 use Rattle.worked_examples.specs.Programs.{number_with, unknown_variable}
 

@@ -2,9 +2,9 @@
 use Rattle.std.specs.Prelude.{ℕ, List, [], ◌∷◌}
 use Rattle.cell_code.specs.declared.kind.Kind.{Kind}
 use Rattle.cell_code.specs.declared.kind.Kind.TheVariants.{Gone, Owned}
-use Rattle.sound_code.specs.Codes.{PlainFunction}
-use Rattle.sound_code.specs.Example.{function_of, rev_with, nil_taken, acc_given, cons_taken, cons_put, again}
-use Rattle.sound_code.specs.Example.{cons_known}
+use Rattle.code_rules.specs.Codes.{PlainFunction}
+use Rattle.code_rules.specs.Example.{function_of, rev_with, nil_taken, acc_given, cons_taken, cons_put, again}
+use Rattle.code_rules.specs.Example.{cons_known}
 
 -- the function of the reversal
 abbrev pub rev : PlainFunction

@@ -2,7 +2,7 @@
 use Rattle.std.specs.Prelude.{[], ◌∷◌}
 use Rattle.fip_language.specs.Table.{Table}
 use Rattle.fip_trees.specs.Tree.{Program}
-use Rattle.sound_code.specs.Tables.{bool_shapes}
+use Rattle.code_rules.specs.Tables.{bool_shapes}
 
 -- False and True, which have no fields
 abbrev pub bool_alone : Table

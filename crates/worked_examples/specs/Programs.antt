@@ -6,7 +6,7 @@ use Rattle.fip_language.specs.Example.{at, here}
 use Rattle.fip_base.specs.declared.plain.Stack.{Stack}
 use Rattle.fip_trees.specs.Tree.{Argument, Variable, Literal, NoArguments, MoreArguments, Give, Operation, Call}
 use Rattle.fip_trees.specs.Tree.{Last, Let, Instance, Program}
-use Rattle.flat_meaning.specs.Example.{lists, number, ints, bound, var, nil, cons, by_list, an_owned}
+use Rattle.instance_semantics.specs.Example.{lists, number, ints, bound, var, nil, cons, by_list, an_owned}
 
 abbrev pub with_instances : List Instance → Program
 with_instances ds = record lists { instances = ds }

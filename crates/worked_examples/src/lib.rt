@@ -2,4 +2,4 @@
 // definitions that the phases and the verifier meet. Laws, no code.
 #![tactic(auto)]
 
-pub mod laws;
+pub mod theorems;

@@ -6,7 +6,7 @@ use crate::sessions::draws::Draws;
 use crate::sessions::lines::{Drawn, drawn_line};
 use fip_base::plain::NoMemory;
 use fip_session::Session;
-use source_commands::{Front, front};
+use command_source::{Front, front};
 use std::alloc::Global;
 use std::process::Abort;
 use std::test::Fail;

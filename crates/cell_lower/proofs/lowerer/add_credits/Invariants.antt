@@ -1,5 +1,5 @@
 use Rattle.std.proofs.Common.{◌≡◌, drop}
-use Rattle.lowered_code.specs.Functions.{with_credits}
+use Rattle.lowering_relation.specs.LoweredFunctions.{with_credits}
 use Rattle.cell_lower.specs.LaidProgram.{IsInRoom}
 use Rattle.cell_lower.proofs.lowerer.add_credits.Given as goal
 

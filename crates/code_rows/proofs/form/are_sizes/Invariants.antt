@@ -1,5 +1,5 @@
 use Rattle.std.proofs.Common.{◌≡◌, drop}
-use Rattle.sound_code.specs.Headers as h
+use Rattle.code_rules.specs.Headers as h
 use Rattle.code_rows.proofs.form.are_sizes.Given as goal
 
 abbrev pub invariant-loop-size : goal.invariant-loop-size

@@ -1,5 +1,5 @@
 use Rattle.std.proofs.Common.{◌≡◌, drop}
-use Rattle.sound_code.specs.Asked.{same_types}
+use Rattle.code_rules.specs.Asked.{same_types}
 use Rattle.code_rows.proofs.handing_rows.same_types.Given as goal
 
 abbrev pub invariant-loop-ty : goal.invariant-loop-ty

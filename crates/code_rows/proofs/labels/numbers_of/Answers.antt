@@ -3,7 +3,7 @@ use Rattle.std.specs.Prelude.{slice_get, option_map}
 use Rattle.std.proofs.lemmas.Option.{slice_get_read, slice_get-map}
 use Rattle.std.proofs.lemmas.List.{length-set, length-map, length-replicate}
 use Rattle.cell_code.specs.declared.kind.Label.{Label}
-use Rattle.sound_code.specs.Codes.{plain_label}
+use Rattle.code_rules.specs.Codes.{plain_label}
 use Rattle.code_rows.specs.Numbering.{IsNumberFrom}
 use Rattle.code_rows.proofs.Steps.{first_numbers, number_put, numbers_from}
 use Rattle.code_rows.proofs.labels.numbers_of.Goals as goal

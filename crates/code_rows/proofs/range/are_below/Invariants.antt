@@ -1,5 +1,5 @@
 use Rattle.std.proofs.Common.{◌≡◌, drop}
-use Rattle.sound_code.specs.Ranges.{are_below}
+use Rattle.code_rules.specs.Ranges.{are_below}
 use Rattle.code_rows.proofs.range.are_below.Given as goal
 
 abbrev pub invariant-loop-register : goal.invariant-loop-register

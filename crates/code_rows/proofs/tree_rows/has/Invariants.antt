@@ -1,5 +1,5 @@
 use Rattle.std.proofs.Common.{◌≡◌, drop}
-use Rattle.sound_code.specs.Kinds.{has}
+use Rattle.code_rules.specs.Kinds.{has}
 use Rattle.code_rows.proofs.tree_rows.has.Given as goal
 
 abbrev pub invariant-loop-register : goal.invariant-loop-register

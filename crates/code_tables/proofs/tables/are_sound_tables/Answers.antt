@@ -3,9 +3,9 @@ use Rattle.std.proofs.lemmas.Bool.{false≢true}
 use Rattle.fip_base.specs.declared.plain.NoMemory.{NoMemory}
 use Rattle.fip_language.specs.Table.{constructors}
 use Rattle.cell_code.specs.declared.code.Code.{Code}
-use Rattle.sound_code.specs.Codes.{plain}
-use Rattle.sound_code.specs.Limits.{most_types, most_functions}
-use Rattle.sound_code.specs.Tables.{AreSoundTables}
+use Rattle.code_rules.specs.Codes.{plain}
+use Rattle.code_rules.specs.Limits.{most_types, most_functions}
+use Rattle.code_rules.specs.Tables.{AreSoundTables}
 use Rattle.code_tables.specs.Apart.{apart, is_some_name, none_met, function_names}
 use Rattle.code_tables.specs.Rows.{is_bool_row, are_sound_rows}
 use Rattle.code_tables.specs.Marks.{HaveValues}

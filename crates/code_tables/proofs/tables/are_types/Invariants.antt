@@ -1,5 +1,5 @@
 use Rattle.std.proofs.Common.{◌≡◌, drop}
-use Rattle.sound_code.specs.Headers.{are_types}
+use Rattle.code_rules.specs.Headers.{are_types}
 use Rattle.code_tables.proofs.tables.are_types.Given as goal
 
 abbrev pub invariant-loop-number : goal.invariant-loop-number

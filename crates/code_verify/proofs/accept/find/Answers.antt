@@ -1,7 +1,7 @@
 use Rattle.std.proofs.Common.{◌≡◌, ◌∙◌, true, false, Some, Result, Ok, Err, IfOk, length, sym, ap}
 use Rattle.std.proofs.lemmas.Result.{IfOk-weaker}
-use Rattle.sound_code.specs.Codes.{plain, plain_function, function_at}
-use Rattle.sound_code.specs.Headers.{is_formed}
+use Rattle.code_rules.specs.Codes.{plain, plain_function, function_at}
+use Rattle.code_rules.specs.Headers.{is_formed}
 use Rattle.register_kinds.specs.State.{of_types}
 use Rattle.code_verify.specs.Finding.{IsFound, HasMachineIntsBelow}
 use Rattle.code_verify.specs.Surveying.{IsFoundOf}

@@ -1,7 +1,7 @@
 use Rattle.std.proofs.Common.{◌≡◌, ◌∙◌, ◌+◌, ◌<◌, length, sym, subst, refl, arith}
 use Rattle.std.proofs.lemmas.Grind.{common_steps}
 use Rattle.std.proofs.lemmas.List.{length-map}
-use Rattle.sound_code.specs.Codes.{plain, plain_function}
+use Rattle.code_rules.specs.Codes.{plain, plain_function}
 use Rattle.code_rows.specs.Noting.{Answers}
 use Rattle.code_verify.specs.Surveying.{OwnBelow}
 use Rattle.code_verify.proofs.OwnCalls.{none_own, own_turn}

@@ -1,5 +1,5 @@
 use Rattle.std.proofs.Common.{subst}
-use Rattle.sound_code.specs.Codes.{plain}
+use Rattle.code_rules.specs.Codes.{plain}
 use Rattle.code_verify.specs.Releasing.{AreShort}
 use Rattle.code_verify.proofs.OwnCalls.{survey_releases, survey_flows, survey_literals}
 use Rattle.code_verify.proofs.Running.{runnable, formed_at}

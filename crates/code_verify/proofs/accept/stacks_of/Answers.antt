@@ -2,7 +2,7 @@ use Rattle.std.proofs.Common.{◌∙◌, map, IfOk, subst₂}
 use Rattle.std.proofs.lemmas.Result.{IfOk-weaker}
 use Rattle.call_groups.specs.CallGraph.{rows}
 use Rattle.call_groups.specs.Stacks.{AreAsked, AreStacks}
-use Rattle.sound_code.specs.Codes.{plain}
+use Rattle.code_rules.specs.Codes.{plain}
 use Rattle.code_verify.specs.Checked.{HaveStacks}
 use Rattle.code_verify.specs.Surveying.{frame_of}
 use Rattle.code_verify.proofs.StackNumbers.{are_asked, have_stacks}

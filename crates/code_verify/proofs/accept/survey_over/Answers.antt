@@ -2,7 +2,7 @@ use Rattle.std.proofs.Common.{◌≡◌, ◌∙◌, ◌+◌, length, sym, ap, su
 use Rattle.std.proofs.lemmas.Grind.{common_steps}
 use Rattle.std.proofs.lemmas.List.{length-map}
 use Rattle.call_groups.specs.CallGraph.{rows, IsPartition}
-use Rattle.sound_code.specs.Codes.{plain, plain_function}
+use Rattle.code_rules.specs.Codes.{plain, plain_function}
 use Rattle.code_rows.specs.Noting.{better_if, Answers}
 use Rattle.code_verify.specs.Surveying.{AreRowsBelow, OtherBelow}
 use Rattle.code_verify.proofs.Surveyed.{first_survey, survey_more}

@@ -1,4 +1,4 @@
-use Rattle.sound_code.specs.Codes.{plain}
+use Rattle.code_rules.specs.Codes.{plain}
 use Rattle.code_verify.proofs.Surveyed.{IsSurveyed}
 use Rattle.code_verify.proofs.accept.survey_over.Given as goal
 

@@ -1,4 +1,4 @@
-use Rattle.sound_code.specs.Codes.{plain, plain_function}
+use Rattle.code_rules.specs.Codes.{plain, plain_function}
 use Rattle.code_verify.proofs.Forms.{form_of, labels_below, IsForm}
 use Rattle.code_verify.proofs.walk.walk.Goals as goal
 

@@ -1,6 +1,6 @@
 use Rattle.std.proofs.Common.{◌≡◌}
-use Rattle.sound_code.specs.Codes.{plain, plain_function}
-use Rattle.sound_code.specs.Handing.{kept_if}
+use Rattle.code_rules.specs.Codes.{plain, plain_function}
+use Rattle.code_rules.specs.Handing.{kept_if}
 use Rattle.code_verify.specs.Finding.{Coming, IsFound, HasMachineIntsBelow}
 use Rattle.code_verify.proofs.walk.walk_over.Given as goal
 

@@ -1,6 +1,6 @@
 use Rattle.std.proofs.lemmas.Bool.{eq-eqb}
 use Rattle.derivation_walk.specs.Walked.{same_from}
-use Rattle.derivation_walk.proofs.Steps.{same_more}
+use Rattle.derivation_walk.proofs.WalkSteps.{same_more}
 use Rattle.derivation_walk.proofs.credits.are_same.Goals as goal
 
 pub loop-size-preserved : goal.loop-size-preserved

@@ -1,7 +1,7 @@
 use Rattle.std.proofs.Common.{rules, ◌≡◌, ◌<◌, ◌≤◌, ◌++◌, ◌∷◌, [], ◌+◌, ◌-◌, List, subst, sym}
 use Rattle.derivation_trees.specs.declared.derivation.Credit as D
 use Rattle.derivation_walk.specs.Walked.{credits, credits_from}
-use Rattle.derivation_walk.proofs.Steps.{credit_some, credit_none}
+use Rattle.derivation_walk.proofs.WalkSteps.{credit_some, credit_none}
 use Rattle.derivation_walk.proofs.credits.credits_of.Goals.{then-count-gt0+in_ok-push, else-count-gt0}
 use Rattle.derivation_walk.proofs.credits.credits_of.Goals as goal
 

@@ -9,7 +9,7 @@ use Rattle.derivation_trees.specs.WholeTrees.{AreTrees}
 use Rattle.derivation_walk.specs.Guides.{IsWalked}
 use Rattle.derivation_walk.specs.Walks.{AreWalked}
 use Rattle.derivation_walk.proofs.Growing.{trees_more}
-use Rattle.derivation_walk.proofs.Rows.{Going, ruled_more, plain_more, all_walked, none_left}
+use Rattle.derivation_walk.proofs.WalkRows.{Going, ruled_more, plain_more, all_walked, none_left}
 use Rattle.derivation_walk.proofs.make.derive.Goals.{then-is_ruled+in-Ok+in_ok-push-in-Ok, else-is_ruled}
 use Rattle.derivation_walk.proofs.make.derive.Goals as goal
 

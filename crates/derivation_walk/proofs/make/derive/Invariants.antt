@@ -2,7 +2,7 @@ use Rattle.std.proofs.Common.{map, drop}
 use Rattle.fip_trees.specs.TreeView as V
 use Rattle.derivation_trees.specs.Trees.{entry}
 use Rattle.derivation_trees.specs.WholeTrees.{AreTrees}
-use Rattle.derivation_walk.proofs.Rows.{Going}
+use Rattle.derivation_walk.proofs.WalkRows.{Going}
 use Rattle.derivation_walk.proofs.make.derive.Given as goal
 
 abbrev pub invariant-loop-number : goal.invariant-loop-number

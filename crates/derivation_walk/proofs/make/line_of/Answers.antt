@@ -3,7 +3,7 @@ use Rattle.std.proofs.lemmas.Result.{err_from_is_err_and}
 use Rattle.fip_trees.specs.TreeView as V
 use Rattle.derivation_trees.specs.Building.{built, nothing_built}
 use Rattle.derivation_trees.specs.Trees.{heads}
-use Rattle.variable_uses.specs.Seen.{world_of}
+use Rattle.derivation_walk.specs.Seen.{world_of}
 use Rattle.derivation_walk.specs.Growing.{grown}
 use Rattle.derivation_walk.specs.Walked.{Guided, walked_instance}
 use Rattle.derivation_walk.proofs.Growing.{line_is, is_tree, closed_up}

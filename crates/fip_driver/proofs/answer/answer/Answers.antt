@@ -1,10 +1,10 @@
 use Rattle.std.proofs.Common.{◌≡◌, sym, subst}
 use Rattle.fip_outside.specs.Faults.{Rose}
-use Rattle.command_line.specs.View.{command_of}
+use Rattle.command_words.specs.View.{command_of}
 use Rattle.fip_driver.specs.Commands.{stored_name}
 use Rattle.fip_driver.specs.Outcome.{CommandOutcome}
 use Rattle.fip_driver.specs.Unread.{AreKept, WaitsOr}
-use Rattle.command_line.specs.Words.{IsCommand, IsTextName}
+use Rattle.command_words.specs.Words.{IsCommand, IsTextName}
 use Rattle.fip_driver.proofs.SourceEnds.{file_outcome, audit_outcome, library_ends, gen_ends}
 use Rattle.fip_driver.proofs.answer.answer.Goals as goal
 

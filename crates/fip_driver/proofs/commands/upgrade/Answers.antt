@@ -1,6 +1,6 @@
 use Rattle.std.proofs.Common.{◌≡◌, refl, subst}
-use Rattle.source_commands.specs.Codes.{IsUpgraded}
-use Rattle.command_line.specs.Words as W
+use Rattle.command_source.specs.Codes.{IsUpgraded}
+use Rattle.command_words.specs.Words as W
 use Rattle.command_outcome.specs.declared.failure.Failure.TheVariants.{BadCode}
 use Rattle.fip_driver.specs.Outcome.{end_of}
 use Rattle.fip_driver.proofs.CodeEnds.{upgrade_ends, upgrade_refused, code_ends, long_code}

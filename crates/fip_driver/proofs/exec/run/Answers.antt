@@ -1,8 +1,8 @@
 use Rattle.std.proofs.Common.{◌≡◌, refl}
-use Rattle.command_line.specs.Words as W
+use Rattle.command_words.specs.Words as W
 use Rattle.command_outcome.specs.declared.failure.Failure.TheVariants.{BadCode}
 use Rattle.fip_driver.specs.Outcome.{end_of}
-use Rattle.command_line.specs.View.{request_of}
+use Rattle.command_words.specs.View.{request_of}
 use Rattle.fip_driver.proofs.CodeEnds.{run_ends, run_refused, code_ends, long_code}
 use Rattle.fip_driver.proofs.SourceEnds.{missed_ends}
 use Rattle.fip_driver.proofs.Counted.{late_counted, source_counted, file_counted}

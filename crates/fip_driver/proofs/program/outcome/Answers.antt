@@ -1,6 +1,6 @@
 use Rattle.std.proofs.Common.{ap, subst, Err, map, string_bytes}
 use Rattle.fip_outside.specs.Faults.{Rose}
-use Rattle.command_line.specs.View.{command_of}
+use Rattle.command_words.specs.View.{command_of}
 use Rattle.fip_driver.proofs.Outcomes.{no_command_outcome, no_memory_outcome}
 use Rattle.command_outcome.specs.declared.failure.Failure.TheVariants as F
 use Rattle.fip_driver.specs.Commands.{stored_name}

@@ -1,5 +1,5 @@
 use Rattle.std.proofs.Common.{◌≡◌, refl}
-use Rattle.command_line.specs.Words as W
+use Rattle.command_words.specs.Words as W
 use Rattle.command_outcome.specs.declared.failure.Failure.TheVariants.{BadTrace}
 use Rattle.fip_driver.proofs.SourceEnds.{replay_ends, missed_ends, long_trace}
 use Rattle.fip_driver.proofs.Counted.{replay_counted, file_counted}

@@ -1,6 +1,6 @@
 -- A turn leads from a moment of the run to the next one, or to its end.
 use Rattle.std.proofs.Common.{◌∙◌, rules, arith}
-use Rattle.machine_rows.proofs.Highs.{high_raised}
+use Rattle.machine_step.proofs.Highs.{high_raised}
 use Rattle.fip_machine.specs.Along.{stored}
 use Rattle.fip_machine.proofs.Bursts.{turned_task, turned_on, turned_in, turned_out}
 use Rattle.fip_machine.proofs.stack.burst.Goals as goal

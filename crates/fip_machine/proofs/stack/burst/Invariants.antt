@@ -1,7 +1,7 @@
 -- The running frame stays in its place, and the task along its run. Each step lessens what is left of the calls, the frames and the instructions.
 use Rattle.std.proofs.Common.{◌≡◌, ◌+◌, ◌*◌, ◌<◌, ◌≤◌, length, vec_len}
-use Rattle.machine_rows.specs.Placed.{IsPlaced, IsRoomy, Waiting, weight}
-use Rattle.machine_rows.specs.Highest.{IsHigh}
+use Rattle.machine_step.specs.Placed.{IsPlaced, IsRoomy, Waiting, weight}
+use Rattle.machine_step.specs.Highest.{IsHigh}
 use Rattle.fip_machine.specs.Along.{Origin, IsAlong, task_of, stored}
 use Rattle.fip_machine.proofs.stack.burst.Given as goal
 

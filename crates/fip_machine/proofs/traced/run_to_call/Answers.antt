@@ -1,6 +1,6 @@
 -- Where no call is next, a step enters no function; where one is, the run is out of calls.
 use Rattle.std.proofs.Common.{◌∙◌, Bool, false, refl, sym, subst}
-use Rattle.machine_rows.specs.declared.rows.Stepped.{Stepped}
+use Rattle.machine_step.specs.declared.rows.Stepped.{Stepped}
 use Rattle.fip_machine.specs.Along.{calls_next}
 use Rattle.fip_machine.specs.Taped.{CameTaped, HasTape}
 use Rattle.fip_machine.proofs.Alongs.{went_with_more, ended_late_with, out_with, not_on, not_off}

@@ -3,12 +3,12 @@ use Rattle.std.proofs.Common.{◌≡◌, ◌∙◌, ℕ, suc, [], None, sym, ap,
 use Rattle.std.proofs.lemmas.List.{append-nil}
 use Rattle.cell_store.specs.Made.{Stored}
 use Rattle.cell_trace.specs.Taped.{IsTape, WasTold}
-use Rattle.code_runs.specs.Codes.{plain}
-use Rattle.code_runs.specs.Steps.{next}
+use Rattle.machine_semantics.specs.Codes.{plain}
+use Rattle.machine_semantics.specs.Steps.{next}
 use Rattle.code_verify.specs.Checked.{Checked}
 use Rattle.machine_cells.specs.Small.{IsSmall}
-use Rattle.machine_rows.specs.Coming.{Comes, KnowsAt}
-use Rattle.machine_rows.specs.Telling.{IsKnown, next_tells}
+use Rattle.machine_step.specs.Coming.{Comes, KnowsAt}
+use Rattle.machine_step.specs.Telling.{IsKnown, next_tells}
 use Rattle.fip_machine.specs.Along.{state_in}
 use Rattle.fip_machine.specs.Taped.{HasTape}
 use Rattle.fip_machine.proofs.Alongs.{stepped_with}

@@ -1,7 +1,7 @@
 use Rattle.std.proofs.Common.{[], ◌++◌, ap, refl, Err}
 use Rattle.derivation_trees.specs.Trees.{Tree, Entry, entry}
-use Rattle.proof_text.specs.Limited.{Limited}
-use Rattle.proof_text.specs.ProofText.{line_text}
+use Rattle.derivation_text.specs.Limited.{Limited}
+use Rattle.derivation_text.specs.ProofText.{line_text}
 use Rattle.fip_proof.proofs.Lengths.{line_short}
 use Rattle.fip_proof.proofs.files.add_line.Goals as goal
 

@@ -4,7 +4,7 @@ use Rattle.fip_trees.specs.TreeView as V
 use Rattle.fip_trees.specs.declared.program.Instance as A
 use Rattle.fip_rules.specs.World.{is_ruled}
 use Rattle.credit_check.proofs.Steps.{drop_item}
-use Rattle.proof_text.specs.Limited.{Limited}
+use Rattle.derivation_text.specs.Limited.{Limited}
 use Rattle.fip_proof.specs.Ready.{IsReady}
 use Rattle.fip_proof.proofs.Texts.{Written, nothing_written, line_more, plain_more, all_written, none_left, long_text, text_read, text_derived, one_error}
 use Rattle.fip_proof.proofs.files.derivation_text.Goals.{then-is_ruled+in_ok-add_line, else-is_ruled}

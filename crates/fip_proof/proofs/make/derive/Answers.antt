@@ -1,6 +1,6 @@
 use Rattle.std.proofs.lemmas.Result.{IfOk-weaker}
 use Rattle.fip_trees.specs.TreeView as V
-use Rattle.proof_check.specs.Accepted.{IsDerivation}
+use Rattle.derivation_check.specs.Accepted.{IsDerivation}
 use Rattle.derivation_trees.specs.Trees.{entries}
 use Rattle.derivation_trees.specs.declared.derivation.Derivation.{Derivation}
 use Rattle.derivation_making.specs.Made.{made_entries}

@@ -1,5 +1,5 @@
 use Rattle.std.proofs.Common.{◌≡◌, drop}
-use Rattle.laid_code.specs.Standing.{are_open}
+use Rattle.lowering_relation.specs.Standing.{are_open}
 use Rattle.lower_frame.proofs.buffer.are_open.Given as goal
 
 abbrev pub invariant-loop-kind : goal.invariant-loop-kind

@@ -1,7 +1,7 @@
 use Rattle.std.proofs.Common.{◌≡◌, ◌+◌, arith, map, Some, slice_get, get_or}
 use Rattle.std.proofs.lemmas.Option.{slice_get-get_or}
 use Rattle.cell_code.specs.declared.code.Instr.{Instr}
-use Rattle.match_code.specs.Written.{settled, place_of}
+use Rattle.lowering_relation.specs.Written.{settled, place_of}
 use Rattle.lower_frame.proofs.Frames.{mapped_on}
 use Rattle.lower_frame.proofs.Spelt.{instrs_set}
 use Rattle.lower_frame.proofs.buffer.settle_all.Goals as goal

@@ -1,5 +1,5 @@
 use Rattle.std.proofs.Common.{◌≡◌, drop, take, map, ◌++◌}
-use Rattle.match_code.specs.Written.{settled, place_of}
+use Rattle.lowering_relation.specs.Written.{settled, place_of}
 use Rattle.lower_frame.specs.Spelled.{AreInstrsSpelt}
 use Rattle.lower_frame.proofs.buffer.settle_all.Given as goal
 

@@ -1,5 +1,5 @@
 use Rattle.std.proofs.Common.{◌≡◌, drop, take, map, ◌++◌}
-use Rattle.lowered_code.specs.Known as K
+use Rattle.lowering_relation.specs.Known as K
 use Rattle.lower_frame.proofs.frame.lose_lent.Given as goal
 
 abbrev pub invariant-loop-held : goal.invariant-loop-held

@@ -1,5 +1,5 @@
 use Rattle.std.proofs.Common.{◌≡◌, drop, take, map, ◌++◌}
-use Rattle.lowered_code.specs.Functions.{unless_in}
+use Rattle.lowering_relation.specs.LoweredFunctions.{unless_in}
 use Rattle.lower_frame.proofs.frame.lose_name.Given as goal
 
 abbrev pub invariant-loop-name : goal.invariant-loop-name

@@ -1,5 +1,5 @@
 use Rattle.std.proofs.Common.{◌≡◌, drop, ◌++◌}
-use Rattle.laid_code.specs.Joins.{still_held}
+use Rattle.lowering_relation.specs.Joins.{still_held}
 use Rattle.lower_frame.proofs.frame.still_held.Given as goal
 
 abbrev pub invariant-loop-credit : goal.invariant-loop-credit

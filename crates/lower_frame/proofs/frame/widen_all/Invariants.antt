@@ -1,5 +1,5 @@
 use Rattle.std.proofs.Common.{◌≡◌, drop, take, map, ◌++◌}
-use Rattle.laid_code.specs.Matches.{widened}
+use Rattle.lowering_relation.specs.Matches.{widened}
 use Rattle.lower_frame.proofs.frame.widen_all.Given as goal
 
 abbrev pub invariant-loop-held : goal.invariant-loop-held

@@ -1,6 +1,6 @@
 use Rattle.std.proofs.Common.{rules, sym, subst, ◌+◌, arith}
 use Rattle.fip_trees.specs.TreeView.{pattern, patterns}
-use Rattle.match_code.specs.Opening.{Roomy, AllRoomy}
+use Rattle.lowering_relation.specs.Opening.{Roomy, AllRoomy}
 use Rattle.lower_frame.specs.declared.spots.Spot.{out-Spot, roll-Spot}
 use Rattle.lower_frame.specs.Positions.{spot_of, spots_of, RoomyAt}
 use Rattle.lower_frame.proofs.Frames.{item}

@@ -1,7 +1,7 @@
 use Rattle.std.proofs.Common.{◌≡◌, take}
 use Rattle.fip_trees.specs.TreeView as V
-use Rattle.match_code.specs.Growing.{AllGrow}
-use Rattle.match_code.specs.Opening.{AllRoomy}
+use Rattle.lowering_relation.specs.Growing.{AllGrow}
+use Rattle.lowering_relation.specs.Opening.{AllRoomy}
 use Rattle.lower_frame.specs.Registers.{HasRoom}
 use Rattle.lower_frame.specs.Positions.{spots_of, reaching}
 use Rattle.lower_frame.proofs.spots.+spots.Given as goal

@@ -1,5 +1,5 @@
 use Rattle.std.proofs.Common.{ap}
-use Rattle.lowered_code.specs.Known.{Known}
+use Rattle.lowering_relation.specs.Known.{Known}
 use Rattle.lower_frame.proofs.Growing.{field_added}
 use Rattle.lower_frame.proofs.spots.add_field.Goals as goal
 

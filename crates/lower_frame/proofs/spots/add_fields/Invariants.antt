@@ -1,5 +1,5 @@
 use Rattle.std.proofs.Common.{◌≡◌}
-use Rattle.match_code.specs.Growing.{AllGrow}
+use Rattle.lowering_relation.specs.Growing.{AllGrow}
 use Rattle.lower_frame.specs.Registers.{HasRoom}
 use Rattle.lower_frame.specs.Positions.{spots_of, reaching}
 use Rattle.lower_frame.proofs.spots.add_fields.Given as goal

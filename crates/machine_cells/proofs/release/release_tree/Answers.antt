@@ -4,7 +4,7 @@ use Rattle.fip_language.specs.Store.{places}
 use Rattle.cell_store.specs.Told.{Released}
 use Rattle.machine_cells.specs.Small.{IsSmall, store_of}
 use Rattle.machine_cells.specs.Pending.{HeldBut}
-use Rattle.code_runs.proofs.Reading.{tree_read}
+use Rattle.machine_semantics.proofs.Reading.{tree_read}
 use Rattle.machine_cells.proofs.Pendings.{first_held, popped, all_done}
 use Rattle.machine_cells.proofs.release.release_tree.Goals as goal
 

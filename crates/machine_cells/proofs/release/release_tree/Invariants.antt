@@ -2,8 +2,8 @@
 use Rattle.std.proofs.Common.{◌≡◌, ℕ, List, [], ◌++◌, Some, map}
 use Rattle.fip_language.specs.Store.{Placed, places}
 use Rattle.cell_store.specs.Told.{Told, Released}
-use Rattle.code_runs.specs.Cells.{Store, Release, changed_by}
-use Rattle.code_runs.specs.Trees.{tree_of}
+use Rattle.machine_semantics.specs.Cells.{Store, Release, changed_by}
+use Rattle.machine_semantics.specs.Trees.{tree_of}
 use Rattle.machine_cells.specs.Live.{work}
 use Rattle.machine_cells.specs.Small.{IsSmall, store_of}
 use Rattle.machine_cells.specs.Pending.{Held}

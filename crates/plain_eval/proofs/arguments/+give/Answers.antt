@@ -2,7 +2,7 @@ use Rattle.std.proofs.Common.{sym, ap, ◌≡◌, ◌∙◌, ◌∷◌, ◌+◌,
 use Rattle.std.proofs.lemmas.List.{drop_more, drop_all}
 use Rattle.fip_trees.specs.TreeView.{argument, arguments}
 use Rattle.fip_trees.proofs.TreeViews.{argument_constructor}
-use Rattle.flat_meaning.specs.Meaning.{argument_value, argument_values}
+use Rattle.instance_semantics.specs.Meaning.{argument_value, argument_values}
 use Rattle.plain_rows.proofs.Standing.{more_same, more_on}
 use Rattle.plain_rows.proofs.Loaded.{on_ok}
 use Rattle.plain_eval.specs.Giving.{GivesOne, GivesAll}

@@ -1,7 +1,7 @@
 use Rattle.std.proofs.Common.{List, drop}
 use Rattle.fip_language.specs.Meaning.{Environment}
 use Rattle.fip_trees.specs.TreeView.{arguments}
-use Rattle.flat_meaning.specs.Meaning.{argument_values}
+use Rattle.instance_semantics.specs.Meaning.{argument_values}
 use Rattle.plain_rows.specs.declared.store.Value.{Value}
 use Rattle.plain_rows.specs.declared.store.Store.{Store}
 use Rattle.plain_rows.specs.Rows.{More}

@@ -1,6 +1,6 @@
 use Rattle.std.proofs.Common.{rules, refl, sym, ap, ◌∙◌, ◌∷◌, subst, Bool, true, false, arith}
 use Rattle.fip_trees.specs.TreeView.{pattern}
-use Rattle.flat_meaning.specs.Matching.{matching}
+use Rattle.instance_semantics.specs.Matching.{matching}
 use Rattle.plain_rows.specs.Rows.{count_rows}
 use Rattle.plain_rows.proofs.Standing.{sides}
 use Rattle.plain_eval.specs.Choosing.{Matches}

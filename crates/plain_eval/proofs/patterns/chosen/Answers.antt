@@ -1,7 +1,7 @@
 use Rattle.std.proofs.Common.{refl, sym, ap, ◌∙◌, ◌≡◌, ◌∷◌, ◌+◌, subst, Some, None, arith, drop}
 use Rattle.std.proofs.lemmas.List.{drop_more, drop_all}
 use Rattle.fip_trees.specs.TreeView.{clause, clauses}
-use Rattle.flat_meaning.specs.Matching.{matching}
+use Rattle.instance_semantics.specs.Matching.{matching}
 use Rattle.plain_eval.specs.Choosing.{Tries, Chooses}
 use Rattle.plain_eval.specs.Work.{block_size, clauses_size}
 use Rattle.plain_eval.proofs.Choosing.{tried_some, tried_none}

@@ -2,7 +2,7 @@ use Rattle.std.proofs.Common.{refl, sym, ap, ◌∙◌, subst, Bool, None}
 use Rattle.fip_trees.specs.declared.program.Clause.{out-Clause}
 use Rattle.fip_trees.specs.TreeView.{Case, pattern, block}
 use Rattle.fip_trees.proofs.TreeViews.{clause_is}
-use Rattle.flat_meaning.specs.Matching.{matching}
+use Rattle.instance_semantics.specs.Matching.{matching}
 use Rattle.plain_eval.specs.Slots.{KeepsAll}
 use Rattle.plain_eval.specs.Choosing.{Matches, Tries}
 use Rattle.plain_eval.proofs.Slots.{back_covers}

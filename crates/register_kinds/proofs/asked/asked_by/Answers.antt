@@ -1,6 +1,6 @@
 use Rattle.std.proofs.Common.{◌+◌, sym, ap, ◌∙◌, length, map, subst}
 use Rattle.std.specs.Prelude.{slice_get}
-use Rattle.sound_code.specs.Codes.{plain_label}
+use Rattle.code_rules.specs.Codes.{plain_label}
 use Rattle.register_kinds.specs.Kept.{AreAsked}
 use Rattle.register_kinds.proofs.Arriving.{label_get}
 use Rattle.register_kinds.proofs.AskedMaps.{asked_more, long_one}

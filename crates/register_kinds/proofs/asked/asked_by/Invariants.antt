@@ -1,5 +1,5 @@
 use Rattle.std.proofs.Common.{◌≡◌, length, map}
-use Rattle.sound_code.specs.Codes.{plain_label}
+use Rattle.code_rules.specs.Codes.{plain_label}
 use Rattle.register_kinds.specs.Kept.{AreAsked}
 use Rattle.register_kinds.proofs.asked.asked_by.Given as goal
 

@@ -1,5 +1,5 @@
 use Rattle.std.proofs.Common.{◌≡◌, drop}
-use Rattle.sound_code.specs.Fitting.{fit_all}
+use Rattle.code_rules.specs.Fitting.{fit_all}
 use Rattle.register_kinds.specs.Arrivals.{arrive}
 use Rattle.register_kinds.proofs.fits.all_fit.Given as goal
 

@@ -1,5 +1,5 @@
 use Rattle.std.proofs.Common.{sym, ◌∙◌}
-use Rattle.sound_code.specs.Kinds.{set_of}
+use Rattle.code_rules.specs.Kinds.{set_of}
 use Rattle.std.proofs.Common.{subst}
 use Rattle.register_kinds.specs.Rising.{Rise}
 use Rattle.register_kinds.specs.Views.{kind_of}

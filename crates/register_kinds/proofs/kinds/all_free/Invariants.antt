@@ -1,5 +1,5 @@
 use Rattle.std.proofs.Common.{◌≡◌, drop}
-use Rattle.sound_code.specs.Kinds.{are_free}
+use Rattle.code_rules.specs.Kinds.{are_free}
 use Rattle.register_kinds.specs.Views.{kinds_of}
 use Rattle.register_kinds.proofs.kinds.all_free.Given as goal
 

@@ -1,6 +1,6 @@
 use Rattle.std.proofs.Common.{◌≡◌, ℕ, drop, length}
 use Rattle.std.specs.Prelude.{true, Some, slice_get}
-use Rattle.sound_code.specs.Kinds.{has}
+use Rattle.code_rules.specs.Kinds.{has}
 use Rattle.register_kinds.specs.Kept.{kept_at}
 use Rattle.register_kinds.proofs.lents.clear_each.Given as goal
 

@@ -1,6 +1,6 @@
 use Rattle.std.proofs.Common.{◌≡◌, inl, inr, ◌∙◌, subst, arith}
 use Rattle.std.specs.Prelude.{true}
-use Rattle.sound_code.specs.Kinds.{has}
+use Rattle.code_rules.specs.Kinds.{has}
 use Rattle.register_kinds.proofs.LentLists.{below_next, grows_has, grows_on}
 use Rattle.register_kinds.proofs.listing.list_all.Goals as goal
 

@@ -1,6 +1,6 @@
 use Rattle.std.proofs.Common.{◌≡◌, ◌+◌, inl, inr, sym, ap, ◌∙◌, subst, drop, arith}
 use Rattle.std.specs.Prelude.{true, slice_index}
-use Rattle.sound_code.specs.Kinds.{at, has}
+use Rattle.code_rules.specs.Kinds.{at, has}
 use Rattle.register_kinds.specs.Kept.{leads}
 use Rattle.register_kinds.proofs.LentLists.{grows_has, grows_on}
 use Rattle.register_kinds.proofs.Places.{drop_index}

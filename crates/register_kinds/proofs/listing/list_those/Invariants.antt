@@ -1,6 +1,6 @@
 use Rattle.std.proofs.Common.{◌≡◌, ◌⊎◌, ℕ, ◌<◌, drop}
 use Rattle.std.specs.Prelude.{true}
-use Rattle.sound_code.specs.Kinds.{at, has}
+use Rattle.code_rules.specs.Kinds.{at, has}
 use Rattle.register_kinds.specs.Kept.{Grows, leads}
 use Rattle.register_kinds.proofs.listing.list_those.Given as goal
 

@@ -1,6 +1,6 @@
 use Rattle.std.proofs.Common.{◌≡◌, ◌⊎◌, ℕ, drop}
 use Rattle.std.specs.Prelude.{true, false}
-use Rattle.sound_code.specs.Kinds.{at, has}
+use Rattle.code_rules.specs.Kinds.{at, has}
 use Rattle.register_kinds.specs.Kept.{leads}
 use Rattle.register_kinds.proofs.listing.none_leads.Given as goal
 

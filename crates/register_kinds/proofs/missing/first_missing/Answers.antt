@@ -1,7 +1,7 @@
 use Rattle.std.proofs.Common.{sym, ◌∙◌, ◌+◌, ap, subst, drop, refl, slice_index_or, arith}
 use Rattle.std.specs.Prelude.{None}
-use Rattle.sound_code.specs.Fitting.{is_subset}
-use Rattle.sound_code.specs.Kinds.{has}
+use Rattle.code_rules.specs.Fitting.{is_subset}
+use Rattle.code_rules.specs.Kinds.{has}
 use Rattle.register_kinds.specs.Rising.{Rise, beyond}
 use Rattle.register_kinds.proofs.Sets.{has_at}
 use Rattle.register_kinds.proofs.Subsets.{drop_one, has_beyond, least_is, one_more, or_more, own_first, rise_less, rise_beyond}

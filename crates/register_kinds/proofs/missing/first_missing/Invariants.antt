@@ -1,7 +1,7 @@
 use Rattle.std.proofs.Common.{◌≡◌, ℕ, drop}
 use Rattle.std.specs.Prelude.{true}
-use Rattle.sound_code.specs.Fitting.{is_subset}
-use Rattle.sound_code.specs.Kinds.{has}
+use Rattle.code_rules.specs.Fitting.{is_subset}
+use Rattle.code_rules.specs.Kinds.{has}
 use Rattle.register_kinds.specs.Rising.{Rise}
 use Rattle.register_kinds.proofs.missing.first_missing.Given as goal
 

@@ -1,5 +1,5 @@
 use Rattle.std.proofs.Common.{◌∙◌, ◌+◌, ◌-◌, ◌++◌, ap}
-use Rattle.sound_code.specs.Entry.{gones}
+use Rattle.code_rules.specs.Entry.{gones}
 use Rattle.register_kinds.specs.Views.{kinds_of}
 use Rattle.register_kinds.proofs.Entered.{gones_step}
 use Rattle.register_kinds.proofs.registers.add_gones.Goals as goal

@@ -1,5 +1,5 @@
 use Rattle.std.proofs.Common.{sym}
-use Rattle.sound_code.specs.Codes.{plain_label}
+use Rattle.code_rules.specs.Codes.{plain_label}
 use Rattle.register_kinds.proofs.Arriving.{label_get}
 use Rattle.register_kinds.proofs.registers.map_of.Goals as goal
 

@@ -1,5 +1,5 @@
 use Rattle.std.proofs.Common.{◌≡◌, ◌++◌, drop, map}
-use Rattle.sound_code.specs.Entry.{param_kind}
+use Rattle.code_rules.specs.Entry.{param_kind}
 use Rattle.register_kinds.specs.Views.{kinds_of}
 use Rattle.register_kinds.proofs.registers.param_kinds.Given as goal
 

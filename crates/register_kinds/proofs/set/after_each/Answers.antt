@@ -1,5 +1,5 @@
 use Rattle.std.proofs.Common.{sym, ◌∙◌, ◌+◌, ap, subst, drop, arith}
-use Rattle.sound_code.specs.Fitting.{is_subset}
+use Rattle.code_rules.specs.Fitting.{is_subset}
 use Rattle.register_kinds.specs.Rising.{Rise, less}
 use Rattle.register_kinds.proofs.Subsets.{drop_one, rise_less}
 use Rattle.register_kinds.proofs.set.after_each.Goals as goal

@@ -1,5 +1,5 @@
 use Rattle.std.proofs.Common.{◌≡◌, ◌≤◌, ◌-◌, drop}
-use Rattle.sound_code.specs.Fitting.{is_subset}
+use Rattle.code_rules.specs.Fitting.{is_subset}
 use Rattle.register_kinds.specs.Rising.{Rise, less}
 use Rattle.register_kinds.proofs.set.after_each.Given as goal
 

@@ -1,6 +1,6 @@
 use Rattle.std.proofs.Common.{sym, ◌∙◌, ◌-◌, ap, subst, drop}
 use Rattle.std.proofs.lemmas.List.{take_rest}
-use Rattle.sound_code.specs.Fitting.{is_subset}
+use Rattle.code_rules.specs.Fitting.{is_subset}
 use Rattle.register_kinds.specs.Rising.{Rise, less}
 use Rattle.register_kinds.proofs.Pieces.{alike, rise_drop}
 use Rattle.register_kinds.proofs.set.after_piece.Goals as goal

@@ -1,7 +1,7 @@
 use Rattle.std.proofs.Common.{sym, ◌∙◌, ◌+◌, ◌-◌, ap, subst, arith}
 use Rattle.std.specs.Prelude.{false}
-use Rattle.sound_code.specs.Fitting.{is_subset}
-use Rattle.sound_code.specs.Types.{numbers}
+use Rattle.code_rules.specs.Fitting.{is_subset}
+use Rattle.code_rules.specs.Types.{numbers}
 use Rattle.register_kinds.specs.Rising.{RiseFrom}
 use Rattle.register_kinds.proofs.Subsets.{without_more, but_one_with, rise_at_beyond, numbers_beyond}
 use Rattle.register_kinds.proofs.set.all_but_one_among.Goals as goal

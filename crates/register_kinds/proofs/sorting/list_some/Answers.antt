@@ -1,7 +1,7 @@
 use Rattle.std.proofs.Common.{◌≡◌, ◌+◌, inl, inr, sym, ap, ◌∙◌, subst, drop, arith}
 use Rattle.std.specs.Prelude.{true, slice_index, Some}
-use Rattle.sound_code.specs.Kinds.{at, has}
-use Rattle.sound_code.specs.Taking.{part}
+use Rattle.code_rules.specs.Kinds.{at, has}
+use Rattle.code_rules.specs.Taking.{part}
 use Rattle.register_kinds.specs.Sorted.{listing}
 use Rattle.register_kinds.proofs.Changed.{not_true}
 use Rattle.register_kinds.proofs.LentLists.{grows_has, grows_on}

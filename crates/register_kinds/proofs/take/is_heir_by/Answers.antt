@@ -1,5 +1,5 @@
 use Rattle.std.proofs.Common.{sym, ◌∙◌, ap}
-use Rattle.sound_code.specs.Taking.{part}
+use Rattle.code_rules.specs.Taking.{part}
 use Rattle.register_kinds.specs.Kept.{names}
 use Rattle.register_kinds.specs.Views.{kind_of}
 use Rattle.register_kinds.proofs.TakenKinds.{no_heir_by}

@@ -1,5 +1,5 @@
 use Rattle.std.proofs.Common.{◌≡◌, drop}
-use Rattle.sound_code.specs.Taking.{part, part_from}
+use Rattle.code_rules.specs.Taking.{part, part_from}
 use Rattle.register_kinds.proofs.take.piece_of.Given as goal
 
 abbrev pub invariant-loop-part : goal.invariant-loop-part

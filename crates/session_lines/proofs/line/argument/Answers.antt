@@ -1,6 +1,6 @@
 use Rattle.std.proofs.Common.{◌∙◌, drop, refl, sym, ap, subst}
-use Rattle.session_meaning.specs.Lines.{symbols, Held}
-use Rattle.call_lines.specs.Scanned.{left}
+use Rattle.session_semantics.specs.Lines.{symbols, Held}
+use Rattle.session_lines.specs.Scanned.{left}
 use Rattle.session_lines.specs.declared.line.Written.TheVariants as W
 use Rattle.session_lines.specs.Parts.{GivenRead}
 use Rattle.session_lines.proofs.Reading.{value_read}

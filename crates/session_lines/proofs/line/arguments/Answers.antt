@@ -2,10 +2,10 @@ use Rattle.std.proofs.Common.{◌∙◌, ap, subst}
 use Rattle.std.specs.Prelude.{Ok, IfSome}
 use Rattle.std.specs.declared.alloc.Global.{Global}
 use Rattle.std.specs.declared.vec.Vec.{Vec}
-use Rattle.session_meaning.specs.Lines.{Open, AllGivenText}
-use Rattle.session_meaning.proofs.OneForm.{sign_once}
-use Rattle.call_lines.specs.Scanned.{left}
-use Rattle.call_lines.proofs.Tokens.{sign_open}
+use Rattle.session_semantics.specs.Lines.{Open, AllGivenText}
+use Rattle.session_semantics.proofs.OneForm.{sign_once}
+use Rattle.session_lines.specs.Scanned.{left}
+use Rattle.session_lines.proofs.Tokens.{sign_open}
 use Rattle.session_lines.specs.declared.line.Written.{Written as Argument}
 use Rattle.session_lines.specs.Said.{AreGiven}
 use Rattle.session_lines.specs.Parts.{AllGiven}

@@ -3,7 +3,7 @@ use Rattle.std.specs.Prelude.{Ok, IfOk, IfSome}
 use Rattle.std.specs.Borrow.{Bor}
 use Rattle.std.specs.declared.alloc.Global.{Global}
 use Rattle.std.specs.declared.vec.Vec.{Vec}
-use Rattle.call_lines.specs.Scanned.{left}
+use Rattle.session_lines.specs.Scanned.{left}
 use Rattle.session_lines.specs.Said.{names_of}
 use Rattle.session_lines.specs.Parts.{Results, CallRead}
 use Rattle.session_lines.proofs.Reading.{no_call}

@@ -2,8 +2,8 @@ use Rattle.std.proofs.Common.{◌∙◌, List, refl, ap, subst}
 use Rattle.std.specs.Prelude.{Ok, IfSome}
 use Rattle.std.specs.declared.alloc.Global.{Global}
 use Rattle.std.specs.declared.vec.Vec.{Vec}
-use Rattle.session_meaning.specs.Lines.{Given}
-use Rattle.call_lines.specs.Scanned.{left}
+use Rattle.session_semantics.specs.Lines.{Given}
+use Rattle.session_lines.specs.Scanned.{left}
 use Rattle.session_lines.specs.declared.line.CallLine.{CallLine}
 use Rattle.session_lines.specs.declared.line.Written.{Written as Argument}
 use Rattle.session_lines.specs.Said.{AreGiven, names_of}

@@ -1,7 +1,7 @@
 use Rattle.std.proofs.Common.{◌∙◌, ◌∷◌, ◌++◌, [], List, refl, sym, ap, subst}
-use Rattle.session_meaning.specs.Lines.{Close, GivenText}
-use Rattle.call_lines.specs.Scanned.{left}
-use Rattle.call_lines.proofs.Tokens.{sign_close}
+use Rattle.session_semantics.specs.Lines.{Close, GivenText}
+use Rattle.session_lines.specs.Scanned.{left}
+use Rattle.session_lines.proofs.Tokens.{sign_close}
 use Rattle.session_lines.specs.declared.line.Written.{Written as Argument}
 use Rattle.session_lines.specs.Parts.{GivenRead, MoreGiven}
 use Rattle.session_lines.proofs.Reading.{none_given, no_first, all_given, no_further}

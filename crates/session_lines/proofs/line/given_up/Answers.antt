@@ -1,6 +1,6 @@
 use Rattle.std.proofs.Common.{refl}
-use Rattle.session_meaning.specs.Lines.{GivesUp}
-use Rattle.call_lines.specs.Scanned.{left}
+use Rattle.session_semantics.specs.Lines.{GivesUp}
+use Rattle.session_lines.specs.Scanned.{left}
 use Rattle.session_lines.proofs.Reading.{no_other_given_up}
 use Rattle.session_lines.proofs.line.given_up.Goals as goal
 

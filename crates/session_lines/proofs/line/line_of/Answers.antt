@@ -1,7 +1,7 @@
 use Rattle.std.proofs.Common.{◌≡◌, ◌∙◌, sym, ap, subst}
 use Rattle.std.specs.Prelude.{Ok, None, IfSome}
-use Rattle.session_meaning.specs.Lines.{symbols, Question, Minus, SignText, LineText, Calls}
-use Rattle.call_lines.specs.Scanned.{left}
+use Rattle.session_semantics.specs.Lines.{symbols, Question, Minus, SignText, LineText, Calls}
+use Rattle.session_lines.specs.Scanned.{left}
 use Rattle.session_lines.specs.declared.line.CallLine.{CallLine}
 use Rattle.session_lines.specs.Parts.{CallRead}
 use Rattle.session_lines.proofs.Reading.{start_left, call_says, no_other, sign_question, sign_minus}

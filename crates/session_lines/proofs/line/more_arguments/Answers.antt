@@ -1,7 +1,7 @@
 use Rattle.std.proofs.Common.{◌∙◌, refl, sym, subst}
-use Rattle.session_meaning.specs.Lines.{Comma, Close, SignText}
-use Rattle.call_lines.specs.Scanned.{left}
-use Rattle.call_lines.proofs.Tokens.{sign_comma, sign_close}
+use Rattle.session_semantics.specs.Lines.{Comma, Close, SignText}
+use Rattle.session_lines.specs.Scanned.{left}
+use Rattle.session_lines.proofs.Tokens.{sign_comma, sign_close}
 use Rattle.session_lines.specs.Parts.{GivenRead}
 use Rattle.session_lines.proofs.Reading.{giving_on, giving_ends, no_given_more, no_close}
 use Rattle.session_lines.proofs.line.more_arguments.Goals as goal

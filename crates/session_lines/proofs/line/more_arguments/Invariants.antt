@@ -1,5 +1,5 @@
 use Rattle.std.proofs.Common.{◌≡◌, ◌-◌, length}
-use Rattle.call_lines.specs.Scanned.{left}
+use Rattle.session_lines.specs.Scanned.{left}
 use Rattle.session_lines.proofs.Reading.{Giving}
 use Rattle.session_lines.proofs.line.more_arguments.Given as goal
 

@@ -1,7 +1,7 @@
 use Rattle.std.proofs.Common.{◌∙◌, refl, sym, subst}
-use Rattle.session_meaning.specs.Lines.{Comma, Equals, SignText}
-use Rattle.call_lines.specs.Scanned.{left}
-use Rattle.call_lines.proofs.Tokens.{sign_comma}
+use Rattle.session_semantics.specs.Lines.{Comma, Equals, SignText}
+use Rattle.session_lines.specs.Scanned.{left}
+use Rattle.session_lines.proofs.Tokens.{sign_comma}
 use Rattle.session_lines.specs.Said.{names_of}
 use Rattle.session_lines.proofs.Reading.{naming_on, naming_ends, no_name_more, no_equals, one_name_more, sign_equals}
 use Rattle.session_lines.proofs.line.more_results.Goals as goal

@@ -1,7 +1,7 @@
 use Rattle.std.proofs.Common.{◌∙◌, ◌∷◌, ◌++◌, [], List, ap}
 use Rattle.std.specs.Borrow.{Bor}
 use Rattle.std.proofs.Common.{ℕ}
-use Rattle.call_lines.specs.Scanned.{left}
+use Rattle.session_lines.specs.Scanned.{left}
 use Rattle.session_lines.specs.Said.{names_of}
 use Rattle.session_lines.proofs.Reading.{results_read, no_more_results}
 use Rattle.session_lines.proofs.line.results.Goals as goal

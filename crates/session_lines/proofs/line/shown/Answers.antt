@@ -1,6 +1,6 @@
 use Rattle.std.proofs.Common.{refl}
-use Rattle.session_meaning.specs.Lines.{Shows}
-use Rattle.call_lines.specs.Scanned.{left}
+use Rattle.session_semantics.specs.Lines.{Shows}
+use Rattle.session_lines.specs.Scanned.{left}
 use Rattle.session_lines.proofs.Reading.{no_other_shown}
 use Rattle.session_lines.proofs.line.shown.Goals as goal
 

@@ -5,10 +5,10 @@ use Rattle.std.specs.declared.vec.Vec.{Vec}
 use Rattle.std.proofs.Common.{ℕ}
 use Rattle.fip_base.specs.declared.plain.Param.{Param}
 use Rattle.fip_language.specs.Store.{count}
-use Rattle.session_meaning.specs.Lines.{Open}
+use Rattle.session_semantics.specs.Lines.{Open}
 use Rattle.value_text.specs.Loaded.{types_of, AreCredits}
-use Rattle.call_lines.specs.Scanned.{left}
-use Rattle.call_lines.proofs.Tokens.{sign_open}
+use Rattle.session_lines.specs.Scanned.{left}
+use Rattle.session_lines.proofs.Tokens.{sign_open}
 use Rattle.task_lines.specs.Reading.{Adds, AreParams}
 use Rattle.task_lines.proofs.Next.{moved}
 use Rattle.task_lines.proofs.Values.{IsReadAll, adds_wanted}

@@ -1,5 +1,5 @@
 use Rattle.std.proofs.Common.{◌≡◌, ◌-◌}
-use Rattle.loaded_runs.specs.TraceReading.{then_read, read_number, read_cells}
+use Rattle.run_loading.specs.TraceReading.{then_read, read_number, read_cells}
 use Rattle.trace_files.specs.Reading.{cells_of}
 use Rattle.trace_files.proofs.Live.{UpTo}
 use Rattle.trace_files.proofs.Steps.{with_front}

@@ -1,5 +1,5 @@
 use Rattle.std.proofs.Common.{◌≡◌, ◌-◌, length, map}
-use Rattle.loaded_runs.specs.TraceReading.{then_read, read_number, read_events}
+use Rattle.run_loading.specs.TraceReading.{then_read, read_number, read_events}
 use Rattle.trace_files.specs.Plain.{plain_cell}
 use Rattle.trace_files.specs.Reading.{events_of, left}
 use Rattle.trace_files.proofs.Steps.{with_front}

@@ -1,6 +1,6 @@
 use Rattle.std.proofs.Common.{◌≡◌, ℕ, List, [], map, subst}
-use Rattle.loaded_runs.specs.TraceReading.{Got, then_read, read_number, read_events, read_steps}
-use Rattle.loaded_runs.specs.TraceText.{Loaded}
+use Rattle.run_loading.specs.TraceReading.{Got, then_read, read_number, read_events, read_steps}
+use Rattle.run_loading.specs.TraceText.{Loaded}
 use Rattle.trace_files.specs.Plain.{plain_cell, plain_event, plain_trace}
 use Rattle.trace_files.specs.Reading.{cells_of, events_of}
 use Rattle.trace_files.proofs.Steps.{whole_got}

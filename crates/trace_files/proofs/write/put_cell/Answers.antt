@@ -1,5 +1,5 @@
 use Rattle.std.proofs.Common.{◌≡◌, ◌∙◌, ◌%◌, [], ◌∷◌, ◌++◌, ap, length}
-use Rattle.loaded_runs.specs.TraceText.{big_endian, words_text}
+use Rattle.run_loading.specs.TraceText.{big_endian, words_text}
 use Rattle.trace_files.proofs.Writing.{one_byte, then_put}
 use Rattle.trace_files.proofs.write.put_cell.Goals as goal
 

@@ -1,6 +1,6 @@
 -- With what is left to write the text is that of the end.
 use Rattle.std.proofs.Common.{◌≡◌, ◌++◌, map, drop}
-use Rattle.loaded_runs.specs.TraceText.{cells_text}
+use Rattle.run_loading.specs.TraceText.{cells_text}
 use Rattle.trace_files.specs.Plain.{plain_cell}
 use Rattle.trace_files.proofs.write.put_cells.Given as goal
 

@@ -1,6 +1,6 @@
 -- With what is left to write the text is that of the end.
 use Rattle.std.proofs.Common.{◌≡◌, ◌++◌, drop}
-use Rattle.loaded_runs.specs.TraceText.{words_text}
+use Rattle.run_loading.specs.TraceText.{words_text}
 use Rattle.trace_files.proofs.write.put_words.Given as goal
 
 abbrev pub invariant-loop-i : goal.invariant-loop-i

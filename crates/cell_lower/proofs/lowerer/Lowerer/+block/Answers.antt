@@ -5,8 +5,8 @@ use Rattle.fip_trees.specs.declared.program.Binding.{out-Binding}
 use Rattle.fip_trees.specs.declared.program.Clause.{out-Clause}
 use Rattle.fip_trees.specs.declared.program.Expression.{the_lemmas}
 use Rattle.fip_trees.specs.TreeView.{arguments, binding, block, clause, clauses, expression}
-use Rattle.lowered_code.specs.Bodies.{with_names}
-use Rattle.match_code.specs.WellMatched.{WellMatched}
+use Rattle.lowering_relation.specs.LoweredBodies.{with_names}
+use Rattle.lowering_relation.specs.WellMatched.{WellMatched}
 use Rattle.cell_lower.specs.declared.lowerer.Context.{Context}
 use Rattle.cell_lower.specs.declared.lowerer.Walk.{Walk}
 use Rattle.cell_lower.specs.Bodies.{span, span_block, span_clauses, Asked, AskedBlock, Lays, LaysBlock, LaysLet}

@@ -1,8 +1,8 @@
 use Rattle.std.proofs.Common.{refl, ◌≡◌, sym, ap, ◌∙◌, subst}
 use Rattle.cell_code.specs.declared.code.Instr.TheVariants as I
-use Rattle.lowered_code.specs.Known.{Known, holding, with_next, with_used}
-use Rattle.lowered_code.specs.Values.{built}
-use Rattle.match_code.specs.Written.{added}
+use Rattle.lowering_relation.specs.Known.{Known, holding, with_next, with_used}
+use Rattle.lowering_relation.specs.Values.{built}
+use Rattle.lowering_relation.specs.Written.{added}
 use Rattle.lower_frame.specs.Registers.{HasRoom}
 use Rattle.cell_lower.specs.Writing.{setting}
 use Rattle.cell_lower.proofs.Writing.{builds_atom, builds_reused}

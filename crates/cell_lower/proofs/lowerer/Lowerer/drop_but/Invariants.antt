@@ -1,6 +1,6 @@
 use Rattle.std.proofs.Common.{◌≡◌}
-use Rattle.match_code.specs.Losing.{Loses}
-use Rattle.match_code.specs.Written.{GivesUp}
+use Rattle.lowering_relation.specs.Losing.{Loses}
+use Rattle.lowering_relation.specs.Written.{GivesUp}
 use Rattle.std.proofs.Common.{false}
 use Rattle.cell_lower.specs.Growth.{Sheds}
 use Rattle.cell_lower.specs.Laying.{GivesUpLaid}

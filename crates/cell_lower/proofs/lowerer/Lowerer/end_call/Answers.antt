@@ -1,8 +1,8 @@
 use Rattle.std.proofs.Common.{rules, ◌≡◌, subst, sym, ap, ◌∙◌}
 use Rattle.cell_code.specs.declared.code.Instr.TheVariants as I
-use Rattle.lowered_code.specs.Known.{using}
-use Rattle.lowered_code.specs.Bodies.{received}
-use Rattle.match_code.specs.Written.{added}
+use Rattle.lowering_relation.specs.Known.{using}
+use Rattle.lowering_relation.specs.LoweredBodies.{received}
+use Rattle.lowering_relation.specs.Written.{added}
 use Rattle.cell_lower.specs.Writing.{setting, target_of, EndsCall}
 use Rattle.cell_lower.proofs.Calling.{ends_tail, ends_call}
 use Rattle.std.proofs.Common.{not}

@@ -1,6 +1,6 @@
 use Rattle.std.proofs.Common.{◌≡◌, drop}
-use Rattle.lowered_code.specs.Known.{using}
-use Rattle.lowered_code.specs.Bodies.{handed}
+use Rattle.lowering_relation.specs.Known.{using}
+use Rattle.lowering_relation.specs.LoweredBodies.{handed}
 use Rattle.cell_lower.proofs.lowerer.Lowerer.hand_over.Given as goal
 
 abbrev pub invariant-loop-param : goal.invariant-loop-param

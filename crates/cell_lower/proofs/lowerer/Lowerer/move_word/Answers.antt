@@ -1,7 +1,7 @@
 use Rattle.std.proofs.Common.{ap, ◌∙◌, arith, get_or}
-use Rattle.lowered_code.specs.declared.held.Held.TheVariants as H
-use Rattle.lowered_code.specs.Known.{holding}
-use Rattle.lowered_code.specs.Bodies.{as_value}
+use Rattle.lowering_relation.specs.declared.held.Held.TheVariants as H
+use Rattle.lowering_relation.specs.Known.{holding}
+use Rattle.lowering_relation.specs.LoweredBodies.{as_value}
 use Rattle.cell_lower.proofs.Writing.{moves_word}
 use Rattle.cell_lower.proofs.lowerer.Lowerer.move_word.Goals as goal
 

@@ -1,13 +1,13 @@
 use Rattle.std.proofs.Common.{◌≡◌, sym, ap, subst, ◌∙◌, length, arith, not, ◌&&◌}
 use Rattle.std.specs.Borrow.{Bor}
 use Rattle.fip_trees.specs.TreeView.{argument, clause, clauses}
-use Rattle.lowered_code.specs.Known.{Known}
-use Rattle.match_code.specs.Losing.{Loses}
-use Rattle.match_code.specs.Written.{size}
-use Rattle.match_code.proofs.Placing.{extends_on}
+use Rattle.lowering_relation.specs.Known.{Known}
+use Rattle.lowering_relation.specs.Losing.{Loses}
+use Rattle.lowering_relation.specs.Written.{size}
+use Rattle.lowering_relation.proofs.Placing.{extends_on}
 use Rattle.cell_lower.specs.Clauses.{HasPositions}
 use Rattle.lower_frame.specs.Registers.{registers, HasRoom}
-use Rattle.lowered_code.specs.Values.{is_scalar}
+use Rattle.lowering_relation.specs.Values.{is_scalar}
 use Rattle.cell_lower.specs.declared.lowerer.Context.{Context}
 use Rattle.cell_lower.specs.Laying.{ForgetsLaid}
 use Rattle.cell_lower.specs.Leaving.{sizes_of}

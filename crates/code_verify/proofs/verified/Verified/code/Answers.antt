@@ -1,7 +1,7 @@
 use Rattle.std.proofs.Common.{subst}
-use Rattle.sound_code.specs.Codes.{plain}
-use Rattle.sound_code.specs.Tables.{AreSoundTables}
-use Rattle.sound_code.specs.Breaks.{IsSound}
+use Rattle.code_rules.specs.Codes.{plain}
+use Rattle.code_rules.specs.Tables.{AreSoundTables}
+use Rattle.code_rules.specs.Breaks.{IsSound}
 use Rattle.code_verify.specs.Checked.{Checked, HasMachineInts}
 use Rattle.code_verify.proofs.verified.Verified.code.Goals as goal
 

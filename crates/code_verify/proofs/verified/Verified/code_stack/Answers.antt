@@ -1,7 +1,7 @@
 use Rattle.std.proofs.Common.{◌≡◌, ◌∙◌, Some, sym, ap, subst}
 use Rattle.std.specs.Prelude.{slice_get}
-use Rattle.sound_code.specs.Codes.{plain}
-use Rattle.sound_code.specs.StackNumbers.{HasStack}
+use Rattle.code_rules.specs.Codes.{plain}
+use Rattle.code_rules.specs.StackNumbers.{HasStack}
 use Rattle.code_verify.specs.Checked.{Checked, stack_at}
 use Rattle.code_verify.proofs.Running.{of_stack}
 use Rattle.code_verify.proofs.verified.Verified.code_stack.Goals as goal

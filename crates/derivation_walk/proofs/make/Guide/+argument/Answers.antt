@@ -9,7 +9,7 @@ use Rattle.derivation_trees.specs.Building.{built}
 use Rattle.derivation_walk.specs.Guides.{guided}
 use Rattle.derivation_walk.specs.Walked.{value, values}
 use Rattle.derivation_walk.specs.Costs.{cost_all}
-use Rattle.derivation_walk.proofs.Steps.{value_grown}
+use Rattle.derivation_walk.proofs.WalkSteps.{value_grown}
 use Rattle.derivation_walk.proofs.Short.{too_long, closed_kept, first_short, value_short, later_short}
 use Rattle.derivation_walk.proofs.make.Guide.+argument.Goals as goal
 

@@ -12,7 +12,7 @@ use Rattle.derivation_walk.specs.Growing.{grown, grown_all, closed_times, Awaits
 use Rattle.derivation_walk.specs.Costs.{cost_of, cost, cost_all, total}
 use Rattle.derivation_walk.specs.Guides.{guided, holding, asking}
 use Rattle.derivation_walk.specs.Walked.{Owned, Asked, those, used, node, match_rule, begun, values, walked, walked_parts, walked_clause, walked_clauses, size_parts, size_clauses}
-use Rattle.derivation_walk.proofs.Steps.{bound_is, none_left, block_first, block_more, block_done, clause_more, match_is, match_grown, let_opened, expression_tuple}
+use Rattle.derivation_walk.proofs.WalkSteps.{bound_is, none_left, block_first, block_more, block_done, clause_more, match_is, match_grown, let_opened, expression_tuple}
 use Rattle.derivation_walk.proofs.Short.{too_long, closed_kept, first_short, later_short, rest_short, binding_short, bound_short, clause_short, clauses_short}
 use Rattle.derivation_walk.proofs.make.Guide.+block.Goals as goal
 

@@ -5,7 +5,7 @@ use Rattle.derivation_walk.specs.Growing.{Awaits}
 use Rattle.derivation_walk.specs.Guides.{guided, holding, asking}
 use Rattle.derivation_walk.specs.Costs.{cost}
 use Rattle.derivation_walk.specs.Walked.{those, node, begun}
-use Rattle.derivation_walk.proofs.Steps.{begun_by}
+use Rattle.derivation_walk.proofs.WalkSteps.{begun_by}
 use Rattle.derivation_walk.proofs.make.Guide.begin.Goals as goal
 
 pub returns-clause-awaits : goal.returns-clause-awaits

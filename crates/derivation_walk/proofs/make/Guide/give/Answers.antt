@@ -5,7 +5,7 @@ use Rattle.derivation_trees.specs.Building.{built}
 use Rattle.derivation_walk.specs.Guides.{guided, holding}
 use Rattle.derivation_walk.specs.Walked.{begun, fields}
 use Rattle.derivation_walk.specs.Costs.{cost}
-use Rattle.derivation_walk.proofs.Steps.{given_grown}
+use Rattle.derivation_walk.proofs.WalkSteps.{given_grown}
 use Rattle.derivation_walk.proofs.Short.{too_long, closed_kept, parts_short}
 use Rattle.derivation_walk.proofs.make.Guide.give.Goals as goal
 

@@ -8,7 +8,7 @@ use Rattle.derivation_trees.specs.Building.{built}
 use Rattle.derivation_walk.specs.Guides.{guided}
 use Rattle.derivation_walk.specs.Walked.{passed}
 use Rattle.derivation_walk.specs.Costs.{cost_all}
-use Rattle.derivation_walk.proofs.Steps.{passed_done, no_arguments}
+use Rattle.derivation_walk.proofs.WalkSteps.{passed_done, no_arguments}
 use Rattle.derivation_walk.proofs.Short.{too_long, later_short, passed_short}
 use Rattle.derivation_walk.proofs.make.Guide.passed.Goals as goal
 

@@ -1,7 +1,7 @@
 use Rattle.std.proofs.Common.{rules, ◌≡◌, length, false}
 use Rattle.std.specs.Prelude.{◌==◌}
 use Rattle.derivation_walk.specs.Guides.{guided}
-use Rattle.derivation_walk.proofs.Steps.{some_rule}
+use Rattle.derivation_walk.proofs.WalkSteps.{some_rule}
 use Rattle.derivation_walk.proofs.make.Guide.rule_of.Goals as goal
 
 pub returns-else-is_empty : goal.returns-else-is_empty

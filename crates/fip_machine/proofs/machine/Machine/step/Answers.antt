@@ -1,8 +1,8 @@
 use Rattle.std.proofs.Common.{◌≡◌, [], None, subst}
-use Rattle.code_runs.specs.Codes.{plain}
-use Rattle.code_runs.specs.Steps.{next}
+use Rattle.machine_semantics.specs.Codes.{plain}
+use Rattle.machine_semantics.specs.Steps.{next}
 use Rattle.machine_cells.specs.Small.{IsSmall, store_of}
-use Rattle.machine_rows.specs.Coming.{Comes, KnowsAt}
+use Rattle.machine_step.specs.Coming.{Comes, KnowsAt}
 use Rattle.fip_machine.specs.Tasks.{state_with}
 use Rattle.fip_machine.specs.Machines.{Seen}
 use Rattle.fip_machine.proofs.machine.Machine.step.Goals as goal

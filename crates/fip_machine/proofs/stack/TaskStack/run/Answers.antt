@@ -2,8 +2,8 @@
 use Rattle.std.proofs.Common.{◌≡◌, ◌≤◌, ◌∙◌, ℕ, List, Some, rules, sym, subst, arith, length, refl}
 use Rattle.std.specs.Vec.{with_items}
 use Rattle.std.proofs.lemmas.List.{with_items_is}
-use Rattle.machine_rows.specs.Placed.{IsPlaced, Waiting}
-use Rattle.machine_rows.proofs.Stacked.{keeps_less, waiting_keeps}
+use Rattle.machine_step.specs.Placed.{IsPlaced, Waiting}
+use Rattle.machine_step.proofs.Stacked.{keeps_less, waiting_keeps}
 use Rattle.fip_machine.specs.Tasks.{Stand}
 use Rattle.fip_machine.specs.Along.{IsAlong, HasRun, task_of, stored, end_after}
 use Rattle.fip_machine.proofs.Alongs.{task_same}

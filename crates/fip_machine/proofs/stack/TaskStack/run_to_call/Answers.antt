@@ -1,6 +1,6 @@
 -- Where no call is next, a step enters no function; where one is, the run is out of calls.
 use Rattle.std.proofs.Common.{◌∙◌, Bool, false, refl, sym, subst}
-use Rattle.machine_rows.specs.declared.rows.Stepped.{Stepped}
+use Rattle.machine_step.specs.declared.rows.Stepped.{Stepped}
 use Rattle.fip_machine.specs.Along.{CameTo, calls_next, stored}
 use Rattle.fip_machine.proofs.Alongs.{stepped, has_gone_on, has_ended_late, is_out}
 use Rattle.fip_machine.proofs.stack.TaskStack.run_to_call.Goals as goal

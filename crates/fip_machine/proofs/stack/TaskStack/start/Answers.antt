@@ -2,17 +2,17 @@
 use Rattle.std.proofs.Common.{◌≡◌, ◌-◌, ◌<◌, ◌≤◌, ◌∙◌, List, [], length, refl, sym, ap, subst, arith}
 use Rattle.std.proofs.lemmas.Option.{slice_get_within, none-some, same_Some}
 use Rattle.cell_code.specs.declared.code.Function.{Function}
-use Rattle.code_runs.specs.Codes.{plain, plain_function}
-use Rattle.code_runs.specs.States.{State}
-use Rattle.code_runs.specs.Steps.{first_words, first_frame}
-use Rattle.code_runs.specs.Runs.{lent_words, loaded_in}
-use Rattle.frame_stack.specs.View.{frame_at}
-use Rattle.machine_rows.proofs.Calls.{plain_at}
+use Rattle.machine_semantics.specs.Codes.{plain, plain_function}
+use Rattle.machine_semantics.specs.States.{State}
+use Rattle.machine_semantics.specs.Steps.{first_words, first_frame}
+use Rattle.machine_semantics.specs.Runs.{lent_words, loaded_in}
+use Rattle.machine_frames.specs.View.{frame_at}
+use Rattle.machine_step.proofs.Calls.{plain_at}
 use Rattle.cell_code.specs.declared.code.Instr.{Instr}
 use Rattle.cell_code.specs.Runnable.{Body, IsSafe}
 use Rattle.cell_code.proofs.Following.{safe_here}
-use Rattle.machine_rows.specs.declared.rows.Stepped.TheVariants.{Went}
-use Rattle.machine_rows.proofs.Fitting.{fits_own}
+use Rattle.machine_step.specs.declared.rows.Stepped.TheVariants.{Went}
+use Rattle.machine_step.proofs.Fitting.{fits_own}
 use Rattle.fip_machine.proofs.stack.TaskStack.start.Goals as goal
 
 pub taken-requires-clause-own : goal.taken-requires-clause-own

@@ -1,19 +1,19 @@
 use Rattle.std.proofs.Common.{◌≡◌, ◌+◌, ◌≤◌, ◌∙◌, ◌++◌, ℕ, List, rules, refl, sym, ap, subst, arith, length, take}
 use Rattle.std.specs.Vec.{with_items}
 use Rattle.std.proofs.lemmas.List.{with_items_is}
-use Rattle.code_runs.specs.Codes.{plain}
-use Rattle.code_runs.specs.States.{State}
-use Rattle.code_runs.specs.Steps.{next}
+use Rattle.machine_semantics.specs.Codes.{plain}
+use Rattle.machine_semantics.specs.States.{State}
+use Rattle.machine_semantics.specs.Steps.{next}
 use Rattle.machine_cells.specs.Small.{store_of}
-use Rattle.machine_rows.specs.View.{state_of}
-use Rattle.machine_rows.specs.Coming.{Comes, KnowsAt}
-use Rattle.machine_rows.specs.Telling.{IsKnown, next_tells}
-use Rattle.machine_rows.proofs.Highs.{high_raised}
+use Rattle.machine_step.specs.View.{state_of}
+use Rattle.machine_step.specs.Coming.{Comes, KnowsAt}
+use Rattle.machine_step.specs.Telling.{IsKnown, next_tells}
+use Rattle.machine_step.proofs.Highs.{high_raised}
 use Rattle.fip_machine.specs.Tasks.{Stand, IsMeasured, state_with}
 use Rattle.fip_machine.proofs.Measured.{measured_of}
 use Rattle.fip_machine.proofs.Tasked.{room_same}
-use Rattle.machine_rows.specs.Placed.{Waiting}
-use Rattle.machine_rows.proofs.Stacked.{keeps_less, waiting_keeps}
+use Rattle.machine_step.specs.Placed.{Waiting}
+use Rattle.machine_step.proofs.Stacked.{keeps_less, waiting_keeps}
 use Rattle.fip_machine.proofs.stack.TaskStack.step.Goals as goal
 
 pub advance-stepped-requires-clause-waiting : goal.advance-stepped-requires-clause-waiting

@@ -2,7 +2,7 @@
 use Rattle.std.proofs.Common.{◌≡◌, ◌++◌, ◌∷◌, [], List, Some, length, refl, sym, ap, subst, arith, length-append}
 use Rattle.std.proofs.lemmas.Option.{slice_get_read}
 use Rattle.std.specs.Prelude.{slice_get}
-use Rattle.code_runs.specs.Cells.{Store}
+use Rattle.machine_semantics.specs.Cells.{Store}
 use Rattle.machine_cells.specs.Small.{IsSmall, store_of}
 use Rattle.fip_tasks.specs.declared.task.Task.{Task}
 use Rattle.fip_tasks.proofs.Turning.{AreNew, new_more, new_shows}

@@ -1,5 +1,5 @@
 use Rattle.std.proofs.Common.{◌≤◌, subst, length}
-use Rattle.match_code.specs.Written.{Written}
+use Rattle.lowering_relation.specs.Written.{Written}
 use Rattle.lower_frame.specs.Labels.{labels}
 use Rattle.lower_frame.proofs.Labels.{placed_few}
 use Rattle.lower_frame.proofs.Spelt.{labels_spelt}

@@ -1,7 +1,7 @@
 use Rattle.std.proofs.Common.{arith, refl, sym, ap, ◌≤◌, ◌∙◌, ◌∷◌, subst}
 use Rattle.std.specs.Prelude.{slice_get}
 use Rattle.fip_trees.specs.TreeView.{argument, clauses, block}
-use Rattle.flat_meaning.specs.Meaning.{evaluate_block}
+use Rattle.instance_semantics.specs.Meaning.{evaluate_block}
 use Rattle.plain_eval.specs.Choosing.{Chooses}
 use Rattle.plain_eval.specs.Machine.{rest_of}
 use Rattle.plain_eval.specs.Work.{block_size, clauses_size}

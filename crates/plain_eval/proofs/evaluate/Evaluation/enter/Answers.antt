@@ -1,6 +1,6 @@
 use Rattle.std.proofs.Common.{sym, ap, ◌∙◌, subst}
 use Rattle.fip_language.specs.Meaning.{nothing_bound}
-use Rattle.flat_meaning.specs.Meaning.{bind_binders}
+use Rattle.instance_semantics.specs.Meaning.{bind_binders}
 use Rattle.plain_rows.specs.Rows.{StandAll}
 use Rattle.plain_rows.proofs.Loaded.{on_ok}
 use Rattle.plain_eval.specs.Slots.{CoversNow}

@@ -1,5 +1,5 @@
 use Rattle.std.proofs.Common.{ap, ◌∙◌}
-use Rattle.sound_code.specs.Kinds.{are_free}
+use Rattle.code_rules.specs.Kinds.{are_free}
 use Rattle.register_kinds.specs.Owners.{number_at}
 use Rattle.register_kinds.specs.Views.{kinds_of}
 use Rattle.register_kinds.proofs.Naming.{all_free}

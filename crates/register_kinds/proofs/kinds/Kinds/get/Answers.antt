@@ -1,5 +1,5 @@
 use Rattle.std.proofs.Common.{ap, ◌∙◌, subst, get_or, length, ◌<◌}
-use Rattle.sound_code.specs.Kinds.{at}
+use Rattle.code_rules.specs.Kinds.{at}
 use Rattle.register_kinds.specs.Owners.{number_at, rooted}
 use Rattle.register_kinds.specs.Views.{kind_of}
 use Rattle.register_kinds.proofs.Naming.{named_get}

@@ -1,5 +1,5 @@
 use Rattle.std.proofs.Common.{map}
-use Rattle.sound_code.specs.Codes.{plain_label}
+use Rattle.code_rules.specs.Codes.{plain_label}
 use Rattle.register_kinds.proofs.SetsCompared.{keeps_answer, missing_same}
 use Rattle.register_kinds.proofs.label_sets.LabelSets.find.Goals as goal
 

@@ -1,6 +1,6 @@
 use Rattle.std.proofs.Common.{sym, ap, arith, subst, ◌≡◌, ◌⊎◌, ℕ, ◌∙◌, ◌+◌, set, take, refl}
 use Rattle.std.specs.Prelude.{true}
-use Rattle.sound_code.specs.Kinds.{has}
+use Rattle.code_rules.specs.Kinds.{has}
 use Rattle.register_kinds.specs.Kept.{AreLents, Grows}
 use Rattle.register_kinds.proofs.LentLists.{all_true, lents_added, held_new, held_only, grows_one, grows_same}
 use Rattle.register_kinds.proofs.lents.Lents.add.Goals as goal

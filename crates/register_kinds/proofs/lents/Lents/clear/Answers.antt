@@ -1,6 +1,6 @@
 use Rattle.std.proofs.Common.{sym, ap, ◌∙◌, length, take, arith}
 use Rattle.std.proofs.lemmas.List.{length-take-le}
-use Rattle.sound_code.specs.Kinds.{has}
+use Rattle.code_rules.specs.Kinds.{has}
 use Rattle.register_kinds.specs.Kept.{kept_at}
 use Rattle.register_kinds.proofs.LentLists.{trues_few, lents_cleared, none_kept}
 use Rattle.register_kinds.proofs.lents.Lents.clear.Goals as goal

@@ -1,5 +1,5 @@
 use Rattle.std.proofs.Common.{ap, ◌∙◌, sym, arith}
-use Rattle.sound_code.specs.Kinds.{has}
+use Rattle.code_rules.specs.Kinds.{has}
 use Rattle.register_kinds.proofs.LentLists.{unmarked_unheld}
 use Rattle.register_kinds.proofs.lents.Lents.is_listed.Goals as goal
 

@@ -1,6 +1,6 @@
 use Rattle.std.proofs.Common.{ap, length, ◌∙◌, sym, inl, inr, ◌<◌, arith}
 use Rattle.std.proofs.lemmas.Bool.Decides.{eqb_tells}
-use Rattle.sound_code.specs.Kinds.{has}
+use Rattle.code_rules.specs.Kinds.{has}
 use Rattle.register_kinds.specs.Kept.{kept_at}
 use Rattle.register_kinds.proofs.Reaching.{kept_here, kept_long, kept_other}
 use Rattle.register_kinds.proofs.lents.Lents.list.Goals as goal

@@ -1,5 +1,5 @@
 use Rattle.std.proofs.Common.{sym, ap, subst, ◌∙◌}
-use Rattle.sound_code.specs.Kinds.{has}
+use Rattle.code_rules.specs.Kinds.{has}
 use Rattle.register_kinds.specs.Kept.{AreLents}
 use Rattle.register_kinds.proofs.Reaching.{lents_reach}
 use Rattle.register_kinds.proofs.lents.Lents.reach.Goals as goal

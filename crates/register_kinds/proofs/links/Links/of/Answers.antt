@@ -1,5 +1,5 @@
 use Rattle.std.proofs.Common.{rules, sym, ap, ◌∙◌, ◌<◌, subst, length, get_or}
-use Rattle.sound_code.specs.Kinds.{has}
+use Rattle.code_rules.specs.Kinds.{has}
 use Rattle.register_kinds.specs.Kept.{Linked}
 use Rattle.register_kinds.specs.Views.{row_of}
 use Rattle.register_kinds.proofs.LinkLists.{list_get, list_past}

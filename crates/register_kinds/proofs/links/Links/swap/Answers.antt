@@ -1,5 +1,5 @@
 use Rattle.std.proofs.Common.{sym, ap, ◌∙◌, subst, arith}
-use Rattle.sound_code.specs.Kinds.{has}
+use Rattle.code_rules.specs.Kinds.{has}
 use Rattle.register_kinds.specs.Kept.{Linked}
 use Rattle.register_kinds.specs.Owners.{swapped}
 use Rattle.register_kinds.proofs.LinkLists.{list_swapped}

@@ -1,7 +1,7 @@
 use Rattle.std.proofs.Common.{sym, ap, map, ◌∙◌, ◌+◌, arith}
 use Rattle.std.specs.Prelude.{None}
-use Rattle.sound_code.specs.Codes.{plain_label}
-use Rattle.sound_code.specs.Kinds.{is_free}
+use Rattle.code_rules.specs.Codes.{plain_label}
+use Rattle.code_rules.specs.Kinds.{is_free}
 use Rattle.register_kinds.specs.Busy.{held}
 use Rattle.register_kinds.specs.Kept.{IsKept}
 use Rattle.register_kinds.specs.LabelSets.{set_at}

@@ -1,6 +1,6 @@
 use Rattle.std.proofs.Common.{ap, sym, ◌∙◌, map, refl, subst}
 use Rattle.std.specs.Prelude.{None}
-use Rattle.sound_code.specs.Codes.{plain_label}
+use Rattle.code_rules.specs.Codes.{plain_label}
 use Rattle.register_kinds.specs.Kept.{IsKept}
 use Rattle.register_kinds.specs.Owners.{rooted, swapped}
 use Rattle.register_kinds.specs.Takes.{stands_for}

@@ -1,6 +1,6 @@
 use Rattle.std.proofs.Common.{◌∙◌, sym, ap, subst, map, arith}
 use Rattle.std.specs.Prelude.{Some}
-use Rattle.sound_code.specs.Codes.{plain_function, plain_label}
+use Rattle.code_rules.specs.Codes.{plain_function, plain_label}
 use Rattle.register_kinds.specs.Busy.{busy_in}
 use Rattle.register_kinds.specs.Kept.{AreAsked, IsKept}
 use Rattle.register_kinds.specs.Views.{kinds_of}

@@ -1,6 +1,6 @@
 use Rattle.std.proofs.Common.{◌≡◌, ◌<◌, ℕ, length}
-use Rattle.sound_code.specs.Kinds.{at}
-use Rattle.sound_code.specs.Taking.{part}
+use Rattle.code_rules.specs.Kinds.{at}
+use Rattle.code_rules.specs.Taking.{part}
 use Rattle.register_kinds.specs.Takes.{filled_by}
 use Rattle.register_kinds.proofs.registers.Registers.fill.Given as goal
 

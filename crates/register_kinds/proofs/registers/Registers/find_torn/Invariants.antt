@@ -1,6 +1,6 @@
 use Rattle.std.proofs.Common.{◌≡◌, ◌<◌, ℕ}
 use Rattle.std.specs.Prelude.{true, false, Some, slice_get}
-use Rattle.sound_code.specs.Kinds.{at, from_of, has}
+use Rattle.code_rules.specs.Kinds.{at, from_of, has}
 use Rattle.register_kinds.specs.Climbs.{is_lent_in, tree_of}
 use Rattle.register_kinds.proofs.registers.Registers.find_torn.Given as goal
 

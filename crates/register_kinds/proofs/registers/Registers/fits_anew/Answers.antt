@@ -1,5 +1,5 @@
 use Rattle.std.proofs.Common.{sym, ◌∙◌, ap, length, slice_get, subst, arith}
-use Rattle.sound_code.specs.Fitting.{fit_all}
+use Rattle.code_rules.specs.Fitting.{fit_all}
 use Rattle.register_kinds.specs.Arrivals.{arrive}
 use Rattle.register_kinds.specs.Busy.{IsAsked}
 use Rattle.register_kinds.proofs.AskedMaps.{got_asked}

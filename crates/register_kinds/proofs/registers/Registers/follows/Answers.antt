@@ -1,6 +1,6 @@
 use Rattle.std.proofs.Common.{◌≡◌, sym, subst}
 use Rattle.std.specs.Prelude.{Some, true}
-use Rattle.sound_code.specs.Kinds.{from_of}
+use Rattle.code_rules.specs.Kinds.{from_of}
 use Rattle.register_kinds.specs.Climbs.{IsHeld, is_lent_in, tree_of}
 use Rattle.register_kinds.specs.Views.{constructors_in, kind_of}
 use Rattle.register_kinds.proofs.Climbing.{held_inside}

@@ -1,6 +1,6 @@
 use Rattle.std.proofs.Common.{sym, ◌∙◌, ◌+◌, ◌∷◌, ap, drop, arith}
 use Rattle.std.specs.Prelude.{slice_index}
-use Rattle.sound_code.specs.Changes.{forget, goes}
+use Rattle.code_rules.specs.Changes.{forget, goes}
 use Rattle.register_kinds.specs.Steps.{each}
 use Rattle.register_kinds.proofs.Places.{each_done, drop_index}
 use Rattle.register_kinds.proofs.Changed.{going_step, goes_still}

@@ -1,6 +1,6 @@
 use Rattle.std.proofs.Common.{sym, ◌∙◌, ap}
-use Rattle.sound_code.specs.Changes.{forget, goes}
-use Rattle.sound_code.specs.Kinds.{from_of}
+use Rattle.code_rules.specs.Changes.{forget, goes}
+use Rattle.code_rules.specs.Kinds.{from_of}
 use Rattle.register_kinds.proofs.Changed.{set_own, forget_none, forget_kept}
 use Rattle.register_kinds.proofs.registers.Registers.forget_going_in.Goals as goal
 

@@ -1,5 +1,5 @@
 use Rattle.std.proofs.Common.{sym, ◌∙◌, ap}
-use Rattle.sound_code.specs.Kinds.{from_of}
+use Rattle.code_rules.specs.Kinds.{from_of}
 use Rattle.register_kinds.specs.Kept.{names}
 use Rattle.register_kinds.specs.Steps.{forgets}
 use Rattle.register_kinds.proofs.Changed.{set_own, forgets_unnamed}

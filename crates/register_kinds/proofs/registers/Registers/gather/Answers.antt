@@ -1,5 +1,5 @@
 use Rattle.std.proofs.Common.{ap, ◌∙◌}
-use Rattle.sound_code.specs.Kinds.{at}
+use Rattle.code_rules.specs.Kinds.{at}
 use Rattle.register_kinds.specs.Kept.{leads}
 use Rattle.register_kinds.proofs.LentLists.{grows_has}
 use Rattle.register_kinds.proofs.registers.Registers.gather.Goals as goal

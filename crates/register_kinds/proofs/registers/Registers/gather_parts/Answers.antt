@@ -1,6 +1,6 @@
 use Rattle.std.proofs.Common.{sym, ap, ◌∙◌}
-use Rattle.sound_code.specs.Kinds.{at}
-use Rattle.sound_code.specs.Taking.{is_heir, part}
+use Rattle.code_rules.specs.Kinds.{at}
+use Rattle.code_rules.specs.Taking.{is_heir, part}
 use Rattle.register_kinds.specs.Kept.{leads}
 use Rattle.register_kinds.proofs.LentLists.{closed_more, grows_has}
 use Rattle.register_kinds.proofs.registers.Registers.gather_parts.Goals as goal

@@ -1,5 +1,5 @@
 use Rattle.std.proofs.Common.{◌≡◌, drop}
-use Rattle.sound_code.specs.Handing.{give_all}
+use Rattle.code_rules.specs.Handing.{give_all}
 use Rattle.register_kinds.proofs.registers.Registers.give_all.Given as goal
 
 abbrev pub invariant-loop-source : goal.invariant-loop-source

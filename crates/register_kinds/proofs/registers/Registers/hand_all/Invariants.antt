@@ -1,5 +1,5 @@
 use Rattle.std.proofs.Common.{◌≡◌, drop}
-use Rattle.sound_code.specs.Handing.{hand_all}
+use Rattle.code_rules.specs.Handing.{hand_all}
 use Rattle.register_kinds.proofs.registers.Registers.hand_all.Given as goal
 
 abbrev pub invariant-loop-size : goal.invariant-loop-size

@@ -1,6 +1,6 @@
 use Rattle.std.proofs.Common.{◌≡◌, ◌∙◌, ap, sym, subst}
 use Rattle.std.specs.Prelude.{true}
-use Rattle.sound_code.specs.Kinds.{from_of}
+use Rattle.code_rules.specs.Kinds.{from_of}
 use Rattle.register_kinds.specs.Climbs.{IsHeld, is_lent_in}
 use Rattle.register_kinds.specs.Views.{constructors_in, kind_of}
 use Rattle.register_kinds.proofs.Climbing.{climb_top, held_lent}

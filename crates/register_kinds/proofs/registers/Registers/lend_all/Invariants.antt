@@ -1,5 +1,5 @@
 use Rattle.std.proofs.Common.{◌≡◌, drop}
-use Rattle.sound_code.specs.Handing.{lend_all}
+use Rattle.code_rules.specs.Handing.{lend_all}
 use Rattle.register_kinds.proofs.registers.Registers.lend_all.Given as goal
 
 abbrev pub invariant-loop-param : goal.invariant-loop-param

@@ -1,5 +1,5 @@
 use Rattle.std.proofs.Common.{ap, ◌∙◌, sym, inl, inr, arith}
-use Rattle.sound_code.specs.Kinds.{at, from_of}
+use Rattle.code_rules.specs.Kinds.{at, from_of}
 use Rattle.register_kinds.specs.Climbs.{is_lent_in}
 use Rattle.register_kinds.specs.Kept.{names}
 use Rattle.register_kinds.proofs.Climbing.{held_kin}

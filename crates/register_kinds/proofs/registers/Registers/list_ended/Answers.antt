@@ -1,7 +1,7 @@
 use Rattle.std.proofs.Common.{◌+◌, inl, inr, sym, ap, ◌∙◌, subst, drop, arith}
 use Rattle.std.specs.Prelude.{is_some, slice_index}
-use Rattle.sound_code.specs.Kinds.{at, from_of, has, is_lent_of}
-use Rattle.sound_code.specs.Taking.{is_heir, part}
+use Rattle.code_rules.specs.Kinds.{at, from_of, has, is_lent_of}
+use Rattle.code_rules.specs.Taking.{is_heir, part}
 use Rattle.register_kinds.specs.Kept.{names}
 use Rattle.register_kinds.specs.Sorted.{AreGood, Rest}
 use Rattle.register_kinds.proofs.LentLists.{grows_has, grows_on}

@@ -1,5 +1,5 @@
 use Rattle.std.proofs.Common.{◌+◌, ◌∷◌, sym, ap, ◌∙◌, drop, arith}
-use Rattle.sound_code.specs.Kinds.{at}
+use Rattle.code_rules.specs.Kinds.{at}
 use Rattle.register_kinds.specs.Kept.{leads}
 use Rattle.register_kinds.proofs.LentLists.{closed_step, grows_on, grows_within}
 use Rattle.register_kinds.proofs.Places.{drop_index}

@@ -1,7 +1,7 @@
 use Rattle.std.proofs.Common.{refl, ap, ◌∙◌}
 use Rattle.std.specs.Prelude.{None}
-use Rattle.sound_code.specs.Kinds.{at, from_of, is_lent_of}
-use Rattle.sound_code.specs.Taking.{part}
+use Rattle.code_rules.specs.Kinds.{at, from_of, is_lent_of}
+use Rattle.code_rules.specs.Taking.{part}
 use Rattle.register_kinds.specs.declared.sorting.Wanted.TheVariants.{Lost, Loose}
 use Rattle.register_kinds.proofs.LentLists.{grows_has}
 use Rattle.register_kinds.proofs.Sorted.{listed_loose, listed_lost, lost_wanted, loose_wanted, step_by}

@@ -1,6 +1,6 @@
 use Rattle.std.proofs.Common.{inl, inr, refl, sym, ap, ◌∙◌}
 use Rattle.std.specs.Prelude.{is_some}
-use Rattle.sound_code.specs.Taking.{part}
+use Rattle.code_rules.specs.Taking.{part}
 use Rattle.register_kinds.specs.Kept.{kept_at}
 use Rattle.register_kinds.specs.declared.sorting.Wanted.TheVariants.{Ended}
 use Rattle.register_kinds.specs.Takes.{as_part}

@@ -1,6 +1,6 @@
 use Rattle.std.proofs.Common.{◌+◌, ◌<◌, ◌∷◌, sym, ap, ◌∙◌, subst, drop, length, arith}
-use Rattle.sound_code.specs.Kinds.{at, from_of}
-use Rattle.sound_code.specs.Taking.{part}
+use Rattle.code_rules.specs.Kinds.{at, from_of}
+use Rattle.code_rules.specs.Taking.{part}
 use Rattle.register_kinds.specs.Kept.{names}
 use Rattle.register_kinds.specs.Sorted.{IsGood}
 use Rattle.register_kinds.specs.declared.sorting.Wanted.TheVariants.{Below}

@@ -1,7 +1,7 @@
 use Rattle.std.proofs.Common.{◌≡◌, ◌⊎◌, ◌≤◌, ◌-◌, ℕ, drop, length}
 use Rattle.std.specs.Prelude.{true}
-use Rattle.sound_code.specs.Kinds.{at, from_of, has}
-use Rattle.sound_code.specs.Taking.{part}
+use Rattle.code_rules.specs.Kinds.{at, from_of, has}
+use Rattle.code_rules.specs.Taking.{part}
 use Rattle.register_kinds.specs.Kept.{Grows, names}
 use Rattle.register_kinds.specs.Sorted.{AreGood}
 use Rattle.register_kinds.proofs.registers.Registers.list_rest.Given as goal

@@ -1,5 +1,5 @@
 use Rattle.std.proofs.Common.{ap, ◌∙◌, inl, inr}
-use Rattle.sound_code.specs.Kinds.{at, from_of, is_lent_of}
+use Rattle.code_rules.specs.Kinds.{at, from_of, is_lent_of}
 use Rattle.register_kinds.specs.Kept.{names}
 use Rattle.register_kinds.proofs.Keeps.{or_cases}
 use Rattle.register_kinds.proofs.LentLists.{grows_has, grows_on}

@@ -1,7 +1,7 @@
 use Rattle.std.proofs.Common.{◌+◌, inl, inr, sym, ap, ◌∙◌, drop, arith}
 use Rattle.std.specs.Prelude.{slice_index}
-use Rattle.sound_code.specs.Kinds.{at, has}
-use Rattle.sound_code.specs.Taking.{is_heir, part}
+use Rattle.code_rules.specs.Kinds.{at, has}
+use Rattle.code_rules.specs.Taking.{is_heir, part}
 use Rattle.register_kinds.specs.Kept.{leads}
 use Rattle.register_kinds.proofs.Climbing.{heir_part}
 use Rattle.register_kinds.proofs.LentLists.{grows_has, grows_on}

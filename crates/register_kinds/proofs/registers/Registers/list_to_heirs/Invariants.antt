@@ -1,7 +1,7 @@
 use Rattle.std.proofs.Common.{◌≡◌, ◌⊎◌, ℕ, drop}
 use Rattle.std.specs.Prelude.{true}
-use Rattle.sound_code.specs.Kinds.{at, has}
-use Rattle.sound_code.specs.Taking.{is_heir, part}
+use Rattle.code_rules.specs.Kinds.{at, has}
+use Rattle.code_rules.specs.Taking.{is_heir, part}
 use Rattle.register_kinds.specs.Kept.{Grows, leads}
 use Rattle.register_kinds.proofs.registers.Registers.list_to_heirs.Given as goal
 

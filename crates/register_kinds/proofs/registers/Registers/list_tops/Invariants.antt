@@ -1,6 +1,6 @@
 use Rattle.std.proofs.Common.{◌≡◌, ℕ}
 use Rattle.std.specs.Prelude.{Option, true}
-use Rattle.sound_code.specs.Kinds.{at, from_of, has}
+use Rattle.code_rules.specs.Kinds.{at, from_of, has}
 use Rattle.register_kinds.specs.Climbs.{IsHeld, is_lent_in}
 use Rattle.register_kinds.proofs.registers.Registers.list_tops.Given as goal
 

@@ -1,6 +1,6 @@
 use Rattle.std.proofs.Common.{◌∙◌, ap, arith}
-use Rattle.sound_code.specs.Kinds.{at}
-use Rattle.sound_code.specs.Taking.{part}
+use Rattle.code_rules.specs.Kinds.{at}
+use Rattle.code_rules.specs.Taking.{part}
 use Rattle.register_kinds.specs.Sorted.{listing}
 use Rattle.register_kinds.proofs.Sorted.{wanted_linked, wanted_there}
 use Rattle.register_kinds.proofs.registers.Registers.list_wanted.Goals as goal

@@ -1,5 +1,5 @@
 use Rattle.std.proofs.Common.{ap, sym, ◌∙◌}
-use Rattle.sound_code.specs.Kinds.{has}
+use Rattle.code_rules.specs.Kinds.{has}
 use Rattle.register_kinds.specs.Views.{constructors_in, kind_of}
 use Rattle.register_kinds.proofs.Torn.{marked_closed, marked_listed}
 use Rattle.register_kinds.proofs.registers.Registers.mark_torn.Goals as goal

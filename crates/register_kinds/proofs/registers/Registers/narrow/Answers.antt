@@ -1,6 +1,6 @@
 use Rattle.std.proofs.Common.{◌∙◌, ap, set}
 use Rattle.std.specs.Prelude.{[], ◌∷◌}
-use Rattle.sound_code.specs.Changes.{narrow}
+use Rattle.code_rules.specs.Changes.{narrow}
 use Rattle.register_kinds.specs.Views.{kind_of}
 use Rattle.register_kinds.proofs.Changed.{tested_is}
 use Rattle.register_kinds.proofs.Torn.{known_tested}

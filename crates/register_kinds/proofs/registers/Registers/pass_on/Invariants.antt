@@ -1,5 +1,5 @@
 use Rattle.std.proofs.Common.{◌≡◌, drop}
-use Rattle.sound_code.specs.Taking.{part}
+use Rattle.code_rules.specs.Taking.{part}
 use Rattle.register_kinds.specs.Takes.{fated, in_turn, stands_for}
 use Rattle.register_kinds.proofs.registers.Registers.pass_on.Given as goal
 

@@ -1,6 +1,6 @@
 use Rattle.std.proofs.Common.{sym, ◌∙◌, ap, set}
-use Rattle.sound_code.specs.Kinds.{at, is_lent_of}
-use Rattle.sound_code.specs.Taking.{with_root}
+use Rattle.code_rules.specs.Kinds.{at, is_lent_of}
+use Rattle.code_rules.specs.Taking.{with_root}
 use Rattle.register_kinds.proofs.Places.{set_same}
 use Rattle.register_kinds.proofs.TakenKinds.{root_kept}
 use Rattle.register_kinds.proofs.registers.Registers.put_root.Goals as goal

@@ -1,7 +1,7 @@
 use Rattle.std.proofs.Common.{◌≡◌, ◌⊎◌, inl, inr, ◌+◌, ◌∷◌, sym, ◌∙◌, ap, subst, drop, arith}
 use Rattle.std.specs.Prelude.{true, None, slice_index}
-use Rattle.sound_code.specs.Kinds.{has}
-use Rattle.sound_code.specs.Taking.{is_heir, part}
+use Rattle.code_rules.specs.Kinds.{has}
+use Rattle.code_rules.specs.Taking.{is_heir, part}
 use Rattle.register_kinds.specs.Takes.{AreReached, next_at}
 use Rattle.register_kinds.specs.Kept.{kept_at}
 use Rattle.register_kinds.proofs.Places.{drop_index}

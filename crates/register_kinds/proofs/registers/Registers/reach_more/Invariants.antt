@@ -1,7 +1,7 @@
 use Rattle.std.proofs.Common.{◌≡◌, ◌⊎◌, ◌<◌, ◌≤◌, ℕ, drop}
 use Rattle.std.specs.Prelude.{true, false, None}
-use Rattle.sound_code.specs.Kinds.{has}
-use Rattle.sound_code.specs.Taking.{is_heir, part}
+use Rattle.code_rules.specs.Kinds.{has}
+use Rattle.code_rules.specs.Taking.{is_heir, part}
 use Rattle.register_kinds.specs.Takes.{AreReached, next_at, nones}
 use Rattle.register_kinds.specs.Kept.{kept_at}
 use Rattle.register_kinds.proofs.registers.Registers.reach_more.Given as goal

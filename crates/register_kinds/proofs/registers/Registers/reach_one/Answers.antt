@@ -1,5 +1,5 @@
 use Rattle.std.proofs.Common.{◌<◌, sym, ◌∙◌, ap, subst, length, arith}
-use Rattle.sound_code.specs.Taking.{is_heir, part}
+use Rattle.code_rules.specs.Taking.{is_heir, part}
 use Rattle.register_kinds.specs.Takes.{AreReached, nones}
 use Rattle.register_kinds.proofs.Reaching.{reached_more, nones_fewer, next_below, kept_long}
 use Rattle.std.specs.Prelude.{Some}

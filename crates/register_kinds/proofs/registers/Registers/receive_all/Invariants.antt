@@ -1,5 +1,5 @@
 use Rattle.std.proofs.Common.{◌≡◌, drop}
-use Rattle.sound_code.specs.Leaves.{received}
+use Rattle.code_rules.specs.Leaves.{received}
 use Rattle.register_kinds.proofs.registers.Registers.receive_all.Given as goal
 
 abbrev pub invariant-loop-destination : goal.invariant-loop-destination

@@ -1,7 +1,7 @@
 use Rattle.std.proofs.Common.{◌≡◌, ◌⊎◌, ℕ, sym, ap, ◌∙◌, subst}
 use Rattle.std.specs.Prelude.{true, Some}
-use Rattle.sound_code.specs.Kinds.{at, from_of, has, is_lent_of}
-use Rattle.sound_code.specs.Taking.{is_heir, part}
+use Rattle.code_rules.specs.Kinds.{at, from_of, has, is_lent_of}
+use Rattle.code_rules.specs.Taking.{is_heir, part}
 use Rattle.register_kinds.specs.Kept.{kept_at, names}
 use Rattle.register_kinds.specs.Sorted.{AreGood, IsTakable, Rest}
 use Rattle.register_kinds.proofs.LentLists.{grows_has}

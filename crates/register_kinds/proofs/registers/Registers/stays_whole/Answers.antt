@@ -1,5 +1,5 @@
 use Rattle.std.proofs.Common.{ap, sym, ◌∙◌}
-use Rattle.sound_code.specs.Kinds.{is_owned}
+use Rattle.code_rules.specs.Kinds.{is_owned}
 use Rattle.register_kinds.specs.Views.{kind_of}
 use Rattle.register_kinds.proofs.Torn.{known_written}
 use Rattle.register_kinds.proofs.registers.Registers.stays_whole.Goals as goal

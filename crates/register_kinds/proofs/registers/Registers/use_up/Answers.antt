@@ -1,5 +1,5 @@
 use Rattle.std.proofs.Common.{◌∙◌, ap, map, set}
-use Rattle.sound_code.specs.Changes.{forget, goes}
+use Rattle.code_rules.specs.Changes.{forget, goes}
 use Rattle.register_kinds.specs.Steps.{lose}
 use Rattle.cell_code.specs.declared.kind.Kind.TheVariants.{Gone}
 use Rattle.register_kinds.proofs.Changed.{used_is}

@@ -1,5 +1,5 @@
 use Rattle.std.proofs.Common.{◌∙◌, ap, map, set, sym, subst}
-use Rattle.sound_code.specs.Changes.{written}
+use Rattle.code_rules.specs.Changes.{written}
 use Rattle.register_kinds.specs.Steps.{forgets}
 use Rattle.register_kinds.specs.Climbs.{AreKnown}
 use Rattle.register_kinds.specs.Views.{kind_of}

@@ -1,5 +1,5 @@
 use Rattle.std.proofs.Common.{◌∙◌, ap}
-use Rattle.sound_code.specs.Types.{is_scalar_type}
+use Rattle.code_rules.specs.Types.{is_scalar_type}
 use Rattle.register_kinds.proofs.Types.{mark_found, mark_past}
 use Rattle.register_kinds.proofs.table.Table.is_scalar.Goals as goal
 

@@ -1,5 +1,5 @@
 use Rattle.std.proofs.lemmas.Result.{err_from_is_err_and}
-use Rattle.loaded_runs.specs.TraceReading.{read_exactly}
+use Rattle.run_loading.specs.TraceReading.{read_exactly}
 use Rattle.trace_files.proofs.Steps.{exactly_err}
 use Rattle.trace_files.proofs.reader.Reader.exactly.Goals as goal
 

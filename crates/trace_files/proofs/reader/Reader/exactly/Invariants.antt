@@ -1,5 +1,5 @@
 use Rattle.std.proofs.Common.{◌≡◌, drop}
-use Rattle.loaded_runs.specs.TraceReading.{read_exactly}
+use Rattle.run_loading.specs.TraceReading.{read_exactly}
 use Rattle.trace_files.proofs.reader.Reader.exactly.Given as goal
 
 abbrev pub invariant-loop-byte : goal.invariant-loop-byte

@@ -1,6 +1,6 @@
 use Rattle.std.proofs.Common.{◌+◌, ◌-◌, ◌*◌, ◌^◌, ◌<◌, ap, sym, subst, ◌∙◌, arith}
 use Rattle.std.proofs.lemmas.Result.{err_from_is_err_and}
-use Rattle.loaded_runs.specs.TraceReading.{read_number}
+use Rattle.run_loading.specs.TraceReading.{read_number}
 use Rattle.trace_files.proofs.Steps.{number_more, number_err, number_all, number_below, number_fits}
 use Rattle.trace_files.proofs.reader.Reader.number.Goals as goal
 

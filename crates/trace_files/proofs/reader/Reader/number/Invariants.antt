@@ -1,5 +1,5 @@
 use Rattle.std.proofs.Common.{◌≡◌, ◌<◌, ◌^◌, ◌-◌}
-use Rattle.loaded_runs.specs.TraceReading.{read_number}
+use Rattle.run_loading.specs.TraceReading.{read_number}
 use Rattle.trace_files.proofs.reader.Reader.number.Given as goal
 
 abbrev pub invariant-loop-i : goal.invariant-loop-i

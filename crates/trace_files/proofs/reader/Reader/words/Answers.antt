@@ -1,7 +1,7 @@
 use Rattle.std.proofs.Common.{ℕ, Global}
 use Rattle.std.specs.Prelude.{vec_items}
 use Rattle.std.proofs.lemmas.Result.{err_from_is_err_and}
-use Rattle.loaded_runs.specs.TraceReading.{read_words}
+use Rattle.run_loading.specs.TraceReading.{read_words}
 use Rattle.trace_files.proofs.Steps.{words_first, words_more, words_err, words_all}
 use Rattle.trace_files.proofs.reader.Reader.words.Goals as goal
 

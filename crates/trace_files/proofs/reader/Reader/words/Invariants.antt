@@ -1,5 +1,5 @@
 use Rattle.std.proofs.Common.{◌≡◌, ◌-◌}
-use Rattle.loaded_runs.specs.TraceReading.{read_words}
+use Rattle.run_loading.specs.TraceReading.{read_words}
 use Rattle.trace_files.proofs.Steps.{with_front}
 use Rattle.trace_files.proofs.reader.Reader.words.Given as goal
 

@@ -1,5 +1,0 @@
-use Rattle.accepted_code.proofs.Joined.{on_trees, on_cells}
-use Rattle.accepted_code.proofs.laws.accepted_code_means_its_program.Goals as goal
-
-pub returns : goal.returns
-returns c = record { trees = on_trees; cells = on_cells }

@@ -1,5 +1,0 @@
-use Rattle.accepted_derivations.proofs.Whole as W
-use Rattle.accepted_derivations.proofs.laws.accepted_derivations_are_read.Goals as goal
-
-pub returns : goal.returns
-returns c = record { limits = W.keeps_limits; read = W.is_read }

@@ -1,5 +1,0 @@
-use Rattle.accepted_derivations.proofs.Whole as W
-use Rattle.accepted_derivations.proofs.laws.accepted_programs_are_numbered.Goals as goal
-
-pub returns : goal.returns
-returns c = record { numbered = W.numbered; filled = W.is_filled; sized = W.are_sized; unbroken = W.unbroken }

@@ -1,8 +1,0 @@
-// An accepted source has derivations: laws, no code.
-#![tactic(auto)]
-
-mod laws;
-
-pub use laws::{
-    accepted_programs_are_numbered, accepted_programs_are_ready, accepted_programs_have_derivations,
-};

@@ -1,4 +1,0 @@
-pub mod SpeltBinders
-pub mod CoreOrder
-pub mod TypedOrder
-pub mod Distinct

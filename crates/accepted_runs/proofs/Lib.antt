@@ -1,6 +1,0 @@
-pub mod SpeltArguments
-pub mod CoreArguments
-pub mod Arguments
-pub mod Flat
-pub mod Formed
-pub mod Accepted

@@ -1,5 +1,0 @@
-use Rattle.accepted_soundness.proofs.Whole.{instance_derived}
-use Rattle.accepted_soundness.proofs.laws.accepted_instances_are_derived.Goals as goal
-
-pub returns : goal.returns
-returns c = record { law = λ source program code i instance accepted headed there has. instance_derived source program accepted code headed i instance there has }

@@ -1,5 +1,0 @@
-use Rattle.accepted_soundness.proofs.Whole.{laid_is_sound}
-use Rattle.accepted_soundness.proofs.laws.laid_accepted_code_is_sound.Goals as goal
-
-pub returns : goal.returns
-returns c = record { law = λ source program code st accepted headed all maps. laid_is_sound source program accepted code st headed all maps }

@@ -1,5 +1,0 @@
-use Rattle.accepted_soundness.proofs.Whole.{laid_out_is_sound}
-use Rattle.accepted_soundness.proofs.laws.lowered_accepted_code_is_sound.Goals as goal
-
-pub returns : goal.returns
-returns c = record { law = λ source program code accepted headed laid. laid_out_is_sound source program accepted code headed laid }

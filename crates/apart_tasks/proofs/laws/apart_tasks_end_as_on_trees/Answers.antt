@@ -1,5 +1,0 @@
-use Rattle.apart_tasks.proofs.Ending.{ends_on_trees}
-use Rattle.apart_tasks.proofs.laws.apart_tasks_end_as_on_trees.Goals as goal
-
-pub returns : goal.returns
-returns c = record { law = ends_on_trees }

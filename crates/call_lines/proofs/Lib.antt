@@ -1,4 +1,0 @@
-pub mod Tokens
-pub mod Writing
-mod Naming
-mod Splitting

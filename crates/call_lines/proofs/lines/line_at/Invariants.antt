@@ -1,6 +1,0 @@
-use Rattle.call_lines.proofs.Splitting.{IsFree}
-use Rattle.call_lines.proofs.lines.line_at.Given as goal
-
--- no LF stood before
-abbrev pub invariant-loop-i : goal.invariant-loop-i
-invariant-loop-i l = IsFree l.input l.at l.i

@@ -1,3 +1,0 @@
-pub mod Scanned
-pub mod Completed
-pub mod Named

@@ -1,2 +1,0 @@
-pub mod Conservation
-pub mod Counts

@@ -1,5 +1,0 @@
-use Rattle.code_bounds.proofs.FipRuns.{never_deep}
-use Rattle.code_bounds.proofs.laws.fip_runs_are_never_too_deep.Goals as goal
-
-pub returns : goal.returns
-returns c = record { law = never_deep }

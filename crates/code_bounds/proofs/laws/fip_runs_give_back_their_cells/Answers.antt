@@ -1,5 +1,0 @@
-use Rattle.code_bounds.proofs.GivenBack.{fip_gives_back}
-use Rattle.code_bounds.proofs.laws.fip_runs_give_back_their_cells.Goals as goal
-
-pub returns : goal.returns
-returns c = record { law = fip_gives_back }

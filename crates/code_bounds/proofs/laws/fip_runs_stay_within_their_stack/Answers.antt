@@ -1,5 +1,0 @@
-use Rattle.code_bounds.proofs.FipRuns.{frames_within, words_within}
-use Rattle.code_bounds.proofs.laws.fip_runs_stay_within_their_stack.Goals as goal
-
-pub returns : goal.returns
-returns c = record { frames = frames_within; words = words_within }

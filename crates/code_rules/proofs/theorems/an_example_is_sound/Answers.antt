@@ -1,0 +1,5 @@
+use Rattle.code_rules.proofs.Examples.{reversal_sound}
+use Rattle.code_rules.proofs.theorems.an_example_is_sound.Goals as goal
+
+pub returns : goal.returns
+returns c = record { law = reversal_sound }

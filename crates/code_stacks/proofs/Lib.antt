@@ -1,4 +1,0 @@
-pub mod Sums
-pub mod Bounds
-pub mod Solving
-pub mod Numbers

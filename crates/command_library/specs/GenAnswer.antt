@@ -1,0 +1,56 @@
+-- What `gen` comes to: as `exec` of the library's text rbtree, entry build, on the keys of a seed.
+--
+-- Were that text refused, its refusal would be told. Its input is three lines: the list of the keys, a list of as many
+-- pads Pad4(0, 0, 0, 0), and Leaf. The keys are the numbers of the seed, as for the turns of tasks. The run has the
+-- calls and frames that `exec` is given where nothing is said, and the greatest store; and what keeps `exec` from its
+-- values is told. In place of the values four lines are printed, of the tree that the meaning of the entry gives on
+-- these arguments: how many keys and how many nodes, and the least and the greatest key of a node, `none` where there
+-- is no node.
+--
+-- `gen 1 3` makes a tree of 1103527590, 377401575 and 662824084, and prints `keys 3`, `nodes 3`, `least 377401575` and
+-- `greatest 1103527590`.
+use Rattle.std.specs.Prelude.{◌≡◌, ◌<◌, ◌≤◌, ℕ, false, List, length, codes, Result, Ok, Err}
+use Rattle.fip_language.specs.Meaning.{Gives}
+use Rattle.fip_language.specs.Values.{Values}
+use Rattle.fip_language.specs.declared.limits.TheConstants.{MOST_FILE_BYTES, MOST_STORE_WORDS}
+use Rattle.fip_library.specs.declared.rbtree.TheConstants.{TEXT}
+use Rattle.command_words.specs.Words.{Room}
+use Rattle.command_outcome.specs.declared.failure.Failure.{Failure}
+use Rattle.command_outcome.specs.declared.failure.Failure.TheVariants as F
+use Rattle.command_source.specs.Wanted.{Compiled, Refuses, IsReady}
+use Rattle.command_eval.specs.EvalAnswer.{Entry, Spells}
+use Rattle.command_run.specs.ExecAnswer.{Execs, RunsOn, answer_of, frames_for, words_of}
+use Rattle.command_library.specs.MadeTree.{gen_input, lines_of_results}
+
+-- ---- what runs
+
+-- the library's text rbtree, and the name of its entry
+abbrev pub tree_source : List ℕ
+tree_source = TEXT.now
+
+abbrev pub build : List ℕ
+build = codes "build"
+
+-- with these calls, frames and words
+abbrev pub gen_room : Room
+gen_room = record { calls = 1000000000; frames = 10000; words = MOST_STORE_WORDS }
+
+-- ---- gen
+
+-- What the run of a source's entry comes to, where the source has it. An input that has too many bytes isn't run on.
+-- Where `exec` prints values, the lines tell of those that the entry means with as many frames.
+pub data Makes (source : List ℕ) (seed count : ℕ) : Result (List ℕ) Failure → Type 0 where
+  LongInput : MOST_FILE_BYTES < length (gen_input seed count) →
+      Makes source seed count (Err (F.BadInput MOST_FILE_BYTES))
+  NoTree : (failure : Failure) → length (gen_input seed count) ≤ MOST_FILE_BYTES →
+      Execs source build (gen_input seed count) gen_room false (Err failure) → Makes source seed count (Err failure)
+  Made : (entry : Entry source build) (vs results : Values) (left : ℕ) (text : List ℕ) →
+      length (gen_input seed count) ≤ MOST_FILE_BYTES → Spells entry (gen_input seed count) vs →
+      words_of entry vs ≤ gen_room.words → (runs : RunsOn entry vs gen_room false (Ok text)) →
+      answer_of entry vs gen_room.calls (frames_for runs.code gen_room) ≡ Gives results left →
+      Makes source seed count (Ok (lines_of_results count results))
+
+pub data Generates (seed count : ℕ) : Result (List ℕ) Failure → Type 0 where
+  Refused : (r : _) → Refuses tree_source (Compiled build) r → Generates seed count (Err (F.Refused r))
+  Ran : (e : Result (List ℕ) Failure) → IsReady tree_source (Compiled build) → Makes tree_source seed count e →
+      Generates seed count e

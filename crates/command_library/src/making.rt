@@ -1,0 +1,111 @@
+// The run that makes a tree, and what is told of it.
+ghost use Rattle.std.specs.Prelude.{◌≡◌, ◌⊎◌, ℕ, List, slice_get, Some, IfOk, IfErr};
+ghost use Rattle.fip_language.specs.Values.{Values};
+ghost use Rattle.cell_code.specs.declared.code.Function.{Function as a_function};
+ghost use Rattle.command_outcome.specs.Stages.{IsOfSource, IsOfRun};
+ghost use Rattle.machine_cells.specs.Small.{IsSmall};
+ghost use Rattle.machine_correctness.specs.Meant.{ArePrintable};
+ghost use Rattle.command_source.specs.ProgramCode.{IsEntryOf};
+ghost use Rattle.command_source.specs.Wanted.{Compiled, IsReady};
+ghost use Rattle.command_eval.specs.EvalAnswer.{OrNoMemory};
+ghost use Rattle.command_library.specs.GenAnswer.{build, Makes, Generates};
+ghost use Rattle.command_library.specs.MadeTree.{keys_of_first, lines_of_keys, lines_of_results};
+ghost use Rattle.command_library.specs.Reading.{ints};
+
+use crate::arguments::arguments;
+use crate::keys::{ends_of, first_keys};
+use command_words::Room;
+use command_outcome::{Failure, tree_lines};
+use fip_base::plain::NoMemory;
+use fip_language::limits::{MOST_FILE_BYTES, MOST_STORE_WORDS};
+use fip_library::text;
+use fip_machine::{Gauge, Machine};
+use command_run::{failure_of, started, types_of};
+use command_source::{Ready, exec_entry};
+use std::alloc::Global;
+
+// The room of a run that makes a tree.
+const CALLS: u64 = 1_000_000_000;
+
+const FRAMES: u64 = 10_000;
+
+const WORDS: u64 = MOST_STORE_WORDS as u64;
+
+// The lines of a tree of so many keys, by the words of those of its nodes.
+fn lines_of(alloc: Global, count: u64, keys: &[u64]) -> Result<Vec<u8>, NoMemory>
+    ensures lines { IfOk result (λ v. v.items ≡ lines_of_keys count (ints keys.now)) }
+{
+    Ok(tree_lines(alloc, count, keys.len() as u64, ends_of(keys))?.into_bytes())
+}
+
+// The words of the keys of the tree that a run ended with.
+fn run_keys(alloc: Global, ready: &Ready, machine: &Machine<'_>) -> Result<Vec<u64>, NoMemory>
+    ensures keys { (f : a_function) (vs : Values) →
+        slice_get ready.now.checked.code.functions.items ready.now.entry ≡ Some f → IsSmall machine.now.store.cells →
+        ArePrintable ready.now.checked.code.types machine.now.store.cells f.results machine.now.stack.given vs →
+        IfOk result (λ ks. ints ks.items ≡ keys_of_first vs) }
+{
+    let types = ready.function().results.as_slice();
+    let words = machine.results();
+    first_keys(alloc, types_of(ready), machine.cells(), types, words)
+}
+
+// The lines of that tree.
+fn tree_of(
+    alloc: Global,
+    ready: &Ready,
+    machine: &Machine<'_>,
+    count: u64,
+) -> Result<Vec<u8>, NoMemory>
+    ensures lines { (f : a_function) (vs : Values) →
+        slice_get ready.now.checked.code.functions.items ready.now.entry ≡ Some f → IsSmall machine.now.store.cells →
+        ArePrintable ready.now.checked.code.types machine.now.store.cells f.results machine.now.stack.given vs →
+        IfOk result (λ v. v.items ≡ lines_of_results count vs) }
+{
+    let keys = run_keys(alloc, ready, machine)?;
+    lines_of(alloc, count, keys.as_slice())
+}
+
+// The lines of the tree that a run of the entry makes of so many keys of a seed.
+fn make(alloc: Global, ready: &Ready, seed: u64, count: u64) -> Result<Vec<u8>, Failure>
+    ensures makes { (source : List ℕ) → IsReady source (Compiled build) → IsEntryOf source build ready.now →
+        OrNoMemory (Makes source seed count) result }
+    ensures stage { IfErr result IsOfRun }
+{
+    prove!(ready.entry() < ready.verified().code().functions.len());
+    let input = arguments(alloc, seed, count)?;
+    if input.len() > MOST_FILE_BYTES {
+        return Err(Failure::BadInput {
+            at: MOST_FILE_BYTES,
+        });
+    }
+    let room = Room {
+        calls: CALLS,
+        frames: FRAMES,
+        words: WORDS,
+    };
+    let mut machine = started(alloc, ready, input.as_slice(), room)?;
+    let mut seen = Gauge::new();
+    let ended = machine.run(CALLS, &mut seen);
+    match failure_of(ended, CALLS, FRAMES) {
+        Some(failure) => Err(failure),
+        None => Ok(tree_of(alloc, ready, &machine, count)?),
+    }
+}
+
+/// The four lines of the red-black tree that is made of so many keys of a seed: how many keys and nodes, the least and
+/// the greatest key. It is what `build` of the library's text `rbtree` gives for these keys, a pad for each, and no
+/// node. What keeps the text from being run, or its run from a tree, is told as `exec` tells it.
+pub fn generate(alloc: Global, seed: u64, count: u64) -> Result<Vec<u8>, Failure>
+    ensures generates { OrNoMemory (Generates seed count) result }
+    ensures stage { IfErr result (λ f. IsOfSource f ⊎ IsOfRun f) }
+{
+    match text("rbtree") {
+        Some(source) => match exec_entry(alloc, source.as_bytes(), "build") {
+            Ok(ready) => make(alloc, &ready, seed, count),
+            Err(failure) => Err(failure),
+        },
+        // The library has this text.
+        None => Err(Failure::NoMemory),
+    }
+}

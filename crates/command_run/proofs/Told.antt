@@ -1,0 +1,68 @@
+-- From how a run ended to what it is told as: by the code, and by the meaning of its source.
+use Rattle.std.proofs.Common.{◌≡◌, ◌∙◌, ℕ, List, refl, sym, ap, subst}
+use Rattle.std.specs.Prelude.{Result, Ok, Err}
+use Rattle.std.specs.declared.vec.Vec.{Vec}
+use Rattle.std.specs.declared.alloc.Global.{Global}
+use Rattle.fip_language.specs.Meaning.{Answer, Gives, Trap, Out, Deep, Stuck}
+use Rattle.fip_language.specs.Table.{Table}
+use Rattle.fip_language.specs.Values.{Values}
+use Rattle.command_words.specs.Words.{Room}
+use Rattle.command_outcome.specs.declared.failure.Failure.{Failure}
+use Rattle.command_outcome.specs.declared.failure.Failure.TheVariants as F
+use Rattle.machine_semantics.specs.Runs as C
+use Rattle.machine_semantics.specs.Runs.{End}
+use Rattle.machine_semantics.specs.States.{State}
+use Rattle.fip_machine.specs.declared.machine.Ended.{Ended}
+use Rattle.fip_machine.specs.declared.machine.Ended.TheVariants as M
+use Rattle.tree_refinement.specs.Agreement.{AreWordsOf}
+use Rattle.machine_correctness.specs.Ended.{EndsJustAs}
+use Rattle.machine_correctness.specs.Meant.{IsMeant}
+use Rattle.machine_correctness.proofs.Texts.{printable}
+use Rattle.command_eval.specs.EvalAnswer.{OrNoMemory}
+use Rattle.command_run.specs.CodeRun.{TellsCode}
+use Rattle.command_run.specs.ExecAnswer.{TellsRun}
+use Rattle.command_run.specs.Starting.{TellsEnded}
+
+-- what is said of a result, or memory is wanting
+pub said : (P Q : Result (List ℕ) Failure → Type 0) → ((e : Result (List ℕ) Failure) → P e → Q e) → (o : Result (Vec ℕ Global) Failure) → OrNoMemory P o → OrNoMemory Q o
+said P Q f (Ok text) h = f (Ok text.items) h
+said P Q f (Err F.NoMemory) h = tt
+said P Q f (Err failure) h = f (Err failure) h
+
+-- ---- by the code
+
+module _ (tb : Table) (types : List ℕ) (room : Room) (frames : ℕ) (behind : List ℕ) where
+  value_told : (ws : List ℕ) (l : State) (o : Ended) (last : State) (given : List ℕ) (e : Result (List ℕ) Failure) → EndsJustAs (C.Value ws) l o last given → ((vs : Values) × AreWordsOf tb l.store types ws vs) → TellsEnded tb types room behind last.store given o e → TellsCode tb types room.calls frames behind l (C.Value ws) e
+  value_told ws l o last given e h stand told =
+      let vs : Values = stand.0 in
+      let words : AreWordsOf tb l.store types given vs = subst (λ us. AreWordsOf tb l.store types us vs) (sym h.2) stand.1 in
+      let there : AreWordsOf tb last.store types given vs = subst (λ (u : State). AreWordsOf tb u.store types given vs) (sym h.1) words in
+      let value : TellsEnded tb types room behind last.store given M.Value e = subst (λ o. TellsEnded tb types room behind last.store given o e) h.0 told in
+      (vs, stand.1, value vs (printable tb last.store types given vs there))
+
+  pub told_code : (end : End) (l : State) (o : Ended) (last : State) (given : List ℕ) (e : Result (List ℕ) Failure) → EndsJustAs end l o last given → ((ws : List ℕ) → end ≡ C.Value ws → (vs : Values) × AreWordsOf tb l.store types ws vs) → (end ≡ C.Deep → room.frames ≡ frames) → TellsEnded tb types room behind last.store given o e → TellsCode tb types room.calls frames behind l end e
+  told_code (C.Value ws) l o last given e h stand deep told = value_told ws l o last given e h (stand ws refl) told
+  told_code (C.Trap kind line col) l o last given e h stand deep told = subst (λ o. TellsEnded tb types room behind last.store given o e) h.0 told
+  told_code C.Out l o last given e h stand deep told = subst (λ o. TellsEnded tb types room behind last.store given o e) h.0 told
+  told_code C.Deep l o last given e h stand deep told =
+      let out : e ≡ Err (F.OutOfFrames room.frames) = subst (λ o. TellsEnded tb types room behind last.store given o e) h.0 told in
+      out ∙ ap (λ n. Err (F.OutOfFrames n)) (deep refl)
+  told_code C.Unsound l o last given e h stand deep told = absurd h
+
+  -- ---- by the meaning
+
+  pub told_meant : (o : Ended) (last : State) (given : List ℕ) (a : Answer) (e : Result (List ℕ) Failure) → IsMeant tb types o last given a → (a ≡ Deep → room.frames ≡ frames) → TellsEnded tb types room behind last.store given o e → TellsRun tb types room.calls frames (λ _. behind) a e
+  told_meant M.Value last given (Gives vs left) e h deep told = told vs (printable tb last.store types given vs h)
+  told_meant M.Value last given (Trap kind line col) e h deep told = absurd h
+  told_meant M.Value last given Out e h deep told = absurd h
+  told_meant M.Value last given Deep e h deep told = absurd h
+  told_meant M.Value last given Stuck e h deep told = absurd h
+  told_meant (M.Trap kind line col) last given (Gives vs left) e h deep told = absurd h
+  told_meant (M.Trap kind line col) last given (Trap l row at) e h deep told = let same : e ≡ Err (F.Trap l row at) = cc in same
+  told_meant (M.Trap kind line col) last given Out e h deep told = absurd h
+  told_meant (M.Trap kind line col) last given Deep e h deep told = absurd h
+  told_meant (M.Trap kind line col) last given Stuck e h deep told = absurd h
+  told_meant M.Out last given a e h deep told = subst (λ a. TellsRun tb types room.calls frames (λ _. behind) a e) (sym h) told
+  told_meant M.Deep last given a e h deep told =
+      let frames_are = deep h in
+      subst (λ a. TellsRun tb types room.calls frames (λ _. behind) a e) (sym h) (told ∙ ap (λ n. Err (F.OutOfFrames n)) frames_are)

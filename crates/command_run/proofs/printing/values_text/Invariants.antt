@@ -1,0 +1,9 @@
+use Rattle.fip_language.specs.PrintedText.{printed_lines}
+use Rattle.fip_language.specs.Values.{Values}
+use Rattle.machine_cells.specs.Small.{IsSmall}
+use Rattle.machine_correctness.specs.Meant.{ArePrintable}
+use Rattle.command_run.proofs.Lines.{IsPrinting}
+use Rattle.command_run.proofs.printing.values_text.Given as goal
+
+abbrev pub invariant-loop-ty : goal.invariant-loop-ty
+invariant-loop-ty l = (vs : Values) → IsSmall l.cells.cells → ArePrintable l.table l.cells.cells l.types l.words vs → IsPrinting l.table l.cells.cells l.ty-iterator.a.rest.now l.ty-iterator.b.rest.now l.text.items (printed_lines l.table l.types vs)

@@ -1,0 +1,80 @@
+use Rattle.std.proofs.Common.{subst}
+use Rattle.code_verify.specs.Checked.{Checked, HasMachineInts}
+use Rattle.command_words.specs.View.{room_of}
+use Rattle.fip_machine.specs.GaugeView.{IsUnseen}
+use Rattle.machine_cells.specs.Small.{store_of}
+use Rattle.code_rules.specs.Breaks.{IsSound}
+use Rattle.code_rules.specs.Codes.{plain}
+use Rattle.code_rules.specs.Tables.{AreSoundTables}
+use Rattle.machine_correctness.proofs.Literals.{has_literals}
+use Rattle.command_run.proofs.Entry as N
+use Rattle.command_run.proofs.Execs as X
+use Rattle.command_run.proofs.FileTypes.{file_table}
+use Rattle.command_run.proofs.Leaving.{left_cells}
+use Rattle.command_run.proofs.Ran.{ran}
+use Rattle.command_run.proofs.RunsCode as D
+use Rattle.command_run.proofs.running.run_leaving.Goals as goal
+
+pub returns-in-Err-clause-means : goal.returns-in-Err-clause-means
+returns-in-Err-clause-means c = λ source name ready is room le.
+    let r = c.args.ready.now in
+    let literals = has_literals (plain r.checked.code) (subst (λ (v : Checked). HasMachineInts (plain v.code)) c.verified.ensures.same c.code.ensures.literals) in
+    X.keeps_exec source name c.args.input.now r ready is literals (room_of c.args.room) c.args.gauge c.in-Err.failure (c.in-Err.ensures.keeps (N.table_sound source name r ready is) room le)
+
+pub returns-in-Err-clause-runs : goal.returns-in-Err-clause-runs
+returns-in-Err-clause-runs c = λ bytes name is room le.
+    let r = c.args.ready.now in
+    let tables = subst (λ (v : Checked). AreSoundTables (plain v.code)) c.verified.ensures.same c.code.ensures.tables in
+    D.keeps_code bytes name c.args.input.now r is (room_of c.args.room) c.args.gauge c.in-Err.failure (c.in-Err.ensures.keeps (file_table bytes r.checked.code is.file tables) room le)
+
+pub returns-then-is_run_end-clause-means : goal.returns-then-is_run_end-clause-means
+returns-then-is_run_end-clause-means c = λ source name ready is room le.
+    let r = c.args.ready.now in
+    let sound = subst (λ (v : Checked). IsSound (plain v.code)) c.verified.ensures.same c.code.ensures.sound in
+    let literals = has_literals (plain r.checked.code) (subst (λ (v : Checked). HasMachineInts (plain v.code)) c.verified.ensures.same c.code.ensures.literals) in
+    let unseen : IsUnseen c.new-seen.result = record { seen = c.new-seen.ensures.unseen; highest = c.new-seen.ensures.highest; frames = c.new-seen.ensures.frames; words = c.new-seen.ensures.words } in
+    let st = c.in-Ok.ensures.begins (N.table_sound source name r ready is) room le in
+    let q = ran r c.args.input.now (room_of c.args.room) c.in-Ok.machine st c.run-ended.result c.run-ended.new.self c.run-ended.new.gauge (record { sound = sound; literals = literals }) c.run-ended.ensures.run (c.run-ended.ensures.gauge unseen) in
+    X.finished source name c.args.input.now r ready is literals (room_of c.args.room) c.args.gauge c.in-Ok.machine st c.run-ended.result c.run-ended.new.self c.run-ended.new.gauge q c.told-end.result (c.told-end.ensures.tells is.named.function st.has_frames.held is.named.there st.has_frames.stack q.small)
+
+pub returns-then-is_run_end-clause-runs : goal.returns-then-is_run_end-clause-runs
+returns-then-is_run_end-clause-runs c = λ bytes name is room le.
+    let r = c.args.ready.now in
+    let sound = subst (λ (v : Checked). IsSound (plain v.code)) c.verified.ensures.same c.code.ensures.sound in
+    let literals = has_literals (plain r.checked.code) (subst (λ (v : Checked). HasMachineInts (plain v.code)) c.verified.ensures.same c.code.ensures.literals) in
+    let tables = subst (λ (v : Checked). AreSoundTables (plain v.code)) c.verified.ensures.same c.code.ensures.tables in
+    let unseen : IsUnseen c.new-seen.result = record { seen = c.new-seen.ensures.unseen; highest = c.new-seen.ensures.highest; frames = c.new-seen.ensures.frames; words = c.new-seen.ensures.words } in
+    let st = c.in-Ok.ensures.begins (file_table bytes r.checked.code is.file tables) room le in
+    let q = ran r c.args.input.now (room_of c.args.room) c.in-Ok.machine st c.run-ended.result c.run-ended.new.self c.run-ended.new.gauge (record { sound = sound; literals = literals }) c.run-ended.ensures.run (c.run-ended.ensures.gauge unseen) in
+    D.finished bytes name c.args.input.now r is (room_of c.args.room) c.args.gauge c.in-Ok.machine st c.run-ended.result c.run-ended.new.self c.run-ended.new.gauge q c.told-end.result (c.told-end.ensures.tells is.named.function st.has_frames.held is.named.there st.has_frames.stack q.small)
+
+pub returns-else-is_run_end-clause-means : goal.returns-else-is_run_end-clause-means
+returns-else-is_run_end-clause-means c = λ source name ready is room le.
+    let r = c.args.ready.now in
+    let sound = subst (λ (v : Checked). IsSound (plain v.code)) c.verified.ensures.same c.code.ensures.sound in
+    let literals = has_literals (plain r.checked.code) (subst (λ (v : Checked). HasMachineInts (plain v.code)) c.verified.ensures.same c.code.ensures.literals) in
+    let unseen : IsUnseen c.new-seen.result = record { seen = c.new-seen.ensures.unseen; highest = c.new-seen.ensures.highest; frames = c.new-seen.ensures.frames; words = c.new-seen.ensures.words } in
+    let st = c.in-Ok.ensures.begins (N.table_sound source name r ready is) room le in
+    let q = ran r c.args.input.now (room_of c.args.room) c.in-Ok.machine st c.run-ended.result c.run-ended.new.self c.run-ended.new.gauge (record { sound = sound; literals = literals }) c.run-ended.ensures.run (c.run-ended.ensures.gauge unseen) in
+    X.finished source name c.args.input.now r ready is literals (room_of c.args.room) c.args.gauge c.in-Ok.machine st c.run-ended.result c.run-ended.new.self c.run-ended.new.gauge q c.told-end.result (c.told-end.ensures.tells is.named.function st.has_frames.held is.named.there st.has_frames.stack q.small)
+
+pub returns-else-is_run_end-clause-runs : goal.returns-else-is_run_end-clause-runs
+returns-else-is_run_end-clause-runs c = λ bytes name is room le.
+    let r = c.args.ready.now in
+    let sound = subst (λ (v : Checked). IsSound (plain v.code)) c.verified.ensures.same c.code.ensures.sound in
+    let literals = has_literals (plain r.checked.code) (subst (λ (v : Checked). HasMachineInts (plain v.code)) c.verified.ensures.same c.code.ensures.literals) in
+    let tables = subst (λ (v : Checked). AreSoundTables (plain v.code)) c.verified.ensures.same c.code.ensures.tables in
+    let unseen : IsUnseen c.new-seen.result = record { seen = c.new-seen.ensures.unseen; highest = c.new-seen.ensures.highest; frames = c.new-seen.ensures.frames; words = c.new-seen.ensures.words } in
+    let st = c.in-Ok.ensures.begins (file_table bytes r.checked.code is.file tables) room le in
+    let q = ran r c.args.input.now (room_of c.args.room) c.in-Ok.machine st c.run-ended.result c.run-ended.new.self c.run-ended.new.gauge (record { sound = sound; literals = literals }) c.run-ended.ensures.run (c.run-ended.ensures.gauge unseen) in
+    D.finished bytes name c.args.input.now r is (room_of c.args.room) c.args.gauge c.in-Ok.machine st c.run-ended.result c.run-ended.new.self c.run-ended.new.gauge q c.told-end.result (c.told-end.ensures.tells is.named.function st.has_frames.held is.named.there st.has_frames.stack q.small)
+
+pub returns-then-is_run_end-clause-left : goal.returns-then-is_run_end-clause-left
+returns-then-is_run_end-clause-left c = λ table room le.
+    let r = c.args.ready.now in
+    let sound = subst (λ (v : Checked). IsSound (plain v.code)) c.verified.ensures.same c.code.ensures.sound in
+    let literals = has_literals (plain r.checked.code) (subst (λ (v : Checked). HasMachineInts (plain v.code)) c.verified.ensures.same c.code.ensures.literals) in
+    let unseen : IsUnseen c.new-seen.result = record { seen = c.new-seen.ensures.unseen; highest = c.new-seen.ensures.highest; frames = c.new-seen.ensures.frames; words = c.new-seen.ensures.words } in
+    let st = c.in-Ok.ensures.begins table room le in
+    let q = ran r c.args.input.now (room_of c.args.room) c.in-Ok.machine st c.run-ended.result c.run-ended.new.self c.run-ended.new.gauge (record { sound = sound; literals = literals }) c.run-ended.ensures.run (c.run-ended.ensures.gauge unseen) in
+    left_cells r c.args.input.now (room_of c.args.room) c.in-Ok.machine st c.run-ended.result c.run-ended.new.self c.run-ended.new.gauge (store_of c.into_sealed.result.cells c.into_sealed.result.released) q c.into_sealed.ensures.cells

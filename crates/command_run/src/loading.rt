@@ -1,0 +1,100 @@
+// A machine at the start of a function, with its arguments in a new store.
+ghost use Rattle.std.specs.Prelude.{◌≡◌, ◌≤◌, false, length, IfOk, IfErr};
+ghost use Rattle.fip_language.specs.declared.limits.TheConstants.{MOST_FILE_BYTES, MOST_FRAMES, MOST_STORE_WORDS};
+ghost use Rattle.fip_language.specs.SoundTable.{IsSoundTable};
+ghost use Rattle.command_words.specs.View.{room_of};
+ghost use Rattle.command_outcome.specs.Stages.{IsOfRun};
+ghost use Rattle.code_rules.specs.Codes.{plain};
+ghost use Rattle.code_rules.specs.StackNumbers.{HasStack};
+ghost use Rattle.value_text.specs.Loaded.{types_of, IsGiven};
+ghost use Rattle.command_run.specs.CodeRun.{is_run_failure};
+ghost use Rattle.command_run.specs.Rooms.{IsAllowed};
+ghost use Rattle.command_run.specs.Starting.{IsInNewStore, HasFrames, KeepsFromLoading, IsStarted, KeepsFromStart};
+
+use cell_store::Loader;
+use command_words::Room;
+use command_outcome::Failure;
+use fip_base::plain::{Param, Stack};
+use fip_base::table::TypeTable;
+use fip_language::limits::{MOST_FRAMES, MOST_STORE_WORDS};
+use fip_machine::Machine;
+use command_source::Ready;
+use std::alloc::Global;
+use value_text::{LoadError, load_values};
+
+// The arguments of a function in a new store of so many words, at most 16,777,216, and a cell for each of its credits.
+// A bad input where the bytes are no text of the parameters' types; else too small where the cells need more words.
+fn loaded(
+    alloc: Global,
+    types: &TypeTable,
+    params: &[Param],
+    credits: &[u8],
+    input: &[u8],
+    words: u64,
+) -> Result<(Loader, Vec<u64>), Failure>
+    ensures loads { IsGiven types.now (types_of params.now) credits.now input.now → words ≤ MOST_STORE_WORDS →
+        IfOk result (λ r. IsInNewStore types.now (types_of params.now) credits.now input.now words r.0 r.1.items) }
+    ensures keeps { IsGiven types.now (types_of params.now) credits.now input.now → words ≤ MOST_STORE_WORDS →
+        IfErr result (KeepsFromLoading types.now (types_of params.now) credits.now input.now words) }
+    ensures before { IfErr result (λ f. is_run_failure f ≡ false) }
+    ensures stage { IfErr result IsOfRun }
+{
+    let loader = Loader::new(alloc, words.min(MOST_STORE_WORDS as u64) as usize);
+    match load_values(alloc, types, params, credits, input, loader) {
+        Ok((loader, words)) => {
+            prove!(loader.left() <= MOST_STORE_WORDS);
+            Ok((loader, words))
+        }
+        Err(LoadError::BadValue { at, .. }) => Err(Failure::BadInput { at }),
+        Err(LoadError::Full { needed, words, .. }) => Err(Failure::TooSmall {
+            needed,
+            given: words,
+        }),
+        Err(LoadError::NoMemory) => Err(Failure::NoMemory),
+    }
+}
+
+/// What a run of the function holds of the stack at the most; none where it isn't fip.
+pub(crate) fn bound_of(ready: &Ready) -> Option<Stack>
+    ensures exact { HasStack (plain ready.now.checked.code) ready.now.entry result }
+{
+    ready.verified().code_stack(ready.entry())
+}
+
+// The frames of a run: those that a fip function needs, or so many, at most 1,000,000.
+fn frames_for(ready: &Ready, frames: u64) -> usize
+    ensures few { result ≤ MOST_FRAMES }
+    ensures exact { frames ≤ MOST_FRAMES → HasFrames ready.now frames result }
+{
+    prove!(ready.entry() < ready.verified().code().functions.len());
+    match bound_of(ready) {
+        Some(bound) => bound.frames.min(MOST_FRAMES),
+        None => frames.min(MOST_FRAMES as u64) as usize,
+    }
+}
+
+/// The machine at the start of the function, with its arguments in a new store. A bad input where the bytes are no text
+/// of the parameters' types; else too small where the cells of the input and of the header's credits need more words
+/// than the room has.
+pub fn started<'a>(
+    alloc: Global,
+    ready: &'a Ready,
+    input: &[u8],
+    room: Room,
+) -> Result<Machine<'a>, Failure>
+    ensures begins { IsSoundTable ready.now.checked.code.types → IsAllowed room → length input.now ≤ MOST_FILE_BYTES →
+        IfOk result (IsStarted ready.now input.now (room_of room)) }
+    ensures keeps { IsSoundTable ready.now.checked.code.types → IsAllowed room → length input.now ≤ MOST_FILE_BYTES →
+        IfErr result (KeepsFromStart ready.now input.now (room_of room)) }
+    ensures before { IfErr result (λ f. is_run_failure f ≡ false) }
+    ensures stage { IfErr result IsOfRun }
+{
+    let function = ready.function();
+    let params = function.params.as_slice();
+    let credits = function.credits.as_slice();
+    let types = &ready.verified().code().types;
+    let frames = frames_for(ready, room.frames);
+    let (loader, words) = loaded(alloc, types, params, credits, input, room.words)?;
+    let entry = ready.entry();
+    Ok(Machine::start(alloc, ready.verified(), entry, loader, words, frames)?)
+}

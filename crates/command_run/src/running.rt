@@ -1,0 +1,179 @@
+// A run on the machine.
+ghost use Rattle.std.specs.Prelude.{◌≡◌, ◌≤◌, ◌++◌, ℕ, List, Option, Some, length, slice_get, is_some};
+ghost use Rattle.std.specs.Prelude.{IfOk, IfErr, IfSome};
+ghost use Rattle.fip_language.specs.declared.limits.TheConstants.{MOST_FILE_BYTES};
+ghost use Rattle.fip_language.specs.PrintedText.{printed_lines};
+ghost use Rattle.fip_language.specs.SoundTable.{IsSoundTable};
+ghost use Rattle.fip_language.specs.Values.{Values};
+ghost use Rattle.fip_base.specs.declared.plain.Stack.{Stack as a_stack};
+ghost use Rattle.cell_code.specs.declared.code.Function.{Function as a_function};
+ghost use Rattle.command_words.specs.View.{room_of};
+ghost use Rattle.command_outcome.specs.Stages.{IsOfRun};
+ghost use Rattle.machine_cells.specs.Small.{IsSmall, store_of};
+ghost use Rattle.code_rules.specs.Codes.{plain};
+ghost use Rattle.code_rules.specs.StackNumbers.{HasStack};
+ghost use Rattle.machine_correctness.specs.Meant.{ArePrintable};
+ghost use Rattle.command_source.specs.Entries.{IsFunctionOf};
+ghost use Rattle.command_source.specs.ProgramCode.{IsEntryOf};
+ghost use Rattle.command_source.specs.Wanted.{Compiled, IsReady};
+ghost use Rattle.command_eval.specs.EvalAnswer.{OrNoMemory};
+ghost use Rattle.command_run.specs.CodeRun.{is_run_end, IsLeft, RunsCode};
+ghost use Rattle.command_run.specs.ExecAnswer.{Execs};
+ghost use Rattle.command_run.specs.GaugeText.{if_asked};
+ghost use Rattle.command_run.specs.Rooms.{IsAllowed};
+ghost use Rattle.command_run.specs.Starting.{failure_for, gauge_lines, TellsEnded};
+
+use crate::loading::{bound_of, started};
+use crate::printing::{put_gauge, values_text};
+use cell_store::Sealed;
+use command_words::Room;
+use command_outcome::Failure;
+use fip_base::plain::NoMemory;
+use fip_base::table::TypeTable;
+use fip_machine::{Ended, Gauge, Machine};
+use command_source::Ready;
+use std::alloc::Global;
+
+/// The types of the code.
+pub fn types_of(ready: &Ready) -> &TypeTable
+    ensures same { result.now ≡ ready.now.checked.code.types }
+{
+    &ready.verified().code().types
+}
+
+/// What keeps a run that ended so from its value; none where it ended with one.
+pub fn failure_of(ended: Ended, calls: u64, frames: u64) -> Option<Failure>
+    ensures exact { result ≡ failure_for ended calls frames }
+    ensures stage { IfSome result IsOfRun }
+{
+    match ended {
+        Ended::Value => None,
+        Ended::Trap { kind, line, col } => Some(Failure::Trap { kind, line, col }),
+        Ended::Out => Some(Failure::OutOfCalls { given: calls }),
+        Ended::Deep => Some(Failure::OutOfFrames {
+            given: frames as usize,
+        }),
+    }
+}
+
+// The lines of the results of a run that ended with a value, and behind them the gauge's where they are asked for.
+fn results_text(
+    alloc: Global,
+    ready: &Ready,
+    machine: &Machine<'_>,
+    seen: &Gauge,
+    gauge: bool,
+) -> Result<Vec<u8>, NoMemory>
+    ensures lines { (f : a_function) (held : Option a_stack) (vs : Values) →
+        slice_get ready.now.checked.code.functions.items ready.now.entry ≡ Some f →
+        HasStack (plain ready.now.checked.code) ready.now.entry held → IsSmall machine.now.store.cells →
+        ArePrintable ready.now.checked.code.types machine.now.store.cells f.results machine.now.stack.given vs →
+        IfOk result (λ text. text.items ≡ printed_lines ready.now.checked.code.types f.results vs
+        ++ if_asked gauge (gauge_lines seen.now held)) }
+{
+    let types = ready.function().results.as_slice();
+    let words = machine.results();
+    let mut text = values_text(alloc, types_of(ready), machine.cells(), types, words)?;
+    if gauge {
+        put_gauge(alloc, &mut text, seen, bound_of(ready))?;
+    }
+    Ok(text)
+}
+
+// How a run ended, told.
+fn told(
+    alloc: Global,
+    ready: &Ready,
+    machine: &Machine<'_>,
+    ended: Ended,
+    seen: &Gauge,
+    room: Room,
+    gauge: bool,
+) -> Result<Vec<u8>, Failure>
+    ensures tells { (f : a_function) (held : Option a_stack) →
+        slice_get ready.now.checked.code.functions.items ready.now.entry ≡ Some f →
+        HasStack (plain ready.now.checked.code) ready.now.entry held → IsSmall machine.now.store.cells →
+        OrNoMemory (TellsEnded ready.now.checked.code.types f.results (room_of room)
+        (if_asked gauge (gauge_lines seen.now held)) machine.now.store machine.now.stack.given ended) result }
+    ensures stage { IfErr result IsOfRun }
+{
+    match failure_of(ended, room.calls, room.frames) {
+        Some(failure) => Err(failure),
+        None => Ok(results_text(alloc, ready, machine, seen, gauge)?),
+    }
+}
+
+// Whether a run ended with it: with values, in a trap, or out of calls or of frames.
+fn is_run_end(end: &Result<Vec<u8>, Failure>) -> bool
+    ensures is { result ≡ is_run_end end.now }
+{
+    match end {
+        Ok(_) => true,
+        Err(Failure::Trap { .. }) => true,
+        Err(Failure::OutOfCalls { .. }) => true,
+        Err(Failure::OutOfFrames { .. }) => true,
+        Err(_) => false,
+    }
+}
+
+/// Runs the function as `run` does, and hands out the cells as its run left them: just where a run ended, with values,
+/// in a trap, or out of calls or of frames. For a host that reads the store.
+pub fn run_leaving(
+    alloc: Global,
+    ready: &Ready,
+    input: &[u8],
+    room: Room,
+    gauge: bool,
+) -> (Result<Vec<u8>, Failure>, Option<Sealed>)
+    // The end is what the source means, where the code is that of a source,
+    ensures means { (source name : List ℕ) → IsReady source (Compiled name) → IsEntryOf source name ready.now →
+        IsAllowed room → length input.now ≤ MOST_FILE_BYTES →
+        OrNoMemory (Execs source name input.now (room_of room) gauge) result.0 }
+    // and what the runs of the code come to, where it is that of a file.
+    ensures runs { (bytes name : List ℕ) → IsFunctionOf bytes name ready.now → IsAllowed room →
+        length input.now ≤ MOST_FILE_BYTES → OrNoMemory (RunsCode bytes name input.now (room_of room) gauge) result.0 }
+    // The cells are those of the last state of a run of the code.
+    ensures left { IsSoundTable ready.now.checked.code.types → IsAllowed room → length input.now ≤ MOST_FILE_BYTES →
+        IfSome result.1 (λ s. IsLeft (plain ready.now.checked.code) ready.now.entry input.now (room_of room)
+        (store_of s.cells s.released)) }
+    ensures some { is_some result.1 ≡ is_run_end result.0 }
+    ensures stage { IfErr result.0 IsOfRun }
+{
+    prove!(ready.entry() < ready.verified().code().functions.len());
+    let mut machine = match started(alloc, ready, input, room) {
+        Ok(machine) => machine,
+        Err(failure) => return (Err(failure), None),
+    };
+    let mut seen = Gauge::new();
+    let ended = machine.run(room.calls, &mut seen);
+    let end = told(alloc, ready, &machine, ended, &seen, room, gauge);
+    if is_run_end(&end) {
+        (end, Some(machine.into_sealed()))
+    } else {
+        (end, None)
+    }
+}
+
+/// Runs the function on the text of its arguments: the lines of its results, with the gauge's behind them where they
+/// are asked for. A bad input where the bytes are no text of the parameters' types; else too small where the cells of
+/// the input and of the header's credits need more words than the room has; else what the run ends with, where it isn't
+/// a value: a trap, out of calls, or out of frames, which a fip function never is.
+pub fn run(
+    alloc: Global,
+    ready: Ready,
+    input: &[u8],
+    room: Room,
+    gauge: bool,
+) -> Result<Vec<u8>, Failure>
+    // It is what the source means, where the code is that of a source,
+    ensures means { (source name : List ℕ) → IsReady source (Compiled name) → IsEntryOf source name ready →
+        IsAllowed room → length input.now ≤ MOST_FILE_BYTES →
+        OrNoMemory (Execs source name input.now (room_of room) gauge) result }
+    // and what the runs of the code come to, where it is that of a file.
+    ensures runs { (bytes name : List ℕ) → IsFunctionOf bytes name ready → IsAllowed room →
+        length input.now ≤ MOST_FILE_BYTES → OrNoMemory (RunsCode bytes name input.now (room_of room) gauge) result }
+    ensures stage { IfErr result IsOfRun }
+{
+    let (end, _left) = run_leaving(alloc, &ready, input, room, gauge);
+    end
+}

@@ -1,0 +1,139 @@
+-- From what was lowered, verified and written to what is said of a code that is made of a source, and of its file.
+use Rattle.std.proofs.Common.{◌≡◌, ◌∙◌, ◌<◌, ◌≤◌, Option, Some, None, slice_get, ℕ, zero, suc, arith, List, [], ◌∷◌, map, length, refl, sym, ap, subst, inl, inr}
+use Rattle.std.specs.Prelude.{Result, Ok, Err, IfOk, IfSome}
+use Rattle.cell_code.specs.declared.code.Code.{Code}
+use Rattle.cell_code.specs.declared.code.Function.{Function}
+use Rattle.cell_lower.specs.Lowered as L
+use Rattle.cell_code.specs.declared.kind.Label.{Label}
+use Rattle.cell_lower.specs.Limits.{registers, registers_of}
+use Rattle.cell_lower.specs.Lowered.{all_instrs}
+use Rattle.cell_lower.specs.Sizes.{IsSmall, AreSmall}
+use Rattle.code_size.specs.Bounds.{IsWithin, most_for, most_labels}
+use Rattle.code_size.specs.Places.{places}
+use Rattle.cell_lower.specs.Shape.{header, headers}
+use Rattle.machine_semantics.specs.Codes as R
+use Rattle.lowering_relation.specs.LoweredBodies.{function_of}
+use Rattle.lowering_relation.specs.LoweredFunctions.{AreLowered}
+use Rattle.lower_frame.specs.Spelled.{AreSpelt}
+use Rattle.compiler_correctness.proofs.EncodingWhole.{typed_has_file}
+use Rattle.code_file.specs.CodeText.{CodeText}
+use Rattle.code_file.specs.Plain.{PlainFunction, plain_code, plain_function, plain_label}
+use Rattle.code_file.specs.declared.tags.Version.TheVariants.{Second}
+use Rattle.fip_base.specs.declared.refusal.Refusal.{Refusal}
+use Rattle.fip_language.specs.declared.rule.Rule.TheVariants.{E61}
+use Rattle.fip_trees.specs.declared.groups.Member.{Member}
+use Rattle.fip_trees.specs.Tree.{Instance, Program}
+use Rattle.fip_trees.specs.TreeView.{program}
+use Rattle.code_rules.specs.Breaks.{IsSound}
+use Rattle.code_rules.specs.Codes as S
+use Rattle.code_rules.specs.StackNumbers.{HasStack}
+use Rattle.tail_groups.specs.Members.{AreMembers}
+use Rattle.source_report.specs.Report.{bare, IsAccepted}
+use Rattle.command_outcome.specs.declared.failure.Failure.{Failure}
+use Rattle.command_outcome.specs.declared.failure.Failure.TheVariants as F
+use Rattle.command_source.specs.Codes.{IsSoundFile, IsUnspelt}
+use Rattle.command_source.specs.ProgramCode.{plain_header, instrs_of, AreWithin, IsLoweredFrom, IsCodeOfSource, IsEntryOf, IsCompiledFile, HasFile, IsUncompiled, KeepsFromCompile}
+use Rattle.command_source.specs.Entries.{Chosen, IsNamed, IsFunctionOf}
+use Rattle.command_source.specs.Wanted.{Lawful, IsReady, IsRefusedBy}
+use Rattle.command_source.specs.declared.known.Front.{Front}
+use Rattle.command_source.proofs.CodeFiles.{view_same}
+
+pub headers_same : (fs : List Function) → map plain_header (map plain_function fs) ≡ map header fs
+headers_same [] = refl
+headers_same (f ∷ fs) = ap (λ hs. header f ∷ hs) (headers_same fs)
+
+pub instrs_same : (fs : List Function) → map instrs_of (map plain_function fs) ≡ map L.instrs_of (map R.plain_function fs)
+instrs_same [] = refl
+instrs_same (f ∷ fs) = ap (λ is. f.instrs.items ∷ is) (instrs_same fs)
+
+-- the registers that the groups tell are the instance's
+member_there : (ds : List Instance) (ms : List Member) (i : ℕ) (d : Instance) → length ms ≡ length ds → slice_get ds i ≡ Some d → (m : Member) × (slice_get ms i ≡ Some m)
+member_there [] ms i d e f = absurd (cc)
+member_there (c ∷ ds) [] i d e f = absurd (omega (arith, e))
+member_there (c ∷ ds) (m ∷ ms) zero d e f = (m, refl)
+member_there (c ∷ ds) (m ∷ ms) (suc i) d e f = member_there ds ms i d (omega (arith, e)) f
+
+function_there : (fs : List Function) (n : ℕ) (f : PlainFunction) → slice_get (map plain_function fs) n ≡ Some f → (g : Function) × (slice_get fs n ≡ Some g) × (plain_function g ≡ f)
+function_there [] n f e = absurd (cc)
+function_there (g ∷ fs) zero f e = (g, refl, same_some (plain_function g) f e)
+  where
+    same_some : (x y : PlainFunction) → Some x ≡ Some y → x ≡ y
+    same_some x y h = cc
+function_there (g ∷ fs) (suc n) f e = function_there fs n f e
+
+as_many_labels : (ls : List Label) → length (map plain_label ls) ≡ length ls
+as_many_labels [] = refl
+as_many_labels (l ∷ ls) = ap suc (as_many_labels ls)
+
+within : (p : Program) (ms : List Member) (fs : List Function) → AreMembers p.instances ms → AreSmall p ms fs → AreWithin p (map plain_function fs)
+within p ms fs found small i n d f at is there = subst (λ (x : PlainFunction). IsWithin p.types d (length x.instrs) (length x.labels)) g.2 (record {
+  few_instructions = subst (λ r. length g.0.instrs.items ≤ most_for r (places p.types d)) counted h.few_instructions;
+  few_labels = subst (λ l. l ≤ most_labels p.types d) (sym (as_many_labels g.0.labels.items)) h.few_labels;
+})
+  where
+    g : (g : Function) × (slice_get fs n ≡ Some g) × (plain_function g ≡ f)
+    g = function_there fs n f there
+
+    h : IsSmall p.types (registers ms i) d g.0
+    h = small i n d g.0 at is g.1
+
+    m : (m : Member) × (slice_get ms i ≡ Some m)
+    m = member_there p.instances ms i d found.size at
+
+    counted : registers ms i ≡ Rattle.tail_groups.specs.Registers.registers d
+    counted = ap registers_of m.1 ∙ found.counted i d m.0 at m.1
+
+pub headed : (p : Program) (code : Code) (ms : List Member) → AreMembers p.instances ms → code.types ≡ p.types → map header code.functions.items ≡ headers ms p.instances → AreLowered p (all_instrs code) → AreSmall p ms code.functions.items → ((os : List Member) → AreMembers p.instances os → (i n : ℕ) (m : Member) → function_of p.instances i ≡ Some n → slice_get os i ≡ Some m → HasStack (S.plain code) n m.stack) → IsLoweredFrom p (plain_code code)
+headed p code ms found types functions lowered small stacks =
+    record { types = types; members = ms; found = found; functions = headers_same code.functions.items ∙ functions; lowered = subst (AreLowered p) (sym (instrs_same code.functions.items)) lowered; bounded = within p ms code.functions.items found small; stacks = λ os f i n m e there. subst (λ c. HasStack c n m.stack) (sym (view_same code)) (stacks os f i n m e there) }
+
+-- the code is verified, and it is the same
+pub headed_verified : (p : Program) (code : Code) (o : Result Front Failure) → IsLoweredFrom p (plain_code code) → IfOk o (λ f. program f.typed.program ≡ p) → IfOk o (λ f. f.verified.code ≡ code) → IfOk o (λ f. IsLoweredFrom (program f.typed.program) (plain_code f.verified.code))
+headed_verified p code (Ok f) h typed same = subst (λ c. IsLoweredFrom (program f.typed.program) (plain_code c)) (sym same) (subst (λ q. IsLoweredFrom q (plain_code code)) (sym typed) h)
+headed_verified p code (Err f) h typed same = tt
+
+code_of_source : (source : List ℕ) (p : Program) (code : Code) → IsAccepted source p → IsLoweredFrom p (plain_code code) → IsSound (S.plain code) → IsCodeOfSource source (plain_code code)
+code_of_source source p code accepted headed sound =
+    record { program = p; accepted = accepted; lowered = headed; sound = subst IsSound (sym (view_same code)) sound }
+
+pub compiled_file : (source file : List ℕ) (p : Program) (code : Code) → IsAccepted source p → IsLoweredFrom p (plain_code code) → IsSound (S.plain code) → CodeText file Second (plain_code code) → length file ≤ 16777216 → IsCompiledFile source file
+compiled_file source file p code accepted headed sound spelt short =
+    record { code = plain_code code; of' = code_of_source source p code accepted headed sound; spelt = spelt; short = short }
+
+-- a code that was lowered and verified has a file
+has_file : (source : List ℕ) (p : Program) (code : Code) → IsAccepted source p → IsLoweredFrom p (plain_code code) → AreSpelt code.functions.items → IsSound (S.plain code) → HasFile (plain_code code)
+has_file source p code accepted headed spelt sound = typed_has_file source p headed.members code accepted.tailed.credited.owned.matched.typed headed.found headed.types (sym (headers_same code.functions.items) ∙ headed.functions) sound spelt
+
+pub filed_verified : (source : List ℕ) (p : Program) (code : Code) (o : Result Front Failure) → IsAccepted source p → IsLoweredFrom p (plain_code code) → AreSpelt code.functions.items → IfOk o (λ f. f.verified.code ≡ code) → IfOk o (λ f. IsSound (S.plain f.verified.code)) → IfOk o (λ f. HasFile (plain_code f.verified.code))
+filed_verified source p code (Ok f) accepted headed spelt same sound = subst (λ c. HasFile (plain_code c)) (sym same) (has_file source p code accepted headed spelt (subst (λ c. IsSound (S.plain c)) same sound))
+filed_verified source p code (Err f) accepted headed spelt same sound = tt
+
+pub uncompiled : (source : List ℕ) (p : Program) (code : Code) (f : Failure) → IsAccepted source p → IsLoweredFrom p (plain_code code) → IsSound (S.plain code) → HasFile (plain_code code) → ((r : Refusal) → ◌≡◌ {A = Failure} f (F.Refused r) → IsUnspelt (plain_code code)) → IsRefusedBy (λ r. r ≡ bare E61) f → KeepsFromCompile source f
+uncompiled source p code (F.Refused r) accepted headed sound filed unspelt h =
+    inr ((plain_code code, code_of_source source p code accepted headed sound, filed.0, filed.1, unspelt r refl filed.0 filed.1), h)
+uncompiled source p code F.NoMemory accepted headed sound filed unspelt h = inl tt
+uncompiled source p code f accepted headed sound filed unspelt h = absurd h
+
+-- a source of such a code breaks no rule
+pub uncompiled_ready : (source : List ℕ) → IsUncompiled source → IsReady source Lawful
+uncompiled_ready source h = record { program = h.1.program; accepted = h.1.accepted; has = tt }
+
+-- ---- the function that is run
+
+-- a code that was lowered and verified, and its function of a name
+pub entry_of : (source name : List ℕ) (p : Program) (code : Code) (o : Result Chosen Failure) → IsAccepted source p → IsLoweredFrom p (plain_code code) → IfOk o (λ r. r.checked.code ≡ code) → IfOk o (λ r. IsSound (S.plain r.checked.code)) → IfOk o (λ r. IsNamed name r.checked.code.functions.items r.entry) → IfOk o (IsEntryOf source name)
+entry_of source name p code (Ok r) h lowered same sound named = record { code = code_of_source source p r.checked.code h (subst (λ c. IsLoweredFrom p (plain_code c)) (sym same) lowered) sound; named = named }
+entry_of source name p code (Err f) h lowered same sound named = tt
+
+pub sound_kept : (code : Code) (o : Result Chosen Failure) → IsSound (S.plain code) → IfOk o (λ r. r.checked.code ≡ code) → IfOk o (λ r. IsSound (S.plain r.checked.code))
+sound_kept code (Ok r) sound same = subst (λ c. IsSound (S.plain c)) (sym same) sound
+sound_kept code (Err f) sound same = tt
+
+pub named_one : (name : List ℕ) (fs : List Function) (o : Option ℕ) → 0 < length name → IfSome o (λ i. (f : Function) × (slice_get fs i ≡ Some f) × (f.name ≡ name)) → IfSome o (IsNamed name fs)
+named_one name fs None some h = tt
+named_one name fs (Some i) some h = record { some = some; function = h.0; there = h.1; named = h.2 }
+
+-- a code of a file, and its function of a name
+pub chosen_function : (bytes name : List ℕ) (code : Code) (o : Result Chosen Failure) → IsSoundFile bytes (plain_code code) → IfOk o (λ r. r.checked.code ≡ code) → IfOk o (λ r. IsNamed name r.checked.code.functions.items r.entry) → IfOk o (IsFunctionOf bytes name)
+chosen_function bytes name code (Ok r) file same named = record { file = subst (λ c. IsSoundFile bytes (plain_code c)) (sym same) file; named = named }
+chosen_function bytes name code (Err f) file same named = tt

@@ -1,0 +1,8 @@
+use Rattle.command_source.specs.Wanted.{Compiled}
+use Rattle.command_source.proofs.entry.exec_entry.Goals as goal
+
+pub returns-in-Err-clause-kept : goal.returns-in-Err-clause-kept
+returns-in-Err-clause-kept c = c.in-Err.ensures.kept (Compiled c.args.entry.now)
+
+pub returns-in-Ok-clause-kept : goal.returns-in-Ok-clause-kept
+returns-in-Ok-clause-kept c = c.compiled.ensures.kept c.args.source.now c.in-Ok.ensures.accepted c.in-Ok.ensures.code c.in-Ok.ensures.sound

@@ -1,0 +1,17 @@
+use Rattle.fip_trees.specs.TreeView as V
+use Rattle.command_source.specs.Wanted.{Lawful}
+use Rattle.command_source.proofs.Compiling.{headed_verified, filed_verified}
+use Rattle.command_source.proofs.Told.{wanting_keeps}
+use Rattle.command_source.proofs.phases.front.Goals as goal
+
+pub returns-in-Err-clause-kept : goal.returns-in-Err-clause-kept
+returns-in-Err-clause-kept c = c.in-Err.ensures.kept Lawful
+
+pub returns-in-Ok-clause-kept : goal.returns-in-Ok-clause-kept
+returns-in-Ok-clause-kept c = wanting_keeps c.args.source.now Lawful c.verified_front.result (c.verified_front.ensures.wanting c.in-Ok.ensures.sound)
+
+pub returns-in-Ok-clause-code : goal.returns-in-Ok-clause-code
+returns-in-Ok-clause-code c = headed_verified (V.program c.in-Ok.lowered.typed.program) c.in-Ok.lowered.code c.verified_front.result c.in-Ok.ensures.code c.verified_front.ensures.typed c.verified_front.ensures.code
+
+pub returns-in-Ok-clause-filed : goal.returns-in-Ok-clause-filed
+returns-in-Ok-clause-filed c = filed_verified c.args.source.now (V.program c.in-Ok.lowered.typed.program) c.in-Ok.lowered.code c.verified_front.result c.in-Ok.ensures.accepted c.in-Ok.ensures.code c.in-Ok.ensures.spelt c.verified_front.ensures.code c.verified_front.ensures.sound

@@ -1,0 +1,130 @@
+-- What is said of a code file before a function of it is run: its bytes are no code file, or its code isn't sound, or
+-- no function has the entry's name. And what is printed of one: a line for each function that has a name, in the code's
+-- order, as in
+--     rev fip stack 0 frames 9 words
+--     len fbip
+use Rattle.std.specs.Prelude.{◌≡◌, ◌⊎◌, ◌<◌, ◌≤◌, ℕ, suc, Bool, true, false, List, [], ◌∷◌, ◌++◌, map, length, Option}
+use Rattle.std.specs.Prelude.{bytes_eq, if◌then◌else◌}
+use Rattle.fip_language.specs.declared.limits.TheConstants.{MOST_FILE_BYTES}
+use Rattle.fip_language.specs.declared.rule.Rule.TheVariants.{E61, E70}
+use Rattle.fip_language.specs.Prefix.{IsPlace}
+use Rattle.fip_base.specs.declared.plain.Stack.{Stack}
+use Rattle.code_file.specs.CodeText.{CodeText, IsFileOf}
+use Rattle.code_file.specs.Plain.{PlainLabel, PlainFunction, PlainCode}
+use Rattle.code_file.specs.declared.tags.Version.TheVariants.{Second}
+use Rattle.code_rules.specs.Breaks.{IsLeast, IsSound}
+use Rattle.code_rules.specs.Codes as S
+use Rattle.code_rules.specs.StackNumbers.{HasStack}
+use Rattle.source_report.specs.Report.{bare}
+use Rattle.command_source.specs.Wanted.{IsRefusedBy, of_entry}
+use Rattle.command_outcome.specs.Successes.{function_text}
+use Rattle.command_outcome.specs.declared.failure.Failure.{Failure}
+use Rattle.command_outcome.specs.declared.failure.Failure.TheVariants as F
+
+-- ---- the code of a file, as the rules of sound code speak of it
+
+abbrev pub sound_label : PlainLabel → S.LabelMap
+sound_label l = record { at = l.at; kinds = l.kinds }
+
+abbrev pub sound_function : PlainFunction → S.PlainFunction
+sound_function f = record {
+  kind = f.kind;
+  name = f.name;
+  params = f.params;
+  credits = f.credits;
+  results = f.results;
+  registers = f.registers;
+  instrs = f.instrs;
+  labels = map sound_label f.labels;
+}
+
+abbrev pub sound_view : PlainCode → S.PlainCode
+sound_view c = record { types = c.types; functions = map sound_function c.functions }
+
+-- The bytes are the file of this code, which is sound.
+pub record IsSoundFile (bytes : List ℕ) (code : PlainCode) : Type 0 where
+  pub short : length bytes ≤ MOST_FILE_BYTES
+  pub spelt : IsFileOf bytes code
+  pub sound : IsSound (sound_view code)
+
+-- ---- what is said in its place
+
+pub data RefusesCode (bytes : List ℕ) : Failure → Type 0 where
+  LongFile : MOST_FILE_BYTES < length bytes → RefusesCode bytes (F.BadCode MOST_FILE_BYTES)
+  BadFile : (at : ℕ) → length bytes ≤ MOST_FILE_BYTES → IsPlace IsFileOf bytes at → RefusesCode bytes (F.BadCode at)
+  UnsoundFile : (code : PlainCode) (function at : ℕ) (rule : _) → length bytes ≤ MOST_FILE_BYTES →
+      IsFileOf bytes code → IsLeast (sound_view code) function at rule →
+      RefusesCode bytes (F.Unsound function at rule)
+
+-- The same, or want of memory.
+abbrev pub KeepsFromCode : List ℕ → Failure → Type 0
+KeepsFromCode bytes (F.BadCode at) = RefusesCode bytes (F.BadCode at)
+KeepsFromCode bytes (F.Unsound function at rule) = RefusesCode bytes (F.Unsound function at rule)
+KeepsFromCode bytes F.NoMemory = Unit {0}
+KeepsFromCode bytes failure = ⊥
+
+-- ---- its functions
+
+-- what function n of the code holds of the stack at the most, in the line of a function that has a name
+abbrev pub IsLine : S.PlainCode → ℕ → S.PlainFunction → List ℕ → List ℕ → Type 0
+IsLine c n f [] text = text ≡ []
+IsLine c n f (b ∷ name) text =
+    (held : Option Stack) × HasStack c n held × (text ≡ function_text (b ∷ name) f.kind f.credits held)
+
+-- the lines of these functions, of numbers from n on
+abbrev pub AreLines : S.PlainCode → ℕ → List S.PlainFunction → List ℕ → Type 0
+AreLines c n [] text = text ≡ []
+AreLines c n (f ∷ fs) text =
+    (line rest : List ℕ) × IsLine c n f f.name line × AreLines c (suc n) fs rest × (text ≡ line ++ rest)
+
+-- The text is what is printed of the code of these bytes.
+pub record IsCodeListing (bytes text : List ℕ) : Type 0 where
+  pub code : PlainCode
+  pub file : IsSoundFile bytes code
+  pub lines : AreLines (sound_view code) 0 (sound_view code).functions text
+
+-- a function of this name; the empty name names none
+abbrev pub has_named : List ℕ → List S.PlainFunction → Bool
+has_named name [] = false
+has_named name (f ∷ fs) = if bytes_eq f.name name then true else has_named name fs
+
+abbrev pub names_one : List ℕ → List S.PlainFunction → Bool
+names_one [] fs = false
+names_one (b ∷ name) fs = has_named (b ∷ name) fs
+
+-- ---- its file of the second version
+
+-- No file of the second version that isn't too long spells the code.
+abbrev pub IsUnspelt : PlainCode → Type 0
+IsUnspelt code = (file : List ℕ) → CodeText file Second code → MOST_FILE_BYTES < length file
+
+-- The file is that of the second version of the code of these bytes.
+pub record IsUpgraded (bytes file : List ℕ) : Type 0 where
+  pub code : PlainCode
+  pub of' : IsSoundFile bytes code
+  pub spelt : CodeText file Second code
+  pub short : length file ≤ MOST_FILE_BYTES
+
+-- ---- what keeps a code file from more
+
+-- A violation of a code, the least one; or want of memory.
+abbrev pub IsLeastOf : S.PlainCode → Failure → Type 0
+IsLeastOf c (F.Unsound function at rule) = IsLeast c function at rule
+IsLeastOf c F.NoMemory = Unit {0}
+IsLeastOf c failure = ⊥
+
+-- What is said in place of a second version's file, or want of memory.
+abbrev pub KeepsFromUpgrade : List ℕ → Failure → Type 0
+KeepsFromUpgrade bytes failure = KeepsFromCode bytes failure
+    ⊎ ((code : PlainCode) × IsSoundFile bytes code × IsUnspelt code × IsRefusedBy (λ r. r ≡ bare E61) failure)
+
+-- What is said in place of a run of a function, or want of memory.
+abbrev pub KeepsFromRun : List ℕ → List ℕ → Failure → Type 0
+KeepsFromRun bytes entry failure = KeepsFromCode bytes failure
+    ⊎ ((code : PlainCode) × IsSoundFile bytes code × (names_one entry (sound_view code).functions ≡ false)
+    × IsRefusedBy (λ r. r ≡ of_entry E70 entry) failure)
+
+-- The bytes are the file of a sound code that has a function of this name.
+abbrev pub HasFunction : List ℕ → List ℕ → Type 0
+HasFunction bytes entry =
+    (code : PlainCode) × IsSoundFile bytes code × (names_one entry (sound_view code).functions ≡ true)

@@ -1,0 +1,100 @@
+-- The code that `compile` stores of a source, as far as it is said. It is sound, and its types are those of the
+-- source's program. It has a function for each fip and fbip instance, in the order of their numbers: of the instance's
+-- kind, with its parameters, header credits and results, with as many registers as the groups tell, and with the
+-- instance's name where this is a root; and it holds of the stack at the most what the groups tell of the instance, as
+-- `check` prints it of a root. Its instructions are such as the instance is lowered to, so each of its runs ends as the
+-- source means; and it has no more of them, and of label maps, than the instance's places allow. The one that is stored
+-- has a file; E61 is told only where some code of which all this is so has a file that is too long.
+--
+-- Of the source
+--     fip fun rev(xs: list, acc: list): list { .. }
+--     fun dup(^xs: list): pair { .. }
+-- it has one function, which is fip, named rev, and has two parameters and one result; and
+-- `compile list.fip3 list.code` stores the second version's file of this code.
+use Rattle.std.specs.Prelude.{◌≡◌, ◌⊎◌, ◌≤◌, ◌<◌, ℕ, List, map, length, Some, slice_get}
+use Rattle.fip_language.specs.declared.limits.TheConstants.{MOST_FILE_BYTES}
+use Rattle.fip_language.specs.declared.rule.Rule.TheVariants.{E61}
+use Rattle.fip_trees.specs.declared.groups.Member.{Member}
+use Rattle.fip_trees.specs.Tree.{Instance, Program}
+use Rattle.tail_groups.specs.Members.{AreMembers}
+use Rattle.cell_code.specs.declared.code.Instr.{Instr}
+use Rattle.cell_lower.specs.Shape.{Header, headers}
+use Rattle.code_size.specs.Bounds.{IsWithin}
+use Rattle.code_file.specs.CodeText.{CodeText}
+use Rattle.code_file.specs.Plain.{PlainFunction, PlainCode, plain_code}
+use Rattle.code_file.specs.declared.tags.Version.TheVariants.{Second}
+use Rattle.lowering_relation.specs.LoweredBodies.{function_of}
+use Rattle.lowering_relation.specs.LoweredFunctions.{AreLowered}
+use Rattle.code_rules.specs.Breaks.{IsSound}
+use Rattle.code_rules.specs.StackNumbers.{HasStack}
+use Rattle.source_report.specs.Report.{bare, IsAccepted}
+use Rattle.command_source.specs.Codes.{sound_view}
+use Rattle.command_source.specs.Entries.{Chosen, IsNamed}
+use Rattle.command_source.specs.Wanted.{Lawful, IsRefusedBy, KeepsFrom}
+use Rattle.command_outcome.specs.declared.failure.Failure.{Failure}
+
+-- what a function says beside its instructions and labels
+abbrev pub plain_header : PlainFunction → Header
+plain_header f = record {
+  signature = record { kind = f.kind; params = f.params; credits = f.credits; results = f.results };
+  name = f.name;
+  registers = f.registers;
+}
+
+abbrev pub instrs_of : PlainFunction → List Instr
+instrs_of f = f.instrs
+
+-- Function n is that of instance i, and no larger than its places allow.
+abbrev pub AreWithin : Program → List PlainFunction → Type 0
+AreWithin p fs = (i n : ℕ) (d : Instance) (f : PlainFunction) → slice_get p.instances i ≡ Some d →
+    function_of p.instances i ≡ Some n → slice_get fs n ≡ Some f →
+    IsWithin p.types d (length f.instrs) (length f.labels)
+
+-- Each function holds of the stack at the most what the groups tell of its instance, or nothing is told of either.
+abbrev pub HaveStacks : Program → PlainCode → Type 0
+HaveStacks p code = (members : List Member) → AreMembers p.instances members → (i n : ℕ) (m : Member) →
+    function_of p.instances i ≡ Some n → slice_get members i ≡ Some m → HasStack (sound_view code) n m.stack
+
+-- The code's types are the program's; its functions are headed as the program's instances tell, and hold of the stack
+-- what is told of these; their instructions are lowered from these, and no more than their places allow.
+pub record IsLoweredFrom (p : Program) (code : PlainCode) : Type 0 where
+  pub types : code.types ≡ p.types
+  pub members : List Member
+  pub found : AreMembers p.instances members
+  pub functions : map plain_header code.functions ≡ headers members p.instances
+  pub lowered : AreLowered p (map instrs_of code.functions)
+  pub bounded : AreWithin p code.functions
+  pub stacks : HaveStacks p code
+
+-- a code that is made of this source, which breaks no rule
+pub record IsCodeOfSource (source : List ℕ) (code : PlainCode) : Type 0 where
+  pub program : Program
+  pub accepted : IsAccepted source program
+  pub lowered : IsLoweredFrom program code
+  pub sound : IsSound (sound_view code)
+
+-- What is run by this name: such a code, and its function of this name, which isn't empty.
+pub record IsEntryOf (source name : List ℕ) (r : Chosen) : Type 0 where
+  pub code : IsCodeOfSource source (plain_code r.checked.code)
+  pub named : IsNamed name r.checked.code.functions.items r.entry
+
+-- The file is that of the second version of such a code.
+pub record IsCompiledFile (source file : List ℕ) : Type 0 where
+  pub code : PlainCode
+  pub of' : IsCodeOfSource source code
+  pub spelt : CodeText file Second code
+  pub short : length file ≤ MOST_FILE_BYTES
+
+-- A code that has a file of the second version.
+abbrev pub HasFile : PlainCode → Type 0
+HasFile code = (file : List ℕ) × CodeText file Second code
+
+-- Some such code, though it is no larger than its places allow, has a file of the second version that is too long.
+abbrev pub IsUncompiled : List ℕ → Type 0
+IsUncompiled source = (code : PlainCode) × IsCodeOfSource source code × (file : List ℕ) × CodeText file Second code
+    × (MOST_FILE_BYTES < length file)
+
+-- What is said in place of such a file, or want of memory.
+abbrev pub KeepsFromCompile : List ℕ → Failure → Type 0
+KeepsFromCompile source failure = KeepsFrom source Lawful failure
+    ⊎ (IsUncompiled source × IsRefusedBy (λ r. r ≡ bare E61) failure)

@@ -1,0 +1,14 @@
+use Rattle.std.proofs.Common.{◌≡◌, ◌<◌, length}
+use Rattle.machine_semantics.specs.Steps.{Kinds}
+use Rattle.code_verify.specs.Checked.{Checked}
+use Rattle.task_semantics.specs.Schedules.{Shared}
+use Rattle.command_tasks.specs.Telling.{CanRun, ShowsSome}
+use Rattle.command_tasks.proofs.turns.take_turns.Given as goal
+
+-- the tasks stay as many, what is drawn has 31 bits, and they stand where some schedule leads
+abbrev pub invariant-loop : goal.invariant-loop
+invariant-loop l = record {
+  number : length l.tasks.tasks ≡ length l.initial.tasks.tasks;
+  drawn : l.drawn < 2147483648;
+  shows : (v : Checked) (kinds : Kinds) (first : Shared) → CanRun v kinds first → ShowsSome v kinds first l.initial.tasks → ShowsSome v kinds first l.tasks;
+}

@@ -1,0 +1,11 @@
+// The tasks of a list, which take turns over one store: from the bytes of their lines to the lines of what they come
+// to.
+#![tactic(auto)]
+
+mod answers;
+mod command;
+pub mod theorems;
+mod printing;
+mod turns;
+
+pub use command::tasks;

@@ -1,0 +1,151 @@
+-- From what a machine says of its traced run to what `trace` comes to on a source.
+use Rattle.std.proofs.Common.{◌≡◌, ◌≢◌, ◌∙◌, ℕ, false, List, [], length, Option, Some, None, option_map, refl, sym, ap, subst, arith}
+use Rattle.std.specs.Prelude.{Result, Ok, Err}
+use Rattle.std.proofs.lemmas.Option.{none-some, same_Some, slice_get-map}
+use Rattle.std.proofs.lemmas.List.{append-nil}
+use Rattle.fip_language.specs.declared.rule.Rule.TheVariants.{E75}
+use Rattle.fip_language.specs.PrintedText.{printed_lines}
+use Rattle.fip_language.specs.Table.{Table}
+use Rattle.fip_language.specs.Values.{Values}
+use Rattle.fip_base.specs.declared.plain.Stack.{Stack}
+use Rattle.cell_trace.specs.declared.trace.Trace.{Trace as Memory}
+use Rattle.cell_trace.specs.Traced.{Tells, IsTooLong, standing_from}
+use Rattle.command_words.specs.Words.{Room}
+use Rattle.command_outcome.specs.declared.failure.Failure.{Failure}
+use Rattle.command_outcome.specs.declared.failure.Failure.TheVariants as F
+use Rattle.code_file.specs.Plain.{plain_code}
+use Rattle.machine_semantics.specs.Cells.{Store}
+use Rattle.machine_semantics.specs.Codes as R
+use Rattle.machine_semantics.specs.Runs.{Value}
+use Rattle.machine_semantics.specs.States.{Typed, State}
+use Rattle.machine_semantics.specs.Steps.{Kinds}
+use Rattle.separation.specs.Codes.{run_code, AreKinds}
+use Rattle.separation.proofs.KindsFound.{kinds_found}
+use Rattle.code_verify.specs.Checked.{Checked}
+use Rattle.fip_machine.specs.declared.machine.Ended.{Ended}
+use Rattle.fip_machine.specs.declared.machine.Ended.TheVariants as M
+use Rattle.fip_machine.specs.Ending.{KnowsRun}
+use Rattle.fip_machine.specs.Machines.{Seen}
+use Rattle.fip_machine.specs.Tasks.{state_with}
+use Rattle.fip_machine.specs.Traces.{notes, HasTrace, HasLongTrace}
+use Rattle.run_loading.specs.Replaying.{trace_of}
+use Rattle.run_loading.specs.TraceText.{Trace, trace_text}
+use Rattle.machine_cells.specs.Small.{IsSmall}
+use Rattle.code_rules.specs.Codes.{PlainCode, PlainFunction, plain, plain_function, function_at}
+use Rattle.code_rules.specs.StackNumbers.{HasStack}
+use Rattle.session_semantics.specs.Talk.{frames_of}
+use Rattle.command_source.specs.Entries.{Chosen}
+use Rattle.command_source.specs.ProgramCode.{IsEntryOf}
+use Rattle.command_source.proofs.CodeFiles.{view_same}
+use Rattle.command_trace.proofs.Plain.{trace_is, is_long, not_long}
+use Rattle.command_source.specs.Wanted.{Compiled, IsReady}
+use Rattle.source_report.specs.Report.{bare}
+use Rattle.machine_correctness.specs.Meant.{ArePrintable}
+use Rattle.machine_correctness.specs.Starts.{IsSoundCode}
+use Rattle.machine_correctness.proofs.EvaluatedEnds.{knows}
+use Rattle.machine_correctness.proofs.Starting.{read}
+use Rattle.command_eval.specs.EvalAnswer.{OrNoMemory}
+use Rattle.command_run.specs.CodeRun as D
+use Rattle.command_run.specs.ExecAnswer.{Coded, Execs}
+use Rattle.command_run.specs.Starting.{IsStarted, TellsEnded, failure_for}
+use Rattle.trace_files.specs.Plain.{plain_trace}
+use Rattle.command_trace.specs.TraceAnswer.{IsTraceOf, Traces, Ended as Ends, Stored, TooLong, KeptOrNoMemory}
+use Rattle.command_trace.proofs.Valued.{Valued, valued}
+
+-- what a machine says of the trace of its run
+abbrev pub Says : Seen → ℕ → (Kinds → R.PlainCode → State → Type 0) → Type 0
+Says m calls P = (kinds : Kinds) (lent : List Typed) → KnowsRun m.stack.code kinds (state_with m.stack lent m.store) calls → m.stack.ended ≡ None → IsSmall m.store.cells → m.pushed ≡ [] → P kinds (R.plain m.stack.code.code) (state_with m.stack lent m.store)
+
+module _ (source name input : List ℕ) (r : Chosen) (ready : IsReady source (Compiled name)) (h : IsEntryOf source name r) (room : Room) (m : Seen) (st : IsStarted r input room m) (sound : IsSoundCode r.checked.code) where
+  abbrev held : Option Stack
+  held = st.has_frames.held
+
+  found : (before : Kinds) × (waits : Kinds) × AreKinds (plain r.checked.code) before waits
+  found = kinds_found (plain r.checked.code)
+
+  known_there : KnowsRun m.stack.code found.0 (state_with m.stack (st.state).lent m.store) room.calls
+  known_there = subst (λ (v : Checked). KnowsRun v found.0 (state_with m.stack (st.state).lent m.store) room.calls) (sym st.code) (subst (λ (s : State). KnowsRun r.checked found.0 s room.calls) (sym st.stands) (knows r.checked found.0 found.1 r.entry st.function st.values st.frames st.state room.calls sound found.2 st.begins))
+
+  said : (P : Kinds → R.PlainCode → State → Type 0) → Says m room.calls P → P found.0 (R.plain r.checked.code) st.state
+  said P says = subst (λ (v : Checked). P found.0 (R.plain v.code) st.state) st.code
+      (subst (λ (s : State). P found.0 (R.plain m.stack.code.code) s) st.stands
+      (says found.0 (st.state).lent known_there (st.fresh).going st.small st.pushed))
+
+  -- the code of the source
+  name_is : (st.function).name ≡ name
+  name_is =
+      let same : plain_function (h.named).function ≡ st.function = same_Some (plain_function (h.named).function) st.function (sym (slice_get-map plain_function r.checked.code.functions.items r.entry ∙ ap (option_map plain_function) (h.named).there) ∙ st.there) in
+      ap (λ (f : PlainFunction). f.name) (sym same) ∙ (h.named).named
+
+  abbrev coded : Coded source name
+  coded = record {
+    code = plain_code r.checked.code;
+    of' = h.code;
+    number = r.entry;
+    function = st.function;
+    there = subst (λ (c : PlainCode). function_at c r.entry ≡ Some st.function) (sym (view_same r.checked.code)) st.there;
+    named = name_is;
+    some = λ e. let none = ap length e in let one = (h.named).some in absurd (omega (arith, none, one));
+    held = held;
+    stack = subst (λ (c : PlainCode). HasStack c r.entry held) (sym (view_same r.checked.code)) st.has_frames.stack;
+  }
+
+  -- a run of it that gives words, and its trace
+  traced : (t : Trace) → (Q : ℕ → Type 0) (x : Valued r.checked r.entry st.values room.calls st.frames found.0 st.state Q) → t ≡ trace_of found.0 (R.plain r.checked.code) st.state room.calls x.run.steps → IsTraceOf source name input room t
+  traced t Q x is = subst (λ k. (y : Valued r.checked r.entry st.values room.calls k found.0 st.state Q) → t ≡ trace_of found.0 (R.plain r.checked.code) st.state room.calls y.run.steps → IsTraceOf source name input room t) (sym st.has_frames.are) (λ y e. over y e) x is
+    where
+      over : (y : Valued r.checked r.entry st.values room.calls (frames_of room.frames held) found.0 st.state Q) → t ≡ trace_of found.0 (R.plain r.checked.code) st.state room.calls y.run.steps → IsTraceOf source name input room t
+      over y e =
+          let own : t ≡ trace_of y.run.before (run_code (plain r.checked.code)) y.run.first room.calls y.run.steps = e ∙ (λ i. trace_of (sym y.kinds i) (sym (read r.checked.code) i) (sym y.begins i) room.calls y.run.steps) in
+          let z = subst (λ (c : PlainCode). (run : D.Run c r.entry st.values room.calls (frames_of room.frames held)) × (words : List ℕ) × (run.end ≡ Value words) × (t ≡ trace_of run.before (run_code c) run.first room.calls run.steps)) (sym (view_same r.checked.code)) (y.run, y.words, y.gives, own) in
+          record { code = coded; values = st.values; spelt = st.spelt; run = z.0; words = z.1; gives = z.2; is = z.3 }
+
+  -- a trace that is too long
+  pub long : Says m room.calls (λ kinds code s. HasLongTrace kinds code s room.calls 16777216) → Traces source name input room (Err (F.Refused (bare E75)))
+  long says =
+      let k = said (λ kinds code s. HasLongTrace kinds code s room.calls 16777216) says in
+      let Q : ℕ → Type 0 = λ steps. IsTooLong (standing_from 0 (st.state).store.cells) (notes found.0 (R.plain r.checked.code) st.state room.calls steps) steps 16777216 in
+      let x = valued r.checked found.0 found.1 r.entry st.function st.values st.frames st.state room.calls Q sound found.2 st.begins k.0 k.1 in
+      TooLong (trace_of found.0 (R.plain r.checked.code) st.state room.calls x.run.steps) (traced (trace_of found.0 (R.plain r.checked.code) st.state room.calls x.run.steps) Q x refl) (is_long found.0 (R.plain r.checked.code) st.state room.calls x.run.steps x.holds)
+
+  -- one that is stored
+  pub stored : (u : Memory) (file text : List ℕ) → Says m room.calls (λ kinds code s. HasTrace kinds code s room.calls 16777216 u) → file ≡ trace_text (plain_trace u) → Execs source name input room false (Ok text) → Traces source name input room (Ok (record { file = file; text = text }))
+  stored u file text says is execs =
+      let k = said (λ kinds code s. HasTrace kinds code s room.calls 16777216 u) says in
+      let Q : ℕ → Type 0 = λ steps. Tells (standing_from 0 (st.state).store.cells) (notes found.0 (R.plain r.checked.code) st.state room.calls steps) steps 16777216 u in
+      let x = valued r.checked found.0 found.1 r.entry st.function st.values st.frames st.state room.calls Q sound found.2 st.begins k.0 k.1 in
+      let t = trace_of found.0 (R.plain r.checked.code) st.state room.calls x.run.steps in
+      let same : plain_trace u ≡ t = trace_is found.0 (R.plain r.checked.code) st.state room.calls x.run.steps 16777216 u x.holds in
+      let bytes : file ≡ trace_text t = is ∙ ap trace_text same in
+      subst (λ bs. Traces source name input room (Ok (record { file = bs; text = text }))) (sym bytes) (Stored text t execs (traced t Q x refl) (not_long found.0 (R.plain r.checked.code) st.state room.calls x.run.steps u x.holds))
+
+-- ---- what keeps from a value
+
+pub failed : (source name input : List ℕ) (room : Room) (failure : Failure) → OrNoMemory (Execs source name input room false) (Err failure) → KeptOrNoMemory (Traces source name input room) (Err failure)
+failed source name input room F.NoMemory h = tt
+failed source name input room failure h = Ends failure h
+
+-- a run with a trace ended with a value
+pub with_trace : (o : Ended) (t : Option Memory) (u : Memory) → (o ≢ M.Value → t ≡ None) → t ≡ Some u → o ≡ M.Value
+with_trace M.Value t u none is = refl
+with_trace (M.Trap kind line col) t u none is = absurd (none-some u (sym (none (λ e. cc)) ∙ is))
+with_trace M.Out t u none is = absurd (none-some u (sym (none (λ e. cc)) ∙ is))
+with_trace M.Deep t u none is = absurd (none-some u (sym (none (λ e. cc)) ∙ is))
+
+-- one without didn't
+pub without_trace : (o : Ended) (t : Option Memory) → (o ≡ M.Value → t ≢ None) → t ≡ None → o ≢ M.Value
+without_trace o t some is e = some e is
+
+-- how it ended is told
+pub tells_failure : (tb : Table) (types : List ℕ) (room : Room) (behind : List ℕ) (s : Store) (given : List ℕ) (o : Ended) (failure : Failure) → o ≢ M.Value → failure_for o room.calls room.frames ≡ Some failure → TellsEnded tb types room behind s given o (Err failure)
+tells_failure tb types room behind s given M.Value failure n e = absurd (n refl)
+tells_failure tb types room behind s given (M.Trap kind line col) failure n e = ap Err (sym (same_Some (F.Trap kind line col) failure e))
+tells_failure tb types room behind s given M.Out failure n e = ap Err (sym (same_Some (F.OutOfCalls room.calls) failure e))
+tells_failure tb types room behind s given M.Deep failure n e = ap Err (sym (same_Some (F.OutOfFrames room.frames) failure e))
+
+pub tells_value : (tb : Table) (types : List ℕ) (room : Room) (s : Store) (given : List ℕ) (o : Ended) (text : List ℕ) → o ≡ M.Value → ((vs : Values) → ArePrintable tb s.cells types given vs → text ≡ printed_lines tb types vs) → TellsEnded tb types room [] s given o (Ok text)
+tells_value tb types room s given o text is lines = subst (λ e. TellsEnded tb types room [] s given e (Ok text)) (sym is) (λ vs p. ap Ok (lines vs p ∙ sym (append-nil (printed_lines tb types vs))))
+
+pub or_memory : (P : Result (List ℕ) Failure → Type 0) (failure : Failure) → P (Err failure) → OrNoMemory P (Err failure)
+or_memory P F.NoMemory h = tt
+or_memory P failure h = h

@@ -1,0 +1,19 @@
+-- What `replay` comes to on the bytes of a file: the lines of the cells of its trace, as they are after so many steps;
+-- or the offset with which it is no trace's.
+--
+-- On no bytes it is told as a bad trace at 0, on 16,777,217 bytes as one at 16777216.
+use Rattle.std.specs.Prelude.{◌≡◌, ℕ, List}
+use Rattle.command_outcome.specs.declared.failure.Failure.{Failure}
+use Rattle.command_outcome.specs.declared.failure.Failure.TheVariants as F
+use Rattle.run_loading.specs.TraceText.{Trace}
+use Rattle.run_loading.specs.TraceReading.{IsBadTrace, IsTraceFile}
+use Rattle.run_loading.specs.Replaying.{replayed}
+
+abbrev pub IsReplayed : List ℕ → ℕ → List ℕ → Type 0
+IsReplayed bytes step text = (t : Trace) × IsTraceFile bytes t × (text ≡ replayed t step)
+
+-- What is said in place of the lines, or want of memory.
+abbrev pub KeepsFromReplay : List ℕ → Failure → Type 0
+KeepsFromReplay bytes (F.BadTrace at) = IsBadTrace bytes at
+KeepsFromReplay bytes F.NoMemory = Unit {0}
+KeepsFromReplay bytes failure = ⊥

@@ -1,0 +1,61 @@
+-- What `trace` comes to on a source that has the entry, once the input is read.
+--
+-- It ends as `exec` without the gauge does: with the lines of the values that the source means, or with what keeps it
+-- from them. With values it stores the file of a trace: that of a run of the source's code on the arguments, which
+-- gives them. Where the file of this trace would have more than 16,777,216 bytes, or there are more events or steps
+-- than it can tell, E75 is told instead, and nothing is stored.
+--
+-- The trace of `rev` on Cons(1, Nil) and Nil tells the one cell, the step in which it gets Cons(1, Nil) once more, and
+-- the seven steps of the run; and the line `Cons(1, Nil)` is printed.
+use Rattle.std.specs.Prelude.{◌≡◌, ◌⊎◌, ◌<◌, ◌≤◌, ◌^◌, ℕ, false, List, length, Result, Ok, Err}
+use Rattle.fip_language.specs.declared.limits.TheConstants.{MOST_FILE_BYTES}
+use Rattle.fip_language.specs.declared.rule.Rule.TheVariants.{E75}
+use Rattle.fip_language.specs.Values.{Values}
+use Rattle.fip_language.specs.ValueText.{SpellsValues}
+use Rattle.command_words.specs.Words.{Room}
+use Rattle.command_outcome.specs.declared.failure.Failure.{Failure}
+use Rattle.command_outcome.specs.declared.failure.Failure.TheVariants as F
+use Rattle.machine_semantics.specs.Runs.{Value}
+use Rattle.separation.specs.Codes.{run_code}
+use Rattle.run_loading.specs.Replaying.{trace_of}
+use Rattle.run_loading.specs.TraceText.{Trace, trace_text}
+use Rattle.command_source.specs.Codes.{sound_view}
+use Rattle.command_source.specs.declared.files.Compiled.{Compiled}
+use Rattle.source_report.specs.Report.{bare}
+use Rattle.value_text.specs.Loaded.{types_of}
+use Rattle.command_run.specs.CodeRun.{Run}
+use Rattle.command_run.specs.ExecAnswer.{Coded, Execs, frames_for}
+
+-- A run of a code of the source, on the arguments that the input spells, gives words, and this is its trace.
+pub record IsTraceOf (source name input : List ℕ) (room : Room) (t : Trace) : Type 0 where
+  pub code : Coded source name
+  pub values : Values
+  pub spelt : SpellsValues (code.code).types (types_of (code.function).params) input values
+  pub run : Run (sound_view code.code) code.number values room.calls (frames_for code room)
+  pub words : List ℕ
+  pub gives : run.end ≡ Value words
+  pub is : t ≡ trace_of run.before (run_code (sound_view code.code)) run.first room.calls run.steps
+
+-- its file can't tell it, or is too long
+abbrev pub IsLong : Trace → Type 0
+IsLong t = (MOST_FILE_BYTES < length (trace_text t)) ⊎ ((4294967295 < length t.events) ⊎ (2 ^ 64 ≤ t.steps))
+
+-- the file that is stored, and the text that is printed behind it
+pub record Kept : Type 0 where
+  pub file : List ℕ
+  pub text : List ℕ
+
+pub data Traces (source name input : List ℕ) (room : Room) : Result Kept Failure → Type 0 where
+  Ended : (failure : Failure) → Execs source name input room false (Err failure) →
+      Traces source name input room (Err failure)
+  Stored : (text : List ℕ) (t : Trace) → Execs source name input room false (Ok text) →
+      IsTraceOf source name input room t → (IsLong t → ⊥) →
+      Traces source name input room (Ok (record { file = trace_text t; text = text }))
+  TooLong : (t : Trace) → IsTraceOf source name input room t → IsLong t →
+      Traces source name input room (Err (F.Refused (bare E75)))
+
+-- This is said of a result, whatever memory its bytes lie in; or memory is wanting.
+abbrev pub KeptOrNoMemory : (Result Kept Failure → Type 0) → Result Compiled Failure → Type 0
+KeptOrNoMemory Is (Ok c) = Is (Ok (record { file = c.file.items; text = c.text.items }))
+KeptOrNoMemory Is (Err F.NoMemory) = Unit {0}
+KeptOrNoMemory Is (Err failure) = Is (Err failure)

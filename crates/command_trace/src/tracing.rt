@@ -1,0 +1,103 @@
+// Runs whose writes to the cells are kept.
+ghost use Rattle.std.specs.Prelude.{◌≡◌, ◌≢◌, ◌≤◌, ℕ, List, length, slice_get, Err, Some, IfOk, IfErr};
+ghost use Rattle.fip_language.specs.declared.limits.TheConstants.{MOST_FILE_BYTES};
+ghost use Rattle.fip_language.specs.declared.rule.Rule.TheVariants.{E75};
+ghost use Rattle.fip_language.specs.PrintedText.{printed_lines};
+ghost use Rattle.fip_language.specs.Values.{Values};
+ghost use Rattle.fip_base.specs.declared.refusal.Refusal.{Refusal as a_refusal};
+ghost use Rattle.cell_code.specs.declared.code.Function.{Function as a_function};
+ghost use Rattle.command_words.specs.View.{room_of};
+ghost use Rattle.command_outcome.specs.Stages.{IsOfRun, IsOfTrace};
+ghost use Rattle.command_outcome.specs.declared.failure.Failure.TheVariants.{Refused};
+ghost use Rattle.fip_machine.specs.declared.machine.Ended.TheVariants.{Value as a_value};
+ghost use Rattle.run_loading.specs.TraceText.{trace_text};
+ghost use Rattle.machine_cells.specs.Small.{IsSmall};
+ghost use Rattle.machine_correctness.specs.Meant.{ArePrintable};
+ghost use Rattle.command_run.specs.Rooms.{IsAllowed};
+ghost use Rattle.command_run.specs.Starting.{failure_for};
+ghost use Rattle.command_source.specs.ProgramCode.{IsEntryOf};
+ghost use Rattle.command_source.specs.Wanted.{Compiled as compiled_entry, IsReady};
+ghost use Rattle.source_report.specs.Report.{bare};
+ghost use Rattle.trace_files.specs.Plain.{plain_trace};
+ghost use Rattle.command_trace.specs.TraceAnswer.{Traces, KeptOrNoMemory};
+
+use cell_trace::{Trace, TraceError};
+use command_words::Room;
+use command_outcome::Failure;
+use fip_base::plain::{Detail, NoMemory};
+use fip_base::refusal::{Refusal, Rule};
+use fip_language::limits::MOST_FILE_BYTES;
+use fip_machine::{Ended, Gauge, Machine};
+use command_run::{failure_of, started, types_of, values_text};
+use command_source::{Compiled, Ready};
+use std::alloc::Global;
+use trace_files::write_trace;
+
+// The refusal of a trace that is too long.
+fn too_long(alloc: Global) -> Failure
+    ensures names { result ≡ Refused (bare E75) }
+    ensures stage { IsOfTrace result }
+{
+    Failure::Refused(Refusal {
+        rule: Rule::E75,
+        place: None,
+        size: 0,
+        detail: Detail::new(Vec::new(alloc)),
+    })
+}
+
+// What keeps a run that ended so, and has no trace, from one. A run that ended with a value has a trace, unless memory
+// is wanting.
+fn untraced(ended: Ended, room: Room) -> Failure
+    ensures exact { ended ≢ a_value → failure_for ended room.calls room.frames ≡ Some result }
+    ensures stage { IsOfRun result }
+{
+    match failure_of(ended, room.calls, room.frames) {
+        Some(failure) => failure,
+        None => Failure::NoMemory,
+    }
+}
+
+// The file of a trace, and the lines of the results of its run.
+fn traced_text(
+    alloc: Global,
+    ready: &Ready,
+    machine: &Machine<'_>,
+    trace: &Trace,
+) -> Result<Compiled, NoMemory>
+    ensures lines { (f : a_function) (vs : Values) →
+        slice_get ready.now.checked.code.functions.items ready.now.entry ≡ Some f → IsSmall machine.now.store.cells →
+        ArePrintable ready.now.checked.code.types machine.now.store.cells f.results machine.now.stack.given vs →
+        IfOk result (λ c. c.text.items ≡ printed_lines ready.now.checked.code.types f.results vs) }
+    ensures file { IfOk result (λ c. c.file.items ≡ trace_text (plain_trace trace.now)) }
+{
+    let types = ready.function().results.as_slice();
+    let words = machine.results();
+    let text = values_text(alloc, types_of(ready), machine.cells(), types, words)?;
+    let file = write_trace(alloc, trace)?;
+    Ok(Compiled { file, text })
+}
+
+/// Runs the entry on the text of its arguments, and keeps what it writes: the file of the trace, and the lines of the
+/// results. The failures are those of `run`, and after them E75 where the run gives a value and its trace is too long:
+/// its file would have more than 16,777,216 bytes, or there are more than 4,294,967,295 events or more steps than 64
+/// bits count.
+pub fn trace(alloc: Global, ready: Ready, input: &[u8], room: Room) -> Result<Compiled, Failure>
+    ensures traces { (source name : List ℕ) → IsReady source (compiled_entry name) → IsEntryOf source name ready →
+        IsAllowed room → length input.now ≤ MOST_FILE_BYTES →
+        KeptOrNoMemory (Traces source name input.now (room_of room)) result }
+    ensures long { (r : a_refusal) → result ≡ Err (Refused r) → r ≡ bare E75 }
+    ensures stage { IfErr result IsOfTrace }
+{
+    prove!(ready.entry() < ready.verified().code().functions.len());
+    let machine = started(alloc, &ready, input, room)?;
+    let mut seen = Gauge::new();
+    match machine.run_traced(alloc, room.calls, &mut seen, MOST_FILE_BYTES) {
+        Ok((machine, ended, trace)) => match trace {
+            Some(trace) => Ok(traced_text(alloc, &ready, &machine, &trace)?),
+            None => Err(untraced(ended, room)),
+        },
+        Err(TraceError::TooLong) => Err(too_long(alloc)),
+        Err(TraceError::NoMemory) => Err(Failure::NoMemory),
+    }
+}

@@ -1,0 +1,105 @@
+-- The headers of the functions of a source's program: none is plain, and each name is empty or that of a function of the
+-- source.
+use Rattle.std.proofs.Common.{◌≡◌, ◌≤◌, inl, inr, ℕ, suc, Bool, true, false, List, [], ◌∷◌, length, map, Option, Some, None, slice_get, if◌then◌else◌, refl, sym, subst, arith}
+use Rattle.fip_language.specs.declared.FunKind.{FunKind}
+use Rattle.fip_language.specs.declared.FunKind.TheVariants.{Fip, Fbip, Fun}
+use Rattle.fip_language.specs.declared.limits.TheConstants.{MOST_SOURCE_BYTES}
+use Rattle.fip_language.specs.Core as C
+use Rattle.fip_language.specs.Core.{Core}
+use Rattle.fip_language.specs.Every.{Every, Among}
+use Rattle.fip_language.proofs.Words.{every_among}
+use Rattle.fip_trees.specs.declared.groups.Member.{Member}
+use Rattle.fip_trees.specs.Tree as T
+use Rattle.fip_trees.specs.Tree.{Program}
+use Rattle.reached_instances.specs.declared.closed.Head.TheVariants as H
+use Rattle.reached_instances.specs.Closed as Z
+use Rattle.reached_instances.specs.Closed.{Closed, Applied}
+use Rattle.reached_instances.specs.Source.{Source, Instance}
+use Rattle.static_params.specs.FlatProgram.{Numbers, instance_if, instances_of, flat_program}
+use Rattle.static_params.specs.FlatSource.{flat_source}
+use Rattle.static_params.proofs.GoodTypes.{all_of_have}
+use Rattle.static_params.proofs.TypeRows.{there_among}
+use Rattle.type_check.specs.World.{world}
+use Rattle.type_check.specs.Faults.{fill_instance, filled}
+use Rattle.cell_lower.specs.Limits.{is_ruled, registers}
+use Rattle.cell_lower.specs.Shape.{Header, header_of, and_if, headers_from}
+use Rattle.source_report.specs.Report.{IsFlat, IsTyped}
+use Rattle.code_file.specs.Spelling.{function_name_text}
+use Rattle.code_file.specs.CodeText.{fun_kind_text}
+use Rattle.lower_frame.specs.Spelled.{IsSpelt}
+use Rattle.compiler_correctness.proofs.Names.{NamedFunction}
+use Rattle.compiler_correctness.proofs.Tokens.{IsProperName}
+use Rattle.compiler_correctness.proofs.Texts.{function_name_spelt}
+use Rattle.compiler_correctness.proofs.Types.{parsed_names}
+
+-- an instance has the name of a function
+abbrev pub IsNamed : T.Instance → Type 0
+IsNamed d = IsProperName d.name × (length d.name ≤ MOST_SOURCE_BYTES)
+
+module _ (core : Core) (ns : Numbers) (named : Every (NamedFunction MOST_SOURCE_BYTES) core.functions) where
+  abbrev s : Source
+  s = flat_source core
+
+  from_option : (here : Instance) (o : Option C.Function) → ((f : C.Function) → o ≡ Some f → Among f core.functions) → (d : T.Instance) → Among d (instance_if s ns here o) → IsNamed d
+  from_option here None h d a = absurd a
+  from_option here (Some f) h d (inl e) = subst IsNamed (sym e) (every_among (NamedFunction MOST_SOURCE_BYTES) f core.functions named (h f refl))
+  from_option here (Some f) h d (inr n) = absurd n
+
+  from_closed : (c : Closed) (d : T.Instance) → Among d (instances_of s ns c) → IsNamed d
+  from_closed Z.Int d a = absurd a
+  from_closed (Applied (H.«Type» n) cs) d a = absurd a
+  from_closed (Applied (H.Function f) cs) d a =
+      from_option (record { function = f; given = cs }) (slice_get core.functions f) (λ g e. there_among core.functions f g e) d a
+
+  all_named : (d : T.Instance) → Among d (flat_program s ns).instances → IsNamed d
+  all_named d a = all_of_have IsNamed (instances_of s ns) ns.instances (λ c b e f. from_closed c e f) d a
+
+from_map : {A B : Type 0} (P : B → Type 0) (f : A → B) (xs : List A) → ((x : A) → Among x xs → P (f x)) → (y : B) → Among y (map f xs) → P y
+from_map P f [] h y a = absurd a
+from_map P f (x ∷ xs) h y (inl e) = subst P (sym e) (h x (inl refl))
+from_map P f (x ∷ xs) h y (inr a) = from_map P f xs (λ z b. h z (inr b)) y a
+
+filled_named : (p : Program) → ((d : T.Instance) → Among d p.instances → IsNamed d) → (d : T.Instance) → Among d (filled p).instances → IsNamed d
+filled_named p h = from_map IsNamed (fill_instance (world p)) p.instances (λ d a. h d a)
+
+flat_all_named : (source : List ℕ) (p : Program) → IsFlat source p → (d : T.Instance) → Among d p.instances → IsNamed d
+flat_all_named source p h =
+    subst (λ (q : Program). (d : T.Instance) → Among d q.instances → IsNamed d) (sym h.is)
+    (all_named h.core h.numbers (parsed_names source h.core h.declared.parsed).1)
+
+pub typed_named : (source : List ℕ) (p : Program) → IsTyped source p → (d : T.Instance) → Among d p.instances → IsNamed d
+typed_named source p h =
+    subst (λ (q : Program). (d : T.Instance) → Among d q.instances → IsNamed d) (sym h.is)
+    (filled_named h.untyped (flat_all_named source h.untyped h.flat))
+
+-- ---- headers
+
+-- the kind and the name of a header have a text
+pub record IsHeaderSpelt (h : Header) : Type 0 where
+  pub kind : IsSpelt (fun_kind_text h.signature.kind)
+  pub name : IsSpelt (function_name_text h.name)
+
+no_name : IsSpelt (function_name_text [])
+no_name = function_name_spelt [] refl (omega arith)
+
+entry_spelt : (root : Bool) (name : List ℕ) → IsSpelt (function_name_text name) → IsSpelt (function_name_text (if root then name else []))
+entry_spelt true name h = h
+entry_spelt false name h = no_name
+
+header_spelt : (n : ℕ) (d : T.Instance) → IsNamed d → IsSpelt (fun_kind_text d.kind) → IsHeaderSpelt (header_of n d)
+header_spelt n d named kind =
+    let short = named.1 in
+    record { kind = kind; name = entry_spelt d.root d.name (function_name_spelt d.name named.0.0 (omega (arith, short))) }
+
+one_spelt : (n : ℕ) (d : T.Instance) (hs : List Header) → IsNamed d → (k : FunKind) → d.kind ≡ k → Every IsHeaderSpelt hs → Every IsHeaderSpelt (and_if (is_ruled k) (header_of n d) hs)
+one_spelt n d hs named Fip e h = (header_spelt n d named (subst (λ k. IsSpelt (fun_kind_text k)) (sym e) refl), h)
+one_spelt n d hs named Fbip e h = (header_spelt n d named (subst (λ k. IsSpelt (fun_kind_text k)) (sym e) refl), h)
+one_spelt n d hs named Fun e h = h
+
+headers_spelt : (ms : List Member) (i : ℕ) (ds : List T.Instance) → ((d : T.Instance) → Among d ds → IsNamed d) → Every IsHeaderSpelt (headers_from ms i ds)
+headers_spelt ms i [] named = tt
+headers_spelt ms i (d ∷ ds) named =
+    one_spelt (registers ms i) d (headers_from ms (suc i) ds) (named d (inl refl)) d.kind refl (headers_spelt ms (suc i) ds (λ x a. named x (inr a)))
+
+pub typed_headers_spelt : (source : List ℕ) (p : Program) (ms : List Member) → IsTyped source p → Every IsHeaderSpelt (headers_from ms 0 p.instances)
+typed_headers_spelt source p ms h = headers_spelt ms 0 p.instances (typed_named source p h)

@@ -1,0 +1,26 @@
+-- Which code is headed as a program tells: its types are the program's, and it has a function for each fip and fbip
+-- instance, in the order of their numbers: of the instance's kind, with its parameters, header credits and results,
+-- with as many registers as the program's groups tell, and with its name where it is a root. Of the instructions and
+-- label maps this says nothing.
+--
+-- Of a program with the instances `fip rev` and `fun dup` it is a code with one function, which is fip and named rev.
+use Rattle.std.specs.Prelude.{◌≡◌, List, map}
+use Rattle.fip_trees.specs.declared.groups.Member.{Member}
+use Rattle.fip_trees.specs.Tree.{Program}
+use Rattle.tail_groups.specs.Members.{AreMembers}
+use Rattle.code_rules.specs.Codes.{PlainCode, PlainFunction}
+use Rattle.cell_lower.specs.Shape.{Header, headers}
+
+-- what a function says beside its instructions and labels
+abbrev pub plain_header : PlainFunction → Header
+plain_header f = record {
+  signature = record { kind = f.kind; params = f.params; credits = f.credits; results = f.results };
+  name = f.name;
+  registers = f.registers;
+}
+
+pub record IsHeaded (p : Program) (c : PlainCode) : Type 0 where
+  pub types : c.types ≡ p.types
+  pub members : List Member
+  pub found : AreMembers p.instances members
+  pub functions : map plain_header c.functions ≡ headers members p.instances

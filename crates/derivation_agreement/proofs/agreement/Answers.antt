@@ -1,6 +1,0 @@
-use Rattle.own_agreement.proofs.Instances.{programs_agree}
-use Rattle.derivation_agreement.proofs.Instances.{all_derived}
-use Rattle.derivation_agreement.proofs.agreement.Goals as goal
-
-pub returns : goal.returns
-returns c = record { calculus = λ p es h. all_derived p 0 p.instances es h; rules = λ p es s h. (programs_agree p s).1 (all_derived p 0 p.instances es h) }

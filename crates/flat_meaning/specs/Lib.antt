@@ -1,4 +1,0 @@
-pub mod Registers
-pub mod Matching
-pub mod Meaning
-pub mod Example

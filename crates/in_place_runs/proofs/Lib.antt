@@ -1,3 +1,0 @@
-pub mod Strong
-pub mod Checked
-pub mod Sources

@@ -1,0 +1,15 @@
+pub mod CellLaw
+pub mod NamesGrow
+pub mod Tracking
+pub mod Binding
+pub mod Patterns
+pub mod Owned
+pub mod Arguments
+pub mod Counting
+pub mod Keeping
+pub mod Examples
+pub mod Runs
+pub mod Within
+pub mod Strong
+pub mod Checked
+pub mod Sources

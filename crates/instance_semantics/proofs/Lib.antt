@@ -1,0 +1,10 @@
+pub mod Left
+pub mod Bound
+pub mod Equations
+pub mod More
+pub mod Frames
+pub mod Peak
+pub mod EvaluationExamples
+pub mod Same
+pub mod Means
+pub mod InstanceExamples

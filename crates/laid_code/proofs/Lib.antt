@@ -1,4 +1,0 @@
-pub mod Reversing
-pub mod Deciding
-pub mod Picking
-pub mod Growing

@@ -1,5 +1,0 @@
-use Rattle.laid_stacks.proofs.Numbers.{has_its_stack}
-use Rattle.laid_stacks.proofs.laws.alike_functions_have_the_stack_numbers.Goals as goal
-
-pub returns : goal.returns
-returns c = record { law = has_its_stack }

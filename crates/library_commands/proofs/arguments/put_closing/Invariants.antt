@@ -1,6 +1,0 @@
-use Rattle.std.proofs.Common.{◌≡◌, ◌-◌, ◌++◌}
-use Rattle.library_commands.specs.MadeTree.{closing}
-use Rattle.library_commands.proofs.arguments.put_closing.Given as goal
-
-abbrev pub invariant-loop : goal.invariant-loop
-invariant-loop l = l.text.items ++ closing (l.count - l.counter) ≡ l.fn.text.items ++ closing l.count

@@ -1,6 +1,0 @@
-use Rattle.std.proofs.Common.{◌∙◌}
-use Rattle.library_commands.proofs.Inputs.{key_more}
-use Rattle.library_commands.proofs.arguments.put_keys.Goals as goal
-
-pub loop-preserved : goal.loop-preserved
-loop-preserved c = key_more c.loop.text.items c.put_key.new.text.items c.args.count c.loop.counter c.loop.key c.next_key-key.result c.loop-test.true c.next_key-key.ensures.next c.in_ok-put_key.ensures.put ∙ c.loop.invariant

@@ -1,7 +1,0 @@
-use Rattle.std.proofs.Common.{◌≡◌, ◌-◌, ◌++◌}
-use Rattle.task_schedules.specs.Draws.{numbers}
-use Rattle.library_commands.specs.MadeTree.{keys_line}
-use Rattle.library_commands.proofs.arguments.put_keys.Given as goal
-
-abbrev pub invariant-loop : goal.invariant-loop
-invariant-loop l = l.text.items ++ keys_line (numbers (l.count - l.counter) l.key) l.counter ≡ l.fn.text.items ++ keys_line (numbers l.count l.seed) 0

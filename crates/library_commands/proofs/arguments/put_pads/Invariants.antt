@@ -1,6 +1,0 @@
-use Rattle.std.proofs.Common.{◌≡◌, ◌-◌, ◌++◌}
-use Rattle.library_commands.specs.MadeTree.{pads_line}
-use Rattle.library_commands.proofs.arguments.put_pads.Given as goal
-
-abbrev pub invariant-loop : goal.invariant-loop
-invariant-loop l = l.text.items ++ pads_line (l.count - l.counter) l.counter ≡ l.fn.text.items ++ pads_line l.count 0

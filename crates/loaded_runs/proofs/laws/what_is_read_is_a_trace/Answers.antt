@@ -1,8 +1,0 @@
-use Rattle.loaded_runs.proofs.Inverse.{read_is_a_trace, read_is_its_text}
-use Rattle.loaded_runs.proofs.laws.what_is_read_is_a_trace.Goals as goal
-
-pub returns : goal.returns
-returns c = record {
-  trace = λ bytes t end small h. read_is_a_trace bytes t end small h;
-  text = λ bytes t end small h. read_is_its_text bytes t end small h;
-}

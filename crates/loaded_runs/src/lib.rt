@@ -1,5 +1,0 @@
-// Runs on the text of their arguments: how these lie in a new store, and the files of what runs write to their cells.
-// Definitions and their laws; no code.
-#![tactic(auto)]
-
-pub mod laws;

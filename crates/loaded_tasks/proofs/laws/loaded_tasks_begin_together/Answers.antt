@@ -1,5 +1,0 @@
-use Rattle.loaded_tasks.proofs.Laid.{are_there, begin_together, are_loaded}
-use Rattle.loaded_tasks.proofs.laws.loaded_tasks_begin_together.Goals as goal
-
-pub returns : goal.returns
-returns c = record { there = are_there; together = begin_together; loaded = are_loaded }

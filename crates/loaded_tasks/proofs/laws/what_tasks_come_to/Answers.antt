@@ -1,5 +1,0 @@
-use Rattle.loaded_tasks.proofs.Ends.{ends_alone, ends_on_trees}
-use Rattle.loaded_tasks.proofs.laws.what_tasks_come_to.Goals as goal
-
-pub returns : goal.returns
-returns c = record { alone = ends_alone; trees = ends_on_trees }

@@ -1,9 +1,0 @@
-// The laws of the definitions. Each is the contract of a function that does nothing.
-ghost use Rattle.flat_meaning.specs.Example.{rev};
-ghost use Rattle.lowered_code.specs.Example.{instrs, lists_setting};
-ghost use Rattle.lowered_code.specs.Functions.{IsFunction};
-
-/// The six instructions of `rev` are lowered from its body. For who asks whether the definitions are met.
-pub fn an_example_is_lowered()
-    ensures law { IsFunction lists_setting 7 instrs rev }
-{}

@@ -1,5 +1,0 @@
-use Rattle.lowered_soundness.proofs.Grouped.{releases_nothing}
-use Rattle.lowered_soundness.proofs.laws.fip_functions_release_nothing.Goals as goal
-
-pub returns : goal.returns
-returns c = record { law = λ c st p all fips n f there fip i x is. releases_nothing c st p all fips n f there fip i x is }

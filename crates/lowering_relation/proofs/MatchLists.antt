@@ -1,0 +1,44 @@
+-- Registers that are apart.
+use Rattle.std.proofs.Common.{◌≡◌, ◌⊎◌, inl, inr, refl, ℕ, Bool, true, false, List, [], ◌∷◌, ◌++◌}
+use Rattle.std.specs.Prelude.{◌==◌, if◌then◌else◌}
+use Rattle.std.proofs.lemmas.Bool.{eqb-true}
+use Rattle.fip_language.specs.Every.{Among}
+use Rattle.lowering_relation.specs.Spots.{Spot, Spots, MoreSpots, register, below, all_in}
+use Rattle.lowering_relation.specs.Reading.{contains}
+
+pub among_left : (x : ℕ) (xs ys : List ℕ) → Among x xs → Among x (xs ++ ys)
+among_left x [] ys h = absurd h
+among_left x (z ∷ xs) ys (inl e) = inl e
+among_left x (z ∷ xs) ys (inr h) = inr (among_left x xs ys h)
+
+pub among_right : (x : ℕ) (xs ys : List ℕ) → Among x ys → Among x (xs ++ ys)
+among_right x [] ys h = h
+among_right x (z ∷ xs) ys h = inr (among_right x xs ys h)
+
+pub among_either : (x : ℕ) (xs ys : List ℕ) → Among x (xs ++ ys) → Among x xs ⊎ Among x ys
+among_either x [] ys h = inr h
+among_either x (z ∷ xs) ys (inl e) = inl (inl e)
+among_either x (z ∷ xs) ys (inr h) = elim (among_either x xs ys h) [
+  | inl a ↦ inl (inr a)
+  | inr b ↦ inr b
+]
+
+contains_if : (b : Bool) (d r : ℕ) (rs : List ℕ) → (d == r) ≡ b → (if b then true else contains d rs) ≡ true → (contains d rs ≡ true → Among d rs) → Among d (r ∷ rs)
+contains_if true d r rs e h f = inl (eqb-true d r e)
+contains_if false d r rs e h f = inr (f h)
+
+pub contains_among : (d : ℕ) (rs : List ℕ) → contains d rs ≡ true → Among d rs
+contains_among d [] h = absurd (cc)
+contains_among d (r ∷ rs) h = contains_if (d == r) d r rs refl h (contains_among d rs)
+
+-- registers of positions
+
+pub in_head : (q : ℕ) (s : Spot) (ss : Spots) → Among q (below s) → Among q (all_in (MoreSpots s ss))
+in_head q s ss h = inr (among_left q (below s) (all_in ss) h)
+
+pub in_tail : (q : ℕ) (s : Spot) (ss : Spots) → Among q (all_in ss) → Among q (all_in (MoreSpots s ss))
+in_tail q s ss h = inr (among_right q (below s) (all_in ss) h)
+
+pub in_part : (q : ℕ) (s : Spot) (ss : Spots) → Among q (register s ∷ below s) → Among q (all_in (MoreSpots s ss))
+in_part q s ss (inl e) = inl e
+in_part q s ss (inr b) = in_head q s ss b

@@ -1,0 +1,40 @@
+// The laws on lowered code of typed programs. Each is the contract of a function that does nothing.
+ghost use Rattle.std.specs.Prelude.{◌≡◌, ◌≢◌, ℕ, Some};
+ghost use Rattle.fip_language.specs.Meaning.{Answer, Stuck};
+ghost use Rattle.fip_language.specs.Values.{Values};
+ghost use Rattle.fip_trees.specs.Tree.{Program};
+ghost use Rattle.type_check.specs.Typing.{IsFilled};
+ghost use Rattle.type_safety.specs.Formed.{IsFormed};
+ghost use Rattle.machine_semantics.specs.Codes.{PlainCode};
+ghost use Rattle.instance_semantics.specs.Meaning.{flat_meaning};
+ghost use Rattle.tree_semantics.specs.Runs.{begun, entry};
+ghost use Rattle.lowering_relation.specs.LoweredBodies.{function_of};
+ghost use Rattle.lowering_relation.specs.LoweredFunctions.{AreLowered};
+ghost use Rattle.lowering_simulation.specs.Distinct.{AreDistinct};
+ghost use Rattle.lowering_simulation.specs.RunEnds.{EndsIn};
+ghost use Rattle.lowering_simulation.specs.Guarded.{IsGuarded, Takes};
+ghost use Rattle.lowering_simulation.specs.Lowered.{all_instrs};
+ghost use Rattle.lowering_relation.specs.WellMatched.{ArePatternsFormed, IsWellMatched};
+
+/// In a typed program each match that an evaluation comes to has a value of the match's type, and each call has
+/// arguments of its parameters' types. For who leaves out a test that no value of the type fails.
+pub fn typed_programs_keep_their_types()
+    ensures law { (program : Program) → IsFormed program → IsFilled program → IsGuarded program }
+{}
+
+/// In a typed program the patterns of each match are of the match's type, where their literals have 64 bits and their
+/// constructors are there. For who writes the tests of a match.
+pub fn typed_patterns_are_of_their_types()
+    ensures law { (program : Program) → IsFilled program → ArePatternsFormed program → IsWellMatched program }
+{}
+
+/// A run on trees of the lowered code of a typed program, on arguments of their types, ends as the instance means: with
+/// the same values and calls left, in the same trap, or out of calls or frames. For who runs code in place of its
+/// program.
+pub fn typed_code_means_its_program()
+    ensures law { (code : PlainCode) (program : Program) → AreLowered program (all_instrs code) →
+        IsFormed program → IsFilled program → AreDistinct program → (g f : ℕ) (arguments : Values)
+        (calls frames : ℕ) (answer : Answer) → function_of program.instances g ≡ Some f →
+        Takes program g arguments → (flat_meaning program g arguments calls frames).answer ≡ answer →
+        answer ≢ Stuck → EndsIn code (begun (entry f arguments frames) calls) answer }
+{}

@@ -1,0 +1,5 @@
+use Rattle.lowering_soundness.proofs.Origins.{of_function}
+use Rattle.lowering_soundness.proofs.row_theorems.calls_come_from_the_body.Goals as goal
+
+pub returns : goal.returns
+returns c = record { law = of_function }

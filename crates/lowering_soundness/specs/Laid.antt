@@ -1,0 +1,36 @@
+-- It serves the proof that lowered code is sound: what of a program and its code is shared.
+use Rattle.std.specs.Prelude.{◌≡◌, ℕ, ◌<◌, Bool, true, List, Some, length, slice_get}
+use Rattle.fip_trees.specs.Tree.{Instance}
+use Rattle.fip_rules.specs.Marks.{Mark}
+use Rattle.fip_rules.specs.Shapes.{known}
+use Rattle.type_check.specs.Scope.{Scope, of_binder}
+use Rattle.type_check.specs.World.{World}
+use Rattle.type_check.specs.Typing.{Makes}
+use Rattle.ownership_agreement.specs.Bodies.{Scalars}
+use Rattle.code_rules.specs.Codes.{PlainCode, params, credits, results}
+use Rattle.code_rules.specs.Headers.{are_types}
+use Rattle.code_rules.specs.Types.{is_type, is_scalar_type}
+use Rattle.lowering_relation.specs.Known.{joined}
+use Rattle.lowering_relation.specs.Values.{Setting, is_scalar}
+
+-- function f of the code is that of an instance
+pub record IsFunctionOf (c : PlainCode) (f : ℕ) (d : Instance) : Type 0 where
+  pub there : f < length c.functions
+  pub params : params c f ≡ d.params
+  pub credits : credits c f ≡ d.credits
+  pub results : results c f ≡ d.results
+  pub typed : are_types c.types d.results ≡ true
+
+-- what the code and the typed program share
+pub record Shares (c : PlainCode) (st : Setting) (w : World) : Type 0 where
+  pub types : w.types ≡ c.types
+  pub scalars : (t : ℕ) → is_type c.types t ≡ true → is_scalar st t ≡ is_scalar_type c.types t
+  pub bool : is_scalar_type c.types 1 ≡ true
+  pub functions : (g f : ℕ) (d : Instance) → joined (slice_get st.functions g) ≡ Some f →
+      slice_get st.instances g ≡ Some d → IsFunctionOf c f d
+  pub made : (b : Bool) (d t : ℕ) → Makes w b d t → is_type c.types t ≡ true
+
+-- the variables in scope: each is known by its own number, and whether it is scalar
+pub record Scoped (c : PlainCode) (s : Scope) (sc : Scalars) (ms : List Mark) : Type 0 where
+  pub seen : (x t : ℕ) → of_binder s (Some x) ≡ Some (Some t) → known ms x ≡ Some x
+  pub scalar : (x t : ℕ) → of_binder s (Some x) ≡ Some (Some t) → sc x ≡ is_scalar_type c.types t

@@ -1,0 +1,16 @@
+pub mod Covering
+pub mod Giving
+pub mod Rows
+pub mod Parts
+pub mod Ties
+pub mod Whole
+pub mod Laid
+pub mod Computed
+pub mod Delivered
+pub mod Passed
+pub mod Placed
+pub mod Functions
+pub mod Origins
+pub mod Accepted
+pub mod Built
+pub mod Alike

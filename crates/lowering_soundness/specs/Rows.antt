@@ -1,0 +1,21 @@
+-- It serves the proof that lowered code is sound: where the kinds before an instruction are told, it is as asked, and
+-- these are the kinds behind it.
+use Rattle.std.specs.Prelude.{◌≡◌, ℕ, true, List}
+use Rattle.cell_code.specs.declared.code.Instr.{Instr}
+use Rattle.cell_code.specs.declared.kind.Kind.{Kind}
+use Rattle.code_rules.specs.Codes.{PlainCode, PlainFunction}
+use Rattle.code_rules.specs.Asked.{sources, destinations}
+use Rattle.code_rules.specs.Endings.{spends_all}
+use Rattle.code_rules.specs.Leaves.{Leaves}
+use Rattle.lowering_soundness.specs.Covering.{Covered}
+
+pub record IsRow (c : PlainCode) (f : PlainFunction) (m : ℕ → Kind) (x : Instr) (l : ℕ → Kind) : Type 0 where
+  pub sources : (ks : List Kind) → Covered f.registers m ks → sources c f ks x ≡ true
+  pub destinations : (ks : List Kind) → Covered f.registers m ks → destinations c ks x ≡ true
+  pub leaves : (ks left : List Kind) → Covered f.registers m ks → Leaves c ks x left → Covered f.registers l left
+
+-- the same of an instruction behind which nothing follows, and nothing that is owned and no credit is left
+pub record IsLastRow (c : PlainCode) (f : PlainFunction) (m : ℕ → Kind) (x : Instr) : Type 0 where
+  pub sources : (ks : List Kind) → Covered f.registers m ks → sources c f ks x ≡ true
+  pub destinations : (ks : List Kind) → Covered f.registers m ks → destinations c ks x ≡ true
+  pub spends : (ks : List Kind) → Covered f.registers m ks → spends_all c f ks x ≡ true

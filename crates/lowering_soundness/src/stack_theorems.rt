@@ -1,0 +1,35 @@
+// The laws on calls and stack numbers of laid out code. Each is the contract of a function that does nothing.
+ghost use Rattle.std.specs.Prelude.{◌≡◌, ℕ, List, Some, slice_get, not};
+ghost use Rattle.fip_trees.specs.declared.groups.Member.{Member};
+ghost use Rattle.fip_trees.specs.Tree.{Instance, Program};
+ghost use Rattle.call_groups.specs.CallGraph.{In};
+ghost use Rattle.tail_groups.specs.Members.{AreMembers, FipCallsFip};
+ghost use Rattle.tail_groups.specs.Sites.{Site, instance_sites};
+ghost use Rattle.code_rules.specs.Breaks.{IsSound};
+ghost use Rattle.code_rules.specs.Calls.{Calls};
+ghost use Rattle.code_rules.specs.Codes.{PlainCode, PlainFunction, function_at};
+ghost use Rattle.code_rules.specs.StackNumbers.{HasStack};
+ghost use Rattle.lowering_relation.specs.LoweredBodies.{function_of};
+ghost use Rattle.lowering_relation.specs.Known.{joined};
+ghost use Rattle.lowering_relation.specs.Values.{Setting};
+ghost use Rattle.lowering_relation.specs.LaidFunctions.{IsLaid, AreLaid};
+ghost use Rattle.lowering_soundness.specs.Alike.{Alike};
+
+/// In sound code that is laid out as its program asks, each call in the body of an instance is a call of its function,
+/// at an instruction that is reached; it waits for its callee just where it stands outside tail position. For who asks
+/// whether a code calls all that its program does.
+pub fn calls_of_bodies_are_reached()
+    ensures law { (c : PlainCode) (st : Setting) (p : Program) → AreLaid c st p → IsSound c → (n : ℕ)
+        (f : PlainFunction) → function_at c n ≡ Some f → (l : IsLaid c st p n f) → (s : Site) →
+        In s (instance_sites l.instance) → (g : ℕ) × (joined (slice_get st.functions s.callee) ≡ Some g)
+        × Calls c n g (not s.is_tail) }
+{}
+
+/// Where the functions of a code call each other just as the instances of a program do, their frames have as many words,
+/// and fip instances call fip ones alone, each function holds of the stack at the most what the groups of the program
+/// tell of its instance. For who gives a run its stack.
+pub fn alike_functions_have_the_stack_numbers()
+    ensures law { (c : PlainCode) (ds : List Instance) (ms : List Member) → Alike c ds → AreMembers ds ms →
+        FipCallsFip ds → (i n : ℕ) (m : Member) → function_of ds i ≡ Some n → slice_get ms i ≡ Some m →
+        HasStack c n m.stack }
+{}

@@ -1,0 +1,85 @@
+-- A function of the code that has a name is that of an instance without static parameters of this name.
+-- Idea: the headers of the functions are those of the instances that aren't plain, in their order, and so are numbered
+-- the functions of instances; and only a root gives its function a name.
+use Rattle.std.proofs.Common.{◌≡◌, ◌<◌, ℕ, zero, suc, Bool, true, false, List, [], ◌∷◌, length, map, Some, slice_get, option_map, if◌then◌else◌, refl, sym, ap, ap₂, ◌∙◌, subst, arith}
+use Rattle.std.proofs.lemmas.Option.{none-some, same_Some, slice_get-map}
+use Rattle.fip_language.specs.declared.FunKind.{FunKind}
+use Rattle.fip_language.specs.declared.FunKind.TheVariants.{Fip, Fbip, Fun}
+use Rattle.fip_trees.specs.declared.groups.Member.{Member}
+use Rattle.fip_trees.specs.Tree.{Instance, Program}
+use Rattle.cell_code.specs.declared.code.Code.{Code}
+use Rattle.cell_code.specs.declared.code.Function.{Function}
+use Rattle.code_rules.specs.Codes.{PlainFunction, plain, plain_function, function_at, params_of}
+use Rattle.lowering_relation.specs.LoweredBodies.{has_function, one_more, if_function, function_of}
+use Rattle.lowering_simulation.specs.CellEnds.{IsFunctionOf}
+use Rattle.cell_lower.specs.Limits.{is_ruled, registers}
+use Rattle.cell_lower.specs.Shape.{Header, header, header_of, entry_name, and_if, headers_from, headers}
+
+-- a header is that of an instance whose function has number n
+record IsHeaded (ds : List Instance) (n : ℕ) (h : Header) : Type 0 where
+  pub place : ℕ
+  pub instance : Instance
+  pub there : slice_get ds place ≡ Some instance
+  pub function : function_of ds place ≡ Some n
+  pub registers : ℕ
+  pub is : h ≡ header_of registers instance
+
+here : (d : Instance) (ds : List Instance) (r : ℕ) (h : Header) → has_function d.kind ≡ true → Some (header_of r d) ≡ Some h → IsHeaded (d ∷ ds) 0 h
+here d ds r h k e = record { place = 0; instance = d; there = refl; function = ap if_function k; registers = r; is = sym (same_Some (header_of r d) h e) }
+
+behind : (d : Instance) (ds : List Instance) (n m : ℕ) (h : Header) (b : Bool) → has_function d.kind ≡ b → one_more b (Some n) ≡ Some m → IsHeaded ds n h → IsHeaded (d ∷ ds) m h
+behind d ds n m h b k e x = record { place = suc x.place; instance = x.instance; there = x.there; function = ap₂ one_more k x.function ∙ e; registers = x.registers; is = x.is }
+
+one_step : (d : Instance) (ds : List Instance) (r : ℕ) (hs : List Header) (n : ℕ) (h : Header) → ((m : ℕ) → slice_get hs m ≡ Some h → IsHeaded ds m h) → (k : FunKind) → d.kind ≡ k → slice_get (and_if (is_ruled k) (header_of r d) hs) n ≡ Some h → IsHeaded (d ∷ ds) n h
+one_step d ds r hs zero h rest Fip k e = here d ds r h (ap has_function k) e
+one_step d ds r hs (suc n) h rest Fip k e = behind d ds n (suc n) h true (ap has_function k) refl (rest n e)
+one_step d ds r hs zero h rest Fbip k e = here d ds r h (ap has_function k) e
+one_step d ds r hs (suc n) h rest Fbip k e = behind d ds n (suc n) h true (ap has_function k) refl (rest n e)
+one_step d ds r hs n h rest Fun k e = behind d ds n n h false (ap has_function k) refl (rest n e)
+
+headed : (ms : List Member) (i : ℕ) (ds : List Instance) (n : ℕ) (h : Header) → slice_get (headers_from ms i ds) n ≡ Some h → IsHeaded ds n h
+headed ms i [] n h e = absurd (none-some h e)
+headed ms i (d ∷ ds) n h e = one_step d ds (registers ms i) (headers_from ms (suc i) ds) n h (λ m x. headed ms (suc i) ds m h x) d.kind refl e
+
+-- the function in memory of a plain one
+memory_at : (fs : List Function) (n : ℕ) (f : PlainFunction) → slice_get (map plain_function fs) n ≡ Some f → (g : Function) × (slice_get fs n ≡ Some g) × (plain_function g ≡ f)
+memory_at [] n f e = absurd (none-some f e)
+memory_at (g ∷ fs) zero f e = (g, refl, same_Some (plain_function g) f e)
+memory_at (g ∷ fs) (suc n) f e = memory_at fs n f e
+
+root_of : (d : Instance) → 0 < length (entry_name d) → (d.root ≡ true) × (entry_name d ≡ d.name)
+root_of d h = by d.root refl h
+  where
+    by : (b : Bool) → d.root ≡ b → 0 < length (if b then d.name else []) → (d.root ≡ true) × (entry_name d ≡ d.name)
+    by true e h = (e, ap (λ b. if b then d.name else []) e)
+    by false e h = absurd (omega (arith, h))
+
+-- the instance of a function that has a name
+pub record IsNamed (program : Program) (code : Code) (n : ℕ) (f : PlainFunction) : Type 0 where
+  pub place : ℕ
+  pub instance : Instance
+  pub there : slice_get program.instances place ≡ Some instance
+  pub root : instance.root ≡ true
+  pub name : f.name ≡ instance.name
+  pub of' : IsFunctionOf program place (plain code) n
+
+pub named : (program : Program) (members : List Member) (code : Code) (n : ℕ) (f : PlainFunction) → code.types ≡ program.types → map header code.functions.items ≡ headers members program.instances → function_at (plain code) n ≡ Some f → 0 < length f.name → IsNamed program code n f
+named program members code n f types functions is some =
+    let g = memory_at code.functions.items n f is in
+    let at : slice_get (map header code.functions.items) n ≡ Some (header g.0) = slice_get-map header code.functions.items n ∙ ap (option_map header) g.1 in
+    let x = headed members 0 program.instances n (header g.0) (ap (λ hs. slice_get hs n) (sym functions) ∙ at) in
+    let called : f.name ≡ entry_name x.instance = sym (ap (λ (q : PlainFunction). q.name) g.2) ∙ ap (λ (h : Header). h.name) x.is in
+    let root = root_of x.instance (subst (λ s. 0 < length s) called some) in
+    let takes : f.params ≡ x.instance.params = sym (ap (λ (q : PlainFunction). q.params) g.2) ∙ ap (λ (h : Header). h.signature.params) x.is in
+    record {
+      place = x.place;
+      instance = x.instance;
+      there = x.there;
+      root = root.0;
+      name = called ∙ root.1;
+      of' = record {
+        function = x.function;
+        types = types;
+        takes = λ d e. ap params_of is ∙ (takes ∙ ap (λ (d : Instance). d.params) (same_Some x.instance d (sym x.there ∙ e)));
+      };
+    }

@@ -1,0 +1,141 @@
+-- What a machine answers is what the source means.
+-- Idea: a run comes to one end, so the end that the machine tells is the one that stands for the meaning.
+use Rattle.std.proofs.Common.{◌≡◌, ◌≢◌, ◌<◌, ◌≤◌, ℕ, true, List, [], length, refl, sym, ap, ◌∙◌, subst}
+use Rattle.fip_language.specs.Core.{Core}
+use Rattle.fip_language.specs.Meaning.{Answer, Gives, Trap, Out, Deep, Stuck, meaning}
+use Rattle.fip_language.specs.Statics.{NoClosed}
+use Rattle.fip_language.specs.Table.{Table}
+use Rattle.fip_language.specs.Values.{Values}
+use Rattle.fip_base.specs.declared.plain.Stack.{Stack}
+use Rattle.cell_code.specs.declared.code.Code.{Code}
+use Rattle.machine_semantics.specs.Codes as R
+use Rattle.machine_semantics.specs.Runs as C
+use Rattle.machine_semantics.specs.Runs.{End, Run, Going, Over, Ends, begun, after}
+use Rattle.machine_semantics.specs.States.{State}
+use Rattle.machine_semantics.specs.Steps.{Kinds}
+use Rattle.code_rules.specs.Codes.{PlainFunction, plain, is_fip, results, results_of}
+use Rattle.code_rules.specs.StackNumbers.{IsStack}
+use Rattle.separation.specs.Codes.{run_code, AreKinds}
+use Rattle.separation.proofs.KindsFound.{kinds_found}
+use Rattle.separation_bounds.proofs.Ending.{ends_once}
+use Rattle.separation_bounds.proofs.FipRuns.{never_deep}
+use Rattle.code_verify.specs.Checked.{Checked}
+use Rattle.tree_refinement.specs.Agreement.{AreWordsOf}
+use Rattle.tree_refinement.specs.Runs.{IsSameEnd}
+use Rattle.fip_machine.specs.declared.machine.Ended.{Ended}
+use Rattle.fip_machine.specs.Ending.{KnowsRun, RunsTo}
+use Rattle.machine_correctness.specs.Ended.{EndsJustAs, IsOverJust}
+use Rattle.machine_correctness.proofs.Drops.{known}
+use Rattle.machine_correctness.proofs.VerifiedEnds.{runs_just}
+use Rattle.lowering_relation.specs.LoweredFunctions.{AreLowered}
+use Rattle.lowering_simulation.specs.Lowered.{all_instrs}
+use Rattle.lowering_simulation.specs.CellEnds.{EndsAs}
+use Rattle.compiler_correctness.proofs.Joined.{on_cells_meant}
+use Rattle.machine_correctness.specs.Meant.{IsMeant}
+use Rattle.machine_correctness.specs.Starts.{IsSoundCode, IsCodeOf, Begins}
+use Rattle.machine_correctness.proofs.Entries.{named}
+use Rattle.machine_correctness.proofs.Starting.{read, starts, free_is, fip}
+
+-- ---- the run of the definition
+
+pub ends_as_meant : (source : List ℕ) (core : Core) (code : Code) (before waits : Kinds) (n : ℕ) (f : PlainFunction) (vs : Values) (frames : ℕ) (s : State) (calls : ℕ) → IsCodeOf source core code → AreKinds (plain code) before waits → Begins code n f vs frames s → 0 < length f.name → EndsAs (plain code) before n s calls (meaning core f.name NoClosed vs calls frames).answer
+ends_as_meant source core code before waits n f vs frames s calls h kinds b some =
+    let t = starts code before waits n f vs frames s h.is_sound kinds b in
+    let x = named h.program h.members code n f h.types h.functions b.is some in
+    let lowered : AreLowered h.program (all_instrs (run_code (plain code))) = subst (λ (q : R.PlainCode). AreLowered h.program (all_instrs q)) (sym (read code)) h.lowered in
+    let ends = on_cells_meant source core h.program (plain code) h.parsed h.accepted lowered before waits x.place n x.instance vs [] s calls x.there x.root x.of' t.0 t.1 in
+    let with_name = subst (λ name. EndsAs (plain code) before n s calls (meaning core name NoClosed vs calls s.free).answer) (sym x.name) ends in
+    subst (λ free. EndsAs (plain code) before n s calls (meaning core f.name NoClosed vs calls free).answer) (free_is code n f vs frames s b) with_name
+
+-- ---- the machine's answer
+
+value_meant : (tb : Table) (types ws : List ℕ) (l : State) (e : Ended) (new : State) (given : List ℕ) (vs : Values) (k : ℕ) → EndsJustAs (C.Value ws) l e new given → AreWordsOf tb l.store types ws vs → IsMeant tb types e new given (Gives vs k)
+value_meant tb types ws l e new given vs k h same =
+    let words : AreWordsOf tb l.store types given vs = subst (λ us. AreWordsOf tb l.store types us vs) (sym h.2) same in
+    let there : AreWordsOf tb new.store types given vs = subst (λ (u : State). AreWordsOf tb u.store types given vs) (sym h.1) words in
+    subst (λ e. IsMeant tb types e new given (Gives vs k)) (sym h.0) there
+
+meant_by : (tb : Table) (types : List ℕ) (end : End) (l : State) (left : ℕ) (e : Ended) (new : State) (given : List ℕ) (a : Answer) → EndsJustAs end l e new given → IsSameEnd tb types l left end a → IsMeant tb types e new given a
+meant_by tb types (C.Value ws) l left e new given (Gives vs k) h same = value_meant tb types ws l e new given vs k h same.0
+meant_by tb types (C.Value ws) l left e new given (Trap kind line col) h same = absurd same
+meant_by tb types (C.Value ws) l left e new given Out h same = absurd same
+meant_by tb types (C.Value ws) l left e new given Deep h same = absurd same
+meant_by tb types (C.Value ws) l left e new given Stuck h same = absurd same
+meant_by tb types (C.Trap kind line col) l left e new given (Gives vs k) h same = absurd same
+meant_by tb types (C.Trap kind line col) l left e new given (Trap other row at) h same = subst (λ e. IsMeant tb types e new given (Trap other row at)) (sym h.0) same
+meant_by tb types (C.Trap kind line col) l left e new given Out h same = absurd same
+meant_by tb types (C.Trap kind line col) l left e new given Deep h same = absurd same
+meant_by tb types (C.Trap kind line col) l left e new given Stuck h same = absurd same
+meant_by tb types C.Out l left e new given (Gives vs k) h same = absurd same
+meant_by tb types C.Out l left e new given (Trap kind line col) h same = absurd same
+meant_by tb types C.Out l left e new given Out h same = subst (λ e. IsMeant tb types e new given Out) (sym h.0) refl
+meant_by tb types C.Out l left e new given Deep h same = absurd same
+meant_by tb types C.Out l left e new given Stuck h same = absurd same
+meant_by tb types C.Deep l left e new given (Gives vs k) h same = absurd same
+meant_by tb types C.Deep l left e new given (Trap kind line col) h same = absurd same
+meant_by tb types C.Deep l left e new given Out h same = absurd same
+meant_by tb types C.Deep l left e new given Deep h same = subst (λ e. IsMeant tb types e new given Deep) (sym h.0) refl
+meant_by tb types C.Deep l left e new given Stuck h same = absurd same
+meant_by tb types C.Unsound l left e new given a h same = absurd h
+
+-- the end of a run that is over
+pub record IsEnded (r : Run) (e : Ended) (new : State) (given : List ℕ) : Type 0 where
+  pub end : End
+  pub last : State
+  pub left : ℕ
+  pub steps : ℕ
+  pub is : r ≡ Over end last left steps
+  pub as' : EndsJustAs end last e new given
+
+pub ended : (r : Run) (e : Ended) (new : State) (given : List ℕ) → IsOverJust r e new given → IsEnded r e new given
+ended (Going s left n) e new given h = absurd h
+ended (Over end s left n) e new given h = record { end = end; last = s; left = left; steps = n; is = refl; as' = h }
+
+pub knows : (v : Checked) (before waits : Kinds) (n : ℕ) (f : PlainFunction) (vs : Values) (frames : ℕ) (s : State) (calls : ℕ) → IsSoundCode v.code → AreKinds (plain v.code) before waits → Begins v.code n f vs frames s → KnowsRun v before s calls
+knows v before waits n f vs frames s calls sound kinds b =
+    known v before waits n [] s calls (starts v.code before waits n f vs frames s sound kinds b).0
+
+-- the end that is told is the end that there is
+same_end : (tb : Table) (types : List ℕ) (end other : End) (l m : State) (left k steps j : ℕ) (e : Ended) (new : State) (given : List ℕ) (a : Answer) → Over end l left steps ≡ Over other m k j → EndsJustAs other m e new given → IsSameEnd tb types l left end a → IsMeant tb types e new given a
+same_end tb types end other l m left k steps j e new given a is h same =
+    let ends : end ≡ other = cc in
+    let lasts : l ≡ m = cc in
+    let other_end : IsSameEnd tb types l left other a = subst (λ x. IsSameEnd tb types l left x a) ends same in
+    let other_last : IsSameEnd tb types m left other a = subst (λ (u : State). IsSameEnd tb types u left other a) lasts other_end in
+    meant_by tb types other m left e new given a h other_last
+
+pub answers_as_meant : (source : List ℕ) (core : Core) (v : Checked) (before waits : Kinds) (n : ℕ) (f : PlainFunction) (vs : Values) (frames : ℕ) (s : State) (calls : ℕ) (e : Ended) (new : State) (given : List ℕ) → IsCodeOf source core v.code → AreKinds (plain v.code) before waits → Begins v.code n f vs frames s → 0 < length f.name → RunsTo before (R.plain v.code) s calls e new given → IsMeant v.code.types f.results e new given (meaning core f.name NoClosed vs calls frames).answer
+answers_as_meant source core v before waits n f vs frames s calls e new given h kinds b some runs =
+    let c = plain v.code in
+    let a = (meaning core f.name NoClosed vs calls frames).answer in
+    let start = (starts v.code before waits n f vs frames s h.is_sound kinds b).0 in
+    let meant = ends_as_meant source core v.code before waits n f vs frames s calls h kinds b some in
+    let just = runs_just v before waits n [] s calls e new given start runs in
+    let x = ended (after before (R.plain v.code) just.0 (begun s calls)) e new given just.1 in
+    let told : Ends before (run_code c) s calls x.end x.last x.left x.steps = record { enough = just.0; is = ap (λ (q : R.PlainCode). after before q just.0 (begun s calls)) (read v.code) ∙ x.is } in
+    let once = ends_once c before waits before waits n [] s calls meant.end x.end meant.last x.last meant.left x.left meant.steps x.steps start kinds meant.ends told in
+    let types : results c n ≡ f.results = ap results_of b.is in
+    subst (λ ts. IsMeant v.code.types ts e new given a) types
+    (same_end v.code.types (results c n) meant.end x.end meant.last x.last meant.left x.left meant.steps x.steps e new given a once x.as' meant.same)
+
+-- ---- a fip entry is never too deep
+
+deep_end : (tb : Table) (types : List ℕ) (l : State) (left : ℕ) (end : End) → IsSameEnd tb types l left end Deep → end ≡ C.Deep
+deep_end tb types l left (C.Value ws) h = absurd h
+deep_end tb types l left (C.Trap kind line col) h = absurd h
+deep_end tb types l left C.Out h = absurd h
+deep_end tb types l left C.Deep h = refl
+deep_end tb types l left C.Unsound h = absurd h
+
+pub not_deep : (source : List ℕ) (core : Core) (code : Code) (n : ℕ) (f : PlainFunction) (vs : Values) (frames : ℕ) (s : State) (calls : ℕ) (stack : Stack) → IsCodeOf source core code → Begins code n f vs frames s → 0 < length f.name → is_fip f.kind ≡ true → IsStack (plain code) n stack → stack.frames ≤ frames → (meaning core f.name NoClosed vs calls frames).answer ≢ Deep
+not_deep source core code n f vs frames s calls stack h b some k number enough e =
+    let c = plain code in
+    let found = kinds_found c in
+    let before = found.0 in
+    let waits = found.1 in
+    let start = (starts code before waits n f vs frames s h.is_sound found.2 b).0 in
+    let meant = ends_as_meant source core code before waits n f vs frames s calls h found.2 b some in
+    let deep = deep_end c.types (results c n) meant.last meant.left meant.end (subst (IsSameEnd c.types (results c n) meant.last meant.left meant.end) e meant.same) in
+    let free = subst (λ m. stack.frames ≤ m) (sym (free_is code n f vs frames s b)) enough in
+    never_deep c before waits n [] s calls meant.ends.enough stack meant.last meant.left meant.steps start (fip code n f vs frames s b k) number free
+    (meant.ends.is ∙ ap (λ end. Over end meant.last meant.left meant.steps) deep)

@@ -1,0 +1,125 @@
+-- A fip entry's run in place, and what a gauge tells of it.
+-- Idea: what is so of the state after each number of steps is so of each state that the gauge sees.
+use Rattle.std.proofs.Common.{◌≡◌, ◌<◌, ◌≤◌, ◌+◌, ℕ, zero, suc, true, List, [], ◌∷◌, length, map, sym, ap, ap₂, ◌∙◌, subst, arith}
+use Rattle.std.specs.Prelude.{min, max}
+use Rattle.fip_language.specs.Every.{Every}
+use Rattle.fip_language.specs.Gauge.{Seen, lowest, highest, highest_frames, highest_words}
+use Rattle.fip_language.specs.Store.{count}
+use Rattle.fip_language.specs.Values.{Values, cells_of_all}
+use Rattle.fip_base.specs.declared.plain.Stack.{Stack}
+use Rattle.cell_code.specs.declared.code.Code.{Code}
+use Rattle.machine_semantics.specs.Cells.{count_held}
+use Rattle.machine_semantics.specs.Codes as R
+use Rattle.machine_semantics.specs.Gauges.{seen_of, states, seen}
+use Rattle.machine_semantics.specs.Runs.{Value, Trap, Out, Deep, Unsound, Run, Going, Over, state_of, begun, after, later}
+use Rattle.machine_semantics.specs.States.{State, frames_held, words_held}
+use Rattle.machine_semantics.specs.Steps.{Kinds}
+use Rattle.code_rules.specs.Codes.{PlainFunction, plain, is_fip}
+use Rattle.code_rules.specs.StackNumbers.{IsStack}
+use Rattle.separation.specs.Codes.{AreKinds}
+use Rattle.separation_bounds.proofs.FipRuns.{frames_within, words_within}
+use Rattle.separation_bounds.proofs.Falling.{fip_count}
+use Rattle.code_verify.specs.Checked.{Checked}
+use Rattle.fip_machine.specs.declared.gauge.Gauge.{Gauge}
+use Rattle.fip_machine.specs.GaugeView.{Tells, TellsRun}
+use Rattle.machine_correctness.specs.Ended.{TellsJustOver}
+use Rattle.machine_correctness.proofs.VerifiedEnds.{tells_just_run}
+use Rattle.machine_correctness.specs.Gauges.{IsFlat, cells_given}
+use Rattle.machine_correctness.specs.Starts.{IsSoundCode, Begins}
+use Rattle.machine_correctness.proofs.Starting.{read, starts, fip, first_cells}
+
+-- ---- each state
+
+module _ (code : Code) (before waits : Kinds) (n : ℕ) (f : PlainFunction) (vs : Values) (frames : ℕ) (s : State) (calls : ℕ) (sound : IsSoundCode code) (kinds : AreKinds (plain code) before waits) (b : Begins code n f vs frames s) (k : is_fip f.kind ≡ true) where
+  abbrev at : ℕ → State
+  at steps = state_of (after before (R.plain code) steps (begun s calls))
+
+  pub each_cells : (steps size : ℕ) → count_held size (at steps).store ≡ cells_of_all size vs + count size f.credits
+  each_cells steps size =
+      let t = starts code before waits n f vs frames s sound kinds b in
+      let held = fip_count (plain code) before waits n [] s calls steps size t.0 (fip code n f vs frames s b k) in
+      subst (λ (q : R.PlainCode). count_held size (state_of (after before q steps (begun s calls))).store ≡ count_held size s.store) (read code) held
+      ∙ first_cells code before waits n f vs frames s size sound kinds b
+
+  pub each_frames : (steps : ℕ) (stack : Stack) → IsStack (plain code) n stack → frames_held (at steps) ≤ stack.frames
+  each_frames steps stack number =
+      let t = starts code before waits n f vs frames s sound kinds b in
+      let within = frames_within (plain code) before waits n [] s calls steps stack t.0 (fip code n f vs frames s b k) number in
+      subst (λ (q : R.PlainCode). frames_held (state_of (after before q steps (begun s calls))) ≤ stack.frames) (read code) within
+
+  pub each_words : (steps : ℕ) (stack : Stack) → IsStack (plain code) n stack → words_held (at steps) ≤ stack.words
+  each_words steps stack number =
+      let t = starts code before waits n f vs frames s sound kinds b in
+      let within = words_within (plain code) before waits n [] s calls steps stack t.0 (fip code n f vs frames s b k) number in
+      subst (λ (q : R.PlainCode). words_held (state_of (after before q steps (begun s calls))) ≤ stack.words) (read code) within
+
+-- ---- all states that are seen
+
+all_states : (P : State → Type 0) (kinds : Kinds) (code : R.PlainCode) (m : ℕ) (r : Run) → ((j : ℕ) → P (state_of (after kinds code j r))) → Every P (states kinds code m r)
+all_states P kinds code zero (Going s left n) h = (h 0, tt)
+all_states P kinds code (suc m) (Going s left n) h = (h 0, all_states P kinds code m (later kinds code (Going s left n)) (λ j. h (suc j)))
+all_states P kinds code zero (Over e s left n) h = (h 0, tt)
+all_states P kinds code (suc m) (Over e s left n) h = (h 0, tt)
+
+some_state : (kinds : Kinds) (code : R.PlainCode) (m : ℕ) (r : Run) → 0 < length (states kinds code m r)
+some_state kinds code zero (Going s left n) = omega arith
+some_state kinds code (suc m) (Going s left n) = omega arith
+some_state kinds code zero (Over e s left n) = omega arith
+some_state kinds code (suc m) (Over e s left n) = omega arith
+
+lowest_flat : (size c : ℕ) (ss : List State) → 0 < length ss → Every (λ (u : State). count_held size u.store ≡ c) ss → lowest size (map seen_of ss) ≡ c
+lowest_flat size c [] some h = absurd (omega (arith, some))
+lowest_flat size c (s ∷ []) some h = h.0
+lowest_flat size c (s ∷ t ∷ ss) some h =
+    let rest = lowest_flat size c (t ∷ ss) (omega arith) h.1 in
+    let both : min c c ≡ c = omega arith in
+    ap₂ min h.0 rest ∙ both
+
+highest_flat : (size c : ℕ) (ss : List State) → 0 < length ss → Every (λ (u : State). count_held size u.store ≡ c) ss → highest size (map seen_of ss) ≡ c
+highest_flat size c [] some h = absurd (omega (arith, some))
+highest_flat size c (s ∷ []) some h =
+    let alone : max c 0 ≡ c = omega arith in
+    ap (λ x. max x 0) h.0 ∙ alone
+highest_flat size c (s ∷ t ∷ ss) some h =
+    let rest = highest_flat size c (t ∷ ss) (omega arith) h.1 in
+    let both : max c c ≡ c = omega arith in
+    ap₂ max h.0 rest ∙ both
+
+most : (x y z : ℕ) → x ≤ z → y ≤ z → max x y ≤ z
+most x y z h k = omega (arith, h, k)
+
+frames_bounded : (c : ℕ) (ss : List State) → Every (λ (u : State). frames_held u ≤ c) ss → highest_frames (map seen_of ss) ≤ c
+frames_bounded c [] h = omega arith
+frames_bounded c (s ∷ ss) h = most (frames_held s) (highest_frames (map seen_of ss)) c h.0 (frames_bounded c ss h.1)
+
+words_bounded : (c : ℕ) (ss : List State) → Every (λ (u : State). words_held u ≤ c) ss → highest_words (map seen_of ss) ≤ c
+words_bounded c [] h = omega arith
+words_bounded c (s ∷ ss) h = most (words_held s) (highest_words (map seen_of ss)) c h.0 (words_bounded c ss h.1)
+
+-- ---- the gauge
+
+tells : (r : Run) (g : Gauge) (ss : List Seen) → TellsJustOver r g ss → Tells g ss
+tells (Going s left n) g ss h = absurd h
+tells (Over (Value ws) s left n) g ss h = h
+tells (Over (Trap kind line col) s left n) g ss h = h
+tells (Over Out s left n) g ss h = h
+tells (Over Deep s left n) g ss h = h
+tells (Over Unsound s left n) g ss h = absurd h
+
+pub gauge_flat : (v : Checked) (before waits : Kinds) (n : ℕ) (f : PlainFunction) (vs : Values) (frames : ℕ) (s : State) (calls : ℕ) (stack : Stack) (g : Gauge) → IsSoundCode v.code → AreKinds (plain v.code) before waits → Begins v.code n f vs frames s → is_fip f.kind ≡ true → IsStack (plain v.code) n stack → TellsRun before (R.plain v.code) s calls g → IsFlat g vs f.credits stack
+gauge_flat v before waits n f vs frames s calls stack g sound kinds b k number runs =
+    let code = R.plain v.code in
+    let start = (starts v.code before waits n f vs frames s sound kinds b).0 in
+    let just = tells_just_run v before waits n [] s calls g start runs in
+    let t = tells (after before code just.0 (begun s calls)) g (seen before code just.0 (begun s calls)) just.1 in
+    let some = some_state before code just.0 (begun s calls) in
+    let cells : (size : ℕ) → Every (λ (u : State). count_held size u.store ≡ cells_given size vs f.credits) (states before code just.0 (begun s calls)) =
+    λ size. all_states (λ (u : State). count_held size u.store ≡ cells_given size vs f.credits) before code just.0 (begun s calls) (λ j. each_cells v.code before waits n f vs frames s calls sound kinds b k j size) in
+    let all_frames = all_states (λ (u : State). frames_held u ≤ stack.frames) before code just.0 (begun s calls) (λ j. each_frames v.code before waits n f vs frames s calls sound kinds b k j stack number) in
+    let all_words = all_states (λ (u : State). words_held u ≤ stack.words) before code just.0 (begun s calls) (λ j. each_words v.code before waits n f vs frames s calls sound kinds b k j stack number) in
+    record {
+      lowest = λ size one few. t.lowest size one few ∙ lowest_flat size (cells_given size vs f.credits) (states before code just.0 (begun s calls)) some (cells size);
+      highest = λ size one few. t.highest size one few ∙ highest_flat size (cells_given size vs f.credits) (states before code just.0 (begun s calls)) some (cells size);
+      frames = subst (λ m. m ≤ stack.frames) (sym t.frames) (frames_bounded stack.frames (states before code just.0 (begun s calls)) all_frames);
+      words = subst (λ m. m ≤ stack.words) (sym t.words) (words_bounded stack.words (states before code just.0 (begun s calls)) all_words);
+    }

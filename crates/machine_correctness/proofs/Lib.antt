@@ -1,0 +1,9 @@
+pub mod Drops
+pub mod VerifiedEnds
+pub mod Literals
+pub mod Entries
+pub mod Starting
+pub mod Texts
+pub mod EvaluatedEnds
+pub mod Flat
+pub mod Peaks

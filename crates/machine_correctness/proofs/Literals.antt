@@ -1,0 +1,28 @@
+-- The ints that a verified code writes have 64 bits, as separation asks it instruction by instruction.
+use Rattle.std.proofs.Common.{◌≡◌, ℕ, Some, refl}
+use Rattle.cell_code.specs.declared.code.Instr.{Instr}
+use Rattle.cell_code.specs.declared.code.Instr.TheVariants as I
+use Rattle.code_rules.specs.Codes.{PlainCode}
+use Rattle.separation.specs.Rows.{FitsLiteral}
+use Rattle.separation.specs.Codes.{HasLiterals}
+use Rattle.code_verify.specs.Checked.{HasMachineInt, HasMachineInts}
+
+fits_literal : (x : Instr) → HasMachineInt x → FitsLiteral x
+fits_literal (I.Const d v) h = h d v refl
+fits_literal (I.Atom d t k) h = tt
+fits_literal (I.Move d r) h = tt
+fits_literal (I.Arith d o x y line col) h = tt
+fits_literal (I.Test r k target) h = tt
+fits_literal (I.TestInt r v target) h = tt
+fits_literal (I.Peek d r i) h = tt
+fits_literal (I.Take r ds) h = tt
+fits_literal (I.Put d t k rs) h = tt
+fits_literal (I.Drop r) h = tt
+fits_literal (I.Free r) h = tt
+fits_literal (I.Call g rs ds) h = tt
+fits_literal (I.Tail g rs) h = tt
+fits_literal (I.Ret rs) h = tt
+fits_literal (I.Jump target) h = tt
+
+pub has_literals : (c : PlainCode) → HasMachineInts c → HasLiterals c
+has_literals c h n i f x is at = fits_literal x (h n i f x is at)

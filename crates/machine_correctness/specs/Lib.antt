@@ -1,0 +1,4 @@
+pub mod Ended
+pub mod Starts
+pub mod Meant
+pub mod Gauges

@@ -1,0 +1,48 @@
+-- What a step tells a store to do: just what the definition says that it does to the cells. Where the definition says
+-- nothing comes, nothing is said.
+use Rattle.std.specs.Prelude.{Bool, true, false, List, map}
+use Rattle.cell_code.specs.declared.code.Instr.{Instr}
+use Rattle.cell_code.specs.declared.code.Instr.TheVariants as I
+use Rattle.cell_code.specs.declared.kind.Kind.{Kind}
+use Rattle.cell_store.specs.Told.{Told}
+use Rattle.machine_semantics.specs.Codes.{PlainCode}
+use Rattle.machine_semantics.specs.States.{State, Next, Went, Entered, Gave, Trapped, TooDeep, Stuck}
+use Rattle.machine_semantics.specs.Rows.{done}
+use Rattle.machine_semantics.specs.Steps.{Kinds, act, next, changes_in, changes_of}
+use Rattle.machine_semantics.specs.Traces.{done_changes}
+use Rattle.machine_cells.specs.Telling.{as_told}
+
+-- Something comes.
+abbrev pub IsKnown : Next → Type 0
+IsKnown (Went s) = Unit {0}
+IsKnown (Entered s) = Unit {0}
+IsKnown (Gave words) = Unit {0}
+IsKnown (Trapped kind line col) = Unit {0}
+IsKnown TooDeep = Unit {0}
+IsKnown Stuck = ⊥
+
+-- what an instruction tells where registers have these kinds
+abbrev pub act_tells : PlainCode → List Kind → State → Instr → List Told
+act_tells code ks s x = map as_told (done_changes (changes_in (done code.types ks s x)) (act code ks s x))
+
+-- what the next one tells
+abbrev pub next_tells : Kinds → PlainCode → State → List Told
+next_tells kinds code s = map as_told (done_changes (changes_of kinds code s) (next kinds code s))
+
+-- only these instructions do something to cells
+abbrev pub changes_cells : Instr → Bool
+changes_cells (I.Const d v) = false
+changes_cells (I.Atom d t c) = false
+changes_cells (I.Move d r) = false
+changes_cells (I.Arith d o x y line col) = false
+changes_cells (I.Test r c target) = false
+changes_cells (I.TestInt r v target) = false
+changes_cells (I.Peek d r i) = false
+changes_cells (I.Take r ds) = false
+changes_cells (I.Put r t c ss) = true
+changes_cells (I.Drop r) = true
+changes_cells (I.Free r) = true
+changes_cells (I.Call f ss ds) = false
+changes_cells (I.Tail f ss) = false
+changes_cells (I.Ret ss) = false
+changes_cells (I.Jump target) = false

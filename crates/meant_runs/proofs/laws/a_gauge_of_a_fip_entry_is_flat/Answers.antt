@@ -1,5 +1,0 @@
-use Rattle.meant_runs.proofs.Flat.{gauge_flat}
-use Rattle.meant_runs.proofs.laws.a_gauge_of_a_fip_entry_is_flat.Goals as goal
-
-pub returns : goal.returns
-returns c = record { law = gauge_flat }

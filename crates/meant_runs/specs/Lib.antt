@@ -1,3 +1,0 @@
-pub mod Starts
-pub mod Meant
-pub mod Gauges

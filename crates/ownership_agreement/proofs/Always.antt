@@ -1,0 +1,147 @@
+-- A variable is used on every path of the shape just where the term uses it on every path.
+use Rattle.std.proofs.Common.{◌≡◌, ℕ, suc, ◌+◌, ◌<◌, refl, sym, ap, subst, ◌∙◌, List, [], Option, Some, None, Bool, true, false, not, arith}
+use Rattle.std.specs.Prelude.{◌==◌, ◌&&◌, ◌||◌, if◌then◌else◌}
+use Rattle.fip_language.specs.declared.Place.{Place}
+use Rattle.fip_language.specs.declared.rule.Rule.TheVariants.{E54, E55}
+use Rattle.fip_trees.specs.declared.program.Binder.{Binder}
+use Rattle.fip_trees.specs.Tree.{Name, Argument, Variable, Literal, Constructor, Arguments, NoArguments, MoreArguments}
+use Rattle.fip_trees.specs.Tree.{Expression, Give, Tuple, Operation, Call, Match, Nested, Block, Last, Let, Clauses, NoClauses, MoreClauses}
+use Rattle.fip_rules.specs.Marks.{Mark}
+use Rattle.fip_rules.specs.Shape as S
+use Rattle.fip_rules.specs.Rules.{Ordered}
+use Rattle.fip_rules.specs.Notes as N
+use Rattle.fip_rules.specs.Notes.{always}
+use Rattle.fip_rules.proofs.Lists.{has_append, has_both}
+use Rattle.fip_rules.specs.World.{World, lends, weaker}
+use Rattle.fip_rules.specs.Shapes as H
+use Rattle.fip_rules.specs.Shapes.{Names, known, used_at, lent_at, used_by, lent_by, token, owning, owning_all, lending, passing, passing_all, binds, behind, taking, binders, clause_shape, shape, shape_block, shape_clauses}
+use Rattle.fip_rules.proofs.Agree.{next_le}
+use Rattle.fip_rules.proofs.Orders.{next_passing}
+use Rattle.ownership_calculus.specs.Terms as C
+use Rattle.ownership_calculus.specs.Terms.{has, size, Own, Term, Passed, PassLent, PassOwned}
+use Rattle.ownership_calculus.specs.Clean.{used_up, all_used_up, lent_used_up, passed_used_up, outside, fewest, fewest_of}
+use Rattle.ownership_agreement.specs.Bodies.{Scalars, variable, value, values, lent_value, passed, variables, entering, nodes, inside, matched, term, term_block, clauses}
+use Rattle.ownership_agreement.proofs.Basics.{pos, pos_sum, pos_min, and_assoc, same_or, same_and, paid_none, var_pos, past_inside, past_le, ordered_inside, not_owned, not_entered, done_ordered, binds_always}
+
+abbrev pub got : ℕ → S.Shape → Bool
+got x e = N.has (always e) x
+
+both : (x : ℕ) (a b : S.Shape) (m n : ℕ) → got x a ≡ pos m → got x b ≡ pos n → got x (S.Then a b) ≡ pos (m + n)
+both x a b m n e f = has_append (always a) (always b) x ∙ same_or (got x a) (got x b) (pos m) (pos n) e f ∙ sym (pos_sum m n)
+
+or_false : (b : Bool) → (b || false) ≡ b
+or_false true = refl
+or_false false = refl
+
+nothing_more : (n : ℕ) → n ≡ n + 0
+nothing_more n = omega arith
+
+seen_got : (x : ℕ) (sc : Scalars) (o : Option ℕ) (y : ℕ) (p : Place) (n : Name) → sc x ≡ false → got x (used_at o y p n) ≡ pos (used_up (variable sc o) (Own x))
+seen_got x sc None y p n h = refl
+seen_got x sc (Some i) y p n h = or_false (i == x) ∙ var_pos sc x i (sc i) (i == x) refl refl h
+
+mutual
+  pub arg_got : (x : ℕ) (sc : Scalars) (ms : List Mark) (a : Argument) → sc x ≡ false → got x (owning ms a) ≡ pos (used_up (value sc ms a) (Own x))
+  arg_got x sc ms (Variable None n p) h = refl
+  arg_got x sc ms (Variable (Some y) n p) h = seen_got x sc (known ms y) y p n h
+  arg_got x sc ms (Literal i p) h = refl
+  arg_got x sc ms (Constructor t d c n p as') h = args_got x sc ms as' h ∙ ap pos (paid_none (size (values sc ms as')) x (all_used_up (values sc ms as') (Own x)))
+
+  pub args_got : (x : ℕ) (sc : Scalars) (ms : List Mark) (as' : Arguments) → sc x ≡ false → got x (owning_all ms as') ≡ pos (all_used_up (values sc ms as') (Own x))
+  args_got x sc ms NoArguments h = refl
+  args_got x sc ms (MoreArguments a as') h = both x (owning ms a) (owning_all ms as') (used_up (value sc ms a) (Own x)) (all_used_up (values sc ms as') (Own x)) (arg_got x sc ms a h) (args_got x sc ms as' h)
+
+one_lent : (b : Bool) (y x : ℕ) → false ≡ pos (lent_used_up (if b then C.Scalar else C.Named y) (Own x))
+one_lent true y x = refl
+one_lent false y x = refl
+
+seen_lent : (x : ℕ) (sc : Scalars) (o : Option ℕ) (y : ℕ) (p : Place) (n : Name) → got x (lent_at o y p n) ≡ pos (lent_used_up (variable sc o) (Own x))
+seen_lent x sc None y p n = refl
+seen_lent x sc (Some i) y p n = one_lent (sc i) i x
+
+lent_built : (b : Bool) (x : ℕ) (sc : Scalars) (ms : List Mark) (p : Place) (n : Name) (as' : Arguments) → sc x ≡ false → got x (if b then S.Skip else S.Then (S.Fault E54 (token p n)) (owning_all ms as')) ≡ pos (lent_used_up (if b then C.Scalar else C.Built (values sc ms as')) (Own x))
+lent_built true x sc ms p n as' h = refl
+lent_built false x sc ms p n as' h = args_got x sc ms as' h ∙ ap pos (paid_none (size (values sc ms as')) x (all_used_up (values sc ms as') (Own x)))
+
+pub lent_got : (w : World) (x : ℕ) (sc : Scalars) (ms : List Mark) (a : Argument) → sc x ≡ false → got x (lending w ms a) ≡ pos (lent_used_up (lent_value w sc ms a) (Own x))
+lent_got w x sc ms (Variable None n p) h = refl
+lent_got w x sc ms (Variable (Some y) n p) h = seen_lent x sc (known ms y) y p n
+lent_got w x sc ms (Literal i p) h = refl
+lent_got w x sc ms (Constructor t d c n p as') h = lent_built (w.scalar t) x sc ms p n as' h
+
+one_passed : (w : World) (x : ℕ) (sc : Scalars) (ms : List Mark) (b : Bool) (c : S.Shape) (a : Argument) (gs : Passed) → sc x ≡ false → got x c ≡ pos (passed_used_up gs (Own x)) → got x (S.Then (passing w ms b a) c) ≡ pos (passed_used_up (if b then PassLent (lent_value w sc ms a) gs else PassOwned (value sc ms a) gs) (Own x))
+one_passed w x sc ms true c a gs h e = both x (lending w ms a) c (lent_used_up (lent_value w sc ms a) (Own x)) (passed_used_up gs (Own x)) (lent_got w x sc ms a h) e
+one_passed w x sc ms false c a gs h e = both x (owning ms a) c (used_up (value sc ms a) (Own x)) (passed_used_up gs (Own x)) (arg_got x sc ms a h) e
+
+pub passed_got : (w : World) (x : ℕ) (sc : Scalars) (ms : List Mark) (g j : ℕ) (as' : Arguments) → sc x ≡ false → got x (passing_all w ms g j as') ≡ pos (passed_used_up (passed w sc ms g j as') (Own x))
+passed_got w x sc ms g j NoArguments h = refl
+passed_got w x sc ms g j (MoreArguments a as') h = one_passed w x sc ms (lends w g j) (passing_all w ms g (suc j) as') a (passed w sc ms g (suc j) as') h (passed_got w x sc ms g (suc j) as' h)
+
+called_got : (b : Bool) (x : ℕ) (p : Place) (n : Name) (e : S.Shape) → got x (S.Then (if b then S.Fault E55 (token p n) else S.Skip) e) ≡ got x e
+called_got true x p n e = refl
+called_got false x p n e = refl
+
+scrutinee_got : (w : World) (x : ℕ) (sc : Scalars) (ms : List Mark) (b : Bool) (c : S.Shape) (a : Argument) (cs : C.Clauses) → sc x ≡ false → got x c ≡ pos (fewest_of x cs) → got x (S.Then (passing w ms (not b) a) c) ≡ pos (fewest x (matched w sc ms b a cs))
+scrutinee_got w x sc ms true c a cs h e = both x (owning ms a) c (used_up (value sc ms a) (Own x)) (fewest_of x cs) (arg_got x sc ms a h) e
+scrutinee_got w x sc ms false c a cs h e = both x (lending w ms a) c (lent_used_up (lent_value w sc ms a) (Own x)) (fewest_of x cs) (lent_got w x sc ms a h) e
+
+kept_out : (b : Bool) (n : ℕ) → b ≡ false → n ≡ (if b then 0 else n)
+kept_out true n e = absurd (cc)
+kept_out false n e = refl
+
+-- a clause: e1 is the term of the body in its binders
+clause_got : (w : World) (taken : Bool) (c : Names) (x : ℕ) (bs : List Binder) (ks : List ℕ) (body : Block) (e1 : Term) → x < c.next → got x (shape_block w (inside w taken c bs) body) ≡ pos (fewest x e1) → got x (clause_shape c (taking w taken bs) (λ d. shape_block w d body)) ≡ pos (outside (variables w c.next bs) ks (Own x) (fewest x e1))
+clause_got w taken c x bs ks body e1 l f = ap (λ xs. N.has xs x) (binds_always c.next (taking w taken bs) (shape_block w (inside w taken c bs) body)) ∙ f ∙ ap pos (kept_out (has (variables w c.next bs) x) (fewest x e1) (not_owned w c.next x bs l))
+
+abbrev Here : World → Names → ℕ → Scalars → Block → Type 0
+Here w c x sc b = Ordered c.next (shape_block w c b) → x < c.next → sc x ≡ false → got x (shape_block w c b) ≡ pos (fewest x (term_block w sc c b))
+
+inner_got : (w : World) (taken : Bool) (c : Names) (x : ℕ) (sc : Scalars) (bs : List Binder) (ks : List ℕ) (body : Block) → Ordered c.next (clause_shape c (taking w taken bs) (λ d. shape_block w d body)) → x < c.next → sc x ≡ false → Here w (inside w taken c bs) x (entering w c.next sc bs) body → got x (clause_shape c (taking w taken bs) (λ d. shape_block w d body)) ≡ pos (outside (variables w c.next bs) ks (Own x) (fewest x (term_block w (entering w c.next sc bs) (inside w taken c bs) body)))
+inner_got w taken c x sc bs ks body o l h f =
+    let e = past_inside w taken c bs in
+    let g = past_le c.next bs in
+    clause_got w taken c x bs ks body (term_block w (entering w c.next sc bs) (inside w taken c bs) body) l
+    (f (ordered_inside w taken c bs body o) (omega arith) (not_entered w c.next x sc bs l ∙ h))
+
+mutual
+  pub expr_got : (w : World) (c : Names) (x : ℕ) (sc : Scalars) (e : Expression) → Ordered c.next (shape w c e) → x < c.next → sc x ≡ false → got x (shape w c e) ≡ pos (fewest x (term w sc c e))
+  expr_got w c x sc (Give a) o l h = arg_got x sc c.marks a h ∙ ap pos (nothing_more (used_up (value sc c.marks a) (Own x)))
+  expr_got w c x sc (Tuple p as') o l h = args_got x sc c.marks as' h
+  expr_got w c x sc (Operation q p a b) o l h = both x (owning c.marks a) (owning c.marks b) (used_up (value sc c.marks a) (Own x)) (used_up (value sc c.marks b) (Own x) + 0) (arg_got x sc c.marks a h) (arg_got x sc c.marks b h ∙ ap pos (nothing_more (used_up (value sc c.marks b) (Own x))))
+  expr_got w c x sc (Call g n p as') o l h = called_got (weaker w g) x p n (passing_all w c.marks g 0 as') ∙ passed_got w x sc c.marks g 0 as' h
+  expr_got w c x sc (Match k t p a q body cs) o l h =
+      let b = H.takes w k t in
+      let P = passing w c.marks (not b) a in
+      let D = clause_shape c (taking w b (binders q)) (λ d. shape_block w d body) in
+      let od : Ordered c.next (shape_clauses w b c D cs) = subst (λ n. Ordered n (shape_clauses w b c D cs)) (next_passing c.next w c.marks (not b) a) o.1 in
+      let oc : Ordered c.next D = done_ordered w b c D cs od in
+      let e1 = term_block w (entering w c.next sc (binders q)) (inside w b c (binders q)) body in
+      scrutinee_got w x sc c.marks b (shape_clauses w b c D cs) a (clauses w sc b (behind c D) (variables w c.next (binders q)) (nodes q) e1 cs) h
+      (clauses_got w c x sc b D (variables w c.next (binders q)) (nodes q) e1 cs true od l h
+      (inner_got w b c x sc (binders q) (nodes q) body oc l h (block_got w (inside w b c (binders q)) x (entering w c.next sc (binders q)) body)))
+  expr_got w c x sc (Nested b) o l h = block_got w c x sc b o l h
+
+  pub block_got : (w : World) (c : Names) (x : ℕ) (sc : Scalars) (b : Block) → Ordered c.next (shape_block w c b) → x < c.next → sc x ≡ false → got x (shape_block w c b) ≡ pos (fewest x (term_block w sc c b))
+  block_got w c x sc (Last e) o l h = expr_got w c x sc e o l h
+  block_got w c x sc (Let bs e rest) o l h =
+      let d = behind c (shape w c e) in
+      let le = next_le c.next (shape w c e) o.0 in
+      let m : x < d.next = omega arith in
+      both x (shape w c e) (clause_shape d (taking w true bs) (λ z. shape_block w z rest)) (fewest x (term w sc c e)) (outside (variables w d.next bs) [] (Own x) (fewest x (term_block w (entering w d.next sc bs) (inside w true d bs) rest)))
+      (expr_got w c x sc e o.0 l h)
+      (inner_got w true d x sc bs [] rest o.1 m h (block_got w (inside w true d bs) x (entering w d.next sc bs) rest))
+
+  clauses_got : (w : World) (c : Names) (x : ℕ) (sc : Scalars) (b : Bool) (done : S.Shape) (ys ks : List ℕ) (e : Term) (cs : Clauses) (r : Bool) → Ordered c.next (shape_clauses w b c done cs) → x < c.next → sc x ≡ false → got x done ≡ (r && pos (outside ys ks (Own x) (fewest x e))) → got x (shape_clauses w b c done cs) ≡ (r && pos (fewest_of x (clauses w sc b (behind c done) ys ks e cs)))
+  clauses_got w c x sc b done ys ks e NoClauses r o l h f = f
+  clauses_got w c x sc b done ys ks e (MoreClauses q body cs) r o l h f =
+      let d = behind c done in
+      let D = clause_shape d (taking w b (binders q)) (λ z. shape_block w z body) in
+      let oc = done_ordered w b c (S.Either done D) cs o in
+      let le = next_le c.next done oc.0 in
+      let m : x < d.next = omega arith in
+      let e1 = term_block w (entering w d.next sc (binders q)) (inside w b d (binders q)) body in
+      let g : got x D ≡ pos (outside (variables w d.next (binders q)) (nodes q) (Own x) (fewest x e1)) = inner_got w b d x sc (binders q) (nodes q) body oc.1 m h (block_got w (inside w b d (binders q)) x (entering w d.next sc (binders q)) body) in
+      let out = outside ys ks (Own x) (fewest x e) in
+      let rest = fewest_of x (clauses w sc b (behind c (S.Either done D)) (variables w d.next (binders q)) (nodes q) e1 cs) in
+      clauses_got w c x sc b (S.Either done D) (variables w d.next (binders q)) (nodes q) e1 cs (r && pos out) o l h (has_both (always D) (always done) x ∙ same_and (got x done) (got x D) (r && pos out) (pos (outside (variables w d.next (binders q)) (nodes q) (Own x) (fewest x e1))) f g)
+      ∙ and_assoc r (pos out) (pos rest) ∙ ap (λ q. r && q) (sym (pos_min out rest))

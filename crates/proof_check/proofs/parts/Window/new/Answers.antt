@@ -1,5 +1,0 @@
-use Rattle.proof_check.proofs.Windows.{none_seen}
-use Rattle.proof_check.proofs.parts.Window.new.Goals as goal
-
-pub returns-clause-none : goal.returns-clause-none
-returns-clause-none c k = none_seen 256 k

@@ -1,6 +1,0 @@
-use Rattle.std.proofs.Common.{◌≡◌, drop}
-use Rattle.proof_check.specs.ScopeView.{first}
-use Rattle.proof_check.proofs.scope.in_binders.Given as goal
-
-abbrev pub invariant-loop-binder : goal.invariant-loop-binder
-invariant-loop-binder l = first l.binders l.number ≡ first (drop l.binder-index l.binders) l.number

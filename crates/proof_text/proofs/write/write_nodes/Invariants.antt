@@ -1,7 +1,0 @@
-use Rattle.std.proofs.Common.{◌≡◌, [], ◌++◌, drop}
-use Rattle.derivation_trees.specs.Trees.{heads}
-use Rattle.proof_text.specs.Writing.{nodes_text, turned}
-use Rattle.proof_text.proofs.write.write_nodes.Given as goal
-
-abbrev pub invariant-loop-node : goal.invariant-loop-node
-invariant-loop-node l = l.text.items ++ nodes_text (turned l.open.items) (heads (drop l.node-index l.nodes)) ≡ l.fn.text.items ++ nodes_text [] (heads l.nodes)

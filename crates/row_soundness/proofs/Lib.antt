@@ -1,9 +1,0 @@
-pub mod Reading
-pub mod PlainRows
-pub mod Arithmetic
-pub mod ReadingRows
-pub mod Stores
-pub mod Depth
-pub mod Reached
-pub mod TakeRow
-pub mod CellRows

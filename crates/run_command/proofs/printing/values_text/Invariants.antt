@@ -1,9 +1,0 @@
-use Rattle.fip_language.specs.PrintedText.{printed_lines}
-use Rattle.fip_language.specs.Values.{Values}
-use Rattle.machine_cells.specs.Small.{IsSmall}
-use Rattle.meant_runs.specs.Meant.{ArePrintable}
-use Rattle.run_command.proofs.Lines.{IsPrinting}
-use Rattle.run_command.proofs.printing.values_text.Given as goal
-
-abbrev pub invariant-loop-ty : goal.invariant-loop-ty
-invariant-loop-ty l = (vs : Values) → IsSmall l.cells.cells → ArePrintable l.table l.cells.cells l.types l.words vs → IsPrinting l.table l.cells.cells l.ty-iterator.a.rest.now l.ty-iterator.b.rest.now l.text.items (printed_lines l.table l.types vs)

@@ -1,0 +1,14 @@
+-- A code in memory is run as it is verified.
+use Rattle.std.proofs.Common.{◌≡◌, List, [], ◌∷◌, map, refl, ap}
+use Rattle.cell_code.specs.declared.code.Code.{Code}
+use Rattle.cell_code.specs.declared.code.Function.{Function}
+use Rattle.machine_semantics.specs.Codes as R
+use Rattle.code_rules.specs.Codes.{plain, plain_function}
+use Rattle.separation.specs.Codes.{run_function, run_code}
+
+functions_same : (fs : List Function) → map run_function (map plain_function fs) ≡ map R.plain_function fs
+functions_same [] = refl
+functions_same (f ∷ fs) = ap (λ gs. R.plain_function f ∷ gs) (functions_same fs)
+
+pub code_runs : (c : Code) → run_code (plain c) ≡ R.plain c
+code_runs c = ap (λ fs. record { types = c.types; functions = fs }) (functions_same c.functions.items)

@@ -1,0 +1,89 @@
+-- The reversal of a list of two items begins.
+use Rattle.std.proofs.Common.{◌≡◌, ℕ, zero, suc, ◌+◌, [], ◌∷◌, Some, slice_get, ◌≤◌, refl, sym, subst, arith, pos}
+use Rattle.std.proofs.lemmas.Option.{none-some, same_Some}
+use Rattle.std.specs.Prelude.{FitsSigned, codes, ◌<◌, ◌^◌}
+use Rattle.fip_language.specs.Table.{Shape}
+use Rattle.std.specs.Int.{w64}
+use Rattle.fip_language.specs.Store.{PlacedInt, Bare, At, Parts, NoParts, MoreParts, uses_of_all, count}
+use Rattle.cell_code.specs.declared.code.Instr.{Instr}
+use Rattle.machine_semantics.specs.Cells.{there, released_at}
+use Rattle.machine_semantics.specs.Steps.{Kinds}
+use Rattle.machine_semantics.specs.Apart.{IsGiven}
+use Rattle.machine_semantics.specs.Example.{listed, first}
+use Rattle.code_rules.specs.Codes.{PlainFunction}
+use Rattle.code_rules.specs.Example.{reversal, function_of, rev_with, nil_taken, acc_given, cons_taken, cons_put, again, cons_known}
+use Rattle.code_rules.proofs.Examples.{reversal_sound}
+use Rattle.separation_kinds.proofs.Agree.{one_apart}
+use Rattle.separation.specs.Rows.{FitsLiteral}
+use Rattle.separation.specs.Codes.{run_function, HasLiterals, AreKinds}
+use Rattle.separation.specs.Starts.{IsStart}
+
+abbrev rev : PlainFunction
+rev = function_of (2 ∷ []) (rev_with nil_taken acc_given cons_taken cons_put again) cons_known
+
+-- Cons(1, Cons(2, Nil)) and Nil
+abbrev arguments : Parts
+arguments = MoreParts (At 1 1 (MoreParts (PlacedInt (pos 1)) (MoreParts (At 0 1 (MoreParts (PlacedInt (pos 2)) (MoreParts (Bare 0) NoParts))) NoParts))) (MoreParts (Bare 0) NoParts)
+
+no_ints : (i : ℕ) (x : Instr) → slice_get rev.instrs i ≡ Some x → FitsLiteral x
+no_ints zero x e = subst FitsLiteral (same_Some _ x e) tt
+no_ints (suc zero) x e = subst FitsLiteral (same_Some _ x e) tt
+no_ints (suc (suc zero)) x e = subst FitsLiteral (same_Some _ x e) tt
+no_ints (suc (suc (suc zero))) x e = subst FitsLiteral (same_Some _ x e) tt
+no_ints (suc (suc (suc (suc zero)))) x e = subst FitsLiteral (same_Some _ x e) tt
+no_ints (suc (suc (suc (suc (suc zero))))) x e = subst FitsLiteral (same_Some _ x e) tt
+no_ints (suc (suc (suc (suc (suc (suc i)))))) x e = absurd (none-some x e)
+
+literals : HasLiterals reversal
+literals zero i f x is at = no_ints i x (subst (λ (f : PlainFunction). slice_get f.instrs i ≡ Some x) (sym (same_Some rev f is)) at)
+literals (suc n) i f x is at = absurd (none-some f is)
+
+once : (q : ℕ) → uses_of_all q arguments + (count q [] + (count q [] + released_at listed q)) ≡ there listed q
+once zero = refl
+once (suc zero) = refl
+once (suc (suc q)) =
+    let a = one_apart (suc (suc q)) 1 (λ e. absurd (omega arith)) in
+    let b = one_apart (suc (suc q)) 0 (λ e. absurd (omega arith)) in
+    omega arith
+
+flags_few : (p : ℕ) → released_at listed p ≤ there listed p
+flags_few zero = omega arith
+flags_few (suc zero) = omega arith
+flags_few (suc (suc p)) = omega arith
+
+small : (n : ℕ) → n < 2 ^ 63 → FitsSigned w64 (pos n)
+small n h = record { sfits = h }
+
+abbrev cons : Shape
+cons = record { name = codes "Cons"; fields = 0 ∷ 2 ∷ [] }
+
+abbrev nil : Shape
+nil = record { name = codes "Nil"; fields = [] }
+
+given : IsGiven reversal.types (run_function rev) listed [] (3 ∷ 0 ∷ [])
+given = record {
+  store = record {
+    sized = ((omega arith, omega arith), ((omega arith, omega arith), tt));
+    wide = refl;
+    of_cells = flags_few;
+  };
+  arguments = arguments;
+  spares = [];
+  words = refl;
+  stand = ((refl, tt, cons, refl, (small 1 (omega arith), ((refl, tt, cons, refl, (small 2 (omega arith), ((nil, refl, refl), tt))), tt))), ((nil, refl, refl), tt));
+  credits = tt;
+  once = once;
+}
+
+pub reversal_starts : (before waits : Kinds) → AreKinds reversal before waits → IsStart reversal before waits 0 [] (first listed 3)
+reversal_starts before waits kinds = record {
+  sound = reversal_sound;
+  literals = literals;
+  kinds = kinds;
+  function = rev;
+  is = refl;
+  words = 3 ∷ 0 ∷ [];
+  given = given;
+  free = 0;
+  loaded = refl;
+}

@@ -1,0 +1,40 @@
+-- A sound code as it is run, and the kinds that are known of its registers.
+--
+-- Of the reversal of a list, register 0 owns a list with constructor 0 or 1 before instruction 0, and register 0 is a
+-- credit of size 2 before instruction 4. At a Call the kinds that wait are those behind its arguments.
+use Rattle.std.specs.Prelude.{◌≡◌, ℕ, false, List, Some, map}
+use Rattle.cell_code.specs.declared.code.Instr.{Instr}
+use Rattle.cell_code.specs.declared.code.Instr.TheVariants as I
+use Rattle.cell_code.specs.declared.kind.Kind.{Kind}
+use Rattle.machine_semantics.specs.Codes as R
+use Rattle.machine_semantics.specs.Steps.{Kinds}
+use Rattle.code_rules.specs.Codes.{PlainCode, PlainFunction, function_at}
+use Rattle.code_rules.specs.Handing.{arguments}
+use Rattle.code_rules.specs.Flow.{IsInstr, KnownAt}
+use Rattle.separation.specs.Rows.{FitsLiteral}
+
+-- what a run reads of a function
+abbrev pub run_function : PlainFunction → R.PlainFunction
+run_function f = record {
+  params = f.params;
+  credits = f.credits;
+  results = f.results;
+  registers = f.registers;
+  instrs = f.instrs;
+}
+
+-- what it reads of a code
+abbrev pub run_code : PlainCode → R.PlainCode
+run_code c = record { types = c.types; functions = map run_function c.functions }
+
+-- All ints that the code writes have 64 bits, as those of every code in memory have.
+abbrev pub HasLiterals : PlainCode → Type 0
+HasLiterals c = (n i : ℕ) (f : PlainFunction) (x : Instr) → function_at c n ≡ Some f → IsInstr f i x → FitsLiteral x
+
+-- the kinds before each instruction that is reached, and those that wait at a Call
+pub record AreKinds (c : PlainCode) (before waits : Kinds) : Type 0 where
+  pub known : (n i : ℕ) (f : PlainFunction) (ks : List Kind) → function_at c n ≡ Some f → KnownAt c f i ks →
+      before n i ≡ ks
+  pub wait : (n i : ℕ) (f : PlainFunction) (ks : List Kind) (g : ℕ) (rs ds : List ℕ) (left : List Kind) →
+      function_at c n ≡ Some f → KnownAt c f i ks → IsInstr f i (I.Call g rs ds) →
+      arguments c false ks g rs ≡ Some left → waits n i ≡ left

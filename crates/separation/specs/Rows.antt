@@ -1,0 +1,81 @@
+-- It serves the proof that sound code keeps its cells apart: what is known of a frame before an instruction that is no
+-- call or return, and what is known behind it.
+--
+-- Before Take 0 [2, 3] register 0 owns a tree with a cell; behind it register 0 is a credit that holds this cell, and
+-- registers 2 and 3 hold the parts. Each cell is owned as often as before.
+use Rattle.std.specs.Prelude.{◌≡◌, ℕ, ◌+◌, ◌≤◌, true, List, [], Some, length, slice_get, FitsSigned}
+use Rattle.std.specs.Int.{w64}
+use Rattle.fip_language.specs.Table.{Shape, Table, constructors}
+use Rattle.fip_language.specs.Store.{Placed}
+use Rattle.cell_code.specs.declared.code.Instr.{Instr}
+use Rattle.cell_code.specs.declared.code.Instr.TheVariants as I
+use Rattle.cell_code.specs.declared.kind.Kind.{Kind}
+use Rattle.machine_semantics.specs.Cells.{Store, IsStore, cell_at, there, released_at, changed_by}
+use Rattle.machine_semantics.specs.States.{State}
+use Rattle.machine_semantics.specs.Rows as R
+use Rattle.machine_semantics.specs.Apart.{Holding, trees_uses}
+use Rattle.code_rules.specs.Codes.{PlainCode, PlainFunction}
+use Rattle.code_rules.specs.Kinds.{at}
+use Rattle.code_rules.specs.Ranges.{in_range}
+use Rattle.code_rules.specs.Asked.{sources, destinations}
+use Rattle.code_rules.specs.Flow.{IsReachedAt, GoesTo}
+use Rattle.separation_kinds.specs.Meanings.{AreMeant, owned_by, word_at}
+
+-- An int that an instruction writes has 64 bits.
+abbrev pub FitsLiteral : Instr → Type 0
+FitsLiteral (I.Const d v) = FitsSigned w64 v
+FitsLiteral (I.Atom d t k) = Unit {0}
+FitsLiteral (I.Move d r) = Unit {0}
+FitsLiteral (I.Arith d o x y line col) = Unit {0}
+FitsLiteral (I.Test r k target) = Unit {0}
+FitsLiteral (I.TestInt r v target) = Unit {0}
+FitsLiteral (I.Peek d r i) = Unit {0}
+FitsLiteral (I.Take r ds) = Unit {0}
+FitsLiteral (I.Put d t k rs) = Unit {0}
+FitsLiteral (I.Drop r) = Unit {0}
+FitsLiteral (I.Free r) = Unit {0}
+FitsLiteral (I.Call g rs ds) = Unit {0}
+FitsLiteral (I.Tail g rs) = Unit {0}
+FitsLiteral (I.Ret rs) = Unit {0}
+FitsLiteral (I.Jump target) = Unit {0}
+
+-- Constructor k of bool is there, and has no field.
+abbrev pub IsTruth : Table → ℕ → Type 0
+IsTruth tb k = (s : Shape) × (slice_get (constructors tb 1) k ≡ Some s) × (s.fields ≡ [])
+
+-- The frame that runs function f of a sound code is before instruction x, with these kinds, and its registers hold
+-- these things, over these trees below it.
+pub record IsReady (c : PlainCode) (f : PlainFunction) (below : List Placed) (ks : List Kind) (hs : ℕ → Holding)
+    (s : State) (x : Instr) : Type 0 where
+  pub truths : IsTruth c.types 0 × IsTruth c.types 1
+  pub literal : FitsLiteral x
+  pub reached : IsReachedAt c f s.running.at ks x
+  pub ranged : in_range c f s.running.at x ≡ true
+  pub sources : sources c f ks x ≡ true
+  pub destinations : destinations c ks x ≡ true
+  pub wide : length ks ≡ f.registers
+  pub long : length s.running.words ≡ length ks
+  pub store : IsStore s.store
+  pub meant : AreMeant c.types s.store below (at ks) (word_at s.running.words) hs
+  pub once : (q : ℕ) → owned_by q (at ks) hs (length ks) + (trees_uses q below + released_at s.store q)
+      ≤ there s.store q
+
+-- The instruction can be done: what is known of the frame behind it. Only cells that the frame owns change; each cell
+-- is owned or released as often as before.
+pub record IsDone (c : PlainCode) (f : PlainFunction) (below : List Placed) (ks : List Kind) (hs : ℕ → Holding)
+    (s : State) (x : Instr) : Type 0 where
+  pub done : R.Done
+  pub is : R.done c.types ks s x ≡ Some done
+  pub store : Store
+  pub changed : changed_by done.changes s.store ≡ Some store
+  pub left : List Kind
+  pub goes : GoesTo c f s.running.at done.at left
+  pub wide : length left ≡ length ks
+  pub long : length done.words ≡ length s.running.words
+  pub holds : ℕ → Holding
+  pub meant : AreMeant c.types store below (at left) (word_at done.words) holds
+  pub good : IsStore store
+  pub cells : (q : ℕ) → there store q ≡ there s.store q
+  pub elsewhere : (q : ℕ) → owned_by q (at ks) hs (length ks) ≡ 0 → cell_at store q ≡ cell_at s.store q
+  pub count : (q : ℕ) → owned_by q (at left) holds (length ks) + released_at store q
+      ≡ owned_by q (at ks) hs (length ks) + released_at s.store q

@@ -1,0 +1,24 @@
+-- The states in which a run of sound code begins: the entry has arguments that stand for values of its parameters'
+-- types, and a cell of its size for each of its credits, and these, the kept and the released cells are all cells.
+--
+-- The reversal of a list begins with the words of two lists whose cells are all cells, where none is kept or released.
+use Rattle.std.specs.Prelude.{◌≡◌, ℕ, List, Some}
+use Rattle.machine_semantics.specs.Steps.{Kinds}
+use Rattle.machine_semantics.specs.States.{State}
+use Rattle.machine_semantics.specs.Runs.{loaded}
+use Rattle.machine_semantics.specs.Apart.{IsGiven}
+use Rattle.code_rules.specs.Codes.{PlainCode, PlainFunction, function_at}
+use Rattle.code_rules.specs.Breaks.{IsSound}
+use Rattle.separation.specs.Codes.{run_function, run_code, HasLiterals, AreKinds}
+
+-- Function n of a sound code begins in state s, beside these kept cells.
+pub record IsStart (c : PlainCode) (before waits : Kinds) (n : ℕ) (kept : List ℕ) (s : State) : Type 0 where
+  pub sound : IsSound c
+  pub literals : HasLiterals c
+  pub kinds : AreKinds c before waits
+  pub function : PlainFunction
+  pub is : function_at c n ≡ Some function
+  pub words : List ℕ
+  pub given : IsGiven c.types (run_function function) s.store kept words
+  pub free : ℕ
+  pub loaded : loaded (run_code c) n s.store words free ≡ Some s

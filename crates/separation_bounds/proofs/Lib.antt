@@ -1,0 +1,13 @@
+pub mod RowFacts
+pub mod Chains
+pub mod FipSteps
+pub mod FipRuns
+pub mod Falling
+pub mod FewSteps
+pub mod Weights
+pub mod GivenBack
+pub mod Ending
+pub mod Sums
+pub mod Bounds
+pub mod Solving
+pub mod Numbers

@@ -1,0 +1,5 @@
+use Rattle.separation_bounds.proofs.FipRuns.{never_deep}
+use Rattle.separation_bounds.proofs.bound_theorems.fip_runs_are_never_too_deep.Goals as goal
+
+pub returns : goal.returns
+returns c = record { law = never_deep }

@@ -1,4 +1,0 @@
-// Sessions and lists of tasks: what they reply. Definitions and their laws; no code.
-#![tactic(auto)]
-
-pub mod laws;

@@ -1,8 +1,0 @@
-use Rattle.sound_code.proofs.Examples.{behind_just, heir_sound}
-use Rattle.sound_code.proofs.laws.what_was_read_goes_with_its_cell.Goals as goal
-
-pub returns-clause-lost : goal.returns-clause-lost
-returns-clause-lost c = behind_just
-
-pub returns-clause-kept : goal.returns-clause-kept
-returns-clause-kept c = heir_sound

@@ -1,5 +1,0 @@
-use Rattle.source_commands.specs.Wanted.{Root}
-use Rattle.source_commands.proofs.entry.eval_entry.Goals as goal
-
-pub returns-in-Err-clause-kept : goal.returns-in-Err-clause-kept
-returns-in-Err-clause-kept c = c.in-Err.ensures.kept (Root c.args.entry.now)

@@ -1,9 +1,0 @@
-use Rattle.std.proofs.Common.{◌≡◌, drop, map}
-use Rattle.sound_code.specs.Codes.{plain_function}
-use Rattle.source_commands.specs.Codes.{has_named}
-use Rattle.source_commands.proofs.entry.first_named.Given as goal
-
-abbrev pub invariant-loop-number : goal.invariant-loop-number
-invariant-loop-number l = record {
-  rest : has_named l.name (map plain_function (drop l.number l.functions)) ≡ has_named l.name (map plain_function l.functions);
-}

@@ -1,3 +1,0 @@
-pub mod SpeltClauses
-pub mod CoreClauses
-pub mod Meant

@@ -1,0 +1,5 @@
+use Rattle.source_report.proofs.Distinct.{typed_distinct}
+use Rattle.source_report.proofs.binder_theorems.typed_programs_have_distinct_binders.Goals as goal
+
+pub returns : goal.returns
+returns c = record { law = typed_distinct }

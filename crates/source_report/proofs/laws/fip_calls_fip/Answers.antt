@@ -1,5 +1,0 @@
-use Rattle.source_report.proofs.FipCalls.{fip_calls}
-use Rattle.source_report.proofs.laws.fip_calls_fip.Goals as goal
-
-pub returns : goal.returns
-returns c source p h = fip_calls source p h

@@ -1,5 +1,0 @@
-use Rattle.source_report.proofs.Once as Once
-use Rattle.source_report.proofs.laws.reported_once.Goals as goal
-
-pub returns : goal.returns
-returns c source q r h k = Once.reported_once source q r h k

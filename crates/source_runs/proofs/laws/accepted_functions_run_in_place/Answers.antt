@@ -1,5 +1,0 @@
-use Rattle.source_runs.proofs.Functions.{function_in_place}
-use Rattle.source_runs.proofs.laws.accepted_functions_run_in_place.Goals as goal
-
-pub returns : goal.returns
-returns c = record { law = function_in_place }

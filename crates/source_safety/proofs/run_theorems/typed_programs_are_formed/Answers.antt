@@ -1,0 +1,5 @@
+use Rattle.source_safety.proofs.Formed.{typed_is_formed}
+use Rattle.source_safety.proofs.run_theorems.typed_programs_are_formed.Goals as goal
+
+pub returns : goal.returns
+returns c = record { law = typed_is_formed }

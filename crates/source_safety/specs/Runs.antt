@@ -1,0 +1,42 @@
+-- A function of a source, in the source's typed program: it is an instance of its name that has a stack number; and on
+-- arguments of its parameters' types, with as many free frames as that number says, what the source means by it is a
+-- run in place.
+-- For example `fip fun rev(xs: list): list { .. }`, which calls only itself in tail position: with one free frame it
+-- turns the cells of its list into those of its result.
+use Rattle.std.specs.Prelude.{◌≡◌, ◌≤◌, ℕ, List, Some, slice_get}
+use Rattle.fip_base.specs.declared.plain.Stack.{Stack}
+use Rattle.fip_language.specs.Core.{Function, Core}
+use Rattle.fip_language.specs.Meaning.{meaning}
+use Rattle.fip_language.specs.Statics.{Closeds, NoClosed}
+use Rattle.fip_language.specs.Table.{HaveTypes}
+use Rattle.fip_language.specs.Values.{Values}
+use Rattle.fip_trees.specs.declared.groups.Member.{Member}
+use Rattle.fip_trees.specs.Tree.{Instance, Program}
+use Rattle.type_safety.specs.Soundness.{parameter_types}
+use Rattle.in_place_safety.specs.InPlace.{RunsInPlace}
+
+pub record RunsAsMeant (core : Core) (p : Program) (ms : List Member) (f : Function) : Type 0 where
+  pub number : ℕ
+  pub instance : Instance
+  pub there : slice_get p.instances number ≡ Some instance
+  pub name : instance.name ≡ f.name
+  pub member : Member
+  pub found : slice_get ms number ≡ Some member
+  pub stack : Stack
+  pub known : member.stack ≡ Some stack
+  pub runs : (arguments : Values) (calls frames : ℕ) → HaveTypes p.types (parameter_types instance) arguments →
+      stack.frames ≤ frames →
+      RunsInPlace p.types instance arguments stack frames (meaning core f.name NoClosed arguments calls frames)
+
+-- The same of an instance, which may have static parameters: it stands for its function with what is given for them.
+-- For example `map[int, int, next]`, where `next` is given for the function parameter of `map`.
+pub record InstanceRunsAsMeant (core : Core) (p : Program) (ms : List Member) (number : ℕ) (instance : Instance) :
+    Type 0 where
+  pub given : Closeds
+  pub member : Member
+  pub found : slice_get ms number ≡ Some member
+  pub stack : Stack
+  pub known : member.stack ≡ Some stack
+  pub runs : (arguments : Values) (calls frames : ℕ) → HaveTypes p.types (parameter_types instance) arguments →
+      stack.frames ≤ frames →
+      RunsInPlace p.types instance arguments stack frames (meaning core instance.name given arguments calls frames)

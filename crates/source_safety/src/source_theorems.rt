@@ -1,0 +1,31 @@
+// The laws on the functions of an accepted source. Each is the contract of a function that does nothing.
+ghost use Rattle.std.specs.Prelude.{◌≡◌, ℕ, List, [], Some, slice_get};
+ghost use Rattle.fip_language.specs.declared.FunKind.TheVariants.{Fip};
+ghost use Rattle.fip_language.specs.Core.{Function, Core};
+ghost use Rattle.fip_trees.specs.declared.groups.Member.{Member};
+ghost use Rattle.fip_trees.specs.Tree.{Instance, Program};
+ghost use Rattle.tail_groups.specs.Members.{AreMembers};
+ghost use Rattle.source_report.specs.Report.{IsParsed, IsAccepted};
+ghost use Rattle.source_safety.specs.Runs.{InstanceRunsAsMeant, RunsAsMeant};
+
+/// Each fip function without static parameters of an accepted source runs in place, by what the source means: called
+/// with arguments of its parameters' types and with as many free frames as its stack number says, it gives values of
+/// its results' types with just the cells that it was given, or ends in a trap or out of calls; it is never stuck, and
+/// its stack stays within its number. For who reads the source alone.
+pub fn accepted_functions_run_in_place()
+    ensures law { (source : List ℕ) (core : Core) (program : Program) (members : List Member) (place : ℕ)
+        (f : Function) → IsParsed source core → IsAccepted source program →
+        AreMembers program.instances members →
+        slice_get core.functions place ≡ Some f → f.statics ≡ [] →
+        f.kind ≡ Fip →
+        RunsAsMeant core program members f }
+{}
+
+/// Each fip instance of an accepted source runs in place, by what the source means by its function with what is given
+/// for its static parameters. For who reads a source with static parameters.
+pub fn accepted_instances_run_in_place()
+    ensures law { (source : List ℕ) (core : Core) (program : Program) (members : List Member) (i : ℕ)
+        (f : Instance) → IsParsed source core → IsAccepted source program →
+        AreMembers program.instances members → slice_get program.instances i ≡ Some f → f.kind ≡ Fip →
+        InstanceRunsAsMeant core program members i f }
+{}

@@ -1,5 +1,0 @@
-pub mod Lookups
-pub mod Places
-pub mod Arguments
-pub mod Instances
-pub mod Specialised

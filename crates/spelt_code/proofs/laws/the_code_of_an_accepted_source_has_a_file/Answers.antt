@@ -1,5 +1,0 @@
-use Rattle.spelt_code.proofs.Whole.{typed_has_file}
-use Rattle.spelt_code.proofs.laws.the_code_of_an_accepted_source_has_a_file.Goals as goal
-
-pub returns : goal.returns
-returns c = record { law = λ source program members code accepted found types functions sound spelt. typed_has_file source program members code accepted.tailed.credited.owned.matched.typed found types functions sound spelt }

@@ -1,2 +1,0 @@
-pub mod Scrutinees
-pub mod Bounds

@@ -1,0 +1,73 @@
+-- A task that has an end stands where a run does that is over, and this ended as the source means.
+use Rattle.std.proofs.Common.{◌≡◌, ◌<◌, ℕ, List, [], Some, length, slice_get, sym, ap, ◌∙◌, subst, refl}
+use Rattle.fip_language.specs.Core.{Core}
+use Rattle.fip_language.specs.Meaning.{Answer, Gives, Trap, Out, Deep, Stuck, meaning}
+use Rattle.fip_language.specs.Statics.{NoClosed}
+use Rattle.fip_language.specs.Table.{Table}
+use Rattle.machine_semantics.specs.Cells.{Store}
+use Rattle.machine_semantics.specs.Codes as R
+use Rattle.machine_semantics.specs.Runs as C
+use Rattle.machine_semantics.specs.Runs.{Over}
+use Rattle.machine_semantics.specs.States.{State}
+use Rattle.machine_semantics.specs.Steps.{Kinds}
+use Rattle.code_verify.specs.Checked.{Checked}
+use Rattle.code_rules.specs.Codes.{plain}
+use Rattle.separation.specs.Codes.{run_code, AreKinds}
+use Rattle.separation.proofs.CodesRun.{code_runs}
+use Rattle.fip_machine.specs.declared.machine.Ended.{Ended}
+use Rattle.fip_machine.specs.declared.machine.Ended.TheVariants as M
+use Rattle.fip_machine.specs.Tasks.{state_with}
+use Rattle.tree_refinement.specs.Agreement.{AreWordsOf}
+use Rattle.tree_refinement.specs.Runs.{IsSameEnd}
+use Rattle.task_semantics.specs.Projected.{Begun}
+use Rattle.task_semantics.specs.Schedules.{Shared, scheduled}
+use Rattle.task_semantics.specs.Laid.{Task, AreLaid}
+use Rattle.fip_tasks.specs.Shown.{HasEnded, Shows}
+use Rattle.fip_tasks.specs.Turns.{Standing, Turns}
+use Rattle.fip_tasks.proofs.Lists.{there}
+use Rattle.task_correctness.proofs.Answers.{over}
+use Rattle.machine_correctness.specs.Meant.{IsMeant}
+use Rattle.machine_correctness.specs.Starts.{IsCodeOf}
+use Rattle.task_correctness.proofs.Meant.{tasks_meant}
+
+same_ended : (e f : Ended) (a : Standing) → a.ended ≡ Some e → a.ended ≡ Some f → f ≡ e
+same_ended e f a x y = cc
+
+-- the end of the task, by that of the run
+pub answered : (tb : Table) (types : List ℕ) (a : Standing) (last : State) (store : Store) (end : C.End) (left : ℕ) (e : Ended) (m : Answer) → a.ended ≡ Some e → HasEnded a end → IsSameEnd tb types (record last { store = store }) left end m → IsMeant tb types e (state_with a.stack [] store) a.stack.given m
+answered tb types a last store (C.Value ws) left e (Gives vs l) is h same =
+    let words : AreWordsOf tb store types a.stack.given vs = subst (λ us. AreWordsOf tb store types us vs) (sym h.1) same.0 in
+    subst (λ x. IsMeant tb types x (state_with a.stack [] store) a.stack.given (Gives vs l)) (same_ended e M.Value a is h.0) words
+answered tb types a last store (C.Value ws) left e (Trap l row at) is h same = absurd same
+answered tb types a last store (C.Value ws) left e Out is h same = absurd same
+answered tb types a last store (C.Value ws) left e Deep is h same = absurd same
+answered tb types a last store (C.Value ws) left e Stuck is h same = absurd same
+answered tb types a last store (C.Trap kind line col) left e (Gives vs l) is h same = absurd same
+answered tb types a last store (C.Trap kind line col) left e (Trap l row at) is h same = subst (λ x. IsMeant tb types x (state_with a.stack [] store) a.stack.given (Trap l row at)) (same_ended e (M.Trap kind line col) a is h) same
+answered tb types a last store (C.Trap kind line col) left e Out is h same = absurd same
+answered tb types a last store (C.Trap kind line col) left e Deep is h same = absurd same
+answered tb types a last store (C.Trap kind line col) left e Stuck is h same = absurd same
+answered tb types a last store C.Out left e (Gives vs l) is h same = absurd same
+answered tb types a last store C.Out left e (Trap l row at) is h same = absurd same
+answered tb types a last store C.Out left e Out is h same = subst (λ x. IsMeant tb types x (state_with a.stack [] store) a.stack.given Out) (same_ended e M.Out a is h) refl
+answered tb types a last store C.Out left e Deep is h same = absurd same
+answered tb types a last store C.Out left e Stuck is h same = absurd same
+answered tb types a last store C.Deep left e (Gives vs l) is h same = absurd same
+answered tb types a last store C.Deep left e (Trap l row at) is h same = absurd same
+answered tb types a last store C.Deep left e Out is h same = absurd same
+answered tb types a last store C.Deep left e Deep is h same = subst (λ x. IsMeant tb types x (state_with a.stack [] store) a.stack.given Deep) (same_ended e M.Deep a is h) refl
+answered tb types a last store C.Deep left e Stuck is h same = absurd same
+answered tb types a last store C.Unsound left e m is h same = absurd h
+
+pub answers_meant : (source : List ℕ) (core : Core) (v : Checked) (before waits : Kinds) (tasks : List Task) (alone : List Begun) (first : Shared) (schedule : List ℕ) (turns : Turns) (k : ℕ) (t : Task) (a : Standing) (e : Ended) → IsCodeOf source core v.code → AreKinds (plain v.code) before waits → AreLaid (plain v.code) tasks alone first → Shows v turns (scheduled before (R.plain v.code) schedule first) → slice_get tasks k ≡ Some t → 0 < length t.header.name → slice_get turns.tasks k ≡ Some a → a.ended ≡ Some e → IsMeant v.code.types t.header.results e (state_with a.stack [] turns.store) a.stack.given (meaning core t.header.name NoClosed t.arguments t.calls t.frames).answer
+answers_meant source core v before waits tasks alone first schedule turns k t a e code kinds laid shows task some at ended =
+    let now : Shared = scheduled before (R.plain v.code) schedule first in
+    let written : Shared = scheduled before (run_code (plain v.code)) schedule first in
+    let same : written ≡ now = ap (λ (q : R.PlainCode). scheduled before q schedule first) (code_runs v.code) in
+    let run = there turns.tasks now.runs k a shows.number at in
+    let o = over v a run.0 e (shows.tasks k a run.0 at run.1) ended in
+    let on : slice_get written.runs k ≡ Some (Over o.end o.last o.left o.steps) = ap (λ (w : Shared). slice_get w.runs k) same ∙ run.1 ∙ ap (λ (m : C.Run). Some m) o.is in
+    let answer : Answer = (meaning core t.header.name NoClosed t.arguments t.calls t.frames).answer in
+    let meant : IsSameEnd v.code.types t.header.results (record o.last { store = written.store }) o.left o.end answer = tasks_meant source core v.code before waits tasks alone first schedule k t o.end o.last o.left o.steps code kinds laid task some on in
+    let store : written.store ≡ turns.store = ap (λ (w : Shared). w.store) same ∙ sym shows.store in
+    answered v.code.types t.header.results a o.last turns.store o.end o.left e answer ended o.ended (subst (λ (s : Store). IsSameEnd v.code.types t.header.results (record o.last { store = s }) o.left o.end answer) store meant)

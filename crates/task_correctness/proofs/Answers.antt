@@ -1,0 +1,55 @@
+-- A task that has an end stands where a run does that is over, and so ended as on trees.
+use Rattle.std.proofs.Common.{◌≡◌, ℕ, List, Some, refl, sym, ap, subst, ◌∙◌}
+use Rattle.std.specs.Prelude.{slice_get}
+use Rattle.machine_semantics.specs.Codes as R
+use Rattle.machine_semantics.specs.Cells.{Store}
+use Rattle.machine_semantics.specs.States.{State}
+use Rattle.machine_semantics.specs.Steps.{Kinds}
+use Rattle.machine_semantics.specs.Runs.{End, Run, Going, Over}
+use Rattle.code_rules.specs.Breaks.{IsSound}
+use Rattle.code_rules.specs.Codes.{plain}
+use Rattle.code_verify.specs.Checked.{Checked}
+use Rattle.separation.specs.Codes.{run_code, HasLiterals, AreKinds}
+use Rattle.separation.proofs.CodesRun.{code_runs}
+use Rattle.fip_machine.specs.declared.machine.Ended.{Ended}
+use Rattle.task_semantics.specs.Projected.{Begun}
+use Rattle.task_semantics.specs.Schedules.{Shared, scheduled}
+use Rattle.task_semantics.specs.Ended.{EndsOnTrees}
+use Rattle.task_semantics.specs.Laid.{Task, AreLaid}
+use Rattle.task_semantics.proofs.Ends.{ends_on_trees}
+use Rattle.fip_tasks.specs.Shown.{HasEnded, StandsAt, Shows}
+use Rattle.fip_tasks.specs.Turns.{Standing, Turns}
+use Rattle.fip_tasks.proofs.Lists.{there}
+use Rattle.task_correctness.specs.Answered.{HasAnswered}
+
+-- the run of a task that has an end is over
+pub record IsOver (a : Standing) (r : Run) : Type 0 where
+  pub end : End
+  pub last : State
+  pub left : ℕ
+  pub steps : ℕ
+  pub is : r ≡ Over end last left steps
+  pub ended : HasEnded a end
+
+pub over : (v : Checked) (a : Standing) (r : Run) (x : Ended) → StandsAt v a r → a.ended ≡ Some x → IsOver a r
+over v a (Going s l n) x h e = let f = h.on in absurd cc
+over v a (Over end s l n) x h e = record { end = end; last = s; left = l; steps = n; is = refl; ended = h }
+
+pub answers : (v : Checked) (before waits : Kinds) (tasks : List Task) (alone : List Begun) (first : Shared) (schedule : List ℕ) (turns : Turns) (k : ℕ) (t : Task) (a : Standing) (x : Ended) → IsSound (plain v.code) → HasLiterals (plain v.code) → AreKinds (plain v.code) before waits → AreLaid (plain v.code) tasks alone first → Shows v turns (scheduled before (R.plain v.code) schedule first) → slice_get tasks k ≡ Some t → slice_get turns.tasks k ≡ Some a → a.ended ≡ Some x → HasAnswered (plain v.code) t turns.store a
+answers v before waits tasks alone first schedule turns k t a x sound literals kinds laid shows task at e =
+    let now : Shared = scheduled before (R.plain v.code) schedule first in
+    let written : Shared = scheduled before (run_code (plain v.code)) schedule first in
+    let same : written ≡ now = ap (λ (q : R.PlainCode). scheduled before q schedule first) (code_runs v.code) in
+    let run = there turns.tasks now.runs k a shows.number at in
+    let o = over v a run.0 x (shows.tasks k a run.0 at run.1) e in
+    let on : slice_get written.runs k ≡ Some (Over o.end o.last o.left o.steps) = ap (λ (w : Shared). slice_get w.runs k) same ∙ run.1 ∙ ap (λ (m : Run). Some m) o.is in
+    let trees : EndsOnTrees (plain v.code) t (record o.last { store = written.store }) o.end o.left o.steps = ends_on_trees (plain v.code) before waits tasks alone first schedule k t o.end o.last o.left o.steps sound literals kinds laid task on in
+    let store : written.store ≡ turns.store = ap (λ (w : Shared). w.store) same ∙ sym shows.store in
+    record {
+      end = o.end;
+      last = o.last;
+      left = o.left;
+      steps = o.steps;
+      ended = o.ended;
+      trees = subst (λ (s : Store). EndsOnTrees (plain v.code) t (record o.last { store = s }) o.end o.left o.steps) store trees;
+    }

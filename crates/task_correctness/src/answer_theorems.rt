@@ -1,0 +1,67 @@
+// The laws on tasks of an accepted source's code. Each is the contract of a function that does nothing.
+ghost use Rattle.std.specs.Prelude.{◌≡◌, ◌<◌, ℕ, List, [], Some, length, slice_get};
+ghost use Rattle.fip_language.specs.Core.{Core};
+ghost use Rattle.fip_language.specs.Meaning.{meaning};
+ghost use Rattle.fip_language.specs.Statics.{NoClosed};
+ghost use Rattle.cell_code.specs.declared.code.Code.{Code};
+ghost use Rattle.machine_semantics.specs.Codes as R;
+ghost use Rattle.machine_semantics.specs.Runs.{End, Over};
+ghost use Rattle.machine_semantics.specs.States.{State};
+ghost use Rattle.machine_semantics.specs.Steps.{Kinds};
+ghost use Rattle.code_rules.specs.Codes.{plain};
+ghost use Rattle.separation.specs.Codes.{run_code, AreKinds};
+ghost use Rattle.code_verify.specs.Checked.{Checked};
+ghost use Rattle.fip_machine.specs.declared.machine.Ended.{Ended};
+ghost use Rattle.fip_machine.specs.Tasks.{state_with};
+ghost use Rattle.tree_refinement.specs.Runs.{IsSameEnd};
+ghost use Rattle.task_semantics.specs.Projected.{Begun};
+ghost use Rattle.task_semantics.specs.Schedules.{Shared, scheduled};
+ghost use Rattle.task_semantics.specs.Lying.{Lying, AreApart};
+ghost use Rattle.task_semantics.specs.Laid.{Task, AreLaid};
+ghost use Rattle.fip_tasks.specs.Shown.{Shows};
+ghost use Rattle.fip_tasks.specs.Turns.{Standing, Turns};
+ghost use Rattle.machine_correctness.specs.Meant.{IsMeant};
+ghost use Rattle.machine_correctness.specs.Starts.{IsCodeOf};
+
+/// Where calls of functions of an accepted source's code are loaded one behind another, a task that has ended, whatever
+/// turns were taken, ended as the source means by the function of its name on its arguments, with its calls and
+/// frames: with words that stand in the shared store for the values that are meant, in the same trap, or out of calls
+/// or frames. For who prints what the tasks of a list came to.
+pub fn tasks_end_as_the_source_means()
+    ensures law { (source : List ℕ) (core : Core) (code : Code) (before waits : Kinds) (tasks : List Task)
+        (alone : List Begun) (first : Shared) (schedule : List ℕ) (k : ℕ) (t : Task) (e : End) (last : State)
+        (left steps : ℕ) → IsCodeOf source core code → AreKinds (plain code) before waits →
+        AreLaid (plain code) tasks alone first → slice_get tasks k ≡ Some t → 0 < length t.header.name →
+        slice_get (scheduled before (run_code (plain code)) schedule first).runs k ≡ Some (Over e last left steps) →
+        IsSameEnd code.types t.header.results
+        (record last { store = (scheduled before (run_code (plain code)) schedule first).store }) left e
+        (meaning core t.header.name NoClosed t.arguments t.calls t.frames).answer }
+{}
+
+/// And so the calls on tasks answer: where tasks stand where the runs of a schedule do, whatever its turns are, one
+/// that has an end has the one that the source means by the function of its name on its arguments, with its calls and
+/// frames; behind a value the words of its results stand in the store for the values that are meant. For who prints
+/// what tasks answer.
+pub fn tasks_answer_what_the_source_means()
+    ensures law { (source : List ℕ) (core : Core) (v : Checked) (before waits : Kinds) (tasks : List Task)
+        (alone : List Begun) (first : Shared) (schedule : List ℕ) (turns : Turns) (k : ℕ) (t : Task) (a : Standing)
+        (e : Ended) → IsCodeOf source core v.code → AreKinds (plain v.code) before waits →
+        AreLaid (plain v.code) tasks alone first →
+        Shows v turns (scheduled before (R.plain v.code) schedule first) →
+        slice_get tasks k ≡ Some t → 0 < length t.header.name → slice_get turns.tasks k ≡ Some a → a.ended ≡ Some e →
+        IsMeant v.code.types t.header.results e (state_with a.stack [] turns.store) a.stack.given (meaning core
+        t.header.name NoClosed t.arguments t.calls t.frames).answer }
+{}
+
+/// And so do tasks whose cells lie apart in the store, at any places. For who makes the cells of tasks in any order.
+pub fn apart_tasks_answer_what_the_source_means()
+    ensures law { (source : List ℕ) (core : Core) (v : Checked) (before waits : Kinds) (ls : List Lying)
+        (alone : List Begun) (first : Shared) (schedule : List ℕ) (turns : Turns) (k : ℕ) (l : Lying) (a : Standing)
+        (e : Ended) → IsCodeOf source core v.code → AreKinds (plain v.code) before waits →
+        AreApart (plain v.code) ls alone first →
+        Shows v turns (scheduled before (R.plain v.code) schedule first) →
+        slice_get ls k ≡ Some l → 0 < length l.task.header.name → slice_get turns.tasks k ≡ Some a →
+        a.ended ≡ Some e →
+        IsMeant v.code.types l.task.header.results e (state_with a.stack [] turns.store) a.stack.given (meaning core
+        l.task.header.name NoClosed l.task.arguments l.task.calls l.task.frames).answer }
+{}

@@ -1,4 +1,0 @@
-pub mod Draws
-pub mod Schedules
-pub mod Projected
-pub mod Example

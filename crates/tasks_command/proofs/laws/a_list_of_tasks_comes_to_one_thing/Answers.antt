@@ -1,8 +1,0 @@
-use Rattle.tasks_command.proofs.Once.{turns_once, turns_ready}
-use Rattle.tasks_command.proofs.laws.a_list_of_tasks_comes_to_one_thing.Goals as goal
-
-pub returns : goal.returns
-returns c = record {
-  one = λ source input room d e h k. turns_once source input room d e h k;
-  ready = λ source input room e h. turns_ready source input room e h;
-}

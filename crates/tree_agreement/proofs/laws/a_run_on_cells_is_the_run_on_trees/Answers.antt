@@ -1,5 +1,0 @@
-use Rattle.tree_agreement.proofs.Running.{run_same}
-use Rattle.tree_agreement.proofs.laws.a_run_on_cells_is_the_run_on_trees.Goals as goal
-
-pub returns : goal.returns
-returns c = record { law = run_same }

@@ -1,5 +1,0 @@
-use Rattle.tree_agreement.proofs.Values.{words_types}
-use Rattle.tree_agreement.proofs.laws.words_stand_for_values_of_their_types.Goals as goal
-
-pub returns : goal.returns
-returns c = record { law = words_types }

@@ -1,5 +1,0 @@
-use Rattle.tree_gauges.proofs.Cells.{highest_by_trees, lowest_by_trees}
-use Rattle.tree_gauges.proofs.laws.a_gauge_of_cells_is_said_by_trees.Goals as goal
-
-pub returns : goal.returns
-returns c = record { highest = highest_by_trees; lowest = lowest_by_trees }

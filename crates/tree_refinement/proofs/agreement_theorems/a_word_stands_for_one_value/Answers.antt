@@ -1,0 +1,5 @@
+use Rattle.tree_refinement.proofs.Values.{one_value}
+use Rattle.tree_refinement.proofs.agreement_theorems.a_word_stands_for_one_value.Goals as goal
+
+pub returns : goal.returns
+returns c = record { law = one_value }

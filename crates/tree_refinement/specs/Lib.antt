@@ -1,0 +1,4 @@
+pub mod Agreement
+pub mod Runs
+pub mod Alike
+pub mod LentValues

@@ -1,0 +1,37 @@
+-- When a run on cells and a run on trees are the same: both are going, in states that are the same, or both are over in
+-- the same way; with the same calls left, after the same steps.
+--
+-- The reversal of Cons(1, Nil) in cell 0 and of Nil is over after 7 steps with the word 1. On trees it is over after 7
+-- steps with Cons(1, Nil), for which the word stands.
+use Rattle.std.specs.Prelude.{◌≡◌, ℕ, List, length, map, take}
+use Rattle.fip_language.specs.Table.{Table}
+use Rattle.fip_language.specs.Values.{Values}
+use Rattle.fip_language.specs.Meaning as M
+use Rattle.machine_semantics.specs.Steps.{Kinds}
+use Rattle.machine_semantics.specs.States.{State}
+use Rattle.machine_semantics.specs.Runs.{End, Value, Trap, Out, Deep, Run, Going, Over}
+use Rattle.tree_semantics.specs.Runs as T
+use Rattle.code_rules.specs.Codes.{PlainCode, params}
+use Rattle.tree_refinement.specs.Agreement.{AreWordsOf, IsSame}
+
+-- The registers with which function n begins in state s stand for these arguments.
+abbrev pub BeginsWith : PlainCode → ℕ → State → Values → Type 0
+BeginsWith c n s vs = AreWordsOf c.types s.store (map (λ p. p.ty) (params c n))
+    (take (length (params c n)) s.running.words) vs
+
+-- The end of a run on cells, in this last state, with so many calls left, is the answer of a run on trees, where the
+-- entry gives results of these types.
+abbrev pub IsSameEnd : Table → List ℕ → State → ℕ → End → M.Answer → Type 0
+IsSameEnd tb types s left (Value ws) (M.Gives vs l) = AreWordsOf tb s.store types ws vs × (left ≡ l)
+IsSameEnd tb types s left (Trap k line col) (M.Trap l row at) = (k ≡ l) × (line ≡ row) × (col ≡ at)
+IsSameEnd tb types s left Out M.Out = Unit {0}
+IsSameEnd tb types s left Deep M.Deep = Unit {0}
+IsSameEnd tb types s left e a = ⊥
+
+-- The runs are the same, where registers have these kinds before an instruction and at a Call that waits.
+abbrev pub IsSameRun : Table → Kinds → Kinds → List ℕ → Run → T.Run → Type 0
+IsSameRun tb before waits types (Going s left n) (T.Going t l m) =
+    IsSame tb before waits s t × (left ≡ l) × (n ≡ m)
+IsSameRun tb before waits types (Over e s left n) (T.Over a t l m) =
+    IsSameEnd tb types s left e a × IsSame tb before waits s t × (left ≡ l) × (n ≡ m)
+IsSameRun tb before waits types x y = ⊥

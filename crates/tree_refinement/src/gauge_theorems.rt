@@ -1,0 +1,70 @@
+// The laws on what is told of runs of sound code. Each is the contract of a function that does nothing.
+ghost use Rattle.std.specs.Prelude.{◌≡◌, ◌≤◌, ◌+◌, ℕ, List, []};
+ghost use Rattle.fip_language.specs.Gauge.{lowest, highest, highest_frames, highest_words};
+ghost use Rattle.fip_language.specs.Store.{count};
+ghost use Rattle.fip_language.specs.Values.{Values, cells_of_all};
+ghost use Rattle.machine_semantics.specs.Gauges.{seen};
+ghost use Rattle.machine_semantics.specs.Runs.{End, Ends, Value, begun};
+ghost use Rattle.machine_semantics.specs.States.{State};
+ghost use Rattle.machine_semantics.specs.Steps.{Kinds};
+ghost use Rattle.code_rules.specs.Codes.{PlainCode, results};
+ghost use Rattle.separation.specs.Codes.{run_code};
+ghost use Rattle.separation.specs.Starts.{IsStart};
+ghost use Rattle.tree_refinement.specs.Agreement.{AreWordsOf};
+ghost use Rattle.tree_refinement.specs.Runs.{BeginsWith};
+ghost use Rattle.tree_refinement.specs.Alike.{IsAlike};
+ghost use Rattle.tree_refinement.specs.LentValues.{lent_values};
+
+/// Two runs of a function of sound code on the same values, with the same calls and free frames, end alike, wherever
+/// the cells of each lie: with the same calls left, after the same steps. And both gauges tell the same: of the stack,
+/// and where no other cells are kept, of the cells too, of a run that gives values. For who loads a run elsewhere.
+pub fn a_run_is_the_same_wherever_its_cells_lie()
+    ensures ends { (c : PlainCode) (before waits first other : Kinds) (n : ℕ) (kept more : List ℕ) (s u : State)
+        (vs : Values) (calls : ℕ) (e d : End) (last end : State) (left rest steps done : ℕ) →
+        IsStart c before waits n kept s → BeginsWith c n s vs → IsStart c first other n more u →
+        BeginsWith c n u vs → s.free ≡ u.free → Ends before (run_code c) s calls e last left steps →
+        Ends first (run_code c) u calls d end rest done →
+        IsAlike c.types (results c n) last.store e end.store d × (left ≡ rest) × (steps ≡ done) }
+    ensures frames { (c : PlainCode) (before waits first other : Kinds) (n : ℕ) (kept more : List ℕ) (s u : State)
+        (vs : Values) (calls : ℕ) (e d : End) (last end : State) (left rest steps done : ℕ) →
+        IsStart c before waits n kept s → BeginsWith c n s vs → IsStart c first other n more u →
+        BeginsWith c n u vs → s.free ≡ u.free → (x : Ends before (run_code c) s calls e last left steps) →
+        (y : Ends first (run_code c) u calls d end rest done) →
+        highest_frames (seen before (run_code c) x.enough (begun s calls))
+        ≡ highest_frames (seen first (run_code c) y.enough (begun u calls)) }
+    ensures words { (c : PlainCode) (before waits first other : Kinds) (n : ℕ) (kept more : List ℕ) (s u : State)
+        (vs : Values) (calls : ℕ) (e d : End) (last end : State) (left rest steps done : ℕ) →
+        IsStart c before waits n kept s → BeginsWith c n s vs → IsStart c first other n more u →
+        BeginsWith c n u vs → s.free ≡ u.free → (x : Ends before (run_code c) s calls e last left steps) →
+        (y : Ends first (run_code c) u calls d end rest done) →
+        highest_words (seen before (run_code c) x.enough (begun s calls))
+        ≡ highest_words (seen first (run_code c) y.enough (begun u calls)) }
+    ensures highest { (c : PlainCode) (before waits first other : Kinds) (n : ℕ) (s u : State) (vs : Values)
+        (calls steps done size : ℕ) → IsStart c before waits n [] s → BeginsWith c n s vs →
+        IsStart c first other n [] u → BeginsWith c n u vs → 1 ≤ size →
+        highest size (seen before (run_code c) steps (begun s calls))
+        ≡ highest size (seen first (run_code c) done (begun u calls)) }
+    ensures lowest { (c : PlainCode) (before waits first other : Kinds) (n : ℕ) (s u : State) (vs : Values)
+        (calls : ℕ) (ws us : List ℕ) (last end : State) (left rest steps done size : ℕ) →
+        IsStart c before waits n [] s → BeginsWith c n s vs → IsStart c first other n [] u → BeginsWith c n u vs →
+        s.free ≡ u.free → (x : Ends before (run_code c) s calls (Value ws) last left steps) →
+        (y : Ends first (run_code c) u calls (Value us) end rest done) → 1 ≤ size →
+        lowest size (seen before (run_code c) x.enough (begun s calls))
+        ≡ lowest size (seen first (run_code c) y.enough (begun u calls)) }
+{}
+
+/// What the gauge of a run of sound code tells of the cells of each size, by trees: as the highest number that of the
+/// arguments' cells and the credits, and where the run gives values, as the lowest that of the results' cells and the
+/// lent arguments'. For who computes it without a run.
+pub fn a_gauge_of_cells_is_said_by_trees()
+    ensures highest { (c : PlainCode) (before waits : Kinds) (n : ℕ) (s : State) (vs : Values)
+        (calls steps size : ℕ) → (t : IsStart c before waits n [] s) → BeginsWith c n s vs → 1 ≤ size →
+        highest size (seen before (run_code c) steps (begun s calls))
+        ≡ cells_of_all size vs + count size t.function.credits }
+    ensures lowest { (c : PlainCode) (before waits : Kinds) (n : ℕ) (s : State) (vs us : Values) (calls size : ℕ)
+        (words : List ℕ) (last : State) (left steps : ℕ) → (t : IsStart c before waits n [] s) →
+        BeginsWith c n s vs → 1 ≤ size → (e : Ends before (run_code c) s calls (Value words) last left steps) →
+        AreWordsOf c.types last.store (results c n) words us →
+        lowest size (seen before (run_code c) e.enough (begun s calls))
+        ≡ cells_of_all size us + cells_of_all size (lent_values t.function.params vs) }
+{}

@@ -1,5 +1,0 @@
-use Rattle.tree_runs.proofs.Stays.{over_stays}
-use Rattle.tree_runs.proofs.laws.an_ended_tree_run_has_no_step.Goals as goal
-
-pub returns-clause-stays : goal.returns-clause-stays
-returns-clause-stays c = over_stays

@@ -1,9 +1,0 @@
-// Runs of code whose registers hold trees in place of words over cells: definitions, and their laws as contracts of
-// functions that do nothing. It lies between what a program means and what its code does to cells.
-#![tactic(auto)]
-
-mod laws;
-
-pub use laws::{
-    a_tree_run_has_one_next_step, an_ended_tree_run_has_no_step, an_example_runs_on_trees,
-};

@@ -1,4 +1,0 @@
-pub mod Rows
-pub mod Searching
-pub mod Rising
-pub mod Steps

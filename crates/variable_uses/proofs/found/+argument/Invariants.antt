@@ -1,7 +1,0 @@
-use Rattle.std.proofs.Common.{◌≡◌, drop}
-use Rattle.fip_trees.specs.TreeView.{arguments}
-use Rattle.variable_uses.specs.Seen.{seen_of, own_all}
-use Rattle.variable_uses.proofs.found.+argument.Given as goal
-
-abbrev pub invariant-own_all-loop-argument : goal.invariant-own_all-loop-argument
-invariant-own_all-loop-argument l = own_all l.expression (seen_of l.found) (arguments (drop l.argument-index l.arguments)) ≡ own_all l.expression (seen_of l.initial.found) (arguments l.arguments)

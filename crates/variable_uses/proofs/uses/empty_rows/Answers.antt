@@ -1,6 +1,0 @@
-use Rattle.std.proofs.Common.{refl, ◌+◌}
-use Rattle.variable_uses.proofs.Rows.{rows_more}
-use Rattle.variable_uses.proofs.uses.empty_rows.Goals as goal
-
-pub loop-i-preserved : goal.loop-i-preserved
-loop-i-preserved c = rows_more c.loop-i.places.items c.push.new.self.items c.new.result c.loop-i.i (c.loop-i.i + 1) c.in_ok-push.ensures.items c.new.ensures.items refl c.loop-i.invariant

@@ -1,6 +1,0 @@
-use Rattle.std.proofs.Common.{◌≡◌}
-use Rattle.variable_uses.specs.Tables.{rows, empty_rows}
-use Rattle.variable_uses.proofs.uses.empty_rows.Given as goal
-
-abbrev pub invariant-loop-i : goal.invariant-loop-i
-invariant-loop-i l = rows l.places.items ≡ empty_rows l.i

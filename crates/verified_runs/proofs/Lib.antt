@@ -1,3 +1,0 @@
-pub mod Drops
-pub mod Ends
-pub mod Literals

@@ -1,4 +1,0 @@
-pub mod Turned
-pub mod Started
-pub mod Answers
-pub mod Anywhere

@@ -1,9 +1,0 @@
-pub mod Seeing
-pub mod Hitting
-pub mod Sited
-pub mod Ranks
-pub mod Nodes
-pub mod Values
-pub mod Parts
-pub mod Agreeing
-pub mod Whole

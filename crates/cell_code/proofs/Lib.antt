@@ -1,2 +1,3 @@
 pub mod Following
 pub mod ByName
+pub use Rattle.fip_base.proofs.fip_language as fip_language

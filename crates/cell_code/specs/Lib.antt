@@ -1,2 +1,4 @@
 pub mod Runnable
 pub mod Naming
+pub use Rattle.fip_base.specs as fip_base
+pub use Rattle.fip_base.specs.fip_language as fip_language

@@ -2,7 +2,7 @@
 -- functions and lists are in range, and what a fip function needs of the stack covers what it calls. So a run tests
 -- none of them. A code that the verifier accepts is runnable. Instructions that no way reaches may be anything.
 use Rattle.std.specs.Prelude.{◌≡◌, ◌≢◌, ℕ, zero, suc, ◌+◌, ◌<◌, ◌≤◌, List, Option, length, All, Some, slice_get}
-use Rattle.fip_language.specs.declared.limits.TheConstants.{MOST_FIELDS, MOST_REGISTERS, MOST_RESULTS}
+use Rattle.fip_base.specs.fip_language.declared.limits.TheConstants.{MOST_FIELDS, MOST_REGISTERS, MOST_RESULTS}
 use Rattle.fip_base.specs.declared.plain.Stack.{Stack}
 use Rattle.cell_code.specs.declared.code.Instr.{Instr}
 use Rattle.cell_code.specs.declared.code.Instr.TheVariants as I

@@ -8,28 +8,28 @@ use Rattle.fip_language.specs.declared.limits.TheConstants.{MOST_FIELDS}
 use Rattle.fip_language.specs.Every.{Among}
 use Rattle.fip_language.specs.Table.{Table}
 use Rattle.fip_trees.specs.Tree.{Pattern, BinderPattern, LiteralPattern, ConstructorPattern, Patterns, NoPatterns, MorePatterns, count_patterns}
-use Rattle.code_rules.specs.Types.{count, fields, fields_of}
+use Rattle.lower_frame.specs.code_rules.Types.{count, fields, fields_of}
 use Rattle.match_knowledge.specs.declared.heads.Head.TheVariants.{Tag}
 use Rattle.match_knowledge.specs.ValueHeads.{IsHead}
 use Rattle.match_knowledge.specs.Patterns.{IsPattern, ArePatterns}
-use Rattle.lowering_relation.specs.declared.held.Held.{Held}
-use Rattle.lowering_relation.specs.declared.held.Held.TheVariants as H
-use Rattle.lowering_relation.specs.declared.held.Credit.{Credit}
-use Rattle.lowering_relation.specs.Known.{Known, holding, naming, using, used, used_if, is_owned, without}
-use Rattle.lowering_relation.specs.Values.{Setting, is_scalar}
-use Rattle.lowering_relation.specs.LoweredBodies.{given_if}
-use Rattle.lowering_relation.specs.LoweredFunctions.{with_credit}
-use Rattle.lowering_relation.specs.Tidy.{Unknown}
-use Rattle.lowering_relation.proofs.LoweredLists.{set_get, barer_set, barer_used, NotBare}
-use Rattle.lowering_relation.specs.Spots.{Spot, At, Spots, NoSpots, MoreSpots, register, below, all_in, Differ, AllDiffer}
-use Rattle.lowering_relation.specs.Rows.{row_of, rows_of}
-use Rattle.lowering_relation.specs.Opening.{is_named}
-use Rattle.lowering_relation.specs.Entering.{unnaming, variable_held, with_variable, with_cell, entering, entering_all, root_of, spent_if, entering_root}
-use Rattle.lowering_relation.proofs.MatchLists.{among_left, among_right}
-use Rattle.lowering_relation.proofs.Entries.{name_set, name_lost, variable_not}
-use Rattle.lowering_relation.proofs.Opens.{Enters, enters_root}
-use Rattle.lowering_relation.specs.Describing.{held_at}
-use Rattle.lowering_relation.specs.Matches.{widened, wide}
+use Rattle.lower_frame.specs.lowering_relation.declared.held.Held.{Held}
+use Rattle.lower_frame.specs.lowering_relation.declared.held.Held.TheVariants as H
+use Rattle.lower_frame.specs.lowering_relation.declared.held.Credit.{Credit}
+use Rattle.lower_frame.specs.lowering_relation.Known.{Known, holding, naming, using, used, used_if, is_owned, without}
+use Rattle.lower_frame.specs.lowering_relation.Values.{Setting, is_scalar}
+use Rattle.lower_frame.specs.lowering_relation.LoweredBodies.{given_if}
+use Rattle.lower_frame.specs.lowering_relation.LoweredFunctions.{with_credit}
+use Rattle.lower_frame.specs.lowering_relation.Tidy.{Unknown}
+use Rattle.lower_frame.proofs.lowering_relation.LoweredLists.{set_get, barer_set, barer_used, NotBare}
+use Rattle.lower_frame.specs.lowering_relation.Spots.{Spot, At, Spots, NoSpots, MoreSpots, register, below, all_in, Differ, AllDiffer}
+use Rattle.lower_frame.specs.lowering_relation.Rows.{row_of, rows_of}
+use Rattle.lower_frame.specs.lowering_relation.Opening.{is_named}
+use Rattle.lower_frame.specs.lowering_relation.Entering.{unnaming, variable_held, with_variable, with_cell, entering, entering_all, root_of, spent_if, entering_root}
+use Rattle.lower_frame.proofs.lowering_relation.MatchLists.{among_left, among_right}
+use Rattle.lower_frame.proofs.lowering_relation.Entries.{name_set, name_lost, variable_not}
+use Rattle.lower_frame.proofs.lowering_relation.Opens.{Enters, enters_root}
+use Rattle.lower_frame.specs.lowering_relation.Describing.{held_at}
+use Rattle.lower_frame.specs.lowering_relation.Matches.{widened, wide}
 use Rattle.lower_frame.specs.Credits.{Accounted, AllSolid, one_if, counted, is_credit, is_credit_of}
 use Rattle.lower_frame.specs.Positions.{reaching}
 use Rattle.lower_frame.specs.Registers.{registers}

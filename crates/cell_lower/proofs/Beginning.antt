@@ -7,28 +7,28 @@ use Rattle.fip_trees.specs.Tree.{Argument, Pattern, count_patterns}
 use Rattle.fip_trees.specs.TreeView.{patterns, clause, clauses}
 use Rattle.match_knowledge.specs.declared.rows.Row.{Row}
 use Rattle.match_knowledge.specs.View.{row}
-use Rattle.lowering_relation.specs.declared.held.Held.TheVariants as H
-use Rattle.lowering_relation.specs.Known.{Known, holding}
-use Rattle.lowering_relation.specs.Values.{Setting, is_scalar}
-use Rattle.lowering_relation.specs.LoweredFunctions.{with_credit}
-use Rattle.lowering_relation.specs.Spots as S
-use Rattle.lowering_relation.specs.Rows.{row_of}
-use Rattle.lowering_relation.specs.Growing.{Grows}
-use Rattle.lowering_relation.specs.Opening.{Roomy}
-use Rattle.lowering_relation.specs.Entering.{with_cell}
-use Rattle.lowering_relation.specs.Losing.{Loses, Resumes}
-use Rattle.lowering_relation.proofs.Arriving.{resumes_lost}
-use Rattle.lowering_relation.proofs.Choices.{patterns_in}
-use Rattle.lowering_relation.proofs.LoweredLists.{fewer_on, barer_on}
+use Rattle.lower_frame.specs.lowering_relation.declared.held.Held.TheVariants as H
+use Rattle.lower_frame.specs.lowering_relation.Known.{Known, holding}
+use Rattle.lower_frame.specs.lowering_relation.Values.{Setting, is_scalar}
+use Rattle.lower_frame.specs.lowering_relation.LoweredFunctions.{with_credit}
+use Rattle.lower_frame.specs.lowering_relation.Spots as S
+use Rattle.lower_frame.specs.lowering_relation.Rows.{row_of}
+use Rattle.lower_frame.specs.lowering_relation.Growing.{Grows}
+use Rattle.lower_frame.specs.lowering_relation.Opening.{Roomy}
+use Rattle.lower_frame.specs.lowering_relation.Entering.{with_cell}
+use Rattle.lower_frame.specs.lowering_relation.Losing.{Loses, Resumes}
+use Rattle.lower_frame.proofs.lowering_relation.Arriving.{resumes_lost}
+use Rattle.lower_frame.proofs.lowering_relation.Choices.{patterns_in}
+use Rattle.lower_frame.proofs.lowering_relation.LoweredLists.{fewer_on, barer_on}
 use Rattle.cell_lower.specs.declared.choices.Choice.{Choice}
 use Rattle.lower_frame.specs.declared.spots.Spot.{Spot}
 use Rattle.lower_frame.specs.Positions.{spot_of, reaching}
 use Rattle.cell_lower.specs.declared.matches.Matching.{Matching}
 use Rattle.cell_lower.specs.Scenes.{patterns_of, HasRows, ChoosesIf}
 use Rattle.cell_lower.specs.Clauses.{Spotted, AddsPattern, HasPositions, StartsIn}
-use Rattle.lowering_relation.specs.Written.{Written, size, Extends, IsAt}
-use Rattle.lowering_relation.specs.Landing.{Side}
-use Rattle.lowering_relation.specs.Entering.{entering_root}
+use Rattle.lower_frame.specs.lowering_relation.Written.{Written, size, Extends, IsAt}
+use Rattle.lower_frame.specs.lowering_relation.Landing.{Side}
+use Rattle.lower_frame.specs.lowering_relation.Entering.{entering_root}
 use Rattle.code_size.specs.Places.{argument_places}
 use Rattle.cell_lower.specs.Growth.{Adds, Sheds}
 use Rattle.lower_frame.specs.Registers.{HasRoom, registers}

@@ -8,23 +8,23 @@ use Rattle.fip_trees.specs.declared.needs.Need.{Need}
 use Rattle.fip_trees.specs.Tree.{Argument, Variable, Literal, Constructor, Pattern, Clauses}
 use Rattle.fip_trees.specs.TreeView.{Case}
 use Rattle.cell_code.specs.declared.kind.Kind.{Kind}
-use Rattle.code_rules.specs.Codes.{PlainCode, PlainFunction, label_at}
+use Rattle.lower_frame.specs.code_rules.Codes.{PlainCode, PlainFunction, label_at}
 use Rattle.match_knowledge.specs.Patterns.{IsPattern}
-use Rattle.lowering_relation.specs.declared.held.Held.TheVariants as H
-use Rattle.lowering_relation.specs.Known.{Known, register_of}
-use Rattle.lowering_relation.specs.Values.{Setting, is_scalar}
-use Rattle.lowering_relation.specs.LoweredBodies.{Target, Return, Into}
-use Rattle.lowering_relation.specs.Written.{Written, size, settled, Extends, HasFrom, place_of}
-use Rattle.lowering_relation.specs.WellMatched.{WellMatchedClauses}
-use Rattle.lowering_relation.specs.Rows.{row_of}
-use Rattle.lowering_relation.specs.Spots as S
-use Rattle.lowering_relation.specs.Landing.{IsScene}
-use Rattle.lowering_relation.proofs.Choices.{patterns_in}
-use Rattle.lowering_relation.proofs.Placing.{extends_on, back, has_all}
-use Rattle.lowering_relation.specs.Describing.{held_at, kinds_of}
-use Rattle.lowering_relation.specs.Labels.{Tells}
-use Rattle.lowering_relation.specs.Joins.{BaresEnd}
-use Rattle.lowering_relation.specs.Matches.{variable_of}
+use Rattle.lower_frame.specs.lowering_relation.declared.held.Held.TheVariants as H
+use Rattle.lower_frame.specs.lowering_relation.Known.{Known, register_of}
+use Rattle.lower_frame.specs.lowering_relation.Values.{Setting, is_scalar}
+use Rattle.lower_frame.specs.lowering_relation.LoweredBodies.{Target, Return, Into}
+use Rattle.lower_frame.specs.lowering_relation.Written.{Written, size, settled, Extends, HasFrom, place_of}
+use Rattle.lower_frame.specs.lowering_relation.WellMatched.{WellMatchedClauses}
+use Rattle.lower_frame.specs.lowering_relation.Rows.{row_of}
+use Rattle.lower_frame.specs.lowering_relation.Spots as S
+use Rattle.lower_frame.specs.lowering_relation.Landing.{IsScene}
+use Rattle.lower_frame.proofs.lowering_relation.Choices.{patterns_in}
+use Rattle.lower_frame.proofs.lowering_relation.Placing.{extends_on, back, has_all}
+use Rattle.lower_frame.specs.lowering_relation.Describing.{held_at, kinds_of}
+use Rattle.lower_frame.specs.lowering_relation.Labels.{Tells}
+use Rattle.lower_frame.specs.lowering_relation.Joins.{BaresEnd}
+use Rattle.lower_frame.specs.lowering_relation.Matches.{variable_of}
 use Rattle.lower_frame.specs.Credits.{Accounted, AllSolid}
 use Rattle.lower_frame.specs.Frames.{kinds_told}
 use Rattle.lower_frame.specs.Labels.{Rising}

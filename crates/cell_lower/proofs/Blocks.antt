@@ -8,13 +8,13 @@ use Rattle.fip_trees.specs.declared.program.Binding.{Binding}
 use Rattle.fip_trees.specs.Tree.{Name, Argument, Arguments, Expression, Give, Tuple, Operation, Call, Nested, Block, Last, Let}
 use Rattle.fip_trees.specs.TreeView.{block_of, binding, bindings}
 use Rattle.cell_code.specs.declared.code.Instr.{Instr}
-use Rattle.lowering_relation.specs.Known.{Known, naming}
-use Rattle.lowering_relation.specs.Values.{Setting}
-use Rattle.lowering_relation.specs.LoweredBodies.{Target, Into, with_names, reserved, registers_for, ValuesAt}
-use Rattle.lowering_relation.specs.Written.{Written, size, Extends, HasFrom}
-use Rattle.lowering_relation.specs.WellMatched.{WellMatched, WellMatchedBlock}
+use Rattle.lower_frame.specs.lowering_relation.Known.{Known, naming}
+use Rattle.lower_frame.specs.lowering_relation.Values.{Setting}
+use Rattle.lower_frame.specs.lowering_relation.LoweredBodies.{Target, Into, with_names, reserved, registers_for, ValuesAt}
+use Rattle.lower_frame.specs.lowering_relation.Written.{Written, size, Extends, HasFrom}
+use Rattle.lower_frame.specs.lowering_relation.WellMatched.{WellMatched, WellMatchedBlock}
 use Rattle.cell_lower.specs.Writing.{Computes, ComputesAll, Gives, Operates, CallsAt, AppliesTo, GivesValues, Writes, WritesBlock, FollowBlock, Binds, named_at}
-use Rattle.lowering_relation.proofs.Placing.{extends_on, front, back}
+use Rattle.lower_frame.proofs.lowering_relation.Placing.{extends_on, front, back}
 use Rattle.code_size.specs.Bounds.{most_for}
 use Rattle.code_size.specs.Places.{argument_places, arguments_places, expression_places, block_places}
 use Rattle.lower_frame.specs.Registers.{registers}

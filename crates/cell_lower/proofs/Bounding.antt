@@ -6,15 +6,15 @@ use Rattle.cell_code.specs.declared.code.Instr.TheVariants as I
 use Rattle.match_knowledge.specs.Patterns as M
 use Rattle.match_knowledge.specs.Known.{Open}
 use Rattle.match_knowledge.specs.View.{rows}
-use Rattle.match_cover.specs.PatternView.{pattern_nodes}
-use Rattle.lowering_relation.specs.Known.{Known}
-use Rattle.lowering_relation.specs.Values.{Setting}
-use Rattle.lowering_relation.specs.LoweredBodies as B
-use Rattle.lowering_relation.specs.Written.{Written, size}
-use Rattle.lowering_relation.specs.Rows.{row_of, rows_of}
-use Rattle.lowering_relation.specs.Spots as S
-use Rattle.lowering_relation.proofs.Choices.{patterns_in}
-use Rattle.lowering_relation.proofs.Placing.{one_longer}
+use Rattle.code_size.specs.match_cover.PatternView.{pattern_nodes}
+use Rattle.lower_frame.specs.lowering_relation.Known.{Known}
+use Rattle.lower_frame.specs.lowering_relation.Values.{Setting}
+use Rattle.lower_frame.specs.lowering_relation.LoweredBodies as B
+use Rattle.lower_frame.specs.lowering_relation.Written.{Written, size}
+use Rattle.lower_frame.specs.lowering_relation.Rows.{row_of, rows_of}
+use Rattle.lower_frame.specs.lowering_relation.Spots as S
+use Rattle.lower_frame.proofs.lowering_relation.Choices.{patterns_in}
+use Rattle.lower_frame.proofs.lowering_relation.Placing.{one_longer}
 use Rattle.code_size.specs.Bounds.{most_for}
 use Rattle.code_size.specs.Places as P
 use Rattle.code_size.specs.Places.{argument_places, block_places, clauses_places, match_branches}

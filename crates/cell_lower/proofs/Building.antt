@@ -6,16 +6,16 @@ use Rattle.fip_language.specs.Table.{Table}
 use Rattle.fip_base.specs.declared.plain.Param.{Param}
 use Rattle.fip_trees.specs.Tree.{Argument, Variable, Literal, Constructor, Arguments, NoArguments, MoreArguments}
 use Rattle.cell_code.specs.declared.code.Instr.{Instr}
-use Rattle.code_rules.specs.Types as Y
-use Rattle.lowering_relation.specs.declared.held.Held.{Held}
-use Rattle.lowering_relation.specs.declared.held.Held.TheVariants as H
-use Rattle.lowering_relation.specs.Choosing.{FewerCredits}
-use Rattle.lowering_relation.specs.Tidy.{Fixed}
-use Rattle.lowering_relation.specs.Known.{Known, register_of, holding, with_next, is_owned, without, lent_by, used, used_if, used_all}
-use Rattle.lowering_relation.specs.Values.{Setting, is_scalar, built, built_if, with_put, IsReused, IsNewAtom, IsPut, BuiltAt, ArgumentAt, ArgumentsAt}
-use Rattle.lowering_relation.specs.LoweredBodies.{as_value, moved, handed, received, given, given_if, IsMove, IsThere, MovedAt, AreTaken}
-use Rattle.lowering_relation.proofs.LoweredLists.{fewer_same, fewer_on, taken_fewer, taken_other}
-use Rattle.lowering_relation.specs.Describing.{held_at}
+use Rattle.lower_frame.specs.code_rules.Types as Y
+use Rattle.lower_frame.specs.lowering_relation.declared.held.Held.{Held}
+use Rattle.lower_frame.specs.lowering_relation.declared.held.Held.TheVariants as H
+use Rattle.lower_frame.specs.lowering_relation.Choosing.{FewerCredits}
+use Rattle.lower_frame.specs.lowering_relation.Tidy.{Fixed}
+use Rattle.lower_frame.specs.lowering_relation.Known.{Known, register_of, holding, with_next, is_owned, without, lent_by, used, used_if, used_all}
+use Rattle.lower_frame.specs.lowering_relation.Values.{Setting, is_scalar, built, built_if, with_put, IsReused, IsNewAtom, IsPut, BuiltAt, ArgumentAt, ArgumentsAt}
+use Rattle.lower_frame.specs.lowering_relation.LoweredBodies.{as_value, moved, handed, received, given, given_if, IsMove, IsThere, MovedAt, AreTaken}
+use Rattle.lower_frame.proofs.lowering_relation.LoweredLists.{fewer_same, fewer_on, taken_fewer, taken_other}
+use Rattle.lower_frame.specs.lowering_relation.Describing.{held_at}
 use Rattle.lower_frame.specs.Credits.{is_bare}
 use Rattle.cell_lower.specs.Bodies.{Founded, FoundedAll, RightAt, Waits}
 use Rattle.cell_lower.proofs.Laying.{held_get}

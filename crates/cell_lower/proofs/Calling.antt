@@ -9,16 +9,16 @@ use Rattle.fip_trees.specs.Tree.{Instance}
 use Rattle.fip_trees.specs.TreeView.{instance_of, instances}
 use Rattle.cell_code.specs.declared.code.Instr.{Instr}
 use Rattle.cell_code.specs.declared.code.Instr.TheVariants as I
-use Rattle.lowering_relation.specs.declared.held.Held.{Held}
-use Rattle.lowering_relation.specs.declared.held.Held.TheVariants as H
-use Rattle.lowering_relation.specs.Known.{Known, joined, using, used}
-use Rattle.lowering_relation.specs.Values.{Setting}
-use Rattle.lowering_relation.specs.LoweredBodies.{Target, Return, Into, GoesTo, result_type, GivenAt, handed, AreTaken, received, given, EndsCall as EndsSo}
+use Rattle.lower_frame.specs.lowering_relation.declared.held.Held.{Held}
+use Rattle.lower_frame.specs.lowering_relation.declared.held.Held.TheVariants as H
+use Rattle.lower_frame.specs.lowering_relation.Known.{Known, joined, using, used}
+use Rattle.lower_frame.specs.lowering_relation.Values.{Setting}
+use Rattle.lower_frame.specs.lowering_relation.LoweredBodies.{Target, Return, Into, GoesTo, result_type, GivenAt, handed, AreTaken, received, given, EndsCall as EndsSo}
 use Rattle.lower_frame.specs.Frames.{Takes}
 use Rattle.lower_frame.proofs.Accounts.{taken_accounted, taken_last, last_same, last_on}
-use Rattle.lowering_relation.specs.Written.{Written, size, added, GivesUp}
+use Rattle.lower_frame.specs.lowering_relation.Written.{Written, size, added, GivesUp}
 use Rattle.cell_lower.specs.Writing.{Gives, Operates, handed_at, received_at, TakesOne, TakesAll, FollowCredits, EndsCall, CallsAt}
-use Rattle.lowering_relation.proofs.Placing.{extends_on, added_extends, one_longer, front, back, stands, up_to, given_up, gives_up_on}
+use Rattle.lower_frame.proofs.lowering_relation.Placing.{extends_on, added_extends, one_longer, front, back, stands, up_to, given_up, gives_up_on}
 use Rattle.lower_frame.specs.Registers.{registers}
 use Rattle.cell_lower.specs.Growth.{Sheds, Stay}
 use Rattle.cell_lower.proofs.Shedding.{goes_length, taken_length, handed_length, received_length, sheds_on, adds_shed, adds_one, adds_on, adds_less}

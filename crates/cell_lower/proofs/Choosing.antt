@@ -19,19 +19,19 @@ use Rattle.match_knowledge.specs.Patterns as M
 use Rattle.match_knowledge.specs.Known.{Known, compare, is_asks, is_fits, is_last, side}
 use Rattle.match_knowledge.specs.View.{row, rows}
 use Rattle.match_knowledge.proofs.Steps.{row_at}
-use Rattle.lowering_relation.specs.Choosing.{place}
-use Rattle.lowering_relation.specs.Written.{Written, size, Extends, HasFrom, added}
-use Rattle.lowering_relation.specs.Spots as S
-use Rattle.lowering_relation.specs.Rows.{row_of}
-use Rattle.lowering_relation.specs.Opening.{naming}
-use Rattle.lowering_relation.specs.Reading.{Reading, reading}
-use Rattle.lowering_relation.specs.Landing.{Scene, Side, IsScene, Good, SideGood, AllGood, LeadsTo, RuledOut, place_of_side, test_of, entry}
-use Rattle.lowering_relation.proofs.Placing.{same_extends, extends_on, added_extends, one_longer, front, back, stands}
-use Rattle.lowering_relation.proofs.Running.{goes_one}
-use Rattle.lowering_relation.proofs.Readings.{reading_extends}
-use Rattle.lowering_relation.proofs.Openings.{taking_extends, naming_extends}
-use Rattle.lowering_relation.proofs.Goods.{good_last, good_tested, good_taken, good_named}
-use Rattle.code_rules.specs.Codes.{label_at}
+use Rattle.lower_frame.specs.lowering_relation.Choosing.{place}
+use Rattle.lower_frame.specs.lowering_relation.Written.{Written, size, Extends, HasFrom, added}
+use Rattle.lower_frame.specs.lowering_relation.Spots as S
+use Rattle.lower_frame.specs.lowering_relation.Rows.{row_of}
+use Rattle.lower_frame.specs.lowering_relation.Opening.{naming}
+use Rattle.lower_frame.specs.lowering_relation.Reading.{Reading, reading}
+use Rattle.lower_frame.specs.lowering_relation.Landing.{Scene, Side, IsScene, Good, SideGood, AllGood, LeadsTo, RuledOut, place_of_side, test_of, entry}
+use Rattle.lower_frame.proofs.lowering_relation.Placing.{same_extends, extends_on, added_extends, one_longer, front, back, stands}
+use Rattle.lower_frame.proofs.lowering_relation.Running.{goes_one}
+use Rattle.lower_frame.proofs.lowering_relation.Readings.{reading_extends}
+use Rattle.lower_frame.proofs.lowering_relation.Openings.{taking_extends, naming_extends}
+use Rattle.lower_frame.proofs.lowering_relation.Goods.{good_last, good_tested, good_taken, good_named}
+use Rattle.lower_frame.specs.code_rules.Codes.{label_at}
 use Rattle.cell_lower.specs.declared.choices.Choice.{Choice}
 use Rattle.cell_lower.specs.declared.choices.Side.{Side as Kept}
 use Rattle.cell_lower.specs.declared.choices.First.TheVariants as F
@@ -147,7 +147,7 @@ label_before v w i e f g = record {
   told = λ p h. ap (λ x. label_at x p) g;
 }
 
-pub tested : (p : M.Pattern) (k : Known) (root : S.Spot) (x y : Reading) (w z : Written) (read : List ℕ) (a : Rattle.lowering_relation.specs.Reading.Asked) (l : ℕ) (d : Side) → Rattle.lowering_relation.specs.Reading.asked p k root ≡ Some a → y ≡ reading p k root x → Extends y.written w → w.instrs ≡ y.written.instrs → w.maps ≡ y.written.maps → z ≡ added w (test_of a.register a.head l) → read ≡ y.read → d.known ≡ side false p k → d.read ≡ y.read → d.label ≡ Some l → labels w ≡ suc (labels y.written) → Tests p k root x z read d
+pub tested : (p : M.Pattern) (k : Known) (root : S.Spot) (x y : Reading) (w z : Written) (read : List ℕ) (a : Rattle.lower_frame.specs.lowering_relation.Reading.Asked) (l : ℕ) (d : Side) → Rattle.lower_frame.specs.lowering_relation.Reading.asked p k root ≡ Some a → y ≡ reading p k root x → Extends y.written w → w.instrs ≡ y.written.instrs → w.maps ≡ y.written.maps → z ≡ added w (test_of a.register a.head l) → read ≡ y.read → d.known ≡ side false p k → d.read ≡ y.read → d.label ≡ Some l → labels w ≡ suc (labels y.written) → Tests p k root x z read d
 tested p k root x y w z read a l d as' e f g gm h r dk dr dl ll = record {
   found = a;
   target = l;
@@ -217,7 +217,7 @@ asks_test tb c p v w k l read read_on ds es d unsettled t e f = record {
     by_row low i q is there same asks to code h good others =
         good_tested (scene tb low c) is (size v) to code k x i q t.found t.target there
         (ap (λ z. compare z k) (sym same) ∙ asks)
-        (subst (λ z. Rattle.lowering_relation.specs.Reading.asked z k (spot_of c.root) ≡ Some t.found) same t.asks)
+        (subst (λ z. Rattle.lower_frame.specs.lowering_relation.Reading.asked z k (spot_of c.root) ≡ Some t.found) same t.asks)
         (omega arith)
         (subst (λ z. HasFrom (size v) (added (reading z k (spot_of c.root) x).written test) to code) same (front (size v) (added y.written test) w to code t.extends h))
         (subst (λ z. Good (scene tb low c) to code (size (added (reading z k (spot_of c.root) x).written test)) (side true z k) (reading z k (spot_of c.root) x).read) same

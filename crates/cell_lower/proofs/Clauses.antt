@@ -3,14 +3,14 @@ use Rattle.std.proofs.Common.{◌≡◌, refl, sym, ap, ◌∙◌, subst, arith,
 use Rattle.fip_trees.specs.declared.program.Clause.{Clause}
 use Rattle.fip_trees.specs.Tree.{Argument, Clauses, NoClauses, MoreClauses}
 use Rattle.fip_trees.specs.TreeView.{Case, clause, clauses}
-use Rattle.lowering_relation.specs.Known.{Known}
-use Rattle.lowering_relation.specs.Values.{Setting}
-use Rattle.lowering_relation.specs.Choosing.{Meets, FewerCredits, MeetsFirst}
-use Rattle.lowering_relation.specs.LoweredBodies as B
-use Rattle.lowering_relation.proofs.LoweredLists.{fewer_same}
-use Rattle.lowering_relation.specs.Written.{Written, size, Extends, IsAt}
-use Rattle.lowering_relation.specs.Losing.{Loses, Resumes}
-use Rattle.lowering_relation.specs.WellMatched.{WellMatchedBlock, WellMatchedClauses}
+use Rattle.lower_frame.specs.lowering_relation.Known.{Known}
+use Rattle.lower_frame.specs.lowering_relation.Values.{Setting}
+use Rattle.lower_frame.specs.lowering_relation.Choosing.{Meets, FewerCredits, MeetsFirst}
+use Rattle.lower_frame.specs.lowering_relation.LoweredBodies as B
+use Rattle.lower_frame.proofs.lowering_relation.LoweredLists.{fewer_same}
+use Rattle.lower_frame.specs.lowering_relation.Written.{Written, size, Extends, IsAt}
+use Rattle.lower_frame.specs.lowering_relation.Losing.{Loses, Resumes}
+use Rattle.lower_frame.specs.lowering_relation.WellMatched.{WellMatchedBlock, WellMatchedClauses}
 use Rattle.cell_lower.specs.declared.matches.Matching.{Matching}
 use Rattle.cell_lower.specs.declared.matches.Progress.{Progress}
 use Rattle.lower_frame.specs.Labels.{labels}

@@ -8,25 +8,25 @@ use Rattle.fip_trees.specs.declared.needs.Need.{Need}
 use Rattle.fip_trees.specs.Sizes.{number}
 use Rattle.fip_trees.specs.Tree.{Argument, Pattern, Expression, Match, Block, Clauses, NoClauses, MoreClauses}
 use Rattle.fip_trees.specs.TreeView.{Case}
-use Rattle.code_rules.specs.Codes.{PlainCode, PlainFunction, label_at}
+use Rattle.lower_frame.specs.code_rules.Codes.{PlainCode, PlainFunction, label_at}
 use Rattle.match_knowledge.specs.Known.{Open}
 use Rattle.match_knowledge.specs.Patterns.{IsPattern}
-use Rattle.lowering_relation.specs.declared.held.Held.{Held}
-use Rattle.lowering_relation.specs.declared.held.Held.TheVariants as H
-use Rattle.lowering_relation.specs.Known.{Known}
-use Rattle.lowering_relation.specs.Values.{Setting, is_scalar}
-use Rattle.lowering_relation.specs.LoweredBodies.{Target, Return, Into}
-use Rattle.lowering_relation.specs.Written.{Written, size, Extends}
-use Rattle.lowering_relation.specs.Rows.{row_of}
-use Rattle.lowering_relation.specs.Spots as S
-use Rattle.lowering_relation.proofs.Choices.{patterns_in}
-use Rattle.lowering_relation.proofs.Placing.{same_extends, extends_on, front}
-use Rattle.lowering_relation.specs.Describing.{held_at, kinds_of}
-use Rattle.lowering_relation.specs.Labels.{told, Takes, Tells}
-use Rattle.lowering_relation.specs.Tests.{Choice, ChunkLaid, SidesLaid}
-use Rattle.lowering_relation.specs.Matches.{BuiltRight, Forgets, MatchBegins, MatchLaid, clause_patterns, wide, wide_at, widened}
-use Rattle.lowering_relation.specs.Joins.{ClauseEnds, Meets}
-use Rattle.lowering_relation.specs.LaidBodies.{ExpressionLaid, ClausesLaid, ClausesMeet}
+use Rattle.lower_frame.specs.lowering_relation.declared.held.Held.{Held}
+use Rattle.lower_frame.specs.lowering_relation.declared.held.Held.TheVariants as H
+use Rattle.lower_frame.specs.lowering_relation.Known.{Known}
+use Rattle.lower_frame.specs.lowering_relation.Values.{Setting, is_scalar}
+use Rattle.lower_frame.specs.lowering_relation.LoweredBodies.{Target, Return, Into}
+use Rattle.lower_frame.specs.lowering_relation.Written.{Written, size, Extends}
+use Rattle.lower_frame.specs.lowering_relation.Rows.{row_of}
+use Rattle.lower_frame.specs.lowering_relation.Spots as S
+use Rattle.lower_frame.proofs.lowering_relation.Choices.{patterns_in}
+use Rattle.lower_frame.proofs.lowering_relation.Placing.{same_extends, extends_on, front}
+use Rattle.lower_frame.specs.lowering_relation.Describing.{held_at, kinds_of}
+use Rattle.lower_frame.specs.lowering_relation.Labels.{told, Takes, Tells}
+use Rattle.lower_frame.specs.lowering_relation.Tests.{Choice, ChunkLaid, SidesLaid}
+use Rattle.lower_frame.specs.lowering_relation.Matches.{BuiltRight, Forgets, MatchBegins, MatchLaid, clause_patterns, wide, wide_at, widened}
+use Rattle.lower_frame.specs.lowering_relation.Joins.{ClauseEnds, Meets}
+use Rattle.lower_frame.specs.lowering_relation.LaidBodies.{ExpressionLaid, ClausesLaid, ClausesMeet}
 use Rattle.lower_frame.specs.Credits.{Accounted}
 use Rattle.lower_frame.specs.Labels.{Rising}
 use Rattle.lower_frame.specs.Positions.{reaching, spot_of}

@@ -11,26 +11,26 @@ use Rattle.fip_trees.specs.Tree.{Pattern, Expression, Block, Clauses, NoClauses,
 use Rattle.cell_code.specs.declared.code.Instr.TheVariants as I
 use Rattle.cell_code.specs.declared.kind.Kind.{Kind}
 use Rattle.fip_language.specs.declared.FunKind.TheVariants.{Fun}
-use Rattle.code_rules.specs.Codes.{PlainCode, PlainFunction, LabelMap, label_at}
+use Rattle.lower_frame.specs.code_rules.Codes.{PlainCode, PlainFunction, LabelMap, label_at}
 use Rattle.match_knowledge.specs.Known.{Open}
-use Rattle.lowering_relation.specs.declared.held.Held.{Held}
-use Rattle.lowering_relation.specs.declared.held.Held.TheVariants as H
-use Rattle.lowering_relation.specs.Known.{Known}
-use Rattle.lowering_relation.specs.Values.{Setting}
-use Rattle.lowering_relation.specs.LoweredBodies.{Target, Return, Into}
-use Rattle.lowering_relation.specs.Written.{Written, size, settled, Extends, HasFrom, IsAt, place_of}
-use Rattle.lowering_relation.specs.Spots as S
-use Rattle.lowering_relation.specs.Landing.{Scene, Side}
-use Rattle.lowering_relation.specs.Entering.{entering_root}
-use Rattle.lowering_relation.proofs.Choices.{patterns_in}
-use Rattle.lowering_relation.proofs.Placing.{same_extends, extends_on, added_extends, one_longer, front, back, stands, has_all}
-use Rattle.lowering_relation.specs.Describing.{held_at, kinds_of}
-use Rattle.lowering_relation.specs.Labels.{told, Takes, Tells}
-use Rattle.lowering_relation.specs.Standing.{AreRising}
-use Rattle.lowering_relation.specs.Tests.{Choice, ChunkLaid, SidesLaid}
-use Rattle.lowering_relation.specs.Matches.{BuiltRight, widened, wide_at, entered, EntryLaid}
-use Rattle.lowering_relation.specs.Joins.{GoesOn, ClauseEnds, Met}
-use Rattle.lowering_relation.specs.LaidBodies.{BlockLaid, ClausesLaid, ClausesMeet}
+use Rattle.lower_frame.specs.lowering_relation.declared.held.Held.{Held}
+use Rattle.lower_frame.specs.lowering_relation.declared.held.Held.TheVariants as H
+use Rattle.lower_frame.specs.lowering_relation.Known.{Known}
+use Rattle.lower_frame.specs.lowering_relation.Values.{Setting}
+use Rattle.lower_frame.specs.lowering_relation.LoweredBodies.{Target, Return, Into}
+use Rattle.lower_frame.specs.lowering_relation.Written.{Written, size, settled, Extends, HasFrom, IsAt, place_of}
+use Rattle.lower_frame.specs.lowering_relation.Spots as S
+use Rattle.lower_frame.specs.lowering_relation.Landing.{Scene, Side}
+use Rattle.lower_frame.specs.lowering_relation.Entering.{entering_root}
+use Rattle.lower_frame.proofs.lowering_relation.Choices.{patterns_in}
+use Rattle.lower_frame.proofs.lowering_relation.Placing.{same_extends, extends_on, added_extends, one_longer, front, back, stands, has_all}
+use Rattle.lower_frame.specs.lowering_relation.Describing.{held_at, kinds_of}
+use Rattle.lower_frame.specs.lowering_relation.Labels.{told, Takes, Tells}
+use Rattle.lower_frame.specs.lowering_relation.Standing.{AreRising}
+use Rattle.lower_frame.specs.lowering_relation.Tests.{Choice, ChunkLaid, SidesLaid}
+use Rattle.lower_frame.specs.lowering_relation.Matches.{BuiltRight, widened, wide_at, entered, EntryLaid}
+use Rattle.lower_frame.specs.lowering_relation.Joins.{GoesOn, ClauseEnds, Met}
+use Rattle.lower_frame.specs.lowering_relation.LaidBodies.{BlockLaid, ClausesLaid, ClausesMeet}
 use Rattle.lower_frame.specs.Credits.{Accounted}
 use Rattle.lower_frame.specs.Labels.{Rising}
 use Rattle.lower_frame.specs.Positions.{reaching, spot_of}

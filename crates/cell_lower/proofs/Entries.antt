@@ -7,8 +7,8 @@ use Rattle.std.proofs.lemmas.Option.{slice_get-map}
 use Rattle.fip_language.specs.Table.{Table}
 use Rattle.fip_trees.specs.Tree.{Pattern, BinderPattern, LiteralPattern, ConstructorPattern, Patterns, NoPatterns, MorePatterns}
 use Rattle.cell_code.specs.declared.kind.Kind.{Kind}
-use Rattle.code_rules.specs.Codes.{PlainCode, PlainFunction, label_at}
-use Rattle.code_rules.specs.Types.{count, fields}
+use Rattle.lower_frame.specs.code_rules.Codes.{PlainCode, PlainFunction, label_at}
+use Rattle.lower_frame.specs.code_rules.Types.{count, fields}
 use Rattle.match_knowledge.specs.declared.heads.Head.{Head}
 use Rattle.match_knowledge.specs.declared.heads.Head.TheVariants.{Number, Tag}
 use Rattle.match_knowledge.specs.declared.verdicts.Verdict.TheVariants.{Fits}
@@ -17,20 +17,20 @@ use Rattle.match_knowledge.specs.Patterns as M
 use Rattle.match_knowledge.specs.Patterns.{IsPattern, ArePatterns}
 use Rattle.match_knowledge.specs.Known as W
 use Rattle.match_knowledge.specs.Known.{Open, compare, is_in, all_out, is_last, side}
-use Rattle.lowering_relation.specs.declared.held.Held.TheVariants as H
-use Rattle.lowering_relation.specs.Known.{Known, holding, naming}
-use Rattle.lowering_relation.specs.Values.{Setting, is_scalar}
-use Rattle.lowering_relation.specs.Spots.{Spot, At, Spots, NoSpots, MoreSpots}
-use Rattle.lowering_relation.specs.Rows.{row_of}
-use Rattle.lowering_relation.specs.Landing.{Side, IsScene}
-use Rattle.lowering_relation.specs.Opening.{names_any, any_named, Roomy, AllRoomy}
-use Rattle.lowering_relation.specs.Entering.{unnaming, variable_held, entering, entering_all, root_of, entering_root}
-use Rattle.lowering_relation.specs.Written.{Written, size, Extends, IsAt}
-use Rattle.lowering_relation.specs.Describing.{Holding, held_at, kind_of}
-use Rattle.lowering_relation.specs.Labels.{Catches, told}
-use Rattle.lowering_relation.specs.Matches.{widened, wide, wide_at, EntryLaid}
-use Rattle.lowering_relation.specs.Tests.{Choice, NamesLaid, NameAll, TakesLaid, ChosenLaid, ChosenAtOnce, TestsLaid, ChunkLaid, SideLaid, SidesLaid}
-use Rattle.lowering_relation.proofs.Growing.{names_end, name_all_end, take_all_end, tests_end, at_once}
+use Rattle.lower_frame.specs.lowering_relation.declared.held.Held.TheVariants as H
+use Rattle.lower_frame.specs.lowering_relation.Known.{Known, holding, naming}
+use Rattle.lower_frame.specs.lowering_relation.Values.{Setting, is_scalar}
+use Rattle.lower_frame.specs.lowering_relation.Spots.{Spot, At, Spots, NoSpots, MoreSpots}
+use Rattle.lower_frame.specs.lowering_relation.Rows.{row_of}
+use Rattle.lower_frame.specs.lowering_relation.Landing.{Side, IsScene}
+use Rattle.lower_frame.specs.lowering_relation.Opening.{names_any, any_named, Roomy, AllRoomy}
+use Rattle.lower_frame.specs.lowering_relation.Entering.{unnaming, variable_held, entering, entering_all, root_of, entering_root}
+use Rattle.lower_frame.specs.lowering_relation.Written.{Written, size, Extends, IsAt}
+use Rattle.lower_frame.specs.lowering_relation.Describing.{Holding, held_at, kind_of}
+use Rattle.lower_frame.specs.lowering_relation.Labels.{Catches, told}
+use Rattle.lower_frame.specs.lowering_relation.Matches.{widened, wide, wide_at, EntryLaid}
+use Rattle.lower_frame.specs.lowering_relation.Tests.{Choice, NamesLaid, NameAll, TakesLaid, ChosenLaid, ChosenAtOnce, TestsLaid, ChunkLaid, SideLaid, SidesLaid}
+use Rattle.lower_frame.proofs.lowering_relation.Growing.{names_end, name_all_end, take_all_end, tests_end, at_once}
 use Rattle.lower_frame.specs.Positions.{spot_of, reaching}
 use Rattle.cell_lower.specs.declared.matches.Matching.{Matching}
 use Rattle.cell_lower.specs.Laying.{HasPart}
@@ -138,7 +138,7 @@ lone_scalar s t u d x a pl scalars (same, fs, head, typed) few = by t fs head ty
         let lt : x < count s.types (suc t) = Rattle.std.proofs.lemmas.Option.slice_get_within (Rattle.fip_language.specs.Table.shapes s.types t) x head.0 head.1 in
         let one : count s.types (suc t) ≡ 1 = omega (arith, lt, few) in
         let first : x ≡ 0 = omega (arith, lt, few) in
-        let bare : fields s.types (suc t) x ≡ [] = ap Rattle.code_rules.specs.Types.fields_of head.1 ∙ head.2 in
+        let bare : fields s.types (suc t) x ≡ [] = ap Rattle.lower_frame.specs.code_rules.Types.fields_of head.1 ∙ head.2 in
         scalars.atoms (suc t) one (subst (λ z. fields s.types (suc t) z ≡ []) first bare)
 
 -- ---- an entry that is reached without an instruction
@@ -159,7 +159,7 @@ settled_plain c s f ch steps at i n (ConstructorPattern t d x a pl ps) (At r fs)
         let is : last.1.pattern ≡ q = same_some last.1.pattern q (sym last.1.there ∙ there) in
         subst (λ y. (more : List ℕ) × NamesLaid f at q y [] at more) root
         (subst (λ y. (more : List ℕ) × NamesLaid f at y ch.root [] at more) is
-        (subst (λ b. Rattle.lowering_relation.specs.Tests.SettledLaid b f at last.1.pattern ch.root [] at) e last.1.settled))
+        (subst (λ b. Rattle.lower_frame.specs.lowering_relation.Tests.SettledLaid b f at last.1.pattern ch.root [] at) e last.1.settled))
 settled_plain c s f ch steps at i n (ConstructorPattern t d x a pl ps) (At r fs) m scalars same apart typed room root there h true e = absurd (by ps takes there)
   where
     takes : TakesLaid f at (ConstructorPattern t d x a pl ps) (At r fs) at
@@ -168,7 +168,7 @@ settled_plain c s f ch steps at i n (ConstructorPattern t d x a pl ps) (At r fs)
         let is : last.1.pattern ≡ ConstructorPattern t d x a pl ps = same_some last.1.pattern (ConstructorPattern t d x a pl ps) (sym last.1.there ∙ there) in
         subst (λ y. TakesLaid f at (ConstructorPattern t d x a pl ps) y at) root
         (subst (λ y. TakesLaid f at y ch.root at) is
-        (subst (λ b. Rattle.lowering_relation.specs.Tests.SettledLaid b f at last.1.pattern ch.root [] at) e last.1.settled))
+        (subst (λ b. Rattle.lower_frame.specs.lowering_relation.Tests.SettledLaid b f at last.1.pattern ch.root [] at) e last.1.settled))
 
     by : (ps : Patterns) → TakesLaid f at (ConstructorPattern t d x a pl ps) (At r fs) at → slice_get ch.patterns i ≡ Some (ConstructorPattern t d x a pl ps) → ⊥
     by NoPatterns taken at_i =

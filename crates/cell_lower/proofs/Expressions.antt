@@ -17,11 +17,11 @@ use Rattle.fip_trees.specs.declared.program.Expression.TheVariants as EV
 use Rattle.fip_trees.specs.declared.program.Expression.TheFolds.{fold-roll-Expression}
 use Rattle.fip_trees.specs.TreeView.{BoundPart, Case, argument, arguments, expression, expression_step, binding, binding_step, block_step, clause, clause_step, clauses, is_destructive}
 use Rattle.fip_trees.proofs.TreeViews.{binding_is, expression_match}
-use Rattle.lowering_relation.specs.Known.{Known}
-use Rattle.lowering_relation.specs.Values.{Setting}
-use Rattle.lowering_relation.specs.LoweredBodies.{Target, Into, with_names, reserved, registers_for}
-use Rattle.lowering_relation.specs.Written.{Written}
-use Rattle.lowering_relation.specs.WellMatched.{WellMatched}
+use Rattle.lower_frame.specs.lowering_relation.Known.{Known}
+use Rattle.lower_frame.specs.lowering_relation.Values.{Setting}
+use Rattle.lower_frame.specs.lowering_relation.LoweredBodies.{Target, Into, with_names, reserved, registers_for}
+use Rattle.lower_frame.specs.lowering_relation.Written.{Written}
+use Rattle.lower_frame.specs.lowering_relation.WellMatched.{WellMatched}
 use Rattle.cell_lower.specs.Clauses.{WritesMatch}
 use Rattle.cell_lower.specs.Writing.{Computes, ComputesAll, AppliesTo, Writes, Binds}
 use Rattle.cell_lower.proofs.Blocks.{binds_give, binds_tuple, binds_into}

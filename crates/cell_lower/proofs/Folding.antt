@@ -13,14 +13,14 @@ use Rattle.match_knowledge.specs.Patterns as M
 use Rattle.match_knowledge.specs.declared.heads.Head.{Head}
 use Rattle.match_knowledge.specs.Known.{Known, Is, Knowns, NoKnowns, MoreKnowns, compare, is_asks}
 use Rattle.match_knowledge.specs.View.{row, row_step, parts, known, known_step, knowns}
-use Rattle.lowering_relation.specs.Known as L
-use Rattle.lowering_relation.specs.Values.{Setting}
-use Rattle.lowering_relation.specs.Written.{Written, added}
-use Rattle.lowering_relation.specs.Rows as R
-use Rattle.lowering_relation.specs.Spots as S
-use Rattle.lowering_relation.specs.Entering.{entering, entering_all}
-use Rattle.lowering_relation.specs.Opening.{as_many, take_if, taking, taking_all, naming_all}
-use Rattle.lowering_relation.specs.Reading.{Reading, Asked, asked, asked_first, read_one, reading, reading_first}
+use Rattle.lower_frame.specs.lowering_relation.Known as L
+use Rattle.lower_frame.specs.lowering_relation.Values.{Setting}
+use Rattle.lower_frame.specs.lowering_relation.Written.{Written, added}
+use Rattle.lower_frame.specs.lowering_relation.Rows as R
+use Rattle.lower_frame.specs.lowering_relation.Spots as S
+use Rattle.lower_frame.specs.lowering_relation.Entering.{entering, entering_all}
+use Rattle.lower_frame.specs.lowering_relation.Opening.{as_many, take_if, taking, taking_all, naming_all}
+use Rattle.lower_frame.specs.lowering_relation.Reading.{Reading, Asked, asked, asked_first, read_one, reading, reading_first}
 use Rattle.std.specs.declared.vec.Vec.{Vec}
 use Rattle.std.specs.declared.alloc.Global.{Global}
 use Rattle.match_knowledge.specs.declared.rows.Row.TheVariants as RV

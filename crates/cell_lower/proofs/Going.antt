@@ -10,23 +10,23 @@ use Rattle.fip_trees.specs.declared.program.Binder.{Binder}
 use Rattle.fip_trees.specs.Tree.{Name, Argument, Arguments, NoArguments, MoreArguments, Expression, Give, Tuple, Operation, Call, Nested, Block, Last, Let, count}
 use Rattle.cell_code.specs.declared.code.Instr.{Instr}
 use Rattle.cell_code.specs.declared.kind.Kind.{Kind}
-use Rattle.code_rules.specs.Codes.{PlainCode, PlainFunction, LabelMap, label_at}
-use Rattle.code_rules.specs.Fitting.{fits}
-use Rattle.code_rules.specs.Kinds.{at as kind_at}
-use Rattle.lowering_relation.specs.declared.held.Held.{Held}
-use Rattle.lowering_relation.specs.declared.held.Held.TheVariants as H
-use Rattle.lowering_relation.specs.declared.held.Credit.{Credit}
-use Rattle.lowering_relation.specs.Known.{Known, joined, named, register_of, holding, with_next}
-use Rattle.lowering_relation.specs.Tidy.{NotIn, Fixed}
-use Rattle.lowering_relation.specs.Values.{Setting, ArgumentsAt}
-use Rattle.lowering_relation.specs.LoweredBodies.{Target, Return, Into, registers_for, reserved, all_named, with_names, handed, received, result_type, GivenAt, MovedAt, GoesTo, IsOperation, IsCall, IsCallOf}
-use Rattle.lowering_relation.proofs.LoweredLists.{fewer_same}
-use Rattle.lowering_relation.specs.Written.{Written, size, Extends, HasFrom, settled, place_of}
-use Rattle.lowering_relation.proofs.Placing.{extends_on, back, has_all}
-use Rattle.lowering_relation.specs.Describing.{held_at}
-use Rattle.lowering_relation.specs.Labels.{told, Takes, Tells}
-use Rattle.lowering_relation.specs.LaidBodies.{ExpressionLaid, BlockLaid, BoundLaid, NamedLaid}
-use Rattle.lowering_relation.specs.Standing.{AreRising}
+use Rattle.lower_frame.specs.code_rules.Codes.{PlainCode, PlainFunction, LabelMap, label_at}
+use Rattle.lower_frame.specs.code_rules.Fitting.{fits}
+use Rattle.lower_frame.specs.code_rules.Kinds.{at as kind_at}
+use Rattle.lower_frame.specs.lowering_relation.declared.held.Held.{Held}
+use Rattle.lower_frame.specs.lowering_relation.declared.held.Held.TheVariants as H
+use Rattle.lower_frame.specs.lowering_relation.declared.held.Credit.{Credit}
+use Rattle.lower_frame.specs.lowering_relation.Known.{Known, joined, named, register_of, holding, with_next}
+use Rattle.lower_frame.specs.lowering_relation.Tidy.{NotIn, Fixed}
+use Rattle.lower_frame.specs.lowering_relation.Values.{Setting, ArgumentsAt}
+use Rattle.lower_frame.specs.lowering_relation.LoweredBodies.{Target, Return, Into, registers_for, reserved, all_named, with_names, handed, received, result_type, GivenAt, MovedAt, GoesTo, IsOperation, IsCall, IsCallOf}
+use Rattle.lower_frame.proofs.lowering_relation.LoweredLists.{fewer_same}
+use Rattle.lower_frame.specs.lowering_relation.Written.{Written, size, Extends, HasFrom, settled, place_of}
+use Rattle.lower_frame.proofs.lowering_relation.Placing.{extends_on, back, has_all}
+use Rattle.lower_frame.specs.lowering_relation.Describing.{held_at}
+use Rattle.lower_frame.specs.lowering_relation.Labels.{told, Takes, Tells}
+use Rattle.lower_frame.specs.lowering_relation.LaidBodies.{ExpressionLaid, BlockLaid, BoundLaid, NamedLaid}
+use Rattle.lower_frame.specs.lowering_relation.Standing.{AreRising}
 use Rattle.lower_frame.specs.Credits.{Accounted, AllSolid, one_if, counted, is_credit, is_credit_of}
 use Rattle.lower_frame.specs.Labels.{Rising}
 use Rattle.lower_frame.specs.Registers.{registers, HasRoom}

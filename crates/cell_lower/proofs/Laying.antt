@@ -7,19 +7,19 @@ use Rattle.fip_language.specs.declared.Place.{Place}
 use Rattle.fip_trees.specs.Tree.{Instance}
 use Rattle.cell_code.specs.declared.code.Instr.{Instr}
 use Rattle.cell_code.specs.declared.code.Instr.TheVariants as I
-use Rattle.code_rules.specs.Codes.{PlainFunction}
-use Rattle.lowering_relation.specs.declared.held.Held.{Held}
-use Rattle.lowering_relation.specs.declared.held.Held.TheVariants as H
-use Rattle.lowering_relation.specs.Known.{Known, joined, holding, using, used, used_all, is_owned}
-use Rattle.lowering_relation.specs.Values.{Setting}
-use Rattle.lowering_relation.specs.LoweredBodies.{Target, Return, Into, GoesTo, result_type, handed, AreTaken, received}
-use Rattle.lowering_relation.specs.Losing.{Barer, Loses}
-use Rattle.lowering_relation.specs.Written.{Written, size, added, settled, Extends}
-use Rattle.lowering_relation.proofs.Placing.{same_extends, extends_on, added_extends, one_longer, front, back, stands}
-use Rattle.lowering_relation.specs.Describing.{held_at as holding_at, is_tree}
-use Rattle.lowering_relation.specs.Credits.{LastGone}
-use Rattle.lowering_relation.specs.GivenUp.{GivesUp, GivesOne}
-use Rattle.lowering_relation.specs.Handed.{GivenLaid, EndsCallLaid}
+use Rattle.lower_frame.specs.code_rules.Codes.{PlainFunction}
+use Rattle.lower_frame.specs.lowering_relation.declared.held.Held.{Held}
+use Rattle.lower_frame.specs.lowering_relation.declared.held.Held.TheVariants as H
+use Rattle.lower_frame.specs.lowering_relation.Known.{Known, joined, holding, using, used, used_all, is_owned}
+use Rattle.lower_frame.specs.lowering_relation.Values.{Setting}
+use Rattle.lower_frame.specs.lowering_relation.LoweredBodies.{Target, Return, Into, GoesTo, result_type, handed, AreTaken, received}
+use Rattle.lower_frame.specs.lowering_relation.Losing.{Barer, Loses}
+use Rattle.lower_frame.specs.lowering_relation.Written.{Written, size, added, settled, Extends}
+use Rattle.lower_frame.proofs.lowering_relation.Placing.{same_extends, extends_on, added_extends, one_longer, front, back, stands}
+use Rattle.lower_frame.specs.lowering_relation.Describing.{held_at as holding_at, is_tree}
+use Rattle.lower_frame.specs.lowering_relation.Credits.{LastGone}
+use Rattle.lower_frame.specs.lowering_relation.GivenUp.{GivesUp, GivesOne}
+use Rattle.lower_frame.specs.lowering_relation.Handed.{GivenLaid, EndsCallLaid}
 use Rattle.lower_frame.specs.Registers.{HasRoom, registers}
 use Rattle.lower_frame.specs.Credits.{is_credit, Accounted, FewerTrees, NoBares, NoTrees, NoneBetween, is_bare, sized}
 use Rattle.lower_frame.specs.Frames.{Takes}

@@ -10,24 +10,24 @@ use Rattle.fip_language.specs.declared.FunKind.TheVariants as F
 use Rattle.fip_language.specs.declared.limits.TheConstants.{MOST_FIELDS}
 use Rattle.fip_language.proofs.Search.{le_or_less}
 use Rattle.fip_trees.specs.Tree.{Expression}
-use Rattle.code_rules.specs.Codes.{PlainCode, PlainFunction}
-use Rattle.lowering_relation.specs.declared.held.Held.{Held}
-use Rattle.lowering_relation.specs.declared.held.Held.TheVariants as H
-use Rattle.lowering_relation.specs.declared.held.Credit.{Credit}
-use Rattle.lowering_relation.specs.Known.{Known, using, used, used_if, is_owned, without, lent_by, register_of}
-use Rattle.lowering_relation.specs.Values.{Setting}
-use Rattle.lowering_relation.specs.Losing.{Loses}
-use Rattle.lowering_relation.specs.Reading.{contains}
-use Rattle.lowering_relation.specs.Written.{Written, size, settled, place_of, HasFrom}
-use Rattle.lowering_relation.proofs.MatchLists.{contains_among}
-use Rattle.lowering_relation.proofs.Placing.{front, back, has_all}
-use Rattle.lowering_relation.specs.Credits.{of_size}
-use Rattle.lowering_relation.specs.Describing.{held_at as holding_at, is_tree}
-use Rattle.lowering_relation.specs.GivenUp.{GivesUp, GivesOne}
-use Rattle.lowering_relation.specs.Joins.{BaresEnd}
-use Rattle.lowering_relation.specs.Leftover.{IsUnused}
-use Rattle.lowering_relation.specs.Matches.{wide, widened}
-use Rattle.lowering_relation.specs.Uses.{need, used_in}
+use Rattle.lower_frame.specs.code_rules.Codes.{PlainCode, PlainFunction}
+use Rattle.lower_frame.specs.lowering_relation.declared.held.Held.{Held}
+use Rattle.lower_frame.specs.lowering_relation.declared.held.Held.TheVariants as H
+use Rattle.lower_frame.specs.lowering_relation.declared.held.Credit.{Credit}
+use Rattle.lower_frame.specs.lowering_relation.Known.{Known, using, used, used_if, is_owned, without, lent_by, register_of}
+use Rattle.lower_frame.specs.lowering_relation.Values.{Setting}
+use Rattle.lower_frame.specs.lowering_relation.Losing.{Loses}
+use Rattle.lower_frame.specs.lowering_relation.Reading.{contains}
+use Rattle.lower_frame.specs.lowering_relation.Written.{Written, size, settled, place_of, HasFrom}
+use Rattle.lower_frame.proofs.lowering_relation.MatchLists.{contains_among}
+use Rattle.lower_frame.proofs.lowering_relation.Placing.{front, back, has_all}
+use Rattle.lower_frame.specs.lowering_relation.Credits.{of_size}
+use Rattle.lower_frame.specs.lowering_relation.Describing.{held_at as holding_at, is_tree}
+use Rattle.lower_frame.specs.lowering_relation.GivenUp.{GivesUp, GivesOne}
+use Rattle.lower_frame.specs.lowering_relation.Joins.{BaresEnd}
+use Rattle.lower_frame.specs.lowering_relation.Leftover.{IsUnused}
+use Rattle.lower_frame.specs.lowering_relation.Matches.{wide, widened}
+use Rattle.lower_frame.specs.lowering_relation.Uses.{need, used_in}
 use Rattle.lower_frame.specs.Credits.{is_credit_of, Accounted, FewerTrees, NoBares, NoneBetween, one_if, sized}
 use Rattle.lower_frame.specs.Frames.{Takes}
 use Rattle.lower_frame.proofs.Accounts.{counted_there, credit_held, get_other, get_same, none_of, none_sized, other_size, taken_held, taken_less, tree_gone}

@@ -6,17 +6,17 @@ use Rattle.std.proofs.lemmas.Bool.{eq-eqb}
 use Rattle.std.proofs.lemmas.List.{length-map}
 use Rattle.fip_language.specs.Table.{Table}
 use Rattle.fip_trees.specs.Tree.{Expression}
-use Rattle.code_rules.specs.Codes.{PlainCode, PlainFunction}
-use Rattle.lowering_relation.specs.declared.held.Held.{Held}
-use Rattle.lowering_relation.specs.declared.held.Held.TheVariants as H
-use Rattle.lowering_relation.specs.declared.held.Credit.{Credit}
-use Rattle.lowering_relation.specs.Known.{Known, register_of}
-use Rattle.lowering_relation.specs.Tidy.{NotIn}
-use Rattle.lowering_relation.specs.Values.{Setting}
-use Rattle.lowering_relation.specs.Written.{Written}
-use Rattle.lowering_relation.specs.Describing.{held_at}
-use Rattle.lowering_relation.specs.Joins.{Met}
-use Rattle.lowering_relation.specs.Matches.{widened, wide}
+use Rattle.lower_frame.specs.code_rules.Codes.{PlainCode, PlainFunction}
+use Rattle.lower_frame.specs.lowering_relation.declared.held.Held.{Held}
+use Rattle.lower_frame.specs.lowering_relation.declared.held.Held.TheVariants as H
+use Rattle.lower_frame.specs.lowering_relation.declared.held.Credit.{Credit}
+use Rattle.lower_frame.specs.lowering_relation.Known.{Known, register_of}
+use Rattle.lower_frame.specs.lowering_relation.Tidy.{NotIn}
+use Rattle.lower_frame.specs.lowering_relation.Values.{Setting}
+use Rattle.lower_frame.specs.lowering_relation.Written.{Written}
+use Rattle.lower_frame.specs.lowering_relation.Describing.{held_at}
+use Rattle.lower_frame.specs.lowering_relation.Joins.{Met}
+use Rattle.lower_frame.specs.lowering_relation.Matches.{widened, wide}
 use Rattle.lower_frame.specs.Credits.{Accounted, AllSolid, is_credit, is_credit_of, is_bare, counted, one_if}
 use Rattle.lower_frame.specs.Positions.{reaching}
 use Rattle.lower_frame.specs.Registers.{registers}

@@ -41,3 +41,6 @@ pub mod Smalls
 pub mod Starting
 pub mod Standing
 pub mod Parts
+pub use Rattle.lower_frame.proofs.code_file as code_file
+pub use Rattle.fip_language.proofs as fip_language
+pub use Rattle.fip_trees.proofs as fip_trees

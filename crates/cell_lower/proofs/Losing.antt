@@ -1,8 +1,8 @@
 -- What is forgotten where instructions give up what is left, and where labels stand.
 use Rattle.std.proofs.Common.{◌≡◌, ap, ◌∙◌, subst, ℕ, [], length}
 use Rattle.cell_code.specs.declared.code.Instr.TheVariants as I
-use Rattle.lowering_relation.specs.Written.{Written, added, GivesUp, Extends, IsAt, size}
-use Rattle.lowering_relation.proofs.Placing.{gives_none, gives_up_on, gives_one, same_extends, extends_on}
+use Rattle.lower_frame.specs.lowering_relation.Written.{Written, added, GivesUp, Extends, IsAt, size}
+use Rattle.lower_frame.proofs.lowering_relation.Placing.{gives_none, gives_up_on, gives_one, same_extends, extends_on}
 use Rattle.lower_frame.proofs.Losing.{loses_same, loses_on, loses_nothing, loses_used, loses_taken, loses_widened}
 use Rattle.cell_lower.specs.Laying.{HasLabelAt}
 use Rattle.cell_lower.proofs.Shedding.{sheds_same, sheds_on, sheds_take, sheds_drop, sheds_free, sheds_widened}

@@ -6,9 +6,9 @@ use Rattle.std.proofs.lemmas.Option.{slice_get-map}
 use Rattle.fip_trees.specs.Tree as T
 use Rattle.fip_trees.specs.declared.program.Instance.{Instance as Tree}
 use Rattle.fip_trees.specs.TreeView.{Case, instance_of, instances}
-use Rattle.lowering_relation.specs.Known.{Known, register_of}
-use Rattle.lowering_relation.specs.Values.{Setting}
-use Rattle.lowering_relation.specs.Uses.{is_number, uses, uses_all, takes_of, uses_passed, used_in, used_in_block, used_in_clauses}
+use Rattle.lower_frame.specs.lowering_relation.Known.{Known, register_of}
+use Rattle.lower_frame.specs.lowering_relation.Values.{Setting}
+use Rattle.lower_frame.specs.lowering_relation.Uses.{is_number, uses, uses_all, takes_of, uses_passed, used_in, used_in_block, used_in_clauses}
 use Rattle.cell_lower.specs.Marks.{is_marked, with_mark, marking, marking_all, marking_if, marking_passed, marking_in, marking_block, marking_clauses, AreMarked, MatchMarked, MarkedIf}
 
 -- one register more

@@ -5,16 +5,16 @@ use Rattle.std.specs.Prelude.{◌||◌, max, if◌then◌else◌}
 use Rattle.fip_language.specs.Table.{Table}
 use Rattle.fip_trees.specs.declared.program.Binder.{Binder}
 use Rattle.fip_trees.specs.Tree.{Pattern, BinderPattern, LiteralPattern, ConstructorPattern, Patterns, NoPatterns, MorePatterns}
-use Rattle.lowering_relation.specs.declared.held.Held.TheVariants as H
-use Rattle.lowering_relation.specs.Known.{Known, holding, naming}
-use Rattle.lowering_relation.specs.Values.{Setting, is_scalar}
-use Rattle.lowering_relation.specs.Written.{Written, size, Extends, IsAt}
-use Rattle.lowering_relation.specs.Landing.{Side}
-use Rattle.lowering_relation.specs.Opening.{is_named}
-use Rattle.lowering_relation.specs.Spots.{Spot, At, Spots, NoSpots, MoreSpots}
-use Rattle.lowering_relation.specs.Entering.{unnaming, variable_held, with_variable, with_cell, entering, entering_all, root_of, spent_if, entering_root}
-use Rattle.lowering_relation.specs.Joins.{Met}
-use Rattle.lowering_relation.specs.Matches.{wide}
+use Rattle.lower_frame.specs.lowering_relation.declared.held.Held.TheVariants as H
+use Rattle.lower_frame.specs.lowering_relation.Known.{Known, holding, naming}
+use Rattle.lower_frame.specs.lowering_relation.Values.{Setting, is_scalar}
+use Rattle.lower_frame.specs.lowering_relation.Written.{Written, size, Extends, IsAt}
+use Rattle.lower_frame.specs.lowering_relation.Landing.{Side}
+use Rattle.lower_frame.specs.lowering_relation.Opening.{is_named}
+use Rattle.lower_frame.specs.lowering_relation.Spots.{Spot, At, Spots, NoSpots, MoreSpots}
+use Rattle.lower_frame.specs.lowering_relation.Entering.{unnaming, variable_held, with_variable, with_cell, entering, entering_all, root_of, spent_if, entering_root}
+use Rattle.lower_frame.specs.lowering_relation.Joins.{Met}
+use Rattle.lower_frame.specs.lowering_relation.Matches.{wide}
 use Rattle.lower_frame.specs.Frames.{kinds_told}
 use Rattle.lower_frame.specs.Labels.{telling}
 use Rattle.lower_frame.specs.Positions.{reaching, spot_of}

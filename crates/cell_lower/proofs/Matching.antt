@@ -5,30 +5,30 @@ use Rattle.fip_language.specs.Every.{Every, Among}
 use Rattle.fip_language.specs.Matching.{Binding}
 use Rattle.fip_language.specs.Table.{Table}
 use Rattle.fip_trees.specs.Tree.{Pattern, Argument, Block, Clauses, NoClauses, MoreClauses, Match}
-use Rattle.instance_semantics.specs.Matching.{matching}
+use Rattle.code_size.specs.instance_semantics.Matching.{matching}
 use Rattle.cell_code.specs.declared.code.Instr.{Instr}
 use Rattle.cell_code.specs.declared.code.Instr.TheVariants as I
-use Rattle.tree_semantics.specs.Contents.{Contents}
+use Rattle.lower_frame.specs.tree_semantics.Contents.{Contents}
 use Rattle.match_knowledge.specs.declared.rows.Row.{Row}
 use Rattle.match_knowledge.specs.Patterns.{IsPattern}
 use Rattle.match_knowledge.specs.View.{rows}
 use Rattle.match_knowledge.specs.Known.{Open}
-use Rattle.lowering_relation.specs.Known.{Known}
-use Rattle.lowering_relation.specs.Values.{Setting, Stands}
-use Rattle.lowering_relation.specs.Choosing.{place, Entry, Arrives, IsChoice, Opens, Meets, MeetsFirst, Reaches}
-use Rattle.lowering_relation.specs.LoweredBodies as B
-use Rattle.lowering_relation.proofs.LoweredLists.{fewer_on, barer_on}
-use Rattle.lowering_relation.specs.Written.{Written, size, Extends, HasFrom, IsAt}
-use Rattle.lowering_relation.specs.Spots as S
-use Rattle.lowering_relation.specs.Rows.{row_of}
-use Rattle.lowering_relation.specs.Landing.{Scene, IsScene, Good, AllGood, Lands, LeadsTo}
-use Rattle.lowering_relation.specs.Entering.{entering_root}
-use Rattle.lowering_relation.specs.Losing.{Loses, Resumes}
-use Rattle.lowering_relation.specs.WellMatched.{WellMatchedClauses}
-use Rattle.lowering_relation.proofs.Placing.{same_extends, extends_on, added_extends, front, back, stands, up_to, given_up}
-use Rattle.lowering_relation.proofs.Running.{reaches_same}
-use Rattle.lowering_relation.proofs.Choices.{patterns_in, is_choice}
-use Rattle.lowering_relation.proofs.Arriving.{opens_entry, arrives_entry}
+use Rattle.lower_frame.specs.lowering_relation.Known.{Known}
+use Rattle.lower_frame.specs.lowering_relation.Values.{Setting, Stands}
+use Rattle.lower_frame.specs.lowering_relation.Choosing.{place, Entry, Arrives, IsChoice, Opens, Meets, MeetsFirst, Reaches}
+use Rattle.lower_frame.specs.lowering_relation.LoweredBodies as B
+use Rattle.lower_frame.proofs.lowering_relation.LoweredLists.{fewer_on, barer_on}
+use Rattle.lower_frame.specs.lowering_relation.Written.{Written, size, Extends, HasFrom, IsAt}
+use Rattle.lower_frame.specs.lowering_relation.Spots as S
+use Rattle.lower_frame.specs.lowering_relation.Rows.{row_of}
+use Rattle.lower_frame.specs.lowering_relation.Landing.{Scene, IsScene, Good, AllGood, Lands, LeadsTo}
+use Rattle.lower_frame.specs.lowering_relation.Entering.{entering_root}
+use Rattle.lower_frame.specs.lowering_relation.Losing.{Loses, Resumes}
+use Rattle.lower_frame.specs.lowering_relation.WellMatched.{WellMatchedClauses}
+use Rattle.lower_frame.proofs.lowering_relation.Placing.{same_extends, extends_on, added_extends, front, back, stands, up_to, given_up}
+use Rattle.lower_frame.proofs.lowering_relation.Running.{reaches_same}
+use Rattle.lower_frame.proofs.lowering_relation.Choices.{patterns_in, is_choice}
+use Rattle.lower_frame.proofs.lowering_relation.Arriving.{opens_entry, arrives_entry}
 use Rattle.cell_lower.specs.declared.matches.Matching.{Matching}
 use Rattle.cell_lower.specs.declared.matches.Progress.{Progress}
 use Rattle.lower_frame.specs.Positions.{spot_of}
@@ -48,7 +48,7 @@ resumes_on k l m a b = record {
 }
 
 meets_resumed : (k l : Known) → Resumes k l → Meets k l
-meets_resumed k l h = record { names = λ x r e. ap (λ ns. Rattle.lowering_relation.specs.Known.register_of ns (Some x)) (sym h.names) ∙ e; barer = h.barer }
+meets_resumed k l h = record { names = λ x r e. ap (λ ns. Rattle.lower_frame.specs.lowering_relation.Known.register_of ns (Some x)) (sym h.names) ∙ e; barer = h.barer }
 
 first_resumed : (k l : Known) → Resumes k l → MeetsFirst k l
 first_resumed k l h = record { credits = h.credits; grows = h.grows }

@@ -5,7 +5,7 @@ use Rattle.std.specs.declared.vec.Vec.{Vec}
 use Rattle.std.specs.declared.alloc.Global.{Global}
 use Rattle.fip_language.specs.Table.{Table}
 use Rattle.cell_code.specs.declared.kind.Kind.{Kind}
-use Rattle.code_rules.specs.Types.{count, numbers}
+use Rattle.lower_frame.specs.code_rules.Types.{count, numbers}
 use Rattle.match_knowledge.specs.declared.heads.Head.{Head}
 use Rattle.match_knowledge.specs.declared.knowledge.Knowledge.{Knowledge}
 use Rattle.match_knowledge.specs.declared.knowledge.Knowledge.TheVariants as KV
@@ -13,10 +13,10 @@ use Rattle.match_knowledge.specs.declared.knowledge.Knowledge.TheOpen as KO
 use Rattle.match_knowledge.specs.declared.knowledge.Knowledge.TheFolds.{fold-roll-Knowledge}
 use Rattle.match_knowledge.specs.Known.{Known, Open, Is, Knowns, NoKnowns, MoreKnowns}
 use Rattle.match_knowledge.specs.View.{known, known_step, knowns}
-use Rattle.lowering_relation.specs.Spots as S
-use Rattle.lowering_relation.specs.Reading.{contains}
-use Rattle.lowering_relation.specs.Values.{Setting}
-use Rattle.lowering_relation.specs.Sights.{kept, left}
+use Rattle.lower_frame.specs.lowering_relation.Spots as S
+use Rattle.lower_frame.specs.lowering_relation.Reading.{contains}
+use Rattle.lower_frame.specs.lowering_relation.Values.{Setting}
+use Rattle.lower_frame.specs.lowering_relation.Sights.{kept, left}
 use Rattle.lower_frame.specs.declared.spots.Spot.{Spot, out-Spot}
 use Rattle.lower_frame.specs.Positions.{spot_of, spots_of, spot_at, past}
 use Rattle.lower_frame.proofs.Counting.{numbers_next}

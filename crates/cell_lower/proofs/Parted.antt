@@ -8,16 +8,16 @@ use Rattle.fip_language.specs.declared.Place.{Place}
 use Rattle.fip_language.specs.Table.{Table}
 use Rattle.fip_trees.specs.Tree.{Argument, Arguments, NoArguments, MoreArguments}
 use Rattle.cell_code.specs.declared.kind.Kind.{Kind}
-use Rattle.code_rules.specs.Codes.{PlainCode, PlainFunction, LabelMap, label_at}
-use Rattle.lowering_relation.specs.Known.{Known}
-use Rattle.lowering_relation.specs.Values.{Setting}
-use Rattle.lowering_relation.specs.LoweredBodies.{Target, Return, Into}
-use Rattle.lowering_relation.specs.Written.{Written, size, Extends, HasFrom}
-use Rattle.lowering_relation.proofs.Placing.{front, back}
-use Rattle.lowering_relation.specs.Credits.{LastGone}
-use Rattle.lowering_relation.specs.Describing.{held_at, kind_of, kinds_of}
-use Rattle.lowering_relation.specs.Labels.{told, Tells, Quiet}
-use Rattle.lowering_relation.specs.LaidBodies.{ValuesLaid}
+use Rattle.lower_frame.specs.code_rules.Codes.{PlainCode, PlainFunction, LabelMap, label_at}
+use Rattle.lower_frame.specs.lowering_relation.Known.{Known}
+use Rattle.lower_frame.specs.lowering_relation.Values.{Setting}
+use Rattle.lower_frame.specs.lowering_relation.LoweredBodies.{Target, Return, Into}
+use Rattle.lower_frame.specs.lowering_relation.Written.{Written, size, Extends, HasFrom}
+use Rattle.lower_frame.proofs.lowering_relation.Placing.{front, back}
+use Rattle.lower_frame.specs.lowering_relation.Credits.{LastGone}
+use Rattle.lower_frame.specs.lowering_relation.Describing.{held_at, kind_of, kinds_of}
+use Rattle.lower_frame.specs.lowering_relation.Labels.{told, Tells, Quiet}
+use Rattle.lower_frame.specs.lowering_relation.LaidBodies.{ValuesLaid}
 use Rattle.lower_frame.specs.Credits.{Accounted, AllSolid}
 use Rattle.lower_frame.specs.Labels.{Rising}
 use Rattle.lower_frame.specs.Registers.{registers}

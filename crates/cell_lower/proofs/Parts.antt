@@ -17,15 +17,15 @@ use Rattle.fip_trees.specs.Tree.{Pattern, Instance, Match, Clauses}
 use Rattle.fip_trees.specs.TreeView.{Case, argument, expression, binding, clause, clauses, is_destructive}
 use Rattle.fip_trees.proofs.TreeViews.{expression_match}
 use Rattle.cell_code.specs.declared.code.Instr.{Instr}
-use Rattle.lowering_relation.specs.Known.{Known}
-use Rattle.lowering_relation.specs.Values.{Setting}
-use Rattle.lowering_relation.specs.LoweredBodies.{Target, Into, Return, with_names, reserved, registers_for}
-use Rattle.lowering_relation.specs.LoweredFunctions.{known_at_start}
-use Rattle.lowering_relation.specs.Landing.{Side}
-use Rattle.lowering_relation.specs.Losing.{Loses, Resumes}
-use Rattle.lowering_relation.specs.Entering.{entering_root}
-use Rattle.lowering_relation.specs.Written.{Written, size, Extends, IsAt, settled, place_of}
-use Rattle.lowering_relation.specs.WellMatched.{WellMatched, WellMatchedBlock}
+use Rattle.lower_frame.specs.lowering_relation.Known.{Known}
+use Rattle.lower_frame.specs.lowering_relation.Values.{Setting}
+use Rattle.lower_frame.specs.lowering_relation.LoweredBodies.{Target, Into, Return, with_names, reserved, registers_for}
+use Rattle.lower_frame.specs.lowering_relation.LoweredFunctions.{known_at_start}
+use Rattle.lower_frame.specs.lowering_relation.Landing.{Side}
+use Rattle.lower_frame.specs.lowering_relation.Losing.{Loses, Resumes}
+use Rattle.lower_frame.specs.lowering_relation.Entering.{entering_root}
+use Rattle.lower_frame.specs.lowering_relation.Written.{Written, size, Extends, IsAt, settled, place_of}
+use Rattle.lower_frame.specs.lowering_relation.WellMatched.{WellMatched, WellMatchedBlock}
 use Rattle.cell_lower.specs.declared.matches.Matching.{Matching}
 use Rattle.cell_lower.specs.declared.matches.Progress.{Progress}
 use Rattle.lower_frame.specs.Labels.{labels}

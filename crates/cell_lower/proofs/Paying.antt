@@ -11,16 +11,16 @@ use Rattle.match_knowledge.specs.declared.verdicts.Verdict.TheVariants as D
 use Rattle.match_knowledge.specs.Patterns as M
 use Rattle.match_knowledge.specs.Known.{Known, Open, Is, Knowns, NoKnowns, MoreKnowns, compare, is_asks, is_last, side}
 use Rattle.match_knowledge.specs.View.{row, rows}
-use Rattle.match_cover.specs.DecisionTree.{by_verdict, Done, Split, first_live}
-use Rattle.match_cover.specs.TreeView.{IsSplit}
-use Rattle.match_cover.proofs.TreeGrowth.{last_arm, count_arm}
-use Rattle.lowering_relation.specs.Written.{Written, size}
-use Rattle.lowering_relation.specs.Spots as S
-use Rattle.lowering_relation.specs.Opening.{naming, naming_all, names_any, taking, taking_all, take_if}
-use Rattle.lowering_relation.specs.Reading.{Reading, read_if, read_one, reading, reading_first, contains}
-use Rattle.lowering_relation.specs.Landing.{Side}
-use Rattle.lowering_relation.proofs.MatchLists.{among_left, among_right, among_either, contains_among}
-use Rattle.lowering_relation.proofs.Placing.{one_longer}
+use Rattle.code_size.specs.match_cover.DecisionTree.{by_verdict, Done, Split, first_live}
+use Rattle.code_size.specs.match_cover.TreeView.{IsSplit}
+use Rattle.code_size.proofs.match_cover.TreeGrowth.{last_arm, count_arm}
+use Rattle.lower_frame.specs.lowering_relation.Written.{Written, size}
+use Rattle.lower_frame.specs.lowering_relation.Spots as S
+use Rattle.lower_frame.specs.lowering_relation.Opening.{naming, naming_all, names_any, taking, taking_all, take_if}
+use Rattle.lower_frame.specs.lowering_relation.Reading.{Reading, read_if, read_one, reading, reading_first, contains}
+use Rattle.lower_frame.specs.lowering_relation.Landing.{Side}
+use Rattle.lower_frame.proofs.lowering_relation.MatchLists.{among_left, among_right, among_either, contains_among}
+use Rattle.lower_frame.proofs.lowering_relation.Placing.{one_longer}
 use Rattle.lower_frame.specs.Labels.{labels}
 use Rattle.cell_lower.specs.Growth.{unread, IsRoom, left, Spends, sides_cost, sides_left, side_cost, way_cost, way_left}
 
@@ -188,7 +188,7 @@ room_below n s h = fit n (S.below s) (below_differ s h.differ) h.within
 
 take_size : (r : ℕ) (ps : Patterns) (ss : S.Spots) (w : Written) → size (take_if r ps ss w) ≤ suc (size w)
 take_size r NoPatterns ss w = omega arith
-take_size r (MorePatterns p ps) ss w = omega (arith, one_longer w (I.Take r (Rattle.lowering_relation.specs.Opening.as_many (MorePatterns p ps) ss)))
+take_size r (MorePatterns p ps) ss w = omega (arith, one_longer w (I.Take r (Rattle.lower_frame.specs.lowering_relation.Opening.as_many (MorePatterns p ps) ss)))
 
 take_labels : (r : ℕ) (ps : Patterns) (ss : S.Spots) (w : Written) → labels (take_if r ps ss w) ≡ labels w
 take_labels r NoPatterns ss w = refl

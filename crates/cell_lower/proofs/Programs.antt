@@ -8,14 +8,14 @@ use Rattle.fip_trees.specs.Tree.{Instance, Program}
 use Rattle.fip_trees.specs.TreeView.{instance_of, instances}
 use Rattle.cell_code.specs.declared.code.Function.{Function}
 use Rattle.cell_code.specs.declared.code.Instr.{Instr}
-use Rattle.machine_semantics.specs.Codes.{plain_function}
-use Rattle.lowering_relation.specs.Known.{Known, joined}
-use Rattle.lowering_relation.specs.Values.{Setting}
-use Rattle.lowering_relation.specs.LoweredBodies.{Return, has_function, one_more, if_function, function_of}
-use Rattle.lowering_relation.specs.LoweredFunctions.{IsSettingOf, AreLowered, known_at_start}
-use Rattle.lowering_relation.specs.Written.{Written, settled, place_of}
-use Rattle.lowering_relation.specs.WellMatched.{WellMatchedBlock, IsWellMatched}
-use Rattle.lowering_relation.proofs.Placing.{has_all}
+use Rattle.lower_frame.specs.machine_semantics.Codes.{plain_function}
+use Rattle.lower_frame.specs.lowering_relation.Known.{Known, joined}
+use Rattle.lower_frame.specs.lowering_relation.Values.{Setting}
+use Rattle.lower_frame.specs.lowering_relation.LoweredBodies.{Return, has_function, one_more, if_function, function_of}
+use Rattle.lower_frame.specs.lowering_relation.LoweredFunctions.{IsSettingOf, AreLowered, known_at_start}
+use Rattle.lower_frame.specs.lowering_relation.Written.{Written, settled, place_of}
+use Rattle.lower_frame.specs.lowering_relation.WellMatched.{WellMatchedBlock, IsWellMatched}
+use Rattle.lower_frame.proofs.lowering_relation.Placing.{has_all}
 use Rattle.fip_trees.specs.declared.groups.Member.{Member}
 use Rattle.cell_lower.specs.Limits.{is_ruled, registers}
 use Rattle.cell_lower.specs.Shape.{Header, header_of, headers_from}

@@ -4,7 +4,7 @@ use Rattle.std.specs.Prelude.{ℤ, if◌then◌else◌, ◌==◌}
 use Rattle.std.proofs.lemmas.Bool.{eqb-true, eq-eqb}
 use Rattle.fip_language.specs.Every.{Among}
 use Rattle.fip_language.specs.Table.{Table, constructors}
-use Rattle.code_rules.specs.Types.{numbers, count, all, fields, fields_of}
+use Rattle.lower_frame.specs.code_rules.Types.{numbers, count, all, fields, fields_of}
 use Rattle.match_knowledge.specs.declared.heads.Head.{Head}
 use Rattle.match_knowledge.specs.declared.heads.Head.TheVariants.{Number, Tag}
 use Rattle.match_knowledge.specs.declared.verdicts.Verdict.TheVariants as D
@@ -16,10 +16,10 @@ use Rattle.match_knowledge.proofs.Facts.{same_is}
 use Rattle.match_knowledge.proofs.Living.{is_all_out}
 use Rattle.match_knowledge.proofs.Split.{asks_is, both_asks, is_asking}
 use Rattle.match_knowledge.proofs.VerdictFacts.{if_asks}
-use Rattle.lowering_relation.specs.Spots.{Spot, At, Spots, NoSpots, MoreSpots, register, below, all_in, Differ, AllDiffer}
-use Rattle.lowering_relation.specs.Reading.{Reading, read_if, read_one, contains, reading, reading_first}
-use Rattle.lowering_relation.proofs.MatchLists.{in_head, in_tail}
-use Rattle.lowering_relation.specs.Sights.{kept, not_in, is_tag, left, Fresh, AllFresh}
+use Rattle.lower_frame.specs.lowering_relation.Spots.{Spot, At, Spots, NoSpots, MoreSpots, register, below, all_in, Differ, AllDiffer}
+use Rattle.lower_frame.specs.lowering_relation.Reading.{Reading, read_if, read_one, contains, reading, reading_first}
+use Rattle.lower_frame.proofs.lowering_relation.MatchLists.{in_head, in_tail}
+use Rattle.lower_frame.specs.lowering_relation.Sights.{kept, not_in, is_tag, left, Fresh, AllFresh}
 use Rattle.cell_lower.specs.Seen.{NoneRead, Seen, AllSeen}
 use Rattle.cell_lower.proofs.Folding.{if_true, if_false}
 

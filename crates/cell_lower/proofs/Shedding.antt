@@ -6,20 +6,20 @@ use Rattle.fip_trees.specs.declared.program.Binder.{Binder}
 use Rattle.fip_trees.specs.Tree.{Instance, Pattern, BinderPattern, LiteralPattern, ConstructorPattern, Patterns, NoPatterns, MorePatterns}
 use Rattle.cell_code.specs.declared.code.Instr.{Instr}
 use Rattle.cell_code.specs.declared.code.Instr.TheVariants as I
-use Rattle.lowering_relation.specs.declared.held.Held.{Held}
-use Rattle.lowering_relation.specs.declared.held.Held.TheVariants as H
-use Rattle.lowering_relation.specs.Known.{Known, holding, with_next, using, used, used_if, used_all, is_owned, without, lent_by}
-use Rattle.lowering_relation.specs.Values.{Setting, is_scalar}
-use Rattle.lowering_relation.specs.LoweredBodies.{handed, received, given, AreTaken, Target, Return, Into, GoesTo}
-use Rattle.lowering_relation.specs.LoweredFunctions.{with_param, with_params, with_credits, with_next_credit, nothing_known, known_at_start}
-use Rattle.lowering_relation.specs.Written.{Written, size, added}
-use Rattle.lowering_relation.specs.Spots as S
-use Rattle.lowering_relation.specs.Entering.{with_variable, with_cell, entering, entering_all, entering_root, spent_if, root_of}
-use Rattle.lowering_relation.specs.Opening.{is_named}
-use Rattle.lowering_relation.proofs.Placing.{one_longer}
+use Rattle.lower_frame.specs.lowering_relation.declared.held.Held.{Held}
+use Rattle.lower_frame.specs.lowering_relation.declared.held.Held.TheVariants as H
+use Rattle.lower_frame.specs.lowering_relation.Known.{Known, holding, with_next, using, used, used_if, used_all, is_owned, without, lent_by}
+use Rattle.lower_frame.specs.lowering_relation.Values.{Setting, is_scalar}
+use Rattle.lower_frame.specs.lowering_relation.LoweredBodies.{handed, received, given, AreTaken, Target, Return, Into, GoesTo}
+use Rattle.lower_frame.specs.lowering_relation.LoweredFunctions.{with_param, with_params, with_credits, with_next_credit, nothing_known, known_at_start}
+use Rattle.lower_frame.specs.lowering_relation.Written.{Written, size, added}
+use Rattle.lower_frame.specs.lowering_relation.Spots as S
+use Rattle.lower_frame.specs.lowering_relation.Entering.{with_variable, with_cell, entering, entering_all, entering_root, spent_if, root_of}
+use Rattle.lower_frame.specs.lowering_relation.Opening.{is_named}
+use Rattle.lower_frame.proofs.lowering_relation.Placing.{one_longer}
 use Rattle.code_size.specs.Bounds.{most_for}
 use Rattle.lower_frame.specs.Frames.{Takes, TakesBare}
-use Rattle.lowering_relation.specs.Matches.{widened}
+use Rattle.lower_frame.specs.lowering_relation.Matches.{widened}
 use Rattle.lower_frame.specs.Registers.{registers, holds, IsFull}
 use Rattle.cell_lower.specs.Growth.{full, Sheds, Adds}
 use Rattle.lower_frame.specs.Labels.{labels}
@@ -88,7 +88,7 @@ goes_length (Into (e ∷ ds)) k h d l g = ap registers g.1 ∙ set_length k.held
 params_length : (s : Setting) (k : Known) (ps : List Param) (bs : List Binder) → registers (with_params s k ps bs) ≡ registers k
 params_length s k [] bs = refl
 params_length s k (p ∷ ps) [] = refl
-params_length s k (p ∷ ps) (b ∷ bs) = params_length s (with_param s k p b) ps bs ∙ set_length k.held k.next (Rattle.lowering_relation.specs.LoweredFunctions.param_held s p)
+params_length s k (p ∷ ps) (b ∷ bs) = params_length s (with_param s k p b) ps bs ∙ set_length k.held k.next (Rattle.lower_frame.specs.lowering_relation.LoweredFunctions.param_held s p)
 
 credits_length : (k : Known) (ns : List ℕ) → registers (with_credits k ns) ≡ registers k
 credits_length k [] = refl
@@ -102,7 +102,7 @@ start_length s n d = credits_length (with_params s (nothing_known n d.variables)
 
 -- where a clause begins
 
-variable_length : (b : Bool) (k : Known) (r x : ℕ) (h : Held) (l : Known) → registers l ≡ registers k → registers (if b then holding (Rattle.lowering_relation.specs.Known.naming k x r) r h else l) ≡ registers k
+variable_length : (b : Bool) (k : Known) (r x : ℕ) (h : Held) (l : Known) → registers l ≡ registers k → registers (if b then holding (Rattle.lower_frame.specs.lowering_relation.Known.naming k x r) r h else l) ≡ registers k
 variable_length true k r x h l e = set_length k.held r h
 variable_length false k r x h l e = e
 
@@ -117,7 +117,7 @@ cell_length s true t c (MorePatterns p ps) r k = set_length k.held r (H.Credit (
 
 mutual
   entering_length : (s : Setting) (takes : Bool) (root : Option ℕ) (q : Pattern) (p : S.Spot) (k : Known) → registers (entering s takes root q p k) ≡ registers k
-  entering_length s takes root (BinderPattern b) (S.At r fs) k = variable_length (Rattle.std.specs.Prelude.◌||◌ takes (is_named b)) k r b.number (Rattle.lowering_relation.specs.Entering.variable_held s takes root b.ty) (Rattle.lowering_relation.specs.Entering.unnaming k b.number) refl
+  entering_length s takes root (BinderPattern b) (S.At r fs) k = variable_length (Rattle.std.specs.Prelude.◌||◌ takes (is_named b)) k r b.number (Rattle.lower_frame.specs.lowering_relation.Entering.variable_held s takes root b.ty) (Rattle.lower_frame.specs.lowering_relation.Entering.unnaming k b.number) refl
   entering_length s takes root (LiteralPattern i p) (S.At r fs) k = refl
   entering_length s takes root (ConstructorPattern t d c n p ps) (S.At r fs) k = entering_all_length s takes root ps fs (with_cell s takes t c ps r k) ∙ cell_length s takes t c ps r k
 

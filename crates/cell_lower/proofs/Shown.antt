@@ -5,17 +5,17 @@ use Rattle.std.proofs.lemmas.Bool.{cases_eq, eqb-true}
 use Rattle.fip_language.specs.Table.{Table}
 use Rattle.cell_code.specs.declared.kind.Kind.{Kind}
 use Rattle.cell_code.specs.declared.kind.Kind.TheVariants as K
-use Rattle.code_rules.specs.Codes.{PlainCode, PlainFunction, LabelMap, label_at}
-use Rattle.code_rules.specs.Fitting.{fits, is_subset}
-use Rattle.code_rules.specs.Kinds.{at, has}
-use Rattle.code_rules.specs.Types.{all, count}
-use Rattle.lowering_relation.specs.declared.held.Held.{Held}
-use Rattle.lowering_relation.specs.declared.held.Held.TheVariants as H
-use Rattle.lowering_relation.specs.Known.{Known}
-use Rattle.lowering_relation.specs.Written.{Written, size}
-use Rattle.lowering_relation.specs.Describing.{held_at, kind_of, kinds_of}
-use Rattle.lowering_relation.specs.Labels.{told, Takes, Catches, Tells}
-use Rattle.lowering_relation.specs.Matches.{widened, BuiltRight}
+use Rattle.lower_frame.specs.code_rules.Codes.{PlainCode, PlainFunction, LabelMap, label_at}
+use Rattle.lower_frame.specs.code_rules.Fitting.{fits, is_subset}
+use Rattle.lower_frame.specs.code_rules.Kinds.{at, has}
+use Rattle.lower_frame.specs.code_rules.Types.{all, count}
+use Rattle.lower_frame.specs.lowering_relation.declared.held.Held.{Held}
+use Rattle.lower_frame.specs.lowering_relation.declared.held.Held.TheVariants as H
+use Rattle.lower_frame.specs.lowering_relation.Known.{Known}
+use Rattle.lower_frame.specs.lowering_relation.Written.{Written, size}
+use Rattle.lower_frame.specs.lowering_relation.Describing.{held_at, kind_of, kinds_of}
+use Rattle.lower_frame.specs.lowering_relation.Labels.{told, Takes, Catches, Tells}
+use Rattle.lower_frame.specs.lowering_relation.Matches.{widened, BuiltRight}
 use Rattle.lower_frame.specs.Credits.{Accounted}
 use Rattle.lower_frame.specs.Frames.{kinds_told}
 use Rattle.lower_frame.specs.Labels.{Rising, telling}

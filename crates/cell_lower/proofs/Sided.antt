@@ -9,24 +9,24 @@ use Rattle.fip_language.proofs.Plain.{every_append, every_so, every_split}
 use Rattle.fip_language.proofs.Search.{le_or_less}
 use Rattle.cell_code.specs.declared.code.Instr.TheVariants as I
 use Rattle.cell_code.specs.declared.kind.Kind.{Kind}
-use Rattle.code_rules.specs.Codes.{LabelMap, PlainCode, PlainFunction, label_at}
-use Rattle.code_rules.specs.Kinds.{at}
+use Rattle.lower_frame.specs.code_rules.Codes.{LabelMap, PlainCode, PlainFunction, label_at}
+use Rattle.lower_frame.specs.code_rules.Kinds.{at}
 use Rattle.match_knowledge.specs.declared.verdicts.Verdict.TheVariants as D
 use Rattle.match_knowledge.specs.Patterns as M
 use Rattle.match_knowledge.specs.Known.{Known, compare}
 use Rattle.match_knowledge.specs.View.{rows}
-use Rattle.lowering_relation.specs.Written.{Written, size, Extends, HasFrom, added}
-use Rattle.lowering_relation.specs.Rows.{row_of}
-use Rattle.lowering_relation.specs.Landing.{Scene, Side, IsScene, RuledOut}
-use Rattle.lowering_relation.proofs.Placing.{same_extends, extends_on, added_extends, one_longer, front, back, stands}
-use Rattle.lowering_relation.specs.declared.held.Held.{Held}
-use Rattle.lowering_relation.specs.declared.held.Held.TheVariants as H
-use Rattle.lowering_relation.specs.Values.{Setting}
-use Rattle.lowering_relation.specs.Describing.{Holding, held_at}
-use Rattle.lowering_relation.specs.Labels.{Tells, Quiet}
-use Rattle.lowering_relation.specs.Matches.{wide_at, widened}
-use Rattle.lowering_relation.specs.Tests.{BeginsBody, ChunkLaid, SideLaid, SidesLaid}
-use Rattle.lowering_relation.proofs.Growing.{at_once}
+use Rattle.lower_frame.specs.lowering_relation.Written.{Written, size, Extends, HasFrom, added}
+use Rattle.lower_frame.specs.lowering_relation.Rows.{row_of}
+use Rattle.lower_frame.specs.lowering_relation.Landing.{Scene, Side, IsScene, RuledOut}
+use Rattle.lower_frame.proofs.lowering_relation.Placing.{same_extends, extends_on, added_extends, one_longer, front, back, stands}
+use Rattle.lower_frame.specs.lowering_relation.declared.held.Held.{Held}
+use Rattle.lower_frame.specs.lowering_relation.declared.held.Held.TheVariants as H
+use Rattle.lower_frame.specs.lowering_relation.Values.{Setting}
+use Rattle.lower_frame.specs.lowering_relation.Describing.{Holding, held_at}
+use Rattle.lower_frame.specs.lowering_relation.Labels.{Tells, Quiet}
+use Rattle.lower_frame.specs.lowering_relation.Matches.{wide_at, widened}
+use Rattle.lower_frame.specs.lowering_relation.Tests.{BeginsBody, ChunkLaid, SideLaid, SidesLaid}
+use Rattle.lower_frame.proofs.lowering_relation.Growing.{at_once}
 use Rattle.lower_frame.specs.Labels.{Rising, telling, untold}
 use Rattle.lower_frame.proofs.Labels.{rising_higher, rising_told}
 use Rattle.lower_frame.specs.Positions.{spot_of}
@@ -110,7 +110,7 @@ module _ (to : ℕ → ℕ) (f : PlainFunction) where
     labels = h.labels;
   }
 
-sides_more : (c : PlainCode) (f : PlainFunction) (g : Holding) (ch : Rattle.lowering_relation.specs.Tests.Choice) (m n a b e : ℕ) → SidesLaid c f g ch m a b → SidesLaid c f g ch n b e → (k : ℕ) × SidesLaid c f g ch k a e
+sides_more : (c : PlainCode) (f : PlainFunction) (g : Holding) (ch : Rattle.lower_frame.specs.lowering_relation.Tests.Choice) (m n a b e : ℕ) → SidesLaid c f g ch m a b → SidesLaid c f g ch n b e → (k : ℕ) × SidesLaid c f g ch k a e
 sides_more c f g ch zero n a b e x y = (n, subst (λ z. SidesLaid c f g ch n z e) x y)
 sides_more c f g ch (suc m) n a b e x y = let r = sides_more c f g ch m n x.0 b e x.2 y in (suc r.0, (x.0, x.1, r.1))
 

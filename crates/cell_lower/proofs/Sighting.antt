@@ -7,23 +7,23 @@ use Rattle.fip_language.specs.Table.{Table}
 use Rattle.cell_code.specs.declared.kind.From.{From}
 use Rattle.cell_code.specs.declared.kind.Kind.{Kind}
 use Rattle.cell_code.specs.declared.kind.Kind.TheVariants as K
-use Rattle.code_rules.specs.Codes.{PlainCode, PlainFunction}
-use Rattle.code_rules.specs.Fitting.{fits, is_subset, takes_from}
-use Rattle.code_rules.specs.Kinds.{at, has, same_root}
-use Rattle.code_rules.specs.Types.{all, count, fields, is_scalar_type, numbers}
+use Rattle.lower_frame.specs.code_rules.Codes.{PlainCode, PlainFunction}
+use Rattle.lower_frame.specs.code_rules.Fitting.{fits, is_subset, takes_from}
+use Rattle.lower_frame.specs.code_rules.Kinds.{at, has, same_root}
+use Rattle.lower_frame.specs.code_rules.Types.{all, count, fields, is_scalar_type, numbers}
 use Rattle.match_knowledge.specs.declared.heads.Head.TheVariants.{Number, Tag}
 use Rattle.match_knowledge.specs.Known.{Known, Open, Is, Knowns, NoKnowns, MoreKnowns}
-use Rattle.lowering_relation.specs.Spots.{Spot, At, Spots, NoSpots, MoreSpots, register, below, all_in, fields as spots_of, Differ, AllDiffer}
-use Rattle.lowering_relation.specs.Reading.{contains}
-use Rattle.lowering_relation.specs.Entering.{root_of}
-use Rattle.lowering_relation.specs.Landing.{Scene, IsScene}
-use Rattle.lowering_relation.proofs.MatchLists.{among_either, contains_among, in_head, in_tail}
-use Rattle.lowering_relation.specs.declared.held.Held.{Held}
-use Rattle.lowering_relation.specs.declared.held.Held.TheVariants as H
-use Rattle.lowering_relation.specs.Values.{Setting, is_scalar}
-use Rattle.lowering_relation.specs.Describing.{Holding, held_at, kind_of}
-use Rattle.lowering_relation.specs.Matches.{BuiltRight, wide_at, widened}
-use Rattle.lowering_relation.specs.Sights.{left, part_kind, Unread, Fresh, Below, AllBelow, seen_kind, Sight}
+use Rattle.lower_frame.specs.lowering_relation.Spots.{Spot, At, Spots, NoSpots, MoreSpots, register, below, all_in, fields as spots_of, Differ, AllDiffer}
+use Rattle.lower_frame.specs.lowering_relation.Reading.{contains}
+use Rattle.lower_frame.specs.lowering_relation.Entering.{root_of}
+use Rattle.lower_frame.specs.lowering_relation.Landing.{Scene, IsScene}
+use Rattle.lower_frame.proofs.lowering_relation.MatchLists.{among_either, contains_among, in_head, in_tail}
+use Rattle.lower_frame.specs.lowering_relation.declared.held.Held.{Held}
+use Rattle.lower_frame.specs.lowering_relation.declared.held.Held.TheVariants as H
+use Rattle.lower_frame.specs.lowering_relation.Values.{Setting, is_scalar}
+use Rattle.lower_frame.specs.lowering_relation.Describing.{Holding, held_at, kind_of}
+use Rattle.lower_frame.specs.lowering_relation.Matches.{BuiltRight, wide_at, widened}
+use Rattle.lower_frame.specs.lowering_relation.Sights.{left, part_kind, Unread, Fresh, Below, AllBelow, seen_kind, Sight}
 use Rattle.lower_frame.specs.Frames.{kinds_told}
 use Rattle.cell_lower.specs.Chosen.{Sighted}
 use Rattle.cell_lower.specs.Overlays.{with_root, part_told, overlaid, overlaid_all, failed_told}

@@ -5,12 +5,12 @@ use Rattle.fip_trees.specs.Tree.{Instance, Program}
 use Rattle.cell_code.specs.declared.code.Function.{Function}
 use Rattle.cell_code.specs.declared.code.Instr.{Instr}
 use Rattle.cell_code.specs.declared.kind.Label.{Label}
-use Rattle.lowering_relation.specs.Known.{Known}
-use Rattle.lowering_relation.specs.Values.{Setting}
-use Rattle.lowering_relation.specs.LoweredBodies.{Return}
-use Rattle.lowering_relation.specs.LoweredFunctions.{IsSettingOf, known_at_start}
-use Rattle.lowering_relation.specs.Written.{Written, size, settled, place_of}
-use Rattle.lowering_relation.specs.WellMatched.{WellMatchedBlock, IsWellMatched}
+use Rattle.lower_frame.specs.lowering_relation.Known.{Known}
+use Rattle.lower_frame.specs.lowering_relation.Values.{Setting}
+use Rattle.lower_frame.specs.lowering_relation.LoweredBodies.{Return}
+use Rattle.lower_frame.specs.lowering_relation.LoweredFunctions.{IsSettingOf, known_at_start}
+use Rattle.lower_frame.specs.lowering_relation.Written.{Written, size, settled, place_of}
+use Rattle.lower_frame.specs.lowering_relation.WellMatched.{WellMatchedBlock, IsWellMatched}
 use Rattle.code_size.specs.Bounds.{most_for}
 use Rattle.code_size.specs.Places.{block_places}
 use Rattle.cell_lower.specs.Limits.{registers}

@@ -11,17 +11,17 @@ use Rattle.fip_trees.specs.NeedsView.{needs_of}
 use Rattle.fip_trees.specs.Tree.{Instance, Program}
 use Rattle.cell_code.specs.declared.code.Code.{Code}
 use Rattle.cell_code.specs.declared.code.Function.{Function}
-use Rattle.code_rules.specs.Codes.{PlainCode, PlainFunction, label_at, is_fip, plain, plain_label, plain_function, function_at}
-use Rattle.lowering_relation.specs.Known.{Known}
-use Rattle.lowering_relation.specs.Values.{Setting}
-use Rattle.lowering_relation.specs.LoweredBodies.{Return, has_function}
-use Rattle.lowering_relation.specs.LoweredFunctions.{IsSettingOf, known_at_start}
-use Rattle.lowering_relation.specs.Written.{Written, size, settled, place_of}
-use Rattle.lowering_relation.specs.WellMatched.{WellMatchedBlock, IsWellMatched}
-use Rattle.lowering_relation.proofs.Placing.{has_all}
-use Rattle.lowering_relation.specs.LaidBodies.{BlockLaid}
-use Rattle.lowering_relation.specs.LaidFunctions.{FunctionLaid, IsLaid, AreLaid}
-use Rattle.lowering_relation.specs.Standing.{AreRising, AreOpen, MapsStand}
+use Rattle.lower_frame.specs.code_rules.Codes.{PlainCode, PlainFunction, label_at, is_fip, plain, plain_label, plain_function, function_at}
+use Rattle.lower_frame.specs.lowering_relation.Known.{Known}
+use Rattle.lower_frame.specs.lowering_relation.Values.{Setting}
+use Rattle.lower_frame.specs.lowering_relation.LoweredBodies.{Return, has_function}
+use Rattle.lower_frame.specs.lowering_relation.LoweredFunctions.{IsSettingOf, known_at_start}
+use Rattle.lower_frame.specs.lowering_relation.Written.{Written, size, settled, place_of}
+use Rattle.lower_frame.specs.lowering_relation.WellMatched.{WellMatchedBlock, IsWellMatched}
+use Rattle.lower_frame.proofs.lowering_relation.Placing.{has_all}
+use Rattle.lower_frame.specs.lowering_relation.LaidBodies.{BlockLaid}
+use Rattle.lower_frame.specs.lowering_relation.LaidFunctions.{FunctionLaid, IsLaid, AreLaid}
+use Rattle.lower_frame.specs.lowering_relation.Standing.{AreRising, AreOpen, MapsStand}
 use Rattle.lower_frame.specs.Credits.{is_bare}
 use Rattle.lower_frame.specs.Labels.{HaveMaps}
 use Rattle.lower_frame.specs.Registers.{registers}

@@ -7,14 +7,14 @@ use Rattle.fip_language.specs.declared.limits.TheConstants.{MOST_FIELDS}
 use Rattle.fip_base.specs.declared.plain.Param.{Param}
 use Rattle.fip_trees.specs.declared.program.Binder.{Binder}
 use Rattle.fip_trees.specs.Tree.{Instance}
-use Rattle.lowering_relation.specs.declared.held.Held.{Held}
-use Rattle.lowering_relation.specs.declared.held.Held.TheVariants as H
-use Rattle.lowering_relation.specs.declared.held.Credit.{Credit}
-use Rattle.lowering_relation.specs.Known.{Known, joined, named, register_of, with_used}
-use Rattle.lowering_relation.specs.Values.{Setting, is_scalar}
-use Rattle.lowering_relation.specs.LoweredBodies.{given, given_if}
-use Rattle.lowering_relation.specs.LoweredFunctions.{param_held, with_param, with_params, unless_in, with_next_credit, with_credits, nothing_known, known_at_start}
-use Rattle.lowering_relation.specs.Describing.{held_at}
+use Rattle.lower_frame.specs.lowering_relation.declared.held.Held.{Held}
+use Rattle.lower_frame.specs.lowering_relation.declared.held.Held.TheVariants as H
+use Rattle.lower_frame.specs.lowering_relation.declared.held.Credit.{Credit}
+use Rattle.lower_frame.specs.lowering_relation.Known.{Known, joined, named, register_of, with_used}
+use Rattle.lower_frame.specs.lowering_relation.Values.{Setting, is_scalar}
+use Rattle.lower_frame.specs.lowering_relation.LoweredBodies.{given, given_if}
+use Rattle.lower_frame.specs.lowering_relation.LoweredFunctions.{param_held, with_param, with_params, unless_in, with_next_credit, with_credits, nothing_known, known_at_start}
+use Rattle.lower_frame.specs.lowering_relation.Describing.{held_at}
 use Rattle.lower_frame.specs.Credits.{Accounted, AllSolid, one_if, counted, is_credit, is_credit_of, is_bare}
 use Rattle.lower_frame.specs.Registers.{registers, HasRoom}
 use Rattle.lower_frame.proofs.Accounts.{put_accounted, set_solid, set_itself}

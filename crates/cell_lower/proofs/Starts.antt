@@ -2,10 +2,10 @@
 use Rattle.std.proofs.Common.{◌≡◌, refl, sym, ap, ◌∙◌, ℕ, zero, suc, List, [], ◌∷◌, drop, Option, Some, None, slice_get}
 use Rattle.fip_base.specs.declared.plain.Param.{Param}
 use Rattle.fip_trees.specs.declared.program.Binder.{Binder}
-use Rattle.lowering_relation.specs.Known.{Known}
-use Rattle.lowering_relation.specs.Values.{Setting}
+use Rattle.lower_frame.specs.lowering_relation.Known.{Known}
+use Rattle.lower_frame.specs.lowering_relation.Values.{Setting}
 use Rattle.cell_lower.specs.Writing.{param_at}
-use Rattle.lowering_relation.specs.LoweredFunctions.{with_param, with_params, with_next_credit, with_credits}
+use Rattle.lower_frame.specs.lowering_relation.LoweredFunctions.{with_param, with_params, with_next_credit, with_credits}
 
 same_some : {A : Type 0} (x y : A) → Some x ≡ Some y → x ≡ y
 same_some x y e = cc

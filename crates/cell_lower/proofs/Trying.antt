@@ -8,7 +8,7 @@ use Rattle.fip_trees.specs.Tree.{Pattern, BinderPattern, LiteralPattern, Constru
 use Rattle.cell_code.specs.declared.code.Instr.{Instr}
 use Rattle.cell_code.specs.declared.code.Instr.TheVariants as I
 use Rattle.cell_code.specs.declared.kind.Kind.{Kind}
-use Rattle.code_rules.specs.Codes.{PlainCode, PlainFunction}
+use Rattle.lower_frame.specs.code_rules.Codes.{PlainCode, PlainFunction}
 use Rattle.match_knowledge.specs.declared.heads.Head.{Head}
 use Rattle.match_knowledge.specs.declared.heads.Head.TheVariants.{Number, Tag}
 use Rattle.match_knowledge.specs.declared.verdicts.Verdict.{Verdict}
@@ -16,22 +16,22 @@ use Rattle.match_knowledge.specs.declared.verdicts.Verdict.TheVariants as D
 use Rattle.match_knowledge.specs.Patterns as M
 use Rattle.match_knowledge.specs.Patterns.{IsPattern}
 use Rattle.match_knowledge.specs.Known.{Known, Open, Is, Knowns, NoKnowns, MoreKnowns, compare, is_asks, is_last, side}
-use Rattle.lowering_relation.specs.Written.{Written, size, settled, Extends, HasFrom, added}
-use Rattle.lowering_relation.specs.Rows.{row_of}
-use Rattle.lowering_relation.specs.Landing.{Scene, Side, IsScene, test_of}
-use Rattle.lowering_relation.specs.Spots.{Spot, At, Spots, NoSpots, MoreSpots, register}
-use Rattle.lowering_relation.specs.Reading.{Reading, read_if, read_one, contains, reading, reading_first}
-use Rattle.lowering_relation.specs.Opening.{as_many, take_if, taking, taking_all, names_any, naming, naming_all}
-use Rattle.lowering_relation.proofs.Placing.{same_extends, extends_on, added_extends, one_longer, front, back, stands}
-use Rattle.lowering_relation.proofs.Readings.{read_one_extends, reading_extends}
-use Rattle.lowering_relation.proofs.Openings.{taking_extends, naming_extends}
-use Rattle.lowering_relation.specs.Describing.{Holding}
-use Rattle.lowering_relation.specs.declared.held.Held.{Held}
+use Rattle.lower_frame.specs.lowering_relation.Written.{Written, size, settled, Extends, HasFrom, added}
+use Rattle.lower_frame.specs.lowering_relation.Rows.{row_of}
+use Rattle.lower_frame.specs.lowering_relation.Landing.{Scene, Side, IsScene, test_of}
+use Rattle.lower_frame.specs.lowering_relation.Spots.{Spot, At, Spots, NoSpots, MoreSpots, register}
+use Rattle.lower_frame.specs.lowering_relation.Reading.{Reading, read_if, read_one, contains, reading, reading_first}
+use Rattle.lower_frame.specs.lowering_relation.Opening.{as_many, take_if, taking, taking_all, names_any, naming, naming_all}
+use Rattle.lower_frame.proofs.lowering_relation.Placing.{same_extends, extends_on, added_extends, one_longer, front, back, stands}
+use Rattle.lower_frame.proofs.lowering_relation.Readings.{read_one_extends, reading_extends}
+use Rattle.lower_frame.proofs.lowering_relation.Openings.{taking_extends, naming_extends}
+use Rattle.lower_frame.specs.lowering_relation.Describing.{Holding}
+use Rattle.lower_frame.specs.lowering_relation.declared.held.Held.{Held}
 use Rattle.cell_lower.specs.Testing.{Alike, choice_at, CaughtAt, CaughtBy, Caught, Tried, TriedOn, StepsLaid, FollowsLaid, TellsSide, SeenAt, SeenSide, Misses}
 use Rattle.cell_lower.proofs.Seeing.{last_seen, side_seen}
 use Rattle.cell_lower.proofs.Missing.{side_misses}
 use Rattle.cell_lower.specs.Scenes.{reading_of, SettlesBy, Tests}
-use Rattle.lowering_relation.specs.Tests.{Choice, TestLaid, TestsLaid, SettledLaid, ReadOne, ReadsLaid, ReadsFirst, TakeLaid, TakesLaid, TakeAll, NamesLaid, NameAll}
+use Rattle.lower_frame.specs.lowering_relation.Tests.{Choice, TestLaid, TestsLaid, SettledLaid, ReadOne, ReadsLaid, ReadsFirst, TakeLaid, TakesLaid, TakeAll, NamesLaid, NameAll}
 
 -- a part is read once
 

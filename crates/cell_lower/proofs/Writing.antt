@@ -10,24 +10,24 @@ use Rattle.fip_trees.specs.declared.program.Argument.TheFolds.{fold-roll-Argumen
 use Rattle.fip_trees.specs.TreeView.{argument, argument_step, arguments}
 use Rattle.cell_code.specs.declared.code.Instr.{Instr}
 use Rattle.cell_code.specs.declared.code.Instr.TheVariants as I
-use Rattle.lowering_relation.specs.declared.held.Held.{Held}
-use Rattle.lowering_relation.specs.declared.held.Held.TheVariants as H
-use Rattle.lowering_relation.specs.Known.{Known, register_of, holding, with_next, using, used, used_all}
+use Rattle.lower_frame.specs.lowering_relation.declared.held.Held.{Held}
+use Rattle.lower_frame.specs.lowering_relation.declared.held.Held.TheVariants as H
+use Rattle.lower_frame.specs.lowering_relation.Known.{Known, register_of, holding, with_next, using, used, used_all}
 use Rattle.code_size.specs.Places.{argument_places, arguments_places}
-use Rattle.lowering_relation.specs.Values.{Setting, built, built_if, is_scalar}
-use Rattle.lowering_relation.specs.LoweredBodies.{Return, Into, moved, as_value, MovedAt, IsMove, IsThere}
-use Rattle.lowering_relation.specs.Credits.{LastGone}
-use Rattle.lowering_relation.specs.Moves.{MoveLaid, MovesLaid}
+use Rattle.lower_frame.specs.lowering_relation.Values.{Setting, built, built_if, is_scalar}
+use Rattle.lower_frame.specs.lowering_relation.LoweredBodies.{Return, Into, moved, as_value, MovedAt, IsMove, IsThere}
+use Rattle.lower_frame.specs.lowering_relation.Credits.{LastGone}
+use Rattle.lower_frame.specs.lowering_relation.Moves.{MoveLaid, MovesLaid}
 use Rattle.lower_frame.specs.Credits.{Accounted, AllSolid, is_credit, is_credit_of}
-use Rattle.lowering_relation.specs.Describing.{held_at, kind_of}
+use Rattle.lower_frame.specs.lowering_relation.Describing.{held_at, kind_of}
 use Rattle.lower_frame.specs.Frames.{Takes, TakesBare}
 use Rattle.lower_frame.proofs.Accounts.{all_solid_on, already_used, credit_used, moved_accounted, no_new_credit, of_none, set_itself, next_accounted, reused_accounted, filled_accounted, last_same, last_on, taken_last}
 use Rattle.lower_frame.specs.Registers.{registers, HasRoom}
 use Rattle.cell_lower.specs.Growth.{Sheds}
 use Rattle.cell_lower.proofs.Shedding.{set_length, used_length, used_all_length, takes_length, bare_length, sheds_on, adds_shed, adds_none, adds_one, adds_on, adds_less}
-use Rattle.lowering_relation.specs.Written.{Written, size, added, GivesUp}
+use Rattle.lower_frame.specs.lowering_relation.Written.{Written, size, added, GivesUp}
 use Rattle.cell_lower.specs.Writing.{HandsOn, Movable, Named, Still, Kept, Computes, ComputesAll, Builds, Follow, Gives, Moves, MovesOne, MovesTo, FollowMoves}
-use Rattle.lowering_relation.proofs.Placing.{same_extends, extends_on, added_extends, one_longer, front, back, stands, up_to, given_up}
+use Rattle.lower_frame.proofs.lowering_relation.Placing.{same_extends, extends_on, added_extends, one_longer, front, back, stands, up_to, given_up}
 
 -- equal values may stand for one another
 pub three : {A B C : Type 0} (P : A → B → C → Type 0) (a b : A) (c d : B) (e f : C) → b ≡ a → d ≡ c → f ≡ e → P a c e → P b d f
@@ -274,7 +274,7 @@ gives_return k k1 k2 l v w1 w2 w rs a b e f s t = subst (Gives k v rs Return l) 
     last = I.Ret rs
 
     both : GivesUp v w2
-    both = Rattle.lowering_relation.proofs.Placing.gives_up_on v w1 w2 a b
+    both = Rattle.lower_frame.proofs.lowering_relation.Placing.gives_up_on v w1 w2 a b
 
     many : registers k1 ≡ registers k
     many = ap registers f ∙ used_all_length k.held rs

@@ -12,23 +12,23 @@ use Rattle.fip_trees.specs.Tree.{Argument, Variable, Literal, Constructor, Argum
 use Rattle.fip_trees.specs.Tree.{Expression, Give, Tuple, Operation, Call, Match, Nested, Block, Last, Let}
 use Rattle.fip_trees.specs.Tree.{Clauses, NoClauses, MoreClauses}
 use Rattle.cell_code.specs.declared.kind.Kind.{Kind}
-use Rattle.code_rules.specs.Codes.{PlainCode, PlainFunction, label_at}
-use Rattle.code_rules.specs.Types as Y
-use Rattle.code_rules.specs.Types.{fields, is_scalar_type}
-use Rattle.lowering_relation.specs.declared.held.Held.{Held}
-use Rattle.lowering_relation.specs.declared.held.Held.TheVariants as H
-use Rattle.lowering_relation.specs.Known.{Known, register_of}
-use Rattle.lowering_relation.specs.Values.{Setting, is_scalar}
-use Rattle.lowering_relation.specs.LoweredBodies.{Target, Return, Into}
-use Rattle.lowering_relation.specs.Tidy.{NotIn}
-use Rattle.lowering_relation.specs.WellMatched.{WellMatched, WellMatchedBlock, WellMatchedClauses}
-use Rattle.lowering_relation.specs.Written.{Written, size, Extends}
-use Rattle.lowering_relation.specs.Describing.{held_at}
-use Rattle.lowering_relation.specs.Labels.{told, Takes}
-use Rattle.lowering_relation.specs.Matches.{variable_of, BuiltRight}
-use Rattle.lowering_relation.specs.Standing.{AreRising}
-use Rattle.lowering_relation.specs.Uses as U
-use Rattle.lowering_relation.specs.LaidBodies.{ExpressionLaid, BlockLaid}
+use Rattle.lower_frame.specs.code_rules.Codes.{PlainCode, PlainFunction, label_at}
+use Rattle.lower_frame.specs.code_rules.Types as Y
+use Rattle.lower_frame.specs.code_rules.Types.{fields, is_scalar_type}
+use Rattle.lower_frame.specs.lowering_relation.declared.held.Held.{Held}
+use Rattle.lower_frame.specs.lowering_relation.declared.held.Held.TheVariants as H
+use Rattle.lower_frame.specs.lowering_relation.Known.{Known, register_of}
+use Rattle.lower_frame.specs.lowering_relation.Values.{Setting, is_scalar}
+use Rattle.lower_frame.specs.lowering_relation.LoweredBodies.{Target, Return, Into}
+use Rattle.lower_frame.specs.lowering_relation.Tidy.{NotIn}
+use Rattle.lower_frame.specs.lowering_relation.WellMatched.{WellMatched, WellMatchedBlock, WellMatchedClauses}
+use Rattle.lower_frame.specs.lowering_relation.Written.{Written, size, Extends}
+use Rattle.lower_frame.specs.lowering_relation.Describing.{held_at}
+use Rattle.lower_frame.specs.lowering_relation.Labels.{told, Takes}
+use Rattle.lower_frame.specs.lowering_relation.Matches.{variable_of, BuiltRight}
+use Rattle.lower_frame.specs.lowering_relation.Standing.{AreRising}
+use Rattle.lower_frame.specs.lowering_relation.Uses as U
+use Rattle.lower_frame.specs.lowering_relation.LaidBodies.{ExpressionLaid, BlockLaid}
 use Rattle.lower_frame.specs.Credits.{AllSolid, is_bare}
 use Rattle.lower_frame.specs.Registers.{registers}
 use Rattle.cell_lower.specs.Growth.{Stay}

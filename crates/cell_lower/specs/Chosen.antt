@@ -4,22 +4,22 @@
 use Rattle.std.specs.Prelude.{◌≡◌, ◌≤◌, ◌<◌, ℕ, suc, Bool, true, List, [], ◌∷◌, Some, length, slice_get, is_some}
 use Rattle.fip_language.specs.Every.{Among, Every}
 use Rattle.cell_code.specs.declared.kind.Kind.{Kind}
-use Rattle.code_rules.specs.Codes.{PlainCode, PlainFunction, label_at}
-use Rattle.code_rules.specs.Kinds.{at}
-use Rattle.code_rules.specs.Fitting.{fits}
-use Rattle.code_rules.specs.Types.{fields, is_scalar_type}
+use Rattle.lower_frame.specs.code_rules.Codes.{PlainCode, PlainFunction, label_at}
+use Rattle.lower_frame.specs.code_rules.Kinds.{at}
+use Rattle.lower_frame.specs.code_rules.Fitting.{fits}
+use Rattle.lower_frame.specs.code_rules.Types.{fields, is_scalar_type}
 use Rattle.match_knowledge.specs.Known.{Known, Open}
-use Rattle.lowering_relation.specs.Spots.{register, below}
-use Rattle.lowering_relation.specs.Landing.{Scene, Side, IsScene, RuledOut}
-use Rattle.lowering_relation.specs.Written.{Written, size, Extends}
-use Rattle.lowering_relation.specs.declared.held.Held.{Held}
-use Rattle.lowering_relation.specs.declared.held.Held.TheVariants as H
-use Rattle.lowering_relation.specs.Values.{Setting, is_scalar}
-use Rattle.lowering_relation.specs.Describing.{Holding, held_at}
-use Rattle.lowering_relation.specs.Labels.{Tells}
-use Rattle.lowering_relation.specs.Matches.{wide_at}
-use Rattle.lowering_relation.specs.Sights.{Sight}
-use Rattle.lowering_relation.specs.Tests.{ChunkLaid, SidesLaid}
+use Rattle.lower_frame.specs.lowering_relation.Spots.{register, below}
+use Rattle.lower_frame.specs.lowering_relation.Landing.{Scene, Side, IsScene, RuledOut}
+use Rattle.lower_frame.specs.lowering_relation.Written.{Written, size, Extends}
+use Rattle.lower_frame.specs.lowering_relation.declared.held.Held.{Held}
+use Rattle.lower_frame.specs.lowering_relation.declared.held.Held.TheVariants as H
+use Rattle.lower_frame.specs.lowering_relation.Values.{Setting, is_scalar}
+use Rattle.lower_frame.specs.lowering_relation.Describing.{Holding, held_at}
+use Rattle.lower_frame.specs.lowering_relation.Labels.{Tells}
+use Rattle.lower_frame.specs.lowering_relation.Matches.{wide_at}
+use Rattle.lower_frame.specs.lowering_relation.Sights.{Sight}
+use Rattle.lower_frame.specs.lowering_relation.Tests.{ChunkLaid, SidesLaid}
 use Rattle.lower_frame.specs.Labels.{Rising}
 use Rattle.cell_lower.specs.declared.choices.Choice.{Choice}
 use Rattle.cell_lower.specs.Laying.{HasPart}

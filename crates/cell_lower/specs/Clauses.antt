@@ -8,19 +8,19 @@ use Rattle.fip_language.specs.declared.Place.{Place}
 use Rattle.fip_trees.specs.Tree.{Pattern, Argument, Match, Clauses, NoClauses, MoreClauses}
 use Rattle.fip_trees.specs.TreeView.{Case}
 use Rattle.cell_code.specs.declared.code.Instr.TheVariants as I
-use Rattle.lowering_relation.specs.Known.{Known}
-use Rattle.lowering_relation.specs.Values.{Setting}
-use Rattle.lowering_relation.specs.Choosing.{Meets, MeetsFirst}
-use Rattle.lowering_relation.specs.LoweredBodies as B
-use Rattle.lowering_relation.specs.Written.{Written, size, Extends, IsAt, GivesUp, added}
-use Rattle.lowering_relation.specs.Spots as S
-use Rattle.lowering_relation.specs.Growing.{Grows}
-use Rattle.lowering_relation.specs.Opening.{Roomy}
-use Rattle.lowering_relation.specs.Landing.{Side}
-use Rattle.lowering_relation.specs.Entering.{entering_root}
-use Rattle.lowering_relation.specs.Losing.{Loses, Resumes}
-use Rattle.lowering_relation.specs.WellMatched.{WellMatched, WellMatchedBlock, WellMatchedClauses}
-use Rattle.lowering_relation.proofs.Choices.{patterns_in}
+use Rattle.lower_frame.specs.lowering_relation.Known.{Known}
+use Rattle.lower_frame.specs.lowering_relation.Values.{Setting}
+use Rattle.lower_frame.specs.lowering_relation.Choosing.{Meets, MeetsFirst}
+use Rattle.lower_frame.specs.lowering_relation.LoweredBodies as B
+use Rattle.lower_frame.specs.lowering_relation.Written.{Written, size, Extends, IsAt, GivesUp, added}
+use Rattle.lower_frame.specs.lowering_relation.Spots as S
+use Rattle.lower_frame.specs.lowering_relation.Growing.{Grows}
+use Rattle.lower_frame.specs.lowering_relation.Opening.{Roomy}
+use Rattle.lower_frame.specs.lowering_relation.Landing.{Side}
+use Rattle.lower_frame.specs.lowering_relation.Entering.{entering_root}
+use Rattle.lower_frame.specs.lowering_relation.Losing.{Loses, Resumes}
+use Rattle.lower_frame.specs.lowering_relation.WellMatched.{WellMatched, WellMatchedBlock, WellMatchedClauses}
+use Rattle.lower_frame.proofs.lowering_relation.Choices.{patterns_in}
 use Rattle.cell_lower.specs.declared.choices.Choice.{Choice}
 use Rattle.cell_lower.specs.declared.matches.Matching.{Matching}
 use Rattle.cell_lower.specs.declared.matches.Progress.{Progress}

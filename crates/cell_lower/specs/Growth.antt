@@ -6,14 +6,14 @@ use Rattle.fip_language.specs.Every.{Among}
 use Rattle.fip_language.specs.Table.{Table}
 use Rattle.match_knowledge.specs.Patterns.{Pattern}
 use Rattle.match_knowledge.specs.Known.{Known as Learnt}
-use Rattle.match_cover.specs.DecisionTree.{branches, tree_at}
-use Rattle.lowering_relation.specs.declared.held.Held.{Held}
-use Rattle.lowering_relation.specs.Known.{Known}
-use Rattle.lowering_relation.specs.LoweredBodies as B
-use Rattle.lowering_relation.specs.Written.{Written, size}
-use Rattle.lowering_relation.specs.Spots as S
-use Rattle.lowering_relation.specs.Reading.{contains}
-use Rattle.lowering_relation.specs.Landing.{Side}
+use Rattle.code_size.specs.match_cover.DecisionTree.{branches, tree_at}
+use Rattle.lower_frame.specs.lowering_relation.declared.held.Held.{Held}
+use Rattle.lower_frame.specs.lowering_relation.Known.{Known}
+use Rattle.lower_frame.specs.lowering_relation.LoweredBodies as B
+use Rattle.lower_frame.specs.lowering_relation.Written.{Written, size}
+use Rattle.lower_frame.specs.lowering_relation.Spots as S
+use Rattle.lower_frame.specs.lowering_relation.Reading.{contains}
+use Rattle.lower_frame.specs.lowering_relation.Landing.{Side}
 use Rattle.lower_frame.specs.Labels.{labels}
 use Rattle.lower_frame.specs.Registers.{registers, holds}
 

@@ -8,14 +8,14 @@ use Rattle.fip_trees.specs.declared.needs.Need.{Need}
 use Rattle.fip_trees.specs.NeedsView.{needs_of}
 use Rattle.fip_trees.specs.Tree.{Instance, Program}
 use Rattle.cell_code.specs.declared.code.Function.{Function}
-use Rattle.code_rules.specs.Codes.{PlainCode, PlainFunction, function_at, is_fip, plain_function}
-use Rattle.lowering_relation.specs.Known.{Known}
-use Rattle.lowering_relation.specs.Values.{Setting}
-use Rattle.lowering_relation.specs.LoweredBodies.{has_function}
-use Rattle.lowering_relation.specs.LoweredFunctions.{IsSettingOf}
-use Rattle.lowering_relation.specs.WellMatched.{WellMatchedBlock}
-use Rattle.lowering_relation.specs.LaidFunctions.{FunctionLaid, AreLaid}
-use Rattle.lowering_relation.specs.Standing.{MapsStand}
+use Rattle.lower_frame.specs.code_rules.Codes.{PlainCode, PlainFunction, function_at, is_fip, plain_function}
+use Rattle.lower_frame.specs.lowering_relation.Known.{Known}
+use Rattle.lower_frame.specs.lowering_relation.Values.{Setting}
+use Rattle.lower_frame.specs.lowering_relation.LoweredBodies.{has_function}
+use Rattle.lower_frame.specs.lowering_relation.LoweredFunctions.{IsSettingOf}
+use Rattle.lower_frame.specs.lowering_relation.WellMatched.{WellMatchedBlock}
+use Rattle.lower_frame.specs.lowering_relation.LaidFunctions.{FunctionLaid, AreLaid}
+use Rattle.lower_frame.specs.lowering_relation.Standing.{MapsStand}
 use Rattle.lower_frame.specs.Registers.{registers}
 use Rattle.cell_lower.specs.Bodies.{ScalarsRight, FoundedBlock, NeedsRest}
 

@@ -7,20 +7,20 @@ use Rattle.fip_language.specs.declared.Place.{Place}
 use Rattle.fip_language.specs.Table.{Table}
 use Rattle.fip_trees.specs.Tree.{Argument, Arguments}
 use Rattle.cell_code.specs.declared.kind.Kind.{Kind}
-use Rattle.code_rules.specs.Codes.{PlainCode, PlainFunction, label_at}
-use Rattle.lowering_relation.specs.declared.held.Held.{Held}
-use Rattle.lowering_relation.specs.declared.held.Held.TheVariants as H
-use Rattle.lowering_relation.specs.Known.{Known, using}
-use Rattle.lowering_relation.specs.Values.{Setting}
-use Rattle.lowering_relation.specs.LoweredBodies.{Target, Return, Into, received}
-use Rattle.lowering_relation.specs.Written.{Written, size, Extends, HasFrom, IsAt}
-use Rattle.lowering_relation.specs.Credits.{LastGone}
-use Rattle.lowering_relation.specs.Describing.{held_at, kinds_of}
-use Rattle.lowering_relation.specs.Labels.{Tells}
-use Rattle.lowering_relation.specs.Matches.{wide}
-use Rattle.lowering_relation.specs.GivenUp.{GivesUp, AllGivenUp}
-use Rattle.lowering_relation.specs.Handed.{GivenLaid, OperationLaid, CallLaid, EndsCallLaid}
-use Rattle.lowering_relation.specs.LaidBodies.{GiveLaid, OperatorLaid, CalledLaid}
+use Rattle.lower_frame.specs.code_rules.Codes.{PlainCode, PlainFunction, label_at}
+use Rattle.lower_frame.specs.lowering_relation.declared.held.Held.{Held}
+use Rattle.lower_frame.specs.lowering_relation.declared.held.Held.TheVariants as H
+use Rattle.lower_frame.specs.lowering_relation.Known.{Known, using}
+use Rattle.lower_frame.specs.lowering_relation.Values.{Setting}
+use Rattle.lower_frame.specs.lowering_relation.LoweredBodies.{Target, Return, Into, received}
+use Rattle.lower_frame.specs.lowering_relation.Written.{Written, size, Extends, HasFrom, IsAt}
+use Rattle.lower_frame.specs.lowering_relation.Credits.{LastGone}
+use Rattle.lower_frame.specs.lowering_relation.Describing.{held_at, kinds_of}
+use Rattle.lower_frame.specs.lowering_relation.Labels.{Tells}
+use Rattle.lower_frame.specs.lowering_relation.Matches.{wide}
+use Rattle.lower_frame.specs.lowering_relation.GivenUp.{GivesUp, AllGivenUp}
+use Rattle.lower_frame.specs.lowering_relation.Handed.{GivenLaid, OperationLaid, CallLaid, EndsCallLaid}
+use Rattle.lower_frame.specs.lowering_relation.LaidBodies.{GiveLaid, OperatorLaid, CalledLaid}
 use Rattle.lower_frame.specs.Credits.{Accounted, AllSolid, FewerTrees, NoBares, sized}
 use Rattle.lower_frame.specs.Frames.{kinds_told}
 use Rattle.lower_frame.specs.Labels.{Rising, telling}

@@ -12,19 +12,19 @@ use Rattle.fip_language.specs.declared.limits.TheConstants.{MOST_FIELDS}
 use Rattle.fip_trees.specs.Sizes.{no_sizes, number}
 use Rattle.fip_trees.specs.Tree.{Expression}
 use Rattle.fip_trees.specs.declared.needs.Need.{Need}
-use Rattle.code_rules.specs.Codes.{PlainCode, PlainFunction}
-use Rattle.lowering_relation.specs.declared.held.Held.TheVariants as H
-use Rattle.lowering_relation.specs.Known.{Known, is_owned}
-use Rattle.lowering_relation.specs.Values.{Setting}
-use Rattle.lowering_relation.specs.LoweredBodies.{Target, Return, Into}
-use Rattle.lowering_relation.specs.Reading.{contains}
-use Rattle.lowering_relation.specs.Written.{Written, size, HasFrom}
-use Rattle.lowering_relation.specs.Credits.{of_size}
-use Rattle.lowering_relation.specs.Describing.{held_at}
-use Rattle.lowering_relation.specs.Joins.{BaresEnd}
-use Rattle.lowering_relation.specs.Leftover.{LeavesOver}
-use Rattle.lowering_relation.specs.Matches.{wide}
-use Rattle.lowering_relation.specs.Uses as U
+use Rattle.lower_frame.specs.code_rules.Codes.{PlainCode, PlainFunction}
+use Rattle.lower_frame.specs.lowering_relation.declared.held.Held.TheVariants as H
+use Rattle.lower_frame.specs.lowering_relation.Known.{Known, is_owned}
+use Rattle.lower_frame.specs.lowering_relation.Values.{Setting}
+use Rattle.lower_frame.specs.lowering_relation.LoweredBodies.{Target, Return, Into}
+use Rattle.lower_frame.specs.lowering_relation.Reading.{contains}
+use Rattle.lower_frame.specs.lowering_relation.Written.{Written, size, HasFrom}
+use Rattle.lower_frame.specs.lowering_relation.Credits.{of_size}
+use Rattle.lower_frame.specs.lowering_relation.Describing.{held_at}
+use Rattle.lower_frame.specs.lowering_relation.Joins.{BaresEnd}
+use Rattle.lower_frame.specs.lowering_relation.Leftover.{LeavesOver}
+use Rattle.lower_frame.specs.lowering_relation.Matches.{wide}
+use Rattle.lower_frame.specs.lowering_relation.Uses as U
 use Rattle.lower_frame.specs.Credits.{Accounted, sized}
 use Rattle.cell_lower.specs.Marks.{AreMarked, is_marked}
 

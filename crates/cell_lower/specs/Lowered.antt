@@ -5,11 +5,11 @@ use Rattle.fip_trees.specs.Tree.{Instance}
 use Rattle.cell_code.specs.declared.code.Code.{Code}
 use Rattle.cell_code.specs.declared.code.Function.{Function}
 use Rattle.cell_code.specs.declared.code.Instr.{Instr}
-use Rattle.machine_semantics.specs.Codes.{PlainFunction, plain}
-use Rattle.lowering_relation.specs.Values.{Setting}
-use Rattle.lowering_relation.specs.LoweredBodies.{function_of}
-use Rattle.lowering_relation.specs.LoweredFunctions.{IsFunction}
-use Rattle.lowering_relation.specs.WellMatched.{WellMatchedBlock}
+use Rattle.lower_frame.specs.machine_semantics.Codes.{PlainFunction, plain}
+use Rattle.lower_frame.specs.lowering_relation.Values.{Setting}
+use Rattle.lower_frame.specs.lowering_relation.LoweredBodies.{function_of}
+use Rattle.lower_frame.specs.lowering_relation.LoweredFunctions.{IsFunction}
+use Rattle.lower_frame.specs.lowering_relation.WellMatched.{WellMatchedBlock}
 
 abbrev pub instrs_of : PlainFunction → List Instr
 instrs_of f = f.instrs

@@ -8,10 +8,10 @@ use Rattle.fip_trees.specs.Tree.{Argument, Variable, Literal, Constructor, Argum
 use Rattle.fip_trees.specs.Tree.{Expression, Give, Tuple, Operation, Call, Match, Nested, Block, Last, Let}
 use Rattle.fip_trees.specs.Tree.{Clauses, NoClauses, MoreClauses, Instance}
 use Rattle.fip_trees.specs.TreeView.{Case}
-use Rattle.lowering_relation.specs.Known.{Known, register_of}
-use Rattle.lowering_relation.specs.Values.{Setting}
-use Rattle.lowering_relation.specs.LoweredBodies.{Target, Return, Into}
-use Rattle.lowering_relation.specs.Uses.{takes_of, used_in}
+use Rattle.lower_frame.specs.lowering_relation.Known.{Known, register_of}
+use Rattle.lower_frame.specs.lowering_relation.Values.{Setting}
+use Rattle.lower_frame.specs.lowering_relation.LoweredBodies.{Target, Return, Into}
+use Rattle.lower_frame.specs.lowering_relation.Uses.{takes_of, used_in}
 
 abbrev pub is_set : Option Bool → Bool
 is_set None = false

@@ -7,16 +7,16 @@ use Rattle.fip_trees.specs.declared.needs.Need.{Need}
 use Rattle.fip_trees.specs.Tree.{Pattern, Argument, Clauses, NoClauses, MoreClauses}
 use Rattle.fip_trees.specs.TreeView.{Case}
 use Rattle.cell_code.specs.declared.code.Instr.TheVariants as I
-use Rattle.lowering_relation.specs.Known.{Known}
-use Rattle.lowering_relation.specs.Values.{Setting, is_scalar}
-use Rattle.lowering_relation.specs.LoweredBodies.{Target, Return, Into}
-use Rattle.lowering_relation.specs.Choosing.{FewerCredits}
-use Rattle.lowering_relation.specs.Written.{Written, size, Extends, IsAt, added}
-use Rattle.lowering_relation.specs.Landing.{Side}
-use Rattle.lowering_relation.specs.Entering.{entering_root}
-use Rattle.lowering_relation.proofs.Choices.{patterns_in}
-use Rattle.lowering_relation.specs.Joins.{Met}
-use Rattle.lowering_relation.specs.Matches.{wide}
+use Rattle.lower_frame.specs.lowering_relation.Known.{Known}
+use Rattle.lower_frame.specs.lowering_relation.Values.{Setting, is_scalar}
+use Rattle.lower_frame.specs.lowering_relation.LoweredBodies.{Target, Return, Into}
+use Rattle.lower_frame.specs.lowering_relation.Choosing.{FewerCredits}
+use Rattle.lower_frame.specs.lowering_relation.Written.{Written, size, Extends, IsAt, added}
+use Rattle.lower_frame.specs.lowering_relation.Landing.{Side}
+use Rattle.lower_frame.specs.lowering_relation.Entering.{entering_root}
+use Rattle.lower_frame.proofs.lowering_relation.Choices.{patterns_in}
+use Rattle.lower_frame.specs.lowering_relation.Joins.{Met}
+use Rattle.lower_frame.specs.lowering_relation.Matches.{wide}
 use Rattle.lower_frame.specs.Credits.{Accounted}
 use Rattle.lower_frame.specs.Frames.{kinds_told}
 use Rattle.lower_frame.specs.Labels.{telling}

@@ -6,17 +6,17 @@ use Rattle.std.specs.Prelude.{ℕ, suc, Bool, List, [], ◌∷◌, Option, Some,
 use Rattle.fip_language.specs.Table.{Table}
 use Rattle.cell_code.specs.declared.kind.Kind.{Kind}
 use Rattle.cell_code.specs.declared.kind.Kind.TheVariants as K
-use Rattle.code_rules.specs.Types.{fields}
+use Rattle.lower_frame.specs.code_rules.Types.{fields}
 use Rattle.match_knowledge.specs.declared.heads.Head.TheVariants.{Number, Tag}
 use Rattle.match_knowledge.specs.Known.{Known, Open, Is, Knowns, NoKnowns, MoreKnowns}
-use Rattle.lowering_relation.specs.Spots as S
-use Rattle.lowering_relation.specs.Spots.{Spot, Spots, NoSpots, MoreSpots}
-use Rattle.lowering_relation.specs.Reading.{contains}
-use Rattle.lowering_relation.specs.Entering.{root_of}
-use Rattle.lowering_relation.specs.declared.held.Held.{Held}
-use Rattle.lowering_relation.specs.declared.held.Held.TheVariants as H
-use Rattle.lowering_relation.specs.Values.{Setting, is_scalar}
-use Rattle.lowering_relation.specs.Sights.{left, not_in, is_tag}
+use Rattle.lower_frame.specs.lowering_relation.Spots as S
+use Rattle.lower_frame.specs.lowering_relation.Spots.{Spot, Spots, NoSpots, MoreSpots}
+use Rattle.lower_frame.specs.lowering_relation.Reading.{contains}
+use Rattle.lower_frame.specs.lowering_relation.Entering.{root_of}
+use Rattle.lower_frame.specs.lowering_relation.declared.held.Held.{Held}
+use Rattle.lower_frame.specs.lowering_relation.declared.held.Held.TheVariants as H
+use Rattle.lower_frame.specs.lowering_relation.Values.{Setting, is_scalar}
+use Rattle.lower_frame.specs.lowering_relation.Sights.{left, not_in, is_tag}
 use Rattle.lower_frame.specs.Frames.{kinds_told}
 
 -- a value of which this is known may have constructor n

@@ -15,13 +15,13 @@ use Rattle.match_knowledge.specs.declared.verdicts.Verdict.TheVariants as D
 use Rattle.match_knowledge.specs.Patterns as M
 use Rattle.match_knowledge.specs.Known.{Known, Open, Knowns, NoKnowns, MoreKnowns, compare, is_asks, side}
 use Rattle.match_knowledge.specs.View as View
-use Rattle.match_cover.specs.DecisionTree.{first_live, Split}
-use Rattle.lowering_relation.specs.Spots as S
-use Rattle.lowering_relation.specs.Rows.{row_of}
-use Rattle.lowering_relation.specs.Reading.{Reading, Asked, asked, reading, read_one}
-use Rattle.lowering_relation.specs.Opening.{names_any, naming, taking}
-use Rattle.lowering_relation.specs.Landing.{Scene, Side, IsScene, Good, AllGood, LeadsTo, place_of_side, test_of}
-use Rattle.lowering_relation.specs.Written.{Written, size, Extends, HasFrom, IsAt, added}
+use Rattle.code_size.specs.match_cover.DecisionTree.{first_live, Split}
+use Rattle.lower_frame.specs.lowering_relation.Spots as S
+use Rattle.lower_frame.specs.lowering_relation.Rows.{row_of}
+use Rattle.lower_frame.specs.lowering_relation.Reading.{Reading, Asked, asked, reading, read_one}
+use Rattle.lower_frame.specs.lowering_relation.Opening.{names_any, naming, taking}
+use Rattle.lower_frame.specs.lowering_relation.Landing.{Scene, Side, IsScene, Good, AllGood, LeadsTo, place_of_side, test_of}
+use Rattle.lower_frame.specs.lowering_relation.Written.{Written, size, Extends, HasFrom, IsAt, added}
 use Rattle.cell_lower.specs.declared.choices.Choice.{Choice}
 use Rattle.cell_lower.specs.declared.choices.Side.{Side as Kept}
 use Rattle.cell_lower.specs.declared.choices.Asked.{Asked as Found}

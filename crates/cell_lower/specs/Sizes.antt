@@ -7,7 +7,7 @@ use Rattle.fip_language.specs.Table.{Table}
 use Rattle.fip_trees.specs.declared.groups.Member.{Member}
 use Rattle.fip_trees.specs.Tree.{Instance, Program}
 use Rattle.cell_code.specs.declared.code.Function.{Function}
-use Rattle.lowering_relation.specs.LoweredBodies.{function_of}
+use Rattle.lower_frame.specs.lowering_relation.LoweredBodies.{function_of}
 use Rattle.code_size.specs.Bounds.{most_for, most_labels}
 use Rattle.code_size.specs.Places.{places}
 use Rattle.cell_lower.specs.Limits.{registers}

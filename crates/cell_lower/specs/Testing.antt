@@ -6,17 +6,17 @@ use Rattle.fip_language.specs.Every.{Every}
 use Rattle.fip_language.specs.Table.{Table}
 use Rattle.fip_trees.specs.Tree.{Pattern}
 use Rattle.cell_code.specs.declared.kind.Kind.{Kind}
-use Rattle.code_rules.specs.Codes.{PlainCode, PlainFunction, label_at}
+use Rattle.lower_frame.specs.code_rules.Codes.{PlainCode, PlainFunction, label_at}
 use Rattle.match_knowledge.specs.declared.verdicts.Verdict.TheVariants as D
 use Rattle.match_knowledge.specs.Patterns as M
 use Rattle.match_knowledge.specs.Known.{Known, compare}
-use Rattle.lowering_relation.specs.Rows.{row_of}
-use Rattle.lowering_relation.specs.Landing.{Scene, Side, RuledOut}
-use Rattle.lowering_relation.specs.Written.{Written, size, HasFrom, IsAt}
-use Rattle.lowering_relation.specs.declared.held.Held.{Held}
-use Rattle.lowering_relation.specs.Describing.{Holding, held_at}
-use Rattle.lowering_relation.specs.Matches.{BuiltRight, widened}
-use Rattle.lowering_relation.specs.Tests.{Choice, TakenAt, TestsLaid}
+use Rattle.lower_frame.specs.lowering_relation.Rows.{row_of}
+use Rattle.lower_frame.specs.lowering_relation.Landing.{Scene, Side, RuledOut}
+use Rattle.lower_frame.specs.lowering_relation.Written.{Written, size, HasFrom, IsAt}
+use Rattle.lower_frame.specs.lowering_relation.declared.held.Held.{Held}
+use Rattle.lower_frame.specs.lowering_relation.Describing.{Holding, held_at}
+use Rattle.lower_frame.specs.lowering_relation.Matches.{BuiltRight, widened}
+use Rattle.lower_frame.specs.lowering_relation.Tests.{Choice, TakenAt, TestsLaid}
 use Rattle.lower_frame.specs.Labels.{telling}
 use Rattle.cell_lower.specs.Seen.{Seen}
 

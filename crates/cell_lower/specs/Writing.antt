@@ -9,21 +9,21 @@ use Rattle.fip_trees.specs.declared.program.Binder.{Binder}
 use Rattle.fip_trees.specs.Tree.{Name, Argument, Arguments, Expression, Call, Block, Let}
 use Rattle.fip_trees.specs.TreeView.{instances}
 use Rattle.fip_base.specs.declared.plain.Param.{Param}
-use Rattle.lowering_relation.specs.declared.held.Held.{Held}
-use Rattle.lowering_relation.specs.Known.{Known, naming, register_of, used}
-use Rattle.lowering_relation.specs.Values.{Setting, BuiltAt, ArgumentAt, ArgumentsAt}
-use Rattle.lowering_relation.specs.LoweredBodies as B
-use Rattle.lowering_relation.specs.LoweredFunctions.{with_param}
+use Rattle.lower_frame.specs.lowering_relation.declared.held.Held.{Held}
+use Rattle.lower_frame.specs.lowering_relation.Known.{Known, naming, register_of, used}
+use Rattle.lower_frame.specs.lowering_relation.Values.{Setting, BuiltAt, ArgumentAt, ArgumentsAt}
+use Rattle.lower_frame.specs.lowering_relation.LoweredBodies as B
+use Rattle.lower_frame.specs.lowering_relation.LoweredFunctions.{with_param}
 use Rattle.code_size.specs.Bounds.{most_for}
 use Rattle.code_size.specs.Places.{argument_places, arguments_places, expression_places, block_places}
-use Rattle.lowering_relation.specs.Credits.{LastGone}
-use Rattle.lowering_relation.specs.Describing.{held_at, kind_of}
-use Rattle.lowering_relation.specs.Moves.{MoveLaid, MovesLaid}
+use Rattle.lower_frame.specs.lowering_relation.Credits.{LastGone}
+use Rattle.lower_frame.specs.lowering_relation.Describing.{held_at, kind_of}
+use Rattle.lower_frame.specs.lowering_relation.Moves.{MoveLaid, MovesLaid}
 use Rattle.lower_frame.specs.Credits.{Accounted, AllSolid, is_credit}
 use Rattle.lower_frame.specs.Frames.{Takes}
 use Rattle.lower_frame.specs.Registers.{registers, HasRoom}
 use Rattle.cell_lower.specs.Growth.{Adds, Stay}
-use Rattle.lowering_relation.specs.Written.{Written, size, Extends, InCode}
+use Rattle.lower_frame.specs.lowering_relation.Written.{Written, size, Extends, InCode}
 use Rattle.cell_lower.specs.declared.lowerer.Context.{Context}
 use Rattle.cell_lower.specs.declared.lowerer.Target.{Target}
 use Rattle.cell_lower.specs.declared.lowerer.Target.TheVariants as T

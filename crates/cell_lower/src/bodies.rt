@@ -2,8 +2,8 @@
 ghost use Rattle.std.specs.Prelude.{◌≡◌, ◌<◌, ℕ, not, IfOk, OnOk, drop, length, slice_get};
 ghost use Rattle.fip_trees.specs.Tree as T;
 ghost use Rattle.fip_trees.specs.TreeView as V;
-ghost use Rattle.lowering_relation.specs.LoweredBodies as B;
-ghost use Rattle.lowering_relation.specs.WellMatched.{WellMatched, WellMatchedBlock};
+ghost use Rattle.lower_frame.specs.lowering_relation.LoweredBodies as B;
+ghost use Rattle.lower_frame.specs.lowering_relation.WellMatched.{WellMatched, WellMatchedBlock};
 ghost use Rattle.lower_frame.specs.Registers.{HasRoom};
 ghost use Rattle.cell_lower.specs.Bodies.{span, span_block, span_clauses, Asked, AskedBlock, AskedClauses};
 ghost use Rattle.cell_lower.specs.Bodies.{Lays, LaysBlock, LaysLet};

@@ -1,9 +1,9 @@
 // Operators and calls.
 ghost use Rattle.std.specs.Prelude.{◌≡◌, not, IfOk, OnOk, Some, slice_get};
-ghost use Rattle.lowering_relation.specs.declared.held.Held.{Held as a_held};
+ghost use Rattle.lower_frame.specs.lowering_relation.declared.held.Held.{Held as a_held};
 ghost use Rattle.fip_trees.specs.TreeView as V;
-ghost use Rattle.lowering_relation.specs.LoweredBodies as B;
-ghost use Rattle.lowering_relation.specs.Known as K;
+ghost use Rattle.lower_frame.specs.lowering_relation.LoweredBodies as B;
+ghost use Rattle.lower_frame.specs.lowering_relation.Known as K;
 ghost use Rattle.lower_frame.specs.Registers.{HasRoom};
 ghost use Rattle.cell_lower.specs.Laying.{CallsLaid, EndsLaid, OperatesLaid};
 ghost use Rattle.cell_lower.specs.Writing.{setting, target_of, handed_at, received_at, CallsAt, EndsCall, Operates};
@@ -13,7 +13,7 @@ use crate::lowerer::{Context, Lowerer, Target};
 use cell_code::{Instr, Registers};
 use fip_base::plain::{NoMemory, Operator, Param, Place};
 use fip_trees::program::Instance;
-use lowering_relation::Held;
+use lower_frame::relation::Held;
 
 /// An operator and where it stands.
 #[derive(Clone, Copy)]

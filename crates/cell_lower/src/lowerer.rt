@@ -1,15 +1,15 @@
 // What the lowering of a function knows and has written.
 ghost use Rattle.std.specs.Prelude.{◌≡◌, ◌&&◌, not, [], IfOk, OnOk, drop, slice_get};
 ghost use Rattle.fip_trees.specs.TreeView as V;
-ghost use Rattle.lowering_relation.specs.LoweredBodies as B;
-ghost use Rattle.lowering_relation.specs.LoweredFunctions as F;
-ghost use Rattle.lowering_relation.specs.Values as S;
-ghost use Rattle.lowering_relation.specs.Losing.{Loses};
-ghost use Rattle.lowering_relation.specs.Written.{Extends, IsAt, size};
+ghost use Rattle.lower_frame.specs.lowering_relation.LoweredBodies as B;
+ghost use Rattle.lower_frame.specs.lowering_relation.LoweredFunctions as F;
+ghost use Rattle.lower_frame.specs.lowering_relation.Values as S;
+ghost use Rattle.lower_frame.specs.lowering_relation.Losing.{Loses};
+ghost use Rattle.lower_frame.specs.lowering_relation.Written.{Extends, IsAt, size};
 ghost use Rattle.cell_lower.specs.Leaving.{is_fbip, sizes_of};
 ghost use Rattle.cell_lower.specs.LaidProgram.{IsInRoom};
 ghost use Rattle.cell_lower.specs.Writing.{param_at};
-ghost use Rattle.lowering_relation.specs.Matches.{wide};
+ghost use Rattle.lower_frame.specs.lowering_relation.Matches.{wide};
 ghost use Rattle.lower_frame.specs.Frames.{kinds_told};
 ghost use Rattle.lower_frame.specs.Labels.{labels, telling};
 ghost use Rattle.lower_frame.specs.Registers.{registers};
@@ -22,8 +22,8 @@ use fip_trees::needs::Need;
 use fip_trees::program::{Binder, Instance, Program};
 use fip_trees::scalars::Scalars;
 use fip_trees::sizes::Sizes;
+use lower_frame::relation::Held;
 use lower_frame::{Buffer, Frame};
-use lowering_relation::Held;
 use std::alloc::Global;
 
 /// What all functions of a program share.

@@ -1,7 +1,7 @@
 // Marks of registers: which trees an expression may use up.
 ghost use Rattle.std.specs.Prelude.{◌≡◌, true, IfSome, IfNone, None, Some, slice_get, slice_set};
 ghost use Rattle.fip_trees.specs.TreeView as V;
-ghost use Rattle.lowering_relation.specs.Uses.{takes_of};
+ghost use Rattle.lower_frame.specs.lowering_relation.Uses.{takes_of};
 ghost use Rattle.cell_lower.specs.Marks.{is_marked, marking, marking_all, marking_block, marking_clauses, marking_if};
 ghost use Rattle.cell_lower.specs.Marks.{marking_in, marking_passed};
 ghost use Rattle.cell_lower.specs.Writing.{setting};

@@ -2,11 +2,11 @@
 ghost use Rattle.std.specs.Prelude.{◌≡◌, ◌≤◌, ◌+◌, ◌&&◌, not, suc, [], ◌∷◌, None, Some, IfOk, OnOk, drop, length};
 ghost use Rattle.fip_trees.specs.TreeView as V;
 ghost use Rattle.match_knowledge.specs.View as View;
-ghost use Rattle.lowering_relation.specs.Entering.{entering, entering_all, entering_root, root_of, variable_held, with_cell};
-ghost use Rattle.lowering_relation.specs.Entering.{with_variable, spent_if};
-ghost use Rattle.lowering_relation.specs.Losing.{Loses};
-ghost use Rattle.lowering_relation.specs.Rows.{row_of, rows_of};
-ghost use Rattle.lowering_relation.specs.Written.{Extends, GivesUp, size};
+ghost use Rattle.lower_frame.specs.lowering_relation.Entering.{entering, entering_all, entering_root, root_of, variable_held, with_cell};
+ghost use Rattle.lower_frame.specs.lowering_relation.Entering.{with_variable, spent_if};
+ghost use Rattle.lower_frame.specs.lowering_relation.Losing.{Loses};
+ghost use Rattle.lower_frame.specs.lowering_relation.Rows.{row_of, rows_of};
+ghost use Rattle.lower_frame.specs.lowering_relation.Written.{Extends, GivesUp, size};
 ghost use Rattle.lower_frame.specs.Positions.{reaching, spot_of, spots_of};
 ghost use Rattle.cell_lower.specs.Scenes.{AtSpot, first_side, patterns_of, sides_of};
 ghost use Rattle.cell_lower.specs.Clauses.{AddsPattern, IsBegun, EndsIn, EndsMatch, GoesToEnd, HasPositions};
@@ -18,8 +18,8 @@ ghost use Rattle.cell_lower.specs.Leaving.{ClauseLeavesLaid, EndsMatchedLaid};
 ghost use Rattle.cell_lower.specs.Marks.{MarkedFor, MarkedIf};
 ghost use Rattle.cell_lower.specs.Matches.{BeginsLaid, EndsInLaid, EndsMatchLaid, GoesLaid, JoinsLaid, StartsLaid};
 ghost use Rattle.lower_frame.specs.Labels.{labels};
-ghost use Rattle.lowering_relation.specs.Values.{is_scalar};
-ghost use Rattle.lowering_relation.proofs.Choices.{patterns_in};
+ghost use Rattle.lower_frame.specs.lowering_relation.Values.{is_scalar};
+ghost use Rattle.lower_frame.proofs.lowering_relation.Choices.{patterns_in};
 ghost use Rattle.cell_lower.specs.Writing.{setting, target_of};
 
 use crate::choices::{Choice, Side, is_named, start_of};
@@ -28,8 +28,8 @@ use cell_code::Instr;
 use fip_base::plain::NoMemory;
 use fip_trees::program::{Argument, Binder, Clause, Pattern};
 use fip_trees::sizes::Sizes;
+use lower_frame::relation::Held;
 use lower_frame::{Frame, Spot, add_spots, field_at};
-use lowering_relation::Held;
 use match_knowledge::{Head, Row};
 use std::alloc::Global;
 

@@ -2,10 +2,10 @@
 ghost use Rattle.std.specs.Prelude.{◌≡◌, true, false, not, [], IfOk, OnOk, slice_get};
 ghost use Rattle.fip_trees.specs.TreeView as V;
 ghost use Rattle.cell_code.specs.declared.code.Instr.TheVariants as I;
-ghost use Rattle.lowering_relation.specs.declared.held.Held.TheVariants as H;
-ghost use Rattle.lowering_relation.specs.Known as K;
-ghost use Rattle.lowering_relation.specs.Losing.{Loses};
-ghost use Rattle.lowering_relation.specs.Written.{GivesUp, added};
+ghost use Rattle.lower_frame.specs.lowering_relation.declared.held.Held.TheVariants as H;
+ghost use Rattle.lower_frame.specs.lowering_relation.Known as K;
+ghost use Rattle.lower_frame.specs.lowering_relation.Losing.{Loses};
+ghost use Rattle.lower_frame.specs.lowering_relation.Written.{GivesUp, added};
 ghost use Rattle.lower_frame.specs.Credits.{NoBares, is_bare};
 ghost use Rattle.lower_frame.specs.Registers.{HasRoom};
 ghost use Rattle.cell_lower.specs.Growth.{Sheds};
@@ -18,7 +18,7 @@ use cell_code::{Instr, Registers};
 use fip_base::plain::NoMemory;
 use fip_trees::program::Argument;
 use lower_frame::as_value;
-use lowering_relation::Held;
+use lower_frame::relation::Held;
 
 impl<'a> Lowerer<'a> {
     /// The register that holds the value of an argument: a variable's own, or that of what is built.

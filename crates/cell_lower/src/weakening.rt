@@ -1,8 +1,8 @@
 // What is left over in an fbip function is given up: trees are dropped, cells of credits are freed.
 ghost use Rattle.std.specs.Prelude.{◌≡◌, ◌-◌, false, not, OnOk, slice_get};
-ghost use Rattle.lowering_relation.specs.Known.{is_owned};
-ghost use Rattle.lowering_relation.specs.Losing.{Loses};
-ghost use Rattle.lowering_relation.specs.Written.{GivesUp};
+ghost use Rattle.lower_frame.specs.lowering_relation.Known.{is_owned};
+ghost use Rattle.lower_frame.specs.lowering_relation.Losing.{Loses};
+ghost use Rattle.lower_frame.specs.lowering_relation.Written.{GivesUp};
 ghost use Rattle.lower_frame.specs.Credits.{NoTrees, sized};
 ghost use Rattle.cell_lower.specs.Growth.{Sheds};
 ghost use Rattle.cell_lower.specs.Laying.{AllGone, GivesUpLaid, SpendsAll, SpendsPast};

@@ -4,7 +4,7 @@ use Rattle.std.specs.Prelude.{Err, IfSome, IfNone}
 use Rattle.std.proofs.lemmas.Bool.{cases_lt}
 use Rattle.std.proofs.lemmas.Option.{none-some, same_Some}
 use Rattle.std.proofs.lemmas.List.{append_assoc, map-append, length-map}
-use Rattle.fip_language.specs.Store.{Cell}
+use Rattle.fip_base.specs.fip_language.Store.{Cell}
 use Rattle.cell_store.specs.Cells.{Cells, cell_at, IsBehind}
 use Rattle.cell_store.specs.Told.{Told}
 use Rattle.cell_trace.specs.declared.error.TraceError.{TraceError}

@@ -5,7 +5,7 @@
 -- events, or where there are more steps than 64 bits count.
 use Rattle.std.specs.Prelude.{◌≡◌, ◌⊎◌, ℕ, suc, ◌+◌, ◌*◌, ◌^◌, ◌<◌, ◌≤◌, List, [], ◌∷◌, length, map, Some, None}
 use Rattle.std.specs.Prelude.{Result, Ok, Err}
-use Rattle.fip_language.specs.Store.{Cell}
+use Rattle.fip_base.specs.fip_language.Store.{Cell}
 use Rattle.cell_store.specs.Cells.{Cells}
 use Rattle.cell_store.specs.Told.{Told, Overwritten, Released}
 use Rattle.cell_trace.specs.declared.error.TraceError.{TraceError}

@@ -1,7 +1,7 @@
 // A store that keeps what is written to it.
 ghost use Rattle.std.specs.Prelude.{◌≡◌, ◌≢◌, ℕ, ◌+◌, ◌<◌, ◌≤◌, List, [], ◌∷◌, ◌++◌, IfSome, Some, None, IfOk, IfErr};
 ghost use Rattle.std.specs.Prelude.{length, take};
-ghost use Rattle.fip_language.specs.Store.{Cell};
+ghost use Rattle.fip_base.specs.fip_language.Store.{Cell};
 ghost use Rattle.cell_store.specs.Cells.{cell_at, size_in};
 ghost use Rattle.cell_trace.specs.Traced.{Standing, Noted, IsTraced, standing_from};
 ghost use Rattle.cell_trace.specs.Taped.{Recorded, IsTape, WasTold};

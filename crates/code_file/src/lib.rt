@@ -24,11 +24,11 @@
 mod error;
 mod instructions;
 mod kinds;
-pub mod theorems;
 mod names;
 mod read;
 mod reader;
 mod tags;
+pub mod theorems;
 mod write;
 mod write_instructions;
 mod write_kinds;

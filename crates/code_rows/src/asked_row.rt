@@ -12,8 +12,8 @@ use crate::place::Place;
 use crate::plain_rows::{row_arith, row_atom, row_const, row_move};
 use crate::tree_rows::{row_drop, row_free, row_peek, row_take};
 use cell_code::Instr;
-use register_kinds::Registers;
 use code_rules::SoundRule;
+use register_kinds::Registers;
 
 /// Asks the row of an instruction that keeps S1, and changes what is known of the registers to what is known behind it.
 /// Whether anything is.

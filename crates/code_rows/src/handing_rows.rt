@@ -14,8 +14,8 @@ use crate::asked_row::{judge, note_unless};
 use crate::calls::{credits_of, params_of, results_of};
 use crate::least::Least;
 use crate::place::Place;
-use register_kinds::Registers;
 use code_rules::SoundRule;
+use register_kinds::Registers;
 
 /// Put.
 pub fn row_put<'a>(

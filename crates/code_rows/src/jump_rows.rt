@@ -11,8 +11,8 @@ ghost use Rattle.code_rows.specs.Rows.{row_kept, GoesOn, fit_at};
 use crate::asked_row::judge;
 use crate::least::{Least, Violation};
 use crate::place::Place;
-use register_kinds::Registers;
 use code_rules::SoundRule;
+use register_kinds::Registers;
 
 const INT: u32 = 0;
 

@@ -23,3 +23,4 @@ pub use labels::Labels;
 pub use least::{Least, Violation};
 pub use place::Place;
 pub use range::is_in_range;
+pub use register_kinds as kinds;

@@ -2,8 +2,8 @@
 use Rattle.std.proofs.Common.{◌≡◌, ℕ, zero, suc, ◌<◌, ◌≤◌, List, [], ◌∷◌, length, Some, slice_get, get_or, refl, sym, ap, ◌∙◌, subst, arith}
 use Rattle.std.specs.Prelude.{codes}
 use Rattle.std.proofs.lemmas.Option.{same_Some, none-some}
-use Rattle.fip_language.specs.Table.{Table, Shape}
-use Rattle.fip_language.specs.Values.{Node, End}
+use Rattle.cell_code.specs.fip_language.Table.{Table, Shape}
+use Rattle.cell_code.specs.fip_language.Values.{Node, End}
 use Rattle.code_rules.specs.Codes.{PlainFunction}
 use Rattle.code_rules.specs.Tables.{bare, IsSoundShape, IsSoundType, AreSoundTables}
 use Rattle.code_rules.specs.Example.{ints, types, code_of}

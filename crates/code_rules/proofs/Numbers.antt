@@ -1,6 +1,6 @@
 -- A function has one stack number at most, and rows that list a code's calls have its groups.
 use Rattle.std.proofs.Common.{◌≡◌, ◌↔◌, ℕ, zero, suc, Bool, List, Option, Some, None, refl, sym, ap, ap₂, ◌∙◌, le_antisymm}
-use Rattle.fip_base.specs.declared.plain.Stack.{Stack}
+use Rattle.cell_code.specs.fip_base.declared.plain.Stack.{Stack}
 use Rattle.call_groups.specs.declared.search.Call.{Call}
 use Rattle.call_groups.specs.CallGraph as G
 use Rattle.call_groups.specs.Stacks.{LeastSolution}

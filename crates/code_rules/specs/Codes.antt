@@ -1,10 +1,10 @@
 -- Codes as plain lists, without the memory that they stand in; and what the numbers of functions mean.
 use Rattle.std.specs.Prelude.{ℕ, Bool, true, false, List, [], ◌∷◌, Option, Some, None, slice_get, map, ◌==◌}
 use Rattle.std.specs.Prelude.{if◌then◌else◌, not}
-use Rattle.fip_language.specs.Table.{Table}
-use Rattle.fip_language.specs.declared.FunKind.{FunKind}
-use Rattle.fip_language.specs.declared.FunKind.TheVariants.{Fip, Fbip, Fun}
-use Rattle.fip_base.specs.declared.plain.Param.{Param}
+use Rattle.cell_code.specs.fip_language.Table.{Table}
+use Rattle.cell_code.specs.fip_language.declared.FunKind.{FunKind}
+use Rattle.cell_code.specs.fip_language.declared.FunKind.TheVariants.{Fip, Fbip, Fun}
+use Rattle.cell_code.specs.fip_base.declared.plain.Param.{Param}
 use Rattle.cell_code.specs.declared.code.Code.{Code}
 use Rattle.cell_code.specs.declared.code.Function.{Function}
 use Rattle.cell_code.specs.declared.code.Instr.{Instr}

@@ -2,8 +2,8 @@
 -- scalar, another is owned with any constructor, or, where it is lent, lies in a tree of a frame below. The credits of
 -- the header follow, and all other registers are Gone.
 use Rattle.std.specs.Prelude.{ℕ, zero, suc, ◌+◌, ◌-◌, List, [], ◌∷◌, ◌++◌, None, length, map, if◌then◌else◌}
-use Rattle.fip_language.specs.Table.{Table}
-use Rattle.fip_base.specs.declared.plain.Param.{Param}
+use Rattle.cell_code.specs.fip_language.Table.{Table}
+use Rattle.cell_code.specs.fip_base.declared.plain.Param.{Param}
 use Rattle.cell_code.specs.declared.kind.Kind.{Kind}
 use Rattle.cell_code.specs.declared.kind.Kind.TheVariants.{Gone, Scalar, Owned, Lent, Credit}
 use Rattle.code_rules.specs.Codes.{PlainCode, PlainFunction}

@@ -5,9 +5,9 @@
 -- xs stands in register 0 and acc in register 1; x and t come into registers 2 and 3. The cell of Cons, which the Take
 -- leaves as a credit in register 0, holds the new Cons, and the frame goes on with t and that.
 use Rattle.std.specs.Prelude.{◌≡◌, ◌↔◌, ℕ, false, List, [], ◌∷◌, codes, pos}
-use Rattle.fip_language.specs.Table.{Table, Shape}
-use Rattle.fip_language.specs.declared.FunKind.TheVariants.{Fip}
-use Rattle.fip_base.specs.declared.plain.Param.{Param}
+use Rattle.cell_code.specs.fip_language.Table.{Table, Shape}
+use Rattle.cell_code.specs.fip_language.declared.FunKind.TheVariants.{Fip}
+use Rattle.cell_code.specs.fip_base.declared.plain.Param.{Param}
 use Rattle.cell_code.specs.declared.code.Instr.{Instr}
 use Rattle.cell_code.specs.declared.code.Instr.TheVariants as I
 use Rattle.cell_code.specs.declared.kind.Kind.{Kind}

@@ -8,8 +8,8 @@
 -- With register 0 owned of type 2, it may be given once as a field of type 2, and not twice.
 use Rattle.std.specs.Prelude.{ℕ, Bool, true, false, ◌&&◌, ◌||◌, not, is_some, List, [], ◌∷◌, Option, Some, None, ◌+◌}
 use Rattle.std.specs.Prelude.{option_and_then, drop, length, if◌then◌else◌, ◌==◌}
-use Rattle.fip_language.specs.Table.{Table}
-use Rattle.fip_base.specs.declared.plain.Param.{Param}
+use Rattle.cell_code.specs.fip_language.Table.{Table}
+use Rattle.cell_code.specs.fip_base.declared.plain.Param.{Param}
 use Rattle.cell_code.specs.declared.kind.Kind.{Kind}
 use Rattle.cell_code.specs.declared.kind.Kind.TheVariants.{Gone, Scalar, Owned, Lent, Credit}
 use Rattle.code_rules.specs.Codes.{PlainCode, params, credits}

@@ -3,9 +3,9 @@
 -- Where register 0 owns a tree with constructor 0 or 1, `Test 0 0 3` leaves constructor 0 to the next instruction, and
 -- constructor 1 to instruction 3.
 use Rattle.std.specs.Prelude.{◌≡◌, ℕ, false, List, [], ◌∷◌, Some, slice_get, if◌then◌else◌}
-use Rattle.fip_language.specs.Table.{Table}
-use Rattle.fip_language.specs.declared.Operator.{Operator}
-use Rattle.fip_language.specs.declared.Operator.TheVariants as O
+use Rattle.cell_code.specs.fip_language.Table.{Table}
+use Rattle.cell_code.specs.fip_language.declared.Operator.{Operator}
+use Rattle.cell_code.specs.fip_language.declared.Operator.TheVariants as O
 use Rattle.cell_code.specs.declared.code.Instr.{Instr}
 use Rattle.cell_code.specs.declared.code.Instr.TheVariants as I
 use Rattle.cell_code.specs.declared.kind.Kind.{Kind}

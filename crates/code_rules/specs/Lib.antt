@@ -18,3 +18,5 @@ pub mod Calls
 pub mod Breaks
 pub mod StackNumbers
 pub mod Example
+pub use Rattle.call_groups.specs as call_groups
+pub use Rattle.cell_code.specs as cell_code

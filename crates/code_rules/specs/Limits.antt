@@ -1,7 +1,7 @@
 -- The limits that sound code keeps.
 use Rattle.std.specs.Prelude.{ℕ}
-use Rattle.fip_language.specs.declared.limits.TheConstants.{FRAME_WORDS, MOST_CREDITS, MOST_FIELDS}
-use Rattle.fip_language.specs.declared.limits.TheConstants.{MOST_INSTANCES, MOST_REGISTERS, MOST_RESULTS}
+use Rattle.cell_code.specs.fip_language.declared.limits.TheConstants.{FRAME_WORDS, MOST_CREDITS, MOST_FIELDS}
+use Rattle.cell_code.specs.fip_language.declared.limits.TheConstants.{MOST_INSTANCES, MOST_REGISTERS, MOST_RESULTS}
 
 -- of types and of functions there may be as many as there may be instances
 abbrev pub most_types : ℕ

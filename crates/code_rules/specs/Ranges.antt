@@ -4,7 +4,7 @@
 -- In a function of 7 registers `Const 7 5` breaks S1, and so does `Jump 0`. A constructor that a Test names is no
 -- matter of S1, since its type is known by the register alone.
 use Rattle.std.specs.Prelude.{ℕ, Bool, true, ◌&&◌, is_some, List, [], ◌∷◌, length, nat_lt}
-use Rattle.fip_language.specs.Table.{Table}
+use Rattle.cell_code.specs.fip_language.Table.{Table}
 use Rattle.cell_code.specs.declared.code.Instr.{Instr}
 use Rattle.cell_code.specs.declared.code.Instr.TheVariants as I
 use Rattle.code_rules.specs.Codes.{PlainCode, PlainFunction, label_at}

@@ -6,7 +6,7 @@
 -- Where f of 5 registers waits for g of 7, which calls itself in tail position, g holds 0 frames and 9 words, and f
 -- holds 1 frame and 16 words.
 use Rattle.std.specs.Prelude.{◌≡◌, ℕ, ◌+◌, Bool, true, Option, Some, None, if◌then◌else◌}
-use Rattle.fip_base.specs.declared.plain.Stack.{Stack}
+use Rattle.cell_code.specs.fip_base.declared.plain.Stack.{Stack}
 use Rattle.call_groups.specs.Stacks.{LeastSolution, base_frames, own_frames}
 use Rattle.code_rules.specs.Limits.{frame_words}
 use Rattle.code_rules.specs.Codes.{PlainCode, PlainFunction, function_at, is_fip}

@@ -4,8 +4,8 @@
 --
 -- `data inf { Mk(inf) }` alone breaks it, as it has no finite value.
 use Rattle.std.specs.Prelude.{◌≡◌, ℕ, ◌<◌, ◌≤◌, List, [], ◌∷◌, length, Some, slice_get, codes}
-use Rattle.fip_language.specs.Table.{Table, Shape, constructors, HasType}
-use Rattle.fip_language.specs.Values.{Value}
+use Rattle.cell_code.specs.fip_language.Table.{Table, Shape, constructors, HasType}
+use Rattle.cell_code.specs.fip_language.Values.{Value}
 use Rattle.code_rules.specs.Limits.{most_types, most_functions, most_fields}
 use Rattle.code_rules.specs.Codes.{PlainCode, PlainFunction, function_at}
 

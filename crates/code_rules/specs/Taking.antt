@@ -12,7 +12,7 @@
 -- taken into 1, register 1 owns its tree, and 2 is lent of 1. Taken into 3, both 1 and 2 are Gone.
 use Rattle.std.specs.Prelude.{◌≡◌, ℕ, zero, suc, Bool, true, false, ◌&&◌, not, is_some, List, [], ◌∷◌, Option, Some}
 use Rattle.std.specs.Prelude.{None, length, if◌then◌else◌, ◌==◌}
-use Rattle.fip_language.specs.Table.{Table}
+use Rattle.cell_code.specs.fip_language.Table.{Table}
 use Rattle.cell_code.specs.declared.kind.From.{From}
 use Rattle.cell_code.specs.declared.kind.Kind.{Kind}
 use Rattle.cell_code.specs.declared.kind.Kind.TheVariants.{Gone, Scalar, Owned, Lent, Credit}

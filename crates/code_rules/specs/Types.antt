@@ -5,7 +5,7 @@
 -- type 2 is `Owned 2 (0 ∷ 1 ∷ [])`.
 use Rattle.std.specs.Prelude.{ℕ, zero, suc, Bool, ◌&&◌, List, [], ◌∷◌, Option, Some, None, length, slice_get, nat_lt}
 use Rattle.std.specs.Prelude.{if◌then◌else◌}
-use Rattle.fip_language.specs.Table.{Table, Shape, constructors, is_scalar}
+use Rattle.cell_code.specs.fip_language.Table.{Table, Shape, constructors, is_scalar}
 use Rattle.cell_code.specs.declared.kind.Kind.{Kind}
 use Rattle.cell_code.specs.declared.kind.Kind.TheVariants.{Scalar, Owned, Lent}
 

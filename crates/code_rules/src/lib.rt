@@ -1,7 +1,7 @@
 // What sound code is: the definition that a verifier meets. It stands in specs/; its laws are in `laws`.
 #![tactic(auto)]
 
-pub mod theorems;
 mod rule;
+pub mod theorems;
 
 pub use rule::SoundRule;

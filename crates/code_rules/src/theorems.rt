@@ -1,6 +1,6 @@
 // The laws of sound code. Each is the contract of a function that does nothing.
 ghost use Rattle.std.specs.Prelude.{◌≡◌, ◌↔◌, ℕ, List, Option, Some};
-ghost use Rattle.fip_base.specs.declared.plain.Stack.{Stack};
+ghost use Rattle.cell_code.specs.fip_base.declared.plain.Stack.{Stack};
 ghost use Rattle.cell_code.specs.declared.code.Instr.{Instr};
 ghost use Rattle.cell_code.specs.declared.kind.Kind.{Kind};
 ghost use Rattle.call_groups.specs.declared.search.Call.{Call};

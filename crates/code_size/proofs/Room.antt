@@ -1,7 +1,7 @@
 -- There is room for an instruction.
 use Rattle.std.proofs.Common.{◌<◌, ℕ, suc, ◌+◌, ◌*◌, arith}
-use Rattle.fip_language.specs.Table.{Table}
-use Rattle.fip_trees.specs.Tree.{Instance}
+use Rattle.match_cover.specs.fip_language.Table.{Table}
+use Rattle.match_cover.specs.fip_trees.Tree.{Instance}
 use Rattle.tail_groups.specs.Registers.{registers}
 use Rattle.code_size.specs.Places.{block_places}
 use Rattle.code_size.specs.Bounds.{most_instructions}

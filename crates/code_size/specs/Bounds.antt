@@ -1,7 +1,7 @@
 -- How many instructions and label maps the code of an instance may have, by its registers and its places.
 use Rattle.std.specs.Prelude.{ℕ, ◌+◌, ◌*◌, ◌≤◌}
-use Rattle.fip_language.specs.Table.{Table}
-use Rattle.fip_trees.specs.Tree.{Instance}
+use Rattle.match_cover.specs.fip_language.Table.{Table}
+use Rattle.match_cover.specs.fip_trees.Tree.{Instance}
 use Rattle.tail_groups.specs.Registers.{registers}
 use Rattle.code_size.specs.Places.{places}
 

@@ -5,15 +5,15 @@
 -- `match! xs { Nil -> acc; Cons(x, t) -> rev(t, Cons(x, acc)) }` has 16: the match, its scrutinee, two clauses, four
 -- nodes of patterns, `acc`, the call with `t`, `Cons(..)`, `x` and `acc`, and one branch, which counts two.
 use Rattle.std.specs.Prelude.{ℕ, suc, ◌+◌, ◌*◌, List, [], ◌∷◌}
-use Rattle.fip_language.specs.Table.{Table}
-use Rattle.fip_trees.specs.Tree as T
-use Rattle.fip_trees.specs.Tree.{Argument, Variable, Literal, Constructor, Arguments, NoArguments, MoreArguments}
-use Rattle.fip_trees.specs.Tree.{BinderPattern, LiteralPattern, ConstructorPattern}
-use Rattle.fip_trees.specs.Tree.{Expression, Give, Tuple, Operation, Call, Match, Nested, Block, Last, Let}
-use Rattle.fip_trees.specs.Tree.{Clauses, NoClauses, MoreClauses, Instance}
-use Rattle.match_knowledge.specs.declared.heads.Head.TheVariants.{Number, Tag}
-use Rattle.match_knowledge.specs.Patterns.{Pattern, Any, Test, Patterns, NoPatterns, MorePatterns}
-use Rattle.match_knowledge.specs.Known.{Open}
+use Rattle.match_cover.specs.fip_language.Table.{Table}
+use Rattle.match_cover.specs.fip_trees.Tree as T
+use Rattle.match_cover.specs.fip_trees.Tree.{Argument, Variable, Literal, Constructor, Arguments, NoArguments, MoreArguments}
+use Rattle.match_cover.specs.fip_trees.Tree.{BinderPattern, LiteralPattern, ConstructorPattern}
+use Rattle.match_cover.specs.fip_trees.Tree.{Expression, Give, Tuple, Operation, Call, Match, Nested, Block, Last, Let}
+use Rattle.match_cover.specs.fip_trees.Tree.{Clauses, NoClauses, MoreClauses, Instance}
+use Rattle.match_cover.specs.match_knowledge.declared.heads.Head.TheVariants.{Number, Tag}
+use Rattle.match_cover.specs.match_knowledge.Patterns.{Pattern, Any, Test, Patterns, NoPatterns, MorePatterns}
+use Rattle.match_cover.specs.match_knowledge.Known.{Open}
 use Rattle.match_cover.specs.PatternView.{pattern_nodes}
 use Rattle.match_cover.specs.DecisionTree.{branches, tree_at}
 

@@ -1,7 +1,7 @@
 // The laws of the bounds on code. Each is the contract of a function that does nothing.
 ghost use Rattle.std.specs.Prelude.{◌≡◌, ◌<◌, ℕ};
-ghost use Rattle.fip_language.specs.Table.{Table};
-ghost use Rattle.fip_trees.specs.Tree.{Instance};
+ghost use Rattle.match_cover.specs.fip_language.Table.{Table};
+ghost use Rattle.match_cover.specs.fip_trees.Tree.{Instance};
 ghost use Rattle.instance_semantics.specs.Example.{lists, rev, number};
 ghost use Rattle.code_size.specs.Places.{places};
 ghost use Rattle.code_size.specs.Bounds.{most_instructions, most_labels};

@@ -9,7 +9,7 @@ use Rattle.code_rules.specs.Codes.{PlainCode, PlainFunction, LabelMap, plain, pl
 use Rattle.code_rules.specs.Entry.{entry}
 use Rattle.code_rules.specs.Flow.{IsInstr}
 use Rattle.code_rules.specs.Handing.{kept_if}
-use Rattle.register_kinds.specs.State.{of_types}
+use Rattle.code_rows.specs.register_kinds.State.{of_types}
 use Rattle.code_rows.specs.Placing.{code_in, with_maps}
 use Rattle.code_verify.specs.declared.walk.Found.{Found}
 use Rattle.code_verify.specs.Steps.{here, GoesAfter, Took}

@@ -18,12 +18,12 @@ use crate::verified::Verified;
 use crate::walk::{DropType, Found, Waiting, walk};
 use call_groups::{Call, Partition, partition_of, stacks};
 use cell_code::{Code, Function};
+use code_rows::kinds::Table;
 use code_rows::{Least, Violation, is_fip, is_formed};
+use code_rules::SoundRule;
 use code_tables::are_sound_tables;
 use fip_base::plain::{NoMemory, Stack};
 use fip_language::limits::FRAME_WORDS;
-use register_kinds::Table;
-use code_rules::SoundRule;
 use std::alloc::Global;
 use thiserror::Error;
 

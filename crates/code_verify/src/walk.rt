@@ -17,12 +17,12 @@ ghost use Rattle.code_verify.specs.Finding.{IsFound, HasMachineIntsBelow};
 
 use call_groups::Call;
 use cell_code::{Code, Function, Instr};
+use code_rows::kinds::{Registers, Table};
 use code_rows::{
     Labels, Least, Place, arrive, is_end, is_fip, is_in_range, note_unless, releases, row,
 };
-use fip_base::plain::NoMemory;
-use register_kinds::{Registers, Table};
 use code_rules::SoundRule;
+use fip_base::plain::NoMemory;
 use std::alloc::Global;
 
 /// A call outside tail position: its instruction, and the function that is called.

@@ -4,26 +4,26 @@
 use Rattle.std.proofs.Common.{◌≡◌, ◌⊎◌, inl, inr, ℕ, suc, ◌<◌, ◌++◌, List, [], ◌∷◌, Option, Some, None, length, refl, sym, ap, ap₂, ◌∙◌, subst, arith}
 use Rattle.std.proofs.lemmas.Option.{none-some, same_Some}
 use Rattle.fip_outside.specs.Files.{File, file_of}
-use Rattle.fip_language.proofs.Search.{le_or_less}
-use Rattle.fip_language.specs.declared.limits.TheConstants.{MOST_FILE_BYTES}
-use Rattle.fip_language.specs.declared.rule.Rule.TheVariants.{E61}
-use Rattle.command_words.specs.Words.{Verify, Upgrade, Replay}
-use Rattle.command_outcome.specs.Successes.{function_text}
-use Rattle.command_outcome.specs.declared.failure.Failure.TheVariants as F
-use Rattle.command_outcome.specs.declared.failure.Object.TheVariants as O
-use Rattle.code_file.specs.CodeText.{CodeText, code_text}
-use Rattle.code_file.specs.Plain.{PlainCode}
-use Rattle.code_file.specs.declared.tags.Version.TheVariants.{Second}
-use Rattle.code_rules.specs.Breaks.{IsSound}
-use Rattle.code_rules.specs.Codes as S
-use Rattle.code_rules.proofs.Numbers.{has_once}
-use Rattle.separation_bounds.proofs.Numbers.{has_stack}
-use Rattle.run_loading.specs.Replaying.{replayed}
-use Rattle.run_loading.specs.TraceReading.{IsBadTrace, IsTraceFile}
-use Rattle.run_loading.specs.TraceText.{Trace}
-use Rattle.run_loading.proofs.Either.{is_one, one_trace, not_both, one_place}
-use Rattle.source_report.specs.Report.{bare}
-use Rattle.command_source.specs.Codes.{sound_view, IsSoundFile, IsLine, AreLines, IsCodeListing, IsUpgraded, IsUnspelt}
+use Rattle.command_library.proofs.fip_language.Search.{le_or_less}
+use Rattle.command_library.specs.fip_language.declared.limits.TheConstants.{MOST_FILE_BYTES}
+use Rattle.command_library.specs.fip_language.declared.rule.Rule.TheVariants.{E61}
+use Rattle.command_library.specs.command_words.Words.{Verify, Upgrade, Replay}
+use Rattle.command_library.specs.command_outcome.Successes.{function_text}
+use Rattle.command_library.specs.command_outcome.declared.failure.Failure.TheVariants as F
+use Rattle.command_library.specs.command_outcome.declared.failure.Object.TheVariants as O
+use Rattle.worked_examples.specs.code_file.CodeText.{CodeText, code_text}
+use Rattle.worked_examples.specs.code_file.Plain.{PlainCode}
+use Rattle.worked_examples.specs.code_file.declared.tags.Version.TheVariants.{Second}
+use Rattle.command_library.specs.code_rules.Breaks.{IsSound}
+use Rattle.command_library.specs.code_rules.Codes as S
+use Rattle.command_library.proofs.code_rules.Numbers.{has_once}
+use Rattle.worked_examples.proofs.separation_bounds.Numbers.{has_stack}
+use Rattle.command_library.specs.run_loading.Replaying.{replayed}
+use Rattle.command_library.specs.run_loading.TraceReading.{IsBadTrace, IsTraceFile}
+use Rattle.command_library.specs.run_loading.TraceText.{Trace}
+use Rattle.command_library.proofs.run_loading.Either.{is_one, one_trace, not_both, one_place}
+use Rattle.worked_examples.specs.source_report.Report.{bare}
+use Rattle.command_library.specs.command_source.Codes.{sound_view, IsSoundFile, IsLine, AreLines, IsCodeListing, IsUpgraded, IsUnspelt}
 use Rattle.command_answers.specs.Answer.{OnCode, CodeRefused, CodeSound, Verified, OnFound, ComesTo}
 use Rattle.command_answers.specs.Outcomes.{Outcome, printed, failed, storing}
 use Rattle.command_answers.specs.Replays.{Replays, BadTrace, Shown}

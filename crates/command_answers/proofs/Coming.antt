@@ -1,15 +1,15 @@
 -- What a command comes to: by the constructors of what it does, behind the file that it fetches.
 use Rattle.std.proofs.Common.{◌≡◌, ◌<◌, ℕ, List, Some, None, refl, sym, subst, inl, length}
 use Rattle.std.specs.Prelude.{Option}
-use Rattle.fip_language.specs.declared.limits.TheConstants.{MOST_SOURCE_BYTES}
-use Rattle.fip_language.specs.declared.rule.Rule.TheVariants.{E05}
+use Rattle.command_library.specs.fip_language.declared.limits.TheConstants.{MOST_SOURCE_BYTES}
+use Rattle.command_library.specs.fip_language.declared.rule.Rule.TheVariants.{E05}
 use Rattle.fip_outside.specs.Files.{File, file_of}
-use Rattle.command_words.specs.Words.{Command, Check, Compile, Verify, Upgrade, Exec, Run, Eval, Trace, Session, Tasks, Derive, Audit, Replay, Library, Gen, IsCommand}
-use Rattle.command_outcome.specs.declared.failure.Failure.TheVariants as F
-use Rattle.command_outcome.specs.declared.failure.Object.TheVariants as O
-use Rattle.source_report.specs.Report.{bare}
-use Rattle.source_report.specs.Report as Report
-use Rattle.command_source.specs.Wanted.{Wanted}
+use Rattle.command_library.specs.command_words.Words.{Command, Check, Compile, Verify, Upgrade, Exec, Run, Eval, Trace, Session, Tasks, Derive, Audit, Replay, Library, Gen, IsCommand}
+use Rattle.command_library.specs.command_outcome.declared.failure.Failure.TheVariants as F
+use Rattle.command_library.specs.command_outcome.declared.failure.Object.TheVariants as O
+use Rattle.worked_examples.specs.source_report.Report.{bare}
+use Rattle.worked_examples.specs.source_report.Report as Report
+use Rattle.command_library.specs.command_source.Wanted.{Wanted}
 use Rattle.command_answers.specs.Outcomes.{Outcome, failed}
 use Rattle.command_answers.specs.Asks.{fetched_name, stored_name, wanted}
 use Rattle.command_answers.specs.Stored.{Audits}

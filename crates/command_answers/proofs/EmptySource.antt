@@ -2,26 +2,26 @@
 use Rattle.std.proofs.Common.{◌≡◌, ℕ, zero, suc, ◌<◌, ◌≤◌, false, List, [], ◌∷◌, length, Some, refl, sym, ap, ◌∙◌, subst, inl, inr, arith, slice_get, get_or}
 use Rattle.std.specs.Prelude.{codes}
 use Rattle.std.proofs.lemmas.Option.{none-some}
-use Rattle.fip_language.specs.declared.limits.TheConstants.{MOST_FILE_BYTES}
-use Rattle.fip_language.specs.declared.rule.Rule.TheVariants.{E70}
-use Rattle.fip_language.specs.Table.{Shape}
-use Rattle.fip_language.specs.Values.{Node, End}
-use Rattle.code_rules.specs.Tables.{bare, IsSoundShape, IsSoundType, AreSoundTables}
-use Rattle.code_rules.specs.Breaks.{IsSound}
-use Rattle.command_words.specs.Words.{Room}
-use Rattle.command_outcome.specs.Successes.{derived_text}
-use Rattle.command_outcome.specs.declared.failure.Failure.TheVariants as F
-use Rattle.code_file.specs.CodeText.{CodeText, code_text, table_text, type_text, shape_text, types_text, functions_text}
-use Rattle.code_file.specs.Spelling.{◌+++◌, each, one, two, four, upper_name_text, name_text}
-use Rattle.code_file.specs.declared.tags.Version.TheVariants.{Second}
-use Rattle.command_source.specs.Codes.{sound_view, names_one, IsSoundFile, IsCodeListing, IsUpgraded}
-use Rattle.command_source.specs.Roots.{IsListing}
-use Rattle.command_source.specs.Wanted.{Lawful, Root, Compiled, IsReady, Refuses, of_entry}
-use Rattle.session_semantics.specs.Lines.{Symbol, Line, Calls, Shows, GivesUp, SpellsLine}
-use Rattle.session_semantics.specs.Talk as T
-use Rattle.session_semantics.specs.Talk.{Setting, at_first}
-use Rattle.session_semantics.specs.Turns as U
-use Rattle.session_semantics.specs.Turns.{Task, IsTask}
+use Rattle.command_library.specs.fip_language.declared.limits.TheConstants.{MOST_FILE_BYTES}
+use Rattle.command_library.specs.fip_language.declared.rule.Rule.TheVariants.{E70}
+use Rattle.command_library.specs.fip_language.Table.{Shape}
+use Rattle.command_library.specs.fip_language.Values.{Node, End}
+use Rattle.command_library.specs.code_rules.Tables.{bare, IsSoundShape, IsSoundType, AreSoundTables}
+use Rattle.command_library.specs.code_rules.Breaks.{IsSound}
+use Rattle.command_library.specs.command_words.Words.{Room}
+use Rattle.command_library.specs.command_outcome.Successes.{derived_text}
+use Rattle.command_library.specs.command_outcome.declared.failure.Failure.TheVariants as F
+use Rattle.worked_examples.specs.code_file.CodeText.{CodeText, code_text, table_text, type_text, shape_text, types_text, functions_text}
+use Rattle.worked_examples.specs.code_file.Spelling.{◌+++◌, each, one, two, four, upper_name_text, name_text}
+use Rattle.worked_examples.specs.code_file.declared.tags.Version.TheVariants.{Second}
+use Rattle.command_library.specs.command_source.Codes.{sound_view, names_one, IsSoundFile, IsCodeListing, IsUpgraded}
+use Rattle.command_library.specs.command_source.Roots.{IsListing}
+use Rattle.command_library.specs.command_source.Wanted.{Lawful, Root, Compiled, IsReady, Refuses, of_entry}
+use Rattle.command_library.specs.session_semantics.Lines.{Symbol, Line, Calls, Shows, GivesUp, SpellsLine}
+use Rattle.command_library.specs.session_semantics.Talk as T
+use Rattle.command_library.specs.session_semantics.Talk.{Setting, at_first}
+use Rattle.command_library.specs.session_semantics.Turns as U
+use Rattle.command_library.specs.session_semantics.Turns.{Task, IsTask}
 use Rattle.command_answers.specs.OfProgram.{IsCodeOf}
 use Rattle.command_answers.specs.Outcomes.{printed, failed, storing}
 use Rattle.command_answers.specs.Answer as A

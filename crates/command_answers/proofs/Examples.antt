@@ -2,11 +2,11 @@
 use Rattle.std.proofs.Common.{◌≡◌, pos, true, [], ◌∷◌, ◌++◌, Some, Ok, Err, refl}
 use Rattle.std.specs.Prelude.{codes}
 use Rattle.std.specs.Fmt.{decimal}
-use Rattle.fip_language.specs.Values.{End, More}
-use Rattle.instance_semantics.specs.Meaning.{flat_meaning}
-use Rattle.instance_semantics.specs.Example.{lists}
-use Rattle.command_outcome.specs.Successes.{tree_text}
-use Rattle.command_outcome.specs.declared.failure.Failure.TheVariants as F
+use Rattle.command_library.specs.fip_language.Values.{End, More}
+use Rattle.worked_examples.specs.instance_semantics.Meaning.{flat_meaning}
+use Rattle.worked_examples.specs.instance_semantics.Example.{lists}
+use Rattle.command_library.specs.command_outcome.Successes.{tree_text}
+use Rattle.command_library.specs.command_outcome.declared.failure.Failure.TheVariants as F
 use Rattle.command_answers.specs.Exec.{TellsAll}
 use Rattle.command_answers.specs.Stored.{Weakens}
 use Rattle.command_library.specs.MadeTree.{keys_line, pads_line, lines_of_tree}

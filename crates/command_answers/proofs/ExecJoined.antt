@@ -3,31 +3,31 @@
 -- and the gauge of a run is told by the evaluation.
 use Rattle.std.proofs.Common.{◌≡◌, ◌∙◌, ◌+◌, ◌≤◌, ℕ, Bool, List, [], ◌∷◌, ◌++◌, Option, Some, None, slice_get, sym, ap, ap₂, subst, refl, arith}
 use Rattle.std.specs.Prelude.{Result, Ok, Err, option_and_then}
-use Rattle.fip_language.specs.declared.limits.TheConstants.{MOST_FIELDS}
-use Rattle.fip_language.specs.Gauge.{Seen, lowest, highest}
-use Rattle.fip_language.specs.Meaning.{Answer, Peak, Gives, Trap, Out, Deep, Stuck}
-use Rattle.fip_language.specs.Prefix.{IsPlace}
-use Rattle.fip_language.specs.PrintedText.{printed_lines}
-use Rattle.fip_language.specs.Store.{count, one_at}
-use Rattle.fip_language.specs.Values.{Values, cells_of_all}
-use Rattle.fip_language.specs.ValueText.{SpellsValues}
-use Rattle.fip_language.proofs.OnePlace.{IsPlace-unique, IsPlace-not_spelt}
-use Rattle.fip_base.specs.declared.plain.Stack.{Stack}
-use Rattle.fip_trees.specs.declared.groups.Member.{Member}
-use Rattle.fip_trees.specs.Tree.{Program}
-use Rattle.tail_groups.specs.Members.{AreMembers}
-use Rattle.command_words.specs.Words.{Room}
-use Rattle.command_outcome.specs.declared.failure.Failure.{Failure}
-use Rattle.command_outcome.specs.declared.failure.Failure.TheVariants as F
-use Rattle.session_semantics.specs.Talk.{credits_of, frames_of, frames_by}
-use Rattle.machine_correctness.specs.Gauges.{IsMeasured}
-use Rattle.command_eval.specs.EvalAnswer.{Entry, Spells}
-use Rattle.command_eval.proofs.Once.{one_program, one_root, typed_alike, one_text}
-use Rattle.command_run.specs.CodeRun.{all_seen}
-use Rattle.command_run.specs.ExecAnswer as R
-use Rattle.command_run.specs.ExecAnswer.{RunsOn}
-use Rattle.command_run.specs.GaugeText.{stack_lines}
-use Rattle.command_run.proofs.ExecOnce.{member_at, sizes_alike, behind_alike, measured_alike, answers_alike, words_alike, spelt_alike}
+use Rattle.command_library.specs.fip_language.declared.limits.TheConstants.{MOST_FIELDS}
+use Rattle.command_library.specs.fip_language.Gauge.{Seen, lowest, highest}
+use Rattle.command_library.specs.fip_language.Meaning.{Answer, Peak, Gives, Trap, Out, Deep, Stuck}
+use Rattle.command_library.specs.fip_language.Prefix.{IsPlace}
+use Rattle.command_library.specs.fip_language.PrintedText.{printed_lines}
+use Rattle.command_library.specs.fip_language.Store.{count, one_at}
+use Rattle.command_library.specs.fip_language.Values.{Values, cells_of_all}
+use Rattle.command_library.specs.fip_language.ValueText.{SpellsValues}
+use Rattle.command_library.proofs.fip_language.OnePlace.{IsPlace-unique, IsPlace-not_spelt}
+use Rattle.command_library.specs.fip_base.declared.plain.Stack.{Stack}
+use Rattle.worked_examples.specs.fip_trees.declared.groups.Member.{Member}
+use Rattle.worked_examples.specs.fip_trees.Tree.{Program}
+use Rattle.worked_examples.specs.tail_groups.Members.{AreMembers}
+use Rattle.command_library.specs.command_words.Words.{Room}
+use Rattle.command_library.specs.command_outcome.declared.failure.Failure.{Failure}
+use Rattle.command_library.specs.command_outcome.declared.failure.Failure.TheVariants as F
+use Rattle.command_library.specs.session_semantics.Talk.{credits_of, frames_of, frames_by}
+use Rattle.command_library.specs.machine_correctness.Gauges.{IsMeasured}
+use Rattle.command_library.specs.command_eval.EvalAnswer.{Entry, Spells}
+use Rattle.command_library.proofs.command_eval.Once.{one_program, one_root, typed_alike, one_text}
+use Rattle.command_library.specs.command_run.CodeRun.{all_seen}
+use Rattle.command_library.specs.command_run.ExecAnswer as R
+use Rattle.command_library.specs.command_run.ExecAnswer.{RunsOn}
+use Rattle.command_library.specs.command_run.GaugeText.{stack_lines}
+use Rattle.command_library.proofs.command_run.ExecOnce.{member_at, sizes_alike, behind_alike, measured_alike, answers_alike, words_alike, spelt_alike}
 use Rattle.command_answers.specs.Exec as X
 use Rattle.command_answers.specs.Exec.{Start, Running, run_of, gauge_by_trees}
 use Rattle.command_answers.specs.GaugeText.{gauge_text, gauge_by_states, if_asked, highest_of, lowest_of}

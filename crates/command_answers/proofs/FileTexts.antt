@@ -6,19 +6,19 @@ use Rattle.std.specs.Int.{w64}
 use Rattle.std.proofs.lemmas.Bool.{ltb-true}
 use Rattle.std.proofs.lemmas.List.{append-nil}
 use Rattle.std.proofs.lemmas.Option.{none-some, same_Some}
-use Rattle.cell_code.specs.declared.code.Instr.{Instr}
-use Rattle.cell_code.specs.declared.code.Instr.TheVariants as I
-use Rattle.code_file.specs.CodeText.{table_text, functions_text, function_text, instrs_text, instr_text, code_text, IsFileOf}
-use Rattle.code_file.specs.Plain.{PlainFunction, PlainCode}
-use Rattle.code_file.specs.Spelling.{◌+++◌, each, only, mark, two, eight}
-use Rattle.code_file.proofs.Readers.{Front}
-use Rattle.code_file.specs.declared.tags.Version.{Version}
-use Rattle.code_file.proofs.Fields.{front_only}
-use Rattle.code_file.proofs.InstrTexts.{const_is}
-use Rattle.code_rules.specs.Codes as S
-use Rattle.separation.specs.Rows.{FitsLiteral}
-use Rattle.separation.specs.Codes.{HasLiterals}
-use Rattle.command_source.specs.Codes.{sound_function, sound_view}
+use Rattle.worked_examples.specs.cell_code.declared.code.Instr.{Instr}
+use Rattle.worked_examples.specs.cell_code.declared.code.Instr.TheVariants as I
+use Rattle.worked_examples.specs.code_file.CodeText.{table_text, functions_text, function_text, instrs_text, instr_text, code_text, IsFileOf}
+use Rattle.worked_examples.specs.code_file.Plain.{PlainFunction, PlainCode}
+use Rattle.worked_examples.specs.code_file.Spelling.{◌+++◌, each, only, mark, two, eight}
+use Rattle.worked_examples.proofs.code_file.Readers.{Front}
+use Rattle.worked_examples.specs.code_file.declared.tags.Version.{Version}
+use Rattle.worked_examples.proofs.code_file.Fields.{front_only}
+use Rattle.worked_examples.proofs.code_file.InstrTexts.{const_is}
+use Rattle.command_library.specs.code_rules.Codes as S
+use Rattle.command_library.specs.separation.Rows.{FitsLiteral}
+use Rattle.command_library.specs.separation.Codes.{HasLiterals}
+use Rattle.command_library.specs.command_source.Codes.{sound_function, sound_view}
 
 -- ---- pieces
 

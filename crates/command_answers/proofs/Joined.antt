@@ -1,27 +1,27 @@
 -- A run from where arguments are loaded is one from where their cells lie, so it is told as `run_command` tells it.
 use Rattle.std.proofs.Common.{◌≡◌, ℕ, Bool, List, [], ◌++◌, ap, ◌∙◌}
 use Rattle.std.specs.Prelude.{Result, Ok}
-use Rattle.fip_language.specs.Character.{characters}
-use Rattle.fip_language.specs.PrintedText.{printed_lines}
-use Rattle.fip_language.specs.Table.{HaveTypes}
-use Rattle.fip_language.specs.Values.{Values}
-use Rattle.command_words.specs.Words.{Room}
-use Rattle.command_outcome.specs.declared.failure.Failure.{Failure}
-use Rattle.machine_semantics.specs.Runs as R
-use Rattle.machine_semantics.specs.States.{State}
-use Rattle.code_rules.specs.Codes as S
-use Rattle.separation.specs.Starts.{IsStart}
-use Rattle.separation.proofs.Loading.{loaded_is}
-use Rattle.tree_refinement.specs.Runs.{BeginsWith}
-use Rattle.run_loading.specs.Loading.{first_store, first_words}
-use Rattle.run_loading.proofs.Begins.{begins}
-use Rattle.tree_refinement.proofs.Overs.{seen_at_end}
-use Rattle.value_text.specs.Loaded.{types_of}
-use Rattle.value_text.proofs.Typed.{input_typed}
-use Rattle.command_source.specs.Codes.{sound_view, HasFunction}
-use Rattle.command_run.specs.CodeRun as D
-use Rattle.command_run.specs.GaugeText.{gauge_by_states, if_asked}
-use Rattle.command_run.proofs.CodeOnce.{code_run_once}
+use Rattle.command_library.specs.fip_language.Character.{characters}
+use Rattle.command_library.specs.fip_language.PrintedText.{printed_lines}
+use Rattle.command_library.specs.fip_language.Table.{HaveTypes}
+use Rattle.command_library.specs.fip_language.Values.{Values}
+use Rattle.command_library.specs.command_words.Words.{Room}
+use Rattle.command_library.specs.command_outcome.declared.failure.Failure.{Failure}
+use Rattle.command_library.specs.machine_semantics.Runs as R
+use Rattle.command_library.specs.machine_semantics.States.{State}
+use Rattle.command_library.specs.code_rules.Codes as S
+use Rattle.command_library.specs.separation.Starts.{IsStart}
+use Rattle.command_library.proofs.separation.Loading.{loaded_is}
+use Rattle.worked_examples.specs.tree_refinement.Runs.{BeginsWith}
+use Rattle.command_library.specs.run_loading.Loading.{first_store, first_words}
+use Rattle.command_library.proofs.run_loading.Begins.{begins}
+use Rattle.worked_examples.proofs.tree_refinement.Overs.{seen_at_end}
+use Rattle.command_library.specs.value_text.Loaded.{types_of}
+use Rattle.command_library.proofs.value_text.Typed.{input_typed}
+use Rattle.command_library.specs.command_source.Codes.{sound_view, HasFunction}
+use Rattle.command_library.specs.command_run.CodeRun as D
+use Rattle.command_library.specs.command_run.GaugeText.{gauge_by_states, if_asked}
+use Rattle.command_library.proofs.command_run.CodeOnce.{code_run_once}
 use Rattle.command_answers.specs.CodeRun.{Chosen, SpellsFor, RunOf, frames_for, TellsCode, RunsCode, BadText, Small, Ran}
 use Rattle.command_answers.specs.Outcomes.{End, Outcome}
 use Rattle.command_answers.proofs.FileTexts.{literals}

@@ -1,13 +1,13 @@
 -- What is left behind an answer: by cases on the command, and on how its run ended.
 use Rattle.std.proofs.Common.{◌≡◌, ℕ, List, Option, Some, None, Ok, Err, refl, sym, subst, inl, inr}
 use Rattle.fip_outside.specs.Files.{File, file_of}
-use Rattle.fip_language.specs.Values.{Values}
-use Rattle.fip_language.specs.Meaning.{Answer, Gives, Trap, Out, Deep, Stuck, Peak}
-use Rattle.fip_trees.specs.Tree.{Program}
-use Rattle.command_words.specs.Words.{Request, Command, Check, Compile, Verify, Upgrade, Exec, Run, Eval, Trace, Session}
-use Rattle.command_words.specs.Words.{Tasks, Derive, Audit, Replay, Library, Gen, Room}
-use Rattle.machine_semantics.specs.Runs as R
-use Rattle.command_source.specs.Wanted.{Wanted}
+use Rattle.command_library.specs.fip_language.Values.{Values}
+use Rattle.command_library.specs.fip_language.Meaning.{Answer, Gives, Trap, Out, Deep, Stuck, Peak}
+use Rattle.worked_examples.specs.fip_trees.Tree.{Program}
+use Rattle.command_library.specs.command_words.Words.{Request, Command, Check, Compile, Verify, Upgrade, Exec, Run, Eval, Trace, Session}
+use Rattle.command_library.specs.command_words.Words.{Tasks, Derive, Audit, Replay, Library, Gen, Room}
+use Rattle.command_library.specs.machine_semantics.Runs as R
+use Rattle.command_library.specs.command_source.Wanted.{Wanted}
 use Rattle.command_answers.specs.Outcomes.{End, Left, Outcome}
 use Rattle.command_answers.specs.Exec as X
 use Rattle.command_answers.specs.Exec.{Running, TellsRun, Execs, Traces}

@@ -13,3 +13,6 @@ pub mod Joined
 pub mod ExecJoined
 pub mod RunAnswers
 pub mod CodeAnswers
+pub use Rattle.command_library.proofs as command_library
+pub use Rattle.command_library.proofs.command_source as command_source
+pub use Rattle.command_library.proofs.derivation_text as derivation_text

@@ -3,29 +3,29 @@
 use Rattle.std.proofs.Common.{◌≡◌, ℕ, ◌<◌, ◌≤◌, Bool, List, [], ◌++◌, refl, sym, ap, ap₂, ◌∙◌, subst, arith}
 use Rattle.std.specs.Prelude.{Ok, Err}
 use Rattle.std.proofs.lemmas.Option.{same_Some}
-use Rattle.fip_language.proofs.OnePlace.{IsPlace-unique, IsPlace-not_spelt}
-use Rattle.fip_language.specs.Character.{characters}
-use Rattle.fip_language.specs.Gauge.{Seen}
-use Rattle.fip_language.specs.Prefix.{IsPlace}
-use Rattle.fip_language.specs.PrintedText.{printed_lines}
-use Rattle.fip_language.specs.Values.{Values}
-use Rattle.command_words.specs.Words.{Room}
-use Rattle.command_outcome.specs.declared.failure.Failure.TheVariants as F
-use Rattle.machine_semantics.specs.Cells.{Store}
-use Rattle.machine_semantics.specs.Gauges.{seen}
-use Rattle.machine_semantics.specs.Runs as R
-use Rattle.machine_semantics.specs.States.{State}
-use Rattle.code_rules.specs.Codes as S
-use Rattle.separation.specs.Codes.{run_code}
-use Rattle.separation.specs.Starts.{IsStart}
-use Rattle.separation_bounds.proofs.Ending.{ends_once, seen_once}
-use Rattle.tree_refinement.specs.Agreement.{AreWordsOf}
-use Rattle.run_loading.proofs.Begins.{begins}
-use Rattle.session_semantics.specs.Talk.{frames_of}
-use Rattle.value_text.specs.Loaded.{types_of}
-use Rattle.value_text.proofs.Typed.{input_typed}
-use Rattle.command_source.specs.Codes.{sound_view}
-use Rattle.command_run.proofs.CodeOnce.{What, IsWhat, what, what_is, same_what, Spelt, words_of, results_once, values_once}
+use Rattle.command_library.proofs.fip_language.OnePlace.{IsPlace-unique, IsPlace-not_spelt}
+use Rattle.command_library.specs.fip_language.Character.{characters}
+use Rattle.command_library.specs.fip_language.Gauge.{Seen}
+use Rattle.command_library.specs.fip_language.Prefix.{IsPlace}
+use Rattle.command_library.specs.fip_language.PrintedText.{printed_lines}
+use Rattle.command_library.specs.fip_language.Values.{Values}
+use Rattle.command_library.specs.command_words.Words.{Room}
+use Rattle.command_library.specs.command_outcome.declared.failure.Failure.TheVariants as F
+use Rattle.command_library.specs.machine_semantics.Cells.{Store}
+use Rattle.command_library.specs.machine_semantics.Gauges.{seen}
+use Rattle.command_library.specs.machine_semantics.Runs as R
+use Rattle.command_library.specs.machine_semantics.States.{State}
+use Rattle.command_library.specs.code_rules.Codes as S
+use Rattle.command_library.specs.separation.Codes.{run_code}
+use Rattle.command_library.specs.separation.Starts.{IsStart}
+use Rattle.worked_examples.proofs.separation_bounds.Ending.{ends_once, seen_once}
+use Rattle.worked_examples.specs.tree_refinement.Agreement.{AreWordsOf}
+use Rattle.command_library.proofs.run_loading.Begins.{begins}
+use Rattle.command_library.specs.session_semantics.Talk.{frames_of}
+use Rattle.command_library.specs.value_text.Loaded.{types_of}
+use Rattle.command_library.proofs.value_text.Typed.{input_typed}
+use Rattle.command_library.specs.command_source.Codes.{sound_view}
+use Rattle.command_library.proofs.command_run.CodeOnce.{What, IsWhat, what, what_is, same_what, Spelt, words_of, results_once, values_once}
 use Rattle.command_answers.specs.CodeRun as C
 use Rattle.command_answers.specs.CodeRun.{Chosen, gauge_by_states, TellsCode, RunsCode}
 use Rattle.command_answers.specs.GaugeText.{if_asked}

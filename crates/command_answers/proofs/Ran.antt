@@ -2,13 +2,13 @@
 -- that no run has.
 use Rattle.std.proofs.Common.{◌≡◌, ℕ, List, Option, Some, None, refl, subst, inl, inr}
 use Rattle.fip_outside.specs.Files.{File, file_of}
-use Rattle.command_words.specs.Words.{Request, Command, Check, Compile, Verify, Upgrade, Exec, Run, Eval, Trace, Session}
-use Rattle.command_words.specs.Words.{Tasks, Derive, Audit, Replay, Library, Gen, Room}
-use Rattle.command_outcome.specs.Failures.{failure_status}
-use Rattle.command_outcome.specs.declared.failure.Failure.{Failure}
-use Rattle.command_source.specs.Codes as B
-use Rattle.command_source.specs.Codes.{RefusesCode}
-use Rattle.command_source.specs.Wanted.{Wanted}
+use Rattle.command_library.specs.command_words.Words.{Request, Command, Check, Compile, Verify, Upgrade, Exec, Run, Eval, Trace, Session}
+use Rattle.command_library.specs.command_words.Words.{Tasks, Derive, Audit, Replay, Library, Gen, Room}
+use Rattle.command_library.specs.command_outcome.Failures.{failure_status}
+use Rattle.command_library.specs.command_outcome.declared.failure.Failure.{Failure}
+use Rattle.command_library.specs.command_source.Codes as B
+use Rattle.command_library.specs.command_source.Codes.{RefusesCode}
+use Rattle.command_library.specs.command_source.Wanted.{Wanted}
 use Rattle.command_answers.specs.Outcomes.{Left, Outcome, failed}
 use Rattle.command_answers.specs.Exec as X
 use Rattle.command_answers.specs.Exec.{Execs, Traces}

@@ -1,10 +1,10 @@
 -- A refused source comes to its refusal alone: a source has one refusal at most, and one that is ready has none.
 use Rattle.std.proofs.Common.{◌≡◌, ℕ, List, ap}
-use Rattle.fip_base.specs.declared.refusal.Refusal.{Refusal}
-use Rattle.command_words.specs.Words.{Command}
-use Rattle.command_outcome.specs.declared.failure.Failure.TheVariants as F
-use Rattle.command_source.specs.Wanted.{Wanted, Refuses}
-use Rattle.command_source.proofs.Once.{refused_once, refused_not_ready}
+use Rattle.command_library.specs.fip_base.declared.refusal.Refusal.{Refusal}
+use Rattle.command_library.specs.command_words.Words.{Command}
+use Rattle.command_library.specs.command_outcome.declared.failure.Failure.TheVariants as F
+use Rattle.command_library.specs.command_source.Wanted.{Wanted, Refuses}
+use Rattle.command_library.proofs.command_source.Once.{refused_once, refused_not_ready}
 use Rattle.command_answers.specs.Outcomes.{Outcome, failed}
 use Rattle.command_answers.specs.Answer as A
 use Rattle.command_answers.specs.Answer.{OnSource}

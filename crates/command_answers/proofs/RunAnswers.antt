@@ -5,26 +5,26 @@ use Rattle.std.specs.Prelude.{bytes_eq}
 use Rattle.std.proofs.lemmas.Option.{none-some, same_Some}
 use Rattle.std.proofs.lemmas.Slice.Eq.{bytes_eq-Decides}
 use Rattle.fip_outside.specs.Files.{File, file_of}
-use Rattle.fip_language.proofs.OnePlace.{IsPlace-unique, IsPlace-not_spelt}
-use Rattle.fip_language.proofs.Search.{le_or_less}
-use Rattle.fip_language.specs.declared.limits.TheConstants.{MOST_FILE_BYTES}
-use Rattle.fip_language.specs.declared.rule.Rule.TheVariants.{E70}
-use Rattle.command_words.specs.Words.{Request, Run, Room}
-use Rattle.command_outcome.specs.declared.failure.Failure.{Failure}
-use Rattle.command_outcome.specs.declared.failure.Failure.TheVariants as F
-use Rattle.command_outcome.specs.declared.failure.Object.TheVariants as O
-use Rattle.code_file.specs.CodeText.{IsFileOf}
-use Rattle.code_file.specs.Plain.{PlainCode}
-use Rattle.code_file.specs.Reading.{Answer, Got, Stop, read_all, code_reader}
-use Rattle.code_file.specs.declared.tags.Version.{Version}
-use Rattle.code_file.proofs.Whole.{one_code, read_text, read_place}
-use Rattle.code_rules.specs.Breaks.{IsSound, Breaks, IsLeast, IsBefore, digit}
-use Rattle.code_rules.specs.Codes as S
-use Rattle.code_rules.specs.declared.rule.SoundRule.{SoundRule}
-use Rattle.code_rules.proofs.Order.{least_once}
-use Rattle.separation_bounds.proofs.Solving.{least_one}
-use Rattle.command_source.specs.Codes.{sound_view, IsSoundFile, RefusesCode, LongFile, BadFile, UnsoundFile, has_named, names_one, HasFunction}
-use Rattle.command_source.specs.Wanted.{of_entry}
+use Rattle.command_library.proofs.fip_language.OnePlace.{IsPlace-unique, IsPlace-not_spelt}
+use Rattle.command_library.proofs.fip_language.Search.{le_or_less}
+use Rattle.command_library.specs.fip_language.declared.limits.TheConstants.{MOST_FILE_BYTES}
+use Rattle.command_library.specs.fip_language.declared.rule.Rule.TheVariants.{E70}
+use Rattle.command_library.specs.command_words.Words.{Request, Run, Room}
+use Rattle.command_library.specs.command_outcome.declared.failure.Failure.{Failure}
+use Rattle.command_library.specs.command_outcome.declared.failure.Failure.TheVariants as F
+use Rattle.command_library.specs.command_outcome.declared.failure.Object.TheVariants as O
+use Rattle.worked_examples.specs.code_file.CodeText.{IsFileOf}
+use Rattle.worked_examples.specs.code_file.Plain.{PlainCode}
+use Rattle.worked_examples.specs.code_file.Reading.{Answer, Got, Stop, read_all, code_reader}
+use Rattle.worked_examples.specs.code_file.declared.tags.Version.{Version}
+use Rattle.worked_examples.proofs.code_file.Whole.{one_code, read_text, read_place}
+use Rattle.command_library.specs.code_rules.Breaks.{IsSound, Breaks, IsLeast, IsBefore, digit}
+use Rattle.command_library.specs.code_rules.Codes as S
+use Rattle.command_library.specs.code_rules.declared.rule.SoundRule.{SoundRule}
+use Rattle.command_library.proofs.code_rules.Order.{least_once}
+use Rattle.worked_examples.proofs.separation_bounds.Solving.{least_one}
+use Rattle.command_library.specs.command_source.Codes.{sound_view, IsSoundFile, RefusesCode, LongFile, BadFile, UnsoundFile, has_named, names_one, HasFunction}
+use Rattle.command_library.specs.command_source.Wanted.{of_entry}
 use Rattle.command_answers.specs.Answer.{OnCode, CodeRefused, CodeSound, RunsFile, NoFunction, LongInput, Runs, OnFound, ComesTo}
 use Rattle.command_answers.specs.CodeRun as C
 use Rattle.command_answers.specs.CodeRun.{Chosen, RunsCode}

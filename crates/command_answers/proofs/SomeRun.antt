@@ -3,35 +3,35 @@
 use Rattle.std.proofs.Common.{◌≡◌, inl, inr, ℕ, suc, ◌≤◌, Bool, true, false, List, [], ◌∷◌, ◌++◌, Some, slice_get, refl, ap, subst, if◌then◌else◌}
 use Rattle.std.specs.Prelude.{Ok, Err, bytes_eq}
 use Rattle.std.proofs.lemmas.Slice.Eq.{bytes_eq-Decides}
-use Rattle.fip_language.proofs.Search.{le_or_less}
-use Rattle.fip_language.specs.Character.{characters}
-use Rattle.fip_language.specs.Meaning as M
-use Rattle.fip_language.specs.Prefix as P
-use Rattle.fip_language.specs.PrintedText.{printed_lines}
-use Rattle.fip_language.specs.SoundTable.{AreTypes, IsSoundTable}
-use Rattle.fip_language.specs.Table.{Table, HaveTypes}
-use Rattle.fip_language.specs.Values.{Values}
-use Rattle.command_words.specs.Words.{Room}
-use Rattle.command_outcome.specs.declared.failure.Failure.TheVariants as F
-use Rattle.code_file.specs.Plain.{PlainCode}
-use Rattle.machine_semantics.specs.Runs as R
-use Rattle.code_rules.specs.Codes as S
-use Rattle.code_rules.specs.Tables.{AreSoundTables}
-use Rattle.separation.proofs.KindsFound.{kinds_found}
-use Rattle.separation.proofs.Sound.{formed, has_form}
-use Rattle.separation_bounds.proofs.Ending.{run_ends}
-use Rattle.separation_bounds.proofs.Numbers.{has_stack}
-use Rattle.tree_refinement.specs.Runs as A
-use Rattle.tree_refinement.proofs.Running.{trees_end}
-use Rattle.run_loading.proofs.Begins.{begins, is_loaded}
-use Rattle.value_text.specs.Loaded.{types_of}
-use Rattle.value_text.specs.Machine.{step, final, start}
-use Rattle.value_text.proofs.Exact.{accepted_text, stopped_text}
-use Rattle.value_text.proofs.Tables.{is_table, types_alive}
-use Rattle.value_text.proofs.Typed.{input_typed}
-use Rattle.command_source.specs.Codes.{sound_view, IsSoundFile, has_named, names_one, HasFunction}
-use Rattle.command_run.proofs.FileTypes.{file_spelt}
-use Rattle.command_run.proofs.RunTables.{tables, sound_table, params_known}
+use Rattle.command_library.proofs.fip_language.Search.{le_or_less}
+use Rattle.command_library.specs.fip_language.Character.{characters}
+use Rattle.command_library.specs.fip_language.Meaning as M
+use Rattle.command_library.specs.fip_language.Prefix as P
+use Rattle.command_library.specs.fip_language.PrintedText.{printed_lines}
+use Rattle.command_library.specs.fip_language.SoundTable.{AreTypes, IsSoundTable}
+use Rattle.command_library.specs.fip_language.Table.{Table, HaveTypes}
+use Rattle.command_library.specs.fip_language.Values.{Values}
+use Rattle.command_library.specs.command_words.Words.{Room}
+use Rattle.command_library.specs.command_outcome.declared.failure.Failure.TheVariants as F
+use Rattle.worked_examples.specs.code_file.Plain.{PlainCode}
+use Rattle.command_library.specs.machine_semantics.Runs as R
+use Rattle.command_library.specs.code_rules.Codes as S
+use Rattle.command_library.specs.code_rules.Tables.{AreSoundTables}
+use Rattle.command_library.proofs.separation.KindsFound.{kinds_found}
+use Rattle.command_library.proofs.separation.Sound.{formed, has_form}
+use Rattle.worked_examples.proofs.separation_bounds.Ending.{run_ends}
+use Rattle.worked_examples.proofs.separation_bounds.Numbers.{has_stack}
+use Rattle.worked_examples.specs.tree_refinement.Runs as A
+use Rattle.worked_examples.proofs.tree_refinement.Running.{trees_end}
+use Rattle.command_library.proofs.run_loading.Begins.{begins, is_loaded}
+use Rattle.command_library.specs.value_text.Loaded.{types_of}
+use Rattle.command_library.specs.value_text.Machine.{step, final, start}
+use Rattle.command_library.proofs.value_text.Exact.{accepted_text, stopped_text}
+use Rattle.command_library.proofs.value_text.Tables.{is_table, types_alive}
+use Rattle.command_library.proofs.value_text.Typed.{input_typed}
+use Rattle.command_library.specs.command_source.Codes.{sound_view, IsSoundFile, has_named, names_one, HasFunction}
+use Rattle.command_library.proofs.command_run.FileTypes.{file_spelt}
+use Rattle.command_library.proofs.command_run.RunTables.{tables, sound_table, params_known}
 use Rattle.command_answers.specs.CodeRun.{Chosen, SpellsFor, RunOf, frames_for, gauge_by_states, TellsCode, RunsCode, BadText, Small, Ran}
 use Rattle.command_answers.specs.GaugeText.{if_asked}
 use Rattle.command_answers.specs.Outcomes.{End, Outcome, failed, ran}

@@ -2,10 +2,10 @@
 use Rattle.std.proofs.Common.{◌≡◌, ◌≢◌, ℕ, List, [], Some, None, Ok, Err, refl}
 use Rattle.std.specs.Prelude.{Option}
 use Rattle.fip_outside.specs.Files.{File}
-use Rattle.command_words.specs.Words.{Command, IsCommand}
-use Rattle.command_outcome.specs.Failures.{failure_status}
-use Rattle.command_outcome.specs.declared.failure.Failure.{Failure}
-use Rattle.command_outcome.specs.declared.failure.Failure.TheVariants as F
+use Rattle.command_library.specs.command_words.Words.{Command, IsCommand}
+use Rattle.command_library.specs.command_outcome.Failures.{failure_status}
+use Rattle.command_library.specs.command_outcome.declared.failure.Failure.{Failure}
+use Rattle.command_library.specs.command_outcome.declared.failure.Failure.TheVariants as F
 use Rattle.command_answers.specs.Outcomes.{End, Left, Outcome, failed, ran}
 use Rattle.command_answers.specs.Answer.{Answer, IsAnswer, NotUnderstood, Answered, told, told_end}
 

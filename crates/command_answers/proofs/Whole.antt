@@ -3,10 +3,10 @@ use Rattle.std.proofs.Common.{ℕ, List, [], ◌∷◌, None, refl}
 use Rattle.std.specs.Prelude.{codes}
 use Rattle.clap.specs.Faults.{walk_fault, defaults_fault}
 use Rattle.clap.specs.Walk.{walked}
-use Rattle.command_words.specs.Words.{Check, Compile, IsCommand}
-use Rattle.command_words.specs.Words.{check_commands, file_commands, machine_commands, run_commands, line_commands}
-use Rattle.command_words.specs.Words.{proof_commands, paper_commands}
-use Rattle.command_source.specs.Wanted.{Lawful}
+use Rattle.command_library.specs.command_words.Words.{Check, Compile, IsCommand}
+use Rattle.command_library.specs.command_words.Words.{check_commands, file_commands, machine_commands, run_commands, line_commands}
+use Rattle.command_library.specs.command_words.Words.{proof_commands, paper_commands}
+use Rattle.command_library.specs.command_source.Wanted.{Lawful}
 use Rattle.command_answers.specs.Outcomes.{printed, storing}
 use Rattle.command_answers.specs.Answer as A
 use Rattle.command_answers.specs.Answer.{IsAnswer}

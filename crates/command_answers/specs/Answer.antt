@@ -12,20 +12,20 @@
 --
 -- `exec list.fip3 rev` without that file has status 9 and `fault: folder` on err.
 use Rattle.std.specs.Prelude.{◌≡◌, ◌<◌, ◌≤◌, ℕ, false, List, [], length, Option, Some, None, Ok, Err}
-use Rattle.fip_language.specs.declared.limits.TheConstants.{MOST_FILE_BYTES}
-use Rattle.fip_language.specs.declared.rule.Rule.TheVariants.{E70}
+use Rattle.command_library.specs.fip_language.declared.limits.TheConstants.{MOST_FILE_BYTES}
+use Rattle.command_library.specs.fip_language.declared.rule.Rule.TheVariants.{E70}
 use Rattle.fip_outside.specs.Files.{File, file_of, put_file}
-use Rattle.command_words.specs.Words.{Request, Command, Check, Compile, Verify, Upgrade, Exec, Run, Eval, Trace, Session}
-use Rattle.command_words.specs.Words.{Tasks, Derive, Audit, Replay, Library, Gen, IsCommand}
-use Rattle.command_outcome.specs.Failures.{failure_status, failure_text}
-use Rattle.command_outcome.specs.declared.failure.Failure.{Failure}
-use Rattle.command_outcome.specs.declared.failure.Failure.TheVariants as F
-use Rattle.command_outcome.specs.declared.failure.Object.TheVariants as O
-use Rattle.code_file.specs.Plain.{PlainCode}
-use Rattle.command_source.specs.Codes.{sound_view, IsSoundFile, RefusesCode, IsCodeListing, names_one, HasFunction}
-use Rattle.command_source.specs.Roots.{IsListing}
-use Rattle.command_source.specs.Wanted.{Wanted, Refuses, IsReady, of_entry}
-use Rattle.command_eval.specs.EvalAnswer.{Evaluates}
+use Rattle.command_library.specs.command_words.Words.{Request, Command, Check, Compile, Verify, Upgrade, Exec, Run, Eval, Trace, Session}
+use Rattle.command_library.specs.command_words.Words.{Tasks, Derive, Audit, Replay, Library, Gen, IsCommand}
+use Rattle.command_library.specs.command_outcome.Failures.{failure_status, failure_text}
+use Rattle.command_library.specs.command_outcome.declared.failure.Failure.{Failure}
+use Rattle.command_library.specs.command_outcome.declared.failure.Failure.TheVariants as F
+use Rattle.command_library.specs.command_outcome.declared.failure.Object.TheVariants as O
+use Rattle.worked_examples.specs.code_file.Plain.{PlainCode}
+use Rattle.command_library.specs.command_source.Codes.{sound_view, IsSoundFile, RefusesCode, IsCodeListing, names_one, HasFunction}
+use Rattle.command_library.specs.command_source.Roots.{IsListing}
+use Rattle.command_library.specs.command_source.Wanted.{Wanted, Refuses, IsReady, of_entry}
+use Rattle.command_library.specs.command_eval.EvalAnswer.{Evaluates}
 use Rattle.command_answers.specs.Outcomes.{End, Left, Outcome, printed, failed, ended}
 use Rattle.command_answers.specs.Asks.{ReadsInput, stored_name, fetched_name, wanted}
 use Rattle.command_answers.specs.Exec.{Execs, Traces}

@@ -2,9 +2,9 @@
 -- wants of it where it is a source of which all rules are asked, whether it reads the input, and under which name it
 -- stores.
 use Rattle.std.specs.Prelude.{ℕ, List, Option, Some, None}
-use Rattle.command_words.specs.Words.{Command, Check, Compile, Verify, Upgrade, Exec, Run, Eval, Trace, Session, Tasks}
-use Rattle.command_words.specs.Words.{Derive, Audit, Replay, Library, Gen}
-use Rattle.command_source.specs.Wanted.{Wanted, Lawful, Root, Compiled}
+use Rattle.command_library.specs.command_words.Words.{Command, Check, Compile, Verify, Upgrade, Exec, Run, Eval, Trace, Session, Tasks}
+use Rattle.command_library.specs.command_words.Words.{Derive, Audit, Replay, Library, Gen}
+use Rattle.command_library.specs.command_source.Wanted.{Wanted, Lawful, Root, Compiled}
 
 abbrev pub ReadsInput : Command → Type 0
 ReadsInput (Exec r) = Unit {0}

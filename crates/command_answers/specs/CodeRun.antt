@@ -7,16 +7,16 @@
 --
 -- The file of the reversal of a list, with the input and options of `exec`, gives the lines of `exec`.
 use Rattle.std.specs.Prelude.{◌≡◌, ◌<◌, ◌≤◌, ℕ, Bool, List, ◌++◌, Ok, Err}
-use Rattle.fip_language.specs.Prefix.{IsPlace}
-use Rattle.fip_language.specs.PrintedText.{printed_lines}
-use Rattle.fip_language.specs.Values.{Values}
-use Rattle.command_words.specs.Words.{Room}
-use Rattle.command_outcome.specs.declared.failure.Failure.TheVariants as F
-use Rattle.machine_semantics.specs.Runs.{Value, Trap, Out, Deep, Unsound}
-use Rattle.machine_semantics.specs.Runs as R
-use Rattle.tree_refinement.specs.Agreement.{AreWordsOf}
-pub use Rattle.command_run.specs.CodeRun.{Chosen, SpellsFor, frames_for}
-pub use Rattle.command_run.specs.GaugeText.{gauge_by_states}
+use Rattle.command_library.specs.fip_language.Prefix.{IsPlace}
+use Rattle.command_library.specs.fip_language.PrintedText.{printed_lines}
+use Rattle.command_library.specs.fip_language.Values.{Values}
+use Rattle.command_library.specs.command_words.Words.{Room}
+use Rattle.command_library.specs.command_outcome.declared.failure.Failure.TheVariants as F
+use Rattle.command_library.specs.machine_semantics.Runs.{Value, Trap, Out, Deep, Unsound}
+use Rattle.command_library.specs.machine_semantics.Runs as R
+use Rattle.worked_examples.specs.tree_refinement.Agreement.{AreWordsOf}
+pub use Rattle.command_library.specs.command_run.CodeRun.{Chosen, SpellsFor, frames_for}
+pub use Rattle.command_library.specs.command_run.GaugeText.{gauge_by_states}
 use Rattle.command_answers.specs.Outcomes.{End, Outcome, failed, ran}
 use Rattle.command_answers.specs.GaugeText.{if_asked}
 use Rattle.command_answers.specs.Runs.{words_for, Run, all_seen}

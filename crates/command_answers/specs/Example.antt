@@ -1,12 +1,12 @@
 -- The examples: runs of the program of lists, a tree of three keys, and a derivation's trees.
 use Rattle.std.specs.Prelude.{ℕ, pos, List, [], ◌∷◌, ◌++◌, Some, None}
-use Rattle.fip_language.specs.Values.{Value, Int, Node, Values, End, More}
-use Rattle.fip_language.specs.PrintedText.{printed_lines}
-use Rattle.instance_semantics.specs.Example.{lists, rev, inc, ints}
-use Rattle.command_outcome.specs.Texts.{cells_text, stack_text, bound_text}
-use Rattle.derivation_trees.specs.declared.derivation.RuleName.TheVariants as R
-use Rattle.derivation_trees.specs.Trees.{Tree, Branch, NoTrees, MoreTrees}
-use Rattle.session_semantics.specs.Example.{needs_words}
+use Rattle.command_library.specs.fip_language.Values.{Value, Int, Node, Values, End, More}
+use Rattle.command_library.specs.fip_language.PrintedText.{printed_lines}
+use Rattle.worked_examples.specs.instance_semantics.Example.{lists, rev, inc, ints}
+use Rattle.command_library.specs.command_outcome.Texts.{cells_text, stack_text, bound_text}
+use Rattle.command_library.specs.derivation_trees.declared.derivation.RuleName.TheVariants as R
+use Rattle.command_library.specs.derivation_trees.Trees.{Tree, Branch, NoTrees, MoreTrees}
+use Rattle.command_library.specs.session_semantics.Example.{needs_words}
 use Rattle.command_answers.specs.Exec.{Running}
 
 abbrev pub nil : Value

@@ -13,27 +13,27 @@
 -- 9 are needed; and with 3 calls it is out of calls.
 use Rattle.std.specs.Prelude.{◌≡◌, ◌≢◌, ◌<◌, ◌≤◌, ℕ, Bool, false, List, ◌++◌, length, Option, Some}
 use Rattle.std.specs.Prelude.{Ok, Err, slice_get, option_and_then}
-use Rattle.fip_language.specs.declared.FunKind.TheVariants.{Fun}
-use Rattle.fip_language.specs.declared.limits.TheConstants.{MOST_FILE_BYTES}
-use Rattle.fip_language.specs.declared.rule.Rule.TheVariants.{E75}
-use Rattle.fip_language.specs.Meaning.{Answer, Gives, Trap, Out, Deep, Stuck, Peak, meaning}
-use Rattle.fip_language.specs.Meaning as M
-use Rattle.fip_language.specs.Prefix.{IsPlace}
-use Rattle.fip_language.specs.PrintedText.{printed_lines}
-use Rattle.fip_language.specs.Statics.{NoClosed}
-use Rattle.fip_language.specs.Table.{Table}
-use Rattle.fip_language.specs.Values.{Values}
-use Rattle.fip_base.specs.declared.plain.Stack.{Stack}
-use Rattle.fip_trees.specs.declared.groups.Member.{Member}
-use Rattle.fip_trees.specs.Tree.{Instance}
-use Rattle.tail_groups.specs.Members.{AreMembers}
-use Rattle.command_words.specs.Words.{Room}
-use Rattle.command_outcome.specs.declared.failure.Failure.TheVariants as F
-use Rattle.source_report.specs.Report.{bare}
-use Rattle.command_eval.specs.EvalAnswer.{Entry, Spells}
-use Rattle.session_semantics.specs.Talk.{frames_by}
-use Rattle.lowering_relation.specs.LoweredBodies.{function_of}
-use Rattle.run_loading.specs.TraceText.{IsTraceText}
+use Rattle.command_library.specs.fip_language.declared.FunKind.TheVariants.{Fun}
+use Rattle.command_library.specs.fip_language.declared.limits.TheConstants.{MOST_FILE_BYTES}
+use Rattle.command_library.specs.fip_language.declared.rule.Rule.TheVariants.{E75}
+use Rattle.command_library.specs.fip_language.Meaning.{Answer, Gives, Trap, Out, Deep, Stuck, Peak, meaning}
+use Rattle.command_library.specs.fip_language.Meaning as M
+use Rattle.command_library.specs.fip_language.Prefix.{IsPlace}
+use Rattle.command_library.specs.fip_language.PrintedText.{printed_lines}
+use Rattle.command_library.specs.fip_language.Statics.{NoClosed}
+use Rattle.command_library.specs.fip_language.Table.{Table}
+use Rattle.command_library.specs.fip_language.Values.{Values}
+use Rattle.command_library.specs.fip_base.declared.plain.Stack.{Stack}
+use Rattle.worked_examples.specs.fip_trees.declared.groups.Member.{Member}
+use Rattle.worked_examples.specs.fip_trees.Tree.{Instance}
+use Rattle.worked_examples.specs.tail_groups.Members.{AreMembers}
+use Rattle.command_library.specs.command_words.Words.{Room}
+use Rattle.command_library.specs.command_outcome.declared.failure.Failure.TheVariants as F
+use Rattle.worked_examples.specs.source_report.Report.{bare}
+use Rattle.command_library.specs.command_eval.EvalAnswer.{Entry, Spells}
+use Rattle.command_library.specs.session_semantics.Talk.{frames_by}
+use Rattle.worked_examples.specs.lowering_relation.LoweredBodies.{function_of}
+use Rattle.command_library.specs.run_loading.TraceText.{IsTraceText}
 use Rattle.command_answers.specs.Outcomes.{End, Left, Outcome, failed, ran}
 use Rattle.command_answers.specs.GaugeText.{gauge_text, if_asked, highest_of, lowest_of}
 use Rattle.command_answers.specs.OfProgram.{IsCodeOf, stack_of_peak}

@@ -1,7 +1,7 @@
 -- What the laws say of answers.
 use Rattle.std.specs.Prelude.{◌≡◌, ◌⊎◌, ℕ, Ok, Err}
-use Rattle.command_words.specs.Words.{Command, Exec, Run, Trace, Gen}
-use Rattle.command_outcome.specs.Failures.{failure_status}
+use Rattle.command_library.specs.command_words.Words.{Command, Exec, Run, Trace, Gen}
+use Rattle.command_library.specs.command_outcome.Failures.{failure_status}
 use Rattle.command_answers.specs.Outcomes.{End}
 
 -- done, a trap, out of calls, or out of frames

@@ -6,11 +6,11 @@
 --     stack: 0 frames, 9 words
 --     bound: 0 frames, 9 words
 use Rattle.std.specs.Prelude.{ℕ, ◌+◌, List}
-use Rattle.fip_language.specs.Values.{Values, cells_of_all}
-use Rattle.fip_base.specs.declared.plain.Param.{Param}
-use Rattle.session_semantics.specs.Talk.{credits_of}
-pub use Rattle.tree_refinement.specs.LentValues.{lent_values}
-pub use Rattle.command_run.specs.GaugeText.{gauge_text, gauge_by_states, highest_stack, if_asked}
+use Rattle.command_library.specs.fip_language.Values.{Values, cells_of_all}
+use Rattle.command_library.specs.fip_base.declared.plain.Param.{Param}
+use Rattle.command_library.specs.session_semantics.Talk.{credits_of}
+pub use Rattle.worked_examples.specs.tree_refinement.LentValues.{lent_values}
+pub use Rattle.command_library.specs.command_run.GaugeText.{gauge_text, gauge_by_states, highest_stack, if_asked}
 
 -- most cells of size k: those of the arguments and of the header's credits
 abbrev pub highest_of : List ℕ → Values → ℕ → ℕ

@@ -9,14 +9,14 @@
 -- `gen 1 3` makes a tree of 1103527590, 377401575 and 662824084, and prints `keys 3`, `nodes 3`, `least 377401575` and
 -- `greatest 1103527590`.
 use Rattle.std.specs.Prelude.{◌≡◌, ◌≤◌, ℕ, false, List, codes, Ok, Err}
-use Rattle.fip_language.specs.Meaning.{Gives}
-use Rattle.fip_language.specs.Values.{Values}
-use Rattle.fip_library.specs.declared.list.TheConstants as list
-use Rattle.fip_library.specs.declared.tree.TheConstants as tree
-use Rattle.fip_library.specs.declared.finger.TheConstants as finger
-use Rattle.command_outcome.specs.declared.failure.Failure.TheVariants as F
-use Rattle.command_source.specs.Wanted.{Compiled, Refuses}
-use Rattle.command_eval.specs.EvalAnswer.{Spells}
+use Rattle.command_library.specs.fip_language.Meaning.{Gives}
+use Rattle.command_library.specs.fip_language.Values.{Values}
+use Rattle.command_library.specs.fip_library.declared.list.TheConstants as list
+use Rattle.command_library.specs.fip_library.declared.tree.TheConstants as tree
+use Rattle.command_library.specs.fip_library.declared.finger.TheConstants as finger
+use Rattle.command_library.specs.command_outcome.declared.failure.Failure.TheVariants as F
+use Rattle.command_library.specs.command_source.Wanted.{Compiled, Refuses}
+use Rattle.command_library.specs.command_eval.EvalAnswer.{Spells}
 use Rattle.command_library.specs.GenAnswer.{tree_source, build, gen_room}
 use Rattle.command_library.specs.MadeTree.{gen_input, lines_of_results}
 use Rattle.command_answers.specs.Outcomes.{Left, Outcome, printed, failed, ran}

@@ -7,12 +7,12 @@
 -- On the source of the reversal of a list and the lines `a = rev(Cons(1, Nil), Nil)` and `?a`, the session prints `ok`
 -- and `Cons(1, Nil)`.
 use Rattle.std.specs.Prelude.{◌≡◌, ℕ, List}
-use Rattle.tail_groups.specs.Members.{AreMembers}
-use Rattle.command_words.specs.Words.{Room}
-use Rattle.source_report.specs.Report.{IsAccepted}
-use Rattle.session_semantics.specs.Lines.{lines_of}
-use Rattle.session_semantics.specs.Talk.{Setting, Talks, at_first}
-use Rattle.session_semantics.specs.Turns.{Comes}
+use Rattle.worked_examples.specs.tail_groups.Members.{AreMembers}
+use Rattle.command_library.specs.command_words.Words.{Room}
+use Rattle.worked_examples.specs.source_report.Report.{IsAccepted}
+use Rattle.command_library.specs.session_semantics.Lines.{lines_of}
+use Rattle.command_library.specs.session_semantics.Talk.{Setting, Talks, at_first}
+use Rattle.command_library.specs.session_semantics.Turns.{Comes}
 use Rattle.command_answers.specs.Outcomes.{End, Outcome, printed, ended}
 
 -- the program of an accepted source, in this room

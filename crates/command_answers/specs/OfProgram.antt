@@ -9,33 +9,33 @@
 --
 -- The six instructions of the reversal of a list are code of its program; so are seven, with a Move before the Ret.
 use Rattle.std.specs.Prelude.{◌≡◌, ℕ, List, map, Some, slice_get}
-use Rattle.fip_language.specs.Table.{HaveTypes}
-use Rattle.fip_language.specs.Values.{Values}
-use Rattle.fip_language.specs.Meaning.{Peak}
-use Rattle.fip_base.specs.declared.plain.Stack.{Stack}
-use Rattle.fip_trees.specs.declared.groups.Member.{Member}
-use Rattle.fip_trees.specs.Tree.{Instance, Program}
-use Rattle.tail_groups.specs.Members.{AreMembers}
-use Rattle.instance_semantics.specs.Meaning.{flat_meaning}
-use Rattle.cell_lower.specs.Shape.{Header, headers}
-use Rattle.code_file.specs.CodeText.{CodeText}
-use Rattle.code_file.specs.Plain.{PlainFunction, PlainCode}
-use Rattle.code_file.specs.declared.tags.Version.TheVariants.{Second}
-use Rattle.machine_semantics.specs.States.{State}
-use Rattle.machine_semantics.specs.Steps.{Kinds}
-use Rattle.machine_semantics.specs.Runs.{Value, Ends, loaded, begun}
-use Rattle.machine_semantics.specs.Gauges.{seen}
-use Rattle.code_rules.specs.Breaks.{IsSound}
-use Rattle.code_rules.specs.Codes as S
-use Rattle.code_rules.specs.StackNumbers.{HasStack}
-use Rattle.separation.specs.Codes.{run_code, AreKinds}
-use Rattle.lowering_relation.specs.LoweredBodies.{function_of}
-use Rattle.lowering_simulation.specs.CellEnds.{EndsAs}
-use Rattle.type_safety.specs.Soundness.{parameter_types}
-use Rattle.command_source.specs.Codes.{sound_view}
-use Rattle.command_source.specs.ProgramCode.{AreWithin}
-use Rattle.run_loading.specs.Loading.{first_store, first_words}
-pub use Rattle.command_run.specs.GaugeText.{highest_stack}
+use Rattle.command_library.specs.fip_language.Table.{HaveTypes}
+use Rattle.command_library.specs.fip_language.Values.{Values}
+use Rattle.command_library.specs.fip_language.Meaning.{Peak}
+use Rattle.command_library.specs.fip_base.declared.plain.Stack.{Stack}
+use Rattle.worked_examples.specs.fip_trees.declared.groups.Member.{Member}
+use Rattle.worked_examples.specs.fip_trees.Tree.{Instance, Program}
+use Rattle.worked_examples.specs.tail_groups.Members.{AreMembers}
+use Rattle.worked_examples.specs.instance_semantics.Meaning.{flat_meaning}
+use Rattle.worked_examples.specs.cell_lower.Shape.{Header, headers}
+use Rattle.worked_examples.specs.code_file.CodeText.{CodeText}
+use Rattle.worked_examples.specs.code_file.Plain.{PlainFunction, PlainCode}
+use Rattle.worked_examples.specs.code_file.declared.tags.Version.TheVariants.{Second}
+use Rattle.command_library.specs.machine_semantics.States.{State}
+use Rattle.command_library.specs.machine_semantics.Steps.{Kinds}
+use Rattle.command_library.specs.machine_semantics.Runs.{Value, Ends, loaded, begun}
+use Rattle.command_library.specs.machine_semantics.Gauges.{seen}
+use Rattle.command_library.specs.code_rules.Breaks.{IsSound}
+use Rattle.command_library.specs.code_rules.Codes as S
+use Rattle.command_library.specs.code_rules.StackNumbers.{HasStack}
+use Rattle.command_library.specs.separation.Codes.{run_code, AreKinds}
+use Rattle.worked_examples.specs.lowering_relation.LoweredBodies.{function_of}
+use Rattle.worked_examples.specs.lowering_simulation.CellEnds.{EndsAs}
+use Rattle.worked_examples.specs.type_safety.Soundness.{parameter_types}
+use Rattle.command_library.specs.command_source.Codes.{sound_view}
+use Rattle.command_library.specs.command_source.ProgramCode.{AreWithin}
+use Rattle.command_library.specs.run_loading.Loading.{first_store, first_words}
+pub use Rattle.command_library.specs.command_run.GaugeText.{highest_stack}
 
 abbrev pub plain_header : PlainFunction → Header
 plain_header f = record {

@@ -5,9 +5,9 @@
 -- `exec` that is out of calls comes to that failure, stores nothing, and leaves its code and cells; `compile` comes to
 -- the lines of the roots, stores a code file, and leaves nothing.
 use Rattle.std.specs.Prelude.{ℕ, List, Option, Some, None, Result, Ok, Err}
-use Rattle.command_outcome.specs.declared.failure.Failure.{Failure}
-use Rattle.machine_semantics.specs.Cells.{Store}
-use Rattle.code_file.specs.Plain.{PlainCode}
+use Rattle.command_library.specs.command_outcome.declared.failure.Failure.{Failure}
+use Rattle.command_library.specs.machine_semantics.Cells.{Store}
+use Rattle.worked_examples.specs.code_file.Plain.{PlainCode}
 
 -- a text for out, or what keeps from it
 abbrev pub End : Type 0

@@ -3,10 +3,10 @@
 --
 -- On no bytes it is told as a bad trace at 0; on a file of 16,777,217 bytes as one at 16777216.
 use Rattle.std.specs.Prelude.{ℕ, List}
-use Rattle.command_outcome.specs.declared.failure.Failure.TheVariants as F
-use Rattle.run_loading.specs.TraceText.{Trace}
-use Rattle.run_loading.specs.TraceReading.{IsBadTrace, IsTraceFile}
-use Rattle.run_loading.specs.Replaying.{replayed}
+use Rattle.command_library.specs.command_outcome.declared.failure.Failure.TheVariants as F
+use Rattle.command_library.specs.run_loading.TraceText.{Trace}
+use Rattle.command_library.specs.run_loading.TraceReading.{IsBadTrace, IsTraceFile}
+use Rattle.command_library.specs.run_loading.Replaying.{replayed}
 use Rattle.command_answers.specs.Outcomes.{Outcome, printed, failed}
 
 pub data Replays (bytes : List ℕ) (step : ℕ) : Outcome → Type 0 where

@@ -4,19 +4,19 @@
 -- The reversal of Cons(1, Cons(2, Nil)) and Nil begins with two cells and the words 7 and 0, and ends after 11 steps
 -- with the word 1, the cell at 0, which then holds 2.
 use Rattle.std.specs.Prelude.{◌≡◌, ℕ, List, Some}
-use Rattle.fip_language.specs.Gauge.{Seen}
-use Rattle.fip_language.specs.Values.{Values}
-use Rattle.code_file.specs.Plain.{PlainCode}
-use Rattle.machine_semantics.specs.States.{State}
-use Rattle.machine_semantics.specs.Steps.{Kinds}
-use Rattle.machine_semantics.specs.Runs.{End, Ends, loaded, begun}
-use Rattle.machine_semantics.specs.Gauges.{seen}
-use Rattle.separation.specs.Codes.{run_code, AreKinds}
-use Rattle.command_source.specs.Codes.{sound_view}
-use Rattle.run_loading.specs.Loading.{first_store, first_words}
-use Rattle.run_loading.specs.TraceText.{Trace}
-use Rattle.run_loading.specs.Replaying.{trace_of}
-pub use Rattle.command_run.specs.CodeRun.{words_for}
+use Rattle.command_library.specs.fip_language.Gauge.{Seen}
+use Rattle.command_library.specs.fip_language.Values.{Values}
+use Rattle.worked_examples.specs.code_file.Plain.{PlainCode}
+use Rattle.command_library.specs.machine_semantics.States.{State}
+use Rattle.command_library.specs.machine_semantics.Steps.{Kinds}
+use Rattle.command_library.specs.machine_semantics.Runs.{End, Ends, loaded, begun}
+use Rattle.command_library.specs.machine_semantics.Gauges.{seen}
+use Rattle.command_library.specs.separation.Codes.{run_code, AreKinds}
+use Rattle.command_library.specs.command_source.Codes.{sound_view}
+use Rattle.command_library.specs.run_loading.Loading.{first_store, first_words}
+use Rattle.command_library.specs.run_loading.TraceText.{Trace}
+use Rattle.command_library.specs.run_loading.Replaying.{trace_of}
+pub use Rattle.command_library.specs.command_run.CodeRun.{words_for}
 use Rattle.command_answers.specs.Outcomes.{Left}
 
 -- function n of the code runs on these arguments, with cells for these credits, so many calls and free frames

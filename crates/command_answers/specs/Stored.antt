@@ -13,27 +13,27 @@
 -- and `audit` prints `derived`; with the text `x` it is refused as `E72: 0`, and with no text as `E73`.
 use Rattle.std.specs.Prelude.{◌≡◌, ◌<◌, ◌≤◌, ◌⊎◌, ℕ, List, length, Option, Some, None}
 use Rattle.std.specs.Fmt.{decimal}
-use Rattle.fip_language.specs.declared.limits.TheConstants.{MOST_FILE_BYTES}
-use Rattle.fip_language.specs.declared.rule.Rule.TheVariants.{E61, E72, E73, E74}
-use Rattle.fip_language.specs.Every.{Every}
-use Rattle.fip_language.specs.Prefix.{IsPlace}
-use Rattle.fip_trees.specs.Tree.{Program}
-use Rattle.derivation_trees.specs.declared.derivation.RuleName.{RuleName}
-use Rattle.derivation_trees.specs.declared.derivation.RuleName.TheVariants as R
-use Rattle.derivation_trees.specs.declared.derivation.Credit.{Credit}
-use Rattle.derivation_check.specs.Accepted.{IsDerivation}
-use Rattle.derivation_trees.specs.Trees.{Tree, Missing, Branch, Trees, NoTrees, MoreTrees, Entry}
-use Rattle.derivation_text.specs.ProofText.{IsProofText}
-use Rattle.code_file.specs.CodeText.{CodeText}
-use Rattle.code_file.specs.Plain.{PlainCode}
-use Rattle.code_file.specs.declared.tags.Version.TheVariants.{Second}
-use Rattle.command_outcome.specs.Successes.{derived_text}
-use Rattle.command_outcome.specs.declared.failure.Failure.TheVariants as F
-use Rattle.command_outcome.specs.declared.failure.Object.TheVariants as O
-use Rattle.source_report.specs.Report.{bare, IsAccepted, IsMatched}
-use Rattle.command_source.specs.Codes.{IsSoundFile, IsCodeListing, IsUpgraded, IsUnspelt}
-use Rattle.command_source.specs.Roots.{IsListing}
-use Rattle.command_source.specs.Wanted.{of_entry, IsReport}
+use Rattle.command_library.specs.fip_language.declared.limits.TheConstants.{MOST_FILE_BYTES}
+use Rattle.command_library.specs.fip_language.declared.rule.Rule.TheVariants.{E61, E72, E73, E74}
+use Rattle.command_library.specs.fip_language.Every.{Every}
+use Rattle.command_library.specs.fip_language.Prefix.{IsPlace}
+use Rattle.worked_examples.specs.fip_trees.Tree.{Program}
+use Rattle.command_library.specs.derivation_trees.declared.derivation.RuleName.{RuleName}
+use Rattle.command_library.specs.derivation_trees.declared.derivation.RuleName.TheVariants as R
+use Rattle.command_library.specs.derivation_trees.declared.derivation.Credit.{Credit}
+use Rattle.command_library.specs.derivation_check.Accepted.{IsDerivation}
+use Rattle.command_library.specs.derivation_trees.Trees.{Tree, Missing, Branch, Trees, NoTrees, MoreTrees, Entry}
+use Rattle.command_library.specs.derivation_text.ProofText.{IsProofText}
+use Rattle.worked_examples.specs.code_file.CodeText.{CodeText}
+use Rattle.worked_examples.specs.code_file.Plain.{PlainCode}
+use Rattle.worked_examples.specs.code_file.declared.tags.Version.TheVariants.{Second}
+use Rattle.command_library.specs.command_outcome.Successes.{derived_text}
+use Rattle.command_library.specs.command_outcome.declared.failure.Failure.TheVariants as F
+use Rattle.command_library.specs.command_outcome.declared.failure.Object.TheVariants as O
+use Rattle.worked_examples.specs.source_report.Report.{bare, IsAccepted, IsMatched}
+use Rattle.command_library.specs.command_source.Codes.{IsSoundFile, IsCodeListing, IsUpgraded, IsUnspelt}
+use Rattle.command_library.specs.command_source.Roots.{IsListing}
+use Rattle.command_library.specs.command_source.Wanted.{of_entry, IsReport}
 use Rattle.command_answers.specs.Outcomes.{Outcome, printed, failed, storing}
 use Rattle.command_answers.specs.OfProgram.{IsCodeOf}
 

@@ -1,14 +1,14 @@
 // What commands come to on a source without any text, and on the file of its code: nothing is asked for them. Each law
 // is the contract of a function that does nothing.
 ghost use Rattle.std.specs.Prelude.{◌≡◌, ℕ, List, [], ◌∷◌, Some, None, codes};
-ghost use Rattle.fip_language.specs.declared.rule.Rule.TheVariants.{E70};
+ghost use Rattle.command_library.specs.fip_language.declared.rule.Rule.TheVariants.{E70};
 ghost use Rattle.fip_outside.specs.Files.{File, file_of};
-ghost use Rattle.command_words.specs.Words.{Request, Check, Compile, Verify, Upgrade, Exec, Run, Eval, Trace, Session};
-ghost use Rattle.command_words.specs.Words.{Tasks, Derive, Audit, Room};
-ghost use Rattle.command_outcome.specs.Successes.{derived_text};
-ghost use Rattle.command_outcome.specs.declared.failure.Failure.TheVariants as F;
-ghost use Rattle.command_source.specs.Codes.{IsSoundFile};
-ghost use Rattle.command_source.specs.Wanted.{of_entry};
+ghost use Rattle.command_library.specs.command_words.Words.{Request, Check, Compile, Verify, Upgrade, Exec, Run, Eval, Trace, Session};
+ghost use Rattle.command_library.specs.command_words.Words.{Tasks, Derive, Audit, Room};
+ghost use Rattle.command_library.specs.command_outcome.Successes.{derived_text};
+ghost use Rattle.command_library.specs.command_outcome.declared.failure.Failure.TheVariants as F;
+ghost use Rattle.command_library.specs.command_source.Codes.{IsSoundFile};
+ghost use Rattle.command_library.specs.command_source.Wanted.{of_entry};
 ghost use Rattle.command_answers.specs.Outcomes.{printed, failed, storing};
 ghost use Rattle.command_answers.specs.OfProgram.{IsCodeOf};
 ghost use Rattle.command_answers.specs.Answer.{IsAnswer, ComesTo};

@@ -3,6 +3,6 @@
 #![tactic(auto)]
 
 pub mod empty;
-pub mod theorems;
 pub mod members;
 pub mod runs;
+pub mod theorems;

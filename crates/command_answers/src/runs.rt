@@ -2,10 +2,10 @@
 // function that does nothing.
 ghost use Rattle.std.specs.Prelude.{◌≡◌, ℕ, Bool, List};
 ghost use Rattle.fip_outside.specs.Files.{File};
-ghost use Rattle.command_words.specs.Words.{Request, Run, Room, Verify, Upgrade, Replay};
-ghost use Rattle.command_source.specs.Codes.{HasFunction};
-ghost use Rattle.command_run.specs.CodeRun as R;
-ghost use Rattle.command_run.specs.ExecAnswer as E;
+ghost use Rattle.command_library.specs.command_words.Words.{Request, Run, Room, Verify, Upgrade, Replay};
+ghost use Rattle.command_library.specs.command_source.Codes.{HasFunction};
+ghost use Rattle.command_library.specs.command_run.CodeRun as R;
+ghost use Rattle.command_library.specs.command_run.ExecAnswer as E;
 ghost use Rattle.command_answers.specs.Answer.{ComesTo};
 ghost use Rattle.command_answers.specs.CodeRun.{RunsCode};
 ghost use Rattle.command_answers.specs.Exec.{Execs};

@@ -13,23 +13,23 @@ use Rattle.fip_language.specs.ValueText.{SpellsValues}
 use Rattle.fip_language.specs.Character.{characters}
 use Rattle.fip_language.proofs.Words.{slice_get-map}
 use Rattle.fip_base.specs.declared.plain.Param.{Param}
-use Rattle.fip_trees.specs.Tree.{Instance, Program}
-use Rattle.fip_trees.specs.TreeView as V
-use Rattle.fip_trees.specs.declared.program.Instance.{Instance as an_instance}
-use Rattle.fip_trees.specs.declared.program.Program.{Program as a_program}
+use Rattle.command_source.specs.fip_trees.Tree.{Instance, Program}
+use Rattle.command_source.specs.fip_trees.TreeView as V
+use Rattle.command_source.specs.fip_trees.declared.program.Instance.{Instance as an_instance}
+use Rattle.command_source.specs.fip_trees.declared.program.Program.{Program as a_program}
 use Rattle.command_outcome.specs.declared.failure.Failure.{Failure}
 use Rattle.command_outcome.specs.declared.failure.Failure.TheVariants as F
-use Rattle.instance_semantics.specs.Meaning.{flat_meaning}
+use Rattle.plain_eval.specs.instance_semantics.Meaning.{flat_meaning}
 use Rattle.value_text.specs.Loaded.{types_of}
 use Rattle.value_text.proofs.Typed.{input_typed}
 use Rattle.plain_rows.specs.declared.load.Rows.{Rows}
 use Rattle.plain_rows.specs.Rows.{AreRows}
-use Rattle.type_safety.specs.Soundness.{IsSoundAnswer, parameter_types}
-use Rattle.source_report.specs.Report.{IsTyped, IsMatched, IsAccepted}
-use Rattle.source_report.proofs.Ready.{typed_formed}
-use Rattle.static_params.proofs.TypeRows.{there_among}
-use Rattle.source_safety.proofs.Accepted.{matched_sound}
-use Rattle.specialisation_correctness.proofs.Meant.{root_meant}
+use Rattle.command_source.specs.type_safety.Soundness.{IsSoundAnswer, parameter_types}
+use Rattle.command_source.specs.source_report.Report.{IsTyped, IsMatched, IsAccepted}
+use Rattle.command_source.proofs.source_report.Ready.{typed_formed}
+use Rattle.command_source.proofs.static_params.TypeRows.{there_among}
+use Rattle.command_source.proofs.source_safety.Accepted.{matched_sound}
+use Rattle.command_source.proofs.specialisation_correctness.Meant.{root_meant}
 use Rattle.command_source.specs.Entries.{IsRootedIn}
 use Rattle.command_source.specs.Roots.{root_named}
 use Rattle.command_eval.specs.Arguments.{IsNoText}

@@ -12,15 +12,15 @@ use Rattle.fip_language.specs.Table.{Table}
 use Rattle.fip_language.specs.Values.{Values}
 use Rattle.fip_language.specs.ValueText.{SpellsValues}
 use Rattle.fip_language.proofs.OnePlace.{IsPlace-unique, IsPlace-not_spelt}
-use Rattle.fip_trees.specs.Tree.{Instance, Program}
+use Rattle.command_source.specs.fip_trees.Tree.{Instance, Program}
 use Rattle.command_outcome.specs.declared.failure.Failure.{Failure}
 use Rattle.command_outcome.specs.declared.failure.Failure.TheVariants as F
 use Rattle.value_text.proofs.Exact.{accepts_text}
 use Rattle.value_text.proofs.Tables.{is_table, types_alive}
-use Rattle.type_safety.specs.Soundness.{parameter_types}
-use Rattle.source_report.specs.Report.{IsParsed}
-use Rattle.source_report.proofs.Once.{parsed_once, accepted_once}
-use Rattle.source_report.proofs.Ready.{typed_formed}
+use Rattle.command_source.specs.type_safety.Soundness.{parameter_types}
+use Rattle.command_source.specs.source_report.Report.{IsParsed}
+use Rattle.command_source.proofs.source_report.Once.{parsed_once, accepted_once}
+use Rattle.command_source.proofs.source_report.Ready.{typed_formed}
 use Rattle.command_source.specs.Roots.{root_named}
 use Rattle.command_source.specs.Wanted.{Root, IsRoot, IsReady}
 use Rattle.command_eval.specs.EvalAnswer.{Entry, Evaluates, Misspelt, Answered, Spells, Tells}

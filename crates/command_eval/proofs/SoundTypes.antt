@@ -10,17 +10,17 @@ use Rattle.fip_language.specs.SoundTable.{IsSoundTable}
 use Rattle.fip_language.specs.Table.{Shape, Table, shapes}
 use Rattle.fip_language.specs.UpperNames.{HasUpperName, HaveUpperNames}
 use Rattle.fip_language.proofs.Plain.{every_at}
-use Rattle.fip_grammar.proofs.UpperNames.{spelt_upper_names}
-use Rattle.fip_trees.specs.SoundProgram.{IsSoundProgram}
-use Rattle.fip_trees.specs.Tree.{Program}
-use Rattle.fip_trees.specs.declared.least.Violation.{Violation}
-use Rattle.data_types.specs.Answers.{Violates}
-use Rattle.static_params.specs.Answers.{AreFew}
-use Rattle.static_params.specs.FlatProgram.{Numbers, flat_program}
-use Rattle.static_params.specs.FlatSource.{flat_source}
-use Rattle.static_params.proofs.ConstructorRows.{declared_shape}
-use Rattle.static_params.proofs.Sounding.{flat_is_sound}
-use Rattle.source_report.specs.Report.{IsFlat, IsTyped}
+use Rattle.command_source.proofs.fip_grammar.UpperNames.{spelt_upper_names}
+use Rattle.command_source.specs.fip_trees.SoundProgram.{IsSoundProgram}
+use Rattle.command_source.specs.fip_trees.Tree.{Program}
+use Rattle.command_source.specs.fip_trees.declared.least.Violation.{Violation}
+use Rattle.command_source.specs.data_types.Answers.{Violates}
+use Rattle.command_source.specs.static_params.Answers.{AreFew}
+use Rattle.command_source.specs.static_params.FlatProgram.{Numbers, flat_program}
+use Rattle.command_source.specs.static_params.FlatSource.{flat_source}
+use Rattle.command_source.proofs.static_params.ConstructorRows.{declared_shape}
+use Rattle.command_source.proofs.static_params.Sounding.{flat_is_sound}
+use Rattle.command_source.specs.source_report.Report.{IsFlat, IsTyped}
 
 upper_bool : Every HasUpperName bool_type.constructors
 upper_bool = (refl, (refl, tt))

@@ -20,11 +20,11 @@ use Rattle.fip_language.specs.Statics.{NoClosed}
 use Rattle.fip_language.specs.Table.{Table}
 use Rattle.fip_language.specs.Values.{Values}
 use Rattle.fip_language.specs.ValueText.{SpellsValues}
-use Rattle.fip_trees.specs.Tree.{Instance, Program}
+use Rattle.command_source.specs.fip_trees.Tree.{Instance, Program}
 use Rattle.command_outcome.specs.declared.failure.Failure.{Failure}
 use Rattle.command_outcome.specs.declared.failure.Failure.TheVariants as F
-use Rattle.type_safety.specs.Soundness.{parameter_types}
-use Rattle.source_report.specs.Report.{IsParsed, IsAccepted}
+use Rattle.command_source.specs.type_safety.Soundness.{parameter_types}
+use Rattle.command_source.specs.source_report.Report.{IsParsed, IsAccepted}
 use Rattle.command_source.specs.Roots.{root_named}
 
 -- What is evaluated: a source that breaks no rule, by its core form and by its typed program, which has the types; and

@@ -3,21 +3,21 @@ ghost use Rattle.std.specs.Prelude.{◌≤◌, ℕ, List, length, IfErr};
 ghost use Rattle.fip_language.specs.declared.limits.TheConstants.{MOST_FILE_BYTES};
 ghost use Rattle.fip_language.specs.Meaning.{Answer};
 ghost use Rattle.fip_language.specs.Values.{Values};
-ghost use Rattle.fip_trees.specs.TreeView as V;
-ghost use Rattle.instance_semantics.specs.Meaning.{flat_meaning};
+ghost use Rattle.command_source.specs.fip_trees.TreeView as V;
+ghost use Rattle.plain_eval.specs.instance_semantics.Meaning.{flat_meaning};
 ghost use Rattle.plain_rows.specs.Rows.{AreRows};
 ghost use Rattle.plain_eval.specs.Ended.{IsEnd};
-ghost use Rattle.type_safety.specs.Soundness.{IsSoundAnswer};
+ghost use Rattle.command_source.specs.type_safety.Soundness.{IsSoundAnswer};
 ghost use Rattle.command_outcome.specs.Stages.{IsOfRun};
 ghost use Rattle.command_source.specs.Entries.{IsRootedIn};
 ghost use Rattle.command_eval.specs.EvalAnswer.{Evaluates, OrNoMemory, Tells};
 
 use crate::arguments::arguments;
 use command_outcome::Failure;
+use command_source::Evaluable;
 use fip_base::plain::NoMemory;
 use fip_base::table::TypeTable;
 use plain_eval::{PlainEnded, Rows, eval, print_rows};
-use command_source::Evaluable;
 use std::alloc::Global;
 
 // How an evaluation ended, told.

@@ -4,4 +4,5 @@
 mod arguments;
 mod evaluation;
 
+pub use command_source as source;
 pub use evaluation::evaluate;

@@ -7,9 +7,9 @@ use Rattle.fip_language.specs.Store.{Cell, Placed, PlacedInt, Bare, At, Parts, N
 use Rattle.fip_language.specs.Table.{Shape, Table, shapes, constructors}
 use Rattle.fip_language.specs.Values.{Value, Node}
 use Rattle.cell_store.specs.Cells.{Cells, cell_at, size_of}
-use Rattle.separation.proofs.Reading.{int_is}
-use Rattle.value_text.proofs.Printing.{odd_cell}
-use Rattle.value_text.specs.Standing.{Stands, StandAll}
+use Rattle.command_run.proofs.separation.Reading.{int_is}
+use Rattle.command_run.proofs.value_text.Printing.{odd_cell}
+use Rattle.command_run.specs.value_text.Standing.{Stands, StandAll}
 use Rattle.command_library.specs.MadeTree.{keys_of}
 use Rattle.command_library.specs.Reading.{sides, IsAt, HasNode}
 use Rattle.command_library.specs.declared.keys.Node.{Node as Found}

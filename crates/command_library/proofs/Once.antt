@@ -6,10 +6,10 @@ use Rattle.fip_language.specs.Meaning.{Gives}
 use Rattle.fip_language.specs.Values.{Values}
 use Rattle.command_outcome.specs.declared.failure.Failure.{Failure}
 use Rattle.command_outcome.specs.declared.failure.Failure.TheVariants as F
-use Rattle.command_source.specs.Wanted.{Compiled, IsReady}
-use Rattle.command_source.proofs.Once.{refused_once, refused_not_ready}
-use Rattle.command_eval.specs.EvalAnswer.{Entry, Spells}
-use Rattle.command_eval.proofs.Once.{one_text}
+use Rattle.command_run.specs.command_source.Wanted.{Compiled, IsReady}
+use Rattle.command_run.proofs.command_source.Once.{refused_once, refused_not_ready}
+use Rattle.command_run.specs.command_eval.EvalAnswer.{Entry, Spells}
+use Rattle.command_run.proofs.command_eval.Once.{one_text}
 use Rattle.command_run.specs.ExecAnswer.{Execs, Ran, answer_of, frames_for}
 use Rattle.command_run.proofs.ExecOnce.{exec_once, same_answer, answers_alike}
 use Rattle.command_library.specs.GenAnswer.{tree_source, build, gen_room, Makes, LongInput, NoTree, Made, Generates, Refused, Ran as Done}

@@ -11,9 +11,9 @@ use Rattle.fip_language.specs.Table.{Table}
 use Rattle.fip_language.specs.Values.{Values}
 use Rattle.fip_language.specs.ValueText.{SpellsValues}
 use Rattle.fip_language.specs.declared.limits.TheConstants.{MOST_FILE_BYTES}
-use Rattle.machine_semantics.specs.Cells.{Store}
-use Rattle.machine_semantics.specs.States.{State}
-use Rattle.separation.specs.Codes.{HasLiterals}
+use Rattle.task_semantics.specs.machine_semantics.Cells.{Store}
+use Rattle.task_semantics.specs.machine_semantics.States.{State}
+use Rattle.command_run.specs.separation.Codes.{HasLiterals}
 use Rattle.command_words.specs.Words.{Room}
 use Rattle.command_outcome.specs.declared.failure.Failure.{Failure}
 use Rattle.command_outcome.specs.declared.failure.Failure.TheVariants as F
@@ -22,18 +22,18 @@ use Rattle.fip_machine.specs.declared.machine.Ended.{Ended}
 use Rattle.fip_machine.specs.declared.machine.Ended.TheVariants as M
 use Rattle.fip_machine.specs.Machines.{Seen}
 use Rattle.fip_machine.specs.Tasks.{state_with}
-use Rattle.code_rules.specs.Codes.{PlainFunction, plain, plain_function, function_at}
-use Rattle.session_semantics.specs.Talk.{frames_of}
-use Rattle.command_source.specs.Entries.{Chosen}
-use Rattle.command_source.specs.ProgramCode.{IsEntryOf}
-use Rattle.command_source.specs.Wanted.{Compiled, Refuses, IsReady, KeepsFrom}
-use Rattle.value_text.specs.Loaded.{types_of}
-use Rattle.command_eval.specs.EvalAnswer.{Entry, Spells, OrNoMemory}
-use Rattle.command_eval.proofs.Once.{one_text}
-use Rattle.machine_correctness.specs.Meant.{IsMeant, ArePrintable}
-use Rattle.machine_correctness.specs.Starts.{Begins}
-use Rattle.machine_correctness.proofs.EvaluatedEnds.{answers_as_meant}
-use Rattle.machine_correctness.proofs.Texts.{printable}
+use Rattle.command_run.specs.code_rules.Codes.{PlainFunction, plain, plain_function, function_at}
+use Rattle.command_run.specs.session_semantics.Talk.{frames_of}
+use Rattle.command_run.specs.command_source.Entries.{Chosen}
+use Rattle.command_run.specs.command_source.ProgramCode.{IsEntryOf}
+use Rattle.command_run.specs.command_source.Wanted.{Compiled, Refuses, IsReady, KeepsFrom}
+use Rattle.command_run.specs.value_text.Loaded.{types_of}
+use Rattle.command_run.specs.command_eval.EvalAnswer.{Entry, Spells, OrNoMemory}
+use Rattle.command_run.proofs.command_eval.Once.{one_text}
+use Rattle.command_run.specs.machine_correctness.Meant.{IsMeant, ArePrintable}
+use Rattle.command_run.specs.machine_correctness.Starts.{Begins}
+use Rattle.command_run.proofs.machine_correctness.EvaluatedEnds.{answers_as_meant}
+use Rattle.command_run.proofs.machine_correctness.Texts.{printable}
 use Rattle.command_run.specs.ExecAnswer.{Execs, Misspelt, Small, Ran, RunsOn, TellsRun, answer_of, frames_for, words_of}
 use Rattle.command_run.specs.GaugeText.{if_asked}
 use Rattle.command_run.specs.Starting.{IsStarted, TellsEnded, failure_for, gauge_lines}

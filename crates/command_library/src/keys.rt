@@ -5,9 +5,9 @@ ghost use Rattle.fip_language.specs.Store.{At, Parts, values_of};
 ghost use Rattle.fip_language.specs.Table.{Shape, constructors};
 ghost use Rattle.fip_language.specs.Values.{Value, Values, Node as a_node};
 ghost use Rattle.cell_store.specs.Cells.{cell_at};
-ghost use Rattle.machine_cells.specs.Small.{IsSmall};
-ghost use Rattle.machine_correctness.specs.Meant.{ArePrintable};
-ghost use Rattle.value_text.specs.Standing.{Stands};
+ghost use Rattle.fip_machine.specs.machine_cells.Small.{IsSmall};
+ghost use Rattle.command_run.specs.machine_correctness.Meant.{ArePrintable};
+ghost use Rattle.command_run.specs.value_text.Standing.{Stands};
 ghost use Rattle.command_library.specs.MadeTree.{keys_of, keys_of_first, with_key, ends_of};
 ghost use Rattle.command_library.specs.Reading.{sides, ints, IsAt, HasNode, AreKeys};
 

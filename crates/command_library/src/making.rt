@@ -1,27 +1,27 @@
 // The run that makes a tree, and what is told of it.
 ghost use Rattle.std.specs.Prelude.{◌≡◌, ◌⊎◌, ℕ, List, slice_get, Some, IfOk, IfErr};
 ghost use Rattle.fip_language.specs.Values.{Values};
-ghost use Rattle.cell_code.specs.declared.code.Function.{Function as a_function};
+ghost use Rattle.fip_machine.specs.cell_code.declared.code.Function.{Function as a_function};
 ghost use Rattle.command_outcome.specs.Stages.{IsOfSource, IsOfRun};
-ghost use Rattle.machine_cells.specs.Small.{IsSmall};
-ghost use Rattle.machine_correctness.specs.Meant.{ArePrintable};
-ghost use Rattle.command_source.specs.ProgramCode.{IsEntryOf};
-ghost use Rattle.command_source.specs.Wanted.{Compiled, IsReady};
-ghost use Rattle.command_eval.specs.EvalAnswer.{OrNoMemory};
+ghost use Rattle.fip_machine.specs.machine_cells.Small.{IsSmall};
+ghost use Rattle.command_run.specs.machine_correctness.Meant.{ArePrintable};
+ghost use Rattle.command_run.specs.command_source.ProgramCode.{IsEntryOf};
+ghost use Rattle.command_run.specs.command_source.Wanted.{Compiled, IsReady};
+ghost use Rattle.command_run.specs.command_eval.EvalAnswer.{OrNoMemory};
 ghost use Rattle.command_library.specs.GenAnswer.{build, Makes, Generates};
 ghost use Rattle.command_library.specs.MadeTree.{keys_of_first, lines_of_keys, lines_of_results};
 ghost use Rattle.command_library.specs.Reading.{ints};
 
 use crate::arguments::arguments;
 use crate::keys::{ends_of, first_keys};
-use command_words::Room;
 use command_outcome::{Failure, tree_lines};
+use command_run::source::{Ready, exec_entry};
+use command_run::{failure_of, started, types_of};
+use command_words::Room;
 use fip_base::plain::NoMemory;
 use fip_language::limits::{MOST_FILE_BYTES, MOST_STORE_WORDS};
 use fip_library::text;
 use fip_machine::{Gauge, Machine};
-use command_run::{failure_of, started, types_of};
-use command_source::{Ready, exec_entry};
 use std::alloc::Global;
 
 // The room of a run that makes a tree.

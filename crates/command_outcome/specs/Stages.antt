@@ -1,6 +1,6 @@
 -- At which stage of a command a failure can come.
 use Rattle.std.specs.Prelude.{◌≡◌}
-use Rattle.fip_language.specs.declared.rule.Rule.TheVariants.{E75}
+use Rattle.fip_base.specs.fip_language.declared.rule.Rule.TheVariants.{E75}
 use Rattle.command_outcome.specs.declared.failure.Failure.{Failure}
 use Rattle.command_outcome.specs.declared.failure.Failure.TheVariants as F
 

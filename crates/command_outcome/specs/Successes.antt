@@ -1,8 +1,8 @@
 -- The texts of commands that succeed.
 use Rattle.std.specs.Prelude.{ℕ, List, [], ◌∷◌, ◌++◌, Option, None, Some, codes}
 use Rattle.std.specs.Fmt.{decimal, signed_decimal}
-use Rattle.fip_language.specs.declared.FunKind.{FunKind}
-use Rattle.fip_language.specs.declared.FunKind.TheVariants.{Fip, Fbip, Fun}
+use Rattle.fip_base.specs.fip_language.declared.FunKind.{FunKind}
+use Rattle.fip_base.specs.fip_language.declared.FunKind.TheVariants.{Fip, Fbip, Fun}
 use Rattle.fip_base.specs.declared.plain.Stack.{Stack}
 use Rattle.command_outcome.specs.declared.success.Ends.{Ends}
 use Rattle.command_outcome.specs.Texts.{line_end}

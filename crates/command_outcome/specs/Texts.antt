@@ -1,10 +1,10 @@
 -- The texts of the statuses, each ended by LF.
 use Rattle.std.specs.Prelude.{ℕ, List, [], ◌∷◌, ◌++◌, codes}
 use Rattle.std.specs.Fmt.{decimal}
-use Rattle.code_rules.specs.declared.rule.SoundRule.{SoundRule}
-use Rattle.code_rules.specs.declared.rule.SoundRule.TheVariants.{S0, S1, S2, S3, S4, S5, S6, S7, S8, S9}
-use Rattle.fip_language.specs.declared.TrapKind.{TrapKind}
-use Rattle.fip_language.specs.declared.TrapKind.TheVariants.{Overflow, DivideByZero}
+use Rattle.code_verify.specs.code_rules.declared.rule.SoundRule.{SoundRule}
+use Rattle.code_verify.specs.code_rules.declared.rule.SoundRule.TheVariants.{S0, S1, S2, S3, S4, S5, S6, S7, S8, S9}
+use Rattle.fip_base.specs.fip_language.declared.TrapKind.{TrapKind}
+use Rattle.fip_base.specs.fip_language.declared.TrapKind.TheVariants.{Overflow, DivideByZero}
 
 -- LF
 abbrev pub line_end : List ℕ

@@ -7,26 +7,26 @@ use Rattle.fip_language.specs.Store.{values_of}
 use Rattle.fip_language.specs.Table.{Table}
 use Rattle.fip_base.specs.declared.plain.Param.{Param}
 use Rattle.fip_base.specs.declared.plain.Stack.{Stack}
-use Rattle.cell_code.specs.declared.code.Function.{Function}
+use Rattle.fip_machine.specs.cell_code.declared.code.Function.{Function}
 use Rattle.cell_store.specs.Made.{Loading}
 use Rattle.command_words.specs.Words.{Room}
 use Rattle.command_outcome.specs.declared.failure.Failure.{Failure}
-use Rattle.machine_semantics.specs.Cells.{Store}
-use Rattle.machine_semantics.specs.Codes as R
-use Rattle.machine_semantics.specs.Runs.{loaded, loaded_in, lent_words}
-use Rattle.machine_semantics.specs.States.{State}
-use Rattle.machine_semantics.specs.Steps.{first_frame}
-use Rattle.separation.proofs.Sound.{formed}
-use Rattle.code_verify.specs.Checked.{Checked}
+use Rattle.machine_correctness.specs.machine_semantics.Cells.{Store}
+use Rattle.machine_correctness.specs.machine_semantics.Codes as R
+use Rattle.machine_correctness.specs.machine_semantics.Runs.{loaded, loaded_in, lent_words}
+use Rattle.machine_correctness.specs.machine_semantics.States.{State}
+use Rattle.machine_correctness.specs.machine_semantics.Steps.{first_frame}
+use Rattle.machine_correctness.proofs.separation.Sound.{formed}
+use Rattle.fip_machine.specs.code_verify.Checked.{Checked}
 use Rattle.fip_machine.specs.Machines.{Seen}
 use Rattle.fip_machine.specs.Tasks.{state_with, IsFresh}
-use Rattle.machine_cells.specs.Small.{IsSmall, store_of}
-use Rattle.code_rules.specs.Breaks.{IsSound}
-use Rattle.code_rules.specs.Codes.{PlainFunction, plain, plain_function, function_at}
-use Rattle.code_rules.specs.StackNumbers.{HasStack}
+use Rattle.fip_machine.specs.machine_cells.Small.{IsSmall, store_of}
+use Rattle.machine_correctness.specs.code_rules.Breaks.{IsSound}
+use Rattle.machine_correctness.specs.code_rules.Codes.{PlainFunction, plain, plain_function, function_at}
+use Rattle.machine_correctness.specs.code_rules.StackNumbers.{HasStack}
 use Rattle.value_text.specs.Loaded.{types_of}
 use Rattle.machine_correctness.proofs.Texts.{text_begins}
-use Rattle.command_source.specs.Entries.{Chosen}
+use Rattle.command_eval.specs.command_source.Entries.{Chosen}
 use Rattle.command_run.specs.Starting.{IsInNewStore, HasFrames, KeepsFromLoading, IsStarted, KeepsFromStart}
 use Rattle.command_run.proofs.Bounded.{few_frames}
 use Rattle.command_run.proofs.Loaded.{IsLoadable, loadable, words_fit, fits}

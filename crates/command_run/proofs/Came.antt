@@ -6,25 +6,25 @@ use Rattle.fip_language.specs.Meaning.{Answer, Gives, Trap, Out, Deep, Stuck}
 use Rattle.fip_language.specs.Table.{Table}
 use Rattle.fip_language.specs.Values.{Values}
 use Rattle.fip_base.specs.declared.plain.Stack.{Stack}
-use Rattle.machine_semantics.specs.Codes as R
-use Rattle.machine_semantics.specs.Gauges.{seen}
-use Rattle.machine_semantics.specs.Runs as C
-use Rattle.machine_semantics.specs.Runs.{End, Run, Going, Over, Ends, begun, after}
-use Rattle.machine_semantics.specs.States.{State}
-use Rattle.machine_semantics.specs.Steps.{Kinds}
-use Rattle.separation_bounds.proofs.Ending.{ends_once}
-use Rattle.separation_bounds.proofs.FipRuns.{never_deep}
-use Rattle.separation.specs.Codes.{run_code, AreKinds}
-use Rattle.code_verify.specs.Checked.{Checked}
+use Rattle.machine_correctness.specs.machine_semantics.Codes as R
+use Rattle.machine_correctness.specs.machine_semantics.Gauges.{seen}
+use Rattle.machine_correctness.specs.machine_semantics.Runs as C
+use Rattle.machine_correctness.specs.machine_semantics.Runs.{End, Run, Going, Over, Ends, begun, after}
+use Rattle.machine_correctness.specs.machine_semantics.States.{State}
+use Rattle.machine_correctness.specs.machine_semantics.Steps.{Kinds}
+use Rattle.machine_correctness.proofs.separation_bounds.Ending.{ends_once}
+use Rattle.machine_correctness.proofs.separation_bounds.FipRuns.{never_deep}
+use Rattle.machine_correctness.specs.separation.Codes.{run_code, AreKinds}
+use Rattle.fip_machine.specs.code_verify.Checked.{Checked}
 use Rattle.fip_machine.specs.declared.gauge.Gauge.{Gauge}
 use Rattle.fip_machine.specs.declared.machine.Ended.{Ended}
 use Rattle.fip_machine.specs.Ending.{RunsTo}
 use Rattle.fip_machine.specs.GaugeView.{Tells, TellsRun}
-use Rattle.code_rules.specs.Codes.{PlainCode, PlainFunction, plain, results}
-use Rattle.code_rules.specs.StackNumbers.{HasStack}
-use Rattle.tree_refinement.specs.Agreement.{AreWordsOf}
-use Rattle.tree_refinement.specs.Runs.{IsSameEnd}
-use Rattle.tree_refinement.proofs.Running.{trees_end}
+use Rattle.machine_correctness.specs.code_rules.Codes.{PlainCode, PlainFunction, plain, results}
+use Rattle.machine_correctness.specs.code_rules.StackNumbers.{HasStack}
+use Rattle.machine_correctness.specs.tree_refinement.Agreement.{AreWordsOf}
+use Rattle.machine_correctness.specs.tree_refinement.Runs.{IsSameEnd}
+use Rattle.machine_correctness.proofs.tree_refinement.Running.{trees_end}
 use Rattle.session_semantics.specs.Talk.{frames_of}
 use Rattle.machine_correctness.specs.Ended.{EndsJustAs, TellsJustOver}
 use Rattle.machine_correctness.proofs.VerifiedEnds.{runs_just, tells_just_run}

@@ -16,29 +16,29 @@ use Rattle.fip_language.specs.ValueText.{SpellsValues}
 use Rattle.command_words.specs.Words.{Room}
 use Rattle.command_outcome.specs.declared.failure.Failure.{Failure}
 use Rattle.command_outcome.specs.declared.failure.Failure.TheVariants as F
-use Rattle.code_file.specs.Plain.{PlainCode}
-use Rattle.code_file.proofs.Whole.{one_code}
-use Rattle.machine_semantics.specs.Cells.{Store}
-use Rattle.machine_semantics.specs.Gauges.{seen}
-use Rattle.machine_semantics.specs.Runs as R
-use Rattle.machine_semantics.specs.States.{State}
-use Rattle.code_rules.specs.Codes as S
-use Rattle.code_rules.specs.StackNumbers.{HasStack}
-use Rattle.code_rules.specs.Tables.{AreSoundTables}
-use Rattle.code_rules.proofs.Numbers.{has_once}
-use Rattle.separation.specs.Codes.{run_code}
-use Rattle.separation.proofs.Sound.{formed, has_form}
-use Rattle.tree_refinement.specs.Agreement.{AreWordsOf}
-use Rattle.tree_refinement.proofs.Values.{same_parts}
-use Rattle.tree_refinement.specs.Alike.{IsAlike}
-use Rattle.tree_refinement.proofs.Alike.{highest_alike, lowest_alike}
-use Rattle.tree_refinement.proofs.Ends.{ends_alike}
-use Rattle.tree_refinement.proofs.Stacks.{frames_alike, words_alike}
+use Rattle.machine_correctness.specs.code_file.Plain.{PlainCode}
+use Rattle.machine_correctness.proofs.code_file.Whole.{one_code}
+use Rattle.machine_correctness.specs.machine_semantics.Cells.{Store}
+use Rattle.machine_correctness.specs.machine_semantics.Gauges.{seen}
+use Rattle.machine_correctness.specs.machine_semantics.Runs as R
+use Rattle.machine_correctness.specs.machine_semantics.States.{State}
+use Rattle.machine_correctness.specs.code_rules.Codes as S
+use Rattle.machine_correctness.specs.code_rules.StackNumbers.{HasStack}
+use Rattle.machine_correctness.specs.code_rules.Tables.{AreSoundTables}
+use Rattle.machine_correctness.proofs.code_rules.Numbers.{has_once}
+use Rattle.machine_correctness.specs.separation.Codes.{run_code}
+use Rattle.machine_correctness.proofs.separation.Sound.{formed, has_form}
+use Rattle.machine_correctness.specs.tree_refinement.Agreement.{AreWordsOf}
+use Rattle.machine_correctness.proofs.tree_refinement.Values.{same_parts}
+use Rattle.machine_correctness.specs.tree_refinement.Alike.{IsAlike}
+use Rattle.machine_correctness.proofs.tree_refinement.Alike.{highest_alike, lowest_alike}
+use Rattle.machine_correctness.proofs.tree_refinement.Ends.{ends_alike}
+use Rattle.machine_correctness.proofs.tree_refinement.Stacks.{frames_alike, words_alike}
 use Rattle.session_semantics.specs.Talk.{frames_of}
 use Rattle.value_text.specs.Loaded.{types_of}
 use Rattle.value_text.proofs.Exact.{accepts_text}
 use Rattle.value_text.proofs.Tables.{is_table, types_alive}
-use Rattle.command_source.specs.Codes.{sound_view, IsSoundFile}
+use Rattle.command_eval.specs.command_source.Codes.{sound_view, IsSoundFile}
 use Rattle.command_run.specs.CodeRun as C
 use Rattle.command_run.specs.CodeRun.{Chosen, RunsCode, Misspelt, Small, Ran, TellsCode, all_seen, words_for}
 use Rattle.command_run.specs.GaugeText.{gauge_by_states, if_asked}

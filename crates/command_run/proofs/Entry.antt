@@ -7,26 +7,26 @@ use Rattle.std.proofs.lemmas.Slice.Eq.{bytes_eq-Decides}
 use Rattle.fip_language.specs.declared.FunKind.{FunKind}
 use Rattle.fip_language.specs.declared.FunKind.TheVariants.{Fip, Fbip, Fun}
 use Rattle.fip_language.specs.SoundTable.{IsSoundTable}
-use Rattle.fip_trees.specs.declared.groups.Member.{Member}
-use Rattle.fip_trees.specs.Tree.{Instance, Program}
-use Rattle.tail_groups.specs.Members.{AreMembers}
-use Rattle.cell_code.specs.declared.code.Code.{Code}
-use Rattle.cell_code.specs.declared.code.Function.{Function}
-use Rattle.cell_lower.specs.Limits.{is_ruled, registers}
-use Rattle.cell_lower.specs.Shape.{Header, header, header_of, and_if, headers_from, headers}
-use Rattle.separation.specs.Codes.{HasLiterals}
-use Rattle.lowering_relation.specs.LoweredFunctions.{AreLowered}
-use Rattle.code_rules.specs.Breaks.{IsSound}
-use Rattle.code_rules.specs.Codes as S
-use Rattle.code_rules.specs.Codes.{PlainFunction, plain, function_at}
-use Rattle.source_report.specs.Report.{IsTyped}
-use Rattle.source_report.proofs.Once.{accepted_once}
-use Rattle.command_source.specs.Entries.{Chosen}
-use Rattle.command_source.specs.ProgramCode.{IsEntryOf}
-use Rattle.command_source.specs.Roots.{root_named}
-use Rattle.command_source.specs.Wanted.{Compiled, IsCompiled, IsReady}
-use Rattle.command_source.proofs.CodeFiles.{view_same}
-use Rattle.command_source.proofs.Compiling.{headers_same, instrs_same}
+use Rattle.machine_correctness.specs.fip_trees.declared.groups.Member.{Member}
+use Rattle.machine_correctness.specs.fip_trees.Tree.{Instance, Program}
+use Rattle.machine_correctness.specs.tail_groups.Members.{AreMembers}
+use Rattle.fip_machine.specs.cell_code.declared.code.Code.{Code}
+use Rattle.fip_machine.specs.cell_code.declared.code.Function.{Function}
+use Rattle.machine_correctness.specs.cell_lower.Limits.{is_ruled, registers}
+use Rattle.machine_correctness.specs.cell_lower.Shape.{Header, header, header_of, and_if, headers_from, headers}
+use Rattle.machine_correctness.specs.separation.Codes.{HasLiterals}
+use Rattle.machine_correctness.specs.lowering_relation.LoweredFunctions.{AreLowered}
+use Rattle.machine_correctness.specs.code_rules.Breaks.{IsSound}
+use Rattle.machine_correctness.specs.code_rules.Codes as S
+use Rattle.machine_correctness.specs.code_rules.Codes.{PlainFunction, plain, function_at}
+use Rattle.machine_correctness.specs.source_report.Report.{IsTyped}
+use Rattle.machine_correctness.proofs.source_report.Once.{accepted_once}
+use Rattle.command_eval.specs.command_source.Entries.{Chosen}
+use Rattle.command_eval.specs.command_source.ProgramCode.{IsEntryOf}
+use Rattle.command_eval.specs.command_source.Roots.{root_named}
+use Rattle.command_eval.specs.command_source.Wanted.{Compiled, IsCompiled, IsReady}
+use Rattle.command_eval.proofs.command_source.CodeFiles.{view_same}
+use Rattle.command_eval.proofs.command_source.Compiling.{headers_same, instrs_same}
 use Rattle.command_eval.specs.EvalAnswer.{Entry}
 use Rattle.command_eval.proofs.Meant.{typed_of}
 use Rattle.command_eval.proofs.SoundTypes.{typed_sound}

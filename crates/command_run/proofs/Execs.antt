@@ -15,33 +15,33 @@ use Rattle.fip_language.specs.Table.{Table}
 use Rattle.fip_language.specs.Values.{Values}
 use Rattle.fip_language.specs.ValueText.{SpellsValues}
 use Rattle.fip_base.specs.declared.plain.Stack.{Stack}
-use Rattle.code_file.specs.Plain.{plain_code}
+use Rattle.machine_correctness.specs.code_file.Plain.{plain_code}
 use Rattle.command_words.specs.Words.{Room}
 use Rattle.command_outcome.specs.declared.failure.Failure.{Failure}
 use Rattle.command_outcome.specs.declared.failure.Failure.TheVariants as F
-use Rattle.machine_semantics.specs.Codes as R
-use Rattle.machine_semantics.specs.States.{State}
-use Rattle.machine_semantics.specs.Steps.{Kinds}
-use Rattle.separation.specs.Codes.{HasLiterals, AreKinds}
+use Rattle.machine_correctness.specs.machine_semantics.Codes as R
+use Rattle.machine_correctness.specs.machine_semantics.States.{State}
+use Rattle.machine_correctness.specs.machine_semantics.Steps.{Kinds}
+use Rattle.machine_correctness.specs.separation.Codes.{HasLiterals, AreKinds}
 use Rattle.fip_machine.specs.declared.gauge.Gauge.{Gauge}
 use Rattle.fip_machine.specs.declared.machine.Ended.{Ended}
 use Rattle.fip_machine.specs.Ending.{RunsTo}
 use Rattle.fip_machine.specs.GaugeView.{Tells, TellsRun}
 use Rattle.fip_machine.specs.Machines.{Seen}
 use Rattle.fip_machine.specs.Tasks.{state_with}
-use Rattle.code_rules.specs.Codes.{PlainCode, PlainFunction, plain, plain_function, function_at, is_fip}
-use Rattle.code_rules.specs.StackNumbers.{HasStack}
-use Rattle.code_rules.proofs.Numbers.{has_once}
-use Rattle.tail_groups.specs.Members.{AreMembers}
-use Rattle.lowering_relation.specs.LoweredBodies.{function_of}
-use Rattle.compiler_correctness.proofs.SoundTypes.{typed_sound}
+use Rattle.machine_correctness.specs.code_rules.Codes.{PlainCode, PlainFunction, plain, plain_function, function_at, is_fip}
+use Rattle.machine_correctness.specs.code_rules.StackNumbers.{HasStack}
+use Rattle.machine_correctness.proofs.code_rules.Numbers.{has_once}
+use Rattle.machine_correctness.specs.tail_groups.Members.{AreMembers}
+use Rattle.machine_correctness.specs.lowering_relation.LoweredBodies.{function_of}
+use Rattle.machine_correctness.proofs.compiler_correctness.SoundTypes.{typed_sound}
 use Rattle.session_semantics.specs.Talk.{frames_of}
-use Rattle.command_source.specs.Codes.{sound_view}
-use Rattle.command_source.specs.Entries.{Chosen}
-use Rattle.command_source.specs.ProgramCode.{IsEntryOf}
-use Rattle.command_source.specs.Wanted.{Compiled, IsReady}
-use Rattle.command_source.proofs.CodeFiles.{view_same}
-use Rattle.type_safety.specs.Soundness.{parameter_types}
+use Rattle.command_eval.specs.command_source.Codes.{sound_view}
+use Rattle.command_eval.specs.command_source.Entries.{Chosen}
+use Rattle.command_eval.specs.command_source.ProgramCode.{IsEntryOf}
+use Rattle.command_eval.specs.command_source.Wanted.{Compiled, IsReady}
+use Rattle.command_eval.proofs.command_source.CodeFiles.{view_same}
+use Rattle.command_eval.specs.type_safety.Soundness.{parameter_types}
 use Rattle.value_text.specs.Loaded.{types_of}
 use Rattle.command_eval.specs.EvalAnswer.{Entry, OrNoMemory}
 use Rattle.machine_correctness.specs.Gauges.{IsFlat, IsMeasured}

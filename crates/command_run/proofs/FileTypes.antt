@@ -5,13 +5,13 @@ use Rattle.std.proofs.lemmas.Option.{none-some, same_Some, slice_get_within}
 use Rattle.fip_language.specs.Character.{is_upper_name}
 use Rattle.fip_language.specs.SoundTable.{AreTypes, IsSoundTable}
 use Rattle.fip_language.specs.Table.{Shape, Table, shapes}
-use Rattle.cell_code.specs.declared.code.Code.{Code}
-use Rattle.code_file.specs.CodeText.{code_text, functions_text, table_text, type_text, shape_text, types_text, version_number}
-use Rattle.code_file.specs.Plain.{PlainCode, plain_code}
-use Rattle.code_file.specs.Spelling.{◌+++◌, each, four, two, name_text, upper_name_text}
-use Rattle.code_rules.specs.Codes.{plain}
-use Rattle.code_rules.specs.Tables.{AreSoundTables, IsSoundType}
-use Rattle.command_source.specs.Codes.{IsSoundFile}
+use Rattle.fip_machine.specs.cell_code.declared.code.Code.{Code}
+use Rattle.machine_correctness.specs.code_file.CodeText.{code_text, functions_text, table_text, type_text, shape_text, types_text, version_number}
+use Rattle.machine_correctness.specs.code_file.Plain.{PlainCode, plain_code}
+use Rattle.machine_correctness.specs.code_file.Spelling.{◌+++◌, each, four, two, name_text, upper_name_text}
+use Rattle.machine_correctness.specs.code_rules.Codes.{plain}
+use Rattle.machine_correctness.specs.code_rules.Tables.{AreSoundTables, IsSoundType}
+use Rattle.command_eval.specs.command_source.Codes.{IsSoundFile}
 
 -- ---- pieces of a text
 

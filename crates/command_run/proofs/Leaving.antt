@@ -2,15 +2,15 @@
 use Rattle.std.proofs.Common.{◌≡◌, ◌∙◌, ℕ, List, Option, ap, subst}
 use Rattle.fip_base.specs.declared.plain.Stack.{Stack}
 use Rattle.command_words.specs.Words.{Room}
-use Rattle.machine_semantics.specs.Cells.{Store}
-use Rattle.machine_semantics.specs.States.{State}
+use Rattle.machine_correctness.specs.machine_semantics.Cells.{Store}
+use Rattle.machine_correctness.specs.machine_semantics.States.{State}
 use Rattle.fip_machine.specs.declared.gauge.Gauge.{Gauge}
 use Rattle.fip_machine.specs.declared.machine.Ended.{Ended}
 use Rattle.fip_machine.specs.Machines.{Seen}
 use Rattle.fip_machine.specs.Tasks.{state_with}
-use Rattle.code_rules.specs.Codes.{plain}
+use Rattle.machine_correctness.specs.code_rules.Codes.{plain}
 use Rattle.session_semantics.specs.Talk.{frames_of}
-use Rattle.command_source.specs.Entries.{Chosen}
+use Rattle.command_eval.specs.command_source.Entries.{Chosen}
 use Rattle.command_run.specs.CodeRun.{IsLeft}
 use Rattle.command_run.specs.Starting.{IsStarted}
 use Rattle.command_run.proofs.Came.{Came, ends_last}

@@ -13,13 +13,13 @@ use Rattle.fip_base.specs.declared.plain.Param.{Param}
 use Rattle.command_outcome.specs.declared.failure.Failure.TheVariants as F
 use Rattle.cell_store.specs.Cells as L
 use Rattle.cell_store.specs.Made.{Loading}
-use Rattle.machine_semantics.specs.Cells.{IsSized, IsStore, one_if_some, one_if_true}
-use Rattle.separation_kinds.proofs.Basics.{both, refuted, below}
-use Rattle.machine_cells.specs.Small.{store_of}
-use Rattle.code_rules.specs.Codes.{PlainCode, PlainFunction}
-use Rattle.code_rules.specs.Headers.{are_params, are_sizes, is_formed, is_size}
-use Rattle.code_rules.specs.Limits.{most_credits, most_fields, most_registers, most_results}
-use Rattle.code_rules.specs.Types.{is_type}
+use Rattle.machine_correctness.specs.machine_semantics.Cells.{IsSized, IsStore, one_if_some, one_if_true}
+use Rattle.machine_correctness.proofs.separation_kinds.Basics.{both, refuted, below}
+use Rattle.fip_machine.specs.machine_cells.Small.{store_of}
+use Rattle.machine_correctness.specs.code_rules.Codes.{PlainCode, PlainFunction}
+use Rattle.machine_correctness.specs.code_rules.Headers.{are_params, are_sizes, is_formed, is_size}
+use Rattle.machine_correctness.specs.code_rules.Limits.{most_credits, most_fields, most_registers, most_results}
+use Rattle.machine_correctness.specs.code_rules.Types.{is_type}
 use Rattle.value_text.specs.Loaded.{types_of, AreSizes, AreCredits, AreZero, IsGiven, IsLoaded, cell_words, needed}
 use Rattle.value_text.specs.Standing.{StandAll}
 use Rattle.value_text.proofs.Typed.{input_typed}

@@ -1,23 +1,23 @@
 -- From a machine at the start of its function, and what it says of its run, to a run of the code to its end.
 use Rattle.std.proofs.Common.{◌≡◌, ◌∙◌, ℕ, List, [], None, sym, subst}
 use Rattle.command_words.specs.Words.{Room}
-use Rattle.machine_semantics.specs.Codes as R
-use Rattle.machine_semantics.specs.States.{Typed, State}
-use Rattle.machine_semantics.specs.Steps.{Kinds}
-use Rattle.separation.specs.Codes.{run_code, AreKinds}
-use Rattle.separation.proofs.KindsFound.{kinds_found}
-use Rattle.code_verify.specs.Checked.{Checked}
+use Rattle.machine_correctness.specs.machine_semantics.Codes as R
+use Rattle.machine_correctness.specs.machine_semantics.States.{Typed, State}
+use Rattle.machine_correctness.specs.machine_semantics.Steps.{Kinds}
+use Rattle.machine_correctness.specs.separation.Codes.{run_code, AreKinds}
+use Rattle.machine_correctness.proofs.separation.KindsFound.{kinds_found}
+use Rattle.fip_machine.specs.code_verify.Checked.{Checked}
 use Rattle.fip_machine.specs.declared.gauge.Gauge.{Gauge}
 use Rattle.fip_machine.specs.declared.machine.Ended.{Ended}
 use Rattle.fip_machine.specs.Ending.{KnowsRun, RunsTo}
 use Rattle.fip_machine.specs.GaugeView.{TellsRun}
 use Rattle.fip_machine.specs.Machines.{Seen}
 use Rattle.fip_machine.specs.Tasks.{state_with, IsFresh}
-use Rattle.machine_cells.specs.Small.{IsSmall}
-use Rattle.code_rules.specs.Codes.{plain}
+use Rattle.fip_machine.specs.machine_cells.Small.{IsSmall}
+use Rattle.machine_correctness.specs.code_rules.Codes.{plain}
 use Rattle.machine_correctness.specs.Starts.{IsSoundCode}
 use Rattle.machine_correctness.proofs.EvaluatedEnds.{knows}
-use Rattle.command_source.specs.Entries.{Chosen}
+use Rattle.command_eval.specs.command_source.Entries.{Chosen}
 use Rattle.command_run.specs.Starting.{IsStarted}
 use Rattle.command_run.proofs.Came.{Came, came, ends_last}
 use Rattle.command_run.proofs.Small.{ends_small}

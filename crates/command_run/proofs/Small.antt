@@ -1,14 +1,14 @@
 -- The places of the cells after a run are as few as before it: a step makes no cell.
 use Rattle.std.proofs.Common.{◌≡◌, ◌∙◌, ℕ, length, sym, ap, arith}
-use Rattle.machine_semantics.specs.Cells.{size_in}
-use Rattle.machine_semantics.specs.Codes.{PlainCode}
-use Rattle.machine_semantics.specs.Kept.{Keeps}
-use Rattle.machine_semantics.specs.Runs.{End, Over, state_of, begun, after}
-use Rattle.machine_semantics.specs.States.{State}
-use Rattle.machine_semantics.specs.Steps.{Kinds}
-use Rattle.separation_bounds.proofs.Falling.{start_keeps}
-use Rattle.separation_kinds.proofs.Basics.{length_map}
-use Rattle.machine_cells.specs.Small.{IsSmall}
+use Rattle.machine_correctness.specs.machine_semantics.Cells.{size_in}
+use Rattle.machine_correctness.specs.machine_semantics.Codes.{PlainCode}
+use Rattle.machine_correctness.specs.machine_semantics.Kept.{Keeps}
+use Rattle.machine_correctness.specs.machine_semantics.Runs.{End, Over, state_of, begun, after}
+use Rattle.machine_correctness.specs.machine_semantics.States.{State}
+use Rattle.machine_correctness.specs.machine_semantics.Steps.{Kinds}
+use Rattle.machine_correctness.proofs.separation_bounds.Falling.{start_keeps}
+use Rattle.machine_correctness.proofs.separation_kinds.Basics.{length_map}
+use Rattle.fip_machine.specs.machine_cells.Small.{IsSmall}
 
 as_many : (s t : State) → Keeps s.store t.store → length t.store.cells ≡ length s.store.cells
 as_many s t k = sym (length_map size_in t.store.cells) ∙ ap (λ xs. length xs) k.sizes ∙ length_map size_in s.store.cells

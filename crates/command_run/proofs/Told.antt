@@ -9,12 +9,12 @@ use Rattle.fip_language.specs.Values.{Values}
 use Rattle.command_words.specs.Words.{Room}
 use Rattle.command_outcome.specs.declared.failure.Failure.{Failure}
 use Rattle.command_outcome.specs.declared.failure.Failure.TheVariants as F
-use Rattle.machine_semantics.specs.Runs as C
-use Rattle.machine_semantics.specs.Runs.{End}
-use Rattle.machine_semantics.specs.States.{State}
+use Rattle.machine_correctness.specs.machine_semantics.Runs as C
+use Rattle.machine_correctness.specs.machine_semantics.Runs.{End}
+use Rattle.machine_correctness.specs.machine_semantics.States.{State}
 use Rattle.fip_machine.specs.declared.machine.Ended.{Ended}
 use Rattle.fip_machine.specs.declared.machine.Ended.TheVariants as M
-use Rattle.tree_refinement.specs.Agreement.{AreWordsOf}
+use Rattle.machine_correctness.specs.tree_refinement.Agreement.{AreWordsOf}
 use Rattle.machine_correctness.specs.Ended.{EndsJustAs}
 use Rattle.machine_correctness.specs.Meant.{IsMeant}
 use Rattle.machine_correctness.proofs.Texts.{printable}

@@ -22,23 +22,23 @@ use Rattle.fip_base.specs.declared.plain.Stack.{Stack}
 use Rattle.command_words.specs.Words.{Room}
 use Rattle.command_outcome.specs.declared.failure.Failure.{Failure}
 use Rattle.command_outcome.specs.declared.failure.Failure.TheVariants as F
-use Rattle.code_file.specs.Plain.{PlainCode}
-use Rattle.machine_semantics.specs.Cells.{Store}
-use Rattle.machine_semantics.specs.Gauges.{seen}
-use Rattle.machine_semantics.specs.Runs.{End, Ends, Value, Trap, Out, Deep, Unsound, begun}
-use Rattle.machine_semantics.specs.States.{State}
-use Rattle.machine_semantics.specs.Steps.{Kinds}
-use Rattle.separation.specs.Codes.{run_code}
-use Rattle.separation.specs.Starts.{IsStart}
-use Rattle.code_rules.specs.Codes as S
-use Rattle.code_rules.specs.Codes.{PlainFunction, function_at}
-use Rattle.code_rules.specs.StackNumbers.{HasStack}
-use Rattle.tree_refinement.specs.Agreement.{AreWordsOf}
-use Rattle.tree_refinement.specs.Runs.{BeginsWith}
-use Rattle.run_loading.specs.Loading.{words_of_credits}
+use Rattle.machine_correctness.specs.code_file.Plain.{PlainCode}
+use Rattle.machine_correctness.specs.machine_semantics.Cells.{Store}
+use Rattle.machine_correctness.specs.machine_semantics.Gauges.{seen}
+use Rattle.machine_correctness.specs.machine_semantics.Runs.{End, Ends, Value, Trap, Out, Deep, Unsound, begun}
+use Rattle.machine_correctness.specs.machine_semantics.States.{State}
+use Rattle.machine_correctness.specs.machine_semantics.Steps.{Kinds}
+use Rattle.machine_correctness.specs.separation.Codes.{run_code}
+use Rattle.machine_correctness.specs.separation.Starts.{IsStart}
+use Rattle.machine_correctness.specs.code_rules.Codes as S
+use Rattle.machine_correctness.specs.code_rules.Codes.{PlainFunction, function_at}
+use Rattle.machine_correctness.specs.code_rules.StackNumbers.{HasStack}
+use Rattle.machine_correctness.specs.tree_refinement.Agreement.{AreWordsOf}
+use Rattle.machine_correctness.specs.tree_refinement.Runs.{BeginsWith}
+use Rattle.machine_correctness.specs.run_loading.Loading.{words_of_credits}
 use Rattle.session_semantics.specs.Talk.{frames_of}
 use Rattle.value_text.specs.Loaded.{types_of}
-use Rattle.command_source.specs.Codes.{sound_view, IsSoundFile}
+use Rattle.command_eval.specs.command_source.Codes.{sound_view, IsSoundFile}
 use Rattle.command_run.specs.GaugeText.{gauge_by_states, if_asked}
 
 -- the words that a store must have for these arguments and credits

@@ -29,17 +29,17 @@ use Rattle.fip_language.specs.Statics.{NoClosed}
 use Rattle.fip_language.specs.Table.{Table}
 use Rattle.fip_language.specs.Values.{Values}
 use Rattle.fip_base.specs.declared.plain.Stack.{Stack}
-use Rattle.fip_trees.specs.declared.groups.Member.{Member}
-use Rattle.tail_groups.specs.Members.{AreMembers}
+use Rattle.machine_correctness.specs.fip_trees.declared.groups.Member.{Member}
+use Rattle.machine_correctness.specs.tail_groups.Members.{AreMembers}
 use Rattle.command_words.specs.Words.{Room}
 use Rattle.command_outcome.specs.declared.failure.Failure.{Failure}
 use Rattle.command_outcome.specs.declared.failure.Failure.TheVariants as F
-use Rattle.code_file.specs.Plain.{PlainCode}
-use Rattle.code_rules.specs.Codes.{PlainFunction, function_at}
-use Rattle.code_rules.specs.StackNumbers.{HasStack}
+use Rattle.machine_correctness.specs.code_file.Plain.{PlainCode}
+use Rattle.machine_correctness.specs.code_rules.Codes.{PlainFunction, function_at}
+use Rattle.machine_correctness.specs.code_rules.StackNumbers.{HasStack}
 use Rattle.session_semantics.specs.Talk.{frames_of}
-use Rattle.command_source.specs.Codes.{sound_view}
-use Rattle.command_source.specs.ProgramCode.{IsCodeOfSource}
+use Rattle.command_eval.specs.command_source.Codes.{sound_view}
+use Rattle.command_eval.specs.command_source.ProgramCode.{IsCodeOfSource}
 use Rattle.command_eval.specs.EvalAnswer.{Entry, Spells}
 use Rattle.machine_correctness.specs.Gauges.{cells_given, IsMeasured}
 use Rattle.command_run.specs.CodeRun.{Run, all_seen, words_for}

@@ -12,11 +12,11 @@ use Rattle.command_words.specs.Words.{Room}
 use Rattle.command_outcome.specs.declared.failure.Failure.{Failure}
 use Rattle.command_outcome.specs.declared.failure.Failure.TheVariants as F
 use Rattle.cell_store.specs.Made.{Loading}
-use Rattle.machine_semantics.specs.Cells.{Store, IsStore}
-use Rattle.machine_semantics.specs.States.{State}
-use Rattle.code_rules.specs.Codes.{PlainFunction, plain, function_at}
-use Rattle.code_rules.specs.StackNumbers.{HasStack}
-use Rattle.machine_cells.specs.Small.{IsSmall, store_of}
+use Rattle.machine_correctness.specs.machine_semantics.Cells.{Store, IsStore}
+use Rattle.machine_correctness.specs.machine_semantics.States.{State}
+use Rattle.machine_correctness.specs.code_rules.Codes.{PlainFunction, plain, function_at}
+use Rattle.machine_correctness.specs.code_rules.StackNumbers.{HasStack}
+use Rattle.fip_machine.specs.machine_cells.Small.{IsSmall, store_of}
 use Rattle.fip_machine.specs.declared.gauge.Gauge.{Gauge}
 use Rattle.fip_machine.specs.declared.machine.Ended.{Ended}
 use Rattle.fip_machine.specs.declared.machine.Ended.TheVariants as M
@@ -26,7 +26,7 @@ use Rattle.value_text.specs.Loaded.{types_of, IsLoaded}
 use Rattle.session_semantics.specs.Talk.{frames_of}
 use Rattle.machine_correctness.specs.Meant.{ArePrintable}
 use Rattle.machine_correctness.specs.Starts.{Begins}
-use Rattle.command_source.specs.Entries.{Chosen}
+use Rattle.command_eval.specs.command_source.Entries.{Chosen}
 use Rattle.command_run.specs.CodeRun.{words_for}
 use Rattle.command_run.specs.GaugeText.{gauge_text}
 

@@ -5,6 +5,8 @@ mod loading;
 mod printing;
 mod running;
 
+pub use command_eval as evaluator;
+pub use command_eval::source;
 pub use loading::started;
 pub use printing::values_text;
 pub use running::{failure_of, run, run_leaving, types_of};

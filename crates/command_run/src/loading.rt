@@ -4,21 +4,21 @@ ghost use Rattle.fip_language.specs.declared.limits.TheConstants.{MOST_FILE_BYTE
 ghost use Rattle.fip_language.specs.SoundTable.{IsSoundTable};
 ghost use Rattle.command_words.specs.View.{room_of};
 ghost use Rattle.command_outcome.specs.Stages.{IsOfRun};
-ghost use Rattle.code_rules.specs.Codes.{plain};
-ghost use Rattle.code_rules.specs.StackNumbers.{HasStack};
+ghost use Rattle.machine_correctness.specs.code_rules.Codes.{plain};
+ghost use Rattle.machine_correctness.specs.code_rules.StackNumbers.{HasStack};
 ghost use Rattle.value_text.specs.Loaded.{types_of, IsGiven};
 ghost use Rattle.command_run.specs.CodeRun.{is_run_failure};
 ghost use Rattle.command_run.specs.Rooms.{IsAllowed};
 ghost use Rattle.command_run.specs.Starting.{IsInNewStore, HasFrames, KeepsFromLoading, IsStarted, KeepsFromStart};
 
 use cell_store::Loader;
-use command_words::Room;
+use command_eval::source::Ready;
 use command_outcome::Failure;
+use command_words::Room;
 use fip_base::plain::{Param, Stack};
 use fip_base::table::TypeTable;
 use fip_language::limits::{MOST_FRAMES, MOST_STORE_WORDS};
 use fip_machine::Machine;
-use command_source::Ready;
 use std::alloc::Global;
 use value_text::{LoadError, load_values};
 

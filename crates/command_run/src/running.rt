@@ -6,16 +6,16 @@ ghost use Rattle.fip_language.specs.PrintedText.{printed_lines};
 ghost use Rattle.fip_language.specs.SoundTable.{IsSoundTable};
 ghost use Rattle.fip_language.specs.Values.{Values};
 ghost use Rattle.fip_base.specs.declared.plain.Stack.{Stack as a_stack};
-ghost use Rattle.cell_code.specs.declared.code.Function.{Function as a_function};
+ghost use Rattle.fip_machine.specs.cell_code.declared.code.Function.{Function as a_function};
 ghost use Rattle.command_words.specs.View.{room_of};
 ghost use Rattle.command_outcome.specs.Stages.{IsOfRun};
-ghost use Rattle.machine_cells.specs.Small.{IsSmall, store_of};
-ghost use Rattle.code_rules.specs.Codes.{plain};
-ghost use Rattle.code_rules.specs.StackNumbers.{HasStack};
+ghost use Rattle.fip_machine.specs.machine_cells.Small.{IsSmall, store_of};
+ghost use Rattle.machine_correctness.specs.code_rules.Codes.{plain};
+ghost use Rattle.machine_correctness.specs.code_rules.StackNumbers.{HasStack};
 ghost use Rattle.machine_correctness.specs.Meant.{ArePrintable};
-ghost use Rattle.command_source.specs.Entries.{IsFunctionOf};
-ghost use Rattle.command_source.specs.ProgramCode.{IsEntryOf};
-ghost use Rattle.command_source.specs.Wanted.{Compiled, IsReady};
+ghost use Rattle.command_eval.specs.command_source.Entries.{IsFunctionOf};
+ghost use Rattle.command_eval.specs.command_source.ProgramCode.{IsEntryOf};
+ghost use Rattle.command_eval.specs.command_source.Wanted.{Compiled, IsReady};
 ghost use Rattle.command_eval.specs.EvalAnswer.{OrNoMemory};
 ghost use Rattle.command_run.specs.CodeRun.{is_run_end, IsLeft, RunsCode};
 ghost use Rattle.command_run.specs.ExecAnswer.{Execs};
@@ -26,12 +26,12 @@ ghost use Rattle.command_run.specs.Starting.{failure_for, gauge_lines, TellsEnde
 use crate::loading::{bound_of, started};
 use crate::printing::{put_gauge, values_text};
 use cell_store::Sealed;
-use command_words::Room;
+use command_eval::source::Ready;
 use command_outcome::Failure;
+use command_words::Room;
 use fip_base::plain::NoMemory;
 use fip_base::table::TypeTable;
 use fip_machine::{Ended, Gauge, Machine};
-use command_source::Ready;
 use std::alloc::Global;
 
 /// The types of the code.

@@ -10,11 +10,11 @@ use Rattle.code_file.specs.CodeText.{CodeText, IsFileOf}
 use Rattle.code_file.specs.declared.tags.Version.TheVariants.{Second}
 use Rattle.code_file.specs.Plain.{PlainCode, plain_code, plain_function, plain_label}
 use Rattle.code_verify.specs.Checked.{Checked}
-use Rattle.code_rules.specs.Breaks.{IsLeast, IsSound}
-use Rattle.code_rules.specs.Codes as S
+use Rattle.code_verify.specs.code_rules.Breaks.{IsLeast, IsSound}
+use Rattle.code_verify.specs.code_rules.Codes as S
 use Rattle.command_outcome.specs.declared.failure.Failure.{Failure}
 use Rattle.command_outcome.specs.declared.failure.Failure.TheVariants as F
-use Rattle.source_report.specs.Report.{bare}
+use Rattle.program_front.specs.source_report.Report.{bare}
 use Rattle.command_source.specs.Codes.{sound_label, sound_function, sound_view, IsSoundFile, UnsoundFile, KeepsFromCode, KeepsFromUpgrade, KeepsFromRun, IsLeastOf, IsLine, AreLines, IsCodeListing, IsUnspelt, HasFunction, names_one}
 use Rattle.command_source.specs.Wanted.{IsRefusedBy, of_entry}
 

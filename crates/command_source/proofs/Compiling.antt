@@ -3,18 +3,18 @@ use Rattle.std.proofs.Common.{◌≡◌, ◌∙◌, ◌<◌, ◌≤◌, Option, 
 use Rattle.std.specs.Prelude.{Result, Ok, Err, IfOk, IfSome}
 use Rattle.cell_code.specs.declared.code.Code.{Code}
 use Rattle.cell_code.specs.declared.code.Function.{Function}
-use Rattle.cell_lower.specs.Lowered as L
+use Rattle.program_front.specs.cell_lower.Lowered as L
 use Rattle.cell_code.specs.declared.kind.Label.{Label}
-use Rattle.cell_lower.specs.Limits.{registers, registers_of}
-use Rattle.cell_lower.specs.Lowered.{all_instrs}
-use Rattle.cell_lower.specs.Sizes.{IsSmall, AreSmall}
-use Rattle.code_size.specs.Bounds.{IsWithin, most_for, most_labels}
-use Rattle.code_size.specs.Places.{places}
-use Rattle.cell_lower.specs.Shape.{header, headers}
-use Rattle.machine_semantics.specs.Codes as R
-use Rattle.lowering_relation.specs.LoweredBodies.{function_of}
-use Rattle.lowering_relation.specs.LoweredFunctions.{AreLowered}
-use Rattle.lower_frame.specs.Spelled.{AreSpelt}
+use Rattle.program_front.specs.cell_lower.Limits.{registers, registers_of}
+use Rattle.program_front.specs.cell_lower.Lowered.{all_instrs}
+use Rattle.program_front.specs.cell_lower.Sizes.{IsSmall, AreSmall}
+use Rattle.compiler_correctness.specs.code_size.Bounds.{IsWithin, most_for, most_labels}
+use Rattle.compiler_correctness.specs.code_size.Places.{places}
+use Rattle.program_front.specs.cell_lower.Shape.{header, headers}
+use Rattle.compiler_correctness.specs.machine_semantics.Codes as R
+use Rattle.compiler_correctness.specs.lowering_relation.LoweredBodies.{function_of}
+use Rattle.compiler_correctness.specs.lowering_relation.LoweredFunctions.{AreLowered}
+use Rattle.compiler_correctness.specs.lower_frame.Spelled.{AreSpelt}
 use Rattle.compiler_correctness.proofs.EncodingWhole.{typed_has_file}
 use Rattle.code_file.specs.CodeText.{CodeText}
 use Rattle.code_file.specs.Plain.{PlainFunction, plain_code, plain_function, plain_label}
@@ -24,11 +24,11 @@ use Rattle.fip_language.specs.declared.rule.Rule.TheVariants.{E61}
 use Rattle.fip_trees.specs.declared.groups.Member.{Member}
 use Rattle.fip_trees.specs.Tree.{Instance, Program}
 use Rattle.fip_trees.specs.TreeView.{program}
-use Rattle.code_rules.specs.Breaks.{IsSound}
-use Rattle.code_rules.specs.Codes as S
-use Rattle.code_rules.specs.StackNumbers.{HasStack}
-use Rattle.tail_groups.specs.Members.{AreMembers}
-use Rattle.source_report.specs.Report.{bare, IsAccepted}
+use Rattle.code_verify.specs.code_rules.Breaks.{IsSound}
+use Rattle.code_verify.specs.code_rules.Codes as S
+use Rattle.code_verify.specs.code_rules.StackNumbers.{HasStack}
+use Rattle.program_front.specs.tail_groups.Members.{AreMembers}
+use Rattle.program_front.specs.source_report.Report.{bare, IsAccepted}
 use Rattle.command_outcome.specs.declared.failure.Failure.{Failure}
 use Rattle.command_outcome.specs.declared.failure.Failure.TheVariants as F
 use Rattle.command_source.specs.Codes.{IsSoundFile, IsUnspelt}
@@ -80,7 +80,7 @@ within p ms fs found small i n d f at is there = subst (λ (x : PlainFunction). 
     m : (m : Member) × (slice_get ms i ≡ Some m)
     m = member_there p.instances ms i d found.size at
 
-    counted : registers ms i ≡ Rattle.tail_groups.specs.Registers.registers d
+    counted : registers ms i ≡ Rattle.program_front.specs.tail_groups.Registers.registers d
     counted = ap registers_of m.1 ∙ found.counted i d m.0 at m.1
 
 pub headed : (p : Program) (code : Code) (ms : List Member) → AreMembers p.instances ms → code.types ≡ p.types → map header code.functions.items ≡ headers ms p.instances → AreLowered p (all_instrs code) → AreSmall p ms code.functions.items → ((os : List Member) → AreMembers p.instances os → (i n : ℕ) (m : Member) → function_of p.instances i ≡ Some n → slice_get os i ≡ Some m → HasStack (S.plain code) n m.stack) → IsLoweredFrom p (plain_code code)

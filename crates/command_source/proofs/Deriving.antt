@@ -6,14 +6,14 @@ use Rattle.fip_base.specs.declared.refusal.Refusal.{Refusal}
 use Rattle.fip_language.specs.declared.rule.Rule.TheVariants.{E74}
 use Rattle.fip_trees.specs.declared.needs.Need.{Need}
 use Rattle.fip_trees.specs.Tree.{Program}
-use Rattle.credit_check.specs.Tallies.{all_needs}
+use Rattle.fip_proof.specs.credit_check.Tallies.{all_needs}
 use Rattle.command_outcome.specs.declared.failure.Failure.{Failure}
 use Rattle.command_outcome.specs.declared.failure.Failure.TheVariants as F
 use Rattle.fip_proof.specs.Ready.{IsReady as IsReadyToDerive}
-use Rattle.derivation_text.specs.ProofText.{IsProofText, lines_text}
-use Rattle.source_report.specs.Report.{bare, IsAccepted}
-use Rattle.source_report.proofs.Once.{accepted_once}
-use Rattle.derivation_correctness.proofs.Whole.{ready, is_read, derived, lean}
+use Rattle.fip_proof.specs.derivation_text.ProofText.{IsProofText, lines_text}
+use Rattle.program_front.specs.source_report.Report.{bare, IsAccepted}
+use Rattle.program_front.proofs.source_report.Once.{accepted_once}
+use Rattle.compiler_correctness.proofs.derivation_correctness.Whole.{ready, is_read, derived, lean}
 use Rattle.command_source.specs.Derived.{made, IsDerivedFile, IsUnderived, KeepsFromDerive}
 use Rattle.command_source.specs.Wanted.{Lawful, IsReady, IsRefusedBy}
 

@@ -9,7 +9,7 @@ use Rattle.fip_trees.specs.declared.program.Instance.{Instance}
 use Rattle.fip_trees.specs.declared.program.Program.{Program as a_program}
 use Rattle.command_outcome.specs.declared.failure.Failure.{Failure}
 use Rattle.command_outcome.specs.declared.failure.Failure.TheVariants as F
-use Rattle.source_report.specs.Report.{IsAccepted}
+use Rattle.program_front.specs.source_report.Report.{IsAccepted}
 use Rattle.command_source.specs.Entries.{IsRootedIn}
 use Rattle.command_source.specs.Roots.{root_named}
 use Rattle.command_source.specs.Wanted.{Wanted, Root, Compiled, MissesRoot, MissesCode, Has, IsReady, IsRefusedBy, KeepsFrom, of_entry}

@@ -9,10 +9,10 @@ use Rattle.fip_language.proofs.OnePlace.{IsPlace-unique, IsPlace-not_spelt}
 use Rattle.fip_base.specs.declared.refusal.Refusal.{Refusal}
 use Rattle.command_outcome.specs.declared.failure.Failure.{Failure}
 use Rattle.command_outcome.specs.declared.failure.Failure.TheVariants as F
-use Rattle.derivation_trees.specs.Trees.{Entry}
+use Rattle.fip_proof.specs.derivation_trees.Trees.{Entry}
 use Rattle.fip_trees.specs.Tree.{Program}
-use Rattle.derivation_check.specs.Accepted.{IsDerivation}
-use Rattle.derivation_text.specs.ProofText.{IsProofText}
+use Rattle.fip_proof.specs.derivation_check.Accepted.{IsDerivation}
+use Rattle.fip_proof.specs.derivation_text.ProofText.{IsProofText}
 use Rattle.command_source.specs.Judged.{IsBadAt, IsBadProof, IsProofFile, IsProofOf, IsRejectedOf, IsNoDerivation}
 use Rattle.command_source.specs.Wanted.{IsRefusedBy, of_entry}
 

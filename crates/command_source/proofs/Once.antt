@@ -6,14 +6,14 @@ use Rattle.fip_base.specs.declared.plain.Stack.{Stack}
 use Rattle.fip_base.specs.declared.refusal.Refusal.{Refusal}
 use Rattle.fip_trees.specs.declared.groups.Member.{Member}
 use Rattle.fip_trees.specs.Tree.{Instance, Program}
-use Rattle.call_groups.specs.declared.search.Call.{Call}
-use Rattle.call_groups.specs.Stacks.{AreStacks, frames_in, words_in, number_of}
-use Rattle.tail_groups.specs.Members.{AreMembers, FipCallsFip, frame, stack}
-use Rattle.tail_groups.specs.Sites.{call_rows}
+use Rattle.code_verify.specs.call_groups.declared.search.Call.{Call}
+use Rattle.code_verify.specs.call_groups.Stacks.{AreStacks, frames_in, words_in, number_of}
+use Rattle.program_front.specs.tail_groups.Members.{AreMembers, FipCallsFip, frame, stack}
+use Rattle.program_front.specs.tail_groups.Sites.{call_rows}
 use Rattle.fip_language.specs.declared.Place.{Place}
-use Rattle.source_report.specs.Same.{AreSame, offset}
-use Rattle.source_report.proofs.FipCalls.{fip_calls}
-use Rattle.source_report.proofs.Once.{accepted_once, accepted_not, reported_once}
+use Rattle.program_front.specs.source_report.Same.{AreSame, offset}
+use Rattle.program_front.proofs.source_report.FipCalls.{fip_calls}
+use Rattle.program_front.proofs.source_report.Once.{accepted_once, accepted_not, reported_once}
 use Rattle.std.proofs.lemmas.Option.{none-some, same_Some, get_or_from_slice_get}
 use Rattle.command_source.specs.Places.{place_at, placed_at, placed}
 use Rattle.command_source.specs.Roots.{held, root_line, root_lines, root_named, IsListing}

@@ -10,13 +10,13 @@ use Rattle.fip_trees.specs.declared.groups.Member.{Member}
 use Rattle.fip_trees.specs.Tree.{Instance, Program}
 use Rattle.cell_code.specs.declared.code.Code.{Code}
 use Rattle.cell_code.specs.declared.code.Function.{Function}
-use Rattle.cell_lower.specs.Limits.{is_ruled, registers}
-use Rattle.cell_lower.specs.Shape.{Header, header, header_of, and_if, headers_from}
+use Rattle.program_front.specs.cell_lower.Limits.{is_ruled, registers}
+use Rattle.program_front.specs.cell_lower.Shape.{Header, header, header_of, and_if, headers_from}
 use Rattle.code_file.specs.Plain.{plain_code}
-use Rattle.code_rules.specs.Codes as S
+use Rattle.code_verify.specs.code_rules.Codes as S
 use Rattle.command_outcome.specs.declared.failure.Failure.{Failure}
 use Rattle.command_outcome.specs.declared.failure.Failure.TheVariants as F
-use Rattle.source_report.specs.Report.{IsAccepted}
+use Rattle.program_front.specs.source_report.Report.{IsAccepted}
 use Rattle.compiler_correctness.proofs.Headers.{typed_named}
 use Rattle.command_source.specs.Codes.{has_named, names_one}
 use Rattle.command_source.specs.ProgramCode.{IsLoweredFrom}

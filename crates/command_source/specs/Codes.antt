@@ -12,10 +12,10 @@ use Rattle.fip_base.specs.declared.plain.Stack.{Stack}
 use Rattle.code_file.specs.CodeText.{CodeText, IsFileOf}
 use Rattle.code_file.specs.Plain.{PlainLabel, PlainFunction, PlainCode}
 use Rattle.code_file.specs.declared.tags.Version.TheVariants.{Second}
-use Rattle.code_rules.specs.Breaks.{IsLeast, IsSound}
-use Rattle.code_rules.specs.Codes as S
-use Rattle.code_rules.specs.StackNumbers.{HasStack}
-use Rattle.source_report.specs.Report.{bare}
+use Rattle.code_verify.specs.code_rules.Breaks.{IsLeast, IsSound}
+use Rattle.code_verify.specs.code_rules.Codes as S
+use Rattle.code_verify.specs.code_rules.StackNumbers.{HasStack}
+use Rattle.program_front.specs.source_report.Report.{bare}
 use Rattle.command_source.specs.Wanted.{IsRefusedBy, of_entry}
 use Rattle.command_outcome.specs.Successes.{function_text}
 use Rattle.command_outcome.specs.declared.failure.Failure.{Failure}

@@ -9,12 +9,12 @@ use Rattle.std.specs.Prelude.{◌≡◌, ◌⊎◌, ◌<◌, ◌≤◌, ℕ, Lis
 use Rattle.fip_language.specs.declared.limits.TheConstants.{MOST_FILE_BYTES}
 use Rattle.fip_language.specs.declared.rule.Rule.TheVariants.{E74}
 use Rattle.fip_trees.specs.Tree.{Program}
-use Rattle.derivation_making.specs.Made.{made_entries}
-use Rattle.derivation_making.specs.Weakening.{AllLean}
-use Rattle.derivation_trees.specs.Trees.{Entry}
-use Rattle.derivation_check.specs.Accepted.{IsDerivation}
-use Rattle.derivation_text.specs.ProofText.{IsProofText, lines_text}
-use Rattle.source_report.specs.Report.{bare, IsAccepted}
+use Rattle.fip_proof.specs.derivation_making.Made.{made_entries}
+use Rattle.fip_proof.specs.derivation_making.Weakening.{AllLean}
+use Rattle.fip_proof.specs.derivation_trees.Trees.{Entry}
+use Rattle.fip_proof.specs.derivation_check.Accepted.{IsDerivation}
+use Rattle.fip_proof.specs.derivation_text.ProofText.{IsProofText, lines_text}
+use Rattle.program_front.specs.source_report.Report.{bare, IsAccepted}
 use Rattle.command_source.specs.Wanted.{Lawful, IsRefusedBy, KeepsFrom}
 use Rattle.command_outcome.specs.declared.failure.Failure.{Failure}
 

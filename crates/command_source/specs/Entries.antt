@@ -5,7 +5,7 @@ use Rattle.code_file.specs.Plain.{plain_code}
 use Rattle.code_verify.specs.Checked.{Checked}
 use Rattle.fip_trees.specs.Tree.{Instance, Program}
 use Rattle.fip_trees.specs.declared.program.Typed.{Typed}
-use Rattle.source_report.specs.Report.{IsAccepted}
+use Rattle.program_front.specs.source_report.Report.{IsAccepted}
 use Rattle.command_source.specs.Codes.{IsSoundFile}
 use Rattle.command_source.specs.Roots.{root_named}
 

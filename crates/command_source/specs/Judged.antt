@@ -11,11 +11,11 @@ use Rattle.fip_language.specs.declared.limits.TheConstants.{MOST_FILE_BYTES}
 use Rattle.fip_language.specs.declared.rule.Rule.TheVariants.{E72, E73}
 use Rattle.fip_language.specs.Prefix.{IsPlace}
 use Rattle.fip_base.specs.declared.refusal.Refusal.{Refusal}
-use Rattle.derivation_trees.specs.Trees.{Entry}
+use Rattle.fip_proof.specs.derivation_trees.Trees.{Entry}
 use Rattle.fip_trees.specs.Tree.{Program}
-use Rattle.derivation_check.specs.Accepted.{IsDerivation}
-use Rattle.derivation_text.specs.ProofText.{IsProofText}
-use Rattle.source_report.specs.Report.{bare, IsMatched}
+use Rattle.fip_proof.specs.derivation_check.Accepted.{IsDerivation}
+use Rattle.fip_proof.specs.derivation_text.ProofText.{IsProofText}
+use Rattle.program_front.specs.source_report.Report.{bare, IsMatched}
 use Rattle.command_source.specs.Wanted.{of_entry, IsReport}
 
 -- The report of a rule on types or matches, or of one that is asked before: so they aren't right. A source that breaks

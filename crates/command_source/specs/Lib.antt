@@ -6,3 +6,8 @@ pub mod Judged
 pub mod Codes
 pub mod ProgramCode
 pub mod Derived
+pub use Rattle.program_front.specs.data_types as data_types
+pub use Rattle.fip_trees.specs as fip_trees
+pub use Rattle.program_front.specs.source_report as source_report
+pub use Rattle.program_front.specs.static_params as static_params
+pub use Rattle.compiler_correctness.specs.type_safety as type_safety

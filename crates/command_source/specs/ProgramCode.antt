@@ -16,18 +16,18 @@ use Rattle.fip_language.specs.declared.limits.TheConstants.{MOST_FILE_BYTES}
 use Rattle.fip_language.specs.declared.rule.Rule.TheVariants.{E61}
 use Rattle.fip_trees.specs.declared.groups.Member.{Member}
 use Rattle.fip_trees.specs.Tree.{Instance, Program}
-use Rattle.tail_groups.specs.Members.{AreMembers}
+use Rattle.program_front.specs.tail_groups.Members.{AreMembers}
 use Rattle.cell_code.specs.declared.code.Instr.{Instr}
-use Rattle.cell_lower.specs.Shape.{Header, headers}
-use Rattle.code_size.specs.Bounds.{IsWithin}
+use Rattle.program_front.specs.cell_lower.Shape.{Header, headers}
+use Rattle.compiler_correctness.specs.code_size.Bounds.{IsWithin}
 use Rattle.code_file.specs.CodeText.{CodeText}
 use Rattle.code_file.specs.Plain.{PlainFunction, PlainCode, plain_code}
 use Rattle.code_file.specs.declared.tags.Version.TheVariants.{Second}
-use Rattle.lowering_relation.specs.LoweredBodies.{function_of}
-use Rattle.lowering_relation.specs.LoweredFunctions.{AreLowered}
-use Rattle.code_rules.specs.Breaks.{IsSound}
-use Rattle.code_rules.specs.StackNumbers.{HasStack}
-use Rattle.source_report.specs.Report.{bare, IsAccepted}
+use Rattle.compiler_correctness.specs.lowering_relation.LoweredBodies.{function_of}
+use Rattle.compiler_correctness.specs.lowering_relation.LoweredFunctions.{AreLowered}
+use Rattle.code_verify.specs.code_rules.Breaks.{IsSound}
+use Rattle.code_verify.specs.code_rules.StackNumbers.{HasStack}
+use Rattle.program_front.specs.source_report.Report.{bare, IsAccepted}
 use Rattle.command_source.specs.Codes.{sound_view}
 use Rattle.command_source.specs.Entries.{Chosen, IsNamed}
 use Rattle.command_source.specs.Wanted.{Lawful, IsRefusedBy, KeepsFrom}

@@ -15,8 +15,8 @@ use Rattle.fip_base.specs.declared.plain.Stack.{Stack}
 use Rattle.fip_trees.specs.declared.groups.Member.{Member}
 use Rattle.fip_trees.specs.Tree.{Instance, Program}
 use Rattle.command_outcome.specs.Successes.{function_text}
-use Rattle.tail_groups.specs.Members.{AreMembers}
-use Rattle.source_report.specs.Report.{IsAccepted}
+use Rattle.program_front.specs.tail_groups.Members.{AreMembers}
+use Rattle.program_front.specs.source_report.Report.{IsAccepted}
 
 -- the line of an instance, where it is a root
 abbrev pub root_line : Instance → Option Stack → List ℕ

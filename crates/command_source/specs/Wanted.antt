@@ -10,7 +10,7 @@ use Rattle.fip_base.specs.declared.refusal.Refusal.{Refusal}
 use Rattle.fip_trees.specs.Tree.{Instance, Program}
 use Rattle.command_outcome.specs.declared.failure.Failure.{Failure}
 use Rattle.command_outcome.specs.declared.failure.Failure.TheVariants as F
-use Rattle.source_report.specs.Report.{IsAccepted, Reports}
+use Rattle.program_front.specs.source_report.Report.{IsAccepted, Reports}
 use Rattle.command_source.specs.Places.{placed}
 use Rattle.command_source.specs.Roots.{root_named}
 

@@ -5,14 +5,14 @@ ghost use Rattle.std.specs.Prelude.{◌⊎◌, true, map, slice_get, bytes_eq, i
 ghost use Rattle.fip_language.specs.declared.rule.Rule.TheVariants.{E70};
 ghost use Rattle.cell_code.specs.declared.code.Function.{Function as a_function};
 ghost use Rattle.code_file.specs.Plain.{plain_code};
-ghost use Rattle.code_rules.specs.Breaks.{IsSound};
-ghost use Rattle.code_rules.specs.Codes.{plain, plain_function};
+ghost use Rattle.code_verify.specs.code_rules.Breaks.{IsSound};
+ghost use Rattle.code_verify.specs.code_rules.Codes.{plain, plain_function};
 ghost use Rattle.command_outcome.specs.declared.failure.Failure.TheVariants.{NoMemory};
 ghost use Rattle.command_source.specs.Codes.{HasFunction, KeepsFromRun, has_named, names_one};
 ghost use Rattle.command_outcome.specs.Stages.{IsOfSource};
 ghost use Rattle.fip_trees.specs.TreeView as V;
 ghost use Rattle.fip_trees.specs.declared.program.Instance.{Instance as an_instance};
-ghost use Rattle.source_report.specs.Report.{IsAccepted};
+ghost use Rattle.program_front.specs.source_report.Report.{IsAccepted};
 ghost use Rattle.command_source.specs.Entries.{IsFunctionOf, IsNamed, IsRootedIn};
 ghost use Rattle.command_source.specs.ProgramCode.{IsLoweredFrom, IsEntryOf};
 ghost use Rattle.command_source.specs.Roots as R;

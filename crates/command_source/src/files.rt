@@ -11,7 +11,7 @@ ghost use Rattle.command_source.specs.Codes.{KeepsFromCode, KeepsFromUpgrade};
 ghost use Rattle.command_source.specs.ProgramCode.{IsCompiledFile, KeepsFromCompile};
 ghost use Rattle.fip_language.specs.declared.rule.Rule.TheVariants.{E61};
 ghost use Rattle.command_outcome.specs.Stages.{IsOfSource};
-ghost use Rattle.source_report.specs.Report.{bare};
+ghost use Rattle.program_front.specs.source_report.Report.{bare};
 ghost use Rattle.command_source.specs.Roots.{IsListing};
 ghost use Rattle.command_source.specs.Wanted.{Lawful, IsRefusedBy, KeepsFrom};
 

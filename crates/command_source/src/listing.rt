@@ -1,7 +1,7 @@
 // The lines of a program's or a code's functions.
 ghost use Rattle.std.specs.Prelude.{◌≡◌, ◌++◌, ℕ, List, IfOk, OnOk};
-ghost use Rattle.code_rules.specs.Codes.{PlainCode, plain, plain_function};
-ghost use Rattle.code_rules.specs.StackNumbers.{HasStack};
+ghost use Rattle.code_verify.specs.code_rules.Codes.{PlainCode, plain, plain_function};
+ghost use Rattle.code_verify.specs.code_rules.StackNumbers.{HasStack};
 ghost use Rattle.command_source.specs.Codes.{IsLine, AreLines};
 ghost use Rattle.fip_trees.specs.TreeView.{instance_of, instances};
 ghost use Rattle.command_source.specs.Roots.{root_line, root_lines};

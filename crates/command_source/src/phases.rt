@@ -1,20 +1,20 @@
 // From the bytes of a source, or of a code file, to what is known of it.
 ghost use Rattle.std.specs.Prelude.{◌≡◌, IfOk, IfErr};
 ghost use Rattle.code_file.specs.Plain.{plain_code};
-ghost use Rattle.code_rules.specs.Breaks.{IsSound};
-ghost use Rattle.code_rules.specs.Codes.{plain};
+ghost use Rattle.code_verify.specs.code_rules.Breaks.{IsSound};
+ghost use Rattle.code_verify.specs.code_rules.Codes.{plain};
 ghost use Rattle.command_source.specs.Codes.{IsSoundFile, IsLeastOf, KeepsFromCode};
 ghost use Rattle.command_source.specs.ProgramCode.{IsLoweredFrom, HasFile};
 ghost use Rattle.command_outcome.specs.Stages.{IsOfSource};
 ghost use Rattle.command_outcome.specs.declared.failure.Failure.TheVariants.{NoMemory};
 ghost use Rattle.fip_trees.specs.TreeView as V;
-ghost use Rattle.credit_check.specs.Tallies.{all_needs};
-ghost use Rattle.lower_frame.specs.Spelled.{AreSpelt};
-ghost use Rattle.source_report.specs.Report.{bare, IsAccepted, IsMatched, Says};
+ghost use Rattle.fip_proof.specs.credit_check.Tallies.{all_needs};
+ghost use Rattle.compiler_correctness.specs.lower_frame.Spelled.{AreSpelt};
+ghost use Rattle.program_front.specs.source_report.Report.{bare, IsAccepted, IsMatched, Says};
 ghost use Rattle.command_source.specs.Wanted.{Wanted, Lawful, IsReport, IsRefusedBy, KeepsFrom};
 ghost use Rattle.program_front.specs.Unmatched.{IsUnmatched};
 ghost use Rattle.command_source.specs.Judged.{IsEarlyReport};
-ghost use Rattle.tail_groups.specs.Members.{AreMembers};
+ghost use Rattle.program_front.specs.tail_groups.Members.{AreMembers};
 
 use crate::known::Front;
 use crate::places::placed;

@@ -11,12 +11,12 @@ use Rattle.fip_language.specs.Table.{Table}
 use Rattle.fip_language.specs.Values.{Values}
 use Rattle.fip_machine.specs.declared.machine.Ended.{Ended}
 use Rattle.fip_machine.specs.declared.machine.Ended.TheVariants as M
-use Rattle.machine_semantics.specs.States.{State}
+use Rattle.fip_tasks.specs.machine_semantics.States.{State}
 use Rattle.fip_tasks.specs.declared.task.Start.{Start}
-use Rattle.machine_correctness.specs.Meant.{IsMeant, ArePrintable}
-use Rattle.machine_correctness.proofs.Texts.{printable}
+use Rattle.command_run.specs.machine_correctness.Meant.{IsMeant, ArePrintable}
+use Rattle.command_run.proofs.machine_correctness.Texts.{printable}
 use Rattle.command_run.specs.Starting.{failure_for}
-use Rattle.session_semantics.specs.Turns.{joined}
+use Rattle.command_run.specs.session_semantics.Turns.{joined}
 use Rattle.command_tasks.specs.Telling.{TellsAnswer, IsTaskLine, AreTaskLines}
 use Rattle.command_tasks.proofs.Joining.{joined_on}
 

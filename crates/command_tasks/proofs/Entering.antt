@@ -6,15 +6,15 @@ use Rattle.std.specs.Prelude.{min}
 use Rattle.std.proofs.lemmas.Option.{none-some, same_Some, slice_get-map}
 use Rattle.cell_code.specs.declared.code.Code.{Code}
 use Rattle.cell_code.specs.declared.code.Function.{Function}
-use Rattle.cell_lower.specs.Limits.{is_ruled, registers}
-use Rattle.cell_lower.specs.Shape.{Header, header, header_of, and_if, headers_from, headers}
-use Rattle.code_file.specs.Plain.{plain_code}
-use Rattle.separation.specs.Codes.{HasLiterals}
-use Rattle.separation.proofs.Sound.{formed}
+use Rattle.command_run.specs.cell_lower.Limits.{is_ruled, registers}
+use Rattle.command_run.specs.cell_lower.Shape.{Header, header, header_of, and_if, headers_from, headers}
+use Rattle.command_run.specs.code_file.Plain.{plain_code}
+use Rattle.command_run.specs.separation.Codes.{HasLiterals}
+use Rattle.command_run.proofs.separation.Sound.{formed}
 use Rattle.command_words.specs.Words.{Room}
 use Rattle.command_outcome.specs.Texts.{line_end, out_of_calls_text, out_of_frames_text}
-use Rattle.command_eval.proofs.Meant.{typed_of}
-use Rattle.command_eval.proofs.SoundTypes.{typed_sound}
+use Rattle.command_run.proofs.command_eval.Meant.{typed_of}
+use Rattle.command_run.proofs.command_eval.SoundTypes.{typed_sound}
 use Rattle.fip_base.specs.declared.plain.Stack.{Stack}
 use Rattle.fip_language.specs.Core.{Core}
 use Rattle.fip_language.specs.Meaning.{Answer, Gives, Trap, Out, Deep, Stuck, meaning}
@@ -25,28 +25,28 @@ use Rattle.fip_language.specs.Values.{words_needed_by_all}
 use Rattle.fip_language.specs.declared.FunKind.{FunKind}
 use Rattle.fip_language.specs.declared.FunKind.TheVariants.{Fip, Fbip, Fun}
 use Rattle.fip_language.specs.declared.limits.TheConstants.{MOST_FRAMES}
-use Rattle.fip_trees.specs.declared.groups.Member.{Member}
-use Rattle.fip_trees.specs.Tree.{Instance, Program}
-use Rattle.instance_semantics.specs.Meaning.{flat_meaning}
-use Rattle.instance_semantics.proofs.Frames.{more_frames}
-use Rattle.run_loading.specs.Loading.{words_of_credits}
-use Rattle.lowering_relation.specs.LoweredFunctions.{AreLowered}
-use Rattle.machine_correctness.specs.Starts.{IsCodeOf}
+use Rattle.command_run.specs.fip_trees.declared.groups.Member.{Member}
+use Rattle.command_run.specs.fip_trees.Tree.{Instance, Program}
+use Rattle.task_lines.specs.instance_semantics.Meaning.{flat_meaning}
+use Rattle.task_lines.proofs.instance_semantics.Frames.{more_frames}
+use Rattle.task_correctness.specs.run_loading.Loading.{words_of_credits}
+use Rattle.command_run.specs.lowering_relation.LoweredFunctions.{AreLowered}
+use Rattle.command_run.specs.machine_correctness.Starts.{IsCodeOf}
 use Rattle.command_run.proofs.Bounded.{one_of_name}
 use Rattle.command_run.proofs.Loaded.{IsLoadable, loadable}
-use Rattle.session_semantics.specs.Lines.{Symbol, Blank, Open, Close, Comma, Equals, Question, Minus, Underscore, Digit, Small, Capital, Other, BeginsSmall, skip, symbols, word}
-use Rattle.session_semantics.specs.Talk.{Setting, frames_of, free_frames}
-use Rattle.session_semantics.specs.Talk.{answer_of as flat_answer}
-use Rattle.session_semantics.specs.Turns.{AreTasks, IsBadFrom, IsTask, Task, TaskLines, TaskText, credit_words, type_of, joined, words_of_tasks}
-use Rattle.session_semantics.specs.Typed.{AreValues}
-use Rattle.code_rules.specs.Breaks.{IsSound}
-use Rattle.code_rules.specs.Codes.{PlainFunction, plain, plain_function, function_at, is_fip}
-use Rattle.code_rules.specs.StackNumbers.{HasStack}
-use Rattle.command_source.specs.ProgramCode.{IsLoweredFrom}
-use Rattle.command_source.proofs.Compiling.{headers_same, instrs_same}
-use Rattle.specialisation_correctness.proofs.Meant.{root_meant}
-use Rattle.source_report.specs.Report.{IsAccepted, IsTyped}
-use Rattle.tail_groups.specs.Members.{AreMembers}
+use Rattle.command_run.specs.session_semantics.Lines.{Symbol, Blank, Open, Close, Comma, Equals, Question, Minus, Underscore, Digit, Small, Capital, Other, BeginsSmall, skip, symbols, word}
+use Rattle.command_run.specs.session_semantics.Talk.{Setting, frames_of, free_frames}
+use Rattle.command_run.specs.session_semantics.Talk.{answer_of as flat_answer}
+use Rattle.command_run.specs.session_semantics.Turns.{AreTasks, IsBadFrom, IsTask, Task, TaskLines, TaskText, credit_words, type_of, joined, words_of_tasks}
+use Rattle.command_run.specs.session_semantics.Typed.{AreValues}
+use Rattle.command_run.specs.code_rules.Breaks.{IsSound}
+use Rattle.command_run.specs.code_rules.Codes.{PlainFunction, plain, plain_function, function_at, is_fip}
+use Rattle.command_run.specs.code_rules.StackNumbers.{HasStack}
+use Rattle.command_run.specs.command_source.ProgramCode.{IsLoweredFrom}
+use Rattle.command_run.proofs.command_source.Compiling.{headers_same, instrs_same}
+use Rattle.task_correctness.proofs.specialisation_correctness.Meant.{root_meant}
+use Rattle.command_run.specs.source_report.Report.{IsAccepted, IsTyped}
+use Rattle.command_run.specs.tail_groups.Members.{AreMembers}
 use Rattle.task_lines.specs.Called.{AreCalls, Called, IsCall, IsFirstBad, IsReadable}
 use Rattle.task_lines.specs.declared.list.RunLimits.{RunLimits}
 use Rattle.command_tasks.specs.Called.{AreCallLines, AreNamed, IsCallLine, answer_of}

@@ -2,24 +2,24 @@
 -- one is never out of frames.
 use Rattle.std.proofs.Common.{◌≡◌, ◌≢◌, ◌∙◌, ◌+◌, ℕ, List, map, Option, Some, None, slice_get, option_map, if◌then◌else◌, refl, sym, ap, subst, arith}
 use Rattle.std.proofs.lemmas.Option.{none-some, same_Some, slice_get-map}
-use Rattle.source_safety.proofs.Accepted.{accepted_in_place, accepted_stack}
+use Rattle.task_correctness.proofs.source_safety.Accepted.{accepted_in_place, accepted_stack}
 use Rattle.fip_base.specs.declared.plain.Stack.{Stack}
 use Rattle.fip_language.specs.Meaning.{Answer, Deep}
 use Rattle.fip_language.specs.Table.{HaveTypes}
 use Rattle.fip_language.specs.Values.{Values}
 use Rattle.fip_language.specs.declared.FunKind.TheVariants.{Fip, Fbip}
 use Rattle.fip_language.specs.declared.limits.TheConstants.{FRAME_WORDS}
-use Rattle.fip_trees.specs.declared.groups.Member.{Member}
-use Rattle.fip_trees.specs.Tree.{Instance}
-use Rattle.instance_semantics.specs.Meaning.{flat_meaning}
-use Rattle.in_place_safety.specs.InPlace.{EndsInPlace}
-use Rattle.session_semantics.specs.Talk.{Setting, answer_of, frames_by, frames_of, free_frames}
-use Rattle.session_semantics.specs.Turns.{type_of}
-use Rattle.source_report.specs.Report.{IsAccepted}
-use Rattle.source_report.proofs.FipCalls.{fip_calls}
-use Rattle.tail_groups.specs.Members.{AreMembers, frame, stack}
-use Rattle.tail_groups.specs.Registers as T
-use Rattle.tail_groups.specs.Rules as U
+use Rattle.command_run.specs.fip_trees.declared.groups.Member.{Member}
+use Rattle.command_run.specs.fip_trees.Tree.{Instance}
+use Rattle.task_lines.specs.instance_semantics.Meaning.{flat_meaning}
+use Rattle.task_correctness.specs.in_place_safety.InPlace.{EndsInPlace}
+use Rattle.command_run.specs.session_semantics.Talk.{Setting, answer_of, frames_by, frames_of, free_frames}
+use Rattle.command_run.specs.session_semantics.Turns.{type_of}
+use Rattle.command_run.specs.source_report.Report.{IsAccepted}
+use Rattle.command_run.proofs.source_report.FipCalls.{fip_calls}
+use Rattle.command_run.specs.tail_groups.Members.{AreMembers, frame, stack}
+use Rattle.command_run.specs.tail_groups.Registers as T
+use Rattle.command_run.specs.tail_groups.Rules as U
 
 not_deep : (o : Setting) (f : Instance) (vs : Values) (a : Answer) → EndsInPlace o.program.types f vs a → a ≢ Deep
 not_deep o f vs a h e = subst (EndsInPlace o.program.types f vs) e h

@@ -7,3 +7,6 @@ mod Frames
 mod Entering
 mod Ending
 pub mod Once
+pub use Rattle.command_run.proofs.code_file as code_file
+pub use Rattle.task_correctness.proofs.run_loading as run_loading
+pub use Rattle.command_run.proofs.source_report as source_report

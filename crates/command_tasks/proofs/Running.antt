@@ -3,17 +3,17 @@ use Rattle.std.proofs.Common.{◌≡◌, ◌≢◌, ◌∙◌, ◌++◌, ◌+◌
 use Rattle.std.specs.Prelude.{codes, min, slice_get}
 use Rattle.std.specs.Fmt.{decimal}
 use Rattle.std.proofs.lemmas.Option.{none-some, same_Some}
-use Rattle.task_semantics.specs.Lying.{Lying, AreApart, LieApart, call_words, own_store}
-use Rattle.task_semantics.proofs.Beginning.{are_there, are_loaded, begin_together, lies_at, loads, once_by, state_over}
-use Rattle.task_semantics.proofs.Owning.{own_given}
+use Rattle.fip_tasks.specs.task_semantics.Lying.{Lying, AreApart, LieApart, call_words, own_store}
+use Rattle.fip_tasks.proofs.task_semantics.Beginning.{are_there, are_loaded, begin_together, lies_at, loads, once_by, state_over}
+use Rattle.fip_tasks.proofs.task_semantics.Owning.{own_given}
 use Rattle.cell_code.specs.declared.code.Code.{Code}
-use Rattle.machine_semantics.specs.Cells.{Store}
-use Rattle.machine_semantics.specs.Codes as R
-use Rattle.machine_semantics.specs.Runs.{loaded}
-use Rattle.machine_semantics.specs.Steps.{Kinds}
-use Rattle.separation.specs.Codes.{AreKinds}
-use Rattle.separation.proofs.CodesRun.{code_runs}
-use Rattle.separation.proofs.KindsFound.{kinds_found}
+use Rattle.fip_tasks.specs.machine_semantics.Cells.{Store}
+use Rattle.fip_tasks.specs.machine_semantics.Codes as R
+use Rattle.fip_tasks.specs.machine_semantics.Runs.{loaded}
+use Rattle.fip_tasks.specs.machine_semantics.Steps.{Kinds}
+use Rattle.command_run.specs.separation.Codes.{AreKinds}
+use Rattle.command_run.proofs.separation.CodesRun.{code_runs}
+use Rattle.command_run.proofs.separation.KindsFound.{kinds_found}
 use Rattle.code_verify.specs.Checked.{Checked}
 use Rattle.fip_base.specs.declared.plain.Stack.{Stack}
 use Rattle.fip_language.specs.Core.{Core}
@@ -23,21 +23,21 @@ use Rattle.fip_language.specs.declared.limits.TheConstants.{MOST_FRAMES}
 use Rattle.fip_machine.specs.Tasks.{state_with}
 use Rattle.fip_tasks.specs.Shown.{AreStarted}
 use Rattle.fip_tasks.specs.declared.task.Start.{Start}
-use Rattle.machine_correctness.specs.Meant.{IsMeant}
-use Rattle.machine_correctness.specs.Starts.{Begins, IsCodeOf}
-use Rattle.machine_correctness.proofs.EvaluatedEnds.{not_deep}
+use Rattle.command_run.specs.machine_correctness.Meant.{IsMeant}
+use Rattle.command_run.specs.machine_correctness.Starts.{Begins, IsCodeOf}
+use Rattle.command_run.proofs.machine_correctness.EvaluatedEnds.{not_deep}
 use Rattle.task_correctness.proofs.EvaluatedAnywhere.{apart_answers_meant}
 use Rattle.command_run.proofs.Bounded.{few_frames}
-use Rattle.session_semantics.specs.Talk.{frames_of}
-use Rattle.code_rules.specs.Codes.{PlainFunction, plain, plain_function, function_at, is_fip}
-use Rattle.code_rules.specs.StackNumbers.{HasStack, IsStack}
+use Rattle.command_run.specs.session_semantics.Talk.{frames_of}
+use Rattle.command_run.specs.code_rules.Codes.{PlainFunction, plain, plain_function, function_at, is_fip}
+use Rattle.command_run.specs.code_rules.StackNumbers.{HasStack, IsStack}
 use Rattle.task_lines.specs.Called.{Called}
 use Rattle.task_lines.specs.Started.{AreStarted as AreStartedSo, IsStarted}
 use Rattle.task_lines.specs.declared.list.RunLimits.{RunLimits}
-use Rattle.task_semantics.specs.Projected.{Begun}
-use Rattle.task_semantics.specs.Schedules.{Shared}
-use Rattle.task_semantics.specs.Laid.{Task}
-use Rattle.machine_semantics.specs.States.{State}
+use Rattle.fip_tasks.specs.task_semantics.Projected.{Begun}
+use Rattle.fip_tasks.specs.task_semantics.Schedules.{Shared}
+use Rattle.fip_tasks.specs.task_semantics.Laid.{Task}
+use Rattle.fip_tasks.specs.machine_semantics.States.{State}
 use Rattle.command_tasks.specs.Called.{AreCallLines, AreNamed, IsCallLine, answer_of}
 use Rattle.command_tasks.specs.Telling.{AreTaskLines, CanRun, EndAs, TellsAnswer, result_types, results_of}
 use Rattle.task_correctness.specs.Answered.{AreStartsAt, IsStartAt}

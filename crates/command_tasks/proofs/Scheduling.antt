@@ -1,11 +1,11 @@
 -- Turns behind a schedule are a longer schedule.
 use Rattle.std.proofs.Common.{◌≡◌, ℕ, List, [], ◌∷◌, ◌++◌, replicate, refl, sym, subst}
-use Rattle.machine_semantics.specs.Codes.{PlainCode, plain}
-use Rattle.machine_semantics.specs.Steps.{Kinds}
+use Rattle.fip_tasks.specs.machine_semantics.Codes.{PlainCode, plain}
+use Rattle.fip_tasks.specs.machine_semantics.Steps.{Kinds}
 use Rattle.code_verify.specs.Checked.{Checked}
 use Rattle.fip_tasks.specs.Shown.{Shows, CanTurn, CanFinish}
 use Rattle.fip_tasks.specs.Turns.{Turns}
-use Rattle.task_semantics.specs.Schedules.{Shared, turn, scheduled}
+use Rattle.fip_tasks.specs.task_semantics.Schedules.{Shared, turn, scheduled}
 use Rattle.command_tasks.specs.Telling.{CanRun, ShowsSome}
 
 scheduled_join : (kinds : Kinds) (code : PlainCode) (a b : List ℕ) (t : Shared) → scheduled kinds code (a ++ b) t ≡ scheduled kinds code b (scheduled kinds code a t)

@@ -3,8 +3,8 @@ use Rattle.std.specs.Prelude.{◌≡◌, ℕ, suc, List, [], ◌∷◌, ◌++◌
 use Rattle.std.specs.Fmt.{decimal}
 use Rattle.cell_code.specs.declared.code.Code.{Code}
 use Rattle.cell_code.specs.declared.code.Function.{Function}
-use Rattle.machine_semantics.specs.Codes.{plain}
-use Rattle.machine_semantics.specs.Steps.{Kinds}
+use Rattle.fip_tasks.specs.machine_semantics.Codes.{plain}
+use Rattle.fip_tasks.specs.machine_semantics.Steps.{Kinds}
 use Rattle.code_verify.specs.Checked.{Checked}
 use Rattle.command_outcome.specs.Texts.{line_end, trap_text, out_of_calls_text, out_of_frames_text}
 use Rattle.fip_language.specs.Meaning.{Answer, Gives, Trap, Out, Deep, Stuck}
@@ -14,9 +14,9 @@ use Rattle.fip_machine.specs.Tasks.{state_with}
 use Rattle.fip_tasks.specs.Shown.{Shows, CanTurn, CanFinish}
 use Rattle.fip_tasks.specs.Turns.{Standing, Turns}
 use Rattle.fip_tasks.specs.declared.task.Start.{Start}
-use Rattle.machine_correctness.specs.Meant.{IsMeant}
-use Rattle.session_semantics.specs.Turns.{joined}
-use Rattle.task_semantics.specs.Schedules.{Shared, scheduled}
+use Rattle.command_run.specs.machine_correctness.Meant.{IsMeant}
+use Rattle.command_run.specs.session_semantics.Turns.{joined}
+use Rattle.fip_tasks.specs.task_semantics.Schedules.{Shared, scheduled}
 
 -- the schedule's tasks can each have a turn whenever it is, and be run to their ends
 pub record CanRun (v : Checked) (kinds : Kinds) (first : Shared) : Type 0 where

@@ -1,9 +1,9 @@
 // What tasks come to, one after another.
 ghost use Rattle.std.specs.Prelude.{◌≡◌, List, length, IfOk};
-ghost use Rattle.machine_semantics.specs.Steps.{Kinds};
+ghost use Rattle.fip_tasks.specs.machine_semantics.Steps.{Kinds};
 ghost use Rattle.code_verify.specs.Checked.{Checked};
 ghost use Rattle.fip_language.specs.Meaning.{Answer};
-ghost use Rattle.task_semantics.specs.Schedules.{Shared};
+ghost use Rattle.fip_tasks.specs.task_semantics.Schedules.{Shared};
 ghost use Rattle.command_tasks.specs.Telling.{AreTaskLines, CanRun, EndAs, ShowsSome};
 
 use crate::printing::put_task;

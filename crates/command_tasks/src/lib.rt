@@ -4,8 +4,8 @@
 
 mod answers;
 mod command;
-pub mod theorems;
 mod printing;
+pub mod theorems;
 mod turns;
 
 pub use command::tasks;

@@ -1,8 +1,8 @@
 // Turns of tasks that are drawn from a seed.
 ghost use Rattle.std.specs.Prelude.{◌≡◌, ◌<◌, length};
-ghost use Rattle.machine_semantics.specs.Steps.{Kinds};
+ghost use Rattle.fip_tasks.specs.machine_semantics.Steps.{Kinds};
 ghost use Rattle.code_verify.specs.Checked.{Checked};
-ghost use Rattle.task_semantics.specs.Schedules.{Shared};
+ghost use Rattle.fip_tasks.specs.task_semantics.Schedules.{Shared};
 ghost use Rattle.command_tasks.specs.Telling.{CanRun, ShowsSome};
 
 use fip_tasks::Tasks;

@@ -13,38 +13,38 @@ use Rattle.cell_trace.specs.Traced.{Tells, IsTooLong, standing_from}
 use Rattle.command_words.specs.Words.{Room}
 use Rattle.command_outcome.specs.declared.failure.Failure.{Failure}
 use Rattle.command_outcome.specs.declared.failure.Failure.TheVariants as F
-use Rattle.code_file.specs.Plain.{plain_code}
-use Rattle.machine_semantics.specs.Cells.{Store}
-use Rattle.machine_semantics.specs.Codes as R
-use Rattle.machine_semantics.specs.Runs.{Value}
-use Rattle.machine_semantics.specs.States.{Typed, State}
-use Rattle.machine_semantics.specs.Steps.{Kinds}
-use Rattle.separation.specs.Codes.{run_code, AreKinds}
-use Rattle.separation.proofs.KindsFound.{kinds_found}
-use Rattle.code_verify.specs.Checked.{Checked}
+use Rattle.command_run.specs.code_file.Plain.{plain_code}
+use Rattle.trace_files.specs.machine_semantics.Cells.{Store}
+use Rattle.trace_files.specs.machine_semantics.Codes as R
+use Rattle.trace_files.specs.machine_semantics.Runs.{Value}
+use Rattle.trace_files.specs.machine_semantics.States.{Typed, State}
+use Rattle.trace_files.specs.machine_semantics.Steps.{Kinds}
+use Rattle.command_run.specs.separation.Codes.{run_code, AreKinds}
+use Rattle.command_run.proofs.separation.KindsFound.{kinds_found}
+use Rattle.fip_machine.specs.code_verify.Checked.{Checked}
 use Rattle.fip_machine.specs.declared.machine.Ended.{Ended}
 use Rattle.fip_machine.specs.declared.machine.Ended.TheVariants as M
 use Rattle.fip_machine.specs.Ending.{KnowsRun}
 use Rattle.fip_machine.specs.Machines.{Seen}
 use Rattle.fip_machine.specs.Tasks.{state_with}
 use Rattle.fip_machine.specs.Traces.{notes, HasTrace, HasLongTrace}
-use Rattle.run_loading.specs.Replaying.{trace_of}
-use Rattle.run_loading.specs.TraceText.{Trace, trace_text}
-use Rattle.machine_cells.specs.Small.{IsSmall}
-use Rattle.code_rules.specs.Codes.{PlainCode, PlainFunction, plain, plain_function, function_at}
-use Rattle.code_rules.specs.StackNumbers.{HasStack}
-use Rattle.session_semantics.specs.Talk.{frames_of}
-use Rattle.command_source.specs.Entries.{Chosen}
-use Rattle.command_source.specs.ProgramCode.{IsEntryOf}
-use Rattle.command_source.proofs.CodeFiles.{view_same}
+use Rattle.trace_files.specs.run_loading.Replaying.{trace_of}
+use Rattle.trace_files.specs.run_loading.TraceText.{Trace, trace_text}
+use Rattle.fip_machine.specs.machine_cells.Small.{IsSmall}
+use Rattle.command_run.specs.code_rules.Codes.{PlainCode, PlainFunction, plain, plain_function, function_at}
+use Rattle.command_run.specs.code_rules.StackNumbers.{HasStack}
+use Rattle.command_run.specs.session_semantics.Talk.{frames_of}
+use Rattle.command_run.specs.command_source.Entries.{Chosen}
+use Rattle.command_run.specs.command_source.ProgramCode.{IsEntryOf}
+use Rattle.command_run.proofs.command_source.CodeFiles.{view_same}
 use Rattle.command_trace.proofs.Plain.{trace_is, is_long, not_long}
-use Rattle.command_source.specs.Wanted.{Compiled, IsReady}
-use Rattle.source_report.specs.Report.{bare}
-use Rattle.machine_correctness.specs.Meant.{ArePrintable}
-use Rattle.machine_correctness.specs.Starts.{IsSoundCode}
-use Rattle.machine_correctness.proofs.EvaluatedEnds.{knows}
-use Rattle.machine_correctness.proofs.Starting.{read}
-use Rattle.command_eval.specs.EvalAnswer.{OrNoMemory}
+use Rattle.command_run.specs.command_source.Wanted.{Compiled, IsReady}
+use Rattle.command_run.specs.source_report.Report.{bare}
+use Rattle.command_run.specs.machine_correctness.Meant.{ArePrintable}
+use Rattle.command_run.specs.machine_correctness.Starts.{IsSoundCode}
+use Rattle.command_run.proofs.machine_correctness.EvaluatedEnds.{knows}
+use Rattle.command_run.proofs.machine_correctness.Starting.{read}
+use Rattle.command_run.specs.command_eval.EvalAnswer.{OrNoMemory}
 use Rattle.command_run.specs.CodeRun as D
 use Rattle.command_run.specs.ExecAnswer.{Coded, Execs}
 use Rattle.command_run.specs.Starting.{IsStarted, TellsEnded, failure_for}

@@ -3,23 +3,23 @@ use Rattle.std.proofs.Common.{◌≡◌, ◌∙◌, inl, inr, ℕ, zero, suc, �
 use Rattle.std.specs.Prelude.{codes}
 use Rattle.std.proofs.lemmas.List.{length-map}
 use Rattle.fip_language.specs.Store.{Cell}
-use Rattle.cell_store.specs.Told.{Told, Overwritten, Released}
+use Rattle.fip_machine.specs.cell_store.Told.{Told, Overwritten, Released}
 use Rattle.cell_trace.specs.declared.trace.LoadedCell.{LoadedCell}
 use Rattle.cell_trace.specs.declared.trace.Event.{Event as a_event}
 use Rattle.cell_trace.specs.declared.trace.Event.TheVariants as E
 use Rattle.cell_trace.specs.declared.trace.Trace.{Trace as Memory}
 use Rattle.cell_trace.specs.Traced as K
 use Rattle.cell_trace.specs.Traced.{Standing, Noted, standing_from, cells_bytes, told_bytes, events_bytes, file_bytes, Tells, IsTooLong}
-use Rattle.machine_semantics.specs.Cells.{Change, Write, Release}
-use Rattle.machine_semantics.specs.Codes.{PlainCode}
-use Rattle.machine_semantics.specs.Runs.{begun}
-use Rattle.machine_semantics.specs.States.{State}
-use Rattle.machine_semantics.specs.Steps.{Kinds}
-use Rattle.machine_semantics.specs.Traces.{Event, events}
-use Rattle.machine_cells.specs.Telling.{as_told}
+use Rattle.trace_files.specs.machine_semantics.Cells.{Change, Write, Release}
+use Rattle.trace_files.specs.machine_semantics.Codes.{PlainCode}
+use Rattle.trace_files.specs.machine_semantics.Runs.{begun}
+use Rattle.trace_files.specs.machine_semantics.States.{State}
+use Rattle.trace_files.specs.machine_semantics.Steps.{Kinds}
+use Rattle.trace_files.specs.machine_semantics.Traces.{Event, events}
+use Rattle.fip_machine.specs.machine_cells.Telling.{as_told}
 use Rattle.fip_machine.specs.Traces.{noted, notes}
-use Rattle.run_loading.specs.Replaying.{loaded_from, trace_of}
-use Rattle.run_loading.specs.TraceText.{Loaded, big_endian, words_text, cells_text, change_text, events_text, trace_text}
+use Rattle.trace_files.specs.run_loading.Replaying.{loaded_from, trace_of}
+use Rattle.trace_files.specs.run_loading.TraceText.{Loaded, big_endian, words_text, cells_text, change_text, events_text, trace_text}
 use Rattle.trace_files.specs.Plain.{plain_cell, plain_event, plain_trace}
 use Rattle.command_trace.specs.TraceAnswer.{IsLong}
 

@@ -1,8 +1,8 @@
 -- From what was read and played again to what `replay` comes to.
 use Rattle.std.proofs.Common.{◌≡◌, ◌≤◌, ◌<◌, ℕ, List, [], length, inl, inr, refl}
-use Rattle.run_loading.specs.TraceText.{Trace, IsTrace}
-use Rattle.run_loading.specs.TraceReading.{Got, Bad, read_trace, IsBadTrace}
-use Rattle.run_loading.specs.Replaying.{replayed}
+use Rattle.trace_files.specs.run_loading.TraceText.{Trace, IsTrace}
+use Rattle.trace_files.specs.run_loading.TraceReading.{Got, Bad, read_trace, IsBadTrace}
+use Rattle.trace_files.specs.run_loading.Replaying.{replayed}
 use Rattle.command_trace.specs.Replayed.{IsReplayed}
 
 pub played : (bytes text : List ℕ) (t : Trace) (step : ℕ) → length bytes ≤ 16777216 → (end : ℕ) × (read_trace bytes ≡ Got t end []) → IsTrace t → (IsTrace t → text ≡ replayed t step) → IsReplayed bytes step text

@@ -1,18 +1,18 @@
 -- A run that is over with a value, as a run of the code to its end.
 use Rattle.std.proofs.Common.{◌≡◌, ◌∙◌, ℕ, List, [], refl, ap}
 use Rattle.fip_language.specs.Values.{Values}
-use Rattle.machine_semantics.specs.Codes as R
-use Rattle.machine_semantics.specs.Runs.{Value, Trap, Out, Deep, Unsound, Run, Going, Over, begun, after}
-use Rattle.machine_semantics.specs.States.{State}
-use Rattle.machine_semantics.specs.Steps.{Kinds}
-use Rattle.separation.specs.Codes.{AreKinds}
-use Rattle.code_verify.specs.Checked.{Checked}
+use Rattle.trace_files.specs.machine_semantics.Codes as R
+use Rattle.trace_files.specs.machine_semantics.Runs.{Value, Trap, Out, Deep, Unsound, Run, Going, Over, begun, after}
+use Rattle.trace_files.specs.machine_semantics.States.{State}
+use Rattle.trace_files.specs.machine_semantics.Steps.{Kinds}
+use Rattle.command_run.specs.separation.Codes.{AreKinds}
+use Rattle.fip_machine.specs.code_verify.Checked.{Checked}
 use Rattle.fip_machine.specs.Traces.{AtValue}
-use Rattle.code_rules.specs.Codes.{PlainFunction, plain}
-use Rattle.machine_correctness.specs.Starts.{IsSoundCode, Begins}
-use Rattle.machine_correctness.proofs.Starting.{read, starts, free_is}
+use Rattle.command_run.specs.code_rules.Codes.{PlainFunction, plain}
+use Rattle.command_run.specs.machine_correctness.Starts.{IsSoundCode, Begins}
+use Rattle.command_run.proofs.machine_correctness.Starting.{read, starts, free_is}
 use Rattle.command_run.specs.CodeRun as D
-use Rattle.separation.proofs.Running.{run_sound}
+use Rattle.command_run.proofs.separation.Running.{run_sound}
 
 pub record Valued (v : Checked) (n : ℕ) (vs : Values) (calls frames : ℕ) (before : Kinds) (s : State) (Q : ℕ → Type 0) : Type 0 where
   pub run : D.Run (plain v.code) n vs calls frames

@@ -5,9 +5,9 @@
 use Rattle.std.specs.Prelude.{◌≡◌, ℕ, List}
 use Rattle.command_outcome.specs.declared.failure.Failure.{Failure}
 use Rattle.command_outcome.specs.declared.failure.Failure.TheVariants as F
-use Rattle.run_loading.specs.TraceText.{Trace}
-use Rattle.run_loading.specs.TraceReading.{IsBadTrace, IsTraceFile}
-use Rattle.run_loading.specs.Replaying.{replayed}
+use Rattle.trace_files.specs.run_loading.TraceText.{Trace}
+use Rattle.trace_files.specs.run_loading.TraceReading.{IsBadTrace, IsTraceFile}
+use Rattle.trace_files.specs.run_loading.Replaying.{replayed}
 
 abbrev pub IsReplayed : List ℕ → ℕ → List ℕ → Type 0
 IsReplayed bytes step text = (t : Trace) × IsTraceFile bytes t × (text ≡ replayed t step)

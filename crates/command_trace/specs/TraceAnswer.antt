@@ -15,14 +15,14 @@ use Rattle.fip_language.specs.ValueText.{SpellsValues}
 use Rattle.command_words.specs.Words.{Room}
 use Rattle.command_outcome.specs.declared.failure.Failure.{Failure}
 use Rattle.command_outcome.specs.declared.failure.Failure.TheVariants as F
-use Rattle.machine_semantics.specs.Runs.{Value}
-use Rattle.separation.specs.Codes.{run_code}
-use Rattle.run_loading.specs.Replaying.{trace_of}
-use Rattle.run_loading.specs.TraceText.{Trace, trace_text}
-use Rattle.command_source.specs.Codes.{sound_view}
-use Rattle.command_source.specs.declared.files.Compiled.{Compiled}
-use Rattle.source_report.specs.Report.{bare}
-use Rattle.value_text.specs.Loaded.{types_of}
+use Rattle.trace_files.specs.machine_semantics.Runs.{Value}
+use Rattle.command_run.specs.separation.Codes.{run_code}
+use Rattle.trace_files.specs.run_loading.Replaying.{trace_of}
+use Rattle.trace_files.specs.run_loading.TraceText.{Trace, trace_text}
+use Rattle.command_run.specs.command_source.Codes.{sound_view}
+use Rattle.command_run.specs.command_source.declared.files.Compiled.{Compiled}
+use Rattle.command_run.specs.source_report.Report.{bare}
+use Rattle.command_run.specs.value_text.Loaded.{types_of}
 use Rattle.command_run.specs.CodeRun.{Run}
 use Rattle.command_run.specs.ExecAnswer.{Coded, Execs, frames_for}
 

@@ -2,40 +2,40 @@
 -- values and its lets binders, its constructors few fields, and what its expressions need is what was told of them.
 use Rattle.std.proofs.Common.{◌≡◌, ◌≤◌, ◌<◌, ◌-◌, ◌+◌, ℕ, zero, suc, Bool, true, not, ◌&&◌, List, [], ◌∷◌, ◌++◌, length, map, drop, Option, Some, None, slice_get, inl, inr, refl, sym, ap, ap₂, ◌∙◌, subst, arith}
 use Rattle.std.proofs.lemmas.Option.{none-some, same_Some}
-use Rattle.fip_language.specs.declared.FunKind.{FunKind}
-use Rattle.fip_language.specs.declared.FunKind.TheVariants.{Fip, Fbip, Fun}
-use Rattle.fip_language.specs.declared.limits.TheConstants.{MOST_FIELDS}
-use Rattle.fip_language.specs.Every.{Among}
-use Rattle.fip_language.specs.SoundTable.{AreTypes as AreKnown}
-use Rattle.fip_language.specs.Table as T
-use Rattle.fip_language.specs.Table.{Shape, Table, shapes, constructors}
-use Rattle.fip_trees.specs.declared.needs.Need.{Need}
-use Rattle.fip_trees.specs.declared.program.Binder.{Binder}
-use Rattle.fip_trees.specs.NeedsView.{needs_of}
-use Rattle.fip_trees.specs.Sizes.{number, greater}
-use Rattle.fip_trees.specs.SoundProgram.{IsSoundProgram}
-use Rattle.fip_trees.specs.Tree.{Argument, Variable, Literal, Constructor, Arguments, NoArguments, MoreArguments, count}
-use Rattle.fip_trees.specs.Tree.{Expression, Give, Tuple, Operation, Call, Match, Nested, Block, Last, Let, Clauses, NoClauses, MoreClauses, Instance, Program}
-use Rattle.type_check.specs.Binders.{all_annotated, entries}
-use Rattle.type_check.specs.Scope.{Scope}
-use Rattle.type_check.specs.Typing.{bound_by, HaveTypes, Bind, Types, TypesBlock, TypesClauses}
-use Rattle.type_check.specs.World as W
-use Rattle.type_safety.specs.Formed.{FormedArgument, FormedArguments, FormedExpression, FormedBlock, FormedClauses}
-use Rattle.credit_check.specs.Needs as N
-use Rattle.credit_check.specs.Needs.{made, made_all, asked, given, takes}
-use Rattle.credit_check.specs.Tallies.{sizes, needs, parts_needs, clauses_needs, instance_needs, all_needs, block_needs}
-use Rattle.credit_check.proofs.Amounts.{expression_at}
-use Rattle.ownership_agreement.specs.Sized.{AreSizes, IsVariable, SizedExpression, SizedBlock, SizedClauses}
-use Rattle.source_report.specs.Order.{Spans, SpansBlock, SpansClauses}
-use Rattle.code_rules.specs.Types as Y
-use Rattle.code_rules.specs.Types.{fields, fields_of, is_scalar_type}
-use Rattle.lowering_relation.specs.LoweredBodies.{has_function}
-use Rattle.lowering_relation.specs.LoweredFunctions.{IsSettingOf}
-use Rattle.lowering_relation.specs.Values.{Setting}
-use Rattle.lowering_relation.specs.Matches.{variable_of}
-use Rattle.lowering_relation.specs.Uses as U
-use Rattle.lowering_relation.specs.Uses.{gives_credits}
-use Rattle.cell_lower.specs.Bodies.{ScalarsRight, Founded, FoundedAll, IsSome, FoundedIn, FoundedBlock, FoundedClauses, span, span_rest, span_clauses, HasNeeds, NeedsRest, NeedsClauses}
+use Rattle.lowering_soundness.specs.fip_language.declared.FunKind.{FunKind}
+use Rattle.lowering_soundness.specs.fip_language.declared.FunKind.TheVariants.{Fip, Fbip, Fun}
+use Rattle.lowering_soundness.specs.fip_language.declared.limits.TheConstants.{MOST_FIELDS}
+use Rattle.lowering_soundness.specs.fip_language.Every.{Among}
+use Rattle.lowering_soundness.specs.fip_language.SoundTable.{AreTypes as AreKnown}
+use Rattle.lowering_soundness.specs.fip_language.Table as T
+use Rattle.lowering_soundness.specs.fip_language.Table.{Shape, Table, shapes, constructors}
+use Rattle.lowering_soundness.specs.fip_trees.declared.needs.Need.{Need}
+use Rattle.lowering_soundness.specs.fip_trees.declared.program.Binder.{Binder}
+use Rattle.lowering_soundness.specs.fip_trees.NeedsView.{needs_of}
+use Rattle.lowering_soundness.specs.fip_trees.Sizes.{number, greater}
+use Rattle.lowering_soundness.specs.fip_trees.SoundProgram.{IsSoundProgram}
+use Rattle.lowering_soundness.specs.fip_trees.Tree.{Argument, Variable, Literal, Constructor, Arguments, NoArguments, MoreArguments, count}
+use Rattle.lowering_soundness.specs.fip_trees.Tree.{Expression, Give, Tuple, Operation, Call, Match, Nested, Block, Last, Let, Clauses, NoClauses, MoreClauses, Instance, Program}
+use Rattle.lowering_soundness.specs.type_check.Binders.{all_annotated, entries}
+use Rattle.lowering_soundness.specs.type_check.Scope.{Scope}
+use Rattle.lowering_soundness.specs.type_check.Typing.{bound_by, HaveTypes, Bind, Types, TypesBlock, TypesClauses}
+use Rattle.lowering_soundness.specs.type_check.World as W
+use Rattle.source_safety.specs.type_safety.Formed.{FormedArgument, FormedArguments, FormedExpression, FormedBlock, FormedClauses}
+use Rattle.lowering_soundness.specs.credit_check.Needs as N
+use Rattle.lowering_soundness.specs.credit_check.Needs.{made, made_all, asked, given, takes}
+use Rattle.lowering_soundness.specs.credit_check.Tallies.{sizes, needs, parts_needs, clauses_needs, instance_needs, all_needs, block_needs}
+use Rattle.lowering_soundness.proofs.credit_check.Amounts.{expression_at}
+use Rattle.lowering_soundness.specs.ownership_agreement.Sized.{AreSizes, IsVariable, SizedExpression, SizedBlock, SizedClauses}
+use Rattle.derivation_correctness.specs.source_report.Order.{Spans, SpansBlock, SpansClauses}
+use Rattle.lowering_soundness.specs.code_rules.Types as Y
+use Rattle.lowering_soundness.specs.code_rules.Types.{fields, fields_of, is_scalar_type}
+use Rattle.lowering_soundness.specs.lowering_relation.LoweredBodies.{has_function}
+use Rattle.lowering_soundness.specs.lowering_relation.LoweredFunctions.{IsSettingOf}
+use Rattle.lowering_soundness.specs.lowering_relation.Values.{Setting}
+use Rattle.lowering_soundness.specs.lowering_relation.Matches.{variable_of}
+use Rattle.lowering_soundness.specs.lowering_relation.Uses as U
+use Rattle.lowering_soundness.specs.lowering_relation.Uses.{gives_credits}
+use Rattle.derivation_correctness.specs.cell_lower.Bodies.{ScalarsRight, Founded, FoundedAll, IsSome, FoundedIn, FoundedBlock, FoundedClauses, span, span_rest, span_clauses, HasNeeds, NeedsRest, NeedsClauses}
 use Rattle.compiler_correctness.proofs.Sharing.{in_table, scalar_in_table}
 
 -- ---- expressions have values, and lets binders

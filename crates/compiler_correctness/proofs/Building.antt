@@ -1,11 +1,11 @@
 -- A typed program builds constructors of their types alone.
 use Rattle.std.proofs.Common.{◌≡◌, ℕ, zero, suc, List, [], ◌∷◌, length, Some, slice_get, subst}
 use Rattle.std.proofs.lemmas.Option.{none-some, same_Some}
-use Rattle.fip_language.specs.Table.{constructors}
-use Rattle.fip_trees.specs.Tree.{Argument, Variable, Literal, Constructor, Arguments, NoArguments, MoreArguments}
-use Rattle.fip_trees.specs.Tree.{Expression, Give, Tuple, Operation, Call, Match, Nested, Block, Last, Let, Clauses, NoClauses, MoreClauses, Instance, Program}
-use Rattle.type_safety.specs.Formed.{FormedArgument, FormedArguments, FormedExpression, FormedBlock, FormedClauses, FormedInstance, AreFormed}
-use Rattle.separation_kinds.proofs.Basics.{below_is}
+use Rattle.lowering_soundness.specs.fip_language.Table.{constructors}
+use Rattle.lowering_soundness.specs.fip_trees.Tree.{Argument, Variable, Literal, Constructor, Arguments, NoArguments, MoreArguments}
+use Rattle.lowering_soundness.specs.fip_trees.Tree.{Expression, Give, Tuple, Operation, Call, Match, Nested, Block, Last, Let, Clauses, NoClauses, MoreClauses, Instance, Program}
+use Rattle.source_safety.specs.type_safety.Formed.{FormedArgument, FormedArguments, FormedExpression, FormedBlock, FormedClauses, FormedInstance, AreFormed}
+use Rattle.lowering_soundness.proofs.separation_kinds.Basics.{below_is}
 use Rattle.lowering_soundness.specs.Built.{BuildsArgument, BuildsArguments, Builds, BuildsBlock, BuildsClauses}
 
 module _ (p : Program) where

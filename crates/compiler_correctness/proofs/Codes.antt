@@ -1,17 +1,17 @@
 -- Sound code has a file where its types, the kinds and names of its functions, and what stands in these have texts.
 use Rattle.std.proofs.Common.{◌≡◌, ℕ, List, length, map, Some, slice_get, refl, subst, arith}
 use Rattle.std.proofs.lemmas.List.{length-map}
-use Rattle.fip_language.proofs.Words.{map_at}
-use Rattle.fip_language.proofs.Words.{slice_get-map}
-use Rattle.cell_code.specs.declared.code.Code.{Code}
-use Rattle.cell_code.specs.declared.code.Function.{Function}
-use Rattle.code_rules.specs.Breaks.{IsSound}
-use Rattle.code_rules.specs.Codes as S
-use Rattle.code_file.specs.declared.tags.Version.TheVariants.{Second}
-use Rattle.code_file.specs.Plain.{plain_function, plain_code}
-use Rattle.code_file.specs.Spelling.{each, two, function_name_text}
-use Rattle.code_file.specs.CodeText.{fun_kind_text, table_text, function_text, functions_text, code_text, CodeText}
-use Rattle.lower_frame.specs.Spelled.{IsSpelt, AreSpelt}
+use Rattle.lowering_soundness.proofs.fip_language.Words.{map_at}
+use Rattle.lowering_soundness.proofs.fip_language.Words.{slice_get-map}
+use Rattle.lowering_soundness.specs.cell_code.declared.code.Code.{Code}
+use Rattle.lowering_soundness.specs.cell_code.declared.code.Function.{Function}
+use Rattle.lowering_soundness.specs.code_rules.Breaks.{IsSound}
+use Rattle.lowering_soundness.specs.code_rules.Codes as S
+use Rattle.derivation_correctness.specs.code_file.declared.tags.Version.TheVariants.{Second}
+use Rattle.derivation_correctness.specs.code_file.Plain.{plain_function, plain_code}
+use Rattle.derivation_correctness.specs.code_file.Spelling.{each, two, function_name_text}
+use Rattle.derivation_correctness.specs.code_file.CodeText.{fun_kind_text, table_text, function_text, functions_text, code_text, CodeText}
+use Rattle.derivation_correctness.specs.lower_frame.Spelled.{IsSpelt, AreSpelt}
 use Rattle.compiler_correctness.proofs.EncodingFunctions.{function_spelt}
 use Rattle.compiler_correctness.proofs.Tables.{narrow_table, few_functions, sound_formed}
 use Rattle.compiler_correctness.proofs.Texts.{joined, each_spelt, two_spelt, bytes_of}

@@ -4,21 +4,21 @@ use Rattle.std.proofs.lemmas.Bool.{and_parts}
 use Rattle.std.proofs.lemmas.List.{length-map}
 use Rattle.std.proofs.lemmas.Bool.Decides.{nat_tests}
 use Rattle.std.proofs.lemmas.Option.{none-some, same_Some}
-use Rattle.fip_language.specs.declared.limits.TheConstants.{MOST_CREDITS, MOST_FIELDS, MOST_INSTANCES}
-use Rattle.fip_language.specs.Table.{Table}
-use Rattle.fip_language.proofs.Words.{map_at}
-use Rattle.fip_base.specs.declared.plain.Param.{Param}
-use Rattle.cell_code.specs.declared.code.Function.{Function}
-use Rattle.cell_code.specs.declared.kind.Label.{Label}
-use Rattle.code_rules.specs.Codes as S
-use Rattle.code_rules.specs.Headers.{are_types, are_params, is_size, are_sizes, are_good_kinds, are_good_maps, is_formed}
-use Rattle.code_rules.specs.Limits.{most_fields, most_credits, most_results, most_registers}
-use Rattle.code_file.specs.declared.tags.Version.TheVariants.{Second}
-use Rattle.code_file.specs.Plain.{PlainFunction, plain_label, plain_function}
-use Rattle.code_file.specs.Spelling.{◌+++◌, each, two, four, function_name_text}
-use Rattle.code_file.specs.CodeText.{kind_text, label_text, instr_text, fun_kind_text, lent_text, param_text, params_text, credit_count_text, size_text, credits_text, instrs_text, labels_text, function_text}
-use Rattle.code_file.proofs.Numbers.{credit_count_fits, size_fits}
-use Rattle.lower_frame.specs.Spelled.{IsSpelt, AreKindsSpelt, AreInstrsSpelt, AreLabelsSpelt, IsFunctionSpelt}
+use Rattle.lowering_soundness.specs.fip_language.declared.limits.TheConstants.{MOST_CREDITS, MOST_FIELDS, MOST_INSTANCES}
+use Rattle.lowering_soundness.specs.fip_language.Table.{Table}
+use Rattle.lowering_soundness.proofs.fip_language.Words.{map_at}
+use Rattle.lowering_soundness.specs.fip_base.declared.plain.Param.{Param}
+use Rattle.lowering_soundness.specs.cell_code.declared.code.Function.{Function}
+use Rattle.lowering_soundness.specs.cell_code.declared.kind.Label.{Label}
+use Rattle.lowering_soundness.specs.code_rules.Codes as S
+use Rattle.lowering_soundness.specs.code_rules.Headers.{are_types, are_params, is_size, are_sizes, are_good_kinds, are_good_maps, is_formed}
+use Rattle.lowering_soundness.specs.code_rules.Limits.{most_fields, most_credits, most_results, most_registers}
+use Rattle.derivation_correctness.specs.code_file.declared.tags.Version.TheVariants.{Second}
+use Rattle.derivation_correctness.specs.code_file.Plain.{PlainFunction, plain_label, plain_function}
+use Rattle.derivation_correctness.specs.code_file.Spelling.{◌+++◌, each, two, four, function_name_text}
+use Rattle.derivation_correctness.specs.code_file.CodeText.{kind_text, label_text, instr_text, fun_kind_text, lent_text, param_text, params_text, credit_count_text, size_text, credits_text, instrs_text, labels_text, function_text}
+use Rattle.derivation_correctness.proofs.code_file.Numbers.{credit_count_fits, size_fits}
+use Rattle.derivation_correctness.specs.lower_frame.Spelled.{IsSpelt, AreKindsSpelt, AreInstrsSpelt, AreLabelsSpelt, IsFunctionSpelt}
 use Rattle.compiler_correctness.proofs.Texts.{joined, each_spelt, only_spelt, two_spelt, four_spelt, types_spelt, there}
 
 below : (m n : ℕ) → nat_lt m n ≡ true → m < n

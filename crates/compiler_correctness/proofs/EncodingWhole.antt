@@ -1,22 +1,22 @@
 -- The code of an accepted source has a file.
 use Rattle.std.proofs.Common.{◌≡◌, ℕ, List, map, Some, slice_get, sym, subst}
-use Rattle.fip_language.specs.Every.{Every}
-use Rattle.fip_language.specs.Table.{Table}
-use Rattle.fip_language.proofs.Plain.{every_at}
-use Rattle.fip_language.proofs.Words.{slice_get-map}
-use Rattle.fip_trees.specs.declared.groups.Member.{Member}
-use Rattle.fip_trees.specs.Tree.{Program}
-use Rattle.tail_groups.specs.Members.{AreMembers}
-use Rattle.cell_code.specs.declared.code.Code.{Code}
-use Rattle.cell_code.specs.declared.code.Function.{Function}
-use Rattle.code_rules.specs.Breaks.{IsSound}
-use Rattle.code_rules.specs.Codes.{plain}
-use Rattle.cell_lower.specs.Shape.{header, headers}
-use Rattle.source_report.specs.Report.{IsTyped}
-use Rattle.code_file.specs.declared.tags.Version.TheVariants.{Second}
-use Rattle.code_file.specs.Plain.{plain_code}
-use Rattle.code_file.specs.CodeText.{table_text, CodeText}
-use Rattle.lower_frame.specs.Spelled.{IsSpelt, AreSpelt}
+use Rattle.lowering_soundness.specs.fip_language.Every.{Every}
+use Rattle.lowering_soundness.specs.fip_language.Table.{Table}
+use Rattle.lowering_soundness.proofs.fip_language.Plain.{every_at}
+use Rattle.lowering_soundness.proofs.fip_language.Words.{slice_get-map}
+use Rattle.lowering_soundness.specs.fip_trees.declared.groups.Member.{Member}
+use Rattle.lowering_soundness.specs.fip_trees.Tree.{Program}
+use Rattle.lowering_soundness.specs.tail_groups.Members.{AreMembers}
+use Rattle.lowering_soundness.specs.cell_code.declared.code.Code.{Code}
+use Rattle.lowering_soundness.specs.cell_code.declared.code.Function.{Function}
+use Rattle.lowering_soundness.specs.code_rules.Breaks.{IsSound}
+use Rattle.lowering_soundness.specs.code_rules.Codes.{plain}
+use Rattle.derivation_correctness.specs.cell_lower.Shape.{header, headers}
+use Rattle.derivation_correctness.specs.source_report.Report.{IsTyped}
+use Rattle.derivation_correctness.specs.code_file.declared.tags.Version.TheVariants.{Second}
+use Rattle.derivation_correctness.specs.code_file.Plain.{plain_code}
+use Rattle.derivation_correctness.specs.code_file.CodeText.{table_text, CodeText}
+use Rattle.derivation_correctness.specs.lower_frame.Spelled.{IsSpelt, AreSpelt}
 use Rattle.compiler_correctness.proofs.Codes.{IsHeadSpelt, has_file}
 use Rattle.compiler_correctness.proofs.Headers.{IsHeaderSpelt, typed_headers_spelt}
 use Rattle.compiler_correctness.proofs.Tables.{IsNarrowTable, narrow_table}

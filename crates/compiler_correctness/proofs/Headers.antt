@@ -1,32 +1,32 @@
 -- The headers of the functions of a source's program: none is plain, and each name is empty or that of a function of the
 -- source.
 use Rattle.std.proofs.Common.{◌≡◌, ◌≤◌, inl, inr, ℕ, suc, Bool, true, false, List, [], ◌∷◌, length, map, Option, Some, None, slice_get, if◌then◌else◌, refl, sym, subst, arith}
-use Rattle.fip_language.specs.declared.FunKind.{FunKind}
-use Rattle.fip_language.specs.declared.FunKind.TheVariants.{Fip, Fbip, Fun}
-use Rattle.fip_language.specs.declared.limits.TheConstants.{MOST_SOURCE_BYTES}
-use Rattle.fip_language.specs.Core as C
-use Rattle.fip_language.specs.Core.{Core}
-use Rattle.fip_language.specs.Every.{Every, Among}
-use Rattle.fip_language.proofs.Words.{every_among}
-use Rattle.fip_trees.specs.declared.groups.Member.{Member}
-use Rattle.fip_trees.specs.Tree as T
-use Rattle.fip_trees.specs.Tree.{Program}
-use Rattle.reached_instances.specs.declared.closed.Head.TheVariants as H
-use Rattle.reached_instances.specs.Closed as Z
-use Rattle.reached_instances.specs.Closed.{Closed, Applied}
-use Rattle.reached_instances.specs.Source.{Source, Instance}
-use Rattle.static_params.specs.FlatProgram.{Numbers, instance_if, instances_of, flat_program}
-use Rattle.static_params.specs.FlatSource.{flat_source}
-use Rattle.static_params.proofs.GoodTypes.{all_of_have}
-use Rattle.static_params.proofs.TypeRows.{there_among}
-use Rattle.type_check.specs.World.{world}
-use Rattle.type_check.specs.Faults.{fill_instance, filled}
-use Rattle.cell_lower.specs.Limits.{is_ruled, registers}
-use Rattle.cell_lower.specs.Shape.{Header, header_of, and_if, headers_from}
-use Rattle.source_report.specs.Report.{IsFlat, IsTyped}
-use Rattle.code_file.specs.Spelling.{function_name_text}
-use Rattle.code_file.specs.CodeText.{fun_kind_text}
-use Rattle.lower_frame.specs.Spelled.{IsSpelt}
+use Rattle.lowering_soundness.specs.fip_language.declared.FunKind.{FunKind}
+use Rattle.lowering_soundness.specs.fip_language.declared.FunKind.TheVariants.{Fip, Fbip, Fun}
+use Rattle.lowering_soundness.specs.fip_language.declared.limits.TheConstants.{MOST_SOURCE_BYTES}
+use Rattle.lowering_soundness.specs.fip_language.Core as C
+use Rattle.lowering_soundness.specs.fip_language.Core.{Core}
+use Rattle.lowering_soundness.specs.fip_language.Every.{Every, Among}
+use Rattle.lowering_soundness.proofs.fip_language.Words.{every_among}
+use Rattle.lowering_soundness.specs.fip_trees.declared.groups.Member.{Member}
+use Rattle.lowering_soundness.specs.fip_trees.Tree as T
+use Rattle.lowering_soundness.specs.fip_trees.Tree.{Program}
+use Rattle.source_safety.specs.reached_instances.declared.closed.Head.TheVariants as H
+use Rattle.source_safety.specs.reached_instances.Closed as Z
+use Rattle.source_safety.specs.reached_instances.Closed.{Closed, Applied}
+use Rattle.source_safety.specs.reached_instances.Source.{Source, Instance}
+use Rattle.derivation_correctness.specs.static_params.FlatProgram.{Numbers, instance_if, instances_of, flat_program}
+use Rattle.derivation_correctness.specs.static_params.FlatSource.{flat_source}
+use Rattle.derivation_correctness.proofs.static_params.GoodTypes.{all_of_have}
+use Rattle.derivation_correctness.proofs.static_params.TypeRows.{there_among}
+use Rattle.lowering_soundness.specs.type_check.World.{world}
+use Rattle.lowering_soundness.specs.type_check.Faults.{fill_instance, filled}
+use Rattle.derivation_correctness.specs.cell_lower.Limits.{is_ruled, registers}
+use Rattle.derivation_correctness.specs.cell_lower.Shape.{Header, header_of, and_if, headers_from}
+use Rattle.derivation_correctness.specs.source_report.Report.{IsFlat, IsTyped}
+use Rattle.derivation_correctness.specs.code_file.Spelling.{function_name_text}
+use Rattle.derivation_correctness.specs.code_file.CodeText.{fun_kind_text}
+use Rattle.derivation_correctness.specs.lower_frame.Spelled.{IsSpelt}
 use Rattle.compiler_correctness.proofs.Names.{NamedFunction}
 use Rattle.compiler_correctness.proofs.Tokens.{IsProperName}
 use Rattle.compiler_correctness.proofs.Texts.{function_name_spelt}

@@ -1,34 +1,34 @@
 -- Each instance of a typed program means what the source means by its function, with what is given for its static
 -- parameters.
 use Rattle.std.proofs.Common.{◌≡◌, inl, inr, ℕ, zero, suc, List, [], ◌∷◌, ◌++◌, Some, slice_get, refl, sym, ap, ◌∙◌, subst}
-use Rattle.fip_language.specs.Core.{Core}
-use Rattle.fip_language.specs.Every.{Every, Among}
-use Rattle.fip_language.specs.Mentions.{all_of}
-use Rattle.fip_language.specs.Meaning.{meaning}
-use Rattle.fip_language.specs.Statics.{Closeds}
-use Rattle.fip_language.specs.Values.{Values}
-use Rattle.fip_language.proofs.Search.{slice_get_there}
-use Rattle.fip_language.proofs.Words.{map_at}
-use Rattle.fip_trees.specs.Tree.{Instance, Program}
-use Rattle.reached_instances.specs.declared.closed.Head.TheVariants as H
-use Rattle.reached_instances.specs.Closed as Z
-use Rattle.reached_instances.specs.Closed.{Closed, Applied}
-use Rattle.reached_instances.specs.Source.{Instance as Instance'}
-use Rattle.static_params.specs.FlatProgram.{flat_instance, instance_if, instances_of, flat_program}
-use Rattle.static_params.specs.FlatSource.{flat_source}
-use Rattle.static_params.proofs.GoodTypes.{IsGoodFunction}
-use Rattle.static_params.proofs.GoodInstances.{instances_good}
-use Rattle.type_check.specs.Faults.{filled, fill_instance}
-use Rattle.type_check.specs.World.{world}
-use Rattle.instance_semantics.specs.Meaning.{flat_meaning}
-use Rattle.type_safety.proofs.FilledSlots.{filled_means}
-use Rattle.source_report.specs.Report.{IsParsed, IsFlat, IsTyped}
-use Rattle.source_report.proofs.Once.{parsed_once}
-use Rattle.specialisation_correctness.specs.Declared.{BodyHasClauses, IsDeclared}
-use Rattle.specialisation_correctness.specs.Named.{function_name, all_named}
-use Rattle.specialisation_correctness.proofs.Specialised.{instance_means}
-use Rattle.specialisation_correctness.proofs.CoreClauses.{core_has}
-use Rattle.specialisation_correctness.proofs.SpeltClauses.{spelt_has}
+use Rattle.lowering_soundness.specs.fip_language.Core.{Core}
+use Rattle.lowering_soundness.specs.fip_language.Every.{Every, Among}
+use Rattle.lowering_soundness.specs.fip_language.Mentions.{all_of}
+use Rattle.lowering_soundness.specs.fip_language.Meaning.{meaning}
+use Rattle.lowering_soundness.specs.fip_language.Statics.{Closeds}
+use Rattle.lowering_soundness.specs.fip_language.Values.{Values}
+use Rattle.lowering_soundness.proofs.fip_language.Search.{slice_get_there}
+use Rattle.lowering_soundness.proofs.fip_language.Words.{map_at}
+use Rattle.lowering_soundness.specs.fip_trees.Tree.{Instance, Program}
+use Rattle.source_safety.specs.reached_instances.declared.closed.Head.TheVariants as H
+use Rattle.source_safety.specs.reached_instances.Closed as Z
+use Rattle.source_safety.specs.reached_instances.Closed.{Closed, Applied}
+use Rattle.source_safety.specs.reached_instances.Source.{Instance as Instance'}
+use Rattle.derivation_correctness.specs.static_params.FlatProgram.{flat_instance, instance_if, instances_of, flat_program}
+use Rattle.derivation_correctness.specs.static_params.FlatSource.{flat_source}
+use Rattle.derivation_correctness.proofs.static_params.GoodTypes.{IsGoodFunction}
+use Rattle.derivation_correctness.proofs.static_params.GoodInstances.{instances_good}
+use Rattle.lowering_soundness.specs.type_check.Faults.{filled, fill_instance}
+use Rattle.lowering_soundness.specs.type_check.World.{world}
+use Rattle.lowering_soundness.specs.instance_semantics.Meaning.{flat_meaning}
+use Rattle.source_safety.proofs.type_safety.FilledSlots.{filled_means}
+use Rattle.derivation_correctness.specs.source_report.Report.{IsParsed, IsFlat, IsTyped}
+use Rattle.derivation_correctness.proofs.source_report.Once.{parsed_once}
+use Rattle.source_safety.specs.specialisation_correctness.Declared.{BodyHasClauses, IsDeclared}
+use Rattle.source_safety.specs.specialisation_correctness.Named.{function_name, all_named}
+use Rattle.source_safety.proofs.specialisation_correctness.Specialised.{instance_means}
+use Rattle.source_safety.proofs.specialisation_correctness.CoreClauses.{core_has}
+use Rattle.source_safety.proofs.specialisation_correctness.SpeltClauses.{spelt_has}
 
 -- the item from which one of a list is
 of_one : {A B : Type 0} (f : A → List B) (xs : List A) → ((x : A) → Among x xs → (d : B) × (f x ≡ d ∷ [])) → (i : ℕ) (d : B) → slice_get (all_of f xs) i ≡ Some d → (x : A) × Among x xs × (slice_get xs i ≡ Some x) × (f x ≡ d ∷ [])

@@ -2,37 +2,37 @@
 -- it where its lowered code runs.
 use Rattle.std.proofs.Common.{◌≡◌, ◌≢◌, ℕ, zero, suc, true, Bool, List, [], ◌∷◌, length, map, Option, Some, None, slice_get, refl, ap, subst}
 use Rattle.std.specs.Prelude.{take}
-use Rattle.fip_language.specs.Core.{Core}
-use Rattle.fip_language.specs.Meaning.{Answer, Stuck, meaning}
-use Rattle.fip_language.specs.Statics.{Closeds, NoClosed}
-use Rattle.fip_language.specs.Table.{Table, HaveTypes}
-use Rattle.fip_language.specs.Values.{Values}
-use Rattle.fip_trees.specs.Tree.{Instance, Program}
-use Rattle.instance_semantics.specs.Meaning.{flat_meaning}
-use Rattle.machine_semantics.specs.Codes.{PlainCode as TreeCode}
-use Rattle.machine_semantics.specs.States.{State}
-use Rattle.machine_semantics.specs.Steps.{Kinds}
-use Rattle.code_rules.specs.Codes.{PlainCode, params}
-use Rattle.tree_semantics.specs.Runs.{begun, entry}
-use Rattle.separation.specs.Codes.{run_code}
-use Rattle.separation.specs.Starts.{IsStart}
-use Rattle.tree_refinement.specs.Runs.{BeginsWith}
-use Rattle.tree_refinement.proofs.Values.{words_types}
-use Rattle.tree_refinement.proofs.Running.{cells_end}
-use Rattle.type_safety.specs.Soundness.{IsSoundAnswer}
-use Rattle.lowering_relation.specs.LoweredBodies.{has_function, one_more, function_of}
-use Rattle.lowering_relation.specs.LoweredFunctions.{AreLowered}
-use Rattle.lowering_simulation.specs.RunEnds.{EndsIn}
-use Rattle.lowering_simulation.specs.Guarded.{type_of, Takes}
-use Rattle.lowering_simulation.specs.Lowered.{all_instrs}
-use Rattle.lowering_simulation.proofs.Guards.{typed_runs_end}
-use Rattle.lowering_simulation.specs.CellEnds.{EndsAs, IsFunctionOf}
-use Rattle.source_report.specs.Report.{IsParsed, IsMatched, IsAccepted}
-use Rattle.source_report.proofs.Sizing.{typed_filled}
+use Rattle.lowering_soundness.specs.fip_language.Core.{Core}
+use Rattle.lowering_soundness.specs.fip_language.Meaning.{Answer, Stuck, meaning}
+use Rattle.lowering_soundness.specs.fip_language.Statics.{Closeds, NoClosed}
+use Rattle.lowering_soundness.specs.fip_language.Table.{Table, HaveTypes}
+use Rattle.lowering_soundness.specs.fip_language.Values.{Values}
+use Rattle.lowering_soundness.specs.fip_trees.Tree.{Instance, Program}
+use Rattle.lowering_soundness.specs.instance_semantics.Meaning.{flat_meaning}
+use Rattle.lowering_soundness.specs.machine_semantics.Codes.{PlainCode as TreeCode}
+use Rattle.lowering_soundness.specs.machine_semantics.States.{State}
+use Rattle.lowering_soundness.specs.machine_semantics.Steps.{Kinds}
+use Rattle.lowering_soundness.specs.code_rules.Codes.{PlainCode, params}
+use Rattle.lowering_soundness.specs.tree_semantics.Runs.{begun, entry}
+use Rattle.lowering_soundness.specs.separation.Codes.{run_code}
+use Rattle.lowering_soundness.specs.separation.Starts.{IsStart}
+use Rattle.derivation_correctness.specs.tree_refinement.Runs.{BeginsWith}
+use Rattle.derivation_correctness.proofs.tree_refinement.Values.{words_types}
+use Rattle.derivation_correctness.proofs.tree_refinement.Running.{cells_end}
+use Rattle.source_safety.specs.type_safety.Soundness.{IsSoundAnswer}
+use Rattle.lowering_soundness.specs.lowering_relation.LoweredBodies.{has_function, one_more, function_of}
+use Rattle.lowering_soundness.specs.lowering_relation.LoweredFunctions.{AreLowered}
+use Rattle.derivation_correctness.specs.lowering_simulation.RunEnds.{EndsIn}
+use Rattle.derivation_correctness.specs.lowering_simulation.Guarded.{type_of, Takes}
+use Rattle.derivation_correctness.specs.lowering_simulation.Lowered.{all_instrs}
+use Rattle.derivation_correctness.proofs.lowering_simulation.Guards.{typed_runs_end}
+use Rattle.derivation_correctness.specs.lowering_simulation.CellEnds.{EndsAs, IsFunctionOf}
+use Rattle.derivation_correctness.specs.source_report.Report.{IsParsed, IsMatched, IsAccepted}
+use Rattle.derivation_correctness.proofs.source_report.Sizing.{typed_filled}
 use Rattle.source_safety.proofs.Accepted.{matched_sound}
 use Rattle.source_safety.proofs.Formed.{typed_is_formed}
-use Rattle.specialisation_correctness.proofs.Meant.{root_meant}
-use Rattle.source_report.proofs.Distinct.{typed_distinct}
+use Rattle.source_safety.proofs.specialisation_correctness.Meant.{root_meant}
+use Rattle.derivation_correctness.proofs.source_report.Distinct.{typed_distinct}
 use Rattle.compiler_correctness.proofs.Instances.{instance_meant}
 
 -- ---- an instance that has a function is there

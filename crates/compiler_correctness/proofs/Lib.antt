@@ -20,3 +20,12 @@ pub mod Headers
 pub mod EncodingFunctions
 pub mod Codes
 pub mod EncodingWhole
+pub use Rattle.derivation_correctness.proofs.code_file as code_file
+pub use Rattle.derivation_correctness.proofs as derivation_correctness
+pub use Rattle.derivation_correctness.proofs.derivation_text as derivation_text
+pub use Rattle.source_safety.proofs.fip_grammar as fip_grammar
+pub use Rattle.source_safety.proofs.in_place_safety as in_place_safety
+pub use Rattle.derivation_correctness.proofs.lowering_simulation as lowering_simulation
+pub use Rattle.derivation_correctness.proofs.source_report as source_report
+pub use Rattle.source_safety.proofs as source_safety
+pub use Rattle.source_safety.proofs.specialisation_correctness as specialisation_correctness

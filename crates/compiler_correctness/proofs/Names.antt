@@ -1,16 +1,16 @@
 -- The names of the functions and of the constructors of a source are no longer than it, and are spelt as in a code file;
 -- and each data type has no more constructors than the source has bytes.
 use Rattle.std.proofs.Common.{◌≡◌, ◌≤◌, ℕ, suc, true, List, [], ◌∷◌, length, ap, subst, arith}
-use Rattle.fip_language.specs.Character.{is_upper_name}
-use Rattle.fip_language.specs.Core as C
-use Rattle.fip_language.specs.Core.{DataConstructor, Data}
-use Rattle.fip_language.specs.CoreForm.{core_form}
-use Rattle.fip_language.specs.Every.{Every}
-use Rattle.fip_language.specs.Surface as T
-use Rattle.fip_grammar.specs.declared.Sign.TheVariants as S
-use Rattle.fip_grammar.specs.Token.{Upper, Token, token}
-use Rattle.fip_grammar.specs.Grammar.{DataConstructor', FurtherConstructors, DataConstructors, Declaration', Spells}
-use Rattle.fip_grammar.specs.Limits.{IsSpelt}
+use Rattle.lowering_soundness.specs.fip_language.Character.{is_upper_name}
+use Rattle.lowering_soundness.specs.fip_language.Core as C
+use Rattle.lowering_soundness.specs.fip_language.Core.{DataConstructor, Data}
+use Rattle.lowering_soundness.specs.fip_language.CoreForm.{core_form}
+use Rattle.lowering_soundness.specs.fip_language.Every.{Every}
+use Rattle.lowering_soundness.specs.fip_language.Surface as T
+use Rattle.source_safety.specs.fip_grammar.declared.Sign.TheVariants as S
+use Rattle.source_safety.specs.fip_grammar.Token.{Upper, Token, token}
+use Rattle.source_safety.specs.fip_grammar.Grammar.{DataConstructor', FurtherConstructors, DataConstructors, Declaration', Spells}
+use Rattle.source_safety.specs.fip_grammar.Limits.{IsSpelt}
 use Rattle.compiler_correctness.proofs.Tokens.{IsProperName, AreProper, proper_tokens}
 use Rattle.compiler_correctness.proofs.Passing.{past, field_types_past, name_on, constructors_on, declaration_past}
 

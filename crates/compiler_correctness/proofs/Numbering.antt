@@ -1,17 +1,17 @@
 -- The binders of an accepted program are numbered as lowering numbers them: the numbers by which derivations are made
 -- (derivation_making) are those of the names in scope, since the shape of a part counts its binders.
 use Rattle.std.proofs.Common.{◌≡◌, ◌≤◌, ◌+◌, ℕ, suc, Bool, true, List, [], ◌∷◌, ◌++◌, length, refl, sym, ap, subst, arith}
-use Rattle.fip_base.specs.declared.plain.Param.{Param}
-use Rattle.fip_trees.specs.declared.program.Binder.{Binder}
-use Rattle.fip_trees.specs.Tree.{Expression, Give, Tuple, Operation, Call, Match, Nested, Block, Last, Let, Clauses, NoClauses, MoreClauses, Instance, Program}
-use Rattle.fip_rules.specs.Shapes.{Names, Bind, mark, behind, within, binders, takes, parameters, no_names, shape}
-use Rattle.fip_rules.specs.World.{World}
-use Rattle.ownership_agreement.specs.Bodies.{inside, past_clause}
-use Rattle.derivation_check.specs.Scopes as P
-use Rattle.derivation_check.specs.Scopes.{AreNumbered}
-use Rattle.derivation_making.specs.Numbered as N
-use Rattle.derivation_making.proofs.Linking.{next_inside}
-use Rattle.derivation_making.proofs.Reading.{next_behind, next_past}
+use Rattle.lowering_soundness.specs.fip_base.declared.plain.Param.{Param}
+use Rattle.lowering_soundness.specs.fip_trees.declared.program.Binder.{Binder}
+use Rattle.lowering_soundness.specs.fip_trees.Tree.{Expression, Give, Tuple, Operation, Call, Match, Nested, Block, Last, Let, Clauses, NoClauses, MoreClauses, Instance, Program}
+use Rattle.lowering_soundness.specs.fip_rules.Shapes.{Names, Bind, mark, behind, within, binders, takes, parameters, no_names, shape}
+use Rattle.lowering_soundness.specs.fip_rules.World.{World}
+use Rattle.lowering_soundness.specs.ownership_agreement.Bodies.{inside, past_clause}
+use Rattle.lowering_soundness.specs.derivation_check.Scopes as P
+use Rattle.lowering_soundness.specs.derivation_check.Scopes.{AreNumbered}
+use Rattle.lowering_soundness.specs.derivation_making.Numbered as N
+use Rattle.lowering_soundness.proofs.derivation_making.Linking.{next_inside}
+use Rattle.lowering_soundness.proofs.derivation_making.Reading.{next_behind, next_past}
 use Rattle.lowering_soundness.specs.Placed.{InOrder, Numbered, NumberedBlock, NumberedClauses}
 use Rattle.lowering_soundness.specs.Functions.{IsNumbered}
 

@@ -1,18 +1,18 @@
 -- What is so of the tokens of a program, and of all that stand behind some of them, is so behind each part of it. So the
 -- names of functions and constructors are tokens of the source, and a data type has no more constructors than tokens.
 use Rattle.std.proofs.Common.{◌≡◌, inl, inr, ℕ, suc, Bool, true, false, List, [], ◌∷◌, Option, Some, None, ℤ, refl, subst}
-use Rattle.fip_language.specs.declared.Place.{Place}
-use Rattle.fip_language.specs.declared.FunKind.{FunKind}
-use Rattle.fip_language.specs.declared.FunKind.TheVariants as K
-use Rattle.fip_language.specs.declared.CreditMark.{CreditMark}
-use Rattle.fip_language.specs.declared.Operator.TheVariants as O
-use Rattle.fip_language.specs.Core as C
-use Rattle.fip_language.specs.Core.{Name, Written, WrittenInt, WrittenName, Writtens, NoWritten, MoreWritten, Static, TypeParameter, FunctionParameter, SignatureParameter, Result, OneResult, TupleResult, TypeName, DataConstructor}
-use Rattle.fip_language.specs.Surface as T
-use Rattle.fip_grammar.specs.declared.Sign.{Sign}
-use Rattle.fip_grammar.specs.declared.Sign.TheVariants as S
-use Rattle.fip_grammar.specs.Token.{Word, Lower, Upper, Number, Operate, Mark, Token, token}
-use Rattle.fip_grammar.specs.Grammar.{Sees, MaySee, Type', TypeArguments, FurtherTypes, FurtherTypeList, IsLiteral, Pattern', PatternFields, FurtherPatterns, BindName, Annotation, Bind', FurtherBinds, Binder', match_sign, left_tightness, tightness, Spelled, Arguments, Fields, Further, Block', Clauses', FurtherClauses, Result', Lent, SignatureParameter', FurtherSignatureParameters, SignatureParameters, Signature', Static', FurtherStatics, Statics, Parameter', FurtherParameters, Parameters, Credits, Kind', FunctionParts, Function', FurtherTypeNames, TypeNames, FieldTypes, DataConstructor', FurtherConstructors, DataConstructors, Data', Declaration'}
+use Rattle.lowering_soundness.specs.fip_language.declared.Place.{Place}
+use Rattle.lowering_soundness.specs.fip_language.declared.FunKind.{FunKind}
+use Rattle.lowering_soundness.specs.fip_language.declared.FunKind.TheVariants as K
+use Rattle.lowering_soundness.specs.fip_language.declared.CreditMark.{CreditMark}
+use Rattle.lowering_soundness.specs.fip_language.declared.Operator.TheVariants as O
+use Rattle.lowering_soundness.specs.fip_language.Core as C
+use Rattle.lowering_soundness.specs.fip_language.Core.{Name, Written, WrittenInt, WrittenName, Writtens, NoWritten, MoreWritten, Static, TypeParameter, FunctionParameter, SignatureParameter, Result, OneResult, TupleResult, TypeName, DataConstructor}
+use Rattle.lowering_soundness.specs.fip_language.Surface as T
+use Rattle.source_safety.specs.fip_grammar.declared.Sign.{Sign}
+use Rattle.source_safety.specs.fip_grammar.declared.Sign.TheVariants as S
+use Rattle.source_safety.specs.fip_grammar.Token.{Word, Lower, Upper, Number, Operate, Mark, Token, token}
+use Rattle.source_safety.specs.fip_grammar.Grammar.{Sees, MaySee, Type', TypeArguments, FurtherTypes, FurtherTypeList, IsLiteral, Pattern', PatternFields, FurtherPatterns, BindName, Annotation, Bind', FurtherBinds, Binder', match_sign, left_tightness, tightness, Spelled, Arguments, Fields, Further, Block', Clauses', FurtherClauses, Result', Lent, SignatureParameter', FurtherSignatureParameters, SignatureParameters, Signature', Static', FurtherStatics, Statics, Parameter', FurtherParameters, Parameters, Credits, Kind', FunctionParts, Function', FurtherTypeNames, TypeNames, FieldTypes, DataConstructor', FurtherConstructors, DataConstructors, Data', Declaration'}
 
 module _ (Ok : List Token → Type 0) (behind : (t : Token) (ts : List Token) → Ok (t ∷ ts) → Ok ts) where
   pub after_word : (w : Word) (p : Place) (ts rest : List Token) → ts ≡ token w p ∷ rest → Ok ts → Ok rest

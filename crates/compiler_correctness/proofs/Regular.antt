@@ -2,47 +2,47 @@
 -- and how many binders an instance of it has.
 use Rattle.std.proofs.Common.{◌≡◌, ◌<◌, ◌≤◌, ◌+◌, inl, inr, ℕ, zero, suc, Bool, true, List, [], ◌∷◌, ◌++◌, length, map, Option, Some, None, slice_get, refl, sym, ap, subst, arith}
 use Rattle.std.proofs.lemmas.Option.{none-some}
-use Rattle.fip_language.specs.declared.CreditMark.{CreditMark}
-use Rattle.fip_language.specs.declared.limits.TheConstants.{MOST_CREDITS}
-use Rattle.fip_language.specs.declared.rule.Rule.TheVariants.{E63}
-use Rattle.fip_language.specs.Core as C
-use Rattle.fip_language.specs.Core.{Core, Function, Result, OneResult, TupleResult, Static}
-use Rattle.fip_language.specs.CoreForm.{core_form}
-use Rattle.fip_language.specs.Every.{Every, Among}
-use Rattle.fip_language.specs.Mentions.{all_of}
-use Rattle.fip_language.specs.Surface as S
-use Rattle.fip_language.proofs.Words.{every_among}
-use Rattle.fip_grammar.specs.Token.{Token}
-use Rattle.fip_grammar.specs.Grammar.{Result', FunctionParts, Declaration', Spells}
-use Rattle.fip_trees.specs.declared.least.Violation.{Violation}
-use Rattle.fip_trees.specs.declared.program.Binder.{Binder}
-use Rattle.fip_trees.specs.Least.{In}
-use Rattle.fip_trees.proofs.Leasts.{in_left, in_right}
-use Rattle.fip_trees.specs.Tree as T
-use Rattle.fip_trees.specs.Tree.{Program}
-use Rattle.data_types.specs.Answers as Declaring
-use Rattle.data_types.specs.Declarations.{declared_names}
-use Rattle.data_types.specs.Faults.{broken, place_faults, mark_faults, credit_faults, function_faults, all_data_faults, all_function_faults, name_faults}
-use Rattle.reached_instances.specs.Binders.{binders_in_pattern, binders_in_patterns, binders_in_expression, binders_in_block, binders_in_clauses}
-use Rattle.reached_instances.specs.declared.closed.Head.TheVariants as H
-use Rattle.reached_instances.specs.Closed as Z
-use Rattle.reached_instances.specs.Closed.{Closed, Applied}
-use Rattle.reached_instances.specs.Source.{Source, Instance}
-use Rattle.reached_instances.specs.Uses.{result_types}
-use Rattle.static_params.specs.FlatProgram.{Numbers, flat_binder, flat_pattern, flat_patterns, flat_expression, flat_block, flat_clauses, flat_parameter, flat_type, credit_size, flat_instance, instance_if, instances_of, flat_program}
-use Rattle.static_params.specs.FlatSource.{flat_source}
-use Rattle.static_params.proofs.GoodTypes.{all_of_have}
-use Rattle.static_params.proofs.TableRows.{map_length}
-use Rattle.static_params.proofs.TypeRows.{there_among}
-use Rattle.type_check.specs.Found.{first_type, others, wanted_next}
-use Rattle.type_check.specs.Scope.{Scope}
-use Rattle.type_check.specs.Binders.{all_annotated, annotations, entries}
-use Rattle.type_check.specs.Typing.{bound_by, parameter_scope}
-use Rattle.type_check.specs.World.{World, world, chosen, field_types}
-use Rattle.type_check.specs.Faults.{fill_binders, fill_pattern, fill_patterns, fill, fill_block, fill_clauses, fill_instance, filled, found, found_block, found_argument}
-use Rattle.fip_rules.specs.Shapes.{binders, binders_all}
-use Rattle.derivation_check.specs.Scopes.{within, within_block, within_clauses}
-use Rattle.source_report.specs.Report.{IsParsed, IsFlat, IsTyped}
+use Rattle.lowering_soundness.specs.fip_language.declared.CreditMark.{CreditMark}
+use Rattle.lowering_soundness.specs.fip_language.declared.limits.TheConstants.{MOST_CREDITS}
+use Rattle.lowering_soundness.specs.fip_language.declared.rule.Rule.TheVariants.{E63}
+use Rattle.lowering_soundness.specs.fip_language.Core as C
+use Rattle.lowering_soundness.specs.fip_language.Core.{Core, Function, Result, OneResult, TupleResult, Static}
+use Rattle.lowering_soundness.specs.fip_language.CoreForm.{core_form}
+use Rattle.lowering_soundness.specs.fip_language.Every.{Every, Among}
+use Rattle.lowering_soundness.specs.fip_language.Mentions.{all_of}
+use Rattle.lowering_soundness.specs.fip_language.Surface as S
+use Rattle.lowering_soundness.proofs.fip_language.Words.{every_among}
+use Rattle.source_safety.specs.fip_grammar.Token.{Token}
+use Rattle.source_safety.specs.fip_grammar.Grammar.{Result', FunctionParts, Declaration', Spells}
+use Rattle.lowering_soundness.specs.fip_trees.declared.least.Violation.{Violation}
+use Rattle.lowering_soundness.specs.fip_trees.declared.program.Binder.{Binder}
+use Rattle.lowering_soundness.specs.fip_trees.Least.{In}
+use Rattle.lowering_soundness.proofs.fip_trees.Leasts.{in_left, in_right}
+use Rattle.lowering_soundness.specs.fip_trees.Tree as T
+use Rattle.lowering_soundness.specs.fip_trees.Tree.{Program}
+use Rattle.source_safety.specs.data_types.Answers as Declaring
+use Rattle.source_safety.specs.data_types.Declarations.{declared_names}
+use Rattle.source_safety.specs.data_types.Faults.{broken, place_faults, mark_faults, credit_faults, function_faults, all_data_faults, all_function_faults, name_faults}
+use Rattle.source_safety.specs.reached_instances.Binders.{binders_in_pattern, binders_in_patterns, binders_in_expression, binders_in_block, binders_in_clauses}
+use Rattle.source_safety.specs.reached_instances.declared.closed.Head.TheVariants as H
+use Rattle.source_safety.specs.reached_instances.Closed as Z
+use Rattle.source_safety.specs.reached_instances.Closed.{Closed, Applied}
+use Rattle.source_safety.specs.reached_instances.Source.{Source, Instance}
+use Rattle.source_safety.specs.reached_instances.Uses.{result_types}
+use Rattle.derivation_correctness.specs.static_params.FlatProgram.{Numbers, flat_binder, flat_pattern, flat_patterns, flat_expression, flat_block, flat_clauses, flat_parameter, flat_type, credit_size, flat_instance, instance_if, instances_of, flat_program}
+use Rattle.derivation_correctness.specs.static_params.FlatSource.{flat_source}
+use Rattle.derivation_correctness.proofs.static_params.GoodTypes.{all_of_have}
+use Rattle.derivation_correctness.proofs.static_params.TableRows.{map_length}
+use Rattle.derivation_correctness.proofs.static_params.TypeRows.{there_among}
+use Rattle.lowering_soundness.specs.type_check.Found.{first_type, others, wanted_next}
+use Rattle.lowering_soundness.specs.type_check.Scope.{Scope}
+use Rattle.lowering_soundness.specs.type_check.Binders.{all_annotated, annotations, entries}
+use Rattle.lowering_soundness.specs.type_check.Typing.{bound_by, parameter_scope}
+use Rattle.lowering_soundness.specs.type_check.World.{World, world, chosen, field_types}
+use Rattle.lowering_soundness.specs.type_check.Faults.{fill_binders, fill_pattern, fill_patterns, fill, fill_block, fill_clauses, fill_instance, filled, found, found_block, found_argument}
+use Rattle.lowering_soundness.specs.fip_rules.Shapes.{binders, binders_all}
+use Rattle.lowering_soundness.specs.derivation_check.Scopes.{within, within_block, within_clauses}
+use Rattle.derivation_correctness.specs.source_report.Report.{IsParsed, IsFlat, IsTyped}
 
 -- ---- a function has a result
 

@@ -2,32 +2,32 @@
 -- the functions, and that all types that are named are in the table.
 use Rattle.std.proofs.Common.{◌≡◌, ◌<◌, ◌≤◌, ◌+◌, ◌^◌, ◌&&◌, ◌==◌, inl, inr, ℕ, zero, suc, Bool, true, false, nat_lt, List, [], ◌∷◌, length, map, Option, Some, None, slice_get, if◌then◌else◌, refl, sym, ap, ◌∙◌, subst, arith}
 use Rattle.std.proofs.lemmas.Option.{none-some, same_Some}
-use Rattle.fip_language.specs.declared.FunKind.{FunKind}
-use Rattle.fip_language.specs.Every.{Among}
-use Rattle.fip_language.specs.SoundTable.{AreTypes as AreKnown}
-use Rattle.fip_language.specs.Table.{Shape, Table, shapes, constructors, is_scalar, all_bare}
-use Rattle.fip_base.specs.declared.plain.Param.{Param}
-use Rattle.fip_base.specs.TableView.{fields_at}
-use Rattle.fip_trees.specs.Tree.{Instance, Program}
-use Rattle.fip_rules.specs.World as R
-use Rattle.static_params.proofs.GoodTypes.{below}
-use Rattle.static_params.proofs.TypeRows.{there_among}
-use Rattle.type_check.specs.Found.{or_found}
-use Rattle.type_check.specs.Typing.{Makes}
-use Rattle.type_check.specs.World as W
-use Rattle.code_rules.specs.Codes.{PlainCode, params_of, credits_of, results_of}
-use Rattle.code_rules.specs.Headers.{are_types}
-use Rattle.code_rules.specs.Tables.{bool_shapes}
-use Rattle.code_rules.specs.Types.{is_type, is_scalar_type}
-use Rattle.separation_kinds.proofs.Basics.{below_is}
-use Rattle.lowering_relation.specs.LoweredFunctions.{IsSettingOf}
-use Rattle.lowering_relation.specs.Known.{joined}
-use Rattle.lowering_relation.specs.Values.{Setting}
+use Rattle.lowering_soundness.specs.fip_language.declared.FunKind.{FunKind}
+use Rattle.lowering_soundness.specs.fip_language.Every.{Among}
+use Rattle.lowering_soundness.specs.fip_language.SoundTable.{AreTypes as AreKnown}
+use Rattle.lowering_soundness.specs.fip_language.Table.{Shape, Table, shapes, constructors, is_scalar, all_bare}
+use Rattle.lowering_soundness.specs.fip_base.declared.plain.Param.{Param}
+use Rattle.lowering_soundness.specs.fip_base.TableView.{fields_at}
+use Rattle.lowering_soundness.specs.fip_trees.Tree.{Instance, Program}
+use Rattle.lowering_soundness.specs.fip_rules.World as R
+use Rattle.derivation_correctness.proofs.static_params.GoodTypes.{below}
+use Rattle.derivation_correctness.proofs.static_params.TypeRows.{there_among}
+use Rattle.lowering_soundness.specs.type_check.Found.{or_found}
+use Rattle.lowering_soundness.specs.type_check.Typing.{Makes}
+use Rattle.lowering_soundness.specs.type_check.World as W
+use Rattle.lowering_soundness.specs.code_rules.Codes.{PlainCode, params_of, credits_of, results_of}
+use Rattle.lowering_soundness.specs.code_rules.Headers.{are_types}
+use Rattle.lowering_soundness.specs.code_rules.Tables.{bool_shapes}
+use Rattle.lowering_soundness.specs.code_rules.Types.{is_type, is_scalar_type}
+use Rattle.lowering_soundness.proofs.separation_kinds.Basics.{below_is}
+use Rattle.lowering_soundness.specs.lowering_relation.LoweredFunctions.{IsSettingOf}
+use Rattle.lowering_soundness.specs.lowering_relation.Known.{joined}
+use Rattle.lowering_soundness.specs.lowering_relation.Values.{Setting}
 use Rattle.lowering_soundness.specs.Laid.{IsFunctionOf, Shares}
 use Rattle.lowering_soundness.specs.Placed.{AreTypes, ParamsTyped, Callees}
 use Rattle.lowering_soundness.proofs.Giving.{and_to}
-use Rattle.cell_lower.specs.Shape.{Header}
-use Rattle.source_report.specs.WellFormed.{IsKnownInstance, IsWellFormed, type_of}
+use Rattle.derivation_correctness.specs.cell_lower.Shape.{Header}
+use Rattle.derivation_correctness.specs.source_report.WellFormed.{IsKnownInstance, IsWellFormed, type_of}
 use Rattle.compiler_correctness.specs.Headed.{IsHeaded}
 use Rattle.compiler_correctness.proofs.SoundnessFunctions.{function_there}
 

@@ -3,31 +3,31 @@
 use Rattle.std.proofs.Common.{◌≡◌, ◌<◌, ◌≤◌, ℕ, zero, suc, Bool, true, false, List, [], ◌∷◌, ◌++◌, length, Some, slice_get, if◌then◌else◌, refl, sym, ap, ◌∙◌, subst, arith}
 use Rattle.std.specs.List.{list_any}
 use Rattle.std.proofs.lemmas.Option.{none-some, same_Some}
-use Rattle.fip_language.specs.Core.{Core}
-use Rattle.fip_language.specs.Declarations.{bool_type, data_types}
-use Rattle.fip_language.specs.Mentions.{all_of}
-use Rattle.fip_language.specs.SoundTable.{AreTypes as AreKnown}
-use Rattle.fip_language.specs.Table.{Shape, Table, shapes, constructors, HasType}
-use Rattle.fip_language.specs.Values.{Value, Int, Node}
-use Rattle.fip_trees.specs.SoundProgram.{IsSoundProgram}
-use Rattle.fip_trees.specs.Tree.{Program}
-use Rattle.reached_instances.specs.declared.closed.Head.TheVariants as H
-use Rattle.reached_instances.specs.Closed.{Closed, Closeds, Applied, NoClosed, same_closed}
-use Rattle.reached_instances.specs.Numbering.{with_new, with_all}
-use Rattle.reached_instances.specs.TypeInstances.{types_of_instance, types_given, parts_of}
-use Rattle.static_params.specs.FlatProgram.{Numbers, flat_program}
-use Rattle.static_params.specs.Answers.{AreFew}
-use Rattle.static_params.specs.FlatSource.{flat_source}
-use Rattle.static_params.proofs.Sounding.{flat_is_sound}
-use Rattle.static_params.proofs.TableRows.{row_there}
-use Rattle.static_params.proofs.TypeRows.{row_of}
-use Rattle.type_check.proofs.Filling.{stays_sound}
-use Rattle.code_rules.specs.Codes.{PlainCode, PlainFunction, function_at}
-use Rattle.code_rules.specs.Limits.{most_types, most_functions}
-use Rattle.code_rules.specs.Tables.{bool_shapes, IsSoundType, AreSoundTables}
-use Rattle.source_report.specs.Report.{IsFlat, IsTyped}
-use Rattle.source_report.specs.WellFormed.{IsWellFormed}
-use Rattle.source_report.proofs.Ready.{flat_formed}
+use Rattle.lowering_soundness.specs.fip_language.Core.{Core}
+use Rattle.lowering_soundness.specs.fip_language.Declarations.{bool_type, data_types}
+use Rattle.lowering_soundness.specs.fip_language.Mentions.{all_of}
+use Rattle.lowering_soundness.specs.fip_language.SoundTable.{AreTypes as AreKnown}
+use Rattle.lowering_soundness.specs.fip_language.Table.{Shape, Table, shapes, constructors, HasType}
+use Rattle.lowering_soundness.specs.fip_language.Values.{Value, Int, Node}
+use Rattle.lowering_soundness.specs.fip_trees.SoundProgram.{IsSoundProgram}
+use Rattle.lowering_soundness.specs.fip_trees.Tree.{Program}
+use Rattle.source_safety.specs.reached_instances.declared.closed.Head.TheVariants as H
+use Rattle.source_safety.specs.reached_instances.Closed.{Closed, Closeds, Applied, NoClosed, same_closed}
+use Rattle.source_safety.specs.reached_instances.Numbering.{with_new, with_all}
+use Rattle.source_safety.specs.reached_instances.TypeInstances.{types_of_instance, types_given, parts_of}
+use Rattle.derivation_correctness.specs.static_params.FlatProgram.{Numbers, flat_program}
+use Rattle.derivation_correctness.specs.static_params.Answers.{AreFew}
+use Rattle.derivation_correctness.specs.static_params.FlatSource.{flat_source}
+use Rattle.derivation_correctness.proofs.static_params.Sounding.{flat_is_sound}
+use Rattle.derivation_correctness.proofs.static_params.TableRows.{row_there}
+use Rattle.derivation_correctness.proofs.static_params.TypeRows.{row_of}
+use Rattle.lowering_soundness.proofs.type_check.Filling.{stays_sound}
+use Rattle.lowering_soundness.specs.code_rules.Codes.{PlainCode, PlainFunction, function_at}
+use Rattle.lowering_soundness.specs.code_rules.Limits.{most_types, most_functions}
+use Rattle.lowering_soundness.specs.code_rules.Tables.{bool_shapes, IsSoundType, AreSoundTables}
+use Rattle.derivation_correctness.specs.source_report.Report.{IsFlat, IsTyped}
+use Rattle.derivation_correctness.specs.source_report.WellFormed.{IsWellFormed}
+use Rattle.derivation_correctness.proofs.source_report.Ready.{flat_formed}
 
 -- ---- bool
 

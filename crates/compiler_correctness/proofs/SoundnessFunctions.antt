@@ -2,24 +2,24 @@
 -- there are few, and no two have one name, since no two roots have.
 use Rattle.std.proofs.Common.{◌≡◌, ◌<◌, ◌≤◌, ◌+◌, ℕ, zero, suc, Bool, true, false, List, [], ◌∷◌, length, map, Option, Some, None, slice_get, option_map, if◌then◌else◌, refl, sym, ap, ◌∙◌, subst, arith}
 use Rattle.std.proofs.lemmas.Option.{none-some, same_Some, slice_get-map}
-use Rattle.fip_language.specs.declared.FunKind.{FunKind}
-use Rattle.fip_language.specs.declared.FunKind.TheVariants.{Fip, Fbip, Fun}
-use Rattle.fip_language.specs.declared.limits.TheConstants.{MOST_INSTANCES}
-use Rattle.fip_language.proofs.Words.{map_at}
-use Rattle.fip_trees.specs.declared.groups.Member.{Member}
-use Rattle.fip_trees.specs.Tree.{Instance, Program}
-use Rattle.fip_trees.specs.SoundProgram.{IsSoundProgram}
-use Rattle.cell_code.specs.declared.code.Code.{Code}
-use Rattle.cell_code.specs.declared.code.Function.{Function}
-use Rattle.tail_groups.specs.Members.{AreMembers}
-use Rattle.static_params.proofs.TableRows.{map_length}
-use Rattle.code_rules.specs.Codes.{PlainCode, PlainFunction, plain, plain_function, function_at}
-use Rattle.code_rules.specs.Tables.{AreSoundTables}
-use Rattle.lowering_relation.specs.LoweredBodies.{has_function, one_more, if_function, function_of}
-use Rattle.cell_lower.specs.Limits.{is_ruled, registers}
-use Rattle.cell_lower.specs.Shape.{Header, header, header_of, entry_name, and_if, headers_from, headers}
-use Rattle.cell_lower.proofs.Headers.{IsOfInstance, instance_there}
-use Rattle.source_report.specs.Report.{IsTyped}
+use Rattle.lowering_soundness.specs.fip_language.declared.FunKind.{FunKind}
+use Rattle.lowering_soundness.specs.fip_language.declared.FunKind.TheVariants.{Fip, Fbip, Fun}
+use Rattle.lowering_soundness.specs.fip_language.declared.limits.TheConstants.{MOST_INSTANCES}
+use Rattle.lowering_soundness.proofs.fip_language.Words.{map_at}
+use Rattle.lowering_soundness.specs.fip_trees.declared.groups.Member.{Member}
+use Rattle.lowering_soundness.specs.fip_trees.Tree.{Instance, Program}
+use Rattle.lowering_soundness.specs.fip_trees.SoundProgram.{IsSoundProgram}
+use Rattle.lowering_soundness.specs.cell_code.declared.code.Code.{Code}
+use Rattle.lowering_soundness.specs.cell_code.declared.code.Function.{Function}
+use Rattle.lowering_soundness.specs.tail_groups.Members.{AreMembers}
+use Rattle.derivation_correctness.proofs.static_params.TableRows.{map_length}
+use Rattle.lowering_soundness.specs.code_rules.Codes.{PlainCode, PlainFunction, plain, plain_function, function_at}
+use Rattle.lowering_soundness.specs.code_rules.Tables.{AreSoundTables}
+use Rattle.lowering_soundness.specs.lowering_relation.LoweredBodies.{has_function, one_more, if_function, function_of}
+use Rattle.derivation_correctness.specs.cell_lower.Limits.{is_ruled, registers}
+use Rattle.derivation_correctness.specs.cell_lower.Shape.{Header, header, header_of, entry_name, and_if, headers_from, headers}
+use Rattle.derivation_correctness.proofs.cell_lower.Headers.{IsOfInstance, instance_there}
+use Rattle.derivation_correctness.specs.source_report.Report.{IsTyped}
 use Rattle.compiler_correctness.proofs.SoundTypes.{typed_sound, tables_are_sound}
 use Rattle.compiler_correctness.specs.Headed.{plain_header, IsHeaded}
 

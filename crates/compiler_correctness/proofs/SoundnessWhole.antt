@@ -1,46 +1,46 @@
 -- What the soundness of lowered code asks of a program and of what its code shares with it, an accepted source gives.
 use Rattle.std.proofs.Common.{◌≡◌, ◌≤◌, ℕ, zero, suc, true, List, [], ◌∷◌, length, Option, Some, None, slice_get, refl, sym, ap, ◌∙◌, subst, arith}
 use Rattle.std.proofs.lemmas.Option.{none-some, same_Some}
-use Rattle.fip_language.specs.declared.FunKind.{FunKind}
-use Rattle.fip_language.specs.declared.FunKind.TheVariants.{Fip, Fbip, Fun}
-use Rattle.fip_language.specs.declared.limits.TheConstants.{MOST_FIELDS, MOST_REGISTERS}
-use Rattle.fip_trees.specs.declared.groups.Member.{Member}
-use Rattle.fip_trees.specs.NeedsView.{needs_of}
-use Rattle.fip_trees.specs.Tree.{Instance, Program}
-use Rattle.fip_rules.specs.World as R
-use Rattle.static_params.proofs.TypeRows.{there_among}
-use Rattle.type_check.specs.Typing.{Typed, AllTyped, parameter_scope}
-use Rattle.type_check.specs.World as W
-use Rattle.tail_groups.specs.Registers as G
-use Rattle.credit_check.specs.Tallies.{all_needs}
-use Rattle.ownership_calculus.specs.Functions.{Derived}
-use Rattle.ownership_agreement.specs.Bodies.{body_term, borrowed_parameters, owned_parameters}
-use Rattle.ownership_agreement.proofs.Instances.{programs_agree}
-use Rattle.ownership_agreement.specs.Agreement.{IsDerived as IsDerivedAlone, AreDerived, AreSized}
-use Rattle.ownership_agreement.specs.Sized.{AreSizes, IsSized}
-use Rattle.derivation_making.specs.Numbered as N
-use Rattle.code_rules.specs.Breaks.{IsSound}
-use Rattle.code_rules.specs.Codes.{PlainCode, PlainFunction, function_at, is_fip}
-use Rattle.code_rules.specs.Headers.{is_size, are_sizes}
-use Rattle.separation_kinds.proofs.Basics.{below_is}
-use Rattle.lowering_relation.specs.LoweredBodies.{has_function, function_of}
-use Rattle.lowering_relation.specs.LoweredFunctions.{IsSettingOf}
-use Rattle.lowering_relation.specs.Values.{Setting}
+use Rattle.lowering_soundness.specs.fip_language.declared.FunKind.{FunKind}
+use Rattle.lowering_soundness.specs.fip_language.declared.FunKind.TheVariants.{Fip, Fbip, Fun}
+use Rattle.lowering_soundness.specs.fip_language.declared.limits.TheConstants.{MOST_FIELDS, MOST_REGISTERS}
+use Rattle.lowering_soundness.specs.fip_trees.declared.groups.Member.{Member}
+use Rattle.lowering_soundness.specs.fip_trees.NeedsView.{needs_of}
+use Rattle.lowering_soundness.specs.fip_trees.Tree.{Instance, Program}
+use Rattle.lowering_soundness.specs.fip_rules.World as R
+use Rattle.derivation_correctness.proofs.static_params.TypeRows.{there_among}
+use Rattle.lowering_soundness.specs.type_check.Typing.{Typed, AllTyped, parameter_scope}
+use Rattle.lowering_soundness.specs.type_check.World as W
+use Rattle.lowering_soundness.specs.tail_groups.Registers as G
+use Rattle.lowering_soundness.specs.credit_check.Tallies.{all_needs}
+use Rattle.lowering_soundness.specs.ownership_calculus.Functions.{Derived}
+use Rattle.lowering_soundness.specs.ownership_agreement.Bodies.{body_term, borrowed_parameters, owned_parameters}
+use Rattle.lowering_soundness.proofs.ownership_agreement.Instances.{programs_agree}
+use Rattle.lowering_soundness.specs.ownership_agreement.Agreement.{IsDerived as IsDerivedAlone, AreDerived, AreSized}
+use Rattle.lowering_soundness.specs.ownership_agreement.Sized.{AreSizes, IsSized}
+use Rattle.lowering_soundness.specs.derivation_making.Numbered as N
+use Rattle.lowering_soundness.specs.code_rules.Breaks.{IsSound}
+use Rattle.lowering_soundness.specs.code_rules.Codes.{PlainCode, PlainFunction, function_at, is_fip}
+use Rattle.lowering_soundness.specs.code_rules.Headers.{is_size, are_sizes}
+use Rattle.lowering_soundness.proofs.separation_kinds.Basics.{below_is}
+use Rattle.lowering_soundness.specs.lowering_relation.LoweredBodies.{has_function, function_of}
+use Rattle.lowering_soundness.specs.lowering_relation.LoweredFunctions.{IsSettingOf}
+use Rattle.lowering_soundness.specs.lowering_relation.Values.{Setting}
 use Rattle.lowering_soundness.specs.Accepted.{IsDerived, IsWithinLimits}
 use Rattle.lowering_soundness.specs.Built.{BuildsBlock}
-use Rattle.lowering_relation.specs.Standing.{MapsStand}
-use Rattle.lowering_relation.specs.LaidFunctions.{AreLaid}
+use Rattle.lowering_soundness.specs.lowering_relation.Standing.{MapsStand}
+use Rattle.lowering_soundness.specs.lowering_relation.LaidFunctions.{AreLaid}
 use Rattle.lowering_soundness.proofs.Giving.{and_to}
 use Rattle.lowering_soundness.proofs.Joined.{has_one, sound_joined}
-use Rattle.cell_lower.specs.Bodies.{FoundedBlock}
-use Rattle.cell_lower.specs.LaidProgram.{AskedInstance, IsAsked, IsLaidOut}
-use Rattle.cell_lower.specs.Shape.{Header}
-use Rattle.cell_lower.specs.Limits.{registers, registers_of}
-use Rattle.source_report.specs.Report.{IsTyped, IsAccepted}
-use Rattle.source_report.proofs.FipCalls as F
-use Rattle.source_report.proofs.Ready.{typed_formed}
+use Rattle.derivation_correctness.specs.cell_lower.Bodies.{FoundedBlock}
+use Rattle.derivation_correctness.specs.cell_lower.LaidProgram.{AskedInstance, IsAsked, IsLaidOut}
+use Rattle.derivation_correctness.specs.cell_lower.Shape.{Header}
+use Rattle.derivation_correctness.specs.cell_lower.Limits.{registers, registers_of}
+use Rattle.derivation_correctness.specs.source_report.Report.{IsTyped, IsAccepted}
+use Rattle.derivation_correctness.proofs.source_report.FipCalls as F
+use Rattle.derivation_correctness.proofs.source_report.Ready.{typed_formed}
 use Rattle.source_safety.proofs.Formed.{typed_is_formed}
-use Rattle.source_report.proofs.TypedOrder.{typed_in_order}
+use Rattle.derivation_correctness.proofs.source_report.TypedOrder.{typed_in_order}
 use Rattle.compiler_correctness.proofs.SoundTypes.{typed_bool, typed_sound}
 use Rattle.derivation_correctness.proofs.Few.{few_registers}
 use Rattle.derivation_correctness.proofs.Whole as D

@@ -2,31 +2,31 @@
 -- Idea: they call each other just as the instances do, and their frames have as many words.
 use Rattle.std.proofs.Common.{◌≡◌, ℕ, zero, suc, Bool, not, List, [], ◌∷◌, map, length, Option, Some, None, slice_get, refl, sym, ap, ◌∙◌, subst, arith}
 use Rattle.std.proofs.lemmas.Option.{none-some, same_Some}
-use Rattle.fip_trees.specs.declared.groups.Member.{Member}
-use Rattle.fip_trees.specs.Tree.{Instance, Program}
-use Rattle.call_groups.specs.CallGraph as G
-use Rattle.call_groups.specs.CallGraph.{In, call}
-use Rattle.call_groups.specs.declared.search.Call as C
-use Rattle.tail_groups.specs.Members.{AreMembers}
-use Rattle.tail_groups.specs.Registers as T
-use Rattle.tail_groups.specs.Sites.{Site, called, instance_sites, instance_calls, call_rows}
-use Rattle.code_rules.specs.Breaks.{IsSound}
-use Rattle.code_rules.specs.Calls.{Calls}
-use Rattle.code_rules.specs.Codes.{PlainCode, PlainFunction, function_at}
-use Rattle.code_rules.specs.StackNumbers.{HasStack}
-use Rattle.lowering_relation.specs.LoweredBodies.{function_of, has_function, one_more}
-use Rattle.lowering_relation.specs.Values.{Setting}
-use Rattle.lowering_relation.specs.LaidFunctions.{AreLaid}
+use Rattle.lowering_soundness.specs.fip_trees.declared.groups.Member.{Member}
+use Rattle.lowering_soundness.specs.fip_trees.Tree.{Instance, Program}
+use Rattle.lowering_soundness.specs.call_groups.CallGraph as G
+use Rattle.lowering_soundness.specs.call_groups.CallGraph.{In, call}
+use Rattle.lowering_soundness.specs.call_groups.declared.search.Call as C
+use Rattle.lowering_soundness.specs.tail_groups.Members.{AreMembers}
+use Rattle.lowering_soundness.specs.tail_groups.Registers as T
+use Rattle.lowering_soundness.specs.tail_groups.Sites.{Site, called, instance_sites, instance_calls, call_rows}
+use Rattle.lowering_soundness.specs.code_rules.Breaks.{IsSound}
+use Rattle.lowering_soundness.specs.code_rules.Calls.{Calls}
+use Rattle.lowering_soundness.specs.code_rules.Codes.{PlainCode, PlainFunction, function_at}
+use Rattle.lowering_soundness.specs.code_rules.StackNumbers.{HasStack}
+use Rattle.lowering_soundness.specs.lowering_relation.LoweredBodies.{function_of, has_function, one_more}
+use Rattle.lowering_soundness.specs.lowering_relation.Values.{Setting}
+use Rattle.lowering_soundness.specs.lowering_relation.LaidFunctions.{AreLaid}
 use Rattle.lowering_soundness.proofs.Grouped.{calls_same, function_once, row_of}
 use Rattle.lowering_soundness.specs.Alike.{Alike}
 use Rattle.lowering_soundness.proofs.Numbers.{has_its_stack}
 use Rattle.lowering_soundness.proofs.Reached.{calls_there}
-use Rattle.cell_lower.specs.LaidProgram.{IsAsked, IsLaidOut}
-use Rattle.cell_lower.specs.Limits.{registers, registers_of}
-use Rattle.cell_lower.specs.Shape.{Header}
-use Rattle.credit_check.specs.Tallies.{all_needs}
-use Rattle.source_report.specs.Report.{IsAccepted}
-use Rattle.source_report.proofs.FipCalls as F
+use Rattle.derivation_correctness.specs.cell_lower.LaidProgram.{IsAsked, IsLaidOut}
+use Rattle.derivation_correctness.specs.cell_lower.Limits.{registers, registers_of}
+use Rattle.derivation_correctness.specs.cell_lower.Shape.{Header}
+use Rattle.lowering_soundness.specs.credit_check.Tallies.{all_needs}
+use Rattle.derivation_correctness.specs.source_report.Report.{IsAccepted}
+use Rattle.derivation_correctness.proofs.source_report.FipCalls as F
 use Rattle.compiler_correctness.specs.Headed.{IsHeaded}
 use Rattle.compiler_correctness.proofs.SoundnessFunctions.{function_there}
 use Rattle.compiler_correctness.proofs.SoundnessWhole.{is_asked, laid_is_sound}

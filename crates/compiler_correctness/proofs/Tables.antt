@@ -1,13 +1,13 @@
 -- What a sound code keeps of the rules on its tables and headers, a number at a time.
 use Rattle.std.proofs.Common.{◌≡◌, ◌<◌, ◌≤◌, ℕ, zero, suc, Bool, true, false, inl, inr, List, [], ◌∷◌, length, Some, slice_get, refl, arith}
 use Rattle.std.proofs.lemmas.Option.{none-some}
-use Rattle.fip_language.specs.Table.{Shape, Table, shapes}
-use Rattle.code_rules.specs.Breaks.{IsSound}
-use Rattle.code_rules.specs.Codes.{PlainCode, PlainFunction, function_at}
-use Rattle.code_rules.specs.Headers.{is_formed}
-use Rattle.code_rules.specs.Limits.{most_types, most_functions, most_fields}
-use Rattle.code_rules.specs.Tables.{IsSoundShape, AreSoundTables}
-use Rattle.code_rules.specs.declared.rule.SoundRule.TheVariants.{S0, S9}
+use Rattle.lowering_soundness.specs.fip_language.Table.{Shape, Table, shapes}
+use Rattle.lowering_soundness.specs.code_rules.Breaks.{IsSound}
+use Rattle.lowering_soundness.specs.code_rules.Codes.{PlainCode, PlainFunction, function_at}
+use Rattle.lowering_soundness.specs.code_rules.Headers.{is_formed}
+use Rattle.lowering_soundness.specs.code_rules.Limits.{most_types, most_functions, most_fields}
+use Rattle.lowering_soundness.specs.code_rules.Tables.{IsSoundShape, AreSoundTables}
+use Rattle.lowering_soundness.specs.code_rules.declared.rule.SoundRule.TheVariants.{S0, S9}
 
 -- its tables aren't unsound
 keeps_tables : (c : PlainCode) → IsSound c → (AreSoundTables c → ⊥) → ⊥

@@ -1,11 +1,11 @@
 -- What has a text: pieces that have one each, one behind the other, and numbers that are small enough.
 use Rattle.std.proofs.Common.{◌≡◌, ◌<◌, ◌≤◌, ℕ, suc, Bool, true, List, [], ◌∷◌, length, Option, Some, None, slice_get, is_some, refl, sym, ap, subst, arith}
-use Rattle.fip_language.specs.declared.limits.TheConstants.{MOST_INSTANCES}
-use Rattle.fip_language.specs.Character.{is_upper_name}
-use Rattle.code_file.specs.Spelling.{◌+++◌, each, only, one, two, four, name_text, upper_name_text, function_name_text, is_function_name}
-use Rattle.code_file.specs.CodeText.{types_text}
-use Rattle.code_file.proofs.Numbers.{one_fits, two_fits, four_fits}
-use Rattle.lower_frame.specs.Spelled.{IsSpelt}
+use Rattle.lowering_soundness.specs.fip_language.declared.limits.TheConstants.{MOST_INSTANCES}
+use Rattle.lowering_soundness.specs.fip_language.Character.{is_upper_name}
+use Rattle.derivation_correctness.specs.code_file.Spelling.{◌+++◌, each, only, one, two, four, name_text, upper_name_text, function_name_text, is_function_name}
+use Rattle.derivation_correctness.specs.code_file.CodeText.{types_text}
+use Rattle.derivation_correctness.proofs.code_file.Numbers.{one_fits, two_fits, four_fits}
+use Rattle.derivation_correctness.specs.lower_frame.Spelled.{IsSpelt}
 
 pub joined : (a b : Option (List ℕ)) → IsSpelt a → IsSpelt b → IsSpelt (a +++ b)
 unfolding ◌+++◌

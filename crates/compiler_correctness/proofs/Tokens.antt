@@ -6,14 +6,14 @@ use Rattle.std.specs.List.{list_all}
 use Rattle.std.specs.Str.{bytes_eq}
 use Rattle.std.proofs.lemmas.Bool.{and_from, and_parts, or_from}
 use Rattle.std.proofs.lemmas.List.{length-append}
-use Rattle.fip_language.specs.declared.Place.{Place}
-use Rattle.fip_language.specs.declared.Operator.TheVariants as O
-use Rattle.fip_language.specs.Every.{Every}
-use Rattle.fip_language.specs.Character.{is_letter, are_name_bytes, is_upper_name}
-use Rattle.fip_grammar.specs.declared.Sign.TheVariants as S
-use Rattle.fip_grammar.specs.Token.{Word, Lower, Upper, Number, Operate, Mark, Token}
-use Rattle.fip_grammar.specs.Cut.{is_lower, is_upper, is_digit, is_name, keyword_or_name, single_sign, double_sign, sign_of, lower_word, word_of, IsFirst, Piece, Blank, Comment, Cut, behind, Pieces, tokens_of, first_place, IsCut}
-use Rattle.code_file.specs.Spelling.{is_keyword, is_function_name}
+use Rattle.lowering_soundness.specs.fip_language.declared.Place.{Place}
+use Rattle.lowering_soundness.specs.fip_language.declared.Operator.TheVariants as O
+use Rattle.lowering_soundness.specs.fip_language.Every.{Every}
+use Rattle.lowering_soundness.specs.fip_language.Character.{is_letter, are_name_bytes, is_upper_name}
+use Rattle.source_safety.specs.fip_grammar.declared.Sign.TheVariants as S
+use Rattle.source_safety.specs.fip_grammar.Token.{Word, Lower, Upper, Number, Operate, Mark, Token}
+use Rattle.source_safety.specs.fip_grammar.Cut.{is_lower, is_upper, is_digit, is_name, keyword_or_name, single_sign, double_sign, sign_of, lower_word, word_of, IsFirst, Piece, Blank, Comment, Cut, behind, Pieces, tokens_of, first_place, IsCut}
+use Rattle.derivation_correctness.specs.code_file.Spelling.{is_keyword, is_function_name}
 
 -- a name of a function, which isn't empty
 abbrev pub IsProperName : List ℕ → Type 0

@@ -1,26 +1,26 @@
 -- The types of the program of a source have a text: the constructors of each are few, and have upper-case names.
 use Rattle.std.proofs.Common.{◌≡◌, ◌<◌, ◌≤◌, ℕ, zero, suc, true, List, [], ◌∷◌, length, Some, slice_get, refl, sym, ap, ◌∙◌, subst, arith}
 use Rattle.std.proofs.lemmas.Option.{none-some, same_Some}
-use Rattle.fip_language.specs.declared.limits.TheConstants.{MOST_SOURCE_BYTES}
-use Rattle.fip_language.specs.Character.{is_upper_name}
-use Rattle.fip_language.specs.Core.{Data, Core}
-use Rattle.fip_language.specs.Declarations.{bool_type, data_types}
-use Rattle.fip_language.specs.Every.{Every}
-use Rattle.fip_language.specs.Table.{Shape, Table, shapes}
-use Rattle.fip_language.proofs.Plain.{every_at}
-use Rattle.fip_trees.specs.Tree.{Program}
-use Rattle.fip_trees.specs.declared.least.Violation.{Violation}
-use Rattle.data_types.specs.Answers.{Violates}
-use Rattle.data_types.specs.Declarations.{data_scope, declared_names}
-use Rattle.static_params.specs.Answers.{AreFew}
-use Rattle.static_params.specs.FlatProgram.{Numbers, flat_constructor, flat_program}
-use Rattle.static_params.specs.FlatSource.{constructor, declared, flat_source}
-use Rattle.static_params.proofs.ConstructorRows.{declared_shape}
-use Rattle.static_params.proofs.TableRows.{map_length, row_there}
-use Rattle.source_report.specs.Report.{IsParsed, IsFlat, IsTyped}
-use Rattle.code_file.specs.Spelling.{each, two, four, upper_name_text}
-use Rattle.code_file.specs.CodeText.{types_text, shape_text, type_text, table_text}
-use Rattle.lower_frame.specs.Spelled.{IsSpelt}
+use Rattle.lowering_soundness.specs.fip_language.declared.limits.TheConstants.{MOST_SOURCE_BYTES}
+use Rattle.lowering_soundness.specs.fip_language.Character.{is_upper_name}
+use Rattle.lowering_soundness.specs.fip_language.Core.{Data, Core}
+use Rattle.lowering_soundness.specs.fip_language.Declarations.{bool_type, data_types}
+use Rattle.lowering_soundness.specs.fip_language.Every.{Every}
+use Rattle.lowering_soundness.specs.fip_language.Table.{Shape, Table, shapes}
+use Rattle.lowering_soundness.proofs.fip_language.Plain.{every_at}
+use Rattle.lowering_soundness.specs.fip_trees.Tree.{Program}
+use Rattle.lowering_soundness.specs.fip_trees.declared.least.Violation.{Violation}
+use Rattle.source_safety.specs.data_types.Answers.{Violates}
+use Rattle.source_safety.specs.data_types.Declarations.{data_scope, declared_names}
+use Rattle.derivation_correctness.specs.static_params.Answers.{AreFew}
+use Rattle.derivation_correctness.specs.static_params.FlatProgram.{Numbers, flat_constructor, flat_program}
+use Rattle.derivation_correctness.specs.static_params.FlatSource.{constructor, declared, flat_source}
+use Rattle.derivation_correctness.proofs.static_params.ConstructorRows.{declared_shape}
+use Rattle.derivation_correctness.proofs.static_params.TableRows.{map_length, row_there}
+use Rattle.derivation_correctness.specs.source_report.Report.{IsParsed, IsFlat, IsTyped}
+use Rattle.derivation_correctness.specs.code_file.Spelling.{each, two, four, upper_name_text}
+use Rattle.derivation_correctness.specs.code_file.CodeText.{types_text, shape_text, type_text, table_text}
+use Rattle.derivation_correctness.specs.lower_frame.Spelled.{IsSpelt}
 use Rattle.compiler_correctness.proofs.Tables.{IsNarrowTable}
 use Rattle.compiler_correctness.proofs.Names.{NamedConstructor, NamedData, NamedFunction, spelt_names}
 use Rattle.compiler_correctness.proofs.Texts.{joined, each_spelt, types_spelt, two_spelt, four_spelt, upper_name_spelt}

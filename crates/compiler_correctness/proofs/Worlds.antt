@@ -2,21 +2,21 @@
 -- whether its callee's kind is strong enough, and in a derivation each is.
 use Rattle.std.proofs.Common.{◌≡◌, ℕ, suc, Bool, true, false, not, List, [], ◌∷◌, Option, Some, None, slice_get, refl, sym, ap, ◌∙◌, subst}
 use Rattle.std.specs.Prelude.{if◌then◌else◌}
-use Rattle.fip_language.specs.declared.FunKind.{FunKind}
-use Rattle.fip_language.specs.declared.FunKind.TheVariants.{Fun}
-use Rattle.fip_base.specs.declared.plain.Param.{Param}
-use Rattle.fip_trees.specs.declared.program.Binder.{Binder}
-use Rattle.fip_trees.specs.Tree.{Argument, Variable, Literal, Constructor, Arguments, NoArguments, MoreArguments, Pattern}
-use Rattle.fip_trees.specs.Tree.{Expression, Give, Tuple, Operation, Call, Match, Nested, Block, Last, Let, Clauses, NoClauses, MoreClauses, Instance, Program}
-use Rattle.fip_rules.specs.Marks.{Mark}
-use Rattle.fip_rules.specs.World.{World, world, lends_parameter, lends_to, lends, weaker_than, weaker, ownership}
-use Rattle.fip_rules.specs.Shapes.{Names, behind, within, taking, binders, takes, parameters, no_names, shape}
-use Rattle.ownership_calculus.specs.Terms as C
-use Rattle.ownership_calculus.specs.Clean.{Status, Clean, CleanLent, CleanTaken}
-use Rattle.ownership_calculus.specs.Functions.{Derived}
-use Rattle.ownership_calculus.proofs.Whole.{is_accepted}
-use Rattle.ownership_agreement.specs.Bodies.{Scalars, value, lent_value, passed, variables, entering, inside, past_clause, matched, nodes, term, term_block, clauses, entering_parameters, borrowed_parameters, owned_parameters, no_variables, body_term}
-use Rattle.derivation_making.proofs.Reading.{next_behind, next_past}
+use Rattle.lowering_soundness.specs.fip_language.declared.FunKind.{FunKind}
+use Rattle.lowering_soundness.specs.fip_language.declared.FunKind.TheVariants.{Fun}
+use Rattle.lowering_soundness.specs.fip_base.declared.plain.Param.{Param}
+use Rattle.lowering_soundness.specs.fip_trees.declared.program.Binder.{Binder}
+use Rattle.lowering_soundness.specs.fip_trees.Tree.{Argument, Variable, Literal, Constructor, Arguments, NoArguments, MoreArguments, Pattern}
+use Rattle.lowering_soundness.specs.fip_trees.Tree.{Expression, Give, Tuple, Operation, Call, Match, Nested, Block, Last, Let, Clauses, NoClauses, MoreClauses, Instance, Program}
+use Rattle.lowering_soundness.specs.fip_rules.Marks.{Mark}
+use Rattle.lowering_soundness.specs.fip_rules.World.{World, world, lends_parameter, lends_to, lends, weaker_than, weaker, ownership}
+use Rattle.lowering_soundness.specs.fip_rules.Shapes.{Names, behind, within, taking, binders, takes, parameters, no_names, shape}
+use Rattle.lowering_soundness.specs.ownership_calculus.Terms as C
+use Rattle.lowering_soundness.specs.ownership_calculus.Clean.{Status, Clean, CleanLent, CleanTaken}
+use Rattle.lowering_soundness.specs.ownership_calculus.Functions.{Derived}
+use Rattle.lowering_soundness.proofs.ownership_calculus.Whole.{is_accepted}
+use Rattle.lowering_soundness.specs.ownership_agreement.Bodies.{Scalars, value, lent_value, passed, variables, entering, inside, past_clause, matched, nodes, term, term_block, clauses, entering_parameters, borrowed_parameters, owned_parameters, no_variables, body_term}
+use Rattle.lowering_soundness.proofs.derivation_making.Reading.{next_behind, next_past}
 
 -- ---- each call of a term that is derived is strong enough
 

@@ -5,11 +5,11 @@
 --
 -- Of a program with the instances `fip rev` and `fun dup` it is a code with one function, which is fip and named rev.
 use Rattle.std.specs.Prelude.{◌≡◌, List, map}
-use Rattle.fip_trees.specs.declared.groups.Member.{Member}
-use Rattle.fip_trees.specs.Tree.{Program}
-use Rattle.tail_groups.specs.Members.{AreMembers}
-use Rattle.code_rules.specs.Codes.{PlainCode, PlainFunction}
-use Rattle.cell_lower.specs.Shape.{Header, headers}
+use Rattle.lowering_soundness.specs.fip_trees.declared.groups.Member.{Member}
+use Rattle.lowering_soundness.specs.fip_trees.Tree.{Program}
+use Rattle.lowering_soundness.specs.tail_groups.Members.{AreMembers}
+use Rattle.lowering_soundness.specs.code_rules.Codes.{PlainCode, PlainFunction}
+use Rattle.derivation_correctness.specs.cell_lower.Shape.{Header, headers}
 
 -- what a function says beside its instructions and labels
 abbrev pub plain_header : PlainFunction → Header

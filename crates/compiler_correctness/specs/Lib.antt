@@ -1,1 +1,19 @@
 pub mod Headed
+pub use Rattle.lowering_soundness.specs.call_groups as call_groups
+pub use Rattle.derivation_correctness.specs.cell_lower as cell_lower
+pub use Rattle.derivation_correctness.specs.code_file as code_file
+pub use Rattle.derivation_correctness.specs.code_size as code_size
+pub use Rattle.lowering_soundness.specs.derivation_check as derivation_check
+pub use Rattle.derivation_correctness.specs.derivation_text as derivation_text
+pub use Rattle.lowering_soundness.specs.derivation_trees as derivation_trees
+pub use Rattle.source_safety.specs.fip_grammar as fip_grammar
+pub use Rattle.lowering_soundness.specs.fip_trees as fip_trees
+pub use Rattle.source_safety.specs.in_place_safety as in_place_safety
+pub use Rattle.derivation_correctness.specs.lower_frame as lower_frame
+pub use Rattle.lowering_soundness.specs.lowering_relation as lowering_relation
+pub use Rattle.derivation_correctness.specs.lowering_simulation as lowering_simulation
+pub use Rattle.lowering_soundness.specs.machine_semantics as machine_semantics
+pub use Rattle.derivation_correctness.specs.source_report as source_report
+pub use Rattle.lowering_soundness.specs.tail_groups as tail_groups
+pub use Rattle.lowering_soundness.specs.tree_semantics as tree_semantics
+pub use Rattle.source_safety.specs.type_safety as type_safety

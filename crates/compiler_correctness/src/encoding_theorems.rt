@@ -1,17 +1,17 @@
 // The law that the code of an accepted source can be written. It is the contract of a function that does nothing.
 ghost use Rattle.std.specs.Prelude.{◌≡◌, ℕ, List, map};
-ghost use Rattle.cell_code.specs.declared.code.Code.{Code};
-ghost use Rattle.cell_lower.specs.Shape.{header, headers};
-ghost use Rattle.code_file.specs.CodeText.{CodeText};
-ghost use Rattle.code_file.specs.Plain.{plain_code};
-ghost use Rattle.code_file.specs.declared.tags.Version.TheVariants.{Second};
-ghost use Rattle.fip_trees.specs.declared.groups.Member.{Member};
-ghost use Rattle.fip_trees.specs.Tree.{Program};
-ghost use Rattle.lower_frame.specs.Spelled.{AreSpelt};
-ghost use Rattle.code_rules.specs.Breaks.{IsSound};
-ghost use Rattle.code_rules.specs.Codes.{plain};
-ghost use Rattle.source_report.specs.Report.{IsAccepted};
-ghost use Rattle.tail_groups.specs.Members.{AreMembers};
+ghost use Rattle.lowering_soundness.specs.cell_code.declared.code.Code.{Code};
+ghost use Rattle.derivation_correctness.specs.cell_lower.Shape.{header, headers};
+ghost use Rattle.derivation_correctness.specs.code_file.CodeText.{CodeText};
+ghost use Rattle.derivation_correctness.specs.code_file.Plain.{plain_code};
+ghost use Rattle.derivation_correctness.specs.code_file.declared.tags.Version.TheVariants.{Second};
+ghost use Rattle.lowering_soundness.specs.fip_trees.declared.groups.Member.{Member};
+ghost use Rattle.lowering_soundness.specs.fip_trees.Tree.{Program};
+ghost use Rattle.derivation_correctness.specs.lower_frame.Spelled.{AreSpelt};
+ghost use Rattle.lowering_soundness.specs.code_rules.Breaks.{IsSound};
+ghost use Rattle.lowering_soundness.specs.code_rules.Codes.{plain};
+ghost use Rattle.derivation_correctness.specs.source_report.Report.{IsAccepted};
+ghost use Rattle.lowering_soundness.specs.tail_groups.Members.{AreMembers};
 
 /// Sound code of an accepted source has a code file of version 2, where it has the types and the headers of the
 /// source's program, and its instructions and labels can be spelt. For who writes the code of a source: some bytes

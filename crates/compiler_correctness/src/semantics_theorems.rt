@@ -1,29 +1,29 @@
 // The laws on lowered code of accepted sources. Each is the contract of a function that does nothing.
 ghost use Rattle.std.specs.Prelude.{◌≡◌, ◌<◌, ◌≤◌, ℕ, List, length, true, Some, slice_get};
-ghost use Rattle.fip_language.specs.Core.{Core};
-ghost use Rattle.fip_language.specs.Meaning.{meaning};
-ghost use Rattle.fip_language.specs.Table.{constructors};
-ghost use Rattle.fip_language.specs.Statics.{Closeds, NoClosed};
-ghost use Rattle.fip_language.specs.Values.{Values};
-ghost use Rattle.fip_trees.specs.Tree.{Instance, Program};
-ghost use Rattle.instance_semantics.specs.Meaning.{flat_meaning};
-ghost use Rattle.machine_semantics.specs.Codes.{PlainCode as TreeCode};
-ghost use Rattle.machine_semantics.specs.States.{State};
-ghost use Rattle.machine_semantics.specs.Steps.{Kinds};
-ghost use Rattle.code_rules.specs.Codes.{PlainCode, PlainFunction, function_at};
-ghost use Rattle.code_rules.specs.Limits.{most_functions};
-ghost use Rattle.code_rules.specs.Tables.{bool_shapes, AreSoundTables};
-ghost use Rattle.tree_semantics.specs.Runs.{begun, entry};
-ghost use Rattle.separation.specs.Codes.{run_code};
-ghost use Rattle.separation.specs.Starts.{IsStart};
-ghost use Rattle.tree_refinement.specs.Runs.{BeginsWith};
-ghost use Rattle.lowering_relation.specs.LoweredBodies.{function_of};
-ghost use Rattle.lowering_relation.specs.LoweredFunctions.{AreLowered};
-ghost use Rattle.lowering_simulation.specs.RunEnds.{EndsIn};
-ghost use Rattle.lowering_simulation.specs.Guarded.{Takes};
-ghost use Rattle.lowering_simulation.specs.Lowered.{all_instrs};
-ghost use Rattle.lowering_simulation.specs.CellEnds.{EndsAs, IsFunctionOf};
-ghost use Rattle.source_report.specs.Report.{IsParsed, IsTyped, IsAccepted};
+ghost use Rattle.lowering_soundness.specs.fip_language.Core.{Core};
+ghost use Rattle.lowering_soundness.specs.fip_language.Meaning.{meaning};
+ghost use Rattle.lowering_soundness.specs.fip_language.Table.{constructors};
+ghost use Rattle.lowering_soundness.specs.fip_language.Statics.{Closeds, NoClosed};
+ghost use Rattle.lowering_soundness.specs.fip_language.Values.{Values};
+ghost use Rattle.lowering_soundness.specs.fip_trees.Tree.{Instance, Program};
+ghost use Rattle.lowering_soundness.specs.instance_semantics.Meaning.{flat_meaning};
+ghost use Rattle.lowering_soundness.specs.machine_semantics.Codes.{PlainCode as TreeCode};
+ghost use Rattle.lowering_soundness.specs.machine_semantics.States.{State};
+ghost use Rattle.lowering_soundness.specs.machine_semantics.Steps.{Kinds};
+ghost use Rattle.lowering_soundness.specs.code_rules.Codes.{PlainCode, PlainFunction, function_at};
+ghost use Rattle.lowering_soundness.specs.code_rules.Limits.{most_functions};
+ghost use Rattle.lowering_soundness.specs.code_rules.Tables.{bool_shapes, AreSoundTables};
+ghost use Rattle.lowering_soundness.specs.tree_semantics.Runs.{begun, entry};
+ghost use Rattle.lowering_soundness.specs.separation.Codes.{run_code};
+ghost use Rattle.lowering_soundness.specs.separation.Starts.{IsStart};
+ghost use Rattle.derivation_correctness.specs.tree_refinement.Runs.{BeginsWith};
+ghost use Rattle.lowering_soundness.specs.lowering_relation.LoweredBodies.{function_of};
+ghost use Rattle.lowering_soundness.specs.lowering_relation.LoweredFunctions.{AreLowered};
+ghost use Rattle.derivation_correctness.specs.lowering_simulation.RunEnds.{EndsIn};
+ghost use Rattle.derivation_correctness.specs.lowering_simulation.Guarded.{Takes};
+ghost use Rattle.derivation_correctness.specs.lowering_simulation.Lowered.{all_instrs};
+ghost use Rattle.derivation_correctness.specs.lowering_simulation.CellEnds.{EndsAs, IsFunctionOf};
+ghost use Rattle.derivation_correctness.specs.source_report.Report.{IsParsed, IsTyped, IsAccepted};
 
 /// Where code is lowered from the program of an accepted source, its runs on arguments of the parameters' types end as
 /// the program means: with the same values and calls left, in the same trap, or out of calls or frames. So it is of

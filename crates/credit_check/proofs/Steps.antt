@@ -2,8 +2,8 @@
 use Rattle.std.proofs.Common.{◌≡◌, ℕ, zero, suc, ◌<◌, ◌≤◌, ◌+◌, ◌-◌, refl, sym, ap, ◌∙◌, append_assoc, List, [], ◌∷◌, ◌++◌, length, set, get_or, drop, map, Option, Bool, Vec, Global, arith}
 use Rattle.std.specs.Prelude.{nat_lt}
 use Rattle.std.specs.declared.boxed.Box.{Box}
-use Rattle.fip_language.specs.declared.Place.{Place}
-use Rattle.fip_language.specs.declared.rule.Rule.{Rule}
+use Rattle.fip_trees.specs.fip_language.declared.Place.{Place}
+use Rattle.fip_trees.specs.fip_language.declared.rule.Rule.{Rule}
 use Rattle.fip_base.specs.declared.core_form.MatchKind.{MatchKind}
 use Rattle.fip_trees.specs.declared.least.Violation.{Violation}
 use Rattle.fip_trees.specs.declared.needs.Need.{Need}

@@ -1,11 +1,11 @@
 -- What breaks the rules on credits, and what a refusal says.
 use Rattle.std.specs.Prelude.{◌≡◌, ◌<◌, ◌⊎◌, ℕ, suc, Bool, List, [], ◌∷◌}
-use Rattle.fip_language.specs.declared.FunKind.{FunKind}
-use Rattle.fip_language.specs.declared.FunKind.TheVariants.{Fip, Fbip, Fun}
-use Rattle.fip_language.specs.declared.Place.{Place}
-use Rattle.fip_language.specs.declared.limits.TheConstants.{MOST_FIELDS}
-use Rattle.fip_language.specs.declared.rule.Rule.{Rule}
-use Rattle.fip_language.specs.declared.rule.Rule.TheVariants.{E56, E57, E58, E62}
+use Rattle.fip_trees.specs.fip_language.declared.FunKind.{FunKind}
+use Rattle.fip_trees.specs.fip_language.declared.FunKind.TheVariants.{Fip, Fbip, Fun}
+use Rattle.fip_trees.specs.fip_language.declared.Place.{Place}
+use Rattle.fip_trees.specs.fip_language.declared.limits.TheConstants.{MOST_FIELDS}
+use Rattle.fip_trees.specs.fip_language.declared.rule.Rule.{Rule}
+use Rattle.fip_trees.specs.fip_language.declared.rule.Rule.TheVariants.{E56, E57, E58, E62}
 use Rattle.fip_base.specs.declared.refusal.PhaseError.{PhaseError}
 use Rattle.fip_base.specs.declared.refusal.PhaseError.TheVariants.{Refused, NoMemory}
 use Rattle.fip_trees.specs.declared.least.Violation.{Violation}

@@ -4,9 +4,9 @@
 -- then its last expression; a block in brackets is no further one beside it. The parts of a match are its clauses'
 -- bodies.
 use Rattle.std.specs.Prelude.{◌≡◌, ◌<◌, ℕ, suc, List, [], ◌∷◌, ◌++◌, length}
-use Rattle.fip_language.specs.declared.FunKind.{FunKind}
-use Rattle.fip_language.specs.declared.FunKind.TheVariants.{Fip, Fbip, Fun}
-use Rattle.fip_language.specs.declared.limits.TheConstants.{MOST_FIELDS}
+use Rattle.fip_trees.specs.fip_language.declared.FunKind.{FunKind}
+use Rattle.fip_trees.specs.fip_language.declared.FunKind.TheVariants.{Fip, Fbip, Fun}
+use Rattle.fip_trees.specs.fip_language.declared.limits.TheConstants.{MOST_FIELDS}
 use Rattle.fip_trees.specs.declared.needs.Need.{Need}
 use Rattle.fip_trees.specs.Sizes.{number}
 use Rattle.fip_trees.specs.Tree.{Expression, Give, Tuple, Operation, Call, Match, Nested, Block, Last, Let}

@@ -5,7 +5,7 @@
 -- needs two and its pattern gives one, its second needs none. With Cons(x, t) for the first body it needs none.
 use Rattle.std.specs.Prelude.{ℕ, ◌+◌, ◌-◌, Bool, not, ◌&&◌, List, [], ◌∷◌, Option, Some, None}
 use Rattle.std.specs.Prelude.{◌==◌, slice_get, if◌then◌else◌}
-use Rattle.fip_language.specs.Table.{is_scalar}
+use Rattle.fip_trees.specs.fip_language.Table.{is_scalar}
 use Rattle.fip_trees.specs.Sizes.{greater, one_if}
 use Rattle.fip_trees.specs.Tree.{Argument, Variable, Literal, Constructor, Arguments, NoArguments, MoreArguments, count}
 use Rattle.fip_trees.specs.Tree.{Pattern, BinderPattern, LiteralPattern, ConstructorPattern}

@@ -1,12 +1,12 @@
 -- For the proofs alone: the same as lists, in the order of the walk.
 use Rattle.std.specs.Prelude.{ℕ, zero, suc, Bool, true, false, List, [], ◌∷◌, ◌++◌, length, Option, Some, None}
 use Rattle.std.specs.Prelude.{slice_get, nat_lt, if◌then◌else◌}
-use Rattle.fip_language.specs.declared.limits.TheConstants.{MOST_FIELDS}
-use Rattle.fip_language.specs.declared.FunKind.{FunKind}
-use Rattle.fip_language.specs.declared.FunKind.TheVariants.{Fip, Fbip, Fun}
-use Rattle.fip_language.specs.declared.Place.{Place}
-use Rattle.fip_language.specs.declared.rule.Rule.{Rule}
-use Rattle.fip_language.specs.declared.rule.Rule.TheVariants.{E56, E57, E58, E62}
+use Rattle.fip_trees.specs.fip_language.declared.limits.TheConstants.{MOST_FIELDS}
+use Rattle.fip_trees.specs.fip_language.declared.FunKind.{FunKind}
+use Rattle.fip_trees.specs.fip_language.declared.FunKind.TheVariants.{Fip, Fbip, Fun}
+use Rattle.fip_trees.specs.fip_language.declared.Place.{Place}
+use Rattle.fip_trees.specs.fip_language.declared.rule.Rule.{Rule}
+use Rattle.fip_trees.specs.fip_language.declared.rule.Rule.TheVariants.{E56, E57, E58, E62}
 use Rattle.fip_trees.specs.declared.least.Violation.{Violation}
 use Rattle.fip_trees.specs.declared.needs.Need.{Need}
 use Rattle.fip_trees.specs.Least.{violation}

@@ -1,6 +1,6 @@
 // The rules on credits, over all instances.
 ghost use Rattle.std.specs.Prelude.{◌≡◌, ℕ, None, map, true, get_or, IfOk, IfErr, OnOk};
-ghost use Rattle.fip_language.specs.Table.{is_scalar};
+ghost use Rattle.fip_trees.specs.fip_language.Table.{is_scalar};
 ghost use Rattle.fip_trees.specs.Least.{after};
 ghost use Rattle.fip_trees.specs.NeedsView.{needs_row};
 ghost use Rattle.fip_trees.specs.TreeView as V;

@@ -1,6 +1,6 @@
 // What the walk over an instance looks up.
 ghost use Rattle.std.specs.Prelude.{◌≡◌, ℕ, true, get_or, option_map};
-ghost use Rattle.fip_language.specs.Table.{is_scalar};
+ghost use Rattle.fip_trees.specs.fip_language.Table.{is_scalar};
 ghost use Rattle.fip_trees.specs.TreeView as V;
 ghost use Rattle.credit_check.specs.Needs.{takes};
 

@@ -1,24 +1,24 @@
 -- What the walk makes of a body is what is defined, where that is a derivation of it.
 use Rattle.std.proofs.Common.{◌≡◌, ℕ, zero, suc, ◌<◌, ◌≤◌, ◌+◌, ◌-◌, ◌⊎◌, inl, inr, refl, sym, ap, ap₂, subst, ◌∙◌, List, [], ◌∷◌, ◌++◌, length, Option, Some, None, Bool, true, false, not, ◌&&◌, ◌||◌, arith}
 use Rattle.std.specs.Prelude.{◌==◌, if◌then◌else◌, slice_get}
-use Rattle.fip_base.specs.declared.plain.Param.{Param}
-use Rattle.fip_trees.specs.Sizes.{number, no_sizes, minus}
-use Rattle.fip_trees.specs.declared.program.Binder.{Binder}
-use Rattle.fip_trees.specs.declared.needs.Need.{Need}
-use Rattle.fip_trees.specs.Tree.{Program, Argument, Variable, Literal, Constructor, Arguments, NoArguments, MoreArguments, count, Pattern, Expression, Give, Tuple, Operation, Call, Match, Nested, Block, Last, Let, Clauses, NoClauses, MoreClauses, Instance}
-use Rattle.fip_rules.specs.World.{World, is_fip}
-use Rattle.fip_rules.specs.Shapes.{binders, takes}
-use Rattle.credit_check.specs.Needs.{made, need, need_block, given}
-use Rattle.credit_check.specs.Tallies.{sizes, block_sizes, needs, parts_needs, clauses_needs, block_needs}
-use Rattle.ownership_agreement.specs.Sized.{IsVariable, SizedExpression, SizedBlock, SizedClauses}
-use Rattle.ownership_calculus.specs.Terms.{Item}
-use Rattle.derivation_trees.specs.declared.derivation.RuleName.{RuleName}
-use Rattle.derivation_trees.specs.declared.derivation.RuleName.TheVariants as R
-use Rattle.derivation_trees.specs.declared.derivation.Credit as D
-use Rattle.derivation_trees.specs.Trees.{Tree, Branch, Trees, NoTrees, MoreTrees}
-use Rattle.derivation_check.specs.Owned.{owned, root, roots, IsOwned, AreOwned, is_weaken, Under, Splits}
-use Rattle.derivation_check.specs.Scopes.{Known, Scope, known, meant, named, binding, lending, within, within_block, AreNumbered}
-use Rattle.derivation_check.specs.Calculus.{Choice, UsesVariable, DerivesValue, DerivesValues, DerivesPassed, FirstOf, Calls, GoesOn, IsClause, is_taken, own_variables, Scrutinised, Matches, Lends, Derives, DerivesBlock, DerivesClauses}
+use Rattle.tail_groups.specs.fip_base.declared.plain.Param.{Param}
+use Rattle.tail_groups.specs.fip_trees.Sizes.{number, no_sizes, minus}
+use Rattle.tail_groups.specs.fip_trees.declared.program.Binder.{Binder}
+use Rattle.tail_groups.specs.fip_trees.declared.needs.Need.{Need}
+use Rattle.tail_groups.specs.fip_trees.Tree.{Program, Argument, Variable, Literal, Constructor, Arguments, NoArguments, MoreArguments, count, Pattern, Expression, Give, Tuple, Operation, Call, Match, Nested, Block, Last, Let, Clauses, NoClauses, MoreClauses, Instance}
+use Rattle.derivation_walk.specs.fip_rules.World.{World, is_fip}
+use Rattle.derivation_walk.specs.fip_rules.Shapes.{binders, takes}
+use Rattle.derivation_walk.specs.credit_check.Needs.{made, need, need_block, given}
+use Rattle.derivation_walk.specs.credit_check.Tallies.{sizes, block_sizes, needs, parts_needs, clauses_needs, block_needs}
+use Rattle.derivation_making.specs.ownership_agreement.Sized.{IsVariable, SizedExpression, SizedBlock, SizedClauses}
+use Rattle.derivation_making.specs.ownership_calculus.Terms.{Item}
+use Rattle.derivation_walk.specs.derivation_trees.declared.derivation.RuleName.{RuleName}
+use Rattle.derivation_walk.specs.derivation_trees.declared.derivation.RuleName.TheVariants as R
+use Rattle.derivation_walk.specs.derivation_trees.declared.derivation.Credit as D
+use Rattle.derivation_walk.specs.derivation_trees.Trees.{Tree, Branch, Trees, NoTrees, MoreTrees}
+use Rattle.derivation_making.specs.derivation_check.Owned.{owned, root, roots, IsOwned, AreOwned, is_weaken, Under, Splits}
+use Rattle.derivation_making.specs.derivation_check.Scopes.{Known, Scope, known, meant, named, binding, lending, within, within_block, AreNumbered}
+use Rattle.derivation_making.specs.derivation_check.Calculus.{Choice, UsesVariable, DerivesValue, DerivesValues, DerivesPassed, FirstOf, Calls, GoesOn, IsClause, is_taken, own_variables, Scrutinised, Matches, Lends, Derives, DerivesBlock, DerivesClauses}
 use Rattle.derivation_walk.specs.declared.found.Bound.{Bound}
 use Rattle.derivation_walk.specs.declared.found.Occurrence.{Occurrence}
 use Rattle.derivation_walk.specs.declared.tables.Uses.{Uses}
@@ -29,7 +29,7 @@ use Rattle.derivation_making.specs.Made as M
 use Rattle.derivation_making.specs.Made.{those, numbers, unscalar, added, clause_variables, rule_of, made_value, made_values, made_fields, made_passed, made_expression, made_block, made_clauses}
 use Rattle.derivation_walk.specs.Walked as W
 use Rattle.derivation_walk.specs.Walked.{Guided, Owned, Asked, asked, behind, bound_owned, rest_owned, clause_owned, binder_of, values, fields, passed, size, size_parts, size_clauses, walked, walked_parts, walked_block, walked_clauses}
-use Rattle.credit_check.proofs.Amounts.{Long, none_long, both_long, both_at, sizes_long, sizes_at, block_long, block_at}
+use Rattle.derivation_walk.proofs.credit_check.Amounts.{Long, none_long, both_long, both_at, sizes_long, sizes_at, block_long, block_at}
 use Rattle.derivation_agreement.proofs.Seeing.{slots, slots_in, slots_parts, slots_clauses, passed_value, marks, marks_parts, marks_clauses}
 use Rattle.derivation_agreement.proofs.Hitting.{hits, Between, between_append, between_wider, occurs_hits, occurs_parts, uses_hits, passed_between, marks_between, parts_between, clauses_between, Part, part_first, part_second, table_hits}
 use Rattle.derivation_agreement.proofs.Sited.{Piece, piece_first, piece_second, Sited, AllSited, IsTable, all_append, named_sited, slots_length, in_length, parts_length}

@@ -3,9 +3,9 @@
 use Rattle.std.proofs.Common.{ℕ, ◌≤◌, ◌+◌, ◌*◌, ◌-◌, Bool, true, false, arith}
 use Rattle.std.specs.Prelude.{◌==◌}
 use Rattle.std.proofs.lemmas.Bool.Decides.{nat_tests}
-use Rattle.fip_trees.specs.Sizes.{greater}
-use Rattle.fip_trees.specs.Tree.{Argument, Variable, Literal, Constructor, Arguments, NoArguments, MoreArguments, count, Pattern, BinderPattern, LiteralPattern, ConstructorPattern, Patterns, NoPatterns, MorePatterns, count_patterns, Expression, Give, Tuple, Operation, Call, Match, Nested, Block, Last, Let, Clauses, NoClauses, MoreClauses, Program}
-use Rattle.credit_check.specs.Needs.{made, made_all, nodes, nodes_all, given, takes, need, need_block, need_clauses}
+use Rattle.tail_groups.specs.fip_trees.Sizes.{greater}
+use Rattle.tail_groups.specs.fip_trees.Tree.{Argument, Variable, Literal, Constructor, Arguments, NoArguments, MoreArguments, count, Pattern, BinderPattern, LiteralPattern, ConstructorPattern, Patterns, NoPatterns, MorePatterns, count_patterns, Expression, Give, Tuple, Operation, Call, Match, Nested, Block, Last, Let, Clauses, NoClauses, MoreClauses, Program}
+use Rattle.derivation_walk.specs.credit_check.Needs.{made, made_all, nodes, nodes_all, given, takes, need, need_block, need_clauses}
 use Rattle.tail_groups.specs.Registers.{in_argument, in_arguments, in_pattern, in_patterns, in_expression, in_block, in_clauses}
 use Rattle.derivation_making.specs.Numbered.{Numbered, NumberedBlock, NumberedClauses}
 use Rattle.derivation_agreement.proofs.Callees.{AsksFew, AsksFewBlock, AskFew, one_at_most}

@@ -1,27 +1,27 @@
 -- Expressions and blocks: where a tree derives them, so does the calculus.
 use Rattle.std.proofs.Common.{◌≡◌, ◌⊎◌, inl, inr, ℕ, zero, suc, ◌<◌, ◌≤◌, ◌+◌, ◌-◌, refl, sym, ap, ◌∙◌, subst, List, [], ◌∷◌, ◌++◌, length, Option, Some, None, Bool, true, false, not, arith}
 use Rattle.std.specs.Prelude.{slice_get, if◌then◌else◌, ◌==◌}
-use Rattle.fip_trees.specs.declared.program.Binder.{Binder}
-use Rattle.fip_trees.specs.Tree.{Argument, Variable, Literal, Constructor, Arguments, Pattern, BinderPattern, LiteralPattern, ConstructorPattern, Patterns, NoPatterns, MorePatterns, count_patterns, Instance}
-use Rattle.fip_trees.specs.Tree.{Expression, Give, Tuple, Operation, Call, Match, Nested, Block, Last, Let, Clauses, NoClauses, MoreClauses}
-use Rattle.fip_rules.specs.Marks.{Mark}
-use Rattle.fip_rules.specs.World.{World, is_fip, weaker, weaker_than, is_weaker}
-use Rattle.fip_rules.specs.Shapes.{Names, behind, binders, takes, shape}
-use Rattle.ownership_calculus.specs.Terms.{Item, Own, Credit, only, one, given, paid, charge}
-use Rattle.ownership_calculus.specs.Terms as T
-use Rattle.ownership_calculus.specs.Rules.{Fits, ValueDerivation, VAR, NONE, MORE, Extends, setting, Derivation, TUPLE, CALL, LET, MATCH, TAKE, WEAKEN, LentDerivation, LENT_LAST, LENT_MORE, TakenDerivation, TAKEN_LAST, TAKEN_MORE}
-use Rattle.ownership_calculus.specs.Rules as C
-use Rattle.ownership_agreement.specs.Bodies.{Scalars, variable, seen, value, values, lent_value, passed, variables, entering, node, nodes, nodes_all, inside, past_clause, matched, term, term_block, clauses}
-use Rattle.derivation_trees.specs.declared.derivation.RuleName.{RuleName}
-use Rattle.derivation_trees.specs.declared.derivation.RuleName.TheVariants as R
-use Rattle.derivation_trees.specs.declared.derivation.Credit as D
-use Rattle.derivation_trees.specs.Trees.{Tree, Missing, Branch, Trees, NoTrees, MoreTrees}
-use Rattle.derivation_check.specs.Owned.{owned, root, roots, Rising, IsOwned, Under, UnderPart, Leaf, Splits}
-use Rattle.derivation_check.specs.Patterns as N
-use Rattle.derivation_check.specs.Scopes.{Known, Scope, known, meant, named, binding, lending, AreNumbered}
-use Rattle.derivation_check.specs.Scopes as Q
-use Rattle.derivation_check.specs.Calculus.{numbers, bound, gained, own_variables, FirstOf, IsClause, GoesOn, is_taken, Matches, Scrutinised}
-use Rattle.derivation_check.specs.Calculus as P
+use Rattle.tail_groups.specs.fip_trees.declared.program.Binder.{Binder}
+use Rattle.tail_groups.specs.fip_trees.Tree.{Argument, Variable, Literal, Constructor, Arguments, Pattern, BinderPattern, LiteralPattern, ConstructorPattern, Patterns, NoPatterns, MorePatterns, count_patterns, Instance}
+use Rattle.tail_groups.specs.fip_trees.Tree.{Expression, Give, Tuple, Operation, Call, Match, Nested, Block, Last, Let, Clauses, NoClauses, MoreClauses}
+use Rattle.derivation_walk.specs.fip_rules.Marks.{Mark}
+use Rattle.derivation_walk.specs.fip_rules.World.{World, is_fip, weaker, weaker_than, is_weaker}
+use Rattle.derivation_walk.specs.fip_rules.Shapes.{Names, behind, binders, takes, shape}
+use Rattle.derivation_making.specs.ownership_calculus.Terms.{Item, Own, Credit, only, one, given, paid, charge}
+use Rattle.derivation_making.specs.ownership_calculus.Terms as T
+use Rattle.derivation_making.specs.ownership_calculus.Rules.{Fits, ValueDerivation, VAR, NONE, MORE, Extends, setting, Derivation, TUPLE, CALL, LET, MATCH, TAKE, WEAKEN, LentDerivation, LENT_LAST, LENT_MORE, TakenDerivation, TAKEN_LAST, TAKEN_MORE}
+use Rattle.derivation_making.specs.ownership_calculus.Rules as C
+use Rattle.derivation_making.specs.ownership_agreement.Bodies.{Scalars, variable, seen, value, values, lent_value, passed, variables, entering, node, nodes, nodes_all, inside, past_clause, matched, term, term_block, clauses}
+use Rattle.derivation_walk.specs.derivation_trees.declared.derivation.RuleName.{RuleName}
+use Rattle.derivation_walk.specs.derivation_trees.declared.derivation.RuleName.TheVariants as R
+use Rattle.derivation_walk.specs.derivation_trees.declared.derivation.Credit as D
+use Rattle.derivation_walk.specs.derivation_trees.Trees.{Tree, Missing, Branch, Trees, NoTrees, MoreTrees}
+use Rattle.derivation_making.specs.derivation_check.Owned.{owned, root, roots, Rising, IsOwned, Under, UnderPart, Leaf, Splits}
+use Rattle.derivation_making.specs.derivation_check.Patterns as N
+use Rattle.derivation_making.specs.derivation_check.Scopes.{Known, Scope, known, meant, named, binding, lending, AreNumbered}
+use Rattle.derivation_making.specs.derivation_check.Scopes as Q
+use Rattle.derivation_making.specs.derivation_check.Calculus.{numbers, bound, gained, own_variables, FirstOf, IsClause, GoesOn, is_taken, Matches, Scrutinised}
+use Rattle.derivation_making.specs.derivation_check.Calculus as P
 use Rattle.derivation_agreement.proofs.Names.{expr_next, block_next, inside_next, scope_next}
 use Rattle.derivation_agreement.proofs.Sharing.{count_of, env, env_sum, env_none, env_fits, nothing, under_fits, fits_same}
 use Rattle.derivation_agreement.proofs.Scoping.{Sees, later, sees_lending, sees_open, opens, given_before, given_past, given_below, given_most, numbers_rise, one_same, one_other, one_false, either, same_number}

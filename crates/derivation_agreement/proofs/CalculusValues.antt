@@ -1,22 +1,22 @@
 -- Arguments: where a tree derives them, so does the calculus.
 use Rattle.std.proofs.Common.{◌≡◌, ◌⊎◌, inl, inr, ℕ, zero, suc, ◌<◌, ◌≤◌, ◌+◌, refl, sym, ap, ◌∙◌, subst, List, [], ◌∷◌, Option, Some, None, Bool, true, false, not, ◌||◌, ◌&&◌, arith}
 use Rattle.std.specs.Prelude.{slice_get, ◌==◌, if◌then◌else◌}
-use Rattle.fip_base.specs.declared.plain.Param.{Param}
-use Rattle.fip_trees.specs.Tree.{Argument, Variable, Literal, Constructor, Arguments, NoArguments, MoreArguments, Instance, count}
-use Rattle.fip_rules.specs.Marks.{Mark}
-use Rattle.fip_rules.specs.World.{World, is_fip, lends, lends_to, lends_parameter}
-use Rattle.fip_rules.specs.Shapes as S
-use Rattle.ownership_calculus.specs.Terms.{Item, Own, Credit, only, one, given, paid, charge, size}
-use Rattle.ownership_calculus.specs.Terms as T
-use Rattle.ownership_calculus.specs.Rules.{Fits, ValueDerivation, VAR, SCALAR, REUSE, WEAKEN_VALUE, ValuesDerivation, NONE, MORE, PassedDerivation, HEADER, LENT, GIVEN}
-use Rattle.ownership_calculus.specs.Rules as C
-use Rattle.ownership_agreement.specs.Bodies.{Scalars, variable, seen, value, values, lent_value, passed, header, credits_of}
-use Rattle.derivation_trees.specs.declared.derivation.RuleName.{RuleName}
-use Rattle.derivation_trees.specs.declared.derivation.RuleName.TheVariants as R
-use Rattle.derivation_trees.specs.Trees.{Tree, Branch, Trees, NoTrees, MoreTrees}
-use Rattle.derivation_check.specs.Owned.{owned, root, roots, Under, Leaf, Splits}
-use Rattle.derivation_check.specs.Scopes.{Known, Scope, known, meant}
-use Rattle.derivation_check.specs.Calculus as P
+use Rattle.tail_groups.specs.fip_base.declared.plain.Param.{Param}
+use Rattle.tail_groups.specs.fip_trees.Tree.{Argument, Variable, Literal, Constructor, Arguments, NoArguments, MoreArguments, Instance, count}
+use Rattle.derivation_walk.specs.fip_rules.Marks.{Mark}
+use Rattle.derivation_walk.specs.fip_rules.World.{World, is_fip, lends, lends_to, lends_parameter}
+use Rattle.derivation_walk.specs.fip_rules.Shapes as S
+use Rattle.derivation_making.specs.ownership_calculus.Terms.{Item, Own, Credit, only, one, given, paid, charge, size}
+use Rattle.derivation_making.specs.ownership_calculus.Terms as T
+use Rattle.derivation_making.specs.ownership_calculus.Rules.{Fits, ValueDerivation, VAR, SCALAR, REUSE, WEAKEN_VALUE, ValuesDerivation, NONE, MORE, PassedDerivation, HEADER, LENT, GIVEN}
+use Rattle.derivation_making.specs.ownership_calculus.Rules as C
+use Rattle.derivation_making.specs.ownership_agreement.Bodies.{Scalars, variable, seen, value, values, lent_value, passed, header, credits_of}
+use Rattle.derivation_walk.specs.derivation_trees.declared.derivation.RuleName.{RuleName}
+use Rattle.derivation_walk.specs.derivation_trees.declared.derivation.RuleName.TheVariants as R
+use Rattle.derivation_walk.specs.derivation_trees.Trees.{Tree, Branch, Trees, NoTrees, MoreTrees}
+use Rattle.derivation_making.specs.derivation_check.Owned.{owned, root, roots, Under, Leaf, Splits}
+use Rattle.derivation_making.specs.derivation_check.Scopes.{Known, Scope, known, meant}
+use Rattle.derivation_making.specs.derivation_check.Calculus as P
 use Rattle.derivation_agreement.proofs.Sharing.{count_of, env, env_sum, env_none, env_fits, env_paid, env_charge, nothing, under_fits, fits_same}
 use Rattle.derivation_agreement.proofs.Scoping.{Sees, seen_as, one_same, one_other, one_false, either, same_number}
 

@@ -1,18 +1,18 @@
 -- What the callees of a derived body ask of credits: each is fip or fbip, so its header has few.
 use Rattle.std.proofs.Common.{◌≡◌, ℕ, ◌≤◌, refl, List, [], ◌∷◌, length, Bool, true, false, Option, Some, None, arith}
 use Rattle.std.specs.Prelude.{slice_get, ◌==◌}
-use Rattle.fip_language.specs.declared.FunKind.{FunKind}
-use Rattle.fip_language.specs.declared.FunKind.TheVariants.{Fip, Fbip, Fun}
-use Rattle.fip_trees.specs.Sizes.{one_if}
-use Rattle.fip_trees.specs.Tree.{Arguments, Pattern, Expression, Give, Tuple, Operation, Call, Match, Nested, Block, Last, Let, Clauses, NoClauses, MoreClauses, Instance, Program}
-use Rattle.fip_rules.specs.World.{world, is_ruled, is_weaker}
-use Rattle.fip_rules.specs.Shapes.{takes}
-use Rattle.credit_check.specs.Needs.{marked, asked}
-use Rattle.ownership_calculus.specs.Terms.{Item}
-use Rattle.derivation_trees.specs.Trees.{Tree, Trees, NoTrees, MoreTrees}
-use Rattle.derivation_check.specs.Owned.{owned}
-use Rattle.derivation_check.specs.Scopes.{Scope}
-use Rattle.derivation_check.specs.Calculus.{Calls, Derives, DerivesBlock, DerivesClauses}
+use Rattle.tail_groups.specs.fip_language.declared.FunKind.{FunKind}
+use Rattle.tail_groups.specs.fip_language.declared.FunKind.TheVariants.{Fip, Fbip, Fun}
+use Rattle.tail_groups.specs.fip_trees.Sizes.{one_if}
+use Rattle.tail_groups.specs.fip_trees.Tree.{Arguments, Pattern, Expression, Give, Tuple, Operation, Call, Match, Nested, Block, Last, Let, Clauses, NoClauses, MoreClauses, Instance, Program}
+use Rattle.derivation_walk.specs.fip_rules.World.{world, is_ruled, is_weaker}
+use Rattle.derivation_walk.specs.fip_rules.Shapes.{takes}
+use Rattle.derivation_walk.specs.credit_check.Needs.{marked, asked}
+use Rattle.derivation_making.specs.ownership_calculus.Terms.{Item}
+use Rattle.derivation_walk.specs.derivation_trees.Trees.{Tree, Trees, NoTrees, MoreTrees}
+use Rattle.derivation_making.specs.derivation_check.Owned.{owned}
+use Rattle.derivation_making.specs.derivation_check.Scopes.{Scope}
+use Rattle.derivation_making.specs.derivation_check.Calculus.{Calls, Derives, DerivesBlock, DerivesClauses}
 use Rattle.derivation_agreement.specs.Limits.{KeepsLimits}
 use Rattle.derivation_agreement.proofs.Spelt.{EachClause, match_node}
 

@@ -3,16 +3,16 @@
 -- credits is what is needed there, or what a header or a pattern gives.
 use Rattle.std.proofs.Common.{ℕ, zero, suc, ◌≤◌, ◌+◌, ◌*◌, List, [], ◌∷◌, length, Bool, true, false, nat_lt, arith}
 use Rattle.std.specs.Prelude.{slice_get, ◌||◌, ◌&&◌, if◌then◌else◌}
-use Rattle.fip_base.specs.declared.plain.Param.{Param}
-use Rattle.fip_trees.specs.Tree.{Argument, Variable, Literal, Constructor, Arguments, NoArguments, MoreArguments, Expression, Give, Tuple, Operation, Call, Match, Nested, Block, Last, Let, Clauses, NoClauses, MoreClauses, Program}
-use Rattle.fip_rules.specs.World.{World}
-use Rattle.fip_rules.specs.Shapes.{binders, takes}
-use Rattle.credit_check.specs.Needs.{made, made_all, given, need, need_block}
+use Rattle.tail_groups.specs.fip_base.declared.plain.Param.{Param}
+use Rattle.tail_groups.specs.fip_trees.Tree.{Argument, Variable, Literal, Constructor, Arguments, NoArguments, MoreArguments, Expression, Give, Tuple, Operation, Call, Match, Nested, Block, Last, Let, Clauses, NoClauses, MoreClauses, Program}
+use Rattle.derivation_walk.specs.fip_rules.World.{World}
+use Rattle.derivation_walk.specs.fip_rules.Shapes.{binders, takes}
+use Rattle.derivation_walk.specs.credit_check.Needs.{made, made_all, given, need, need_block}
 use Rattle.tail_groups.specs.Registers.{in_argument, in_arguments, in_expression, in_block, in_clauses}
-use Rattle.derivation_trees.specs.declared.derivation.RuleName.{RuleName}
-use Rattle.derivation_trees.specs.declared.derivation.RuleName.TheVariants as R
-use Rattle.derivation_trees.specs.Trees.{Branch, Trees, NoTrees, MoreTrees}
-use Rattle.derivation_check.specs.Scopes.{Known, within, within_block}
+use Rattle.derivation_walk.specs.derivation_trees.declared.derivation.RuleName.{RuleName}
+use Rattle.derivation_walk.specs.derivation_trees.declared.derivation.RuleName.TheVariants as R
+use Rattle.derivation_walk.specs.derivation_trees.Trees.{Branch, Trees, NoTrees, MoreTrees}
+use Rattle.derivation_making.specs.derivation_check.Scopes.{Known, within, within_block}
 use Rattle.derivation_making.specs.Uses.{occurs_value, occurs_values, occurs, occurs_block}
 use Rattle.derivation_making.specs.Made.{those, all_those, numbers, counted, credits, same_from, weakened, node, made_value, made_values, rule_of, made_fields, made_passed, params_of, match_rule, clause_variables, made_expression, made_block, made_clauses}
 use Rattle.derivation_making.specs.Numbered.{Numbered, NumberedBlock, NumberedClauses}

@@ -1,21 +1,21 @@
 -- A function's parameters: a derivation's numbers, and those of the calculus.
 use Rattle.std.proofs.Common.{◌≡◌, ◌⊎◌, inl, inr, ℕ, zero, suc, ◌<◌, ◌≤◌, ◌+◌, refl, sym, ap, ◌∙◌, subst, List, [], ◌∷◌, ◌++◌, length, Option, Some, None, Bool, true, false, not, ◌||◌, ◌&&◌, arith}
 use Rattle.std.specs.Prelude.{◌==◌, if◌then◌else◌}
-use Rattle.fip_base.specs.declared.plain.Param.{Param}
-use Rattle.fip_trees.specs.declared.program.Binder.{Binder}
-use Rattle.fip_trees.specs.Tree.{Instance}
-use Rattle.fip_rules.specs.Marks.{Mark}
-use Rattle.fip_rules.specs.World.{World, is_fip}
-use Rattle.fip_rules.specs.Shapes.{Names, mark, within}
-use Rattle.fip_rules.specs.Shapes as S
-use Rattle.ownership_calculus.specs.Terms.{Item, Own, Credit, has, given}
-use Rattle.ownership_calculus.specs.Rules.{Fits, setting, Derivation, WEAKEN}
-use Rattle.ownership_calculus.specs.Functions as F
-use Rattle.ownership_agreement.specs.Bodies.{Scalars, borrowed_parameters, owned_parameters, entering_parameters, no_variables, term_block, body_term}
-use Rattle.derivation_trees.specs.Trees.{Tree}
-use Rattle.derivation_check.specs.Owned.{root}
-use Rattle.derivation_check.specs.Scopes.{Known, Scope, known, parameters, AreNumbered}
-use Rattle.derivation_check.specs.Accepted as A
+use Rattle.tail_groups.specs.fip_base.declared.plain.Param.{Param}
+use Rattle.tail_groups.specs.fip_trees.declared.program.Binder.{Binder}
+use Rattle.tail_groups.specs.fip_trees.Tree.{Instance}
+use Rattle.derivation_walk.specs.fip_rules.Marks.{Mark}
+use Rattle.derivation_walk.specs.fip_rules.World.{World, is_fip}
+use Rattle.derivation_walk.specs.fip_rules.Shapes.{Names, mark, within}
+use Rattle.derivation_walk.specs.fip_rules.Shapes as S
+use Rattle.derivation_making.specs.ownership_calculus.Terms.{Item, Own, Credit, has, given}
+use Rattle.derivation_making.specs.ownership_calculus.Rules.{Fits, setting, Derivation, WEAKEN}
+use Rattle.derivation_making.specs.ownership_calculus.Functions as F
+use Rattle.derivation_making.specs.ownership_agreement.Bodies.{Scalars, borrowed_parameters, owned_parameters, entering_parameters, no_variables, term_block, body_term}
+use Rattle.derivation_walk.specs.derivation_trees.Trees.{Tree}
+use Rattle.derivation_making.specs.derivation_check.Owned.{root}
+use Rattle.derivation_making.specs.derivation_check.Scopes.{Known, Scope, known, parameters, AreNumbered}
+use Rattle.derivation_making.specs.derivation_check.Accepted as A
 use Rattle.derivation_agreement.proofs.Sharing.{count_of, env, fits_same}
 use Rattle.derivation_agreement.proofs.Scoping.{Sees, seen_as, same_number, number_test, other_test, one_same, one_other, either, end_same, end_other, has_none, chosen, passed_over}
 

@@ -2,10 +2,10 @@
 use Rattle.std.proofs.Common.{◌≡◌, ℕ, zero, suc, ◌<◌, ◌≤◌, ◌+◌, ◌&&◌, ◌||◌, ◌⊎◌, inl, inr, refl, sym, ap, ap₂, subst, ◌∙◌, append_assoc, List, [], ◌∷◌, ◌++◌, length, get_or, Option, Some, None, Bool, true, false, not, nat_lt, arith}
 use Rattle.std.specs.Prelude.{◌==◌, if◌then◌else◌}
 use Rattle.std.proofs.lemmas.Bool.{lt-ltb, le-ltb, eq-eqb, ne_eqb, cases_eq, and_left, and_right}
-use Rattle.fip_trees.specs.Tree.{Program, Argument, Variable, Literal, Constructor, Arguments, NoArguments, MoreArguments, Expression, Give, Tuple, Operation, Call, Match, Nested, Block, Last, Let, Clauses, NoClauses, MoreClauses}
-use Rattle.fip_rules.specs.World.{World, lends}
-use Rattle.fip_rules.specs.Shapes.{takes}
-use Rattle.ownership_agreement.specs.Sized.{IsVariable, SizedExpression, SizedBlock, SizedClauses}
+use Rattle.tail_groups.specs.fip_trees.Tree.{Program, Argument, Variable, Literal, Constructor, Arguments, NoArguments, MoreArguments, Expression, Give, Tuple, Operation, Call, Match, Nested, Block, Last, Let, Clauses, NoClauses, MoreClauses}
+use Rattle.derivation_walk.specs.fip_rules.World.{World, lends}
+use Rattle.derivation_walk.specs.fip_rules.Shapes.{takes}
+use Rattle.derivation_making.specs.ownership_agreement.Sized.{IsVariable, SizedExpression, SizedBlock, SizedClauses}
 use Rattle.derivation_walk.specs.declared.found.Occurrence.{Occurrence}
 use Rattle.derivation_walk.specs.Tables.{empty_rows, add_at, is_taken_up, add_if, rows_from, row_at, has_within}
 use Rattle.derivation_making.specs.Uses.{names, occurs_value, occurs_values, occurs, occurs_block, occurs_clauses, uses_lent, uses_passed, uses, uses_block, uses_clauses}

@@ -1,22 +1,22 @@
 -- Instances, and programs.
 use Rattle.std.proofs.Common.{◌≡◌, ℕ, suc, ◌≤◌, ◌+◌, refl, sym, ap, ◌∙◌, subst, List, [], ◌∷◌, ◌++◌, length, Bool, true, false, arith}
-use Rattle.fip_trees.specs.declared.program.Binder.{Binder}
-use Rattle.fip_base.specs.declared.plain.Param.{Param}
-use Rattle.fip_trees.specs.Tree.{Instance, Program}
-use Rattle.fip_rules.specs.World.{World, world, is_fip, is_ruled}
-use Rattle.fip_rules.specs.Shapes.{Names, Bind, within, no_names}
-use Rattle.fip_rules.specs.Shapes as S
-use Rattle.ownership_calculus.specs.Rules.{Fits, setting, Derivation, WEAKEN}
-use Rattle.ownership_calculus.specs.Terms.{has}
-use Rattle.ownership_calculus.specs.Functions as F
-use Rattle.ownership_agreement.specs.Agreement.{IsDerived, AreDerived}
-use Rattle.ownership_agreement.specs.Bodies.{borrowed_parameters, owned_parameters, entering_parameters, no_variables}
-use Rattle.derivation_trees.specs.Trees.{Tree, Entry}
-use Rattle.derivation_check.specs.Owned.{root}
-use Rattle.derivation_check.specs.Scopes.{parameters}
-use Rattle.derivation_check.specs.Calculus.{Choice, DerivesBlock}
-use Rattle.derivation_check.specs.Accepted.{DerivesInstance, FirstEntry, header_scope}
-use Rattle.derivation_check.specs.Accepted as A
+use Rattle.tail_groups.specs.fip_trees.declared.program.Binder.{Binder}
+use Rattle.tail_groups.specs.fip_base.declared.plain.Param.{Param}
+use Rattle.tail_groups.specs.fip_trees.Tree.{Instance, Program}
+use Rattle.derivation_walk.specs.fip_rules.World.{World, world, is_fip, is_ruled}
+use Rattle.derivation_walk.specs.fip_rules.Shapes.{Names, Bind, within, no_names}
+use Rattle.derivation_walk.specs.fip_rules.Shapes as S
+use Rattle.derivation_making.specs.ownership_calculus.Rules.{Fits, setting, Derivation, WEAKEN}
+use Rattle.derivation_making.specs.ownership_calculus.Terms.{has}
+use Rattle.derivation_making.specs.ownership_calculus.Functions as F
+use Rattle.derivation_making.specs.ownership_agreement.Agreement.{IsDerived, AreDerived}
+use Rattle.derivation_making.specs.ownership_agreement.Bodies.{borrowed_parameters, owned_parameters, entering_parameters, no_variables}
+use Rattle.derivation_walk.specs.derivation_trees.Trees.{Tree, Entry}
+use Rattle.derivation_making.specs.derivation_check.Owned.{root}
+use Rattle.derivation_making.specs.derivation_check.Scopes.{parameters}
+use Rattle.derivation_making.specs.derivation_check.Calculus.{Choice, DerivesBlock}
+use Rattle.derivation_making.specs.derivation_check.Accepted.{DerivesInstance, FirstEntry, header_scope}
+use Rattle.derivation_making.specs.derivation_check.Accepted as A
 use Rattle.derivation_agreement.proofs.Sharing.{env, fits_same}
 use Rattle.derivation_agreement.proofs.Header.{sees_header, starts_env}
 use Rattle.derivation_agreement.proofs.Bodies.{block_derived}

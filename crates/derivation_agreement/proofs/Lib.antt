@@ -19,3 +19,5 @@ pub mod WalkValues
 pub mod Parts
 pub mod Agreeing
 pub mod WalkWhole
+pub use Rattle.derivation_making.proofs as derivation_making
+pub use Rattle.derivation_making.proofs.type_check as type_check

@@ -1,17 +1,17 @@
 -- How many binders stand in a part.
 use Rattle.std.proofs.Common.{◌≡◌, ℕ, suc, ◌+◌, refl, sym, ap, ◌∙◌, List, [], ◌∷◌, ◌++◌, length, Bool, true, false, not, arith}
 use Rattle.std.specs.Prelude.{if◌then◌else◌}
-use Rattle.fip_language.specs.declared.Place.{Place}
-use Rattle.fip_language.specs.declared.rule.Rule.TheVariants.{E55}
-use Rattle.fip_trees.specs.declared.program.Binder.{Binder}
-use Rattle.fip_trees.specs.Tree.{Name, Argument, Arguments, NoArguments, MoreArguments, Pattern, Expression, Give, Tuple, Operation, Call, Match, Nested, Block, Last, Let, Clauses, NoClauses, MoreClauses}
-use Rattle.fip_rules.specs.Marks.{Mark}
-use Rattle.fip_rules.specs.Shape as S
-use Rattle.fip_rules.specs.Rules.{next}
-use Rattle.fip_rules.specs.World.{World, lends, weaker}
-use Rattle.fip_rules.specs.Shapes.{Names, Bind, token, owning, owning_all, passing, passing_all, called, mark, binds, within, behind, taking, binders, takes, clause_shape, shape, shape_block, shape_clauses}
-use Rattle.fip_rules.proofs.Orders.{next_passing}
-use Rattle.derivation_check.specs.Scopes as P
+use Rattle.tail_groups.specs.fip_language.declared.Place.{Place}
+use Rattle.tail_groups.specs.fip_language.declared.rule.Rule.TheVariants.{E55}
+use Rattle.tail_groups.specs.fip_trees.declared.program.Binder.{Binder}
+use Rattle.tail_groups.specs.fip_trees.Tree.{Name, Argument, Arguments, NoArguments, MoreArguments, Pattern, Expression, Give, Tuple, Operation, Call, Match, Nested, Block, Last, Let, Clauses, NoClauses, MoreClauses}
+use Rattle.derivation_walk.specs.fip_rules.Marks.{Mark}
+use Rattle.derivation_walk.specs.fip_rules.Shape as S
+use Rattle.derivation_walk.specs.fip_rules.Rules.{next}
+use Rattle.derivation_walk.specs.fip_rules.World.{World, lends, weaker}
+use Rattle.derivation_walk.specs.fip_rules.Shapes.{Names, Bind, token, owning, owning_all, passing, passing_all, called, mark, binds, within, behind, taking, binders, takes, clause_shape, shape, shape_block, shape_clauses}
+use Rattle.derivation_walk.proofs.fip_rules.Orders.{next_passing}
+use Rattle.derivation_making.specs.derivation_check.Scopes as P
 
 owning_all_next : (n : ℕ) (w : World) (ms : List Mark) (as' : Arguments) → next n (owning_all ms as') ≡ n
 owning_all_next n w ms NoArguments = refl

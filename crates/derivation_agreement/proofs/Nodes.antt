@@ -3,22 +3,22 @@ use Rattle.std.proofs.Common.{◌≡◌, ℕ, zero, suc, ◌<◌, ◌≤◌, ◌
 use Rattle.std.specs.Prelude.{◌==◌, filter, if◌then◌else◌, Option, Some, None}
 use Rattle.std.proofs.lemmas.Bool.{eq-eqb, ne_eqb}
 use Rattle.std.proofs.lemmas.Bool.Decides.{nat_tests}
-use Rattle.fip_trees.specs.Sizes.{number}
-use Rattle.fip_trees.specs.declared.program.Binder.{Binder}
-use Rattle.fip_rules.specs.World.{World}
-use Rattle.derivation_trees.specs.declared.derivation.RuleName.{RuleName}
-use Rattle.derivation_trees.specs.declared.derivation.RuleName.TheVariants as R
-use Rattle.derivation_trees.specs.declared.derivation.Credit as D
-use Rattle.derivation_trees.specs.Trees.{Tree, Branch, Trees, NoTrees, MoreTrees}
-use Rattle.derivation_check.specs.Owned.{is_weaken, Under}
-use Rattle.derivation_check.specs.Scopes.{Known, named}
+use Rattle.tail_groups.specs.fip_trees.Sizes.{number}
+use Rattle.tail_groups.specs.fip_trees.declared.program.Binder.{Binder}
+use Rattle.derivation_walk.specs.fip_rules.World.{World}
+use Rattle.derivation_walk.specs.derivation_trees.declared.derivation.RuleName.{RuleName}
+use Rattle.derivation_walk.specs.derivation_trees.declared.derivation.RuleName.TheVariants as R
+use Rattle.derivation_walk.specs.derivation_trees.declared.derivation.Credit as D
+use Rattle.derivation_walk.specs.derivation_trees.Trees.{Tree, Branch, Trees, NoTrees, MoreTrees}
+use Rattle.derivation_making.specs.derivation_check.Owned.{is_weaken, Under}
+use Rattle.derivation_making.specs.derivation_check.Scopes.{Known, named}
 use Rattle.derivation_walk.specs.declared.found.Bound.{Bound}
 use Rattle.derivation_walk.specs.declared.tables.Uses.{Uses}
 use Rattle.derivation_making.specs.Made as M
 use Rattle.derivation_making.specs.Made.{those, all_those, numbers, unscalar, counted}
 use Rattle.derivation_walk.specs.Walked as W
 use Rattle.derivation_walk.specs.Walked.{Owned, credits_from}
-use Rattle.credit_check.proofs.Amounts.{Long}
+use Rattle.derivation_walk.proofs.credit_check.Amounts.{Long}
 use Rattle.derivation_agreement.proofs.Sited.{Sited, AllSited}
 
 -- ---- credits

@@ -3,27 +3,27 @@ use Rattle.std.proofs.Common.{◌≡◌, ℕ, zero, suc, ◌<◌, ◌≤◌, ◌
 use Rattle.std.proofs.lemmas.List.{length-append, append-nil}
 use Rattle.std.specs.Prelude.{◌==◌, if◌then◌else◌, filter, slice_get}
 use Rattle.std.proofs.lemmas.Bool.{eq-eqb, ne_eqb, cases_eq}
-use Rattle.fip_base.specs.declared.plain.Param.{Param}
-use Rattle.fip_trees.specs.Sizes.{number, no_sizes, minus}
-use Rattle.fip_trees.specs.declared.program.Binder.{Binder}
-use Rattle.fip_trees.specs.declared.needs.Need.{Need}
-use Rattle.fip_trees.specs.Tree.{Program, Argument, Variable, Literal, Constructor, Arguments, NoArguments, MoreArguments, Pattern, BinderPattern, LiteralPattern, ConstructorPattern, Patterns, NoPatterns, MorePatterns, Expression, Give, Tuple, Operation, Call, Match, Nested, Block, Last, Let, Clauses, NoClauses, MoreClauses}
-use Rattle.fip_rules.specs.World.{World}
-use Rattle.fip_rules.specs.Shapes.{binders, binders_all}
-use Rattle.credit_check.specs.Needs.{need, need_block, given, nodes}
-use Rattle.credit_check.specs.Tallies.{sizes, block_sizes, needs, parts_needs, clauses_needs, nodes_from}
-use Rattle.ownership_agreement.specs.Sized.{IsVariable}
-use Rattle.derivation_trees.specs.Trees.{Tree, Trees, NoTrees, MoreTrees}
-use Rattle.derivation_check.specs.Owned.{IsOwned, AreOwned}
-use Rattle.derivation_check.specs.Scopes.{Known, Scope, named}
-use Rattle.derivation_check.specs.Calculus.{Choice, FirstOf, Plain, Lends, DerivesValue, DerivesPassed}
+use Rattle.tail_groups.specs.fip_base.declared.plain.Param.{Param}
+use Rattle.tail_groups.specs.fip_trees.Sizes.{number, no_sizes, minus}
+use Rattle.tail_groups.specs.fip_trees.declared.program.Binder.{Binder}
+use Rattle.tail_groups.specs.fip_trees.declared.needs.Need.{Need}
+use Rattle.tail_groups.specs.fip_trees.Tree.{Program, Argument, Variable, Literal, Constructor, Arguments, NoArguments, MoreArguments, Pattern, BinderPattern, LiteralPattern, ConstructorPattern, Patterns, NoPatterns, MorePatterns, Expression, Give, Tuple, Operation, Call, Match, Nested, Block, Last, Let, Clauses, NoClauses, MoreClauses}
+use Rattle.derivation_walk.specs.fip_rules.World.{World}
+use Rattle.derivation_walk.specs.fip_rules.Shapes.{binders, binders_all}
+use Rattle.derivation_walk.specs.credit_check.Needs.{need, need_block, given, nodes}
+use Rattle.derivation_walk.specs.credit_check.Tallies.{sizes, block_sizes, needs, parts_needs, clauses_needs, nodes_from}
+use Rattle.derivation_making.specs.ownership_agreement.Sized.{IsVariable}
+use Rattle.derivation_walk.specs.derivation_trees.Trees.{Tree, Trees, NoTrees, MoreTrees}
+use Rattle.derivation_making.specs.derivation_check.Owned.{IsOwned, AreOwned}
+use Rattle.derivation_making.specs.derivation_check.Scopes.{Known, Scope, named}
+use Rattle.derivation_making.specs.derivation_check.Calculus.{Choice, FirstOf, Plain, Lends, DerivesValue, DerivesPassed}
 use Rattle.derivation_walk.specs.declared.found.Bound.{Bound}
 use Rattle.derivation_walk.specs.declared.tables.Uses.{Uses}
 use Rattle.derivation_walk.specs.Lookups.{number_at, variable_at, bound_by, is_bound_by}
 use Rattle.derivation_making.specs.Uses.{names, occurs_value}
 use Rattle.derivation_making.specs.Made.{those, numbers, unscalar, added, remaining, clause_variables, made_value, made_passed}
 use Rattle.derivation_walk.specs.Walked.{Guided, Owned, Asked, asked, asked_of, value, passed, bound, bound_all, bound_pattern, bound_patterns, binder_of, is_scrutinee, clause_owned, size, size_parts, size_clauses}
-use Rattle.credit_check.proofs.Amounts.{Long, nodes_long, nodes_at}
+use Rattle.derivation_walk.proofs.credit_check.Amounts.{Long, nodes_long, nodes_at}
 use Rattle.derivation_agreement.proofs.Sited.{Piece, piece_get, Sited, AllSited}
 use Rattle.derivation_agreement.proofs.Nodes.{Counts, numbers_append, filter_is}
 use Rattle.derivation_agreement.proofs.WalkValues.{guide, value_is}

@@ -2,8 +2,8 @@
 use Rattle.std.proofs.Common.{◌≡◌, ℕ, zero, suc, ◌<◌, ◌≤◌, ◌+◌, ◌⊎◌, inl, inr, refl, sym, ap, ap₂, ◌∙◌, List, [], ◌∷◌, ◌++◌, nat_lt, Bool, true, false, arith}
 use Rattle.std.specs.Prelude.{◌==◌, if◌then◌else◌}
 use Rattle.std.proofs.lemmas.Bool.{eq-eqb, ne_eqb, ltb-true, ltb-false, cases_order}
-use Rattle.ownership_calculus.specs.Terms.{one, given}
-use Rattle.derivation_check.specs.Owned.{Rising}
+use Rattle.derivation_making.specs.ownership_calculus.Terms.{one, given}
+use Rattle.derivation_making.specs.derivation_check.Owned.{Rising}
 use Rattle.derivation_walk.specs.Walked.{insert, sorted}
 
 -- all from m on, rising

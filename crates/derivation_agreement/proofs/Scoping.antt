@@ -2,20 +2,20 @@
 use Rattle.std.proofs.Common.{◌≡◌, ◌⊎◌, inl, inr, ℕ, zero, suc, ◌<◌, ◌≤◌, ◌+◌, ◌-◌, refl, sym, ap, ◌∙◌, subst, List, [], ◌∷◌, ◌++◌, length, Option, Some, None, Bool, true, false, not, ◌||◌, ◌&&◌, arith, nat_eq, nat_lt}
 use Rattle.std.specs.Prelude.{◌==◌, if◌then◌else◌}
 use Rattle.std.proofs.lemmas.Bool.Decides.{nat_tests}
-use Rattle.fip_trees.specs.declared.program.Binder.{Binder}
-use Rattle.fip_rules.specs.Marks.{Mark}
-use Rattle.fip_rules.specs.World.{World}
-use Rattle.fip_rules.specs.Shapes.{Names, mark, or_later}
-use Rattle.fip_rules.specs.Shapes as S
-use Rattle.ownership_calculus.specs.Terms.{Item, Own, Credit, has, given, one}
-use Rattle.ownership_calculus.specs.Rules.{Fits, worth, Extends, setting}
-use Rattle.ownership_calculus.specs.Rules as C
-use Rattle.ownership_agreement.specs.Bodies.{Scalars, variables, entering, inside}
-use Rattle.derivation_trees.specs.declared.derivation.Credit as D
-use Rattle.derivation_trees.specs.Trees.{Tree, Missing, Branch}
-use Rattle.derivation_check.specs.Owned.{owned, root, Rising, IsOwned}
-use Rattle.derivation_check.specs.Scopes.{Known, Scope, known, named, binding, lending, AreNumbered}
-use Rattle.derivation_check.specs.Calculus.{numbers, own_variables}
+use Rattle.tail_groups.specs.fip_trees.declared.program.Binder.{Binder}
+use Rattle.derivation_walk.specs.fip_rules.Marks.{Mark}
+use Rattle.derivation_walk.specs.fip_rules.World.{World}
+use Rattle.derivation_walk.specs.fip_rules.Shapes.{Names, mark, or_later}
+use Rattle.derivation_walk.specs.fip_rules.Shapes as S
+use Rattle.derivation_making.specs.ownership_calculus.Terms.{Item, Own, Credit, has, given, one}
+use Rattle.derivation_making.specs.ownership_calculus.Rules.{Fits, worth, Extends, setting}
+use Rattle.derivation_making.specs.ownership_calculus.Rules as C
+use Rattle.derivation_making.specs.ownership_agreement.Bodies.{Scalars, variables, entering, inside}
+use Rattle.derivation_walk.specs.derivation_trees.declared.derivation.Credit as D
+use Rattle.derivation_walk.specs.derivation_trees.Trees.{Tree, Missing, Branch}
+use Rattle.derivation_making.specs.derivation_check.Owned.{owned, root, Rising, IsOwned}
+use Rattle.derivation_making.specs.derivation_check.Scopes.{Known, Scope, known, named, binding, lending, AreNumbered}
+use Rattle.derivation_making.specs.derivation_check.Calculus.{numbers, own_variables}
 use Rattle.derivation_agreement.proofs.Sharing.{count_of, env, fits_same}
 
 -- ---- numbers

@@ -1,12 +1,12 @@
 -- What a derivation's node has, by the numbers that the calculus knows its variables by.
 use Rattle.std.proofs.Common.{◌≡◌, ◌⊎◌, inl, inr, ℕ, zero, suc, ◌≤◌, ◌+◌, refl, sym, ap, ◌∙◌, List, [], ◌∷◌, Option, Some, None, Bool, true, false, arith}
-use Rattle.ownership_calculus.specs.Terms.{Item, Own, Credit, paid, charge}
-use Rattle.ownership_calculus.specs.Rules.{Fits}
-use Rattle.derivation_trees.specs.declared.derivation.RuleName.{RuleName}
-use Rattle.derivation_trees.specs.declared.derivation.Credit as D
-use Rattle.derivation_trees.specs.Trees.{Tree, Missing, Branch, Trees, NoTrees, MoreTrees}
-use Rattle.derivation_check.specs.Owned.{owned, root, Under}
-use Rattle.derivation_check.specs.Scopes.{Known, known}
+use Rattle.derivation_making.specs.ownership_calculus.Terms.{Item, Own, Credit, paid, charge}
+use Rattle.derivation_making.specs.ownership_calculus.Rules.{Fits}
+use Rattle.derivation_walk.specs.derivation_trees.declared.derivation.RuleName.{RuleName}
+use Rattle.derivation_walk.specs.derivation_trees.declared.derivation.Credit as D
+use Rattle.derivation_walk.specs.derivation_trees.Trees.{Tree, Missing, Branch, Trees, NoTrees, MoreTrees}
+use Rattle.derivation_making.specs.derivation_check.Owned.{owned, root, Under}
+use Rattle.derivation_making.specs.derivation_check.Scopes.{Known, known}
 
 abbrev pub count_of : (Item → ℕ) → Option Known → ℕ
 count_of O None = 0

@@ -3,12 +3,12 @@ use Rattle.std.proofs.Common.{◌≡◌, ℕ, zero, suc, ◌<◌, ◌≤◌, ◌
 use Rattle.std.proofs.lemmas.List.{length-append}
 use Rattle.std.specs.Prelude.{◌==◌, if◌then◌else◌}
 use Rattle.std.proofs.lemmas.Bool.{eqb-true}
-use Rattle.fip_base.specs.declared.plain.Param.{Param}
-use Rattle.fip_trees.specs.declared.program.Binder.{Binder}
-use Rattle.fip_trees.specs.Tree.{Program, Expression, Give, Tuple, Operation, Call, Match, Nested, Block, Last, Let, Clauses, NoClauses, MoreClauses, Instance}
-use Rattle.fip_rules.specs.World.{World}
-use Rattle.fip_rules.specs.Shapes.{binders}
-use Rattle.derivation_check.specs.Scopes.{Known, known, named, parameters, AreNumbered, within, within_block, within_clauses}
+use Rattle.tail_groups.specs.fip_base.declared.plain.Param.{Param}
+use Rattle.tail_groups.specs.fip_trees.declared.program.Binder.{Binder}
+use Rattle.tail_groups.specs.fip_trees.Tree.{Program, Expression, Give, Tuple, Operation, Call, Match, Nested, Block, Last, Let, Clauses, NoClauses, MoreClauses, Instance}
+use Rattle.derivation_walk.specs.fip_rules.World.{World}
+use Rattle.derivation_walk.specs.fip_rules.Shapes.{binders}
+use Rattle.derivation_making.specs.derivation_check.Scopes.{Known, known, named, parameters, AreNumbered, within, within_block, within_clauses}
 use Rattle.derivation_walk.specs.declared.found.Bound.{Bound}
 use Rattle.derivation_walk.specs.declared.tables.Uses.{Uses}
 use Rattle.derivation_walk.specs.Tables.{zeros, numbers_from, numbers_of}

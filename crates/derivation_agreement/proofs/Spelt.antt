@@ -3,20 +3,20 @@
 -- stand in an expression don't lead beyond; and what a node has are variables in scope, each once, and credits by size.
 use Rattle.std.proofs.Common.{◌≡◌, inl, inr, ℕ, zero, suc, ◌≤◌, ◌+◌, sym, subst, List, [], ◌∷◌, length, Bool, true, false, Option, Some, None, arith}
 use Rattle.std.specs.Prelude.{slice_get}
-use Rattle.fip_base.specs.declared.plain.Param.{Param}
-use Rattle.fip_trees.specs.declared.program.Binder.{Binder}
-use Rattle.fip_trees.specs.Tree.{Argument, Variable, Literal, Constructor, Arguments, NoArguments, MoreArguments, count, Pattern, Expression, Give, Tuple, Operation, Call, Match, Nested, Block, Last, Let, Clauses, NoClauses, MoreClauses, Instance, Program}
-use Rattle.fip_rules.specs.World.{World, world, is_fip, is_ruled}
-use Rattle.fip_rules.specs.Shapes.{binders, takes}
-use Rattle.ownership_calculus.specs.Terms.{Item}
-use Rattle.derivation_trees.specs.declared.derivation.RuleName.{RuleName}
-use Rattle.derivation_trees.specs.declared.derivation.RuleName.TheVariants as R
-use Rattle.derivation_trees.specs.declared.derivation.Credit as D
-use Rattle.derivation_trees.specs.Trees.{Tree, Missing, Branch, Trees, NoTrees, MoreTrees, Entry}
-use Rattle.derivation_check.specs.Owned.{owned, Rising, RisingSizes, IsOwned, AreOwned, Under, Leaf}
-use Rattle.derivation_check.specs.Scopes.{Known, Scope, meant, binding, AreNumbered, within, within_block, within_clauses}
-use Rattle.derivation_check.specs.Calculus.{Choice, UsesVariable, Builds, DerivesValue, DerivesValues, DerivesPassed, FirstOf, Calls, IsClause, is_taken, Matches, Scrutinised, Derives, DerivesBlock, DerivesClauses}
-use Rattle.derivation_check.specs.Accepted.{DerivesInstance, FirstEntry, AreDerived, header_scope}
+use Rattle.tail_groups.specs.fip_base.declared.plain.Param.{Param}
+use Rattle.tail_groups.specs.fip_trees.declared.program.Binder.{Binder}
+use Rattle.tail_groups.specs.fip_trees.Tree.{Argument, Variable, Literal, Constructor, Arguments, NoArguments, MoreArguments, count, Pattern, Expression, Give, Tuple, Operation, Call, Match, Nested, Block, Last, Let, Clauses, NoClauses, MoreClauses, Instance, Program}
+use Rattle.derivation_walk.specs.fip_rules.World.{World, world, is_fip, is_ruled}
+use Rattle.derivation_walk.specs.fip_rules.Shapes.{binders, takes}
+use Rattle.derivation_making.specs.ownership_calculus.Terms.{Item}
+use Rattle.derivation_walk.specs.derivation_trees.declared.derivation.RuleName.{RuleName}
+use Rattle.derivation_walk.specs.derivation_trees.declared.derivation.RuleName.TheVariants as R
+use Rattle.derivation_walk.specs.derivation_trees.declared.derivation.Credit as D
+use Rattle.derivation_walk.specs.derivation_trees.Trees.{Tree, Missing, Branch, Trees, NoTrees, MoreTrees, Entry}
+use Rattle.derivation_making.specs.derivation_check.Owned.{owned, Rising, RisingSizes, IsOwned, AreOwned, Under, Leaf}
+use Rattle.derivation_making.specs.derivation_check.Scopes.{Known, Scope, meant, binding, AreNumbered, within, within_block, within_clauses}
+use Rattle.derivation_making.specs.derivation_check.Calculus.{Choice, UsesVariable, Builds, DerivesValue, DerivesValues, DerivesPassed, FirstOf, Calls, IsClause, is_taken, Matches, Scrutinised, Derives, DerivesBlock, DerivesClauses}
+use Rattle.derivation_making.specs.derivation_check.Accepted.{DerivesInstance, FirstEntry, AreDerived, header_scope}
 use Rattle.derivation_text.specs.ProofText.{AreVariables, AreCredits, IsNode, AreNodes, AreEntries}
 use Rattle.derivation_agreement.specs.Within.{AreFew, IsShallow, AreShallow, AreWithin}
 

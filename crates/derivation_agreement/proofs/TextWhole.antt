@@ -1,16 +1,16 @@
 -- The laws.
 use Rattle.std.proofs.Common.{◌≡◌, ℕ, suc, ◌≤◌, ◌+◌, refl, List, [], ◌∷◌, length, Some, Bool, true, false, arith}
 use Rattle.std.specs.Prelude.{slice_get, if◌then◌else◌}
-use Rattle.fip_trees.specs.Tree.{Instance, Program}
-use Rattle.fip_rules.specs.World.{world, is_ruled}
-use Rattle.credit_check.specs.Needs.{marked}
-use Rattle.type_check.specs.Typing.{IsFilled}
-use Rattle.ownership_agreement.specs.Agreement.{AreSized, IsAccepted}
+use Rattle.tail_groups.specs.fip_trees.Tree.{Instance, Program}
+use Rattle.derivation_walk.specs.fip_rules.World.{world, is_ruled}
+use Rattle.derivation_walk.specs.credit_check.Needs.{marked}
+use Rattle.derivation_making.specs.type_check.Typing.{IsFilled}
+use Rattle.derivation_making.specs.ownership_agreement.Agreement.{AreSized, IsAccepted}
 use Rattle.tail_groups.specs.Registers.{registers}
-use Rattle.derivation_trees.specs.Trees.{Entry}
-use Rattle.derivation_check.specs.Scopes.{parameters}
-use Rattle.derivation_check.specs.Calculus.{Choice}
-use Rattle.derivation_check.specs.Accepted.{DerivesInstance, FirstEntry, AreDerived, IsDerivation, header_scope}
+use Rattle.derivation_walk.specs.derivation_trees.Trees.{Entry}
+use Rattle.derivation_making.specs.derivation_check.Scopes.{parameters}
+use Rattle.derivation_making.specs.derivation_check.Calculus.{Choice}
+use Rattle.derivation_making.specs.derivation_check.Accepted.{DerivesInstance, FirstEntry, AreDerived, IsDerivation, header_scope}
 use Rattle.derivation_text.specs.ProofText.{lines_text, IsProofText}
 use Rattle.derivation_making.specs.Made.{owned_ones, made_instance, made_entries}
 use Rattle.derivation_making.specs.Numbered.{IsNumbered, AllNumbered}

@@ -2,24 +2,24 @@
 use Rattle.std.proofs.Common.{◌≡◌, ℕ, zero, suc, ◌<◌, ◌≤◌, ◌+◌, refl, sym, ap, ap₂, subst, ◌∙◌, inl, inr, append_assoc, List, [], ◌∷◌, ◌++◌, Option, Some, None, Bool, true, false, not, ◌&&◌, ◌||◌, arith}
 use Rattle.std.proofs.lemmas.List.{append-nil}
 use Rattle.std.specs.Prelude.{◌==◌, if◌then◌else◌, slice_get}
-use Rattle.fip_base.specs.declared.plain.Param.{Param}
-use Rattle.fip_language.specs.declared.FunKind.{FunKind}
-use Rattle.fip_trees.specs.Sizes.{no_sizes}
-use Rattle.fip_trees.specs.declared.program.Binder.{Binder}
-use Rattle.fip_trees.specs.declared.needs.Need.{Need}
-use Rattle.fip_trees.specs.Tree.{Argument, Variable, Literal, Constructor, Arguments, NoArguments, MoreArguments, count, Pattern, BinderPattern, LiteralPattern, ConstructorPattern, Patterns, NoPatterns, MorePatterns, Instance}
-use Rattle.fip_rules.specs.World.{World, is_fip}
-use Rattle.fip_rules.specs.Shapes.{binders, binders_all}
-use Rattle.credit_check.specs.Needs.{made, made_all}
-use Rattle.credit_check.specs.Tallies.{made_from}
-use Rattle.ownership_calculus.specs.Terms.{Item, Own, given, one, paid}
-use Rattle.derivation_trees.specs.declared.derivation.RuleName.{RuleName}
-use Rattle.derivation_trees.specs.declared.derivation.RuleName.TheVariants as R
-use Rattle.derivation_trees.specs.declared.derivation.Credit as D
-use Rattle.derivation_trees.specs.Trees.{Tree, Branch, Trees, NoTrees, MoreTrees}
-use Rattle.derivation_check.specs.Owned.{owned, root, roots, Rising, IsOwned, AreOwned, is_weaken, Under, Leaf, Splits}
-use Rattle.derivation_check.specs.Scopes.{Known, Scope, known, meant, named}
-use Rattle.derivation_check.specs.Calculus.{Choice, UsesVariable, DerivesValue, DerivesValues, DerivesPassed, FirstOf}
+use Rattle.tail_groups.specs.fip_base.declared.plain.Param.{Param}
+use Rattle.tail_groups.specs.fip_language.declared.FunKind.{FunKind}
+use Rattle.tail_groups.specs.fip_trees.Sizes.{no_sizes}
+use Rattle.tail_groups.specs.fip_trees.declared.program.Binder.{Binder}
+use Rattle.tail_groups.specs.fip_trees.declared.needs.Need.{Need}
+use Rattle.tail_groups.specs.fip_trees.Tree.{Argument, Variable, Literal, Constructor, Arguments, NoArguments, MoreArguments, count, Pattern, BinderPattern, LiteralPattern, ConstructorPattern, Patterns, NoPatterns, MorePatterns, Instance}
+use Rattle.derivation_walk.specs.fip_rules.World.{World, is_fip}
+use Rattle.derivation_walk.specs.fip_rules.Shapes.{binders, binders_all}
+use Rattle.derivation_walk.specs.credit_check.Needs.{made, made_all}
+use Rattle.derivation_walk.specs.credit_check.Tallies.{made_from}
+use Rattle.derivation_making.specs.ownership_calculus.Terms.{Item, Own, given, one, paid}
+use Rattle.derivation_walk.specs.derivation_trees.declared.derivation.RuleName.{RuleName}
+use Rattle.derivation_walk.specs.derivation_trees.declared.derivation.RuleName.TheVariants as R
+use Rattle.derivation_walk.specs.derivation_trees.declared.derivation.Credit as D
+use Rattle.derivation_walk.specs.derivation_trees.Trees.{Tree, Branch, Trees, NoTrees, MoreTrees}
+use Rattle.derivation_making.specs.derivation_check.Owned.{owned, root, roots, Rising, IsOwned, AreOwned, is_weaken, Under, Leaf, Splits}
+use Rattle.derivation_making.specs.derivation_check.Scopes.{Known, Scope, known, meant, named}
+use Rattle.derivation_making.specs.derivation_check.Calculus.{Choice, UsesVariable, DerivesValue, DerivesValues, DerivesPassed, FirstOf}
 use Rattle.derivation_walk.specs.declared.found.Bound.{Bound}
 use Rattle.derivation_walk.specs.declared.tables.Uses.{Uses}
 use Rattle.derivation_walk.specs.Lookups.{number_at, variable_at, is_scalar_at, scalar_of}
@@ -28,7 +28,7 @@ use Rattle.derivation_making.specs.Made as M
 use Rattle.derivation_making.specs.Made.{those, numbers, unscalar, rule_of_variable, constructor_rule, rule_of, made_value, made_values, made_fields, made_passed}
 use Rattle.derivation_walk.specs.Walked as W
 use Rattle.derivation_walk.specs.Walked.{Guided, owning_variable, owning, owning_all, sorted, value, values, fields, passed, bound, bound_all, bound_pattern, bound_patterns}
-use Rattle.credit_check.proofs.Amounts.{Long, none_long, none_at, made_long, made_at, from_none}
+use Rattle.derivation_walk.proofs.credit_check.Amounts.{Long, none_long, none_at, made_long, made_at, from_none}
 use Rattle.derivation_agreement.proofs.Sited.{Sited, AllSited, sited_known}
 use Rattle.derivation_agreement.proofs.Ranks.{sorted_as}
 use Rattle.derivation_agreement.proofs.Nodes.{Counts, credits_is, numbers_append}

@@ -2,22 +2,22 @@
 use Rattle.std.proofs.Common.{◌≡◌, ℕ, zero, suc, ◌<◌, ◌≤◌, ◌+◌, ◌⊎◌, inl, inr, refl, sym, ap, ap₂, subst, ◌∙◌, List, [], ◌∷◌, ◌++◌, length, Option, Some, None, Bool, true, false, not, ◌||◌, arith}
 use Rattle.std.proofs.lemmas.List.{append-nil}
 use Rattle.std.specs.Prelude.{if◌then◌else◌, slice_get}
-use Rattle.fip_base.specs.declared.plain.Param.{Param}
-use Rattle.fip_language.specs.declared.FunKind.{FunKind}
-use Rattle.fip_language.specs.declared.FunKind.TheVariants.{Fip, Fbip, Fun}
-use Rattle.fip_trees.specs.Sizes.{no_sizes}
-use Rattle.fip_trees.specs.declared.needs.Need.{Need}
-use Rattle.fip_trees.specs.NeedsView.{needs_of}
-use Rattle.fip_trees.specs.Tree.{Instance, Program}
-use Rattle.fip_rules.specs.World.{World, world, is_ruled}
-use Rattle.credit_check.specs.Needs.{marked, need_block}
-use Rattle.credit_check.specs.Tallies.{marked_from, block_sizes, block_needs, parts_needs, instance_needs, all_needs}
-use Rattle.ownership_agreement.specs.Sized.{IsSized, SizedBlock}
-use Rattle.ownership_agreement.specs.Agreement.{AreSized}
-use Rattle.derivation_trees.specs.Trees.{Tree, Entry}
-use Rattle.derivation_check.specs.Scopes.{Known, Scope, parameters, within_block}
-use Rattle.derivation_check.specs.Calculus.{Choice, DerivesBlock}
-use Rattle.derivation_check.specs.Accepted.{header_scope, DerivesInstance, FirstEntry, AreDerived, IsDerivation}
+use Rattle.tail_groups.specs.fip_base.declared.plain.Param.{Param}
+use Rattle.tail_groups.specs.fip_language.declared.FunKind.{FunKind}
+use Rattle.tail_groups.specs.fip_language.declared.FunKind.TheVariants.{Fip, Fbip, Fun}
+use Rattle.tail_groups.specs.fip_trees.Sizes.{no_sizes}
+use Rattle.tail_groups.specs.fip_trees.declared.needs.Need.{Need}
+use Rattle.tail_groups.specs.fip_trees.NeedsView.{needs_of}
+use Rattle.tail_groups.specs.fip_trees.Tree.{Instance, Program}
+use Rattle.derivation_walk.specs.fip_rules.World.{World, world, is_ruled}
+use Rattle.derivation_walk.specs.credit_check.Needs.{marked, need_block}
+use Rattle.derivation_walk.specs.credit_check.Tallies.{marked_from, block_sizes, block_needs, parts_needs, instance_needs, all_needs}
+use Rattle.derivation_making.specs.ownership_agreement.Sized.{IsSized, SizedBlock}
+use Rattle.derivation_making.specs.ownership_agreement.Agreement.{AreSized}
+use Rattle.derivation_walk.specs.derivation_trees.Trees.{Tree, Entry}
+use Rattle.derivation_making.specs.derivation_check.Scopes.{Known, Scope, parameters, within_block}
+use Rattle.derivation_making.specs.derivation_check.Calculus.{Choice, DerivesBlock}
+use Rattle.derivation_making.specs.derivation_check.Accepted.{header_scope, DerivesInstance, FirstEntry, AreDerived, IsDerivation}
 use Rattle.derivation_walk.specs.declared.found.Bound.{Bound}
 use Rattle.derivation_walk.specs.declared.tables.Uses.{Uses}
 use Rattle.derivation_walk.specs.Tables.{rows, rows_from, empty_rows, numbers_of}
@@ -28,7 +28,7 @@ use Rattle.derivation_making.specs.Numbered.{IsNumbered, AllNumbered}
 use Rattle.derivation_walk.specs.Walked.{Guided, Asked, asked, size_parts, owned_parameters, walked_parts, walked_instance}
 use Rattle.derivation_walk.specs.Guides.{IsWalked}
 use Rattle.derivation_walk.specs.Walks.{If, First, AreWalked}
-use Rattle.credit_check.proofs.Amounts.{none_long, marked_long, marked_at, sizes_long, sizes_at}
+use Rattle.derivation_walk.proofs.credit_check.Amounts.{none_long, marked_long, marked_at, sizes_long, sizes_at}
 use Rattle.derivation_agreement.proofs.Seeing.{slots_parts, marks_parts, parameter_slots, instance_variables, instance_occurrences}
 use Rattle.derivation_agreement.proofs.Hitting.{Part, Between, between_wider, parts_between}
 use Rattle.derivation_agreement.proofs.Sited.{Piece, piece_first, piece_second, piece_get, Ranged, Distinct, Sited, AllSited, IsTable, ranged_append, ranged_wider, distinct_append, parts_ranged, parts_distinct, parts_length, parameters_sited, parameters_ranged, parameters_distinct, parameters_length}

@@ -2,9 +2,9 @@
 -- each fip or fbip one has at most 4,096 registers (E60). Each let and each pattern has a register, so nodes nest at
 -- most about twice as deep. So it is with each program of an accepted source.
 use Rattle.std.specs.Prelude.{◌≡◌, ◌≤◌, ℕ, true, length, Some, slice_get}
-use Rattle.fip_language.specs.declared.limits.TheConstants.{MOST_INSTANCES, MOST_REGISTERS}
-use Rattle.fip_trees.specs.Tree.{Instance, Program}
-use Rattle.fip_rules.specs.World.{is_ruled}
+use Rattle.tail_groups.specs.fip_language.declared.limits.TheConstants.{MOST_INSTANCES, MOST_REGISTERS}
+use Rattle.tail_groups.specs.fip_trees.Tree.{Instance, Program}
+use Rattle.derivation_walk.specs.fip_rules.World.{is_ruled}
 use Rattle.tail_groups.specs.Registers.{registers}
 
 pub record KeepsLimits (p : Program) : Type 0 where

@@ -2,11 +2,11 @@
 // keeps the limits.
 
 ghost use Rattle.std.specs.Prelude.{List};
-ghost use Rattle.fip_trees.specs.Tree.{Program};
-ghost use Rattle.type_check.specs.Typing.{IsFilled};
-ghost use Rattle.ownership_agreement.specs.Agreement.{AreSized, IsAccepted};
-ghost use Rattle.derivation_trees.specs.Trees.{Entry};
-ghost use Rattle.derivation_check.specs.Accepted.{IsDerivation};
+ghost use Rattle.tail_groups.specs.fip_trees.Tree.{Program};
+ghost use Rattle.derivation_making.specs.type_check.Typing.{IsFilled};
+ghost use Rattle.derivation_making.specs.ownership_agreement.Agreement.{AreSized, IsAccepted};
+ghost use Rattle.derivation_walk.specs.derivation_trees.Trees.{Entry};
+ghost use Rattle.derivation_making.specs.derivation_check.Accepted.{IsDerivation};
 ghost use Rattle.derivation_text.specs.ProofText.{lines_text, IsProofText};
 ghost use Rattle.derivation_making.specs.Made.{made_entries};
 ghost use Rattle.derivation_making.specs.Numbered.{AllNumbered};

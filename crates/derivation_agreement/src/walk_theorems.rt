@@ -1,12 +1,12 @@
 // The derivation that is made in one walk is the one that is defined.
 
 ghost use Rattle.std.specs.Prelude.{◌≡◌, List};
-ghost use Rattle.fip_trees.specs.declared.needs.Need.{Need};
-ghost use Rattle.fip_trees.specs.Tree.{Program};
-ghost use Rattle.credit_check.specs.Tallies.{all_needs};
-ghost use Rattle.ownership_agreement.specs.Agreement.{AreSized};
-ghost use Rattle.derivation_trees.specs.Trees.{Entry};
-ghost use Rattle.derivation_check.specs.Accepted.{IsDerivation};
+ghost use Rattle.tail_groups.specs.fip_trees.declared.needs.Need.{Need};
+ghost use Rattle.tail_groups.specs.fip_trees.Tree.{Program};
+ghost use Rattle.derivation_walk.specs.credit_check.Tallies.{all_needs};
+ghost use Rattle.derivation_making.specs.ownership_agreement.Agreement.{AreSized};
+ghost use Rattle.derivation_walk.specs.derivation_trees.Trees.{Entry};
+ghost use Rattle.derivation_making.specs.derivation_check.Accepted.{IsDerivation};
 ghost use Rattle.derivation_making.specs.Made.{made_entries};
 ghost use Rattle.derivation_making.specs.Numbered.{AllNumbered};
 ghost use Rattle.derivation_walk.specs.Walks.{AreWalked};

@@ -1,7 +1,7 @@
 -- Blocks and clauses, one part after another.
 use Rattle.std.proofs.Common.{◌≡◌, ℕ, zero, suc, ◌<◌, ◌≤◌, ◌+◌, ◌-◌, refl, sym, ap, ◌∙◌, subst, List, [], ◌∷◌, ◌++◌, length, get_or, take, drop, map, Option, Some, None, Bool, true, false, Box, Vec, Global, arith}
 use Rattle.std.specs.Prelude.{slice_get, IsSomeAnd, IfSome, IfNone}
-use Rattle.fip_language.specs.declared.Place.{Place}
+use Rattle.fip_trees.specs.fip_language.declared.Place.{Place}
 use Rattle.fip_base.specs.declared.core_form.MatchKind.{MatchKind}
 use Rattle.fip_trees.specs.declared.program.Binder.{Binder}
 use Rattle.fip_trees.specs.declared.program.Binding as N

@@ -2,7 +2,7 @@
 use Rattle.std.proofs.Common.{◌≡◌, ℕ, zero, suc, ◌<◌, ◌≤◌, ◌+◌, ◌⊎◌, inl, inr, refl, sym, ap, ◌∙◌, List, [], ◌∷◌, length, set, get_or, Option, Some, None, Bool, true, false, arith}
 use Rattle.std.proofs.lemmas.List.{get_or-set_same}
 use Rattle.std.specs.Prelude.{slice_get}
-use Rattle.fip_language.specs.Table.{Table, shapes, is_scalar, all_bare}
+use Rattle.fip_trees.specs.fip_language.Table.{Table, shapes, is_scalar, all_bare}
 
 none_there : (tb : Table) (t : ℕ) → length tb ≤ t → shapes tb t ≡ []
 none_there [] t h = refl

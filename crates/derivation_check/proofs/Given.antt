@@ -1,6 +1,6 @@
 -- The credits that a pattern gives, at each of its forms.
 use Rattle.std.proofs.Common.{◌≡◌, ℕ, ◌≤◌, ◌+◌, refl, sym, ap, ◌∙◌, List, length, Vec, Global, arith}
-use Rattle.fip_language.specs.declared.Place.{Place}
+use Rattle.fip_trees.specs.fip_language.declared.Place.{Place}
 use Rattle.fip_trees.specs.Sizes.{number}
 use Rattle.fip_trees.specs.Tree.{Name, count_patterns}
 use Rattle.fip_trees.specs.TreeView.{pattern, patterns}

@@ -2,7 +2,7 @@
 use Rattle.std.proofs.Common.{◌≡◌, ℕ, zero, suc, ◌<◌, ◌≤◌, ◌+◌, ◌-◌, refl, sym, ap, ◌∙◌, subst, List, [], ◌∷◌, ◌++◌, length, get_or, take, drop, map, Option, Some, None, Bool, true, false, Bor, arith}
 use Rattle.fip_trees.specs.declared.program.Binder.{Binder}
 use Rattle.fip_trees.specs.declared.program.Binding as N
-use Rattle.fip_language.specs.declared.Place.{Place}
+use Rattle.fip_trees.specs.fip_language.declared.Place.{Place}
 use Rattle.fip_trees.specs.declared.program.Argument.TheVariants as AV
 use Rattle.fip_trees.specs.declared.program.Argument.TheOpen as AO
 use Rattle.fip_trees.specs.declared.program.Argument.TheFolds.{fold-roll-Argument}

@@ -1,7 +1,7 @@
 -- Binders: their numbers, and those that a node owns.
 use Rattle.std.proofs.Common.{◌≡◌, ℕ, zero, suc, ◌<◌, ◌≤◌, ◌+◌, ◌-◌, refl, sym, ap, ◌∙◌, subst, List, [], ◌∷◌, ◌++◌, length, get_or, take, drop, Bool, true, false, Vec, Global, arith, nat_lt}
 use Rattle.std.proofs.lemmas.Bool.Decides.{nat_tests}
-use Rattle.fip_language.specs.declared.Place.{Place}
+use Rattle.fip_trees.specs.fip_language.declared.Place.{Place}
 use Rattle.fip_trees.specs.declared.program.Binder.{Binder}
 use Rattle.fip_trees.specs.declared.program.Pattern as P
 use Rattle.fip_trees.specs.declared.program.Pattern.TheVariants as PV

@@ -4,7 +4,7 @@ use Rattle.std.specs.Prelude.{slice_get}
 use Rattle.fip_base.specs.declared.plain.Param.{Param}
 use Rattle.fip_trees.specs.Tree as T
 use Rattle.fip_trees.specs.TreeView as V
-use Rattle.fip_language.specs.declared.Place.{Place}
+use Rattle.fip_trees.specs.fip_language.declared.Place.{Place}
 use Rattle.fip_trees.specs.declared.program.Argument as A
 use Rattle.fip_trees.specs.declared.program.Argument.TheVariants as AV
 use Rattle.fip_trees.proofs.TreeViews.{argument_constructor, count_view}

@@ -1,6 +1,6 @@
 // Which types are scalar, found once and kept without memory.
 ghost use Rattle.std.specs.Prelude.{◌≡◌, ◌<◌, ℕ, true, get_or};
-ghost use Rattle.fip_language.specs.Table.{is_scalar};
+ghost use Rattle.fip_trees.specs.fip_language.Table.{is_scalar};
 
 use fip_trees::program::Program;
 

@@ -1,6 +1,6 @@
 // Arguments and their nodes, side by side.
 ghost use Rattle.std.specs.Prelude.{◌≡◌, ◌+◌, ℕ, List, IsTrue, IfSome, IfNone, Some, None};
-ghost use Rattle.fip_language.specs.Table.{is_scalar};
+ghost use Rattle.fip_trees.specs.fip_language.Table.{is_scalar};
 ghost use Rattle.fip_base.specs.declared.plain.Param.{Param};
 ghost use Rattle.fip_trees.specs.Tree as T;
 ghost use Rattle.fip_trees.specs.TreeView as V;

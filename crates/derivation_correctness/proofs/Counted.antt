@@ -1,12 +1,12 @@
 -- Where binders are numbered in order, and are few, they have the numbers that derivations ask: how many binders stand
 -- in a part is the difference of the numbers around it.
 use Rattle.std.proofs.Common.{◌≡◌, ◌≤◌, ◌+◌, ℕ, List, [], ◌∷◌, ◌++◌, length, sym, subst, arith}
-use Rattle.fip_trees.specs.declared.program.Binder.{Binder}
-use Rattle.fip_trees.specs.Tree.{Pattern, BinderPattern, LiteralPattern, ConstructorPattern, Patterns, NoPatterns, MorePatterns, Expression, Give, Tuple, Operation, Call, Match, Nested, Block, Last, Let, Clauses, NoClauses, MoreClauses, Program}
-use Rattle.fip_rules.specs.Shapes.{binders, binders_all}
+use Rattle.source_report.specs.fip_trees.declared.program.Binder.{Binder}
+use Rattle.source_report.specs.fip_trees.Tree.{Pattern, BinderPattern, LiteralPattern, ConstructorPattern, Patterns, NoPatterns, MorePatterns, Expression, Give, Tuple, Operation, Call, Match, Nested, Block, Last, Let, Clauses, NoClauses, MoreClauses, Program}
+use Rattle.fip_proof.specs.fip_rules.Shapes.{binders, binders_all}
 use Rattle.source_report.specs.WellFormed.{IsKnown, IsKnownBlock, AreKnownClauses}
-use Rattle.derivation_check.specs.Scopes.{AreNumbered, within, within_block, within_clauses}
-use Rattle.derivation_making.specs.Numbered.{Numbered, NumberedBlock, NumberedClauses}
+use Rattle.fip_proof.specs.derivation_check.Scopes.{AreNumbered, within, within_block, within_clauses}
+use Rattle.fip_proof.specs.derivation_making.Numbered.{Numbered, NumberedBlock, NumberedClauses}
 use Rattle.source_report.specs.Order.{From, SpansPattern, SpansPatterns, Spans, SpansBlock, SpansClauses}
 
 -- ---- binders

@@ -1,22 +1,22 @@
 -- A fip or fbip instance of an accepted source has few binders: each has a register, and there are at most 4,096.
 use Rattle.std.proofs.Common.{◌≡◌, ◌≤◌, ◌<◌, ◌+◌, ◌||◌, ◌&&◌, inl, inr, ℕ, zero, suc, Bool, true, false, nat_lt, List, [], ◌∷◌, ◌++◌, length, Some, slice_get, refl, sym, ap, ◌∙◌, subst, arith}
 use Rattle.std.proofs.lemmas.Bool.Decides.{nat_tests}
-use Rattle.fip_language.specs.declared.limits.TheConstants.{MOST_REGISTERS}
-use Rattle.fip_language.specs.declared.FunKind.{FunKind}
-use Rattle.fip_language.specs.declared.FunKind.TheVariants.{Fip, Fbip, Fun}
-use Rattle.fip_language.specs.declared.rule.Rule.TheVariants.{E60}
-use Rattle.fip_language.specs.Table.{Table}
-use Rattle.fip_trees.specs.declared.groups.Member.{Member}
-use Rattle.fip_trees.specs.declared.program.Binder.{Binder}
-use Rattle.fip_trees.specs.Least.{violation}
-use Rattle.fip_trees.specs.Tree.{Pattern, BinderPattern, LiteralPattern, ConstructorPattern, Patterns, NoPatterns, MorePatterns, Expression, Give, Tuple, Operation, Call, Match, Nested, Block, Last, Let, Clauses, NoClauses, MoreClauses, Instance, Program}
-use Rattle.fip_rules.specs.Shapes.{binders, binders_all}
-use Rattle.fip_rules.specs.World as O
-use Rattle.static_params.proofs.GoodTypes.{below}
-use Rattle.tail_groups.specs.Registers as R
-use Rattle.cell_lower.specs.Limits.{is_ruled, matches_wide, exceeds, registers, registers_of, BreaksFrom}
+use Rattle.source_report.specs.fip_language.declared.limits.TheConstants.{MOST_REGISTERS}
+use Rattle.source_report.specs.fip_language.declared.FunKind.{FunKind}
+use Rattle.source_report.specs.fip_language.declared.FunKind.TheVariants.{Fip, Fbip, Fun}
+use Rattle.source_report.specs.fip_language.declared.rule.Rule.TheVariants.{E60}
+use Rattle.source_report.specs.fip_language.Table.{Table}
+use Rattle.source_report.specs.fip_trees.declared.groups.Member.{Member}
+use Rattle.source_report.specs.fip_trees.declared.program.Binder.{Binder}
+use Rattle.source_report.specs.fip_trees.Least.{violation}
+use Rattle.source_report.specs.fip_trees.Tree.{Pattern, BinderPattern, LiteralPattern, ConstructorPattern, Patterns, NoPatterns, MorePatterns, Expression, Give, Tuple, Operation, Call, Match, Nested, Block, Last, Let, Clauses, NoClauses, MoreClauses, Instance, Program}
+use Rattle.fip_proof.specs.fip_rules.Shapes.{binders, binders_all}
+use Rattle.fip_proof.specs.fip_rules.World as O
+use Rattle.source_report.proofs.static_params.GoodTypes.{below}
+use Rattle.source_report.specs.tail_groups.Registers as R
+use Rattle.source_report.specs.cell_lower.Limits.{is_ruled, matches_wide, exceeds, registers, registers_of, BreaksFrom}
 use Rattle.source_report.specs.Report.{IsAccepted}
-use Rattle.derivation_check.specs.Scopes.{within, within_block, within_clauses}
+use Rattle.fip_proof.specs.derivation_check.Scopes.{within, within_block, within_clauses}
 
 both_many : (xs ys : List Binder) → length (xs ++ ys) ≡ length xs + length ys
 both_many [] ys = omega arith

@@ -1,26 +1,26 @@
 -- The program of an accepted source has what the making of derivations asks, so what is made is a derivation of it.
 use Rattle.std.proofs.Common.{◌≡◌, ◌≤◌, ◌+◌, ℕ, suc, true, List, [], ◌∷◌, length, Some, slice_get, refl, sym, subst, arith}
-use Rattle.fip_language.specs.declared.limits.TheConstants.{MOST_INSTANCES}
-use Rattle.fip_trees.specs.SoundProgram.{IsSoundProgram}
-use Rattle.fip_trees.specs.Tree.{Instance, Program}
-use Rattle.fip_trees.specs.declared.needs.Need.{Need}
-use Rattle.credit_check.specs.Tallies.{all_needs}
+use Rattle.source_report.specs.fip_language.declared.limits.TheConstants.{MOST_INSTANCES}
+use Rattle.source_report.specs.fip_trees.SoundProgram.{IsSoundProgram}
+use Rattle.source_report.specs.fip_trees.Tree.{Instance, Program}
+use Rattle.source_report.specs.fip_trees.declared.needs.Need.{Need}
+use Rattle.fip_proof.specs.credit_check.Tallies.{all_needs}
 use Rattle.fip_proof.specs.Ready.{IsReady}
-use Rattle.fip_rules.specs.World.{is_ruled}
-use Rattle.type_check.specs.Typing.{IsFilled}
-use Rattle.static_params.proofs.TypeRows.{there_among}
-use Rattle.static_params.proofs.Sounding.{flat_is_sound}
-use Rattle.type_check.proofs.Filling.{stays_sound}
-use Rattle.ownership_agreement.specs.Agreement.{AreSized, IsAccepted as BreaksNoRule}
-use Rattle.derivation_check.specs.Scopes.{within_block}
-use Rattle.derivation_check.specs.Accepted.{IsDerivation}
+use Rattle.fip_proof.specs.fip_rules.World.{is_ruled}
+use Rattle.source_report.specs.type_check.Typing.{IsFilled}
+use Rattle.source_report.proofs.static_params.TypeRows.{there_among}
+use Rattle.source_report.proofs.static_params.Sounding.{flat_is_sound}
+use Rattle.fip_proof.proofs.type_check.Filling.{stays_sound}
+use Rattle.source_report.specs.ownership_agreement.Agreement.{AreSized, IsAccepted as BreaksNoRule}
+use Rattle.fip_proof.specs.derivation_check.Scopes.{within_block}
+use Rattle.fip_proof.specs.derivation_check.Accepted.{IsDerivation}
 use Rattle.derivation_text.specs.ProofText.{lines_text, IsProofText}
-use Rattle.derivation_making.specs.Made.{made_entries}
-use Rattle.derivation_making.specs.Numbered.{IsNumbered, AllNumbered}
-use Rattle.derivation_making.specs.Weakening.{AllLean}
-use Rattle.derivation_making.proofs.Programs.{program_derived, program_lean}
-use Rattle.derivation_agreement.specs.Limits.{KeepsLimits}
-use Rattle.derivation_agreement.proofs.TextWhole.{made_is_read}
+use Rattle.fip_proof.specs.derivation_making.Made.{made_entries}
+use Rattle.fip_proof.specs.derivation_making.Numbered.{IsNumbered, AllNumbered}
+use Rattle.fip_proof.specs.derivation_making.Weakening.{AllLean}
+use Rattle.fip_proof.proofs.derivation_making.Programs.{program_derived, program_lean}
+use Rattle.fip_proof.specs.derivation_agreement.Limits.{KeepsLimits}
+use Rattle.fip_proof.proofs.derivation_agreement.TextWhole.{made_is_read}
 use Rattle.source_report.specs.Report.{IsTyped, IsAccepted}
 use Rattle.source_report.specs.WellFormed.{IsKnownInstance}
 use Rattle.source_report.proofs.Ready.{typed_formed}

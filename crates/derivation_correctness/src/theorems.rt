@@ -1,16 +1,16 @@
 // The laws on the derivations of accepted programs. Each is the contract of a function that does nothing.
 ghost use Rattle.std.specs.Prelude.{◌≡◌, ℕ, List};
-ghost use Rattle.fip_trees.specs.declared.needs.Need.{Need};
-ghost use Rattle.fip_trees.specs.Tree.{Program};
-ghost use Rattle.type_check.specs.Typing.{IsFilled};
-ghost use Rattle.ownership_agreement.specs.Agreement.{AreSized, IsAccepted as BreaksNoRule};
-ghost use Rattle.derivation_check.specs.Accepted.{IsDerivation};
+ghost use Rattle.source_report.specs.fip_trees.declared.needs.Need.{Need};
+ghost use Rattle.source_report.specs.fip_trees.Tree.{Program};
+ghost use Rattle.source_report.specs.type_check.Typing.{IsFilled};
+ghost use Rattle.source_report.specs.ownership_agreement.Agreement.{AreSized, IsAccepted as BreaksNoRule};
+ghost use Rattle.fip_proof.specs.derivation_check.Accepted.{IsDerivation};
 ghost use Rattle.derivation_text.specs.ProofText.{lines_text, IsProofText};
-ghost use Rattle.derivation_making.specs.Made.{made_entries};
-ghost use Rattle.derivation_making.specs.Numbered.{AllNumbered};
-ghost use Rattle.derivation_making.specs.Weakening.{AllLean};
-ghost use Rattle.credit_check.specs.Tallies.{all_needs};
-ghost use Rattle.derivation_agreement.specs.Limits.{KeepsLimits};
+ghost use Rattle.fip_proof.specs.derivation_making.Made.{made_entries};
+ghost use Rattle.fip_proof.specs.derivation_making.Numbered.{AllNumbered};
+ghost use Rattle.fip_proof.specs.derivation_making.Weakening.{AllLean};
+ghost use Rattle.fip_proof.specs.credit_check.Tallies.{all_needs};
+ghost use Rattle.fip_proof.specs.derivation_agreement.Limits.{KeepsLimits};
 ghost use Rattle.fip_proof.specs.Ready.{IsReady};
 ghost use Rattle.source_report.specs.Report.{IsAccepted};
 

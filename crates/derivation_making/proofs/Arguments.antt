@@ -2,24 +2,24 @@
 use Rattle.std.proofs.Common.{◌≡◌, ℕ, zero, suc, ◌<◌, ◌≤◌, ◌+◌, ◌⊎◌, inl, inr, refl, sym, ap, subst, ◌∙◌, List, [], ◌∷◌, Option, Some, None, Bool, true, false, arith}
 use Rattle.std.specs.Prelude.{◌==◌, ◌||◌, if◌then◌else◌}
 use Rattle.std.proofs.lemmas.Bool.Decides.{nat_tests}
-use Rattle.fip_language.specs.declared.Place.{Place}
-use Rattle.fip_trees.specs.Sizes.{one_if}
-use Rattle.fip_trees.specs.Tree.{Name, Program, Argument, Variable, Literal, Constructor, Arguments, NoArguments, MoreArguments, count}
-use Rattle.fip_rules.specs.World.{World, is_fip}
-use Rattle.fip_rules.specs.Shapes as H
-use Rattle.fip_rules.specs.Shapes.{Names}
-use Rattle.credit_check.specs.Needs.{made, made_all}
-use Rattle.ownership_calculus.specs.Terms as T
-use Rattle.ownership_calculus.specs.Terms.{Item, Own, Credit, one, given, paid, size}
-use Rattle.ownership_calculus.specs.Clean.{used_up, all_used_up}
+use Rattle.type_check.specs.fip_language.declared.Place.{Place}
+use Rattle.derivation_check.specs.fip_trees.Sizes.{one_if}
+use Rattle.derivation_check.specs.fip_trees.Tree.{Name, Program, Argument, Variable, Literal, Constructor, Arguments, NoArguments, MoreArguments, count}
+use Rattle.ownership_agreement.specs.fip_rules.World.{World, is_fip}
+use Rattle.ownership_agreement.specs.fip_rules.Shapes as H
+use Rattle.ownership_agreement.specs.fip_rules.Shapes.{Names}
+use Rattle.ownership_agreement.specs.credit_check.Needs.{made, made_all}
+use Rattle.ownership_agreement.specs.ownership_calculus.Terms as T
+use Rattle.ownership_agreement.specs.ownership_calculus.Terms.{Item, Own, Credit, one, given, paid, size}
+use Rattle.ownership_agreement.specs.ownership_calculus.Clean.{used_up, all_used_up}
 use Rattle.ownership_agreement.specs.Bodies.{Scalars, variable, value, values}
 use Rattle.ownership_agreement.specs.Sized.{SizedArgument, SizedArguments}
 use Rattle.ownership_agreement.proofs.Amounts.{IsOut}
 use Rattle.ownership_agreement.proofs.Basics.{pos}
-use Rattle.derivation_trees.specs.declared.derivation.RuleName.{RuleName}
-use Rattle.derivation_trees.specs.declared.derivation.RuleName.TheVariants as R
-use Rattle.derivation_trees.specs.declared.derivation.Credit as D
-use Rattle.derivation_trees.specs.Trees.{Tree, Branch, Trees, NoTrees}
+use Rattle.derivation_check.specs.derivation_trees.declared.derivation.RuleName.{RuleName}
+use Rattle.derivation_check.specs.derivation_trees.declared.derivation.RuleName.TheVariants as R
+use Rattle.derivation_check.specs.derivation_trees.declared.derivation.Credit as D
+use Rattle.derivation_check.specs.derivation_trees.Trees.{Tree, Branch, Trees, NoTrees}
 use Rattle.derivation_check.specs.Owned.{amount, owned, root, roots, Rising, IsOwned, AreOwned, is_weaken, Under, Leaf}
 use Rattle.derivation_check.specs.Scopes.{Known, known, meant}
 use Rattle.derivation_check.specs.Calculus.{Choice, UsesVariable, DerivesValue, DerivesValues}

@@ -1,26 +1,26 @@
 -- What is made for a body derives it.
 use Rattle.std.proofs.Common.{◌≡◌, ℕ, ◌<◌, ◌≤◌, ◌+◌, ◌-◌, refl, sym, ap, subst, ◌∙◌, List, [], ◌++◌, length, Option, Some, None, Bool, true, false, not, arith}
 use Rattle.std.specs.Prelude.{◌||◌, ◌&&◌, slice_get, if◌then◌else◌}
-use Rattle.fip_language.specs.declared.FunKind.{FunKind}
-use Rattle.fip_trees.specs.declared.program.Binder.{Binder}
-use Rattle.fip_trees.specs.Sizes.{greater}
-use Rattle.fip_trees.specs.Tree.{Program, Instance, Argument, Variable, Literal, Constructor, Arguments, Pattern, Expression, Give, Tuple, Operation, Call, Match, Nested, Block, Last, Let, Clauses, NoClauses, MoreClauses}
-use Rattle.fip_rules.specs.World.{World, world, is_fip, is_weaker, weaker, weaker_than}
-use Rattle.fip_rules.specs.Shapes.{Names, behind, binders, takes, shape}
-use Rattle.credit_check.specs.Needs as N
-use Rattle.credit_check.specs.Needs.{made, made_all, need, need_block, need_clauses}
-use Rattle.ownership_calculus.specs.Terms as C
-use Rattle.ownership_calculus.specs.Terms.{Item, Own, Credit, given, charge}
-use Rattle.ownership_calculus.specs.Rules.{Fits}
-use Rattle.ownership_calculus.specs.Clean as K
-use Rattle.ownership_calculus.specs.Clean.{used_up, all_used_up, lent_used_up, asks, asks_lent, Status, after}
-use Rattle.ownership_calculus.proofs.Fit.{fits_same}
+use Rattle.type_check.specs.fip_language.declared.FunKind.{FunKind}
+use Rattle.derivation_check.specs.fip_trees.declared.program.Binder.{Binder}
+use Rattle.derivation_check.specs.fip_trees.Sizes.{greater}
+use Rattle.derivation_check.specs.fip_trees.Tree.{Program, Instance, Argument, Variable, Literal, Constructor, Arguments, Pattern, Expression, Give, Tuple, Operation, Call, Match, Nested, Block, Last, Let, Clauses, NoClauses, MoreClauses}
+use Rattle.ownership_agreement.specs.fip_rules.World.{World, world, is_fip, is_weaker, weaker, weaker_than}
+use Rattle.ownership_agreement.specs.fip_rules.Shapes.{Names, behind, binders, takes, shape}
+use Rattle.ownership_agreement.specs.credit_check.Needs as N
+use Rattle.ownership_agreement.specs.credit_check.Needs.{made, made_all, need, need_block, need_clauses}
+use Rattle.ownership_agreement.specs.ownership_calculus.Terms as C
+use Rattle.ownership_agreement.specs.ownership_calculus.Terms.{Item, Own, Credit, given, charge}
+use Rattle.ownership_agreement.specs.ownership_calculus.Rules.{Fits}
+use Rattle.ownership_agreement.specs.ownership_calculus.Clean as K
+use Rattle.ownership_agreement.specs.ownership_calculus.Clean.{used_up, all_used_up, lent_used_up, asks, asks_lent, Status, after}
+use Rattle.ownership_agreement.proofs.ownership_calculus.Fit.{fits_same}
 use Rattle.ownership_agreement.specs.Bodies.{Scalars, value, values, passed, variable, variables, entering, inside, past_clause, matched, nodes, term, term_block, clauses, seen}
 use Rattle.ownership_agreement.specs.Sized.{SizedHeader, SizedExpression, SizedBlock, SizedClauses}
 use Rattle.ownership_agreement.proofs.Amounts.{gives, asks_of, term_need, block_need, gives_given, header_given, header_out}
-use Rattle.derivation_trees.specs.declared.derivation.RuleName.TheVariants as R
-use Rattle.derivation_trees.specs.declared.derivation.Credit as D
-use Rattle.derivation_trees.specs.Trees.{Tree, Branch, NoTrees, MoreTrees}
+use Rattle.derivation_check.specs.derivation_trees.declared.derivation.RuleName.TheVariants as R
+use Rattle.derivation_check.specs.derivation_trees.declared.derivation.Credit as D
+use Rattle.derivation_check.specs.derivation_trees.Trees.{Tree, Branch, NoTrees, MoreTrees}
 use Rattle.derivation_check.specs.Owned.{amount, owned, roots, Rising, is_weaken, Under, Leaf}
 use Rattle.derivation_check.specs.Scopes.{Known, Scope, named, binding, lending, within, within_block}
 use Rattle.derivation_check.specs.Calculus.{Operand, Plain, Calls, IsClause, FirstOf, is_taken, Derives, DerivesBlock, DerivesClauses}

@@ -2,7 +2,7 @@
 use Rattle.std.proofs.Common.{◌≡◌, ℕ, zero, suc, ◌<◌, ◌≤◌, ◌+◌, ◌⊎◌, inl, inr, refl, ap, ◌∙◌, List, [], ◌∷◌, Bool, true, false, arith}
 use Rattle.std.specs.Prelude.{◌==◌, nat_lt, if◌then◌else◌}
 use Rattle.std.proofs.lemmas.Bool.Decides.{nat_tests}
-use Rattle.derivation_trees.specs.declared.derivation.Credit as D
+use Rattle.derivation_check.specs.derivation_trees.declared.derivation.Credit as D
 use Rattle.ownership_agreement.proofs.Amounts.{IsOut}
 use Rattle.derivation_check.specs.Owned.{amount, RisingSizes}
 use Rattle.derivation_making.specs.Made.{counted, credits, same_from}

@@ -2,18 +2,18 @@
 use Rattle.std.proofs.Common.{◌≡◌, ℕ, zero, suc, ◌<◌, ◌≤◌, ◌+◌, ◌-◌, ◌⊎◌, inl, inr, refl, ap, List, [], ◌∷◌, ◌++◌, length, Bool, true, false, not, arith}
 use Rattle.std.specs.Prelude.{◌==◌, ◌||◌, ◌&&◌, slice_get, if◌then◌else◌}
 use Rattle.std.proofs.lemmas.Bool.Decides.{nat_tests}
-use Rattle.fip_language.specs.declared.FunKind.{FunKind}
-use Rattle.fip_base.specs.declared.plain.Param.{Param}
-use Rattle.fip_trees.specs.Sizes.{greater}
-use Rattle.fip_trees.specs.Tree.{Program, Instance, Argument, Variable, Literal, Constructor, Arguments, NoArguments, MoreArguments, Expression, Give, Tuple, Operation, Call, Match, Nested, Block, Last, Let, Clauses, NoClauses, MoreClauses}
-use Rattle.fip_rules.specs.World.{World, world, is_ruled}
-use Rattle.fip_rules.specs.Shapes.{binders, takes}
-use Rattle.credit_check.specs.Needs.{made, made_all, marked, given, need, need_block, need_clauses}
-use Rattle.ownership_calculus.specs.Terms.{Item, Own, Credit}
-use Rattle.ownership_calculus.specs.Terms as C
-use Rattle.derivation_trees.specs.declared.derivation.RuleName.{RuleName}
-use Rattle.derivation_trees.specs.declared.derivation.RuleName.TheVariants as R
-use Rattle.derivation_trees.specs.Trees.{Tree, Branch, Trees, NoTrees, MoreTrees, Entry}
+use Rattle.type_check.specs.fip_language.declared.FunKind.{FunKind}
+use Rattle.derivation_check.specs.fip_base.declared.plain.Param.{Param}
+use Rattle.derivation_check.specs.fip_trees.Sizes.{greater}
+use Rattle.derivation_check.specs.fip_trees.Tree.{Program, Instance, Argument, Variable, Literal, Constructor, Arguments, NoArguments, MoreArguments, Expression, Give, Tuple, Operation, Call, Match, Nested, Block, Last, Let, Clauses, NoClauses, MoreClauses}
+use Rattle.ownership_agreement.specs.fip_rules.World.{World, world, is_ruled}
+use Rattle.ownership_agreement.specs.fip_rules.Shapes.{binders, takes}
+use Rattle.ownership_agreement.specs.credit_check.Needs.{made, made_all, marked, given, need, need_block, need_clauses}
+use Rattle.ownership_agreement.specs.ownership_calculus.Terms.{Item, Own, Credit}
+use Rattle.ownership_agreement.specs.ownership_calculus.Terms as C
+use Rattle.derivation_check.specs.derivation_trees.declared.derivation.RuleName.{RuleName}
+use Rattle.derivation_check.specs.derivation_trees.declared.derivation.RuleName.TheVariants as R
+use Rattle.derivation_check.specs.derivation_trees.Trees.{Tree, Branch, Trees, NoTrees, MoreTrees, Entry}
 use Rattle.derivation_check.specs.Owned.{owned, is_weaken}
 use Rattle.derivation_check.specs.Scopes.{Known, named, parameters, within, within_block}
 use Rattle.derivation_check.specs.Calculus.{Choice}

@@ -1,19 +1,19 @@
 -- A let: what its bound expression gets, and what the rest gets.
 use Rattle.std.proofs.Common.{◌≡◌, ℕ, zero, suc, ◌<◌, ◌≤◌, ◌+◌, ◌⊎◌, inl, inr, refl, sym, ap, subst, ◌∙◌, List, [], ◌++◌, length, Some, Bool, true, false, not, arith}
 use Rattle.std.specs.Prelude.{◌||◌, ◌&&◌, if◌then◌else◌}
-use Rattle.fip_trees.specs.declared.program.Binder.{Binder}
-use Rattle.fip_trees.specs.Tree as T
-use Rattle.fip_trees.specs.Tree.{Expression, Block}
-use Rattle.fip_rules.specs.World.{World, is_fip}
-use Rattle.fip_rules.specs.Shapes.{Names}
-use Rattle.ownership_calculus.specs.Terms.{Term, Let, Item, Own, Credit, has, given}
-use Rattle.ownership_calculus.specs.Clean.{outside, asks, fewest, Status, Free, Owned, after, lent}
-use Rattle.ownership_calculus.specs.Clean as K
-use Rattle.ownership_calculus.proofs.Fit.{held, visible, held_after, held_lent}
+use Rattle.derivation_check.specs.fip_trees.declared.program.Binder.{Binder}
+use Rattle.derivation_check.specs.fip_trees.Tree as T
+use Rattle.derivation_check.specs.fip_trees.Tree.{Expression, Block}
+use Rattle.ownership_agreement.specs.fip_rules.World.{World, is_fip}
+use Rattle.ownership_agreement.specs.fip_rules.Shapes.{Names}
+use Rattle.ownership_agreement.specs.ownership_calculus.Terms.{Term, Let, Item, Own, Credit, has, given}
+use Rattle.ownership_agreement.specs.ownership_calculus.Clean.{outside, asks, fewest, Status, Free, Owned, after, lent}
+use Rattle.ownership_agreement.specs.ownership_calculus.Clean as K
+use Rattle.ownership_agreement.proofs.ownership_calculus.Fit.{held, visible, held_after, held_lent}
 use Rattle.ownership_agreement.specs.Bodies.{Scalars}
 use Rattle.ownership_agreement.proofs.Basics.{pos}
-use Rattle.derivation_trees.specs.declared.derivation.RuleName.TheVariants as R
-use Rattle.derivation_trees.specs.Trees.{Tree, Branch, NoTrees, MoreTrees}
+use Rattle.derivation_check.specs.derivation_trees.declared.derivation.RuleName.TheVariants as R
+use Rattle.derivation_check.specs.derivation_trees.Trees.{Tree, Branch, NoTrees, MoreTrees}
 use Rattle.derivation_check.specs.Owned.{amount, owned, Rising, Under}
 use Rattle.derivation_check.specs.Scopes.{Known, Scope, known, lending, binding, within, AreNumbered}
 use Rattle.derivation_check.specs.Calculus.{bound, Derives, DerivesBlock}

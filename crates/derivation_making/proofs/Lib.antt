@@ -13,3 +13,6 @@ pub mod Whole
 pub mod Lean
 pub mod Typed
 pub mod Programs
+pub use Rattle.ownership_agreement.proofs as ownership_agreement
+pub use Rattle.ownership_agreement.proofs.ownership_calculus as ownership_calculus
+pub use Rattle.type_check.proofs as type_check

@@ -2,13 +2,13 @@
 use Rattle.std.proofs.Common.{◌≡◌, ℕ, zero, suc, ◌<◌, ◌≤◌, ◌+◌, ◌⊎◌, inl, inr, refl, sym, ap, subst, ◌∙◌, List, [], ◌∷◌, ◌++◌, length, Option, Some, None, Bool, true, false, arith}
 use Rattle.std.specs.Prelude.{◌==◌, if◌then◌else◌}
 use Rattle.std.proofs.lemmas.Bool.Decides.{nat_tests}
-use Rattle.fip_trees.specs.declared.program.Binder.{Binder}
-use Rattle.fip_rules.specs.Marks.{Mark}
-use Rattle.fip_rules.specs.World.{World}
-use Rattle.fip_rules.specs.Shapes as S
-use Rattle.fip_rules.specs.Shapes.{Names, mark, or_later}
-use Rattle.ownership_calculus.specs.Terms.{has}
-use Rattle.ownership_calculus.specs.Rules.{worth}
+use Rattle.derivation_check.specs.fip_trees.declared.program.Binder.{Binder}
+use Rattle.ownership_agreement.specs.fip_rules.Marks.{Mark}
+use Rattle.ownership_agreement.specs.fip_rules.World.{World}
+use Rattle.ownership_agreement.specs.fip_rules.Shapes as S
+use Rattle.ownership_agreement.specs.fip_rules.Shapes.{Names, mark, or_later}
+use Rattle.ownership_agreement.specs.ownership_calculus.Terms.{has}
+use Rattle.ownership_agreement.specs.ownership_calculus.Rules.{worth}
 use Rattle.ownership_agreement.specs.Bodies.{Scalars, variables, entering, inside}
 use Rattle.ownership_agreement.proofs.Basics.{past, past_inside, not_owned}
 use Rattle.derivation_check.specs.Owned.{Rising}

@@ -2,8 +2,8 @@
 use Rattle.std.proofs.Common.{◌≡◌, ℕ, zero, ◌<◌, ◌≤◌, ◌+◌, ◌⊎◌, inl, inr, refl, sym, ap, subst, ◌∙◌, List, [], ◌∷◌, ◌++◌, Some, Bool, true, false, not, arith}
 use Rattle.std.specs.Prelude.{◌==◌, ◌&&◌, if◌then◌else◌}
 use Rattle.std.proofs.lemmas.Bool.Decides.{nat_tests}
-use Rattle.fip_rules.specs.World.{World}
-use Rattle.ownership_calculus.specs.Terms.{one, given, has}
+use Rattle.ownership_agreement.specs.fip_rules.World.{World}
+use Rattle.ownership_agreement.specs.ownership_calculus.Terms.{one, given, has}
 use Rattle.derivation_check.specs.Owned.{Rising}
 use Rattle.derivation_check.specs.Scopes.{Known, known}
 use Rattle.derivation_making.specs.Made.{those, all_those, numbers}

@@ -2,26 +2,26 @@
 use Rattle.std.proofs.Common.{◌≡◌, ℕ, zero, suc, ◌<◌, ◌≤◌, ◌+◌, ◌-◌, ◌⊎◌, inl, inr, refl, sym, ap, subst, ◌∙◌, List, [], ◌∷◌, ◌++◌, length, Option, Some, None, Bool, true, false, not, arith}
 use Rattle.std.specs.Prelude.{◌==◌, max, min, if◌then◌else◌}
 use Rattle.std.proofs.lemmas.Bool.Decides.{nat_tests}
-use Rattle.fip_language.specs.declared.Place.{Place}
-use Rattle.fip_trees.specs.Sizes.{one_if, greater}
-use Rattle.fip_trees.specs.Tree as T
-use Rattle.fip_trees.specs.Tree.{Program, Argument, Variable, Literal, Constructor, Block, Pattern, BinderPattern, LiteralPattern, ConstructorPattern, Patterns, NoPatterns, MorePatterns, count_patterns}
-use Rattle.fip_rules.specs.World.{World, is_fip}
-use Rattle.fip_rules.specs.Shapes as H
-use Rattle.fip_rules.specs.Shapes.{Names, binders}
-use Rattle.credit_check.specs.Needs as N
-use Rattle.ownership_calculus.specs.Terms as C
-use Rattle.ownership_calculus.specs.Terms.{Term, Clauses, LastClause, MoreClauses, Item, Own, Credit, has, one, only, paid, given}
-use Rattle.ownership_calculus.specs.Rules.{Fits}
-use Rattle.ownership_calculus.specs.Clean as K
-use Rattle.ownership_calculus.specs.Clean.{used_up, lent_used_up, outside, asks, asks_lent, asks_taken, fewest, fewest_of, Status, Free, Owned, after, AllUsed, Clean, CleanLent, CleanTaken, Even, EvenLent, EvenTaken}
-use Rattle.ownership_calculus.proofs.Fit.{held, held_after}
+use Rattle.type_check.specs.fip_language.declared.Place.{Place}
+use Rattle.derivation_check.specs.fip_trees.Sizes.{one_if, greater}
+use Rattle.derivation_check.specs.fip_trees.Tree as T
+use Rattle.derivation_check.specs.fip_trees.Tree.{Program, Argument, Variable, Literal, Constructor, Block, Pattern, BinderPattern, LiteralPattern, ConstructorPattern, Patterns, NoPatterns, MorePatterns, count_patterns}
+use Rattle.ownership_agreement.specs.fip_rules.World.{World, is_fip}
+use Rattle.ownership_agreement.specs.fip_rules.Shapes as H
+use Rattle.ownership_agreement.specs.fip_rules.Shapes.{Names, binders}
+use Rattle.ownership_agreement.specs.credit_check.Needs as N
+use Rattle.ownership_agreement.specs.ownership_calculus.Terms as C
+use Rattle.ownership_agreement.specs.ownership_calculus.Terms.{Term, Clauses, LastClause, MoreClauses, Item, Own, Credit, has, one, only, paid, given}
+use Rattle.ownership_agreement.specs.ownership_calculus.Rules.{Fits}
+use Rattle.ownership_agreement.specs.ownership_calculus.Clean as K
+use Rattle.ownership_agreement.specs.ownership_calculus.Clean.{used_up, lent_used_up, outside, asks, asks_lent, asks_taken, fewest, fewest_of, Status, Free, Owned, after, AllUsed, Clean, CleanLent, CleanTaken, Even, EvenLent, EvenTaken}
+use Rattle.ownership_agreement.proofs.ownership_calculus.Fit.{held, held_after}
 use Rattle.ownership_agreement.specs.Bodies.{Scalars, variable, lent_value, matched}
 use Rattle.ownership_agreement.specs.Sized.{SizedPattern, SizedPatterns}
 use Rattle.ownership_agreement.proofs.Amounts.{IsOut, gives, asks_of}
 use Rattle.ownership_agreement.proofs.Basics.{lent_taken}
-use Rattle.derivation_trees.specs.declared.derivation.RuleName.TheVariants as R
-use Rattle.derivation_trees.specs.Trees.{Tree, Branch, Trees}
+use Rattle.derivation_check.specs.derivation_trees.declared.derivation.RuleName.TheVariants as R
+use Rattle.derivation_check.specs.derivation_trees.Trees.{Tree, Branch, Trees}
 use Rattle.derivation_check.specs.Owned.{amount, owned, root, Rising, Under}
 use Rattle.derivation_check.specs.Patterns as P
 use Rattle.derivation_check.specs.Scopes.{Known, Scope, known, meant, binding, AreNumbered}

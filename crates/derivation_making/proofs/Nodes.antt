@@ -1,13 +1,13 @@
 -- A node, and the one that weakens above it.
 use Rattle.std.proofs.Common.{◌≡◌, ℕ, ◌<◌, ◌≤◌, inl, inr, refl, sym, ap, subst, ◌∙◌, List, Bool, true, false, arith}
 use Rattle.std.specs.Prelude.{◌&&◌}
-use Rattle.ownership_calculus.specs.Terms.{Item, Own, Credit}
-use Rattle.ownership_calculus.specs.Rules.{Fits}
-use Rattle.ownership_calculus.proofs.Fit.{fits_le}
-use Rattle.derivation_trees.specs.declared.derivation.RuleName.{RuleName}
-use Rattle.derivation_trees.specs.declared.derivation.RuleName.TheVariants as R
-use Rattle.derivation_trees.specs.declared.derivation.Credit as D
-use Rattle.derivation_trees.specs.Trees.{Tree, Branch, Trees, NoTrees, MoreTrees}
+use Rattle.ownership_agreement.specs.ownership_calculus.Terms.{Item, Own, Credit}
+use Rattle.ownership_agreement.specs.ownership_calculus.Rules.{Fits}
+use Rattle.ownership_agreement.proofs.ownership_calculus.Fit.{fits_le}
+use Rattle.derivation_check.specs.derivation_trees.declared.derivation.RuleName.{RuleName}
+use Rattle.derivation_check.specs.derivation_trees.declared.derivation.RuleName.TheVariants as R
+use Rattle.derivation_check.specs.derivation_trees.declared.derivation.Credit as D
+use Rattle.derivation_check.specs.derivation_trees.Trees.{Tree, Branch, Trees, NoTrees, MoreTrees}
 use Rattle.derivation_check.specs.Owned.{amount, owned, root, Rising, IsOwned, is_weaken, Under}
 use Rattle.derivation_check.specs.Scopes.{Known}
 use Rattle.derivation_check.specs.Calculus.{own_variables}

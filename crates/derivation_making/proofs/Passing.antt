@@ -2,23 +2,23 @@
 use Rattle.std.proofs.Common.{◌≡◌, ℕ, zero, suc, ◌<◌, ◌≤◌, ◌+◌, inl, inr, refl, sym, ap, subst, ◌∙◌, List, [], ◌∷◌, Option, Some, None, Bool, true, false, not, arith}
 use Rattle.std.specs.Prelude.{◌==◌, ◌||◌, ◌&&◌, slice_get, if◌then◌else◌}
 use Rattle.std.proofs.lemmas.Bool.Decides.{nat_tests}
-use Rattle.fip_base.specs.declared.plain.Param.{Param}
-use Rattle.fip_trees.specs.Tree.{Program, Instance, Argument, Variable, Literal, Constructor, Arguments, NoArguments, MoreArguments, count}
-use Rattle.fip_rules.specs.World.{World, is_fip, lends, lends_to, lends_parameter}
-use Rattle.fip_rules.specs.Shapes as H
-use Rattle.fip_rules.specs.Shapes.{Names}
-use Rattle.credit_check.specs.Needs.{made, made_all}
-use Rattle.ownership_calculus.specs.Terms as T
-use Rattle.ownership_calculus.specs.Terms.{Item, Own, Credit, given}
-use Rattle.ownership_calculus.specs.Clean as K
-use Rattle.ownership_calculus.specs.Clean.{used_up, lent_used_up, passed_used_up, Status, Free, Owned, after}
-use Rattle.ownership_calculus.proofs.Fit.{held, visible}
+use Rattle.derivation_check.specs.fip_base.declared.plain.Param.{Param}
+use Rattle.derivation_check.specs.fip_trees.Tree.{Program, Instance, Argument, Variable, Literal, Constructor, Arguments, NoArguments, MoreArguments, count}
+use Rattle.ownership_agreement.specs.fip_rules.World.{World, is_fip, lends, lends_to, lends_parameter}
+use Rattle.ownership_agreement.specs.fip_rules.Shapes as H
+use Rattle.ownership_agreement.specs.fip_rules.Shapes.{Names}
+use Rattle.ownership_agreement.specs.credit_check.Needs.{made, made_all}
+use Rattle.ownership_agreement.specs.ownership_calculus.Terms as T
+use Rattle.ownership_agreement.specs.ownership_calculus.Terms.{Item, Own, Credit, given}
+use Rattle.ownership_agreement.specs.ownership_calculus.Clean as K
+use Rattle.ownership_agreement.specs.ownership_calculus.Clean.{used_up, lent_used_up, passed_used_up, Status, Free, Owned, after}
+use Rattle.ownership_agreement.proofs.ownership_calculus.Fit.{held, visible}
 use Rattle.ownership_agreement.specs.Bodies as B
 use Rattle.ownership_agreement.specs.Bodies.{Scalars, variable, value, lent_value, passed}
 use Rattle.ownership_agreement.specs.Sized.{SizedArgument, SizedArguments}
 use Rattle.ownership_agreement.proofs.Amounts.{IsOut}
 use Rattle.ownership_agreement.proofs.Basics.{pos}
-use Rattle.derivation_trees.specs.Trees.{Trees, MoreTrees}
+use Rattle.derivation_check.specs.derivation_trees.Trees.{Trees, MoreTrees}
 use Rattle.derivation_check.specs.Owned.{roots, AreOwned}
 use Rattle.derivation_check.specs.Scopes.{Known, Scope, known}
 use Rattle.derivation_check.specs.Calculus.{Choice, IsScalar, Plain, MayLend, Lends, FirstOf, DerivesValue, DerivesPassed}

@@ -1,15 +1,15 @@
 -- Programs that break no rule.
 use Rattle.std.proofs.Common.{◌≡◌, List, [], ◌∷◌, arith}
-use Rattle.fip_trees.specs.Tree.{Instance, Program}
-use Rattle.fip_rules.specs.World.{world, is_fip}
-use Rattle.fip_rules.specs.Shapes as H
-use Rattle.fip_rules.specs.Shapes.{no_names}
-use Rattle.credit_check.specs.Needs.{need_block}
-use Rattle.ownership_calculus.specs.Terms.{Credit, given}
-use Rattle.ownership_calculus.specs.Clean.{asks}
-use Rattle.ownership_calculus.specs.Functions.{Accepted}
-use Rattle.ownership_calculus.proofs.Fit.{fits_le}
-use Rattle.ownership_calculus.proofs.Whole.{is_accepted}
+use Rattle.derivation_check.specs.fip_trees.Tree.{Instance, Program}
+use Rattle.ownership_agreement.specs.fip_rules.World.{world, is_fip}
+use Rattle.ownership_agreement.specs.fip_rules.Shapes as H
+use Rattle.ownership_agreement.specs.fip_rules.Shapes.{no_names}
+use Rattle.ownership_agreement.specs.credit_check.Needs.{need_block}
+use Rattle.ownership_agreement.specs.ownership_calculus.Terms.{Credit, given}
+use Rattle.ownership_agreement.specs.ownership_calculus.Clean.{asks}
+use Rattle.ownership_agreement.specs.ownership_calculus.Functions.{Accepted}
+use Rattle.ownership_agreement.proofs.ownership_calculus.Fit.{fits_le}
+use Rattle.ownership_agreement.proofs.ownership_calculus.Whole.{is_accepted}
 use Rattle.ownership_agreement.specs.Bodies.{borrowed_parameters, owned_parameters, entering_parameters, no_variables, body_term}
 use Rattle.ownership_agreement.specs.Agreement.{IsDerived, AreDerived, AreSized, IsAccepted}
 use Rattle.ownership_agreement.proofs.Amounts.{header_given, block_need}

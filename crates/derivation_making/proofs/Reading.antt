@@ -2,22 +2,22 @@
 -- counts it.
 use Rattle.std.proofs.Common.{◌≡◌, ℕ, zero, suc, ◌<◌, ◌≤◌, ◌+◌, inl, inr, refl, sym, ap, subst, ◌∙◌, List, [], ◌∷◌, ◌++◌, length, Option, Some, None, Bool, true, false, not, arith}
 use Rattle.std.specs.Prelude.{◌==◌, ◌||◌, ◌&&◌, max, slice_get, if◌then◌else◌}
-use Rattle.fip_language.specs.declared.FunKind.{FunKind}
-use Rattle.fip_language.specs.declared.Place.{Place}
-use Rattle.fip_language.specs.declared.rule.Rule.TheVariants.{E54, E55}
-use Rattle.fip_base.specs.declared.plain.Param.{Param}
-use Rattle.fip_trees.specs.declared.program.Binder.{Binder}
-use Rattle.fip_trees.specs.Tree.{Name, Argument, Variable, Literal, Constructor, Arguments, NoArguments, MoreArguments}
-use Rattle.fip_trees.specs.Tree.{Pattern, Instance, Program, Expression, Give, Tuple, Operation, Call, Match, Nested, Block, Last, Let, Clauses, NoClauses, MoreClauses}
-use Rattle.fip_rules.specs.Marks.{Mark}
-use Rattle.fip_rules.specs.Shape as S
-use Rattle.fip_rules.specs.Rules.{next}
-use Rattle.fip_rules.specs.World.{World, world, lends, weaker}
-use Rattle.fip_rules.specs.Shapes as H
-use Rattle.fip_rules.specs.Shapes.{Names, Bind, binds, behind, taking, binders, takes, owning, owning_all, lending, passing, passing_all, called, token, used_at, lent_at, clause_shape, shape, shape_block, shape_clauses}
-use Rattle.ownership_calculus.specs.Terms as T
-use Rattle.ownership_calculus.specs.Terms.{Own, one, has, paid, size}
-use Rattle.ownership_calculus.specs.Clean.{used_up, all_used_up, lent_used_up, passed_used_up, outside, asks, asks_lent, asks_taken}
+use Rattle.type_check.specs.fip_language.declared.FunKind.{FunKind}
+use Rattle.type_check.specs.fip_language.declared.Place.{Place}
+use Rattle.type_check.specs.fip_language.declared.rule.Rule.TheVariants.{E54, E55}
+use Rattle.derivation_check.specs.fip_base.declared.plain.Param.{Param}
+use Rattle.derivation_check.specs.fip_trees.declared.program.Binder.{Binder}
+use Rattle.derivation_check.specs.fip_trees.Tree.{Name, Argument, Variable, Literal, Constructor, Arguments, NoArguments, MoreArguments}
+use Rattle.derivation_check.specs.fip_trees.Tree.{Pattern, Instance, Program, Expression, Give, Tuple, Operation, Call, Match, Nested, Block, Last, Let, Clauses, NoClauses, MoreClauses}
+use Rattle.ownership_agreement.specs.fip_rules.Marks.{Mark}
+use Rattle.ownership_agreement.specs.fip_rules.Shape as S
+use Rattle.ownership_agreement.specs.fip_rules.Rules.{next}
+use Rattle.ownership_agreement.specs.fip_rules.World.{World, world, lends, weaker}
+use Rattle.ownership_agreement.specs.fip_rules.Shapes as H
+use Rattle.ownership_agreement.specs.fip_rules.Shapes.{Names, Bind, binds, behind, taking, binders, takes, owning, owning_all, lending, passing, passing_all, called, token, used_at, lent_at, clause_shape, shape, shape_block, shape_clauses}
+use Rattle.ownership_agreement.specs.ownership_calculus.Terms as T
+use Rattle.ownership_agreement.specs.ownership_calculus.Terms.{Own, one, has, paid, size}
+use Rattle.ownership_agreement.specs.ownership_calculus.Clean.{used_up, all_used_up, lent_used_up, passed_used_up, outside, asks, asks_lent, asks_taken}
 use Rattle.ownership_agreement.specs.Bodies.{Scalars, variable, value, values, lent_value, passed, variables, entering, inside, past_clause, matched, nodes, term, term_block, clauses}
 use Rattle.ownership_agreement.specs.Sized.{SizedArgument, SizedArguments, SizedExpression, SizedBlock, SizedClauses}
 use Rattle.ownership_agreement.proofs.Basics.{pos, pos_sum, pos_max, paid_none, var_pos, past, past_inside, not_owned}

@@ -1,15 +1,15 @@
 -- What holds of the variables that are there for a part of a body; and that it holds again within binders.
 use Rattle.std.proofs.Common.{◌≡◌, ℕ, zero, suc, ◌≤◌, ◌+◌, ◌⊎◌, inl, inr, refl, sym, ap, subst, ◌∙◌, List, [], ◌++◌, length, Some, Bool, true, false, not, arith}
 use Rattle.std.specs.Prelude.{◌||◌, if◌then◌else◌}
-use Rattle.fip_trees.specs.declared.program.Binder.{Binder}
-use Rattle.fip_rules.specs.World.{World}
-use Rattle.fip_rules.specs.Shapes.{Names}
-use Rattle.ownership_calculus.specs.Terms.{Term, Clauses, Results, Call, Let, Match, Take, LastClause, MoreClauses, Own, has}
-use Rattle.ownership_calculus.specs.Rules.{worth}
-use Rattle.ownership_calculus.specs.Clean.{outside, asks, asks_lent, asks_taken, fewest, fewest_of, Status, Free, Owned, fresh, after, lent, AllUsed, Clean, Even}
-use Rattle.ownership_calculus.specs.Clean as K
-use Rattle.ownership_calculus.proofs.Fit.{held, room, visible}
-use Rattle.ownership_calculus.proofs.Forth.{clean_room, all_used_at}
+use Rattle.derivation_check.specs.fip_trees.declared.program.Binder.{Binder}
+use Rattle.ownership_agreement.specs.fip_rules.World.{World}
+use Rattle.ownership_agreement.specs.fip_rules.Shapes.{Names}
+use Rattle.ownership_agreement.specs.ownership_calculus.Terms.{Term, Clauses, Results, Call, Let, Match, Take, LastClause, MoreClauses, Own, has}
+use Rattle.ownership_agreement.specs.ownership_calculus.Rules.{worth}
+use Rattle.ownership_agreement.specs.ownership_calculus.Clean.{outside, asks, asks_lent, asks_taken, fewest, fewest_of, Status, Free, Owned, fresh, after, lent, AllUsed, Clean, Even}
+use Rattle.ownership_agreement.specs.ownership_calculus.Clean as K
+use Rattle.ownership_agreement.proofs.ownership_calculus.Fit.{held, room, visible}
+use Rattle.ownership_agreement.proofs.ownership_calculus.Forth.{clean_room, all_used_at}
 use Rattle.ownership_agreement.specs.Bodies.{Scalars, variables}
 use Rattle.ownership_agreement.proofs.Basics.{not_owned}
 use Rattle.derivation_check.specs.Owned.{Rising}

@@ -2,14 +2,14 @@
 use Rattle.std.proofs.Common.{◌≡◌, ℕ, zero, suc, ◌<◌, ◌≤◌, ◌+◌, inl, inr, refl, sym, ap, subst, ◌∙◌, List, [], ◌∷◌, ◌++◌, length, map, Option, Some, None, Bool, true, false, not, arith}
 use Rattle.std.specs.Prelude.{◌==◌, slice_get, if◌then◌else◌}
 use Rattle.std.proofs.lemmas.Bool.Decides.{nat_tests}
-use Rattle.fip_language.specs.declared.FunKind.{FunKind}
-use Rattle.fip_language.specs.Table.{is_scalar}
-use Rattle.fip_base.specs.declared.plain.Param.{Param}
-use Rattle.fip_trees.specs.declared.program.Binder.{Binder}
-use Rattle.fip_trees.specs.Tree.{Program, Instance, Argument, Variable, Literal, Constructor, Arguments, NoArguments, MoreArguments, count, Pattern, BinderPattern, LiteralPattern, ConstructorPattern, Patterns, NoPatterns, MorePatterns, Expression, Give, Tuple, Operation, Call, Match, Nested, Block, Last, Let, Clauses, NoClauses, MoreClauses}
-use Rattle.fip_rules.specs.World as F
-use Rattle.fip_rules.specs.World.{is_ruled}
-use Rattle.fip_rules.specs.Shapes.{binders, binders_all, takes}
+use Rattle.type_check.specs.fip_language.declared.FunKind.{FunKind}
+use Rattle.type_check.specs.fip_language.Table.{is_scalar}
+use Rattle.derivation_check.specs.fip_base.declared.plain.Param.{Param}
+use Rattle.derivation_check.specs.fip_trees.declared.program.Binder.{Binder}
+use Rattle.derivation_check.specs.fip_trees.Tree.{Program, Instance, Argument, Variable, Literal, Constructor, Arguments, NoArguments, MoreArguments, count, Pattern, BinderPattern, LiteralPattern, ConstructorPattern, Patterns, NoPatterns, MorePatterns, Expression, Give, Tuple, Operation, Call, Match, Nested, Block, Last, Let, Clauses, NoClauses, MoreClauses}
+use Rattle.ownership_agreement.specs.fip_rules.World as F
+use Rattle.ownership_agreement.specs.fip_rules.World.{is_ruled}
+use Rattle.ownership_agreement.specs.fip_rules.Shapes.{binders, binders_all, takes}
 use Rattle.type_check.specs.Found.{or_found}
 use Rattle.type_check.specs.Binders.{all_annotated, entries, entry}
 use Rattle.type_check.specs.Scope as S

@@ -2,24 +2,24 @@
 use Rattle.std.proofs.Common.{◌≡◌, ℕ, suc, ◌<◌, ◌≤◌, ◌+◌, inl, inr, refl, sym, ap, subst, ◌∙◌, List, [], ◌∷◌, ◌++◌, length, Some, None, Bool, true, false, not, arith}
 use Rattle.std.specs.Prelude.{◌==◌, ◌||◌, if◌then◌else◌}
 use Rattle.std.proofs.lemmas.Bool.Decides.{nat_tests}
-use Rattle.fip_base.specs.declared.plain.Param.{Param}
-use Rattle.fip_trees.specs.declared.program.Binder.{Binder}
-use Rattle.fip_trees.specs.Tree.{Instance, Program}
-use Rattle.fip_rules.specs.World.{World, world, is_fip, is_ruled}
-use Rattle.fip_rules.specs.Shapes as H
-use Rattle.fip_rules.specs.Shapes.{Names, mark, or_later, no_names}
-use Rattle.credit_check.specs.Needs.{marked, need_block}
-use Rattle.ownership_calculus.specs.Terms.{Term, Item, Own, Credit, has, given}
-use Rattle.ownership_calculus.specs.Rules.{Fits}
-use Rattle.ownership_calculus.specs.Clean.{asks, fewest, Status, Free, Owned}
-use Rattle.ownership_calculus.specs.Functions.{Accepted}
-use Rattle.ownership_calculus.specs.Functions as F
-use Rattle.ownership_calculus.proofs.Fit.{held, room, visible}
-use Rattle.ownership_calculus.proofs.Forth.{clean_room, all_used_at}
+use Rattle.derivation_check.specs.fip_base.declared.plain.Param.{Param}
+use Rattle.derivation_check.specs.fip_trees.declared.program.Binder.{Binder}
+use Rattle.derivation_check.specs.fip_trees.Tree.{Instance, Program}
+use Rattle.ownership_agreement.specs.fip_rules.World.{World, world, is_fip, is_ruled}
+use Rattle.ownership_agreement.specs.fip_rules.Shapes as H
+use Rattle.ownership_agreement.specs.fip_rules.Shapes.{Names, mark, or_later, no_names}
+use Rattle.ownership_agreement.specs.credit_check.Needs.{marked, need_block}
+use Rattle.ownership_agreement.specs.ownership_calculus.Terms.{Term, Item, Own, Credit, has, given}
+use Rattle.ownership_agreement.specs.ownership_calculus.Rules.{Fits}
+use Rattle.ownership_agreement.specs.ownership_calculus.Clean.{asks, fewest, Status, Free, Owned}
+use Rattle.ownership_agreement.specs.ownership_calculus.Functions.{Accepted}
+use Rattle.ownership_agreement.specs.ownership_calculus.Functions as F
+use Rattle.ownership_agreement.proofs.ownership_calculus.Fit.{held, room, visible}
+use Rattle.ownership_agreement.proofs.ownership_calculus.Forth.{clean_room, all_used_at}
 use Rattle.ownership_agreement.specs.Bodies.{Scalars, borrowed_parameters, owned_parameters, entering_parameters, no_variables, body_term}
 use Rattle.ownership_agreement.specs.Sized.{IsSized, AreSizes}
 use Rattle.ownership_agreement.proofs.Amounts.{header_given, header_out, block_need}
-use Rattle.derivation_trees.specs.Trees.{Tree, Entry}
+use Rattle.derivation_check.specs.derivation_trees.Trees.{Tree, Entry}
 use Rattle.derivation_check.specs.Owned.{amount, root, Rising}
 use Rattle.derivation_check.specs.Scopes.{Known, known, parameters, AreNumbered}
 use Rattle.derivation_check.specs.Calculus.{Choice}

@@ -5,12 +5,12 @@
 -- argument in a borrowed position is no literal; a scrutinee is a variable of the match's type; a let binds something.
 use Rattle.std.specs.Prelude.{◌≡◌, ◌<◌, ◌+◌, ℕ, Bool, true, false, List, [], ◌∷◌, ◌++◌, length, Option, Some, None}
 use Rattle.std.specs.Prelude.{slice_get}
-use Rattle.fip_base.specs.declared.plain.Param.{Param}
-use Rattle.fip_trees.specs.Tree.{Argument, Variable, Literal, Constructor, Arguments, NoArguments, MoreArguments}
-use Rattle.fip_trees.specs.Tree.{Expression, Give, Tuple, Operation, Call, Match, Nested, Block, Last, Let}
-use Rattle.fip_trees.specs.Tree.{Clauses, NoClauses, MoreClauses, Instance, Program}
-use Rattle.fip_rules.specs.World.{World, world, is_ruled}
-use Rattle.fip_rules.specs.Shapes.{binders, takes}
+use Rattle.derivation_check.specs.fip_base.declared.plain.Param.{Param}
+use Rattle.derivation_check.specs.fip_trees.Tree.{Argument, Variable, Literal, Constructor, Arguments, NoArguments, MoreArguments}
+use Rattle.derivation_check.specs.fip_trees.Tree.{Expression, Give, Tuple, Operation, Call, Match, Nested, Block, Last, Let}
+use Rattle.derivation_check.specs.fip_trees.Tree.{Clauses, NoClauses, MoreClauses, Instance, Program}
+use Rattle.ownership_agreement.specs.fip_rules.World.{World, world, is_ruled}
+use Rattle.ownership_agreement.specs.fip_rules.Shapes.{binders, takes}
 use Rattle.derivation_check.specs.Scopes.{Known, meant, named, parameters, AreNumbered, within, within_block}
 use Rattle.derivation_check.specs.Calculus.{Choice, Operand, Plain}
 

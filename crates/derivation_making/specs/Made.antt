@@ -6,19 +6,19 @@
 -- the rest. A clause takes all that the match has, and what its pattern gives.
 use Rattle.std.specs.Prelude.{ℕ, zero, suc, ◌+◌, Bool, true, false, not, ◌&&◌, ◌||◌, ◌==◌, List, [], ◌∷◌, ◌++◌}
 use Rattle.std.specs.Prelude.{length, Option, Some, None, slice_get, nat_lt, if◌then◌else◌}
-use Rattle.fip_language.specs.declared.limits.TheConstants.{MOST_FIELDS}
-use Rattle.fip_base.specs.declared.plain.Param.{Param}
-use Rattle.fip_trees.specs.declared.program.Binder.{Binder}
-use Rattle.fip_trees.specs.Tree.{Argument, Variable, Literal, Constructor, Arguments, NoArguments, MoreArguments}
-use Rattle.fip_trees.specs.Tree.{Expression, Give, Tuple, Operation, Call, Match, Nested, Block, Last, Let}
-use Rattle.fip_trees.specs.Tree.{Clauses, NoClauses, MoreClauses, Instance, Program}
-use Rattle.fip_rules.specs.World.{World, world, is_ruled}
-use Rattle.fip_rules.specs.Shapes.{binders, takes}
-use Rattle.credit_check.specs.Needs.{made, made_all, marked, given, need, need_block}
-use Rattle.derivation_trees.specs.declared.derivation.RuleName.{RuleName}
-use Rattle.derivation_trees.specs.declared.derivation.RuleName.TheVariants as R
-use Rattle.derivation_trees.specs.declared.derivation.Credit as D
-use Rattle.derivation_trees.specs.Trees.{Tree, Branch, Trees, NoTrees, MoreTrees, Entry}
+use Rattle.type_check.specs.fip_language.declared.limits.TheConstants.{MOST_FIELDS}
+use Rattle.derivation_check.specs.fip_base.declared.plain.Param.{Param}
+use Rattle.derivation_check.specs.fip_trees.declared.program.Binder.{Binder}
+use Rattle.derivation_check.specs.fip_trees.Tree.{Argument, Variable, Literal, Constructor, Arguments, NoArguments, MoreArguments}
+use Rattle.derivation_check.specs.fip_trees.Tree.{Expression, Give, Tuple, Operation, Call, Match, Nested, Block, Last, Let}
+use Rattle.derivation_check.specs.fip_trees.Tree.{Clauses, NoClauses, MoreClauses, Instance, Program}
+use Rattle.ownership_agreement.specs.fip_rules.World.{World, world, is_ruled}
+use Rattle.ownership_agreement.specs.fip_rules.Shapes.{binders, takes}
+use Rattle.ownership_agreement.specs.credit_check.Needs.{made, made_all, marked, given, need, need_block}
+use Rattle.derivation_check.specs.derivation_trees.declared.derivation.RuleName.{RuleName}
+use Rattle.derivation_check.specs.derivation_trees.declared.derivation.RuleName.TheVariants as R
+use Rattle.derivation_check.specs.derivation_trees.declared.derivation.Credit as D
+use Rattle.derivation_check.specs.derivation_trees.Trees.{Tree, Branch, Trees, NoTrees, MoreTrees, Entry}
 use Rattle.derivation_check.specs.Scopes.{Known, meant, named, parameters, within, within_block}
 use Rattle.derivation_making.specs.Uses.{names, occurs_value, occurs_values, occurs, occurs_block, uses}
 

@@ -2,10 +2,10 @@
 -- the program's from c on and the derivation's, below 2^32, from d on; and a let binds something. So it is with each
 -- program of a source.
 use Rattle.std.specs.Prelude.{◌≡◌, ◌<◌, ◌+◌, ℕ, true, List, [], ◌∷◌, length}
-use Rattle.fip_trees.specs.Tree.{Expression, Give, Tuple, Operation, Call, Match, Nested, Block, Last, Let}
-use Rattle.fip_trees.specs.Tree.{Clauses, NoClauses, MoreClauses, Instance, Program}
-use Rattle.fip_rules.specs.Shapes.{binders}
-use Rattle.fip_rules.specs.World.{is_ruled}
+use Rattle.derivation_check.specs.fip_trees.Tree.{Expression, Give, Tuple, Operation, Call, Match, Nested, Block, Last, Let}
+use Rattle.derivation_check.specs.fip_trees.Tree.{Clauses, NoClauses, MoreClauses, Instance, Program}
+use Rattle.ownership_agreement.specs.fip_rules.Shapes.{binders}
+use Rattle.ownership_agreement.specs.fip_rules.World.{is_ruled}
 use Rattle.derivation_check.specs.Scopes.{AreNumbered, within, within_block}
 
 abbrev mutual

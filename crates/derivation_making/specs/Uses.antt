@@ -3,11 +3,11 @@
 --
 -- For example in f(^x, y), where f borrows its first argument, both x and y occur, and y is used up.
 use Rattle.std.specs.Prelude.{ℕ, suc, Bool, false, ◌&&◌, ◌||◌, ◌==◌, Option, Some, None, if◌then◌else◌}
-use Rattle.fip_trees.specs.Tree.{Argument, Variable, Literal, Constructor, Arguments, NoArguments, MoreArguments}
-use Rattle.fip_trees.specs.Tree.{Expression, Give, Tuple, Operation, Call, Match, Nested, Block, Last, Let}
-use Rattle.fip_trees.specs.Tree.{Clauses, NoClauses, MoreClauses}
-use Rattle.fip_rules.specs.World.{World, lends}
-use Rattle.fip_rules.specs.Shapes.{takes}
+use Rattle.derivation_check.specs.fip_trees.Tree.{Argument, Variable, Literal, Constructor, Arguments, NoArguments, MoreArguments}
+use Rattle.derivation_check.specs.fip_trees.Tree.{Expression, Give, Tuple, Operation, Call, Match, Nested, Block, Last, Let}
+use Rattle.derivation_check.specs.fip_trees.Tree.{Clauses, NoClauses, MoreClauses}
+use Rattle.ownership_agreement.specs.fip_rules.World.{World, lends}
+use Rattle.ownership_agreement.specs.fip_rules.Shapes.{takes}
 
 abbrev pub names : ℕ → Option ℕ → Bool
 names x None = false

@@ -1,7 +1,7 @@
 // The derivation that is made for a program: it is one of the program.
 #![tactic(auto)]
 
-ghost use Rattle.fip_trees.specs.Tree.{Program};
+ghost use Rattle.derivation_check.specs.fip_trees.Tree.{Program};
 ghost use Rattle.type_check.specs.Typing.{IsFilled};
 ghost use Rattle.ownership_agreement.specs.Agreement.{AreSized, IsAccepted};
 ghost use Rattle.derivation_check.specs.Accepted.{IsDerivation};

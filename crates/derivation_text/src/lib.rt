@@ -11,12 +11,12 @@
 
 mod bounds;
 mod error;
-pub mod theorems;
 mod read;
 mod reader;
 mod rules;
 mod spot;
 mod text;
+pub mod theorems;
 mod write;
 
 pub use error::{ProofError, TextError};

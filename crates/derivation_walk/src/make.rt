@@ -23,6 +23,7 @@ ghost use Rattle.derivation_walk.specs.declared.error.LineError.TheVariants.{Too
 
 use crate::credits::{add_argument, add_pattern, are_same, credits_of, marked};
 use crate::error::LineError;
+use crate::{Context, Uses};
 use derivation_trees::{Builder, Derivation, Line, RuleName};
 use fip_base::plain::{FunKind, NoMemory, Param};
 use fip_trees::needs::{Need, Needs};
@@ -32,7 +33,6 @@ use fip_trees::program::{
 use fip_trees::scalars::Scalars;
 use fip_trees::sizes::Sizes;
 use std::alloc::Global;
-use crate::{Context, Uses};
 
 /// The derivation of a typed program, which is asked to break no rule on ownership and credits, and whose needs these
 /// are. NoMemory: no memory is left.

@@ -2,8 +2,8 @@
 #![tactic(auto)]
 
 use fip_base::plain::NoMemory;
-use fip_outside::real::{FileFolder, StdSink, StdSource};
 use fip_driver::{fp2, tell_no_memory};
+use fip_outside::real::{FileFolder, StdSink, StdSource};
 use std::env;
 use std::io::ErrorKind;
 use std::process::ExitCode;

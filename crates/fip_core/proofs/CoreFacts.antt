@@ -1,9 +1,9 @@
 -- The views of the core tree against the definition of the core form.
 use Rattle.std.proofs.Common.{Box, Vec, Global, ◌≡◌, ℕ, List, [], ◌∷◌, ◌++◌, map, refl, sym, ap, ◌∙◌}
 use Rattle.std.proofs.lemmas.List.{map-append}
-use Rattle.fip_language.specs.declared.Place.{Place}
-use Rattle.fip_language.specs.Core as C
-use Rattle.fip_language.specs.CoreForm as form
+use Rattle.fip_base.specs.fip_language.declared.Place.{Place}
+use Rattle.fip_base.specs.fip_language.Core as C
+use Rattle.fip_base.specs.fip_language.CoreForm as form
 use Rattle.fip_base.specs.CoreView as core
 use Rattle.fip_base.specs.declared.core_form.Expression.TheOpen as O
 use Rattle.fip_base.specs.declared.core_form.Expression.TheVariants as V

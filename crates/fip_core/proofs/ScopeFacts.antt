@@ -11,7 +11,7 @@ use Rattle.std.proofs.lemmas.Bool.{cases_Bool, cond-true, cond-false, false_from
 use Rattle.std.proofs.lemmas.Map.Text.{is_eq-slice_cmp}
 use Rattle.std.proofs.lemmas.Slice.Eq.{bytes_eq-Decides}
 use Rattle.std.proofs.lemmas.List.{map-append, append_assoc, append-nil}
-use Rattle.fip_language.specs.CoreForm.{Named, Scope, lookup, latest}
+use Rattle.fip_base.specs.fip_language.CoreForm.{Named, Scope, lookup, latest}
 use Rattle.fip_core.specs.ScopeView.{named, HideEarlier, IsKept}
 use Rattle.fip_core.specs.declared.scope.Entry.{Entry}
 

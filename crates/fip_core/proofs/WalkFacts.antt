@@ -5,12 +5,12 @@ use Rattle.std.specs.Str.{bytes_eq}
 use Rattle.std.specs.declared.vec.IntoIter.{IntoIter}
 use Rattle.std.specs.Vec.Iter.{into_iter_items, into_iter_len}
 use Rattle.std.proofs.lemmas.List.{append_assoc, append-nil, reverse-append, take-append-le, take_all, map-append, length-map}
-use Rattle.fip_language.specs.declared.Place.{Place}
-use Rattle.fip_language.specs.declared.Operator.{Operator}
-use Rattle.fip_language.specs.Core as C
-use Rattle.fip_language.specs.Surface as S
-use Rattle.fip_language.specs.CoreForm as form
-use Rattle.fip_language.specs.CoreForm.{Scope, Binding, Whole, Part, Parts}
+use Rattle.fip_base.specs.fip_language.declared.Place.{Place}
+use Rattle.fip_base.specs.fip_language.declared.Operator.{Operator}
+use Rattle.fip_base.specs.fip_language.Core as C
+use Rattle.fip_base.specs.fip_language.Surface as S
+use Rattle.fip_base.specs.fip_language.CoreForm as form
+use Rattle.fip_base.specs.fip_language.CoreForm.{Scope, Binding, Whole, Part, Parts}
 use Rattle.fip_base.specs.CoreView as core
 use Rattle.fip_core.proofs.CoreFacts.{clauses_push}
 use Rattle.fip_base.proofs.SurfaceLayers.{expression_view, left_by_push}

@@ -1,6 +1,6 @@
 -- The names in scope, as the code keeps them: each binding knows the number that it hides, so that it can be undone.
 use Rattle.std.specs.Prelude.{◌≡◌, ℕ, List, [], ◌∷◌, ◌++◌, map, Option}
-use Rattle.fip_language.specs.CoreForm.{Named, Scope, lookup}
+use Rattle.fip_base.specs.fip_language.CoreForm.{Named, Scope, lookup}
 use Rattle.fip_core.specs.declared.scope.Entry.{Entry}
 
 abbrev pub named : Entry → Named

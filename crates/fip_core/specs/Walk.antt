@@ -1,12 +1,12 @@
 -- What the steps of an expression come to, one after another: the lets that are made, what the step gives, and the
 -- arguments that wait, the last one first.
 use Rattle.std.specs.Prelude.{pos, ℕ, ◌+◌, Bool, true, List, [], ◌∷◌, ◌++◌, length, map, reverse, None}
-use Rattle.fip_language.specs.declared.Place.{Place}
-use Rattle.fip_language.specs.Core as C
-use Rattle.fip_language.specs.Core.{Name}
-use Rattle.fip_language.specs.Surface as S
-use Rattle.fip_language.specs.CoreForm.{Scope, Binding, Part, Parts, whole, contents, cases, pattern, bound, part_from}
-use Rattle.fip_language.specs.CoreForm.{as_part, as_block, variable_from, if_match, binders, with_binders}
+use Rattle.fip_base.specs.fip_language.declared.Place.{Place}
+use Rattle.fip_base.specs.fip_language.Core as C
+use Rattle.fip_base.specs.fip_language.Core.{Name}
+use Rattle.fip_base.specs.fip_language.Surface as S
+use Rattle.fip_base.specs.fip_language.CoreForm.{Scope, Binding, Part, Parts, whole, contents, cases, pattern, bound, part_from}
+use Rattle.fip_base.specs.fip_language.CoreForm.{as_part, as_block, variable_from, if_match, binders, with_binders}
 use Rattle.fip_base.specs.declared.core_form.Argument.{Argument}
 use Rattle.fip_base.specs.declared.core_form.Binding as B
 use Rattle.fip_base.specs.CoreView as core

@@ -7,9 +7,9 @@
 // form. Only the names that binders bring into scope are copied, and the names that no source has are made.
 ghost use Rattle.std.specs.Prelude.{◌≡◌, ℕ, ◌+◌, List, [], ◌∷◌, ◌++◌, map, length, cond, Some, None, IfOk, OnOk};
 ghost use Rattle.std.specs.Str.{bytes_eq};
-ghost use Rattle.fip_language.specs.Core as C;
-ghost use Rattle.fip_language.specs.Surface as S;
-ghost use Rattle.fip_language.specs.CoreForm as form;
+ghost use Rattle.fip_base.specs.fip_language.Core as C;
+ghost use Rattle.fip_base.specs.fip_language.Surface as S;
+ghost use Rattle.fip_base.specs.fip_language.CoreForm as form;
 ghost use Rattle.fip_base.specs.CoreView as core_view;
 ghost use Rattle.fip_base.specs.SurfaceView as surface;
 ghost use Rattle.fip_core.specs.Walk.{bindings, fresh, part_behind, waiting, top_argument, under_top, stepped};

@@ -1,7 +1,7 @@
 // The names in scope. A map finds the latest binding of a name, and a list of the bindings undoes them. Both keep names
 // of their own, since the tree that is numbered takes its names along.
 ghost use Rattle.std.specs.Prelude.{◌≡◌, List, [], ◌∷◌, ◌++◌, ◌-◌, map, take, length, OnOk, OnErr};
-ghost use Rattle.fip_language.specs.CoreForm.{lookup};
+ghost use Rattle.fip_base.specs.fip_language.CoreForm.{lookup};
 
 use fip_base::plain::NoMemory;
 use std::alloc::Global;
@@ -28,7 +28,7 @@ impl Model for Scope {
     ghost use Rattle.std.specs.Cmp.Lexicographic.{slice_cmp};
     ghost use Rattle.std.specs.Ordering.{nat_cmp};
     ghost use Rattle.std.specs.BTreeMap.{get_by};
-    ghost use Rattle.fip_language.specs.CoreForm.{Named};
+    ghost use Rattle.fip_base.specs.fip_language.CoreForm.{Named};
     ghost use Rattle.fip_core.specs.ScopeView.{named, IsKept};
 
     ghost Value = { List Named };

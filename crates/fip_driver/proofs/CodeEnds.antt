@@ -10,10 +10,10 @@ use Rattle.command_words.specs.Words.{Request, Command, Verify, Upgrade, Run}
 use Rattle.command_outcome.specs.declared.failure.Failure.{Failure}
 use Rattle.command_outcome.specs.declared.failure.Failure.TheVariants as F
 use Rattle.command_outcome.specs.declared.failure.Object.TheVariants as O
-use Rattle.source_report.specs.Report.{bare}
-use Rattle.command_run.specs.CodeRun.{RunsCode}
-use Rattle.command_source.specs.Codes.{LongFile, KeepsFromCode, KeepsFromUpgrade, KeepsFromRun, IsCodeListing, IsUpgraded, HasFunction}
-use Rattle.command_source.specs.Wanted.{IsRefusedBy, of_entry}
+use Rattle.command_tasks.specs.source_report.Report.{bare}
+use Rattle.command_library.specs.command_run.CodeRun.{RunsCode}
+use Rattle.command_library.specs.command_source.Codes.{LongFile, KeepsFromCode, KeepsFromUpgrade, KeepsFromRun, IsCodeListing, IsUpgraded, HasFunction}
+use Rattle.command_library.specs.command_source.Wanted.{IsRefusedBy, of_entry}
 use Rattle.fip_driver.specs.Commands.{fetched_name}
 use Rattle.fip_driver.specs.Ends.{End, SaysOfCode, CodeRefused, CodeListed, CodeUpgraded, CodeUnspelt, NoFunction, LongRun, CodeRan, AsksCode, Says, OnCode, Comes, IsThere}
 use Rattle.fip_driver.specs.Fetched.{StoreFails}

@@ -7,20 +7,20 @@ use Rattle.std.proofs.lemmas.Slice.Eq.{bytes_eq-Decides}
 use Rattle.fip_language.specs.declared.rule.Rule.TheVariants.{E70}
 use Rattle.fip_language.proofs.OnePlace.{IsPlace-unique, IsPlace-not_spelt}
 use Rattle.command_words.specs.Words.{Room, Request, Command, Verify, Upgrade, Run}
-use Rattle.code_file.specs.CodeText.{IsFileOf}
-use Rattle.code_file.specs.Plain.{PlainCode}
-use Rattle.code_file.proofs.Whole.{one_code}
-use Rattle.code_rules.specs.Breaks.{IsLeast}
-use Rattle.code_rules.specs.Codes as S
-use Rattle.code_rules.proofs.Numbers.{has_once}
-use Rattle.code_rules.proofs.Order.{least_once}
+use Rattle.command_tasks.specs.code_file.CodeText.{IsFileOf}
+use Rattle.command_tasks.specs.code_file.Plain.{PlainCode}
+use Rattle.command_tasks.proofs.code_file.Whole.{one_code}
+use Rattle.command_library.specs.code_rules.Breaks.{IsLeast}
+use Rattle.command_library.specs.code_rules.Codes as S
+use Rattle.command_library.proofs.code_rules.Numbers.{has_once}
+use Rattle.command_library.proofs.code_rules.Order.{least_once}
 use Rattle.command_outcome.specs.Successes.{function_text}
 use Rattle.command_outcome.specs.declared.failure.Failure.{Failure}
 use Rattle.command_outcome.specs.declared.failure.Failure.TheVariants as F
-use Rattle.command_source.specs.Codes.{sound_view, IsSoundFile, RefusesCode, LongFile, BadFile, UnsoundFile, IsLine, AreLines, IsCodeListing, IsUpgraded, IsUnspelt, HasFunction, has_named, names_one}
-use Rattle.command_source.specs.Wanted.{of_entry}
-use Rattle.command_run.specs.CodeRun.{RunsCode}
-use Rattle.command_run.proofs.CodeOnce.{code_run_once, code_run_there}
+use Rattle.command_library.specs.command_source.Codes.{sound_view, IsSoundFile, RefusesCode, LongFile, BadFile, UnsoundFile, IsLine, AreLines, IsCodeListing, IsUpgraded, IsUnspelt, HasFunction, has_named, names_one}
+use Rattle.command_library.specs.command_source.Wanted.{of_entry}
+use Rattle.command_library.specs.command_run.CodeRun.{RunsCode}
+use Rattle.command_library.proofs.command_run.CodeOnce.{code_run_once, code_run_there}
 use Rattle.fip_driver.specs.Ends.{End, SaysOfCode, CodeRefused, CodeListed, CodeUpgraded, CodeUnspelt, NoFunction, LongRun, CodeRan, AsksCode}
 
 -- ---- the code

@@ -8,22 +8,22 @@ use Rattle.command_library.proofs.Once.{generated_once}
 use Rattle.command_library.proofs.Texts.{text_once}
 use Rattle.command_words.specs.Words.{Room, Request, Command, Check, Verify, Upgrade, Exec, Run, Tasks, Derive, Audit, Replay, Library, Gen, Eval}
 use Rattle.command_outcome.specs.declared.failure.Failure.TheVariants as F
-use Rattle.command_eval.specs.EvalAnswer.{Evaluates}
-use Rattle.command_eval.proofs.Once.{evaluated_once, evaluated_ready}
+use Rattle.command_library.specs.command_eval.EvalAnswer.{Evaluates}
+use Rattle.command_library.proofs.command_eval.Once.{evaluated_once, evaluated_ready}
 use Rattle.fip_trees.specs.Tree.{Program}
-use Rattle.source_report.specs.Report.{IsMatched}
-use Rattle.source_report.proofs.Once.{typed_once}
-use Rattle.run_loading.proofs.Either.{one_trace, not_both, one_place}
-use Rattle.run_loading.specs.Replaying.{replayed}
-use Rattle.command_source.specs.Roots.{IsListing}
-use Rattle.command_run.specs.ExecAnswer.{Execs}
-use Rattle.command_run.proofs.ExecOnce.{exec_once}
+use Rattle.command_tasks.specs.source_report.Report.{IsMatched}
+use Rattle.command_tasks.proofs.source_report.Once.{typed_once}
+use Rattle.command_tasks.proofs.run_loading.Either.{one_trace, not_both, one_place}
+use Rattle.command_tasks.specs.run_loading.Replaying.{replayed}
+use Rattle.command_library.specs.command_source.Roots.{IsListing}
+use Rattle.command_library.specs.command_run.ExecAnswer.{Execs}
+use Rattle.command_library.proofs.command_run.ExecOnce.{exec_once}
 use Rattle.command_tasks.specs.TasksAnswer.{TakesTurns}
 use Rattle.command_tasks.proofs.Once.{turns_once, turns_ready}
-use Rattle.command_source.specs.Wanted.{Wanted, Lawful, Root, Compiled, IsReady}
-use Rattle.command_source.proofs.Deriving.{derived_ready, underived_ready, derived_or_underived}
-use Rattle.command_source.proofs.Judging.{rejected_once, accepted_not_rejected}
-use Rattle.command_source.proofs.Once.{listing_once, listing_ready, report_once, refused_once, refused_not_ready}
+use Rattle.command_library.specs.command_source.Wanted.{Wanted, Lawful, Root, Compiled, IsReady}
+use Rattle.command_library.proofs.command_source.Deriving.{derived_ready, underived_ready, derived_or_underived}
+use Rattle.command_library.proofs.command_source.Judging.{rejected_once, accepted_not_rejected}
+use Rattle.command_library.proofs.command_source.Once.{listing_once, listing_ready, report_once, refused_once, refused_not_ready}
 use Rattle.fip_driver.specs.Commands.{ReadsInput, fetched_name, wanted}
 use Rattle.fip_driver.specs.Ends.{End, SaysOf, Refused, Listed, LongInput, Evaluated, Executed, TookTurns, Derived, Underived, IsTaken, Checks, Says, Missing, OnSource, OnCode, OnAudit, OfLibrary, AsksCode, SaysOfCode, IsVerdict, SaysOfAudit, Reported, NoProof, Judged, IsUnsaidOn, IsThere, OnTrace, SaysOfTrace, IsOpen, OpenSource, OfGen}
 use Rattle.fip_driver.proofs.OneCode.{says_asks, code_once}

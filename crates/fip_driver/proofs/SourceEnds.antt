@@ -10,29 +10,29 @@ use Rattle.fip_base.specs.declared.refusal.Refusal.{Refusal}
 use Rattle.fip_outside.specs.Faults.{Rose}
 use Rattle.fip_outside.specs.Files.{File, file_of, HoldsFile, HoldsLonger, IsMissing}
 use Rattle.fip_trees.specs.Tree.{Program}
-use Rattle.run_loading.specs.TraceText.{trace_text}
+use Rattle.command_tasks.specs.run_loading.TraceText.{trace_text}
 use Rattle.command_tasks.specs.TasksAnswer.{TakesTurns}
 use Rattle.command_trace.specs.TraceAnswer.{Kept, Traces, Ended, Stored, TooLong as LongTrace, KeptOrNoMemory}
 use Rattle.fip_driver.specs.Unread.{IsTraceFile}
 use Rattle.command_words.specs.Words.{Room, Request, Command, Check, Compile, Exec, Trace, Tasks, Derive, Audit, Eval, Replay, Library, Gen, IsTextName}
 use Rattle.command_library.specs.GenAnswer.{Generates}
 use Rattle.command_trace.specs.Replayed.{IsReplayed, KeepsFromReplay}
-use Rattle.fip_library.specs.Texts.{IsText}
+use Rattle.command_library.specs.fip_library.Texts.{IsText}
 use Rattle.command_outcome.specs.Successes.{derived_text}
 use Rattle.command_outcome.specs.declared.failure.Failure.{Failure}
 use Rattle.command_outcome.specs.declared.failure.Failure.TheVariants as F
 use Rattle.command_outcome.specs.declared.failure.Object.TheVariants as O
-use Rattle.source_report.specs.Report.{bare, IsMatched, TooLong}
-use Rattle.command_eval.specs.EvalAnswer.{Evaluates, OrNoMemory}
-use Rattle.command_run.specs.ExecAnswer.{Execs}
-use Rattle.command_source.specs.Judged.{IsEarlyReport, IsBadProof, IsProofOf, IsRejectedOf}
-use Rattle.command_source.specs.Derived.{IsDerivedFile, KeepsFromDerive}
-use Rattle.command_source.specs.ProgramCode.{KeepsFromCompile}
-use Rattle.command_source.specs.Roots.{IsListing}
-use Rattle.command_source.specs.Wanted.{Wanted, Lawful, Root, Compiled, IsReady, IsRefusedBy, KeepsFrom, of_entry}
-use Rattle.command_source.proofs.Once.{listing_ready}
-use Rattle.command_source.proofs.Compiling.{uncompiled_ready}
-use Rattle.command_source.specs.declared.files.Compiled.{Compiled as compiled_file}
+use Rattle.command_tasks.specs.source_report.Report.{bare, IsMatched, TooLong}
+use Rattle.command_library.specs.command_eval.EvalAnswer.{Evaluates, OrNoMemory}
+use Rattle.command_library.specs.command_run.ExecAnswer.{Execs}
+use Rattle.command_library.specs.command_source.Judged.{IsEarlyReport, IsBadProof, IsProofOf, IsRejectedOf}
+use Rattle.command_library.specs.command_source.Derived.{IsDerivedFile, KeepsFromDerive}
+use Rattle.command_library.specs.command_source.ProgramCode.{KeepsFromCompile}
+use Rattle.command_library.specs.command_source.Roots.{IsListing}
+use Rattle.command_library.specs.command_source.Wanted.{Wanted, Lawful, Root, Compiled, IsReady, IsRefusedBy, KeepsFrom, of_entry}
+use Rattle.command_library.proofs.command_source.Once.{listing_ready}
+use Rattle.command_library.proofs.command_source.Compiling.{uncompiled_ready}
+use Rattle.command_library.specs.command_source.declared.files.Compiled.{Compiled as compiled_file}
 use Rattle.fip_driver.specs.Answered.{IsTold}
 use Rattle.fip_driver.specs.Commands.{ReadsInput, CallsNoFolder, fetched_name, wanted}
 use Rattle.fip_driver.specs.Ends.{End, SaysOf, Refused, Listed, LongInput, Evaluated, Executed, TookTurns, Derived, Underived, ComesOf, Ready, MayEnd, TracesTo, IsTaken, Checks, Says, Missing, OnSource, OnAudit, OnTrace, OfLibrary, Comes, MayOnSource, IsThere, IsVerdict, SaysOfAudit, Reported, NoProof, Judged, OfGen}

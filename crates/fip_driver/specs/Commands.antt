@@ -3,7 +3,7 @@
 use Rattle.std.specs.Prelude.{ℕ, List, Option, Some, None}
 use Rattle.command_words.specs.Words.{Command, Check, Compile, Verify, Upgrade, Exec, Run, Eval, Trace, Session, Tasks}
 use Rattle.command_words.specs.Words.{Derive, Audit, Replay, Library, Gen}
-use Rattle.command_source.specs.Wanted.{Wanted, Lawful, Root, Compiled}
+use Rattle.command_library.specs.command_source.Wanted.{Wanted, Lawful, Root, Compiled}
 
 -- those that read the input
 abbrev pub ReadsInput : Command → Type 0

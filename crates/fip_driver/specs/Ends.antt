@@ -20,22 +20,22 @@ use Rattle.command_outcome.specs.declared.failure.Failure.{Failure}
 use Rattle.command_outcome.specs.declared.failure.Failure.TheVariants as F
 use Rattle.command_outcome.specs.declared.failure.Object.TheVariants as O
 use Rattle.fip_trees.specs.Tree.{Program}
-use Rattle.source_report.specs.Report.{bare, IsMatched}
-use Rattle.code_file.specs.Plain.{PlainCode}
-use Rattle.command_source.specs.Codes.{sound_view, IsSoundFile, RefusesCode, IsCodeListing, IsUpgraded, IsUnspelt}
-use Rattle.command_source.specs.Codes.{names_one, HasFunction}
-use Rattle.command_eval.specs.EvalAnswer.{Evaluates}
+use Rattle.command_tasks.specs.source_report.Report.{bare, IsMatched}
+use Rattle.command_tasks.specs.code_file.Plain.{PlainCode}
+use Rattle.command_library.specs.command_source.Codes.{sound_view, IsSoundFile, RefusesCode, IsCodeListing, IsUpgraded, IsUnspelt}
+use Rattle.command_library.specs.command_source.Codes.{names_one, HasFunction}
+use Rattle.command_library.specs.command_eval.EvalAnswer.{Evaluates}
 use Rattle.command_trace.specs.Replayed.{IsReplayed}
-use Rattle.fip_library.specs.Texts.{IsText}
+use Rattle.command_library.specs.fip_library.Texts.{IsText}
 use Rattle.command_library.specs.GenAnswer.{Generates}
-use Rattle.run_loading.specs.TraceReading.{IsBadTrace}
-use Rattle.command_run.specs.CodeRun.{RunsCode}
-use Rattle.command_run.specs.ExecAnswer.{Execs}
-use Rattle.command_source.specs.Derived.{IsDerivedFile, IsUnderived}
-use Rattle.command_source.specs.Judged.{IsEarlyReport, IsProofOf, IsRejectedOf}
-use Rattle.command_source.specs.ProgramCode.{IsUncompiled}
-use Rattle.command_source.specs.Roots.{IsListing}
-use Rattle.command_source.specs.Wanted.{Wanted, Refuses, IsReady, of_entry}
+use Rattle.command_tasks.specs.run_loading.TraceReading.{IsBadTrace}
+use Rattle.command_library.specs.command_run.CodeRun.{RunsCode}
+use Rattle.command_library.specs.command_run.ExecAnswer.{Execs}
+use Rattle.command_library.specs.command_source.Derived.{IsDerivedFile, IsUnderived}
+use Rattle.command_library.specs.command_source.Judged.{IsEarlyReport, IsProofOf, IsRejectedOf}
+use Rattle.command_library.specs.command_source.ProgramCode.{IsUncompiled}
+use Rattle.command_library.specs.command_source.Roots.{IsListing}
+use Rattle.command_library.specs.command_source.Wanted.{Wanted, Refuses, IsReady, of_entry}
 use Rattle.fip_driver.specs.Commands.{ReadsInput, fetched_name, wanted}
 
 abbrev pub End : Type 0

@@ -5,8 +5,8 @@ use Rattle.std.specs.declared.alloc.Global.{Global}
 use Rattle.fip_language.specs.declared.limits.TheConstants.{MOST_FILE_BYTES}
 use Rattle.fip_outside.specs.Files.{File}
 use Rattle.command_words.specs.Words.{Command, Audit, IsCommand}
-use Rattle.command_source.specs.Wanted.{Wanted}
-use Rattle.command_source.specs.declared.files.Compiled.{Compiled}
+use Rattle.command_library.specs.command_source.Wanted.{Wanted}
+use Rattle.command_library.specs.command_source.declared.files.Compiled.{Compiled}
 use Rattle.fip_driver.specs.Answered.{IsTold, IsUnasked}
 use Rattle.fip_driver.specs.Commands.{ReadsInput, CallsNoFolder}
 use Rattle.fip_driver.specs.Ends.{End, SaysOf, ComesOf, SaysOfCode, SaysOfAudit, Says, Comes}

@@ -11,12 +11,12 @@ use Rattle.command_words.specs.Words.{Room, Command, Compile, Derive, Trace, Upg
 use Rattle.command_outcome.specs.declared.failure.Failure.{Failure}
 use Rattle.command_outcome.specs.declared.failure.Failure.TheVariants as F
 use Rattle.command_outcome.specs.declared.failure.Object.TheVariants as O
-use Rattle.command_source.specs.Codes.{IsUpgraded}
-use Rattle.command_source.specs.Derived.{IsDerivedFile}
-use Rattle.command_source.specs.ProgramCode.{IsCompiledFile}
-use Rattle.command_source.specs.Wanted.{Compiled, IsReady}
-use Rattle.run_loading.specs.TraceText as T
-use Rattle.run_loading.specs.TraceText.{trace_text}
+use Rattle.command_library.specs.command_source.Codes.{IsUpgraded}
+use Rattle.command_library.specs.command_source.Derived.{IsDerivedFile}
+use Rattle.command_library.specs.command_source.ProgramCode.{IsCompiledFile}
+use Rattle.command_library.specs.command_source.Wanted.{Compiled, IsReady}
+use Rattle.command_tasks.specs.run_loading.TraceText as T
+use Rattle.command_tasks.specs.run_loading.TraceText.{trace_text}
 use Rattle.command_trace.specs.TraceAnswer.{IsTraceOf, IsLong}
 use Rattle.fip_driver.specs.Answered.{IsTold}
 use Rattle.fip_driver.specs.Commands.{ReadsInput, CallsNoFolder}

@@ -13,8 +13,8 @@ use crate::derivations::{audit, derive};
 use crate::exec::{exec, run};
 use crate::sessions::{session, tasks};
 use crate::traces::{replay, trace};
-use command_words::Command;
 use command_outcome::Failure;
+use command_words::Command;
 use fip_outside::outside::{Folder, Source};
 use std::alloc::Global;
 

@@ -5,16 +5,16 @@ ghost use Rattle.fip_language.specs.declared.limits.TheConstants.{MOST_FRAMES};
 ghost use Rattle.fip_outside.specs.Faults.{Rose};
 ghost use Rattle.fip_trees.specs.TreeView as V;
 ghost use Rattle.command_words.specs.Words as W;
-ghost use Rattle.command_source.specs.Entries.{IsRootedIn};
-ghost use Rattle.command_eval.specs.EvalAnswer.{Evaluates};
+ghost use Rattle.command_library.specs.command_source.Entries.{IsRootedIn};
+ghost use Rattle.command_library.specs.command_eval.EvalAnswer.{Evaluates};
 ghost use Rattle.fip_driver.specs.Outcome.{FileOutcome, IsCounted, ReadOutcome, end_of};
 ghost use Rattle.fip_driver.specs.Unread.{AreKept, IsBeforeSource, IsBeforeInput};
 
 use crate::fetched::{fetch_code, fetch_source, read_input};
 use crate::stored::store;
+use command_library::source::Evaluable;
 use command_outcome::Failure;
 use fip_outside::outside::{Folder, Source};
-use command_source::Evaluable;
 use std::alloc::Global;
 
 /// The lines of a source that breaks no rule.
@@ -26,7 +26,7 @@ pub fn check<F: Folder>(alloc: Global, file: &str, folder: &mut F) -> Result<Vec
     ensures files { F.files folder.new ≡ F.files folder.old }
 {
     match fetch_source(alloc, folder, file) {
-        Ok(bytes) => command_source::check(alloc, bytes.as_slice()),
+        Ok(bytes) => command_library::source::check(alloc, bytes.as_slice()),
         Err(failure) => Err(failure),
     }
 }
@@ -46,7 +46,7 @@ pub fn compile<F: Folder>(
     ensures understood { IsBeforeSource result → ⊥ }
 {
     match fetch_source(alloc, folder, file) {
-        Ok(bytes) => match command_source::compile(alloc, bytes.as_slice()) {
+        Ok(bytes) => match command_library::source::compile(alloc, bytes.as_slice()) {
             Ok(compiled) => store(folder, out, compiled),
             Err(failure) => Err(failure),
         },
@@ -63,7 +63,7 @@ pub fn verify<F: Folder>(alloc: Global, file: &str, folder: &mut F) -> Result<Ve
     ensures files { F.files folder.new ≡ F.files folder.old }
 {
     match fetch_code(folder, file) {
-        Ok(bytes) => command_source::verify_file(alloc, bytes.as_slice()),
+        Ok(bytes) => command_library::source::verify_file(alloc, bytes.as_slice()),
         Err(failure) => Err(failure),
     }
 }
@@ -83,7 +83,7 @@ pub fn upgrade<F: Folder>(
     ensures understood { IsBeforeSource result → ⊥ }
 {
     match fetch_code(folder, file) {
-        Ok(bytes) => match command_source::upgrade(alloc, bytes.as_slice()) {
+        Ok(bytes) => match command_library::source::upgrade(alloc, bytes.as_slice()) {
             Ok(compiled) => store(folder, out, compiled),
             Err(failure) => Err(failure),
         },
@@ -108,7 +108,7 @@ fn evaluate<S: Source>(
     ensures late { IsBeforeInput result → ⊥ }
 {
     match read_input(alloc, input) {
-        Ok(bytes) => command_eval::evaluate(
+        Ok(bytes) => command_library::evaluator::evaluate(
             alloc,
             program,
             bytes.as_slice(),
@@ -140,7 +140,7 @@ pub fn eval<F: Folder, S: Source>(
     ensures files { F.files folder.new ≡ F.files folder.old }
 {
     match fetch_source(alloc, folder, file) {
-        Ok(source) => match command_source::eval_entry(alloc, source.as_slice(), entry) {
+        Ok(source) => match command_library::source::eval_entry(alloc, source.as_slice(), entry) {
             Ok(program) => evaluate(alloc, program, calls, frames, input),
             Err(failure) => Err(failure),
         },

@@ -6,9 +6,9 @@ ghost use Rattle.fip_driver.specs.Delivered.{seen, Tried, Told, ToldFailure, Del
 ghost use Rattle.command_outcome.specs.Texts.{err_fault_text, no_memory_text};
 
 use command_outcome::{Failure, Object};
+use fip_base::plain::Status;
 use fip_outside::all::write_all;
 use fip_outside::outside::Sink;
-use fip_base::plain::Status;
 use std::alloc::Global;
 
 // Tries once to say that an object failed; what becomes of it changes nothing.

@@ -5,19 +5,19 @@ ghost use Rattle.fip_language.specs.declared.limits.TheConstants.{MOST_FRAMES, M
 ghost use Rattle.fip_outside.specs.Faults.{Rose};
 ghost use Rattle.command_words.specs.View.{room_of, request_of};
 ghost use Rattle.command_words.specs.Words as W;
-ghost use Rattle.command_source.specs.Entries.{IsFunctionOf};
-ghost use Rattle.command_source.specs.ProgramCode.{IsEntryOf};
-ghost use Rattle.command_source.specs.Wanted.{Compiled, IsReady};
-ghost use Rattle.command_run.specs.CodeRun.{RunsCode};
-ghost use Rattle.command_run.specs.ExecAnswer.{Execs};
+ghost use Rattle.command_library.specs.command_source.Entries.{IsFunctionOf};
+ghost use Rattle.command_library.specs.command_source.ProgramCode.{IsEntryOf};
+ghost use Rattle.command_library.specs.command_source.Wanted.{Compiled, IsReady};
+ghost use Rattle.command_library.specs.command_run.CodeRun.{RunsCode};
+ghost use Rattle.command_library.specs.command_run.ExecAnswer.{Execs};
 ghost use Rattle.fip_driver.specs.Outcome.{FileOutcome, ReadOutcome, IsCounted, end_of};
 ghost use Rattle.fip_driver.specs.Unread.{IsBeforeSource, IsBeforeInput};
 
 use crate::fetched::{fetch_code, fetch_source, read_input};
-use command_words::{Room, RunRequest};
+use command_library::source::Ready;
 use command_outcome::Failure;
+use command_words::{Room, RunRequest};
 use fip_outside::outside::{Folder, Source};
-use command_source::Ready;
 use std::alloc::Global;
 
 // Reads the input and runs the entry of a verified code.
@@ -40,7 +40,7 @@ fn run_ready<S: Source>(
     ensures late { IsBeforeInput result → ⊥ }
 {
     match read_input(alloc, input) {
-        Ok(bytes) => command_run::run(alloc, ready, bytes.as_slice(), room, gauge),
+        Ok(bytes) => command_library::runs::run(alloc, ready, bytes.as_slice(), room, gauge),
         Err(failure) => Err(failure),
     }
 }
@@ -64,7 +64,11 @@ pub fn exec<F: Folder, S: Source>(
     ensures files { F.files folder.new ≡ F.files folder.old }
 {
     match fetch_source(alloc, folder, request.file) {
-        Ok(source) => match command_source::exec_entry(alloc, source.as_slice(), request.entry) {
+        Ok(source) => match command_library::source::exec_entry(
+            alloc,
+            source.as_slice(),
+            request.entry,
+        ) {
             Ok(ready) => run_ready(alloc, ready, request.room, request.gauge, input),
             Err(failure) => Err(failure),
         },
@@ -91,7 +95,11 @@ pub fn run<F: Folder, S: Source>(
     ensures files { F.files folder.new ≡ F.files folder.old }
 {
     match fetch_code(folder, request.file) {
-        Ok(bytes) => match command_source::run_entry(alloc, bytes.as_slice(), request.entry) {
+        Ok(bytes) => match command_library::source::run_entry(
+            alloc,
+            bytes.as_slice(),
+            request.entry,
+        ) {
             Ok(ready) => run_ready(alloc, ready, request.room, request.gauge, input),
             Err(failure) => Err(failure),
         },

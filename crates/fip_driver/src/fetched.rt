@@ -4,16 +4,16 @@ ghost use Rattle.std.specs.Io.KnownBytes.{Consumes, IsAtEnd};
 ghost use Rattle.fip_language.specs.declared.limits.TheConstants.{MOST_FILE_BYTES, MOST_SOURCE_BYTES};
 ghost use Rattle.fip_outside.specs.Files.{HoldsFile};
 ghost use Rattle.command_outcome.specs.declared.failure.Failure.TheVariants.{BadCode, BadTrace};
-ghost use Rattle.command_source.specs.Judged.{IsBadProof};
+ghost use Rattle.command_library.specs.command_source.Judged.{IsBadProof};
 ghost use Rattle.fip_driver.specs.Fetched.{FetchFails, FileFails, JudgeFails, ReadFails, IsEarlyFailure};
 
+use command_library::source::bad_proof;
 use command_outcome::{Failure, Object};
-use fip_outside::all::{ReadError, read_all};
-use fip_outside::outside::{FetchError, Folder, Source};
 use fip_base::plain::Detail;
 use fip_base::refusal::{Refusal, Rule};
 use fip_language::limits::{MOST_FILE_BYTES, MOST_SOURCE_BYTES};
-use command_source::bad_proof;
+use fip_outside::all::{ReadError, read_all};
+use fip_outside::outside::{FetchError, Folder, Source};
 use std::alloc::Global;
 
 /// The bytes of the source's file, at most 1,048,576. E05 where there are more; a fault of the folder where it failed

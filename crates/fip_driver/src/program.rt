@@ -15,10 +15,10 @@ ghost use Rattle.fip_driver.specs.Unread.{HadInput, HadFolder, LeavesInput, HasR
 
 use crate::answer::answer;
 use crate::delivery::deliver;
-use command_words::{WordsError, read_words};
 use command_outcome::Failure;
-use fip_outside::outside::{Folder, Sink, Source};
+use command_words::{WordsError, read_words};
 use fip_base::plain::Status;
+use fip_outside::outside::{Folder, Sink, Source};
 use std::alloc::Global;
 
 // What the words come to.

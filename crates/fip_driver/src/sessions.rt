@@ -12,13 +12,13 @@ ghost use Rattle.fip_driver.specs.Outcome.{FileOutcome, InputOutcome, IsCounted,
 ghost use Rattle.fip_driver.specs.Unread.{IsBeforeSource, IsBeforeInput};
 
 use crate::fetched::{fetch_source, read_input};
-use command_words::Room;
+use command_library::source::Front;
 use command_outcome::Failure;
-use fip_outside::outside::{Folder, Source};
+use command_words::Room;
 use fip_base::plain::NoMemory;
 use fip_language::limits::{MOST_FRAMES, MOST_STORE_WORDS};
+use fip_outside::outside::{Folder, Source};
 use fip_session::session_reply;
-use command_source::Front;
 use std::alloc::Global;
 
 // The room of the runs of a session, with a store of at most 16,777,216 words and at most 1,000,000 frames.
@@ -74,7 +74,7 @@ pub fn session<F: Folder, S: Source>(
     ensures files { F.files folder.new ≡ F.files folder.old }
 {
     match fetch_source(alloc, folder, file) {
-        Ok(source) => match command_source::front(alloc, source.as_slice()) {
+        Ok(source) => match command_library::source::front(alloc, source.as_slice()) {
             Ok(front) => talk(alloc, &front, room, input),
             Err(failure) => Err(failure),
         },
@@ -127,7 +127,7 @@ pub fn tasks<F: Folder, S: Source>(
     ensures files { F.files folder.new ≡ F.files folder.old }
 {
     match fetch_source(alloc, folder, file) {
-        Ok(source) => match command_source::front(alloc, source.as_slice()) {
+        Ok(source) => match command_library::source::front(alloc, source.as_slice()) {
             Ok(front) => take_turns(alloc, &front, seed, turns, room, input),
             Err(failure) => Err(failure),
         },

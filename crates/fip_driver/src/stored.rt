@@ -3,9 +3,9 @@ ghost use Rattle.std.specs.Prelude.{◌≡◌, IfOk, IfErr};
 ghost use Rattle.fip_driver.specs.Fetched.{StoreFails, StoreKeeps};
 ghost use Rattle.fip_driver.specs.Unread.{IsBeforeSource};
 
+use command_library::source::Compiled;
 use command_outcome::{Failure, Object};
 use fip_outside::outside::{Folder, StoreError};
-use command_source::Compiled;
 
 /// Stores a file under a name, and gives the text that is printed. A fault of the folder where it failed.
 pub fn store<F: Folder>(folder: &mut F, name: &str, compiled: Compiled) -> Result<Vec<u8>, Failure>

@@ -5,8 +5,8 @@ ghost use Rattle.fip_language.specs.declared.limits.TheConstants.{MOST_FRAMES, M
 ghost use Rattle.fip_outside.specs.Faults.{Rose};
 ghost use Rattle.command_words.specs.View.{room_of};
 ghost use Rattle.command_words.specs.Words as W;
-ghost use Rattle.command_source.specs.ProgramCode.{IsEntryOf};
-ghost use Rattle.command_source.specs.Wanted.{Compiled as compiled_entry, IsReady};
+ghost use Rattle.command_library.specs.command_source.ProgramCode.{IsEntryOf};
+ghost use Rattle.command_library.specs.command_source.Wanted.{Compiled as compiled_entry, IsReady};
 ghost use Rattle.fip_driver.specs.Ends.{TracesTo};
 ghost use Rattle.fip_driver.specs.Fetched.{IsLateFailure};
 ghost use Rattle.fip_driver.specs.Outcome.{FileOutcome, ReadOutcome, IsCounted, end_of, compiled_end};
@@ -14,10 +14,10 @@ ghost use Rattle.fip_driver.specs.Unread.{AreKept, IsBeforeSource, IsBeforeTrace
 
 use crate::fetched::{fetch_source, fetch_trace, read_input};
 use crate::stored::store;
-use command_words::Room;
+use command_library::source::{Compiled, Ready};
 use command_outcome::Failure;
+use command_words::Room;
 use fip_outside::outside::{Folder, Source};
-use command_source::{Compiled, Ready};
 use std::alloc::Global;
 
 // Reads the input, runs the entry and keeps what it writes.
@@ -68,7 +68,7 @@ pub fn trace<F: Folder, S: Source>(
     ensures understood { IsBeforeSource result → ⊥ }
 {
     match fetch_source(alloc, folder, file) {
-        Ok(source) => match command_source::exec_entry(alloc, source.as_slice(), entry) {
+        Ok(source) => match command_library::source::exec_entry(alloc, source.as_slice(), entry) {
             Ok(ready) => match traced(alloc, ready, room, input) {
                 Ok(compiled) => store(folder, out, compiled),
                 Err(failure) => Err(failure),

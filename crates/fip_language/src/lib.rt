@@ -2,9 +2,9 @@
 // specs/; its laws are in `laws`.
 #![tactic(auto)]
 
-pub mod theorems;
 pub mod limits;
 mod rule;
+pub mod theorems;
 
 pub use rule::Rule;
 

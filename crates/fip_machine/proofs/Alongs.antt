@@ -8,18 +8,18 @@ use Rattle.cell_code.specs.declared.code.Instr.{Instr}
 use Rattle.cell_code.specs.declared.code.Instr.TheVariants as I
 use Rattle.cell_code.specs.declared.kind.Kind.{Kind}
 use Rattle.cell_store.specs.Made.{Stored}
-use Rattle.code_verify.specs.Checked.{Checked}
-use Rattle.machine_semantics.specs.Codes.{PlainFunction, PlainCode, plain, function_at}
-use Rattle.machine_semantics.specs.Cells.{Store}
-use Rattle.machine_semantics.specs.States.{Frame, State, frames_held, words_held, Next, Went, Entered, Gave, Trapped, TooDeep, Stuck}
-use Rattle.machine_semantics.specs.Rows.{Done, read_all, write_all, operated, done, trap}
-use Rattle.machine_semantics.specs.Steps.{Kinds, went_with, went, called_with, called, replaced, destinations, resumed, returned, trapped, act_at, instr_of, kinds_of, next}
-use Rattle.machine_semantics.specs.Cells.{changed_by}
+use Rattle.machine_step.specs.code_verify.Checked.{Checked}
+use Rattle.machine_cells.specs.machine_semantics.Codes.{PlainFunction, PlainCode, plain, function_at}
+use Rattle.machine_cells.specs.machine_semantics.Cells.{Store}
+use Rattle.machine_cells.specs.machine_semantics.States.{Frame, State, frames_held, words_held, Next, Went, Entered, Gave, Trapped, TooDeep, Stuck}
+use Rattle.machine_cells.specs.machine_semantics.Rows.{Done, read_all, write_all, operated, done, trap}
+use Rattle.machine_cells.specs.machine_semantics.Steps.{Kinds, went_with, went, called_with, called, replaced, destinations, resumed, returned, trapped, act_at, instr_of, kinds_of, next}
+use Rattle.machine_cells.specs.machine_semantics.Cells.{changed_by}
 use Rattle.fip_language.specs.Gauge.{highest_frames, highest_words}
-use Rattle.machine_semantics.specs.Gauges.{seen}
-use Rattle.machine_semantics.specs.Runs.{Value, Trap, Out, Deep, Unsound, Run, Going, Over, state_of, begun, comes, later}
+use Rattle.machine_cells.specs.machine_semantics.Gauges.{seen}
+use Rattle.machine_cells.specs.machine_semantics.Runs.{Value, Trap, Out, Deep, Unsound, Run, Going, Over, state_of, begun, comes, later}
 use Rattle.machine_cells.specs.Small.{IsSmall, store_of}
-use Rattle.machine_frames.specs.Keeping.{Keeps}
+use Rattle.machine_step.specs.machine_frames.Keeping.{Keeps}
 use Rattle.machine_step.specs.declared.cursor.Bounds.{Bounds}
 use Rattle.machine_step.specs.declared.cursor.Cursor.{Cursor}
 use Rattle.machine_step.specs.declared.rows.Beside.{Beside}

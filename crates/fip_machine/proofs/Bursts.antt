@@ -2,9 +2,9 @@
 use Rattle.std.proofs.Common.{◌≡◌, ◌≢◌, ℕ, ◌+◌, ◌-◌, ◌<◌, ◌≤◌, List, [], ◌∷◌, length, map, Option, Some, None, take, refl, sym, ap, subst, ◌∙◌, arith}
 use Rattle.std.specs.Prelude.{sum}
 use Rattle.cell_store.specs.Made.{Stored}
-use Rattle.code_verify.specs.Checked.{Checked}
-use Rattle.machine_semantics.specs.States.{words_of_frame}
-use Rattle.machine_semantics.specs.Steps.{Kinds}
+use Rattle.machine_step.specs.code_verify.Checked.{Checked}
+use Rattle.machine_cells.specs.machine_semantics.States.{words_of_frame}
+use Rattle.machine_cells.specs.machine_semantics.Steps.{Kinds}
 use Rattle.machine_cells.specs.Small.{IsSmall, store_of}
 use Rattle.machine_step.specs.declared.cursor.Bounds.{Bounds}
 use Rattle.machine_step.specs.declared.cursor.Cursor.{Cursor}

@@ -5,3 +5,4 @@ pub mod Measured
 pub mod Bursts
 pub mod Tapings
 pub mod Wholes
+pub use Rattle.fip_language.proofs as fip_language

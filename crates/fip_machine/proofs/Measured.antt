@@ -2,11 +2,11 @@
 -- The idea: the frames that wait tile the words below the running one, each with two words more than its registers.
 use Rattle.std.proofs.Common.{◌≡◌, ℕ, zero, suc, ◌+◌, ◌-◌, ◌≤◌, List, ◌∷◌, length, map, take, get_or, refl, sym, ap, ◌∙◌, arith}
 use Rattle.std.specs.Prelude.{sum}
-use Rattle.code_verify.specs.Checked.{Checked}
-use Rattle.machine_semantics.specs.States.{Frame, words_of_frame}
-use Rattle.machine_semantics.proofs.Falling.{all_words}
-use Rattle.machine_frames.specs.View.{registers_of, frame_at, waiting_in}
-use Rattle.machine_frames.proofs.Viewed.{frame_long, waiting_at}
+use Rattle.machine_step.specs.code_verify.Checked.{Checked}
+use Rattle.machine_cells.specs.machine_semantics.States.{Frame, words_of_frame}
+use Rattle.machine_cells.proofs.machine_semantics.Falling.{all_words}
+use Rattle.machine_step.specs.machine_frames.View.{registers_of, frame_at, waiting_in}
+use Rattle.machine_step.proofs.machine_frames.Viewed.{frame_long, waiting_at}
 use Rattle.machine_step.specs.declared.cursor.Bounds.{Bounds}
 use Rattle.machine_step.specs.declared.cursor.Cursor.{Cursor}
 use Rattle.machine_step.specs.declared.rows.Beside.{Beside}

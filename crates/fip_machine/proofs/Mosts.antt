@@ -4,12 +4,12 @@
 use Rattle.std.proofs.Common.{◌≡◌, ℕ, zero, suc, ◌≤◌, max, List, refl, sym, ap, subst, ◌∙◌, arith}
 use Rattle.fip_language.specs.Gauge.{highest_frames, highest_words}
 use Rattle.cell_store.specs.Made.{Stored}
-use Rattle.machine_semantics.specs.Codes.{PlainCode, plain}
-use Rattle.machine_semantics.specs.States.{State, Next, Went, Entered, Gave, Trapped, TooDeep, Stuck, frames_held, words_held}
-use Rattle.machine_semantics.specs.Steps.{Kinds, next}
-use Rattle.machine_semantics.specs.Runs.{Value, Trap, Out, Deep, Unsound, Run, Going, Over, state_of, begun, comes, later, after}
-use Rattle.machine_semantics.proofs.Falling.{IsLower, went_is_lower}
-use Rattle.machine_semantics.proofs.Gauged.{frames_more, words_more, frames_last, words_last}
+use Rattle.machine_cells.specs.machine_semantics.Codes.{PlainCode, plain}
+use Rattle.machine_cells.specs.machine_semantics.States.{State, Next, Went, Entered, Gave, Trapped, TooDeep, Stuck, frames_held, words_held}
+use Rattle.machine_cells.specs.machine_semantics.Steps.{Kinds, next}
+use Rattle.machine_cells.specs.machine_semantics.Runs.{Value, Trap, Out, Deep, Unsound, Run, Going, Over, state_of, begun, comes, later, after}
+use Rattle.machine_cells.proofs.machine_semantics.Falling.{IsLower, went_is_lower}
+use Rattle.machine_cells.proofs.machine_semantics.Gauged.{frames_more, words_more, frames_last, words_last}
 use Rattle.machine_step.specs.declared.rows.Stepped.TheVariants as S
 use Rattle.machine_step.specs.Coming.{Comes}
 use Rattle.fip_machine.specs.declared.machine.Ended.{Ended}

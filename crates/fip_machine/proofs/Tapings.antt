@@ -7,13 +7,13 @@ use Rattle.cell_store.specs.Made.{Stored}
 use Rattle.cell_trace.specs.declared.tape.Tape.{Tape}
 use Rattle.cell_trace.specs.Traced.{Standing, Noted, standing_from}
 use Rattle.cell_trace.specs.Taped.{Recorded, IsTape, WasTold}
-use Rattle.machine_semantics.specs.Codes.{PlainCode, plain}
-use Rattle.machine_semantics.specs.Cells.{Change}
-use Rattle.machine_semantics.specs.States.{State, Next, Went, Entered, Gave, Trapped, TooDeep, Stuck}
-use Rattle.machine_semantics.specs.Steps.{Kinds, next, changes_of}
-use Rattle.machine_semantics.specs.Runs.{Value, Trap, Out, Deep, Unsound, Run, Going, Over, begun, comes, later, after}
-use Rattle.machine_semantics.specs.Traces.{events_of, done_changes, events}
-use Rattle.machine_semantics.proofs.Stays.{over_stays}
+use Rattle.machine_cells.specs.machine_semantics.Codes.{PlainCode, plain}
+use Rattle.machine_cells.specs.machine_semantics.Cells.{Change}
+use Rattle.machine_cells.specs.machine_semantics.States.{State, Next, Went, Entered, Gave, Trapped, TooDeep, Stuck}
+use Rattle.machine_cells.specs.machine_semantics.Steps.{Kinds, next, changes_of}
+use Rattle.machine_cells.specs.machine_semantics.Runs.{Value, Trap, Out, Deep, Unsound, Run, Going, Over, begun, comes, later, after}
+use Rattle.machine_cells.specs.machine_semantics.Traces.{events_of, done_changes, events}
+use Rattle.machine_cells.proofs.machine_semantics.Stays.{over_stays}
 use Rattle.machine_cells.specs.Telling.{as_told}
 use Rattle.machine_step.specs.Telling.{IsKnown, next_tells}
 use Rattle.fip_machine.specs.declared.machine.Ended.{Ended}

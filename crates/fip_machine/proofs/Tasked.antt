@@ -2,11 +2,11 @@
 use Rattle.std.proofs.Common.{◌≡◌, ℕ, ◌+◌, ◌-◌, ◌<◌, ◌≤◌, List, ◌++◌, length, take, get_or, replicate, inl, inr, refl, ap, sym, ◌∙◌, arith, length-append}
 use Rattle.std.proofs.lemmas.Bool.{cases_lt}
 use Rattle.std.proofs.lemmas.List.{ext_get_or, get_or-take, get_or-replicate, get_or_append_left, get_or-append_right, length-take-le, length-replicate, take_all}
-use Rattle.code_verify.specs.Checked.{Checked}
-use Rattle.machine_semantics.specs.Cells.{Store}
-use Rattle.machine_semantics.specs.States.{Typed}
-use Rattle.machine_frames.specs.Keeping.{Keeps}
-use Rattle.machine_frames.proofs.Viewed.{frame_kept}
+use Rattle.machine_step.specs.code_verify.Checked.{Checked}
+use Rattle.machine_cells.specs.machine_semantics.Cells.{Store}
+use Rattle.machine_cells.specs.machine_semantics.States.{Typed}
+use Rattle.machine_step.specs.machine_frames.Keeping.{Keeps}
+use Rattle.machine_step.proofs.machine_frames.Viewed.{frame_kept}
 use Rattle.machine_step.specs.declared.cursor.Bounds.{Bounds}
 use Rattle.machine_step.specs.declared.cursor.Cursor.{Cursor}
 use Rattle.machine_step.specs.View.{words_of, state_of}

@@ -7,14 +7,14 @@ use Rattle.fip_language.specs.declared.limits.TheConstants.{MOST_FIELDS}
 use Rattle.fip_language.specs.Gauge as G
 use Rattle.cell_store.specs.Cells.{Cells, size_of, count_live}
 use Rattle.cell_store.specs.Made.{Stored}
-use Rattle.machine_semantics.specs.Codes.{PlainCode, plain}
-use Rattle.machine_semantics.specs.Cells.{Store, held_in, count_held}
-use Rattle.machine_semantics.specs.States.{Typed, State, frames_held, words_held}
-use Rattle.machine_semantics.specs.Steps.{Kinds}
-use Rattle.machine_semantics.specs.Runs.{Value, Trap, Out, Deep, Unsound, Run, Going, Over, state_of, begun, later, after}
-use Rattle.machine_semantics.specs.Gauges.{seen}
-use Rattle.machine_semantics.proofs.Stays.{over_stays}
-use Rattle.machine_semantics.proofs.Gauged.{held, lowest_is_last, highest_is_first}
+use Rattle.machine_cells.specs.machine_semantics.Codes.{PlainCode, plain}
+use Rattle.machine_cells.specs.machine_semantics.Cells.{Store, held_in, count_held}
+use Rattle.machine_cells.specs.machine_semantics.States.{Typed, State, frames_held, words_held}
+use Rattle.machine_cells.specs.machine_semantics.Steps.{Kinds}
+use Rattle.machine_cells.specs.machine_semantics.Runs.{Value, Trap, Out, Deep, Unsound, Run, Going, Over, state_of, begun, later, after}
+use Rattle.machine_cells.specs.machine_semantics.Gauges.{seen}
+use Rattle.machine_cells.proofs.machine_semantics.Stays.{over_stays}
+use Rattle.machine_cells.proofs.machine_semantics.Gauged.{held, lowest_is_last, highest_is_first}
 use Rattle.machine_cells.specs.Small.{IsSmall, store_of}
 use Rattle.fip_machine.specs.declared.gauge.Gauge.{Gauge}
 use Rattle.fip_machine.specs.declared.machine.Ended.{Ended}

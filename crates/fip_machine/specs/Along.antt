@@ -5,14 +5,14 @@ use Rattle.cell_code.specs.declared.code.Instr.{Instr}
 use Rattle.cell_code.specs.declared.code.Instr.TheVariants as I
 use Rattle.cell_store.specs.Cells.{Cells}
 use Rattle.cell_store.specs.Made.{Stored}
-use Rattle.code_verify.specs.Checked.{Checked}
-use Rattle.machine_semantics.specs.Codes.{plain, instr_at}
-use Rattle.machine_semantics.specs.States.{Typed, State}
-use Rattle.machine_semantics.specs.Steps.{Kinds}
-use Rattle.machine_semantics.specs.Gauges.{seen}
-use Rattle.machine_semantics.specs.Runs.{Value, Trap, Out, Deep, Unsound, Run, Going, Over, begun, after}
+use Rattle.machine_step.specs.code_verify.Checked.{Checked}
+use Rattle.machine_cells.specs.machine_semantics.Codes.{plain, instr_at}
+use Rattle.machine_cells.specs.machine_semantics.States.{Typed, State}
+use Rattle.machine_cells.specs.machine_semantics.Steps.{Kinds}
+use Rattle.machine_cells.specs.machine_semantics.Gauges.{seen}
+use Rattle.machine_cells.specs.machine_semantics.Runs.{Value, Trap, Out, Deep, Unsound, Run, Going, Over, begun, after}
 use Rattle.machine_cells.specs.Small.{IsSmall, store_of}
-use Rattle.machine_frames.specs.View.{waiting_in}
+use Rattle.machine_step.specs.machine_frames.View.{waiting_in}
 use Rattle.machine_step.specs.declared.cursor.Bounds.{Bounds}
 use Rattle.machine_step.specs.declared.cursor.Cursor.{Cursor}
 use Rattle.machine_step.specs.declared.rows.Beside.{Beside}

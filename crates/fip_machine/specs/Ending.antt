@@ -3,11 +3,11 @@
 -- none, with 2 calls: the definition's run is over after 8 steps, out of calls, before the call that isn't left. So
 -- the machine answers Out, and stands before that call.
 use Rattle.std.specs.Prelude.{◌≡◌, ℕ, List}
-use Rattle.code_verify.specs.Checked.{Checked}
-use Rattle.machine_semantics.specs.Codes.{PlainCode, plain}
-use Rattle.machine_semantics.specs.States.{State}
-use Rattle.machine_semantics.specs.Steps.{Kinds}
-use Rattle.machine_semantics.specs.Runs.{End, Value, Trap, Out, Deep, Unsound, Run, Going, Over, begun, after}
+use Rattle.machine_step.specs.code_verify.Checked.{Checked}
+use Rattle.machine_cells.specs.machine_semantics.Codes.{PlainCode, plain}
+use Rattle.machine_cells.specs.machine_semantics.States.{State}
+use Rattle.machine_cells.specs.machine_semantics.Steps.{Kinds}
+use Rattle.machine_cells.specs.machine_semantics.Runs.{End, Value, Trap, Out, Deep, Unsound, Run, Going, Over, begun, after}
 use Rattle.machine_step.specs.Coming.{KnowsAt}
 use Rattle.fip_machine.specs.declared.machine.Ended.{Ended}
 use Rattle.fip_machine.specs.declared.machine.Ended.TheVariants as M

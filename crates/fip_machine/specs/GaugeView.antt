@@ -4,11 +4,11 @@
 use Rattle.std.specs.Prelude.{◌≡◌, ℕ, ◌-◌, ◌≤◌, Bool, true, false, List, min, slice_index_or}
 use Rattle.fip_language.specs.declared.limits.TheConstants.{MOST_FIELDS}
 use Rattle.fip_language.specs.Gauge.{Seen, lowest, highest, highest_frames, highest_words}
-use Rattle.machine_semantics.specs.Codes.{PlainCode}
-use Rattle.machine_semantics.specs.Gauges.{seen}
-use Rattle.machine_semantics.specs.States.{State}
-use Rattle.machine_semantics.specs.Steps.{Kinds}
-use Rattle.machine_semantics.specs.Runs.{Value, Trap, Out, Deep, Unsound, Run, Going, Over, begun, after}
+use Rattle.machine_cells.specs.machine_semantics.Codes.{PlainCode}
+use Rattle.machine_cells.specs.machine_semantics.Gauges.{seen}
+use Rattle.machine_cells.specs.machine_semantics.States.{State}
+use Rattle.machine_cells.specs.machine_semantics.Steps.{Kinds}
+use Rattle.machine_cells.specs.machine_semantics.Runs.{Value, Trap, Out, Deep, Unsound, Run, Going, Over, begun, after}
 use Rattle.fip_machine.specs.declared.gauge.Gauge.{Gauge}
 
 -- the lowest number so far, with one more; the first is it

@@ -1,6 +1,6 @@
 -- What callers see of a machine.
 use Rattle.std.specs.Prelude.{ℕ, List}
-use Rattle.machine_semantics.specs.Cells.{Store}
+use Rattle.machine_cells.specs.machine_semantics.Cells.{Store}
 use Rattle.fip_machine.specs.Tasks.{Stand}
 
 -- its frames, its store, and the words on the store's stack, of which there is none between steps

@@ -1,8 +1,8 @@
 -- What a task keeps to at every moment, and what callers see of it.
 use Rattle.std.specs.Prelude.{◌≡◌, ◌≢◌, ℕ, ◌<◌, ◌≤◌, List, ◌∷◌, Option, None, Some, length, map, max, sum}
-use Rattle.machine_semantics.specs.Cells.{Store}
-use Rattle.machine_semantics.specs.States.{Frame, Typed, State, words_of_frame}
-use Rattle.code_verify.specs.Checked.{Checked}
+use Rattle.machine_cells.specs.machine_semantics.Cells.{Store}
+use Rattle.machine_cells.specs.machine_semantics.States.{Frame, Typed, State, words_of_frame}
+use Rattle.machine_step.specs.code_verify.Checked.{Checked}
 use Rattle.machine_step.specs.declared.cursor.Bounds.{Bounds}
 use Rattle.machine_step.specs.declared.cursor.Cursor.{Cursor}
 use Rattle.machine_step.specs.declared.rows.Stepped.{Stepped}

@@ -5,11 +5,11 @@
 use Rattle.std.specs.Prelude.{ℕ, List, map}
 use Rattle.cell_trace.specs.declared.trace.Trace.{Trace}
 use Rattle.cell_trace.specs.Traced.{Noted, Tells, IsTooLong, standing_from}
-use Rattle.machine_semantics.specs.Codes.{PlainCode}
-use Rattle.machine_semantics.specs.States.{State}
-use Rattle.machine_semantics.specs.Steps.{Kinds}
-use Rattle.machine_semantics.specs.Runs.{Value, Trap, Out, Deep, Unsound, Run, Going, Over, begun, after}
-use Rattle.machine_semantics.specs.Traces.{Event, events}
+use Rattle.machine_cells.specs.machine_semantics.Codes.{PlainCode}
+use Rattle.machine_cells.specs.machine_semantics.States.{State}
+use Rattle.machine_cells.specs.machine_semantics.Steps.{Kinds}
+use Rattle.machine_cells.specs.machine_semantics.Runs.{Value, Trap, Out, Deep, Unsound, Run, Going, Over, begun, after}
+use Rattle.machine_cells.specs.machine_semantics.Traces.{Event, events}
 use Rattle.machine_cells.specs.Telling.{as_told}
 
 -- an event, as a store is told of its change

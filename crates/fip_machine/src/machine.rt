@@ -1,10 +1,10 @@
 // A machine: a task with a store of its own.
 ghost use Rattle.fip_language.specs.declared.limits.TheConstants.{MOST_FRAMES};
 ghost use Rattle.std.specs.Prelude.{◌≡◌, ◌<◌, ◌≤◌, List, [], length, IfOk, None, Some, slice_get};
-ghost use Rattle.machine_semantics.specs.Codes.{plain};
-ghost use Rattle.machine_semantics.specs.States.{Typed, State};
-ghost use Rattle.machine_semantics.specs.Steps.{Kinds, next};
-ghost use Rattle.machine_semantics.specs.Runs.{loaded};
+ghost use Rattle.machine_cells.specs.machine_semantics.Codes.{plain};
+ghost use Rattle.machine_cells.specs.machine_semantics.States.{Typed, State};
+ghost use Rattle.machine_cells.specs.machine_semantics.Steps.{Kinds, next};
+ghost use Rattle.machine_cells.specs.machine_semantics.Runs.{loaded};
 ghost use Rattle.machine_cells.specs.Small.{IsSmall, store_of};
 ghost use Rattle.machine_step.specs.Coming.{Comes, KnowsAt};
 ghost use Rattle.fip_machine.specs.Tasks.{state_with, ended_by, IsFresh};
@@ -15,9 +15,9 @@ ghost use Rattle.fip_machine.specs.Along.{end_after};
 use crate::gauge::{Gauge, held};
 use crate::stack::TaskStack;
 use cell_store::{Loader, Sealed, seal};
-use code_verify::Verified;
 use fip_base::plain::{NoMemory, TrapKind};
 use machine_step::Stepped;
+use machine_step::verifier::Verified;
 use std::alloc::Global;
 use std::marker::Model;
 

@@ -1,12 +1,12 @@
 // The frames of a task.
 ghost use Rattle.std.specs.Prelude.{◌≡◌, ◌≢◌, ℕ, ◌+◌, ◌*◌, ◌<◌, ◌≤◌, List, [], ◌++◌, length, vec_len, IfOk, None, Some};
 ghost use Rattle.std.specs.Prelude.{slice_get, false};
-ghost use Rattle.machine_semantics.specs.Codes.{plain};
-ghost use Rattle.machine_semantics.specs.Cells.{Store};
-ghost use Rattle.machine_semantics.specs.States.{Typed, State};
-ghost use Rattle.machine_semantics.specs.Steps.{Kinds, first_words, next};
-ghost use Rattle.machine_semantics.specs.Runs.{loaded};
-ghost use Rattle.machine_frames.specs.View.{frame_at};
+ghost use Rattle.machine_cells.specs.machine_semantics.Codes.{plain};
+ghost use Rattle.machine_cells.specs.machine_semantics.Cells.{Store};
+ghost use Rattle.machine_cells.specs.machine_semantics.States.{Typed, State};
+ghost use Rattle.machine_cells.specs.machine_semantics.Steps.{Kinds, first_words, next};
+ghost use Rattle.machine_cells.specs.machine_semantics.Runs.{loaded};
+ghost use Rattle.machine_step.specs.machine_frames.View.{frame_at};
 ghost use Rattle.machine_cells.specs.Small.{IsSmall, store_of};
 ghost use Rattle.cell_store.specs.Told.{Told};
 ghost use Rattle.machine_step.specs.Coming.{Comes, KnowsAt};
@@ -17,16 +17,16 @@ ghost use Rattle.fip_machine.specs.Along.{task_of, stored};
 ghost use Rattle.std.specs.Vec.{vec_capacity};
 ghost use Rattle.fip_language.specs.declared.limits.TheConstants.{MOST_FIELDS, MOST_FRAMES, MOST_REGISTERS};
 ghost use Rattle.machine_step.specs.Bounding.{AreAtMost, Fits};
-ghost use Rattle.machine_frames.specs.Keeping.{Keeps};
+ghost use Rattle.machine_step.specs.machine_frames.Keeping.{Keeps};
 ghost use Rattle.machine_step.specs.Placed.{IsPlaced, IsRoomy, Waiting};
 ghost use Rattle.machine_step.specs.Highest.{IsHigh};
 
 use cell_code::Instr;
 use cell_store::Cells;
-use code_verify::Verified;
 use fip_base::plain::NoMemory;
 use fip_language::limits::MOST_RESULTS;
 use machine_cells::SIZES;
+use machine_step::verifier::Verified;
 use machine_step::{Beside, Bounds, Cursor, Highest, Stepped, advance, function_at};
 use std::alloc::Global;
 use std::marker::Model;
@@ -45,7 +45,7 @@ pub struct TaskStack<'a> {
 impl<'a> Model for TaskStack<'a> {
     ghost use Rattle.std.specs.Prelude.{ℕ, ◌+◌, ◌-◌, take, vec_len};
     ghost use Rattle.std.specs.Vec.{vec_capacity};
-    ghost use Rattle.machine_frames.specs.View.{waiting_in};
+    ghost use Rattle.machine_step.specs.machine_frames.View.{waiting_in};
     ghost use Rattle.machine_step.specs.Placed.{weight};
     ghost use Rattle.machine_step.specs.View.{words_of};
     ghost use Rattle.fip_machine.specs.Tasks.{Stand, IsTask};

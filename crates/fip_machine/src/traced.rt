@@ -1,8 +1,8 @@
 // Runs that keep what they write.
 ghost use Rattle.std.specs.Prelude.{◌≡◌, ◌≢◌, ℕ, ◌-◌, ◌<◌, List, [], IfOk, OnOk, IfNone, IfSome, Some, None, Err, not};
-ghost use Rattle.machine_semantics.specs.Codes.{plain};
-ghost use Rattle.machine_semantics.specs.States.{Typed};
-ghost use Rattle.machine_semantics.specs.Steps.{Kinds};
+ghost use Rattle.machine_cells.specs.machine_semantics.Codes.{plain};
+ghost use Rattle.machine_cells.specs.machine_semantics.States.{Typed};
+ghost use Rattle.machine_cells.specs.machine_semantics.Steps.{Kinds};
 ghost use Rattle.machine_cells.specs.Small.{IsSmall};
 ghost use Rattle.fip_machine.specs.GaugeView.{IsUnseen, TellsRun};
 ghost use Rattle.fip_machine.specs.Tasks.{state_with, IsMeasured, IsFresh, IsRaised};

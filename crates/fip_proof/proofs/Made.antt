@@ -4,9 +4,9 @@ use Rattle.fip_trees.specs.declared.needs.Need.{Need}
 use Rattle.fip_trees.specs.Tree.{Program}
 use Rattle.derivation_trees.specs.Trees.{Entry}
 use Rattle.derivation_check.specs.Accepted.{IsDerivation}
-use Rattle.derivation_making.specs.Made.{made_entries}
-use Rattle.derivation_making.specs.Weakening.{AllLean}
-use Rattle.derivation_making.proofs.Programs.{program_derived, program_lean}
+use Rattle.derivation_agreement.specs.derivation_making.Made.{made_entries}
+use Rattle.derivation_agreement.specs.derivation_making.Weakening.{AllLean}
+use Rattle.derivation_agreement.proofs.derivation_making.Programs.{program_derived, program_lean}
 use Rattle.derivation_walk.specs.Walks.{AreWalked}
 use Rattle.derivation_agreement.proofs.WalkWhole.{program_is}
 use Rattle.fip_proof.specs.Ready.{IsReady}

@@ -10,8 +10,8 @@ use Rattle.fip_trees.specs.NeedsView.{needs_of}
 use Rattle.fip_trees.specs.Tree.{Instance, Program}
 use Rattle.fip_trees.specs.TreeView.{instance_of}
 use Rattle.fip_trees.specs.declared.program.Instance as A
-use Rattle.fip_rules.specs.World.{world, is_ruled}
-use Rattle.ownership_agreement.specs.Agreement.{AreSized}
+use Rattle.derivation_walk.specs.fip_rules.World.{world, is_ruled}
+use Rattle.derivation_agreement.specs.ownership_agreement.Agreement.{AreSized}
 use Rattle.derivation_trees.specs.Trees.{Entry}
 use Rattle.derivation_trees.specs.WholeTrees.{IsWhole}
 use Rattle.derivation_check.specs.Calculus.{Choice}
@@ -22,10 +22,10 @@ use Rattle.derivation_text.specs.Limited.{Limited}
 use Rattle.derivation_text.specs.ProofText.{tree_text, line_text, lines_text, IsProofText}
 use Rattle.derivation_text.proofs.Whole.{one_derivation}
 use Rattle.derivation_text.proofs.Written.{tree_on}
-use Rattle.derivation_making.specs.Made.{made_instance, made_entries}
-use Rattle.derivation_making.specs.Numbered.{AllNumbered}
-use Rattle.derivation_making.specs.Weakening.{AllLean}
-use Rattle.derivation_making.proofs.Programs.{program_derived, program_lean}
+use Rattle.derivation_agreement.specs.derivation_making.Made.{made_instance, made_entries}
+use Rattle.derivation_agreement.specs.derivation_making.Numbered.{AllNumbered}
+use Rattle.derivation_agreement.specs.derivation_making.Weakening.{AllLean}
+use Rattle.derivation_agreement.proofs.derivation_making.Programs.{program_derived, program_lean}
 use Rattle.derivation_agreement.specs.Limits.{KeepsLimits}
 use Rattle.derivation_agreement.proofs.TextWhole.{made_is_read}
 use Rattle.derivation_walk.specs.Guides.{IsWalked}

@@ -2,7 +2,7 @@
 use Rattle.std.specs.Prelude.{◌≡◌, ℕ, List, [], ◌++◌}
 use Rattle.fip_trees.specs.declared.needs.Need.{Need}
 use Rattle.fip_trees.specs.Tree.{Instance}
-use Rattle.fip_rules.specs.World.{World}
+use Rattle.derivation_walk.specs.fip_rules.World.{World}
 use Rattle.derivation_trees.specs.Trees.{Tree}
 use Rattle.derivation_trees.specs.WholeTrees.{IsWhole}
 use Rattle.derivation_text.specs.ProofText.{line_text}

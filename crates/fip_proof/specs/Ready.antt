@@ -4,10 +4,10 @@
 use Rattle.std.specs.Prelude.{◌≡◌, List}
 use Rattle.fip_trees.specs.declared.needs.Need.{Need}
 use Rattle.fip_trees.specs.Tree.{Program}
-use Rattle.type_check.specs.Typing.{IsFilled}
-use Rattle.credit_check.specs.Tallies.{all_needs}
-use Rattle.ownership_agreement.specs.Agreement.{AreSized, IsAccepted}
-use Rattle.derivation_making.specs.Numbered.{AllNumbered}
+use Rattle.derivation_agreement.specs.type_check.Typing.{IsFilled}
+use Rattle.derivation_walk.specs.credit_check.Tallies.{all_needs}
+use Rattle.derivation_agreement.specs.ownership_agreement.Agreement.{AreSized, IsAccepted}
+use Rattle.derivation_agreement.specs.derivation_making.Numbered.{AllNumbered}
 
 pub record IsReady (p : Program) (held : List (List Need)) : Type 0 where
   pub needs : held ≡ all_needs p p.instances

@@ -8,8 +8,8 @@ ghost use Rattle.derivation_check.specs.Accepted.{IsDerivation};
 ghost use Rattle.derivation_text.specs.declared.error.TextError.TheVariants.{TooLong};
 ghost use Rattle.derivation_text.specs.Limited.{Limited};
 ghost use Rattle.derivation_text.specs.ProofText.{lines_text, IsProofText};
-ghost use Rattle.derivation_making.specs.Made.{made_entries};
-ghost use Rattle.derivation_making.specs.Weakening.{AllLean};
+ghost use Rattle.derivation_agreement.specs.derivation_making.Made.{made_entries};
+ghost use Rattle.derivation_agreement.specs.derivation_making.Weakening.{AllLean};
 ghost use Rattle.derivation_agreement.specs.Limits.{KeepsLimits};
 ghost use Rattle.derivation_walk.specs.Seen.{world_of};
 ghost use Rattle.fip_proof.specs.Ready.{IsReady};
@@ -17,16 +17,15 @@ ghost use Rattle.fip_proof.specs.Lines.{IsLine};
 ghost use Rattle.fip_proof.specs.declared.error.AuditError.TheVariants.{BadProof, NotDerived};
 
 use crate::error::AuditError;
+use derivation_check::check;
+use derivation_text::{ProofError, Text, TextError, read_derivation};
 use derivation_trees::Derivation;
-use derivation_walk::{LineError, is_ruled, line_of};
+use derivation_walk::{Context, LineError, is_ruled, line_of};
 use fip_language::limits::MOST_FILE_BYTES;
 use fip_trees::needs::{Need, Needs};
 use fip_trees::program::{Instance, Typed};
 use fip_trees::scalars::Scalars;
-use derivation_check::check;
-use derivation_text::{ProofError, Text, TextError, read_derivation};
 use std::alloc::Global;
-use derivation_walk::Context;
 
 /// The text of the derivation of a typed program, which is asked to break no rule on ownership and credits, and whose
 /// needs these are. TooLong: it has more than `limit` bytes. NoMemory: no memory is left. It takes memory for one

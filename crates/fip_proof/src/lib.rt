@@ -23,9 +23,9 @@ mod error;
 mod files;
 mod make;
 
+pub use derivation_check::check;
+pub use derivation_text::{ProofError, TextError, read_derivation, write_derivation};
 pub use derivation_trees::{Credit, Derivation, Line, Node, RuleName};
 pub use error::AuditError;
 pub use files::{audit, derivation_text};
 pub use make::derive;
-pub use derivation_check::check;
-pub use derivation_text::{ProofError, TextError, read_derivation, write_derivation};

@@ -4,8 +4,8 @@ ghost use Rattle.fip_trees.specs.TreeView as V;
 ghost use Rattle.derivation_trees.specs.Trees.{entries};
 ghost use Rattle.derivation_trees.specs.WholeTrees.{AreTrees};
 ghost use Rattle.derivation_check.specs.Accepted.{IsDerivation};
-ghost use Rattle.derivation_making.specs.Made.{made_entries};
-ghost use Rattle.derivation_making.specs.Weakening.{AllLean};
+ghost use Rattle.derivation_agreement.specs.derivation_making.Made.{made_entries};
+ghost use Rattle.derivation_agreement.specs.derivation_making.Weakening.{AllLean};
 ghost use Rattle.fip_proof.specs.Ready.{IsReady};
 
 use derivation_trees::Derivation;

@@ -4,8 +4,8 @@ use Rattle.std.specs.Prelude.{◌==◌, ◌&&◌, ◌||◌, ◌↔◌, if◌then
 use Rattle.std.proofs.lemmas.Bool.Decides.{nat_tests}
 use Rattle.fip_rules.specs.Marks.{Mark}
 use Rattle.fip_rules.specs.Marks.{Entry}
-use Rattle.fip_language.specs.declared.rule.Rule.{Rule}
-use Rattle.fip_language.specs.declared.rule.Rule.TheVariants.{E50, E51, E52, E53, E54}
+use Rattle.fip_trees.specs.fip_language.declared.rule.Rule.{Rule}
+use Rattle.fip_trees.specs.fip_language.declared.rule.Rule.TheVariants.{E50, E51, E52, E53, E54}
 use Rattle.fip_rules.specs.declared.scope.Ownership.{Ownership}
 use Rattle.fip_rules.specs.declared.scope.Ownership.TheVariants.{Scalar, Borrowed, Owned}
 use Rattle.fip_rules.specs.Marks.{Breach}

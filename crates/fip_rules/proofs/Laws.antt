@@ -2,7 +2,7 @@
 use Rattle.std.proofs.Common.{◌≡◌, ℕ, zero, suc, ◌≤◌, refl, sym, ap, ◌∙◌, List, [], ◌∷◌, ◌++◌, take, drop, length, map, append_assoc, Option, Bool, arith}
 use Rattle.std.specs.Prelude.{filter}
 use Rattle.std.proofs.lemmas.List.{append-nil}
-use Rattle.fip_language.specs.declared.rule.Rule.{Rule}
+use Rattle.fip_trees.specs.fip_language.declared.rule.Rule.{Rule}
 use Rattle.fip_trees.specs.declared.least.Violation.{Violation}
 use Rattle.fip_trees.specs.Least.{better, after}
 use Rattle.fip_trees.specs.Tree.{Clauses, NoClauses, MoreClauses}

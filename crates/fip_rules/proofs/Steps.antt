@@ -2,8 +2,8 @@
 use Rattle.std.proofs.Common.{◌≡◌, ℕ, zero, suc, ◌≤◌, ◌-◌, refl, sym, ap, ◌∙◌, List, [], ◌∷◌, ◌++◌, take, drop, length, map, Option, Some, None, Bool, true, false, not, arith}
 use Rattle.std.specs.Prelude.{◌==◌, ◌&&◌, ◌+◌, if◌then◌else◌}
 use Rattle.fip_rules.specs.declared.scope.Ownership.{Ownership}
-use Rattle.fip_language.specs.declared.Place.{Place}
-use Rattle.fip_language.specs.declared.rule.Rule.TheVariants.{E54}
+use Rattle.fip_trees.specs.fip_language.declared.Place.{Place}
+use Rattle.fip_trees.specs.fip_language.declared.rule.Rule.TheVariants.{E54}
 use Rattle.fip_trees.specs.declared.least.Violation.{Violation}
 use Rattle.fip_trees.specs.Least.{after}
 use Rattle.fip_trees.specs.Tree.{Name, Argument, Arguments, MoreArguments, Constructor, Expression, Match, Block, Pattern, Patterns, MorePatterns, Clauses, NoClauses, Instance}

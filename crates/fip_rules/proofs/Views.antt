@@ -8,7 +8,7 @@ use Rattle.fip_trees.specs.declared.program.Expression.{Expression}
 use Rattle.fip_trees.specs.declared.program.Expression.TheVariants as EV
 use Rattle.fip_rules.specs.Notes.{distinct}
 use Rattle.std.proofs.lemmas.Grind.{common_steps}
-use Rattle.fip_language.specs.declared.Place.{Place}
+use Rattle.fip_trees.specs.fip_language.declared.Place.{Place}
 use Rattle.fip_trees.specs.Tree as T
 use Rattle.fip_trees.specs.Tree.{Name}
 use Rattle.fip_trees.specs.TreeView.{argument, argument_step, arguments, binding, block, block_of, clause, clauses, expression, is_destructive}
@@ -23,7 +23,7 @@ use Rattle.fip_trees.proofs.TreeViews.{argument_constructor, block_is, expressio
 use Rattle.fip_rules.specs.World.{World}
 use Rattle.fip_rules.specs.Shapes.{Names, owning, lending, owning_all, passing, token, takes, taking, binders, clause_shape, shape, shape_block, shape_clauses}
 use Rattle.fip_rules.specs.Shape as S
-use Rattle.fip_language.specs.declared.rule.Rule.TheVariants.{E54}
+use Rattle.fip_trees.specs.fip_language.declared.rule.Rule.TheVariants.{E54}
 use Rattle.fip_rules.specs.Stands.{Stand, marks, names, go, went, aside, others}
 use Rattle.fip_rules.proofs.Laws.{go_skip}
 use Rattle.fip_rules.proofs.Steps.{lending_scalar, lending_fault, match_step, one_clause, clauses_step}

@@ -1,7 +1,7 @@
 -- What the walk notes in a program is just what violates a rule.
 use Rattle.std.proofs.Common.{◌≡◌, ℕ, suc, inl, inr, refl, sym, ap, subst, List, [], ◌∷◌, Option, Some, None, Bool, true, false, map}
 use Rattle.std.specs.Prelude.{◌↔◌, if◌then◌else◌, option_map}
-use Rattle.fip_language.specs.Table.{is_scalar}
+use Rattle.fip_trees.specs.fip_language.Table.{is_scalar}
 use Rattle.fip_base.specs.declared.refusal.Refusal.{Refusal}
 use Rattle.fip_trees.specs.declared.least.Violation.{Violation}
 use Rattle.fip_trees.specs.Tree.{Instance, Program}

@@ -1,7 +1,7 @@
 -- Variables as the rules on ownership see them.
 use Rattle.std.specs.Prelude.{ℕ, List}
-use Rattle.fip_language.specs.declared.Place.{Place}
-use Rattle.fip_language.specs.declared.rule.Rule.{Rule}
+use Rattle.fip_trees.specs.fip_language.declared.Place.{Place}
+use Rattle.fip_trees.specs.fip_language.declared.rule.Rule.{Rule}
 use Rattle.fip_trees.specs.declared.least.Violation.{Violation}
 use Rattle.fip_trees.specs.Least.{violation}
 use Rattle.fip_rules.specs.declared.scope.Ownership.{Ownership}

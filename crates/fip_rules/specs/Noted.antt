@@ -1,7 +1,7 @@
 -- For the proofs alone: the list of what the walk notes in a program.
 use Rattle.std.specs.Prelude.{ℕ, suc, Bool, List, [], ◌∷◌, ◌++◌, not, if◌then◌else◌}
-use Rattle.fip_language.specs.declared.FunKind.{FunKind}
-use Rattle.fip_language.specs.Table.{is_scalar}
+use Rattle.fip_trees.specs.fip_language.declared.FunKind.{FunKind}
+use Rattle.fip_trees.specs.fip_language.Table.{is_scalar}
 use Rattle.fip_base.specs.declared.plain.Param.{Param}
 use Rattle.fip_trees.specs.declared.program.Binder.{Binder}
 use Rattle.fip_trees.specs.Tree.{Instance, Program}

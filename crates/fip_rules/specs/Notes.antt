@@ -4,7 +4,7 @@
 use Rattle.std.specs.Prelude.{ℕ, suc, List, [], ◌∷◌, ◌++◌, filter, Option, Some, None, ◌==◌, ◌≡◌, ◌⊎◌}
 use Rattle.std.specs.Prelude.{Bool, true, false, not, ◌&&◌, if◌then◌else◌}
 use Rattle.std.specs.List.{list_any}
-use Rattle.fip_language.specs.declared.rule.Rule.TheVariants.{E50, E51, E52, E53, E54}
+use Rattle.fip_trees.specs.fip_language.declared.rule.Rule.TheVariants.{E50, E51, E52, E53, E54}
 use Rattle.fip_rules.specs.Marks.{Mark, Entry, Breach}
 use Rattle.fip_rules.specs.declared.scope.Ownership.{Ownership}
 use Rattle.fip_rules.specs.declared.scope.Ownership.TheVariants.{Scalar, Borrowed, Owned}

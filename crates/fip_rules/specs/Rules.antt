@@ -5,8 +5,8 @@
 -- earlier on a path through both. In match! b { True -> f(x); False -> g(x) } no path goes through both, so nothing is
 -- broken.
 use Rattle.std.specs.Prelude.{◌≡◌, ℕ, suc, ◌<◌, ◌≤◌, ◌⊎◌, Bool, true, false, ◌==◌, ◌||◌}
-use Rattle.fip_language.specs.declared.rule.Rule.{Rule}
-use Rattle.fip_language.specs.declared.rule.Rule.TheVariants.{E50, E51, E52, E53, E54}
+use Rattle.fip_trees.specs.fip_language.declared.rule.Rule.{Rule}
+use Rattle.fip_trees.specs.fip_language.declared.rule.Rule.TheVariants.{E50, E51, E52, E53, E54}
 use Rattle.fip_rules.specs.declared.scope.Ownership.{Ownership}
 use Rattle.fip_rules.specs.declared.scope.Ownership.TheVariants.{Scalar, Borrowed, Owned}
 use Rattle.fip_rules.specs.Marks.{Mark, Breach}

@@ -4,7 +4,7 @@
 --
 -- For example let y = f(x); y is Then (Bound (Use x)) (Scope Owned y (Use y)), where f owns its argument, and
 -- Then (Bound (Lend x)) (Scope Owned y (Use y)), where it borrows it.
-use Rattle.fip_language.specs.declared.rule.Rule.{Rule}
+use Rattle.fip_trees.specs.fip_language.declared.rule.Rule.{Rule}
 use Rattle.fip_rules.specs.declared.scope.Ownership.{Ownership}
 use Rattle.fip_rules.specs.Marks.{Mark}
 

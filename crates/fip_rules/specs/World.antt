@@ -1,8 +1,8 @@
 -- What the rules look up: which types are scalar, the instances, and the kind of the instance in which they are asked.
 use Rattle.std.specs.Prelude.{ℕ, Bool, true, false, not, ◌&&◌, List, Option, Some, None, slice_get, if◌then◌else◌}
-use Rattle.fip_language.specs.declared.FunKind.{FunKind}
-use Rattle.fip_language.specs.declared.FunKind.TheVariants.{Fip, Fbip, Fun}
-use Rattle.fip_language.specs.Table.{is_scalar}
+use Rattle.fip_trees.specs.fip_language.declared.FunKind.{FunKind}
+use Rattle.fip_trees.specs.fip_language.declared.FunKind.TheVariants.{Fip, Fbip, Fun}
+use Rattle.fip_trees.specs.fip_language.Table.{is_scalar}
 use Rattle.fip_base.specs.declared.plain.Param.{Param}
 use Rattle.fip_trees.specs.Tree.{Instance, Program}
 use Rattle.fip_rules.specs.declared.scope.Ownership.{Ownership}

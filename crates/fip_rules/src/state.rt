@@ -2,7 +2,7 @@
 // the bound expression around them, and the least violation so far.
 ghost use Rattle.std.specs.Prelude.{◌≡◌, ◌<◌, ◌-◌, ℕ, List, [], ◌∷◌, ◌++◌, length, map, take, drop, filter, OnOk, IfOk};
 ghost use Rattle.std.specs.Prelude.{Option, Some, ◌==◌, not, ◌&&◌, if◌then◌else◌};
-ghost use Rattle.fip_language.specs.declared.rule.Rule.TheVariants as R;
+ghost use Rattle.fip_trees.specs.fip_language.declared.rule.Rule.TheVariants as R;
 ghost use Rattle.fip_trees.specs.Least.{after};
 ghost use Rattle.fip_rules.specs.Marks.{Mark as PlainMark, told};
 ghost use Rattle.fip_rules.specs.Notes.{Walked, nothing, distinct, look, when, is_owned, use_of, lend_of, exposed};

@@ -2,8 +2,8 @@
 use Rattle.std.proofs.Common.{◌≡◌, ◌∙◌, ℕ, List, ◌++◌, ap, append_assoc}
 use Rattle.std.specs.Prelude.{codes}
 use Rattle.std.specs.Fmt.{decimal}
-use Rattle.command_outcome.specs.Texts.{line_end, trap_name, trap_text}
-use Rattle.session_semantics.specs.Talk.{store_text}
+use Rattle.session_lines.specs.command_outcome.Texts.{line_end, trap_name, trap_text}
+use Rattle.session_lines.specs.session_semantics.Talk.{store_text}
 use Rattle.fip_language.specs.declared.TrapKind.{TrapKind}
 
 pub trap_ended : (kind : TrapKind) (line col : ℕ) (name text : List ℕ) → name ≡ trap_name kind → text ≡ codes "trap " ++ (name ++ (codes " at " ++ (decimal line ++ (codes ":" ++ decimal col)))) → text ++ line_end ≡ trap_text kind line col

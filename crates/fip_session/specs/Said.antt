@@ -3,10 +3,10 @@
 -- A run out of 3 calls is said as `out of calls: 3`, and that no name a is held as `no name a`.
 use Rattle.std.specs.Prelude.{ℕ, List, ◌++◌, codes}
 use Rattle.std.specs.Fmt.{decimal}
-use Rattle.command_outcome.specs.Texts.{line_end, trap_text, out_of_calls_text, out_of_frames_text}
+use Rattle.session_lines.specs.command_outcome.Texts.{line_end, trap_text, out_of_calls_text, out_of_frames_text}
 use Rattle.fip_machine.specs.declared.machine.Ended.{Ended}
 use Rattle.fip_machine.specs.declared.machine.Ended.TheVariants as M
-use Rattle.session_semantics.specs.Talk.{told, ok_text, store_text}
+use Rattle.session_lines.specs.session_semantics.Talk.{told, ok_text, store_text}
 use Rattle.fip_session.specs.declared.reply.Reply.{Reply}
 use Rattle.fip_session.specs.declared.reply.Reply.TheVariants as R
 

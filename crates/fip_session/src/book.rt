@@ -9,12 +9,12 @@ ghost use Rattle.fip_language.specs.declared.limits.TheConstants.{MOST_FRAMES};
 ghost use Rattle.session_lines.specs.Named.{AreEntries, HasName};
 ghost use Rattle.fip_session.specs.Named.{found};
 
-use session_lines::{Entries, frames_of};
 use cell_code::Function;
 use cell_store::{Cells, Sealed};
 use code_verify::Verified;
 use fip_base::plain::NoMemory;
 use fip_base::table::TypeTable;
+use session_lines::{Entries, frames_of};
 use std::alloc::Global;
 use std::collections::BTreeMap;
 use store_trees::{MOST_CELLS, Trees};

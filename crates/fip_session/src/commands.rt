@@ -3,10 +3,10 @@ ghost use Rattle.std.specs.Prelude.{◌≤◌};
 ghost use Rattle.fip_language.specs.declared.limits.TheConstants.{MOST_FRAMES, MOST_STORE_WORDS};
 
 use crate::session::Session;
-use session_lines::line_at;
 use code_verify::Verified;
 use fip_base::plain::NoMemory;
 use fip_trees::program::Typed;
+use session_lines::line_at;
 use std::alloc::Global;
 
 /// The room of runs: the words of their store, at most 16,777,216, the calls of each run, and the frames of each run

@@ -3,12 +3,11 @@ ghost use Rattle.std.specs.Prelude.{◌<◌, length, IfOk};
 
 use crate::book::Book;
 use crate::reply::{Reply, Stop};
-use session_lines::Span;
 use cell_code::Function;
 use cell_store::Loader;
 use fip_base::plain::{NoMemory, Param};
 use fip_language::limits::MOST_FIELDS;
-use session_lines::{CallLine, Written};
+use session_lines::{CallLine, Span, Written};
 use std::alloc::Global;
 use std::collections::BTreeMap;
 use value_text::{Counts, ReadError, read_value};

@@ -1,8 +1,8 @@
 // The replies to the lines of a session.
 ghost use Rattle.std.specs.Prelude.{◌≡◌, ◌++◌, IfOk, codes, string_bytes};
 ghost use Rattle.std.specs.Fmt.{decimal};
-ghost use Rattle.command_outcome.specs.Texts.{line_end, trap_text, trap_name, out_of_calls_text, out_of_frames_text};
-ghost use Rattle.session_semantics.specs.Talk.{store_text};
+ghost use Rattle.session_lines.specs.command_outcome.Texts.{line_end, trap_text, trap_name, out_of_calls_text, out_of_frames_text};
+ghost use Rattle.session_lines.specs.session_semantics.Talk.{store_text};
 ghost use Rattle.fip_session.specs.Said.{end_said, said};
 
 use fip_base::plain::{NoMemory, TrapKind};

@@ -2,15 +2,15 @@
 use Rattle.std.proofs.Common.{◌≡◌, ◌≢◌, ℕ, zero, suc, Bool, true, false, List, [], ◌∷◌, Option, Some, None, refl}
 use Rattle.std.specs.Prelude.{option_and_then}
 use Rattle.fip_language.specs.declared.TrapKind.{TrapKind}
-use Rattle.cell_code.specs.declared.code.Instr.{Instr}
-use Rattle.cell_code.specs.declared.code.Instr.TheVariants as I
-use Rattle.cell_code.specs.declared.kind.Kind.{Kind}
-use Rattle.machine_semantics.specs.Codes.{PlainFunction, PlainCode, function_at}
-use Rattle.machine_semantics.specs.Cells.{Store, changed_by}
-use Rattle.machine_semantics.specs.States.{Frame, State, Next, Went, Entered, Gave, Trapped, TooDeep, Stuck}
-use Rattle.machine_semantics.specs.Rows.{Done, read_all, write_all, operated, done, trap}
-use Rattle.machine_semantics.specs.Steps.{went_with, went, called_with, called, replaced, destinations, resumed, returned, trapped, act_at}
-use Rattle.machine_semantics.specs.Runs.{Out, Over, comes}
+use Rattle.fip_machine.specs.cell_code.declared.code.Instr.{Instr}
+use Rattle.fip_machine.specs.cell_code.declared.code.Instr.TheVariants as I
+use Rattle.fip_machine.specs.cell_code.declared.kind.Kind.{Kind}
+use Rattle.task_semantics.specs.machine_semantics.Codes.{PlainFunction, PlainCode, function_at}
+use Rattle.task_semantics.specs.machine_semantics.Cells.{Store, changed_by}
+use Rattle.task_semantics.specs.machine_semantics.States.{Frame, State, Next, Went, Entered, Gave, Trapped, TooDeep, Stuck}
+use Rattle.task_semantics.specs.machine_semantics.Rows.{Done, read_all, write_all, operated, done, trap}
+use Rattle.task_semantics.specs.machine_semantics.Steps.{went_with, went, called_with, called, replaced, destinations, resumed, returned, trapped, act_at}
+use Rattle.task_semantics.specs.machine_semantics.Runs.{Out, Over, comes}
 use Rattle.fip_machine.specs.Along.{is_call_in}
 
 -- what comes next, by whether the instruction is a call

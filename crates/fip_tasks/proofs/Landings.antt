@@ -4,15 +4,15 @@
 use Rattle.std.proofs.Common.{◌≡◌, ◌≢◌, ℕ, zero, suc, ◌-◌, ◌<◌, arith, Bool, true, false, List, [], Option, Some, None, refl, sym, ap, subst, ◌∙◌}
 use Rattle.cell_store.specs.Made.{Stored}
 use Rattle.code_verify.specs.Checked.{Checked}
-use Rattle.machine_semantics.specs.Codes.{PlainCode, plain}
-use Rattle.machine_semantics.specs.Cells.{Store}
-use Rattle.machine_semantics.specs.States.{Typed, State, Next, Went, Entered, Gave, Trapped, TooDeep, Stuck}
-use Rattle.machine_semantics.specs.Steps.{Kinds, instr_of, kinds_of, next}
-use Rattle.machine_semantics.specs.Runs.{End, Value, Trap, Out, Deep, Unsound, Run, Going, Over, state_of, begun, comes, later, after}
-use Rattle.machine_cells.specs.Small.{IsSmall}
-use Rattle.machine_step.specs.declared.rows.Stepped.{Stepped}
-use Rattle.machine_step.specs.declared.rows.Stepped.TheVariants as S
-use Rattle.machine_step.specs.Coming.{Comes, KnowsAt}
+use Rattle.task_semantics.specs.machine_semantics.Codes.{PlainCode, plain}
+use Rattle.task_semantics.specs.machine_semantics.Cells.{Store}
+use Rattle.task_semantics.specs.machine_semantics.States.{Typed, State, Next, Went, Entered, Gave, Trapped, TooDeep, Stuck}
+use Rattle.task_semantics.specs.machine_semantics.Steps.{Kinds, instr_of, kinds_of, next}
+use Rattle.task_semantics.specs.machine_semantics.Runs.{End, Value, Trap, Out, Deep, Unsound, Run, Going, Over, state_of, begun, comes, later, after}
+use Rattle.fip_machine.specs.machine_cells.Small.{IsSmall}
+use Rattle.fip_machine.specs.machine_step.declared.rows.Stepped.{Stepped}
+use Rattle.fip_machine.specs.machine_step.declared.rows.Stepped.TheVariants as S
+use Rattle.fip_machine.specs.machine_step.Coming.{Comes, KnowsAt}
 use Rattle.fip_machine.specs.declared.machine.Ended.{Ended}
 use Rattle.fip_machine.specs.declared.machine.Ended.TheVariants as M
 use Rattle.fip_machine.specs.Along.{is_call_in, calls_next}

@@ -2,3 +2,4 @@ pub mod Called
 pub mod Landings
 pub mod Lists
 pub mod Turning
+pub use Rattle.task_semantics.proofs as task_semantics

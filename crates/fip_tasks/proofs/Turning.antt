@@ -4,11 +4,11 @@ use Rattle.std.proofs.lemmas.Option.{same_Some, slice_get-map, slice_get_read}
 use Rattle.std.specs.Prelude.{slice_get, slice_set, option_map}
 use Rattle.cell_store.specs.Made.{Stored}
 use Rattle.code_verify.specs.Checked.{Checked}
-use Rattle.machine_semantics.specs.Codes.{PlainCode, plain}
-use Rattle.machine_semantics.specs.Cells.{Store}
-use Rattle.machine_semantics.specs.Steps.{Kinds}
-use Rattle.machine_semantics.specs.Runs.{Run, state_of, later, after}
-use Rattle.machine_cells.specs.Small.{IsSmall, store_of}
+use Rattle.task_semantics.specs.machine_semantics.Codes.{PlainCode, plain}
+use Rattle.task_semantics.specs.machine_semantics.Cells.{Store}
+use Rattle.task_semantics.specs.machine_semantics.Steps.{Kinds}
+use Rattle.task_semantics.specs.machine_semantics.Runs.{Run, state_of, later, after}
+use Rattle.fip_machine.specs.machine_cells.Small.{IsSmall, store_of}
 use Rattle.task_semantics.specs.Schedules.{Shared, turn, turned, settled, scheduled, in_store}
 use Rattle.fip_tasks.specs.declared.task.Start.{Start}
 use Rattle.fip_tasks.specs.declared.task.Task.{Task}

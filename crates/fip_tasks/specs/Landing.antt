@@ -1,12 +1,12 @@
 -- For private contracts alone: where one task stands after a turn, and after as many as it takes.
 use Rattle.std.specs.Prelude.{◌≡◌, ℕ, [], Option, Some, None}
 use Rattle.cell_store.specs.Made.{Stored}
-use Rattle.machine_semantics.specs.Codes.{plain}
-use Rattle.machine_semantics.specs.Cells.{Store}
-use Rattle.machine_semantics.specs.Steps.{Kinds}
-use Rattle.machine_semantics.specs.Runs.{Run, state_of, later, after}
+use Rattle.task_semantics.specs.machine_semantics.Codes.{plain}
+use Rattle.task_semantics.specs.machine_semantics.Cells.{Store}
+use Rattle.task_semantics.specs.machine_semantics.Steps.{Kinds}
+use Rattle.task_semantics.specs.machine_semantics.Runs.{Run, state_of, later, after}
 use Rattle.code_verify.specs.Checked.{Checked}
-use Rattle.machine_cells.specs.Small.{IsSmall, store_of}
+use Rattle.fip_machine.specs.machine_cells.Small.{IsSmall, store_of}
 use Rattle.fip_machine.specs.declared.machine.Ended.{Ended}
 use Rattle.task_semantics.specs.Schedules.{in_store}
 use Rattle.fip_tasks.specs.declared.task.Advanced.{Advanced}

@@ -3,15 +3,15 @@
 -- Two tasks of the reversal of a list took the turns 0, 1 and 0. Then the first stands at its third instruction and the
 -- second at its second, as the runs of the two do behind this schedule; neither has ended.
 use Rattle.std.specs.Prelude.{◌≡◌, ◌≢◌, ℕ, ◌≤◌, List, [], Option, Some, None, length, replicate, slice_get}
-use Rattle.cell_code.specs.declared.code.Function.{Function}
-use Rattle.machine_semantics.specs.Codes.{plain}
-use Rattle.machine_semantics.specs.Cells.{Store}
-use Rattle.machine_semantics.specs.States.{State, Stuck}
-use Rattle.machine_semantics.specs.Steps.{Kinds, next}
-use Rattle.machine_semantics.specs.Runs.{End, Value, Trap, Out, Deep, Unsound, Run, Going, Over, begun, loaded}
+use Rattle.fip_machine.specs.cell_code.declared.code.Function.{Function}
+use Rattle.task_semantics.specs.machine_semantics.Codes.{plain}
+use Rattle.task_semantics.specs.machine_semantics.Cells.{Store}
+use Rattle.task_semantics.specs.machine_semantics.States.{State, Stuck}
+use Rattle.task_semantics.specs.machine_semantics.Steps.{Kinds, next}
+use Rattle.task_semantics.specs.machine_semantics.Runs.{End, Value, Trap, Out, Deep, Unsound, Run, Going, Over, begun, loaded}
 use Rattle.code_verify.specs.Checked.{Checked}
-use Rattle.machine_cells.specs.Small.{IsSmall}
-use Rattle.machine_step.specs.Coming.{KnowsAt}
+use Rattle.fip_machine.specs.machine_cells.Small.{IsSmall}
+use Rattle.fip_machine.specs.machine_step.Coming.{KnowsAt}
 use Rattle.fip_machine.specs.declared.machine.Ended.{Ended}
 use Rattle.fip_machine.specs.declared.machine.Ended.TheVariants as M
 use Rattle.fip_machine.specs.Tasks.{state_with}

@@ -4,7 +4,7 @@
 -- seven turns of task 0, which reverses a list of one item, it has no call left and the end Value.
 use Rattle.std.specs.Prelude.{ℕ, ◌<◌, ◌≤◌, List, Option, length}
 use Rattle.fip_language.specs.declared.limits.TheConstants.{MOST_FRAMES}
-use Rattle.machine_semantics.specs.Cells.{Store}
+use Rattle.task_semantics.specs.machine_semantics.Cells.{Store}
 use Rattle.code_verify.specs.Checked.{Checked}
 use Rattle.fip_machine.specs.declared.machine.Ended.{Ended}
 use Rattle.fip_machine.specs.Tasks.{Stand}

@@ -1,9 +1,9 @@
 // Tasks in one store.
 ghost use Rattle.std.specs.Prelude.{◌≡◌, ℕ, ◌<◌, length, IfOk, All, Some, slice_get, replicate};
-ghost use Rattle.machine_semantics.specs.Codes.{plain};
-ghost use Rattle.machine_semantics.specs.Steps.{Kinds};
+ghost use Rattle.task_semantics.specs.machine_semantics.Codes.{plain};
+ghost use Rattle.task_semantics.specs.machine_semantics.Steps.{Kinds};
 ghost use Rattle.code_verify.specs.Checked.{Checked};
-ghost use Rattle.machine_cells.specs.Small.{store_of};
+ghost use Rattle.fip_machine.specs.machine_cells.Small.{store_of};
 ghost use Rattle.task_semantics.specs.Schedules.{Shared, turn, scheduled};
 ghost use Rattle.fip_tasks.specs.Turns.{CanStart, Standing};
 ghost use Rattle.fip_tasks.specs.Shown.{Shows, CanTurn, CanFinish, AreStarted, turned_by};
@@ -26,7 +26,7 @@ pub struct Tasks<'a> {
 
 impl<'a> Model for Tasks<'a> {
     ghost use Rattle.std.specs.Prelude.{map};
-    ghost use Rattle.machine_cells.specs.Small.{store_of};
+    ghost use Rattle.fip_machine.specs.machine_cells.Small.{store_of};
     ghost use Rattle.fip_tasks.specs.Landing.{standing};
     ghost use Rattle.fip_tasks.specs.Turns.{Turns};
 

@@ -5,3 +5,4 @@ pub mod ScalarTables
 pub mod SizeLists
 pub mod NeedsLists
 pub mod MeaningLists
+pub use Rattle.fip_base.proofs.fip_language as fip_language

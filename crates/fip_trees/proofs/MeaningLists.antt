@@ -1,8 +1,8 @@
 -- Lists of names with their meanings, seen from a map's entries.
 use Rattle.std.proofs.Common.{◌≡◌, Bool, true, false, ◌||◌, List, [], ◌∷◌, ◌++◌, map, Option, Some, None, is_some, refl, sym, ap, ◌∙◌, if◌then◌else◌}
 use Rattle.std.specs.Map.{lookup}
-use Rattle.fip_language.specs.Core.{Name}
-use Rattle.fip_language.specs.Declarations.{same_name}
+use Rattle.fip_base.specs.fip_language.Core.{Name}
+use Rattle.fip_base.specs.fip_language.Declarations.{same_name}
 use Rattle.fip_trees.specs.Names.{meaning, names, is_among, with_meaning}
 
 abbrev pub seen_by : {K A : Type 0} → (K → Name) → List (K × A) → List (Name × A)

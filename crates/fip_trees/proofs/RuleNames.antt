@@ -2,10 +2,10 @@
 use Rattle.std.proofs.Common.{◌≡◌, ℕ, ◌+◌, ◌*◌, ◌<◌, List, [], ◌∷◌, refl, arith}
 use Rattle.std.specs.Prelude.{nat_lt}
 use Rattle.std.proofs.lemmas.Bool.Decides.{nat_tests}
-use Rattle.fip_language.specs.declared.rule.Rule.{Rule}
-use Rattle.fip_language.specs.declared.rule.Rule.TheVariants as R
-use Rattle.fip_language.specs.RuleOrder.{number}
-use Rattle.fip_language.specs.RuleText.{rule_text}
+use Rattle.fip_base.specs.fip_language.declared.rule.Rule.{Rule}
+use Rattle.fip_base.specs.fip_language.declared.rule.Rule.TheVariants as R
+use Rattle.fip_base.specs.fip_language.RuleOrder.{number}
+use Rattle.fip_base.specs.fip_language.RuleText.{rule_text}
 use Rattle.fip_trees.specs.Least.{smaller}
 
 -- a number with its two digits

@@ -1,6 +1,6 @@
 -- A flag for each type of a table.
 use Rattle.std.proofs.Common.{◌≡◌, ℕ, zero, suc, ◌<◌, ◌≤◌, ◌⊎◌, inl, inr, List, [], ◌∷◌, ◌++◌, length, get_or, Bool, true, refl, sym, ap, ◌∙◌, arith}
-use Rattle.fip_language.specs.Table.{Table, shapes, is_scalar, all_bare}
+use Rattle.fip_base.specs.fip_language.Table.{Table, shapes, is_scalar, all_bare}
 
 -- what the list has is right
 abbrev pub Flags : Table → List Bool → Type 0

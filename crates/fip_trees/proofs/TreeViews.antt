@@ -1,7 +1,7 @@
 -- The views of trees at each of their forms, and of lists of them.
 use Rattle.std.proofs.Common.{◌≡◌, ℕ, suc, List, [], ◌∷◌, length, Vec, Global, refl, sym, ap, ◌∙◌, map}
 use Rattle.std.specs.declared.boxed.Box.{Box}
-use Rattle.fip_language.specs.declared.Place.{Place}
+use Rattle.fip_base.specs.fip_language.declared.Place.{Place}
 use Rattle.fip_base.specs.declared.core_form.MatchKind.{MatchKind}
 use Rattle.fip_trees.specs.Tree as T
 use Rattle.fip_trees.specs.Tree.{Name, count, count_patterns}

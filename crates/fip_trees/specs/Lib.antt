@@ -5,3 +5,5 @@ pub mod Sizes
 pub mod Tree
 pub mod TreeView
 pub mod SoundProgram
+pub use Rattle.fip_base.specs as fip_base
+pub use Rattle.fip_base.specs.fip_language as fip_language

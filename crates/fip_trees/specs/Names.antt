@@ -2,8 +2,8 @@
 -- means 1, then b means 2, then a means 3 is declared, a means 1, b means 2, and c means nothing.
 use Rattle.std.specs.Prelude.{ℕ, Bool, List, [], ◌∷◌, ◌++◌, map, Option, Some, None, if◌then◌else◌}
 use Rattle.std.specs.List.{list_any}
-use Rattle.fip_language.specs.Core.{Name}
-use Rattle.fip_language.specs.Declarations.{same_name}
+use Rattle.fip_base.specs.fip_language.Core.{Name}
+use Rattle.fip_base.specs.fip_language.Declarations.{same_name}
 use Rattle.fip_trees.specs.declared.decls.TypeHead.{TypeHead}
 use Rattle.fip_trees.specs.declared.decls.ConstructorId.{ConstructorId}
 

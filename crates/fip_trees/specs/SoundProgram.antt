@@ -5,10 +5,10 @@
 -- In the program of `data list[a] { Nil; Cons(a, list[a]) }` and `fun f(xs: list[int]): int { 0 }` there are one
 -- instance, f, and two types: bool, with the value False, and list[int], with the value Nil.
 use Rattle.std.specs.Prelude.{◌≡◌, ℕ, suc, ◌<◌, ◌≤◌, true, length, Some, slice_get}
-use Rattle.fip_language.specs.declared.limits.TheConstants.{MOST_FIELDS, MOST_INSTANCES}
-use Rattle.fip_language.specs.SoundTable.{AreTypes}
-use Rattle.fip_language.specs.Table.{Shape, shapes, HasType}
-use Rattle.fip_language.specs.Values.{Value}
+use Rattle.fip_base.specs.fip_language.declared.limits.TheConstants.{MOST_FIELDS, MOST_INSTANCES}
+use Rattle.fip_base.specs.fip_language.SoundTable.{AreTypes}
+use Rattle.fip_base.specs.fip_language.Table.{Shape, shapes, HasType}
+use Rattle.fip_base.specs.fip_language.Values.{Value}
 use Rattle.fip_trees.specs.Tree.{Instance, Program}
 
 pub record IsSoundProgram (p : Program) : Type 0 where

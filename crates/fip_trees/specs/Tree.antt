@@ -2,10 +2,10 @@
 -- instances and binders are numbers; names stay for what a refusal names. A `type` of a constructor or a match and the
 -- `ty` of a binder are slots: they say nothing before a program is typed, and then hold the node's type.
 use Rattle.std.specs.Prelude.{ℕ, suc, ℤ, Bool, List, Option}
-use Rattle.fip_language.specs.declared.Place.{Place}
-use Rattle.fip_language.specs.declared.FunKind.{FunKind}
-use Rattle.fip_language.specs.declared.Operator.{Operator}
-use Rattle.fip_language.specs.Table.{Table}
+use Rattle.fip_base.specs.fip_language.declared.Place.{Place}
+use Rattle.fip_base.specs.fip_language.declared.FunKind.{FunKind}
+use Rattle.fip_base.specs.fip_language.declared.Operator.{Operator}
+use Rattle.fip_base.specs.fip_language.Table.{Table}
 use Rattle.fip_base.specs.declared.plain.Param.{Param}
 use Rattle.fip_trees.specs.declared.program.Binder.{Binder}
 use Rattle.fip_trees.specs.declared.program.TupleResult.{TupleResult}

@@ -1,6 +1,6 @@
 // The least violation of a walk.
 ghost use Rattle.std.specs.Prelude.{◌≡◌, ◌∷◌, Bool, None, Option, OnOk, OnErr, is_none, nat_lt, option_map};
-ghost use Rattle.fip_language.specs.RuleOrder.{number};
+ghost use Rattle.fip_base.specs.fip_language.RuleOrder.{number};
 ghost use Rattle.fip_trees.specs.Least.{better, comes_before, smaller, violation, refusal};
 ghost use Rattle.fip_trees.specs.declared.least.Violation.{Violation};
 

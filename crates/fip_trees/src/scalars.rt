@@ -1,6 +1,6 @@
 // Which types are scalar, found once for all of them.
 ghost use Rattle.std.specs.Prelude.{◌≡◌, ℕ, ◌≤◌, Bool, List, true, get_or, IfOk};
-ghost use Rattle.fip_language.specs.Table.{is_scalar};
+ghost use Rattle.fip_base.specs.fip_language.Table.{is_scalar};
 
 use fip_base::plain::NoMemory;
 use fip_base::table::TypeTable;

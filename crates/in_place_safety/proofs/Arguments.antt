@@ -1,20 +1,20 @@
 -- The cells of an argument's value are those that the calculus counts: those of the variables in it, and one for each
 -- constructor with fields.
 use Rattle.std.proofs.Common.{◌≡◌, ℕ, suc, ◌+◌, Bool, true, false, not, ◌&&◌, List, [], ◌∷◌, map, Option, Some, None, slice_get, if◌then◌else◌, refl, sym, ap, ◌∙◌, subst, arith}
-use Rattle.fip_language.specs.declared.FunKind.{FunKind}
-use Rattle.fip_language.specs.Values.{Value, Int, Node, Values, End, More, count_of, cells, cells_of_all}
-use Rattle.fip_language.specs.Table.{Table, is_scalar, HasType, HaveTypes}
-use Rattle.fip_language.specs.Meaning.{Environment, more_of}
-use Rattle.fip_base.specs.declared.plain.Param.{Param}
-use Rattle.fip_trees.specs.Tree.{Argument, Variable, Literal, Constructor, Arguments, NoArguments, MoreArguments, Instance, Program}
-use Rattle.type_check.specs.Scope.{Scope}
-use Rattle.type_check.specs.World as Y
-use Rattle.type_check.specs.Typing.{HasType as IsOfType, HaveTypes as AreOfTypes}
-use Rattle.fip_rules.specs.World.{World, world, lends, lends_parameter, lends_to}
-use Rattle.fip_rules.specs.Shapes.{Names, known}
-use Rattle.instance_semantics.specs.Meaning.{node_of, argument_value, argument_values}
-use Rattle.ownership_calculus.specs.Terms as C
-use Rattle.ownership_calculus.specs.Terms.{given, paid, size}
+use Rattle.tail_groups.specs.fip_language.declared.FunKind.{FunKind}
+use Rattle.tail_groups.specs.fip_language.Values.{Value, Int, Node, Values, End, More, count_of, cells, cells_of_all}
+use Rattle.tail_groups.specs.fip_language.Table.{Table, is_scalar, HasType, HaveTypes}
+use Rattle.tail_groups.specs.fip_language.Meaning.{Environment, more_of}
+use Rattle.tail_groups.specs.fip_base.declared.plain.Param.{Param}
+use Rattle.tail_groups.specs.fip_trees.Tree.{Argument, Variable, Literal, Constructor, Arguments, NoArguments, MoreArguments, Instance, Program}
+use Rattle.type_safety.specs.type_check.Scope.{Scope}
+use Rattle.type_safety.specs.type_check.World as Y
+use Rattle.type_safety.specs.type_check.Typing.{HasType as IsOfType, HaveTypes as AreOfTypes}
+use Rattle.ownership_agreement.specs.fip_rules.World.{World, world, lends, lends_parameter, lends_to}
+use Rattle.ownership_agreement.specs.fip_rules.Shapes.{Names, known}
+use Rattle.type_safety.specs.instance_semantics.Meaning.{node_of, argument_value, argument_values}
+use Rattle.ownership_agreement.specs.ownership_calculus.Terms as C
+use Rattle.ownership_agreement.specs.ownership_calculus.Terms.{given, paid, size}
 use Rattle.ownership_agreement.specs.Bodies.{Scalars, variable, value, values, passed, header, lent_value}
 use Rattle.in_place_safety.specs.Conservation.{owned_cells}
 use Rattle.in_place_safety.specs.Counts.{Held, cells_of_value, cells_of_values, cells_passed}

@@ -2,20 +2,20 @@
 -- together the cells of the values that are bound.
 use Rattle.std.proofs.Common.{◌≡◌, ◌<◌, ℕ, suc, ◌+◌, Bool, true, false, ◌||◌, List, [], ◌∷◌, ◌++◌, map, length, Some, if◌then◌else◌, ◌==◌, refl, sym, ap, ◌∙◌, subst, arith}
 use Rattle.std.proofs.lemmas.List.{append-nil, append_assoc}
-use Rattle.fip_language.specs.Values.{Value, Values, End, More, cells, cells_of_all}
-use Rattle.fip_language.specs.Table.{Table, is_scalar, HasType, HaveTypes}
-use Rattle.fip_language.specs.Meaning.{Environment, bind}
-use Rattle.fip_base.specs.declared.plain.Param.{Param}
-use Rattle.fip_trees.specs.declared.program.Binder.{Binder}
-use Rattle.type_check.specs.Scope.{Scope}
-use Rattle.type_check.specs.Binders.{entry, entries}
-use Rattle.type_check.specs.World.{type_of}
-use Rattle.type_check.specs.Typing.{Bind, Parameters, parameter_entries}
-use Rattle.fip_rules.specs.World.{World}
-use Rattle.fip_rules.specs.Shapes.{Names, within, taking, parameters}
-use Rattle.instance_semantics.specs.Meaning.{bind_binders}
+use Rattle.tail_groups.specs.fip_language.Values.{Value, Values, End, More, cells, cells_of_all}
+use Rattle.tail_groups.specs.fip_language.Table.{Table, is_scalar, HasType, HaveTypes}
+use Rattle.tail_groups.specs.fip_language.Meaning.{Environment, bind}
+use Rattle.tail_groups.specs.fip_base.declared.plain.Param.{Param}
+use Rattle.tail_groups.specs.fip_trees.declared.program.Binder.{Binder}
+use Rattle.type_safety.specs.type_check.Scope.{Scope}
+use Rattle.type_safety.specs.type_check.Binders.{entry, entries}
+use Rattle.type_safety.specs.type_check.World.{type_of}
+use Rattle.type_safety.specs.type_check.Typing.{Bind, Parameters, parameter_entries}
+use Rattle.ownership_agreement.specs.fip_rules.World.{World}
+use Rattle.ownership_agreement.specs.fip_rules.Shapes.{Names, within, taking, parameters}
+use Rattle.type_safety.specs.instance_semantics.Meaning.{bind_binders}
 use Rattle.type_safety.proofs.Scopes.{annotated_is}
-use Rattle.ownership_calculus.specs.Terms.{has}
+use Rattle.ownership_agreement.specs.ownership_calculus.Terms.{has}
 use Rattle.ownership_agreement.specs.Bodies.{Scalars, variables, entering, entering_parameters}
 use Rattle.ownership_agreement.proofs.Basics.{not_owned}
 use Rattle.in_place_safety.specs.Counts.{Held, total, Once, Binds}

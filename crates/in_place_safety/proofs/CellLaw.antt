@@ -3,11 +3,11 @@
 use Rattle.std.proofs.Common.{◌≡◌, ℕ, zero, suc, ◌+◌, inl, inr, refl, sym, ap, subst, ◌∙◌, List, [], ◌∷◌, ◌++◌, Bool, true, false, not, arith}
 use Rattle.std.specs.Prelude.{if◌then◌else◌, ◌==◌, ◌||◌, ◌&&◌}
 use Rattle.std.proofs.lemmas.Bool.Decides.{nat_tests}
-use Rattle.ownership_calculus.specs.Terms.{given, Value, Values, Named, Scalar, Built, NoValues, MoreValues, Passed, Header, PassLent, PassOwned, Term, Clauses, Results, Call, Let, Match, Take, LastClause, MoreClauses, Item, Own, Credit, has, one, size, paid}
-use Rattle.ownership_calculus.specs.Rules.{lending, setting}
-use Rattle.ownership_calculus.specs.ByCases.{Opens, DerivesValue, DerivesValues, DerivesPassed, Derives, DerivesLent, DerivesTaken}
-use Rattle.ownership_calculus.specs.Functions.{starting, Derived}
-use Rattle.ownership_calculus.proofs.Faithful.{by_cases}
+use Rattle.ownership_agreement.specs.ownership_calculus.Terms.{given, Value, Values, Named, Scalar, Built, NoValues, MoreValues, Passed, Header, PassLent, PassOwned, Term, Clauses, Results, Call, Let, Match, Take, LastClause, MoreClauses, Item, Own, Credit, has, one, size, paid}
+use Rattle.ownership_agreement.specs.ownership_calculus.Rules.{lending, setting}
+use Rattle.ownership_agreement.specs.ownership_calculus.ByCases.{Opens, DerivesValue, DerivesValues, DerivesPassed, Derives, DerivesLent, DerivesTaken}
+use Rattle.ownership_agreement.specs.ownership_calculus.Functions.{starting, Derived}
+use Rattle.ownership_agreement.proofs.ownership_calculus.Faithful.{by_cases}
 use Rattle.in_place_safety.specs.Counts.{Held, cells_of_value, cells_of_values, cells_passed, total, Once, Binds, Counts, CountsLent, CountsTaken}
 
 abbrev times : ℕ → ℕ → ℕ

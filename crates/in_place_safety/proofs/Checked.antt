@@ -1,18 +1,18 @@
 -- The laws on types, cells and the stack, joined for programs that pass all checks.
 use Rattle.std.proofs.Common.{◌≡◌, ◌≢◌, ◌≤◌, ℕ, zero, suc, ◌+◌, List, [], ◌∷◌, map, Option, Some, None, slice_get, if◌then◌else◌, refl, ap, ◌∙◌}
-use Rattle.fip_language.specs.declared.FunKind.TheVariants.{Fip}
-use Rattle.fip_language.specs.declared.limits.TheConstants.{FRAME_WORDS}
-use Rattle.fip_language.specs.Values.{Values}
-use Rattle.fip_language.specs.Table.{Table, HaveTypes}
-use Rattle.fip_language.specs.Meaning.{Answer, Gives, Trap, Out, Deep, Stuck}
-use Rattle.fip_base.specs.declared.plain.Stack.{Stack}
-use Rattle.fip_trees.specs.declared.groups.Member.{Member}
-use Rattle.fip_trees.specs.Tree.{Argument, Variable, Literal, Constructor, Expression, Give, Tuple, Operation, Call, Match, Nested, Block, Last, Let, Clauses, NoClauses, MoreClauses, Instance, Program}
-use Rattle.call_groups.specs.Stacks.{HasFrame}
+use Rattle.tail_groups.specs.fip_language.declared.FunKind.TheVariants.{Fip}
+use Rattle.tail_groups.specs.fip_language.declared.limits.TheConstants.{FRAME_WORDS}
+use Rattle.tail_groups.specs.fip_language.Values.{Values}
+use Rattle.tail_groups.specs.fip_language.Table.{Table, HaveTypes}
+use Rattle.tail_groups.specs.fip_language.Meaning.{Answer, Gives, Trap, Out, Deep, Stuck}
+use Rattle.tail_groups.specs.fip_base.declared.plain.Stack.{Stack}
+use Rattle.tail_groups.specs.fip_trees.declared.groups.Member.{Member}
+use Rattle.tail_groups.specs.fip_trees.Tree.{Argument, Variable, Literal, Constructor, Expression, Give, Tuple, Operation, Call, Match, Nested, Block, Last, Let, Clauses, NoClauses, MoreClauses, Instance, Program}
+use Rattle.tail_groups.specs.call_groups.Stacks.{HasFrame}
 use Rattle.tail_groups.specs.Registers.{registers}
 use Rattle.tail_groups.specs.Rules.{is_fip}
 use Rattle.tail_groups.specs.Members.{frame, stack}
-use Rattle.instance_semantics.specs.Meaning.{flat_meaning}
+use Rattle.type_safety.specs.instance_semantics.Meaning.{flat_meaning}
 use Rattle.type_safety.specs.Soundness.{IsSoundAnswer, parameter_types}
 use Rattle.type_safety.proofs.WellTyped.{meaning_sound}
 use Rattle.ownership_agreement.specs.Sized as Z

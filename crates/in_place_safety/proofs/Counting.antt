@@ -1,33 +1,33 @@
 -- An evaluation that gives values counts as the calculus says: by induction on the trees. So the law of the calculus on
 -- cells holds of it, and by induction on the calls that stand above one another of each fip instance.
 use Rattle.std.proofs.Common.{◌≡◌, ◌<◌, ◌⊎◌, inl, inr, ⊎_elim, ℕ, zero, suc, ◌+◌, ℤ, pos, Bool, true, false, not, List, ◌++◌, map, length, Option, Some, None, slice_get, if◌then◌else◌, refl, sym, ap, ◌∙◌, subst, arith, int_div, int_rem, ◌+ℤ◌, ◌-ℤ◌, ◌*ℤ◌}
-use Rattle.fip_language.specs.declared.Place.{Place}
-use Rattle.fip_language.specs.declared.FunKind.{FunKind}
-use Rattle.fip_language.specs.declared.FunKind.TheVariants.{Fip, Fbip, Fun}
-use Rattle.fip_language.specs.declared.Operator.{Operator}
-use Rattle.fip_language.specs.declared.Operator.TheVariants as O
-use Rattle.fip_language.specs.declared.TrapKind.TheVariants.{Overflow, DivideByZero}
-use Rattle.fip_language.specs.Values.{Value, Int, Node, Values, End, More, cells, cells_of_all}
-use Rattle.fip_language.specs.Table.{Table, is_scalar, HasType, HaveTypes}
-use Rattle.fip_language.specs.Matching.{Binding, same_int}
-use Rattle.fip_language.specs.Arithmetic.{Operated, Is, Fails, fits, int_or_overflow, operate}
-use Rattle.fip_language.specs.Meaning.{Answer, Gives, Trap, Out, Deep, Stuck, Run, go_on, counted, in_frame, Environment, bind_matched, with_value, with_values, operated, operation, if_matches}
-use Rattle.fip_language.proofs.Search.{slice_get_there}
-use Rattle.fip_trees.specs.Tree.{Argument, Arguments, Pattern, Expression, Give, Tuple, Operation, Call, Match, Nested, Block, Last, Let, Clauses, NoClauses, MoreClauses, Instance, Program}
-use Rattle.type_check.specs.Scope.{Scope}
-use Rattle.type_check.specs.Binders.{all_annotated, entries}
-use Rattle.type_check.specs.World as Y
-use Rattle.type_check.specs.Typing.{HasType as IsOfType, Types, TypesBlock, TypesClauses, Typed, bound_by, parameter_entries}
-use Rattle.fip_rules.specs.World.{World, world, weaker, weaker_than, is_weaker}
-use Rattle.fip_rules.specs.Shapes.{Names, behind, binders, takes, shape}
-use Rattle.instance_semantics.specs.Matching.{matching}
-use Rattle.instance_semantics.specs.Meaning.{bind_binders, argument_value, argument_values, Calls, eval, eval_block, eval_clauses}
+use Rattle.tail_groups.specs.fip_language.declared.Place.{Place}
+use Rattle.tail_groups.specs.fip_language.declared.FunKind.{FunKind}
+use Rattle.tail_groups.specs.fip_language.declared.FunKind.TheVariants.{Fip, Fbip, Fun}
+use Rattle.tail_groups.specs.fip_language.declared.Operator.{Operator}
+use Rattle.tail_groups.specs.fip_language.declared.Operator.TheVariants as O
+use Rattle.tail_groups.specs.fip_language.declared.TrapKind.TheVariants.{Overflow, DivideByZero}
+use Rattle.tail_groups.specs.fip_language.Values.{Value, Int, Node, Values, End, More, cells, cells_of_all}
+use Rattle.tail_groups.specs.fip_language.Table.{Table, is_scalar, HasType, HaveTypes}
+use Rattle.tail_groups.specs.fip_language.Matching.{Binding, same_int}
+use Rattle.tail_groups.specs.fip_language.Arithmetic.{Operated, Is, Fails, fits, int_or_overflow, operate}
+use Rattle.tail_groups.specs.fip_language.Meaning.{Answer, Gives, Trap, Out, Deep, Stuck, Run, go_on, counted, in_frame, Environment, bind_matched, with_value, with_values, operated, operation, if_matches}
+use Rattle.tail_groups.proofs.fip_language.Search.{slice_get_there}
+use Rattle.tail_groups.specs.fip_trees.Tree.{Argument, Arguments, Pattern, Expression, Give, Tuple, Operation, Call, Match, Nested, Block, Last, Let, Clauses, NoClauses, MoreClauses, Instance, Program}
+use Rattle.type_safety.specs.type_check.Scope.{Scope}
+use Rattle.type_safety.specs.type_check.Binders.{all_annotated, entries}
+use Rattle.type_safety.specs.type_check.World as Y
+use Rattle.type_safety.specs.type_check.Typing.{HasType as IsOfType, Types, TypesBlock, TypesClauses, Typed, bound_by, parameter_entries}
+use Rattle.ownership_agreement.specs.fip_rules.World.{World, world, weaker, weaker_than, is_weaker}
+use Rattle.ownership_agreement.specs.fip_rules.Shapes.{Names, behind, binders, takes, shape}
+use Rattle.type_safety.specs.instance_semantics.Matching.{matching}
+use Rattle.type_safety.specs.instance_semantics.Meaning.{bind_binders, argument_value, argument_values, Calls, eval, eval_block, eval_clauses}
 use Rattle.type_safety.specs.Formed.{FormedExpression, FormedBlock, FormedClauses, IsFormed}
 use Rattle.type_safety.specs.Soundness.{IsTypedAnswer, parameter_types}
 use Rattle.type_safety.proofs.WellTyped.{head_is, argument_has, arguments_have}
 use Rattle.type_safety.proofs.Gains.{CallsGain, expression_gained}
-use Rattle.ownership_calculus.specs.Terms as C
-use Rattle.ownership_calculus.specs.Terms.{given}
+use Rattle.ownership_agreement.specs.ownership_calculus.Terms as C
+use Rattle.ownership_agreement.specs.ownership_calculus.Terms.{given}
 use Rattle.ownership_agreement.specs.Bodies.{Scalars, value, passed, credits_of, variables, entering, nodes, inside, past_clause, matched, term, term_block, clauses}
 use Rattle.in_place_safety.specs.Conservation.{cells_given, KeepsCells}
 use Rattle.in_place_safety.specs.Counts.{Held, cells_of_value, cells_passed, total, Binds, Counts, CountsLent, CountsTaken}
@@ -172,13 +172,13 @@ typed_given tb ts Out us j h e = cc
 typed_given tb ts Deep us j h e = cc
 typed_given tb ts Stuck us j h e = cc
 
-call_counts : (p : Program) (calls : Calls) → CallsKeep p calls → (c : Names) (sc : Scalars) (s : Scope) (env : Environment) (held : Held) → Tracks p.types c sc s env held → (g : ℕ) (as' : Arguments) (vs : Values) → g < length p.instances → Rattle.type_check.specs.Typing.HaveTypes true (Y.world p) s true as' (Y.head (Y.world p) g).parameters → argument_values env as' ≡ Some vs → HaveTypes p.types (Y.head (Y.world p) g).parameters vs → (d k : ℕ) (rs : Values) (left : ℕ) → Gave (calls d g vs k) rs left → not (weaker (world p Fip) g) ≡ true → (n : ℕ) → cells_of_all n rs ≡ cells_passed held (passed (world p Fip) sc c.marks g 0 as') n
+call_counts : (p : Program) (calls : Calls) → CallsKeep p calls → (c : Names) (sc : Scalars) (s : Scope) (env : Environment) (held : Held) → Tracks p.types c sc s env held → (g : ℕ) (as' : Arguments) (vs : Values) → g < length p.instances → Rattle.type_safety.specs.type_check.Typing.HaveTypes true (Y.world p) s true as' (Y.head (Y.world p) g).parameters → argument_values env as' ≡ Some vs → HaveTypes p.types (Y.head (Y.world p) g).parameters vs → (d k : ℕ) (rs : Values) (left : ℕ) → Gave (calls d g vs k) rs left → not (weaker (world p Fip) g) ≡ true → (n : ℕ) → cells_of_all n rs ≡ cells_passed held (passed (world p Fip) sc c.marks g 0 as') n
 call_counts p calls keep c sc s env held h g as' vs lt i r t d k rs left e strong n =
     let x = slice_get_there p.instances g lt in
     let f = x.0 in
     let is : Y.head (Y.world p) g ≡ Y.head_of f = head_is p.instances g f x.1 in
     let typed : HaveTypes p.types (parameter_types f) vs = subst (λ (y : Y.Head). HaveTypes p.types y.parameters vs) is t in
-    let shaped = subst (λ (y : Y.Head). Rattle.type_check.specs.Typing.HaveTypes true (Y.world p) s true as' y.parameters) is i in
+    let shaped = subst (λ (y : Y.Head). Rattle.type_safety.specs.type_check.Typing.HaveTypes true (Y.world p) s true as' y.parameters) is i in
     let kept = keeps_given f vs (calls d g vs k).answer rs left (keep d g vs k f x.1 (strong_fip p g f x.1 strong) typed) e n in
     let count = passed_cells p c sc s env held h Fip g 0 f f.params true as' vs n x.1 (λ m. ap (slice_get f.params) (let z : m ≡ 0 + m = omega arith in z)) shaped r typed in
     let own = ap (λ o. given n (credits_of o)) x.1 in
@@ -194,7 +194,7 @@ module _ (p : Program) (well : IsFormed p) (calls : Calls) (gain : CallsGain p c
   y = Y.world p
 
   -- the scope, the environment and what is held inside of a pattern that matched
-  inside_tracked : (taken : Bool) (c : Names) (sc : Scalars) (s : Scope) (env : Environment) (held : Held) (t : ℕ) (q : Pattern) (v : Value) (bs : List Binding) → Rattle.type_check.specs.Typing.IsPattern true y t q → (m : Matched p.types q v bs) → Tracks p.types c sc s env held → Tracks p.types (inside w taken c (binders q)) (entering w c.next sc (binders q)) (s ++ bound_by y (Some t) q) (bind_matched env bs) (held_all (is_scalar p.types) c.next (binders q) m.values held)
+  inside_tracked : (taken : Bool) (c : Names) (sc : Scalars) (s : Scope) (env : Environment) (held : Held) (t : ℕ) (q : Pattern) (v : Value) (bs : List Binding) → Rattle.type_safety.specs.type_check.Typing.IsPattern true y t q → (m : Matched p.types q v bs) → Tracks p.types c sc s env held → Tracks p.types (inside w taken c (binders q)) (entering w c.next sc (binders q)) (s ++ bound_by y (Some t) q) (bind_matched env bs) (held_all (is_scalar p.types) c.next (binders q) m.values held)
   inside_tracked taken c sc s env held t q v bs i m h =
       let all = tracks_binders p.types w refl taken c sc s env held (binders q) m.values h m.typed in
       let first = subst (λ r. Tracks p.types (inside w taken c (binders q)) (entering w c.next sc (binders q)) (s ++ slot_entries (binders q)) r (held_all (is_scalar p.types) c.next (binders q) m.values held)) (sym (m.bound env)) all in

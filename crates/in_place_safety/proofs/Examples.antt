@@ -1,12 +1,12 @@
 -- The fip instances of the program of the examples are derived, so the law on cells speaks of some.
 use Rattle.std.proofs.Common.{◌≡◌, ◌≤◌, ◌⊎◌, inl, inr, ⊎_elim, ℕ, Bool, true, false, ◌||◌, [], ◌∷◌, ◌==◌, refl, subst, arith}
 use Rattle.std.proofs.lemmas.Bool.{eqb-true}
-use Rattle.ownership_calculus.specs.Terms.{has}
-use Rattle.instance_semantics.specs.Example.{rev, number, lists}
-use Rattle.ownership_calculus.specs.Terms.{Named, Scalar, Built, NoValues, MoreValues, Header, PassOwned, Term, Results, Call, Match, Take, LastClause, MoreClauses}
-use Rattle.ownership_calculus.specs.Clean.{AllUsed, fewest, Even}
-use Rattle.ownership_calculus.specs.Functions.{Accepted}
-use Rattle.ownership_calculus.proofs.Whole.{is_derived}
+use Rattle.ownership_agreement.specs.ownership_calculus.Terms.{has}
+use Rattle.type_safety.specs.instance_semantics.Example.{rev, number, lists}
+use Rattle.ownership_agreement.specs.ownership_calculus.Terms.{Named, Scalar, Built, NoValues, MoreValues, Header, PassOwned, Term, Results, Call, Match, Take, LastClause, MoreClauses}
+use Rattle.ownership_agreement.specs.ownership_calculus.Clean.{AllUsed, fewest, Even}
+use Rattle.ownership_agreement.specs.ownership_calculus.Functions.{Accepted}
+use Rattle.ownership_agreement.proofs.ownership_calculus.Whole.{is_derived}
 use Rattle.ownership_agreement.specs.Agreement.{IsDerived}
 use Rattle.in_place_safety.specs.Conservation.{AreFipDerived}
 

@@ -1,23 +1,23 @@
 -- A fip instance of a well typed program whose fip instances are derived keeps its cells.
 use Rattle.std.proofs.Common.{◌≡◌, ℕ, zero, suc, true, List, [], ◌∷◌, Some, slice_get, refl, sym, ap, ◌∙◌, subst, arith}
-use Rattle.fip_language.specs.declared.FunKind.{FunKind}
-use Rattle.fip_language.specs.declared.FunKind.TheVariants.{Fip}
-use Rattle.fip_language.specs.Values.{Values, cells_of_all}
-use Rattle.fip_language.specs.Table.{is_scalar, HaveTypes}
-use Rattle.fip_language.specs.Meaning.{Answer, Gives, Trap, Out, Deep, Stuck, Run, counted, nothing_bound}
-use Rattle.fip_trees.specs.Tree.{Instance, Program}
-use Rattle.type_check.specs.Scope.{Scope}
-use Rattle.type_check.specs.World as Y
-use Rattle.type_check.specs.Typing.{IsFilled, Typed, Parameters, parameter_entries}
-use Rattle.fip_rules.specs.World.{World, world, is_fip, is_ruled}
-use Rattle.fip_rules.specs.Shapes.{Names, within, taking, parameters, no_names}
-use Rattle.instance_semantics.specs.Registers.{frame_words}
-use Rattle.instance_semantics.specs.Meaning.{bind_binders, Calls, body_run, calls_of, flat_meaning}
+use Rattle.tail_groups.specs.fip_language.declared.FunKind.{FunKind}
+use Rattle.tail_groups.specs.fip_language.declared.FunKind.TheVariants.{Fip}
+use Rattle.tail_groups.specs.fip_language.Values.{Values, cells_of_all}
+use Rattle.tail_groups.specs.fip_language.Table.{is_scalar, HaveTypes}
+use Rattle.tail_groups.specs.fip_language.Meaning.{Answer, Gives, Trap, Out, Deep, Stuck, Run, counted, nothing_bound}
+use Rattle.tail_groups.specs.fip_trees.Tree.{Instance, Program}
+use Rattle.type_safety.specs.type_check.Scope.{Scope}
+use Rattle.type_safety.specs.type_check.World as Y
+use Rattle.type_safety.specs.type_check.Typing.{IsFilled, Typed, Parameters, parameter_entries}
+use Rattle.ownership_agreement.specs.fip_rules.World.{World, world, is_fip, is_ruled}
+use Rattle.ownership_agreement.specs.fip_rules.Shapes.{Names, within, taking, parameters, no_names}
+use Rattle.type_safety.specs.instance_semantics.Registers.{frame_words}
+use Rattle.type_safety.specs.instance_semantics.Meaning.{bind_binders, Calls, body_run, calls_of, flat_meaning}
 use Rattle.type_safety.specs.Formed.{FormedInstance, IsFormed}
 use Rattle.type_safety.specs.Soundness.{parameter_types}
 use Rattle.type_safety.proofs.WellTyped.{typed_at, formed_at}
 use Rattle.type_safety.proofs.Gains.{CallsGain, calls_gained}
-use Rattle.ownership_calculus.specs.Functions.{Derived}
+use Rattle.ownership_agreement.specs.ownership_calculus.Functions.{Derived}
 use Rattle.ownership_agreement.specs.Bodies.{Scalars, entering, borrowed_parameters, owned_parameters, entering_parameters, no_variables, body_term}
 use Rattle.ownership_agreement.specs.Agreement.{IsDerived, AreDerived, AreSized, IsAccepted}
 use Rattle.ownership_agreement.proofs.Instances.{programs_agree}

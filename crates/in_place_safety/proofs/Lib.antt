@@ -13,3 +13,5 @@ pub mod Within
 pub mod Strong
 pub mod Checked
 pub mod Sources
+pub use Rattle.tail_groups.proofs.fip_language as fip_language
+pub use Rattle.type_safety.proofs as type_safety

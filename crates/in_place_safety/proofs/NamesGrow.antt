@@ -1,15 +1,15 @@
 -- Behind a part no fewer binders have been passed than before it.
 use Rattle.std.proofs.Common.{◌≡◌, ℕ, suc, ◌≤◌, Bool, true, false, not, List, [], ◌∷◌, ◌++◌, refl, sym, ap, ◌∙◌, subst, if◌then◌else◌, arith}
-use Rattle.fip_language.specs.declared.Place.{Place}
-use Rattle.fip_language.specs.declared.rule.Rule.TheVariants.{E55}
-use Rattle.fip_trees.specs.declared.program.Binder.{Binder}
-use Rattle.fip_trees.specs.Tree.{Name, Arguments, NoArguments, MoreArguments, Expression, Give, Tuple, Operation, Call, Match, Nested, Block, Last, Let, Clauses, NoClauses, MoreClauses}
-use Rattle.fip_rules.specs.Marks.{Mark}
-use Rattle.fip_rules.specs.Shape as S
-use Rattle.fip_rules.specs.Rules.{next}
-use Rattle.fip_rules.specs.World.{World, lends, weaker}
-use Rattle.fip_rules.specs.Shapes.{Names, Bind, token, owning, owning_all, passing_all, mark, binds, within, behind, taking, binders, takes, clause_shape, shape, shape_block, shape_clauses}
-use Rattle.fip_rules.proofs.Orders.{next_passing}
+use Rattle.tail_groups.specs.fip_language.declared.Place.{Place}
+use Rattle.tail_groups.specs.fip_language.declared.rule.Rule.TheVariants.{E55}
+use Rattle.tail_groups.specs.fip_trees.declared.program.Binder.{Binder}
+use Rattle.tail_groups.specs.fip_trees.Tree.{Name, Arguments, NoArguments, MoreArguments, Expression, Give, Tuple, Operation, Call, Match, Nested, Block, Last, Let, Clauses, NoClauses, MoreClauses}
+use Rattle.ownership_agreement.specs.fip_rules.Marks.{Mark}
+use Rattle.ownership_agreement.specs.fip_rules.Shape as S
+use Rattle.ownership_agreement.specs.fip_rules.Rules.{next}
+use Rattle.ownership_agreement.specs.fip_rules.World.{World, lends, weaker}
+use Rattle.ownership_agreement.specs.fip_rules.Shapes.{Names, Bind, token, owning, owning_all, passing_all, mark, binds, within, behind, taking, binders, takes, clause_shape, shape, shape_block, shape_clauses}
+use Rattle.ownership_agreement.proofs.fip_rules.Orders.{next_passing}
 
 called_next : (n : ℕ) (b : Bool) (p : Place) (l : Name) → next n (if b then S.Fault E55 (token p l) else S.Skip) ≡ n
 called_next n true p l = refl

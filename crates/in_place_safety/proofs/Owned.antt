@@ -1,13 +1,13 @@
 -- The owned parameters of an instance together hold the cells of the arguments that aren't lent.
 use Rattle.std.proofs.Common.{◌≡◌, ◌<◌, ℕ, suc, ◌+◌, Bool, true, false, List, [], ◌∷◌, map, length, if◌then◌else◌, ◌==◌, refl, sym, ap, ◌∙◌, subst, arith}
-use Rattle.fip_language.specs.Values.{Value, Values, End, More, cells}
-use Rattle.fip_language.specs.Table.{Table, is_scalar, HasType, HaveTypes}
-use Rattle.fip_base.specs.declared.plain.Param.{Param}
-use Rattle.fip_trees.specs.declared.program.Binder.{Binder}
-use Rattle.type_check.specs.World.{type_of}
-use Rattle.type_check.specs.Typing.{Parameters}
-use Rattle.fip_rules.specs.World.{World}
-use Rattle.ownership_calculus.specs.Terms.{has}
+use Rattle.tail_groups.specs.fip_language.Values.{Value, Values, End, More, cells}
+use Rattle.tail_groups.specs.fip_language.Table.{Table, is_scalar, HasType, HaveTypes}
+use Rattle.tail_groups.specs.fip_base.declared.plain.Param.{Param}
+use Rattle.tail_groups.specs.fip_trees.declared.program.Binder.{Binder}
+use Rattle.type_safety.specs.type_check.World.{type_of}
+use Rattle.type_safety.specs.type_check.Typing.{Parameters}
+use Rattle.ownership_agreement.specs.fip_rules.World.{World}
+use Rattle.ownership_agreement.specs.ownership_calculus.Terms.{has}
 use Rattle.ownership_agreement.specs.Bodies.{owned_parameters}
 use Rattle.ownership_agreement.proofs.Basics.{apart}
 use Rattle.in_place_safety.specs.Conservation.{owned_cells}

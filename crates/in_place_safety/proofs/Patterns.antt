@@ -3,21 +3,21 @@ use Rattle.std.proofs.Common.{◌≡◌, ℕ, zero, suc, ◌+◌, true, List, []
 use Rattle.std.proofs.lemmas.Bool.{eqb-true}
 use Rattle.std.proofs.lemmas.Bool.Decides.{nat_tests}
 use Rattle.std.specs.Prelude.{nat_eq}
-use Rattle.fip_language.specs.Values.{Value, Int, Node, Values, End, More, count_of, one_of_size, cells, cells_of_all}
-use Rattle.fip_language.specs.Table.{Table, HasType, HaveTypes}
-use Rattle.fip_language.specs.Matching.{Binding, same_int}
-use Rattle.fip_language.specs.Meaning.{Environment, bind, bind_matched}
-use Rattle.fip_trees.specs.declared.program.Binder.{Binder}
-use Rattle.fip_trees.specs.Tree.{Pattern, BinderPattern, LiteralPattern, ConstructorPattern, Patterns, NoPatterns, MorePatterns, count_patterns}
-use Rattle.type_check.specs.Scope.{Scope}
-use Rattle.type_check.specs.Binders.{entry}
-use Rattle.type_check.specs.World.{World, fields_of}
-use Rattle.type_check.specs.Typing.{IsPattern, ArePatterns, bound_by, bound_by_all}
-use Rattle.fip_rules.specs.Shapes.{binders, binders_all}
-use Rattle.instance_semantics.specs.Matching.{matching, matching_all}
-use Rattle.instance_semantics.specs.Meaning.{bind_binders}
+use Rattle.tail_groups.specs.fip_language.Values.{Value, Int, Node, Values, End, More, count_of, one_of_size, cells, cells_of_all}
+use Rattle.tail_groups.specs.fip_language.Table.{Table, HasType, HaveTypes}
+use Rattle.tail_groups.specs.fip_language.Matching.{Binding, same_int}
+use Rattle.tail_groups.specs.fip_language.Meaning.{Environment, bind, bind_matched}
+use Rattle.tail_groups.specs.fip_trees.declared.program.Binder.{Binder}
+use Rattle.tail_groups.specs.fip_trees.Tree.{Pattern, BinderPattern, LiteralPattern, ConstructorPattern, Patterns, NoPatterns, MorePatterns, count_patterns}
+use Rattle.type_safety.specs.type_check.Scope.{Scope}
+use Rattle.type_safety.specs.type_check.Binders.{entry}
+use Rattle.type_safety.specs.type_check.World.{World, fields_of}
+use Rattle.type_safety.specs.type_check.Typing.{IsPattern, ArePatterns, bound_by, bound_by_all}
+use Rattle.ownership_agreement.specs.fip_rules.Shapes.{binders, binders_all}
+use Rattle.type_safety.specs.instance_semantics.Matching.{matching, matching_all}
+use Rattle.type_safety.specs.instance_semantics.Meaning.{bind_binders}
 use Rattle.type_safety.proofs.Scopes.{children_have, halves, when_same, is_same, bound_fields, bind_matched-append}
-use Rattle.ownership_calculus.specs.Terms.{one, given, paid, Credit}
+use Rattle.ownership_agreement.specs.ownership_calculus.Terms.{one, given, paid, Credit}
 use Rattle.ownership_agreement.specs.Bodies.{node, nodes, nodes_all}
 use Rattle.in_place_safety.proofs.Binding.{slots, slot_entries}
 

@@ -1,16 +1,16 @@
 -- Runs within numbers of frames and words: by induction on the trees, where for each call the numbers of what is called
 -- are within those of the caller, beside its own frame where it waits.
 use Rattle.std.proofs.Common.{◌≤◌, ℕ, zero, suc, ◌+◌, Bool, true, false, List, [], ◌∷◌, ◌++◌, Option, Some, None, arith}
-use Rattle.fip_language.specs.declared.Place.{Place}
-use Rattle.fip_language.specs.declared.Operator.{Operator}
-use Rattle.fip_language.specs.Values.{Value, Int, Node, Values}
-use Rattle.fip_language.specs.Matching.{Binding}
-use Rattle.fip_language.specs.Arithmetic.{Operated, Is, Fails, operate}
-use Rattle.fip_language.specs.Meaning.{Answer, Gives, Trap, Out, Deep, Stuck, Peak, Run, ends, after, entered, go_on, then_with, counted, in_frame, Environment, bind_matched, with_value, with_values, operated, operation, if_matches}
-use Rattle.fip_trees.specs.Tree.{Expression, Give, Tuple, Operation, Call, Match, Nested, Block, Last, Let, Clauses, NoClauses, MoreClauses}
+use Rattle.tail_groups.specs.fip_language.declared.Place.{Place}
+use Rattle.tail_groups.specs.fip_language.declared.Operator.{Operator}
+use Rattle.tail_groups.specs.fip_language.Values.{Value, Int, Node, Values}
+use Rattle.tail_groups.specs.fip_language.Matching.{Binding}
+use Rattle.tail_groups.specs.fip_language.Arithmetic.{Operated, Is, Fails, operate}
+use Rattle.tail_groups.specs.fip_language.Meaning.{Answer, Gives, Trap, Out, Deep, Stuck, Peak, Run, ends, after, entered, go_on, then_with, counted, in_frame, Environment, bind_matched, with_value, with_values, operated, operation, if_matches}
+use Rattle.tail_groups.specs.fip_trees.Tree.{Expression, Give, Tuple, Operation, Call, Match, Nested, Block, Last, Let, Clauses, NoClauses, MoreClauses}
 use Rattle.tail_groups.specs.Sites.{Site, sites, block_sites, clauses_sites}
-use Rattle.instance_semantics.specs.Matching.{matching}
-use Rattle.instance_semantics.specs.Meaning.{argument_value, argument_values, Calls, eval, eval_block, eval_clauses, bind_binders}
+use Rattle.type_safety.specs.instance_semantics.Matching.{matching}
+use Rattle.type_safety.specs.instance_semantics.Meaning.{argument_value, argument_values, Calls, eval, eval_block, eval_clauses, bind_binders}
 
 abbrev pub NotDeep : Answer → Type 0
 NotDeep (Gives vs left) = Unit {0}

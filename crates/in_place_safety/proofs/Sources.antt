@@ -1,17 +1,17 @@
 -- The same said of sources: an instance means what its function means, and filling in types keeps the meaning.
 use Rattle.std.proofs.Common.{◌≡◌, ◌≤◌, ℕ, List, Some, slice_get, ◌∙◌, subst}
-use Rattle.fip_language.specs.declared.FunKind.TheVariants.{Fip}
-use Rattle.fip_language.specs.Core.{Name, Core}
-use Rattle.fip_language.specs.Meaning.{meaning}
-use Rattle.fip_language.specs.Statics.{Closed, Closeds, ClosedName}
-use Rattle.fip_language.specs.Table.{HaveTypes}
-use Rattle.fip_language.specs.Values.{Values}
-use Rattle.fip_base.specs.declared.plain.Stack.{Stack}
-use Rattle.fip_trees.specs.declared.groups.Member.{Member}
-use Rattle.fip_trees.specs.Tree.{Instance, Program}
-use Rattle.type_check.specs.Faults.{filled}
-use Rattle.instance_semantics.specs.Specialised.{IsSpecialised}
-use Rattle.instance_semantics.proofs.Means.{means}
+use Rattle.tail_groups.specs.fip_language.declared.FunKind.TheVariants.{Fip}
+use Rattle.tail_groups.specs.fip_language.Core.{Name, Core}
+use Rattle.tail_groups.specs.fip_language.Meaning.{meaning}
+use Rattle.tail_groups.specs.fip_language.Statics.{Closed, Closeds, ClosedName}
+use Rattle.tail_groups.specs.fip_language.Table.{HaveTypes}
+use Rattle.tail_groups.specs.fip_language.Values.{Values}
+use Rattle.tail_groups.specs.fip_base.declared.plain.Stack.{Stack}
+use Rattle.tail_groups.specs.fip_trees.declared.groups.Member.{Member}
+use Rattle.tail_groups.specs.fip_trees.Tree.{Instance, Program}
+use Rattle.type_safety.specs.type_check.Faults.{filled}
+use Rattle.type_safety.specs.instance_semantics.Specialised.{IsSpecialised}
+use Rattle.type_safety.proofs.instance_semantics.Means.{means}
 use Rattle.type_safety.specs.Soundness.{parameter_types}
 use Rattle.type_safety.proofs.FilledSlots.{filled_means}
 use Rattle.in_place_safety.specs.InPlace.{RunsInPlace, IsChecked}

@@ -1,22 +1,22 @@
 -- A fip instance that is derived calls fip instances alone: each of its calls is strong enough.
 use Rattle.std.proofs.Common.{◌≡◌, ◌<◌, ℕ, zero, suc, Bool, true, false, not, List, [], ◌∷◌, ◌++◌, length, Some, slice_get, refl, sym, ap, ◌∙◌, subst}
-use Rattle.fip_language.specs.declared.FunKind.{FunKind}
-use Rattle.fip_language.specs.declared.FunKind.TheVariants.{Fip, Fbip, Fun}
-use Rattle.fip_language.proofs.Search.{slice_get_there}
-use Rattle.fip_trees.specs.Tree.{Argument, Pattern, Expression, Give, Tuple, Operation, Call, Match, Nested, Block, Last, Let, Clauses, NoClauses, MoreClauses, Program}
+use Rattle.tail_groups.specs.fip_language.declared.FunKind.{FunKind}
+use Rattle.tail_groups.specs.fip_language.declared.FunKind.TheVariants.{Fip, Fbip, Fun}
+use Rattle.tail_groups.proofs.fip_language.Search.{slice_get_there}
+use Rattle.tail_groups.specs.fip_trees.Tree.{Argument, Pattern, Expression, Give, Tuple, Operation, Call, Match, Nested, Block, Last, Let, Clauses, NoClauses, MoreClauses, Program}
 use Rattle.tail_groups.specs.Sites.{Site, sites, block_sites, clauses_sites, instance_sites}
 use Rattle.tail_groups.specs.Rules.{is_fip}
 use Rattle.tail_groups.specs.Members.{FipCallsFip}
-use Rattle.fip_rules.specs.World.{World, world, weaker, weaker_than, is_weaker}
-use Rattle.fip_rules.specs.Shapes.{Names, behind, binders, takes, shape}
+use Rattle.ownership_agreement.specs.fip_rules.World.{World, world, weaker, weaker_than, is_weaker}
+use Rattle.ownership_agreement.specs.fip_rules.Shapes.{Names, behind, binders, takes, shape}
 use Rattle.type_safety.specs.Formed.{FormedExpression, FormedBlock, FormedClauses, IsFormed}
 use Rattle.type_safety.proofs.WellTyped.{formed_at}
-use Rattle.ownership_calculus.specs.Terms as C
-use Rattle.ownership_calculus.specs.Terms.{Item}
-use Rattle.ownership_calculus.specs.Rules.{setting}
-use Rattle.ownership_calculus.specs.ByCases.{Derives, DerivesLent, DerivesTaken}
-use Rattle.ownership_calculus.specs.Functions.{starting}
-use Rattle.ownership_calculus.proofs.Faithful.{by_cases}
+use Rattle.ownership_agreement.specs.ownership_calculus.Terms as C
+use Rattle.ownership_agreement.specs.ownership_calculus.Terms.{Item}
+use Rattle.ownership_agreement.specs.ownership_calculus.Rules.{setting}
+use Rattle.ownership_agreement.specs.ownership_calculus.ByCases.{Derives, DerivesLent, DerivesTaken}
+use Rattle.ownership_agreement.specs.ownership_calculus.Functions.{starting}
+use Rattle.ownership_agreement.proofs.ownership_calculus.Faithful.{by_cases}
 use Rattle.ownership_agreement.specs.Bodies.{Scalars, variables, entering, nodes, inside, past_clause, matched, term, term_block, clauses, borrowed_parameters, owned_parameters, body_term}
 use Rattle.in_place_safety.specs.Conservation.{AreFipDerived}
 use Rattle.in_place_safety.proofs.Keeping.{derived_at, fip_derived}
@@ -120,7 +120,7 @@ fip_calls_fip p formed derived i d s e k here =
     let rules = fip_derived p d Fip kind (derived_at p p.instances i d derived e kind) in
     let own = owned_parameters (world p Fip) 0 d.params d.binders in
     let lent = borrowed_parameters (world p Fip) 0 d.params d.binders in
-    let all = block_strong p _ _ d.body true _ _ (formed_at p p.instances i d formed.bodies e).body (by_cases true (setting own false (Rattle.ownership_calculus.specs.Terms.has lent)) (starting own d.credits) (body_term (world p Fip) d) rules) in
+    let all = block_strong p _ _ d.body true _ _ (formed_at p p.instances i d formed.bodies e).body (by_cases true (setting own false (Rattle.ownership_agreement.specs.ownership_calculus.Terms.has lent)) (starting own d.credits) (body_term (world p Fip) d) rules) in
     let one = site_in (IsStrong p) (instance_sites d) here.0 s all here.1 in
     let x = slice_get_there p.instances s.callee one.there in
     (x.0, x.1, kind_fip x.0.kind (sym (ap (λ o. not (weaker_than Fip o)) x.1) ∙ one.strong))

@@ -2,14 +2,14 @@
 -- each size are held for it, none where it is scalar. Binding values to binders keeps this.
 use Rattle.std.proofs.Common.{◌≡◌, ◌<◌, ◌≤◌, ℕ, zero, suc, Bool, true, false, ◌&&◌, List, [], ◌∷◌, ◌++◌, Option, Some, None, slice_get, if◌then◌else◌, ◌==◌, refl, sym, ap, ◌∙◌, subst, arith}
 use Rattle.std.proofs.lemmas.Bool.Decides.{nat_tests}
-use Rattle.fip_language.specs.Values.{Value, Int, Node, Values, End, More, cells}
-use Rattle.fip_language.specs.Table.{Table, Shape, shapes, no_fields, all_bare, is_scalar, HasType, HaveTypes}
-use Rattle.fip_language.specs.Meaning.{Environment, bind}
-use Rattle.fip_trees.specs.declared.program.Binder.{Binder}
-use Rattle.type_check.specs.Scope.{Scope, look, or_else}
-use Rattle.type_check.specs.Binders.{entry}
-use Rattle.fip_rules.specs.Marks.{Mark}
-use Rattle.fip_rules.specs.Shapes.{Names, or_later, known, mark}
+use Rattle.tail_groups.specs.fip_language.Values.{Value, Int, Node, Values, End, More, cells}
+use Rattle.tail_groups.specs.fip_language.Table.{Table, Shape, shapes, no_fields, all_bare, is_scalar, HasType, HaveTypes}
+use Rattle.tail_groups.specs.fip_language.Meaning.{Environment, bind}
+use Rattle.tail_groups.specs.fip_trees.declared.program.Binder.{Binder}
+use Rattle.type_safety.specs.type_check.Scope.{Scope, look, or_else}
+use Rattle.type_safety.specs.type_check.Binders.{entry}
+use Rattle.ownership_agreement.specs.fip_rules.Marks.{Mark}
+use Rattle.ownership_agreement.specs.fip_rules.Shapes.{Names, or_later, known, mark}
 use Rattle.type_safety.proofs.Scopes.{EnvHas, look-append}
 use Rattle.ownership_agreement.specs.Bodies.{Scalars}
 use Rattle.ownership_agreement.proofs.Basics.{apart}

@@ -1,21 +1,21 @@
 -- The numbers that are found of the instances bound their runs: they solve the inequations that runs ask.
 use Rattle.std.proofs.Common.{◌≡◌, ◌≢◌, ◌≤◌, ℕ, zero, suc, ◌+◌, Bool, true, false, not, List, [], ◌∷◌, map, get_or, Some, None, slice_get, if◌then◌else◌, refl, sym, ap, ◌∙◌, subst, arith}
-use Rattle.fip_language.specs.declared.limits.TheConstants.{FRAME_WORDS}
-use Rattle.fip_language.specs.Values.{Values}
-use Rattle.fip_language.specs.Meaning.{Answer, Out, Deep, nothing_bound}
-use Rattle.fip_base.specs.declared.plain.Stack.{Stack}
-use Rattle.fip_trees.specs.declared.groups.Member.{Member}
-use Rattle.fip_trees.specs.Tree.{Argument, Variable, Literal, Constructor, Arguments, NoArguments, MoreArguments, Pattern, BinderPattern, LiteralPattern, ConstructorPattern, Patterns, NoPatterns, MorePatterns, Expression, Give, Tuple, Operation, Call, Match, Nested, Block, Last, Let, Clauses, NoClauses, MoreClauses, Instance, Program}
-use Rattle.call_groups.specs.CallGraph.{In, Calls as CallsOf}
-use Rattle.call_groups.specs.Stacks as G
-use Rattle.call_groups.specs.Stacks.{charge, Solves, HasFrame, FramedCalls, words_or_none, number_of, frames_in, words_in, AreStacks}
+use Rattle.tail_groups.specs.fip_language.declared.limits.TheConstants.{FRAME_WORDS}
+use Rattle.tail_groups.specs.fip_language.Values.{Values}
+use Rattle.tail_groups.specs.fip_language.Meaning.{Answer, Out, Deep, nothing_bound}
+use Rattle.tail_groups.specs.fip_base.declared.plain.Stack.{Stack}
+use Rattle.tail_groups.specs.fip_trees.declared.groups.Member.{Member}
+use Rattle.tail_groups.specs.fip_trees.Tree.{Argument, Variable, Literal, Constructor, Arguments, NoArguments, MoreArguments, Pattern, BinderPattern, LiteralPattern, ConstructorPattern, Patterns, NoPatterns, MorePatterns, Expression, Give, Tuple, Operation, Call, Match, Nested, Block, Last, Let, Clauses, NoClauses, MoreClauses, Instance, Program}
+use Rattle.tail_groups.specs.call_groups.CallGraph.{In, Calls as CallsOf}
+use Rattle.tail_groups.specs.call_groups.Stacks as G
+use Rattle.tail_groups.specs.call_groups.Stacks.{charge, Solves, HasFrame, FramedCalls, words_or_none, number_of, frames_in, words_in, AreStacks}
 use Rattle.tail_groups.specs.Sites.{Site, instance_sites, called, instance_calls, call_rows}
 use Rattle.tail_groups.specs.Rules.{is_fip}
 use Rattle.tail_groups.specs.Registers as T
 use Rattle.tail_groups.specs.Members.{frame, stack}
-use Rattle.instance_semantics.specs.Registers.{registers_of_argument, registers_of_arguments, registers_of_pattern, registers_of_patterns, registers_of_expression, registers_of_block, registers_of_clauses, frame_words}
-use Rattle.instance_semantics.specs.Meaning.{bind_binders, Calls, body_run, calls_of, flat_meaning}
-use Rattle.instance_semantics.proofs.Frames.{more_frames}
+use Rattle.type_safety.specs.instance_semantics.Registers.{registers_of_argument, registers_of_arguments, registers_of_pattern, registers_of_patterns, registers_of_expression, registers_of_block, registers_of_clauses, frame_words}
+use Rattle.type_safety.specs.instance_semantics.Meaning.{bind_binders, Calls, body_run, calls_of, flat_meaning}
+use Rattle.type_safety.proofs.instance_semantics.Frames.{more_frames}
 use Rattle.in_place_safety.specs.Scrutinees.{IsVariable, MatchesVariables, BlockMatchesVariables, ClausesMatchVariables, AllMatchVariables}
 use Rattle.in_place_safety.specs.Bounds.{IsWithin, AreBounded}
 use Rattle.in_place_safety.proofs.Runs.{NotDeep, Fits, SiteFits, AllSites, IsFit, at_rest, block_fits, entered_fits, counted_within}

@@ -3,10 +3,10 @@
 -- For example where f of 5 words waits for g of 7, which calls itself in tail position, a run of f holds one frame and
 -- 12 words at the most, and one free frame is enough for it.
 use Rattle.std.specs.Prelude.{◌≢◌, ◌≤◌, ℕ, List}
-use Rattle.fip_language.specs.Meaning.{Deep, Run}
-use Rattle.fip_base.specs.declared.plain.Stack.{Stack}
-use Rattle.fip_trees.specs.declared.groups.Member.{Member}
-use Rattle.fip_trees.specs.Tree.{Instance}
+use Rattle.tail_groups.specs.fip_language.Meaning.{Deep, Run}
+use Rattle.tail_groups.specs.fip_base.declared.plain.Stack.{Stack}
+use Rattle.tail_groups.specs.fip_trees.declared.groups.Member.{Member}
+use Rattle.tail_groups.specs.fip_trees.Tree.{Instance}
 use Rattle.tail_groups.specs.Members.{AreMembers, FipCallsFip}
 use Rattle.in_place_safety.specs.Scrutinees.{AllMatchVariables}
 

@@ -3,12 +3,12 @@
 -- For example `fip +2 fun push(x: int, xs: ints): ints { Cons(x, xs) }` is given a credit of size 2 and a list of three
 -- cells of this size, and gives a list of four.
 use Rattle.std.specs.Prelude.{◌≡◌, ℕ, ◌+◌, List, [], ◌∷◌, if◌then◌else◌}
-use Rattle.fip_language.specs.declared.FunKind.TheVariants.{Fip}
-use Rattle.fip_language.specs.Values.{Values, End, More, cells, cells_of_all}
-use Rattle.fip_language.specs.Meaning.{Answer, Gives, Trap, Out, Deep, Stuck}
-use Rattle.fip_base.specs.declared.plain.Param.{Param}
-use Rattle.fip_trees.specs.Tree.{Instance, Program}
-use Rattle.ownership_calculus.specs.Terms.{given}
+use Rattle.tail_groups.specs.fip_language.declared.FunKind.TheVariants.{Fip}
+use Rattle.tail_groups.specs.fip_language.Values.{Values, End, More, cells, cells_of_all}
+use Rattle.tail_groups.specs.fip_language.Meaning.{Answer, Gives, Trap, Out, Deep, Stuck}
+use Rattle.tail_groups.specs.fip_base.declared.plain.Param.{Param}
+use Rattle.tail_groups.specs.fip_trees.Tree.{Instance, Program}
+use Rattle.ownership_agreement.specs.ownership_calculus.Terms.{given}
 use Rattle.ownership_agreement.specs.Agreement.{IsDerived}
 
 -- the cells of size k of the arguments that aren't lent

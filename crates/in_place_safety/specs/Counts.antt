@@ -3,10 +3,10 @@
 -- In the body of rev, where xs has 3 cells of size 2 and acc has 2: the clause Cons(x, t) binds t to a list of 2 cells,
 -- since the pattern's node is the third; its call hands on t's 2, acc's 2 and the new node, so r has 5.
 use Rattle.std.specs.Prelude.{◌≡◌, ◌⊎◌, ℕ, ◌+◌, List, [], ◌∷◌, true, false}
-use Rattle.ownership_calculus.specs.Terms.{Value, Values, Named, Scalar, Built, NoValues, MoreValues, size, paid, given, has}
-use Rattle.ownership_calculus.specs.Terms.{Passed, Header, PassLent, PassOwned}
-use Rattle.ownership_calculus.specs.Terms.{Term, Results, Call, Let, Match, Take, Clauses, LastClause, MoreClauses}
-use Rattle.ownership_calculus.specs.Terms.{Credit}
+use Rattle.ownership_agreement.specs.ownership_calculus.Terms.{Value, Values, Named, Scalar, Built, NoValues, MoreValues, size, paid, given, has}
+use Rattle.ownership_agreement.specs.ownership_calculus.Terms.{Passed, Header, PassLent, PassOwned}
+use Rattle.ownership_agreement.specs.ownership_calculus.Terms.{Term, Results, Call, Let, Match, Take, Clauses, LastClause, MoreClauses}
+use Rattle.ownership_agreement.specs.ownership_calculus.Terms.{Credit}
 
 -- the cells of each variable, by size
 abbrev pub Held : Type 0

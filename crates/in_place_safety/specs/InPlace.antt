@@ -3,12 +3,12 @@
 -- never stuck, and never too deep where it has as many free frames as its stack number says.
 -- For example `rev` of three items, with enough calls and no free frame, gives a list of three items.
 use Rattle.std.specs.Prelude.{◌≡◌, ℕ, List}
-use Rattle.fip_language.specs.Values.{Values, cells_of_all}
-use Rattle.fip_language.specs.Table.{Table, HaveTypes}
-use Rattle.fip_language.specs.Meaning.{Answer, Gives, Trap, Out, Deep, Stuck, Run}
-use Rattle.fip_base.specs.declared.plain.Stack.{Stack}
-use Rattle.fip_trees.specs.declared.groups.Member.{Member}
-use Rattle.fip_trees.specs.Tree.{Instance, Program}
+use Rattle.tail_groups.specs.fip_language.Values.{Values, cells_of_all}
+use Rattle.tail_groups.specs.fip_language.Table.{Table, HaveTypes}
+use Rattle.tail_groups.specs.fip_language.Meaning.{Answer, Gives, Trap, Out, Deep, Stuck, Run}
+use Rattle.tail_groups.specs.fip_base.declared.plain.Stack.{Stack}
+use Rattle.tail_groups.specs.fip_trees.declared.groups.Member.{Member}
+use Rattle.tail_groups.specs.fip_trees.Tree.{Instance, Program}
 use Rattle.tail_groups.specs.Members.{AreMembers}
 use Rattle.type_safety.specs.Soundness.{IsWellTyped}
 use Rattle.ownership_agreement.specs.Agreement.{AreSized, IsAccepted}

@@ -1,8 +1,8 @@
 -- Each scrutinee is a variable, as in every core form. So a match has no registers but those of its clauses.
 use Rattle.std.specs.Prelude.{List, [], ◌∷◌}
-use Rattle.fip_trees.specs.Tree.{Argument, Variable, Literal, Constructor}
-use Rattle.fip_trees.specs.Tree.{Expression, Give, Tuple, Operation, Call, Match, Nested, Block, Last, Let}
-use Rattle.fip_trees.specs.Tree.{Clauses, NoClauses, MoreClauses, Instance}
+use Rattle.tail_groups.specs.fip_trees.Tree.{Argument, Variable, Literal, Constructor}
+use Rattle.tail_groups.specs.fip_trees.Tree.{Expression, Give, Tuple, Operation, Call, Match, Nested, Block, Last, Let}
+use Rattle.tail_groups.specs.fip_trees.Tree.{Clauses, NoClauses, MoreClauses, Instance}
 
 abbrev pub IsVariable : Argument → Type 0
 IsVariable (Variable x n p) = Unit {0}

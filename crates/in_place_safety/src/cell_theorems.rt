@@ -1,12 +1,12 @@
 // The laws on cells. Each is the contract of a function that does nothing.
 ghost use Rattle.std.specs.Prelude.{◌≡◌, ℕ, Some, slice_get};
-ghost use Rattle.fip_language.specs.declared.FunKind.TheVariants.{Fip};
-ghost use Rattle.fip_language.specs.Values.{Values};
-ghost use Rattle.fip_language.specs.Table.{HaveTypes};
-ghost use Rattle.fip_trees.specs.Tree.{Instance, Program};
-ghost use Rattle.instance_semantics.specs.Example.{lists};
-ghost use Rattle.instance_semantics.specs.Meaning.{flat_meaning};
-ghost use Rattle.type_check.specs.Typing.{IsFilled};
+ghost use Rattle.tail_groups.specs.fip_language.declared.FunKind.TheVariants.{Fip};
+ghost use Rattle.tail_groups.specs.fip_language.Values.{Values};
+ghost use Rattle.tail_groups.specs.fip_language.Table.{HaveTypes};
+ghost use Rattle.tail_groups.specs.fip_trees.Tree.{Instance, Program};
+ghost use Rattle.type_safety.specs.instance_semantics.Example.{lists};
+ghost use Rattle.type_safety.specs.instance_semantics.Meaning.{flat_meaning};
+ghost use Rattle.type_safety.specs.type_check.Typing.{IsFilled};
 ghost use Rattle.type_safety.specs.Formed.{IsFormed};
 ghost use Rattle.type_safety.specs.Soundness.{parameter_types};
 ghost use Rattle.ownership_agreement.specs.Agreement.{AreSized, IsAccepted};

@@ -1,10 +1,10 @@
 // The laws on the stack. Each is the contract of a function that does nothing.
 ghost use Rattle.std.specs.Prelude.{◌≡◌, ℕ, ◌+◌, ◌≤◌, List, Some, slice_get};
-ghost use Rattle.fip_base.specs.declared.plain.Stack.{Stack};
-ghost use Rattle.fip_language.specs.Values.{Values};
-ghost use Rattle.fip_trees.specs.declared.groups.Member.{Member};
-ghost use Rattle.fip_trees.specs.Tree.{Program};
-ghost use Rattle.instance_semantics.specs.Meaning.{flat_meaning};
+ghost use Rattle.tail_groups.specs.fip_base.declared.plain.Stack.{Stack};
+ghost use Rattle.tail_groups.specs.fip_language.Values.{Values};
+ghost use Rattle.tail_groups.specs.fip_trees.declared.groups.Member.{Member};
+ghost use Rattle.tail_groups.specs.fip_trees.Tree.{Program};
+ghost use Rattle.type_safety.specs.instance_semantics.Meaning.{flat_meaning};
 ghost use Rattle.in_place_safety.specs.Bounds.{IsWithin, AreBounded};
 
 /// A run of an instance that has a stack number never holds more frames and words than it says, and with so many free

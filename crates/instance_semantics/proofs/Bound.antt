@@ -2,9 +2,9 @@
 -- Two ways to call that agree below so many calls give an expression the same evaluation with that many: a call costs
 -- one, and nothing leaves more calls than it was given.
 use Rattle.std.proofs.Common.{◌≡◌, ℕ, zero, suc, ◌<◌, ◌≤◌, Bool, true, false, Option, Some, None, slice_get, arith, refl, ap}
-use Rattle.fip_language.specs.Values.{Value, Values}
-use Rattle.fip_language.specs.Meaning.{Run, entered, counted, Environment, nothing_bound, bind_matched}
-use Rattle.fip_language.proofs.Bound.{then_with-same, with_value-same, with_values-same, in_frame-same, if_matches-same}
+use Rattle.fip_trees.specs.fip_language.Values.{Value, Values}
+use Rattle.fip_trees.specs.fip_language.Meaning.{Run, entered, counted, Environment, nothing_bound, bind_matched}
+use Rattle.fip_trees.proofs.fip_language.Bound.{then_with-same, with_value-same, with_values-same, in_frame-same, if_matches-same}
 use Rattle.fip_trees.specs.Tree.{Expression, Give, Tuple, Operation, Call, Match, Nested, Block, Last, Let, Clauses, NoClauses, MoreClauses, Instance, Program}
 use Rattle.instance_semantics.specs.Registers.{frame_words}
 use Rattle.instance_semantics.specs.Matching.{matching}

@@ -1,10 +1,10 @@
 -- The meaning, one equation for each form.
 use Rattle.std.proofs.Common.{◌≡◌, ℕ, zero, suc, List, Bool, true, false, Option, Some, None, slice_get, refl}
-use Rattle.fip_language.specs.declared.Place.{Place}
-use Rattle.fip_language.specs.declared.Operator.{Operator}
-use Rattle.fip_language.specs.Values.{Value, Values, End, More}
-use Rattle.fip_language.specs.Meaning.{Gives, Out, Stuck, Run, ends, entered, then_with, counted, in_frame, Environment, nothing_bound, bind_matched, with_value, with_values, operation, if_matches}
-use Rattle.fip_language.proofs.Bound.{with_values-same, in_frame-same, then_with-same}
+use Rattle.fip_trees.specs.fip_language.declared.Place.{Place}
+use Rattle.fip_trees.specs.fip_language.declared.Operator.{Operator}
+use Rattle.fip_trees.specs.fip_language.Values.{Value, Values, End, More}
+use Rattle.fip_trees.specs.fip_language.Meaning.{Gives, Out, Stuck, Run, ends, entered, then_with, counted, in_frame, Environment, nothing_bound, bind_matched, with_value, with_values, operation, if_matches}
+use Rattle.fip_trees.proofs.fip_language.Bound.{with_values-same, in_frame-same, then_with-same}
 use Rattle.fip_trees.specs.declared.program.Binder.{Binder}
 use Rattle.fip_trees.specs.Tree.{Name, Argument, Arguments, Pattern, Expression, Give, Tuple, Operation, Call, Match, Nested, Block, Last, Let, Clauses, NoClauses, MoreClauses, Instance, Program}
 use Rattle.instance_semantics.specs.Registers.{frame_words}

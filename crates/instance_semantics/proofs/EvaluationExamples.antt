@@ -1,10 +1,10 @@
 -- The definitions evaluated on small programs, each by computation alone.
 use Rattle.std.proofs.Common.{◌≡◌, refl}
 use Rattle.std.specs.Prelude.{pos}
-use Rattle.fip_language.specs.declared.TrapKind.TheVariants.{Overflow}
-use Rattle.fip_language.specs.Values.{Int, Node, End, More}
-use Rattle.fip_language.specs.Meaning.{Gives, Trap, Out, Deep}
-use Rattle.fip_language.specs.Example.{empty, item, pair, three, three_reversed}
+use Rattle.fip_trees.specs.fip_language.declared.TrapKind.TheVariants.{Overflow}
+use Rattle.fip_trees.specs.fip_language.Values.{Int, Node, End, More}
+use Rattle.fip_trees.specs.fip_language.Meaning.{Gives, Trap, Out, Deep}
+use Rattle.fip_trees.specs.fip_language.Example.{empty, item, pair, three, three_reversed}
 use Rattle.instance_semantics.specs.Registers.{registers}
 use Rattle.instance_semantics.specs.Meaning.{flat_meaning}
 use Rattle.instance_semantics.specs.Example.{rev, inc, lists}

@@ -1,8 +1,8 @@
 -- More free frames change no evaluation but one that ended for want of them.
 use Rattle.std.proofs.Common.{◌≡◌, ◌≢◌, ℕ, zero, suc, ◌+◌, List, Bool, true, false, Option, Some, None, slice_get, arith, refl, ap, sym, subst}
-use Rattle.fip_language.specs.Values.{Value, Values}
-use Rattle.fip_language.specs.Matching.{Binding}
-use Rattle.fip_language.specs.Meaning.{Answer, Gives, Trap, Out, Deep, Stuck, Peak, Run, after, above, entered, go_on, then_with, counted, in_frame, Environment, nothing_bound, bind_matched, with_value, with_values, if_matches}
+use Rattle.fip_trees.specs.fip_language.Values.{Value, Values}
+use Rattle.fip_trees.specs.fip_language.Matching.{Binding}
+use Rattle.fip_trees.specs.fip_language.Meaning.{Answer, Gives, Trap, Out, Deep, Stuck, Peak, Run, after, above, entered, go_on, then_with, counted, in_frame, Environment, nothing_bound, bind_matched, with_value, with_values, if_matches}
 use Rattle.fip_trees.specs.Tree.{Expression, Give, Tuple, Operation, Call, Match, Nested, Block, Last, Let, Clauses, NoClauses, MoreClauses, Instance, Program}
 use Rattle.instance_semantics.specs.Registers.{frame_words}
 use Rattle.instance_semantics.specs.Matching.{matching}

@@ -1,10 +1,10 @@
 -- The program of the examples is that of its source, for the instance of rev.
 use Rattle.std.proofs.Common.{◌≡◌, ℕ, zero, suc, [], ◌∷◌, Some, slice_get, refl, subst}
 use Rattle.std.specs.Prelude.{codes}
-use Rattle.fip_language.specs.Core.{Name}
-use Rattle.fip_language.specs.Statics.{Closed, Closeds, ClosedInt, ClosedName, NoClosed}
-use Rattle.fip_language.specs.Example as C
-use Rattle.fip_language.specs.Example.{reversing}
+use Rattle.fip_trees.specs.fip_language.Core.{Name}
+use Rattle.fip_trees.specs.fip_language.Statics.{Closed, Closeds, ClosedInt, ClosedName, NoClosed}
+use Rattle.fip_trees.specs.fip_language.Example as C
+use Rattle.fip_trees.specs.fip_language.Example.{reversing}
 use Rattle.instance_semantics.specs.Example as T
 use Rattle.instance_semantics.specs.Example.{lists}
 use Rattle.instance_semantics.specs.Specialised.{IsBlock, Stands, IsSpecialised}

@@ -1,13 +1,13 @@
 -- No call is made up: an evaluation never leaves more calls than it was given.
 use Rattle.std.proofs.Common.{ℕ, zero, suc, List, Bool, true, false, Option, Some, None, slice_get, arith}
-use Rattle.fip_language.specs.declared.Place.{Place}
-use Rattle.fip_language.specs.declared.Operator.{Operator}
-use Rattle.fip_language.specs.Values.{Value, Int, Node, Values}
-use Rattle.fip_language.specs.Matching.{Binding}
-use Rattle.fip_language.specs.Arithmetic.{Operated, Is, Fails, operate}
-use Rattle.fip_language.specs.Meaning.{Run, in_frame, Environment, nothing_bound, bind_matched, with_value, with_values, operated, operation, if_matches}
-use Rattle.fip_language.specs.Laws.{AtMost}
-use Rattle.fip_language.proofs.Left.{AtMost-go_on, AtMost-counted}
+use Rattle.fip_trees.specs.fip_language.declared.Place.{Place}
+use Rattle.fip_trees.specs.fip_language.declared.Operator.{Operator}
+use Rattle.fip_trees.specs.fip_language.Values.{Value, Int, Node, Values}
+use Rattle.fip_trees.specs.fip_language.Matching.{Binding}
+use Rattle.fip_trees.specs.fip_language.Arithmetic.{Operated, Is, Fails, operate}
+use Rattle.fip_trees.specs.fip_language.Meaning.{Run, in_frame, Environment, nothing_bound, bind_matched, with_value, with_values, operated, operation, if_matches}
+use Rattle.fip_trees.specs.fip_language.Laws.{AtMost}
+use Rattle.fip_trees.proofs.fip_language.Left.{AtMost-go_on, AtMost-counted}
 use Rattle.fip_trees.specs.Tree.{Expression, Give, Tuple, Operation, Call, Match, Nested, Block, Last, Let, Clauses, NoClauses, MoreClauses, Instance, Program}
 use Rattle.instance_semantics.specs.Registers.{frame_words}
 use Rattle.instance_semantics.specs.Matching.{matching}

@@ -1,18 +1,18 @@
 -- Each instance means what its function means: registers, arguments, matches and evaluations are the same, by induction
 -- on the trees, and calls by induction on those that stand above one another.
 use Rattle.std.proofs.Common.{◌≡◌, ℕ, zero, suc, ◌+◌, Bool, true, false, List, [], ◌∷◌, length, Option, Some, None, slice_get, if◌then◌else◌, ◌==◌, refl, sym, ap, ◌∙◌}
-use Rattle.fip_language.specs.Values.{Value, Int, Node, Values, End, More}
-use Rattle.fip_language.specs.Core as C
-use Rattle.fip_language.specs.Core.{Function, Core}
-use Rattle.fip_language.specs.Declarations.{Declared, constructor_of}
-use Rattle.fip_language.specs.Matching.{Binding, same_int, both}
-use Rattle.fip_language.specs.Matching as CP
-use Rattle.fip_language.specs.Registers as R
-use Rattle.fip_language.specs.Statics.{Closed, Closeds, ClosedInt, ClosedName, callee}
-use Rattle.fip_language.specs.Statics as S
-use Rattle.fip_language.specs.Meaning.{Run, Gives, Out, ends, entered, then_with, counted, in_frame, Environment, nothing_bound, bind, bind_matched, more_of, with_value, with_values, operation, if_matches}
-use Rattle.fip_language.specs.Meaning as CM
-use Rattle.fip_language.proofs.Bound.{with_value-same, with_values-same, in_frame-same, if_matches-same}
+use Rattle.fip_trees.specs.fip_language.Values.{Value, Int, Node, Values, End, More}
+use Rattle.fip_trees.specs.fip_language.Core as C
+use Rattle.fip_trees.specs.fip_language.Core.{Function, Core}
+use Rattle.fip_trees.specs.fip_language.Declarations.{Declared, constructor_of}
+use Rattle.fip_trees.specs.fip_language.Matching.{Binding, same_int, both}
+use Rattle.fip_trees.specs.fip_language.Matching as CP
+use Rattle.fip_trees.specs.fip_language.Registers as R
+use Rattle.fip_trees.specs.fip_language.Statics.{Closed, Closeds, ClosedInt, ClosedName, callee}
+use Rattle.fip_trees.specs.fip_language.Statics as S
+use Rattle.fip_trees.specs.fip_language.Meaning.{Run, Gives, Out, ends, entered, then_with, counted, in_frame, Environment, nothing_bound, bind, bind_matched, more_of, with_value, with_values, operation, if_matches}
+use Rattle.fip_trees.specs.fip_language.Meaning as CM
+use Rattle.fip_trees.proofs.fip_language.Bound.{with_value-same, with_values-same, in_frame-same, if_matches-same}
 use Rattle.fip_trees.specs.declared.program.Binder.{Binder}
 use Rattle.fip_trees.specs.Tree as T
 use Rattle.instance_semantics.proofs.Same.{sum_same, more_same, both_same, go_on_same, counted_same}

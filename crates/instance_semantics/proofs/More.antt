@@ -1,11 +1,11 @@
 -- More calls never change a value: the values and the peak stay the same, and as many more calls are left.
 use Rattle.std.proofs.Common.{◌≡◌, ℕ, zero, suc, ◌+◌, List, Bool, true, false, Option, Some, None, slice_get, arith, refl, ap, sym, ◌∙◌, subst}
-use Rattle.fip_language.specs.declared.Place.{Place}
-use Rattle.fip_language.specs.declared.Operator.{Operator}
-use Rattle.fip_language.specs.Values.{Value, Int, Node, Values}
-use Rattle.fip_language.specs.Matching.{Binding}
-use Rattle.fip_language.specs.Arithmetic.{Operated, Is, Fails, operate}
-use Rattle.fip_language.specs.Meaning.{Answer, Gives, Trap, Out, Deep, Stuck, Peak, Run, higher, after, above, go_on, then_with, counted, in_frame, Environment, nothing_bound, bind_matched, with_value, with_values, operated, operation, if_matches}
+use Rattle.fip_trees.specs.fip_language.declared.Place.{Place}
+use Rattle.fip_trees.specs.fip_language.declared.Operator.{Operator}
+use Rattle.fip_trees.specs.fip_language.Values.{Value, Int, Node, Values}
+use Rattle.fip_trees.specs.fip_language.Matching.{Binding}
+use Rattle.fip_trees.specs.fip_language.Arithmetic.{Operated, Is, Fails, operate}
+use Rattle.fip_trees.specs.fip_language.Meaning.{Answer, Gives, Trap, Out, Deep, Stuck, Peak, Run, higher, after, above, go_on, then_with, counted, in_frame, Environment, nothing_bound, bind_matched, with_value, with_values, operated, operation, if_matches}
 use Rattle.fip_trees.specs.Tree.{Expression, Give, Tuple, Operation, Call, Match, Nested, Block, Last, Let, Clauses, NoClauses, MoreClauses, Instance, Program}
 use Rattle.instance_semantics.specs.Registers.{frame_words}
 use Rattle.instance_semantics.specs.Matching.{matching}

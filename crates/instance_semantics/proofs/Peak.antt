@@ -1,12 +1,12 @@
 -- The peak: no run holds more frames than were free, and an instance that is entered has its own frame.
 use Rattle.std.proofs.Common.{◌≡◌, ℕ, zero, suc, ◌≤◌, max, List, Bool, true, false, Option, Some, None, slice_get, arith, subst}
 use Rattle.std.proofs.Math.Nat.{le-max_left}
-use Rattle.fip_language.specs.declared.Place.{Place}
-use Rattle.fip_language.specs.declared.Operator.{Operator}
-use Rattle.fip_language.specs.Values.{Value, Int, Node, Values}
-use Rattle.fip_language.specs.Matching.{Binding}
-use Rattle.fip_language.specs.Arithmetic.{Operated, Is, Fails, operate}
-use Rattle.fip_language.specs.Meaning.{Answer, Gives, Trap, Out, Deep, Stuck, Run, go_on, counted, in_frame, Environment, nothing_bound, bind_matched, with_value, with_values, operated, operation, if_matches}
+use Rattle.fip_trees.specs.fip_language.declared.Place.{Place}
+use Rattle.fip_trees.specs.fip_language.declared.Operator.{Operator}
+use Rattle.fip_trees.specs.fip_language.Values.{Value, Int, Node, Values}
+use Rattle.fip_trees.specs.fip_language.Matching.{Binding}
+use Rattle.fip_trees.specs.fip_language.Arithmetic.{Operated, Is, Fails, operate}
+use Rattle.fip_trees.specs.fip_language.Meaning.{Answer, Gives, Trap, Out, Deep, Stuck, Run, go_on, counted, in_frame, Environment, nothing_bound, bind_matched, with_value, with_values, operated, operation, if_matches}
 use Rattle.fip_trees.specs.Tree.{Expression, Give, Tuple, Operation, Call, Match, Nested, Block, Last, Let, Clauses, NoClauses, MoreClauses, Instance, Program}
 use Rattle.instance_semantics.specs.Registers.{frame_words}
 use Rattle.instance_semantics.specs.Matching.{matching}

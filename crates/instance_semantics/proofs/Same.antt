@@ -1,8 +1,8 @@
 -- What is put together from equal parts is equal: sums, lists of values and of bindings, and runs.
 use Rattle.std.proofs.Common.{◌≡◌, ℕ, zero, suc, ◌+◌, List, Option, refl, ap, ◌∙◌}
-use Rattle.fip_language.specs.Values.{Value, Values}
-use Rattle.fip_language.specs.Matching.{Binding, both}
-use Rattle.fip_language.specs.Meaning.{Run, more_of, then_with, counted}
+use Rattle.fip_trees.specs.fip_language.Values.{Value, Values}
+use Rattle.fip_trees.specs.fip_language.Matching.{Binding, both}
+use Rattle.fip_trees.specs.fip_language.Meaning.{Run, more_of, then_with, counted}
 
 pub sum_same : (a b c d : ℕ) → a ≡ b → c ≡ d → a + c ≡ b + d
 sum_same a b c d p q = ap (λ n. n + c) p ∙ ap (λ n. b + n) q

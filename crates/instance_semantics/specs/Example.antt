@@ -6,11 +6,11 @@
 -- with one place for all that stands in it but the `+`, which stands at 3:77. Type 1 is bool and type 2 is ints; Nil is
 -- its constructor 0 and Cons its constructor 1. The instances are rev, 0, inc, 1, and number, 2.
 use Rattle.std.specs.Prelude.{ℕ, pos, true, false, List, [], ◌∷◌, Some, None, codes}
-use Rattle.fip_language.specs.declared.FunKind.TheVariants.{Fip, Fbip}
-use Rattle.fip_language.specs.declared.Operator.TheVariants.{Add}
-use Rattle.fip_language.specs.Example.{at, here}
-use Rattle.fip_language.specs.Table.{Shape}
-use Rattle.fip_base.specs.declared.plain.Param.{Param}
+use Rattle.fip_trees.specs.fip_language.declared.FunKind.TheVariants.{Fip, Fbip}
+use Rattle.fip_trees.specs.fip_language.declared.Operator.TheVariants.{Add}
+use Rattle.fip_trees.specs.fip_language.Example.{at, here}
+use Rattle.fip_trees.specs.fip_language.Table.{Shape}
+use Rattle.fip_trees.specs.fip_base.declared.plain.Param.{Param}
 use Rattle.fip_trees.specs.declared.program.Binder.{Binder}
 use Rattle.fip_trees.specs.Tree.{Name, Argument, Variable, Literal, Constructor, NoArguments, MoreArguments}
 use Rattle.fip_trees.specs.Tree.{Pattern, BinderPattern, ConstructorPattern, NoPatterns, MorePatterns}

@@ -3,8 +3,8 @@
 -- children match its patterns. Cons(x, Cons(_, t)) matches Cons(1, Cons(2, Nil)), with x bound to 1, the binder of _ to
 -- 2 and t to Nil; it doesn't match Cons(1, Nil). Types play no part: the value has one of the pattern's type.
 use Rattle.std.specs.Prelude.{List, [], ◌∷◌, Option, Some, None, ◌==◌, if◌then◌else◌}
-use Rattle.fip_language.specs.Values.{Value, Int, Node, Values, End, More}
-use Rattle.fip_language.specs.Matching.{Binding, same_int, both}
+use Rattle.fip_trees.specs.fip_language.Values.{Value, Int, Node, Values, End, More}
+use Rattle.fip_trees.specs.fip_language.Matching.{Binding, same_int, both}
 use Rattle.fip_trees.specs.declared.program.Binder.{Binder}
 use Rattle.fip_trees.specs.Tree.{Pattern, BinderPattern, LiteralPattern, ConstructorPattern, Patterns, NoPatterns}
 use Rattle.fip_trees.specs.Tree.{MorePatterns}

@@ -7,10 +7,10 @@
 -- is typed and after it.
 -- rev(Cons(1, Nil), Nil) with 5 calls gives Cons(1, Nil) and leaves 3: one was for the entry and one for the call.
 use Rattle.std.specs.Prelude.{ℕ, zero, suc, Bool, true, false, List, [], ◌∷◌, Option, Some, None, slice_get}
-use Rattle.fip_language.specs.Values.{Value, Int, Node, Values, End, More}
-use Rattle.fip_language.specs.Meaning.{Gives, Out, Stuck, Run, ends, entered, then_with, counted, in_frame}
-use Rattle.fip_language.specs.Meaning.{Environment, nothing_bound, bind, bind_matched, binder_value, more_of}
-use Rattle.fip_language.specs.Meaning.{with_value, with_values, operation, if_matches}
+use Rattle.fip_trees.specs.fip_language.Values.{Value, Int, Node, Values, End, More}
+use Rattle.fip_trees.specs.fip_language.Meaning.{Gives, Out, Stuck, Run, ends, entered, then_with, counted, in_frame}
+use Rattle.fip_trees.specs.fip_language.Meaning.{Environment, nothing_bound, bind, bind_matched, binder_value, more_of}
+use Rattle.fip_trees.specs.fip_language.Meaning.{with_value, with_values, operation, if_matches}
 use Rattle.fip_trees.specs.declared.program.Binder.{Binder}
 use Rattle.fip_trees.specs.Tree.{Argument, Variable, Literal, Constructor, Arguments, NoArguments, MoreArguments}
 use Rattle.fip_trees.specs.Tree.{Expression, Give, Tuple, Operation, Call, Match, Nested, Block, Last, Let}

@@ -6,12 +6,12 @@
 -- For example where `up` calls `map[int, int, next]`, `map` calls `f` in its body, and `numbered` is up, next,
 -- map[int, int, next]: instance 0 calls 2, and instance 2 calls 1 where `map` calls `f`.
 use Rattle.std.specs.Prelude.{◌≡◌, ℕ, Bool, List, [], ◌∷◌, length, Option, Some, None, slice_get}
-use Rattle.fip_language.specs.declared.Place.{Place}
-use Rattle.fip_language.specs.Core as C
-use Rattle.fip_language.specs.Core.{Name, Function, Core}
-use Rattle.fip_language.specs.Declarations.{Declared, constructor_of, function_of}
-use Rattle.fip_language.specs.Statics.{Closed, Closeds, ClosedInt, ClosedName, callee}
-use Rattle.fip_language.specs.Statics as S
+use Rattle.fip_trees.specs.fip_language.declared.Place.{Place}
+use Rattle.fip_trees.specs.fip_language.Core as C
+use Rattle.fip_trees.specs.fip_language.Core.{Name, Function, Core}
+use Rattle.fip_trees.specs.fip_language.Declarations.{Declared, constructor_of, function_of}
+use Rattle.fip_trees.specs.fip_language.Statics.{Closed, Closeds, ClosedInt, ClosedName, callee}
+use Rattle.fip_trees.specs.fip_language.Statics as S
 use Rattle.fip_trees.specs.declared.program.Binder.{Binder}
 use Rattle.fip_trees.specs.Tree as T
 

@@ -1,10 +1,10 @@
 // The laws of the meaning of programs without static parameters. Each is the contract of a function that does nothing.
 ghost use Rattle.std.specs.Prelude.{◌≡◌, ◌≢◌, ℕ, suc, ◌+◌, ◌≤◌, pos, Some, slice_get};
-ghost use Rattle.fip_language.specs.declared.TrapKind.TheVariants.{Overflow};
-ghost use Rattle.fip_language.specs.Values.{Int, Node, Values, End, More};
-ghost use Rattle.fip_language.specs.Meaning.{Gives, Trap, Out, Deep, ends};
-ghost use Rattle.fip_language.specs.Laws.{AtMost};
-ghost use Rattle.fip_language.specs.Example.{empty, item, pair, three, three_reversed};
+ghost use Rattle.fip_trees.specs.fip_language.declared.TrapKind.TheVariants.{Overflow};
+ghost use Rattle.fip_trees.specs.fip_language.Values.{Int, Node, Values, End, More};
+ghost use Rattle.fip_trees.specs.fip_language.Meaning.{Gives, Trap, Out, Deep, ends};
+ghost use Rattle.fip_trees.specs.fip_language.Laws.{AtMost};
+ghost use Rattle.fip_trees.specs.fip_language.Example.{empty, item, pair, three, three_reversed};
 ghost use Rattle.fip_trees.specs.Tree.{Instance, Program};
 ghost use Rattle.instance_semantics.specs.Registers.{frame_words};
 ghost use Rattle.instance_semantics.specs.Meaning.{flat_meaning};

@@ -1,10 +1,10 @@
 // The laws on instances. Each is the contract of a function that does nothing.
 ghost use Rattle.std.specs.Prelude.{◌≡◌, ℕ, List, [], ◌∷◌, Some, slice_get};
-ghost use Rattle.fip_language.specs.Core.{Name, Core};
-ghost use Rattle.fip_language.specs.Example.{rev, reversing};
-ghost use Rattle.fip_language.specs.Meaning.{meaning};
-ghost use Rattle.fip_language.specs.Statics.{Closed, Closeds, ClosedName, NoClosed};
-ghost use Rattle.fip_language.specs.Values.{Values};
+ghost use Rattle.fip_trees.specs.fip_language.Core.{Name, Core};
+ghost use Rattle.fip_trees.specs.fip_language.Example.{rev, reversing};
+ghost use Rattle.fip_trees.specs.fip_language.Meaning.{meaning};
+ghost use Rattle.fip_trees.specs.fip_language.Statics.{Closed, Closeds, ClosedName, NoClosed};
+ghost use Rattle.fip_trees.specs.fip_language.Values.{Values};
 ghost use Rattle.fip_trees.specs.Tree.{Program};
 ghost use Rattle.instance_semantics.specs.Example.{lists};
 ghost use Rattle.instance_semantics.specs.Meaning.{flat_meaning};

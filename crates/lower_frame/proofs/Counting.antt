@@ -1,7 +1,7 @@
 -- The constructors of a type, and what is told of registers.
 use Rattle.std.proofs.Common.{◌≡◌, refl, sym, ap, ◌∙◌, arith, ℕ, zero, suc, ◌+◌, ◌≤◌, ◌<◌, List, [], ◌∷◌, ◌++◌, length}
-use Rattle.fip_language.specs.Table.{Table, constructors, shapes}
-use Rattle.code_rules.specs.Types.{numbers}
+use Rattle.cell_code.specs.fip_language.Table.{Table, constructors, shapes}
+use Rattle.lowering_relation.specs.code_rules.Types.{numbers}
 
 numbers_more : (i n : ℕ) → numbers i (suc n) ≡ numbers i n ++ (i + n) ∷ []
 numbers_more i zero = ap (λ x. x ∷ []) (omega arith)

@@ -3,7 +3,7 @@ use Rattle.std.proofs.Common.{◌≡◌, refl, sym, ap, ◌∙◌, subst, arith,
 use Rattle.fip_trees.specs.declared.program.Pattern.{Pattern as Tree}
 use Rattle.std.specs.declared.vec.Vec.{Vec}
 use Rattle.std.specs.declared.alloc.Global.{Global}
-use Rattle.fip_language.specs.declared.Place.{Place}
+use Rattle.cell_code.specs.fip_language.declared.Place.{Place}
 use Rattle.fip_trees.specs.declared.program.Pattern.TheVariants as PV
 use Rattle.fip_trees.specs.Tree.{Name, Pattern}
 use Rattle.fip_trees.specs.TreeView.{pattern, patterns}

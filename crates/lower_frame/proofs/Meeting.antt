@@ -5,7 +5,7 @@ use Rattle.std.specs.Prelude.{◌==◌, ◌&&◌, if◌then◌else◌}
 use Rattle.std.proofs.lemmas.Bool.{cases_eq}
 use Rattle.std.proofs.lemmas.Bool.Decides.{nat_tests}
 use Rattle.std.proofs.lemmas.Option.{none-some}
-use Rattle.fip_language.proofs.Search.{le_or_less}
+use Rattle.cell_code.proofs.fip_language.Search.{le_or_less}
 use Rattle.lowering_relation.specs.declared.held.Held.{Held}
 use Rattle.lowering_relation.specs.declared.held.Held.TheVariants as H
 use Rattle.lowering_relation.specs.declared.held.Credit.{Credit}
@@ -325,7 +325,7 @@ met_accounted k l m a met = record { fresh = fresh; credits = λ n r. by n r (ho
         ap (counted n r) met.credits ∙ counted_lost m.held n r k.credits e
         ∙ sym (ap one_if (credit_at n m.held r ∙ no_credit n (held_at m.held r) e))
 
-    sizes : (n r : ℕ) → slice_get m.held r ≡ Some (H.Credit n) → (1 ≤ n) × (n ≤ Rattle.fip_language.specs.declared.limits.TheConstants.MOST_FIELDS)
+    sizes : (n r : ℕ) → slice_get m.held r ≡ Some (H.Credit n) → (1 ≤ n) × (n ≤ Rattle.cell_code.specs.fip_language.declared.limits.TheConstants.MOST_FIELDS)
     sizes n r e =
         let here = held_there m.held r (H.Credit n) e in
         let was = sym (still r (ap holds_credit here)) ∙ here in

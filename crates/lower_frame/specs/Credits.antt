@@ -2,7 +2,7 @@
 -- Where registers 0 and 2 hold credits of size 2 and these are the only ones, two credits of size 2 are in the list.
 use Rattle.std.specs.Prelude.{◌≡◌, ◌≤◌, ◌<◌, ◌+◌, ◌==◌, ◌&&◌, ℕ, Bool, true, false, List, [], ◌∷◌, Option, Some, None}
 use Rattle.std.specs.Prelude.{slice_get}
-use Rattle.fip_language.specs.declared.limits.TheConstants.{MOST_FIELDS}
+use Rattle.cell_code.specs.fip_language.declared.limits.TheConstants.{MOST_FIELDS}
 use Rattle.lowering_relation.specs.declared.held.Held.{Held}
 use Rattle.lowering_relation.specs.declared.held.Held.TheVariants as H
 use Rattle.lowering_relation.specs.declared.held.Credit.{Credit}

@@ -1,7 +1,7 @@
 -- It serves the proofs on lowered code: what is known after a credit, or a constructor that was matched, is taken, what
 -- is known at both of two places, and what a verifier is told of the registers.
 use Rattle.std.specs.Prelude.{◌≡◌, ◌⊎◌, ℕ, List, [], ◌∷◌, ◌++◌, Option, Some, None, map, slice_get, slice_set}
-use Rattle.fip_language.specs.Table.{Table}
+use Rattle.cell_code.specs.fip_language.Table.{Table}
 use Rattle.cell_code.specs.declared.kind.Kind.{Kind}
 use Rattle.lowering_relation.specs.declared.held.Held.{Held}
 use Rattle.lowering_relation.specs.declared.held.Held.TheVariants as H

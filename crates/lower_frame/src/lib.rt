@@ -9,4 +9,5 @@ mod spots;
 
 pub use buffer::Buffer;
 pub use frame::{Frame, as_value, constructors_of};
+pub use lowering_relation as relation;
 pub use spots::{Spot, add_spots, field_at};

@@ -1,10 +1,10 @@
 -- Where a run lands, a clause's body is entered, and what is known there is so.
 use Rattle.std.proofs.Common.{◌≡◌, inl, inr, sym, ap, ◌∙◌, subst, ⊎_elim, arith, ℕ, ◌<◌, ◌≤◌, Bool, List, ◌∷◌, Some}
-use Rattle.fip_language.specs.Matching.{Binding}
-use Rattle.fip_language.specs.Every.{Among}
-use Rattle.fip_trees.specs.Tree.{Pattern}
+use Rattle.tree_semantics.specs.fip_language.Matching.{Binding}
+use Rattle.tree_semantics.specs.fip_language.Every.{Among}
+use Rattle.credit_check.specs.fip_trees.Tree.{Pattern}
 use Rattle.instance_semantics.specs.Matching.{matching}
-use Rattle.cell_code.specs.declared.code.Instr.{Instr}
+use Rattle.code_rules.specs.cell_code.declared.code.Instr.{Instr}
 use Rattle.tree_semantics.specs.Contents.{Contents}
 use Rattle.lowering_relation.specs.Known.{Known, register_of}
 use Rattle.lowering_relation.specs.Values.{Setting}

@@ -1,12 +1,12 @@
 -- The tests of a match choose the first clause that matches.
 use Rattle.std.proofs.Common.{◌≡◌, refl, sym, ap, ◌∙◌, subst, arith, ℕ, zero, suc, ◌<◌, Bool, true, false, List, [], ◌∷◌, ◌++◌, Option, Some, None, slice_get}
 use Rattle.std.specs.Prelude.{if◌then◌else◌, ◌==◌, ◌&&◌}
-use Rattle.fip_language.specs.Values.{Value, Int, Node, Values, End, More}
-use Rattle.fip_language.specs.Matching.{Binding, same_int, both}
-use Rattle.fip_language.specs.Table.{HasType}
-use Rattle.fip_trees.specs.Tree.{Pattern, BinderPattern, LiteralPattern, ConstructorPattern, Patterns, NoPatterns, MorePatterns, Clauses, NoClauses, MoreClauses}
+use Rattle.tree_semantics.specs.fip_language.Values.{Value, Int, Node, Values, End, More}
+use Rattle.tree_semantics.specs.fip_language.Matching.{Binding, same_int, both}
+use Rattle.tree_semantics.specs.fip_language.Table.{HasType}
+use Rattle.credit_check.specs.fip_trees.Tree.{Pattern, BinderPattern, LiteralPattern, ConstructorPattern, Patterns, NoPatterns, MorePatterns, Clauses, NoClauses, MoreClauses}
 use Rattle.instance_semantics.specs.Matching.{matching, matching_all, bound_to}
-use Rattle.cell_code.specs.declared.code.Instr.{Instr}
+use Rattle.code_rules.specs.cell_code.declared.code.Instr.{Instr}
 use Rattle.tree_semantics.specs.Contents.{Contents}
 use Rattle.match_knowledge.specs.ValueHeads.{children}
 use Rattle.match_knowledge.specs.Patterns.{fits, fit_all}

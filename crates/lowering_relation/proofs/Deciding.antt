@@ -2,10 +2,10 @@
 use Rattle.std.proofs.Common.{◌≡◌, ◌⊎◌, inl, inr, ℕ, zero, suc, ◌<◌, true, false, true≢false, List, [], ◌∷◌, Some, None, refl, sym, ap, ◌∙◌, subst, arith, slice_get}
 use Rattle.std.specs.Prelude.{codes}
 use Rattle.std.proofs.lemmas.Option.{same_Some}
-use Rattle.fip_language.specs.Every.{Among}
-use Rattle.cell_code.specs.declared.kind.Kind.{Kind}
-use Rattle.cell_code.specs.declared.kind.Kind.TheVariants as K
-use Rattle.fip_trees.specs.Tree.{Pattern, NoClauses, MoreClauses}
+use Rattle.tree_semantics.specs.fip_language.Every.{Among}
+use Rattle.code_rules.specs.cell_code.declared.kind.Kind.{Kind}
+use Rattle.code_rules.specs.cell_code.declared.kind.Kind.TheVariants as K
+use Rattle.credit_check.specs.fip_trees.Tree.{Pattern, NoClauses, MoreClauses}
 use Rattle.instance_semantics.specs.Example.{truth_pattern, gives_int, var}
 use Rattle.code_rules.specs.Codes.{label_at}
 use Rattle.code_rules.specs.Fitting.{fits}

@@ -3,12 +3,12 @@ use Rattle.std.proofs.Common.{◌≡◌, ◌⊎◌, inl, inr, refl, sym, ap, ◌
 use Rattle.std.specs.Prelude.{if◌then◌else◌, ◌==◌, ◌||◌, option_map}
 use Rattle.std.proofs.lemmas.Bool.{eqb-true, eqb-false}
 use Rattle.std.proofs.lemmas.Option.{slice_get-map}
-use Rattle.fip_language.specs.Values.{Value, Int, Node, Values, End, More}
-use Rattle.fip_language.specs.Matching.{Binding, same_int, both}
-use Rattle.fip_language.specs.Meaning.{Environment, nothing_bound, bind, bind_matched}
-use Rattle.fip_language.specs.Every.{Among}
-use Rattle.fip_trees.specs.declared.program.Binder.{Binder}
-use Rattle.fip_trees.specs.Tree.{Pattern, BinderPattern, LiteralPattern, ConstructorPattern, Patterns, NoPatterns, MorePatterns, count_patterns}
+use Rattle.tree_semantics.specs.fip_language.Values.{Value, Int, Node, Values, End, More}
+use Rattle.tree_semantics.specs.fip_language.Matching.{Binding, same_int, both}
+use Rattle.tree_semantics.specs.fip_language.Meaning.{Environment, nothing_bound, bind, bind_matched}
+use Rattle.tree_semantics.specs.fip_language.Every.{Among}
+use Rattle.credit_check.specs.fip_trees.declared.program.Binder.{Binder}
+use Rattle.credit_check.specs.fip_trees.Tree.{Pattern, BinderPattern, LiteralPattern, ConstructorPattern, Patterns, NoPatterns, MorePatterns, count_patterns}
 use Rattle.instance_semantics.specs.Matching.{matching, matching_all, bound_to}
 use Rattle.tree_semantics.specs.Contents.{Contents}
 use Rattle.lowering_relation.specs.declared.held.Held.{Held}

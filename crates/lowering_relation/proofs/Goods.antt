@@ -2,12 +2,12 @@
 use Rattle.std.proofs.Common.{◌≡◌, refl, sym, ap, ◌∙◌, subst, arith, ℕ, suc, ◌≤◌, ◌<◌, Bool, true, false, List, Some, slice_get}
 use Rattle.std.specs.Prelude.{if◌then◌else◌, ◌==◌}
 use Rattle.std.proofs.lemmas.Bool.{eqb-true, eq-eqb}
-use Rattle.fip_language.specs.Values.{Value, Int, Node}
-use Rattle.fip_language.specs.Matching.{same_int}
-use Rattle.fip_language.specs.Table.{HasType}
-use Rattle.fip_language.specs.Every.{Among}
-use Rattle.fip_trees.specs.Tree.{Pattern}
-use Rattle.cell_code.specs.declared.code.Instr.{Instr}
+use Rattle.tree_semantics.specs.fip_language.Values.{Value, Int, Node}
+use Rattle.tree_semantics.specs.fip_language.Matching.{same_int}
+use Rattle.tree_semantics.specs.fip_language.Table.{HasType}
+use Rattle.tree_semantics.specs.fip_language.Every.{Among}
+use Rattle.credit_check.specs.fip_trees.Tree.{Pattern}
+use Rattle.code_rules.specs.cell_code.declared.code.Instr.{Instr}
 use Rattle.tree_semantics.specs.Contents.{Contents}
 use Rattle.tree_semantics.specs.Steps.{is_node, is_int}
 use Rattle.match_knowledge.specs.declared.heads.Head.{Head}

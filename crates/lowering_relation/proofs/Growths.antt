@@ -1,7 +1,7 @@
 -- Positions that get more positions below them.
 use Rattle.std.proofs.Common.{◌≡◌, ◌⊎◌, inl, inr, refl, ◌∙◌, subst, ⊎_elim, arith, ℕ, suc, ◌<◌, ◌≤◌}
-use Rattle.fip_language.specs.Every.{Among}
-use Rattle.fip_trees.specs.Tree.{Pattern, BinderPattern, LiteralPattern, ConstructorPattern, Patterns, NoPatterns, MorePatterns}
+use Rattle.tree_semantics.specs.fip_language.Every.{Among}
+use Rattle.credit_check.specs.fip_trees.Tree.{Pattern, BinderPattern, LiteralPattern, ConstructorPattern, Patterns, NoPatterns, MorePatterns}
 use Rattle.lowering_relation.specs.Spots.{Spot, At, Spots, NoSpots, MoreSpots, register, below, all_in, AllDiffer}
 use Rattle.lowering_relation.specs.Opening.{Roomy, AllRoomy}
 use Rattle.lowering_relation.specs.Growing.{Grows, AllGrow}

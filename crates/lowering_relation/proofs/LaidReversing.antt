@@ -2,11 +2,11 @@
 use Rattle.std.proofs.Common.{◌≡◌, inl, inr, ℕ, zero, suc, ◌<◌, ◌≤◌, true, false, true≢false, List, [], ◌∷◌, Option, Some, None, refl, sym, ap, ◌∙◌, subst, arith, slice_get}
 use Rattle.std.specs.Prelude.{codes}
 use Rattle.std.proofs.lemmas.Option.{same_Some}
-use Rattle.fip_language.specs.Every.{Among}
-use Rattle.fip_language.specs.Example.{here}
-use Rattle.cell_code.specs.declared.kind.Kind.{Kind}
-use Rattle.cell_code.specs.declared.kind.Kind.TheVariants as K
-use Rattle.fip_trees.specs.Tree.{Pattern, Block, Last, Call, MoreArguments, NoArguments}
+use Rattle.tree_semantics.specs.fip_language.Every.{Among}
+use Rattle.tree_semantics.specs.fip_language.Example.{here}
+use Rattle.code_rules.specs.cell_code.declared.kind.Kind.{Kind}
+use Rattle.code_rules.specs.cell_code.declared.kind.Kind.TheVariants as K
+use Rattle.credit_check.specs.fip_trees.Tree.{Pattern, Block, Last, Call, MoreArguments, NoArguments}
 use Rattle.instance_semantics.specs.Example.{rev, nil_pattern, cons_pattern, var, cons}
 use Rattle.code_rules.specs.Codes.{label_at}
 use Rattle.code_rules.specs.Fitting.{fits}
@@ -298,7 +298,7 @@ begins = record {
     typed (suc zero) q e = subst (λ q. M.IsPattern lists_code.types 2 (row_of q)) (same_Some (cons_pattern 2 3) q e) (refl, 0 ∷ 2 ∷ [], (record { name = codes "Cons"; fields = 0 ∷ 2 ∷ [] }, refl, refl), (tt, (tt, tt)))
     typed (suc (suc i)) q e = absurd (cc)
 
-laid : MatchLaid lists_code lists_setting reversing 0 at_start true 2 (var 0 (codes "xs")) nil_pattern (Rattle.fip_trees.specs.Tree.MoreClauses (cons_pattern 2 3) rest Rattle.fip_trees.specs.Tree.NoClauses) choice at_tests 1
+laid : MatchLaid lists_code lists_setting reversing 0 at_start true 2 (var 0 (codes "xs")) nil_pattern (Rattle.credit_check.specs.fip_trees.Tree.MoreClauses (cons_pattern 2 3) rest Rattle.credit_check.specs.fip_trees.Tree.NoClauses) choice at_tests 1
 laid = record {
   variable = Some 0;
   is_variable = refl;

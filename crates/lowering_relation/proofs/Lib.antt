@@ -16,3 +16,6 @@ pub mod LaidReversing
 pub mod Deciding
 pub mod Picking
 pub mod Growing
+pub use Rattle.credit_check.proofs as credit_check
+pub use Rattle.instance_semantics.proofs as instance_semantics
+pub use Rattle.match_knowledge.proofs as match_knowledge

@@ -2,7 +2,7 @@
 use Rattle.std.proofs.Common.{◌≡◌, ◌⊎◌, inl, inr, ℕ, zero, suc, ◌<◌, ◌≤◌, List, [], ◌∷◌, ◌++◌, Option, Some, None, Bool, true, false, refl, sym, ap, ◌∙◌, subst, ⊎_elim, arith, slice_get, slice_set}
 use Rattle.std.specs.Prelude.{option_map, ◌==◌, if◌then◌else◌}
 use Rattle.std.proofs.lemmas.Option.{slice_get-map}
-use Rattle.fip_language.specs.Every.{Among}
+use Rattle.tree_semantics.specs.fip_language.Every.{Among}
 use Rattle.lowering_relation.specs.Tidy.{NotIn, Once, Below}
 use Rattle.lowering_relation.specs.Choosing.{FewerCredits}
 use Rattle.lowering_relation.specs.declared.held.Held.{Held}

@@ -1,13 +1,13 @@
 -- The code of `rev` is lowered: a list is Nil or a Cons, and each is led to its clause.
 use Rattle.std.proofs.Common.{◌≡◌, ◌⊎◌, inl, inr, ℕ, zero, suc, List, [], ◌∷◌, Option, Some, refl, sym, ap, ◌∙◌, subst, arith, slice_get}
-use Rattle.fip_language.specs.Example.{here}
+use Rattle.tree_semantics.specs.fip_language.Example.{here}
 use Rattle.std.specs.Prelude.{codes, option_and_then, if◌then◌else◌}
-use Rattle.fip_language.specs.Values.{Value, Int, Node, Values, End, More}
-use Rattle.fip_language.specs.Table.{Shape, HasType, HaveTypes}
-use Rattle.fip_language.specs.Every.{Among}
-use Rattle.fip_language.specs.Matching.{Binding}
-use Rattle.fip_language.specs.Meaning.{nothing_bound, bind_matched}
-use Rattle.fip_trees.specs.Tree.{Block, Last, Call, MoreArguments, NoArguments, NoClauses, MoreClauses}
+use Rattle.tree_semantics.specs.fip_language.Values.{Value, Int, Node, Values, End, More}
+use Rattle.tree_semantics.specs.fip_language.Table.{Shape, HasType, HaveTypes}
+use Rattle.tree_semantics.specs.fip_language.Every.{Among}
+use Rattle.tree_semantics.specs.fip_language.Matching.{Binding}
+use Rattle.tree_semantics.specs.fip_language.Meaning.{nothing_bound, bind_matched}
+use Rattle.credit_check.specs.fip_trees.Tree.{Block, Last, Call, MoreArguments, NoArguments, NoClauses, MoreClauses}
 use Rattle.instance_semantics.specs.Matching.{matching}
 use Rattle.instance_semantics.specs.Example.{rev, lists, nil_pattern, cons_pattern, var, cons}
 use Rattle.tree_semantics.specs.Contents.{Contents, put, put_all, children}

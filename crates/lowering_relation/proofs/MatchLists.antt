@@ -2,7 +2,7 @@
 use Rattle.std.proofs.Common.{◌≡◌, ◌⊎◌, inl, inr, refl, ℕ, Bool, true, false, List, [], ◌∷◌, ◌++◌}
 use Rattle.std.specs.Prelude.{◌==◌, if◌then◌else◌}
 use Rattle.std.proofs.lemmas.Bool.{eqb-true}
-use Rattle.fip_language.specs.Every.{Among}
+use Rattle.tree_semantics.specs.fip_language.Every.{Among}
 use Rattle.lowering_relation.specs.Spots.{Spot, Spots, MoreSpots, register, below, all_in}
 use Rattle.lowering_relation.specs.Reading.{contains}
 

@@ -1,10 +1,10 @@
 -- What was written stays, and labels that have a place keep it.
 use Rattle.std.proofs.Common.{◌≡◌, inl, inr, refl, sym, ap, ◌∙◌, subst, arith, ℕ, zero, suc, ◌+◌, ◌<◌, ◌≤◌, List, [], ◌∷◌, ◌++◌, length, length-append, map, Option, Some, None, slice_get, slice_set}
 use Rattle.std.specs.Prelude.{◌⊎◌, option_map}
-use Rattle.fip_language.proofs.Search.{le_or_less}
+use Rattle.tree_semantics.proofs.fip_language.Search.{le_or_less}
 use Rattle.std.proofs.lemmas.Option.{slice_get-map}
-use Rattle.cell_code.specs.declared.code.Instr.{Instr}
-use Rattle.cell_code.specs.declared.code.Instr.TheVariants as I
+use Rattle.code_rules.specs.cell_code.declared.code.Instr.{Instr}
+use Rattle.code_rules.specs.cell_code.declared.code.Instr.TheVariants as I
 use Rattle.code_rules.specs.Codes.{LabelMap, label_at}
 use Rattle.lowering_relation.specs.Known.{joined}
 use Rattle.lowering_relation.specs.LoweredBodies as B

@@ -1,9 +1,9 @@
 -- A run of the reads of a match: the position that is asked for is read, and what was read stays.
 use Rattle.std.proofs.Common.{◌≡◌, ◌⊎◌, inl, inr, refl, ◌∙◌, subst, ⊎_elim, arith, ℕ, suc, ◌+◌, ◌≤◌, Bool, true, false, List, Option, Some, None}
 use Rattle.std.specs.Prelude.{if◌then◌else◌}
-use Rattle.fip_language.specs.Values.{Value, Values, End, More}
-use Rattle.fip_language.specs.Every.{Among}
-use Rattle.cell_code.specs.declared.code.Instr.{Instr}
+use Rattle.tree_semantics.specs.fip_language.Values.{Value, Values, End, More}
+use Rattle.tree_semantics.specs.fip_language.Every.{Among}
+use Rattle.code_rules.specs.cell_code.declared.code.Instr.{Instr}
 use Rattle.tree_semantics.specs.Contents.{Contents, value_at}
 use Rattle.match_knowledge.specs.ValueHeads.{head, children, same_head}
 use Rattle.match_knowledge.specs.Patterns.{Pattern, Any, Test, Patterns, NoPatterns, MorePatterns}

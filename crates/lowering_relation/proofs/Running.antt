@@ -1,10 +1,10 @@
 -- Runs of tests, reads and jumps.
 use Rattle.std.proofs.Common.{◌≡◌, ◌⊎◌, inl, inr, refl, sym, ap, ◌∙◌, subst, arith, ℕ, zero, suc, ◌+◌, ◌≤◌, Bool, true, false, List, [], ◌∷◌, Option, Some, None, slice_get}
 use Rattle.std.specs.Prelude.{option_and_then, option_map}
-use Rattle.fip_language.specs.Values.{Value, Int, Node}
-use Rattle.fip_language.specs.Every.{Among}
-use Rattle.cell_code.specs.declared.code.Instr.{Instr}
-use Rattle.cell_code.specs.declared.code.Instr.TheVariants as I
+use Rattle.tree_semantics.specs.fip_language.Values.{Value, Int, Node}
+use Rattle.tree_semantics.specs.fip_language.Every.{Among}
+use Rattle.code_rules.specs.cell_code.declared.code.Instr.{Instr}
+use Rattle.code_rules.specs.cell_code.declared.code.Instr.TheVariants as I
 use Rattle.tree_semantics.specs.Contents as C
 use Rattle.tree_semantics.specs.Contents.{Contents, put, put_all, value_at}
 use Rattle.tree_semantics.proofs.Puts.{put_same, put_other}

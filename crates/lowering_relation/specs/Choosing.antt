@@ -5,15 +5,15 @@
 -- entry of b, where the registers of x and t hold 1 and Nil.
 use Rattle.std.specs.Prelude.{◌≡◌, ◌⊎◌, ◌≤◌, ℕ, zero, suc, List, [], ◌∷◌, Option, Some, None, option_map}
 use Rattle.std.specs.Prelude.{option_and_then, slice_get, if◌then◌else◌}
-use Rattle.fip_language.specs.Values.{Value, Node, End}
-use Rattle.fip_language.specs.Table.{Table, HasType}
-use Rattle.fip_language.specs.Matching.{Binding}
-use Rattle.fip_language.specs.Meaning.{nothing_bound, bind_matched}
-use Rattle.fip_language.specs.Every.{Among}
-use Rattle.fip_trees.specs.Tree.{Pattern, Clauses, NoClauses, MoreClauses}
+use Rattle.tree_semantics.specs.fip_language.Values.{Value, Node, End}
+use Rattle.tree_semantics.specs.fip_language.Table.{Table, HasType}
+use Rattle.tree_semantics.specs.fip_language.Matching.{Binding}
+use Rattle.tree_semantics.specs.fip_language.Meaning.{nothing_bound, bind_matched}
+use Rattle.tree_semantics.specs.fip_language.Every.{Among}
+use Rattle.credit_check.specs.fip_trees.Tree.{Pattern, Clauses, NoClauses, MoreClauses}
 use Rattle.instance_semantics.specs.Matching.{matching}
-use Rattle.cell_code.specs.declared.code.Instr.{Instr}
-use Rattle.cell_code.specs.declared.code.Instr.TheVariants as I
+use Rattle.code_rules.specs.cell_code.declared.code.Instr.{Instr}
+use Rattle.code_rules.specs.cell_code.declared.code.Instr.TheVariants as I
 use Rattle.tree_semantics.specs.Contents.{Contents, put, put_all, children, value_at}
 use Rattle.tree_semantics.specs.Steps.{is_node, is_int}
 use Rattle.lowering_relation.specs.declared.held.Held.TheVariants as H

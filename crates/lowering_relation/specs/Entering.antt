@@ -3,13 +3,13 @@
 -- constructor without fields can be used again.
 use Rattle.std.specs.Prelude.{◌≡◌, ℕ, suc, Bool, true, false, ◌||◌, List, Option, Some, None}
 use Rattle.std.specs.Prelude.{slice_get, slice_set, get_or, if◌then◌else◌, ◌⊎◌}
-use Rattle.fip_language.specs.Values.{Value, Node, End}
-use Rattle.fip_language.specs.Matching.{Binding}
-use Rattle.fip_language.specs.Meaning.{nothing_bound, bind_matched}
-use Rattle.fip_language.specs.Every.{Among}
-use Rattle.fip_trees.specs.declared.program.Binder.{Binder}
-use Rattle.fip_trees.specs.Tree.{Pattern, BinderPattern, LiteralPattern, ConstructorPattern, Patterns, NoPatterns}
-use Rattle.fip_trees.specs.Tree.{MorePatterns, count_patterns}
+use Rattle.tree_semantics.specs.fip_language.Values.{Value, Node, End}
+use Rattle.tree_semantics.specs.fip_language.Matching.{Binding}
+use Rattle.tree_semantics.specs.fip_language.Meaning.{nothing_bound, bind_matched}
+use Rattle.tree_semantics.specs.fip_language.Every.{Among}
+use Rattle.credit_check.specs.fip_trees.declared.program.Binder.{Binder}
+use Rattle.credit_check.specs.fip_trees.Tree.{Pattern, BinderPattern, LiteralPattern, ConstructorPattern, Patterns, NoPatterns}
+use Rattle.credit_check.specs.fip_trees.Tree.{MorePatterns, count_patterns}
 use Rattle.tree_semantics.specs.Contents.{Contents}
 use Rattle.lowering_relation.specs.declared.held.Held.{Held}
 use Rattle.lowering_relation.specs.declared.held.Held.TheVariants as H

@@ -1,7 +1,7 @@
 -- It serves the proofs on lowered code: positions that get more positions below them, with the registers from one on.
 use Rattle.std.specs.Prelude.{◌≡◌, ◌⊎◌, ◌<◌, ◌≤◌, ℕ}
-use Rattle.fip_language.specs.Every.{Among}
-use Rattle.fip_trees.specs.Tree.{Pattern, Patterns}
+use Rattle.tree_semantics.specs.fip_language.Every.{Among}
+use Rattle.credit_check.specs.fip_trees.Tree.{Pattern, Patterns}
 use Rattle.lowering_relation.specs.Spots.{Spot, Spots, register, below, all_in, Differ, AllDiffer}
 use Rattle.lowering_relation.specs.Opening.{Roomy, AllRoomy}
 

@@ -1,10 +1,10 @@
 -- It serves the proof that lowered code is sound: how results are handed on, and how operators and calls stand in a
 -- function's code, with what is given up before its end.
 use Rattle.std.specs.Prelude.{◌≡◌, ℕ, suc, Bool, List, [], ◌∷◌, ◌++◌, Some, slice_get}
-use Rattle.fip_language.specs.declared.Place.{Place}
-use Rattle.fip_language.specs.declared.Operator.{Operator}
-use Rattle.fip_trees.specs.Tree.{Instance}
-use Rattle.cell_code.specs.declared.code.Instr.TheVariants as I
+use Rattle.tree_semantics.specs.fip_language.declared.Place.{Place}
+use Rattle.tree_semantics.specs.fip_language.declared.Operator.{Operator}
+use Rattle.credit_check.specs.fip_trees.Tree.{Instance}
+use Rattle.code_rules.specs.cell_code.declared.code.Instr.TheVariants as I
 use Rattle.code_rules.specs.Codes.{PlainFunction}
 use Rattle.lowering_relation.specs.declared.held.Held.TheVariants as H
 use Rattle.lowering_relation.specs.Known.{Known, joined}

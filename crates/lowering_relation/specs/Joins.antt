@@ -7,9 +7,9 @@
 -- and not at that of the second, nothing is known of it where they meet.
 use Rattle.std.specs.Prelude.{◌≡◌, ◌⊎◌, ◌<◌, ◌≤◌, ℕ, suc, Bool, true, false, List, [], ◌∷◌, Some, None, length}
 use Rattle.std.specs.Prelude.{slice_get, if◌then◌else◌}
-use Rattle.cell_code.specs.declared.code.Instr.TheVariants as I
-use Rattle.cell_code.specs.declared.kind.Kind.{Kind}
-use Rattle.fip_trees.specs.Tree.{Expression, Clauses, NoClauses, MoreClauses}
+use Rattle.code_rules.specs.cell_code.declared.code.Instr.TheVariants as I
+use Rattle.code_rules.specs.cell_code.declared.kind.Kind.{Kind}
+use Rattle.credit_check.specs.fip_trees.Tree.{Expression, Clauses, NoClauses, MoreClauses}
 use Rattle.code_rules.specs.Codes.{PlainCode, PlainFunction, label_at}
 use Rattle.lowering_relation.specs.declared.held.Credit.{Credit}
 use Rattle.lowering_relation.specs.declared.held.Held.{Held}

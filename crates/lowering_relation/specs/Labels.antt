@@ -1,7 +1,7 @@
 -- It serves the proof that lowered code is sound: what the labels of a function tell, and which stand in a straight
 -- part of its code.
 use Rattle.std.specs.Prelude.{◌≡◌, ℕ, ◌<◌, true, List, Some, None, length}
-use Rattle.cell_code.specs.declared.kind.Kind.{Kind}
+use Rattle.code_rules.specs.cell_code.declared.kind.Kind.{Kind}
 use Rattle.code_rules.specs.Codes.{PlainCode, PlainFunction, label_at}
 use Rattle.code_rules.specs.Kinds.{at}
 use Rattle.code_rules.specs.Fitting.{fits}

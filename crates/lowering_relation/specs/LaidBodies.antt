@@ -3,10 +3,10 @@
 -- behind the tests that choose it; where a let binds the match, they give its value to the let's registers and meet
 -- behind the last one.
 use Rattle.std.specs.Prelude.{◌≡◌, ◌⊎◌, ◌≤◌, ℕ, suc, Bool, List, [], ◌∷◌}
-use Rattle.fip_language.specs.declared.Place.{Place}
-use Rattle.fip_language.specs.declared.Operator.{Operator}
-use Rattle.fip_trees.specs.Tree.{Expression, Give, Tuple, Operation, Call, Match, Nested, Block, Last, Let}
-use Rattle.fip_trees.specs.Tree.{Argument, Arguments, NoArguments, MoreArguments, Clauses, NoClauses, MoreClauses}
+use Rattle.tree_semantics.specs.fip_language.declared.Place.{Place}
+use Rattle.tree_semantics.specs.fip_language.declared.Operator.{Operator}
+use Rattle.credit_check.specs.fip_trees.Tree.{Expression, Give, Tuple, Operation, Call, Match, Nested, Block, Last, Let}
+use Rattle.credit_check.specs.fip_trees.Tree.{Argument, Arguments, NoArguments, MoreArguments, Clauses, NoClauses, MoreClauses}
 use Rattle.code_rules.specs.Codes.{PlainCode, PlainFunction}
 use Rattle.lowering_relation.specs.Known.{Known}
 use Rattle.lowering_relation.specs.Values.{Setting, ArgumentsAt}

@@ -3,13 +3,13 @@
 -- is lowered to Test 0 0 3; Take 0 []; Ret [1]; Take 0 [2, 3]; Put 0 2 1 [2, 1]; Tail 0 [3, 0]. Labels stand at 1,
 -- where the list is Nil, at 3, where the test of Nil failed, and at 4, where Cons(x, t) was taken apart.
 use Rattle.std.specs.Prelude.{pos, true, false, List, [], ◌∷◌, None, codes, replicate}
-use Rattle.fip_language.specs.declared.FunKind.TheVariants.{Fip, Fbip}
-use Rattle.cell_code.specs.declared.code.Instr.TheVariants as I
-use Rattle.cell_code.specs.declared.kind.Kind.{Kind}
-use Rattle.cell_code.specs.declared.kind.Kind.TheVariants as K
+use Rattle.tree_semantics.specs.fip_language.declared.FunKind.TheVariants.{Fip, Fbip}
+use Rattle.code_rules.specs.cell_code.declared.code.Instr.TheVariants as I
+use Rattle.code_rules.specs.cell_code.declared.kind.Kind.{Kind}
+use Rattle.code_rules.specs.cell_code.declared.kind.Kind.TheVariants as K
 use Rattle.code_rules.specs.Codes.{PlainCode, PlainFunction}
-use Rattle.fip_language.specs.Example.{here}
-use Rattle.fip_trees.specs.Tree.{Expression, Give, Match, Last, Let, NoClauses, MoreClauses, Instance}
+use Rattle.tree_semantics.specs.fip_language.Example.{here}
+use Rattle.credit_check.specs.fip_trees.Tree.{Expression, Give, Match, Last, Let, NoClauses, MoreClauses, Instance}
 use Rattle.instance_semantics.specs.Example.{bound, var, truth_pattern, gives_int, lists, rev}
 use Rattle.lowering_relation.specs.LoweredExample.{instrs}
 

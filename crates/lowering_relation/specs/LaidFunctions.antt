@@ -1,6 +1,6 @@
 -- It serves the proof that lowered code is sound: the function of an instance, and the code of a program.
 use Rattle.std.specs.Prelude.{◌≡◌, ◌≤◌, ◌+◌, ℕ, Bool, Some, length, slice_get}
-use Rattle.fip_trees.specs.Tree.{Instance, Program}
+use Rattle.credit_check.specs.fip_trees.Tree.{Instance, Program}
 use Rattle.code_rules.specs.Codes.{PlainCode, PlainFunction, function_at, is_fip}
 use Rattle.lowering_relation.specs.Known.{Known, joined}
 use Rattle.lowering_relation.specs.Values.{Setting}

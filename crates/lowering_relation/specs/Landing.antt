@@ -3,12 +3,12 @@
 -- the values of its variables in their registers.
 use Rattle.std.specs.Prelude.{◌≡◌, ◌<◌, ◌≤◌, ℕ, Bool, true, false, List, Option, Some, None}
 use Rattle.std.specs.Prelude.{slice_get, get_or}
-use Rattle.fip_language.specs.Values.{Value}
-use Rattle.fip_language.specs.Table.{Table, HasType}
-use Rattle.fip_language.specs.Every.{Every, Among}
-use Rattle.fip_trees.specs.Tree.{Pattern}
-use Rattle.cell_code.specs.declared.code.Instr.{Instr}
-use Rattle.cell_code.specs.declared.code.Instr.TheVariants as I
+use Rattle.tree_semantics.specs.fip_language.Values.{Value}
+use Rattle.tree_semantics.specs.fip_language.Table.{Table, HasType}
+use Rattle.tree_semantics.specs.fip_language.Every.{Every, Among}
+use Rattle.credit_check.specs.fip_trees.Tree.{Pattern}
+use Rattle.code_rules.specs.cell_code.declared.code.Instr.{Instr}
+use Rattle.code_rules.specs.cell_code.declared.code.Instr.TheVariants as I
 use Rattle.tree_semantics.specs.Contents.{Contents}
 use Rattle.match_knowledge.specs.declared.heads.Head.{Head}
 use Rattle.match_knowledge.specs.declared.heads.Head.TheVariants.{Number, Tag}

@@ -4,8 +4,8 @@
 -- In  let y = match! xs { Nil -> a; Cons(x, t) -> b };  the first clause drops b, and the second one a and t, and frees
 -- the cell.
 use Rattle.std.specs.Prelude.{◌≡◌, ◌⊎◌, ◌<◌, ◌-◌, ℕ, Bool, true, false, List, [], Some, length, take}
-use Rattle.fip_language.specs.Every.{Among}
-use Rattle.fip_trees.specs.Tree.{Expression}
+use Rattle.tree_semantics.specs.fip_language.Every.{Among}
+use Rattle.credit_check.specs.fip_trees.Tree.{Expression}
 use Rattle.code_rules.specs.Codes.{PlainFunction}
 use Rattle.lowering_relation.specs.Known.{Known, register_of}
 use Rattle.lowering_relation.specs.Values.{Setting}

@@ -31,3 +31,10 @@ pub mod LaidBodies
 pub mod LaidFunctions
 pub mod Standing
 pub mod LaidExample
+pub use Rattle.code_rules.specs as code_rules
+pub use Rattle.credit_check.specs as credit_check
+pub use Rattle.credit_check.specs.fip_trees as fip_trees
+pub use Rattle.instance_semantics.specs as instance_semantics
+pub use Rattle.tree_semantics.specs.machine_semantics as machine_semantics
+pub use Rattle.match_knowledge.specs as match_knowledge
+pub use Rattle.tree_semantics.specs as tree_semantics

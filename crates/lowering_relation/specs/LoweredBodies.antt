@@ -9,17 +9,17 @@
 use Rattle.std.specs.Prelude.{◌≡◌, ◌⊎◌, ◌<◌, ◌≤◌, ◌+◌, ℕ, zero, suc, Bool}
 use Rattle.std.specs.Prelude.{true, false, List, [], ◌∷◌, ◌++◌, Option, Some, None}
 use Rattle.std.specs.Prelude.{length, slice_get, slice_set, get_or, if◌then◌else◌}
-use Rattle.fip_language.specs.declared.Place.{Place}
-use Rattle.fip_language.specs.declared.FunKind.{FunKind}
-use Rattle.fip_language.specs.declared.FunKind.TheVariants.{Fip, Fbip, Fun}
-use Rattle.fip_language.specs.declared.Operator.{Operator}
-use Rattle.fip_language.specs.declared.Operator.TheVariants as O
-use Rattle.fip_base.specs.declared.plain.Param.{Param}
-use Rattle.fip_trees.specs.declared.program.Binder.{Binder}
-use Rattle.fip_trees.specs.Tree.{Expression, Give, Tuple, Operation, Call, Match, Nested}
-use Rattle.fip_trees.specs.Tree.{Block, Last, Let, Clauses, NoClauses, MoreClauses, Instance}
-use Rattle.cell_code.specs.declared.code.Instr.{Instr}
-use Rattle.cell_code.specs.declared.code.Instr.TheVariants as I
+use Rattle.tree_semantics.specs.fip_language.declared.Place.{Place}
+use Rattle.tree_semantics.specs.fip_language.declared.FunKind.{FunKind}
+use Rattle.tree_semantics.specs.fip_language.declared.FunKind.TheVariants.{Fip, Fbip, Fun}
+use Rattle.tree_semantics.specs.fip_language.declared.Operator.{Operator}
+use Rattle.tree_semantics.specs.fip_language.declared.Operator.TheVariants as O
+use Rattle.credit_check.specs.fip_base.declared.plain.Param.{Param}
+use Rattle.credit_check.specs.fip_trees.declared.program.Binder.{Binder}
+use Rattle.credit_check.specs.fip_trees.Tree.{Expression, Give, Tuple, Operation, Call, Match, Nested}
+use Rattle.credit_check.specs.fip_trees.Tree.{Block, Last, Let, Clauses, NoClauses, MoreClauses, Instance}
+use Rattle.code_rules.specs.cell_code.declared.code.Instr.{Instr}
+use Rattle.code_rules.specs.cell_code.declared.code.Instr.TheVariants as I
 use Rattle.lowering_relation.specs.declared.held.Held.{Held}
 use Rattle.lowering_relation.specs.declared.held.Held.TheVariants as H
 use Rattle.lowering_relation.specs.declared.held.Credit.{Credit}

@@ -2,8 +2,8 @@
 -- fip fun rev(xs: ints, acc: ints): ints { match! xs { Nil -> acc; Cons(x, t) -> rev(t, Cons(x, acc)) } }
 -- is lowered to Test 0 0 3; Take 0 []; Ret [1]; Take 0 [2, 3]; Put 0 2 1 [2, 1]; Tail 0 [3, 0].
 use Rattle.std.specs.Prelude.{true, false, List, [], ◌∷◌, Some, None, replicate}
-use Rattle.cell_code.specs.declared.code.Instr.{Instr}
-use Rattle.machine_semantics.specs.Example as R
+use Rattle.code_rules.specs.cell_code.declared.code.Instr.{Instr}
+use Rattle.tree_semantics.specs.machine_semantics.Example as R
 use Rattle.instance_semantics.specs.Example.{rev, lists}
 use Rattle.lowering_relation.specs.declared.held.Held.TheVariants as H
 use Rattle.lowering_relation.specs.Known.{Known}

@@ -3,11 +3,11 @@
 -- The parameters are in the first registers, and the header's credits in the next ones.
 use Rattle.std.specs.Prelude.{◌≡◌, ℕ, suc, ◌&&◌, not, ◌==◌, List, [], ◌∷◌, ◌++◌, Option, Some, None, map}
 use Rattle.std.specs.Prelude.{replicate, slice_get, slice_set, if◌then◌else◌}
-use Rattle.fip_language.specs.Table as T
-use Rattle.fip_base.specs.declared.plain.Param.{Param}
-use Rattle.fip_trees.specs.declared.program.Binder.{Binder}
-use Rattle.fip_trees.specs.Tree.{Instance, Program}
-use Rattle.cell_code.specs.declared.code.Instr.{Instr}
+use Rattle.tree_semantics.specs.fip_language.Table as T
+use Rattle.credit_check.specs.fip_base.declared.plain.Param.{Param}
+use Rattle.credit_check.specs.fip_trees.declared.program.Binder.{Binder}
+use Rattle.credit_check.specs.fip_trees.Tree.{Instance, Program}
+use Rattle.code_rules.specs.cell_code.declared.code.Instr.{Instr}
 use Rattle.lowering_relation.specs.declared.held.Held.{Held}
 use Rattle.lowering_relation.specs.declared.held.Held.TheVariants as H
 use Rattle.lowering_relation.specs.Known.{Known, joined, named}

@@ -4,9 +4,9 @@
 -- before. A label stands at the entry of each clause's body, but at the start of a function, and takes what is told
 -- there.
 use Rattle.std.specs.Prelude.{◌≡◌, ◌⊎◌, ℕ, ◌<◌, ◌≤◌, Bool, ◌&&◌, not, List, [], ◌∷◌, Option, Some, None, map, slice_get}
-use Rattle.fip_language.specs.Table.{Table}
-use Rattle.fip_language.specs.Every.{Among}
-use Rattle.fip_trees.specs.Tree.{Argument, Variable, Literal, Constructor, Pattern, Clauses, NoClauses, MoreClauses}
+use Rattle.tree_semantics.specs.fip_language.Table.{Table}
+use Rattle.tree_semantics.specs.fip_language.Every.{Among}
+use Rattle.credit_check.specs.fip_trees.Tree.{Argument, Variable, Literal, Constructor, Pattern, Clauses, NoClauses, MoreClauses}
 use Rattle.code_rules.specs.Codes.{PlainCode, PlainFunction}
 use Rattle.code_rules.specs.Types.{count}
 use Rattle.lowering_relation.specs.declared.held.Held.{Held}

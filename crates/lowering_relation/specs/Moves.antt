@@ -1,7 +1,7 @@
 -- It serves the proof that lowered code is sound: how the words of registers go to others. Where results in registers 3
 -- and 5 go to 3 and 6, this is Move 6 5.
 use Rattle.std.specs.Prelude.{◌≡◌, ◌⊎◌, ℕ, List, [], ◌∷◌}
-use Rattle.cell_code.specs.declared.code.Instr.{Instr}
+use Rattle.code_rules.specs.cell_code.declared.code.Instr.{Instr}
 use Rattle.lowering_relation.specs.Known.{Known}
 use Rattle.lowering_relation.specs.LoweredBodies.{IsMove, IsThere}
 

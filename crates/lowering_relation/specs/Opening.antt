@@ -2,11 +2,11 @@
 -- names, and what registers hold then.
 use Rattle.std.specs.Prelude.{◌≡◌, ℕ, suc, Bool, true, false, ◌||◌, not, nat_eq, List, [], ◌∷◌}
 use Rattle.std.specs.Prelude.{if◌then◌else◌}
-use Rattle.fip_language.specs.Values.{Value, Values, End, More}
-use Rattle.fip_trees.specs.declared.program.Binder.{Binder}
-use Rattle.fip_trees.specs.Tree.{Pattern, BinderPattern, LiteralPattern, ConstructorPattern, Patterns, NoPatterns}
-use Rattle.fip_trees.specs.Tree.{MorePatterns, Name}
-use Rattle.cell_code.specs.declared.code.Instr.TheVariants as I
+use Rattle.tree_semantics.specs.fip_language.Values.{Value, Values, End, More}
+use Rattle.credit_check.specs.fip_trees.declared.program.Binder.{Binder}
+use Rattle.credit_check.specs.fip_trees.Tree.{Pattern, BinderPattern, LiteralPattern, ConstructorPattern, Patterns, NoPatterns}
+use Rattle.credit_check.specs.fip_trees.Tree.{MorePatterns, Name}
+use Rattle.code_rules.specs.cell_code.declared.code.Instr.TheVariants as I
 use Rattle.tree_semantics.specs.Contents.{Contents}
 use Rattle.match_knowledge.specs.ValueHeads.{children}
 use Rattle.lowering_relation.specs.Written.{Written, added}

@@ -2,9 +2,9 @@
 -- positions. Each is read once on a way, and those above it before.
 use Rattle.std.specs.Prelude.{◌≡◌, ℕ, suc, Bool, true, false, ◌==◌, List, [], ◌∷◌, ◌++◌, Option, Some, None}
 use Rattle.std.specs.Prelude.{if◌then◌else◌}
-use Rattle.fip_language.specs.Values.{Value, Values, End, More}
-use Rattle.fip_language.specs.Every.{Among}
-use Rattle.cell_code.specs.declared.code.Instr.TheVariants as I
+use Rattle.tree_semantics.specs.fip_language.Values.{Value, Values, End, More}
+use Rattle.tree_semantics.specs.fip_language.Every.{Among}
+use Rattle.code_rules.specs.cell_code.declared.code.Instr.TheVariants as I
 use Rattle.tree_semantics.specs.Contents.{Contents}
 use Rattle.match_knowledge.specs.ValueHeads.{children}
 use Rattle.match_knowledge.specs.declared.heads.Head.{Head}

@@ -6,10 +6,10 @@
 -- Lent 2 (0 ∷ 1 ∷ []) (Some 0) with a from of register 0 and field 1.
 use Rattle.std.specs.Prelude.{◌≡◌, ◌⊎◌, ℕ, suc, Bool, true, false, not, List, [], ◌∷◌, Option, Some, None}
 use Rattle.std.specs.Prelude.{if◌then◌else◌}
-use Rattle.fip_language.specs.Table.{Table}
-use Rattle.fip_language.specs.Every.{Among}
-use Rattle.cell_code.specs.declared.kind.Kind.{Kind}
-use Rattle.cell_code.specs.declared.kind.Kind.TheVariants as K
+use Rattle.tree_semantics.specs.fip_language.Table.{Table}
+use Rattle.tree_semantics.specs.fip_language.Every.{Among}
+use Rattle.code_rules.specs.cell_code.declared.kind.Kind.{Kind}
+use Rattle.code_rules.specs.cell_code.declared.kind.Kind.TheVariants as K
 use Rattle.code_rules.specs.Types.{all, fields, is_scalar_type}
 use Rattle.match_knowledge.specs.declared.heads.Head.{Head}
 use Rattle.match_knowledge.specs.declared.heads.Head.TheVariants.{Number, Tag}

@@ -1,7 +1,7 @@
 -- It serves the proofs on lowered code: the positions of a match and their registers. Patterns share them: the fields
 -- of a position are those of each constructor that it may have.
 use Rattle.std.specs.Prelude.{ℕ, List, [], ◌∷◌, ◌++◌}
-use Rattle.fip_language.specs.Every.{Among}
+use Rattle.tree_semantics.specs.fip_language.Every.{Among}
 
 mutual
   pub data Spot : Type 0 where

@@ -2,8 +2,8 @@
 -- of a tree that it has no constructor.
 -- In a function of seven instructions maps may stand at 3 and 5, and none at 0 or at 7.
 use Rattle.std.specs.Prelude.{◌≡◌, ℕ, ◌<◌, ◌==◌, Bool, true, ◌&&◌, not, List, [], ◌∷◌, length}
-use Rattle.cell_code.specs.declared.kind.Kind.{Kind}
-use Rattle.cell_code.specs.declared.kind.Kind.TheVariants as K
+use Rattle.code_rules.specs.cell_code.declared.kind.Kind.{Kind}
+use Rattle.code_rules.specs.cell_code.declared.kind.Kind.TheVariants as K
 use Rattle.code_rules.specs.Codes.{PlainFunction, LabelMap}
 
 -- the places of maps rise, above `low` and below n

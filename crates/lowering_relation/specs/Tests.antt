@@ -5,10 +5,10 @@
 -- tests.
 use Rattle.std.specs.Prelude.{◌≡◌, ◌⊎◌, ◌<◌, ℕ, zero, suc, Bool, true, false, List, [], ◌∷◌, ◌++◌, Some, slice_get}
 use Rattle.std.specs.Prelude.{is_some}
-use Rattle.cell_code.specs.declared.code.Instr.TheVariants as I
-use Rattle.cell_code.specs.declared.kind.Kind.{Kind}
-use Rattle.fip_trees.specs.Tree.{Pattern, BinderPattern, LiteralPattern, ConstructorPattern, Patterns, NoPatterns}
-use Rattle.fip_trees.specs.Tree.{MorePatterns}
+use Rattle.code_rules.specs.cell_code.declared.code.Instr.TheVariants as I
+use Rattle.code_rules.specs.cell_code.declared.kind.Kind.{Kind}
+use Rattle.credit_check.specs.fip_trees.Tree.{Pattern, BinderPattern, LiteralPattern, ConstructorPattern, Patterns, NoPatterns}
+use Rattle.credit_check.specs.fip_trees.Tree.{MorePatterns}
 use Rattle.code_rules.specs.Codes.{PlainCode, PlainFunction, label_at}
 use Rattle.match_knowledge.specs.declared.verdicts.Verdict.TheVariants.{Fits, Asks}
 use Rattle.match_knowledge.specs.Patterns as M

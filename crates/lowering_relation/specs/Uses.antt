@@ -3,11 +3,11 @@
 -- match! xs { Nil -> a; Cons(x, t) -> Cons(x, b) } uses xs, a, x and b up, and needs no credit: its pattern gives one.
 use Rattle.std.specs.Prelude.{ℕ, suc, ◌+◌, ◌-◌, ◌==◌, Bool, false, not, ◌&&◌, ◌||◌, List, Option, Some, None}
 use Rattle.std.specs.Prelude.{slice_get}
-use Rattle.fip_base.specs.declared.plain.Param.{Param}
-use Rattle.fip_trees.specs.Sizes.{greater}
-use Rattle.fip_trees.specs.Tree.{Argument, Variable, Literal, Constructor, Arguments, NoArguments, MoreArguments}
-use Rattle.fip_trees.specs.Tree.{Expression, Give, Tuple, Operation, Call, Match, Nested, Block, Last, Let}
-use Rattle.fip_trees.specs.Tree.{Clauses, NoClauses, MoreClauses, Instance}
+use Rattle.credit_check.specs.fip_base.declared.plain.Param.{Param}
+use Rattle.credit_check.specs.fip_trees.Sizes.{greater}
+use Rattle.credit_check.specs.fip_trees.Tree.{Argument, Variable, Literal, Constructor, Arguments, NoArguments, MoreArguments}
+use Rattle.credit_check.specs.fip_trees.Tree.{Expression, Give, Tuple, Operation, Call, Match, Nested, Block, Last, Let}
+use Rattle.credit_check.specs.fip_trees.Tree.{Clauses, NoClauses, MoreClauses, Instance}
 use Rattle.credit_check.specs.Needs.{made, made_all, asked, given}
 use Rattle.lowering_relation.specs.Values.{Setting, is_scalar}
 

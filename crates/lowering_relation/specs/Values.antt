@@ -5,11 +5,11 @@
 -- Atom 4 2 0; Put 0 2 1 [1, 4]: its value is in register 0.
 use Rattle.std.specs.Prelude.{◌≡◌, ◌⊎◌, ℕ, suc, ℤ, Bool, true, false, List, [], ◌∷◌, Option, Some, length}
 use Rattle.std.specs.Prelude.{slice_get, slice_set, get_or}
-use Rattle.fip_language.specs.Table.{Table}
-use Rattle.fip_trees.specs.Tree.{Argument, Variable, Literal, Constructor, Arguments, NoArguments, MoreArguments}
-use Rattle.fip_trees.specs.Tree.{Instance}
-use Rattle.cell_code.specs.declared.code.Instr.{Instr}
-use Rattle.cell_code.specs.declared.code.Instr.TheVariants as I
+use Rattle.tree_semantics.specs.fip_language.Table.{Table}
+use Rattle.credit_check.specs.fip_trees.Tree.{Argument, Variable, Literal, Constructor, Arguments, NoArguments, MoreArguments}
+use Rattle.credit_check.specs.fip_trees.Tree.{Instance}
+use Rattle.code_rules.specs.cell_code.declared.code.Instr.{Instr}
+use Rattle.code_rules.specs.cell_code.declared.code.Instr.TheVariants as I
 use Rattle.lowering_relation.specs.declared.held.Held.{Held}
 use Rattle.lowering_relation.specs.declared.held.Held.TheVariants as H
 use Rattle.lowering_relation.specs.declared.held.Credit.{Credit}

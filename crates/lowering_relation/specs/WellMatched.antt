@@ -3,11 +3,11 @@
 -- match xs { Nil -> a; Cons(x, t) -> b } of the type of lists is so, with Nil and Cons the constructors 0 and 1.
 use Rattle.std.specs.Prelude.{◌<◌, ℕ, length, FitsSigned}
 use Rattle.std.specs.Int.{w64}
-use Rattle.fip_language.specs.Every.{Every}
-use Rattle.fip_language.specs.Table.{Table, constructors}
-use Rattle.fip_trees.specs.Tree.{Pattern, BinderPattern, LiteralPattern, ConstructorPattern, Patterns, NoPatterns}
-use Rattle.fip_trees.specs.Tree.{MorePatterns, Expression, Give, Tuple, Operation, Call, Match, Nested, Block, Last}
-use Rattle.fip_trees.specs.Tree.{Let, Clauses, NoClauses, MoreClauses, Instance, Program}
+use Rattle.tree_semantics.specs.fip_language.Every.{Every}
+use Rattle.tree_semantics.specs.fip_language.Table.{Table, constructors}
+use Rattle.credit_check.specs.fip_trees.Tree.{Pattern, BinderPattern, LiteralPattern, ConstructorPattern, Patterns, NoPatterns}
+use Rattle.credit_check.specs.fip_trees.Tree.{MorePatterns, Expression, Give, Tuple, Operation, Call, Match, Nested, Block, Last}
+use Rattle.credit_check.specs.fip_trees.Tree.{Let, Clauses, NoClauses, MoreClauses, Instance, Program}
 use Rattle.match_knowledge.specs.Patterns.{IsPattern}
 use Rattle.lowering_relation.specs.Rows.{row_of}
 

@@ -4,8 +4,8 @@
 -- for each choice of places that keeps those that labels have. Test 0 1 5; Ret [0] where label 5 has the place 2 is in
 -- the code Test 0 1 2; Ret [0].
 use Rattle.std.specs.Prelude.{◌≡◌, ◌≤◌, ◌<◌, ℕ, List, [], ◌∷◌, ◌++◌, Option, Some, None, length, slice_get}
-use Rattle.cell_code.specs.declared.code.Instr.{Instr}
-use Rattle.cell_code.specs.declared.code.Instr.TheVariants as I
+use Rattle.code_rules.specs.cell_code.declared.code.Instr.{Instr}
+use Rattle.code_rules.specs.cell_code.declared.code.Instr.TheVariants as I
 use Rattle.code_rules.specs.Codes.{LabelMap, label_at}
 use Rattle.lowering_relation.specs.Known.{joined}
 use Rattle.lowering_relation.specs.LoweredBodies as B

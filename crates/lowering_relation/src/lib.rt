@@ -10,7 +10,9 @@ mod match_theorems;
 
 pub use function_theorems::an_example_is_lowered;
 pub use held::{Credit, Held};
-pub use layout_theorems::{an_example_is_laid, an_example_that_drops_is_laid, an_example_with_a_let_is_laid};
+pub use layout_theorems::{
+    an_example_is_laid, an_example_that_drops_is_laid, an_example_with_a_let_is_laid,
+};
 pub use match_theorems::{
     a_chosen_clause_gets_its_cells, a_chosen_clause_gets_its_values,
     a_test_leads_where_its_sides_do, entries_tell_what_is_so,

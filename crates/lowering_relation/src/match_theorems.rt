@@ -1,10 +1,10 @@
 // The laws of the definitions. Each is the contract of a function that does nothing.
 ghost use Rattle.std.specs.Prelude.{◌≡◌, ◌≤◌, ℕ, List, true, false, Some, slice_get};
-ghost use Rattle.fip_language.specs.Matching.{Binding};
-ghost use Rattle.fip_language.specs.Values.{Value};
-ghost use Rattle.fip_trees.specs.Tree.{Pattern};
+ghost use Rattle.tree_semantics.specs.fip_language.Matching.{Binding};
+ghost use Rattle.tree_semantics.specs.fip_language.Values.{Value};
+ghost use Rattle.credit_check.specs.fip_trees.Tree.{Pattern};
 ghost use Rattle.instance_semantics.specs.Matching.{matching};
-ghost use Rattle.cell_code.specs.declared.code.Instr.{Instr};
+ghost use Rattle.code_rules.specs.cell_code.declared.code.Instr.{Instr};
 ghost use Rattle.tree_semantics.specs.Contents.{Contents};
 ghost use Rattle.match_knowledge.specs.declared.verdicts.Verdict.TheVariants.{Fits, Asks};
 ghost use Rattle.match_knowledge.specs.Known.{Known, compare, side};

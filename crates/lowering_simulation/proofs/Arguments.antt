@@ -1,16 +1,16 @@
 -- A run computes arguments: it writes their values into their registers, and no other register that is fixed.
 use Rattle.std.proofs.Common.{◌≡◌, inl, inr, ℕ, suc, List, [], ◌∷◌, Option, Some, None, refl, sym, ap, ◌∙◌, subst, arith, slice_get, length}
-use Rattle.fip_language.specs.Values.{Value, Int, Node, Values, End, More}
-use Rattle.fip_language.specs.Meaning.{Environment, binder_value, more_of}
-use Rattle.fip_trees.specs.Tree.{Argument, Variable, Literal, Constructor, Arguments, NoArguments, MoreArguments}
-use Rattle.cell_code.specs.declared.code.Instr.{Instr}
-use Rattle.cell_code.specs.declared.code.Instr.TheVariants as I
-use Rattle.machine_semantics.specs.Codes.{PlainCode, instr_at}
-use Rattle.instance_semantics.specs.Meaning.{node_of, argument_value, argument_values}
-use Rattle.tree_semantics.specs.Contents.{Contents, put, read_all}
-use Rattle.tree_semantics.specs.States.{Frame, State, Went}
-use Rattle.tree_semantics.specs.Steps.{act}
-use Rattle.tree_semantics.proofs.Puts.{put_same, put_other}
+use Rattle.tree_refinement.specs.fip_language.Values.{Value, Int, Node, Values, End, More}
+use Rattle.tree_refinement.specs.fip_language.Meaning.{Environment, binder_value, more_of}
+use Rattle.lowering_relation.specs.fip_trees.Tree.{Argument, Variable, Literal, Constructor, Arguments, NoArguments, MoreArguments}
+use Rattle.tree_refinement.specs.cell_code.declared.code.Instr.{Instr}
+use Rattle.tree_refinement.specs.cell_code.declared.code.Instr.TheVariants as I
+use Rattle.lowering_relation.specs.machine_semantics.Codes.{PlainCode, instr_at}
+use Rattle.lowering_relation.specs.instance_semantics.Meaning.{node_of, argument_value, argument_values}
+use Rattle.lowering_relation.specs.tree_semantics.Contents.{Contents, put, read_all}
+use Rattle.lowering_relation.specs.tree_semantics.States.{Frame, State, Went}
+use Rattle.lowering_relation.specs.tree_semantics.Steps.{act}
+use Rattle.tree_refinement.proofs.tree_semantics.Puts.{put_same, put_other}
 use Rattle.lowering_relation.specs.Tidy.{Fixed, Tidy}
 use Rattle.lowering_relation.specs.declared.held.Held.TheVariants as H
 use Rattle.lowering_relation.specs.Known.{Known, register_of}

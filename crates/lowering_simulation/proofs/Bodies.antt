@@ -1,25 +1,25 @@
 -- A run of the code of an expression, or of a block, goes as its meaning does.
 use Rattle.std.proofs.Common.{◌≡◌, inl, inr, ℕ, zero, suc, ◌<◌, ◌≤◌, ◌+◌, List, [], ◌∷◌, ◌++◌, Bool, true, false, Some, None, length, refl, sym, ap, ◌∙◌, subst, arith, slice_get, ⊎_elim}
-use Rattle.fip_language.specs.declared.Place.{Place}
-use Rattle.fip_language.specs.declared.Operator.{Operator}
-use Rattle.fip_language.specs.Values.{Value, Int, Node, Values, End, More}
-use Rattle.fip_language.specs.Every.{Every, Among}
-use Rattle.fip_language.specs.Arithmetic.{Operated, Is, Fails, operate}
-use Rattle.fip_language.specs.Meaning.{Answer, Gives, Trap, Out, Peak, no_peak, higher, above, Environment, operated, operation, counted, in_frame, ends, with_value, with_values, go_on, bind_matched, if_matches, Run as Evaluation}
-use Rattle.fip_language.specs.Laws.{AtMost}
-use Rattle.fip_trees.specs.declared.program.Binder.{Binder}
-use Rattle.fip_trees.specs.Tree.{Expression, Give, Tuple, Operation, Call, Match, Nested, Block, Last, Let, Program, Pattern, Clauses, NoClauses, MoreClauses}
-use Rattle.cell_code.specs.declared.code.Instr.{Instr}
-use Rattle.cell_code.specs.declared.code.Instr.TheVariants as I
-use Rattle.machine_semantics.specs.Codes.{PlainFunction, PlainCode, function_at, instr_at}
-use Rattle.machine_semantics.specs.Steps.{destinations_in}
-use Rattle.instance_semantics.specs.Meaning.{bind_binders, argument_value, argument_values, eval, eval_block, calls_of, eval_clauses}
-use Rattle.instance_semantics.proofs.Left.{calls_left}
-use Rattle.tree_semantics.specs.Contents.{Contents, put, put_all, read_all, first_contents, value_at}
-use Rattle.tree_semantics.specs.States.{Frame, State, Entered}
-use Rattle.tree_semantics.specs.Steps.{act, calculated, first_frame, called, called_with, replaced, resumed, returned, next}
-use Rattle.tree_semantics.specs.Steps as S
-use Rattle.tree_semantics.proofs.Puts.{put_same, put_other}
+use Rattle.tree_refinement.specs.fip_language.declared.Place.{Place}
+use Rattle.tree_refinement.specs.fip_language.declared.Operator.{Operator}
+use Rattle.tree_refinement.specs.fip_language.Values.{Value, Int, Node, Values, End, More}
+use Rattle.tree_refinement.specs.fip_language.Every.{Every, Among}
+use Rattle.tree_refinement.specs.fip_language.Arithmetic.{Operated, Is, Fails, operate}
+use Rattle.tree_refinement.specs.fip_language.Meaning.{Answer, Gives, Trap, Out, Peak, no_peak, higher, above, Environment, operated, operation, counted, in_frame, ends, with_value, with_values, go_on, bind_matched, if_matches, Run as Evaluation}
+use Rattle.tree_refinement.specs.fip_language.Laws.{AtMost}
+use Rattle.lowering_relation.specs.fip_trees.declared.program.Binder.{Binder}
+use Rattle.lowering_relation.specs.fip_trees.Tree.{Expression, Give, Tuple, Operation, Call, Match, Nested, Block, Last, Let, Program, Pattern, Clauses, NoClauses, MoreClauses}
+use Rattle.tree_refinement.specs.cell_code.declared.code.Instr.{Instr}
+use Rattle.tree_refinement.specs.cell_code.declared.code.Instr.TheVariants as I
+use Rattle.lowering_relation.specs.machine_semantics.Codes.{PlainFunction, PlainCode, function_at, instr_at}
+use Rattle.lowering_relation.specs.machine_semantics.Steps.{destinations_in}
+use Rattle.lowering_relation.specs.instance_semantics.Meaning.{bind_binders, argument_value, argument_values, eval, eval_block, calls_of, eval_clauses}
+use Rattle.lowering_relation.proofs.instance_semantics.Left.{calls_left}
+use Rattle.lowering_relation.specs.tree_semantics.Contents.{Contents, put, put_all, read_all, first_contents, value_at}
+use Rattle.lowering_relation.specs.tree_semantics.States.{Frame, State, Entered}
+use Rattle.lowering_relation.specs.tree_semantics.Steps.{act, calculated, first_frame, called, called_with, replaced, resumed, returned, next}
+use Rattle.lowering_relation.specs.tree_semantics.Steps as S
+use Rattle.tree_refinement.proofs.tree_semantics.Puts.{put_same, put_other}
 use Rattle.lowering_relation.specs.Tidy.{Fixed, Unknown, Tidy}
 use Rattle.lowering_relation.specs.declared.held.Held.TheVariants as H
 use Rattle.lowering_relation.specs.Known.{Known}
@@ -28,9 +28,9 @@ use Rattle.lowering_relation.specs.Choosing.{place, Entry, Arrives, ArrivesIf, C
 use Rattle.lowering_relation.specs.LoweredBodies.{Target, Return, Into, GoesTo, result_type, IsOperation, function_of, IsCall, registers_for, reserved, with_names, ValuesAt, ExpressionAt, BlockAt, ClauseAt, ClausesAt, Joins}
 use Rattle.lowering_relation.specs.LoweredFunctions.{IsSettingOf}
 use Rattle.lowering_simulation.specs.Distinct.{numbers, in_expression, in_block, Apart, Differ, DistinctExpression, DistinctBlock, in_pattern, in_clauses, DistinctClauses}
-use Rattle.fip_language.specs.Table.{HasType}
-use Rattle.fip_language.specs.Matching.{Binding}
-use Rattle.instance_semantics.specs.Matching.{matching}
+use Rattle.tree_refinement.specs.fip_language.Table.{HasType}
+use Rattle.tree_refinement.specs.fip_language.Matching.{Binding}
+use Rattle.lowering_relation.specs.instance_semantics.Matching.{matching}
 use Rattle.lowering_simulation.specs.Guarded.{Takes, GuardedExpression, GuardedBlock, GuardedClauses}
 use Rattle.lowering_simulation.proofs.Matching.{matched_numbers, unmatched_same}
 use Rattle.lowering_simulation.proofs.Choosing.{world_entered, world_met, case_runs, reaches_run, jumps}

@@ -1,15 +1,15 @@
 -- A run of the tests of a match comes to the clause that they choose, and what is known there is so.
 use Rattle.std.proofs.Common.{◌≡◌, ℕ, zero, suc, List, Bool, true, false, Option, Some, None, refl, sym, ap, ◌∙◌, subst, ⊎_elim, slice_get}
 use Rattle.std.specs.Prelude.{option_map, option_and_then, if◌then◌else◌}
-use Rattle.fip_language.specs.Values.{Value, Values}
-use Rattle.fip_language.specs.Matching.{Binding}
-use Rattle.fip_language.specs.Meaning.{Environment, nothing_bound, bind_matched, Peak, Run as Evaluation, if_matches}
-use Rattle.cell_code.specs.declared.code.Instr.{Instr}
-use Rattle.cell_code.specs.declared.code.Instr.TheVariants as I
-use Rattle.machine_semantics.specs.Codes.{PlainCode, instr_at}
-use Rattle.tree_semantics.specs.Contents.{Contents, put, value_at, children}
-use Rattle.tree_semantics.specs.States.{Frame, Went}
-use Rattle.tree_semantics.specs.Steps.{act, branch, peeked, is_node, is_int}
+use Rattle.tree_refinement.specs.fip_language.Values.{Value, Values}
+use Rattle.tree_refinement.specs.fip_language.Matching.{Binding}
+use Rattle.tree_refinement.specs.fip_language.Meaning.{Environment, nothing_bound, bind_matched, Peak, Run as Evaluation, if_matches}
+use Rattle.tree_refinement.specs.cell_code.declared.code.Instr.{Instr}
+use Rattle.tree_refinement.specs.cell_code.declared.code.Instr.TheVariants as I
+use Rattle.lowering_relation.specs.machine_semantics.Codes.{PlainCode, instr_at}
+use Rattle.lowering_relation.specs.tree_semantics.Contents.{Contents, put, value_at, children}
+use Rattle.lowering_relation.specs.tree_semantics.States.{Frame, Went}
+use Rattle.lowering_relation.specs.tree_semantics.Steps.{act, branch, peeked, is_node, is_int}
 use Rattle.lowering_relation.specs.Tidy.{Fixed, Tidy}
 use Rattle.lowering_relation.specs.Known.{Known}
 use Rattle.lowering_relation.specs.Choosing.{Place, place, followed, after, Reaches, Entry, binders_of, Arrives, ArrivesIf, Opens, Meets}
@@ -43,7 +43,7 @@ case_runs code width up c is p k e other None body rest go a first others = othe
 case_runs code width up c is p k e other (Some bs) body rest go a first others = first bs refl a
 
 module _ (code : PlainCode) (width : ℕ → ℕ) (f : ℕ) (is : List Instr) (has : (p : ℕ) (i : Instr) → slice_get is p ≡ Some i → instr_at code f p ≡ Some i) (waiting : List Frame) (free : ℕ) where
-  abbrev Standing : Place → Rattle.tree_semantics.specs.States.State
+  abbrev Standing : Place → Rattle.lowering_relation.specs.tree_semantics.States.State
   Standing p = state code width f is has waiting free p.at p.contents
 
   abbrev Its : Place → ℕ → Coming

@@ -1,23 +1,23 @@
 -- Typed programs keep their types, by induction on the trees: where the scope gives a variable a type, the environment
 -- has a value of it, and what an evaluation gives is of its types.
 use Rattle.std.proofs.Common.{◌≡◌, ◌≢◌, ℕ, Bool, true, false, List, [], ◌++◌, map, Option, Some, sym, ◌∙◌, subst}
-use Rattle.fip_language.specs.Values.{Value, Values}
-use Rattle.fip_language.specs.Table.{Table, HasType, HaveTypes}
-use Rattle.fip_language.specs.Meaning.{Answer, Stuck, Environment, nothing_bound, bind_matched}
-use Rattle.fip_trees.specs.Tree.{Expression, Give, Tuple, Operation, Call, Match, Nested, Block, Last, Let, Clauses, NoClauses, MoreClauses, Program}
-use Rattle.type_check.specs.Binders.{all_annotated, entries}
-use Rattle.type_check.specs.Scope.{Scope}
-use Rattle.type_check.specs.World.{Head, world, head}
-use Rattle.type_check.specs.Typing.{bound_by, Types, TypesBlock, TypesClauses, parameter_entries, IsFilled}
-use Rattle.machine_semantics.specs.Codes.{PlainCode}
-use Rattle.instance_semantics.specs.Registers.{frame_words}
-use Rattle.instance_semantics.specs.Meaning.{bind_binders, argument_value, argument_values, Calls, calls_of, flat_meaning}
+use Rattle.tree_refinement.specs.fip_language.Values.{Value, Values}
+use Rattle.tree_refinement.specs.fip_language.Table.{Table, HasType, HaveTypes}
+use Rattle.tree_refinement.specs.fip_language.Meaning.{Answer, Stuck, Environment, nothing_bound, bind_matched}
+use Rattle.lowering_relation.specs.fip_trees.Tree.{Expression, Give, Tuple, Operation, Call, Match, Nested, Block, Last, Let, Clauses, NoClauses, MoreClauses, Program}
+use Rattle.type_safety.specs.type_check.Binders.{all_annotated, entries}
+use Rattle.type_safety.specs.type_check.Scope.{Scope}
+use Rattle.type_safety.specs.type_check.World.{Head, world, head}
+use Rattle.type_safety.specs.type_check.Typing.{bound_by, Types, TypesBlock, TypesClauses, parameter_entries, IsFilled}
+use Rattle.lowering_relation.specs.machine_semantics.Codes.{PlainCode}
+use Rattle.lowering_relation.specs.instance_semantics.Registers.{frame_words}
+use Rattle.lowering_relation.specs.instance_semantics.Meaning.{bind_binders, argument_value, argument_values, Calls, calls_of, flat_meaning}
 use Rattle.type_safety.specs.Formed.{FormedExpression, FormedBlock, FormedClauses, IsFormed}
 use Rattle.type_safety.specs.Soundness.{IsTypedAnswer}
 use Rattle.type_safety.proofs.Scopes.{Held, EnvHas, let_has, parameters_have, pattern_has}
 use Rattle.type_safety.proofs.WellTyped.{AllHeld, head_is, typed_at, formed_at, argument_has, arguments_have, nothing_has}
 use Rattle.type_safety.proofs.Gains.{CallsGain, expression_gained, calls_gained}
-use Rattle.tree_semantics.specs.Runs.{begun, entry}
+use Rattle.lowering_relation.specs.tree_semantics.Runs.{begun, entry}
 use Rattle.lowering_relation.specs.LoweredBodies.{function_of}
 use Rattle.lowering_relation.specs.LoweredFunctions.{AreLowered}
 use Rattle.lowering_simulation.specs.Distinct.{AreDistinct}

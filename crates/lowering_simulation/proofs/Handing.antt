@@ -1,15 +1,15 @@
 -- A run gives up what is left, and hands results on.
 use Rattle.std.proofs.Common.{◌≡◌, ◌⊎◌, inl, inr, ℕ, zero, suc, ◌≤◌, ◌+◌, List, [], ◌∷◌, Option, Some, None, refl, sym, ap, ◌∙◌, subst, arith, slice_get, length}
-use Rattle.fip_language.specs.Values.{Values, End, More}
-use Rattle.fip_language.specs.Meaning.{Answer, Gives, Peak, Environment}
-use Rattle.fip_language.specs.Every.{Every, Among}
-use Rattle.cell_code.specs.declared.code.Instr.{Instr}
-use Rattle.cell_code.specs.declared.code.Instr.TheVariants as I
-use Rattle.machine_semantics.specs.Codes.{PlainCode, instr_at}
-use Rattle.tree_semantics.specs.Contents.{Contents, put, put_all, read_all}
-use Rattle.tree_semantics.specs.States.{Frame, Went}
-use Rattle.tree_semantics.specs.Steps.{act, returned}
-use Rattle.tree_semantics.proofs.Puts.{put_same, put_other}
+use Rattle.tree_refinement.specs.fip_language.Values.{Values, End, More}
+use Rattle.tree_refinement.specs.fip_language.Meaning.{Answer, Gives, Peak, Environment}
+use Rattle.tree_refinement.specs.fip_language.Every.{Every, Among}
+use Rattle.tree_refinement.specs.cell_code.declared.code.Instr.{Instr}
+use Rattle.tree_refinement.specs.cell_code.declared.code.Instr.TheVariants as I
+use Rattle.lowering_relation.specs.machine_semantics.Codes.{PlainCode, instr_at}
+use Rattle.lowering_relation.specs.tree_semantics.Contents.{Contents, put, put_all, read_all}
+use Rattle.lowering_relation.specs.tree_semantics.States.{Frame, Went}
+use Rattle.lowering_relation.specs.tree_semantics.Steps.{act, returned}
+use Rattle.tree_refinement.proofs.tree_semantics.Puts.{put_same, put_other}
 use Rattle.lowering_relation.specs.Tidy.{Fixed, Unknown}
 use Rattle.lowering_relation.specs.Known.{Known, register_of}
 use Rattle.lowering_relation.specs.LoweredBodies.{Target, Return, Into, GivesUp, GiveUp, IsMove, IsThere, MovedAt, GivenAt}

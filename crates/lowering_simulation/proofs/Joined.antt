@@ -1,23 +1,23 @@
 -- The run on trees ends as the program means, and the one on cells as that one.
 use Rattle.std.proofs.Common.{◌≡◌, ◌≢◌, ℕ, List, length, map, subst}
 use Rattle.std.specs.Prelude.{take}
-use Rattle.fip_language.specs.Meaning.{Answer, Stuck}
-use Rattle.fip_language.specs.Values.{Values}
-use Rattle.fip_trees.specs.Tree.{Program}
-use Rattle.type_check.specs.Typing.{IsFilled}
+use Rattle.tree_refinement.specs.fip_language.Meaning.{Answer, Stuck}
+use Rattle.tree_refinement.specs.fip_language.Values.{Values}
+use Rattle.lowering_relation.specs.fip_trees.Tree.{Program}
+use Rattle.type_safety.specs.type_check.Typing.{IsFilled}
 use Rattle.type_safety.specs.Formed.{IsFormed}
-use Rattle.instance_semantics.specs.Meaning.{flat_meaning}
-use Rattle.machine_semantics.specs.Steps.{Kinds}
-use Rattle.machine_semantics.specs.States.{State}
-use Rattle.code_rules.specs.Codes.{PlainCode, params}
-use Rattle.fip_language.specs.Table.{HaveTypes}
+use Rattle.lowering_relation.specs.instance_semantics.Meaning.{flat_meaning}
+use Rattle.lowering_relation.specs.machine_semantics.Steps.{Kinds}
+use Rattle.lowering_relation.specs.machine_semantics.States.{State}
+use Rattle.lowering_relation.specs.code_rules.Codes.{PlainCode, params}
+use Rattle.tree_refinement.specs.fip_language.Table.{HaveTypes}
 use Rattle.lowering_relation.specs.LoweredFunctions.{AreLowered}
 use Rattle.lowering_simulation.specs.Distinct.{AreDistinct}
 use Rattle.lowering_simulation.specs.Guarded.{type_of, Takes}
 use Rattle.lowering_simulation.specs.Lowered.{all_instrs}
 use Rattle.lowering_simulation.proofs.Guards.{typed_runs_end}
-use Rattle.separation.specs.Codes.{run_code}
-use Rattle.separation.specs.Starts.{IsStart}
+use Rattle.tree_refinement.specs.separation.Codes.{run_code}
+use Rattle.tree_refinement.specs.separation.Starts.{IsStart}
 use Rattle.tree_refinement.specs.Runs.{BeginsWith}
 use Rattle.tree_refinement.proofs.Values.{words_types}
 use Rattle.tree_refinement.proofs.Running.{cells_end}

@@ -1,11 +1,11 @@
 -- What the lowering of an expression, or of a block, keeps of what is known.
 use Rattle.std.proofs.Common.{◌⊎◌, inl, inr, ℕ, suc, ◌<◌, ◌≤◌, ◌+◌, List, [], ◌∷◌, Bool, true, false, refl, sym, subst, ⊎_elim, arith, slice_set, length, get_or}
 use Rattle.std.specs.Prelude.{if◌then◌else◌}
-use Rattle.fip_language.specs.Every.{Every, Among}
-use Rattle.fip_base.specs.declared.plain.Param.{Param}
-use Rattle.fip_trees.specs.declared.program.Binder.{Binder}
-use Rattle.fip_trees.specs.Tree.{Expression, Give, Tuple, Operation, Call, Match, Nested, Block, Last, Let}
-use Rattle.cell_code.specs.declared.code.Instr.{Instr}
+use Rattle.tree_refinement.specs.fip_language.Every.{Every, Among}
+use Rattle.tree_refinement.specs.fip_base.declared.plain.Param.{Param}
+use Rattle.lowering_relation.specs.fip_trees.declared.program.Binder.{Binder}
+use Rattle.lowering_relation.specs.fip_trees.Tree.{Expression, Give, Tuple, Operation, Call, Match, Nested, Block, Last, Let}
+use Rattle.tree_refinement.specs.cell_code.declared.code.Instr.{Instr}
 use Rattle.lowering_relation.specs.Tidy.{Fixed, Tidy, Unknown}
 use Rattle.lowering_relation.specs.declared.held.Held.{Held}
 use Rattle.lowering_relation.specs.declared.held.Held.TheVariants as H

@@ -1,14 +1,14 @@
 -- From one state a run comes to another, or to an answer: it ends as it would from there, and its peak is the higher of
 -- that from there and of the states between. No steps are counted.
 use Rattle.std.proofs.Common.{◌≡◌, ℕ, zero, suc, ◌+◌, List, length, Option, Some, None, refl, sym, ap, ap₂, ◌∙◌, subst, arith}
-use Rattle.fip_language.specs.Values.{Value, Values}
-use Rattle.fip_language.specs.Meaning.{Answer, Gives, Trap, Out, Deep, Stuck, Peak, no_peak, higher, ends, after, Run as Evaluation, go_on, then_with, with_value, with_values}
-use Rattle.cell_code.specs.declared.code.Instr.{Instr}
-use Rattle.machine_semantics.specs.Codes.{PlainCode, instr_at}
-use Rattle.tree_semantics.specs.States.{Frame, State, Next, Went, Entered, Gave, Trapped, TooDeep, Halted}
-use Rattle.tree_semantics.specs.Steps.{act, act_at, next}
-use Rattle.tree_semantics.specs.Runs as T
-use Rattle.tree_semantics.specs.Runs.{Going, Over, comes}
+use Rattle.tree_refinement.specs.fip_language.Values.{Value, Values}
+use Rattle.tree_refinement.specs.fip_language.Meaning.{Answer, Gives, Trap, Out, Deep, Stuck, Peak, no_peak, higher, ends, after, Run as Evaluation, go_on, then_with, with_value, with_values}
+use Rattle.tree_refinement.specs.cell_code.declared.code.Instr.{Instr}
+use Rattle.lowering_relation.specs.machine_semantics.Codes.{PlainCode, instr_at}
+use Rattle.lowering_relation.specs.tree_semantics.States.{Frame, State, Next, Went, Entered, Gave, Trapped, TooDeep, Halted}
+use Rattle.lowering_relation.specs.tree_semantics.Steps.{act, act_at, next}
+use Rattle.lowering_relation.specs.tree_semantics.Runs as T
+use Rattle.lowering_relation.specs.tree_semantics.Runs.{Going, Over, comes}
 use Rattle.lowering_simulation.specs.RunEnds.{RunsTo, words_of_all, height, highest}
 
 -- ---- peaks

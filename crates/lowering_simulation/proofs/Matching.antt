@@ -2,12 +2,12 @@
 use Rattle.std.proofs.Common.{◌≡◌, ◌⊎◌, inl, inr, refl, sym, ap, ◌∙◌, ⊎_elim, ℕ, List, [], ◌∷◌, ◌++◌, Option, Some, None, Bool, true, false}
 use Rattle.std.specs.Prelude.{◌==◌, if◌then◌else◌, nat_eq}
 use Rattle.std.proofs.lemmas.Bool.{eqb-true, eqb-false}
-use Rattle.fip_language.specs.Values.{Value, Int, Node, Values, End, More}
-use Rattle.fip_language.specs.Every.{Among}
-use Rattle.fip_language.specs.Matching.{Binding, same_int, both}
-use Rattle.fip_language.specs.Meaning.{Environment, bind, bind_matched}
-use Rattle.fip_trees.specs.Tree.{Pattern, BinderPattern, LiteralPattern, ConstructorPattern, Patterns, NoPatterns, MorePatterns}
-use Rattle.instance_semantics.specs.Matching.{matching, matching_all}
+use Rattle.tree_refinement.specs.fip_language.Values.{Value, Int, Node, Values, End, More}
+use Rattle.tree_refinement.specs.fip_language.Every.{Among}
+use Rattle.tree_refinement.specs.fip_language.Matching.{Binding, same_int, both}
+use Rattle.tree_refinement.specs.fip_language.Meaning.{Environment, bind, bind_matched}
+use Rattle.lowering_relation.specs.fip_trees.Tree.{Pattern, BinderPattern, LiteralPattern, ConstructorPattern, Patterns, NoPatterns, MorePatterns}
+use Rattle.lowering_relation.specs.instance_semantics.Matching.{matching, matching_all}
 use Rattle.lowering_relation.specs.Choosing.{binders_of}
 use Rattle.lowering_simulation.specs.Distinct.{in_pattern, in_patterns}
 use Rattle.lowering_relation.proofs.LoweredLists.{same_some}

@@ -2,12 +2,12 @@
 use Rattle.std.proofs.Common.{◌≡◌, ◌⊎◌, inl, inr, ℕ, List, [], ◌∷◌, Option, Some, None, refl, sym, ap, ◌∙◌, subst, ⊎_elim, slice_get, slice_set}
 use Rattle.std.specs.Prelude.{◌==◌}
 use Rattle.std.proofs.lemmas.Bool.{eqb-true, eqb-false, cond_both}
-use Rattle.fip_language.specs.Values.{Value, Values, End, More}
-use Rattle.fip_language.specs.Every.{Among}
-use Rattle.fip_language.specs.Meaning.{Environment, bind}
-use Rattle.fip_trees.specs.declared.program.Binder.{Binder}
-use Rattle.instance_semantics.specs.Meaning.{bind_binders}
-use Rattle.tree_semantics.specs.Contents.{Contents, read_all}
+use Rattle.tree_refinement.specs.fip_language.Values.{Value, Values, End, More}
+use Rattle.tree_refinement.specs.fip_language.Every.{Among}
+use Rattle.tree_refinement.specs.fip_language.Meaning.{Environment, bind}
+use Rattle.lowering_relation.specs.fip_trees.declared.program.Binder.{Binder}
+use Rattle.lowering_relation.specs.instance_semantics.Meaning.{bind_binders}
+use Rattle.lowering_relation.specs.tree_semantics.Contents.{Contents, read_all}
 use Rattle.lowering_relation.specs.Tidy.{Fixed}
 use Rattle.lowering_relation.specs.Known.{Known, joined, register_of, named}
 use Rattle.lowering_relation.specs.LoweredBodies.{all_named, with_names}

@@ -1,16 +1,16 @@
 -- The patterns of a typed program's matches are of the matches' types.
 use Rattle.std.proofs.Common.{◌≡◌, refl, sym, ap, ◌∙◌, subst, ℕ, zero, suc, ◌<◌, arith, Bool, true, List, [], ◌∷◌, ◌++◌, length, map, Option, Some, slice_get}
-use Rattle.fip_language.specs.Every.{Every}
-use Rattle.fip_language.specs.Table.{Shape, Table, shapes, constructors}
-use Rattle.fip_trees.specs.Tree.{Pattern, BinderPattern, LiteralPattern, ConstructorPattern, Patterns, NoPatterns, MorePatterns, Expression, Give, Tuple, Operation, Call, Match, Nested, Block, Last, Let, Clauses, NoClauses, MoreClauses, Instance, Program}
-use Rattle.type_check.specs.Binders.{all_annotated, entries}
-use Rattle.type_check.specs.Scope.{Scope}
-use Rattle.type_check.specs.World.{World, world, fields_of}
-use Rattle.type_check.specs.Typing.{bound_by, Types, TypesBlock, TypesClauses, IsPattern, ArePatterns, parameter_scope, AllTyped, IsFilled}
+use Rattle.tree_refinement.specs.fip_language.Every.{Every}
+use Rattle.tree_refinement.specs.fip_language.Table.{Shape, Table, shapes, constructors}
+use Rattle.lowering_relation.specs.fip_trees.Tree.{Pattern, BinderPattern, LiteralPattern, ConstructorPattern, Patterns, NoPatterns, MorePatterns, Expression, Give, Tuple, Operation, Call, Match, Nested, Block, Last, Let, Clauses, NoClauses, MoreClauses, Instance, Program}
+use Rattle.type_safety.specs.type_check.Binders.{all_annotated, entries}
+use Rattle.type_safety.specs.type_check.Scope.{Scope}
+use Rattle.type_safety.specs.type_check.World.{World, world, fields_of}
+use Rattle.type_safety.specs.type_check.Typing.{bound_by, Types, TypesBlock, TypesClauses, IsPattern, ArePatterns, parameter_scope, AllTyped, IsFilled}
 use Rattle.type_safety.proofs.Scopes.{fields_are}
-use Rattle.match_knowledge.specs.declared.heads.Head.TheVariants.{Number, Tag}
-use Rattle.match_knowledge.specs.ValueHeads.{IsHead}
-use Rattle.match_knowledge.specs.Patterns as M
+use Rattle.lowering_relation.specs.match_knowledge.declared.heads.Head.TheVariants.{Number, Tag}
+use Rattle.lowering_relation.specs.match_knowledge.ValueHeads.{IsHead}
+use Rattle.lowering_relation.specs.match_knowledge.Patterns as M
 use Rattle.lowering_relation.specs.Rows.{row_of, rows_of}
 use Rattle.lowering_relation.specs.WellMatched.{WellMatched, WellMatchedBlock, WellMatchedClauses, IsWellMatched, FormedPattern, FormedPatterns, PatternsFormed, PatternsFormedBlock, PatternsFormedClauses, ArePatternsFormed}
 

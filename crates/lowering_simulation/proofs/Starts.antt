@@ -2,13 +2,13 @@
 use Rattle.std.proofs.Common.{◌≡◌, ℕ, zero, suc, ◌+◌, List, [], ◌∷◌, ◌++◌, Option, Some, None, Bool, true, false, refl, sym, ap, ◌∙◌, subst, arith, slice_get, length, map, replicate}
 use Rattle.std.specs.Prelude.{option_map, ◌==◌, ◌&&◌, not, if◌then◌else◌}
 use Rattle.std.proofs.lemmas.Option.{slice_get-map}
-use Rattle.fip_language.specs.Values.{Value, Values, End, More}
-use Rattle.fip_language.specs.Meaning.{Environment, nothing_bound}
-use Rattle.fip_base.specs.declared.plain.Param.{Param}
-use Rattle.fip_trees.specs.declared.program.Binder.{Binder}
-use Rattle.fip_trees.specs.Tree.{Instance}
-use Rattle.instance_semantics.specs.Meaning.{bind_binders}
-use Rattle.tree_semantics.specs.Contents.{Contents, value_at}
+use Rattle.tree_refinement.specs.fip_language.Values.{Value, Values, End, More}
+use Rattle.tree_refinement.specs.fip_language.Meaning.{Environment, nothing_bound}
+use Rattle.tree_refinement.specs.fip_base.declared.plain.Param.{Param}
+use Rattle.lowering_relation.specs.fip_trees.declared.program.Binder.{Binder}
+use Rattle.lowering_relation.specs.fip_trees.Tree.{Instance}
+use Rattle.lowering_relation.specs.instance_semantics.Meaning.{bind_binders}
+use Rattle.lowering_relation.specs.tree_semantics.Contents.{Contents, value_at}
 use Rattle.lowering_relation.specs.Choosing.{FewerCredits}
 use Rattle.lowering_relation.specs.Tidy.{NotIn, Once, Below, Fixed}
 use Rattle.lowering_relation.specs.declared.held.Held.TheVariants as H

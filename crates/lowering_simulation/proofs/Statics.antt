@@ -1,9 +1,9 @@
 -- What a step of lowering keeps of what is known: registers that are fixed stay so, since only new ones and those of
 -- credits are written.
 use Rattle.std.proofs.Common.{◌≡◌, inl, inr, ℕ, ◌≤◌, List, [], ◌∷◌, Option, Some, None, Bool, true, false, refl, sym, ap, ◌∙◌, subst, arith, slice_set, length}
-use Rattle.fip_language.specs.Every.{Every, Among}
-use Rattle.fip_trees.specs.Tree.{Argument, Variable, Literal, Constructor, Arguments, NoArguments, MoreArguments}
-use Rattle.cell_code.specs.declared.code.Instr.{Instr}
+use Rattle.tree_refinement.specs.fip_language.Every.{Every, Among}
+use Rattle.lowering_relation.specs.fip_trees.Tree.{Argument, Variable, Literal, Constructor, Arguments, NoArguments, MoreArguments}
+use Rattle.tree_refinement.specs.cell_code.declared.code.Instr.{Instr}
 use Rattle.lowering_relation.specs.Choosing.{FewerCredits}
 use Rattle.lowering_relation.specs.Tidy.{Fixed, Tidy, Unknown}
 use Rattle.lowering_relation.specs.declared.held.Held.{Held}

@@ -3,19 +3,19 @@ use Rattle.std.proofs.Common.{◌≡◌, ◌≢◌, ℕ, zero, suc, ◌≤◌, �
 use Rattle.std.specs.Prelude.{option_map, if◌then◌else◌, length}
 use Rattle.std.proofs.lemmas.Option.{slice_get-map}
 use Rattle.std.proofs.lemmas.Bool.{cases_lt}
-use Rattle.fip_language.specs.Values.{Values, End, More}
-use Rattle.fip_language.specs.Every.{Every}
-use Rattle.fip_language.specs.Meaning.{Answer, Gives, Trap, Out, Deep, Stuck, Peak, no_peak, higher, ends, nothing_bound, Run as Evaluation}
-use Rattle.fip_trees.specs.Tree.{Instance, Program}
-use Rattle.cell_code.specs.declared.code.Instr.{Instr}
-use Rattle.machine_semantics.specs.Codes.{PlainFunction, PlainCode, function_at, instr_in}
-use Rattle.instance_semantics.specs.Registers.{frame_words}
-use Rattle.instance_semantics.specs.Meaning.{bind_binders, body_run, eval_block, calls_of, flat_meaning}
-use Rattle.tree_semantics.specs.Contents.{Contents, first_contents}
-use Rattle.tree_semantics.specs.States.{Frame, State}
-use Rattle.tree_semantics.specs.Steps.{returned}
-use Rattle.tree_semantics.specs.Runs.{Run, Over, begun, later, after, entry}
-use Rattle.tree_semantics.proofs.Stays.{over_stays}
+use Rattle.tree_refinement.specs.fip_language.Values.{Values, End, More}
+use Rattle.tree_refinement.specs.fip_language.Every.{Every}
+use Rattle.tree_refinement.specs.fip_language.Meaning.{Answer, Gives, Trap, Out, Deep, Stuck, Peak, no_peak, higher, ends, nothing_bound, Run as Evaluation}
+use Rattle.lowering_relation.specs.fip_trees.Tree.{Instance, Program}
+use Rattle.tree_refinement.specs.cell_code.declared.code.Instr.{Instr}
+use Rattle.lowering_relation.specs.machine_semantics.Codes.{PlainFunction, PlainCode, function_at, instr_in}
+use Rattle.lowering_relation.specs.instance_semantics.Registers.{frame_words}
+use Rattle.lowering_relation.specs.instance_semantics.Meaning.{bind_binders, body_run, eval_block, calls_of, flat_meaning}
+use Rattle.lowering_relation.specs.tree_semantics.Contents.{Contents, first_contents}
+use Rattle.lowering_relation.specs.tree_semantics.States.{Frame, State}
+use Rattle.lowering_relation.specs.tree_semantics.Steps.{returned}
+use Rattle.lowering_relation.specs.tree_semantics.Runs.{Run, Over, begun, later, after, entry}
+use Rattle.tree_refinement.proofs.tree_semantics.Stays.{over_stays}
 use Rattle.lowering_relation.specs.LoweredBodies.{Return, has_function, if_function, one_more, function_of}
 use Rattle.lowering_relation.specs.LoweredFunctions.{known_at_start, IsFunction, AreLowered}
 use Rattle.lowering_simulation.specs.Distinct.{IsDistinct, AreDistinct, in_block}

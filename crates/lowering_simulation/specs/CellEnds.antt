@@ -2,14 +2,14 @@
 -- The reversal of Cons(1, Nil) and Nil means Cons(1, Nil); with 5 calls its run ends with a word that stands for this
 -- in its last state, and 3 calls are left.
 use Rattle.std.specs.Prelude.{◌≡◌, ℕ, Some, slice_get}
-use Rattle.fip_language.specs.Meaning.{Answer}
-use Rattle.fip_trees.specs.Tree.{Instance, Program}
-use Rattle.machine_semantics.specs.Steps.{Kinds}
-use Rattle.machine_semantics.specs.States.{State}
-use Rattle.machine_semantics.specs.Runs.{End, Ends}
-use Rattle.code_rules.specs.Codes.{PlainCode, params, results}
+use Rattle.tree_refinement.specs.fip_language.Meaning.{Answer}
+use Rattle.lowering_relation.specs.fip_trees.Tree.{Instance, Program}
+use Rattle.lowering_relation.specs.machine_semantics.Steps.{Kinds}
+use Rattle.lowering_relation.specs.machine_semantics.States.{State}
+use Rattle.lowering_relation.specs.machine_semantics.Runs.{End, Ends}
+use Rattle.lowering_relation.specs.code_rules.Codes.{PlainCode, params, results}
 use Rattle.lowering_relation.specs.LoweredBodies.{function_of}
-use Rattle.separation.specs.Codes.{run_code}
+use Rattle.tree_refinement.specs.separation.Codes.{run_code}
 use Rattle.tree_refinement.specs.Runs.{IsSameEnd}
 
 -- The run of function n from this state, with so many calls, is over after enough steps, as this answer says: with

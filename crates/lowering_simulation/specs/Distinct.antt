@@ -2,11 +2,11 @@
 -- numbers, as far as an evaluation asks. No binder has the number of one in whose scope it stands.
 -- In `let x = f(y); let z = x; g(x, z)` x and z have different numbers, and both have others than the parameters.
 use Rattle.std.specs.Prelude.{◌≡◌, ℕ, List, [], ◌∷◌, ◌++◌, map, length}
-use Rattle.fip_language.specs.Every.{Every, Among}
-use Rattle.fip_trees.specs.declared.program.Binder.{Binder}
-use Rattle.fip_trees.specs.Tree.{Pattern, BinderPattern, LiteralPattern, ConstructorPattern, Patterns, NoPatterns}
-use Rattle.fip_trees.specs.Tree.{MorePatterns, Expression, Give, Tuple, Operation, Call, Match, Nested, Block, Last}
-use Rattle.fip_trees.specs.Tree.{Let, Clauses, NoClauses, MoreClauses, Instance, Program}
+use Rattle.tree_refinement.specs.fip_language.Every.{Every, Among}
+use Rattle.lowering_relation.specs.fip_trees.declared.program.Binder.{Binder}
+use Rattle.lowering_relation.specs.fip_trees.Tree.{Pattern, BinderPattern, LiteralPattern, ConstructorPattern, Patterns, NoPatterns}
+use Rattle.lowering_relation.specs.fip_trees.Tree.{MorePatterns, Expression, Give, Tuple, Operation, Call, Match, Nested, Block, Last}
+use Rattle.lowering_relation.specs.fip_trees.Tree.{Let, Clauses, NoClauses, MoreClauses, Instance, Program}
 
 abbrev pub number : Binder → ℕ
 number b = b.number

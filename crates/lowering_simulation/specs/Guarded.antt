@@ -2,16 +2,16 @@
 -- evaluation comes to has a value of the match's type, and each call has arguments of its parameters' types. A test of
 -- a value of another type would say nothing.
 use Rattle.std.specs.Prelude.{◌≡◌, ℕ, false, List, map, Some, slice_get}
-use Rattle.fip_language.specs.Values.{Value, Values}
-use Rattle.fip_language.specs.Table.{HasType, HaveTypes}
-use Rattle.fip_language.specs.Matching.{Binding}
-use Rattle.fip_language.specs.Meaning.{Gives, Environment, nothing_bound, bind_matched}
-use Rattle.fip_base.specs.declared.plain.Param.{Param}
-use Rattle.fip_trees.specs.Tree.{Expression, Give, Tuple, Operation, Call, Match, Nested, Block, Last, Let}
-use Rattle.fip_trees.specs.Tree.{Clauses, NoClauses, MoreClauses, Instance, Program}
-use Rattle.instance_semantics.specs.Matching.{matching}
-use Rattle.instance_semantics.specs.Registers.{frame_words}
-use Rattle.instance_semantics.specs.Meaning.{bind_binders, argument_value, argument_values, Calls, eval, calls_of}
+use Rattle.tree_refinement.specs.fip_language.Values.{Value, Values}
+use Rattle.tree_refinement.specs.fip_language.Table.{HasType, HaveTypes}
+use Rattle.tree_refinement.specs.fip_language.Matching.{Binding}
+use Rattle.tree_refinement.specs.fip_language.Meaning.{Gives, Environment, nothing_bound, bind_matched}
+use Rattle.tree_refinement.specs.fip_base.declared.plain.Param.{Param}
+use Rattle.lowering_relation.specs.fip_trees.Tree.{Expression, Give, Tuple, Operation, Call, Match, Nested, Block, Last, Let}
+use Rattle.lowering_relation.specs.fip_trees.Tree.{Clauses, NoClauses, MoreClauses, Instance, Program}
+use Rattle.lowering_relation.specs.instance_semantics.Matching.{matching}
+use Rattle.lowering_relation.specs.instance_semantics.Registers.{frame_words}
+use Rattle.lowering_relation.specs.instance_semantics.Meaning.{bind_binders, argument_value, argument_values, Calls, eval, calls_of}
 
 abbrev pub type_of : Param → ℕ
 type_of p = p.ty

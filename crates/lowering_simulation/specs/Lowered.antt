@@ -1,7 +1,7 @@
 -- It serves the proof that lowered code means what its program means: the instructions of a code, function by function.
 use Rattle.std.specs.Prelude.{List, map}
-use Rattle.cell_code.specs.declared.code.Instr.{Instr}
-use Rattle.machine_semantics.specs.Codes.{PlainFunction, PlainCode}
+use Rattle.tree_refinement.specs.cell_code.declared.code.Instr.{Instr}
+use Rattle.lowering_relation.specs.machine_semantics.Codes.{PlainFunction, PlainCode}
 
 abbrev pub instrs_of : PlainFunction → List Instr
 instrs_of f = f.instrs

@@ -1,10 +1,10 @@
 -- It serves the proof that lowered code means what its program means: how a run on trees ends, and how high its stack
 -- was: the most frames beside the entry's, and the most words of all frames, where a function's frame has so many.
 use Rattle.std.specs.Prelude.{◌≡◌, ◌+◌, ℕ, zero, suc, List, [], ◌∷◌, length}
-use Rattle.fip_language.specs.Meaning.{Answer, Peak, higher, Run as Evaluation}
-use Rattle.machine_semantics.specs.Codes.{PlainCode}
-use Rattle.tree_semantics.specs.States.{Frame, State}
-use Rattle.tree_semantics.specs.Runs.{Run, Going, Over, later, after}
+use Rattle.tree_refinement.specs.fip_language.Meaning.{Answer, Peak, higher, Run as Evaluation}
+use Rattle.lowering_relation.specs.machine_semantics.Codes.{PlainCode}
+use Rattle.lowering_relation.specs.tree_semantics.States.{Frame, State}
+use Rattle.lowering_relation.specs.tree_semantics.Runs.{Run, Going, Over, later, after}
 
 -- after enough steps it is over, with this answer
 pub record EndsIn (code : PlainCode) (r : Run) (a : Answer) : Type 0 where

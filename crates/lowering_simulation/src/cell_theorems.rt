@@ -1,19 +1,19 @@
 // The law on what lowered code does to cells. It is the contract of a function that does nothing.
 ghost use Rattle.std.specs.Prelude.{◌≡◌, ◌≢◌, ℕ, List};
-ghost use Rattle.fip_language.specs.Meaning.{Answer, Stuck};
-ghost use Rattle.fip_language.specs.Values.{Values};
-ghost use Rattle.fip_trees.specs.Tree.{Program};
-ghost use Rattle.type_check.specs.Typing.{IsFilled};
+ghost use Rattle.tree_refinement.specs.fip_language.Meaning.{Answer, Stuck};
+ghost use Rattle.tree_refinement.specs.fip_language.Values.{Values};
+ghost use Rattle.lowering_relation.specs.fip_trees.Tree.{Program};
+ghost use Rattle.type_safety.specs.type_check.Typing.{IsFilled};
 ghost use Rattle.type_safety.specs.Formed.{IsFormed};
-ghost use Rattle.instance_semantics.specs.Meaning.{flat_meaning};
-ghost use Rattle.machine_semantics.specs.Steps.{Kinds};
-ghost use Rattle.machine_semantics.specs.States.{State};
-ghost use Rattle.code_rules.specs.Codes.{PlainCode};
+ghost use Rattle.lowering_relation.specs.instance_semantics.Meaning.{flat_meaning};
+ghost use Rattle.lowering_relation.specs.machine_semantics.Steps.{Kinds};
+ghost use Rattle.lowering_relation.specs.machine_semantics.States.{State};
+ghost use Rattle.lowering_relation.specs.code_rules.Codes.{PlainCode};
 ghost use Rattle.lowering_relation.specs.LoweredFunctions.{AreLowered};
 ghost use Rattle.lowering_simulation.specs.Distinct.{AreDistinct};
 ghost use Rattle.lowering_simulation.specs.Lowered.{all_instrs};
-ghost use Rattle.separation.specs.Codes.{run_code};
-ghost use Rattle.separation.specs.Starts.{IsStart};
+ghost use Rattle.tree_refinement.specs.separation.Codes.{run_code};
+ghost use Rattle.tree_refinement.specs.separation.Starts.{IsStart};
 ghost use Rattle.tree_refinement.specs.Runs.{BeginsWith};
 ghost use Rattle.lowering_simulation.specs.CellEnds.{EndsAs, IsFunctionOf};
 

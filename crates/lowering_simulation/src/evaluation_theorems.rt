@@ -1,13 +1,13 @@
 // The laws on lowered code of typed programs. Each is the contract of a function that does nothing.
 ghost use Rattle.std.specs.Prelude.{◌≡◌, ◌≢◌, ℕ, Some};
-ghost use Rattle.fip_language.specs.Meaning.{Answer, Stuck};
-ghost use Rattle.fip_language.specs.Values.{Values};
-ghost use Rattle.fip_trees.specs.Tree.{Program};
-ghost use Rattle.type_check.specs.Typing.{IsFilled};
+ghost use Rattle.tree_refinement.specs.fip_language.Meaning.{Answer, Stuck};
+ghost use Rattle.tree_refinement.specs.fip_language.Values.{Values};
+ghost use Rattle.lowering_relation.specs.fip_trees.Tree.{Program};
+ghost use Rattle.type_safety.specs.type_check.Typing.{IsFilled};
 ghost use Rattle.type_safety.specs.Formed.{IsFormed};
-ghost use Rattle.machine_semantics.specs.Codes.{PlainCode};
-ghost use Rattle.instance_semantics.specs.Meaning.{flat_meaning};
-ghost use Rattle.tree_semantics.specs.Runs.{begun, entry};
+ghost use Rattle.lowering_relation.specs.machine_semantics.Codes.{PlainCode};
+ghost use Rattle.lowering_relation.specs.instance_semantics.Meaning.{flat_meaning};
+ghost use Rattle.lowering_relation.specs.tree_semantics.Runs.{begun, entry};
 ghost use Rattle.lowering_relation.specs.LoweredBodies.{function_of};
 ghost use Rattle.lowering_relation.specs.LoweredFunctions.{AreLowered};
 ghost use Rattle.lowering_simulation.specs.Distinct.{AreDistinct};

@@ -1,11 +1,11 @@
 // The laws on runs of lowered code. Each is the contract of a function that does nothing.
 ghost use Rattle.std.specs.Prelude.{◌≡◌, ◌≢◌, ℕ, suc, Some};
-ghost use Rattle.fip_language.specs.Meaning.{Answer, Stuck};
-ghost use Rattle.fip_language.specs.Values.{Values};
-ghost use Rattle.fip_trees.specs.Tree.{Program};
-ghost use Rattle.machine_semantics.specs.Codes.{PlainCode};
-ghost use Rattle.instance_semantics.specs.Meaning.{flat_meaning};
-ghost use Rattle.tree_semantics.specs.Runs.{Run, begun, entry};
+ghost use Rattle.tree_refinement.specs.fip_language.Meaning.{Answer, Stuck};
+ghost use Rattle.tree_refinement.specs.fip_language.Values.{Values};
+ghost use Rattle.lowering_relation.specs.fip_trees.Tree.{Program};
+ghost use Rattle.lowering_relation.specs.machine_semantics.Codes.{PlainCode};
+ghost use Rattle.lowering_relation.specs.instance_semantics.Meaning.{flat_meaning};
+ghost use Rattle.lowering_relation.specs.tree_semantics.Runs.{Run, begun, entry};
 ghost use Rattle.lowering_relation.specs.LoweredBodies.{function_of};
 ghost use Rattle.lowering_relation.specs.LoweredFunctions.{AreLowered};
 ghost use Rattle.lowering_simulation.specs.Distinct.{AreDistinct};

@@ -1,22 +1,22 @@
 -- Arguments are computed, by induction on them.
 use Rattle.std.proofs.Common.{◌≡◌, inl, inr, ℕ, suc, ◌+◌, ◌≤◌, Bool, true, false, List, [], ◌∷◌, length, Some, None, refl, sym, ap, ◌∙◌, subst, subst₂, arith, if◌then◌else◌}
 use Rattle.std.proofs.lemmas.Option.{none-some}
-use Rattle.fip_base.specs.TableView.{fields_at}
-use Rattle.fip_language.specs.Table.{Table, constructors}
-use Rattle.fip_trees.specs.Tree.{Argument, Variable, Literal, Constructor, Arguments, NoArguments, MoreArguments}
-use Rattle.fip_rules.specs.Marks.{Mark}
-use Rattle.fip_rules.specs.Shapes.{known}
-use Rattle.type_check.specs.Scope.{Scope, of_binder}
-use Rattle.type_check.specs.World as W
-use Rattle.type_check.specs.Typing.{HasType, HaveTypes}
-use Rattle.ownership_calculus.specs.Terms as C
-use Rattle.ownership_calculus.specs.Terms.{Item, Own, Credit, only, paid}
-use Rattle.ownership_calculus.specs.Rules.{Fits}
-use Rattle.ownership_calculus.specs.ByCases.{DerivesValue, DerivesValues}
-use Rattle.ownership_calculus.proofs.Fit.{fits_same, fits_sum}
-use Rattle.ownership_agreement.specs.Bodies.{Scalars, variable, value, values}
-use Rattle.code_rules.specs.Codes.{PlainCode, PlainFunction}
-use Rattle.code_rules.specs.Types.{is_scalar_type, fields}
+use Rattle.separation.specs.fip_base.TableView.{fields_at}
+use Rattle.separation.specs.fip_language.Table.{Table, constructors}
+use Rattle.lowering_relation.specs.fip_trees.Tree.{Argument, Variable, Literal, Constructor, Arguments, NoArguments, MoreArguments}
+use Rattle.derivation_making.specs.fip_rules.Marks.{Mark}
+use Rattle.derivation_making.specs.fip_rules.Shapes.{known}
+use Rattle.derivation_making.specs.type_check.Scope.{Scope, of_binder}
+use Rattle.derivation_making.specs.type_check.World as W
+use Rattle.derivation_making.specs.type_check.Typing.{HasType, HaveTypes}
+use Rattle.derivation_making.specs.ownership_calculus.Terms as C
+use Rattle.derivation_making.specs.ownership_calculus.Terms.{Item, Own, Credit, only, paid}
+use Rattle.derivation_making.specs.ownership_calculus.Rules.{Fits}
+use Rattle.derivation_making.specs.ownership_calculus.ByCases.{DerivesValue, DerivesValues}
+use Rattle.derivation_making.proofs.ownership_calculus.Fit.{fits_same, fits_sum}
+use Rattle.derivation_making.specs.ownership_agreement.Bodies.{Scalars, variable, value, values}
+use Rattle.separation.specs.code_rules.Codes.{PlainCode, PlainFunction}
+use Rattle.separation.specs.code_rules.Types.{is_scalar_type, fields}
 use Rattle.lowering_relation.specs.Known.{Known, register_of}
 use Rattle.lowering_relation.specs.Values.{Setting, is_scalar, BuiltAt, ArgumentAt, ArgumentsAt}
 use Rattle.lowering_relation.specs.Describing.{held_at}
@@ -165,7 +165,7 @@ module _ (c : PlainCode) (f : PlainFunction) (st : Setting) (wd : W.World) (fip 
         let split : Ties fip c.types s B K (λ i. d.0 i + (paid (length rs) i + X i)) e k =
         worth_split P d.0 (paid (length rs)) X e k (λ i. subst (Fits fip (P i)) (swap (paid (length rs) i) (d.0 i)) (subst (λ z. Fits fip (P i) (paid z i + d.0 i)) size (d.1 i))) ties in
         let parts = arguments_value d.0 (λ i. paid (length rs) i + X i) e at k as' rs mid mk true (fields c.types t' n) h.3 fields_typed d.2 (λ u y. let z = kept u y in omega (arith, z)) split (quiet_front f at mid end (told c k) built.place quiet) (let z = built.next in omega (arith, z, room)) wide in
-        let whole = built_value X e mid mk t' n rs r end l h.4 (shares.scalars t' (subst (λ t. Rattle.code_rules.specs.Types.is_type c.types t ≡ true) (sym typed.0) (shares.made b u t typed.1))) parts.ties parts.hold kept
+        let whole = built_value X e mid mk t' n rs r end l h.4 (shares.scalars t' (subst (λ t. Rattle.separation.specs.code_rules.Types.is_type c.types t ≡ true) (sym typed.0) (shares.made b u t typed.1))) parts.ties parts.hold kept
         (quiet_back f at mid end (told c k) (told c mk) parts.grows quiet parts.still) (let z = parts.width in omega (arith, z, room)) (parts.width ∙ wide) in
         subst (λ t. Comes X e at k r t end l) typed.0
         (computed_then c f fip s B K (λ i. paid (length rs) i + X i) X e at k rs (fields c.types t' n) mid mk (r ∷ []) (t' ∷ []) end l (λ y. omega arith) parts whole)

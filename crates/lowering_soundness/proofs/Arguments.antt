@@ -2,14 +2,14 @@
 -- still owned and with the registers of the arguments.
 use Rattle.std.proofs.Common.{◌≡◌, ◌⊎◌, inl, inr, ℕ, zero, suc, ◌+◌, ◌<◌, ◌≤◌, Bool, true, false, List, [], ◌∷◌, length, Some, refl, sym, ap, ◌∙◌, subst, true≢false, arith, slice_get, if◌then◌else◌, ◌==◌}
 use Rattle.std.proofs.lemmas.Option.{none-some}
-use Rattle.fip_language.specs.Table.{Table, Shape, is_scalar, all_bare, no_fields, shapes}
-use Rattle.fip_base.specs.TableView.{fields_at}
-use Rattle.type_check.specs.Scope.{Scope}
-use Rattle.ownership_calculus.specs.Terms.{Item, Own}
-use Rattle.cell_code.specs.declared.kind.Kind.{Kind}
-use Rattle.code_rules.specs.Codes.{PlainCode, PlainFunction, label_at}
-use Rattle.code_rules.specs.Types.{is_type, is_scalar_type, fields, fields_of}
-use Rattle.separation_kinds.proofs.Basics.{chosen, refused, or_not, itself, both, below_is}
+use Rattle.separation.specs.fip_language.Table.{Table, Shape, is_scalar, all_bare, no_fields, shapes}
+use Rattle.separation.specs.fip_base.TableView.{fields_at}
+use Rattle.derivation_making.specs.type_check.Scope.{Scope}
+use Rattle.derivation_making.specs.ownership_calculus.Terms.{Item, Own}
+use Rattle.separation.specs.cell_code.declared.kind.Kind.{Kind}
+use Rattle.separation.specs.code_rules.Codes.{PlainCode, PlainFunction, label_at}
+use Rattle.separation.specs.code_rules.Types.{is_type, is_scalar_type, fields, fields_of}
+use Rattle.separation.proofs.separation_kinds.Basics.{chosen, refused, or_not, itself, both, below_is}
 use Rattle.lowering_relation.specs.declared.held.Held.TheVariants as H
 use Rattle.lowering_relation.specs.Known.{Known}
 use Rattle.lowering_relation.specs.Values.{built_if}

@@ -2,33 +2,33 @@
 use Rattle.std.proofs.Common.{◌≡◌, ◌⊎◌, inl, inr, ℕ, zero, suc, ◌+◌, ◌-◌, ◌<◌, ◌≤◌, Bool, true, false, ◌&&◌, ◌||◌, not, List, [], ◌∷◌, ◌++◌, length, map, slice_get, Option, Some, None, refl, sym, ap, ◌∙◌, subst, true≢false, arith, if◌then◌else◌, ◌==◌}
 use Rattle.std.specs.Prelude.{max}
 use Rattle.std.proofs.lemmas.Bool.Decides.{nat_tests}
-use Rattle.fip_base.specs.declared.plain.Param.{Param}
-use Rattle.fip_trees.specs.declared.program.Binder.{Binder}
-use Rattle.fip_trees.specs.Sizes as Z
-use Rattle.fip_trees.specs.Sizes.{greater}
-use Rattle.fip_trees.specs.Tree.{Argument, Variable, Literal, Constructor, Arguments, NoArguments, MoreArguments, count}
-use Rattle.fip_trees.specs.Tree.{Pattern, Clauses, NoClauses, MoreClauses, Instance}
-use Rattle.fip_trees.specs.Tree.{Expression, Give, Tuple, Operation, Call, Match, Nested, Block, Last, Let}
-use Rattle.fip_rules.specs.Marks.{Mark}
-use Rattle.fip_rules.specs.World as R
-use Rattle.fip_rules.specs.World.{lends, lends_to, lends_parameter}
-use Rattle.fip_rules.specs.Shapes.{Names, behind, shape, binders, takes}
-use Rattle.type_check.specs.Binders.{all_annotated, entries}
-use Rattle.type_check.specs.Scope.{Scope, of_binder}
-use Rattle.type_check.specs.World as W
-use Rattle.type_check.specs.Typing.{HasType, HaveTypes, Types, TypesBlock, TypesClauses, Bind, IsPattern, bound_by}
-use Rattle.credit_check.specs.Needs.{made, made_all, asked, given}
-use Rattle.ownership_calculus.specs.Terms.{Own, Credit, has, size, paid}
-use Rattle.ownership_calculus.specs.Terms as C
-use Rattle.ownership_calculus.specs.Clean.{used_up, all_used_up, lent_used_up, passed_used_up, outside, asks, asks_lent, asks_taken}
-use Rattle.ownership_agreement.specs.Bodies.{Scalars, variable, value, values, lent_value, credits_of, passed, variables, entering, inside, past_clause, matched, nodes, term, term_block, clauses}
-use Rattle.ownership_agreement.proofs.Basics.{not_owned}
-use Rattle.ownership_agreement.proofs.Amounts.{max_greater, header_given, gives, gives_given, asks_of, asks_last, asks_more}
+use Rattle.separation.specs.fip_base.declared.plain.Param.{Param}
+use Rattle.lowering_relation.specs.fip_trees.declared.program.Binder.{Binder}
+use Rattle.lowering_relation.specs.fip_trees.Sizes as Z
+use Rattle.lowering_relation.specs.fip_trees.Sizes.{greater}
+use Rattle.lowering_relation.specs.fip_trees.Tree.{Argument, Variable, Literal, Constructor, Arguments, NoArguments, MoreArguments, count}
+use Rattle.lowering_relation.specs.fip_trees.Tree.{Pattern, Clauses, NoClauses, MoreClauses, Instance}
+use Rattle.lowering_relation.specs.fip_trees.Tree.{Expression, Give, Tuple, Operation, Call, Match, Nested, Block, Last, Let}
+use Rattle.derivation_making.specs.fip_rules.Marks.{Mark}
+use Rattle.derivation_making.specs.fip_rules.World as R
+use Rattle.derivation_making.specs.fip_rules.World.{lends, lends_to, lends_parameter}
+use Rattle.derivation_making.specs.fip_rules.Shapes.{Names, behind, shape, binders, takes}
+use Rattle.derivation_making.specs.type_check.Binders.{all_annotated, entries}
+use Rattle.derivation_making.specs.type_check.Scope.{Scope, of_binder}
+use Rattle.derivation_making.specs.type_check.World as W
+use Rattle.derivation_making.specs.type_check.Typing.{HasType, HaveTypes, Types, TypesBlock, TypesClauses, Bind, IsPattern, bound_by}
+use Rattle.lowering_relation.specs.credit_check.Needs.{made, made_all, asked, given}
+use Rattle.derivation_making.specs.ownership_calculus.Terms.{Own, Credit, has, size, paid}
+use Rattle.derivation_making.specs.ownership_calculus.Terms as C
+use Rattle.derivation_making.specs.ownership_calculus.Clean.{used_up, all_used_up, lent_used_up, passed_used_up, outside, asks, asks_lent, asks_taken}
+use Rattle.derivation_making.specs.ownership_agreement.Bodies.{Scalars, variable, value, values, lent_value, credits_of, passed, variables, entering, inside, past_clause, matched, nodes, term, term_block, clauses}
+use Rattle.derivation_making.proofs.ownership_agreement.Basics.{not_owned}
+use Rattle.derivation_making.proofs.ownership_agreement.Amounts.{max_greater, header_given, gives, gives_given, asks_of, asks_last, asks_more}
 use Rattle.derivation_making.proofs.Linking.{next_inside}
 use Rattle.derivation_making.proofs.Reading.{next_behind, next_past}
-use Rattle.code_rules.specs.Codes.{PlainCode}
-use Rattle.code_rules.specs.Types.{is_type, is_scalar_type}
-use Rattle.separation_kinds.proofs.Basics.{refused, or_not, equal, itself}
+use Rattle.separation.specs.code_rules.Codes.{PlainCode}
+use Rattle.separation.specs.code_rules.Types.{is_type, is_scalar_type}
+use Rattle.separation.proofs.separation_kinds.Basics.{refused, or_not, equal, itself}
 use Rattle.lowering_relation.specs.Values.{Setting, is_scalar}
 use Rattle.lowering_relation.specs.Uses.{uses, uses_all, is_taken, takes_of, uses_passed, used_in, used_in_block, used_in_clauses, gives_credits, need, need_block, need_clauses}
 use Rattle.lowering_soundness.specs.Laid.{Shares}

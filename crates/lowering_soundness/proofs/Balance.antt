@@ -1,10 +1,10 @@
 -- What registers own, while trees are used up and registers are written.
 use Rattle.std.proofs.Common.{◌≡◌, ◌⊎◌, inl, inr, ℕ, suc, ◌+◌, ◌≤◌, Bool, true, false, ◌||◌, List, [], ◌∷◌, Option, Some, None, refl, sym, ap, ◌∙◌, subst, true≢false, arith, if◌then◌else◌, ◌==◌}
-use Rattle.fip_language.specs.Table.{Table}
-use Rattle.ownership_calculus.specs.Rules.{Fits}
-use Rattle.ownership_calculus.proofs.Fit.{fits_same}
-use Rattle.code_rules.specs.Types.{is_scalar_type}
-use Rattle.separation_kinds.proofs.Basics.{pick, chosen, refused, or_not, equal, equal_is, unequal, unequal_is, itself}
+use Rattle.separation.specs.fip_language.Table.{Table}
+use Rattle.derivation_making.specs.ownership_calculus.Rules.{Fits}
+use Rattle.derivation_making.proofs.ownership_calculus.Fit.{fits_same}
+use Rattle.separation.specs.code_rules.Types.{is_scalar_type}
+use Rattle.separation.proofs.separation_kinds.Basics.{pick, chosen, refused, or_not, equal, equal_is, unequal, unequal_is, itself}
 use Rattle.lowering_relation.specs.declared.held.Held.{Held}
 use Rattle.lowering_relation.specs.declared.held.Held.TheVariants as H
 use Rattle.lowering_relation.specs.Known.{lent_by, without}

@@ -1,10 +1,10 @@
 -- Constructors that were matched are used up, one after another: all else is as it was.
 use Rattle.std.proofs.Common.{◌≡◌, ◌⊎◌, inl, inr, ℕ, zero, suc, ◌+◌, ◌≤◌, Bool, true, false, List, [], ◌∷◌, length, refl, sym, ap, ◌∙◌, subst, subst₂, true≢false, arith, if◌then◌else◌, ◌==◌}
-use Rattle.type_check.specs.Scope.{Scope}
-use Rattle.ownership_calculus.specs.Terms.{Item}
-use Rattle.cell_code.specs.declared.code.Instr.TheVariants as I
-use Rattle.code_rules.specs.Codes.{PlainCode, PlainFunction}
-use Rattle.separation_kinds.proofs.Basics.{chosen, refused, or_not, equal}
+use Rattle.derivation_making.specs.type_check.Scope.{Scope}
+use Rattle.derivation_making.specs.ownership_calculus.Terms.{Item}
+use Rattle.separation.specs.cell_code.declared.code.Instr.TheVariants as I
+use Rattle.separation.specs.code_rules.Codes.{PlainCode, PlainFunction}
+use Rattle.separation.proofs.separation_kinds.Basics.{chosen, refused, or_not, equal}
 use Rattle.lowering_relation.specs.declared.held.Held.{Held}
 use Rattle.lowering_relation.specs.declared.held.Held.TheVariants as H
 use Rattle.lowering_relation.specs.Known.{Known, holding}
@@ -78,7 +78,7 @@ barely_keeps s X k l x names credits = keeps_held s X k l (λ r m. by r m (x r))
     by r m (inr e) = absurd (bare_stayed (owners k.names (own X)) r (held_at k.held r) e.0 m)
 
 -- values are no such constructors
-pub barely_hold : (w : Rattle.fip_language.specs.Table.Table) (g h : Holding) (rs ts : List ℕ) → Barely g h → AllHold w g rs ts → AllHold w h rs ts
+pub barely_hold : (w : Rattle.separation.specs.fip_language.Table.Table) (g h : Holding) (rs ts : List ℕ) → Barely g h → AllHold w g rs ts → AllHold w h rs ts
 barely_hold w g h [] [] x all = tt
 barely_hold w g h [] (t ∷ ts) x all = absurd all
 barely_hold w g h (r ∷ rs) [] x all = absurd all

@@ -1,31 +1,31 @@
 -- Expressions and blocks: their instructions keep the rules, and what is known behind them goes with the variables.
 use Rattle.std.proofs.Common.{◌≡◌, inl, inr, ℕ, suc, ◌+◌, ◌-◌, ◌<◌, ◌≤◌, Bool, true, false, ◌||◌, ◌&&◌, not, true≢false, slice_get, List, [], ◌∷◌, ◌++◌, length, map, Option, Some, refl, sym, ap, ◌∙◌, subst, arith, if◌then◌else◌}
-use Rattle.fip_language.specs.Every.{Among}
-use Rattle.fip_trees.specs.declared.program.Binder.{Binder}
-use Rattle.fip_trees.specs.Tree.{Argument, Variable, Literal, Constructor, NoArguments, MoreArguments, Pattern, Clauses, NoClauses, MoreClauses}
-use Rattle.cell_code.specs.declared.kind.Kind.{Kind}
-use Rattle.fip_trees.specs.Tree.{Expression, Give, Tuple, Operation, Call, Match, Nested, Block, Last, Let}
-use Rattle.fip_rules.specs.World as R
-use Rattle.fip_rules.specs.Shapes.{Names, behind, shape, binders, takes}
-use Rattle.type_check.specs.Binders.{all_annotated, entries}
-use Rattle.type_check.specs.Scope.{Scope, of_binder}
-use Rattle.type_check.specs.World as W
-use Rattle.type_check.specs.Typing.{Types, TypesBlock, TypesClauses, Bind, IsPattern, bound_by}
-use Rattle.ownership_calculus.specs.Terms.{Item, Own, Credit, has, Term}
-use Rattle.ownership_calculus.proofs.Counts.{asks_le}
-use Rattle.ownership_calculus.specs.Terms as C
-use Rattle.ownership_calculus.specs.Rules.{Fits, lending}
-use Rattle.ownership_calculus.specs.Rules as O
-use Rattle.ownership_calculus.specs.ByCases.{Derives, Opens}
+use Rattle.separation.specs.fip_language.Every.{Among}
+use Rattle.lowering_relation.specs.fip_trees.declared.program.Binder.{Binder}
+use Rattle.lowering_relation.specs.fip_trees.Tree.{Argument, Variable, Literal, Constructor, NoArguments, MoreArguments, Pattern, Clauses, NoClauses, MoreClauses}
+use Rattle.separation.specs.cell_code.declared.kind.Kind.{Kind}
+use Rattle.lowering_relation.specs.fip_trees.Tree.{Expression, Give, Tuple, Operation, Call, Match, Nested, Block, Last, Let}
+use Rattle.derivation_making.specs.fip_rules.World as R
+use Rattle.derivation_making.specs.fip_rules.Shapes.{Names, behind, shape, binders, takes}
+use Rattle.derivation_making.specs.type_check.Binders.{all_annotated, entries}
+use Rattle.derivation_making.specs.type_check.Scope.{Scope, of_binder}
+use Rattle.derivation_making.specs.type_check.World as W
+use Rattle.derivation_making.specs.type_check.Typing.{Types, TypesBlock, TypesClauses, Bind, IsPattern, bound_by}
+use Rattle.derivation_making.specs.ownership_calculus.Terms.{Item, Own, Credit, has, Term}
+use Rattle.derivation_making.proofs.ownership_calculus.Counts.{asks_le}
+use Rattle.derivation_making.specs.ownership_calculus.Terms as C
+use Rattle.derivation_making.specs.ownership_calculus.Rules.{Fits, lending}
+use Rattle.derivation_making.specs.ownership_calculus.Rules as O
+use Rattle.derivation_making.specs.ownership_calculus.ByCases.{Derives, Opens}
 use Rattle.std.proofs.lemmas.Option.{same_Some}
-use Rattle.ownership_calculus.proofs.Fit.{fits_le, fits_same, fits_sum}
-use Rattle.ownership_agreement.specs.Bodies.{Scalars, variables, entering, inside, term, term_block, clauses, nodes, past_clause}
-use Rattle.ownership_agreement.proofs.Basics.{not_owned}
+use Rattle.derivation_making.proofs.ownership_calculus.Fit.{fits_le, fits_same, fits_sum}
+use Rattle.derivation_making.specs.ownership_agreement.Bodies.{Scalars, variables, entering, inside, term, term_block, clauses, nodes, past_clause}
+use Rattle.derivation_making.proofs.ownership_agreement.Basics.{not_owned}
 use Rattle.derivation_making.proofs.Linking.{next_inside}
 use Rattle.derivation_making.proofs.Reading.{next_behind, next_past}
-use Rattle.code_rules.specs.Codes.{PlainCode, PlainFunction}
-use Rattle.code_rules.specs.Types.{is_type, is_scalar_type}
-use Rattle.separation_kinds.proofs.Basics.{refused, or_not, less_or_not}
+use Rattle.separation.specs.code_rules.Codes.{PlainCode, PlainFunction}
+use Rattle.separation.specs.code_rules.Types.{is_type, is_scalar_type}
+use Rattle.separation.proofs.separation_kinds.Basics.{refused, or_not, less_or_not}
 use Rattle.lowering_relation.specs.Spots.{register}
 use Rattle.lowering_relation.specs.Spots as Spots
 use Rattle.lowering_relation.specs.Opening.{Roomy}
@@ -62,7 +62,7 @@ use Rattle.lowering_soundness.specs.Delivered.{Waiting, Delivered, Keeps}
 use Rattle.lowering_soundness.specs.Placed.{Placed, NoneFrom, InOrder, Numbered, NumberedBlock, NumberedClauses, AreTypes, Callees}
 use Rattle.lowering_relation.specs.LaidBodies.{NamedLaid, ExpressionLaid, BlockLaid, ClausesLaid, ClausesMeet}
 use Rattle.lowering_relation.specs.Tests.{Choice}
-use Rattle.credit_check.specs.Needs.{given}
+use Rattle.lowering_relation.specs.credit_check.Needs.{given}
 use Rattle.lowering_relation.specs.Matches.{variable_of, clause_patterns, widened, entered, MatchLaid}
 use Rattle.lowering_soundness.proofs.Chunks.{stretch_last, last_stretch}
 use Rattle.lowering_soundness.proofs.Chosen.{match_sides, match_grows, sides_grow}
@@ -159,7 +159,7 @@ module _ (c : PlainCode) (f : PlainFunction) (st : Setting) (wd : W.World) (w : 
         where
           one : (b : Bool) → has (variables w (suc m) ds) y ≡ false → has (if b then variables w (suc m) ds else m ∷ variables w (suc m) ds) y ≡ false
           one true h = h
-          one false h = ap (λ b. b || has (variables w (suc m) ds) y) (Rattle.separation_kinds.proofs.Basics.unequal_is m y (λ e. absurd (let z : ⊥ = omega (arith, e, low) in z))) ∙ h
+          one false h = ap (λ b. b || has (variables w (suc m) ds) y) (Rattle.separation.proofs.separation_kinds.Basics.unequal_is m y (λ e. absurd (let z : ⊥ = omega (arith, e, low) in z))) ∙ h
 
       fewer : (y : ℕ) → n.next + length bs ≤ y → NoneFrom n.next R → Q (Own y) ≡ 0
       fewer y low none = (let a = fits_le fip (R (Own y)) (Q (Own y)) (opens.others y (beyond y n.next bs low)) in let b = none y (omega (arith, low)) in omega (arith, a, b))
@@ -205,7 +205,7 @@ module _ (c : PlainCode) (f : PlainFunction) (st : Setting) (wd : W.World) (w : 
   pub unlent : (s : Scope) (B : ℕ → Bool) (K : ℕ → Item → ℕ) (R T : Item → ℕ) (e : ℕ → ℕ) (k : Known) → Ties fip c.types s (lending B R) (lent_in B K R) T e k → Ties fip c.types s B K T e k
   unlent s B K R T e k t =
       ties_within fip c.types s s (lending B R) B (lent_in B K R) K T e k t (λ x u h. h)
-      (λ x u h b. (ap (λ b. b || Rattle.std.specs.Prelude.nat_lt 0 (R (Own x))) b, sym (Rattle.separation_kinds.proofs.Basics.chosen (B x) (K x) R b)))
+      (λ x u h b. (ap (λ b. b || Rattle.std.specs.Prelude.nat_lt 0 (R (Own x))) b, sym (Rattle.separation.proofs.separation_kinds.Basics.chosen (B x) (K x) R b)))
 
   -- ---- what is behind an expression
 
@@ -482,7 +482,7 @@ module _ (c : PlainCode) (f : PlainFunction) (st : Setting) (wd : W.World) (w : 
   and_left false b e = absurd (true≢false (sym e))
 
   variable_uses : (a : Argument) (v : Option ℕ) (x : ℕ) → variable_of a ≡ Some v → v ≡ Some x → uses x a ≡ true
-  variable_uses (Variable y n p) v x is e = ap (λ o. is_number o x) (same_Some y v is ∙ e) ∙ Rattle.separation_kinds.proofs.Basics.itself x
+  variable_uses (Variable y n p) v x is e = ap (λ o. is_number o x) (same_Some y v is ∙ e) ∙ Rattle.separation.proofs.separation_kinds.Basics.itself x
   variable_uses (Literal i p) v x is e = absurd (cc)
   variable_uses (Constructor t d k n p as') v x is e = absurd (cc)
 

@@ -1,18 +1,18 @@
 -- Of the credits of a size, the first ones stay: all but as many as an expression needs.
 use Rattle.std.proofs.Common.{◌≡◌, inl, inr, ℕ, zero, suc, ◌+◌, ◌-◌, ◌<◌, ◌≤◌, Bool, true, false, ◌||◌, List, [], ◌∷◌, length, take, slice_get, get_or, Option, refl, sym, ap, ◌∙◌, subst, arith, if◌then◌else◌, ◌==◌}
 use Rattle.std.proofs.lemmas.Bool.Decides.{nat_tests}
-use Rattle.fip_language.specs.declared.Operator.{Operator}
-use Rattle.fip_language.specs.declared.Place.{Place}
-use Rattle.fip_trees.specs.Sizes as Z
-use Rattle.fip_trees.specs.Sizes.{greater}
-use Rattle.fip_trees.specs.declared.program.Binder.{Binder}
-use Rattle.fip_trees.specs.Tree.{Argument, Variable, Literal, Constructor, Arguments, NoArguments, MoreArguments, count}
-use Rattle.fip_trees.specs.Tree.{Pattern, BinderPattern, LiteralPattern, ConstructorPattern, Patterns, NoPatterns, MorePatterns, count_patterns}
-use Rattle.fip_trees.specs.Tree.{Expression, Give, Tuple, Operation, Call, Match, Nested, Clauses}
-use Rattle.credit_check.specs.Needs as N
-use Rattle.credit_check.specs.Needs.{made, made_all, marked, asked, given}
-use Rattle.cell_code.specs.declared.code.Instr.{Instr}
-use Rattle.code_rules.specs.Codes.{PlainCode, PlainFunction}
+use Rattle.separation.specs.fip_language.declared.Operator.{Operator}
+use Rattle.separation.specs.fip_language.declared.Place.{Place}
+use Rattle.lowering_relation.specs.fip_trees.Sizes as Z
+use Rattle.lowering_relation.specs.fip_trees.Sizes.{greater}
+use Rattle.lowering_relation.specs.fip_trees.declared.program.Binder.{Binder}
+use Rattle.lowering_relation.specs.fip_trees.Tree.{Argument, Variable, Literal, Constructor, Arguments, NoArguments, MoreArguments, count}
+use Rattle.lowering_relation.specs.fip_trees.Tree.{Pattern, BinderPattern, LiteralPattern, ConstructorPattern, Patterns, NoPatterns, MorePatterns, count_patterns}
+use Rattle.lowering_relation.specs.fip_trees.Tree.{Expression, Give, Tuple, Operation, Call, Match, Nested, Clauses}
+use Rattle.lowering_relation.specs.credit_check.Needs as N
+use Rattle.lowering_relation.specs.credit_check.Needs.{made, made_all, marked, asked, given}
+use Rattle.separation.specs.cell_code.declared.code.Instr.{Instr}
+use Rattle.separation.specs.code_rules.Codes.{PlainCode, PlainFunction}
 use Rattle.lowering_relation.specs.Spots.{Spot, At, Spots, NoSpots, MoreSpots, register}
 use Rattle.lowering_relation.specs.Opening.{is_named, Roomy, AllRoomy}
 use Rattle.lowering_relation.specs.Entering.{unnaming, variable_held, with_variable, with_cell, entering, entering_all, root_of, spent_if, entering_root}

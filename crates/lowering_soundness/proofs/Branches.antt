@@ -1,15 +1,15 @@
 -- Tests and jumps: where a label at the target takes what is told there, they keep the rules.
 use Rattle.std.proofs.Common.{◌≡◌, inl, inr, ℕ, suc, ◌<◌, ◌≤◌, true, List, length, Some, refl, sym, ap, ◌∙◌, subst, arith}
 use Rattle.std.proofs.lemmas.Option.{same_Some}
-use Rattle.cell_code.specs.declared.code.Instr.{Instr}
-use Rattle.cell_code.specs.declared.code.Instr.TheVariants as I
-use Rattle.cell_code.specs.declared.kind.Kind.{Kind}
-use Rattle.code_rules.specs.Codes.{PlainCode, PlainFunction, label_at}
-use Rattle.code_rules.specs.Fitting.{fits, fit_all}
-use Rattle.code_rules.specs.Endings.{spends_all}
-use Rattle.code_rules.specs.Leaves.{Leaves, Jumps}
-use Rattle.code_rules.specs.Flow.{IsInstr}
-use Rattle.separation_kinds.proofs.Basics.{get_within, less_or_not}
+use Rattle.separation.specs.cell_code.declared.code.Instr.{Instr}
+use Rattle.separation.specs.cell_code.declared.code.Instr.TheVariants as I
+use Rattle.separation.specs.cell_code.declared.kind.Kind.{Kind}
+use Rattle.separation.specs.code_rules.Codes.{PlainCode, PlainFunction, label_at}
+use Rattle.separation.specs.code_rules.Fitting.{fits, fit_all}
+use Rattle.separation.specs.code_rules.Endings.{spends_all}
+use Rattle.separation.specs.code_rules.Leaves.{Leaves, Jumps}
+use Rattle.separation.specs.code_rules.Flow.{IsInstr}
+use Rattle.separation.proofs.separation_kinds.Basics.{get_within, less_or_not}
 use Rattle.lowering_soundness.specs.Covering.{Covered}
 use Rattle.lowering_soundness.specs.Rows.{IsRow}
 use Rattle.lowering_soundness.specs.Parts.{Arrives, Admits, Onward, Keeps, IsKept, Part, LastPart}

@@ -1,12 +1,12 @@
 -- A call: its arguments and its credits are as asked, and its results come into registers that wait for them.
 use Rattle.std.proofs.Common.{◌≡◌, ℕ, zero, suc, ◌+◌, ◌≤◌, Bool, true, false, ◌&&◌, ◌||◌, not, List, [], ◌∷◌, ◌++◌, length, drop, Some, None, refl, sym, ap, ap₂, ◌∙◌, subst, subst₂, true≢false, arith, if◌then◌else◌, ◌==◌}
-use Rattle.fip_language.specs.Table.{Table}
-use Rattle.fip_base.specs.declared.plain.Param.{Param}
-use Rattle.fip_trees.specs.Tree.{Instance}
-use Rattle.type_check.specs.Scope.{Scope}
-use Rattle.ownership_calculus.specs.Terms.{Item, Own, charge}
-use Rattle.code_rules.specs.Codes.{PlainCode, PlainFunction}
-use Rattle.code_rules.specs.Types.{is_scalar_type}
+use Rattle.separation.specs.fip_language.Table.{Table}
+use Rattle.separation.specs.fip_base.declared.plain.Param.{Param}
+use Rattle.lowering_relation.specs.fip_trees.Tree.{Instance}
+use Rattle.derivation_making.specs.type_check.Scope.{Scope}
+use Rattle.derivation_making.specs.ownership_calculus.Terms.{Item, Own, charge}
+use Rattle.separation.specs.code_rules.Codes.{PlainCode, PlainFunction}
+use Rattle.separation.specs.code_rules.Types.{is_scalar_type}
 use Rattle.lowering_relation.specs.declared.held.Held.{Held}
 use Rattle.lowering_relation.specs.declared.held.Held.TheVariants as H
 use Rattle.lowering_relation.specs.Known.{Known}

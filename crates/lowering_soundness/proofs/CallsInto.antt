@@ -1,11 +1,11 @@
 -- A call whose results go to registers that wait for them.
 use Rattle.std.proofs.Common.{◌≡◌, ◌+◌, ℕ, suc, ◌≤◌, Bool, false, List, [], ◌∷◌, ◌++◌, length, Some, refl, sym, ap, ap₂, ◌∙◌, subst, subst₂, arith, slice_get, slice_set}
-use Rattle.fip_trees.specs.Tree.{Instance}
-use Rattle.type_check.specs.Scope.{Scope}
-use Rattle.type_check.specs.World as W
-use Rattle.ownership_calculus.specs.Terms.{Item, Own}
-use Rattle.cell_code.specs.declared.code.Instr.TheVariants as I
-use Rattle.code_rules.specs.Codes.{PlainCode, PlainFunction, results}
+use Rattle.lowering_relation.specs.fip_trees.Tree.{Instance}
+use Rattle.derivation_making.specs.type_check.Scope.{Scope}
+use Rattle.derivation_making.specs.type_check.World as W
+use Rattle.derivation_making.specs.ownership_calculus.Terms.{Item, Own}
+use Rattle.separation.specs.cell_code.declared.code.Instr.TheVariants as I
+use Rattle.separation.specs.code_rules.Codes.{PlainCode, PlainFunction, results}
 use Rattle.lowering_relation.specs.declared.held.Held.TheVariants as H
 use Rattle.lowering_relation.specs.Known.{Known}
 use Rattle.lowering_relation.specs.Values.{Setting}

@@ -1,21 +1,21 @@
 -- Tests, one after another, up to the clause that is chosen.
 use Rattle.std.proofs.Common.{◌≡◌, inl, inr, ℕ, zero, suc, ◌<◌, ◌≤◌, Bool, true, false, List, [], ◌∷◌, slice_get, Option, Some, None, refl, sym, ap, ◌∙◌, subst, arith, ◌==◌}
-use Rattle.fip_language.specs.Table.{Table}
-use Rattle.fip_language.specs.Every.{Among}
-use Rattle.cell_code.specs.declared.kind.Kind.{Kind}
-use Rattle.cell_code.specs.declared.kind.Kind.TheVariants as K
-use Rattle.fip_trees.specs.Tree.{Pattern}
-use Rattle.code_rules.specs.Codes.{PlainCode, PlainFunction}
-use Rattle.code_rules.specs.Kinds.{from_of, set_of}
-use Rattle.code_rules.specs.Changes.{narrow, without}
-use Rattle.separation_kinds.proofs.Basics.{pick}
-use Rattle.separation_kinds.proofs.Fits.{narrowed}
-use Rattle.match_knowledge.specs.declared.heads.Head.{Head}
-use Rattle.match_knowledge.specs.declared.heads.Head.TheVariants.{Number, Tag}
-use Rattle.match_knowledge.specs.declared.verdicts.Verdict.TheVariants.{Asks}
-use Rattle.match_knowledge.specs.Patterns as M
-use Rattle.match_knowledge.specs.Patterns.{IsPattern}
-use Rattle.match_knowledge.specs.Known.{Known, compare, side, is_last}
+use Rattle.separation.specs.fip_language.Table.{Table}
+use Rattle.separation.specs.fip_language.Every.{Among}
+use Rattle.separation.specs.cell_code.declared.kind.Kind.{Kind}
+use Rattle.separation.specs.cell_code.declared.kind.Kind.TheVariants as K
+use Rattle.lowering_relation.specs.fip_trees.Tree.{Pattern}
+use Rattle.separation.specs.code_rules.Codes.{PlainCode, PlainFunction}
+use Rattle.separation.specs.code_rules.Kinds.{from_of, set_of}
+use Rattle.separation.specs.code_rules.Changes.{narrow, without}
+use Rattle.separation.proofs.separation_kinds.Basics.{pick}
+use Rattle.separation.proofs.separation_kinds.Fits.{narrowed}
+use Rattle.lowering_relation.specs.match_knowledge.declared.heads.Head.{Head}
+use Rattle.lowering_relation.specs.match_knowledge.declared.heads.Head.TheVariants.{Number, Tag}
+use Rattle.lowering_relation.specs.match_knowledge.declared.verdicts.Verdict.TheVariants.{Asks}
+use Rattle.lowering_relation.specs.match_knowledge.Patterns as M
+use Rattle.lowering_relation.specs.match_knowledge.Patterns.{IsPattern}
+use Rattle.lowering_relation.specs.match_knowledge.Known.{Known, compare, side, is_last}
 use Rattle.lowering_relation.specs.Spots.{register, below, Differ}
 use Rattle.lowering_relation.specs.Rows.{row_of}
 use Rattle.lowering_relation.specs.Opening.{Roomy}

@@ -1,15 +1,15 @@
 -- The tests of a match, from its first instruction up to the last that belongs to them: each keeps the rules.
 use Rattle.std.proofs.Common.{◌≡◌, ℕ, ◌<◌, ◌≤◌, [], Option, Some, None, refl, sym, ap, ◌∙◌, subst, zero, suc, arith}
-use Rattle.fip_language.specs.Table.{Table}
-use Rattle.fip_language.specs.Every.{Among}
-use Rattle.code_rules.specs.Codes.{PlainCode, PlainFunction}
-use Rattle.match_knowledge.specs.Known.{Open}
+use Rattle.separation.specs.fip_language.Table.{Table}
+use Rattle.separation.specs.fip_language.Every.{Among}
+use Rattle.separation.specs.code_rules.Codes.{PlainCode, PlainFunction}
+use Rattle.lowering_relation.specs.match_knowledge.Known.{Open}
 use Rattle.lowering_relation.specs.Spots.{Spot, At, register, below}
 use Rattle.lowering_relation.specs.Entering.{root_of}
 use Rattle.lowering_relation.specs.declared.held.Held.{Held}
 use Rattle.lowering_relation.specs.declared.held.Held.TheVariants as H
-use Rattle.cell_code.specs.declared.kind.Kind.{Kind}
-use Rattle.cell_code.specs.declared.kind.Kind.TheVariants as K
+use Rattle.separation.specs.cell_code.declared.kind.Kind.{Kind}
+use Rattle.separation.specs.cell_code.declared.kind.Kind.TheVariants as K
 use Rattle.lowering_relation.specs.Known.{Known}
 use Rattle.lowering_relation.specs.Values.{Setting}
 use Rattle.lowering_relation.specs.Describing.{Holding, held_at, kind_of, is_tree}

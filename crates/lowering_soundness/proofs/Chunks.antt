@@ -1,20 +1,20 @@
 -- Tests from one place up to a jump, or up to a clause's body: each instruction keeps the rules.
 use Rattle.std.proofs.Common.{◌≡◌, ◌⊎◌, inl, inr, ℕ, zero, suc, ◌<◌, ◌≤◌, Bool, true, false, List, [], ◌∷◌, slice_get, length, Option, Some, None, refl, sym, ap, ◌∙◌, subst, arith, if◌then◌else◌, ◌==◌}
 use Rattle.std.proofs.lemmas.Option.{none-some, same_Some}
-use Rattle.fip_language.specs.Table.{Table}
-use Rattle.fip_language.specs.Every.{Among}
-use Rattle.cell_code.specs.declared.code.Instr.TheVariants as I
-use Rattle.cell_code.specs.declared.kind.From.{From}
-use Rattle.cell_code.specs.declared.kind.Kind.{Kind}
-use Rattle.cell_code.specs.declared.kind.Kind.TheVariants as K
-use Rattle.fip_trees.specs.Tree.{Pattern}
-use Rattle.code_rules.specs.Codes.{PlainCode, PlainFunction}
-use Rattle.code_rules.specs.Types.{fields, is_scalar_type}
-use Rattle.code_rules.specs.Kinds.{has, from_of}
-use Rattle.separation_kinds.proofs.Basics.{or_not, equal, unequal, less_or_not}
-use Rattle.match_knowledge.specs.declared.heads.Head.TheVariants.{Number, Tag}
-use Rattle.match_knowledge.specs.Known as M
-use Rattle.match_knowledge.specs.Known.{Open, Is, Knowns, NoKnowns, MoreKnowns}
+use Rattle.separation.specs.fip_language.Table.{Table}
+use Rattle.separation.specs.fip_language.Every.{Among}
+use Rattle.separation.specs.cell_code.declared.code.Instr.TheVariants as I
+use Rattle.separation.specs.cell_code.declared.kind.From.{From}
+use Rattle.separation.specs.cell_code.declared.kind.Kind.{Kind}
+use Rattle.separation.specs.cell_code.declared.kind.Kind.TheVariants as K
+use Rattle.lowering_relation.specs.fip_trees.Tree.{Pattern}
+use Rattle.separation.specs.code_rules.Codes.{PlainCode, PlainFunction}
+use Rattle.separation.specs.code_rules.Types.{fields, is_scalar_type}
+use Rattle.separation.specs.code_rules.Kinds.{has, from_of}
+use Rattle.separation.proofs.separation_kinds.Basics.{or_not, equal, unequal, less_or_not}
+use Rattle.lowering_relation.specs.match_knowledge.declared.heads.Head.TheVariants.{Number, Tag}
+use Rattle.lowering_relation.specs.match_knowledge.Known as M
+use Rattle.lowering_relation.specs.match_knowledge.Known.{Open, Is, Knowns, NoKnowns, MoreKnowns}
 use Rattle.lowering_relation.specs.Spots.{Spot, At, Spots, NoSpots, MoreSpots, register, below, all_in}
 use Rattle.lowering_relation.specs.Entering.{root_of}
 use Rattle.lowering_relation.proofs.MatchLists.{among_either}
@@ -196,7 +196,7 @@ module _ (c : PlainCode) (f : PlainFunction) (st : Setting) (ch : Choice) (k : K
   ]
 
   -- the clause's label takes what comes
-  caught_by : (e : ℕ) (l m : ℕ → Kind) → Catches f e l → ((r : ℕ) → Rattle.code_rules.specs.Fitting.fits (l r) (m r) ≡ true) → Catches f e m
+  caught_by : (e : ℕ) (l m : ℕ → Kind) → Catches f e l → ((r : ℕ) → Rattle.separation.specs.code_rules.Fitting.fits (l r) (m r) ≡ true) → Catches f e m
   caught_by e l m caught less = record { map = caught.map; there = caught.there; takes = takes_less f.registers caught.map m l caught.takes less }
 
   none_told : (at : ℕ) (m : ℕ → Kind) → Quiet f at at m
@@ -216,7 +216,7 @@ module _ (c : PlainCode) (f : PlainFunction) (st : Setting) (ch : Choice) (k : K
           let entry = entries h.clause ran.chosen.pattern at ran.chosen.there h.entry in
           let l = told c (entered st ch ran.chosen.pattern k entry.0) in
           caught_by at l m (positive_entry h.clause ran.chosen.pattern at entry.0 low entry.1)
-          (λ r. ap (Rattle.code_rules.specs.Fitting.fits (l r)) (s.came.still refl r) ∙ s.enters entry.0 r)
+          (λ r. ap (Rattle.separation.specs.code_rules.Fitting.fits (l r)) (s.came.still refl r) ∙ s.enters entry.0 r)
 
   pub chunk_stretch : (g : Holding) (right : Right c f g ch) (based : Based c st ch k g) (at : ℕ) (κ : M.Known) (read : List ℕ) (m : ℕ → Kind) (next : ℕ) → Looks c g ch κ read m → ChunkLaid c f g ch at κ read m next → 0 < next → Stretch c f at m next
   chunk_stretch g right based at κ read m next looks h low = by h.goes

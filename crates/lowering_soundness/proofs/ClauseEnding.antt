@@ -1,20 +1,20 @@
 -- A clause of a match that is bound by a let, from its entry on up to where the clauses meet.
 use Rattle.std.proofs.Common.{◌≡◌, inl, inr, ℕ, suc, ◌+◌, ◌-◌, ◌<◌, ◌≤◌, Bool, true, false, not, refl, List, [], ◌∷◌, ◌++◌, length, Some, sym, ap, ◌∙◌, subst, true≢false, arith, ◌==◌}
-use Rattle.fip_language.specs.Every.{Among}
-use Rattle.fip_trees.specs.Tree.{Expression, Pattern, Clauses, NoClauses, MoreClauses}
-use Rattle.fip_rules.specs.World as R
-use Rattle.fip_rules.specs.Shapes.{Names, binders}
-use Rattle.cell_code.specs.declared.kind.Kind.{Kind}
-use Rattle.type_check.specs.Scope.{Scope, of_binder}
-use Rattle.type_check.specs.World as W
-use Rattle.type_check.specs.Typing.{bound_by}
-use Rattle.ownership_calculus.specs.Terms.{Item, Credit}
-use Rattle.ownership_calculus.specs.Rules as O
-use Rattle.ownership_calculus.proofs.Fit.{fits_le}
-use Rattle.ownership_agreement.specs.Bodies.{Scalars, variables}
-use Rattle.code_rules.specs.Codes.{PlainCode, PlainFunction}
-use Rattle.code_rules.specs.Types.{is_scalar_type}
-use Rattle.separation_kinds.proofs.Basics.{refused, itself}
+use Rattle.separation.specs.fip_language.Every.{Among}
+use Rattle.lowering_relation.specs.fip_trees.Tree.{Expression, Pattern, Clauses, NoClauses, MoreClauses}
+use Rattle.derivation_making.specs.fip_rules.World as R
+use Rattle.derivation_making.specs.fip_rules.Shapes.{Names, binders}
+use Rattle.separation.specs.cell_code.declared.kind.Kind.{Kind}
+use Rattle.derivation_making.specs.type_check.Scope.{Scope, of_binder}
+use Rattle.derivation_making.specs.type_check.World as W
+use Rattle.derivation_making.specs.type_check.Typing.{bound_by}
+use Rattle.derivation_making.specs.ownership_calculus.Terms.{Item, Credit}
+use Rattle.derivation_making.specs.ownership_calculus.Rules as O
+use Rattle.derivation_making.proofs.ownership_calculus.Fit.{fits_le}
+use Rattle.derivation_making.specs.ownership_agreement.Bodies.{Scalars, variables}
+use Rattle.separation.specs.code_rules.Codes.{PlainCode, PlainFunction}
+use Rattle.separation.specs.code_rules.Types.{is_scalar_type}
+use Rattle.separation.proofs.separation_kinds.Basics.{refused, itself}
 use Rattle.lowering_relation.specs.Spots.{register, below}
 use Rattle.lowering_relation.specs.declared.held.Held.{Held}
 use Rattle.lowering_relation.specs.declared.held.Held.TheVariants as H
@@ -52,7 +52,7 @@ use Rattle.lowering_soundness.proofs.Leftovers.{Left, left_over, hold_stays}
 use Rattle.lowering_soundness.proofs.Meeting.{one_positive, LeftBy, Arrived, Spares, spares_fit}
 use Rattle.lowering_soundness.proofs.Ends.{Reached, reached_part, reached_end}
 
-hold_wide : (w : Rattle.fip_language.specs.Table.Table) (hs : List Held) (rs ts : List ℕ) → AllHold w (held_at hs) rs ts → AllHold w (held_at (Rattle.std.proofs.Common.map widened hs)) rs ts
+hold_wide : (w : Rattle.separation.specs.fip_language.Table.Table) (hs : List Held) (rs ts : List ℕ) → AllHold w (held_at hs) rs ts → AllHold w (held_at (Rattle.std.proofs.Common.map widened hs)) rs ts
 hold_wide w hs [] [] all = tt
 hold_wide w hs [] (t ∷ ts) all = absurd all
 hold_wide w hs (r ∷ rs) [] all = absurd all
@@ -69,7 +69,7 @@ stop_before f NoClauses stop target next h = let z = h.1 in omega (arith, z)
 stop_before f (MoreClauses q b cs) stop target next h = let z = h.2 in omega (arith, z)
 
 -- what a scrutinee's register holds is something
-seen_something : (w : Rattle.fip_language.specs.Table.Table) (t : ℕ) (h : Held) → Seeing w t h → h ≡ H.Nothing → ⊥
+seen_something : (w : Rattle.separation.specs.fip_language.Table.Table) (t : ℕ) (h : Held) → Seeing w t h → h ≡ H.Nothing → ⊥
 seen_something w t h (SeesScalar e x) z = other (sym e ∙ z)
   where
     other : H.Scalar t ≡ H.Nothing → ⊥
@@ -84,7 +84,7 @@ seen_something w t h (SeesOwned e x) z = other (sym e ∙ z)
     other y = absurd (cc)
 
 -- trees beside those of variables, where a match begins
-abbrev pub owing : Bool → Rattle.fip_language.specs.Table.Table → ℕ → ℕ → ℕ → ℕ
+abbrev pub owing : Bool → Rattle.separation.specs.fip_language.Table.Table → ℕ → ℕ → ℕ → ℕ
 owing true w t r q = owe w t r q + 0
 owing false w t r q = 0
 

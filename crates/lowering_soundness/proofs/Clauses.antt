@@ -1,29 +1,29 @@
 -- A clause begins: what is known at its entry goes with the variables in scope there.
 use Rattle.std.proofs.Common.{◌≡◌, inl, inr, ℕ, suc, ◌+◌, ◌<◌, ◌≤◌, Bool, true, false, ◌||◌, not, List, [], ◌∷◌, ◌++◌, length, map, Some, refl, sym, ap, ap₂, ◌∙◌, subst, arith, if◌then◌else◌, ◌==◌}
-use Rattle.fip_language.specs.Table.{Table, constructors}
-use Rattle.fip_language.specs.Every.{Among}
-use Rattle.fip_base.specs.TableView.{fields_at}
-use Rattle.fip_trees.specs.declared.program.Binder.{Binder}
-use Rattle.fip_trees.specs.Tree.{Pattern, BinderPattern, LiteralPattern, ConstructorPattern, Patterns, NoPatterns, MorePatterns}
-use Rattle.fip_rules.specs.World as R
-use Rattle.fip_rules.specs.Shapes.{Names, binders, binders_all}
-use Rattle.type_check.specs.Binders.{entry}
-use Rattle.type_check.specs.Scope.{Scope, of_binder}
-use Rattle.type_check.specs.World as W
-use Rattle.type_check.specs.World.{field_types}
-use Rattle.type_check.specs.Typing.{IsPattern, ArePatterns, bound_by, bound_by_all}
-use Rattle.ownership_calculus.specs.Terms.{Item, Own, Credit, has, given, charge}
-use Rattle.ownership_calculus.specs.Rules.{Fits}
-use Rattle.ownership_calculus.specs.Rules as O
-use Rattle.ownership_calculus.specs.ByCases.{Opens}
-use Rattle.ownership_calculus.proofs.Fit.{fits_le, fits_same, fits_sum}
-use Rattle.ownership_agreement.specs.Bodies.{Scalars, variables, entering, inside, nodes}
-use Rattle.ownership_agreement.proofs.Basics.{not_owned}
+use Rattle.separation.specs.fip_language.Table.{Table, constructors}
+use Rattle.separation.specs.fip_language.Every.{Among}
+use Rattle.separation.specs.fip_base.TableView.{fields_at}
+use Rattle.lowering_relation.specs.fip_trees.declared.program.Binder.{Binder}
+use Rattle.lowering_relation.specs.fip_trees.Tree.{Pattern, BinderPattern, LiteralPattern, ConstructorPattern, Patterns, NoPatterns, MorePatterns}
+use Rattle.derivation_making.specs.fip_rules.World as R
+use Rattle.derivation_making.specs.fip_rules.Shapes.{Names, binders, binders_all}
+use Rattle.derivation_making.specs.type_check.Binders.{entry}
+use Rattle.derivation_making.specs.type_check.Scope.{Scope, of_binder}
+use Rattle.derivation_making.specs.type_check.World as W
+use Rattle.derivation_making.specs.type_check.World.{field_types}
+use Rattle.derivation_making.specs.type_check.Typing.{IsPattern, ArePatterns, bound_by, bound_by_all}
+use Rattle.derivation_making.specs.ownership_calculus.Terms.{Item, Own, Credit, has, given, charge}
+use Rattle.derivation_making.specs.ownership_calculus.Rules.{Fits}
+use Rattle.derivation_making.specs.ownership_calculus.Rules as O
+use Rattle.derivation_making.specs.ownership_calculus.ByCases.{Opens}
+use Rattle.derivation_making.proofs.ownership_calculus.Fit.{fits_le, fits_same, fits_sum}
+use Rattle.derivation_making.specs.ownership_agreement.Bodies.{Scalars, variables, entering, inside, nodes}
+use Rattle.derivation_making.proofs.ownership_agreement.Basics.{not_owned}
 use Rattle.derivation_making.proofs.Linking.{next_inside}
-use Rattle.code_rules.specs.Codes.{PlainCode, PlainFunction}
-use Rattle.code_rules.specs.Types.{is_type, is_scalar_type, fields}
-use Rattle.separation_kinds.proofs.Basics.{pick, chosen, refused, or_not, unequal_is}
-use Rattle.separation_kinds.proofs.Basics as KB
+use Rattle.separation.specs.code_rules.Codes.{PlainCode, PlainFunction}
+use Rattle.separation.specs.code_rules.Types.{is_type, is_scalar_type, fields}
+use Rattle.separation.proofs.separation_kinds.Basics.{pick, chosen, refused, or_not, unequal_is}
+use Rattle.separation.proofs.separation_kinds.Basics as KB
 use Rattle.lowering_relation.specs.Spots.{register, below, Differ}
 use Rattle.lowering_relation.specs.Opening.{Roomy}
 use Rattle.lowering_relation.specs.Entering as E

@@ -1,14 +1,14 @@
 -- Registers and names at the entry of a clause, one after another: what is known goes with the variables in scope.
 use Rattle.std.proofs.Common.{◌≡◌, ◌⊎◌, inl, inr, ℕ, zero, suc, ◌+◌, ◌<◌, ◌≤◌, Bool, true, false, ◌&&◌, List, [], ◌∷◌, ◌++◌, length, map, slice_set, Option, Some, None, refl, sym, ap, ◌∙◌, subst, subst₂, true≢false, arith, if◌then◌else◌, ◌==◌}
-use Rattle.fip_language.specs.Table.{Table}
-use Rattle.fip_trees.specs.declared.program.Binder.{Binder}
-use Rattle.type_check.specs.Binders.{entry}
-use Rattle.type_check.specs.Scope.{Scope, of_binder}
-use Rattle.ownership_calculus.specs.Terms.{Item, Own, Credit, one, charge}
-use Rattle.ownership_calculus.specs.Rules.{Fits}
-use Rattle.ownership_calculus.proofs.Fit.{fits_same, fits_sum}
-use Rattle.code_rules.specs.Types.{is_scalar_type}
-use Rattle.separation_kinds.proofs.Basics.{pick, chosen, refused, or_not, equal, equal_is, unequal, unequal_is}
+use Rattle.separation.specs.fip_language.Table.{Table}
+use Rattle.lowering_relation.specs.fip_trees.declared.program.Binder.{Binder}
+use Rattle.derivation_making.specs.type_check.Binders.{entry}
+use Rattle.derivation_making.specs.type_check.Scope.{Scope, of_binder}
+use Rattle.derivation_making.specs.ownership_calculus.Terms.{Item, Own, Credit, one, charge}
+use Rattle.derivation_making.specs.ownership_calculus.Rules.{Fits}
+use Rattle.derivation_making.proofs.ownership_calculus.Fit.{fits_same, fits_sum}
+use Rattle.separation.specs.code_rules.Types.{is_scalar_type}
+use Rattle.separation.proofs.separation_kinds.Basics.{pick, chosen, refused, or_not, equal, equal_is, unequal, unequal_is}
 use Rattle.lowering_relation.specs.declared.held.Held.{Held}
 use Rattle.lowering_relation.specs.declared.held.Held.TheVariants as H
 use Rattle.lowering_relation.specs.Known.{Known, register_of, named, naming, holding}

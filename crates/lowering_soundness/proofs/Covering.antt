@@ -1,13 +1,13 @@
 -- Kinds that are told stay so where a register is written, or a tree is used up.
 use Rattle.std.proofs.Common.{◌≡◌, ℕ, ◌<◌, Bool, true, false, ◌||◌, List, length, Option, Some, None, refl, sym, ap, ◌∙◌, subst, true≢false, arith, if◌then◌else◌, ◌==◌}
-use Rattle.fip_language.specs.Table.{Table}
-use Rattle.cell_code.specs.declared.kind.Kind.{Kind}
-use Rattle.cell_code.specs.declared.kind.Kind.TheVariants.{Gone, Lent}
-use Rattle.code_rules.specs.Types.{all}
-use Rattle.code_rules.specs.Kinds.{at, is_free, is_lent_of, same_root}
-use Rattle.code_rules.specs.Changes.{forget, written, goes, used_up}
-use Rattle.separation_kinds.proofs.Basics.{pick, chosen, refused, apart, length_become}
-use Rattle.separation_kinds.proofs.KindLemmas.{dropped, is_one, at_used_up, at_written, not_gone_within}
+use Rattle.separation.specs.fip_language.Table.{Table}
+use Rattle.separation.specs.cell_code.declared.kind.Kind.{Kind}
+use Rattle.separation.specs.cell_code.declared.kind.Kind.TheVariants.{Gone, Lent}
+use Rattle.separation.specs.code_rules.Types.{all}
+use Rattle.separation.specs.code_rules.Kinds.{at, is_free, is_lent_of, same_root}
+use Rattle.separation.specs.code_rules.Changes.{forget, written, goes, used_up}
+use Rattle.separation.proofs.separation_kinds.Basics.{pick, chosen, refused, apart, length_become}
+use Rattle.separation.proofs.separation_kinds.KindLemmas.{dropped, is_one, at_used_up, at_written, not_gone_within}
 use Rattle.lowering_relation.specs.declared.held.Held.{Held}
 use Rattle.lowering_relation.specs.declared.held.Held.TheVariants as H
 use Rattle.lowering_relation.specs.Known.{lent_by, without}

@@ -1,17 +1,17 @@
 -- Values that were computed are handed on: they are the function's results, or go to registers that wait for them.
 use Rattle.std.proofs.Common.{◌≡◌, inl, inr, ℕ, suc, ◌+◌, ◌≤◌, Bool, true, List, [], ◌∷◌, length, Some, refl, sym, ap, ◌∙◌, subst, subst₂, true≢false, arith, slice_get, slice_set, ◌==◌}
-use Rattle.fip_language.specs.declared.Place.{Place}
-use Rattle.fip_language.specs.declared.Operator.{Operator}
-use Rattle.fip_language.specs.declared.Operator.TheVariants as O
-use Rattle.type_check.specs.Scope.{Scope}
-use Rattle.type_check.specs.World.{result_of}
-use Rattle.ownership_calculus.specs.Terms.{Item, Own}
-use Rattle.cell_code.specs.declared.code.Instr.{Instr}
-use Rattle.cell_code.specs.declared.code.Instr.TheVariants as I
-use Rattle.code_rules.specs.Codes.{PlainCode, PlainFunction}
-use Rattle.code_rules.specs.Types.{is_scalar_type}
-use Rattle.code_rules.specs.Leaves as L
-use Rattle.separation_kinds.proofs.Basics.{chosen, itself}
+use Rattle.separation.specs.fip_language.declared.Place.{Place}
+use Rattle.separation.specs.fip_language.declared.Operator.{Operator}
+use Rattle.separation.specs.fip_language.declared.Operator.TheVariants as O
+use Rattle.derivation_making.specs.type_check.Scope.{Scope}
+use Rattle.derivation_making.specs.type_check.World.{result_of}
+use Rattle.derivation_making.specs.ownership_calculus.Terms.{Item, Own}
+use Rattle.separation.specs.cell_code.declared.code.Instr.{Instr}
+use Rattle.separation.specs.cell_code.declared.code.Instr.TheVariants as I
+use Rattle.separation.specs.code_rules.Codes.{PlainCode, PlainFunction}
+use Rattle.separation.specs.code_rules.Types.{is_scalar_type}
+use Rattle.separation.specs.code_rules.Leaves as L
+use Rattle.separation.proofs.separation_kinds.Basics.{chosen, itself}
 use Rattle.lowering_relation.specs.declared.held.Held.{Held}
 use Rattle.lowering_relation.specs.declared.held.Held.TheVariants as H
 use Rattle.lowering_relation.specs.Known.{Known, with_next, holding, used_all}

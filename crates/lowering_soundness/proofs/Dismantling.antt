@@ -1,22 +1,22 @@
 -- The cells of a chosen pattern are taken apart, one after another: each is as asked.
 use Rattle.std.proofs.Common.{◌≡◌, ◌⊎◌, inl, inr, ℕ, zero, suc, ◌+◌, ◌<◌, ◌≤◌, Bool, true, false, List, [], ◌∷◌, ◌++◌, length, Option, Some, None, refl, sym, ap, ◌∙◌, subst, true≢false, arith, if◌then◌else◌, ◌==◌}
-use Rattle.fip_language.specs.Table.{Table}
-use Rattle.fip_language.specs.Every.{Among}
-use Rattle.cell_code.specs.declared.code.Instr.TheVariants as I
-use Rattle.cell_code.specs.declared.kind.From.{From}
-use Rattle.cell_code.specs.declared.kind.Kind.{Kind}
-use Rattle.cell_code.specs.declared.kind.Kind.TheVariants as K
-use Rattle.fip_trees.specs.Tree.{Pattern, BinderPattern, LiteralPattern, ConstructorPattern, Patterns, NoPatterns, MorePatterns, count_patterns}
-use Rattle.code_rules.specs.Codes.{PlainCode, PlainFunction}
-use Rattle.code_rules.specs.Types.{fields, is_scalar_type}
-use Rattle.code_rules.specs.Kinds.{has, is_free, is_lent_of, from_of}
-use Rattle.code_rules.specs.Taking.{credit}
-use Rattle.separation_kinds.proofs.Basics.{chosen, refused, or_not, equal, unequal, unequal_is, itself}
-use Rattle.match_knowledge.specs.declared.heads.Head.TheVariants.{Number, Tag}
-use Rattle.match_knowledge.specs.declared.verdicts.Verdict.TheVariants.{Fits}
-use Rattle.match_knowledge.specs.ValueHeads.{IsHead, same_head}
-use Rattle.match_knowledge.specs.Patterns.{IsPattern, ArePatterns}
-use Rattle.match_knowledge.specs.Known.{Known, Open, Is, Knowns, NoKnowns, MoreKnowns, compare, compare_all, is_in}
+use Rattle.separation.specs.fip_language.Table.{Table}
+use Rattle.separation.specs.fip_language.Every.{Among}
+use Rattle.separation.specs.cell_code.declared.code.Instr.TheVariants as I
+use Rattle.separation.specs.cell_code.declared.kind.From.{From}
+use Rattle.separation.specs.cell_code.declared.kind.Kind.{Kind}
+use Rattle.separation.specs.cell_code.declared.kind.Kind.TheVariants as K
+use Rattle.lowering_relation.specs.fip_trees.Tree.{Pattern, BinderPattern, LiteralPattern, ConstructorPattern, Patterns, NoPatterns, MorePatterns, count_patterns}
+use Rattle.separation.specs.code_rules.Codes.{PlainCode, PlainFunction}
+use Rattle.separation.specs.code_rules.Types.{fields, is_scalar_type}
+use Rattle.separation.specs.code_rules.Kinds.{has, is_free, is_lent_of, from_of}
+use Rattle.separation.specs.code_rules.Taking.{credit}
+use Rattle.separation.proofs.separation_kinds.Basics.{chosen, refused, or_not, equal, unequal, unequal_is, itself}
+use Rattle.lowering_relation.specs.match_knowledge.declared.heads.Head.TheVariants.{Number, Tag}
+use Rattle.lowering_relation.specs.match_knowledge.declared.verdicts.Verdict.TheVariants.{Fits}
+use Rattle.lowering_relation.specs.match_knowledge.ValueHeads.{IsHead, same_head}
+use Rattle.lowering_relation.specs.match_knowledge.Patterns.{IsPattern, ArePatterns}
+use Rattle.lowering_relation.specs.match_knowledge.Known.{Known, Open, Is, Knowns, NoKnowns, MoreKnowns, compare, compare_all, is_in}
 use Rattle.lowering_relation.specs.Spots.{Spot, At, Spots, NoSpots, MoreSpots, register, below, all_in, Differ, AllDiffer}
 use Rattle.lowering_relation.specs.Rows.{row_of, rows_of}
 use Rattle.lowering_relation.specs.Opening.{as_many, Roomy, AllRoomy}
@@ -97,8 +97,8 @@ settled_other w r [] ks ss q own ne = refl
 settled_other w r (t ∷ ts) NoKnowns ss q own ne = refl
 settled_other w r (t ∷ ts) (MoreKnowns k ks) NoSpots q own ne = refl
 settled_other w r (t ∷ ts) (MoreKnowns k ks) (MoreSpots s ss) q own ne =
-    refused (register s == q) (owned_kind w t k) (if has (below s) q then Rattle.code_rules.specs.Taking.with_root (register s) own else settled_at w r ts ks ss q own) (unequal_is (register s) q (λ e. ne (inl (sym e))))
-    ∙ (refused (has (below s) q) (Rattle.code_rules.specs.Taking.with_root (register s) own) (settled_at w r ts ks ss q own) (no_has (has (below s) q) refl)
+    refused (register s == q) (owned_kind w t k) (if has (below s) q then Rattle.separation.specs.code_rules.Taking.with_root (register s) own else settled_at w r ts ks ss q own) (unequal_is (register s) q (λ e. ne (inl (sym e))))
+    ∙ (refused (has (below s) q) (Rattle.separation.specs.code_rules.Taking.with_root (register s) own) (settled_at w r ts ks ss q own) (no_has (has (below s) q) refl)
     ∙ settled_other w r ts ks ss q own (λ a. ne (in_tail q s ss a)))
   where
     no_has : (b : Bool) → has (below s) q ≡ b → has (below s) q ≡ false
@@ -311,7 +311,7 @@ module _ (c : PlainCode) (f : PlainFunction) where
       ]
 
   -- the cell of a constructor and what is below it
-  cell_took : (u d : ℕ) (a : Rattle.fip_trees.specs.Tree.Name) (z : Rattle.fip_language.specs.declared.Place.Place) (t n r : ℕ) (p : Pattern) (ps : Patterns) (ks : Knowns) (fs : Spots) (read : List ℕ) (at mid end : ℕ) (m l : ℕ → Kind) → (Among r (all_in fs) → ⊥) → Came c f at m mid l → CellTaken (fields c.types t n) ks r fs (suc (count_patterns ps)) read m l → TookAll (all_in fs) (AllAfter c.types (MorePatterns p ps) (fields c.types t n) fs) mid l end → Took (r ∷ all_in fs) r (After c.types (ConstructorPattern u d n a z (MorePatterns p ps)) t (At r fs)) at m end
+  cell_took : (u d : ℕ) (a : Rattle.lowering_relation.specs.fip_trees.Tree.Name) (z : Rattle.separation.specs.fip_language.declared.Place.Place) (t n r : ℕ) (p : Pattern) (ps : Patterns) (ks : Knowns) (fs : Spots) (read : List ℕ) (at mid end : ℕ) (m l : ℕ → Kind) → (Among r (all_in fs) → ⊥) → Came c f at m mid l → CellTaken (fields c.types t n) ks r fs (suc (count_patterns ps)) read m l → TookAll (all_in fs) (AllAfter c.types (MorePatterns p ps) (fields c.types t n) fs) mid l end → Took (r ∷ all_in fs) r (After c.types (ConstructorPattern u d n a z (MorePatterns p ps)) t (At r fs)) at m end
   cell_took u d a z t n r p ps ks fs read at mid end m l off came taken b = record {
     behind = b.behind;
     came = came_on c f at mid end m l b.behind came b.came;
@@ -332,10 +332,10 @@ module _ (c : PlainCode) (f : PlainFunction) where
       within q (inr a) = inside_more (all_in fs) (r ∷ all_in fs) (b.behind q) (λ z y. inr y) (b.inside q a)
 
   -- a constructor without fields that was matched
-  bare_own : (t n l : ℕ) (ks : Knowns) (own : Kind) → (n == l) ≡ true → n < Rattle.code_rules.specs.Types.count c.types t → own ≡ owned_kind c.types t (Is (Tag l) ks) → own ≡ (if is_scalar_type c.types t then K.Scalar t else K.Owned t (n ∷ []))
+  bare_own : (t n l : ℕ) (ks : Knowns) (own : Kind) → (n == l) ≡ true → n < Rattle.separation.specs.code_rules.Types.count c.types t → own ≡ owned_kind c.types t (Is (Tag l) ks) → own ≡ (if is_scalar_type c.types t then K.Scalar t else K.Owned t (n ∷ []))
   bare_own t n l ks own e low is = is ∙ ap (λ cs. if is_scalar_type c.types t then K.Scalar t else K.Owned t cs) (ap (λ x. left c.types t (Is (Tag x) ks)) (sym (equal n l e)) ∙ left_tag c.types t n ks low)
 
-  may_take : (t n l : ℕ) (q : Pattern) (qs : Patterns) (ks : Knowns) (r : ℕ) (fs : Spots) (read : List ℕ) (m : ℕ → Kind) → (n == l) ≡ true → n < Rattle.code_rules.specs.Types.count c.types t → ArePatterns c.types (fields c.types t n) (rows_of (MorePatterns q qs)) → AllRoomy (MorePatterns q qs) fs → AllDiffer fs → (Among r (all_in fs) → ⊥) → ((z : ℕ) → Among z (all_in fs) → z < f.registers) → m r ≡ owned_kind c.types t (Is (Tag l) ks) → AllBelow c.types (Some r) (fields c.types t n) ks fs r 0 read m → Outside r (all_in fs) m → MayTake c f m r t n (MorePatterns q qs) ks fs read
+  may_take : (t n l : ℕ) (q : Pattern) (qs : Patterns) (ks : Knowns) (r : ℕ) (fs : Spots) (read : List ℕ) (m : ℕ → Kind) → (n == l) ≡ true → n < Rattle.separation.specs.code_rules.Types.count c.types t → ArePatterns c.types (fields c.types t n) (rows_of (MorePatterns q qs)) → AllRoomy (MorePatterns q qs) fs → AllDiffer fs → (Among r (all_in fs) → ⊥) → ((z : ℕ) → Among z (all_in fs) → z < f.registers) → m r ≡ owned_kind c.types t (Is (Tag l) ks) → AllBelow c.types (Some r) (fields c.types t n) ks fs r 0 read m → Outside r (all_in fs) m → MayTake c f m r t n (MorePatterns q qs) ks fs read
   may_take t n l q qs ks r fs read m e low are room differ off within own parts out = record {
     own = bare_own t n l ks (m r) e low own ∙ refused (is_scalar_type c.types t) (K.Scalar t) (K.Owned t (n ∷ [])) (some_field (fields c.types t n) refl are);
     many = roomy_many c.types (fields c.types t n) (MorePatterns q qs) fs are room;

@@ -1,10 +1,10 @@
 -- Behind the body of a clause: all but the last one jump to the place where they meet, and the last one goes on there.
 use Rattle.std.proofs.Common.{◌≡◌, ℕ, ◌<◌, ◌≤◌, true, List, Some, sym, ◌∙◌, subst, arith}
 use Rattle.std.proofs.lemmas.Option.{none-some}
-use Rattle.cell_code.specs.declared.kind.Kind.{Kind}
-use Rattle.fip_trees.specs.Tree.{Clauses, NoClauses, MoreClauses}
-use Rattle.code_rules.specs.Codes.{PlainCode, PlainFunction, label_at}
-use Rattle.code_rules.specs.Fitting.{fits}
+use Rattle.separation.specs.cell_code.declared.kind.Kind.{Kind}
+use Rattle.lowering_relation.specs.fip_trees.Tree.{Clauses, NoClauses, MoreClauses}
+use Rattle.separation.specs.code_rules.Codes.{PlainCode, PlainFunction, label_at}
+use Rattle.separation.specs.code_rules.Fitting.{fits}
 use Rattle.lowering_relation.specs.Labels.{Catches, Shows}
 use Rattle.lowering_relation.specs.Joins.{GoesOn}
 use Rattle.lowering_soundness.specs.Parts.{Admits, Part, LastPart}

@@ -1,15 +1,15 @@
 -- What is told where a function is entered is what is known there.
 use Rattle.std.proofs.Common.{◌≡◌, inl, inr, ℕ, zero, suc, ◌+◌, ◌-◌, ◌<◌, ◌≤◌, Bool, true, false, ◌&&◌, not, List, [], ◌∷◌, ◌++◌, length, map, replicate, Option, Some, None, refl, sym, ap, ap₂, ◌∙◌, subst, arith, append_assoc, append-nil, slice_set, if◌then◌else◌}
-use Rattle.fip_language.specs.Table.{Table}
-use Rattle.fip_base.specs.declared.plain.Param.{Param}
-use Rattle.fip_trees.specs.declared.program.Binder.{Binder}
-use Rattle.fip_trees.specs.Tree.{Instance}
-use Rattle.cell_code.specs.declared.kind.Kind.{Kind}
-use Rattle.cell_code.specs.declared.kind.Kind.TheVariants as K
-use Rattle.code_rules.specs.Codes.{PlainCode, PlainFunction}
-use Rattle.code_rules.specs.Types.{is_type, is_scalar_type, all}
-use Rattle.code_rules.specs.Kinds.{at}
-use Rattle.code_rules.specs.Entry.{param_kind, gones, entry}
+use Rattle.separation.specs.fip_language.Table.{Table}
+use Rattle.separation.specs.fip_base.declared.plain.Param.{Param}
+use Rattle.lowering_relation.specs.fip_trees.declared.program.Binder.{Binder}
+use Rattle.lowering_relation.specs.fip_trees.Tree.{Instance}
+use Rattle.separation.specs.cell_code.declared.kind.Kind.{Kind}
+use Rattle.separation.specs.cell_code.declared.kind.Kind.TheVariants as K
+use Rattle.separation.specs.code_rules.Codes.{PlainCode, PlainFunction}
+use Rattle.separation.specs.code_rules.Types.{is_type, is_scalar_type, all}
+use Rattle.separation.specs.code_rules.Kinds.{at}
+use Rattle.separation.specs.code_rules.Entry.{param_kind, gones, entry}
 use Rattle.lowering_relation.specs.declared.held.Held.{Held}
 use Rattle.lowering_relation.specs.declared.held.Held.TheVariants as H
 use Rattle.lowering_relation.specs.Known.{Known}
@@ -129,7 +129,7 @@ entry_covered c st f d scalars typed many params credits room =
     (cover_both c.types (map (param_held st) d.params) (map H.Credit d.credits) (map (param_kind c.types) d.params) (map K.Credit d.credits) (cover_params c st d.params scalars typed) (cover_credits c.types d.credits))
     (cover_gones c.types m)) in
     record {
-      wide = ap length same ∙ (length_entry (map (param_kind c.types) d.params) (map K.Credit d.credits) m ∙ (ap₂ (λ a b. (a + b) + m) (Rattle.separation_kinds.proofs.Basics.length_map (param_kind c.types) d.params) (Rattle.separation_kinds.proofs.Basics.length_map K.Credit d.credits) ∙ (let z : (length d.params + length d.credits) + m ≡ f.registers = omega (arith, e) in z)));
+      wide = ap length same ∙ (length_entry (map (param_kind c.types) d.params) (map K.Credit d.credits) m ∙ (ap₂ (λ a b. (a + b) + m) (Rattle.separation.proofs.separation_kinds.Basics.length_map (param_kind c.types) d.params) (Rattle.separation.proofs.separation_kinds.Basics.length_map K.Credit d.credits) ∙ (let z : (length d.params + length d.credits) + m ≡ f.registers = omega (arith, e) in z)));
       each = λ r. cover_at c.types (known_at_start st f.registers d).held (entry c f) r cover;
     }
   where

@@ -1,19 +1,19 @@
 -- Where a clause was chosen, the registers are as the label at its entry takes them.
 use Rattle.std.proofs.Common.{◌≡◌, ◌⊎◌, inl, inr, ℕ, zero, suc, ◌+◌, ◌<◌, ◌≤◌, Bool, true, false, ◌||◌, ◌&&◌, List, [], ◌∷◌, Option, Some, None, refl, sym, ap, ◌∙◌, subst, true≢false, arith, if◌then◌else◌, ◌==◌}
-use Rattle.fip_language.specs.Table.{Table}
-use Rattle.fip_language.specs.Every.{Among}
-use Rattle.cell_code.specs.declared.kind.From.{From}
-use Rattle.cell_code.specs.declared.kind.Kind.{Kind}
-use Rattle.cell_code.specs.declared.kind.Kind.TheVariants as K
-use Rattle.fip_trees.specs.Tree.{Pattern, BinderPattern, LiteralPattern, ConstructorPattern, Patterns, NoPatterns, MorePatterns, count_patterns}
-use Rattle.code_rules.specs.Types.{count, all, numbers, fields, is_scalar_type}
-use Rattle.code_rules.specs.Kinds.{has, is_free, is_lent_of}
-use Rattle.code_rules.specs.Fitting.{fits, is_subset, takes_from}
-use Rattle.separation_kinds.proofs.Basics.{pick, chosen, refused, or_not, equal, itself, unequal_is, equal_is}
-use Rattle.match_knowledge.specs.declared.heads.Head.TheVariants.{Number, Tag}
-use Rattle.match_knowledge.specs.declared.verdicts.Verdict.TheVariants.{Fits}
-use Rattle.match_knowledge.specs.ValueHeads.{same_head}
-use Rattle.match_knowledge.specs.Known.{Known, Open, Is, Knowns, NoKnowns, MoreKnowns, compare, compare_all, is_in}
+use Rattle.separation.specs.fip_language.Table.{Table}
+use Rattle.separation.specs.fip_language.Every.{Among}
+use Rattle.separation.specs.cell_code.declared.kind.From.{From}
+use Rattle.separation.specs.cell_code.declared.kind.Kind.{Kind}
+use Rattle.separation.specs.cell_code.declared.kind.Kind.TheVariants as K
+use Rattle.lowering_relation.specs.fip_trees.Tree.{Pattern, BinderPattern, LiteralPattern, ConstructorPattern, Patterns, NoPatterns, MorePatterns, count_patterns}
+use Rattle.separation.specs.code_rules.Types.{count, all, numbers, fields, is_scalar_type}
+use Rattle.separation.specs.code_rules.Kinds.{has, is_free, is_lent_of}
+use Rattle.separation.specs.code_rules.Fitting.{fits, is_subset, takes_from}
+use Rattle.separation.proofs.separation_kinds.Basics.{pick, chosen, refused, or_not, equal, itself, unequal_is, equal_is}
+use Rattle.lowering_relation.specs.match_knowledge.declared.heads.Head.TheVariants.{Number, Tag}
+use Rattle.lowering_relation.specs.match_knowledge.declared.verdicts.Verdict.TheVariants.{Fits}
+use Rattle.lowering_relation.specs.match_knowledge.ValueHeads.{same_head}
+use Rattle.lowering_relation.specs.match_knowledge.Known.{Known, Open, Is, Knowns, NoKnowns, MoreKnowns, compare, compare_all, is_in}
 use Rattle.lowering_relation.specs.Spots.{Spot, At, Spots, NoSpots, MoreSpots, register, below, all_in, Differ, AllDiffer}
 use Rattle.lowering_relation.specs.Rows.{row_of, rows_of}
 use Rattle.lowering_relation.specs.Reading.{contains}
@@ -57,9 +57,9 @@ left_subset w t (Is h ks) = kept_subset (Rattle.lowering_relation.specs.Sights.i
 
 pub lent_fits_all : (w : Table) (t : ℕ) (k : Known) (root : Option ℕ) (from : Option From) → fits (K.Lent t (all w t) root None) (K.Lent t (left w t k) root from) ≡ true
 lent_fits_all w t k root from =
-    and_to (t == t) (is_subset (left w t k) (all w t) && (Rattle.code_rules.specs.Kinds.same_root root root && takes_from None from)) (itself t)
-    (and_to (is_subset (left w t k) (all w t)) (Rattle.code_rules.specs.Kinds.same_root root root && takes_from None from) (left_subset w t k)
-    (and_to (Rattle.code_rules.specs.Kinds.same_root root root) (takes_from None from) (root_self root) refl))
+    and_to (t == t) (is_subset (left w t k) (all w t) && (Rattle.separation.specs.code_rules.Kinds.same_root root root && takes_from None from)) (itself t)
+    (and_to (is_subset (left w t k) (all w t)) (Rattle.separation.specs.code_rules.Kinds.same_root root root && takes_from None from) (left_subset w t k)
+    (and_to (Rattle.separation.specs.code_rules.Kinds.same_root root root) (takes_from None from) (root_self root) refl))
 
 pub owned_fits_all : (w : Table) (t : ℕ) (k : Known) → fits (K.Owned t (all w t)) (K.Owned t (left w t k)) ≡ true
 owned_fits_all w t k = and_to (t == t) (is_subset (left w t k) (all w t)) (itself t) (left_subset w t k)
@@ -70,7 +70,7 @@ numbers_has : (i n x : ℕ) → i ≤ x → x < i + n → has (numbers i n) x �
 numbers_has i zero x low high = absurd (omega (arith, low, high))
 numbers_has i (suc n) x low high = elim (or_not (i == x)) as (λ v. has (numbers i (suc n)) x ≡ true) [
   | inl e ↦ ap (λ b. b || has (numbers (suc i) n) x) e
-  | inr e ↦ has_more i (numbers (suc i) n) x (numbers_has (suc i) n x (let z = Rattle.separation_kinds.proofs.Basics.unequal i x e in omega (arith, z, low)) (omega (arith, high)))
+  | inr e ↦ has_more i (numbers (suc i) n) x (numbers_has (suc i) n x (let z = Rattle.separation.proofs.separation_kinds.Basics.unequal i x e in omega (arith, z, low)) (omega (arith, high)))
 ]
 
 pub wide_fits : (w : Table) (h : Held) → BuiltRight w h → fits (kind_of w (widened h)) (kind_of w h) ≡ true

@@ -1,8 +1,8 @@
 -- What the registers hold at the entry of a clause.
 use Rattle.std.proofs.Common.{◌≡◌, inl, inr, ℕ, zero, suc, ◌<◌, Bool, true, false, ◌||◌, List, [], ◌∷◌, length, map, Option, refl, ap, ◌∙◌, arith, if◌then◌else◌, ◌==◌}
-use Rattle.fip_language.specs.Every.{Among}
-use Rattle.fip_trees.specs.Tree.{Pattern, BinderPattern, LiteralPattern, ConstructorPattern, Patterns, NoPatterns, MorePatterns, count_patterns}
-use Rattle.separation_kinds.proofs.Basics.{refused, unequal_is}
+use Rattle.separation.specs.fip_language.Every.{Among}
+use Rattle.lowering_relation.specs.fip_trees.Tree.{Pattern, BinderPattern, LiteralPattern, ConstructorPattern, Patterns, NoPatterns, MorePatterns, count_patterns}
+use Rattle.separation.proofs.separation_kinds.Basics.{refused, unequal_is}
 use Rattle.lowering_relation.specs.Spots.{Spot, At, Spots, NoSpots, MoreSpots, register, below, all_in}
 use Rattle.lowering_relation.specs.Opening.{is_named}
 use Rattle.lowering_relation.specs.Entering.{unnaming, variable_held, with_variable, with_cell, entering, entering_all, entering_root, root_of, spent_if}
@@ -68,14 +68,14 @@ mutual
 abbrev Within : List ℕ → Known → Type 0
 Within zs k = (z : ℕ) → Among z zs → z < length k.held
 
-variable_width : (st : Setting) (takes : Bool) (root : Option ℕ) (b : Rattle.fip_trees.specs.declared.program.Binder.Binder) (r : ℕ) (k : Known) → length (with_variable st takes root b r k).held ≡ length k.held
+variable_width : (st : Setting) (takes : Bool) (root : Option ℕ) (b : Rattle.lowering_relation.specs.fip_trees.declared.program.Binder.Binder) (r : ℕ) (k : Known) → length (with_variable st takes root b r k).held ≡ length k.held
 variable_width st takes root b r k = by (takes || is_named b)
   where
     by : (x : Bool) → length (if x then holding (naming k b.number r) r (variable_held st takes root b.ty) else unnaming k b.number).held ≡ length k.held
     by true = length_set k.held r (variable_held st takes root b.ty)
     by false = refl
 
-variable_at : (st : Setting) (takes : Bool) (root : Option ℕ) (b : Rattle.fip_trees.specs.declared.program.Binder.Binder) (r : ℕ) (k : Known) (z : ℕ) → r < length k.held → held_at (with_variable st takes root b r k).held z ≡ (if takes || is_named b then (if z == r then variable_held st takes root b.ty else held_at k.held z) else held_at k.held z)
+variable_at : (st : Setting) (takes : Bool) (root : Option ℕ) (b : Rattle.lowering_relation.specs.fip_trees.declared.program.Binder.Binder) (r : ℕ) (k : Known) (z : ℕ) → r < length k.held → held_at (with_variable st takes root b r k).held z ≡ (if takes || is_named b then (if z == r then variable_held st takes root b.ty else held_at k.held z) else held_at k.held z)
 variable_at st takes root b r k z within = by (takes || is_named b)
   where
     by : (x : Bool) → held_at (if x then holding (naming k b.number r) r (variable_held st takes root b.ty) else unnaming k b.number).held z ≡ (if x then (if z == r then variable_held st takes root b.ty else held_at k.held z) else held_at k.held z)

@@ -1,12 +1,12 @@
 -- At the entry of a clause what is owned beside the scrutinee stays as it is.
 use Rattle.std.proofs.Common.{◌≡◌, inl, inr, ℕ, ◌≤◌, ◌<◌, Bool, true, false, ◌∷◌, length, Option, Some, None, refl, sym, ap, ◌∙◌, subst, true≢false, arith}
-use Rattle.fip_language.specs.Every.{Among}
-use Rattle.fip_trees.specs.Tree.{Pattern, BinderPattern, LiteralPattern, ConstructorPattern}
-use Rattle.fip_rules.specs.Shapes.{binders}
-use Rattle.type_check.specs.Scope.{Scope, of_binder}
-use Rattle.ownership_calculus.specs.Terms.{Item, Own, Credit}
-use Rattle.code_rules.specs.Kinds.{has}
-use Rattle.separation_kinds.proofs.Basics.{or_not}
+use Rattle.separation.specs.fip_language.Every.{Among}
+use Rattle.lowering_relation.specs.fip_trees.Tree.{Pattern, BinderPattern, LiteralPattern, ConstructorPattern}
+use Rattle.derivation_making.specs.fip_rules.Shapes.{binders}
+use Rattle.derivation_making.specs.type_check.Scope.{Scope, of_binder}
+use Rattle.derivation_making.specs.ownership_calculus.Terms.{Item, Own, Credit}
+use Rattle.separation.specs.code_rules.Kinds.{has}
+use Rattle.separation.proofs.separation_kinds.Basics.{or_not}
 use Rattle.lowering_relation.specs.Spots.{Spot, At, register, below}
 use Rattle.lowering_relation.specs.Entering.{entering_root, root_of}
 use Rattle.lowering_relation.specs.declared.held.Held.{Held}

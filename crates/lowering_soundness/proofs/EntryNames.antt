@@ -1,11 +1,11 @@
 -- Names and credits at the entry of a clause: variables from before keep their registers, unless these become credits,
 -- and credits from before stay the first ones.
 use Rattle.std.proofs.Common.{◌≡◌, inl, inr, ℕ, zero, suc, ◌+◌, ◌<◌, Bool, true, false, ◌||◌, List, [], ◌∷◌, length, map, get_or, Option, Some, None, refl, sym, ap, ◌∙◌, subst, arith, if◌then◌else◌, ◌==◌}
-use Rattle.fip_language.specs.Every.{Among}
-use Rattle.fip_trees.specs.declared.program.Binder.{Binder}
-use Rattle.fip_trees.specs.Tree.{Pattern, BinderPattern, LiteralPattern, ConstructorPattern, Patterns, NoPatterns, MorePatterns, count_patterns}
-use Rattle.fip_rules.specs.Shapes.{binders, binders_all}
-use Rattle.separation_kinds.proofs.Basics.{equal}
+use Rattle.separation.specs.fip_language.Every.{Among}
+use Rattle.lowering_relation.specs.fip_trees.declared.program.Binder.{Binder}
+use Rattle.lowering_relation.specs.fip_trees.Tree.{Pattern, BinderPattern, LiteralPattern, ConstructorPattern, Patterns, NoPatterns, MorePatterns, count_patterns}
+use Rattle.derivation_making.specs.fip_rules.Shapes.{binders, binders_all}
+use Rattle.separation.proofs.separation_kinds.Basics.{equal}
 use Rattle.lowering_relation.specs.Spots.{Spot, At, Spots, NoSpots, MoreSpots, register, below, all_in}
 use Rattle.lowering_relation.specs.Opening.{is_named}
 use Rattle.lowering_relation.specs.Entering.{unnaming, variable_held, with_variable, with_cell, entering, entering_all, root_of, spent_if, entering_root}

@@ -1,11 +1,11 @@
 -- What fits what: a map that takes kinds takes those that they cover, and a wider map takes what a narrower one takes.
 use Rattle.std.proofs.Common.{◌≡◌, inl, inr, ℕ, suc, Bool, true, false, ◌&&◌, ◌||◌, List, [], ◌∷◌, length, Option, Some, None, refl, sym, ap, ◌∙◌, subst, true≢false, arith, ◌==◌}
-use Rattle.cell_code.specs.declared.kind.From.{From}
-use Rattle.cell_code.specs.declared.kind.Kind.{Kind}
-use Rattle.cell_code.specs.declared.kind.Kind.TheVariants.{Gone, Scalar, Owned, Lent, Credit}
-use Rattle.code_rules.specs.Kinds.{at, has, is_free, is_scalar_of, is_credit_of, same_root}
-use Rattle.code_rules.specs.Fitting.{is_subset, takes_from, fits, fit_all}
-use Rattle.separation_kinds.proofs.Basics.{both, one_of, equal, equal_is, itself}
+use Rattle.separation.specs.cell_code.declared.kind.From.{From}
+use Rattle.separation.specs.cell_code.declared.kind.Kind.{Kind}
+use Rattle.separation.specs.cell_code.declared.kind.Kind.TheVariants.{Gone, Scalar, Owned, Lent, Credit}
+use Rattle.separation.specs.code_rules.Kinds.{at, has, is_free, is_scalar_of, is_credit_of, same_root}
+use Rattle.separation.specs.code_rules.Fitting.{is_subset, takes_from, fits, fit_all}
+use Rattle.separation.proofs.separation_kinds.Basics.{both, one_of, equal, equal_is, itself}
 use Rattle.lowering_soundness.specs.Covering.{Covers, Covered}
 use Rattle.lowering_relation.specs.Labels.{Takes, Tells}
 use Rattle.lowering_soundness.proofs.Giving.{and_to}

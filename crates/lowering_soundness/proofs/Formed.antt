@@ -1,25 +1,25 @@
 -- What is known of registers is formed: types are there, constructors are of their types, and credits have the sizes of
 -- cells. So it is behind each value that is computed, each result that is handed on, and at the entry of each clause.
 use Rattle.std.proofs.Common.{◌≡◌, ◌⊎◌, inl, inr, ℕ, zero, suc, ◌<◌, ◌≤◌, Bool, true, false, ◌||◌, ◌&&◌, not, List, [], ◌∷◌, length, map, replicate, Option, Some, None, slice_get, slice_set, get_or, refl, sym, ap, ◌∙◌, subst, true≢false, arith, if◌then◌else◌, ◌==◌, nat_lt}
-use Rattle.fip_base.specs.declared.plain.Param.{Param}
-use Rattle.fip_language.specs.Table.{Table, shapes}
-use Rattle.fip_language.specs.declared.Operator.{Operator}
-use Rattle.fip_language.specs.declared.Operator.TheVariants as O
-use Rattle.fip_trees.specs.declared.program.Binder.{Binder}
-use Rattle.fip_trees.specs.Tree.{Argument, Variable, Literal, Constructor, Arguments, NoArguments, MoreArguments}
-use Rattle.fip_trees.specs.Tree.{Pattern, BinderPattern, LiteralPattern, ConstructorPattern, Patterns, NoPatterns, MorePatterns, count_patterns}
-use Rattle.type_check.specs.World as W
-use Rattle.fip_rules.specs.World as R
-use Rattle.cell_code.specs.declared.code.Instr.{Instr}
-use Rattle.code_rules.specs.Codes.{PlainCode, PlainFunction}
-use Rattle.code_rules.specs.Headers.{is_size, are_types}
-use Rattle.code_rules.specs.Limits.{most_fields}
-use Rattle.code_rules.specs.Ranges.{is_constructor}
-use Rattle.code_rules.specs.Tables.{AreSoundTables}
-use Rattle.code_rules.specs.Types.{is_type, is_scalar_type, count, fields}
-use Rattle.separation_kinds.proofs.Basics.{pick, below as less, below_is, get_within}
-use Rattle.match_knowledge.specs.Patterns.{IsPattern, ArePatterns}
-use Rattle.match_knowledge.specs.declared.heads.Head.TheVariants.{Tag}
+use Rattle.separation.specs.fip_base.declared.plain.Param.{Param}
+use Rattle.separation.specs.fip_language.Table.{Table, shapes}
+use Rattle.separation.specs.fip_language.declared.Operator.{Operator}
+use Rattle.separation.specs.fip_language.declared.Operator.TheVariants as O
+use Rattle.lowering_relation.specs.fip_trees.declared.program.Binder.{Binder}
+use Rattle.lowering_relation.specs.fip_trees.Tree.{Argument, Variable, Literal, Constructor, Arguments, NoArguments, MoreArguments}
+use Rattle.lowering_relation.specs.fip_trees.Tree.{Pattern, BinderPattern, LiteralPattern, ConstructorPattern, Patterns, NoPatterns, MorePatterns, count_patterns}
+use Rattle.derivation_making.specs.type_check.World as W
+use Rattle.derivation_making.specs.fip_rules.World as R
+use Rattle.separation.specs.cell_code.declared.code.Instr.{Instr}
+use Rattle.separation.specs.code_rules.Codes.{PlainCode, PlainFunction}
+use Rattle.separation.specs.code_rules.Headers.{is_size, are_types}
+use Rattle.separation.specs.code_rules.Limits.{most_fields}
+use Rattle.separation.specs.code_rules.Ranges.{is_constructor}
+use Rattle.separation.specs.code_rules.Tables.{AreSoundTables}
+use Rattle.separation.specs.code_rules.Types.{is_type, is_scalar_type, count, fields}
+use Rattle.separation.proofs.separation_kinds.Basics.{pick, below as less, below_is, get_within}
+use Rattle.lowering_relation.specs.match_knowledge.Patterns.{IsPattern, ArePatterns}
+use Rattle.lowering_relation.specs.match_knowledge.declared.heads.Head.TheVariants.{Tag}
 use Rattle.lowering_relation.specs.Rows.{row_of, rows_of}
 use Rattle.lowering_relation.specs.Spots.{Spot, At, Spots, NoSpots, MoreSpots}
 use Rattle.lowering_relation.specs.Opening.{is_named}
@@ -170,7 +170,7 @@ module _ (w : Table) where
     gives_formed fip zero at k end l h x = subst (λ (l : Known). Formed w l.held) (sym h.1) x
     gives_formed fip (suc n) at k end l h x = gives_formed fip n (suc at) h.0 end l h.2 (gives_one_formed fip at k h.0 h.1 x)
 
-    pub over_formed : (fip : Bool) (st : Setting) (o : Known) (e : Rattle.fip_trees.specs.Tree.Expression) (rs : List ℕ) (at : ℕ) (k : Known) (end : ℕ) (l : Known) → LeavesOver fip st f o e rs at k end l → Formed w k.held → Formed w l.held
+    pub over_formed : (fip : Bool) (st : Setting) (o : Known) (e : Rattle.lowering_relation.specs.fip_trees.Tree.Expression) (rs : List ℕ) (at : ℕ) (k : Known) (end : ℕ) (l : Known) → LeavesOver fip st f o e rs at k end l → Formed w k.held → Formed w l.held
     over_formed true st o e rs at k end l h x = subst (λ (l : Known). Formed w l.held) (sym h.1) x
     over_formed false st o e rs at k end l h x = gives_formed false h.steps at k end l h.gives x
 
@@ -267,7 +267,7 @@ module _ (c : PlainCode) (st : Setting) (wd : W.World) (w : R.World) (shares : S
   received_formed hs [] ds typed f = f
   received_formed hs (t ∷ ts) [] typed f = f
   received_formed hs (t ∷ ts) (d ∷ ds) typed f =
-      let both = Rattle.separation_kinds.proofs.Basics.both (is_type c.types t) (are_types c.types ts) typed in
+      let both = Rattle.separation.proofs.separation_kinds.Basics.both (is_type c.types t) (are_types c.types ts) typed in
       received_formed (slice_set hs d (given st t)) ts ds both.1 (set_formed c.types hs d (given st t) (given_formed t both.0) f)
 
   -- ---- the start of a function
@@ -285,13 +285,13 @@ module _ (c : PlainCode) (st : Setting) (wd : W.World) (w : R.World) (shares : S
   params_formed k (p ∷ ps) [] typed f = f
   params_formed k (p ∷ ps) (b ∷ bs) typed f = params_formed (with_param st k p b) ps bs typed.1 (set_formed c.types k.held k.next (param_held st p) (param_formed p typed.0) f)
 
-  credits_formed : (k : Known) (ns : List ℕ) → Rattle.code_rules.specs.Headers.are_sizes ns ≡ true → Formed c.types k.held → Formed c.types (with_credits k ns).held
+  credits_formed : (k : Known) (ns : List ℕ) → Rattle.separation.specs.code_rules.Headers.are_sizes ns ≡ true → Formed c.types k.held → Formed c.types (with_credits k ns).held
   credits_formed k [] sizes f = f
   credits_formed k (n ∷ ns) sizes f =
-      let both = Rattle.separation_kinds.proofs.Basics.both (is_size n) (Rattle.code_rules.specs.Headers.are_sizes ns) sizes in
+      let both = Rattle.separation.proofs.separation_kinds.Basics.both (is_size n) (Rattle.separation.specs.code_rules.Headers.are_sizes ns) sizes in
       credits_formed (with_credit (record k { next = suc k.next }) n k.next) ns both.1 (set_formed c.types k.held k.next (H.Credit n) both.0 f)
 
-  pub start_formed : (n : ℕ) (d : Rattle.fip_trees.specs.Tree.Instance) → ParamsTyped c d.params → Rattle.code_rules.specs.Headers.are_sizes d.credits ≡ true → Formed c.types (known_at_start st n d).held
+  pub start_formed : (n : ℕ) (d : Rattle.lowering_relation.specs.fip_trees.Tree.Instance) → ParamsTyped c d.params → Rattle.separation.specs.code_rules.Headers.are_sizes d.credits ≡ true → Formed c.types (known_at_start st n d).held
   start_formed n d typed sizes =
       credits_formed (with_params st (nothing_known n d.variables) d.params d.binders) d.credits sizes
       (params_formed (nothing_known n d.variables) d.params d.binders typed (nothing_formed c.types n))
@@ -307,7 +307,7 @@ module _ (c : PlainCode) (st : Setting) (wd : W.World) (w : R.World) (shares : S
 
   -- ---- the entry of a clause
 
-  few_fields : (t d : ℕ) (fs : List ℕ) → Rattle.match_knowledge.specs.ValueHeads.IsHead c.types t (Tag d) fs → length fs ≤ most_fields
+  few_fields : (t d : ℕ) (fs : List ℕ) → Rattle.lowering_relation.specs.match_knowledge.ValueHeads.IsHead c.types t (Tag d) fs → length fs ≤ most_fields
   few_fields zero d fs h = absurd h
   few_fields (suc t) d fs h =
       let within : t < length c.types = shapes_there c.types c.types t (let z = get_within (shapes c.types t) d h.0 h.1 in omega (arith, z)) in

@@ -1,23 +1,23 @@
 -- The function of an instance keeps the rules at each of its instructions.
 use Rattle.std.proofs.Common.{◌≡◌, ℕ, zero, suc, ◌+◌, ◌≤◌, Bool, true, false, List, [], ◌∷◌, ◌++◌, length, replicate, Some, None, refl, sym, ap, ◌∙◌, subst, subst₂, arith, append_assoc, append-nil, if◌then◌else◌, ◌==◌}
 use Rattle.std.proofs.lemmas.List.{length-replicate}
-use Rattle.fip_base.specs.declared.plain.Param.{Param}
-use Rattle.fip_trees.specs.declared.program.Binder.{Binder}
-use Rattle.fip_trees.specs.Tree.{Instance}
-use Rattle.fip_rules.specs.World as R
-use Rattle.fip_rules.specs.Shapes.{Names, within, parameters, no_names}
-use Rattle.type_check.specs.Binders.{entry}
-use Rattle.type_check.specs.Scope.{Scope, of_binder}
-use Rattle.type_check.specs.World as W
-use Rattle.type_check.specs.Typing.{Typed, TypesBlock, Parameters, parameter_entries, parameter_scope}
-use Rattle.ownership_calculus.specs.Terms.{Item, Own, has, charge}
-use Rattle.ownership_calculus.specs.Rules as O
-use Rattle.ownership_calculus.specs.ByCases.{Derives}
-use Rattle.ownership_calculus.specs.Functions.{Derived, starting}
-use Rattle.ownership_calculus.proofs.Faithful.{by_cases}
-use Rattle.ownership_agreement.specs.Bodies.{Scalars, borrowed_parameters, owned_parameters, entering_parameters, no_variables, body_term, term_block}
-use Rattle.code_rules.specs.Codes.{PlainCode, PlainFunction}
-use Rattle.code_rules.specs.Types.{is_type, is_scalar_type}
+use Rattle.separation.specs.fip_base.declared.plain.Param.{Param}
+use Rattle.lowering_relation.specs.fip_trees.declared.program.Binder.{Binder}
+use Rattle.lowering_relation.specs.fip_trees.Tree.{Instance}
+use Rattle.derivation_making.specs.fip_rules.World as R
+use Rattle.derivation_making.specs.fip_rules.Shapes.{Names, within, parameters, no_names}
+use Rattle.derivation_making.specs.type_check.Binders.{entry}
+use Rattle.derivation_making.specs.type_check.Scope.{Scope, of_binder}
+use Rattle.derivation_making.specs.type_check.World as W
+use Rattle.derivation_making.specs.type_check.Typing.{Typed, TypesBlock, Parameters, parameter_entries, parameter_scope}
+use Rattle.derivation_making.specs.ownership_calculus.Terms.{Item, Own, has, charge}
+use Rattle.derivation_making.specs.ownership_calculus.Rules as O
+use Rattle.derivation_making.specs.ownership_calculus.ByCases.{Derives}
+use Rattle.derivation_making.specs.ownership_calculus.Functions.{Derived, starting}
+use Rattle.derivation_making.proofs.ownership_calculus.Faithful.{by_cases}
+use Rattle.derivation_making.specs.ownership_agreement.Bodies.{Scalars, borrowed_parameters, owned_parameters, entering_parameters, no_variables, body_term, term_block}
+use Rattle.separation.specs.code_rules.Codes.{PlainCode, PlainFunction}
+use Rattle.separation.specs.code_rules.Types.{is_type, is_scalar_type}
 use Rattle.lowering_relation.specs.Known.{Known}
 use Rattle.lowering_relation.specs.Values.{Setting}
 use Rattle.lowering_relation.specs.LoweredFunctions.{nothing_known, with_params, with_credits, known_at_start}
@@ -40,7 +40,7 @@ use Rattle.lowering_soundness.proofs.Bodies.{block_ends}
 use Rattle.lowering_soundness.proofs.Whole.{kept_whole}
 
 -- the parameters' scope
-scope_same : (fip : Bool) (wt : Rattle.fip_language.specs.Table.Table) (st : Setting) (B : ℕ → Bool) (K : ℕ → Item → ℕ) (u : (z y : ℕ) → K z (Own y) ≡ 0) (sc : (t : ℕ) → is_type wt t ≡ true → Rattle.lowering_relation.specs.Values.is_scalar st t ≡ is_scalar_type wt t) (ps : List Param) (bs : List Binder) → length bs ≡ length ps → parameter_entries ps bs ≡ entries_of bs (types_of fip wt st B K u sc ps)
+scope_same : (fip : Bool) (wt : Rattle.separation.specs.fip_language.Table.Table) (st : Setting) (B : ℕ → Bool) (K : ℕ → Item → ℕ) (u : (z y : ℕ) → K z (Own y) ≡ 0) (sc : (t : ℕ) → is_type wt t ≡ true → Rattle.lowering_relation.specs.Values.is_scalar st t ≡ is_scalar_type wt t) (ps : List Param) (bs : List Binder) → length bs ≡ length ps → parameter_entries ps bs ≡ entries_of bs (types_of fip wt st B K u sc ps)
 scope_same fip wt st B K u sc [] [] many = refl
 scope_same fip wt st B K u sc [] (b ∷ bs) many = absurd (omega (arith, many))
 scope_same fip wt st B K u sc (p ∷ ps) [] many = absurd (omega (arith, many))
@@ -90,14 +90,14 @@ no_owners zero T r = refl
 no_owners (suc n) T r = let z = no_owners n (λ x. T (suc x)) r in omega (arith, z)
 
 -- where nothing is known yet nothing is owned
-nothing_tied : (fip : Bool) (wt : Rattle.fip_language.specs.Table.Table) (B : ℕ → Bool) (K : ℕ → Item → ℕ) (n v : ℕ) → Ties fip wt [] B K (λ i. 0) (λ q. 0) (nothing_known n v)
+nothing_tied : (fip : Bool) (wt : Rattle.separation.specs.fip_language.Table.Table) (B : ℕ → Bool) (K : ℕ → Item → ℕ) (n v : ℕ) → Ties fip wt [] B K (λ i. 0) (λ q. 0) (nothing_known n v)
 nothing_tied fip wt B K n v = record {
   variables = λ x r t h o. absurd (no_register v x r h);
-  trees = λ r. subst₂ (Rattle.ownership_calculus.specs.Rules.Fits fip) (sym (ap (λ h. one_if (Rattle.lowering_relation.specs.Describing.is_tree h)) (held_nothing n r))) (let z = no_owners v (own (λ i. 0)) r in let e : 0 ≡ owners (replicate v None) (own (λ i. 0)) r + 0 = omega (arith, z) in e) (Rattle.ownership_calculus.proofs.Fit.fits_same fip 0);
+  trees = λ r. subst₂ (Rattle.derivation_making.specs.ownership_calculus.Rules.Fits fip) (sym (ap (λ h. one_if (Rattle.lowering_relation.specs.Describing.is_tree h)) (held_nothing n r))) (let z = no_owners v (own (λ i. 0)) r in let e : 0 ≡ owners (replicate v None) (own (λ i. 0)) r + 0 = omega (arith, z) in e) (Rattle.derivation_making.proofs.ownership_calculus.Fit.fits_same fip 0);
   lent = λ x r t h o b. absurd (no_register v x r h);
   rooted = λ r t q e. absurd (lent t q (sym (held_nothing n r) ∙ e));
   bares = λ r t d e. absurd (bare t d (sym (held_nothing n r) ∙ e));
-  sizes = λ m. Rattle.ownership_calculus.proofs.Fit.fits_same fip 0;
+  sizes = λ m. Rattle.derivation_making.proofs.ownership_calculus.Fit.fits_same fip 0;
   credits = λ m r. sym (ap (λ h. one_if (is_credit_of m h)) (held_nothing n r));
   fresh = λ r low. held_nothing n r;
   named = λ x r h. absurd (no_register v x r h);

@@ -1,20 +1,20 @@
 -- Registers that are given or handed over are as asked, and behind that what is told of the kinds stays so.
 use Rattle.std.proofs.Common.{◌≡◌, inl, inr, ℕ, ◌+◌, ◌<◌, Bool, true, false, ◌&&◌, ◌||◌, not, List, [], ◌∷◌, length, Some, None, refl, sym, ap, ◌∙◌, true≢false, if◌then◌else◌, ◌==◌, drop, nat_lt}
 use Rattle.std.specs.Prelude.{option_and_then}
-use Rattle.fip_language.specs.Table.{Table}
-use Rattle.fip_base.specs.declared.plain.Param.{Param}
-use Rattle.cell_code.specs.declared.kind.Kind.{Kind}
-use Rattle.cell_code.specs.declared.kind.Kind.TheVariants.{Gone, Scalar, Owned}
-use Rattle.code_rules.specs.Codes.{PlainCode, params, credits}
-use Rattle.code_rules.specs.Types.{all, is_scalar_type, field_kind}
-use Rattle.code_rules.specs.Kinds as S
-use Rattle.code_rules.specs.Kinds.{at, has}
-use Rattle.code_rules.specs.Ranges.{are_below}
-use Rattle.code_rules.specs.Changes.{written, used_up}
-use Rattle.code_rules.specs.Handing.{give, give_all, pass, pass_all, hand, hand_all, is_lendable, lends, lend_all, kept_if, arguments}
-use Rattle.code_rules.specs.Asked.{are_places}
-use Rattle.code_rules.specs.Leaves as L
-use Rattle.separation_kinds.proofs.Basics.{chosen, refused, both, one_of, equal_is, below}
+use Rattle.separation.specs.fip_language.Table.{Table}
+use Rattle.separation.specs.fip_base.declared.plain.Param.{Param}
+use Rattle.separation.specs.cell_code.declared.kind.Kind.{Kind}
+use Rattle.separation.specs.cell_code.declared.kind.Kind.TheVariants.{Gone, Scalar, Owned}
+use Rattle.separation.specs.code_rules.Codes.{PlainCode, params, credits}
+use Rattle.separation.specs.code_rules.Types.{all, is_scalar_type, field_kind}
+use Rattle.separation.specs.code_rules.Kinds as S
+use Rattle.separation.specs.code_rules.Kinds.{at, has}
+use Rattle.separation.specs.code_rules.Ranges.{are_below}
+use Rattle.separation.specs.code_rules.Changes.{written, used_up}
+use Rattle.separation.specs.code_rules.Handing.{give, give_all, pass, pass_all, hand, hand_all, is_lendable, lends, lend_all, kept_if, arguments}
+use Rattle.separation.specs.code_rules.Asked.{are_places}
+use Rattle.separation.specs.code_rules.Leaves as L
+use Rattle.separation.proofs.separation_kinds.Basics.{chosen, refused, both, one_of, equal_is, below}
 use Rattle.lowering_relation.specs.declared.held.Held.{Held}
 use Rattle.lowering_relation.specs.declared.held.Held.TheVariants as H
 use Rattle.lowering_relation.specs.Describing.{Holding, kind_of, kinds_of, setting, is_tree}

@@ -2,22 +2,22 @@
 -- release nothing, and wait for none of their own group.
 use Rattle.std.proofs.Common.{◌≡◌, ℕ, zero, suc, Bool, true, false, not, List, [], ◌∷◌, map, slice_get, Option, Some, None, refl, sym, ap, ◌∙◌, subst, arith, true≢false}
 use Rattle.std.proofs.lemmas.Option.{none-some, same_Some}
-use Rattle.cell_code.specs.declared.code.Instr.{Instr}
-use Rattle.cell_code.specs.declared.code.Instr.TheVariants as I
-use Rattle.fip_language.specs.declared.FunKind.{FunKind}
-use Rattle.fip_language.specs.declared.FunKind.TheVariants.{Fip, Fbip, Fun}
-use Rattle.fip_trees.specs.declared.least.Violation.{Violation}
-use Rattle.fip_trees.specs.Tree.{Instance, Program}
-use Rattle.call_groups.specs.CallGraph as G
-use Rattle.call_groups.specs.CallGraph.{In, call, calls_of}
+use Rattle.separation.specs.cell_code.declared.code.Instr.{Instr}
+use Rattle.separation.specs.cell_code.declared.code.Instr.TheVariants as I
+use Rattle.separation.specs.fip_language.declared.FunKind.{FunKind}
+use Rattle.separation.specs.fip_language.declared.FunKind.TheVariants.{Fip, Fbip, Fun}
+use Rattle.lowering_relation.specs.fip_trees.declared.least.Violation.{Violation}
+use Rattle.lowering_relation.specs.fip_trees.Tree.{Instance, Program}
+use Rattle.tail_groups.specs.call_groups.CallGraph as G
+use Rattle.tail_groups.specs.call_groups.CallGraph.{In, call, calls_of}
 use Rattle.tail_groups.specs.Sites.{Site, instance_sites, called, instance_calls, call_rows}
 use Rattle.tail_groups.specs.Rules as T
 use Rattle.tail_groups.specs.Rules.{Violates, told}
 use Rattle.tail_groups.specs.Members.{FipCallsFip}
-use Rattle.code_rules.specs.Codes.{PlainCode, PlainFunction, function_at, is_fip, is_weak, is_weaker}
-use Rattle.code_rules.specs.Calls.{IsCall, CallsAt, Calls, Path, SameGroup}
-use Rattle.code_rules.specs.Endings.{releases}
-use Rattle.code_rules.specs.Flow.{IsInstr}
+use Rattle.separation.specs.code_rules.Codes.{PlainCode, PlainFunction, function_at, is_fip, is_weak, is_weaker}
+use Rattle.separation.specs.code_rules.Calls.{IsCall, CallsAt, Calls, Path, SameGroup}
+use Rattle.separation.specs.code_rules.Endings.{releases}
+use Rattle.separation.specs.code_rules.Flow.{IsInstr}
 use Rattle.lowering_relation.specs.Known.{joined}
 use Rattle.lowering_relation.specs.Values.{Setting}
 use Rattle.lowering_relation.specs.LoweredBodies.{has_function, one_more, if_function, function_of}

@@ -2,18 +2,18 @@
 -- known of them, and what was read below them lies in them from now on.
 use Rattle.std.proofs.Common.{◌≡◌, ◌⊎◌, inl, inr, ℕ, zero, suc, Bool, true, false, not, ◌&&◌, ◌||◌, is_some, List, [], ◌∷◌, length, Option, Some, None, refl, sym, ap, ◌∙◌, subst, true≢false, if◌then◌else◌, ◌==◌}
 use Rattle.std.proofs.lemmas.Option.{same_Some}
-use Rattle.fip_language.specs.Table.{Table}
-use Rattle.fip_language.specs.Every.{Among}
-use Rattle.cell_code.specs.declared.kind.From.{From}
-use Rattle.cell_code.specs.declared.kind.Kind.{Kind}
-use Rattle.cell_code.specs.declared.kind.Kind.TheVariants as K
-use Rattle.code_rules.specs.Types.{all, fields, is_scalar_type, field_kind}
-use Rattle.code_rules.specs.Kinds.{has, at, is_lent_of, from_of}
-use Rattle.code_rules.specs.Changes.{forget}
-use Rattle.code_rules.specs.Taking.{Part, part, part_from, is_field, is_heir, is_heir_by, Chain, IsReached, inherited, part_kind as taken_part, with_root, fate, ends, part_or}
-use Rattle.separation_kinds.proofs.Basics.{chosen, refused, or_not, equal, equal_is, itself, unequal_is, one_of}
-use Rattle.match_knowledge.specs.declared.heads.Head.TheVariants.{Number, Tag}
-use Rattle.match_knowledge.specs.Known.{Known, Open, Is, Knowns, NoKnowns, MoreKnowns}
+use Rattle.separation.specs.fip_language.Table.{Table}
+use Rattle.separation.specs.fip_language.Every.{Among}
+use Rattle.separation.specs.cell_code.declared.kind.From.{From}
+use Rattle.separation.specs.cell_code.declared.kind.Kind.{Kind}
+use Rattle.separation.specs.cell_code.declared.kind.Kind.TheVariants as K
+use Rattle.separation.specs.code_rules.Types.{all, fields, is_scalar_type, field_kind}
+use Rattle.separation.specs.code_rules.Kinds.{has, at, is_lent_of, from_of}
+use Rattle.separation.specs.code_rules.Changes.{forget}
+use Rattle.separation.specs.code_rules.Taking.{Part, part, part_from, is_field, is_heir, is_heir_by, Chain, IsReached, inherited, part_kind as taken_part, with_root, fate, ends, part_or}
+use Rattle.separation.proofs.separation_kinds.Basics.{chosen, refused, or_not, equal, equal_is, itself, unequal_is, one_of}
+use Rattle.lowering_relation.specs.match_knowledge.declared.heads.Head.TheVariants.{Number, Tag}
+use Rattle.lowering_relation.specs.match_knowledge.Known.{Known, Open, Is, Knowns, NoKnowns, MoreKnowns}
 use Rattle.lowering_relation.specs.Spots.{Spot, At, Spots, NoSpots, MoreSpots, register, below, all_in}
 use Rattle.lowering_relation.proofs.MatchLists.{among_either, in_head, in_tail}
 use Rattle.lowering_relation.specs.Sights.{left, part_kind, Unread, Below, AllBelow}
@@ -181,14 +181,14 @@ module _ (w : Table) (ks : List Kind) (r : ℕ) (ds ts0 : List ℕ) (reached : �
 
   -- what becomes of a register that gets no field
   abbrev pub gets : ℕ → Kind
-  gets q = if q == r then Rattle.code_rules.specs.Taking.credit (length ds) else forget (ends w ks r (part ds ts0) (length ds) reached) (fate (reached q) r (at ks q))
+  gets q = if q == r then Rattle.separation.specs.code_rules.Taking.credit (length ds) else forget (ends w ks r (part ds ts0) (length ds) reached) (fate (reached q) r (at ks q))
 
   gone_fate : (o : Option ℕ) → fate o r K.Gone ≡ K.Gone
   gone_fate None = refl
   gone_fate (Some d) = refl
 
   pub gets_gone : (q : ℕ) → (q ≡ r → ⊥) → at ks q ≡ K.Gone → gets q ≡ K.Gone
-  gets_gone q ne e = refused (q == r) (Rattle.code_rules.specs.Taking.credit (length ds)) (forget ended (fate (reached q) r (at ks q))) (unequal_is q r ne) ∙ (ap (λ k. forget ended (fate (reached q) r k)) e ∙ ap (forget ended) (gone_fate (reached q)))
+  gets_gone q ne e = refused (q == r) (Rattle.separation.specs.code_rules.Taking.credit (length ds)) (forget ended (fate (reached q) r (at ks q))) (unequal_is q r ne) ∙ (ap (λ k. forget ended (fate (reached q) r k)) e ∙ ap (forget ended) (gone_fate (reached q)))
 
   scalar_fate : (o : Option ℕ) (t : ℕ) → fate o r (K.Scalar t) ≡ K.Scalar t
   scalar_fate None t = refl
@@ -220,10 +220,10 @@ module _ (w : Table) (ks : List Kind) (r : ℕ) (ds ts0 : List ℕ) (reached : �
   pub gets_below : (d q : ℕ) (zs : List ℕ) → (q ≡ r → ⊥) → heir d ≡ true → is_some (part ds ts0 d) ≡ true → ((x : ℕ) → Among x zs → (part ds ts0 x ≡ None) × (x ≡ r → ⊥) × Fated ks heir r d zs (at ks x)) → Fated ks heir r d zs (at ks q) → gets q ≡ with_root d (at ks q)
   gets_below d q zs ne h e each (Leer z) = gets_gone q ne z ∙ sym (ap (with_root d) z)
   gets_below d q zs ne h e each (Plain t z) =
-      refused (q == r) (Rattle.code_rules.specs.Taking.credit (length ds)) (forget ended (fate (reached q) r (at ks q))) (unequal_is q r ne)
+      refused (q == r) (Rattle.separation.specs.code_rules.Taking.credit (length ds)) (forget ended (fate (reached q) r (at ks q))) (unequal_is q r ne)
       ∙ (ap (λ k. forget ended (fate (reached q) r k)) z ∙ (ap (forget ended) (scalar_fate (reached q) t) ∙ sym (ap (with_root d) z)))
   gets_below d q zs ne h e each (Rooted t cs x i z lead within) =
-      refused (q == r) (Rattle.code_rules.specs.Taking.credit (length ds)) (forget ended (fate (reached q) r (at ks q))) (unequal_is q r ne)
+      refused (q == r) (Rattle.separation.specs.code_rules.Taking.credit (length ds)) (forget ended (fate (reached q) r (at ks q))) (unequal_is q r ne)
       ∙ (ap (λ o. forget ended (fate o r (at ks q))) (reached_is ks heir q d lead.steps (reached q) (subst (λ own. Chain ks heir lead.steps (from_of own) d) (sym z) (lead.leads i)) (is q))
       ∙ (ap (λ k. forget ended (with_root d k)) z
       ∙ (forget_same ended (K.Lent t cs (Some d) (Some (from_at x i))) named ∙ sym (ap (with_root d) z))))
@@ -257,7 +257,7 @@ module _ (w : Table) (ks : List Kind) (r : ℕ) (ds ts0 : List ℕ) (reached : �
 
   pub gets_same : (zs : List ℕ) → ((z : ℕ) → heir z ≡ true → Among z zs) → ((z : ℕ) → is_some (part ds ts0 z) ≡ true → Among z zs) → Outside r zs (at ks) → (q : ℕ) → (Among q (r ∷ zs) → ⊥) → gets q ≡ lost r (at ks q)
   gets_same zs heirs dests out q off =
-      refused (q == r) (Rattle.code_rules.specs.Taking.credit (length ds)) (forget ended (fate (reached q) r (at ks q))) (unequal_is q r (λ e. off (inl e)))
+      refused (q == r) (Rattle.separation.specs.code_rules.Taking.credit (length ds)) (forget ended (fate (reached q) r (at ks q))) (unequal_is q r (λ e. off (inl e)))
       ∙ (ap (λ o. forget ended (fate o r (at ks q))) (unreached zs heirs out q off)
       ∙ by (is_lent_of r (at ks q)))
     where

@@ -1,6 +1,6 @@
 -- What is known of registers as a list, and as a function of their numbers.
 use Rattle.std.proofs.Common.{◌≡◌, ℕ, zero, suc, ◌<◌, ◌≤◌, Bool, true, false, List, [], ◌∷◌, length, map, Some, slice_get, slice_set, get_or, refl, sym, ap, ◌∙◌, true≢false, arith, if◌then◌else◌, ◌==◌}
-use Rattle.separation_kinds.proofs.Basics.{pick, chosen, refused, equal, equal_is, unequal, unequal_is, length_map}
+use Rattle.separation.proofs.separation_kinds.Basics.{pick, chosen, refused, equal, equal_is, unequal, unequal_is, length_map}
 use Rattle.lowering_relation.specs.declared.held.Held.{Held}
 use Rattle.lowering_relation.specs.declared.held.Held.TheVariants as H
 use Rattle.lowering_relation.specs.Known.{is_owned, without, used_if, used, used_all}

@@ -1,23 +1,23 @@
 -- A code whose functions are those of accepted instances is sound.
 use Rattle.std.proofs.Common.{◌≡◌, inl, inr, ℕ, zero, suc, ◌+◌, ◌<◌, ◌≤◌, Bool, true, false, not, List, [], ◌∷◌, slice_get, length, Option, Some, None, refl, sym, ap, ◌∙◌, subst, arith, nat_lt, ◌==◌}
 use Rattle.std.proofs.lemmas.Option.{none-some, same_Some}
-use Rattle.fip_language.specs.declared.FunKind.{FunKind}
-use Rattle.fip_base.specs.declared.plain.Param.{Param}
-use Rattle.fip_rules.specs.World as R
-use Rattle.fip_trees.specs.declared.least.Violation.{Violation}
-use Rattle.fip_trees.specs.Tree.{Instance, Program}
+use Rattle.separation.specs.fip_language.declared.FunKind.{FunKind}
+use Rattle.separation.specs.fip_base.declared.plain.Param.{Param}
+use Rattle.derivation_making.specs.fip_rules.World as R
+use Rattle.lowering_relation.specs.fip_trees.declared.least.Violation.{Violation}
+use Rattle.lowering_relation.specs.fip_trees.Tree.{Instance, Program}
 use Rattle.tail_groups.specs.Rules.{Violates}
 use Rattle.tail_groups.specs.Members.{FipCallsFip}
-use Rattle.type_check.specs.World as W
-use Rattle.ownership_calculus.specs.Functions.{Derived}
-use Rattle.ownership_agreement.specs.Bodies.{body_term, borrowed_parameters, owned_parameters}
-use Rattle.code_rules.specs.Breaks.{IsSound}
-use Rattle.code_rules.specs.Codes.{PlainCode, PlainFunction, function_at, is_fip}
-use Rattle.code_rules.specs.Headers.{is_formed, are_params, are_sizes, are_types, are_good_maps}
-use Rattle.code_rules.specs.Limits.{most_credits, most_results, most_registers}
-use Rattle.code_rules.specs.Tables.{AreSoundTables}
-use Rattle.code_rules.specs.Types.{is_type}
-use Rattle.separation_kinds.proofs.Basics.{or_not, below, below_is, unequal_is}
+use Rattle.derivation_making.specs.type_check.World as W
+use Rattle.derivation_making.specs.ownership_calculus.Functions.{Derived}
+use Rattle.derivation_making.specs.ownership_agreement.Bodies.{body_term, borrowed_parameters, owned_parameters}
+use Rattle.separation.specs.code_rules.Breaks.{IsSound}
+use Rattle.separation.specs.code_rules.Codes.{PlainCode, PlainFunction, function_at, is_fip}
+use Rattle.separation.specs.code_rules.Headers.{is_formed, are_params, are_sizes, are_types, are_good_maps}
+use Rattle.separation.specs.code_rules.Limits.{most_credits, most_results, most_registers}
+use Rattle.separation.specs.code_rules.Tables.{AreSoundTables}
+use Rattle.separation.specs.code_rules.Types.{is_type}
+use Rattle.separation.proofs.separation_kinds.Basics.{or_not, below, below_is, unequal_is}
 use Rattle.lowering_relation.specs.Values.{Setting}
 use Rattle.lowering_relation.specs.LoweredBodies.{has_function, one_more, if_function, function_of}
 use Rattle.lowering_soundness.specs.Accepted.{IsDerived, IsWithinLimits}

@@ -1,14 +1,14 @@
 -- What is owned beside a part stays as it is: such parts stand one behind another, and where it does what is known of
 -- registers goes with the variables.
 use Rattle.std.proofs.Common.{◌≡◌, inl, inr, ℕ, zero, suc, ◌+◌, ◌<◌, ◌≤◌, Bool, true, false, List, [], ◌∷◌, length, Option, Some, None, refl, sym, ap, ◌∙◌, subst, true≢false, arith, if◌then◌else◌}
-use Rattle.fip_language.specs.Table.{Table}
-use Rattle.fip_trees.specs.declared.program.Binder.{Binder}
-use Rattle.type_check.specs.Scope.{Scope, of_binder}
-use Rattle.ownership_calculus.specs.Terms.{Item, Own, Credit}
-use Rattle.ownership_calculus.specs.Rules.{Fits}
-use Rattle.code_rules.specs.Codes.{PlainCode, PlainFunction}
-use Rattle.code_rules.specs.Types.{is_scalar_type}
-use Rattle.separation_kinds.proofs.Basics.{or_not, less_or_not}
+use Rattle.separation.specs.fip_language.Table.{Table}
+use Rattle.lowering_relation.specs.fip_trees.declared.program.Binder.{Binder}
+use Rattle.derivation_making.specs.type_check.Scope.{Scope, of_binder}
+use Rattle.derivation_making.specs.ownership_calculus.Terms.{Item, Own, Credit}
+use Rattle.derivation_making.specs.ownership_calculus.Rules.{Fits}
+use Rattle.separation.specs.code_rules.Codes.{PlainCode, PlainFunction}
+use Rattle.separation.specs.code_rules.Types.{is_scalar_type}
+use Rattle.separation.proofs.separation_kinds.Basics.{or_not, less_or_not}
 use Rattle.lowering_relation.specs.declared.held.Held.{Held}
 use Rattle.lowering_relation.specs.declared.held.Held.TheVariants as H
 use Rattle.lowering_relation.specs.Known.{Known, register_of}

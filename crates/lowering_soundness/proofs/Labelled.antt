@@ -1,10 +1,10 @@
 -- What is so of the maps of all labels in a part of a function's code.
 use Rattle.std.proofs.Common.{◌≡◌, inl, inr, ℕ, zero, suc, ◌<◌, ◌≤◌, List, Some, sym, ◌∙◌, ap, arith}
 use Rattle.std.proofs.lemmas.Option.{none-some}
-use Rattle.cell_code.specs.declared.kind.Kind.{Kind}
-use Rattle.code_rules.specs.Codes.{PlainCode, PlainFunction, label_at}
-use Rattle.separation_kinds.proofs.Basics.{less_or_not}
-use Rattle.match_knowledge.specs.Known as M
+use Rattle.separation.specs.cell_code.declared.kind.Kind.{Kind}
+use Rattle.separation.specs.code_rules.Codes.{PlainCode, PlainFunction, label_at}
+use Rattle.separation.proofs.separation_kinds.Basics.{less_or_not}
+use Rattle.lowering_relation.specs.match_knowledge.Known as M
 use Rattle.lowering_relation.specs.Describing.{Holding}
 use Rattle.lowering_relation.specs.Labels.{Tells, Quiet}
 use Rattle.lowering_relation.specs.Sights.{Sight}

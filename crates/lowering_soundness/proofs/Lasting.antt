@@ -1,20 +1,20 @@
 -- A test that no value fails isn't written: what is told stays so where it is known that it holds.
 use Rattle.std.proofs.Common.{◌≡◌, inl, inr, ℕ, zero, suc, true, false, List, [], ◌∷◌, Option, Some, refl, sym, ap, ◌∙◌, subst, true≢false, if◌then◌else◌}
-use Rattle.fip_language.specs.Table.{Table}
-use Rattle.cell_code.specs.declared.kind.Kind.{Kind}
-use Rattle.cell_code.specs.declared.kind.Kind.TheVariants as K
-use Rattle.code_rules.specs.Types.{fields, is_scalar_type}
-use Rattle.separation_kinds.proofs.Basics.{chosen, refused, or_not}
-use Rattle.match_knowledge.specs.declared.heads.Head.{Head}
-use Rattle.match_knowledge.specs.declared.heads.Head.TheVariants.{Number, Tag}
-use Rattle.match_knowledge.specs.declared.verdicts.Verdict.TheVariants.{Asks}
-use Rattle.match_knowledge.specs.ValueHeads.{IsHead, same_head}
-use Rattle.match_knowledge.specs.Patterns as M
-use Rattle.match_knowledge.specs.Patterns.{IsPattern, ArePatterns}
-use Rattle.match_knowledge.specs.Known.{Known, Open, Is, Knowns, NoKnowns, MoreKnowns, compare, compare_all, is_asks, is_in, opens, side, side_all, is_last, are_last}
-use Rattle.match_knowledge.proofs.Facts.{same_is}
-use Rattle.match_knowledge.proofs.Split.{asks_is, both_asks, is_asking}
-use Rattle.match_knowledge.proofs.VerdictFacts.{if_asks}
+use Rattle.separation.specs.fip_language.Table.{Table}
+use Rattle.separation.specs.cell_code.declared.kind.Kind.{Kind}
+use Rattle.separation.specs.cell_code.declared.kind.Kind.TheVariants as K
+use Rattle.separation.specs.code_rules.Types.{fields, is_scalar_type}
+use Rattle.separation.proofs.separation_kinds.Basics.{chosen, refused, or_not}
+use Rattle.lowering_relation.specs.match_knowledge.declared.heads.Head.{Head}
+use Rattle.lowering_relation.specs.match_knowledge.declared.heads.Head.TheVariants.{Number, Tag}
+use Rattle.lowering_relation.specs.match_knowledge.declared.verdicts.Verdict.TheVariants.{Asks}
+use Rattle.lowering_relation.specs.match_knowledge.ValueHeads.{IsHead, same_head}
+use Rattle.lowering_relation.specs.match_knowledge.Patterns as M
+use Rattle.lowering_relation.specs.match_knowledge.Patterns.{IsPattern, ArePatterns}
+use Rattle.lowering_relation.specs.match_knowledge.Known.{Known, Open, Is, Knowns, NoKnowns, MoreKnowns, compare, compare_all, is_asks, is_in, opens, side, side_all, is_last, are_last}
+use Rattle.lowering_relation.proofs.match_knowledge.Facts.{same_is}
+use Rattle.lowering_relation.proofs.match_knowledge.Split.{asks_is, both_asks, is_asking}
+use Rattle.lowering_relation.proofs.match_knowledge.VerdictFacts.{if_asks}
 use Rattle.lowering_relation.specs.Spots.{Spot, At, Spots, NoSpots, MoreSpots, all_in}
 use Rattle.lowering_relation.specs.Sights.{left, part_kind, Unread, Fresh, AllFresh, Below, AllBelow}
 use Rattle.lowering_soundness.proofs.Lefts.{left_last, head_fields, head_fresh}
@@ -22,9 +22,9 @@ use Rattle.lowering_soundness.proofs.Positions.{OnePart, all_fresh_below}
 
 -- the constructor that is the last one
 open_left : (w : Table) (t u : ℕ) (h : Head) (ps : M.Patterns) (out : List Head) → IsPattern w t (M.Test u h ps) → is_in h out ≡ false → is_last w (M.Test u h ps) (Open out) ≡ true → u ≡ t → left w t (Is h (opens ps)) ≡ left w t (Open out)
-open_left w zero u (Number i) ps out typed none last e = absurd (true≢false (sym last ∙ ap (λ t. Rattle.match_knowledge.specs.Known.none_left w t (Number i ∷ out)) e))
+open_left w zero u (Number i) ps out typed none last e = absurd (true≢false (sym last ∙ ap (λ t. Rattle.lowering_relation.specs.match_knowledge.Known.none_left w t (Number i ∷ out)) e))
 open_left w (suc t) u (Number i) ps out typed none last e = absurd typed.2
-open_left w t u (Tag n) ps out typed none last e = left_last w t n out (opens ps) (ap (λ t. Rattle.match_knowledge.specs.Known.none_left w t (Tag n ∷ out)) (sym e) ∙ last) none
+open_left w t u (Tag n) ps out typed none last e = left_last w t n out (opens ps) (ap (λ t. Rattle.lowering_relation.specs.match_knowledge.Known.none_left w t (Tag n ∷ out)) (sym e) ∙ last) none
 
 -- the constructors are the same
 pub last_left : (w : Table) (t : ℕ) (p : M.Pattern) (k : Known) → IsPattern w t p → compare p k ≡ Asks → is_last w p k ≡ true → left w t (side true p k) ≡ left w t k
@@ -33,7 +33,7 @@ last_left w t (M.Test u h ps) (Open out) typed asks last = open_left w t u h ps 
 last_left w t (M.Test u h ps) (Is g ks) typed asks last = refl
 
 settled_fresh : (w : Table) (t u : ℕ) (h : Head) (ps : M.Patterns) (out : List Head) → IsPattern w t (M.Test u h ps) → left w t (Is h (opens ps)) ≡ left w t (Open out) → is_last w (M.Test u h ps) (Open out) ≡ true → u ≡ t → Fresh w t (Open out) → Fresh w t (Is h (opens ps))
-settled_fresh w zero u (Number i) ps out typed same last e fresh = absurd (true≢false (sym last ∙ ap (λ t. Rattle.match_knowledge.specs.Known.none_left w t (Number i ∷ out)) e))
+settled_fresh w zero u (Number i) ps out typed same last e fresh = absurd (true≢false (sym last ∙ ap (λ t. Rattle.lowering_relation.specs.match_knowledge.Known.none_left w t (Number i ∷ out)) e))
 settled_fresh w (suc t) u (Number i) ps out typed same last e fresh = absurd typed.2
 settled_fresh w t u (Tag n) ps out typed same last e fresh = (same ∙ fresh, head_fresh w t n typed.1 ps typed.2 typed.3)
 

@@ -1,18 +1,18 @@
 -- Values, an operator and a call: computed and handed on.
 use Rattle.std.proofs.Common.{◌≡◌, ℕ, suc, ◌+◌, ◌≤◌, Bool, true, ◌&&◌, not, List, [], ◌∷◌, ◌++◌, length, Some, refl, sym, ap, ◌∙◌, subst, arith, append_assoc, slice_get}
-use Rattle.fip_language.specs.declared.Place.{Place}
-use Rattle.fip_language.specs.declared.Operator.{Operator}
-use Rattle.fip_base.specs.declared.plain.Param.{Param}
-use Rattle.fip_trees.specs.Tree.{Argument, Arguments, NoArguments, MoreArguments, Instance}
-use Rattle.fip_rules.specs.World as R
-use Rattle.fip_rules.specs.Shapes.{Names}
-use Rattle.type_check.specs.Scope.{Scope}
-use Rattle.type_check.specs.World as W
-use Rattle.type_check.specs.Typing.{HasType, HaveTypes}
-use Rattle.ownership_calculus.specs.Terms.{Item, Own}
-use Rattle.ownership_calculus.specs.ByCases.{DerivesValues, DerivesPassed}
-use Rattle.ownership_agreement.specs.Bodies.{Scalars, values, credits_of, passed}
-use Rattle.code_rules.specs.Codes.{PlainCode, PlainFunction}
+use Rattle.separation.specs.fip_language.declared.Place.{Place}
+use Rattle.separation.specs.fip_language.declared.Operator.{Operator}
+use Rattle.separation.specs.fip_base.declared.plain.Param.{Param}
+use Rattle.lowering_relation.specs.fip_trees.Tree.{Argument, Arguments, NoArguments, MoreArguments, Instance}
+use Rattle.derivation_making.specs.fip_rules.World as R
+use Rattle.derivation_making.specs.fip_rules.Shapes.{Names}
+use Rattle.derivation_making.specs.type_check.Scope.{Scope}
+use Rattle.derivation_making.specs.type_check.World as W
+use Rattle.derivation_making.specs.type_check.Typing.{HasType, HaveTypes}
+use Rattle.derivation_making.specs.ownership_calculus.Terms.{Item, Own}
+use Rattle.derivation_making.specs.ownership_calculus.ByCases.{DerivesValues, DerivesPassed}
+use Rattle.derivation_making.specs.ownership_agreement.Bodies.{Scalars, values, credits_of, passed}
+use Rattle.separation.specs.code_rules.Codes.{PlainCode, PlainFunction}
 use Rattle.lowering_relation.specs.Known.{Known}
 use Rattle.lowering_relation.specs.Values.{Setting}
 use Rattle.lowering_relation.specs.LoweredBodies.{Return, Into}

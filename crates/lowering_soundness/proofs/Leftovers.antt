@@ -1,13 +1,13 @@
 -- What a clause leaves over is given up behind its body: what is owned beside the match, and what the clause gives, stay.
 use Rattle.std.proofs.Common.{◌≡◌, inl, inr, ℕ, zero, suc, ◌+◌, ◌-◌, ◌<◌, ◌≤◌, Bool, true, false, List, [], ◌∷◌, ◌++◌, length, take, drop, refl, sym, ap, ◌∙◌, subst, subst₂, arith, append-nil, ◌==◌}
-use Rattle.fip_language.specs.Every.{Among}
-use Rattle.fip_language.specs.Table.{Table}
-use Rattle.fip_trees.specs.Tree.{Expression}
-use Rattle.type_check.specs.Scope.{Scope}
-use Rattle.ownership_calculus.specs.Terms.{Item, Credit}
-use Rattle.code_rules.specs.Codes.{PlainCode, PlainFunction}
-use Rattle.code_rules.specs.Types.{is_scalar_type}
-use Rattle.separation_kinds.proofs.Basics.{chosen, refused, or_not, equal, less_or_not}
+use Rattle.separation.specs.fip_language.Every.{Among}
+use Rattle.separation.specs.fip_language.Table.{Table}
+use Rattle.lowering_relation.specs.fip_trees.Tree.{Expression}
+use Rattle.derivation_making.specs.type_check.Scope.{Scope}
+use Rattle.derivation_making.specs.ownership_calculus.Terms.{Item, Credit}
+use Rattle.separation.specs.code_rules.Codes.{PlainCode, PlainFunction}
+use Rattle.separation.specs.code_rules.Types.{is_scalar_type}
+use Rattle.separation.proofs.separation_kinds.Basics.{chosen, refused, or_not, equal, less_or_not}
 use Rattle.lowering_relation.specs.Known.{Known}
 use Rattle.lowering_relation.specs.Values.{Setting}
 use Rattle.lowering_relation.specs.Describing.{held_at, is_tree}
@@ -67,7 +67,7 @@ hold_stays w g h n (r ∷ rs) (t ∷ ts) x le all = (
     owned = λ e. (
         let own = all.0.owned e in
         let a = refused (is_scalar_type w t) 0 (one_if (r == r)) e in
-        let b = ap one_if (Rattle.separation_kinds.proofs.Basics.itself r) in
+        let b = ap one_if (Rattle.separation.proofs.separation_kinds.Basics.itself r) in
         let le_r = le r in
         ap (Rattle.lowering_soundness.specs.Giving.is_owned_of t) (x.tree r (omega (arith, a, b, le_r)) (owned_tree t (g r) own)) ∙ own);
   },

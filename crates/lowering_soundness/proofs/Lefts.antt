@@ -1,18 +1,18 @@
 -- The constructors that a value may still have, and positions of which nothing was found out.
 use Rattle.std.proofs.Common.{◌≡◌, inl, inr, ℕ, zero, suc, ◌+◌, ◌<◌, ◌≤◌, Bool, true, false, not, ◌||◌, List, [], ◌∷◌, length, refl, sym, ap, ◌∙◌, subst, true≢false, arith, if◌then◌else◌, ◌==◌}
-use Rattle.fip_language.specs.Table.{Table, constructors, shapes}
-use Rattle.fip_language.specs.Every.{Among}
-use Rattle.code_rules.specs.Types.{numbers, count, all, fields, fields_of}
-use Rattle.code_rules.specs.Kinds.{has}
-use Rattle.code_rules.specs.Changes.{without}
-use Rattle.separation_kinds.proofs.Basics.{chosen, refused, or_not, equal, equal_is, unequal, unequal_is, get_within}
-use Rattle.match_knowledge.specs.declared.heads.Head.{Head}
-use Rattle.match_knowledge.specs.declared.heads.Head.TheVariants.{Tag}
-use Rattle.match_knowledge.specs.ValueHeads.{IsHead}
-use Rattle.match_knowledge.specs.Patterns as M
-use Rattle.match_knowledge.specs.Patterns.{ArePatterns}
-use Rattle.match_knowledge.specs.Known.{Open, Is, Knowns, is_in, opens, none_left}
-use Rattle.match_knowledge.proofs.Living.{is_all_out}
+use Rattle.separation.specs.fip_language.Table.{Table, constructors, shapes}
+use Rattle.separation.specs.fip_language.Every.{Among}
+use Rattle.separation.specs.code_rules.Types.{numbers, count, all, fields, fields_of}
+use Rattle.separation.specs.code_rules.Kinds.{has}
+use Rattle.separation.specs.code_rules.Changes.{without}
+use Rattle.separation.proofs.separation_kinds.Basics.{chosen, refused, or_not, equal, equal_is, unequal, unequal_is, get_within}
+use Rattle.lowering_relation.specs.match_knowledge.declared.heads.Head.{Head}
+use Rattle.lowering_relation.specs.match_knowledge.declared.heads.Head.TheVariants.{Tag}
+use Rattle.lowering_relation.specs.match_knowledge.ValueHeads.{IsHead}
+use Rattle.lowering_relation.specs.match_knowledge.Patterns as M
+use Rattle.lowering_relation.specs.match_knowledge.Patterns.{ArePatterns}
+use Rattle.lowering_relation.specs.match_knowledge.Known.{Open, Is, Knowns, is_in, opens, none_left}
+use Rattle.lowering_relation.proofs.match_knowledge.Living.{is_all_out}
 use Rattle.lowering_relation.specs.Sights.{kept, not_in, is_tag, left, AllFresh}
 
 -- ---- lists that are sifted

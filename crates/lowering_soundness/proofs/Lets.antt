@@ -1,23 +1,23 @@
 -- What is lent to what a let binds, and the let's variables come into scope.
 use Rattle.std.proofs.Common.{◌≡◌, inl, inr, ℕ, suc, ◌+◌, ◌<◌, ◌≤◌, Bool, true, false, ◌||◌, List, [], ◌∷◌, ◌++◌, length, map, Option, Some, None, refl, sym, ap, ap₂, ◌∙◌, subst, true≢false, arith, append_assoc, if◌then◌else◌, ◌==◌}
 use Rattle.std.specs.Prelude.{nat_lt}
-use Rattle.fip_language.specs.Table.{Table}
-use Rattle.fip_trees.specs.declared.program.Binder.{Binder}
-use Rattle.fip_rules.specs.World as R
-use Rattle.type_check.specs.Binders.{entry, entries}
-use Rattle.type_check.specs.Found.{or_found}
-use Rattle.type_check.specs.Scope.{Scope, of_binder}
-use Rattle.type_check.specs.Typing.{Bind, Annotated}
-use Rattle.ownership_calculus.specs.Terms.{Item, Own, Credit, has, one, given}
-use Rattle.ownership_calculus.specs.Rules.{Fits, lending}
-use Rattle.ownership_calculus.specs.Rules as O
-use Rattle.ownership_calculus.specs.ByCases.{Opens}
-use Rattle.ownership_calculus.proofs.Fit.{fits_same}
-use Rattle.ownership_agreement.specs.Bodies.{variables}
-use Rattle.ownership_agreement.proofs.Basics.{not_owned}
-use Rattle.code_rules.specs.Codes.{PlainCode}
-use Rattle.code_rules.specs.Types.{is_type, is_scalar_type}
-use Rattle.separation_kinds.proofs.Basics.{chosen, refused, or_not, less_or_not, equal, equal_is, unequal, unequal_is, below, one_of}
+use Rattle.separation.specs.fip_language.Table.{Table}
+use Rattle.lowering_relation.specs.fip_trees.declared.program.Binder.{Binder}
+use Rattle.derivation_making.specs.fip_rules.World as R
+use Rattle.derivation_making.specs.type_check.Binders.{entry, entries}
+use Rattle.derivation_making.specs.type_check.Found.{or_found}
+use Rattle.derivation_making.specs.type_check.Scope.{Scope, of_binder}
+use Rattle.derivation_making.specs.type_check.Typing.{Bind, Annotated}
+use Rattle.derivation_making.specs.ownership_calculus.Terms.{Item, Own, Credit, has, one, given}
+use Rattle.derivation_making.specs.ownership_calculus.Rules.{Fits, lending}
+use Rattle.derivation_making.specs.ownership_calculus.Rules as O
+use Rattle.derivation_making.specs.ownership_calculus.ByCases.{Opens}
+use Rattle.derivation_making.proofs.ownership_calculus.Fit.{fits_same}
+use Rattle.derivation_making.specs.ownership_agreement.Bodies.{variables}
+use Rattle.derivation_making.proofs.ownership_agreement.Basics.{not_owned}
+use Rattle.separation.specs.code_rules.Codes.{PlainCode}
+use Rattle.separation.specs.code_rules.Types.{is_type, is_scalar_type}
+use Rattle.separation.proofs.separation_kinds.Basics.{chosen, refused, or_not, less_or_not, equal, equal_is, unequal, unequal_is, below, one_of}
 use Rattle.lowering_relation.specs.declared.held.Held.{Held}
 use Rattle.lowering_relation.specs.declared.held.Held.TheVariants as H
 use Rattle.lowering_relation.specs.Known.{Known, register_of}

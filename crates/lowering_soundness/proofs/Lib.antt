@@ -87,3 +87,11 @@ pub mod Listing
 pub mod StackStraight
 pub mod Reached
 pub mod Numbers
+pub use Rattle.lowering_relation.proofs.credit_check as credit_check
+pub use Rattle.derivation_making.proofs as derivation_making
+pub use Rattle.tail_groups.proofs.fip_language as fip_language
+pub use Rattle.tail_groups.proofs.fip_trees as fip_trees
+pub use Rattle.derivation_making.proofs.ownership_agreement as ownership_agreement
+pub use Rattle.derivation_making.proofs.ownership_calculus as ownership_calculus
+pub use Rattle.separation.proofs.separation_kinds as separation_kinds
+pub use Rattle.derivation_making.proofs.type_check as type_check

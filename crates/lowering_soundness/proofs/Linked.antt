@@ -1,19 +1,19 @@
 -- The roots and froms of the kinds that labels tell: a root is owned, and a from names a field of another register with
 -- the same root.
 use Rattle.std.proofs.Common.{◌≡◌, ◌⊎◌, inl, inr, ℕ, zero, suc, ◌+◌, ◌<◌, ◌≤◌, true, false, List, [], ◌∷◌, length, Option, Some, None, slice_get, refl, sym, ap, ◌∙◌, subst, true≢false, arith, ◌==◌, nat_lt}
-use Rattle.fip_language.specs.Table.{Table, constructors}
-use Rattle.fip_language.specs.Every.{Among}
-use Rattle.cell_code.specs.declared.kind.From.{From}
-use Rattle.cell_code.specs.declared.kind.Kind.{Kind}
-use Rattle.cell_code.specs.declared.kind.Kind.TheVariants as K
-use Rattle.code_rules.specs.Codes.{PlainCode, PlainFunction}
-use Rattle.code_rules.specs.Types.{count, fields, fields_of, is_scalar_type}
-use Rattle.code_rules.specs.Kinds.{is_owned, has, same_root, root_of}
-use Rattle.code_rules.specs.Asked.{only_fields, known_fields}
-use Rattle.separation_kinds.proofs.Basics.{pick, or_not, equal, itself, unequal, unequal_is, below_is, less_or_not}
-use Rattle.match_knowledge.specs.declared.heads.Head.TheVariants.{Number, Tag}
-use Rattle.match_knowledge.specs.Known as M
-use Rattle.match_knowledge.specs.Known.{Open, Is, Knowns, NoKnowns, MoreKnowns}
+use Rattle.separation.specs.fip_language.Table.{Table, constructors}
+use Rattle.separation.specs.fip_language.Every.{Among}
+use Rattle.separation.specs.cell_code.declared.kind.From.{From}
+use Rattle.separation.specs.cell_code.declared.kind.Kind.{Kind}
+use Rattle.separation.specs.cell_code.declared.kind.Kind.TheVariants as K
+use Rattle.separation.specs.code_rules.Codes.{PlainCode, PlainFunction}
+use Rattle.separation.specs.code_rules.Types.{count, fields, fields_of, is_scalar_type}
+use Rattle.separation.specs.code_rules.Kinds.{is_owned, has, same_root, root_of}
+use Rattle.separation.specs.code_rules.Asked.{only_fields, known_fields}
+use Rattle.separation.proofs.separation_kinds.Basics.{pick, or_not, equal, itself, unequal, unequal_is, below_is, less_or_not}
+use Rattle.lowering_relation.specs.match_knowledge.declared.heads.Head.TheVariants.{Number, Tag}
+use Rattle.lowering_relation.specs.match_knowledge.Known as M
+use Rattle.lowering_relation.specs.match_knowledge.Known.{Open, Is, Knowns, NoKnowns, MoreKnowns}
 use Rattle.lowering_relation.specs.Spots.{Spot, At, Spots, NoSpots, MoreSpots, register, below, all_in, Differ, AllDiffer}
 use Rattle.lowering_relation.specs.Entering as E
 use Rattle.lowering_relation.proofs.MatchLists.{among_either, in_tail}

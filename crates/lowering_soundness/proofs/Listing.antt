@@ -1,9 +1,9 @@
 -- The code of `rev` is laid out as its program asks, and what acceptance gives beside typing and derivations holds.
 use Rattle.std.proofs.Common.{◌≡◌, ℕ, zero, suc, Some, slice_get, refl, subst, arith}
 use Rattle.std.proofs.lemmas.Option.{none-some, same_Some}
-use Rattle.fip_language.specs.Table as T
-use Rattle.instance_semantics.specs.Example.{lists, rev}
-use Rattle.code_rules.specs.Codes.{PlainFunction, function_at}
+use Rattle.separation.specs.fip_language.Table as T
+use Rattle.lowering_relation.specs.instance_semantics.Example.{lists, rev}
+use Rattle.separation.specs.code_rules.Codes.{PlainFunction, function_at}
 use Rattle.lowering_relation.specs.LoweredExample.{lists_setting}
 use Rattle.lowering_relation.specs.Known.{joined}
 use Rattle.lowering_relation.specs.LoweredBodies.{function_of}

@@ -1,21 +1,21 @@
 -- A test and a read: each is as asked, and these are the kinds behind it.
 use Rattle.std.proofs.Common.{◌≡◌, ℕ, suc, ◌<◌, Bool, true, false, not, List, [], ◌∷◌, length, slice_get, Some, refl, sym, ap, ◌∙◌, subst, arith, if◌then◌else◌, ◌==◌, nat_lt}
 use Rattle.std.proofs.lemmas.Option.{same_Some}
-use Rattle.fip_language.specs.Table.{Table}
-use Rattle.cell_code.specs.declared.code.Instr.TheVariants as I
-use Rattle.cell_code.specs.declared.kind.Kind.{Kind}
-use Rattle.cell_code.specs.declared.kind.Kind.TheVariants as K
-use Rattle.code_rules.specs.Codes.{PlainCode, PlainFunction}
-use Rattle.code_rules.specs.Types.{lent_kind}
-use Rattle.code_rules.specs.Kinds.{at, is_free, is_scalar_of, set_of, root_of}
-use Rattle.code_rules.specs.Changes.{forget, written, narrow, tested, without}
-use Rattle.code_rules.specs.Asked.{may_have, known_fields}
-use Rattle.code_rules.specs.Flow.{IsInstr}
-use Rattle.separation_kinds.proofs.Basics.{below_is, get_within, length_become}
-use Rattle.separation_kinds.proofs.KindLemmas.{put, dropped, is_one, at_written}
-use Rattle.separation_kinds.proofs.Fits.{narrowed, at_tested}
-use Rattle.match_knowledge.specs.declared.heads.Head.{Head}
-use Rattle.match_knowledge.specs.declared.heads.Head.TheVariants.{Number, Tag}
+use Rattle.separation.specs.fip_language.Table.{Table}
+use Rattle.separation.specs.cell_code.declared.code.Instr.TheVariants as I
+use Rattle.separation.specs.cell_code.declared.kind.Kind.{Kind}
+use Rattle.separation.specs.cell_code.declared.kind.Kind.TheVariants as K
+use Rattle.separation.specs.code_rules.Codes.{PlainCode, PlainFunction}
+use Rattle.separation.specs.code_rules.Types.{lent_kind}
+use Rattle.separation.specs.code_rules.Kinds.{at, is_free, is_scalar_of, set_of, root_of}
+use Rattle.separation.specs.code_rules.Changes.{forget, written, narrow, tested, without}
+use Rattle.separation.specs.code_rules.Asked.{may_have, known_fields}
+use Rattle.separation.specs.code_rules.Flow.{IsInstr}
+use Rattle.separation.proofs.separation_kinds.Basics.{below_is, get_within, length_become}
+use Rattle.separation.proofs.separation_kinds.KindLemmas.{put, dropped, is_one, at_written}
+use Rattle.separation.proofs.separation_kinds.Fits.{narrowed, at_tested}
+use Rattle.lowering_relation.specs.match_knowledge.declared.heads.Head.{Head}
+use Rattle.lowering_relation.specs.match_knowledge.declared.heads.Head.TheVariants.{Number, Tag}
 use Rattle.lowering_relation.specs.Landing.{test_of}
 use Rattle.lowering_soundness.specs.Covering.{Covered}
 use Rattle.lowering_soundness.specs.Rows.{IsRow}

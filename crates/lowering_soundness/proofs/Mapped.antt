@@ -1,17 +1,17 @@
 -- The label maps of an instance's function are formed.
 use Rattle.std.proofs.Common.{◌≡◌, ℕ, ◌<◌, Bool, true, ◌&&◌, List, [], ◌∷◌, length, Some, refl, ◌∙◌, arith, nat_lt, ◌==◌}
-use Rattle.cell_code.specs.declared.kind.Kind.{Kind}
-use Rattle.fip_language.specs.Table.{Table}
-use Rattle.fip_rules.specs.World as R
-use Rattle.fip_trees.specs.Tree.{Instance}
-use Rattle.ownership_agreement.specs.Bodies.{body_term, borrowed_parameters, owned_parameters}
-use Rattle.ownership_calculus.specs.Functions.{Derived}
-use Rattle.type_check.specs.Typing.{Typed}
-use Rattle.type_check.specs.World as W
-use Rattle.code_rules.specs.Codes.{PlainCode, PlainFunction, LabelMap, label_at}
-use Rattle.code_rules.specs.Headers.{are_sizes, are_good_kinds, are_good_maps}
-use Rattle.code_rules.specs.Tables.{AreSoundTables}
-use Rattle.separation_kinds.proofs.Basics.{chosen, refused, equal_is, itself, unequal_is, below_is}
+use Rattle.separation.specs.cell_code.declared.kind.Kind.{Kind}
+use Rattle.separation.specs.fip_language.Table.{Table}
+use Rattle.derivation_making.specs.fip_rules.World as R
+use Rattle.lowering_relation.specs.fip_trees.Tree.{Instance}
+use Rattle.derivation_making.specs.ownership_agreement.Bodies.{body_term, borrowed_parameters, owned_parameters}
+use Rattle.derivation_making.specs.ownership_calculus.Functions.{Derived}
+use Rattle.derivation_making.specs.type_check.Typing.{Typed}
+use Rattle.derivation_making.specs.type_check.World as W
+use Rattle.separation.specs.code_rules.Codes.{PlainCode, PlainFunction, LabelMap, label_at}
+use Rattle.separation.specs.code_rules.Headers.{are_sizes, are_good_kinds, are_good_maps}
+use Rattle.separation.specs.code_rules.Tables.{AreSoundTables}
+use Rattle.separation.proofs.separation_kinds.Basics.{chosen, refused, equal_is, itself, unequal_is, below_is}
 use Rattle.lowering_relation.specs.LoweredFunctions.{known_at_start}
 use Rattle.lowering_relation.specs.Values.{Setting}
 use Rattle.lowering_relation.specs.LaidFunctions.{FunctionLaid}

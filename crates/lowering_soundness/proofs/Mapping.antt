@@ -1,28 +1,28 @@
 -- The maps of all labels of an instance's function are formed: where a straight part begins, what is known is formed and
 -- goes with the variables in scope; and what is told while a clause is chosen goes with the registers before the match.
 use Rattle.std.proofs.Common.{◌≡◌, inl, inr, ℕ, suc, ◌+◌, ◌≤◌, Bool, true, false, ◌&&◌, not, slice_get, List, [], ◌∷◌, ◌++◌, length, map, Some, refl, sym, ap, ◌∙◌, subst, arith}
-use Rattle.fip_language.specs.declared.Place.{Place}
-use Rattle.fip_language.specs.declared.Operator.{Operator}
-use Rattle.fip_trees.specs.Tree.{Argument, Arguments, NoArguments, MoreArguments, Pattern, Clauses, NoClauses, MoreClauses}
-use Rattle.fip_trees.specs.Tree.{Expression, Give, Tuple, Operation, Call, Match, Nested, Block, Last, Let}
-use Rattle.cell_code.specs.declared.kind.Kind.{Kind}
-use Rattle.fip_rules.specs.World as R
-use Rattle.fip_rules.specs.Shapes.{Names, behind, shape, binders, takes}
-use Rattle.type_check.specs.Binders.{all_annotated, entries}
-use Rattle.type_check.specs.Scope.{Scope}
-use Rattle.type_check.specs.World as W
-use Rattle.type_check.specs.Typing.{Types, TypesBlock, TypesClauses, bound_by}
-use Rattle.ownership_calculus.specs.Terms.{Item, Own, Term}
-use Rattle.ownership_calculus.specs.Rules.{lending}
-use Rattle.ownership_calculus.specs.Rules as O
-use Rattle.ownership_calculus.specs.ByCases.{Derives}
-use Rattle.ownership_agreement.specs.Bodies.{Scalars, variables, entering, inside, term, term_block, clauses, nodes, past_clause}
+use Rattle.separation.specs.fip_language.declared.Place.{Place}
+use Rattle.separation.specs.fip_language.declared.Operator.{Operator}
+use Rattle.lowering_relation.specs.fip_trees.Tree.{Argument, Arguments, NoArguments, MoreArguments, Pattern, Clauses, NoClauses, MoreClauses}
+use Rattle.lowering_relation.specs.fip_trees.Tree.{Expression, Give, Tuple, Operation, Call, Match, Nested, Block, Last, Let}
+use Rattle.separation.specs.cell_code.declared.kind.Kind.{Kind}
+use Rattle.derivation_making.specs.fip_rules.World as R
+use Rattle.derivation_making.specs.fip_rules.Shapes.{Names, behind, shape, binders, takes}
+use Rattle.derivation_making.specs.type_check.Binders.{all_annotated, entries}
+use Rattle.derivation_making.specs.type_check.Scope.{Scope}
+use Rattle.derivation_making.specs.type_check.World as W
+use Rattle.derivation_making.specs.type_check.Typing.{Types, TypesBlock, TypesClauses, bound_by}
+use Rattle.derivation_making.specs.ownership_calculus.Terms.{Item, Own, Term}
+use Rattle.derivation_making.specs.ownership_calculus.Rules.{lending}
+use Rattle.derivation_making.specs.ownership_calculus.Rules as O
+use Rattle.derivation_making.specs.ownership_calculus.ByCases.{Derives}
+use Rattle.derivation_making.specs.ownership_agreement.Bodies.{Scalars, variables, entering, inside, term, term_block, clauses, nodes, past_clause}
 use Rattle.derivation_making.proofs.Reading.{next_behind}
-use Rattle.code_rules.specs.Codes.{PlainCode, PlainFunction}
-use Rattle.code_rules.specs.Kinds.{at as kind_at}
-use Rattle.code_rules.specs.Tables.{AreSoundTables}
-use Rattle.code_rules.specs.Types.{is_type}
-use Rattle.match_knowledge.specs.Patterns.{IsPattern}
+use Rattle.separation.specs.code_rules.Codes.{PlainCode, PlainFunction}
+use Rattle.separation.specs.code_rules.Kinds.{at as kind_at}
+use Rattle.separation.specs.code_rules.Tables.{AreSoundTables}
+use Rattle.separation.specs.code_rules.Types.{is_type}
+use Rattle.lowering_relation.specs.match_knowledge.Patterns.{IsPattern}
 use Rattle.lowering_relation.specs.Spots.{register}
 use Rattle.lowering_relation.specs.Opening.{Roomy}
 use Rattle.lowering_relation.specs.Rows.{row_of}

@@ -1,25 +1,25 @@
 -- A match begins: what its scrutinee is, what is owned where its tests begin, and that these are as they should be.
 use Rattle.std.proofs.Common.{◌≡◌, inl, inr, ℕ, zero, suc, ◌+◌, ◌<◌, ◌≤◌, Bool, true, false, ◌&&◌, not, List, [], ◌∷◌, length, slice_get, Option, Some, None, refl, sym, ap, ◌∙◌, subst, subst₂, true≢false, arith, if◌then◌else◌}
 use Rattle.std.proofs.lemmas.Option.{same_Some}
-use Rattle.fip_language.specs.Table.{Table}
-use Rattle.fip_language.specs.Every.{Among}
-use Rattle.fip_trees.specs.Tree.{Expression}
-use Rattle.fip_trees.specs.Tree.{Argument, Variable, Literal, Constructor, Pattern, Clauses, NoClauses, MoreClauses}
-use Rattle.fip_rules.specs.World as R
-use Rattle.fip_rules.specs.Marks.{Mark}
-use Rattle.fip_rules.specs.Shapes.{Names, known}
-use Rattle.type_check.specs.Scope.{Scope, of_binder}
-use Rattle.type_check.specs.World as W
-use Rattle.type_check.specs.Typing.{HasType, IsPattern, TypesClauses}
-use Rattle.ownership_calculus.specs.Terms.{Item, Own, Credit}
-use Rattle.ownership_calculus.specs.Terms as C
-use Rattle.ownership_calculus.specs.Rules.{Fits, Lends}
-use Rattle.ownership_calculus.specs.ByCases.{Derives, DerivesValue, DerivesLent, DerivesTaken}
-use Rattle.ownership_calculus.proofs.Fit.{fits_same, fits_sum}
-use Rattle.ownership_agreement.specs.Bodies.{Scalars, variable, value, lent_value, matched}
-use Rattle.code_rules.specs.Codes.{PlainCode, PlainFunction}
-use Rattle.code_rules.specs.Types.{is_type, is_scalar_type}
-use Rattle.separation_kinds.proofs.Basics.{refused, less_or_not, equal}
+use Rattle.separation.specs.fip_language.Table.{Table}
+use Rattle.separation.specs.fip_language.Every.{Among}
+use Rattle.lowering_relation.specs.fip_trees.Tree.{Expression}
+use Rattle.lowering_relation.specs.fip_trees.Tree.{Argument, Variable, Literal, Constructor, Pattern, Clauses, NoClauses, MoreClauses}
+use Rattle.derivation_making.specs.fip_rules.World as R
+use Rattle.derivation_making.specs.fip_rules.Marks.{Mark}
+use Rattle.derivation_making.specs.fip_rules.Shapes.{Names, known}
+use Rattle.derivation_making.specs.type_check.Scope.{Scope, of_binder}
+use Rattle.derivation_making.specs.type_check.World as W
+use Rattle.derivation_making.specs.type_check.Typing.{HasType, IsPattern, TypesClauses}
+use Rattle.derivation_making.specs.ownership_calculus.Terms.{Item, Own, Credit}
+use Rattle.derivation_making.specs.ownership_calculus.Terms as C
+use Rattle.derivation_making.specs.ownership_calculus.Rules.{Fits, Lends}
+use Rattle.derivation_making.specs.ownership_calculus.ByCases.{Derives, DerivesValue, DerivesLent, DerivesTaken}
+use Rattle.derivation_making.proofs.ownership_calculus.Fit.{fits_same, fits_sum}
+use Rattle.derivation_making.specs.ownership_agreement.Bodies.{Scalars, variable, value, lent_value, matched}
+use Rattle.separation.specs.code_rules.Codes.{PlainCode, PlainFunction}
+use Rattle.separation.specs.code_rules.Types.{is_type, is_scalar_type}
+use Rattle.separation.proofs.separation_kinds.Basics.{refused, less_or_not, equal}
 use Rattle.lowering_relation.specs.Spots.{register, below}
 use Rattle.lowering_relation.specs.declared.held.Held.{Held}
 use Rattle.lowering_relation.specs.declared.held.Held.TheVariants as H
@@ -27,7 +27,7 @@ use Rattle.lowering_relation.specs.Known.{Known, register_of}
 use Rattle.lowering_relation.specs.Values.{Setting, is_scalar}
 use Rattle.lowering_relation.specs.Describing.{held_at, kind_of, is_tree}
 use Rattle.lowering_soundness.specs.Giving.{is_owned_of}
-use Rattle.cell_code.specs.declared.kind.Kind.{Kind}
+use Rattle.separation.specs.cell_code.declared.kind.Kind.{Kind}
 use Rattle.lowering_soundness.specs.Parts.{Part}
 use Rattle.lowering_soundness.specs.Ties.{owners, own, owe, owed, is_read_of, LiesIn, Rooted, Ties}
 use Rattle.lowering_relation.specs.Labels.{told}
@@ -121,7 +121,7 @@ module _ (c : PlainCode) (st : Setting) (wd : W.World) (w : R.World) (shares : S
         least = λ y. omega arith;
         stands = (ties_owe fip c.types s B K (λ i. remains i + X i) (λ q. owed c.types (r ∷ []) (t ∷ []) q + 0) (λ q. owe c.types t r q + 0) k (λ q. omega arith) got.ties, got.hold.0, sc0);
         derives = d.4;
-        none = λ y low. (let a = none y low in let b = Rattle.ownership_calculus.proofs.Fit.fits_le fip (P (Own y)) (P0 (Own y) + remains (Own y)) (d.2 (Own y)) in omega (arith, a, b));
+        none = λ y low. (let a = none y low in let b = Rattle.derivation_making.proofs.ownership_calculus.Fit.fits_le fip (P (Own y)) (P0 (Own y) + remains (Own y)) (d.2 (Own y)) in omega (arith, a, b));
       }
   owner false s sc n B K P X k a v t r cs kept x tree named d none ties = record {
     owned = P;
@@ -328,7 +328,7 @@ module _ (c : PlainCode) (st : Setting) (wd : W.World) (w : R.World) (shares : S
 
   -- the tests stand before what is so from the first clause's entry on
   module _ (P : ℕ → (ℕ → Kind) → Type 0) (on_stretch : (a : ℕ) (m : ℕ → Kind) (b : ℕ) (l : ℕ → Kind) → Stretch c f a m b → P b l → P a m) (on_part : (a : ℕ) (m : ℕ → Kind) (b : ℕ) (l : ℕ → Kind) → Part c f a m b l → P b l → P a m) where
-    tests_any : (ch : Choice) (l : Known) (q : Pattern) (at mid sides e n : ℕ) → MatchStands c st f ch l → EntriesLaid c st f ch l → ChunkLaid c f (held_at l.held) ch at (Rattle.match_knowledge.specs.Known.Open []) [] (told c l) mid → SidesLaid c f (wide_at (held_at l.held)) ch sides mid e → EntryLaid c st f ch l 0 q e n → P e (told c (entered st ch q l n)) → P at (told c l)
+    tests_any : (ch : Choice) (l : Known) (q : Pattern) (at mid sides e n : ℕ) → MatchStands c st f ch l → EntriesLaid c st f ch l → ChunkLaid c f (held_at l.held) ch at (Rattle.lowering_relation.specs.match_knowledge.Known.Open []) [] (told c l) mid → SidesLaid c f (wide_at (held_at l.held)) ch sides mid e → EntryLaid c st f ch l 0 q e n → P e (told c (entered st ch q l n)) → P at (told c l)
     tests_any ch l q at mid sides e n stands entries first rest entry body = elim (less_or_not 0 mid) as (λ v. P at (told c l)) [
       | inl low ↦ on_stretch at (told c l) e (told c (entered st ch q l n)) (match_stretch c st f ch l stands entries at mid sides e first rest low) body
       | inr none ↦
@@ -355,4 +355,4 @@ module _ (c : PlainCode) (st : Setting) (wd : W.World) (w : R.World) (shares : S
         by (inl y) = subst (λ (l : Known). P at (told c l)) y.0 tests_known
         by (inr y) =
             on_part at (told c k) at (told c laid.begins.known)
-            (catch_part c f at (told c k) (told c laid.begins.known) y.1 (λ r. ap (λ (l : Known). Rattle.code_rules.specs.Fitting.fits (told c l r) (told c k r)) y.0 ∙ (ap (λ h. Rattle.code_rules.specs.Fitting.fits (kind_of c.types h) (kind_of c.types (held_at k.held r))) (held_wide k.held r) ∙ wide_fits c.types (held_at k.held r) (laid.begins.built r)))) tests_known
+            (catch_part c f at (told c k) (told c laid.begins.known) y.1 (λ r. ap (λ (l : Known). Rattle.separation.specs.code_rules.Fitting.fits (told c l r) (told c k r)) y.0 ∙ (ap (λ h. Rattle.separation.specs.code_rules.Fitting.fits (kind_of c.types h) (kind_of c.types (held_at k.held r))) (held_wide k.held r) ∙ wide_fits c.types (held_at k.held r) (laid.begins.built r)))) tests_known

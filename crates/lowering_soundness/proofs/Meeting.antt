@@ -2,16 +2,16 @@
 -- them still owns all do.
 use Rattle.std.proofs.Common.{◌≡◌, ◌⊎◌, inl, inr, ℕ, zero, suc, ◌+◌, ◌-◌, ◌<◌, ◌≤◌, Bool, true, false, List, [], ◌∷◌, length, Option, Some, None, refl, sym, ap, ◌∙◌, subst, subst₂, true≢false, arith, ◌==◌, ◌&&◌, if◌then◌else◌}
 use Rattle.std.proofs.lemmas.Option.{none-some}
-use Rattle.fip_language.specs.Table.{Table}
-use Rattle.fip_language.specs.Every.{Among}
-use Rattle.fip_trees.specs.Tree.{Expression}
-use Rattle.type_check.specs.Scope.{Scope}
-use Rattle.ownership_calculus.specs.Terms.{Item, Own, Credit}
-use Rattle.ownership_calculus.specs.Rules.{Fits}
-use Rattle.ownership_calculus.proofs.Fit.{fits_le}
-use Rattle.code_rules.specs.Types.{is_scalar_type}
-use Rattle.code_rules.specs.Fitting.{fits}
-use Rattle.separation_kinds.proofs.Basics.{chosen, refused, or_not, equal, equal_is, less_or_not}
+use Rattle.separation.specs.fip_language.Table.{Table}
+use Rattle.separation.specs.fip_language.Every.{Among}
+use Rattle.lowering_relation.specs.fip_trees.Tree.{Expression}
+use Rattle.derivation_making.specs.type_check.Scope.{Scope}
+use Rattle.derivation_making.specs.ownership_calculus.Terms.{Item, Own, Credit}
+use Rattle.derivation_making.specs.ownership_calculus.Rules.{Fits}
+use Rattle.derivation_making.proofs.ownership_calculus.Fit.{fits_le}
+use Rattle.separation.specs.code_rules.Types.{is_scalar_type}
+use Rattle.separation.specs.code_rules.Fitting.{fits}
+use Rattle.separation.proofs.separation_kinds.Basics.{chosen, refused, or_not, equal, equal_is, less_or_not}
 use Rattle.lowering_relation.specs.declared.held.Held.{Held}
 use Rattle.lowering_relation.specs.declared.held.Held.TheVariants as H
 use Rattle.lowering_relation.specs.declared.held.Credit as D

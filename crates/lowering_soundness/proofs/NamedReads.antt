@@ -1,19 +1,19 @@
 -- What a chosen pattern names is read: each read is as asked.
 use Rattle.std.proofs.Common.{◌≡◌, ◌⊎◌, inl, inr, ℕ, suc, ◌≤◌, Bool, true, false, List, [], ◌∷◌, length, slice_get, Option, Some, refl, sym, ap, ◌∙◌, subst, true≢false, arith, if◌then◌else◌, ◌==◌}
-use Rattle.fip_language.specs.Every.{Among}
-use Rattle.cell_code.specs.declared.kind.Kind.{Kind}
-use Rattle.fip_trees.specs.Tree.{Pattern, BinderPattern, LiteralPattern, ConstructorPattern, Patterns, NoPatterns, MorePatterns}
-use Rattle.code_rules.specs.Codes.{PlainCode, PlainFunction}
-use Rattle.code_rules.specs.Types.{fields}
-use Rattle.code_rules.specs.Kinds.{root_of}
-use Rattle.code_rules.specs.Asked.{known_fields}
-use Rattle.separation_kinds.proofs.Basics.{or_not, equal, unequal, neither}
-use Rattle.match_knowledge.specs.declared.heads.Head.TheVariants.{Number, Tag}
-use Rattle.match_knowledge.specs.declared.verdicts.Verdict.{Verdict}
-use Rattle.match_knowledge.specs.declared.verdicts.Verdict.TheVariants.{Fits, Misses, Asks}
-use Rattle.match_knowledge.specs.ValueHeads.{IsHead, same_head}
-use Rattle.match_knowledge.specs.Patterns.{IsPattern, ArePatterns}
-use Rattle.match_knowledge.specs.Known.{Known, Open, Is, Knowns, NoKnowns, MoreKnowns, both, compare, compare_all}
+use Rattle.separation.specs.fip_language.Every.{Among}
+use Rattle.separation.specs.cell_code.declared.kind.Kind.{Kind}
+use Rattle.lowering_relation.specs.fip_trees.Tree.{Pattern, BinderPattern, LiteralPattern, ConstructorPattern, Patterns, NoPatterns, MorePatterns}
+use Rattle.separation.specs.code_rules.Codes.{PlainCode, PlainFunction}
+use Rattle.separation.specs.code_rules.Types.{fields}
+use Rattle.separation.specs.code_rules.Kinds.{root_of}
+use Rattle.separation.specs.code_rules.Asked.{known_fields}
+use Rattle.separation.proofs.separation_kinds.Basics.{or_not, equal, unequal, neither}
+use Rattle.lowering_relation.specs.match_knowledge.declared.heads.Head.TheVariants.{Number, Tag}
+use Rattle.lowering_relation.specs.match_knowledge.declared.verdicts.Verdict.{Verdict}
+use Rattle.lowering_relation.specs.match_knowledge.declared.verdicts.Verdict.TheVariants.{Fits, Misses, Asks}
+use Rattle.lowering_relation.specs.match_knowledge.ValueHeads.{IsHead, same_head}
+use Rattle.lowering_relation.specs.match_knowledge.Patterns.{IsPattern, ArePatterns}
+use Rattle.lowering_relation.specs.match_knowledge.Known.{Known, Open, Is, Knowns, NoKnowns, MoreKnowns, both, compare, compare_all}
 use Rattle.lowering_relation.specs.Spots.{Spot, At, Spots, NoSpots, MoreSpots, register, below, all_in, Differ, AllDiffer}
 use Rattle.lowering_relation.specs.Rows.{row_of, rows_of}
 use Rattle.lowering_relation.specs.Reading.{contains}
@@ -155,7 +155,7 @@ module _ (c : PlainCode) (f : PlainFunction) (r0 : ℕ) where
         reads_none c f r0 (NamedRead (BinderPattern b) s) (Below c.types root t k s) (below s) at read m mid more h.0 h.1 (λ e. there e refl) parts froms
     names root t (LiteralPattern i p) k s at read m mid more end typed fit differ off may own known there parts h froms quiet le =
         reads_none c f r0 (NamedRead (LiteralPattern i p) s) (Below c.types root t k s) (below s) at read m mid more h.0 h.1 tt parts froms
-    names root t (ConstructorPattern u d n a p ps) (Open out) s at read m mid more end typed fit differ off may own known there parts h froms quiet le = absurd (open_fits (Rattle.match_knowledge.specs.Known.is_in (Tag n) out) fit)
+    names root t (ConstructorPattern u d n a p ps) (Open out) s at read m mid more end typed fit differ off may own known there parts h froms quiet le = absurd (open_fits (Rattle.lowering_relation.specs.match_knowledge.Known.is_in (Tag n) out) fit)
     names root t (ConstructorPattern u d n a p ps) (Is (Number j) ks) s at read m mid more end typed fit differ off may own known there parts h froms quiet le = absurd (true≢false (sym (if_fits (same_head (Tag n) (Number j)) (compare_all (rows_of ps) ks) fit).0))
     names root t (ConstructorPattern u d n a p NoPatterns) (Is (Tag l) ks) (At r fs) at read m mid more end typed fit differ off may own known there parts h froms quiet le =
         reads_none c f r0 (NamedRead (ConstructorPattern u d n a p NoPatterns) (At r fs)) (Below c.types root t (Is (Tag l) ks) (At r fs)) (all_in fs) at read m mid more h.0 h.1 tt parts froms

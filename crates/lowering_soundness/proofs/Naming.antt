@@ -1,13 +1,13 @@
 -- Values in registers get names: what is known of registers goes with the variables in scope, and with the new ones.
 use Rattle.std.proofs.Common.{◌≡◌, ◌⊎◌, inl, inr, ℕ, zero, suc, ◌+◌, ◌<◌, ◌≤◌, Bool, true, false, List, [], ◌∷◌, ◌++◌, length, Option, Some, refl, sym, ap, ◌∙◌, subst, subst₂, true≢false, arith, append_assoc, if◌then◌else◌, ◌==◌}
-use Rattle.fip_language.specs.Table.{Table}
-use Rattle.fip_trees.specs.declared.program.Binder.{Binder}
-use Rattle.type_check.specs.Binders.{entry}
-use Rattle.type_check.specs.Scope.{Scope, of_binder}
-use Rattle.ownership_calculus.specs.Terms.{Item, Own, Credit, only, one}
-use Rattle.ownership_calculus.specs.Rules.{Fits}
-use Rattle.code_rules.specs.Types.{is_scalar_type}
-use Rattle.separation_kinds.proofs.Basics.{chosen, refused, or_not, less_or_not, equal, unequal, unequal_is}
+use Rattle.separation.specs.fip_language.Table.{Table}
+use Rattle.lowering_relation.specs.fip_trees.declared.program.Binder.{Binder}
+use Rattle.derivation_making.specs.type_check.Binders.{entry}
+use Rattle.derivation_making.specs.type_check.Scope.{Scope, of_binder}
+use Rattle.derivation_making.specs.ownership_calculus.Terms.{Item, Own, Credit, only, one}
+use Rattle.derivation_making.specs.ownership_calculus.Rules.{Fits}
+use Rattle.separation.specs.code_rules.Types.{is_scalar_type}
+use Rattle.separation.proofs.separation_kinds.Basics.{chosen, refused, or_not, less_or_not, equal, unequal, unequal_is}
 use Rattle.lowering_relation.specs.declared.held.Held.{Held}
 use Rattle.lowering_relation.specs.declared.held.Held.TheVariants as H
 use Rattle.lowering_relation.specs.Known.{Known, register_of, named, naming}

@@ -1,19 +1,19 @@
 -- Only variables whose binders stand before a place have registers there.
 use Rattle.std.proofs.Common.{◌≡◌, inl, inr, ℕ, zero, suc, ◌+◌, ◌<◌, ◌≤◌, Bool, true, false, ◌||◌, List, [], ◌∷◌, length, replicate, get_or, Option, Some, None, refl, sym, ap, ◌∙◌, arith, if◌then◌else◌, ◌==◌}
 use Rattle.std.proofs.lemmas.Option.{none-some}
-use Rattle.fip_base.specs.declared.plain.Param.{Param}
-use Rattle.fip_trees.specs.declared.program.Binder.{Binder}
-use Rattle.fip_trees.specs.Tree.{Argument, Variable, Literal, Constructor, Arguments, NoArguments, MoreArguments}
-use Rattle.fip_trees.specs.Tree.{Pattern, BinderPattern, LiteralPattern, ConstructorPattern, Patterns, NoPatterns, MorePatterns}
-use Rattle.fip_trees.specs.Tree.{Expression, Give, Tuple, Operation, Call, Match, Nested, Block, Last, Let, Clauses, NoClauses, MoreClauses, Instance}
-use Rattle.fip_rules.specs.World as R
-use Rattle.fip_rules.specs.Shapes.{Names, behind, shape, binders, binders_all, takes}
-use Rattle.derivation_check.specs.Scopes.{within, within_block, within_clauses}
-use Rattle.ownership_agreement.specs.Bodies.{inside, past_clause}
+use Rattle.separation.specs.fip_base.declared.plain.Param.{Param}
+use Rattle.lowering_relation.specs.fip_trees.declared.program.Binder.{Binder}
+use Rattle.lowering_relation.specs.fip_trees.Tree.{Argument, Variable, Literal, Constructor, Arguments, NoArguments, MoreArguments}
+use Rattle.lowering_relation.specs.fip_trees.Tree.{Pattern, BinderPattern, LiteralPattern, ConstructorPattern, Patterns, NoPatterns, MorePatterns}
+use Rattle.lowering_relation.specs.fip_trees.Tree.{Expression, Give, Tuple, Operation, Call, Match, Nested, Block, Last, Let, Clauses, NoClauses, MoreClauses, Instance}
+use Rattle.derivation_making.specs.fip_rules.World as R
+use Rattle.derivation_making.specs.fip_rules.Shapes.{Names, behind, shape, binders, binders_all, takes}
+use Rattle.derivation_making.specs.derivation_check.Scopes.{within, within_block, within_clauses}
+use Rattle.derivation_making.specs.ownership_agreement.Bodies.{inside, past_clause}
 use Rattle.derivation_making.proofs.Linking.{next_inside}
 use Rattle.derivation_making.proofs.Reading.{next_behind, next_past}
-use Rattle.code_rules.specs.Codes.{PlainCode, PlainFunction}
-use Rattle.separation_kinds.proofs.Basics.{or_not, equal, unequal}
+use Rattle.separation.specs.code_rules.Codes.{PlainCode, PlainFunction}
+use Rattle.separation.proofs.separation_kinds.Basics.{or_not, equal, unequal}
 use Rattle.lowering_relation.specs.Spots.{Spot, At, Spots, NoSpots, MoreSpots, register}
 use Rattle.lowering_relation.specs.Opening.{is_named}
 use Rattle.lowering_relation.specs.Entering.{unnaming, variable_held, with_variable, with_cell, entering, entering_all, root_of, spent_if, entering_root}
@@ -140,7 +140,7 @@ start_below st n d m order room =
 -- ---- where no variable gets a register
 
 mutual
-  argument_names : (st : Setting) (code : List Rattle.cell_code.specs.declared.code.Instr.Instr) (at : ℕ) (k : Known) (a : Argument) (r end : ℕ) (l : Known) → ArgumentAt st code at k a r end l → l.names ≡ k.names
+  argument_names : (st : Setting) (code : List Rattle.separation.specs.cell_code.declared.code.Instr.Instr) (at : ℕ) (k : Known) (a : Argument) (r end : ℕ) (l : Known) → ArgumentAt st code at k a r end l → l.names ≡ k.names
   argument_names st code at k (Variable x n p) r end l h = ap (λ (l : Known). l.names) h.known
   argument_names st code at k (Literal i p) r end l h = ap (λ (l : Known). l.names) h.known
   argument_names st code at k (Constructor t d c n p as') r end l h = built h.0 h.4 ∙ arguments_names st code at k as' h.0 h.1 h.2 h.3
@@ -150,13 +150,13 @@ mutual
       built [] (inr y) = ap (λ (l : Known). l.names) y.known
       built (x ∷ xs) y = ap (λ (l : Known). l.names) y.known
 
-  pub arguments_names : (st : Setting) (code : List Rattle.cell_code.specs.declared.code.Instr.Instr) (at : ℕ) (k : Known) (as' : Arguments) (rs : List ℕ) (end : ℕ) (l : Known) → ArgumentsAt st code at k as' rs end l → l.names ≡ k.names
+  pub arguments_names : (st : Setting) (code : List Rattle.separation.specs.cell_code.declared.code.Instr.Instr) (at : ℕ) (k : Known) (as' : Arguments) (rs : List ℕ) (end : ℕ) (l : Known) → ArgumentsAt st code at k as' rs end l → l.names ≡ k.names
   arguments_names st code at k NoArguments [] end l h = ap (λ (l : Known). l.names) h.1
   arguments_names st code at k NoArguments (r ∷ rs) end l h = absurd h
   arguments_names st code at k (MoreArguments a as') [] end l h = absurd h
   arguments_names st code at k (MoreArguments a as') (r ∷ rs) end l h = arguments_names st code h.0 h.1 as' rs end l h.3 ∙ argument_names st code at k a r h.0 h.1 h.2
 
-moves_names : (code : List Rattle.cell_code.specs.declared.code.Instr.Instr) (at : ℕ) (k : Known) (rs ds : List ℕ) (end : ℕ) (l : Known) → MovesLaid code at k rs ds end l → l.names ≡ k.names
+moves_names : (code : List Rattle.separation.specs.cell_code.declared.code.Instr.Instr) (at : ℕ) (k : Known) (rs ds : List ℕ) (end : ℕ) (l : Known) → MovesLaid code at k rs ds end l → l.names ≡ k.names
 moves_names code at k [] ds end l h = ap (λ (l : Known). l.names) h.1
 moves_names code at k (r ∷ rs) [] end l h = ap (λ (l : Known). l.names) h.1
 moves_names code at k (r ∷ rs) (d ∷ ds) end l h = moves_names code h.0 h.1 rs ds end l h.3 ∙ move h.2

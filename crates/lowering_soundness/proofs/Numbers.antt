@@ -1,19 +1,19 @@
 -- A function has the stack number of its instance, where functions call each other as the instances do.
 use Rattle.std.proofs.Common.{◌≡◌, ◌≤◌, ℕ, zero, suc, ◌+◌, Bool, true, false, List, [], ◌∷◌, map, get_or, slice_get, Option, Some, None, if◌then◌else◌, refl, sym, ap, ap₂, ◌∙◌, subst, arith, true≢false}
 use Rattle.std.proofs.lemmas.Option.{none-some, same_Some, get_or_from_slice_get}
-use Rattle.fip_language.specs.declared.FunKind.{FunKind}
-use Rattle.fip_language.specs.declared.FunKind.TheVariants.{Fip, Fbip, Fun}
-use Rattle.fip_language.specs.declared.limits.TheConstants.{FRAME_WORDS}
-use Rattle.fip_base.specs.declared.plain.Stack.{Stack}
-use Rattle.fip_trees.specs.declared.groups.Member.{Member}
-use Rattle.fip_trees.specs.Tree.{Instance}
-use Rattle.call_groups.specs.Stacks.{charge, Solves, LeastSolution, HasFrame, frame_words, words_or_none, number_of, frames_in, words_in, base_frames, own_frames, AreStacks, FramedCalls}
+use Rattle.separation.specs.fip_language.declared.FunKind.{FunKind}
+use Rattle.separation.specs.fip_language.declared.FunKind.TheVariants.{Fip, Fbip, Fun}
+use Rattle.separation.specs.fip_language.declared.limits.TheConstants.{FRAME_WORDS}
+use Rattle.separation.specs.fip_base.declared.plain.Stack.{Stack}
+use Rattle.lowering_relation.specs.fip_trees.declared.groups.Member.{Member}
+use Rattle.lowering_relation.specs.fip_trees.Tree.{Instance}
+use Rattle.tail_groups.specs.call_groups.Stacks.{charge, Solves, LeastSolution, HasFrame, frame_words, words_or_none, number_of, frames_in, words_in, base_frames, own_frames, AreStacks, FramedCalls}
 use Rattle.tail_groups.specs.Sites.{call_rows}
 use Rattle.tail_groups.specs.Rules as T
 use Rattle.tail_groups.specs.Registers.{registers}
 use Rattle.tail_groups.specs.Members.{frame, stack, FipCallsFip, AreMembers}
-use Rattle.code_rules.specs.Codes.{PlainCode, PlainFunction, function_at, is_fip}
-use Rattle.code_rules.specs.StackNumbers.{IsFip, FipCalls, words_of, words_at, IsStack, HasStack}
+use Rattle.separation.specs.code_rules.Codes.{PlainCode, PlainFunction, function_at, is_fip}
+use Rattle.separation.specs.code_rules.StackNumbers.{IsFip, FipCalls, words_of, words_at, IsStack, HasStack}
 use Rattle.lowering_relation.specs.LoweredBodies.{has_function, one_more, if_function, function_of}
 use Rattle.lowering_soundness.specs.Alike.{Alike}
 

@@ -1,19 +1,19 @@
 -- At the entry of a clause the variables of its pattern come into scope: what is known goes with them, position by
 -- position.
 use Rattle.std.proofs.Common.{◌≡◌, ◌⊎◌, inl, inr, ℕ, suc, ◌+◌, ◌<◌, ◌≤◌, Bool, true, false, List, [], ◌∷◌, ◌++◌, length, map, slice_set, get_or, Option, Some, None, refl, sym, ap, ap₂, ◌∙◌, subst, subst₂, true≢false, arith, append_assoc, if◌then◌else◌, ◌==◌}
-use Rattle.fip_language.specs.Table.{Table}
-use Rattle.fip_language.specs.Every.{Among}
-use Rattle.fip_trees.specs.declared.program.Binder.{Binder}
-use Rattle.fip_trees.specs.Tree.{Pattern, BinderPattern, LiteralPattern, ConstructorPattern, Patterns, NoPatterns, MorePatterns, count_patterns}
-use Rattle.fip_rules.specs.Shapes.{binders, binders_all}
-use Rattle.type_check.specs.Binders.{entry}
-use Rattle.type_check.specs.Scope.{Scope, of_binder}
-use Rattle.ownership_calculus.specs.Terms.{Item, Own, Credit, given, charge}
-use Rattle.ownership_calculus.specs.Rules.{Fits}
-use Rattle.ownership_agreement.specs.Bodies.{node, nodes, nodes_all}
-use Rattle.code_rules.specs.Codes.{PlainCode, PlainFunction}
-use Rattle.code_rules.specs.Types.{fields, is_scalar_type}
-use Rattle.separation_kinds.proofs.Basics.{chosen, refused, or_not, itself}
+use Rattle.separation.specs.fip_language.Table.{Table}
+use Rattle.separation.specs.fip_language.Every.{Among}
+use Rattle.lowering_relation.specs.fip_trees.declared.program.Binder.{Binder}
+use Rattle.lowering_relation.specs.fip_trees.Tree.{Pattern, BinderPattern, LiteralPattern, ConstructorPattern, Patterns, NoPatterns, MorePatterns, count_patterns}
+use Rattle.derivation_making.specs.fip_rules.Shapes.{binders, binders_all}
+use Rattle.derivation_making.specs.type_check.Binders.{entry}
+use Rattle.derivation_making.specs.type_check.Scope.{Scope, of_binder}
+use Rattle.derivation_making.specs.ownership_calculus.Terms.{Item, Own, Credit, given, charge}
+use Rattle.derivation_making.specs.ownership_calculus.Rules.{Fits}
+use Rattle.derivation_making.specs.ownership_agreement.Bodies.{node, nodes, nodes_all}
+use Rattle.separation.specs.code_rules.Codes.{PlainCode, PlainFunction}
+use Rattle.separation.specs.code_rules.Types.{fields, is_scalar_type}
+use Rattle.separation.proofs.separation_kinds.Basics.{chosen, refused, or_not, itself}
 use Rattle.lowering_relation.specs.Spots.{Spot, At, Spots, NoSpots, MoreSpots, register, below, all_in, Differ, AllDiffer}
 use Rattle.lowering_relation.specs.Opening.{is_named, Roomy, AllRoomy}
 use Rattle.lowering_relation.specs.Entering.{unnaming, variable_held, with_variable, with_cell, entering, entering_all, root_of, entering_root}
@@ -248,7 +248,7 @@ module _ (c : PlainCode) (f : PlainFunction) (st : Setting) (fip : Bool) (B : �
   given_value t same = subst (HoldsValue c.types t) (sym (given_same c.types st t same)) (received_value c.types t)
 
   sole_scalar : (t n : ℕ) (i : Item) → is_scalar_type c.types t ≡ true → sole c.types t n i ≡ 0
-  sole_scalar t n i e = chosen (is_scalar_type c.types t) 0 (Rattle.ownership_calculus.specs.Terms.only n i) e
+  sole_scalar t n i e = chosen (is_scalar_type c.types t) 0 (Rattle.derivation_making.specs.ownership_calculus.Terms.only n i) e
 
   lent_named : (s : Scope) (T : Item → ℕ) (k : Known) (b : Binder) (n r : ℕ) → Reads T k → takes ≡ false → K n ≡ L → Ties fip c.types s B K T (λ q. 0) k → held_at k.held r ≡ H.Nothing → r < length k.held → r < k.next → is_scalar_type c.types b.ty ≡ false → NoneFrom n T → n < length k.names → b.number ≡ n → Ties fip c.types (s ++ entry (Some b.ty) b ∷ []) B K T (λ q. 0) (holding (naming k b.number r) r (H.Lent b.ty root))
   lent_named s T k b n r reads taken lies ties empty within used tree none room number =
@@ -544,7 +544,7 @@ module _ (c : PlainCode) (f : PlainFunction) (st : Setting) (fip : Bool) (B : �
 
   read_named : (s : Scope) (T L : Item → ℕ) (k : Known) (b : Binder) (n r t : ℕ) → Kept K T → (is_scalar_type c.types t ≡ false → K n ≡ L) → IsRead t r L k → r < k.next → n < length k.names → b.number ≡ n → Before s n → NoneFrom n T → Ties fip c.types s B K T (λ q. 0) k → Ties fip c.types (s ++ entry (Some t) b ∷ []) B K T (λ q. 0) (naming k b.number r)
   read_named s T L k b n r t kept lies (inl y) used room number before none ties =
-      ties_worth fip c.types (s ++ entry (Some t) b ∷ []) B K (λ i. T i + sole c.types t n i) T (λ q. 0) (naming k b.number r) (λ i. let z = chosen (is_scalar_type c.types t) 0 (Rattle.ownership_calculus.specs.Terms.only n i) y.0 in omega (arith, z))
+      ties_worth fip c.types (s ++ entry (Some t) b ∷ []) B K (λ i. T i + sole c.types t n i) T (λ q. 0) (naming k b.number r) (λ i. let z = chosen (is_scalar_type c.types t) 0 (Rattle.derivation_making.specs.ownership_calculus.Terms.only n i) y.0 in omega (arith, z))
       (name_one fip c.types B K s T (λ q. 0) k b n r t (ties_owe fip c.types s B K T (λ q. 0) (λ q. owe c.types t r q + 0) k (λ q. let z = chosen (is_scalar_type c.types t) 0 (one_if (r == q)) y.0 in omega (arith, z)) ties)
       (record { scalar = λ e. y.1; owned = λ e. absurd (true≢false (sym y.0 ∙ e)) }) before none kept (λ e. absurd (true≢false (sym y.0 ∙ e))) room number)
   read_named s T L k b n r t kept lies (inr y) used room number before none ties =

@@ -1,12 +1,12 @@
 -- Label maps that are formed stand in order, and tell of each tree some constructor.
 use Rattle.std.proofs.Common.{◌≡◌, ℕ, suc, true, ◌&&◌, not, List, [], ◌∷◌, length, refl, nat_lt, ◌==◌}
-use Rattle.fip_language.specs.Table.{Table}
-use Rattle.cell_code.specs.declared.kind.Kind.{Kind}
-use Rattle.cell_code.specs.declared.kind.Kind.TheVariants as K
-use Rattle.code_rules.specs.Codes.{PlainFunction, LabelMap}
-use Rattle.code_rules.specs.Headers.{are_rising, is_set, is_good_root, is_good_from, is_good_kind, are_good_kinds, are_good_maps}
-use Rattle.code_rules.specs.Types.{count}
-use Rattle.separation_kinds.proofs.Basics.{both, below}
+use Rattle.separation.specs.fip_language.Table.{Table}
+use Rattle.separation.specs.cell_code.declared.kind.Kind.{Kind}
+use Rattle.separation.specs.cell_code.declared.kind.Kind.TheVariants as K
+use Rattle.separation.specs.code_rules.Codes.{PlainFunction, LabelMap}
+use Rattle.separation.specs.code_rules.Headers.{are_rising, is_set, is_good_root, is_good_from, is_good_kind, are_good_kinds, are_good_maps}
+use Rattle.separation.specs.code_rules.Types.{count}
+use Rattle.separation.proofs.separation_kinds.Basics.{both, below}
 use Rattle.lowering_relation.specs.Standing.{AreRising, is_open, are_open, AreOpen, MapsStand}
 use Rattle.lowering_soundness.proofs.Giving.{and_to}
 

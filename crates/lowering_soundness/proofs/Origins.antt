@@ -2,23 +2,23 @@
 -- fip it neither drops nor frees.
 use Rattle.std.proofs.Common.{◌≡◌, inl, inr, ℕ, zero, suc, Bool, true, false, List, [], ◌∷◌, ◌++◌, slice_get, length, Some, refl, sym, ap, ◌∙◌, subst, arith, true≢false}
 use Rattle.std.proofs.lemmas.Option.{none-some, same_Some}
-use Rattle.cell_code.specs.declared.code.Instr.{Instr}
-use Rattle.cell_code.specs.declared.code.Instr.TheVariants as I
-use Rattle.fip_trees.specs.Tree.{Argument, Variable, Literal, Constructor, Arguments, NoArguments, MoreArguments}
-use Rattle.fip_trees.specs.Tree.{Expression, Give, Tuple, Operation, Call, Match, Nested, Block, Last, Let, Clauses, NoClauses, MoreClauses, Instance}
-use Rattle.fip_trees.specs.Tree.{Pattern, BinderPattern, LiteralPattern, ConstructorPattern, Patterns, NoPatterns, MorePatterns, Name}
-use Rattle.fip_language.specs.declared.Place.{Place}
-use Rattle.fip_language.specs.declared.Operator.{Operator}
-use Rattle.call_groups.specs.CallGraph.{In}
+use Rattle.separation.specs.cell_code.declared.code.Instr.{Instr}
+use Rattle.separation.specs.cell_code.declared.code.Instr.TheVariants as I
+use Rattle.lowering_relation.specs.fip_trees.Tree.{Argument, Variable, Literal, Constructor, Arguments, NoArguments, MoreArguments}
+use Rattle.lowering_relation.specs.fip_trees.Tree.{Expression, Give, Tuple, Operation, Call, Match, Nested, Block, Last, Let, Clauses, NoClauses, MoreClauses, Instance}
+use Rattle.lowering_relation.specs.fip_trees.Tree.{Pattern, BinderPattern, LiteralPattern, ConstructorPattern, Patterns, NoPatterns, MorePatterns, Name}
+use Rattle.separation.specs.fip_language.declared.Place.{Place}
+use Rattle.separation.specs.fip_language.declared.Operator.{Operator}
+use Rattle.tail_groups.specs.call_groups.CallGraph.{In}
 use Rattle.tail_groups.specs.Sites.{Site, site, sites, block_sites, clauses_sites, instance_sites}
-use Rattle.code_rules.specs.Codes.{PlainCode, PlainFunction}
-use Rattle.code_rules.specs.Calls.{IsCall}
-use Rattle.separation_kinds.proofs.Basics.{less_or_not, get_within}
-use Rattle.match_knowledge.specs.declared.heads.Head.{Head}
-use Rattle.match_knowledge.specs.declared.heads.Head.TheVariants.{Number, Tag}
-use Rattle.match_knowledge.specs.Patterns as M
-use Rattle.match_knowledge.specs.Known as MK
-use Rattle.match_knowledge.specs.Known.{Open, Is, Knowns, NoKnowns, MoreKnowns}
+use Rattle.separation.specs.code_rules.Codes.{PlainCode, PlainFunction}
+use Rattle.separation.specs.code_rules.Calls.{IsCall}
+use Rattle.separation.proofs.separation_kinds.Basics.{less_or_not, get_within}
+use Rattle.lowering_relation.specs.match_knowledge.declared.heads.Head.{Head}
+use Rattle.lowering_relation.specs.match_knowledge.declared.heads.Head.TheVariants.{Number, Tag}
+use Rattle.lowering_relation.specs.match_knowledge.Patterns as M
+use Rattle.lowering_relation.specs.match_knowledge.Known as MK
+use Rattle.lowering_relation.specs.match_knowledge.Known.{Open, Is, Knowns, NoKnowns, MoreKnowns}
 use Rattle.lowering_relation.specs.Spots.{Spot, At, Spots, NoSpots, MoreSpots}
 use Rattle.lowering_relation.specs.Landing.{test_of}
 use Rattle.lowering_relation.specs.Known.{Known}
@@ -214,7 +214,7 @@ module _ (st : Setting) (fip : Bool) (f : PlainFunction) where
           tested : (g : Holding) (at : ℕ) (p : M.Pattern) (k : MK.Known) (read : List ℕ) (next : ℕ) (more : List ℕ) → TestLaid c f g ch at p k read next more → HaveOrigins st fip f ss at next
           tested g at p k read next more h = both at h.mid next (reads at p k ch.root read h.mid more h.reads) (one h.mid next _ h.written h.one (test h.found.register h.found.head h.target))
 
-      chunk : (g : Holding) (at : ℕ) (k : MK.Known) (read : List ℕ) (m : ℕ → Rattle.cell_code.specs.declared.kind.Kind.Kind) (next : ℕ) → ChunkLaid c f g ch at k read m next → HaveOrigins st fip f ss at next
+      chunk : (g : Holding) (at : ℕ) (k : MK.Known) (read : List ℕ) (m : ℕ → Rattle.separation.specs.cell_code.declared.kind.Kind.Kind) (next : ℕ) → ChunkLaid c f g ch at k read m next → HaveOrigins st fip f ss at next
       chunk g at k read m next h = both at h.end next (tests g h.steps at k read h.clause h.end h.tests) (elim h.goes as (λ v. HaveOrigins st fip f ss h.end next) [
         | inl x ↦ one h.end next (I.Jump h.place) x.0 x.2 (quiet (I.Jump h.place) refl (λ g w x. x))
         | inr x ↦ none h.end next x.1

@@ -1,9 +1,9 @@
 -- How often variables with a register are owned, and how many credits there are.
 use Rattle.std.proofs.Common.{◌≡◌, inl, inr, ℕ, zero, suc, ◌+◌, ◌≤◌, Bool, true, false, ◌&&◌, List, [], ◌∷◌, ◌++◌, Option, Some, None, refl, sym, ap, ◌∙◌, true≢false, arith, if◌then◌else◌, ◌==◌}
-use Rattle.ownership_calculus.specs.Terms.{one}
-use Rattle.ownership_calculus.specs.Rules.{Fits}
-use Rattle.ownership_calculus.proofs.Fit.{fits_same, fits_sum}
-use Rattle.separation_kinds.proofs.Basics.{chosen, refused, or_not, equal, equal_is, unequal, unequal_is}
+use Rattle.derivation_making.specs.ownership_calculus.Terms.{one}
+use Rattle.derivation_making.specs.ownership_calculus.Rules.{Fits}
+use Rattle.derivation_making.proofs.ownership_calculus.Fit.{fits_same, fits_sum}
+use Rattle.separation.proofs.separation_kinds.Basics.{chosen, refused, or_not, equal, equal_is, unequal, unequal_is}
 use Rattle.lowering_relation.specs.declared.held.Credit.{Credit}
 use Rattle.lowering_relation.specs.Known.{register_of, IsTaken}
 use Rattle.lowering_soundness.specs.Ties.{one_if, is_register, owners, sized, counted}

@@ -1,17 +1,17 @@
 -- Behind a cell that was taken apart: what is told of its fields and of the positions below them.
 use Rattle.std.proofs.Common.{◌≡◌, inl, inr, ℕ, suc, Bool, true, false, ◌||◌, List, [], ◌∷◌, Option, Some, None, refl, sym, ap, ◌∙◌, subst, true≢false, if◌then◌else◌, ◌==◌}
 use Rattle.std.proofs.lemmas.Option.{same_Some}
-use Rattle.fip_language.specs.Table.{Table}
-use Rattle.fip_language.specs.Every.{Among}
-use Rattle.cell_code.specs.declared.kind.From.{From}
-use Rattle.cell_code.specs.declared.kind.Kind.{Kind}
-use Rattle.cell_code.specs.declared.kind.Kind.TheVariants as K
-use Rattle.code_rules.specs.Types.{fields, is_scalar_type}
-use Rattle.code_rules.specs.Kinds.{has, is_free, is_lent_of, from_of}
-use Rattle.code_rules.specs.Taking.{with_root}
-use Rattle.separation_kinds.proofs.Basics.{pick, chosen, refused, or_not, equal, equal_is, itself, unequal_is}
-use Rattle.match_knowledge.specs.declared.heads.Head.TheVariants.{Number, Tag}
-use Rattle.match_knowledge.specs.Known.{Known, Open, Is, Knowns, NoKnowns, MoreKnowns}
+use Rattle.separation.specs.fip_language.Table.{Table}
+use Rattle.separation.specs.fip_language.Every.{Among}
+use Rattle.separation.specs.cell_code.declared.kind.From.{From}
+use Rattle.separation.specs.cell_code.declared.kind.Kind.{Kind}
+use Rattle.separation.specs.cell_code.declared.kind.Kind.TheVariants as K
+use Rattle.separation.specs.code_rules.Types.{fields, is_scalar_type}
+use Rattle.separation.specs.code_rules.Kinds.{has, is_free, is_lent_of, from_of}
+use Rattle.separation.specs.code_rules.Taking.{with_root}
+use Rattle.separation.proofs.separation_kinds.Basics.{pick, chosen, refused, or_not, equal, equal_is, itself, unequal_is}
+use Rattle.lowering_relation.specs.match_knowledge.declared.heads.Head.TheVariants.{Number, Tag}
+use Rattle.lowering_relation.specs.match_knowledge.Known.{Known, Open, Is, Knowns, NoKnowns, MoreKnowns}
 use Rattle.lowering_relation.specs.Spots.{Spot, At, Spots, NoSpots, MoreSpots, register, below, all_in, AllDiffer}
 use Rattle.lowering_relation.proofs.MatchLists.{among_either, in_head, in_tail, in_part}
 use Rattle.lowering_relation.specs.Sights.{left, part_kind, Unread, Below, AllBelow}

@@ -1,15 +1,15 @@
 -- Parts of a function's code: of one instruction, of none, of two parts, and where a label stands that says less.
 use Rattle.std.proofs.Common.{◌≡◌, inl, inr, ℕ, suc, ◌<◌, ◌≤◌, true, List, length, Option, Some, None, refl, sym, ap, ◌∙◌, subst, true≢false, arith}
 use Rattle.std.proofs.lemmas.Option.{none-some, same_Some}
-use Rattle.cell_code.specs.declared.code.Instr.{Instr}
-use Rattle.cell_code.specs.declared.code.Instr.TheVariants as I
-use Rattle.cell_code.specs.declared.kind.Kind.{Kind}
-use Rattle.code_rules.specs.Codes.{PlainCode, PlainFunction, label_at}
-use Rattle.code_rules.specs.Fitting.{fits, fit_all}
-use Rattle.code_rules.specs.Endings.{is_end, spends_all}
-use Rattle.code_rules.specs.Leaves.{Leaves, Jumps}
-use Rattle.code_rules.specs.Flow.{IsInstr, Holds, Comes, KnownAt}
-use Rattle.separation_kinds.proofs.Basics.{get_within, less_or_not}
+use Rattle.separation.specs.cell_code.declared.code.Instr.{Instr}
+use Rattle.separation.specs.cell_code.declared.code.Instr.TheVariants as I
+use Rattle.separation.specs.cell_code.declared.kind.Kind.{Kind}
+use Rattle.separation.specs.code_rules.Codes.{PlainCode, PlainFunction, label_at}
+use Rattle.separation.specs.code_rules.Fitting.{fits, fit_all}
+use Rattle.separation.specs.code_rules.Endings.{is_end, spends_all}
+use Rattle.separation.specs.code_rules.Leaves.{Leaves, Jumps}
+use Rattle.separation.specs.code_rules.Flow.{IsInstr, Holds, Comes, KnownAt}
+use Rattle.separation.proofs.separation_kinds.Basics.{get_within, less_or_not}
 use Rattle.lowering_soundness.specs.Covering.{Covered}
 use Rattle.lowering_soundness.specs.Rows.{IsRow, IsLastRow}
 use Rattle.lowering_soundness.specs.Parts.{Arrives, Admits, Onward, Keeps, IsKept, AreKept, Part, LastPart, is_straight}

@@ -1,22 +1,22 @@
 -- The arguments of a call are computed: those in borrowed positions are in the registers of their variables.
 use Rattle.std.proofs.Common.{◌≡◌, inl, inr, ℕ, suc, ◌+◌, ◌≤◌, Bool, true, false, ◌&&◌, not, List, [], ◌∷◌, length, map, Some, None, refl, sym, ap, ◌∙◌, subst, subst₂, true≢false, arith, if◌then◌else◌}
 use Rattle.std.proofs.lemmas.Option.{none-some}
-use Rattle.fip_base.specs.declared.plain.Param.{Param}
-use Rattle.fip_trees.specs.Tree.{Argument, Variable, Literal, Constructor, Arguments, NoArguments, MoreArguments}
-use Rattle.fip_rules.specs.Marks.{Mark}
-use Rattle.fip_rules.specs.World as R
-use Rattle.type_check.specs.Scope.{Scope}
-use Rattle.type_check.specs.World as W
-use Rattle.type_check.specs.Typing.{HasType, HaveTypes}
-use Rattle.ownership_calculus.specs.Terms as C
-use Rattle.ownership_calculus.specs.Terms.{Item, Own, Credit, charge}
-use Rattle.ownership_calculus.specs.Rules.{Fits, Lends}
-use Rattle.ownership_calculus.specs.ByCases.{DerivesPassed}
-use Rattle.ownership_calculus.proofs.Fit.{fits_same, fits_sum}
-use Rattle.ownership_agreement.specs.Bodies.{Scalars, variable, value, lent_value, header, passed}
-use Rattle.code_rules.specs.Codes.{PlainCode, PlainFunction}
-use Rattle.code_rules.specs.Types.{is_type, is_scalar_type}
-use Rattle.separation_kinds.proofs.Basics.{chosen, refused, or_not}
+use Rattle.separation.specs.fip_base.declared.plain.Param.{Param}
+use Rattle.lowering_relation.specs.fip_trees.Tree.{Argument, Variable, Literal, Constructor, Arguments, NoArguments, MoreArguments}
+use Rattle.derivation_making.specs.fip_rules.Marks.{Mark}
+use Rattle.derivation_making.specs.fip_rules.World as R
+use Rattle.derivation_making.specs.type_check.Scope.{Scope}
+use Rattle.derivation_making.specs.type_check.World as W
+use Rattle.derivation_making.specs.type_check.Typing.{HasType, HaveTypes}
+use Rattle.derivation_making.specs.ownership_calculus.Terms as C
+use Rattle.derivation_making.specs.ownership_calculus.Terms.{Item, Own, Credit, charge}
+use Rattle.derivation_making.specs.ownership_calculus.Rules.{Fits, Lends}
+use Rattle.derivation_making.specs.ownership_calculus.ByCases.{DerivesPassed}
+use Rattle.derivation_making.proofs.ownership_calculus.Fit.{fits_same, fits_sum}
+use Rattle.derivation_making.specs.ownership_agreement.Bodies.{Scalars, variable, value, lent_value, header, passed}
+use Rattle.separation.specs.code_rules.Codes.{PlainCode, PlainFunction}
+use Rattle.separation.specs.code_rules.Types.{is_type, is_scalar_type}
+use Rattle.separation.proofs.separation_kinds.Basics.{chosen, refused, or_not}
 use Rattle.lowering_relation.specs.declared.held.Held.TheVariants as H
 use Rattle.lowering_relation.specs.Known.{Known, register_of}
 use Rattle.lowering_relation.specs.Values.{Setting, ArgumentAt, ArgumentsAt}
@@ -85,7 +85,7 @@ module _ (c : PlainCode) (f : PlainFunction) (st : Setting) (wd : W.World) (w : 
       borrowed : B x ≡ true
       borrowed = subst (λ b. Lends B (if b then C.Scalar else C.Named x)) (scoped.scalar x p.ty typed ∙ sc0) seen
   lent_variable at k (Literal i q) r mid m p h typed sc0 lends = absurd (true≢false (sym (ap (is_scalar_type c.types) typed ∙ int_scalar c.types) ∙ sc0))
-  lent_variable at k (Constructor t d n u q as') r mid m p h typed sc0 lends = absurd (subst (λ b. Lends B (if b then C.Scalar else C.Built (Rattle.ownership_agreement.specs.Bodies.values sc ms as'))) (scalars t (ap (is_type c.types) typed.0 ∙ shares.made true d p.ty typed.1) ∙ (ap (is_scalar_type c.types) typed.0 ∙ sc0)) lends)
+  lent_variable at k (Constructor t d n u q as') r mid m p h typed sc0 lends = absurd (subst (λ b. Lends B (if b then C.Scalar else C.Built (Rattle.derivation_making.specs.ownership_agreement.Bodies.values sc ms as'))) (scalars t (ap (is_type c.types) typed.0 ∙ shares.made true d p.ty typed.1) ∙ (ap (is_scalar_type c.types) typed.0 ∙ sc0)) lends)
 
   -- the places of parameters
   abbrev pub Places : ℕ → ℕ → List Param → Type 0

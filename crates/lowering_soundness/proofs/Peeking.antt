@@ -1,27 +1,27 @@
 -- The position that a pattern asks for is read, and those above it: each read is as asked.
 use Rattle.std.proofs.Common.{◌≡◌, ◌⊎◌, inl, inr, ℕ, zero, suc, ◌+◌, ◌<◌, ◌≤◌, Bool, true, false, List, [], ◌∷◌, ◌++◌, length, slice_get, Option, Some, None, refl, sym, ap, ◌∙◌, subst, true≢false, arith, if◌then◌else◌, ◌==◌}
 use Rattle.std.proofs.lemmas.Option.{same_Some}
-use Rattle.fip_language.specs.Table.{Table}
-use Rattle.fip_language.specs.Every.{Among}
-use Rattle.cell_code.specs.declared.code.Instr.TheVariants as I
-use Rattle.cell_code.specs.declared.kind.From.{From}
-use Rattle.cell_code.specs.declared.kind.Kind.{Kind}
-use Rattle.cell_code.specs.declared.kind.Kind.TheVariants as K
-use Rattle.code_rules.specs.Codes.{PlainCode, PlainFunction}
-use Rattle.code_rules.specs.Types.{all, fields, is_scalar_type, lent_kind}
-use Rattle.code_rules.specs.Kinds.{from_of, root_of}
-use Rattle.code_rules.specs.Changes.{forget}
-use Rattle.code_rules.specs.Asked.{only_fields, known_fields}
-use Rattle.separation_kinds.proofs.Basics.{pick, chosen, refused, apart, or_not, equal, itself, unequal_is}
-use Rattle.separation_kinds.proofs.KindLemmas.{dropped, is_one}
-use Rattle.match_knowledge.specs.declared.heads.Head.TheVariants.{Number, Tag}
-use Rattle.match_knowledge.specs.declared.verdicts.Verdict.TheVariants.{Asks}
-use Rattle.match_knowledge.specs.ValueHeads.{IsHead, same_head}
-use Rattle.match_knowledge.specs.Patterns as M
-use Rattle.match_knowledge.specs.Patterns.{IsPattern, ArePatterns}
-use Rattle.match_knowledge.specs.Known.{Known, Open, Is, Knowns, NoKnowns, MoreKnowns, compare, compare_all, is_asks}
-use Rattle.match_knowledge.proofs.Facts.{same_is}
-use Rattle.match_knowledge.proofs.Split.{asks_is, both_asks, is_asking}
+use Rattle.separation.specs.fip_language.Table.{Table}
+use Rattle.separation.specs.fip_language.Every.{Among}
+use Rattle.separation.specs.cell_code.declared.code.Instr.TheVariants as I
+use Rattle.separation.specs.cell_code.declared.kind.From.{From}
+use Rattle.separation.specs.cell_code.declared.kind.Kind.{Kind}
+use Rattle.separation.specs.cell_code.declared.kind.Kind.TheVariants as K
+use Rattle.separation.specs.code_rules.Codes.{PlainCode, PlainFunction}
+use Rattle.separation.specs.code_rules.Types.{all, fields, is_scalar_type, lent_kind}
+use Rattle.separation.specs.code_rules.Kinds.{from_of, root_of}
+use Rattle.separation.specs.code_rules.Changes.{forget}
+use Rattle.separation.specs.code_rules.Asked.{only_fields, known_fields}
+use Rattle.separation.proofs.separation_kinds.Basics.{pick, chosen, refused, apart, or_not, equal, itself, unequal_is}
+use Rattle.separation.proofs.separation_kinds.KindLemmas.{dropped, is_one}
+use Rattle.lowering_relation.specs.match_knowledge.declared.heads.Head.TheVariants.{Number, Tag}
+use Rattle.lowering_relation.specs.match_knowledge.declared.verdicts.Verdict.TheVariants.{Asks}
+use Rattle.lowering_relation.specs.match_knowledge.ValueHeads.{IsHead, same_head}
+use Rattle.lowering_relation.specs.match_knowledge.Patterns as M
+use Rattle.lowering_relation.specs.match_knowledge.Patterns.{IsPattern, ArePatterns}
+use Rattle.lowering_relation.specs.match_knowledge.Known.{Known, Open, Is, Knowns, NoKnowns, MoreKnowns, compare, compare_all, is_asks}
+use Rattle.lowering_relation.proofs.match_knowledge.Facts.{same_is}
+use Rattle.lowering_relation.proofs.match_knowledge.Split.{asks_is, both_asks, is_asking}
 use Rattle.lowering_relation.specs.Spots.{Spot, At, Spots, NoSpots, MoreSpots, register, below, all_in, Differ, AllDiffer}
 use Rattle.lowering_relation.specs.Reading.{contains}
 use Rattle.lowering_relation.proofs.MatchLists.{in_head, in_tail, in_part}
@@ -167,13 +167,13 @@ module _ (c : PlainCode) (f : PlainFunction) (r0 : ℕ) where
       more_seen z (inl e) = inl e
       more_seen z (inr e) = elim (or_not (z == register s)) as (λ v. Seen r0 (read ++ register s ∷ []) z) [
         | inl y ↦ absurd (true≢false (sym e ∙ (ap (λ z. contains z read) (equal z (register s) y) ∙ none)))
-        | inr y ↦ inr (contains_other z (register s) read (Rattle.separation_kinds.proofs.Basics.unequal z (register s) y) ∙ e)
+        | inr y ↦ inr (contains_other z (register s) read (Rattle.separation.proofs.separation_kinds.Basics.unequal z (register s) y) ∙ e)
       ]
 
       from : (q : ℕ) (g : From) → from_of (peeked m (register s) (lent_kind c.types t (root_of r (m r)) r i) q) ≡ Some g → Seen r0 (read ++ register s ∷ []) g.register
       from q g e = elim (or_not (q == register s)) as (λ v. Seen r0 (read ++ register s ∷ []) g.register) [
         | inl y ↦ subst (Seen r0 (read ++ register s ∷ [])) (sym (from_kind (is_scalar_type c.types t) t (all c.types t) (root_of r (m r)) r i g (sym (ap from_of here) ∙ (ap (λ q. from_of (peeked m (register s) (lent_kind c.types t (root_of r (m r)) r i) q)) (sym (equal q (register s) y)) ∙ e)))) (more_seen r known)
-        | inr y ↦ more_seen g.register (froms.each q g (sym (ap from_of (others q (Rattle.separation_kinds.proofs.Basics.unequal q (register s) y)).1) ∙ e))
+        | inr y ↦ more_seen g.register (froms.each q g (sym (ap from_of (others q (Rattle.separation.proofs.separation_kinds.Basics.unequal q (register s) y)).1) ∙ e))
       ]
 
   pub read_one : (root : Option ℕ) (t : ℕ) (k : Known) (s : Spot) (r i at : ℕ) (read : List ℕ) (m : ℕ → Kind) (mid : ℕ) (more : List ℕ) (end : ℕ) → slice_get (known_fields c.types (m r)) i ≡ Some t → root_of r (m r) ≡ root → Seen r0 read r → (register s ≡ r → ⊥) → MayRead f.registers r0 (register s) → (Among (register s) (below s) → ⊥) → OnePart c.types root t k s r i read m → ReadOne f at r i (register s) read mid more → Froms r0 read m → Quiet f at end m → mid ≤ end → One root t k s r i at read m mid more
@@ -218,7 +218,7 @@ module _ (c : PlainCode) (f : PlainFunction) (r0 : ℕ) where
   pub fields_here : (all' : List ℕ) (t : ℕ) (ts : List ℕ) (i : ℕ) → FieldsFrom all' (t ∷ ts) i → slice_get all' i ≡ Some t
   fields_here all' t ts i h = let z : i + 0 ≡ i = omega arith in ap (slice_get all') (sym z) ∙ h 0 t refl
 
-  pub own_tree : (root : Option ℕ) (t n : ℕ) (ks : Knowns) (r : ℕ) (own : Kind) → n < Rattle.code_rules.specs.Types.count c.types t → is_scalar_type c.types t ≡ false → OwnKind c.types root t (Is (Tag n) ks) r own → (known_fields c.types own ≡ fields c.types t n) × (root_of r own ≡ root)
+  pub own_tree : (root : Option ℕ) (t n : ℕ) (ks : Knowns) (r : ℕ) (own : Kind) → n < Rattle.separation.specs.code_rules.Types.count c.types t → is_scalar_type c.types t ≡ false → OwnKind c.types root t (Is (Tag n) ks) r own → (known_fields c.types own ≡ fields c.types t n) × (root_of r own ≡ root)
   own_tree root t n ks r own low tree (inl e) = absurd (true≢false (sym e ∙ tree))
   own_tree root t n ks r own low tree (inr h) = (h.0 ∙ ap (only_fields c.types t) (left_tag c.types t n ks low), h.1)
 
@@ -233,7 +233,7 @@ module _ (c : PlainCode) (f : PlainFunction) (r0 : ℕ) where
     );
     kept = λ q e. sub.kept q (elim (or_not (q == register s)) as (λ v. contains q seen ≡ true) [
       | inl y ↦ ap (λ q. contains q seen) (equal q (register s) y) ∙ o.seen
-      | inr y ↦ (o.others q (Rattle.separation_kinds.proofs.Basics.unequal q (register s) y)).0 ∙ e
+      | inr y ↦ (o.others q (Rattle.separation.proofs.separation_kinds.Basics.unequal q (register s) y)).0 ∙ e
     ]);
     others = λ q ne. same q (λ y. ne (in_part q s ss y));
     froms = sub.froms;

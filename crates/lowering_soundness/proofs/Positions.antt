@@ -1,16 +1,16 @@
 -- What is told of positions stays so where their registers aren't written, and where nothing was found out.
 use Rattle.std.proofs.Common.{◌≡◌, ◌⊎◌, inl, inr, ℕ, suc, Bool, true, false, List, [], ◌∷◌, ◌++◌, Option, Some, None, refl, sym, ap, ◌∙◌, true≢false, if◌then◌else◌, ◌==◌}
-use Rattle.fip_language.specs.Table.{Table}
-use Rattle.fip_language.specs.Every.{Among}
-use Rattle.cell_code.specs.declared.kind.From.{From}
-use Rattle.cell_code.specs.declared.kind.Kind.{Kind}
-use Rattle.cell_code.specs.declared.kind.Kind.TheVariants as K
-use Rattle.code_rules.specs.Types.{all, fields}
-use Rattle.code_rules.specs.Kinds.{from_of}
-use Rattle.code_rules.specs.Changes.{forget}
-use Rattle.separation_kinds.proofs.Basics.{chosen, refused, or_not, itself, unequal_is}
-use Rattle.match_knowledge.specs.declared.heads.Head.TheVariants.{Number, Tag}
-use Rattle.match_knowledge.specs.Known.{Known, Open, Is, Knowns, NoKnowns, MoreKnowns}
+use Rattle.separation.specs.fip_language.Table.{Table}
+use Rattle.separation.specs.fip_language.Every.{Among}
+use Rattle.separation.specs.cell_code.declared.kind.From.{From}
+use Rattle.separation.specs.cell_code.declared.kind.Kind.{Kind}
+use Rattle.separation.specs.cell_code.declared.kind.Kind.TheVariants as K
+use Rattle.separation.specs.code_rules.Types.{all, fields}
+use Rattle.separation.specs.code_rules.Kinds.{from_of}
+use Rattle.separation.specs.code_rules.Changes.{forget}
+use Rattle.separation.proofs.separation_kinds.Basics.{chosen, refused, or_not, itself, unequal_is}
+use Rattle.lowering_relation.specs.match_knowledge.declared.heads.Head.TheVariants.{Number, Tag}
+use Rattle.lowering_relation.specs.match_knowledge.Known.{Known, Open, Is, Knowns, NoKnowns, MoreKnowns}
 use Rattle.lowering_relation.specs.Spots.{Spot, At, Spots, NoSpots, MoreSpots, register, below, all_in}
 use Rattle.lowering_relation.specs.Reading.{contains}
 use Rattle.lowering_relation.proofs.MatchLists.{in_head, in_tail, in_part}

@@ -3,20 +3,20 @@
 -- label, and the clauses of a match that is bound by a let meet at a label.
 use Rattle.std.proofs.Common.{◌≡◌, ◌⊎◌, inl, inr, ℕ, zero, suc, ◌<◌, Bool, true, false, not, List, [], ◌∷◌, ◌++◌, slice_get, length, Some, refl, sym, subst, nat_lt}
 use Rattle.std.proofs.lemmas.Option.{none-some, same_Some}
-use Rattle.cell_code.specs.declared.code.Instr.{Instr}
-use Rattle.cell_code.specs.declared.code.Instr.TheVariants as I
-use Rattle.cell_code.specs.declared.kind.Kind.{Kind}
-use Rattle.fip_trees.specs.Tree.{Expression, Give, Tuple, Operation, Call, Match, Nested, Block, Last, Let, Clauses, NoClauses, MoreClauses}
-use Rattle.fip_trees.specs.Tree.{Pattern, Name, Program, NoArguments, MoreArguments}
-use Rattle.fip_language.specs.declared.Place.{Place}
-use Rattle.call_groups.specs.CallGraph.{In}
+use Rattle.separation.specs.cell_code.declared.code.Instr.{Instr}
+use Rattle.separation.specs.cell_code.declared.code.Instr.TheVariants as I
+use Rattle.separation.specs.cell_code.declared.kind.Kind.{Kind}
+use Rattle.lowering_relation.specs.fip_trees.Tree.{Expression, Give, Tuple, Operation, Call, Match, Nested, Block, Last, Let, Clauses, NoClauses, MoreClauses}
+use Rattle.lowering_relation.specs.fip_trees.Tree.{Pattern, Name, Program, NoArguments, MoreArguments}
+use Rattle.separation.specs.fip_language.declared.Place.{Place}
+use Rattle.tail_groups.specs.call_groups.CallGraph.{In}
 use Rattle.tail_groups.specs.Sites.{Site, site, sites, block_sites, clauses_sites, instance_sites}
-use Rattle.code_rules.specs.Codes.{PlainCode, PlainFunction, function_at, is_fip}
-use Rattle.code_rules.specs.Ranges.{in_range}
-use Rattle.code_rules.specs.Flow.{IsReachedAt}
-use Rattle.code_rules.specs.Calls.{IsCall, Calls}
-use Rattle.code_rules.specs.Breaks.{IsSound}
-use Rattle.separation_kinds.proofs.Basics.{both, below}
+use Rattle.separation.specs.code_rules.Codes.{PlainCode, PlainFunction, function_at, is_fip}
+use Rattle.separation.specs.code_rules.Ranges.{in_range}
+use Rattle.separation.specs.code_rules.Flow.{IsReachedAt}
+use Rattle.separation.specs.code_rules.Calls.{IsCall, Calls}
+use Rattle.separation.specs.code_rules.Breaks.{IsSound}
+use Rattle.separation.proofs.separation_kinds.Basics.{both, below}
 use Rattle.separation.proofs.Sound.{formed, ranged}
 use Rattle.lowering_relation.specs.Known.{Known, joined}
 use Rattle.lowering_relation.specs.Values.{Setting}

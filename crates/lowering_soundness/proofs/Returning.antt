@@ -1,14 +1,14 @@
 -- A function gives its results: what is left is given up, and the results are as asked.
 use Rattle.std.proofs.Common.{◌≡◌, inl, inr, ℕ, suc, ◌+◌, ◌<◌, ◌≤◌, Bool, true, false, ◌&&◌, ◌||◌, List, [], ◌∷◌, Some, refl, sym, ap, ap₂, ◌∙◌, subst, true≢false, arith, if◌then◌else◌, ◌==◌}
-use Rattle.fip_language.specs.Table.{Table}
-use Rattle.fip_language.specs.Every.{Among}
-use Rattle.type_check.specs.Scope.{Scope}
-use Rattle.ownership_calculus.specs.Terms.{Item}
-use Rattle.ownership_calculus.specs.Rules.{Fits}
-use Rattle.cell_code.specs.declared.code.Instr.TheVariants as I
-use Rattle.cell_code.specs.declared.kind.Kind.{Kind}
-use Rattle.code_rules.specs.Codes.{PlainCode, PlainFunction}
-use Rattle.separation_kinds.proofs.Basics.{or_not, both, itself}
+use Rattle.separation.specs.fip_language.Table.{Table}
+use Rattle.separation.specs.fip_language.Every.{Among}
+use Rattle.derivation_making.specs.type_check.Scope.{Scope}
+use Rattle.derivation_making.specs.ownership_calculus.Terms.{Item}
+use Rattle.derivation_making.specs.ownership_calculus.Rules.{Fits}
+use Rattle.separation.specs.cell_code.declared.code.Instr.TheVariants as I
+use Rattle.separation.specs.cell_code.declared.kind.Kind.{Kind}
+use Rattle.separation.specs.code_rules.Codes.{PlainCode, PlainFunction}
+use Rattle.separation.proofs.separation_kinds.Basics.{or_not, both, itself}
 use Rattle.lowering_relation.specs.declared.held.Held.{Held}
 use Rattle.lowering_relation.specs.declared.held.Held.TheVariants as H
 use Rattle.lowering_relation.specs.declared.held.Credit as D

@@ -1,16 +1,16 @@
 -- Binders come into scope: each variable is still known by its own number, and has a type.
 use Rattle.std.proofs.Common.{◌≡◌, ◌⊎◌, inl, inr, ℕ, suc, ◌<◌, Bool, true, List, [], ◌∷◌, ◌++◌, Option, Some, None, refl, sym, ap, ◌∙◌, subst, arith, append_assoc, if◌then◌else◌, ◌==◌}
-use Rattle.fip_trees.specs.declared.program.Binder.{Binder}
-use Rattle.fip_rules.specs.World as R
-use Rattle.fip_rules.specs.Shapes.{Names, mark, or_later, known}
-use Rattle.type_check.specs.Binders.{entry}
-use Rattle.type_check.specs.Scope.{Scope, look, of_binder}
-use Rattle.type_check.proofs.Trail.{look_end}
-use Rattle.ownership_agreement.specs.Bodies.{Scalars, entering, inside}
+use Rattle.lowering_relation.specs.fip_trees.declared.program.Binder.{Binder}
+use Rattle.derivation_making.specs.fip_rules.World as R
+use Rattle.derivation_making.specs.fip_rules.Shapes.{Names, mark, or_later, known}
+use Rattle.derivation_making.specs.type_check.Binders.{entry}
+use Rattle.derivation_making.specs.type_check.Scope.{Scope, look, of_binder}
+use Rattle.derivation_making.proofs.type_check.Trail.{look_end}
+use Rattle.derivation_making.specs.ownership_agreement.Bodies.{Scalars, entering, inside}
 use Rattle.derivation_making.proofs.Linking.{known_last}
-use Rattle.code_rules.specs.Codes.{PlainCode}
-use Rattle.code_rules.specs.Types.{is_type, is_scalar_type}
-use Rattle.separation_kinds.proofs.Basics.{chosen, refused, or_not, equal, unequal}
+use Rattle.separation.specs.code_rules.Codes.{PlainCode}
+use Rattle.separation.specs.code_rules.Types.{is_type, is_scalar_type}
+use Rattle.separation.proofs.separation_kinds.Basics.{chosen, refused, or_not, equal, unequal}
 use Rattle.lowering_soundness.specs.Laid.{Scoped}
 use Rattle.lowering_soundness.specs.Placed.{Placed, InOrder}
 
@@ -48,18 +48,18 @@ new_or_old s b t x u h = elim (or_not (b.number == x)) as (λ v. ((b.number ≡ 
 
 -- those before are still in scope
 pub old_there : (s : Scope) (b : Binder) (t x : ℕ) → (b.number ≡ x → ⊥) → of_binder (s ++ entry (Some t) b ∷ []) (Some x) ≡ of_binder s (Some x)
-old_there s b t x ne = look_end s (entry (Some t) b) x ∙ refused (b.number == x) (Some (Some t)) (look s x) (Rattle.separation_kinds.proofs.Basics.unequal_is b.number x ne)
+old_there s b t x ne = look_end s (entry (Some t) b) x ∙ refused (b.number == x) (Some (Some t)) (look s x) (Rattle.separation.proofs.separation_kinds.Basics.unequal_is b.number x ne)
 
 module _ (c : PlainCode) (w : R.World) (scalars : (t : ℕ) → is_type c.types t ≡ true → w.scalar t ≡ is_scalar_type c.types t) where
   pub one_placed : (s : Scope) (sc : Scalars) (n : Names) (b : Binder) (t : ℕ) → Placed c s sc n → b.number ≡ n.next → b.ty ≡ t → is_type c.types t ≡ true → Placed c (s ++ entry (Some t) b ∷ []) (one_scalar w n.next sc b) (one_in n b)
   one_placed s sc n b t p num slot typed = record {
     seen = λ x u h. elim (new_or_old s b t x u h) as (λ v. known (one_in n b).marks x ≡ Some x) [
-      | inl e ↦ known_last n.marks (mark n.next b) x ∙ (ap (λ (o : Option ℕ). or_later (known n.marks x) o) (chosen (b.number == x) (Some n.next) None (Rattle.separation_kinds.proofs.Basics.equal_is b.number x e.0)) ∙ ap Some (sym num ∙ e.0))
-      | inr e ↦ known_last n.marks (mark n.next b) x ∙ (ap (λ (o : Option ℕ). or_later (known n.marks x) o) (refused (b.number == x) (Some n.next) None (Rattle.separation_kinds.proofs.Basics.unequal_is b.number x e.0)) ∙ p.seen x u e.1)
+      | inl e ↦ known_last n.marks (mark n.next b) x ∙ (ap (λ (o : Option ℕ). or_later (known n.marks x) o) (chosen (b.number == x) (Some n.next) None (Rattle.separation.proofs.separation_kinds.Basics.equal_is b.number x e.0)) ∙ ap Some (sym num ∙ e.0))
+      | inr e ↦ known_last n.marks (mark n.next b) x ∙ (ap (λ (o : Option ℕ). or_later (known n.marks x) o) (refused (b.number == x) (Some n.next) None (Rattle.separation.proofs.separation_kinds.Basics.unequal_is b.number x e.0)) ∙ p.seen x u e.1)
     ];
     scalar = λ x u h. elim (new_or_old s b t x u h) as (λ v. one_scalar w n.next sc b x ≡ is_scalar_type c.types u) [
-      | inl e ↦ chosen (n.next == x) (w.scalar b.ty) (sc x) (Rattle.separation_kinds.proofs.Basics.equal_is n.next x (sym num ∙ e.0)) ∙ (ap w.scalar (slot ∙ e.1) ∙ scalars u (ap (is_type c.types) (sym e.1) ∙ typed))
-      | inr e ↦ refused (n.next == x) (w.scalar b.ty) (sc x) (Rattle.separation_kinds.proofs.Basics.unequal_is n.next x (λ z. e.0 (num ∙ z))) ∙ p.scalar x u e.1
+      | inl e ↦ chosen (n.next == x) (w.scalar b.ty) (sc x) (Rattle.separation.proofs.separation_kinds.Basics.equal_is n.next x (sym num ∙ e.0)) ∙ (ap w.scalar (slot ∙ e.1) ∙ scalars u (ap (is_type c.types) (sym e.1) ∙ typed))
+      | inr e ↦ refused (n.next == x) (w.scalar b.ty) (sc x) (Rattle.separation.proofs.separation_kinds.Basics.unequal_is n.next x (λ z. e.0 (num ∙ z))) ∙ p.scalar x u e.1
     ];
     before = λ x u h. elim (new_or_old s b t x u h) as (λ v. x < suc n.next) [
       | inl e ↦ (let z = e.0 in omega (arith, z, num))

@@ -1,22 +1,22 @@
 -- A clause was chosen: its cells are taken apart, or what it names is read, and its label takes what is told there.
 use Rattle.std.proofs.Common.{◌≡◌, ◌⊎◌, inl, inr, ℕ, ◌<◌, ◌≤◌, Bool, true, false, List, ◌∷◌, slice_get, length, Option, Some, None, refl, sym, ap, ◌∙◌, subst, true≢false, if◌then◌else◌, ◌==◌}
-use Rattle.fip_language.specs.Table.{Table}
-use Rattle.fip_language.specs.Every.{Among}
-use Rattle.cell_code.specs.declared.kind.From.{From}
-use Rattle.cell_code.specs.declared.kind.Kind.{Kind}
-use Rattle.cell_code.specs.declared.kind.Kind.TheVariants as K
-use Rattle.fip_trees.specs.Tree.{Pattern, BinderPattern, LiteralPattern, ConstructorPattern, Patterns}
-use Rattle.code_rules.specs.Codes.{PlainCode, PlainFunction}
-use Rattle.code_rules.specs.Types.{is_scalar_type, fields}
-use Rattle.code_rules.specs.Kinds.{has, is_free, is_lent_of, from_of}
-use Rattle.code_rules.specs.Fitting.{fits}
-use Rattle.separation_kinds.proofs.Basics.{chosen, refused, or_not, equal, unequal, unequal_is}
-use Rattle.match_knowledge.specs.declared.heads.Head.TheVariants.{Number, Tag}
-use Rattle.match_knowledge.specs.declared.verdicts.Verdict.TheVariants.{Fits}
-use Rattle.match_knowledge.specs.ValueHeads.{same_head}
-use Rattle.match_knowledge.specs.Known as M
-use Rattle.match_knowledge.specs.Known.{Open, Is, compare, compare_all, is_in}
-use Rattle.match_knowledge.specs.Patterns.{IsPattern}
+use Rattle.separation.specs.fip_language.Table.{Table}
+use Rattle.separation.specs.fip_language.Every.{Among}
+use Rattle.separation.specs.cell_code.declared.kind.From.{From}
+use Rattle.separation.specs.cell_code.declared.kind.Kind.{Kind}
+use Rattle.separation.specs.cell_code.declared.kind.Kind.TheVariants as K
+use Rattle.lowering_relation.specs.fip_trees.Tree.{Pattern, BinderPattern, LiteralPattern, ConstructorPattern, Patterns}
+use Rattle.separation.specs.code_rules.Codes.{PlainCode, PlainFunction}
+use Rattle.separation.specs.code_rules.Types.{is_scalar_type, fields}
+use Rattle.separation.specs.code_rules.Kinds.{has, is_free, is_lent_of, from_of}
+use Rattle.separation.specs.code_rules.Fitting.{fits}
+use Rattle.separation.proofs.separation_kinds.Basics.{chosen, refused, or_not, equal, unequal, unequal_is}
+use Rattle.lowering_relation.specs.match_knowledge.declared.heads.Head.TheVariants.{Number, Tag}
+use Rattle.lowering_relation.specs.match_knowledge.declared.verdicts.Verdict.TheVariants.{Fits}
+use Rattle.lowering_relation.specs.match_knowledge.ValueHeads.{same_head}
+use Rattle.lowering_relation.specs.match_knowledge.Known as M
+use Rattle.lowering_relation.specs.match_knowledge.Known.{Open, Is, compare, compare_all, is_in}
+use Rattle.lowering_relation.specs.match_knowledge.Patterns.{IsPattern}
 use Rattle.lowering_relation.specs.Spots.{Spot, At, register, below, Differ}
 use Rattle.lowering_relation.specs.Rows.{row_of, rows_of}
 use Rattle.lowering_relation.specs.Entering.{entering_root, root_of}
@@ -191,7 +191,7 @@ module _ (c : PlainCode) (f : PlainFunction) (st : Setting) (g : Holding) (ch : 
 
   -- ---- parts that are only read
 
-  cell_read_fits : (u d n : ℕ) (a : Rattle.fip_trees.specs.Tree.Name) (p : Rattle.fip_language.specs.declared.Place.Place) (ps : Patterns) (s : Spot) (κ : M.Known) (root : Option ℕ) (t : ℕ) (read : List ℕ) (l : ℕ → Kind) (z : ℕ) → Slotted st c.types t (ConstructorPattern u d n a p ps) → compare (row_of (ConstructorPattern u d n a p ps)) κ ≡ Fits → Differ s → Below c.types root t κ s read l → NamedRead (ConstructorPattern u d n a p ps) s read → is_free (l z) ≡ true → Among z (below s) → fits (kind_of c.types (widened (entry_held st false root (ConstructorPattern u d n a p ps) s z H.Nothing))) (l z) ≡ true
+  cell_read_fits : (u d n : ℕ) (a : Rattle.lowering_relation.specs.fip_trees.Tree.Name) (p : Rattle.separation.specs.fip_language.declared.Place.Place) (ps : Patterns) (s : Spot) (κ : M.Known) (root : Option ℕ) (t : ℕ) (read : List ℕ) (l : ℕ → Kind) (z : ℕ) → Slotted st c.types t (ConstructorPattern u d n a p ps) → compare (row_of (ConstructorPattern u d n a p ps)) κ ≡ Fits → Differ s → Below c.types root t κ s read l → NamedRead (ConstructorPattern u d n a p ps) s read → is_free (l z) ≡ true → Among z (below s) → fits (kind_of c.types (widened (entry_held st false root (ConstructorPattern u d n a p ps) s z H.Nothing))) (l z) ≡ true
   cell_read_fits u d n a p ps s (Open out) root t read l z slots fit differ parts named free m = absurd (open_fits (is_in (Tag n) out) fit)
   cell_read_fits u d n a p ps s (Is (Number j) ks) root t read l z slots fit differ parts named free m = absurd (true≢false (sym (if_fits (same_head (Tag n) (Number j)) (compare_all (rows_of ps) ks) fit).0))
   cell_read_fits u d n a p ps (At r fs) (Is (Tag e) ks) root t read l z slots fit differ parts named free m =
@@ -199,10 +199,10 @@ module _ (c : PlainCode) (f : PlainFunction) (st : Setting) (g : Holding) (ch : 
       all_read_fits st c.types root ps (fields c.types t n) ks fs r 0 read l z slots.2 both.1 differ (subst (λ e. AllBelow c.types root (fields c.types t e) ks fs r 0 read l) (sym (equal n e both.0)) parts) named free m
 
   -- what is known at the root of a match that only reads
-  entry_root_of : (u d n : ℕ) (a : Rattle.fip_trees.specs.Tree.Name) (p : Rattle.fip_language.specs.declared.Place.Place) (ps : Patterns) (s : Spot) (root : Option ℕ) (z : ℕ) (h : Held) → (Among z (below s) → ⊥) → entry_held st false root (ConstructorPattern u d n a p ps) s z h ≡ h
+  entry_root_of : (u d n : ℕ) (a : Rattle.lowering_relation.specs.fip_trees.Tree.Name) (p : Rattle.separation.specs.fip_language.declared.Place.Place) (ps : Patterns) (s : Spot) (root : Option ℕ) (z : ℕ) (h : Held) → (Among z (below s) → ⊥) → entry_held st false root (ConstructorPattern u d n a p ps) s z h ≡ h
   entry_root_of u d n a p ps (At r fs) root z h ne = entry_all_other st false root ps fs z h ne
 
-  reading_fits : (u d n : ℕ) (a : Rattle.fip_trees.specs.Tree.Name) (p : Rattle.fip_language.specs.declared.Place.Place) (ps : Patterns) (κ : M.Known) (read : List ℕ) (l : ℕ → Kind) → Slotted st c.types ch.type (ConstructorPattern u d n a p ps) → compare (row_of (ConstructorPattern u d n a p ps)) κ ≡ Fits → Sight c.types g ch.type ch.root κ read l → NamedRead (ConstructorPattern u d n a p ps) ch.root read → (root : Option ℕ) → root ≡ root_of (register ch.root) (g (register ch.root)) → (z : ℕ) → fits (kind_of c.types (widened (entry_held st false root (ConstructorPattern u d n a p ps) ch.root z (held_at k.held z)))) (l z) ≡ true
+  reading_fits : (u d n : ℕ) (a : Rattle.lowering_relation.specs.fip_trees.Tree.Name) (p : Rattle.separation.specs.fip_language.declared.Place.Place) (ps : Patterns) (κ : M.Known) (read : List ℕ) (l : ℕ → Kind) → Slotted st c.types ch.type (ConstructorPattern u d n a p ps) → compare (row_of (ConstructorPattern u d n a p ps)) κ ≡ Fits → Sight c.types g ch.type ch.root κ read l → NamedRead (ConstructorPattern u d n a p ps) ch.root read → (root : Option ℕ) → root ≡ root_of (register ch.root) (g (register ch.root)) → (z : ℕ) → fits (kind_of c.types (widened (entry_held st false root (ConstructorPattern u d n a p ps) ch.root z (held_at k.held z)))) (l z) ≡ true
   reading_fits u d n a p ps κ read l slots fit sight named root e z = by (or_not (has (below ch.root) z))
     where
       by : (has (below ch.root) z ≡ true) ⊎ (has (below ch.root) z ≡ false) → fits (kind_of c.types (widened (entry_held st false root (ConstructorPattern u d n a p ps) ch.root z (held_at k.held z)))) (l z) ≡ true
@@ -227,7 +227,7 @@ module _ (c : PlainCode) (f : PlainFunction) (st : Setting) (g : Holding) (ch : 
     enters = λ n z. ap (λ o. fits o (m z)) (told_entry q n z) ∙ (ap (λ h. fits (kind_of c.types (widened h)) (m z)) (same z) ∙ plain_fits κ read m sight z);
   }
 
-  settled_taken : (u d n : ℕ) (a : Rattle.fip_trees.specs.Tree.Name) (p : Rattle.fip_language.specs.declared.Place.Place) (ps : Patterns) (κ : M.Known) (read : List ℕ) (at end next : ℕ) (m : ℕ → Kind) → ch.takes ≡ true → Looks c g ch κ read m → IsPattern c.types ch.type (row_of (ConstructorPattern u d n a p ps)) → Rattle.lowering_relation.specs.Opening.Roomy (ConstructorPattern u d n a p ps) ch.root → Slotted st c.types ch.type (ConstructorPattern u d n a p ps) → compare (row_of (ConstructorPattern u d n a p ps)) κ ≡ Fits → TakesLaid f at (ConstructorPattern u d n a p ps) ch.root end → Quiet f at next m → end ≤ next → Settled (ConstructorPattern u d n a p ps) at m end
+  settled_taken : (u d n : ℕ) (a : Rattle.lowering_relation.specs.fip_trees.Tree.Name) (p : Rattle.separation.specs.fip_language.declared.Place.Place) (ps : Patterns) (κ : M.Known) (read : List ℕ) (at end next : ℕ) (m : ℕ → Kind) → ch.takes ≡ true → Looks c g ch κ read m → IsPattern c.types ch.type (row_of (ConstructorPattern u d n a p ps)) → Rattle.lowering_relation.specs.Opening.Roomy (ConstructorPattern u d n a p ps) ch.root → Slotted st c.types ch.type (ConstructorPattern u d n a p ps) → compare (row_of (ConstructorPattern u d n a p ps)) κ ≡ Fits → TakesLaid f at (ConstructorPattern u d n a p ps) ch.root end → Quiet f at next m → end ≤ next → Settled (ConstructorPattern u d n a p ps) at m end
   settled_taken u d n a p ps κ read at end next m takes' looks typed room slots fit h quiet le =
       let q = ConstructorPattern u d n a p ps in
       let own = seen_owned c.types ch.type (g (register ch.root)) κ right.seeing (based.takes takes') in
@@ -241,7 +241,7 @@ module _ (c : PlainCode) (f : PlainFunction) (st : Setting) (g : Holding) (ch : 
             ∙ taking_fits q κ read at end m looks.sight (root_tree takes') slots t (root_of (register ch.root) (held_at k.held (register ch.root))) z);
       }
 
-  settled_read : (u d n : ℕ) (a : Rattle.fip_trees.specs.Tree.Name) (p : Rattle.fip_language.specs.declared.Place.Place) (ps : Patterns) (κ : M.Known) (read : List ℕ) (at end next : ℕ) (more : List ℕ) (m : ℕ → Kind) → ch.takes ≡ false → Looks c g ch κ read m → IsPattern c.types ch.type (row_of (ConstructorPattern u d n a p ps)) → Slotted st c.types ch.type (ConstructorPattern u d n a p ps) → compare (row_of (ConstructorPattern u d n a p ps)) κ ≡ Fits → NamesLaid f at (ConstructorPattern u d n a p ps) ch.root read end more → Quiet f at next m → end ≤ next → Settled (ConstructorPattern u d n a p ps) at m end
+  settled_read : (u d n : ℕ) (a : Rattle.lowering_relation.specs.fip_trees.Tree.Name) (p : Rattle.separation.specs.fip_language.declared.Place.Place) (ps : Patterns) (κ : M.Known) (read : List ℕ) (at end next : ℕ) (more : List ℕ) (m : ℕ → Kind) → ch.takes ≡ false → Looks c g ch κ read m → IsPattern c.types ch.type (row_of (ConstructorPattern u d n a p ps)) → Slotted st c.types ch.type (ConstructorPattern u d n a p ps) → compare (row_of (ConstructorPattern u d n a p ps)) κ ≡ Fits → NamesLaid f at (ConstructorPattern u d n a p ps) ch.root read end more → Quiet f at next m → end ≤ next → Settled (ConstructorPattern u d n a p ps) at m end
   settled_read u d n a p ps κ read at end next more m takes' looks typed slots fit h quiet le =
       let q = ConstructorPattern u d n a p ps in
       let root = root_of (register ch.root) (g (register ch.root)) in

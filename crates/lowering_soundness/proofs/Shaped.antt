@@ -1,18 +1,18 @@
 -- The kinds that labels tell have types that are there, sets that rise and aren't empty, and credits of the sizes of
 -- cells; and a map is formed where this is so and its roots and froms are right.
 use Rattle.std.proofs.Common.{◌≡◌, inl, inr, ℕ, zero, suc, ◌+◌, ◌<◌, ◌≤◌, Bool, true, false, ◌&&◌, not, List, [], ◌∷◌, length, Option, Some, None, refl, sym, ap, ◌∙◌, subst, arith, if◌then◌else◌, ◌==◌, nat_lt}
-use Rattle.fip_language.specs.Table.{Table}
-use Rattle.cell_code.specs.declared.kind.From.{From}
-use Rattle.cell_code.specs.declared.kind.Kind.{Kind}
-use Rattle.cell_code.specs.declared.kind.Kind.TheVariants as K
-use Rattle.code_rules.specs.Codes.{PlainCode, PlainFunction, LabelMap, label_at}
-use Rattle.code_rules.specs.Headers.{is_size, are_rising, is_set, is_good_root, is_good_from, is_good_kind, are_good_kinds}
-use Rattle.code_rules.specs.Types.{is_type, is_scalar_type, numbers, count, all}
-use Rattle.code_rules.specs.Kinds.{at as kind_at, has, same_root, root_of}
-use Rattle.code_rules.specs.Asked.{known_fields}
-use Rattle.separation_kinds.proofs.Basics.{both, pick, or_not, equal, unequal, unequal_is, below_is, length_numbers}
-use Rattle.match_knowledge.specs.Known as M
-use Rattle.match_knowledge.specs.Known.{Open, Is}
+use Rattle.separation.specs.fip_language.Table.{Table}
+use Rattle.separation.specs.cell_code.declared.kind.From.{From}
+use Rattle.separation.specs.cell_code.declared.kind.Kind.{Kind}
+use Rattle.separation.specs.cell_code.declared.kind.Kind.TheVariants as K
+use Rattle.separation.specs.code_rules.Codes.{PlainCode, PlainFunction, LabelMap, label_at}
+use Rattle.separation.specs.code_rules.Headers.{is_size, are_rising, is_set, is_good_root, is_good_from, is_good_kind, are_good_kinds}
+use Rattle.separation.specs.code_rules.Types.{is_type, is_scalar_type, numbers, count, all}
+use Rattle.separation.specs.code_rules.Kinds.{at as kind_at, has, same_root, root_of}
+use Rattle.separation.specs.code_rules.Asked.{known_fields}
+use Rattle.separation.proofs.separation_kinds.Basics.{both, pick, or_not, equal, unequal, unequal_is, below_is, length_numbers}
+use Rattle.lowering_relation.specs.match_knowledge.Known as M
+use Rattle.lowering_relation.specs.match_knowledge.Known.{Open, Is}
 use Rattle.lowering_relation.specs.Spots.{register, below}
 use Rattle.lowering_relation.specs.Entering as E
 use Rattle.lowering_relation.specs.declared.held.Held.{Held}
@@ -40,7 +40,7 @@ IsShaped w (K.Credit n) = is_size n ≡ true
 
 not_below : (i j : ℕ) → j ≤ i → not (nat_lt i j) ≡ true
 not_below i j low = elim (or_not (nat_lt i j)) as (λ v. not (nat_lt i j) ≡ true) [
-  | inl e ↦ (let z = Rattle.separation_kinds.proofs.Basics.below i j e in absurd (omega (arith, low, z)))
+  | inl e ↦ (let z = Rattle.separation.proofs.separation_kinds.Basics.below i j e in absurd (omega (arith, low, z)))
   | inr e ↦ ap not e
 ]
 
@@ -105,7 +105,7 @@ seen_shaped w t (H.Credit n) κ f open' = f
 seen_shaped w t (H.Bare u d) κ f open' = one_set w u d f
 
 scalar_there : (w : Table) (t : ℕ) → is_scalar_type w t ≡ true → is_type w t ≡ true
-scalar_there w t e = (both (is_type w t) (Rattle.fip_language.specs.Table.is_scalar w t) e).0
+scalar_there w t e = (both (is_type w t) (Rattle.separation.specs.fip_language.Table.is_scalar w t) e).0
 
 part_shaped : (w : Table) (root : Option ℕ) (t : ℕ) (κ : M.Known) (r i : ℕ) → is_open (Rattle.lowering_relation.specs.Sights.part_kind w root t κ r i) ≡ true → IsShaped w (Rattle.lowering_relation.specs.Sights.part_kind w root t κ r i)
 part_shaped w root t κ r i = by (is_scalar_type w t) refl

@@ -1,10 +1,10 @@
 -- What a clause leaves over is given up, while the trees and the credits that are kept stay.
 use Rattle.std.proofs.Common.{◌≡◌, ◌⊎◌, inl, inr, ℕ, zero, suc, ◌+◌, ◌≤◌, Bool, true, false, List, [], ◌∷◌, length, refl, sym, ap, ◌∙◌, subst, subst₂, true≢false, arith, ◌==◌}
-use Rattle.type_check.specs.Scope.{Scope}
-use Rattle.ownership_calculus.specs.Terms.{Item, Credit}
-use Rattle.cell_code.specs.declared.code.Instr.TheVariants as I
-use Rattle.code_rules.specs.Codes.{PlainCode, PlainFunction}
-use Rattle.separation_kinds.proofs.Basics.{refused, or_not, equal, itself, less_or_not}
+use Rattle.derivation_making.specs.type_check.Scope.{Scope}
+use Rattle.derivation_making.specs.ownership_calculus.Terms.{Item, Credit}
+use Rattle.separation.specs.cell_code.declared.code.Instr.TheVariants as I
+use Rattle.separation.specs.code_rules.Codes.{PlainCode, PlainFunction}
+use Rattle.separation.proofs.separation_kinds.Basics.{refused, or_not, equal, itself, less_or_not}
 use Rattle.lowering_relation.specs.declared.held.Held.{Held}
 use Rattle.lowering_relation.specs.declared.held.Held.TheVariants as H
 use Rattle.lowering_relation.specs.Known.{Known, used}
@@ -50,7 +50,7 @@ holds_tree g h r x tree = elim (x r) as (λ v. is_tree (g r) ≡ true) [
 
 setting_holds : (g : Holding) (r : ℕ) → Holds g (setting g r H.Nothing)
 setting_holds g r q = elim (or_not (q == r)) as (λ v. (setting g r H.Nothing q ≡ g q) ⊎ (setting g r H.Nothing q ≡ H.Nothing)) [
-  | inl e ↦ inr (Rattle.separation_kinds.proofs.Basics.chosen (q == r) H.Nothing (g q) e)
+  | inl e ↦ inr (Rattle.separation.proofs.separation_kinds.Basics.chosen (q == r) H.Nothing (g q) e)
   | inr e ↦ inl (refused (q == r) H.Nothing (g q) e)
 ]
 

@@ -2,23 +2,23 @@
 use Rattle.std.proofs.Common.{◌≡◌, ℕ, zero, suc, ◌<◌, Bool, true, false, not, List, [], ◌∷◌, length, Option, Some, None, refl, sym, ap, ◌∙◌, subst, true≢false, if◌then◌else◌, ◌==◌}
 use Rattle.std.specs.Prelude.{ℤ, is_some}
 use Rattle.std.proofs.lemmas.Option.{same_Some}
-use Rattle.fip_language.specs.declared.Operator.{Operator}
-use Rattle.cell_code.specs.declared.code.Instr.TheVariants as I
-use Rattle.cell_code.specs.declared.kind.From.{From}
-use Rattle.cell_code.specs.declared.kind.Kind.{Kind}
-use Rattle.cell_code.specs.declared.kind.Kind.TheVariants.{Gone, Scalar, Owned, Lent, Credit}
-use Rattle.code_rules.specs.Codes.{PlainCode, PlainFunction, results}
-use Rattle.code_rules.specs.Types.{fields, is_scalar_type}
-use Rattle.code_rules.specs.Kinds as S
-use Rattle.code_rules.specs.Kinds.{at, are_free}
-use Rattle.code_rules.specs.Ranges.{are_below}
-use Rattle.code_rules.specs.Changes.{become, moved_by, forget}
-use Rattle.code_rules.specs.Handing.{give_all, arguments}
-use Rattle.code_rules.specs.Taking.{Chain, IsReached, part, is_heir, fate, ends}
-use Rattle.code_rules.specs.Asked.{known_fields, can_take, same_types, tail_left, are_places, can_receive}
-use Rattle.code_rules.specs.Leaves as L
-use Rattle.code_rules.specs.Endings.{nothing_owned}
-use Rattle.separation_kinds.proofs.Basics.{pick, chosen, equal_is, becomes, length_become, at_past}
+use Rattle.separation.specs.fip_language.declared.Operator.{Operator}
+use Rattle.separation.specs.cell_code.declared.code.Instr.TheVariants as I
+use Rattle.separation.specs.cell_code.declared.kind.From.{From}
+use Rattle.separation.specs.cell_code.declared.kind.Kind.{Kind}
+use Rattle.separation.specs.cell_code.declared.kind.Kind.TheVariants.{Gone, Scalar, Owned, Lent, Credit}
+use Rattle.separation.specs.code_rules.Codes.{PlainCode, PlainFunction, results}
+use Rattle.separation.specs.code_rules.Types.{fields, is_scalar_type}
+use Rattle.separation.specs.code_rules.Kinds as S
+use Rattle.separation.specs.code_rules.Kinds.{at, are_free}
+use Rattle.separation.specs.code_rules.Ranges.{are_below}
+use Rattle.separation.specs.code_rules.Changes.{become, moved_by, forget}
+use Rattle.separation.specs.code_rules.Handing.{give_all, arguments}
+use Rattle.separation.specs.code_rules.Taking.{Chain, IsReached, part, is_heir, fate, ends}
+use Rattle.separation.specs.code_rules.Asked.{known_fields, can_take, same_types, tail_left, are_places, can_receive}
+use Rattle.separation.specs.code_rules.Leaves as L
+use Rattle.separation.specs.code_rules.Endings.{nothing_owned}
+use Rattle.separation.proofs.separation_kinds.Basics.{pick, chosen, equal_is, becomes, length_become, at_past}
 use Rattle.lowering_relation.specs.declared.held.Held.{Held}
 use Rattle.lowering_relation.specs.declared.held.Held.TheVariants as H
 use Rattle.lowering_relation.specs.Known.{without}

@@ -1,12 +1,12 @@
 -- Arguments and credits are handed over to a call.
 use Rattle.std.proofs.Common.{◌≡◌, inl, inr, ℕ, suc, ◌+◌, ◌≤◌, Bool, true, false, ◌&&◌, not, List, [], ◌∷◌, length, refl, sym, ap, ap₂, ◌∙◌, subst, subst₂, arith, slice_set, if◌then◌else◌, ◌==◌}
-use Rattle.fip_language.specs.Table.{Table}
-use Rattle.fip_base.specs.declared.plain.Param.{Param}
-use Rattle.type_check.specs.Scope.{Scope}
-use Rattle.ownership_calculus.specs.Terms.{Item, Own, Credit, charge, given}
-use Rattle.ownership_calculus.specs.Rules.{Fits}
-use Rattle.code_rules.specs.Types.{is_scalar_type}
-use Rattle.separation_kinds.proofs.Basics.{pick, chosen, refused, or_not, both, itself}
+use Rattle.separation.specs.fip_language.Table.{Table}
+use Rattle.separation.specs.fip_base.declared.plain.Param.{Param}
+use Rattle.derivation_making.specs.type_check.Scope.{Scope}
+use Rattle.derivation_making.specs.ownership_calculus.Terms.{Item, Own, Credit, charge, given}
+use Rattle.derivation_making.specs.ownership_calculus.Rules.{Fits}
+use Rattle.separation.specs.code_rules.Types.{is_scalar_type}
+use Rattle.separation.proofs.separation_kinds.Basics.{pick, chosen, refused, or_not, both, itself}
 use Rattle.lowering_relation.specs.declared.held.Held.{Held}
 use Rattle.lowering_relation.specs.declared.held.Held.TheVariants as H
 use Rattle.lowering_relation.specs.declared.held.Credit as D
@@ -152,7 +152,7 @@ charge_first n m ns = ap (λ x. x + given m ns) (by (n == m))
 
 no_tree_cleared : (g : Holding) (r q : ℕ) → is_tree (g r) ≡ false → is_tree (setting g r H.Nothing q) ≡ is_tree (g q)
 no_tree_cleared g r q none = elim (or_not (q == r)) as (λ v. is_tree (setting g r H.Nothing q) ≡ is_tree (g q)) [
-  | inl e ↦ ap is_tree (chosen (q == r) H.Nothing (g q) e) ∙ sym (ap (λ x. is_tree (g x)) (Rattle.separation_kinds.proofs.Basics.equal q r e) ∙ none)
+  | inl e ↦ ap is_tree (chosen (q == r) H.Nothing (g q) e) ∙ sym (ap (λ x. is_tree (g x)) (Rattle.separation.proofs.separation_kinds.Basics.equal q r e) ∙ none)
   | inr e ↦ ap is_tree (refused (q == r) H.Nothing (g q) e)
 ]
 

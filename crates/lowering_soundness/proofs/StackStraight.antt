@@ -2,24 +2,24 @@
 -- reached and neither ends nor jumps. So the end of a straight part is reached where its start is.
 use Rattle.std.proofs.Common.{◌≡◌, inl, inr, ℕ, zero, suc, Bool, true, false, List, [], ◌∷◌, Option, Some, None, is_some, refl, sym, subst, true≢false}
 use Rattle.std.proofs.lemmas.Bool.{and_from}
-use Rattle.cell_code.specs.declared.code.Instr.{Instr}
-use Rattle.cell_code.specs.declared.code.Instr.TheVariants as I
-use Rattle.cell_code.specs.declared.kind.From.{From}
-use Rattle.cell_code.specs.declared.kind.Kind.{Kind}
-use Rattle.fip_language.specs.declared.Place.{Place}
-use Rattle.fip_language.specs.declared.Operator.{Operator}
-use Rattle.fip_trees.specs.Tree.{Argument, Variable, Literal, Constructor, Arguments, NoArguments, MoreArguments}
-use Rattle.code_rules.specs.Codes.{PlainCode, PlainFunction, function_at, label_at}
-use Rattle.code_rules.specs.Types.{fields}
-use Rattle.code_rules.specs.Kinds.{at, from_of}
-use Rattle.code_rules.specs.Entry.{entry}
-use Rattle.code_rules.specs.Taking.{Chain}
-use Rattle.code_rules.specs.Handing as S
-use Rattle.code_rules.specs.Asked.{sources, destinations}
-use Rattle.code_rules.specs.Ranges.{in_range}
-use Rattle.code_rules.specs.Leaves.{Leaves}
-use Rattle.code_rules.specs.Flow.{is_as_asked, IsInstr, Holds, Comes, KnownAt}
-use Rattle.code_rules.specs.Breaks.{IsSound}
+use Rattle.separation.specs.cell_code.declared.code.Instr.{Instr}
+use Rattle.separation.specs.cell_code.declared.code.Instr.TheVariants as I
+use Rattle.separation.specs.cell_code.declared.kind.From.{From}
+use Rattle.separation.specs.cell_code.declared.kind.Kind.{Kind}
+use Rattle.separation.specs.fip_language.declared.Place.{Place}
+use Rattle.separation.specs.fip_language.declared.Operator.{Operator}
+use Rattle.lowering_relation.specs.fip_trees.Tree.{Argument, Variable, Literal, Constructor, Arguments, NoArguments, MoreArguments}
+use Rattle.separation.specs.code_rules.Codes.{PlainCode, PlainFunction, function_at, label_at}
+use Rattle.separation.specs.code_rules.Types.{fields}
+use Rattle.separation.specs.code_rules.Kinds.{at, from_of}
+use Rattle.separation.specs.code_rules.Entry.{entry}
+use Rattle.separation.specs.code_rules.Taking.{Chain}
+use Rattle.separation.specs.code_rules.Handing as S
+use Rattle.separation.specs.code_rules.Asked.{sources, destinations}
+use Rattle.separation.specs.code_rules.Ranges.{in_range}
+use Rattle.separation.specs.code_rules.Leaves.{Leaves}
+use Rattle.separation.specs.code_rules.Flow.{is_as_asked, IsInstr, Holds, Comes, KnownAt}
+use Rattle.separation.specs.code_rules.Breaks.{IsSound}
 use Rattle.separation.proofs.Sound.{ranged, asked_sources, asked_destinations}
 use Rattle.lowering_relation.specs.Known.{Known}
 use Rattle.lowering_relation.specs.Values.{Setting, ArgumentAt, ArgumentsAt, BuiltAt}

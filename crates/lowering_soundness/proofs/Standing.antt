@@ -1,13 +1,13 @@
 -- A match whose tests may be written: its scrutinee is in a register, and wasn't just built; each position below it has
 -- a register of its own that holds nothing; and the patterns of its clauses are of its type.
 use Rattle.std.specs.Prelude.{◌≡◌, ℕ, ◌<◌, true, false, List, [], ◌∷◌, Option, Some, None, length, slice_get}
-use Rattle.fip_language.specs.Table.{Table}
-use Rattle.fip_language.specs.Every.{Among}
-use Rattle.fip_trees.specs.Tree.{Pattern, BinderPattern, LiteralPattern, ConstructorPattern, Patterns, NoPatterns}
-use Rattle.fip_trees.specs.Tree.{MorePatterns}
-use Rattle.code_rules.specs.Codes.{PlainCode, PlainFunction}
-use Rattle.code_rules.specs.Types.{fields, is_scalar_type}
-use Rattle.match_knowledge.specs.Patterns.{IsPattern}
+use Rattle.separation.specs.fip_language.Table.{Table}
+use Rattle.separation.specs.fip_language.Every.{Among}
+use Rattle.lowering_relation.specs.fip_trees.Tree.{Pattern, BinderPattern, LiteralPattern, ConstructorPattern, Patterns, NoPatterns}
+use Rattle.lowering_relation.specs.fip_trees.Tree.{MorePatterns}
+use Rattle.separation.specs.code_rules.Codes.{PlainCode, PlainFunction}
+use Rattle.separation.specs.code_rules.Types.{fields, is_scalar_type}
+use Rattle.lowering_relation.specs.match_knowledge.Patterns.{IsPattern}
 use Rattle.lowering_relation.specs.Spots.{register, below, Differ}
 use Rattle.lowering_relation.specs.Rows.{row_of}
 use Rattle.lowering_relation.specs.Opening.{Roomy}

@@ -1,21 +1,21 @@
 -- Where a function is entered: the registers of its parameters and of its header's credits go with what is owned and what
 -- is borrowed.
 use Rattle.std.proofs.Common.{◌≡◌, ◌⊎◌, inl, inr, ℕ, zero, suc, ◌+◌, ◌<◌, ◌≤◌, Bool, true, false, ◌&&◌, ◌||◌, not, List, [], ◌∷◌, ◌++◌, length, map, Option, Some, None, refl, sym, ap, ap₂, ◌∙◌, subst, subst₂, true≢false, arith, append_assoc, slice_set, if◌then◌else◌, ◌==◌}
-use Rattle.fip_language.specs.Table.{Table}
-use Rattle.fip_base.specs.declared.plain.Param.{Param}
-use Rattle.fip_trees.specs.declared.program.Binder.{Binder}
-use Rattle.fip_rules.specs.World as R
-use Rattle.type_check.specs.Binders.{entry}
-use Rattle.type_check.specs.Scope.{Scope, of_binder}
-use Rattle.ownership_calculus.specs.Terms.{Item, Own, Credit, has, one, only, charge}
-use Rattle.ownership_calculus.specs.Rules.{Fits}
-use Rattle.ownership_calculus.specs.Rules as O
-use Rattle.ownership_calculus.specs.Functions.{starting}
-use Rattle.ownership_calculus.proofs.Fit.{fits_same}
-use Rattle.ownership_agreement.specs.Bodies.{borrowed_parameters, owned_parameters}
-use Rattle.code_rules.specs.Codes.{PlainCode}
-use Rattle.code_rules.specs.Types.{is_type, is_scalar_type, fields}
-use Rattle.separation_kinds.proofs.Basics.{chosen, refused, or_not, both, refuted, equal, equal_is, unequal, unequal_is, itself}
+use Rattle.separation.specs.fip_language.Table.{Table}
+use Rattle.separation.specs.fip_base.declared.plain.Param.{Param}
+use Rattle.lowering_relation.specs.fip_trees.declared.program.Binder.{Binder}
+use Rattle.derivation_making.specs.fip_rules.World as R
+use Rattle.derivation_making.specs.type_check.Binders.{entry}
+use Rattle.derivation_making.specs.type_check.Scope.{Scope, of_binder}
+use Rattle.derivation_making.specs.ownership_calculus.Terms.{Item, Own, Credit, has, one, only, charge}
+use Rattle.derivation_making.specs.ownership_calculus.Rules.{Fits}
+use Rattle.derivation_making.specs.ownership_calculus.Rules as O
+use Rattle.derivation_making.specs.ownership_calculus.Functions.{starting}
+use Rattle.derivation_making.proofs.ownership_calculus.Fit.{fits_same}
+use Rattle.derivation_making.specs.ownership_agreement.Bodies.{borrowed_parameters, owned_parameters}
+use Rattle.separation.specs.code_rules.Codes.{PlainCode}
+use Rattle.separation.specs.code_rules.Types.{is_type, is_scalar_type, fields}
+use Rattle.separation.proofs.separation_kinds.Basics.{chosen, refused, or_not, both, refuted, equal, equal_is, unequal, unequal_is, itself}
 use Rattle.lowering_relation.specs.declared.held.Held.{Held}
 use Rattle.lowering_relation.specs.declared.held.Held.TheVariants as H
 use Rattle.lowering_relation.specs.Known.{Known, register_of, named, naming, with_next}
@@ -227,7 +227,7 @@ module _ (fip : Bool) (w : Table) (st : Setting) (B : ℕ → Bool) (K : ℕ →
           (param_owned s T k b p.ty ties room within number before none (λ tree. borrowed tree ∙ not_lent p.lent (is_scalar_type w p.ty) e tree)))
 
   taken_other : (p : Param) (n y : ℕ) → (n ≡ y → ⊥) → taken w p n (Own y) ≡ 0
-  taken_other p n y ne = Rattle.separation_kinds.proofs.Basics.pick (λ m. m ≡ 0) (borrows w p) 0 (sole w p.ty n (Own y)) (λ e. refl) (λ e. sole_other w p.ty n y ne)
+  taken_other p n y ne = Rattle.separation.proofs.separation_kinds.Basics.pick (λ m. m ≡ 0) (borrows w p) 0 (sole w p.ty n (Own y)) (λ e. refl) (λ e. sole_other w p.ty n y ne)
 
   none_more : (p : Param) (n : ℕ) (T : Item → ℕ) → NoneFrom n T → NoneFrom (suc n) (λ i. T i + taken w p n i)
   none_more p n T none y low =
@@ -348,7 +348,7 @@ module _ (fip : Bool) (w : Table) (st : Setting) (B : ℕ → Bool) (K : ℕ →
       charge_is i = let z = one_test m i in omega (arith, z)
 
       added : (i a b d : ℕ) → Fits fip a b → Fits fip (a + d) (b + d)
-      added i a b d e = Rattle.ownership_calculus.proofs.Fit.fits_sum fip (a + d) a d b d (fits_same fip (a + d)) e (fits_same fip d)
+      added i a b d e = Rattle.derivation_making.proofs.ownership_calculus.Fit.fits_sum fip (a + d) a d b d (fits_same fip (a + d)) e (fits_same fip d)
 
       counts : (i r : ℕ) → counted i r (k.credits ++ (record { size = m; register = k.next } ∷ [])) ≡ one_if (is_credit_of i (held_at (slice_set k.held k.next (H.Credit m)) r))
       counts i r =
@@ -412,7 +412,7 @@ module _ (fip : Bool) (w : Table) (st : Setting) (B : ℕ → Bool) (K : ℕ →
         ties = ties_worth fip w s B K (λ i. (T i + charge (m ∷ []) i) + charge ms i) (λ i. T i + charge (m ∷ ms) i) (λ q. 0) (with_credits (with_next_credit k m) ms) (λ i. let z = charge_more m ms i in omega (arith, z)) rest.ties;
         next = (let z = rest.next in omega (arith, z));
         width = rest.width ∙ wide;
-        names = rest.names ∙ Rattle.separation_kinds.proofs.Basics.length_map (unless_in k.next) k.names;
+        names = rest.names ∙ Rattle.separation.proofs.separation_kinds.Basics.length_map (unless_in k.next) k.names;
       }
 
 -- ---- what a function starts with
@@ -490,7 +490,7 @@ module _ (c : PlainCode) (w : R.World) (scalars : (t : ℕ) → is_type c.types 
           ]
 
   taken_credit : (p : Param) (n k : ℕ) → taken c.types p n (Credit k) ≡ 0
-  taken_credit p n k = Rattle.separation_kinds.proofs.Basics.pick (λ m. m ≡ 0) (borrows c.types p) 0 (sole c.types p.ty n (Credit k)) (λ e. refl) (λ e. sole_credit c.types p.ty n k)
+  taken_credit p n k = Rattle.separation.proofs.separation_kinds.Basics.pick (λ m. m ≡ 0) (borrows c.types p) 0 (sole c.types p.ty n (Credit k)) (λ e. refl) (λ e. sole_credit c.types p.ty n k)
 
   takens_credit : (n : ℕ) (ps : List Param) (k : ℕ) → takens c.types n ps (Credit k) ≡ 0
   takens_credit n [] k = refl

@@ -1,21 +1,21 @@
 -- A cell is taken apart: this is as asked, and these are the kinds behind it.
 use Rattle.std.proofs.Common.{◌≡◌, inl, inr, ℕ, suc, ◌<◌, ◌≤◌, true, false, not, ◌&&◌, is_some, List, [], ◌∷◌, length, Option, Some, None, refl, sym, ap, ◌∙◌, subst, true≢false, arith, if◌then◌else◌, ◌==◌}
-use Rattle.fip_language.specs.Table.{Table}
-use Rattle.fip_language.specs.Every.{Among}
-use Rattle.cell_code.specs.declared.code.Instr.TheVariants as I
-use Rattle.cell_code.specs.declared.kind.Kind.{Kind}
-use Rattle.cell_code.specs.declared.kind.Kind.TheVariants as K
-use Rattle.fip_trees.specs.Tree.{Patterns, NoPatterns, MorePatterns}
-use Rattle.code_rules.specs.Codes.{PlainCode, PlainFunction}
-use Rattle.code_rules.specs.Types.{fields, is_scalar_type}
-use Rattle.code_rules.specs.Kinds.{has, at, is_free, from_of}
-use Rattle.code_rules.specs.Changes.{forget}
-use Rattle.code_rules.specs.Asked.{known_fields, can_take, are_places}
-use Rattle.code_rules.specs.Taking.{Part, part, part_from, is_field, is_heir, is_heir_by, IsReached, IsTaken, part_kind as taken_part, with_root, fate, ends, part_or, credit}
-use Rattle.separation_kinds.proofs.Basics.{chosen, refused, or_not, equal, equal_is, itself, unequal, unequal_is, becomes, at_past, length_become}
-use Rattle.separation_kinds.proofs.KindLemmas.{not_gone_within}
-use Rattle.separation_kinds.proofs.Takes.{no_part}
-use Rattle.match_knowledge.specs.Known.{Known, Knowns, NoKnowns, MoreKnowns}
+use Rattle.separation.specs.fip_language.Table.{Table}
+use Rattle.separation.specs.fip_language.Every.{Among}
+use Rattle.separation.specs.cell_code.declared.code.Instr.TheVariants as I
+use Rattle.separation.specs.cell_code.declared.kind.Kind.{Kind}
+use Rattle.separation.specs.cell_code.declared.kind.Kind.TheVariants as K
+use Rattle.lowering_relation.specs.fip_trees.Tree.{Patterns, NoPatterns, MorePatterns}
+use Rattle.separation.specs.code_rules.Codes.{PlainCode, PlainFunction}
+use Rattle.separation.specs.code_rules.Types.{fields, is_scalar_type}
+use Rattle.separation.specs.code_rules.Kinds.{has, at, is_free, from_of}
+use Rattle.separation.specs.code_rules.Changes.{forget}
+use Rattle.separation.specs.code_rules.Asked.{known_fields, can_take, are_places}
+use Rattle.separation.specs.code_rules.Taking.{Part, part, part_from, is_field, is_heir, is_heir_by, IsReached, IsTaken, part_kind as taken_part, with_root, fate, ends, part_or, credit}
+use Rattle.separation.proofs.separation_kinds.Basics.{chosen, refused, or_not, equal, equal_is, itself, unequal, unequal_is, becomes, at_past, length_become}
+use Rattle.separation.proofs.separation_kinds.KindLemmas.{not_gone_within}
+use Rattle.separation.proofs.separation_kinds.Takes.{no_part}
+use Rattle.lowering_relation.specs.match_knowledge.Known.{Known, Knowns, NoKnowns, MoreKnowns}
 use Rattle.lowering_relation.specs.Spots.{Spot, Spots, NoSpots, MoreSpots, register, below, all_in, AllDiffer}
 use Rattle.lowering_relation.specs.Opening.{as_many}
 use Rattle.lowering_relation.proofs.MatchLists.{among_either, in_head, in_tail}
@@ -225,7 +225,7 @@ module _ (c : PlainCode) (f : PlainFunction) where
 
           dest_within : (z : ℕ) (o : Option Part) → part (as_many ps fs) (fields c.types t n) z ≡ o → is_some o ≡ true → Among z (all_in fs)
           dest_within z None e h = absurd (true≢false (sym h))
-          dest_within z (Some p) e h = as_many_within ps fs z (has_among (as_many ps fs) z (Rattle.separation_kinds.proofs.Takes.part_dest 0 (as_many ps fs) (fields c.types t n) z p e))
+          dest_within z (Some p) e h = as_many_within ps fs z (has_among (as_many ps fs) z (Rattle.separation.proofs.separation_kinds.Takes.part_dest 0 (as_many ps fs) (fields c.types t n) z p e))
 
           heir_within : (z : ℕ) (o : Option Part) → part (as_many ps fs) (fields c.types t n) z ≡ o → is_heir_by c.types r (at ks z) o ≡ true → Among z (all_in fs)
           heir_within z None e h = absurd (true≢false (sym h))

@@ -1,27 +1,27 @@
 -- A test of what a pattern asks for: it is as asked, and what is told on both of its sides.
 use Rattle.std.proofs.Common.{◌≡◌, inl, inr, ℕ, zero, suc, ◌<◌, Bool, true, false, List, [], ◌∷◌, Option, Some, refl, sym, ap, ◌∙◌, subst, true≢false, ◌==◌}
 use Rattle.std.proofs.lemmas.Option.{none-some, same_Some}
-use Rattle.fip_language.specs.Table.{Table}
-use Rattle.fip_language.specs.Every.{Among}
-use Rattle.cell_code.specs.declared.kind.From.{From}
-use Rattle.cell_code.specs.declared.kind.Kind.{Kind}
-use Rattle.cell_code.specs.declared.kind.Kind.TheVariants as K
-use Rattle.code_rules.specs.Types.{count, fields, is_scalar_type}
-use Rattle.code_rules.specs.Kinds.{set_of}
-use Rattle.code_rules.specs.Changes.{narrow, without}
-use Rattle.code_rules.specs.Asked.{may_have}
-use Rattle.separation_kinds.proofs.Basics.{chosen, refused, or_not, itself, unequal_is, below_is}
-use Rattle.separation_kinds.proofs.Fits.{narrowed}
-use Rattle.match_knowledge.specs.declared.heads.Head.{Head}
-use Rattle.match_knowledge.specs.declared.heads.Head.TheVariants.{Number, Tag}
-use Rattle.match_knowledge.specs.declared.verdicts.Verdict.TheVariants.{Asks}
-use Rattle.match_knowledge.specs.ValueHeads.{IsHead, same_head}
-use Rattle.match_knowledge.specs.Patterns as M
-use Rattle.match_knowledge.specs.Patterns.{IsPattern, ArePatterns}
-use Rattle.match_knowledge.specs.Known.{Known, Open, Is, Knowns, NoKnowns, MoreKnowns, compare, compare_all, is_asks, is_in, opens, settle, side, side_all}
-use Rattle.match_knowledge.proofs.Facts.{same_is}
-use Rattle.match_knowledge.proofs.Split.{asks_is, both_asks, is_asking}
-use Rattle.match_knowledge.proofs.VerdictFacts.{if_asks}
+use Rattle.separation.specs.fip_language.Table.{Table}
+use Rattle.separation.specs.fip_language.Every.{Among}
+use Rattle.separation.specs.cell_code.declared.kind.From.{From}
+use Rattle.separation.specs.cell_code.declared.kind.Kind.{Kind}
+use Rattle.separation.specs.cell_code.declared.kind.Kind.TheVariants as K
+use Rattle.separation.specs.code_rules.Types.{count, fields, is_scalar_type}
+use Rattle.separation.specs.code_rules.Kinds.{set_of}
+use Rattle.separation.specs.code_rules.Changes.{narrow, without}
+use Rattle.separation.specs.code_rules.Asked.{may_have}
+use Rattle.separation.proofs.separation_kinds.Basics.{chosen, refused, or_not, itself, unequal_is, below_is}
+use Rattle.separation.proofs.separation_kinds.Fits.{narrowed}
+use Rattle.lowering_relation.specs.match_knowledge.declared.heads.Head.{Head}
+use Rattle.lowering_relation.specs.match_knowledge.declared.heads.Head.TheVariants.{Number, Tag}
+use Rattle.lowering_relation.specs.match_knowledge.declared.verdicts.Verdict.TheVariants.{Asks}
+use Rattle.lowering_relation.specs.match_knowledge.ValueHeads.{IsHead, same_head}
+use Rattle.lowering_relation.specs.match_knowledge.Patterns as M
+use Rattle.lowering_relation.specs.match_knowledge.Patterns.{IsPattern, ArePatterns}
+use Rattle.lowering_relation.specs.match_knowledge.Known.{Known, Open, Is, Knowns, NoKnowns, MoreKnowns, compare, compare_all, is_asks, is_in, opens, settle, side, side_all}
+use Rattle.lowering_relation.proofs.match_knowledge.Facts.{same_is}
+use Rattle.lowering_relation.proofs.match_knowledge.Split.{asks_is, both_asks, is_asking}
+use Rattle.lowering_relation.proofs.match_knowledge.VerdictFacts.{if_asks}
 use Rattle.lowering_relation.specs.Spots.{Spot, At, Spots, NoSpots, MoreSpots, register, below, all_in, Differ, AllDiffer}
 use Rattle.lowering_relation.specs.Reading.{contains, Asked, asked, asked_first}
 use Rattle.lowering_relation.proofs.MatchLists.{in_tail, in_part}
@@ -59,7 +59,7 @@ narrow_out t AsScalar cs n = refl
 narrow_out t AsOwned cs n = refl
 narrow_out t (AsLent root from) cs n = refl
 
-may_formed : (w : Table) (t : ℕ) (form : Form) (cs : List ℕ) (n : ℕ) → n < count w t → Rattle.code_rules.specs.Kinds.has cs n ≡ true → may_have w n (formed t form cs) ≡ true
+may_formed : (w : Table) (t : ℕ) (form : Form) (cs : List ℕ) (n : ℕ) → n < count w t → Rattle.separation.specs.code_rules.Kinds.has cs n ≡ true → may_have w n (formed t form cs) ≡ true
 may_formed w t AsScalar cs n low h = below_is n (count w t) low
 may_formed w t AsOwned cs n low h = h
 may_formed w t (AsLent root from) cs n low h = h
@@ -96,7 +96,7 @@ here_sided w t u form (Tag n) ps out r m typed none own right false =
     narrowed_here m r (without n (set_of (m r))) ∙ (ap (λ k. narrow (without n (set_of k)) k) own ∙ (narrow_out t form (left w t (Open out)) n ∙ ap (formed t form) (sym (left_without w t n out))))
 
 here_may : (w : Table) (t u : ℕ) (form : Form) (h : Head) (ps : M.Patterns) (out : List Head) (r : ℕ) (m : ℕ → Kind) → IsPattern w t (M.Test u h ps) → is_in h out ≡ false → m r ≡ formed t form (left w t (Open out)) → FormRight w t form → MayTest w h (m r)
-here_may w zero u form (Number i) ps out r m typed none own right = ap (Rattle.code_rules.specs.Kinds.is_scalar_of 0) (own ∙ form_int w form (left w 0 (Open out)) right)
+here_may w zero u form (Number i) ps out r m typed none own right = ap (Rattle.separation.specs.code_rules.Kinds.is_scalar_of 0) (own ∙ form_int w form (left w 0 (Open out)) right)
 here_may w (suc t) u form (Number i) ps out r m typed none own right = absurd typed.2
 here_may w t u form (Tag n) ps out r m typed none own right =
     let low = (head_fields w t n typed.1 typed.2).0 in

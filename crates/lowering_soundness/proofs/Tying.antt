@@ -1,12 +1,12 @@
 -- What is known of registers goes with the variables as before where what is told of their registers stays.
 use Rattle.std.proofs.Common.{◌≡◌, inl, inr, ℕ, ◌+◌, ◌≤◌, Bool, true, false, Some, None, refl, sym, ap, ◌∙◌, subst, true≢false, arith}
-use Rattle.fip_language.specs.Table.{Table}
-use Rattle.ownership_calculus.specs.Terms.{Item, Own, Credit}
-use Rattle.ownership_calculus.specs.Rules.{Fits}
-use Rattle.ownership_calculus.proofs.Fit.{fits_le, fits_same, fits_sum}
-use Rattle.type_check.specs.Scope.{Scope, of_binder}
-use Rattle.code_rules.specs.Types.{is_scalar_type}
-use Rattle.separation_kinds.proofs.Basics.{or_not}
+use Rattle.separation.specs.fip_language.Table.{Table}
+use Rattle.derivation_making.specs.ownership_calculus.Terms.{Item, Own, Credit}
+use Rattle.derivation_making.specs.ownership_calculus.Rules.{Fits}
+use Rattle.derivation_making.proofs.ownership_calculus.Fit.{fits_le, fits_same, fits_sum}
+use Rattle.derivation_making.specs.type_check.Scope.{Scope, of_binder}
+use Rattle.separation.specs.code_rules.Types.{is_scalar_type}
+use Rattle.separation.proofs.separation_kinds.Basics.{or_not}
 use Rattle.lowering_relation.specs.declared.held.Held.{Held}
 use Rattle.lowering_relation.specs.declared.held.Held.TheVariants as H
 use Rattle.lowering_relation.specs.Known.{Known, register_of}

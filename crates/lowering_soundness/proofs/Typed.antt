@@ -1,23 +1,23 @@
 -- The types that an expression has are types, where those of the variables in scope are.
 use Rattle.std.proofs.Common.{◌≡◌, inl, inr, ℕ, suc, Bool, true, false, List, [], ◌∷◌, ◌++◌, length, map, Option, Some, None, refl, sym, ap, ◌∙◌, subst, arith, append_assoc, ◌==◌}
 use Rattle.std.proofs.lemmas.Option.{none-some}
-use Rattle.fip_language.specs.declared.Operator.{Operator}
-use Rattle.fip_language.specs.declared.Operator.TheVariants as O
-use Rattle.fip_trees.specs.declared.program.Binder.{Binder}
-use Rattle.fip_trees.specs.Tree.{Argument, Variable, Literal, Constructor, Arguments, NoArguments, MoreArguments}
-use Rattle.fip_trees.specs.Tree.{Pattern, BinderPattern, LiteralPattern, ConstructorPattern, Patterns, NoPatterns, MorePatterns}
-use Rattle.fip_trees.specs.Tree.{Expression, Give, Tuple, Operation, Call, Match, Nested, Block, Last, Let}
-use Rattle.fip_rules.specs.World as R
-use Rattle.type_check.specs.Binders.{entries}
-use Rattle.type_check.specs.Scope.{Scope, look, of_binder}
-use Rattle.type_check.specs.World as W
-use Rattle.type_check.specs.World.{result_of, chosen, field_types, is_of}
-use Rattle.type_check.specs.Typing.{HasType, HaveTypes, IsPattern, ArePatterns, Types, TypesBlock, bound_by, bound_by_all}
-use Rattle.type_check.proofs.Trail.{look_end}
-use Rattle.code_rules.specs.Codes.{PlainCode}
-use Rattle.code_rules.specs.Types.{is_type}
-use Rattle.separation_kinds.proofs.Basics.{refused, or_not, both, below_is, equal, itself}
-use Rattle.separation_kinds.proofs.Basics as K
+use Rattle.separation.specs.fip_language.declared.Operator.{Operator}
+use Rattle.separation.specs.fip_language.declared.Operator.TheVariants as O
+use Rattle.lowering_relation.specs.fip_trees.declared.program.Binder.{Binder}
+use Rattle.lowering_relation.specs.fip_trees.Tree.{Argument, Variable, Literal, Constructor, Arguments, NoArguments, MoreArguments}
+use Rattle.lowering_relation.specs.fip_trees.Tree.{Pattern, BinderPattern, LiteralPattern, ConstructorPattern, Patterns, NoPatterns, MorePatterns}
+use Rattle.lowering_relation.specs.fip_trees.Tree.{Expression, Give, Tuple, Operation, Call, Match, Nested, Block, Last, Let}
+use Rattle.derivation_making.specs.fip_rules.World as R
+use Rattle.derivation_making.specs.type_check.Binders.{entries}
+use Rattle.derivation_making.specs.type_check.Scope.{Scope, look, of_binder}
+use Rattle.derivation_making.specs.type_check.World as W
+use Rattle.derivation_making.specs.type_check.World.{result_of, chosen, field_types, is_of}
+use Rattle.derivation_making.specs.type_check.Typing.{HasType, HaveTypes, IsPattern, ArePatterns, Types, TypesBlock, bound_by, bound_by_all}
+use Rattle.derivation_making.proofs.type_check.Trail.{look_end}
+use Rattle.separation.specs.code_rules.Codes.{PlainCode}
+use Rattle.separation.specs.code_rules.Types.{is_type}
+use Rattle.separation.proofs.separation_kinds.Basics.{refused, or_not, both, below_is, equal, itself}
+use Rattle.separation.proofs.separation_kinds.Basics as K
 use Rattle.lowering_relation.specs.Values.{Setting}
 use Rattle.lowering_soundness.specs.Laid.{Shares}
 use Rattle.lowering_soundness.specs.Placed.{AreTypes, Callees}
@@ -66,7 +66,7 @@ module _ (c : PlainCode) (st : Setting) (wd : W.World) (w : R.World) (shares : S
   int_type = below_is 0 (suc (length c.types)) (omega arith)
 
   bool_type : is_type c.types 1 ≡ true
-  bool_type = (both (is_type c.types 1) (Rattle.fip_language.specs.Table.is_scalar c.types 1) shares.bool).0
+  bool_type = (both (is_type c.types 1) (Rattle.separation.specs.fip_language.Table.is_scalar c.types 1) shares.bool).0
 
   pub argument_type : (s : Scope) (b : Bool) (a : Argument) (t : ℕ) → ScopeTyped c s → HasType true wd s b a t → is_type c.types t ≡ true
   argument_type s b (Variable None n p) t scope h = absurd (none-some (Some t) h)
@@ -125,4 +125,4 @@ module _ (c : PlainCode) (st : Setting) (wd : W.World) (w : R.World) (shares : S
     block_types s b (Last e) ts scope h = expression_types s b e ts scope h
     block_types s b (Let bs e rest) ts scope h =
         block_types (s ++ entries bs (map Some h.0)) b rest ts
-        (subst (λ es. ScopeTyped c (s ++ es)) (sym (entries_same bs h.0 h.2)) (typed_on c s (entries_of bs h.0) scope (entries_typed c bs h.0 (expression_types s (Rattle.type_check.specs.Binders.all_annotated bs) e h.0 scope h.1)))) h.3
+        (subst (λ es. ScopeTyped c (s ++ es)) (sym (entries_same bs h.0 h.2)) (typed_on c s (entries_of bs h.0) scope (entries_typed c bs h.0 (expression_types s (Rattle.derivation_making.specs.type_check.Binders.all_annotated bs) e h.0 scope h.1)))) h.3

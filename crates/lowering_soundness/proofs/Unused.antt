@@ -2,29 +2,29 @@
 -- no variable owns them.
 use Rattle.std.proofs.Common.{◌≡◌, inl, inr, ℕ, zero, suc, ◌+◌, ◌-◌, ◌≤◌, Bool, true, false, ◌&&◌, ◌||◌, not, List, [], ◌∷◌, ◌++◌, length, map, slice_get, Option, Some, None, refl, sym, ap, ◌∙◌, subst, true≢false, arith, append_assoc, if◌then◌else◌, ◌==◌}
 use Rattle.std.proofs.lemmas.Option.{none-some}
-use Rattle.fip_language.specs.Every.{Among}
-use Rattle.fip_language.specs.Table.{Table}
-use Rattle.fip_base.specs.declared.plain.Param.{Param}
-use Rattle.fip_language.specs.declared.Place.{Place}
-use Rattle.fip_language.specs.declared.Operator.{Operator}
-use Rattle.fip_trees.specs.Tree.{Argument, Variable, Literal, Constructor, Arguments, NoArguments, MoreArguments, Instance}
-use Rattle.fip_rules.specs.World as R
-use Rattle.fip_rules.specs.World.{lends, lends_to}
-use Rattle.fip_rules.specs.Shapes.{Names}
-use Rattle.type_check.specs.Scope.{Scope}
-use Rattle.type_check.specs.World as W
-use Rattle.type_check.specs.Typing.{HasType, HaveTypes}
-use Rattle.ownership_calculus.specs.Terms.{Item, Own, size, paid, charge}
-use Rattle.ownership_calculus.specs.Terms as C
-use Rattle.ownership_calculus.specs.Rules.{Fits, Lends}
-use Rattle.ownership_calculus.specs.ByCases.{DerivesValue, DerivesValues, DerivesPassed}
-use Rattle.ownership_calculus.specs.Clean.{used_up, all_used_up, lent_used_up, passed_used_up}
-use Rattle.ownership_calculus.proofs.Fit.{fits_le, fits_same}
-use Rattle.ownership_calculus.proofs.Counts.{args_fits, gifts_fits}
-use Rattle.ownership_agreement.specs.Bodies.{Scalars, variable, value, values, lent_value, passed}
-use Rattle.code_rules.specs.Codes.{PlainCode, PlainFunction}
-use Rattle.code_rules.specs.Types.{is_scalar_type}
-use Rattle.separation_kinds.proofs.Basics.{refused, chosen, or_not, equal, equal_is, less_or_not}
+use Rattle.separation.specs.fip_language.Every.{Among}
+use Rattle.separation.specs.fip_language.Table.{Table}
+use Rattle.separation.specs.fip_base.declared.plain.Param.{Param}
+use Rattle.separation.specs.fip_language.declared.Place.{Place}
+use Rattle.separation.specs.fip_language.declared.Operator.{Operator}
+use Rattle.lowering_relation.specs.fip_trees.Tree.{Argument, Variable, Literal, Constructor, Arguments, NoArguments, MoreArguments, Instance}
+use Rattle.derivation_making.specs.fip_rules.World as R
+use Rattle.derivation_making.specs.fip_rules.World.{lends, lends_to}
+use Rattle.derivation_making.specs.fip_rules.Shapes.{Names}
+use Rattle.derivation_making.specs.type_check.Scope.{Scope}
+use Rattle.derivation_making.specs.type_check.World as W
+use Rattle.derivation_making.specs.type_check.Typing.{HasType, HaveTypes}
+use Rattle.derivation_making.specs.ownership_calculus.Terms.{Item, Own, size, paid, charge}
+use Rattle.derivation_making.specs.ownership_calculus.Terms as C
+use Rattle.derivation_making.specs.ownership_calculus.Rules.{Fits, Lends}
+use Rattle.derivation_making.specs.ownership_calculus.ByCases.{DerivesValue, DerivesValues, DerivesPassed}
+use Rattle.derivation_making.specs.ownership_calculus.Clean.{used_up, all_used_up, lent_used_up, passed_used_up}
+use Rattle.derivation_making.proofs.ownership_calculus.Fit.{fits_le, fits_same}
+use Rattle.derivation_making.proofs.ownership_calculus.Counts.{args_fits, gifts_fits}
+use Rattle.derivation_making.specs.ownership_agreement.Bodies.{Scalars, variable, value, values, lent_value, passed}
+use Rattle.separation.specs.code_rules.Codes.{PlainCode, PlainFunction}
+use Rattle.separation.specs.code_rules.Types.{is_scalar_type}
+use Rattle.separation.proofs.separation_kinds.Basics.{refused, chosen, or_not, equal, equal_is, less_or_not}
 use Rattle.lowering_relation.specs.Known.{Known, register_of}
 use Rattle.lowering_relation.specs.Values.{Setting}
 use Rattle.lowering_relation.specs.LoweredBodies.{Into}
@@ -173,7 +173,7 @@ module _ (c : PlainCode) (st : Setting) (wd : W.World) (w : R.World) (shares : S
     ]
 
   passed_uses : (z : Scope) (sc : Scalars) (n : Names) → Placed c z sc n → (fip : Bool) (B : ℕ → Bool) (O : Item → ℕ) (g : ℕ) (d : Instance) (qs ps : List Param) (as' : Arguments) (x : ℕ) → slice_get w.instances g ≡ Some d → d.params ≡ qs ++ ps → ParamsTyped c ps → HaveTypes true wd z true as' (map W.type_of ps) → DerivesPassed fip B O (passed w sc n.marks g (length qs) as') → 1 ≤ passed_used_up (passed w sc n.marks g (length qs) as') (Own x) → uses_passed (Some d) x (length qs) as' ≡ true
-  passed_uses z sc n placed fip B O g d qs ps NoArguments x there parts types typed derived more = absurd (no_charge (Rattle.ownership_agreement.specs.Bodies.header w g) more)
+  passed_uses z sc n placed fip B O g d qs ps NoArguments x there parts types typed derived more = absurd (no_charge (Rattle.derivation_making.specs.ownership_agreement.Bodies.header w g) more)
     where
       no_charge : (ks : List ℕ) → 1 ≤ charge ks (Own x) → ⊥
       no_charge ks h = let z : ⊥ = omega (arith, h) in z

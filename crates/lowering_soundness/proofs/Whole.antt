@@ -1,15 +1,15 @@
 -- A code is sound where its tables are, and each function has the form that is asked, has its numbers in range, keeps the
 -- rules at each instruction, and, where it is fip, waits for none of its own group.
 use Rattle.std.proofs.Common.{◌≡◌, inl, inr, ℕ, length, Some, sym, subst, arith}
-use Rattle.cell_code.specs.declared.kind.Kind.{Kind}
-use Rattle.code_rules.specs.declared.rule.SoundRule.{SoundRule}
-use Rattle.code_rules.specs.declared.rule.SoundRule.TheVariants.{S0, S1, S2, S3, S4, S5, S6, S7, S8, S9}
-use Rattle.code_rules.specs.Codes.{PlainCode, PlainFunction, function_at}
-use Rattle.code_rules.specs.Tables.{AreSoundTables}
-use Rattle.code_rules.specs.Headers.{is_formed}
-use Rattle.code_rules.specs.Entry.{entry}
-use Rattle.code_rules.specs.Breaks.{BreaksWithin, BreaksFunction, IsSound}
-use Rattle.separation_kinds.proofs.Basics.{get_within, apart}
+use Rattle.separation.specs.cell_code.declared.kind.Kind.{Kind}
+use Rattle.separation.specs.code_rules.declared.rule.SoundRule.{SoundRule}
+use Rattle.separation.specs.code_rules.declared.rule.SoundRule.TheVariants.{S0, S1, S2, S3, S4, S5, S6, S7, S8, S9}
+use Rattle.separation.specs.code_rules.Codes.{PlainCode, PlainFunction, function_at}
+use Rattle.separation.specs.code_rules.Tables.{AreSoundTables}
+use Rattle.separation.specs.code_rules.Headers.{is_formed}
+use Rattle.separation.specs.code_rules.Entry.{entry}
+use Rattle.separation.specs.code_rules.Breaks.{BreaksWithin, BreaksFunction, IsSound}
+use Rattle.separation.proofs.separation_kinds.Basics.{get_within, apart}
 use Rattle.lowering_soundness.specs.Covering.{Covered}
 use Rattle.lowering_soundness.specs.Parts.{IsKept, LastPart}
 use Rattle.lowering_soundness.specs.Whole.{KeepsRules}

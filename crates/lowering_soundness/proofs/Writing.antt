@@ -1,13 +1,13 @@
 -- A register gets a value, or the registers of values are given: what is known of registers goes with the variables
 -- behind it.
 use Rattle.std.proofs.Common.{◌≡◌, inl, inr, ℕ, ◌+◌, ◌≤◌, Bool, true, false, List, [], ◌∷◌, length, Option, Some, None, refl, sym, ap, ◌∙◌, subst, true≢false, arith, ◌==◌}
-use Rattle.fip_language.specs.Table.{Table}
-use Rattle.ownership_calculus.specs.Terms.{Item, Own, Credit}
-use Rattle.ownership_calculus.specs.Rules.{Fits}
-use Rattle.ownership_calculus.proofs.Fit.{fits_same}
-use Rattle.type_check.specs.Scope.{Scope}
-use Rattle.code_rules.specs.Types.{is_scalar_type, fields}
-use Rattle.separation_kinds.proofs.Basics.{pick, chosen, refused, or_not, equal, unequal, unequal_is, itself}
+use Rattle.separation.specs.fip_language.Table.{Table}
+use Rattle.derivation_making.specs.ownership_calculus.Terms.{Item, Own, Credit}
+use Rattle.derivation_making.specs.ownership_calculus.Rules.{Fits}
+use Rattle.derivation_making.proofs.ownership_calculus.Fit.{fits_same}
+use Rattle.derivation_making.specs.type_check.Scope.{Scope}
+use Rattle.separation.specs.code_rules.Types.{is_scalar_type, fields}
+use Rattle.separation.proofs.separation_kinds.Basics.{pick, chosen, refused, or_not, equal, unequal, unequal_is, itself}
 use Rattle.lowering_relation.specs.declared.held.Held.{Held}
 use Rattle.lowering_relation.specs.declared.held.Held.TheVariants as H
 use Rattle.lowering_relation.specs.Known.{Known, used_all}

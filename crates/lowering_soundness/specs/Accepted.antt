@@ -1,17 +1,17 @@
 -- It serves the proof that lowered code is sound: what acceptance gives of an instance and its function.
 use Rattle.std.specs.Prelude.{◌≡◌, ◌≤◌, ◌<◌, ℕ, true, length}
-use Rattle.cell_code.specs.declared.code.Instr.{Instr}
-use Rattle.fip_trees.specs.Tree.{Instance}
-use Rattle.fip_rules.specs.World as R
-use Rattle.type_check.specs.World as W
-use Rattle.type_check.specs.Typing.{Typed}
-use Rattle.ownership_agreement.specs.Bodies.{body_term, borrowed_parameters, owned_parameters}
-use Rattle.ownership_calculus.specs.Functions.{Derived}
-use Rattle.code_rules.specs.Codes.{PlainCode, PlainFunction, is_fip}
-use Rattle.code_rules.specs.Flow.{IsInstr}
-use Rattle.code_rules.specs.Headers.{are_sizes}
-use Rattle.code_rules.specs.Limits.{most_credits, most_results, most_registers}
-use Rattle.code_rules.specs.Ranges.{in_range}
+use Rattle.separation.specs.cell_code.declared.code.Instr.{Instr}
+use Rattle.lowering_relation.specs.fip_trees.Tree.{Instance}
+use Rattle.derivation_making.specs.fip_rules.World as R
+use Rattle.derivation_making.specs.type_check.World as W
+use Rattle.derivation_making.specs.type_check.Typing.{Typed}
+use Rattle.derivation_making.specs.ownership_agreement.Bodies.{body_term, borrowed_parameters, owned_parameters}
+use Rattle.derivation_making.specs.ownership_calculus.Functions.{Derived}
+use Rattle.separation.specs.code_rules.Codes.{PlainCode, PlainFunction, is_fip}
+use Rattle.separation.specs.code_rules.Flow.{IsInstr}
+use Rattle.separation.specs.code_rules.Headers.{are_sizes}
+use Rattle.separation.specs.code_rules.Limits.{most_credits, most_results, most_registers}
+use Rattle.separation.specs.code_rules.Ranges.{in_range}
 use Rattle.lowering_soundness.specs.Placed.{ParamsTyped}
 use Rattle.lowering_soundness.specs.Functions.{IsNumbered}
 use Rattle.lowering_soundness.specs.Built.{BuildsBlock}

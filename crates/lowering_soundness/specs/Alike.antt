@@ -1,12 +1,12 @@
 -- It serves the proof that a function has the stack number of its instance: each function of a code is that of an
 -- instance, of its kind and with as many registers, and the functions call each other just as the instances do.
 use Rattle.std.specs.Prelude.{◌≡◌, ℕ, Bool, List, Some, slice_get}
-use Rattle.fip_trees.specs.Tree.{Instance}
-use Rattle.call_groups.specs.CallGraph as G
+use Rattle.lowering_relation.specs.fip_trees.Tree.{Instance}
+use Rattle.tail_groups.specs.call_groups.CallGraph as G
 use Rattle.tail_groups.specs.Sites.{call_rows}
 use Rattle.tail_groups.specs.Registers.{registers}
-use Rattle.code_rules.specs.Codes.{PlainCode, PlainFunction, function_at}
-use Rattle.code_rules.specs.Calls.{Calls}
+use Rattle.separation.specs.code_rules.Codes.{PlainCode, PlainFunction, function_at}
+use Rattle.separation.specs.code_rules.Calls.{Calls}
 use Rattle.lowering_relation.specs.LoweredBodies.{function_of}
 
 pub record Alike (c : PlainCode) (ds : List Instance) : Type 0 where

@@ -1,10 +1,10 @@
 -- It serves the proof that lowered code is sound: constructors that a body builds are of their types.
 use Rattle.std.specs.Prelude.{◌≡◌, true}
-use Rattle.fip_language.specs.Table.{Table}
-use Rattle.fip_trees.specs.Tree.{Argument, Variable, Literal, Constructor, Arguments, NoArguments, MoreArguments}
-use Rattle.fip_trees.specs.Tree.{Expression, Give, Tuple, Operation, Call, Match, Nested, Block, Last, Let}
-use Rattle.fip_trees.specs.Tree.{Clauses, NoClauses, MoreClauses}
-use Rattle.code_rules.specs.Ranges.{is_constructor}
+use Rattle.separation.specs.fip_language.Table.{Table}
+use Rattle.lowering_relation.specs.fip_trees.Tree.{Argument, Variable, Literal, Constructor, Arguments, NoArguments, MoreArguments}
+use Rattle.lowering_relation.specs.fip_trees.Tree.{Expression, Give, Tuple, Operation, Call, Match, Nested, Block, Last, Let}
+use Rattle.lowering_relation.specs.fip_trees.Tree.{Clauses, NoClauses, MoreClauses}
+use Rattle.separation.specs.code_rules.Ranges.{is_constructor}
 
 abbrev mutual
   pub BuildsArgument : Table → Argument → Type 0

@@ -1,9 +1,9 @@
 -- It serves the proof that lowered code is sound: values were computed into registers. Before, what is known is k, and
 -- the registers own trees of e beside those of variables; behind, X is owned, and beside also the values' trees.
 use Rattle.std.specs.Prelude.{◌≡◌, ℕ, suc, ◌+◌, ◌≤◌, Bool, List, length}
-use Rattle.ownership_calculus.specs.Terms.{Item}
-use Rattle.type_check.specs.Scope.{Scope}
-use Rattle.code_rules.specs.Codes.{PlainCode, PlainFunction}
+use Rattle.derivation_making.specs.ownership_calculus.Terms.{Item}
+use Rattle.derivation_making.specs.type_check.Scope.{Scope}
+use Rattle.separation.specs.code_rules.Codes.{PlainCode, PlainFunction}
 use Rattle.lowering_relation.specs.declared.held.Held.TheVariants as H
 use Rattle.lowering_relation.specs.Known.{Known}
 use Rattle.lowering_relation.specs.Describing.{held_at}

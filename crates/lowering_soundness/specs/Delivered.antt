@@ -1,9 +1,9 @@
 -- It serves the proof that lowered code is sound: registers that wait for results, and results that came into them.
 use Rattle.std.specs.Prelude.{◌≡◌, ℕ, suc, ◌+◌, ◌≤◌, Bool, List, [], ◌∷◌, Some, length, take}
-use Rattle.fip_language.specs.Every.{Among}
-use Rattle.ownership_calculus.specs.Terms.{Item, Own, Credit}
-use Rattle.type_check.specs.Scope.{Scope, of_binder}
-use Rattle.code_rules.specs.Codes.{PlainCode, PlainFunction}
+use Rattle.separation.specs.fip_language.Every.{Among}
+use Rattle.derivation_making.specs.ownership_calculus.Terms.{Item, Own, Credit}
+use Rattle.derivation_making.specs.type_check.Scope.{Scope, of_binder}
+use Rattle.separation.specs.code_rules.Codes.{PlainCode, PlainFunction}
 use Rattle.lowering_relation.specs.declared.held.Held.TheVariants as H
 use Rattle.lowering_relation.specs.Known.{Known, register_of}
 use Rattle.lowering_relation.specs.Describing.{held_at}

@@ -1,8 +1,8 @@
 -- It serves the proof that lowered code is sound: how the binders of an instance are numbered.
 use Rattle.std.specs.Prelude.{◌≡◌, ◌≤◌, length}
-use Rattle.fip_trees.specs.Tree.{Instance}
-use Rattle.fip_rules.specs.World as R
-use Rattle.fip_rules.specs.Shapes.{within, parameters, no_names}
+use Rattle.lowering_relation.specs.fip_trees.Tree.{Instance}
+use Rattle.derivation_making.specs.fip_rules.World as R
+use Rattle.derivation_making.specs.fip_rules.Shapes.{within, parameters, no_names}
 use Rattle.lowering_soundness.specs.Placed.{InOrder, NumberedBlock}
 
 -- An instance has a binder for each parameter, and all its binders are numbered in the order of the text.

@@ -3,11 +3,11 @@
 -- Where register 0 holds Owned 2 None, it may be given once as a value of type 2, and not twice.
 use Rattle.std.specs.Prelude.{◌≡◌, ℕ, ◌+◌, Bool, true, false, ◌&&◌, ◌||◌, not, is_some, List, [], ◌∷◌, Some, None}
 use Rattle.std.specs.Prelude.{◌==◌, if◌then◌else◌, length, drop}
-use Rattle.fip_language.specs.Table.{Table}
-use Rattle.fip_base.specs.declared.plain.Param.{Param}
-use Rattle.code_rules.specs.Codes.{PlainCode, params, credits}
-use Rattle.code_rules.specs.Types.{is_scalar_type}
-use Rattle.code_rules.specs.Kinds.{has}
+use Rattle.separation.specs.fip_language.Table.{Table}
+use Rattle.separation.specs.fip_base.declared.plain.Param.{Param}
+use Rattle.separation.specs.code_rules.Codes.{PlainCode, params, credits}
+use Rattle.separation.specs.code_rules.Types.{is_scalar_type}
+use Rattle.separation.specs.code_rules.Kinds.{has}
 use Rattle.lowering_relation.specs.declared.held.Held.{Held}
 use Rattle.lowering_relation.specs.declared.held.Held.TheVariants as H
 use Rattle.lowering_relation.specs.Known.{without}

@@ -1,15 +1,15 @@
 -- It serves the proof that lowered code is sound: what of a program and its code is shared.
 use Rattle.std.specs.Prelude.{◌≡◌, ℕ, ◌<◌, Bool, true, List, Some, length, slice_get}
-use Rattle.fip_trees.specs.Tree.{Instance}
-use Rattle.fip_rules.specs.Marks.{Mark}
-use Rattle.fip_rules.specs.Shapes.{known}
-use Rattle.type_check.specs.Scope.{Scope, of_binder}
-use Rattle.type_check.specs.World.{World}
-use Rattle.type_check.specs.Typing.{Makes}
-use Rattle.ownership_agreement.specs.Bodies.{Scalars}
-use Rattle.code_rules.specs.Codes.{PlainCode, params, credits, results}
-use Rattle.code_rules.specs.Headers.{are_types}
-use Rattle.code_rules.specs.Types.{is_type, is_scalar_type}
+use Rattle.lowering_relation.specs.fip_trees.Tree.{Instance}
+use Rattle.derivation_making.specs.fip_rules.Marks.{Mark}
+use Rattle.derivation_making.specs.fip_rules.Shapes.{known}
+use Rattle.derivation_making.specs.type_check.Scope.{Scope, of_binder}
+use Rattle.derivation_making.specs.type_check.World.{World}
+use Rattle.derivation_making.specs.type_check.Typing.{Makes}
+use Rattle.derivation_making.specs.ownership_agreement.Bodies.{Scalars}
+use Rattle.separation.specs.code_rules.Codes.{PlainCode, params, credits, results}
+use Rattle.separation.specs.code_rules.Headers.{are_types}
+use Rattle.separation.specs.code_rules.Types.{is_type, is_scalar_type}
 use Rattle.lowering_relation.specs.Known.{joined}
 use Rattle.lowering_relation.specs.Values.{Setting, is_scalar}
 

@@ -2,12 +2,12 @@
 -- calls of the instance's body, and waits for its callee just where that one doesn't stand in tail position.
 -- The body  let y = f(x); g(y)  has the instructions Call f [0] [1] and Tail g [1]: the first waits for f.
 use Rattle.std.specs.Prelude.{◌≡◌, ℕ, ◌≤◌, ◌<◌, Bool, true, false, not, List, Some, slice_get}
-use Rattle.cell_code.specs.declared.code.Instr.{Instr}
-use Rattle.cell_code.specs.declared.code.Instr.TheVariants as I
-use Rattle.call_groups.specs.CallGraph.{In}
+use Rattle.separation.specs.cell_code.declared.code.Instr.{Instr}
+use Rattle.separation.specs.cell_code.declared.code.Instr.TheVariants as I
+use Rattle.tail_groups.specs.call_groups.CallGraph.{In}
 use Rattle.tail_groups.specs.Sites.{Site}
-use Rattle.code_rules.specs.Codes.{PlainFunction}
-use Rattle.code_rules.specs.Calls.{IsCall}
+use Rattle.separation.specs.code_rules.Codes.{PlainFunction}
+use Rattle.separation.specs.code_rules.Calls.{IsCall}
 use Rattle.lowering_relation.specs.Known.{joined}
 use Rattle.lowering_relation.specs.Values.{Setting}
 

@@ -2,16 +2,16 @@
 -- kinds are told at both. What comes to its first instruction is as told there, and a label there takes it; then each
 -- instruction of the part keeps the rules, and so it is behind the part.
 use Rattle.std.specs.Prelude.{◌≡◌, ◌⊎◌, ℕ, suc, ◌<◌, ◌≤◌, Bool, true, false, List, Some, None, length}
-use Rattle.cell_code.specs.declared.code.Instr.{Instr}
-use Rattle.cell_code.specs.declared.code.Instr.TheVariants as I
-use Rattle.cell_code.specs.declared.kind.Kind.{Kind}
-use Rattle.code_rules.specs.Codes.{PlainCode, PlainFunction, label_at, is_fip}
-use Rattle.code_rules.specs.Fitting.{fit_all}
-use Rattle.code_rules.specs.Ranges.{in_range}
-use Rattle.code_rules.specs.Asked.{sources, destinations}
-use Rattle.code_rules.specs.Endings.{is_end, spends_all, releases}
-use Rattle.code_rules.specs.Leaves.{Leaves, Jumps}
-use Rattle.code_rules.specs.Flow.{Comes, IsReachedAt}
+use Rattle.separation.specs.cell_code.declared.code.Instr.{Instr}
+use Rattle.separation.specs.cell_code.declared.code.Instr.TheVariants as I
+use Rattle.separation.specs.cell_code.declared.kind.Kind.{Kind}
+use Rattle.separation.specs.code_rules.Codes.{PlainCode, PlainFunction, label_at, is_fip}
+use Rattle.separation.specs.code_rules.Fitting.{fit_all}
+use Rattle.separation.specs.code_rules.Ranges.{in_range}
+use Rattle.separation.specs.code_rules.Asked.{sources, destinations}
+use Rattle.separation.specs.code_rules.Endings.{is_end, spends_all, releases}
+use Rattle.separation.specs.code_rules.Leaves.{Leaves, Jumps}
+use Rattle.separation.specs.code_rules.Flow.{Comes, IsReachedAt}
 use Rattle.lowering_relation.specs.Labels.{Takes}
 use Rattle.lowering_soundness.specs.Covering.{Covered}
 

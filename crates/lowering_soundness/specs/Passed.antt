@@ -1,10 +1,10 @@
 -- It serves the proof that lowered code is sound: the registers of arguments. One in a borrowed position is that of a
 -- variable that is borrowed; any other holds a value.
 use Rattle.std.specs.Prelude.{◌≡◌, ℕ, ◌+◌, Bool, true, false, ◌&&◌, not, List, [], ◌∷◌, Some, if◌then◌else◌}
-use Rattle.fip_language.specs.Table.{Table}
-use Rattle.fip_base.specs.declared.plain.Param.{Param}
-use Rattle.type_check.specs.Scope.{Scope, of_binder}
-use Rattle.code_rules.specs.Types.{is_scalar_type}
+use Rattle.separation.specs.fip_language.Table.{Table}
+use Rattle.separation.specs.fip_base.declared.plain.Param.{Param}
+use Rattle.derivation_making.specs.type_check.Scope.{Scope, of_binder}
+use Rattle.separation.specs.code_rules.Types.{is_scalar_type}
 use Rattle.lowering_relation.specs.Known.{Known, register_of}
 use Rattle.lowering_relation.specs.Describing.{Holding, held_at}
 use Rattle.lowering_soundness.specs.Ties.{HoldsValue, owe, is_read_of, LiesIn}

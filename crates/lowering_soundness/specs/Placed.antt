@@ -1,18 +1,18 @@
 -- It serves the proof that lowered code is sound: the variables in scope of a part of a body, where the binders of the
 -- body are numbered in the order of the text.
 use Rattle.std.specs.Prelude.{◌≡◌, ◌<◌, ◌≤◌, ◌+◌, ℕ, suc, Bool, true, List, [], ◌∷◌, Some, length, slice_get}
-use Rattle.fip_base.specs.declared.plain.Param.{Param}
-use Rattle.fip_trees.specs.declared.program.Binder.{Binder}
-use Rattle.fip_trees.specs.Tree.{Expression, Give, Tuple, Operation, Call, Match, Nested, Block, Last, Let, Instance}
-use Rattle.fip_trees.specs.Tree.{Clauses, NoClauses, MoreClauses}
-use Rattle.fip_rules.specs.Shapes.{Names, known, behind, shape, binders, takes}
-use Rattle.fip_rules.specs.World as R
-use Rattle.type_check.specs.Scope.{Scope, of_binder}
-use Rattle.type_check.specs.World as W
-use Rattle.ownership_calculus.specs.Terms.{Item, Own}
-use Rattle.ownership_agreement.specs.Bodies.{Scalars, inside, past_clause}
-use Rattle.code_rules.specs.Codes.{PlainCode}
-use Rattle.code_rules.specs.Types.{is_type, is_scalar_type}
+use Rattle.separation.specs.fip_base.declared.plain.Param.{Param}
+use Rattle.lowering_relation.specs.fip_trees.declared.program.Binder.{Binder}
+use Rattle.lowering_relation.specs.fip_trees.Tree.{Expression, Give, Tuple, Operation, Call, Match, Nested, Block, Last, Let, Instance}
+use Rattle.lowering_relation.specs.fip_trees.Tree.{Clauses, NoClauses, MoreClauses}
+use Rattle.derivation_making.specs.fip_rules.Shapes.{Names, known, behind, shape, binders, takes}
+use Rattle.derivation_making.specs.fip_rules.World as R
+use Rattle.derivation_making.specs.type_check.Scope.{Scope, of_binder}
+use Rattle.derivation_making.specs.type_check.World as W
+use Rattle.derivation_making.specs.ownership_calculus.Terms.{Item, Own}
+use Rattle.derivation_making.specs.ownership_agreement.Bodies.{Scalars, inside, past_clause}
+use Rattle.separation.specs.code_rules.Codes.{PlainCode}
+use Rattle.separation.specs.code_rules.Types.{is_type, is_scalar_type}
 use Rattle.lowering_relation.specs.Values.{Setting}
 
 -- each variable in scope is known by its own number, stands before what follows, and has a type

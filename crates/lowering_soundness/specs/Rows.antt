@@ -1,12 +1,12 @@
 -- It serves the proof that lowered code is sound: where the kinds before an instruction are told, it is as asked, and
 -- these are the kinds behind it.
 use Rattle.std.specs.Prelude.{◌≡◌, ℕ, true, List}
-use Rattle.cell_code.specs.declared.code.Instr.{Instr}
-use Rattle.cell_code.specs.declared.kind.Kind.{Kind}
-use Rattle.code_rules.specs.Codes.{PlainCode, PlainFunction}
-use Rattle.code_rules.specs.Asked.{sources, destinations}
-use Rattle.code_rules.specs.Endings.{spends_all}
-use Rattle.code_rules.specs.Leaves.{Leaves}
+use Rattle.separation.specs.cell_code.declared.code.Instr.{Instr}
+use Rattle.separation.specs.cell_code.declared.kind.Kind.{Kind}
+use Rattle.separation.specs.code_rules.Codes.{PlainCode, PlainFunction}
+use Rattle.separation.specs.code_rules.Asked.{sources, destinations}
+use Rattle.separation.specs.code_rules.Endings.{spends_all}
+use Rattle.separation.specs.code_rules.Leaves.{Leaves}
 use Rattle.lowering_soundness.specs.Covering.{Covered}
 
 pub record IsRow (c : PlainCode) (f : PlainFunction) (m : ℕ → Kind) (x : Instr) (l : ℕ → Kind) : Type 0 where

@@ -5,11 +5,11 @@
 -- just y: register 1 owns a tree, and no other does.
 use Rattle.std.specs.Prelude.{◌≡◌, ℕ, suc, ◌+◌, ◌≤◌, Bool, true, false, ◌&&◌, List, [], ◌∷◌, Option, Some, None}
 use Rattle.std.specs.Prelude.{length, ◌==◌, if◌then◌else◌}
-use Rattle.fip_language.specs.Table.{Table}
-use Rattle.ownership_calculus.specs.Terms.{Item, Own, Credit}
-use Rattle.ownership_calculus.specs.Rules.{Fits}
-use Rattle.type_check.specs.Scope.{Scope, of_binder}
-use Rattle.code_rules.specs.Types.{is_scalar_type, fields}
+use Rattle.separation.specs.fip_language.Table.{Table}
+use Rattle.derivation_making.specs.ownership_calculus.Terms.{Item, Own, Credit}
+use Rattle.derivation_making.specs.ownership_calculus.Rules.{Fits}
+use Rattle.derivation_making.specs.type_check.Scope.{Scope, of_binder}
+use Rattle.separation.specs.code_rules.Types.{is_scalar_type, fields}
 use Rattle.lowering_relation.specs.declared.held.Held.{Held}
 use Rattle.lowering_relation.specs.declared.held.Held.TheVariants as H
 use Rattle.lowering_relation.specs.declared.held.Credit as C

@@ -1,10 +1,10 @@
 -- It serves the proof that lowered code is sound: what of each function makes a code sound.
 use Rattle.std.specs.Prelude.{◌≡◌, ℕ, true}
-use Rattle.cell_code.specs.declared.code.Instr.{Instr}
-use Rattle.code_rules.specs.Codes.{PlainCode, PlainFunction, is_fip}
-use Rattle.code_rules.specs.Headers.{is_formed}
-use Rattle.code_rules.specs.Flow.{IsInstr}
-use Rattle.code_rules.specs.Calls.{CallsAt, SameGroup}
+use Rattle.separation.specs.cell_code.declared.code.Instr.{Instr}
+use Rattle.separation.specs.code_rules.Codes.{PlainCode, PlainFunction, is_fip}
+use Rattle.separation.specs.code_rules.Headers.{is_formed}
+use Rattle.separation.specs.code_rules.Flow.{IsInstr}
+use Rattle.separation.specs.code_rules.Calls.{CallsAt, SameGroup}
 use Rattle.lowering_soundness.specs.Parts.{IsKept, IsRanged}
 
 -- Function n, which is f, breaks no rule.

@@ -1,10 +1,10 @@
 // The laws on soundness of lowered code. Each is the contract of a function that does nothing.
 ghost use Rattle.std.specs.Prelude.{◌≡◌, ℕ, Bool, Some, slice_get};
-ghost use Rattle.cell_code.specs.declared.code.Instr.{Instr};
-ghost use Rattle.fip_rules.specs.World as R;
-ghost use Rattle.fip_trees.specs.declared.least.Violation.{Violation};
-ghost use Rattle.fip_trees.specs.Tree.{Instance, Program};
-ghost use Rattle.instance_semantics.specs.Example.{lists, rev};
+ghost use Rattle.separation.specs.cell_code.declared.code.Instr.{Instr};
+ghost use Rattle.derivation_making.specs.fip_rules.World as R;
+ghost use Rattle.lowering_relation.specs.fip_trees.declared.least.Violation.{Violation};
+ghost use Rattle.lowering_relation.specs.fip_trees.Tree.{Instance, Program};
+ghost use Rattle.lowering_relation.specs.instance_semantics.Example.{lists, rev};
 ghost use Rattle.lowering_relation.specs.LoweredExample.{lists_setting};
 ghost use Rattle.lowering_relation.specs.LoweredBodies.{has_function};
 ghost use Rattle.lowering_relation.specs.Values.{Setting};
@@ -19,20 +19,20 @@ ghost use Rattle.lowering_soundness.specs.Parts.{IsKept};
 ghost use Rattle.lowering_soundness.specs.Placed.{Callees, ParamsTyped};
 ghost use Rattle.lowering_relation.specs.Standing.{MapsStand};
 ghost use Rattle.lowering_soundness.specs.Whole.{KeepsRules};
-ghost use Rattle.ownership_agreement.specs.Bodies.{body_term, borrowed_parameters, owned_parameters};
-ghost use Rattle.ownership_calculus.specs.Functions.{Derived};
-ghost use Rattle.code_rules.specs.Breaks.{IsSound};
-ghost use Rattle.code_rules.specs.Calls.{CallsAt, SameGroup};
-ghost use Rattle.code_rules.specs.Codes.{PlainCode, PlainFunction, function_at, is_fip};
-ghost use Rattle.code_rules.specs.Endings.{releases};
-ghost use Rattle.code_rules.specs.Flow.{IsInstr};
-ghost use Rattle.code_rules.specs.Headers.{are_good_maps, are_sizes};
-ghost use Rattle.code_rules.specs.Tables.{AreSoundTables};
+ghost use Rattle.derivation_making.specs.ownership_agreement.Bodies.{body_term, borrowed_parameters, owned_parameters};
+ghost use Rattle.derivation_making.specs.ownership_calculus.Functions.{Derived};
+ghost use Rattle.separation.specs.code_rules.Breaks.{IsSound};
+ghost use Rattle.separation.specs.code_rules.Calls.{CallsAt, SameGroup};
+ghost use Rattle.separation.specs.code_rules.Codes.{PlainCode, PlainFunction, function_at, is_fip};
+ghost use Rattle.separation.specs.code_rules.Endings.{releases};
+ghost use Rattle.separation.specs.code_rules.Flow.{IsInstr};
+ghost use Rattle.separation.specs.code_rules.Headers.{are_good_maps, are_sizes};
+ghost use Rattle.separation.specs.code_rules.Tables.{AreSoundTables};
 ghost use Rattle.tail_groups.specs.Members.{FipCallsFip};
 ghost use Rattle.tail_groups.specs.Rules.{Violates};
 ghost use Rattle.tail_groups.specs.Sites.{instance_sites};
-ghost use Rattle.type_check.specs.Typing.{Typed};
-ghost use Rattle.type_check.specs.World as W;
+ghost use Rattle.derivation_making.specs.type_check.Typing.{Typed};
+ghost use Rattle.derivation_making.specs.type_check.World as W;
 
 /// A code with sound tables is sound where each of its functions has the form that is asked, has its numbers in range,
 /// breaks no rule at an instruction, and, where it is fip, waits for none of its own group.

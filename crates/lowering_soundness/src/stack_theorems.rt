@@ -1,14 +1,14 @@
 // The laws on calls and stack numbers of laid out code. Each is the contract of a function that does nothing.
 ghost use Rattle.std.specs.Prelude.{◌≡◌, ℕ, List, Some, slice_get, not};
-ghost use Rattle.fip_trees.specs.declared.groups.Member.{Member};
-ghost use Rattle.fip_trees.specs.Tree.{Instance, Program};
-ghost use Rattle.call_groups.specs.CallGraph.{In};
+ghost use Rattle.lowering_relation.specs.fip_trees.declared.groups.Member.{Member};
+ghost use Rattle.lowering_relation.specs.fip_trees.Tree.{Instance, Program};
+ghost use Rattle.tail_groups.specs.call_groups.CallGraph.{In};
 ghost use Rattle.tail_groups.specs.Members.{AreMembers, FipCallsFip};
 ghost use Rattle.tail_groups.specs.Sites.{Site, instance_sites};
-ghost use Rattle.code_rules.specs.Breaks.{IsSound};
-ghost use Rattle.code_rules.specs.Calls.{Calls};
-ghost use Rattle.code_rules.specs.Codes.{PlainCode, PlainFunction, function_at};
-ghost use Rattle.code_rules.specs.StackNumbers.{HasStack};
+ghost use Rattle.separation.specs.code_rules.Breaks.{IsSound};
+ghost use Rattle.separation.specs.code_rules.Calls.{Calls};
+ghost use Rattle.separation.specs.code_rules.Codes.{PlainCode, PlainFunction, function_at};
+ghost use Rattle.separation.specs.code_rules.StackNumbers.{HasStack};
 ghost use Rattle.lowering_relation.specs.LoweredBodies.{function_of};
 ghost use Rattle.lowering_relation.specs.Known.{joined};
 ghost use Rattle.lowering_relation.specs.Values.{Setting};

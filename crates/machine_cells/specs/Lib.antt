@@ -3,3 +3,4 @@ pub mod Small
 pub mod Live
 pub mod Pending
 pub mod Telling
+pub use Rattle.machine_semantics.specs as machine_semantics

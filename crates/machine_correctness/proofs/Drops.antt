@@ -2,24 +2,24 @@
 -- instruction that is reached.
 use Rattle.std.proofs.Common.{◌≡◌, ℕ, List, Option, Some, None, slice_get, option_map, sym, ap, subst, ◌∙◌}
 use Rattle.std.proofs.lemmas.Option.{none-some, same_Some, slice_get-map}
-use Rattle.cell_code.specs.declared.code.Instr.{Instr}
-use Rattle.cell_code.specs.declared.code.Instr.TheVariants as I
-use Rattle.cell_code.specs.declared.kind.Kind.{Kind}
-use Rattle.cell_code.specs.declared.kind.Kind.TheVariants.{Gone, Scalar, Owned, Lent, Credit}
-use Rattle.machine_semantics.specs.Codes as R
-use Rattle.machine_semantics.specs.Rows.{owned_type}
-use Rattle.machine_semantics.specs.States.{State}
-use Rattle.machine_semantics.specs.Steps.{Kinds}
-use Rattle.machine_semantics.specs.Runs.{Run, Going, state_of, begun, after}
-use Rattle.code_rules.specs.Codes.{PlainCode, PlainFunction, plain, function_at, results}
-use Rattle.code_rules.specs.Kinds.{kind_or_gone}
-use Rattle.code_verify.specs.Checked.{Checked}
-use Rattle.separation.specs.Codes.{run_function, run_code}
-use Rattle.separation.specs.Starts.{IsStart}
-use Rattle.separation.specs.Alive.{IsAlive}
-use Rattle.separation.proofs.CodesRun.{code_runs}
-use Rattle.separation.proofs.Running.{run_alive}
-use Rattle.separation.proofs.Sound.{formed}
+use Rattle.fip_machine.specs.cell_code.declared.code.Instr.{Instr}
+use Rattle.fip_machine.specs.cell_code.declared.code.Instr.TheVariants as I
+use Rattle.fip_machine.specs.cell_code.declared.kind.Kind.{Kind}
+use Rattle.fip_machine.specs.cell_code.declared.kind.Kind.TheVariants.{Gone, Scalar, Owned, Lent, Credit}
+use Rattle.compiler_correctness.specs.machine_semantics.Codes as R
+use Rattle.compiler_correctness.specs.machine_semantics.Rows.{owned_type}
+use Rattle.compiler_correctness.specs.machine_semantics.States.{State}
+use Rattle.compiler_correctness.specs.machine_semantics.Steps.{Kinds}
+use Rattle.compiler_correctness.specs.machine_semantics.Runs.{Run, Going, state_of, begun, after}
+use Rattle.run_loading.specs.code_rules.Codes.{PlainCode, PlainFunction, plain, function_at, results}
+use Rattle.run_loading.specs.code_rules.Kinds.{kind_or_gone}
+use Rattle.fip_machine.specs.code_verify.Checked.{Checked}
+use Rattle.run_loading.specs.separation.Codes.{run_function, run_code}
+use Rattle.run_loading.specs.separation.Starts.{IsStart}
+use Rattle.run_loading.specs.separation.Alive.{IsAlive}
+use Rattle.run_loading.proofs.separation.CodesRun.{code_runs}
+use Rattle.run_loading.proofs.separation.Running.{run_alive}
+use Rattle.run_loading.proofs.separation.Sound.{formed}
 use Rattle.fip_machine.specs.Ending.{KnowsRun}
 
 -- an owned register

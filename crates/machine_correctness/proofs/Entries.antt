@@ -3,17 +3,17 @@
 -- the functions of instances; and only a root gives its function a name.
 use Rattle.std.proofs.Common.{◌≡◌, ◌<◌, ℕ, zero, suc, Bool, true, false, List, [], ◌∷◌, length, map, Some, slice_get, option_map, if◌then◌else◌, refl, sym, ap, ap₂, ◌∙◌, subst, arith}
 use Rattle.std.proofs.lemmas.Option.{none-some, same_Some, slice_get-map}
-use Rattle.fip_language.specs.declared.FunKind.{FunKind}
-use Rattle.fip_language.specs.declared.FunKind.TheVariants.{Fip, Fbip, Fun}
-use Rattle.fip_trees.specs.declared.groups.Member.{Member}
-use Rattle.fip_trees.specs.Tree.{Instance, Program}
-use Rattle.cell_code.specs.declared.code.Code.{Code}
-use Rattle.cell_code.specs.declared.code.Function.{Function}
-use Rattle.code_rules.specs.Codes.{PlainFunction, plain, plain_function, function_at, params_of}
-use Rattle.lowering_relation.specs.LoweredBodies.{has_function, one_more, if_function, function_of}
-use Rattle.lowering_simulation.specs.CellEnds.{IsFunctionOf}
-use Rattle.cell_lower.specs.Limits.{is_ruled, registers}
-use Rattle.cell_lower.specs.Shape.{Header, header, header_of, entry_name, and_if, headers_from, headers}
+use Rattle.fip_machine.specs.fip_language.declared.FunKind.{FunKind}
+use Rattle.fip_machine.specs.fip_language.declared.FunKind.TheVariants.{Fip, Fbip, Fun}
+use Rattle.compiler_correctness.specs.fip_trees.declared.groups.Member.{Member}
+use Rattle.compiler_correctness.specs.fip_trees.Tree.{Instance, Program}
+use Rattle.fip_machine.specs.cell_code.declared.code.Code.{Code}
+use Rattle.fip_machine.specs.cell_code.declared.code.Function.{Function}
+use Rattle.run_loading.specs.code_rules.Codes.{PlainFunction, plain, plain_function, function_at, params_of}
+use Rattle.compiler_correctness.specs.lowering_relation.LoweredBodies.{has_function, one_more, if_function, function_of}
+use Rattle.compiler_correctness.specs.lowering_simulation.CellEnds.{IsFunctionOf}
+use Rattle.compiler_correctness.specs.cell_lower.Limits.{is_ruled, registers}
+use Rattle.compiler_correctness.specs.cell_lower.Shape.{Header, header, header_of, entry_name, and_if, headers_from, headers}
 
 -- a header is that of an instance whose function has number n
 record IsHeaded (ds : List Instance) (n : ℕ) (h : Header) : Type 0 where

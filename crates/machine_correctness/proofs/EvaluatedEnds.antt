@@ -1,35 +1,35 @@
 -- What a machine answers is what the source means.
 -- Idea: a run comes to one end, so the end that the machine tells is the one that stands for the meaning.
 use Rattle.std.proofs.Common.{◌≡◌, ◌≢◌, ◌<◌, ◌≤◌, ℕ, true, List, [], length, refl, sym, ap, ◌∙◌, subst}
-use Rattle.fip_language.specs.Core.{Core}
-use Rattle.fip_language.specs.Meaning.{Answer, Gives, Trap, Out, Deep, Stuck, meaning}
-use Rattle.fip_language.specs.Statics.{NoClosed}
-use Rattle.fip_language.specs.Table.{Table}
-use Rattle.fip_language.specs.Values.{Values}
-use Rattle.fip_base.specs.declared.plain.Stack.{Stack}
-use Rattle.cell_code.specs.declared.code.Code.{Code}
-use Rattle.machine_semantics.specs.Codes as R
-use Rattle.machine_semantics.specs.Runs as C
-use Rattle.machine_semantics.specs.Runs.{End, Run, Going, Over, Ends, begun, after}
-use Rattle.machine_semantics.specs.States.{State}
-use Rattle.machine_semantics.specs.Steps.{Kinds}
-use Rattle.code_rules.specs.Codes.{PlainFunction, plain, is_fip, results, results_of}
-use Rattle.code_rules.specs.StackNumbers.{IsStack}
-use Rattle.separation.specs.Codes.{run_code, AreKinds}
-use Rattle.separation.proofs.KindsFound.{kinds_found}
-use Rattle.separation_bounds.proofs.Ending.{ends_once}
-use Rattle.separation_bounds.proofs.FipRuns.{never_deep}
-use Rattle.code_verify.specs.Checked.{Checked}
-use Rattle.tree_refinement.specs.Agreement.{AreWordsOf}
-use Rattle.tree_refinement.specs.Runs.{IsSameEnd}
+use Rattle.fip_machine.specs.fip_language.Core.{Core}
+use Rattle.fip_machine.specs.fip_language.Meaning.{Answer, Gives, Trap, Out, Deep, Stuck, meaning}
+use Rattle.fip_machine.specs.fip_language.Statics.{NoClosed}
+use Rattle.fip_machine.specs.fip_language.Table.{Table}
+use Rattle.fip_machine.specs.fip_language.Values.{Values}
+use Rattle.value_text.specs.fip_base.declared.plain.Stack.{Stack}
+use Rattle.fip_machine.specs.cell_code.declared.code.Code.{Code}
+use Rattle.compiler_correctness.specs.machine_semantics.Codes as R
+use Rattle.compiler_correctness.specs.machine_semantics.Runs as C
+use Rattle.compiler_correctness.specs.machine_semantics.Runs.{End, Run, Going, Over, Ends, begun, after}
+use Rattle.compiler_correctness.specs.machine_semantics.States.{State}
+use Rattle.compiler_correctness.specs.machine_semantics.Steps.{Kinds}
+use Rattle.run_loading.specs.code_rules.Codes.{PlainFunction, plain, is_fip, results, results_of}
+use Rattle.run_loading.specs.code_rules.StackNumbers.{IsStack}
+use Rattle.run_loading.specs.separation.Codes.{run_code, AreKinds}
+use Rattle.run_loading.proofs.separation.KindsFound.{kinds_found}
+use Rattle.run_loading.proofs.separation_bounds.Ending.{ends_once}
+use Rattle.run_loading.proofs.separation_bounds.FipRuns.{never_deep}
+use Rattle.fip_machine.specs.code_verify.Checked.{Checked}
+use Rattle.run_loading.specs.tree_refinement.Agreement.{AreWordsOf}
+use Rattle.run_loading.specs.tree_refinement.Runs.{IsSameEnd}
 use Rattle.fip_machine.specs.declared.machine.Ended.{Ended}
 use Rattle.fip_machine.specs.Ending.{KnowsRun, RunsTo}
 use Rattle.machine_correctness.specs.Ended.{EndsJustAs, IsOverJust}
 use Rattle.machine_correctness.proofs.Drops.{known}
 use Rattle.machine_correctness.proofs.VerifiedEnds.{runs_just}
-use Rattle.lowering_relation.specs.LoweredFunctions.{AreLowered}
-use Rattle.lowering_simulation.specs.Lowered.{all_instrs}
-use Rattle.lowering_simulation.specs.CellEnds.{EndsAs}
+use Rattle.compiler_correctness.specs.lowering_relation.LoweredFunctions.{AreLowered}
+use Rattle.compiler_correctness.specs.lowering_simulation.Lowered.{all_instrs}
+use Rattle.compiler_correctness.specs.lowering_simulation.CellEnds.{EndsAs}
 use Rattle.compiler_correctness.proofs.Joined.{on_cells_meant}
 use Rattle.machine_correctness.specs.Meant.{IsMeant}
 use Rattle.machine_correctness.specs.Starts.{IsSoundCode, IsCodeOf, Begins}

@@ -2,24 +2,24 @@
 -- Idea: what is so of the state after each number of steps is so of each state that the gauge sees.
 use Rattle.std.proofs.Common.{◌≡◌, ◌<◌, ◌≤◌, ◌+◌, ℕ, zero, suc, true, List, [], ◌∷◌, length, map, sym, ap, ap₂, ◌∙◌, subst, arith}
 use Rattle.std.specs.Prelude.{min, max}
-use Rattle.fip_language.specs.Every.{Every}
-use Rattle.fip_language.specs.Gauge.{Seen, lowest, highest, highest_frames, highest_words}
-use Rattle.fip_language.specs.Store.{count}
-use Rattle.fip_language.specs.Values.{Values, cells_of_all}
-use Rattle.fip_base.specs.declared.plain.Stack.{Stack}
-use Rattle.cell_code.specs.declared.code.Code.{Code}
-use Rattle.machine_semantics.specs.Cells.{count_held}
-use Rattle.machine_semantics.specs.Codes as R
-use Rattle.machine_semantics.specs.Gauges.{seen_of, states, seen}
-use Rattle.machine_semantics.specs.Runs.{Value, Trap, Out, Deep, Unsound, Run, Going, Over, state_of, begun, after, later}
-use Rattle.machine_semantics.specs.States.{State, frames_held, words_held}
-use Rattle.machine_semantics.specs.Steps.{Kinds}
-use Rattle.code_rules.specs.Codes.{PlainFunction, plain, is_fip}
-use Rattle.code_rules.specs.StackNumbers.{IsStack}
-use Rattle.separation.specs.Codes.{AreKinds}
-use Rattle.separation_bounds.proofs.FipRuns.{frames_within, words_within}
-use Rattle.separation_bounds.proofs.Falling.{fip_count}
-use Rattle.code_verify.specs.Checked.{Checked}
+use Rattle.fip_machine.specs.fip_language.Every.{Every}
+use Rattle.fip_machine.specs.fip_language.Gauge.{Seen, lowest, highest, highest_frames, highest_words}
+use Rattle.fip_machine.specs.fip_language.Store.{count}
+use Rattle.fip_machine.specs.fip_language.Values.{Values, cells_of_all}
+use Rattle.value_text.specs.fip_base.declared.plain.Stack.{Stack}
+use Rattle.fip_machine.specs.cell_code.declared.code.Code.{Code}
+use Rattle.compiler_correctness.specs.machine_semantics.Cells.{count_held}
+use Rattle.compiler_correctness.specs.machine_semantics.Codes as R
+use Rattle.compiler_correctness.specs.machine_semantics.Gauges.{seen_of, states, seen}
+use Rattle.compiler_correctness.specs.machine_semantics.Runs.{Value, Trap, Out, Deep, Unsound, Run, Going, Over, state_of, begun, after, later}
+use Rattle.compiler_correctness.specs.machine_semantics.States.{State, frames_held, words_held}
+use Rattle.compiler_correctness.specs.machine_semantics.Steps.{Kinds}
+use Rattle.run_loading.specs.code_rules.Codes.{PlainFunction, plain, is_fip}
+use Rattle.run_loading.specs.code_rules.StackNumbers.{IsStack}
+use Rattle.run_loading.specs.separation.Codes.{AreKinds}
+use Rattle.run_loading.proofs.separation_bounds.FipRuns.{frames_within, words_within}
+use Rattle.run_loading.proofs.separation_bounds.Falling.{fip_count}
+use Rattle.fip_machine.specs.code_verify.Checked.{Checked}
 use Rattle.fip_machine.specs.declared.gauge.Gauge.{Gauge}
 use Rattle.fip_machine.specs.GaugeView.{Tells, TellsRun}
 use Rattle.machine_correctness.specs.Ended.{TellsJustOver}

@@ -1,11 +1,11 @@
 -- The ints that a verified code writes have 64 bits, as separation asks it instruction by instruction.
 use Rattle.std.proofs.Common.{◌≡◌, ℕ, Some, refl}
-use Rattle.cell_code.specs.declared.code.Instr.{Instr}
-use Rattle.cell_code.specs.declared.code.Instr.TheVariants as I
-use Rattle.code_rules.specs.Codes.{PlainCode}
-use Rattle.separation.specs.Rows.{FitsLiteral}
-use Rattle.separation.specs.Codes.{HasLiterals}
-use Rattle.code_verify.specs.Checked.{HasMachineInt, HasMachineInts}
+use Rattle.fip_machine.specs.cell_code.declared.code.Instr.{Instr}
+use Rattle.fip_machine.specs.cell_code.declared.code.Instr.TheVariants as I
+use Rattle.run_loading.specs.code_rules.Codes.{PlainCode}
+use Rattle.run_loading.specs.separation.Rows.{FitsLiteral}
+use Rattle.run_loading.specs.separation.Codes.{HasLiterals}
+use Rattle.fip_machine.specs.code_verify.Checked.{HasMachineInt, HasMachineInts}
 
 fits_literal : (x : Instr) → HasMachineInt x → FitsLiteral x
 fits_literal (I.Const d v) h = h d v refl

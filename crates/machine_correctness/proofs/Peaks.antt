@@ -4,55 +4,55 @@
 use Rattle.std.proofs.Common.{◌≡◌, ◌<◌, ◌+◌, ℕ, zero, suc, List, [], ◌∷◌, length, map, max, Option, Some, None, slice_get, refl, sym, ap, ◌∙◌, subst, arith}
 use Rattle.std.specs.Prelude.{option_map}
 use Rattle.std.proofs.lemmas.Option.{none-some, same_Some, slice_get-map}
-use Rattle.fip_language.specs.declared.FunKind.{FunKind}
-use Rattle.fip_language.specs.declared.FunKind.TheVariants.{Fip, Fbip, Fun}
-use Rattle.fip_language.specs.Core.{Core}
-use Rattle.fip_language.specs.Gauge.{highest_frames, highest_words}
-use Rattle.fip_language.specs.Meaning.{Gives, Peak, meaning}
-use Rattle.fip_language.specs.Statics.{NoClosed}
-use Rattle.fip_language.specs.Store.{count}
-use Rattle.fip_language.specs.Values.{Values, cells_of_all}
-use Rattle.fip_trees.specs.declared.groups.Member.{Member}
-use Rattle.fip_trees.specs.Tree.{Instance}
-use Rattle.tail_groups.specs.Members.{AreMembers}
-use Rattle.tail_groups.specs.Registers as T'
-use Rattle.cell_code.specs.declared.code.Code.{Code}
-use Rattle.cell_code.specs.declared.code.Function.{Function}
-use Rattle.machine_semantics.specs.Codes as R
-use Rattle.machine_semantics.specs.Gauges.{seen}
-use Rattle.machine_semantics.specs.Limits.{frame_words}
-use Rattle.machine_semantics.specs.Runs as C
-use Rattle.machine_semantics.specs.Runs.{End, Value, Over, Ends, begun, after}
-use Rattle.machine_semantics.specs.States.{State}
-use Rattle.machine_semantics.specs.Steps.{Kinds}
-use Rattle.code_rules.specs.Codes.{PlainCode, PlainFunction, plain, plain_function, function_at, results}
-use Rattle.separation.specs.Codes.{run_code, AreKinds}
-use Rattle.in_place_safety.proofs.Within.{frame_same, variables_at}
-use Rattle.in_place_safety.proofs.Checked.{bounded}
-use Rattle.source_safety.proofs.Accepted.{credited_checked}
-use Rattle.source_safety.proofs.Formed.{typed_is_formed}
-use Rattle.source_report.proofs.Sizing.{typed_filled}
-use Rattle.specialisation_correctness.proofs.Meant.{root_meant}
-use Rattle.source_report.proofs.Distinct.{typed_distinct}
+use Rattle.fip_machine.specs.fip_language.declared.FunKind.{FunKind}
+use Rattle.fip_machine.specs.fip_language.declared.FunKind.TheVariants.{Fip, Fbip, Fun}
+use Rattle.fip_machine.specs.fip_language.Core.{Core}
+use Rattle.fip_machine.specs.fip_language.Gauge.{highest_frames, highest_words}
+use Rattle.fip_machine.specs.fip_language.Meaning.{Gives, Peak, meaning}
+use Rattle.fip_machine.specs.fip_language.Statics.{NoClosed}
+use Rattle.fip_machine.specs.fip_language.Store.{count}
+use Rattle.fip_machine.specs.fip_language.Values.{Values, cells_of_all}
+use Rattle.compiler_correctness.specs.fip_trees.declared.groups.Member.{Member}
+use Rattle.compiler_correctness.specs.fip_trees.Tree.{Instance}
+use Rattle.compiler_correctness.specs.tail_groups.Members.{AreMembers}
+use Rattle.compiler_correctness.specs.tail_groups.Registers as T'
+use Rattle.fip_machine.specs.cell_code.declared.code.Code.{Code}
+use Rattle.fip_machine.specs.cell_code.declared.code.Function.{Function}
+use Rattle.compiler_correctness.specs.machine_semantics.Codes as R
+use Rattle.compiler_correctness.specs.machine_semantics.Gauges.{seen}
+use Rattle.compiler_correctness.specs.machine_semantics.Limits.{frame_words}
+use Rattle.compiler_correctness.specs.machine_semantics.Runs as C
+use Rattle.compiler_correctness.specs.machine_semantics.Runs.{End, Value, Over, Ends, begun, after}
+use Rattle.compiler_correctness.specs.machine_semantics.States.{State}
+use Rattle.compiler_correctness.specs.machine_semantics.Steps.{Kinds}
+use Rattle.run_loading.specs.code_rules.Codes.{PlainCode, PlainFunction, plain, plain_function, function_at, results}
+use Rattle.run_loading.specs.separation.Codes.{run_code, AreKinds}
+use Rattle.compiler_correctness.proofs.in_place_safety.Within.{frame_same, variables_at}
+use Rattle.compiler_correctness.proofs.in_place_safety.Checked.{bounded}
+use Rattle.compiler_correctness.proofs.source_safety.Accepted.{credited_checked}
+use Rattle.compiler_correctness.proofs.source_safety.Formed.{typed_is_formed}
+use Rattle.compiler_correctness.proofs.source_report.Sizing.{typed_filled}
+use Rattle.compiler_correctness.proofs.specialisation_correctness.Meant.{root_meant}
+use Rattle.compiler_correctness.proofs.source_report.Distinct.{typed_distinct}
 use Rattle.compiler_correctness.proofs.Joined.{begun_takes, not_stuck}
-use Rattle.tree_semantics.specs.Runs as T
-use Rattle.tree_semantics.specs.States as U
-use Rattle.tree_refinement.specs.Agreement.{AreWordsOf}
-use Rattle.tree_refinement.specs.Runs.{IsSameEnd}
-use Rattle.separation_bounds.proofs.Ending.{ends_once}
-use Rattle.tree_refinement.specs.LentValues.{lent_values}
-use Rattle.tree_refinement.proofs.Cells.{highest_by_trees, lowest_by_trees}
-use Rattle.tree_refinement.proofs.Overs.{seen_enough}
-use Rattle.tree_refinement.proofs.Stacks.{wide, wide_at, wide_all, tree_frames, tree_words, tree_highest, frames_from, words_from}
-use Rattle.lowering_relation.specs.LoweredBodies.{has_function, one_more, if_function, function_of}
-use Rattle.lowering_relation.specs.LoweredFunctions.{AreLowered}
-use Rattle.lowering_simulation.proofs.Guards.{guarded}
-use Rattle.lowering_simulation.specs.RunEnds.{RunsTo, words_of_all, height, highest}
-use Rattle.lowering_simulation.specs.Lowered.{all_instrs}
-use Rattle.lowering_simulation.specs.Wide.{AreWide}
-use Rattle.lowering_simulation.proofs.Whole.{runs_to}
-use Rattle.cell_lower.specs.Limits.{is_ruled, registers}
-use Rattle.cell_lower.specs.Shape.{Header, header, header_of, and_if, headers_from}
+use Rattle.compiler_correctness.specs.tree_semantics.Runs as T
+use Rattle.compiler_correctness.specs.tree_semantics.States as U
+use Rattle.run_loading.specs.tree_refinement.Agreement.{AreWordsOf}
+use Rattle.run_loading.specs.tree_refinement.Runs.{IsSameEnd}
+use Rattle.run_loading.proofs.separation_bounds.Ending.{ends_once}
+use Rattle.run_loading.specs.tree_refinement.LentValues.{lent_values}
+use Rattle.run_loading.proofs.tree_refinement.Cells.{highest_by_trees, lowest_by_trees}
+use Rattle.run_loading.proofs.tree_refinement.Overs.{seen_enough}
+use Rattle.run_loading.proofs.tree_refinement.Stacks.{wide, wide_at, wide_all, tree_frames, tree_words, tree_highest, frames_from, words_from}
+use Rattle.compiler_correctness.specs.lowering_relation.LoweredBodies.{has_function, one_more, if_function, function_of}
+use Rattle.compiler_correctness.specs.lowering_relation.LoweredFunctions.{AreLowered}
+use Rattle.compiler_correctness.proofs.lowering_simulation.Guards.{guarded}
+use Rattle.compiler_correctness.specs.lowering_simulation.RunEnds.{RunsTo, words_of_all, height, highest}
+use Rattle.compiler_correctness.specs.lowering_simulation.Lowered.{all_instrs}
+use Rattle.compiler_correctness.specs.lowering_simulation.Wide.{AreWide}
+use Rattle.compiler_correctness.proofs.lowering_simulation.Whole.{runs_to}
+use Rattle.compiler_correctness.specs.cell_lower.Limits.{is_ruled, registers}
+use Rattle.compiler_correctness.specs.cell_lower.Shape.{Header, header, header_of, and_if, headers_from}
 use Rattle.machine_correctness.specs.Gauges.{IsMeasured}
 use Rattle.machine_correctness.specs.Starts.{IsCodeOf, Begins}
 use Rattle.machine_correctness.proofs.EvaluatedEnds.{ends_as_meant}
@@ -100,7 +100,7 @@ counted_at ds ms i d h e None there = absurd (short ds ms i d h.size e there)
     short (x ∷ ds) [] i d l e n = omega (arith, l)
     short (x ∷ ds) (m ∷ ms) zero d l e n = none-some m (sym n)
     short (x ∷ ds) (m ∷ ms) (suc i) d l e n = short ds ms i d (omega (arith, l)) e n
-counted_at ds ms i d h e (Some m) there = ap (λ (o : Option Member). Rattle.cell_lower.specs.Limits.registers_of o) there ∙ h.counted i d m e there
+counted_at ds ms i d h e (Some m) there = ap (λ (o : Option Member). Rattle.compiler_correctness.specs.cell_lower.Limits.registers_of o) there ∙ h.counted i d m e there
 
 module _ (source : List ℕ) (core : Core) (code : Code) (h : IsCodeOf source core code) (found : AreMembers h.program.instances h.members) where
   abbrev width : ℕ → ℕ

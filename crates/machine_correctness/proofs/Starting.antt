@@ -2,25 +2,25 @@
 -- the arguments and of its credits.
 use Rattle.std.proofs.Common.{map, subst, ◌≡◌, ◌+◌, ℕ, true, [], Some, sym, ap, ◌∙◌, arith}
 use Rattle.std.proofs.lemmas.Option.{same_Some}
-use Rattle.fip_language.specs.Store.{values_of, count}
-use Rattle.fip_language.specs.Table.{HaveTypes}
-use Rattle.fip_language.specs.Values.{Values, cells_of_all}
-use Rattle.cell_code.specs.declared.code.Code.{Code}
-use Rattle.machine_semantics.specs.Cells.{count_held}
-use Rattle.machine_semantics.specs.Codes as R
-use Rattle.machine_semantics.specs.Runs.{loaded}
-use Rattle.machine_semantics.specs.States.{State}
-use Rattle.machine_semantics.specs.Steps.{Kinds}
-use Rattle.code_rules.specs.Codes.{PlainFunction, plain, function_at, is_fip}
-use Rattle.code_rules.specs.StackNumbers.{IsFip}
-use Rattle.separation.specs.Codes.{run_code, AreKinds}
-use Rattle.separation.specs.Starts.{IsStart}
-use Rattle.separation.proofs.CodesRun.{code_runs}
-use Rattle.separation.proofs.KindsFound.{kinds_found}
-use Rattle.separation.proofs.Loading.{loaded_is}
-use Rattle.tree_refinement.specs.Runs.{BeginsWith}
-use Rattle.tree_refinement.proofs.Loading.{begins_values, begins_with}
-use Rattle.separation_bounds.proofs.GivenBack.{start_held}
+use Rattle.fip_machine.specs.fip_language.Store.{values_of, count}
+use Rattle.fip_machine.specs.fip_language.Table.{HaveTypes}
+use Rattle.fip_machine.specs.fip_language.Values.{Values, cells_of_all}
+use Rattle.fip_machine.specs.cell_code.declared.code.Code.{Code}
+use Rattle.compiler_correctness.specs.machine_semantics.Cells.{count_held}
+use Rattle.compiler_correctness.specs.machine_semantics.Codes as R
+use Rattle.compiler_correctness.specs.machine_semantics.Runs.{loaded}
+use Rattle.compiler_correctness.specs.machine_semantics.States.{State}
+use Rattle.compiler_correctness.specs.machine_semantics.Steps.{Kinds}
+use Rattle.run_loading.specs.code_rules.Codes.{PlainFunction, plain, function_at, is_fip}
+use Rattle.run_loading.specs.code_rules.StackNumbers.{IsFip}
+use Rattle.run_loading.specs.separation.Codes.{run_code, AreKinds}
+use Rattle.run_loading.specs.separation.Starts.{IsStart}
+use Rattle.run_loading.proofs.separation.CodesRun.{code_runs}
+use Rattle.run_loading.proofs.separation.KindsFound.{kinds_found}
+use Rattle.run_loading.proofs.separation.Loading.{loaded_is}
+use Rattle.run_loading.specs.tree_refinement.Runs.{BeginsWith}
+use Rattle.run_loading.proofs.tree_refinement.Loading.{begins_values, begins_with}
+use Rattle.run_loading.proofs.separation_bounds.GivenBack.{start_held}
 use Rattle.run_loading.specs.Loading.{first_store, first_words}
 use Rattle.run_loading.proofs.Begins.{begins}
 use Rattle.machine_correctness.specs.Starts.{IsSoundCode, Begins}

@@ -5,28 +5,28 @@ use Rattle.std.proofs.Common.{◌≡◌, ◌<◌, ◌≤◌, ◌+◌, ℕ, zero,
 use Rattle.std.proofs.lemmas.List.{length-replicate}
 use Rattle.std.proofs.lemmas.Option.{none-some}
 use Rattle.std.specs.Prelude.{replicate}
-use Rattle.fip_language.proofs.Search.{slice_get_there}
-use Rattle.fip_language.specs.Every.{Every}
-use Rattle.fip_language.specs.Store.{Cell, Placed, PlacedInt, Bare, At, Parts, NoParts, MoreParts, values_of, words_of}
-use Rattle.fip_language.specs.Table.{Table}
-use Rattle.fip_language.specs.Values.{Values}
-use Rattle.cell_code.specs.declared.code.Code.{Code}
-use Rattle.cell_store.specs.Cells as L
-use Rattle.cell_store.specs.Made.{Loading}
-use Rattle.machine_semantics.specs.Apart.{AreSpare, IsGiven}
-use Rattle.machine_semantics.specs.Cells.{Store, IsSized, IsStore, cell_in, cell_at, size_of, there, released_at, one_if_some, one_if_true}
-use Rattle.machine_semantics.specs.Codes as R
-use Rattle.machine_semantics.specs.Runs.{loaded, lent_words}
-use Rattle.machine_semantics.specs.States.{State}
-use Rattle.machine_semantics.specs.Steps.{first_frame}
-use Rattle.machine_semantics.specs.Trees as C
-use Rattle.machine_semantics.specs.Trees.{HasPart}
-use Rattle.machine_semantics.specs.Words.{place_word}
-use Rattle.code_rules.specs.Codes.{PlainFunction, plain, function_at}
-use Rattle.separation.specs.Codes.{run_function, run_code}
-use Rattle.separation.proofs.Loading.{loaded_is}
-use Rattle.tree_refinement.specs.Agreement.{AreWordsOf}
-use Rattle.machine_cells.specs.Small.{store_of}
+use Rattle.fip_machine.proofs.fip_language.Search.{slice_get_there}
+use Rattle.fip_machine.specs.fip_language.Every.{Every}
+use Rattle.fip_machine.specs.fip_language.Store.{Cell, Placed, PlacedInt, Bare, At, Parts, NoParts, MoreParts, values_of, words_of}
+use Rattle.fip_machine.specs.fip_language.Table.{Table}
+use Rattle.fip_machine.specs.fip_language.Values.{Values}
+use Rattle.fip_machine.specs.cell_code.declared.code.Code.{Code}
+use Rattle.fip_machine.specs.cell_store.Cells as L
+use Rattle.fip_machine.specs.cell_store.Made.{Loading}
+use Rattle.compiler_correctness.specs.machine_semantics.Apart.{AreSpare, IsGiven}
+use Rattle.compiler_correctness.specs.machine_semantics.Cells.{Store, IsSized, IsStore, cell_in, cell_at, size_of, there, released_at, one_if_some, one_if_true}
+use Rattle.compiler_correctness.specs.machine_semantics.Codes as R
+use Rattle.compiler_correctness.specs.machine_semantics.Runs.{loaded, lent_words}
+use Rattle.compiler_correctness.specs.machine_semantics.States.{State}
+use Rattle.compiler_correctness.specs.machine_semantics.Steps.{first_frame}
+use Rattle.compiler_correctness.specs.machine_semantics.Trees as C
+use Rattle.compiler_correctness.specs.machine_semantics.Trees.{HasPart}
+use Rattle.compiler_correctness.specs.machine_semantics.Words.{place_word}
+use Rattle.run_loading.specs.code_rules.Codes.{PlainFunction, plain, function_at}
+use Rattle.run_loading.specs.separation.Codes.{run_function, run_code}
+use Rattle.run_loading.proofs.separation.Loading.{loaded_is}
+use Rattle.run_loading.specs.tree_refinement.Agreement.{AreWordsOf}
+use Rattle.fip_machine.specs.machine_cells.Small.{store_of}
 use Rattle.value_text.specs.Loaded.{types_of, live_in, live, AreZero, cell_words, IsLoaded}
 use Rattle.value_text.specs.Standing as V
 use Rattle.machine_correctness.specs.Meant.{ArePrintable}

@@ -1,16 +1,16 @@
 -- Of sound code no run comes to an instruction that can't be done, so what is said of its end is said of each.
 use Rattle.std.proofs.Common.{◌≡◌, ℕ, List, refl, ap, ◌∙◌}
-use Rattle.fip_language.specs.Gauge.{Seen}
-use Rattle.machine_semantics.specs.Codes as R
-use Rattle.machine_semantics.specs.Gauges.{seen}
-use Rattle.machine_semantics.specs.States.{State}
-use Rattle.machine_semantics.specs.Steps.{Kinds}
-use Rattle.machine_semantics.specs.Runs.{Value, Trap, Out, Deep, Unsound, Run, Going, Over, begun, after}
-use Rattle.code_rules.specs.Codes.{plain}
-use Rattle.code_verify.specs.Checked.{Checked}
-use Rattle.separation.specs.Starts.{IsStart}
-use Rattle.separation.proofs.CodesRun.{code_runs}
-use Rattle.separation.proofs.Running.{run_sound}
+use Rattle.fip_machine.specs.fip_language.Gauge.{Seen}
+use Rattle.compiler_correctness.specs.machine_semantics.Codes as R
+use Rattle.compiler_correctness.specs.machine_semantics.Gauges.{seen}
+use Rattle.compiler_correctness.specs.machine_semantics.States.{State}
+use Rattle.compiler_correctness.specs.machine_semantics.Steps.{Kinds}
+use Rattle.compiler_correctness.specs.machine_semantics.Runs.{Value, Trap, Out, Deep, Unsound, Run, Going, Over, begun, after}
+use Rattle.run_loading.specs.code_rules.Codes.{plain}
+use Rattle.fip_machine.specs.code_verify.Checked.{Checked}
+use Rattle.run_loading.specs.separation.Starts.{IsStart}
+use Rattle.run_loading.proofs.separation.CodesRun.{code_runs}
+use Rattle.run_loading.proofs.separation.Running.{run_sound}
 use Rattle.fip_machine.specs.declared.gauge.Gauge.{Gauge}
 use Rattle.fip_machine.specs.declared.machine.Ended.{Ended}
 use Rattle.fip_machine.specs.Ending.{IsOver, RunsTo}

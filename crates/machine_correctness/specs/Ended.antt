@@ -2,12 +2,12 @@
 -- come out.
 -- rev of two items and none, with 2 calls, came to Out: the definition's run is over after 8 steps, out of calls.
 use Rattle.std.specs.Prelude.{ℕ, List}
-use Rattle.machine_semantics.specs.Codes.{PlainCode}
-use Rattle.machine_semantics.specs.Gauges.{seen}
-use Rattle.machine_semantics.specs.States.{State}
-use Rattle.machine_semantics.specs.Steps.{Kinds}
-use Rattle.machine_semantics.specs.Runs.{End, Value, Trap, Out, Deep, Unsound, Run, Going, Over, begun, after}
-use Rattle.fip_language.specs.Gauge.{Seen}
+use Rattle.compiler_correctness.specs.machine_semantics.Codes.{PlainCode}
+use Rattle.compiler_correctness.specs.machine_semantics.Gauges.{seen}
+use Rattle.compiler_correctness.specs.machine_semantics.States.{State}
+use Rattle.compiler_correctness.specs.machine_semantics.Steps.{Kinds}
+use Rattle.compiler_correctness.specs.machine_semantics.Runs.{End, Value, Trap, Out, Deep, Unsound, Run, Going, Over, begun, after}
+use Rattle.fip_machine.specs.fip_language.Gauge.{Seen}
 use Rattle.fip_machine.specs.declared.gauge.Gauge.{Gauge}
 use Rattle.fip_machine.specs.declared.machine.Ended.{Ended}
 use Rattle.fip_machine.specs.Ending.{EndsAs}

@@ -3,14 +3,14 @@
 -- Of rev of Cons(1, Cons(2, Nil)) and Nil it tells 2 as the lowest and the highest number of cells of size 2, and 0 of
 -- each other size; no frame, and 9 words.
 use Rattle.std.specs.Prelude.{◌≡◌, ◌≤◌, ◌+◌, ◌-◌, ℕ, List, slice_index_or}
-use Rattle.fip_language.specs.declared.limits.TheConstants.{MOST_FIELDS}
-use Rattle.fip_language.specs.Gauge.{Seen, lowest, highest, highest_frames, highest_words}
-use Rattle.fip_language.specs.Meaning.{Peak}
-use Rattle.fip_language.specs.Store.{count}
-use Rattle.fip_language.specs.Values.{Values, cells_of_all}
-use Rattle.fip_base.specs.declared.plain.Param.{Param}
-use Rattle.fip_base.specs.declared.plain.Stack.{Stack}
-use Rattle.tree_refinement.specs.LentValues.{lent_values}
+use Rattle.fip_machine.specs.fip_language.declared.limits.TheConstants.{MOST_FIELDS}
+use Rattle.fip_machine.specs.fip_language.Gauge.{Seen, lowest, highest, highest_frames, highest_words}
+use Rattle.fip_machine.specs.fip_language.Meaning.{Peak}
+use Rattle.fip_machine.specs.fip_language.Store.{count}
+use Rattle.fip_machine.specs.fip_language.Values.{Values, cells_of_all}
+use Rattle.value_text.specs.fip_base.declared.plain.Param.{Param}
+use Rattle.value_text.specs.fip_base.declared.plain.Stack.{Stack}
+use Rattle.run_loading.specs.tree_refinement.LentValues.{lent_values}
 use Rattle.fip_machine.specs.declared.gauge.Gauge.{Gauge}
 
 -- the cells of a size of arguments and of a header's credits

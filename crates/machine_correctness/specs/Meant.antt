@@ -3,13 +3,13 @@
 -- rev of Cons(1, Nil) and Nil, with 5 calls, means Cons(1, Nil); the machine answers Value, and the word of its result
 -- stands for this in its last state. With 1 call both are out of calls.
 use Rattle.std.specs.Prelude.{◌≡◌, ℕ, List}
-use Rattle.fip_language.specs.Meaning.{Answer, Gives, Trap, Out, Deep, Stuck}
-use Rattle.fip_language.specs.Store.{Parts, values_of, words_of}
-use Rattle.fip_language.specs.Table.{Table}
-use Rattle.fip_language.specs.Values.{Values}
-use Rattle.cell_store.specs.Cells.{Cells}
-use Rattle.machine_semantics.specs.States.{State}
-use Rattle.tree_refinement.specs.Agreement.{AreWordsOf}
+use Rattle.fip_machine.specs.fip_language.Meaning.{Answer, Gives, Trap, Out, Deep, Stuck}
+use Rattle.fip_machine.specs.fip_language.Store.{Parts, values_of, words_of}
+use Rattle.fip_machine.specs.fip_language.Table.{Table}
+use Rattle.fip_machine.specs.fip_language.Values.{Values}
+use Rattle.fip_machine.specs.cell_store.Cells.{Cells}
+use Rattle.compiler_correctness.specs.machine_semantics.States.{State}
+use Rattle.run_loading.specs.tree_refinement.Agreement.{AreWordsOf}
 use Rattle.fip_machine.specs.declared.machine.Ended.{Ended}
 use Rattle.fip_machine.specs.declared.machine.Ended.TheVariants as M
 use Rattle.value_text.specs.Standing.{StandAll}

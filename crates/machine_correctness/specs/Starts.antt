@@ -3,23 +3,23 @@
 -- Of the reversal of a list the source has one fip function, so its code has one: six instructions and the name rev.
 -- Loaded with Cons(1, Cons(2, Nil)) and Nil it begins with two cells and the words 7 and 0.
 use Rattle.std.specs.Prelude.{◌≡◌, ℕ, List, [], map, Some}
-use Rattle.fip_language.specs.Core.{Core}
-use Rattle.fip_language.specs.Store.{values_of}
-use Rattle.fip_language.specs.Values.{Values}
-use Rattle.fip_trees.specs.declared.groups.Member.{Member}
-use Rattle.fip_trees.specs.Tree.{Program}
-use Rattle.cell_code.specs.declared.code.Code.{Code}
-use Rattle.machine_semantics.specs.Apart.{IsGiven}
-use Rattle.machine_semantics.specs.Codes as R
-use Rattle.machine_semantics.specs.Runs.{loaded}
-use Rattle.machine_semantics.specs.States.{State}
-use Rattle.code_rules.specs.Breaks.{IsSound}
-use Rattle.code_rules.specs.Codes.{PlainFunction, plain, function_at}
-use Rattle.separation.specs.Codes.{run_function, HasLiterals}
-use Rattle.lowering_relation.specs.LoweredFunctions.{AreLowered}
-use Rattle.cell_lower.specs.Lowered.{all_instrs}
-use Rattle.cell_lower.specs.Shape.{header, headers}
-use Rattle.source_report.specs.Report.{IsParsed, IsAccepted}
+use Rattle.fip_machine.specs.fip_language.Core.{Core}
+use Rattle.fip_machine.specs.fip_language.Store.{values_of}
+use Rattle.fip_machine.specs.fip_language.Values.{Values}
+use Rattle.compiler_correctness.specs.fip_trees.declared.groups.Member.{Member}
+use Rattle.compiler_correctness.specs.fip_trees.Tree.{Program}
+use Rattle.fip_machine.specs.cell_code.declared.code.Code.{Code}
+use Rattle.compiler_correctness.specs.machine_semantics.Apart.{IsGiven}
+use Rattle.compiler_correctness.specs.machine_semantics.Codes as R
+use Rattle.compiler_correctness.specs.machine_semantics.Runs.{loaded}
+use Rattle.compiler_correctness.specs.machine_semantics.States.{State}
+use Rattle.run_loading.specs.code_rules.Breaks.{IsSound}
+use Rattle.run_loading.specs.code_rules.Codes.{PlainFunction, plain, function_at}
+use Rattle.run_loading.specs.separation.Codes.{run_function, HasLiterals}
+use Rattle.compiler_correctness.specs.lowering_relation.LoweredFunctions.{AreLowered}
+use Rattle.compiler_correctness.specs.cell_lower.Lowered.{all_instrs}
+use Rattle.compiler_correctness.specs.cell_lower.Shape.{header, headers}
+use Rattle.compiler_correctness.specs.source_report.Report.{IsParsed, IsAccepted}
 
 -- Code that breaks no rule of sound code, whose ints have 64 bits.
 pub record IsSoundCode (code : Code) : Type 0 where

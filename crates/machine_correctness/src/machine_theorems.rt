@@ -1,16 +1,16 @@
 // The laws that join the machine with what is known of sound code. Each is the contract of a function that does
 // nothing.
 ghost use Rattle.std.specs.Prelude.{ℕ, List};
-ghost use Rattle.machine_semantics.specs.Codes as R;
-ghost use Rattle.machine_semantics.specs.States.{State};
-ghost use Rattle.machine_semantics.specs.Steps.{Kinds};
-ghost use Rattle.separation.specs.Starts.{IsStart};
-ghost use Rattle.code_verify.specs.Checked.{Checked};
+ghost use Rattle.compiler_correctness.specs.machine_semantics.Codes as R;
+ghost use Rattle.compiler_correctness.specs.machine_semantics.States.{State};
+ghost use Rattle.compiler_correctness.specs.machine_semantics.Steps.{Kinds};
+ghost use Rattle.run_loading.specs.separation.Starts.{IsStart};
+ghost use Rattle.fip_machine.specs.code_verify.Checked.{Checked};
 ghost use Rattle.fip_machine.specs.declared.gauge.Gauge.{Gauge};
 ghost use Rattle.fip_machine.specs.declared.machine.Ended.{Ended};
 ghost use Rattle.fip_machine.specs.Ending.{KnowsRun, RunsTo};
 ghost use Rattle.fip_machine.specs.GaugeView.{TellsRun};
-ghost use Rattle.code_rules.specs.Codes.{plain};
+ghost use Rattle.run_loading.specs.code_rules.Codes.{plain};
 ghost use Rattle.machine_correctness.specs.Ended.{RunsJustTo, TellsJustRun};
 
 /// Of each state of a run that begins rightly, what its Drop releases by the kinds is what the verifier knows. For who

@@ -3,7 +3,7 @@ use Rattle.std.proofs.Common.{◌≡◌, ◌≢◌, ℕ, zero, suc, ◌+◌, ◌
 use Rattle.std.specs.Prelude.{slice_set}
 use Rattle.std.proofs.lemmas.Bool.{cases_lt}
 use Rattle.std.proofs.lemmas.List.{drop_more, drop_all, ext_get_or, get_or-take, get_or-set_same, get_or-set_other, length-take-le}
-use Rattle.cell_code.specs.Runnable.{AreOthers}
+use Rattle.machine_semantics.specs.cell_code.Runnable.{AreOthers}
 use Rattle.machine_frames.specs.Keeping.{Clears}
 use Rattle.machine_frames.specs.Words.{words_from, put_words, laid_at}
 

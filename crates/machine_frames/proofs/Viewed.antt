@@ -5,8 +5,8 @@ use Rattle.std.proofs.lemmas.Bool.{cases_lt}
 use Rattle.std.proofs.lemmas.Bool.Decides.{nat_tests}
 use Rattle.std.proofs.lemmas.List.{ext_get_or, get_or-take, get_or-drop, get_or-set_same, get_or-set_other, get_or-replicate, get_or-append_right, get_or_append_left, length-take-le, length-drop, length-set, length-replicate, drop-set-add, take-take}
 use Rattle.std.proofs.lemmas.Option.{slice_get-get_or}
-use Rattle.cell_code.specs.Runnable.{AreBelow}
-use Rattle.cell_code.specs.declared.code.Function.{Function}
+use Rattle.machine_semantics.specs.cell_code.Runnable.{AreBelow}
+use Rattle.machine_semantics.specs.cell_code.declared.code.Function.{Function}
 use Rattle.machine_semantics.specs.Rows.{read_all, write, write_all, and_word}
 use Rattle.machine_semantics.specs.Steps.{first_words}
 use Rattle.machine_frames.specs.Keeping.{Keeps, Clears}

@@ -4,7 +4,7 @@
 -- be 7, 5, 6, 0, 4: one frame waits, of function 0, at 4, with the words 7, 5, 6.
 use Rattle.std.specs.Prelude.{ℕ, zero, suc, ◌+◌, ◌-◌, List, [], ◌∷◌, Option, Some, None, length, take, drop, slice_get}
 use Rattle.std.specs.Prelude.{slice_index_or}
-use Rattle.cell_code.specs.declared.code.Function.{Function}
+use Rattle.machine_semantics.specs.cell_code.declared.code.Function.{Function}
 use Rattle.machine_semantics.specs.States.{Frame}
 
 abbrev pub registers_in : Option Function → ℕ

@@ -4,7 +4,7 @@
 ghost use Rattle.std.specs.Prelude.{◌≡◌, ◌≢◌, ℕ, ◌+◌, ◌<◌, ◌≤◌, List, [], ◌∷◌, ◌++◌, None, Some, length, slice_set};
 ghost use Rattle.fip_language.specs.declared.limits.TheConstants.{MOST_FIELDS, MOST_RESULTS};
 ghost use Rattle.fip_language.specs.Store.{Cell};
-ghost use Rattle.cell_code.specs.Runnable.{AreBelow};
+ghost use Rattle.machine_semantics.specs.cell_code.Runnable.{AreBelow};
 ghost use Rattle.cell_store.specs.Cells.{cell_at, size_in};
 ghost use Rattle.cell_store.specs.Told.{Told, Overwritten};
 ghost use Rattle.machine_frames.specs.Keeping.{Keeps, Clears};

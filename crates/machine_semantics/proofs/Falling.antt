@@ -7,9 +7,9 @@ use Rattle.std.proofs.lemmas.Option.{none-some, same_Some}
 use Rattle.std.proofs.lemmas.Bool.Decides.{nat_tests}
 use Rattle.std.proofs.lemmas.List.{length-set}
 use Rattle.std.proofs.lemmas.List.Sums.{sum_by-cons}
-use Rattle.fip_language.specs.declared.TrapKind.{TrapKind}
-use Rattle.fip_language.specs.Arithmetic.{Operated, Is, Fails}
-use Rattle.fip_language.specs.Store.{Cell}
+use Rattle.cell_code.specs.fip_language.declared.TrapKind.{TrapKind}
+use Rattle.cell_code.specs.fip_language.Arithmetic.{Operated, Is, Fails}
+use Rattle.cell_code.specs.fip_language.Store.{Cell}
 use Rattle.cell_code.specs.declared.code.Instr.{Instr}
 use Rattle.cell_code.specs.declared.code.Instr.TheVariants as I
 use Rattle.cell_code.specs.declared.kind.Kind.{Kind}

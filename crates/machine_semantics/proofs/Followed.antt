@@ -2,7 +2,7 @@
 -- The idea: each way that a step may come about is a case, and in each the next state's store is read off.
 use Rattle.std.proofs.Common.{◌≡◌, ℕ, zero, suc, refl, sym, ◌∙◌, List, [], ◌∷◌, Option, Some, None}
 use Rattle.std.specs.Prelude.{option_and_then}
-use Rattle.fip_language.specs.declared.TrapKind.{TrapKind}
+use Rattle.cell_code.specs.fip_language.declared.TrapKind.{TrapKind}
 use Rattle.cell_code.specs.declared.code.Instr.{Instr}
 use Rattle.cell_code.specs.declared.code.Instr.TheVariants as I
 use Rattle.cell_code.specs.declared.kind.Kind.{Kind}

@@ -5,3 +5,4 @@ pub mod Sizes
 pub mod Falling
 pub mod Gauged
 pub mod Reading
+pub use Rattle.cell_code.proofs.fip_language as fip_language

@@ -4,8 +4,8 @@ use Rattle.std.proofs.Common.{◌≡◌, ℕ, zero, suc, ◌+◌, ◌-◌, ◌*�
 use Rattle.std.proofs.lemmas.Bool.Decides.{nat_tests}
 use Rattle.std.specs.Int.{w64}
 use Rattle.std.specs.Prelude.{option_and_then, option_map, unwrap_or}
-use Rattle.fip_language.specs.Table.{Shape, Table, shapes}
-use Rattle.fip_language.specs.Store.{Cell, Placed, PlacedInt, Bare, At, Parts, NoParts, MoreParts, int_word, word_of, words_of}
+use Rattle.cell_code.specs.fip_language.Table.{Shape, Table, shapes}
+use Rattle.cell_code.specs.fip_language.Store.{Cell, Placed, PlacedInt, Bare, At, Parts, NoParts, MoreParts, int_word, word_of, words_of}
 use Rattle.machine_semantics.specs.Words.{is_place, int_of}
 use Rattle.machine_semantics.specs.Cells.{Store, cell_at}
 use Rattle.machine_semantics.specs.Trees.{HasPart, Stands, StandAll, IsTree, read_int, read_all_parts, read_bare, read_fields, field_types, read_cell, read_data, read_word, tree_within, tree_of}

@@ -3,7 +3,7 @@
 use Rattle.std.proofs.Common.{◌≡◌, ℕ, zero, suc, ◌≤◌, refl, sym, ap, ◌∙◌, List, [], ◌∷◌, Option, Some, None, Bool, true, false, nat_eq, map, slice_get, slice_set, is_some, true≢false, if◌then◌else◌, arith, subst}
 use Rattle.std.proofs.lemmas.Bool.Decides.{nat_tests}
 use Rattle.std.specs.Prelude.{option_and_then, unwrap_or}
-use Rattle.fip_language.specs.Store.{Cell}
+use Rattle.cell_code.specs.fip_language.Store.{Cell}
 use Rattle.machine_semantics.specs.Codes.{PlainCode}
 use Rattle.machine_semantics.specs.Cells.{Store, Change, Write, Release, cell_in, cell_at, size_of, size_in, sizes, written, given_up, changed, changed_by}
 use Rattle.machine_semantics.specs.States.{State, Next, Went, Entered}

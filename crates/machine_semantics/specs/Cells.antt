@@ -6,8 +6,8 @@
 -- is made, and none gets another place or size.
 use Rattle.std.specs.Prelude.{◌≡◌, ℕ, zero, suc, ◌+◌, ◌<◌, ◌≤◌, Bool, true, false, List, [], ◌∷◌, Option, Some, None}
 use Rattle.std.specs.Prelude.{length, map, replicate, nat_eq, slice_get, slice_set, option_and_then, if◌then◌else◌}
-use Rattle.fip_language.specs.Every.{Every}
-use Rattle.fip_language.specs.Store.{Cell}
+use Rattle.cell_code.specs.fip_language.Every.{Every}
+use Rattle.cell_code.specs.fip_language.Store.{Cell}
 use Rattle.machine_semantics.specs.Limits.{most_fields}
 
 -- what begins at each number, and at which of them a cell is released

@@ -4,8 +4,8 @@
 -- has one function: two owned parameters of type ints, no credit, one result of type ints, 7 registers, and the six
 -- instructions Test 0 0 3, Take 0 [], Ret [1], Take 0 [2, 3], Put 0 2 1 [2, 1], Tail 0 [3, 0].
 use Rattle.std.specs.Prelude.{ℕ, List, [], Option, Some, None, slice_get, map}
-use Rattle.fip_language.specs.Table.{Table}
-use Rattle.fip_base.specs.declared.plain.Param.{Param}
+use Rattle.cell_code.specs.fip_language.Table.{Table}
+use Rattle.cell_code.specs.fip_base.declared.plain.Param.{Param}
 use Rattle.cell_code.specs.declared.code.Instr.{Instr}
 use Rattle.cell_code.specs.declared.code.Function.{Function}
 use Rattle.cell_code.specs.declared.code.Code.{Code}

@@ -3,9 +3,9 @@
 -- fip fun rev(xs: ints, acc: ints): ints { match! xs { Nil -> acc; Cons(x, t) -> rev(t, Cons(x, acc)) } }
 -- is lowered to. It runs on Cons(1, Cons(2, Nil)) and Nil: in a list of cells, and in a list of words.
 use Rattle.std.specs.Prelude.{ℕ, ℤ, pos, Bool, true, false, List, [], ◌∷◌, Option, Some, None, codes}
-use Rattle.fip_language.specs.Table.{Shape, Table}
-use Rattle.fip_language.specs.Store.{Cell}
-use Rattle.fip_base.specs.declared.plain.Param.{Param}
+use Rattle.cell_code.specs.fip_language.Table.{Shape, Table}
+use Rattle.cell_code.specs.fip_language.Store.{Cell}
+use Rattle.cell_code.specs.fip_base.declared.plain.Param.{Param}
 use Rattle.cell_code.specs.declared.code.Instr.TheVariants as I
 use Rattle.cell_code.specs.declared.kind.Kind.{Kind}
 use Rattle.cell_code.specs.declared.kind.Kind.TheVariants as K

@@ -4,7 +4,7 @@
 -- What is seen of each state is told by `lowest`, `highest`, `highest_frames` and `highest_words` of the language's own
 -- definitions, over the list below.
 use Rattle.std.specs.Prelude.{ℕ, zero, suc, List, [], ◌∷◌, map}
-use Rattle.fip_language.specs.Gauge.{Seen}
+use Rattle.cell_code.specs.fip_language.Gauge.{Seen}
 use Rattle.machine_semantics.specs.Codes.{PlainCode}
 use Rattle.machine_semantics.specs.Cells.{count_held}
 use Rattle.machine_semantics.specs.States.{State, frames_held, words_held}

@@ -12,3 +12,6 @@ pub mod Apart
 pub mod Kept
 pub mod Traces
 pub mod Example
+pub use Rattle.cell_code.specs as cell_code
+pub use Rattle.cell_code.specs.fip_base as fip_base
+pub use Rattle.cell_code.specs.fip_language as fip_language

@@ -1,6 +1,6 @@
 -- The limits of the language that runs speak of.
 use Rattle.std.specs.Prelude.{ℕ}
-use Rattle.fip_language.specs.declared.limits.TheConstants.{FRAME_WORDS, MOST_FIELDS}
+use Rattle.cell_code.specs.fip_language.declared.limits.TheConstants.{FRAME_WORDS, MOST_FIELDS}
 
 -- the words of a frame beside its registers
 abbrev pub frame_words : ℕ

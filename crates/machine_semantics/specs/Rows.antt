@@ -6,12 +6,12 @@
 -- words of registers 2 and 1 into cell 0.
 use Rattle.std.specs.Prelude.{ℕ, ◌+◌, ◌/◌, ℤ, Bool, true, false, List, [], ◌∷◌, Option, Some, None, slice_get}
 use Rattle.std.specs.Prelude.{slice_set, option_and_then, option_map, length, map, nat_lt, ◌==◌, if◌then◌else◌}
-use Rattle.fip_language.specs.declared.Operator.{Operator}
-use Rattle.fip_language.specs.declared.TrapKind.{TrapKind}
-use Rattle.fip_language.specs.Table.{Table}
-use Rattle.fip_language.specs.Matching.{same_int}
-use Rattle.fip_language.specs.Arithmetic.{Operated, Is, Fails, operate}
-use Rattle.fip_language.specs.Store.{Cell, int_word, places}
+use Rattle.cell_code.specs.fip_language.declared.Operator.{Operator}
+use Rattle.cell_code.specs.fip_language.declared.TrapKind.{TrapKind}
+use Rattle.cell_code.specs.fip_language.Table.{Table}
+use Rattle.cell_code.specs.fip_language.Matching.{same_int}
+use Rattle.cell_code.specs.fip_language.Arithmetic.{Operated, Is, Fails, operate}
+use Rattle.cell_code.specs.fip_language.Store.{Cell, int_word, places}
 use Rattle.cell_code.specs.declared.code.Instr.{Instr}
 use Rattle.cell_code.specs.declared.code.Instr.TheVariants as I
 use Rattle.cell_code.specs.declared.kind.Kind.{Kind}

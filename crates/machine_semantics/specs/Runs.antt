@@ -6,9 +6,9 @@
 -- a value, and no call is left. With 2 calls it is out of calls after 8.
 use Rattle.std.specs.Prelude.{◌≡◌, ℕ, zero, suc, Bool, true, false, ◌&&◌, not, List, [], ◌∷◌, Option, Some, None}
 use Rattle.std.specs.Prelude.{if◌then◌else◌}
-use Rattle.fip_language.specs.declared.TrapKind.{TrapKind}
-use Rattle.fip_language.specs.Table.{Table, is_scalar}
-use Rattle.fip_base.specs.declared.plain.Param.{Param}
+use Rattle.cell_code.specs.fip_language.declared.TrapKind.{TrapKind}
+use Rattle.cell_code.specs.fip_language.Table.{Table, is_scalar}
+use Rattle.cell_code.specs.fip_base.declared.plain.Param.{Param}
 use Rattle.machine_semantics.specs.Codes.{PlainFunction, PlainCode, function_at}
 use Rattle.machine_semantics.specs.Cells.{Store}
 use Rattle.machine_semantics.specs.States.{Typed, State, Next, Went, Entered, Gave, Trapped, TooDeep, Stuck}

@@ -3,7 +3,7 @@
 -- rev of Cons(1, Cons(2, Nil)) and Nil begins with two cells, a frame at instruction 0 with 7 registers of which the
 -- first two hold the words 3 and 0, none that waits, and none that is free; no argument is lent.
 use Rattle.std.specs.Prelude.{ℕ, ◌+◌, List, ◌∷◌, length, map, sum}
-use Rattle.fip_language.specs.declared.TrapKind.{TrapKind}
+use Rattle.cell_code.specs.fip_language.declared.TrapKind.{TrapKind}
 use Rattle.machine_semantics.specs.Limits.{frame_words}
 use Rattle.machine_semantics.specs.Cells.{Store}
 

@@ -7,7 +7,7 @@
 -- has 1, 3, 0, 0, 0, 0, 0.
 use Rattle.std.specs.Prelude.{ℕ, zero, suc, ◌+◌, ◌-◌, List, [], ◌∷◌, ◌++◌, Option, Some, None, length, replicate}
 use Rattle.std.specs.Prelude.{slice_get, option_and_then}
-use Rattle.fip_language.specs.declared.TrapKind.{TrapKind}
+use Rattle.cell_code.specs.fip_language.declared.TrapKind.{TrapKind}
 use Rattle.cell_code.specs.declared.code.Instr.{Instr}
 use Rattle.cell_code.specs.declared.code.Instr.TheVariants as I
 use Rattle.cell_code.specs.declared.kind.Kind.{Kind}

@@ -5,10 +5,10 @@
 use Rattle.std.specs.Prelude.{◌≡◌, ℕ, zero, suc, ◌/◌, ◌^◌, Bool, true, false, List, [], ◌∷◌, Option, Some, None}
 use Rattle.std.specs.Prelude.{length, nat_lt, slice_get, option_and_then, option_map, FitsSigned}
 use Rattle.std.specs.Int.{w64}
-use Rattle.fip_language.specs.Values.{Value}
-use Rattle.fip_language.specs.Table.{Shape, Table, shapes}
-use Rattle.fip_language.specs.Store.{Cell, Placed, PlacedInt, Bare, At, Parts, NoParts, MoreParts, value_of, word_of}
-use Rattle.fip_language.specs.Store.{words_of, places}
+use Rattle.cell_code.specs.fip_language.Values.{Value}
+use Rattle.cell_code.specs.fip_language.Table.{Shape, Table, shapes}
+use Rattle.cell_code.specs.fip_language.Store.{Cell, Placed, PlacedInt, Bare, At, Parts, NoParts, MoreParts, value_of, word_of}
+use Rattle.cell_code.specs.fip_language.Store.{words_of, places}
 use Rattle.machine_semantics.specs.Words.{is_place, int_of}
 use Rattle.machine_semantics.specs.Cells.{Store, cell_at}
 

@@ -4,8 +4,8 @@
 -- The word 3 is the cell at place 1 where its type has cells, and the int 3 where its type is int.
 use Rattle.std.specs.Prelude.{ℕ, suc, ◌+◌, ◌-◌, ◌*◌, ◌/◌, ◌%◌, ◌^◌, ℤ, pos, negsuc, Bool, true, false}
 use Rattle.std.specs.Prelude.{Option, Some, None, nat_eq, nat_lt, if◌then◌else◌}
-use Rattle.fip_language.specs.Values.{Value, Int, Node}
-use Rattle.fip_language.specs.Store.{int_word}
+use Rattle.cell_code.specs.fip_language.Values.{Value, Int, Node}
+use Rattle.cell_code.specs.fip_language.Store.{int_word}
 
 -- the word of the constructor c without fields
 abbrev pub atom_word : ℕ → ℕ

@@ -1,8 +1,8 @@
 // The laws of the definitions. Each is the contract of a function that does nothing.
 ghost use Rattle.std.specs.Prelude.{◌≡◌, ℕ, ◌≤◌, [], ◌∷◌, Some};
-ghost use Rattle.fip_language.specs.Table.{Table};
-ghost use Rattle.fip_language.specs.Store.{Placed};
-ghost use Rattle.fip_language.specs.Gauge.{lowest, highest, highest_frames, highest_words};
+ghost use Rattle.cell_code.specs.fip_language.Table.{Table};
+ghost use Rattle.cell_code.specs.fip_language.Store.{Placed};
+ghost use Rattle.cell_code.specs.fip_language.Gauge.{lowest, highest, highest_frames, highest_words};
 ghost use Rattle.machine_semantics.specs.Codes.{PlainCode};
 ghost use Rattle.machine_semantics.specs.Cells.{Store, Release};
 ghost use Rattle.machine_semantics.specs.Trees.{IsTree, tree_of};

@@ -6,11 +6,11 @@ use Rattle.cell_code.specs.declared.code.Function.{Function}
 use Rattle.cell_code.specs.declared.code.Instr.{Instr}
 use Rattle.cell_code.specs.declared.code.Instr.TheVariants as I
 use Rattle.code_verify.specs.Checked.{Checked}
-use Rattle.machine_semantics.specs.Codes.{PlainFunction, PlainCode, plain_function, instr_at}
-use Rattle.machine_semantics.specs.Cells.{Store}
-use Rattle.machine_semantics.specs.States.{Typed, Frame, State}
-use Rattle.machine_semantics.specs.Rows.{write, write_all}
-use Rattle.machine_semantics.specs.Steps.{first_words, first_frame, called_with, called, replaced, destinations_in, resumed, returned}
+use Rattle.machine_frames.specs.machine_semantics.Codes.{PlainFunction, PlainCode, plain_function, instr_at}
+use Rattle.machine_frames.specs.machine_semantics.Cells.{Store}
+use Rattle.machine_frames.specs.machine_semantics.States.{Typed, Frame, State}
+use Rattle.machine_frames.specs.machine_semantics.Rows.{write, write_all}
+use Rattle.machine_frames.specs.machine_semantics.Steps.{first_words, first_frame, called_with, called, replaced, destinations_in, resumed, returned}
 use Rattle.machine_frames.specs.View.{registers_of, frame_at, waiting_in}
 use Rattle.machine_frames.proofs.Viewed.{waiting_at}
 use Rattle.machine_step.specs.declared.cursor.Bounds.{Bounds}

@@ -7,11 +7,11 @@ use Rattle.cell_code.specs.declared.code.Instr.{Instr}
 use Rattle.cell_code.specs.declared.kind.Kind.{Kind}
 use Rattle.cell_store.specs.Cells.{Cells}
 use Rattle.code_verify.specs.Checked.{Checked}
-use Rattle.machine_semantics.specs.Codes.{PlainCode, plain, instr_at, instr_in}
-use Rattle.machine_semantics.specs.Cells.{Store}
-use Rattle.machine_semantics.specs.Rows.{constructor_of}
-use Rattle.machine_semantics.specs.States.{Typed, State, Next}
-use Rattle.machine_semantics.specs.Steps.{Kinds, act, act_at, next}
+use Rattle.machine_frames.specs.machine_semantics.Codes.{PlainCode, plain, instr_at, instr_in}
+use Rattle.machine_frames.specs.machine_semantics.Cells.{Store}
+use Rattle.machine_frames.specs.machine_semantics.Rows.{constructor_of}
+use Rattle.machine_frames.specs.machine_semantics.States.{Typed, State, Next}
+use Rattle.machine_frames.specs.machine_semantics.Steps.{Kinds, act, act_at, next}
 use Rattle.machine_frames.proofs.Viewed.{frame_get}
 use Rattle.machine_cells.specs.Outcomes.{truth_word}
 use Rattle.machine_step.specs.declared.cursor.Bounds.{Bounds}

@@ -13,12 +13,12 @@ use Rattle.cell_code.specs.declared.code.Instr.{Instr}
 use Rattle.cell_code.specs.declared.kind.Kind.{Kind}
 use Rattle.cell_code.specs.Runnable.{AreBelow}
 use Rattle.cell_store.specs.Cells.{Cells, cell_at, size_in}
-use Rattle.machine_semantics.specs.Codes.{PlainCode}
-use Rattle.machine_semantics.specs.Words.{scalar_word, int_of, is_place}
-use Rattle.machine_semantics.specs.Cells.{Store, cell_in}
-use Rattle.machine_semantics.specs.Rows.{constructor_if, constructor_of}
-use Rattle.machine_semantics.specs.States.{State}
-use Rattle.machine_semantics.specs.Steps.{act, first_words}
+use Rattle.machine_frames.specs.machine_semantics.Codes.{PlainCode}
+use Rattle.machine_frames.specs.machine_semantics.Words.{scalar_word, int_of, is_place}
+use Rattle.machine_frames.specs.machine_semantics.Cells.{Store, cell_in}
+use Rattle.machine_frames.specs.machine_semantics.Rows.{constructor_if, constructor_of}
+use Rattle.machine_frames.specs.machine_semantics.States.{State}
+use Rattle.machine_frames.specs.machine_semantics.Steps.{act, first_words}
 use Rattle.machine_frames.specs.Keeping.{Keeps, Clears}
 use Rattle.machine_frames.specs.Words.{words_from, laid_at}
 use Rattle.machine_frames.specs.View.{frame_at}

@@ -9,3 +9,4 @@ pub mod Goings
 pub mod Highs
 pub mod Turns
 pub mod Tellings
+pub use Rattle.machine_frames.proofs as machine_frames

@@ -6,11 +6,11 @@ use Rattle.std.proofs.lemmas.List.{take-set-le}
 use Rattle.fip_language.specs.declared.TrapKind.{TrapKind}
 use Rattle.fip_language.specs.Arithmetic.{Operated, Is, Fails}
 use Rattle.code_verify.specs.Checked.{Checked}
-use Rattle.machine_semantics.specs.Words.{scalar_word, is_place, half_if, place_of}
-use Rattle.machine_semantics.specs.Cells.{Store, Change, changed_by}
-use Rattle.machine_semantics.specs.States.{Typed, State}
-use Rattle.machine_semantics.specs.Rows.{on, on_with, branch, calculated, trap, write}
-use Rattle.machine_semantics.specs.Steps.{went, went_with, trapped}
+use Rattle.machine_frames.specs.machine_semantics.Words.{scalar_word, is_place, half_if, place_of}
+use Rattle.machine_frames.specs.machine_semantics.Cells.{Store, Change, changed_by}
+use Rattle.machine_frames.specs.machine_semantics.States.{Typed, State}
+use Rattle.machine_frames.specs.machine_semantics.Rows.{on, on_with, branch, calculated, trap, write}
+use Rattle.machine_frames.specs.machine_semantics.Steps.{went, went_with, trapped}
 use Rattle.machine_frames.specs.Keeping.{Keeps}
 use Rattle.machine_frames.specs.View.{waiting_in}
 use Rattle.machine_frames.proofs.Viewed.{kept, frame_set, write_one}

@@ -13,13 +13,13 @@ use Rattle.cell_code.specs.declared.code.Instr.TheVariants as I
 use Rattle.cell_code.specs.declared.kind.Kind.{Kind}
 use Rattle.cell_code.specs.Runnable.{AreBelow}
 use Rattle.code_verify.specs.Checked.{Checked}
-use Rattle.machine_semantics.specs.Codes.{plain}
-use Rattle.machine_semantics.specs.Words.{scalar_word, int_of, is_place, place_of, half_if}
-use Rattle.machine_semantics.specs.Cells.{Store, Change, Write, Release, cell_in, written, changed, changed_by}
-use Rattle.machine_semantics.specs.Trees.{tree_of}
-use Rattle.machine_semantics.specs.States.{Typed, State}
-use Rattle.machine_semantics.specs.Rows.{named, cell_if, constructor_of, operated, owned_type, dropped, read_all, write, write_all}
-use Rattle.machine_semantics.specs.Steps.{act}
+use Rattle.machine_frames.specs.machine_semantics.Codes.{plain}
+use Rattle.machine_frames.specs.machine_semantics.Words.{scalar_word, int_of, is_place, place_of, half_if}
+use Rattle.machine_frames.specs.machine_semantics.Cells.{Store, Change, Write, Release, cell_in, written, changed, changed_by}
+use Rattle.machine_frames.specs.machine_semantics.Trees.{tree_of}
+use Rattle.machine_frames.specs.machine_semantics.States.{Typed, State}
+use Rattle.machine_frames.specs.machine_semantics.Rows.{named, cell_if, constructor_of, operated, owned_type, dropped, read_all, write, write_all}
+use Rattle.machine_frames.specs.machine_semantics.Steps.{act}
 use Rattle.machine_frames.specs.Keeping.{Keeps}
 use Rattle.machine_frames.specs.Words.{words_from, put_words}
 use Rattle.machine_frames.proofs.Laid.{words_long}

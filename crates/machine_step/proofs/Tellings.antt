@@ -7,13 +7,13 @@ use Rattle.cell_code.specs.declared.code.Instr.{Instr}
 use Rattle.cell_code.specs.declared.code.Instr.TheVariants as I
 use Rattle.cell_code.specs.declared.kind.Kind.{Kind}
 use Rattle.cell_store.specs.Told.{Told, Released}
-use Rattle.machine_semantics.specs.Codes.{PlainCode}
-use Rattle.machine_semantics.specs.Cells.{Store, Change, Release, changed_by}
-use Rattle.machine_semantics.specs.States.{State, Next, Went, Entered, Gave, Trapped, TooDeep, Stuck}
-use Rattle.machine_semantics.specs.Rows.{on, on_with, branch, calculated, operated, write, done}
-use Rattle.machine_semantics.specs.Words.{scalar_word}
-use Rattle.machine_semantics.specs.Steps.{act, changes_in, went_with, went}
-use Rattle.machine_semantics.specs.Traces.{done_changes}
+use Rattle.machine_frames.specs.machine_semantics.Codes.{PlainCode}
+use Rattle.machine_frames.specs.machine_semantics.Cells.{Store, Change, Release, changed_by}
+use Rattle.machine_frames.specs.machine_semantics.States.{State, Next, Went, Entered, Gave, Trapped, TooDeep, Stuck}
+use Rattle.machine_frames.specs.machine_semantics.Rows.{on, on_with, branch, calculated, operated, write, done}
+use Rattle.machine_frames.specs.machine_semantics.Words.{scalar_word}
+use Rattle.machine_frames.specs.machine_semantics.Steps.{act, changes_in, went_with, went}
+use Rattle.machine_frames.specs.machine_semantics.Traces.{done_changes}
 use Rattle.machine_cells.specs.Telling.{as_told}
 use Rattle.machine_step.specs.Telling.{IsKnown, act_tells, changes_cells}
 

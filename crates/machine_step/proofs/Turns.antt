@@ -10,11 +10,11 @@ use Rattle.cell_code.specs.declared.code.Instr.TheVariants as I
 use Rattle.cell_code.specs.Runnable.{AreBelow, AreOthers}
 use Rattle.cell_store.specs.Cells.{Cells, cell_at}
 use Rattle.code_verify.specs.Checked.{Checked}
-use Rattle.machine_semantics.specs.Codes.{plain}
-use Rattle.machine_semantics.specs.Cells.{Store}
-use Rattle.machine_semantics.specs.Rows.{constructor_of}
-use Rattle.machine_semantics.specs.States.{Typed, State}
-use Rattle.machine_semantics.specs.Steps.{Kinds}
+use Rattle.machine_frames.specs.machine_semantics.Codes.{plain}
+use Rattle.machine_frames.specs.machine_semantics.Cells.{Store}
+use Rattle.machine_frames.specs.machine_semantics.Rows.{constructor_of}
+use Rattle.machine_frames.specs.machine_semantics.States.{Typed, State}
+use Rattle.machine_frames.specs.machine_semantics.Steps.{Kinds}
 use Rattle.machine_frames.specs.Keeping.{Keeps}
 use Rattle.machine_frames.specs.Words.{words_from, put_words}
 use Rattle.machine_frames.proofs.Laid.{put_other}

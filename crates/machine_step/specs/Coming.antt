@@ -4,13 +4,13 @@ use Rattle.std.specs.Prelude.{◌≡◌, ℕ, List, Some, slice_get}
 use Rattle.cell_code.specs.declared.code.Instr.{Instr}
 use Rattle.cell_code.specs.declared.code.Instr.TheVariants as I
 use Rattle.cell_code.specs.declared.kind.Kind.{Kind}
-use Rattle.code_rules.specs.Codes as V
+use Rattle.code_verify.specs.code_rules.Codes as V
 use Rattle.code_verify.specs.Checked.{Checked, ReleasesAt}
-use Rattle.machine_semantics.specs.Codes.{plain, instr_at}
-use Rattle.machine_semantics.specs.Cells.{Store}
-use Rattle.machine_semantics.specs.States.{Typed, State, Next, Went, Entered, Gave, Trapped, TooDeep, Stuck}
-use Rattle.machine_semantics.specs.Rows.{owned_type}
-use Rattle.machine_semantics.specs.Steps.{Kinds, act, next}
+use Rattle.machine_frames.specs.machine_semantics.Codes.{plain, instr_at}
+use Rattle.machine_frames.specs.machine_semantics.Cells.{Store}
+use Rattle.machine_frames.specs.machine_semantics.States.{Typed, State, Next, Went, Entered, Gave, Trapped, TooDeep, Stuck}
+use Rattle.machine_frames.specs.machine_semantics.Rows.{owned_type}
+use Rattle.machine_frames.specs.machine_semantics.Steps.{Kinds, act, next}
 use Rattle.machine_step.specs.declared.cursor.Bounds.{Bounds}
 use Rattle.machine_step.specs.declared.cursor.Cursor.{Cursor}
 use Rattle.machine_step.specs.declared.rows.Stepped.{Stepped}

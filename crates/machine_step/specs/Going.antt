@@ -7,10 +7,10 @@ use Rattle.cell_code.specs.declared.code.Instr.{Instr}
 use Rattle.cell_code.specs.declared.kind.Kind.{Kind}
 use Rattle.cell_store.specs.Cells.{Cells, cell_at}
 use Rattle.code_verify.specs.Checked.{Checked}
-use Rattle.machine_semantics.specs.Codes.{PlainCode, plain}
-use Rattle.machine_semantics.specs.Cells.{Store}
-use Rattle.machine_semantics.specs.States.{Typed, State, Next}
-use Rattle.machine_semantics.specs.Steps.{Kinds, act, next}
+use Rattle.machine_frames.specs.machine_semantics.Codes.{PlainCode, plain}
+use Rattle.machine_frames.specs.machine_semantics.Cells.{Store}
+use Rattle.machine_frames.specs.machine_semantics.States.{Typed, State, Next}
+use Rattle.machine_frames.specs.machine_semantics.Steps.{Kinds, act, next}
 use Rattle.machine_cells.specs.Small.{IsSmall}
 use Rattle.machine_step.specs.declared.cursor.Bounds.{Bounds}
 use Rattle.machine_step.specs.declared.cursor.Cursor.{Cursor}

@@ -5,3 +5,5 @@ pub mod Highest
 pub mod Coming
 pub mod Going
 pub mod Telling
+pub use Rattle.code_verify.specs as code_verify
+pub use Rattle.machine_frames.specs as machine_frames

@@ -5,11 +5,11 @@ use Rattle.cell_code.specs.declared.code.Instr.{Instr}
 use Rattle.cell_code.specs.declared.code.Instr.TheVariants as I
 use Rattle.cell_code.specs.declared.kind.Kind.{Kind}
 use Rattle.cell_store.specs.Told.{Told}
-use Rattle.machine_semantics.specs.Codes.{PlainCode}
-use Rattle.machine_semantics.specs.States.{State, Next, Went, Entered, Gave, Trapped, TooDeep, Stuck}
-use Rattle.machine_semantics.specs.Rows.{done}
-use Rattle.machine_semantics.specs.Steps.{Kinds, act, next, changes_in, changes_of}
-use Rattle.machine_semantics.specs.Traces.{done_changes}
+use Rattle.machine_frames.specs.machine_semantics.Codes.{PlainCode}
+use Rattle.machine_frames.specs.machine_semantics.States.{State, Next, Went, Entered, Gave, Trapped, TooDeep, Stuck}
+use Rattle.machine_frames.specs.machine_semantics.Rows.{done}
+use Rattle.machine_frames.specs.machine_semantics.Steps.{Kinds, act, next, changes_in, changes_of}
+use Rattle.machine_frames.specs.machine_semantics.Traces.{done_changes}
 use Rattle.machine_cells.specs.Telling.{as_told}
 
 -- Something comes.

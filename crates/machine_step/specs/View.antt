@@ -2,8 +2,8 @@
 -- not kept; a state has them, so they are given.
 use Rattle.std.specs.Prelude.{ℕ, ◌-◌, List, take}
 use Rattle.code_verify.specs.Checked.{Checked}
-use Rattle.machine_semantics.specs.Cells.{Store}
-use Rattle.machine_semantics.specs.States.{Typed, State}
+use Rattle.machine_frames.specs.machine_semantics.Cells.{Store}
+use Rattle.machine_frames.specs.machine_semantics.States.{Typed, State}
 use Rattle.machine_frames.specs.View.{frame_at, waiting_in}
 use Rattle.machine_step.specs.declared.cursor.Bounds.{Bounds}
 use Rattle.machine_step.specs.declared.cursor.Cursor.{Cursor}

@@ -4,5 +4,6 @@
 mod cursor;
 mod rows;
 
+pub use code_verify as verifier;
 pub use cursor::{Bounds, Cursor, Highest};
 pub use rows::{Beside, Stepped, advance, function_at};

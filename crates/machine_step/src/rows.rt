@@ -11,14 +11,14 @@ ghost use Rattle.cell_store.specs.Cells.{cell_at, size_in};
 ghost use Rattle.cell_store.specs.Told.{Told, Released};
 ghost use Rattle.cell_code.specs.Runnable.{AreBelow, CanCall, Covers, Row, IsSafe, IsRunnable, body_of};
 ghost use Rattle.cell_code.specs.declared.kind.Kind.{Kind};
-ghost use Rattle.code_rules.specs.Codes as V;
+ghost use Rattle.code_verify.specs.code_rules.Codes as V;
 ghost use Rattle.code_verify.specs.Checked.{ReleasesAt};
-ghost use Rattle.machine_semantics.specs.Cells.{Store, Release, changed_by};
-ghost use Rattle.machine_semantics.specs.Trees.{tree_of};
-ghost use Rattle.machine_semantics.specs.Words.{int_of};
-ghost use Rattle.machine_semantics.specs.States.{Typed};
-ghost use Rattle.machine_semantics.specs.Codes.{plain};
-ghost use Rattle.machine_semantics.specs.Steps.{Kinds, act, next};
+ghost use Rattle.machine_frames.specs.machine_semantics.Cells.{Store, Release, changed_by};
+ghost use Rattle.machine_frames.specs.machine_semantics.Trees.{tree_of};
+ghost use Rattle.machine_frames.specs.machine_semantics.Words.{int_of};
+ghost use Rattle.machine_frames.specs.machine_semantics.States.{Typed};
+ghost use Rattle.machine_frames.specs.machine_semantics.Codes.{plain};
+ghost use Rattle.machine_frames.specs.machine_semantics.Steps.{Kinds, act, next};
 ghost use Rattle.machine_frames.specs.Keeping.{Keeps};
 ghost use Rattle.machine_frames.specs.Words.{words_from, put_words};
 ghost use Rattle.machine_cells.specs.Outcomes.{truth_word};
@@ -37,11 +37,11 @@ use cell_store::Cells;
 use code_verify::Verified;
 use fip_base::plain::{Operator, TrapKind};
 use fip_language::limits::MOST_RESULTS;
-use machine_frames::{clear, give, pass, put, replace, take};
-use machine_cells::{Outcome, bool_word, outcome_of};
 use machine_cells::{
-    SIZES, cell_of, field_cell_of, has_size, release_cell, release_tree, sized_cell_of,
+    Outcome, SIZES, bool_word, cell_of, field_cell_of, has_size, outcome_of, release_cell,
+    release_tree, sized_cell_of,
 };
+use machine_frames::{clear, give, pass, put, replace, take};
 
 /// What a step came to.
 #[derive(Clone, Copy, PartialEq, Eq)]

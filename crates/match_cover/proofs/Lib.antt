@@ -16,3 +16,4 @@ pub mod MissingWalk
 pub mod PatternTexts
 pub mod CoverExamples
 pub mod CoverSteps
+pub use Rattle.fip_language.proofs as fip_language

@@ -12,3 +12,7 @@ pub mod PatternText
 pub mod Coverage
 pub mod Answers
 pub mod Gathered
+pub use Rattle.fip_base.specs as fip_base
+pub use Rattle.fip_language.specs as fip_language
+pub use Rattle.fip_trees.specs as fip_trees
+pub use Rattle.match_knowledge.specs as match_knowledge

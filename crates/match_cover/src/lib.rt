@@ -3,12 +3,12 @@
 #![tactic(auto)]
 
 mod coverage;
-pub mod theorems;
 mod matches;
 mod missing;
 mod numbers;
 mod patterns;
 mod shapes;
+pub mod theorems;
 mod trees;
 
 pub use coverage::cover;

@@ -6,7 +6,7 @@ use Rattle.match_knowledge.specs.declared.verdicts.Verdict.TheVariants.{Fits, As
 use Rattle.match_knowledge.specs.declared.unmatched.Choice.{Choice}
 use Rattle.match_knowledge.specs.declared.unmatched.Choice.TheVariants.{Nothing}
 use Rattle.match_knowledge.specs.declared.verdicts.Verdict.{Verdict}
-use Rattle.fip_language.specs.Table.{Table}
+use Rattle.fip_base.specs.fip_language.Table.{Table}
 use Rattle.match_knowledge.specs.ValueHeads.{IsTidy}
 use Rattle.match_knowledge.specs.Patterns.{Pattern, AreRows}
 use Rattle.match_knowledge.specs.Known.{Known, compare, side, is_last, row_tests}

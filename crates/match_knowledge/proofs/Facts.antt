@@ -4,9 +4,9 @@ use Rattle.std.specs.Prelude.{◌&&◌, not, ℤ, pos, negsuc}
 use Rattle.std.proofs.lemmas.Bool.{eqb-true, eq-eqb}
 use Rattle.match_knowledge.specs.declared.heads.Head.{Head}
 use Rattle.match_knowledge.specs.declared.heads.Head.TheVariants.{Number, Tag}
-use Rattle.fip_language.specs.Values.{Value, Int, Node, Values, End, More}
-use Rattle.fip_language.specs.Table.{Shape, Table, HasType, HaveTypes}
-use Rattle.fip_language.specs.Matching.{same_int}
+use Rattle.fip_base.specs.fip_language.Values.{Value, Int, Node, Values, End, More}
+use Rattle.fip_base.specs.fip_language.Table.{Shape, Table, HasType, HaveTypes}
+use Rattle.fip_base.specs.fip_language.Matching.{same_int}
 use Rattle.match_knowledge.specs.ValueHeads.{head, children, same_head, IsHead}
 
 pub same_int_is : (a b : ℤ) → same_int a b ≡ true → a ≡ b

@@ -5,8 +5,8 @@ use Rattle.std.proofs.lemmas.Option.{slice_get_within}
 use Rattle.match_knowledge.specs.declared.heads.Head.{Head}
 use Rattle.match_knowledge.specs.declared.heads.Head.TheVariants.{Number, Tag}
 use Rattle.match_knowledge.specs.declared.verdicts.Verdict.TheVariants.{Asks}
-use Rattle.fip_language.specs.Values.{Value, Int, Node, Values, End, More}
-use Rattle.fip_language.specs.Table.{Shape, Table, shapes, HasType, HaveTypes}
+use Rattle.fip_base.specs.fip_language.Values.{Value, Int, Node, Values, End, More}
+use Rattle.fip_base.specs.fip_language.Table.{Shape, Table, shapes, HasType, HaveTypes}
 use Rattle.match_knowledge.specs.ValueHeads.{AllHaveValues, IsTidy, head, children, same_head, IsHead}
 use Rattle.match_knowledge.specs.Patterns.{Pattern, Any, Test, Patterns, NoPatterns, MorePatterns, IsPattern, ArePatterns}
 use Rattle.match_knowledge.specs.Known.{Known, Open, Is, Knowns, NoKnowns, MoreKnowns, is_in, agrees, agree_all, compare, compare_all, is_asks, opens, settle, side, side_all, all_out, none_left, is_last, are_last, Alive, AllAlive}

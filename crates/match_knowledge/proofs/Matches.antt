@@ -2,8 +2,8 @@
 use Rattle.std.proofs.Common.{◌≡◌, ℕ, List, [], ◌∷◌, Bool, true, refl, sym, subst, arith}
 use Rattle.std.specs.Prelude.{if◌then◌else◌}
 use Rattle.match_knowledge.specs.declared.verdicts.Verdict.TheVariants.{Fits, Misses}
-use Rattle.fip_language.specs.Values.{Value, Values, End, More}
-use Rattle.fip_language.specs.Table.{Table, HasType}
+use Rattle.fip_base.specs.fip_language.Values.{Value, Values, End, More}
+use Rattle.fip_base.specs.fip_language.Table.{Table, HasType}
 use Rattle.match_knowledge.specs.ValueHeads.{IsTidy, AllHaveValues, head, children, same_head}
 use Rattle.match_knowledge.specs.Patterns.{Pattern, Any, Test, Patterns, NoPatterns, MorePatterns, fits, fit_all, IsPattern, ArePatterns}
 use Rattle.match_knowledge.specs.Known.{Known, Open, agrees, agree_all, both, compare, compare_all, Alive, AllAlive}

@@ -5,8 +5,8 @@ use Rattle.match_knowledge.specs.declared.verdicts.Verdict.{Verdict}
 use Rattle.match_knowledge.specs.declared.verdicts.Verdict.TheVariants.{Fits, Misses, Asks}
 use Rattle.match_knowledge.specs.declared.unmatched.Choice.{Choice}
 use Rattle.match_knowledge.specs.declared.unmatched.Choice.TheVariants.{Covered, Nothing, Ask}
-use Rattle.fip_language.specs.Values.{Value}
-use Rattle.fip_language.specs.Table.{Table}
+use Rattle.fip_base.specs.fip_language.Values.{Value}
+use Rattle.fip_base.specs.fip_language.Table.{Table}
 use Rattle.match_knowledge.specs.ValueHeads.{IsTidy}
 use Rattle.match_knowledge.specs.Patterns.{Pattern, fits, some_fits, IsPattern, AreRows}
 use Rattle.match_knowledge.specs.Known.{Known, agrees, compare, side, has_asked, is_last}

@@ -5,7 +5,7 @@ use Rattle.match_knowledge.specs.declared.heads.Head.{Head}
 use Rattle.match_knowledge.specs.declared.heads.Head.TheVariants.{Tag}
 use Rattle.match_knowledge.specs.declared.rows.Row.{Row}
 use Rattle.match_knowledge.specs.declared.knowledge.Knowledge.{Knowledge}
-use Rattle.fip_language.specs.Table.{Table, shapes, constructors}
+use Rattle.fip_base.specs.fip_language.Table.{Table, shapes, constructors}
 use Rattle.match_knowledge.specs.Patterns.{Pattern, Patterns, NoPatterns, MorePatterns}
 use Rattle.match_knowledge.specs.Known.{Known, Open, opens, are_last, Knowns, NoKnowns, MoreKnowns, compare, is_asks, side, side_all, is_in, all_out}
 use Rattle.match_knowledge.specs.Left.{known_of, all_known}

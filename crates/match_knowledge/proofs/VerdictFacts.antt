@@ -4,8 +4,8 @@ use Rattle.std.specs.Prelude.{◌&&◌, if◌then◌else◌}
 use Rattle.match_knowledge.specs.declared.heads.Head.{Head}
 use Rattle.match_knowledge.specs.declared.verdicts.Verdict.{Verdict}
 use Rattle.match_knowledge.specs.declared.verdicts.Verdict.TheVariants.{Fits, Misses, Asks}
-use Rattle.fip_language.specs.Values.{Value, Values, End, More}
-use Rattle.fip_language.specs.Table.{Table, HasType, HaveTypes}
+use Rattle.fip_base.specs.fip_language.Values.{Value, Values, End, More}
+use Rattle.fip_base.specs.fip_language.Table.{Table, HasType, HaveTypes}
 use Rattle.match_knowledge.specs.ValueHeads.{head, children, same_head, IsHead}
 use Rattle.match_knowledge.specs.Patterns.{Pattern, Any, Test, Patterns, NoPatterns, MorePatterns, fits, fit_all, IsPattern, ArePatterns}
 use Rattle.match_knowledge.specs.Known.{Known, Open, Is, Knowns, NoKnowns, MoreKnowns, is_in, agrees, agree_all, both, compare, compare_all, Alive, AllAlive}

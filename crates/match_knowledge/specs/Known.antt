@@ -5,8 +5,8 @@ use Rattle.match_knowledge.specs.declared.heads.Head.{Head}
 use Rattle.match_knowledge.specs.declared.heads.Head.TheVariants.{Tag}
 use Rattle.match_knowledge.specs.declared.verdicts.Verdict.{Verdict}
 use Rattle.match_knowledge.specs.declared.verdicts.Verdict.TheVariants.{Fits, Misses, Asks}
-use Rattle.fip_language.specs.Values.{Value, Values, End, More}
-use Rattle.fip_language.specs.Table.{Table, HasType, constructors}
+use Rattle.fip_base.specs.fip_language.Values.{Value, Values, End, More}
+use Rattle.fip_base.specs.fip_language.Table.{Table, HasType, constructors}
 use Rattle.match_knowledge.specs.ValueHeads.{head, children, same_head, IsHead}
 use Rattle.match_knowledge.specs.Patterns.{Pattern, Any, Test, Patterns, NoPatterns, MorePatterns, nodes_all}
 

@@ -1,8 +1,8 @@
 -- The values that no row matches.
 use Rattle.std.specs.Prelude.{◌≡◌, ℕ, ◌+◌, ◌<◌, ◌^◌, nat_lt, if◌then◌else◌, Bool, true, false}
 use Rattle.std.specs.Prelude.{List, [], ◌∷◌, Some, slice_get}
-use Rattle.fip_language.specs.Values.{Value}
-use Rattle.fip_language.specs.Table.{Table, HasType}
+use Rattle.fip_base.specs.fip_language.Values.{Value}
+use Rattle.fip_base.specs.fip_language.Table.{Table, HasType}
 use Rattle.match_knowledge.specs.ValueHeads.{IsTidy}
 use Rattle.match_knowledge.specs.Patterns.{Pattern, Any, Test, Patterns, NoPatterns, MorePatterns}
 use Rattle.match_knowledge.specs.Patterns.{fits, some_fits, IsPattern, AreRows, row_nodes}

@@ -1,8 +1,8 @@
 -- Patterns without names: anything, or a head with patterns for the children. A literal is a head without children.
 use Rattle.std.specs.Prelude.{◌≡◌, ℕ, suc, ◌+◌, Bool, true, false, ◌&&◌, if◌then◌else◌, List, [], ◌∷◌}
 use Rattle.match_knowledge.specs.declared.heads.Head.{Head}
-use Rattle.fip_language.specs.Values.{Value, Values, End, More}
-use Rattle.fip_language.specs.Table.{Table}
+use Rattle.fip_base.specs.fip_language.Values.{Value, Values, End, More}
+use Rattle.fip_base.specs.fip_language.Table.{Table}
 use Rattle.match_knowledge.specs.ValueHeads.{head, children, same_head, IsHead}
 
 mutual

@@ -1,9 +1,9 @@
 -- What a value is at its root: an int or the number of a constructor, with children. So ints and nodes are one case.
 use Rattle.std.specs.Prelude.{◌≡◌, ℕ, zero, suc, Bool, false, ◌==◌, List, [], ◌∷◌, Some, slice_get, FitsSigned}
 use Rattle.std.specs.Int.{w64}
-use Rattle.fip_language.specs.Values.{Value, Int, Node, Values, End}
-use Rattle.fip_language.specs.Table.{Shape, Table, shapes, HasType}
-use Rattle.fip_language.specs.Matching.{same_int}
+use Rattle.fip_base.specs.fip_language.Values.{Value, Int, Node, Values, End}
+use Rattle.fip_base.specs.fip_language.Table.{Shape, Table, shapes, HasType}
+use Rattle.fip_base.specs.fip_language.Matching.{same_int}
 use Rattle.match_knowledge.specs.declared.heads.Head.{Head}
 use Rattle.match_knowledge.specs.declared.heads.Head.TheVariants.{Number, Tag}
 

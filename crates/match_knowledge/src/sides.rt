@@ -1,6 +1,6 @@
 // The two sides of a pattern's first open test.
 ghost use Rattle.std.specs.Prelude.{◌≡◌, ◌∷◌, ◌||◌, length, drop, IfOk};
-ghost use Rattle.fip_language.specs.Table.{constructors};
+ghost use Rattle.fip_base.specs.fip_language.Table.{constructors};
 ghost use Rattle.match_knowledge.specs.Known.{opens, settle, side, side_all};
 ghost use Rattle.match_knowledge.specs.Known.{is_in, all_out, none_left, is_last, are_last};
 ghost use Rattle.match_knowledge.specs.View.{row, parts, known, knowns, asks_first, side_first};

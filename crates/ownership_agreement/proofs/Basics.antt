@@ -2,8 +2,8 @@
 use Rattle.std.proofs.Common.{◌≡◌, ℕ, zero, suc, ◌+◌, ◌<◌, ◌≤◌, refl, ap, ◌∙◌, List, [], ◌∷◌, ◌++◌, Bool, true, false, arith}
 use Rattle.std.specs.Prelude.{max, min, ◌==◌, ◌||◌, ◌&&◌, if◌then◌else◌}
 use Rattle.std.proofs.lemmas.Bool.Decides.{nat_tests}
-use Rattle.fip_trees.specs.declared.program.Binder.{Binder}
-use Rattle.fip_trees.specs.Tree.{Block, Clauses, NoClauses, MoreClauses}
+use Rattle.credit_check.specs.fip_trees.declared.program.Binder.{Binder}
+use Rattle.credit_check.specs.fip_trees.Tree.{Block, Clauses, NoClauses, MoreClauses}
 use Rattle.fip_rules.specs.Shape as S
 use Rattle.fip_rules.specs.Rules.{owns, Ordered}
 use Rattle.fip_rules.specs.Notes.{always}

@@ -1,7 +1,7 @@
 -- Binders: nested scopes against a list of binders.
 use Rattle.std.proofs.Common.{◌≡◌, ℕ, suc, ◌<◌, refl, sym, ap, subst, ◌∙◌, List, [], ◌∷◌, Bool, true, false, arith}
 use Rattle.std.specs.Prelude.{◌↔◌, ◌==◌, ◌||◌, if◌then◌else◌}
-use Rattle.fip_trees.specs.declared.program.Binder.{Binder}
+use Rattle.credit_check.specs.fip_trees.declared.program.Binder.{Binder}
 use Rattle.fip_rules.specs.declared.scope.Ownership.TheVariants.{Scalar, Borrowed, Owned}
 use Rattle.fip_rules.specs.Shape as S
 use Rattle.fip_rules.specs.Rules.{Misses}

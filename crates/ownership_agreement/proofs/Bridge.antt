@@ -1,9 +1,9 @@
 -- Arguments and calls: clean in the calculus's words just where their shape is good.
 use Rattle.std.proofs.Common.{◌≡◌, ℕ, zero, suc, refl, sym, ap, subst, ◌∙◌, List, Option, Some, None, Bool, true, false}
 use Rattle.std.specs.Prelude.{◌↔◌, if◌then◌else◌}
-use Rattle.fip_language.specs.declared.Place.{Place}
-use Rattle.fip_language.specs.declared.rule.Rule.TheVariants.{E54}
-use Rattle.fip_trees.specs.Tree.{Name, Argument, Variable, Literal, Constructor, Arguments, NoArguments, MoreArguments}
+use Rattle.credit_check.specs.fip_language.declared.Place.{Place}
+use Rattle.credit_check.specs.fip_language.declared.rule.Rule.TheVariants.{E54}
+use Rattle.credit_check.specs.fip_trees.Tree.{Name, Argument, Variable, Literal, Constructor, Arguments, NoArguments, MoreArguments}
 use Rattle.fip_rules.specs.Marks.{Mark}
 use Rattle.fip_rules.specs.Shape as S
 use Rattle.fip_rules.specs.Rules.{owns}

@@ -1,14 +1,14 @@
 -- No rule on credits is broken just where the term's clauses are even, and where its header has what it asks.
 use Rattle.std.proofs.Common.{◌≡◌, ℕ, zero, suc, ◌-◌, ◌<◌, ◌≤◌, ◌⊎◌, inl, inr, refl, sym, ap, ◌∙◌, List, [], Bool, true, false, arith}
 use Rattle.std.specs.Prelude.{◌↔◌, max}
-use Rattle.fip_language.specs.declared.FunKind.{FunKind}
-use Rattle.fip_language.specs.declared.FunKind.TheVariants.{Fip, Fbip, Fun}
-use Rattle.fip_language.specs.declared.Place.{Place}
-use Rattle.fip_language.specs.declared.rule.Rule.{Rule}
-use Rattle.fip_language.specs.declared.rule.Rule.TheVariants.{E56, E57, E58, E62}
-use Rattle.fip_trees.specs.declared.least.Violation.{Violation}
-use Rattle.fip_trees.specs.Least.{violation}
-use Rattle.fip_trees.specs.Tree.{Expression, Give, Tuple, Operation, Call, Match, Nested, Block, Last, Let, Clauses, NoClauses, MoreClauses, Pattern, Instance, Program, pattern_place, Argument}
+use Rattle.credit_check.specs.fip_language.declared.FunKind.{FunKind}
+use Rattle.credit_check.specs.fip_language.declared.FunKind.TheVariants.{Fip, Fbip, Fun}
+use Rattle.credit_check.specs.fip_language.declared.Place.{Place}
+use Rattle.credit_check.specs.fip_language.declared.rule.Rule.{Rule}
+use Rattle.credit_check.specs.fip_language.declared.rule.Rule.TheVariants.{E56, E57, E58, E62}
+use Rattle.credit_check.specs.fip_trees.declared.least.Violation.{Violation}
+use Rattle.credit_check.specs.fip_trees.Least.{violation}
+use Rattle.credit_check.specs.fip_trees.Tree.{Expression, Give, Tuple, Operation, Call, Match, Nested, Block, Last, Let, Clauses, NoClauses, MoreClauses, Pattern, Instance, Program, pattern_place, Argument}
 use Rattle.fip_rules.specs.Marks.{Mark}
 use Rattle.fip_rules.specs.World.{world, is_fip}
 use Rattle.fip_rules.specs.Shapes.{Names, behind, binders, shape}

@@ -1,10 +1,10 @@
 -- An instance breaks no rule just where it is derived, and so does a program.
 use Rattle.std.proofs.Common.{◌≡◌, ℕ, suc, ◌⊎◌, inl, inr, refl, sym, ap, subst, List, [], ◌∷◌, Bool, true, false, arith}
 use Rattle.std.specs.Prelude.{◌↔◌}
-use Rattle.fip_language.specs.declared.FunKind.{FunKind}
-use Rattle.fip_language.specs.declared.FunKind.TheVariants.{Fip, Fbip, Fun}
-use Rattle.fip_trees.specs.declared.least.Violation.{Violation}
-use Rattle.fip_trees.specs.Tree.{Instance, Program}
+use Rattle.credit_check.specs.fip_language.declared.FunKind.{FunKind}
+use Rattle.credit_check.specs.fip_language.declared.FunKind.TheVariants.{Fip, Fbip, Fun}
+use Rattle.credit_check.specs.fip_trees.declared.least.Violation.{Violation}
+use Rattle.credit_check.specs.fip_trees.Tree.{Instance, Program}
 use Rattle.fip_rules.specs.Marks.{Breach, told}
 use Rattle.fip_rules.specs.Checks as O
 use Rattle.fip_rules.specs.Rules.{Ordered}

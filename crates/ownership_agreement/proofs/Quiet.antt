@@ -5,7 +5,7 @@ use Rattle.fip_rules.specs.Marks.{Mark}
 use Rattle.fip_rules.specs.declared.scope.Ownership.{Ownership}
 use Rattle.fip_rules.specs.declared.scope.Ownership.TheVariants.{Scalar, Borrowed, Owned}
 use Rattle.fip_rules.specs.Marks.{Breach}
-use Rattle.fip_language.specs.declared.rule.Rule.TheVariants.{E50, E51, E52, E53, E54}
+use Rattle.credit_check.specs.fip_language.declared.rule.Rule.TheVariants.{E50, E51, E52, E53, E54}
 use Rattle.fip_rules.specs.Shape.{Shape, Skip, Use, Lend, Fault, Then, Either, Bound, Scope}
 use Rattle.fip_rules.specs.Rules.{broken, owns, Uses, Lends, Again, Late, Exposed, Wrong, Unused, Breaks, next, Ordered}
 use Rattle.ownership_agreement.specs.Good.{State, Free, Given, Held, starts, spent, lending, MayUse, MayLend, IsUsed, bound, Good}

@@ -1,7 +1,7 @@
 -- What the theorem says of an instance, and of a program: it breaks no rule, and it is derived.
 use Rattle.std.specs.Prelude.{◌≡◌, ℕ, true, List, [], ◌∷◌}
-use Rattle.fip_trees.specs.declared.least.Violation.{Violation}
-use Rattle.fip_trees.specs.Tree.{Instance, Program}
+use Rattle.credit_check.specs.fip_trees.declared.least.Violation.{Violation}
+use Rattle.credit_check.specs.fip_trees.Tree.{Instance, Program}
 use Rattle.fip_rules.specs.Marks.{Breach}
 use Rattle.fip_rules.specs.World.{world, is_fip, is_ruled}
 use Rattle.fip_rules.specs.Checks as O

@@ -1,13 +1,13 @@
 -- What the theorem asks of a program; each typed program keeps to it. Scrutinees are variables, a constructor of a
 -- scalar type has no field, no constructor has more than 16, and the credits of headers have sizes from 1 to 16.
 use Rattle.std.specs.Prelude.{◌≡◌, ◌<◌, ℕ, suc, true, List, [], ◌∷◌, Option, Some, None, slice_get}
-use Rattle.fip_language.specs.Table.{is_scalar}
-use Rattle.fip_language.specs.declared.limits.TheConstants.{MOST_FIELDS}
-use Rattle.fip_trees.specs.Tree.{Argument, Variable, Literal, Constructor, Arguments, NoArguments, MoreArguments, count}
-use Rattle.fip_trees.specs.Tree.{Pattern, BinderPattern, LiteralPattern, ConstructorPattern}
-use Rattle.fip_trees.specs.Tree.{Patterns, NoPatterns, MorePatterns, count_patterns, Instance, Program}
-use Rattle.fip_trees.specs.Tree.{Expression, Give, Tuple, Operation, Call, Match, Nested, Block, Last, Let}
-use Rattle.fip_trees.specs.Tree.{Clauses, NoClauses, MoreClauses}
+use Rattle.credit_check.specs.fip_language.Table.{is_scalar}
+use Rattle.credit_check.specs.fip_language.declared.limits.TheConstants.{MOST_FIELDS}
+use Rattle.credit_check.specs.fip_trees.Tree.{Argument, Variable, Literal, Constructor, Arguments, NoArguments, MoreArguments, count}
+use Rattle.credit_check.specs.fip_trees.Tree.{Pattern, BinderPattern, LiteralPattern, ConstructorPattern}
+use Rattle.credit_check.specs.fip_trees.Tree.{Patterns, NoPatterns, MorePatterns, count_patterns, Instance, Program}
+use Rattle.credit_check.specs.fip_trees.Tree.{Expression, Give, Tuple, Operation, Call, Match, Nested, Block, Last, Let}
+use Rattle.credit_check.specs.fip_trees.Tree.{Clauses, NoClauses, MoreClauses}
 
 abbrev pub AreSizes : List ℕ → Type 0
 AreSizes [] = Unit {0}

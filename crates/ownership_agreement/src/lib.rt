@@ -2,7 +2,7 @@
 #![tactic(auto)]
 
 ghost use Rattle.std.specs.Prelude.{◌≡◌, ◌↔◌, ℕ, true};
-ghost use Rattle.fip_trees.specs.Tree.{Instance, Program};
+ghost use Rattle.credit_check.specs.fip_trees.Tree.{Instance, Program};
 ghost use Rattle.fip_rules.specs.World.{is_ruled};
 ghost use Rattle.ownership_agreement.specs.Sized.{IsSized};
 ghost use Rattle.ownership_agreement.specs.Agreement.{BreaksNone, IsDerived, AreDerived, AreSized, IsAccepted};

@@ -3,14 +3,14 @@ use Rattle.std.proofs.Common.{◌≡◌, ◌≢◌, ◌⊎◌, inl, inr, ℕ, su
 use Rattle.std.specs.Prelude.{if◌then◌else◌, ℤ, Result, Ok, Err, IfOk}
 use Rattle.std.proofs.Common.{Vec, Global}
 use Rattle.std.specs.Borrow.{Bor}
-use Rattle.fip_language.specs.Values.{Value as Tree, Int, Node, Values, End, More as Further}
-use Rattle.fip_language.specs.Matching.{Binding, both}
-use Rattle.fip_language.specs.Meaning.{Environment, bind, bind_matched}
+use Rattle.fip_trees.specs.fip_language.Values.{Value as Tree, Int, Node, Values, End, More as Further}
+use Rattle.fip_trees.specs.fip_language.Matching.{Binding, both}
+use Rattle.fip_trees.specs.fip_language.Meaning.{Environment, bind, bind_matched}
 use Rattle.fip_trees.specs.declared.program.Pattern.{Pattern as CodePattern}
 use Rattle.fip_trees.specs.declared.program.Block.{Block as CodeBlock}
 use Rattle.fip_trees.specs.Tree.{Pattern, Block, Clauses, MoreClauses}
 use Rattle.fip_trees.specs.TreeView.{Case, pattern, patterns, block}
-use Rattle.fip_language.specs.declared.Place.{Place}
+use Rattle.fip_trees.specs.fip_language.declared.Place.{Place}
 use Rattle.fip_trees.specs.declared.program.Pattern.TheVariants as PV
 use Rattle.fip_trees.specs.Tree.{Name, ConstructorPattern, BinderPattern}
 use Rattle.fip_trees.specs.declared.program.Binder.{Binder}

@@ -1,8 +1,8 @@
 -- Expressions at each of their forms, and how much work is left.
 use Rattle.std.proofs.Common.{◌≡◌, ℕ, zero, suc, ◌+◌, ◌*◌, ◌≤◌, List, [], ◌∷◌, map, Some, Vec, Global, sym, ap, ◌∙◌, subst, arith}
 use Rattle.std.specs.Prelude.{slice_get}
-use Rattle.fip_language.specs.declared.Place.{Place}
-use Rattle.fip_language.specs.declared.Operator.{Operator}
+use Rattle.fip_trees.specs.fip_language.declared.Place.{Place}
+use Rattle.fip_trees.specs.fip_language.declared.Operator.{Operator}
 use Rattle.fip_trees.specs.Tree as T
 use Rattle.fip_trees.specs.Tree.{Name}
 use Rattle.fip_trees.specs.declared.program.Argument.{Argument}

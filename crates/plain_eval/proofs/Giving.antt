@@ -1,7 +1,7 @@
 -- Values of arguments that are put behind others.
 use Rattle.std.proofs.Common.{◌≡◌, ℕ, suc, List, [], ◌∷◌, ◌++◌, length, Option, Some, None, refl, sym, ap, ◌∙◌, subst, append-nil, append_assoc}
-use Rattle.fip_language.specs.Values.{Value as Tree, Node, Values, End, More as Further}
-use Rattle.fip_language.specs.Meaning.{Environment, more_of}
+use Rattle.fip_trees.specs.fip_language.Values.{Value as Tree, Node, Values, End, More as Further}
+use Rattle.fip_trees.specs.fip_language.Meaning.{Environment, more_of}
 use Rattle.fip_trees.specs.Tree.{Arguments, NoArguments, MoreArguments, count}
 use Rattle.fip_trees.specs.declared.program.Argument.{Argument as CodeArgument}
 use Rattle.fip_trees.specs.TreeView.{arguments}

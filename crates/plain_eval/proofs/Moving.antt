@@ -2,7 +2,7 @@
 use Rattle.std.proofs.Common.{◌≡◌, ◌⊎◌, inl, inr, ℕ, zero, suc, ◌+◌, ◌<◌, ◌≤◌, Bool, true, List, [], ◌∷◌, ◌++◌, map, length, take, drop, get_or, set, Some, None, refl, sym, ap, ◌∙◌, subst, arith}
 use Rattle.std.specs.Prelude.{slice_get, option_map}
 use Rattle.std.proofs.lemmas.Option.{slice_get_within, slice_get-map}
-use Rattle.fip_language.specs.Values.{Value as Tree, Int, Node, Values, End, More as Further}
+use Rattle.fip_trees.specs.fip_language.Values.{Value as Tree, Int, Node, Values, End, More as Further}
 use Rattle.plain_rows.specs.declared.store.Value.{Value}
 use Rattle.plain_rows.specs.declared.store.Value.TheVariants as V
 use Rattle.plain_rows.specs.declared.store.Store.{Store}

@@ -3,8 +3,8 @@ use Rattle.std.proofs.Common.{◌≡◌, ◌≢◌, ℕ, zero, suc, ◌+◌, ◌
 use Rattle.std.specs.Prelude.{slice_get, if◌then◌else◌, Result, Ok, Err, IfOk}
 use Rattle.std.proofs.lemmas.Bool.{eqb-true}
 use Rattle.std.proofs.lemmas.Option.{slice_get_within}
-use Rattle.fip_language.specs.Values.{Value as Tree, Int, Node, End, More as Further}
-use Rattle.fip_language.specs.Meaning.{Environment, bind}
+use Rattle.fip_trees.specs.fip_language.Values.{Value as Tree, Int, Node, End, More as Further}
+use Rattle.fip_trees.specs.fip_language.Meaning.{Environment, bind}
 use Rattle.plain_rows.specs.declared.store.Value.{Value}
 use Rattle.plain_rows.specs.declared.store.Value.TheVariants as V
 use Rattle.plain_rows.specs.declared.store.Store.{Store}

@@ -3,13 +3,13 @@ use Rattle.std.proofs.Common.{◌≡◌, ◌≢◌, ◌⊎◌, inl, inr, ℕ, su
 use Rattle.std.specs.Prelude.{slice_get, ℤ, Result, Ok, Err, OnOk, ◌==◌}
 use Rattle.std.proofs.lemmas.Bool.{eqb-true}
 use Rattle.std.specs.Borrow.{Bor}
-use Rattle.fip_language.specs.declared.Place.{Place}
-use Rattle.fip_language.specs.declared.Operator.{Operator}
-use Rattle.fip_language.specs.declared.TrapKind.{TrapKind}
-use Rattle.fip_language.specs.Arithmetic.{Operated, Is, Fails, operate}
-use Rattle.fip_language.specs.Matching.{Binding as Bound}
-use Rattle.fip_language.specs.Values.{Value as Tree, Int, Node, Values, End, More as Further}
-use Rattle.fip_language.specs.Meaning.{Answer, Gives, Trap, Out, Deep, Stuck, Run, ends, operated, operation, with_value, with_values, if_matches, then_with, counted, in_frame, Environment, nothing_bound, bind, bind_matched}
+use Rattle.fip_trees.specs.fip_language.declared.Place.{Place}
+use Rattle.fip_trees.specs.fip_language.declared.Operator.{Operator}
+use Rattle.fip_trees.specs.fip_language.declared.TrapKind.{TrapKind}
+use Rattle.fip_trees.specs.fip_language.Arithmetic.{Operated, Is, Fails, operate}
+use Rattle.fip_trees.specs.fip_language.Matching.{Binding as Bound}
+use Rattle.fip_trees.specs.fip_language.Values.{Value as Tree, Int, Node, Values, End, More as Further}
+use Rattle.fip_trees.specs.fip_language.Meaning.{Answer, Gives, Trap, Out, Deep, Stuck, Run, ends, operated, operation, with_value, with_values, if_matches, then_with, counted, in_frame, Environment, nothing_bound, bind, bind_matched}
 use Rattle.fip_trees.specs.Tree as T
 use Rattle.fip_trees.specs.TreeView.{block}
 use Rattle.fip_trees.specs.declared.program.Block.{Block}

@@ -1,8 +1,8 @@
 -- What waits.
 use Rattle.std.proofs.Common.{◌≡◌, ◌≢◌, ℕ, zero, suc, ◌+◌, ◌≤◌, List, [], ◌∷◌, ◌++◌, map, length, drop, get_or, ◌-◌, Some, None, refl, sym, ap, ◌∙◌, arith}
 use Rattle.std.specs.Prelude.{slice_get}
-use Rattle.fip_language.specs.Values.{Values}
-use Rattle.fip_language.specs.Meaning.{Answer, Gives, Trap, Out, Deep, Stuck, Run, go_on, then_with}
+use Rattle.fip_trees.specs.fip_language.Values.{Values}
+use Rattle.fip_trees.specs.fip_language.Meaning.{Answer, Gives, Trap, Out, Deep, Stuck, Run, go_on, then_with}
 use Rattle.fip_trees.specs.Tree as T
 use Rattle.fip_trees.specs.TreeView.{BoundPart, expression, block, block_of, binding}
 use Rattle.fip_trees.specs.declared.program.Block.{Block, out-Block}

@@ -1,9 +1,9 @@
 -- What choosing a clause does. It serves the proof that an evaluation gives what its program means.
 use Rattle.std.specs.Prelude.{◌≡◌, Bool, true, false, List, Option, Some, None}
 use Rattle.std.specs.Borrow.{Bor}
-use Rattle.fip_language.specs.Values.{Value as Tree}
-use Rattle.fip_language.specs.Matching.{Binding}
-use Rattle.fip_language.specs.Meaning.{Environment, bind_matched}
+use Rattle.fip_trees.specs.fip_language.Values.{Value as Tree}
+use Rattle.fip_trees.specs.fip_language.Matching.{Binding}
+use Rattle.fip_trees.specs.fip_language.Meaning.{Environment, bind_matched}
 use Rattle.fip_trees.specs.declared.program.Block.{Block}
 use Rattle.fip_trees.specs.Tree as T
 use Rattle.fip_trees.specs.TreeView.{block}

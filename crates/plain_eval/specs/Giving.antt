@@ -1,7 +1,7 @@
 -- What putting the values of arguments behind others does, where they have some. It serves the proof that an evaluation
 -- gives what its program means.
 use Rattle.std.specs.Prelude.{◌≡◌, List, [], ◌∷◌, ◌++◌, Option, Some, None}
-use Rattle.fip_language.specs.Values.{Value as Tree, Values}
+use Rattle.fip_trees.specs.fip_language.Values.{Value as Tree, Values}
 use Rattle.plain_rows.specs.declared.store.Value.{Value}
 use Rattle.plain_rows.specs.declared.store.Store.{Store}
 use Rattle.plain_rows.specs.Rows.{Stands, StandAll}

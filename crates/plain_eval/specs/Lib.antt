@@ -6,3 +6,4 @@ pub mod Choosing
 pub mod Work
 pub mod Machine
 pub mod Ended
+pub use Rattle.instance_semantics.specs as instance_semantics

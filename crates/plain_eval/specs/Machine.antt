@@ -1,8 +1,8 @@
 -- The evaluation as it goes: what waits, what is evaluated, and which answer that leads to. It serves the proof that an
 -- evaluation gives what its program means.
 use Rattle.std.specs.Prelude.{◌≡◌, ℕ, suc, ◌+◌, ◌*◌, ◌≤◌, List, [], ◌∷◌, map, drop}
-use Rattle.fip_language.specs.Values.{Values}
-use Rattle.fip_language.specs.Meaning.{Answer, Gives, Trap, Out, Deep, Stuck, Run, Environment, counted, in_frame}
+use Rattle.fip_trees.specs.fip_language.Values.{Values}
+use Rattle.fip_trees.specs.fip_language.Meaning.{Answer, Gives, Trap, Out, Deep, Stuck, Run, Environment, counted, in_frame}
 use Rattle.fip_trees.specs.declared.program.Block.{Block, out-Block}
 use Rattle.fip_trees.specs.Tree as T
 use Rattle.fip_trees.specs.TreeView.{expression, block_of, binding}

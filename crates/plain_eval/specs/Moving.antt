@@ -1,7 +1,7 @@
 -- Which rows are reached, and where they go. It serves the proof that what is reached stands for the same trees where
 -- the other rows are dropped.
 use Rattle.std.specs.Prelude.{◌≡◌, ℕ, suc, ◌<◌, ◌≤◌, Bool, true, List, Option, Some, None, length, slice_get}
-use Rattle.fip_language.specs.Values.{Value as Tree}
+use Rattle.fip_trees.specs.fip_language.Values.{Value as Tree}
 use Rattle.plain_rows.specs.declared.store.Value.{Value}
 use Rattle.plain_rows.specs.declared.store.Value.TheVariants as V
 use Rattle.plain_rows.specs.declared.store.Store.{Store}

@@ -1,9 +1,9 @@
 -- What an operator comes to, as a value of the evaluation.
 use Rattle.std.specs.Prelude.{◌≡◌, ℤ, Option, Some, None, Result, Ok, Err, FitsSigned}
 use Rattle.std.specs.Int.{w64}
-use Rattle.fip_language.specs.Values.{Value as Tree, Int, Node, End, More}
-use Rattle.fip_language.specs.declared.TrapKind.{TrapKind}
-use Rattle.fip_language.specs.Arithmetic.{Operated, Is, Fails}
+use Rattle.fip_trees.specs.fip_language.Values.{Value as Tree, Int, Node, End, More}
+use Rattle.fip_trees.specs.fip_language.declared.TrapKind.{TrapKind}
+use Rattle.fip_trees.specs.fip_language.Arithmetic.{Operated, Is, Fails}
 use Rattle.plain_rows.specs.declared.store.Value.{Value}
 use Rattle.plain_rows.specs.declared.store.Value.TheVariants as V
 

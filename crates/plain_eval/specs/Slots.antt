@@ -1,7 +1,7 @@
 -- Which trees the slots of variables stand for. It serves the proof that an evaluation gives what its program means.
 use Rattle.std.specs.Prelude.{◌≡◌, ◌≢◌, ℕ, ◌+◌, ◌<◌, List, Some, slice_get}
-use Rattle.fip_language.specs.Values.{Value as Tree}
-use Rattle.fip_language.specs.Meaning.{Environment}
+use Rattle.fip_trees.specs.fip_language.Values.{Value as Tree}
+use Rattle.fip_trees.specs.fip_language.Meaning.{Environment}
 use Rattle.plain_rows.specs.declared.store.Value.{Value}
 use Rattle.plain_rows.specs.declared.store.Store.{Store}
 use Rattle.plain_rows.specs.Rows.{Stands}

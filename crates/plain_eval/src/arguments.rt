@@ -1,7 +1,7 @@
 // The values of arguments.
 ghost use Rattle.std.specs.Prelude.{◌≡◌, Some, OnOk};
-ghost use Rattle.fip_language.specs.Values.{Value as Tree};
-ghost use Rattle.fip_language.specs.Meaning.{Environment, binder_value};
+ghost use Rattle.fip_trees.specs.fip_language.Values.{Value as Tree};
+ghost use Rattle.fip_trees.specs.fip_language.Meaning.{Environment, binder_value};
 ghost use Rattle.fip_trees.specs.TreeView as T;
 ghost use Rattle.instance_semantics.specs.Meaning.{argument_value, argument_values};
 ghost use Rattle.plain_rows.specs.Rows.{More, Stands};

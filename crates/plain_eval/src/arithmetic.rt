@@ -1,9 +1,9 @@
 // Operators on ints.
 ghost use Rattle.std.specs.Prelude.{ℤ, Some, None, int_div};
 ghost use Rattle.std.specs.Prelude.{int_rem};
-ghost use Rattle.fip_language.specs.Arithmetic.{Is, operate, int_or_overflow, unless_zero};
-ghost use Rattle.fip_language.specs.Arithmetic.{truth as truth_of};
-ghost use Rattle.fip_language.specs.Values.{Int};
+ghost use Rattle.fip_trees.specs.fip_language.Arithmetic.{Is, operate, int_or_overflow, unless_zero};
+ghost use Rattle.fip_trees.specs.fip_language.Arithmetic.{truth as truth_of};
+ghost use Rattle.fip_trees.specs.fip_language.Values.{Int};
 ghost use Rattle.plain_eval.specs.Operating.{IsOutcome, IsExact};
 
 use fip_base::plain::{Operator, TrapKind};

@@ -1,7 +1,7 @@
 // Dropping the rows that nothing names any more. A row names only rows before it, so that one pass from the last row
 // to the first finds all that are reached, and one from the first to the last moves them together in the same order.
 ghost use Rattle.std.specs.Prelude.{◌≡◌, ℕ, suc, ◌<◌, ◌≤◌, Bool, true, List, length, map, IfOk, OnOk};
-ghost use Rattle.fip_language.specs.Values.{Value as Tree};
+ghost use Rattle.fip_trees.specs.fip_language.Values.{Value as Tree};
 ghost use Rattle.plain_rows.specs.Rows.{count_rows, Holds, Stands, More};
 ghost use Rattle.plain_eval.specs.Slots.{KeepsAll};
 ghost use Rattle.plain_eval.specs.Moving.{Marked, MarkedBelow, ClosedFrom, placed, MovedBelow};

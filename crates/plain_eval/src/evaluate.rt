@@ -3,13 +3,13 @@
 // them.
 ghost use Rattle.std.specs.Prelude.{◌≡◌, ◌≢◌, ℕ, suc, ◌+◌, ◌*◌, ◌<◌, ◌≤◌, [], ◌∷◌, Some, IfOk, OnOk};
 ghost use Rattle.std.specs.Prelude.{IfSome, IfNone, ℤ, Result};
-ghost use Rattle.fip_language.specs.Arithmetic.{operate};
+ghost use Rattle.fip_trees.specs.fip_language.Arithmetic.{operate};
 ghost use Rattle.plain_eval.specs.Operating.{IsOutcome};
-ghost use Rattle.fip_language.specs.Values.{Values, End, More};
-ghost use Rattle.fip_language.specs.Table.{HaveTypes};
-ghost use Rattle.fip_language.specs.PrintedText.{printed_lines};
-ghost use Rattle.fip_language.specs.Meaning.{Answer, Gives, Deep, Stuck, Run, ends, with_value, with_values, operation};
-ghost use Rattle.fip_language.specs.Meaning.{counted, in_frame, Environment, nothing_bound};
+ghost use Rattle.fip_trees.specs.fip_language.Values.{Values, End, More};
+ghost use Rattle.fip_trees.specs.fip_language.Table.{HaveTypes};
+ghost use Rattle.fip_trees.specs.fip_language.PrintedText.{printed_lines};
+ghost use Rattle.fip_trees.specs.fip_language.Meaning.{Answer, Gives, Deep, Stuck, Run, ends, with_value, with_values, operation};
+ghost use Rattle.fip_trees.specs.fip_language.Meaning.{counted, in_frame, Environment, nothing_bound};
 ghost use Rattle.fip_trees.specs.Tree as T;
 ghost use Rattle.fip_trees.specs.TreeView as V;
 ghost use Rattle.instance_semantics.specs.Meaning.{argument_value, argument_values, bind_binders};

@@ -2,8 +2,8 @@
 ghost use Rattle.std.specs.Prelude.{◌≡◌, ◌==◌, false, ℕ, ◌≤◌, ◌∷◌, Some, IfOk, OnOk};
 ghost use Rattle.std.specs.Prelude.{ℤ};
 ghost use Rattle.std.specs.Borrow.{Bor};
-ghost use Rattle.fip_language.specs.Values.{Value as Tree, Int, Node, Values};
-ghost use Rattle.fip_language.specs.Meaning.{Environment};
+ghost use Rattle.fip_trees.specs.fip_language.Values.{Value as Tree, Int, Node, Values};
+ghost use Rattle.fip_trees.specs.fip_language.Meaning.{Environment};
 ghost use Rattle.fip_trees.specs.TreeView as T;
 ghost use Rattle.instance_semantics.specs.Matching.{matching, matching_all};
 ghost use Rattle.plain_rows.specs.Rows.{Stands, StandAll};

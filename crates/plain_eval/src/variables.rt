@@ -1,8 +1,8 @@
 // The values of variables: those of each function that was entered and isn't left, one function's behind another's.
 ghost use Rattle.std.specs.Prelude.{◌≡◌, ◌≢◌, ℕ, ◌+◌, ◌<◌, ◌≤◌, length, Some, IfOk, OnOk};
 ghost use Rattle.std.specs.Prelude.{IfSome, slice_get};
-ghost use Rattle.fip_language.specs.Values.{Value as Tree};
-ghost use Rattle.fip_language.specs.Meaning.{Environment, bind};
+ghost use Rattle.fip_trees.specs.fip_language.Values.{Value as Tree};
+ghost use Rattle.fip_trees.specs.fip_language.Meaning.{Environment, bind};
 ghost use Rattle.plain_rows.specs.Rows.{Stands};
 ghost use Rattle.plain_eval.specs.Slots.{CoversNow, Keeps, KeepsOff, KeepsAll};
 

@@ -3,9 +3,9 @@ use Rattle.std.proofs.Common.{◌≡◌, ◌≢◌, ◌⊎◌, inl, inr, ℕ, ze
 use Rattle.std.specs.Prelude.{Result, Ok, Err, OnOk, slice_get, ℤ, FitsSigned, option_map}
 use Rattle.std.specs.Int.{w64}
 use Rattle.std.specs.Borrow.{Bor}
-use Rattle.fip_language.specs.Values.{Value as Tree, Node, Values, End, More as Further}
-use Rattle.fip_language.specs.Table.{Shape, Table, constructors}
-use Rattle.fip_language.specs.Store.{Cell, Placed, PlacedInt, Bare, At, Parts, NoParts, MoreParts, int_word, value_of, values_of, word_of, words_of}
+use Rattle.fip_base.specs.fip_language.Values.{Value as Tree, Node, Values, End, More as Further}
+use Rattle.fip_base.specs.fip_language.Table.{Shape, Table, constructors}
+use Rattle.fip_base.specs.fip_language.Store.{Cell, Placed, PlacedInt, Bare, At, Parts, NoParts, MoreParts, int_word, value_of, values_of, word_of, words_of}
 use Rattle.cell_store.specs.Cells.{Cells, cell_at, size_of}
 use Rattle.value_text.specs.Standing.{Stands as CellStands, StandAll as CellsStand}
 use Rattle.value_text.specs.Printing.{AreLast}

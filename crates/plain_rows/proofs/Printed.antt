@@ -4,9 +4,9 @@ use Rattle.std.specs.Prelude.{Result, Ok, Err, OnOk, slice_get, ℤ}
 use Rattle.std.specs.Borrow.{Bor}
 use Rattle.std.specs.Fmt.{signed_decimal}
 use Rattle.std.proofs.lemmas.Bool.{eqb-true}
-use Rattle.fip_language.specs.Values.{Value as Tree, Int, Node, Values, End, More as Further}
-use Rattle.fip_language.specs.Table.{Shape, Table, shapes, constructors, HasType, HaveTypes}
-use Rattle.fip_language.specs.PrintedText.{printed, printed_fields, printed_more, printed_lines}
+use Rattle.fip_base.specs.fip_language.Values.{Value as Tree, Int, Node, Values, End, More as Further}
+use Rattle.fip_base.specs.fip_language.Table.{Shape, Table, shapes, constructors, HasType, HaveTypes}
+use Rattle.fip_base.specs.fip_language.PrintedText.{printed, printed_fields, printed_more, printed_lines}
 use Rattle.value_text.specs.Printing.{printed_tail}
 use Rattle.value_text.proofs.Reread.{shape_is}
 use Rattle.plain_rows.specs.declared.store.Value.{Value}

@@ -1,8 +1,8 @@
 -- What is still to be made of a store of cells. It serves the proof that the rows stand for what the words stood for.
 use Rattle.std.specs.Prelude.{◌≡◌, ℕ, ◌+◌, ◌*◌, List, [], ◌∷◌, ◌++◌, length, vec_len}
-use Rattle.fip_language.specs.Values.{Value as Tree, Node, Values, End, More as Further}
-use Rattle.fip_language.specs.Table.{Table}
-use Rattle.fip_language.specs.Store.{Cell, Placed, Parts, value_of, values_of, word_of}
+use Rattle.fip_base.specs.fip_language.Values.{Value as Tree, Node, Values, End, More as Further}
+use Rattle.fip_base.specs.fip_language.Table.{Table}
+use Rattle.fip_base.specs.fip_language.Store.{Cell, Placed, Parts, value_of, values_of, word_of}
 use Rattle.cell_store.specs.Cells.{Cells}
 use Rattle.value_text.specs.Standing.{Stands as CellStands}
 use Rattle.value_text.specs.Printing.{AreLast}

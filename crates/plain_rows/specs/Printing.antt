@@ -1,8 +1,8 @@
 -- What is still to be printed. It serves the proof that the text is the canonical one.
 use Rattle.std.specs.Prelude.{◌≡◌, ℕ, List, [], ◌∷◌, ◌++◌}
-use Rattle.fip_language.specs.Values.{Value as Tree, Values}
-use Rattle.fip_language.specs.Table.{Table, HasType, HaveTypes}
-use Rattle.fip_language.specs.PrintedText.{printed, printed_more}
+use Rattle.fip_base.specs.fip_language.Values.{Value as Tree, Values}
+use Rattle.fip_base.specs.fip_language.Table.{Table, HasType, HaveTypes}
+use Rattle.fip_base.specs.fip_language.PrintedText.{printed, printed_more}
 use Rattle.plain_rows.specs.declared.store.Store.{Store}
 use Rattle.plain_rows.specs.declared.print.Task.{Task}
 use Rattle.plain_rows.specs.declared.print.Task.TheVariants as T

@@ -4,7 +4,7 @@
 -- With Cons(1, Nil) at row 0, where Nil is constructor 0 and Cons constructor 1, the row has the tag 1 and the fields
 -- Int 1 and Bare 0, and the list is Row 0.
 use Rattle.std.specs.Prelude.{◌≡◌, ℕ, ◌+◌, ◌<◌, ◌≤◌, List, [], ◌∷◌, length, take, drop, Some, slice_get}
-use Rattle.fip_language.specs.Values.{Value as Tree, Int, Node, Values, End, More as Further}
+use Rattle.fip_base.specs.fip_language.Values.{Value as Tree, Int, Node, Values, End, More as Further}
 use Rattle.plain_rows.specs.declared.store.Value.{Value}
 use Rattle.plain_rows.specs.declared.store.Value.TheVariants as V
 use Rattle.plain_rows.specs.declared.store.Head.{Head}

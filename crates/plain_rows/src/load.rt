@@ -4,9 +4,9 @@ ghost use Rattle.std.specs.Prelude.{◌≡◌, ◌≢◌, ℕ, ◌+◌, ◌-◌,
 ghost use Rattle.std.specs.Prelude.{IfOk, OnOk, IfSome, IfNone, FitsSigned, slice_get, vec_len};
 ghost use Rattle.std.specs.Int.{w64};
 ghost use Rattle.std.specs.Borrow.{Bor};
-ghost use Rattle.fip_language.specs.Values.{Value as Tree};
-ghost use Rattle.fip_language.specs.Table.{Table, constructors};
-ghost use Rattle.fip_language.specs.Store.{Cell, Placed, Parts, int_word, value_of, values_of, word_of, words_of};
+ghost use Rattle.fip_base.specs.fip_language.Values.{Value as Tree};
+ghost use Rattle.fip_base.specs.fip_language.Table.{Table, constructors};
+ghost use Rattle.fip_base.specs.fip_language.Store.{Cell, Placed, Parts, int_word, value_of, values_of, word_of, words_of};
 ghost use Rattle.cell_store.specs.Cells.{cell_at};
 ghost use Rattle.value_text.specs.Loaded.{types_of};
 ghost use Rattle.value_text.specs.Standing.{Stands as CellStands, StandAll as CellsStand};

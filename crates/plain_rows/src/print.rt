@@ -4,9 +4,9 @@
 ghost use Rattle.std.specs.Prelude.{◌≡◌, ℕ, ◌+◌, ◌*◌, ◌<◌, ◌≤◌, List, [], ◌∷◌, ◌++◌, length, Some, IfOk, OnOk, vec_len};
 ghost use Rattle.std.specs.Prelude.{IfSome, IfNone, slice_get};
 ghost use Rattle.std.specs.Fmt.{signed_decimal};
-ghost use Rattle.fip_language.specs.Values.{Value as Tree, Values};
-ghost use Rattle.fip_language.specs.Table.{Shape, Table, constructors, HasType, HaveTypes};
-ghost use Rattle.fip_language.specs.PrintedText.{printed, printed_more, printed_lines};
+ghost use Rattle.fip_base.specs.fip_language.Values.{Value as Tree, Values};
+ghost use Rattle.fip_base.specs.fip_language.Table.{Shape, Table, constructors, HasType, HaveTypes};
+ghost use Rattle.fip_base.specs.fip_language.PrintedText.{printed, printed_more, printed_lines};
 ghost use Rattle.value_text.specs.Printing.{printed_tail};
 ghost use Rattle.plain_rows.specs.Rows.{AreRows, Stands, StandAll};
 ghost use Rattle.plain_rows.specs.Printing.{last_first, Prints, Printing};

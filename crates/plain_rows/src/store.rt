@@ -1,7 +1,7 @@
 // Values, and the rows that they name.
 ghost use Rattle.std.specs.Prelude.{◌≡◌, ℕ, ◌+◌, ◌≤◌, List, [], ◌∷◌, ◌++◌, length, take, drop, Some};
 ghost use Rattle.std.specs.Prelude.{IfOk, OnOk, vec_len};
-ghost use Rattle.fip_language.specs.Values.{Values, Node};
+ghost use Rattle.fip_base.specs.fip_language.Values.{Values, Node};
 ghost use Rattle.plain_rows.specs.Rows.{count_rows, count_fields, IsRow, More, StandAll, Stands};
 
 use fip_base::plain::NoMemory;

@@ -13,8 +13,8 @@ use Rattle.fip_base.specs.declared.core_form.Core as Memory
 use Rattle.fip_base.specs.declared.refusal.Refusal.{Refusal}
 use Rattle.fip_base.specs.declared.refusal.PhaseError.{PhaseError}
 use Rattle.fip_base.specs.declared.refusal.PhaseError.TheVariants.{Refused, NoMemory}
-use Rattle.fip_grammar.specs.Limits.{IsMisspelt}
-use Rattle.fip_grammar.proofs.Least.{spelt_once, spelt_or_misspelt}
+use Rattle.source_report.specs.fip_grammar.Limits.{IsMisspelt}
+use Rattle.source_report.proofs.fip_grammar.Least.{spelt_once, spelt_or_misspelt}
 use Rattle.fip_trees.specs.declared.decls.Decls.{Decls}
 use Rattle.fip_trees.specs.declared.least.Violation.{Violation}
 use Rattle.fip_trees.specs.declared.program.Instance.{Instance}
@@ -25,14 +25,14 @@ use Rattle.fip_trees.specs.TreeView.{program}
 use Rattle.data_types.specs.Answers as Declaring
 use Rattle.data_types.specs.DeclaredProgram.{AreDeclared}
 use Rattle.static_params.specs.Answers as Statics
-use Rattle.reached_instances.specs.Closed.{Closed}
+use Rattle.source_report.specs.reached_instances.Closed.{Closed}
 use Rattle.static_params.specs.FlatProgram.{Numbers, flat_program}
 use Rattle.static_params.specs.FlatSource.{flat_source}
-use Rattle.reached_instances.specs.Instances.{roots, calls_from, all_faults, passed_to, ArePassed}
-use Rattle.reached_instances.specs.Numbering.{AreMore}
-use Rattle.reached_instances.specs.Source.{Source}
-use Rattle.reached_instances.specs.SourceView as s
-use Rattle.reached_instances.specs.TypeInstances.{type_roots, parts_of, AreTypes}
+use Rattle.source_report.specs.reached_instances.Instances.{roots, calls_from, all_faults, passed_to, ArePassed}
+use Rattle.source_report.specs.reached_instances.Numbering.{AreMore}
+use Rattle.source_report.specs.reached_instances.Source.{Source}
+use Rattle.source_report.specs.reached_instances.SourceView as s
+use Rattle.source_report.specs.reached_instances.TypeInstances.{type_roots, parts_of, AreTypes}
 use Rattle.static_params.proofs.CoreSources.{source_is}
 use Rattle.type_check.proofs.Exact.{typed_exactly}
 use Rattle.type_check.specs.Answers as Types

@@ -11,8 +11,8 @@ use Rattle.type_check.specs.Binders.{all_annotated, entries}
 use Rattle.type_check.specs.Scope.{Scope}
 use Rattle.type_check.specs.Typing.{bound_by, Types, TypesBlock, TypesClauses, IsPattern, ArePatterns, parameter_scope, AllTyped}
 use Rattle.type_check.specs.World.{world, is_number, numbered, fields_of}
-use Rattle.lowering_relation.specs.WellMatched.{IsWellMatched, FormedPattern, FormedPatterns, PatternsFormed, PatternsFormedBlock, PatternsFormedClauses}
-use Rattle.lowering_simulation.proofs.Patterns.{well_matched}
+use Rattle.cell_lower.specs.lowering_relation.WellMatched.{IsWellMatched, FormedPattern, FormedPatterns, PatternsFormed, PatternsFormedBlock, PatternsFormedClauses}
+use Rattle.source_report.proofs.lowering_simulation.Patterns.{well_matched}
 use Rattle.source_report.specs.Literals.{FitsPattern, FitPatterns, Fits, FitsBlock, FitClauses}
 use Rattle.source_report.specs.Report.{IsTyped}
 use Rattle.source_report.specs.WellFormed.{IsKnownPattern, AreKnownPatterns, IsKnown, IsKnownBlock, AreKnownClauses, IsKnownInstance}

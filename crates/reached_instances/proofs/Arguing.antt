@@ -1,7 +1,7 @@
 -- Static arguments, one after another.
 use Rattle.std.proofs.Common.{◌≡◌, ℕ, zero, suc, ◌+◌, ◌<◌, ◌≤◌, Bool, true, false, not, ◌&&◌, List, [], ◌∷◌, ◌++◌, length, map, drop, get_or, slice_get, Option, Some, None, option_map, refl, ap, sym, subst, ◌∙◌, arith, append_assoc, append-nil, drop_of_length-le}
-use Rattle.fip_language.specs.Core.{Written, Writtens, NoWritten, MoreWritten, Static, TypeParameter, FunctionParameter}
-use Rattle.fip_language.proofs.Plain.{every_append}
+use Rattle.fip_base.specs.fip_language.Core.{Written, Writtens, NoWritten, MoreWritten, Static, TypeParameter, FunctionParameter}
+use Rattle.fip_base.proofs.fip_language.Plain.{every_append}
 use Rattle.fip_base.specs.CoreView as V
 use Rattle.fip_base.specs.declared.core_form.Written as W
 use Rattle.fip_trees.specs.Least.{after}

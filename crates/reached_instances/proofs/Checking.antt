@@ -1,6 +1,6 @@
 -- Whether functions that are passed fit, where it is known what is given beside them, and where it isn't.
 use Rattle.std.proofs.Common.{◌≡◌, ◌+◌, ◌<◌, ℕ, Bool, false, Option, Some, None, List, [], length, Vec, Global, ap, sym, subst, ◌∙◌}
-use Rattle.fip_language.specs.Core.{Writtens}
+use Rattle.fip_base.specs.fip_language.Core.{Writtens}
 use Rattle.reached_instances.specs.declared.closed.Head.{Head}
 use Rattle.reached_instances.specs.declared.closed.Head.TheVariants as H
 use Rattle.reached_instances.specs.declared.source.Here.{Here}

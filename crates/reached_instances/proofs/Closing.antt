@@ -1,9 +1,9 @@
 -- Closing what is written, one type after another.
 use Rattle.std.proofs.Common.{◌≡◌, ℕ, suc, ◌+◌, ◌<◌, ◌≤◌, Bool, true, false, ◌&&◌, List, [], ◌∷◌, ◌++◌, length, drop, get_or, Option, Some, None, option_map, is_some, Vec, Global, refl, ap, sym, subst, ◌∙◌, drop_of_length-le}
-use Rattle.fip_language.specs.declared.Place.{Place}
-use Rattle.fip_language.specs.Core as C
-use Rattle.fip_language.specs.Core.{Name}
-use Rattle.fip_language.proofs.Plain.{every_append}
+use Rattle.fip_base.specs.fip_language.declared.Place.{Place}
+use Rattle.fip_base.specs.fip_language.Core as C
+use Rattle.fip_base.specs.fip_language.Core.{Name}
+use Rattle.fip_base.proofs.fip_language.Plain.{every_append}
 use Rattle.fip_base.specs.CoreView.{written, written_step, writtens}
 use Rattle.fip_base.specs.declared.core_form.Written.{Written}
 use Rattle.fip_base.specs.declared.core_form.Written.TheOpen as W

@@ -1,6 +1,6 @@
 -- Types of headers, one after another.
 use Rattle.std.proofs.Common.{◌≡◌, ℕ, suc, ◌+◌, ◌<◌, ◌≤◌, Bool, true, false, ◌&&◌, ◌||◌, List, [], ◌∷◌, ◌++◌, length, map, drop, get_or, refl, ap, sym, subst, ◌∙◌, append_assoc, append-nil, drop_of_length-le}
-use Rattle.fip_language.proofs.Plain.{every_append}
+use Rattle.fip_base.proofs.fip_language.Plain.{every_append}
 use Rattle.fip_base.specs.CoreView as V
 use Rattle.fip_base.specs.declared.core_form.Written.{Written}
 use Rattle.fip_base.specs.declared.core_form.SignatureParameter as DS

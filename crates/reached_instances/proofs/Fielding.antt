@@ -9,7 +9,7 @@ use Rattle.reached_instances.specs.Source.{Ty, Plain, Parameter, Of}
 use Rattle.reached_instances.specs.SharedTrees.{AreWithin, Branch, all_at, tree_at, trees_at}
 use Rattle.reached_instances.specs.SourceView.{ty, ty_step, tys_of}
 use Rattle.reached_instances.specs.TypeInstances.{field_type, field_types, pick, unless_int, unless_ints}
-use Rattle.fip_language.specs.Mentions.{all_of}
+use Rattle.fip_base.specs.fip_language.Mentions.{all_of}
 
 -- ---- the view of a field's type
 

@@ -1,7 +1,7 @@
 -- Functions that are passed, against the signatures that are asked of them.
 use Rattle.std.proofs.Common.{◌≡◌, ℕ, suc, ◌+◌, ◌<◌, ◌⊎◌, inl, inr, Bool, true, false, ◌&&◌, List, [], ◌∷◌, length, map, get_or, Option, refl, ap, sym, subst, ◌∙◌, nat_eq}
 use Rattle.std.specs.Prelude.{bytes_eq}
-use Rattle.fip_language.specs.Core.{Written, Result, Static, SignatureParameter, Parameter}
+use Rattle.fip_base.specs.fip_language.Core.{Written, Result, Static, SignatureParameter, Parameter}
 use Rattle.reached_instances.specs.declared.closed.Head.TheVariants as H
 use Rattle.reached_instances.specs.declared.closed.Passing.{Passing}
 use Rattle.reached_instances.specs.declared.source.Here.{Here}

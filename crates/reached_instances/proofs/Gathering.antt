@@ -1,7 +1,7 @@
 -- Places of static arguments, gathered one after another.
 use Rattle.std.proofs.Common.{◌≡◌, ℕ, ◌+◌, ◌<◌, ◌≤◌, true, List, [], ◌∷◌, ◌++◌, length, drop, get_or, Option, Some, None, option_map, Vec, Global, refl, ap, sym, subst, ◌∙◌, arith, drop_of_length-le}
-use Rattle.fip_language.specs.Core.{Static, TypeParameter, FunctionParameter}
-use Rattle.fip_language.proofs.Plain.{every_append}
+use Rattle.fip_base.specs.fip_language.Core.{Static, TypeParameter, FunctionParameter}
+use Rattle.fip_base.proofs.fip_language.Plain.{every_append}
 use Rattle.reached_instances.specs.Closed.{Closed, Int, NoClosed}
 use Rattle.reached_instances.specs.SharedTrees.{Branch, AreWithin, NoneOrWithin, all_at, tree_at}
 use Rattle.reached_instances.specs.Uses.{all_given, both, types_given}

@@ -1,6 +1,6 @@
 -- What is given for a static parameter, as a place and as a tree.
 use Rattle.std.proofs.Common.{◌≡◌, ℕ, zero, suc, ◌-◌, ◌<◌, ◌≤◌, List, [], ◌∷◌, map, length, get_or, Option, Some, None, option_map, slice_get, Vec, Global, refl, sym, ap, subst, ◌∙◌, arith}
-use Rattle.fip_language.specs.declared.Place.{Place}
+use Rattle.fip_base.specs.fip_language.declared.Place.{Place}
 use Rattle.fip_base.specs.CoreView.{static}
 use Rattle.fip_base.specs.declared.core_form.Static.{Static}
 use Rattle.fip_base.specs.declared.core_form.Static.TheVariants as S

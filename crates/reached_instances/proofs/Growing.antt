@@ -1,7 +1,7 @@
 -- Trees that come behind others change none of these.
 use Rattle.std.proofs.Common.{◌≡◌, ℕ, zero, suc, ◌+◌, ◌<◌, Bool, true, false, List, [], ◌∷◌, ◌++◌, length, slice_get, get_or, Some, refl, ap, sym, ◌∙◌, arith, if◌then◌else◌, append_assoc, append-nil}
 use Rattle.std.specs.List.{list_any}
-use Rattle.fip_language.specs.Every.{Every}
+use Rattle.fip_base.specs.fip_language.Every.{Every}
 use Rattle.reached_instances.specs.Closed.{Closed, Int, same_closed}
 use Rattle.reached_instances.specs.SharedTrees.{Branch, trees, trees_at, Grows, AreWithin}
 use Rattle.reached_instances.specs.Numbering.{with_new}

@@ -1,8 +1,8 @@
 -- What a walk has heard of a body are its calls in text order, its annotations, and the data types that it names.
 use Rattle.std.proofs.Common.{◌≡◌, ℕ, ◌+◌, Bool, arith, length, false, List, [], ◌∷◌, ◌++◌, map, Option, refl, ap, sym, ◌∙◌, append_assoc, append-nil, nat_eq}
-use Rattle.fip_language.specs.Core.{Written, WrittenName, Binder, Argument, Variable, Literal, Constructor, Arguments, NoArguments, MoreArguments, Pattern, BinderPattern, LiteralPattern, ConstructorPattern, Patterns, NoPatterns, MorePatterns, Expression, Give, Tuple, Operation, Call, Match, Nested, Block, Last, Let, Clauses, NoClauses, MoreClauses}
-use Rattle.fip_language.specs.Mentions.{Mention, all_of, constructors_in_argument, constructors_in_arguments, constructors_in_pattern, constructors_in_patterns, constructors_in_expression, constructors_in_block, constructors_in_clauses}
-use Rattle.fip_language.specs.Stack.{CallSite, sites_in_expression, sites_in_block, sites_in_clauses}
+use Rattle.fip_base.specs.fip_language.Core.{Written, WrittenName, Binder, Argument, Variable, Literal, Constructor, Arguments, NoArguments, MoreArguments, Pattern, BinderPattern, LiteralPattern, ConstructorPattern, Patterns, NoPatterns, MorePatterns, Expression, Give, Tuple, Operation, Call, Match, Nested, Block, Last, Let, Clauses, NoClauses, MoreClauses}
+use Rattle.fip_base.specs.fip_language.Mentions.{Mention, all_of, constructors_in_argument, constructors_in_arguments, constructors_in_pattern, constructors_in_patterns, constructors_in_expression, constructors_in_block, constructors_in_clauses}
+use Rattle.fip_base.specs.fip_language.Stack.{CallSite, sites_in_expression, sites_in_block, sites_in_clauses}
 use Rattle.fip_trees.specs.Names.{meaning}
 use Rattle.reached_instances.specs.Source.{Source}
 use Rattle.reached_instances.specs.Instances.{use_at, order_on, put_in_order}

@@ -1,8 +1,8 @@
 -- Bodies of the code, one part after another.
 use Rattle.std.proofs.Common.{◌≡◌, ℕ, ◌+◌, ◌<◌, List, ◌∷◌, length, map, drop, get_or, Vec, Global, ap, sym, ◌∙◌}
-use Rattle.fip_language.specs.declared.Place.{Place}
-use Rattle.fip_language.specs.Core as C
-use Rattle.fip_language.specs.declared.Operator.{Operator}
+use Rattle.fip_base.specs.fip_language.declared.Place.{Place}
+use Rattle.fip_base.specs.fip_language.Core as C
+use Rattle.fip_base.specs.fip_language.declared.Operator.{Operator}
 use Rattle.fip_base.specs.declared.core_form.MatchKind.{MatchKind}
 use Rattle.fip_base.specs.declared.core_form.Argument.{Argument}
 use Rattle.fip_base.specs.declared.core_form.Written.{Written}

@@ -1,6 +1,6 @@
 -- Lists that are walked, one item after another.
 use Rattle.std.proofs.Common.{◌≡◌, ℕ, zero, suc, ◌+◌, ◌<◌, List, [], ◌∷◌, ◌++◌, drop, map, refl, length, get_or, Option, sym, ap, ◌∙◌, add-one, drop-cons}
-use Rattle.fip_language.specs.Core.{Name}
+use Rattle.fip_base.specs.fip_language.Core.{Name}
 use Rattle.fip_trees.specs.declared.least.Violation.{Violation}
 use Rattle.fip_trees.specs.Least.{after}
 use Rattle.fip_trees.specs.Names.{with_meaning, with_meanings}

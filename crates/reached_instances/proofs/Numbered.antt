@@ -1,8 +1,8 @@
 -- The walk that numbers, and what its list is: all that is reached, in one order.
 use Rattle.std.proofs.Common.{◌≡◌, ℕ, zero, suc, ◌+◌, ◌<◌, ◌≤◌, ◌⊎◌, inl, inr, Bool, true, false, List, [], ◌∷◌, ◌++◌, length, slice_get, Some, None, refl, ap, sym, subst, ◌∙◌, arith, if◌then◌else◌, append_assoc, append-nil}
 use Rattle.std.specs.List.{list_any}
-use Rattle.fip_language.specs.Every.{Among}
-use Rattle.fip_language.specs.Mentions.{all_of}
+use Rattle.fip_base.specs.fip_language.Every.{Among}
+use Rattle.fip_base.specs.fip_language.Mentions.{all_of}
 use Rattle.reached_instances.specs.Numbering.{with_new, Differ}
 use Rattle.reached_instances.specs.Numbering.{with_all, firsts, Way, Reached, AreNumbered, AreMore}
 use Rattle.reached_instances.proofs.Sameness.{IsSame, found, missing}

@@ -4,7 +4,7 @@ use Rattle.std.proofs.Common.{◌≡◌, ℕ, suc, ◌+◌, ◌<◌, ◌≤◌, 
 use Rattle.std.proofs.Math.Seq.{take-suc}
 use Rattle.std.proofs.lemmas.Bool.{lt-ltb, le-ltb}
 use Rattle.std.proofs.lemmas.List.{reverse-append, map-append}
-use Rattle.fip_language.specs.Core.{Written}
+use Rattle.fip_base.specs.fip_language.Core.{Written}
 use Rattle.reached_instances.specs.declared.mentions.CallSite.{CallSite}
 use Rattle.reached_instances.specs.Instances.{place_of, put_in_order}
 use Rattle.reached_instances.specs.MentionsView.{use_of}

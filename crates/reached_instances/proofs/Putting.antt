@@ -2,9 +2,9 @@
 use Rattle.std.proofs.Common.{◌≡◌, ℕ, zero, suc, ◌+◌, ◌<◌, ◌≤◌, List, [], ◌∷◌, ◌++◌, length, map, if◌then◌else◌, take, drop, get_or, refl, ap, sym, subst, ◌∙◌, arith, append_assoc, append-nil, drop_of_length-le}
 use Rattle.std.proofs.Math.Seq.{take-suc}
 use Rattle.std.proofs.lemmas.Bool.{ne_eqb}
-use Rattle.fip_language.specs.Every.{Every}
-use Rattle.fip_language.specs.Mentions.{all_of}
-use Rattle.fip_language.proofs.Plain.{every_append}
+use Rattle.fip_base.specs.fip_language.Every.{Every}
+use Rattle.fip_base.specs.fip_language.Mentions.{all_of}
+use Rattle.fip_base.proofs.fip_language.Plain.{every_append}
 use Rattle.reached_instances.specs.Closed.{Closed, Int}
 use Rattle.reached_instances.specs.PutView.{Put, with_unless_int}
 use Rattle.reached_instances.specs.SharedTrees.{AreWithin, Branch, Grows, Kept, all_at, tree_at, tree_of, trees, with_branches}

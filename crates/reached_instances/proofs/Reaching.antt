@@ -1,6 +1,6 @@
 -- What instances call, one after another.
 use Rattle.std.proofs.Common.{◌≡◌, ℕ, suc, ◌+◌, ◌<◌, ◌≤◌, List, [], ◌∷◌, ◌++◌, length, map, drop, get_or, Option, Some, None, option_map, refl, ap, sym, subst, ◌∙◌, arith, append_assoc, append-nil, drop_of_length-le}
-use Rattle.fip_language.specs.Core.{Function}
+use Rattle.fip_base.specs.fip_language.Core.{Function}
 use Rattle.reached_instances.specs.declared.mentions.CallSite.{CallSite}
 use Rattle.reached_instances.specs.declared.closed.Head.TheVariants as H
 use Rattle.reached_instances.specs.Closed.{Closed, Closeds, Int, Applied}

@@ -2,7 +2,7 @@
 use Rattle.std.proofs.Common.{◌≡◌, ℕ, zero, suc, ◌+◌, ◌<◌, Bool, true, false, ◌||◌, List, [], ◌∷◌, ◌++◌, length, slice_get, Some, refl, ap, sym, subst, ◌∙◌, arith, if◌then◌else◌}
 use Rattle.std.specs.List.{list_any}
 use Rattle.reached_instances.specs.SharedTrees.{AreShared, same_branch}
-use Rattle.fip_language.specs.Every.{Every}
+use Rattle.fip_base.specs.fip_language.Every.{Every}
 use Rattle.std.specs.Prelude.{◌&&◌, bytes_eq}
 use Rattle.reached_instances.specs.declared.closed.Head.{Head}
 use Rattle.reached_instances.specs.declared.closed.Head.TheVariants as H

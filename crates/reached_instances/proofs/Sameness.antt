@@ -1,7 +1,7 @@
 -- Whether an item is in a list, by an exact test of sameness.
 use Rattle.std.proofs.Common.{◌≡◌, inl, inr, Bool, true, false, ◌||◌, List, [], ◌∷◌, refl}
 use Rattle.std.specs.List.{list_any}
-use Rattle.fip_language.specs.Every.{Among}
+use Rattle.fip_base.specs.fip_language.Every.{Among}
 
 -- a test of sameness that is exact
 pub record IsSame {A : Type 0} (same : A → A → Bool) : Type 0 where

@@ -1,6 +1,6 @@
 -- The tree at a place is the one of its branch.
 use Rattle.std.proofs.Common.{◌≡◌, ◌⊎◌, inl, inr, ℕ, zero, suc, ◌+◌, ◌-◌, ◌<◌, ◌≤◌, List, [], ◌∷◌, length, slice_get, get_or, Some, None, refl, ap, subst, ◌∙◌, arith}
-use Rattle.fip_language.specs.Every.{Every}
+use Rattle.fip_base.specs.fip_language.Every.{Every}
 use Rattle.reached_instances.specs.Closed.{Closed, Int}
 use Rattle.reached_instances.specs.SharedTrees.{Branch, tree_of, trees, AreBefore}
 use Rattle.reached_instances.proofs.SharedTrees.{so_many, behind, at_place, before_all, among_at}

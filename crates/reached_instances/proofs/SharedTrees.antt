@@ -4,7 +4,7 @@ use Rattle.std.specs.List.{list_any}
 use Rattle.std.proofs.lemmas.List.{get_or_append_left}
 use Rattle.std.proofs.lemmas.Slice.Eq.{bytes_eq-Decides}
 use Rattle.reached_instances.specs.Closed.{Closed, Int, Applied, MoreClosed, same_closed}
-use Rattle.fip_language.specs.Every.{Every, Among}
+use Rattle.fip_base.specs.fip_language.Every.{Every, Among}
 use Rattle.reached_instances.specs.SharedTrees.{Branch, trees_at, tree_of, with_branches, trees, AreBefore, AreShared, same_branch}
 use Rattle.reached_instances.specs.Numbering.{with_new, Differ}
 use Rattle.reached_instances.proofs.Sameness.{IsSame, found, missing}

@@ -1,7 +1,7 @@
 -- The types that are met on the way from the instances.
 use Rattle.std.proofs.Common.{◌≡◌, ℕ, ◌<◌, List, [], ◌∷◌, ◌++◌, length, map, get_or, slice_get, Option, Some, None, refl, ap, sym, ◌∙◌}
-use Rattle.fip_language.specs.Core.{Written}
-use Rattle.fip_language.specs.Mentions.{all_of}
+use Rattle.fip_base.specs.fip_language.Core.{Written}
+use Rattle.fip_base.specs.fip_language.Mentions.{all_of}
 use Rattle.fip_base.specs.CoreView.{written}
 use Rattle.reached_instances.specs.declared.closed.Head.TheVariants as H
 use Rattle.reached_instances.specs.declared.closed.Head.{Head}

@@ -2,9 +2,9 @@
 use Rattle.std.proofs.Common.{◌≡◌, ℕ, zero, suc, ◌+◌, ◌<◌, Bool, true, false, not, List, [], ◌∷◌, length, slice_get, Option, Some, None, option_map, refl, ap, sym, subst, ◌∙◌, arith, if◌then◌else◌, Vec, Global}
 use Rattle.std.specs.Prelude.{◌==◌}
 use Rattle.std.proofs.lemmas.Bool.Decides.{nat_tests}
-use Rattle.fip_language.specs.declared.Place.{Place}
-use Rattle.fip_language.specs.declared.rule.Rule.TheVariants.{E20, E23}
-use Rattle.fip_language.specs.Core.{Name, Writtens}
+use Rattle.fip_base.specs.fip_language.declared.Place.{Place}
+use Rattle.fip_base.specs.fip_language.declared.rule.Rule.TheVariants.{E20, E23}
+use Rattle.fip_base.specs.fip_language.Core.{Name, Writtens}
 use Rattle.fip_trees.specs.Least.{after}
 use Rattle.fip_trees.specs.declared.least.Violation.{Violation}
 use Rattle.fip_trees.proofs.Leasts.{after-append}

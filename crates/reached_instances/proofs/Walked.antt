@@ -4,8 +4,8 @@ use Rattle.std.specs.List.{list_any}
 use Rattle.std.proofs.lemmas.Bool.{eqb-true, eqb-false}
 use Rattle.std.proofs.lemmas.List.{get_or_append_left}
 use Rattle.reached_instances.specs.Closed.{Closed, Int, same_closed}
-use Rattle.fip_language.specs.Every.{Every}
-use Rattle.fip_language.proofs.Plain.{every_append}
+use Rattle.fip_base.specs.fip_language.Every.{Every}
+use Rattle.fip_base.proofs.fip_language.Plain.{every_append}
 use Rattle.reached_instances.specs.Numbering.{with_all, firsts, AreNumbered, AreMore, numbered_of}
 use Rattle.reached_instances.specs.SharedTrees.{Branch, trees, all_at, Grows, AreWithin, AreShared}
 use Rattle.reached_instances.specs.Numbering.{with_new, Differ}

@@ -1,8 +1,8 @@
 -- How many binders there are in a function: its parameters, and those of its lets and patterns.
 -- In `fun f(a: int): int { let b = a; b }` there are two.
 use Rattle.std.specs.Prelude.{ℕ, ◌+◌, length}
-use Rattle.fip_language.specs.Core as C
-use Rattle.fip_language.specs.Core.{Function}
+use Rattle.fip_base.specs.fip_language.Core as C
+use Rattle.fip_base.specs.fip_language.Core.{Function}
 
 abbrev mutual
   pub binders_in_pattern : C.Pattern → ℕ

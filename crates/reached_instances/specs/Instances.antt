@@ -4,10 +4,10 @@
 -- With `fun g(): int { f[int](h()) }` in which f calls nothing, g and h are 0 and 1, and f[int] is 2.
 use Rattle.std.specs.Prelude.{ℕ, suc, true, List, [], ◌∷◌, ◌++◌, map, reverse, Option, Some, None, slice_get, nat_lt}
 use Rattle.std.specs.Prelude.{if◌then◌else◌}
-use Rattle.fip_language.specs.declared.Place.{Place}
-use Rattle.fip_language.specs.Core.{Written, WrittenInt, WrittenName, Static, Function}
-use Rattle.fip_language.specs.Mentions.{all_of}
-use Rattle.fip_language.specs.Stack.{CallSite, sites_in_block}
+use Rattle.fip_base.specs.fip_language.declared.Place.{Place}
+use Rattle.fip_base.specs.fip_language.Core.{Written, WrittenInt, WrittenName, Static, Function}
+use Rattle.fip_base.specs.fip_language.Mentions.{all_of}
+use Rattle.fip_base.specs.fip_language.Stack.{CallSite, sites_in_block}
 use Rattle.fip_trees.specs.declared.least.Violation.{Violation}
 use Rattle.reached_instances.specs.declared.closed.Head.TheVariants as H
 use Rattle.reached_instances.specs.Closed.{Closed, Closeds, Int, Applied, NoClosed, MoreClosed, same_closed}

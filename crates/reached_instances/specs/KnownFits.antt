@@ -1,6 +1,6 @@
 -- For the contracts of the code alone: which functions are known to fit a signature, each with whether it does.
 use Rattle.std.specs.Prelude.{◌≡◌, ℕ, ◌+◌, ◌<◌, Bool, true, List, Option, Some, None, slice_get, length}
-use Rattle.fip_language.specs.Core.{Static}
+use Rattle.fip_base.specs.fip_language.Core.{Static}
 use Rattle.reached_instances.specs.declared.closed.Head.TheVariants as H
 use Rattle.reached_instances.specs.declared.closed.Passing.{Passing}
 use Rattle.reached_instances.specs.declared.source.Source as D

@@ -1,9 +1,9 @@
 -- For the contracts of the code alone: what has been heard of a body when a walk has come so far, and how it goes on.
 use Rattle.std.specs.Prelude.{ℕ, ◌+◌, List, [], ◌∷◌, ◌++◌, map, reverse, Option, nat_eq}
-use Rattle.fip_language.specs.Core.{Name, Written, WrittenName, Binder, Argument, Variable, Literal, Constructor}
-use Rattle.fip_language.specs.Core.{Arguments, NoArguments, MoreArguments, Pattern, BinderPattern, LiteralPattern}
-use Rattle.fip_language.specs.Core.{ConstructorPattern, Patterns, NoPatterns, MorePatterns, Expression, Give, Tuple}
-use Rattle.fip_language.specs.Core.{Operation, Call, Match, Nested, Block, Last, Let, Clauses, NoClauses, MoreClauses}
+use Rattle.fip_base.specs.fip_language.Core.{Name, Written, WrittenName, Binder, Argument, Variable, Literal, Constructor}
+use Rattle.fip_base.specs.fip_language.Core.{Arguments, NoArguments, MoreArguments, Pattern, BinderPattern, LiteralPattern}
+use Rattle.fip_base.specs.fip_language.Core.{ConstructorPattern, Patterns, NoPatterns, MorePatterns, Expression, Give, Tuple}
+use Rattle.fip_base.specs.fip_language.Core.{Operation, Call, Match, Nested, Block, Last, Let, Clauses, NoClauses, MoreClauses}
 use Rattle.fip_base.specs.CoreView as V
 use Rattle.fip_trees.specs.Names.{meaning}
 use Rattle.reached_instances.specs.declared.mentions.CallSite.{CallSite}

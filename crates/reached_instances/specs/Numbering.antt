@@ -4,8 +4,8 @@
 -- With the roots a, b, where c, a come next from a and d, c from b, it is a, b, c, d.
 use Rattle.std.specs.Prelude.{◌≡◌, ℕ, suc, ◌<◌, Bool, List, [], ◌∷◌, ◌++◌, length, if◌then◌else◌}
 use Rattle.std.specs.List.{list_any}
-use Rattle.fip_language.specs.Every.{Among}
-use Rattle.fip_language.specs.Mentions.{all_of}
+use Rattle.fip_base.specs.fip_language.Every.{Among}
+use Rattle.fip_base.specs.fip_language.Mentions.{all_of}
 
 -- adds x behind the others, unless it is there
 abbrev pub with_new : {A : Type 0} → (A → A → Bool) → List A → A → List A

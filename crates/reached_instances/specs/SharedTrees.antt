@@ -3,7 +3,7 @@
 -- arguments' places.
 use Rattle.std.specs.Prelude.{◌≡◌, ℕ, suc, ◌+◌, ◌<◌, ◌^◌, Bool, ◌&&◌, bytes_eq, List, [], ◌∷◌, ◌++◌, length, map}
 use Rattle.std.specs.Prelude.{get_or, Option, Some, None}
-use Rattle.fip_language.specs.Every.{Every, Among}
+use Rattle.fip_base.specs.fip_language.Every.{Every, Among}
 use Rattle.reached_instances.specs.declared.closed.Head.{Head}
 use Rattle.reached_instances.specs.declared.closed.Passing.{Passing}
 use Rattle.reached_instances.specs.Closed.{Closed, Closeds, Int, Applied, NoClosed, MoreClosed, same_head}

@@ -1,6 +1,6 @@
 -- The program that is specialised: what its names mean, its data types and its functions; and what is looked up in it.
 use Rattle.std.specs.Prelude.{ℕ, zero, suc, ◌-◌, Bool, true, false, ◌&&◌, List, [], ◌∷◌, Option, Some, None, slice_get}
-use Rattle.fip_language.specs.Core.{Name, Static, TypeParameter, FunctionParameter, Function}
+use Rattle.fip_base.specs.fip_language.Core.{Name, Static, TypeParameter, FunctionParameter, Function}
 use Rattle.fip_trees.specs.Names.{Names, meaning, with_meanings}
 use Rattle.reached_instances.specs.declared.closed.Head.TheVariants as H
 use Rattle.reached_instances.specs.Closed.{Closed, Closeds, Int, Applied, closed_at}

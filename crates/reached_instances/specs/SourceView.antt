@@ -1,7 +1,7 @@
 -- What the values of the code stand for.
 use Rattle.std.specs.Prelude.{◌≡◌, ℕ, ◌+◌, ◌<◌, length, List, [], ◌∷◌, map, Option, Some, None}
-use Rattle.fip_language.specs.Core.{Function}
-use Rattle.fip_language.specs.Every.{Every}
+use Rattle.fip_base.specs.fip_language.Core.{Function}
+use Rattle.fip_base.specs.fip_language.Every.{Every}
 use Rattle.fip_base.specs.CoreView.{block, function, static, written}
 use Rattle.fip_base.specs.declared.core_form.Core.{Core}
 use Rattle.fip_trees.specs.declared.decls.FieldType.{FieldType}

@@ -5,11 +5,11 @@
 -- With `data list[a] { Nil; Cons(a, list[a]) }` and `fun f(xs: list[bool]): int { 0 }` they are bool and list[bool].
 use Rattle.std.specs.Prelude.{ℕ, zero, suc, ◌==◌, List, [], ◌∷◌, ◌++◌, map, Option, Some, None, slice_get}
 use Rattle.std.specs.Prelude.{if◌then◌else◌, nat_eq}
-use Rattle.fip_language.specs.Core.{Written, Binder, Pattern, BinderPattern, LiteralPattern}
-use Rattle.fip_language.specs.Core.{ConstructorPattern, Patterns, NoPatterns, MorePatterns, Expression, Give, Tuple}
-use Rattle.fip_language.specs.Core.{Operation, Call, Match, Nested, Block, Last, Let, Clauses, NoClauses, MoreClauses}
-use Rattle.fip_language.specs.Core.{SignatureParameter, Static, TypeParameter, FunctionParameter, Parameter, Function}
-use Rattle.fip_language.specs.Mentions.{Mention, all_of, constructors_in_block}
+use Rattle.fip_base.specs.fip_language.Core.{Written, Binder, Pattern, BinderPattern, LiteralPattern}
+use Rattle.fip_base.specs.fip_language.Core.{ConstructorPattern, Patterns, NoPatterns, MorePatterns, Expression, Give, Tuple}
+use Rattle.fip_base.specs.fip_language.Core.{Operation, Call, Match, Nested, Block, Last, Let, Clauses, NoClauses, MoreClauses}
+use Rattle.fip_base.specs.fip_language.Core.{SignatureParameter, Static, TypeParameter, FunctionParameter, Parameter, Function}
+use Rattle.fip_base.specs.fip_language.Mentions.{Mention, all_of, constructors_in_block}
 use Rattle.fip_trees.specs.Names.{meaning}
 use Rattle.fip_trees.specs.declared.decls.ConstructorId.{ConstructorId}
 use Rattle.reached_instances.specs.declared.closed.Head.TheVariants as H

@@ -9,13 +9,13 @@
 -- g where g has static parameters, and E22 at g where g takes two ints.
 use Rattle.std.specs.Prelude.{ℕ, suc, Bool, true, false, not, ◌&&◌, ◌||◌, ◌==◌, List, [], ◌∷◌, ◌++◌, length, Option}
 use Rattle.std.specs.Prelude.{Some, None, codes, slice_get, if◌then◌else◌}
-use Rattle.fip_language.specs.declared.Place.{Place}
-use Rattle.fip_language.specs.declared.CreditMark.{CreditMark}
-use Rattle.fip_language.specs.declared.rule.Rule.{Rule}
-use Rattle.fip_language.specs.declared.rule.Rule.TheVariants.{E11, E12, E20, E22, E23}
-use Rattle.fip_language.specs.Core.{Name, Written, WrittenInt, WrittenName, Writtens, NoWritten, MoreWritten, Result}
-use Rattle.fip_language.specs.Core.{OneResult, TupleResult, SignatureParameter, Static, TypeParameter}
-use Rattle.fip_language.specs.Core.{FunctionParameter, Parameter, Function}
+use Rattle.fip_base.specs.fip_language.declared.Place.{Place}
+use Rattle.fip_base.specs.fip_language.declared.CreditMark.{CreditMark}
+use Rattle.fip_base.specs.fip_language.declared.rule.Rule.{Rule}
+use Rattle.fip_base.specs.fip_language.declared.rule.Rule.TheVariants.{E11, E12, E20, E22, E23}
+use Rattle.fip_base.specs.fip_language.Core.{Name, Written, WrittenInt, WrittenName, Writtens, NoWritten, MoreWritten, Result}
+use Rattle.fip_base.specs.fip_language.Core.{OneResult, TupleResult, SignatureParameter, Static, TypeParameter}
+use Rattle.fip_base.specs.fip_language.Core.{FunctionParameter, Parameter, Function}
 use Rattle.fip_trees.specs.Names.{meaning}
 use Rattle.fip_trees.specs.Least.{violation}
 use Rattle.fip_trees.specs.declared.decls.TypeHead.{TypeHead}

@@ -4,10 +4,10 @@ use Rattle.std.specs.Prelude.{◌≡◌, ℕ, Bool, ◌&&◌, ◌||◌, List, []
 use Rattle.std.specs.Prelude.{slice_get}
 use Rattle.std.specs.declared.vec.Vec.{Vec}
 use Rattle.std.specs.declared.alloc.Global.{Global}
-use Rattle.fip_language.specs.declared.Place.{Place}
-use Rattle.fip_language.specs.Core.{Name, Written, Result, SignatureParameter, Parameter, Static, TypeParameter}
-use Rattle.fip_language.specs.Core.{FunctionParameter}
-use Rattle.fip_language.specs.Every.{Every}
+use Rattle.fip_base.specs.fip_language.declared.Place.{Place}
+use Rattle.fip_base.specs.fip_language.Core.{Name, Written, Result, SignatureParameter, Parameter, Static, TypeParameter}
+use Rattle.fip_base.specs.fip_language.Core.{FunctionParameter}
+use Rattle.fip_base.specs.fip_language.Every.{Every}
 use Rattle.fip_trees.specs.declared.least.Violation.{Violation}
 use Rattle.reached_instances.specs.Closed.{Closed, Closeds, same_closed}
 use Rattle.reached_instances.specs.Source.{Source, Instance, is_scalar, statics_at}

@@ -2,7 +2,7 @@
 // far more nodes than memory holds bytes; its parts are few.
 ghost use Rattle.std.specs.Prelude.{◌≡◌, ◌⊎◌, ◌+◌, ◌-◌, ◌<◌, ◌≤◌, Bool, [], None, Some, slice_get, true};
 ghost use Rattle.std.specs.Prelude.{length, IfOk, IfSome, MatchOption, OnOk};
-ghost use Rattle.fip_language.specs.Every.{Every};
+ghost use Rattle.fip_base.specs.fip_language.Every.{Every};
 ghost use Rattle.reached_instances.specs.Closed.{Applied, arguments_of, head_of, same_closed};
 ghost use Rattle.reached_instances.specs.SharedTrees.{AreShared, AreWithin, Grows, IsNoted, tree_at, trees, trees_at};
 ghost use Rattle.reached_instances.specs.Numbering.{with_new};

@@ -1,6 +1,6 @@
 // What the body of a function mentions, so that no instance walks through it for that again.
 ghost use Rattle.std.specs.Prelude.{◌≡◌, ◌≤◌, [], ◌∷◌, ◌++◌, drop, length, map, option_map, reverse, take, IfOk, OnOk};
-ghost use Rattle.fip_language.specs.Core as C;
+ghost use Rattle.fip_base.specs.fip_language.Core as C;
 ghost use Rattle.fip_base.specs.CoreView as V;
 ghost use Rattle.reached_instances.specs.Instances.{place_of, put_in_order};
 ghost use Rattle.reached_instances.specs.MentionsView as M;

@@ -1,8 +1,8 @@
 // What specialising reads: the program, and what is looked up in it once for all instances.
 ghost use Rattle.std.specs.Prelude.{◌≡◌, ◌++◌, List, map, not, option_map, slice_get, IfOk, OnOk};
-ghost use Rattle.fip_language.specs.Core as F;
-ghost use Rattle.fip_language.specs.Every.{Every};
-ghost use Rattle.fip_language.specs.Mentions.{all_of};
+ghost use Rattle.fip_base.specs.fip_language.Core as F;
+ghost use Rattle.fip_base.specs.fip_language.Every.{Every};
+ghost use Rattle.fip_base.specs.fip_language.Mentions.{all_of};
 ghost use Rattle.fip_base.specs.CoreView as V;
 ghost use Rattle.fip_trees.specs.Names.{meaning};
 ghost use Rattle.reached_instances.specs.Closed.{Closed, closed_at};

@@ -1,6 +1,6 @@
 // The types of a program.
 ghost use Rattle.std.specs.Prelude.{◌≡◌, ◌+◌, ◌<◌, [], get_or, length, map, slice_get, IfOk, OnOk};
-ghost use Rattle.fip_language.specs.Mentions.{all_of};
+ghost use Rattle.fip_base.specs.fip_language.Mentions.{all_of};
 ghost use Rattle.fip_base.specs.CoreView as V;
 ghost use Rattle.reached_instances.specs.declared.closed.Head.TheVariants as H;
 ghost use Rattle.reached_instances.specs.Closed.{Applied, MoreClosed, NoClosed};

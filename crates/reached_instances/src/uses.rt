@@ -1,6 +1,6 @@
 // Functions that are called or passed, as closed trees, and the rules on them.
 ghost use Rattle.std.specs.Prelude.{◌≡◌, ◌+◌, ◌<◌, length, map, slice_get, IfOk, OnOk};
-ghost use Rattle.fip_language.specs.Core.{WrittenName};
+ghost use Rattle.fip_base.specs.fip_language.Core.{WrittenName};
 ghost use Rattle.fip_base.specs.CoreView as V;
 ghost use Rattle.fip_trees.specs.Least.{after};
 ghost use Rattle.reached_instances.specs.KnownFits.{IsRight};

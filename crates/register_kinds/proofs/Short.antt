@@ -1,7 +1,7 @@
 -- Two lists in step, of which the other ends first.
 use Rattle.std.proofs.Common.{◌≡◌, ℕ, zero, suc, ◌<◌, ◌≤◌, List, [], ◌∷◌, None, drop, length, slice_get, refl, arith}
 use Rattle.std.specs.Prelude.{Bool, true}
-use Rattle.fip_language.specs.Table.{Table}
+use Rattle.cell_code.specs.fip_language.Table.{Table}
 use Rattle.fip_base.specs.declared.plain.Param.{Param}
 use Rattle.cell_code.specs.declared.kind.Kind.{Kind}
 use Rattle.code_rules.specs.Handing.{give_all, pass_all, hand_all, lend_all}

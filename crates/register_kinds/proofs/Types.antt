@@ -2,7 +2,7 @@
 use Rattle.std.proofs.Common.{◌≡◌, ℕ, zero, suc, ◌<◌, ◌≤◌, List, [], ◌∷◌, length, slice_get, get_or, sym, ap, ◌∙◌, Some, refl, arith}
 use Rattle.std.specs.Prelude.{Bool, false, ◌&&◌}
 use Rattle.std.proofs.lemmas.Bool.{lt-ltb, le-ltb}
-use Rattle.fip_language.specs.Table.{Table, Shape, shapes, constructors, is_scalar}
+use Rattle.cell_code.specs.fip_language.Table.{Table, Shape, shapes, constructors, is_scalar}
 use Rattle.code_rules.specs.Types.{fields_of, is_scalar_type}
 use Rattle.register_kinds.specs.Kept.{IsMarked}
 

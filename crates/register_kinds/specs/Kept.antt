@@ -4,7 +4,7 @@
 -- asks at all, and which registers have the set of one.
 use Rattle.std.specs.Prelude.{◌≡◌, ℕ, zero, suc, ◌+◌, ◌<◌, Bool, true, false, List, [], ◌∷◌, ◌++◌, Option, Some, None}
 use Rattle.std.specs.Prelude.{length, slice_get, take, drop, ◌==◌, ◌||◌, ◌⊎◌}
-use Rattle.fip_language.specs.Table.{Table, is_scalar}
+use Rattle.cell_code.specs.fip_language.Table.{Table, is_scalar}
 use Rattle.cell_code.specs.declared.kind.From.{From}
 use Rattle.cell_code.specs.declared.kind.Kind.{Kind}
 use Rattle.cell_code.specs.declared.kind.Kind.TheVariants.{Gone, Scalar, Owned, Lent, Credit}

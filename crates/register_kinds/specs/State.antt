@@ -3,7 +3,7 @@
 -- and, while a cell is taken apart, the heirs that they reach.
 use Rattle.std.specs.Prelude.{ℕ, Bool, List, [], drop, length, Option, None, option_and_then, ◌+◌, ◌==◌}
 use Rattle.std.specs.Prelude.{if◌then◌else◌}
-use Rattle.fip_language.specs.Table.{Table}
+use Rattle.cell_code.specs.fip_language.Table.{Table}
 use Rattle.fip_base.specs.declared.plain.Param.{Param}
 use Rattle.cell_code.specs.declared.kind.Kind.{Kind}
 use Rattle.code_rules.specs.Codes.{PlainCode, LabelMap}

@@ -2,7 +2,7 @@
 -- reach; and what is made of each register in turn.
 use Rattle.std.specs.Prelude.{◌≡◌, ℕ, suc, Bool, true, false, ◌||◌, is_some, List, [], ◌∷◌, Option, Some, None}
 use Rattle.std.specs.Prelude.{◌<◌, length, set, if◌then◌else◌, ◌==◌, nat_lt}
-use Rattle.fip_language.specs.Table.{Table}
+use Rattle.cell_code.specs.fip_language.Table.{Table}
 use Rattle.cell_code.specs.declared.kind.From.{From}
 use Rattle.cell_code.specs.declared.kind.Kind.{Kind}
 use Rattle.code_rules.specs.Kinds.{at, has, from_of, is_lent_of}

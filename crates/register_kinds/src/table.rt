@@ -1,6 +1,6 @@
 // What the numbers of types and constructors of a code mean.
 ghost use Rattle.std.specs.Prelude.{◌≡◌, IfOk};
-ghost use Rattle.fip_language.specs.Table.{constructors};
+ghost use Rattle.cell_code.specs.fip_language.Table.{constructors};
 ghost use Rattle.code_rules.specs.Ranges.{is_constructor};
 ghost use Rattle.code_rules.specs.Types.{count, fields, is_scalar_type, is_type};
 ghost use Rattle.register_kinds.specs.Kept.{IsMarked};
@@ -20,7 +20,7 @@ pub struct Table<'a> {
 }
 
 impl<'a> Model for Table<'a> {
-    ghost use Rattle.fip_language.specs.Table.{Table as Types};
+    ghost use Rattle.cell_code.specs.fip_language.Table.{Table as Types};
     ghost use Rattle.register_kinds.specs.Kept.{IsMarked};
 
     ghost Value = { Types };

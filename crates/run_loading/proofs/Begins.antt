@@ -5,29 +5,29 @@ use Rattle.std.proofs.Common.{◌≡◌, inl, inr, ℕ, zero, suc, ◌+◌, ◌<
 use Rattle.std.specs.Prelude.{replicate}
 use Rattle.std.proofs.lemmas.Option.{none-some}
 use Rattle.std.proofs.lemmas.List.{length-replicate}
-use Rattle.fip_language.specs.Every.{Every}
-use Rattle.fip_language.specs.Table.{Shape, Table, shapes, HasType, HaveTypes}
-use Rattle.fip_language.specs.Values.{Value, Int, Node, Values, End, More}
-use Rattle.fip_language.specs.Store.{Cell, Placed, PlacedInt, Bare, At, Parts, NoParts, MoreParts, word_of, words_of, value_of, values_of, uses, uses_of_all, one_at, count}
-use Rattle.machine_semantics.specs.Words.{place_word}
-use Rattle.machine_semantics.specs.Cells.{Store, IsSized, cell_in, cell_at, size_of, credit_cell, one_if_some, one_if_true}
-use Rattle.machine_semantics.specs.Trees.{Stands, StandAll}
-use Rattle.machine_semantics.specs.States.{State}
-use Rattle.machine_semantics.specs.Steps.{Kinds, first_frame}
-use Rattle.machine_semantics.specs.Runs.{loaded, loaded_in, lent_words}
-use Rattle.machine_semantics.specs.Apart.{AreSpare, IsGiven}
-use Rattle.code_rules.specs.Codes.{PlainCode, PlainFunction, function_at}
-use Rattle.code_rules.specs.Limits.{most_fields, most_registers, most_results, most_credits}
-use Rattle.code_rules.specs.Headers.{is_size, are_sizes, are_params, is_formed}
-use Rattle.code_rules.specs.declared.rule.SoundRule.TheVariants.{S0}
-use Rattle.code_rules.specs.Breaks.{IsSound}
-use Rattle.separation_kinds.proofs.Basics.{both, below, less_or_not}
-use Rattle.separation_kinds.proofs.Agree.{one_here, one_apart}
-use Rattle.separation.specs.Codes.{run_function, run_code, HasLiterals, AreKinds}
-use Rattle.separation.specs.Starts.{IsStart}
-use Rattle.separation.proofs.Sound.{never, formed}
-use Rattle.separation.proofs.Loading.{loaded_is}
-use Rattle.separation.proofs.Calling.{run_function_at}
+use Rattle.tree_refinement.specs.fip_language.Every.{Every}
+use Rattle.tree_refinement.specs.fip_language.Table.{Shape, Table, shapes, HasType, HaveTypes}
+use Rattle.tree_refinement.specs.fip_language.Values.{Value, Int, Node, Values, End, More}
+use Rattle.tree_refinement.specs.fip_language.Store.{Cell, Placed, PlacedInt, Bare, At, Parts, NoParts, MoreParts, word_of, words_of, value_of, values_of, uses, uses_of_all, one_at, count}
+use Rattle.tree_refinement.specs.machine_semantics.Words.{place_word}
+use Rattle.tree_refinement.specs.machine_semantics.Cells.{Store, IsSized, cell_in, cell_at, size_of, credit_cell, one_if_some, one_if_true}
+use Rattle.tree_refinement.specs.machine_semantics.Trees.{Stands, StandAll}
+use Rattle.tree_refinement.specs.machine_semantics.States.{State}
+use Rattle.tree_refinement.specs.machine_semantics.Steps.{Kinds, first_frame}
+use Rattle.tree_refinement.specs.machine_semantics.Runs.{loaded, loaded_in, lent_words}
+use Rattle.tree_refinement.specs.machine_semantics.Apart.{AreSpare, IsGiven}
+use Rattle.tree_refinement.specs.code_rules.Codes.{PlainCode, PlainFunction, function_at}
+use Rattle.tree_refinement.specs.code_rules.Limits.{most_fields, most_registers, most_results, most_credits}
+use Rattle.tree_refinement.specs.code_rules.Headers.{is_size, are_sizes, are_params, is_formed}
+use Rattle.tree_refinement.specs.code_rules.declared.rule.SoundRule.TheVariants.{S0}
+use Rattle.tree_refinement.specs.code_rules.Breaks.{IsSound}
+use Rattle.tree_refinement.proofs.separation_kinds.Basics.{both, below, less_or_not}
+use Rattle.tree_refinement.proofs.separation_kinds.Agree.{one_here, one_apart}
+use Rattle.tree_refinement.specs.separation.Codes.{run_function, run_code, HasLiterals, AreKinds}
+use Rattle.tree_refinement.specs.separation.Starts.{IsStart}
+use Rattle.tree_refinement.proofs.separation.Sound.{never, formed}
+use Rattle.tree_refinement.proofs.separation.Loading.{loaded_is}
+use Rattle.tree_refinement.proofs.separation.Calling.{run_function_at}
 use Rattle.tree_refinement.specs.Runs.{BeginsWith}
 use Rattle.tree_refinement.proofs.Loading.{begins_values, begins_with}
 use Rattle.run_loading.specs.Loading.{places_of, value_places, all_places, value_word, all_words, credit_places, credit_words, first_store, first_words}

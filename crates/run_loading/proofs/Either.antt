@@ -2,8 +2,8 @@
 use Rattle.std.proofs.Common.{◌≡◌, ℕ, ◌≤◌, ◌⊎◌, Bool, true, false, nat_lt, nat_le, List, [], ◌∷◌, ◌++◌, length, refl, sym, subst, ◌∙◌, inl, inr, arith}
 use Rattle.std.specs.Prelude.{codes}
 use Rattle.std.proofs.lemmas.Bool.Decides.{nat_tests}
-use Rattle.fip_language.specs.declared.limits.TheConstants.{MOST_FILE_BYTES}
-use Rattle.machine_semantics.specs.Traces.{Event}
+use Rattle.tree_refinement.specs.fip_language.declared.limits.TheConstants.{MOST_FILE_BYTES}
+use Rattle.tree_refinement.specs.machine_semantics.Traces.{Event}
 use Rattle.run_loading.specs.TraceText.{Loaded, Trace}
 use Rattle.run_loading.specs.TraceReading.{Read, Got, Bad, read_number, read_exactly, read_cells}
 use Rattle.run_loading.specs.TraceReading.{read_events, last_step, read_end, read_steps, read_all_events, read_all_cells}

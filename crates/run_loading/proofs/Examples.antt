@@ -1,6 +1,6 @@
 -- The examples, by computation alone.
 use Rattle.std.proofs.Common.{◌≡◌, [], ◌∷◌, refl}
-use Rattle.machine_semantics.specs.Example.{flat}
+use Rattle.tree_refinement.specs.machine_semantics.Example.{flat}
 use Rattle.run_loading.specs.Loading.{first_store, first_words}
 use Rattle.run_loading.specs.TraceText.{big_endian, trace_text}
 use Rattle.run_loading.specs.TraceReading.{Got, Bad, read_number, read_trace}

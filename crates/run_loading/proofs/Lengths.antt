@@ -2,9 +2,9 @@
 use Rattle.std.proofs.Common.{◌≡◌, ℕ, suc, ◌+◌, List, [], ◌∷◌, ◌++◌, refl, ap, ◌∙◌, arith, length-append}
 use Rattle.std.proofs.lemmas.List.{length-replicate}
 use Rattle.std.specs.Prelude.{length}
-use Rattle.fip_language.specs.Store.{Cell}
-use Rattle.fip_language.specs.Values.{Value, Int, Node, Values, End, More, count_of, words_needed, words_needed_by_all}
-use Rattle.machine_semantics.specs.Cells.{size_of, credit_cell}
+use Rattle.tree_refinement.specs.fip_language.Store.{Cell}
+use Rattle.tree_refinement.specs.fip_language.Values.{Value, Int, Node, Values, End, More, count_of, words_needed, words_needed_by_all}
+use Rattle.tree_refinement.specs.machine_semantics.Cells.{size_of, credit_cell}
 use Rattle.run_loading.specs.Loading.{places_of, value_places, all_places, value_word, all_words, credit_places}
 use Rattle.run_loading.specs.Loading.{first_store, words_of_credits}
 

@@ -2,14 +2,14 @@
 -- behind the last of them; these stay without cells, and have no lines.
 use Rattle.std.proofs.Common.{◌≡◌, ℕ, zero, suc, ◌-◌, ◌≤◌, Bool, true, false, List, [], ◌∷◌, ◌++◌, length, Option, Some, None, refl, sym, ap, subst, ◌∙◌, arith, slice_get}
 use Rattle.std.specs.Prelude.{replicate, slice_set, nat_le, nat_eq, if◌then◌else◌}
-use Rattle.fip_language.specs.Store.{Cell}
-use Rattle.machine_semantics.specs.Cells.{Store, Change, Write, Release, cell_in, cell_at, size_of, written, given_up, changed}
-use Rattle.machine_semantics.specs.Codes.{PlainCode}
-use Rattle.machine_semantics.specs.States.{State}
-use Rattle.machine_semantics.specs.Steps.{Kinds}
-use Rattle.machine_semantics.specs.Runs.{begun, after, state_of}
-use Rattle.machine_semantics.specs.Traces.{Event, events, changed_or, applied_if, replay}
-use Rattle.machine_semantics.proofs.Replayed.{replay_is}
+use Rattle.tree_refinement.specs.fip_language.Store.{Cell}
+use Rattle.tree_refinement.specs.machine_semantics.Cells.{Store, Change, Write, Release, cell_in, cell_at, size_of, written, given_up, changed}
+use Rattle.tree_refinement.specs.machine_semantics.Codes.{PlainCode}
+use Rattle.tree_refinement.specs.machine_semantics.States.{State}
+use Rattle.tree_refinement.specs.machine_semantics.Steps.{Kinds}
+use Rattle.tree_refinement.specs.machine_semantics.Runs.{begun, after, state_of}
+use Rattle.tree_refinement.specs.machine_semantics.Traces.{Event, events, changed_or, applied_if, replay}
+use Rattle.tree_refinement.proofs.machine_semantics.Replayed.{replay_is}
 use Rattle.run_loading.specs.Loading.{unreleased}
 use Rattle.run_loading.specs.TraceText.{Loaded}
 use Rattle.run_loading.specs.Replaying.{place_line, lines_from, store_text, places_from, replayed, loaded_from, trace_of}

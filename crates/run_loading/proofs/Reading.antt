@@ -3,10 +3,10 @@
 use Rattle.std.proofs.Common.{◌≡◌, ◌≢◌, ℕ, zero, suc, ◌+◌, ◌*◌, ◌/◌, ◌%◌, ◌^◌, ◌<◌, ◌≤◌, Bool, true, ◌&&◌, nat_le, nat_lt}
 use Rattle.std.proofs.Common.{List, [], ◌∷◌, ◌++◌, length, Option, Some, None, refl, sym, ap, subst, ◌∙◌, arith, append_assoc, le-leb}
 use native.Mathlib.Nat.{pow-suc}
-use Rattle.fip_language.specs.declared.limits.TheConstants.{MOST_FIELDS}
-use Rattle.fip_language.specs.Every.{Every}
-use Rattle.machine_semantics.specs.Cells.{Change, Write, Release}
-use Rattle.machine_semantics.specs.Traces.{Event}
+use Rattle.tree_refinement.specs.fip_language.declared.limits.TheConstants.{MOST_FIELDS}
+use Rattle.tree_refinement.specs.fip_language.Every.{Every}
+use Rattle.tree_refinement.specs.machine_semantics.Cells.{Change, Write, Release}
+use Rattle.tree_refinement.specs.machine_semantics.Traces.{Event}
 use Rattle.run_loading.specs.TraceText.{Loaded, Trace, big_endian, words_text, cell_text, cells_text, change_text}
 use Rattle.run_loading.specs.TraceText.{events_text, trace_text, IsWord, IsCell, AreCells, size_at, left_by, IsChange}
 use Rattle.run_loading.specs.TraceText.{AreEvents, IsTrace}

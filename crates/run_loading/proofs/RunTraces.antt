@@ -2,24 +2,24 @@
 -- aren't released yet are those of the state.
 use Rattle.std.proofs.Common.{◌≡◌, ◌≢◌, inl, inr, ℕ, zero, suc, ◌+◌, ◌^◌, ◌<◌, ◌≤◌, Bool, true, false, List, [], ◌∷◌, ◌++◌, length, Option, Some, None, slice_get, slice_set, refl, sym, ap, ap₂, ◌∙◌, subst, arith, ◌==◌, if◌then◌else◌}
 use Rattle.std.proofs.lemmas.Option.{none-some, same_Some, option_and_then_some}
-use Rattle.fip_language.specs.Every.{Every}
-use Rattle.fip_language.specs.Store.{Cell}
-use Rattle.machine_semantics.specs.Cells.{Store, IsStore, IsSized, Change, Write, Release, cell_in, cell_at, size_of, size_in, sizes, one_if_true, released_at, given_up, changed, changed_by}
-use Rattle.machine_semantics.specs.States.{State, Next, Went, Entered, Gave, Trapped, TooDeep, Stuck}
-use Rattle.machine_semantics.specs.Steps.{Kinds, next, changes_of}
-use Rattle.machine_semantics.specs.Runs.{End, Run, Going, Over, begun, comes}
-use Rattle.machine_semantics.specs.Traces.{Event, events_of, done_changes, events}
-use Rattle.machine_semantics.proofs.Followed.{Followed, followed}
-use Rattle.machine_semantics.proofs.Sizes.{went_keeps}
-use Rattle.code_rules.specs.Codes.{PlainCode, results}
-use Rattle.code_rules.specs.Breaks.{IsSound}
-use Rattle.separation_kinds.proofs.Basics.{pick, chosen, refused, equal, equal_is, unequal_is, length_map}
-use Rattle.separation.proofs.Stores.{same_place, IsWritten, is_written}
-use Rattle.separation.specs.Codes.{run_code, HasLiterals, AreKinds}
-use Rattle.separation.specs.Starts.{IsStart}
-use Rattle.separation.specs.Alive.{IsAlive}
-use Rattle.separation.proofs.Loading.{start_alive}
-use Rattle.separation.proofs.Running.{GoodRun, later_good}
+use Rattle.tree_refinement.specs.fip_language.Every.{Every}
+use Rattle.tree_refinement.specs.fip_language.Store.{Cell}
+use Rattle.tree_refinement.specs.machine_semantics.Cells.{Store, IsStore, IsSized, Change, Write, Release, cell_in, cell_at, size_of, size_in, sizes, one_if_true, released_at, given_up, changed, changed_by}
+use Rattle.tree_refinement.specs.machine_semantics.States.{State, Next, Went, Entered, Gave, Trapped, TooDeep, Stuck}
+use Rattle.tree_refinement.specs.machine_semantics.Steps.{Kinds, next, changes_of}
+use Rattle.tree_refinement.specs.machine_semantics.Runs.{End, Run, Going, Over, begun, comes}
+use Rattle.tree_refinement.specs.machine_semantics.Traces.{Event, events_of, done_changes, events}
+use Rattle.tree_refinement.proofs.machine_semantics.Followed.{Followed, followed}
+use Rattle.tree_refinement.proofs.machine_semantics.Sizes.{went_keeps}
+use Rattle.tree_refinement.specs.code_rules.Codes.{PlainCode, results}
+use Rattle.tree_refinement.specs.code_rules.Breaks.{IsSound}
+use Rattle.tree_refinement.proofs.separation_kinds.Basics.{pick, chosen, refused, equal, equal_is, unequal_is, length_map}
+use Rattle.tree_refinement.proofs.separation.Stores.{same_place, IsWritten, is_written}
+use Rattle.tree_refinement.specs.separation.Codes.{run_code, HasLiterals, AreKinds}
+use Rattle.tree_refinement.specs.separation.Starts.{IsStart}
+use Rattle.tree_refinement.specs.separation.Alive.{IsAlive}
+use Rattle.tree_refinement.proofs.separation.Loading.{start_alive}
+use Rattle.tree_refinement.proofs.separation.Running.{GoodRun, later_good}
 use Rattle.run_loading.specs.TraceText.{Loaded, IsWord, AreCells, size_at, without, AreEvents, IsTrace}
 use Rattle.run_loading.specs.Replaying.{loaded_from, trace_of}
 use Rattle.run_loading.specs.Writable.{HaveFewConstructors, IsWritable}

@@ -2,12 +2,12 @@
 use Rattle.std.proofs.Common.{◌≡◌, ℕ, zero, suc, ◌+◌, ◌^◌, ◌<◌, false, List, [], ◌∷◌, ◌++◌, length, Option, Some, None, slice_get, refl, subst, arith, length-append}
 use Rattle.std.specs.Prelude.{replicate}
 use Rattle.std.proofs.lemmas.Option.{none-some}
-use Rattle.fip_language.specs.Every.{Every}
-use Rattle.fip_language.specs.Table.{Shape, Table, constructors, HasType, HaveTypes}
-use Rattle.fip_language.specs.Values.{Value, Int, Node, Values, End, More}
-use Rattle.fip_language.specs.Store.{Cell}
-use Rattle.machine_semantics.specs.Cells.{cell_in, size_of, credit_cell, one_if_true}
-use Rattle.separation_kinds.proofs.Basics.{get_within}
+use Rattle.tree_refinement.specs.fip_language.Every.{Every}
+use Rattle.tree_refinement.specs.fip_language.Table.{Shape, Table, constructors, HasType, HaveTypes}
+use Rattle.tree_refinement.specs.fip_language.Values.{Value, Int, Node, Values, End, More}
+use Rattle.tree_refinement.specs.fip_language.Store.{Cell}
+use Rattle.tree_refinement.specs.machine_semantics.Cells.{cell_in, size_of, credit_cell, one_if_true}
+use Rattle.tree_refinement.proofs.separation_kinds.Basics.{get_within}
 use Rattle.run_loading.specs.Loading.{places_of, value_places, all_places, value_word, all_words, credit_places, first_store}
 use Rattle.run_loading.specs.TraceText.{IsWord}
 use Rattle.run_loading.specs.Writable.{HaveFewConstructors, IsWritable}

@@ -4,39 +4,39 @@ use Rattle.std.proofs.Common.{◌≡◌, ◌⊎◌, inl, inr, ℕ, zero, suc, �
 use Rattle.std.specs.Prelude.{option_and_then, option_map, is_some}
 use Rattle.std.specs.Int.{w64}
 use Rattle.std.proofs.lemmas.Option.{none-some}
-use Rattle.fip_language.specs.Every.{Every}
-use Rattle.fip_language.specs.Arithmetic.{Operated, Is, Fails}
-use Rattle.fip_language.specs.Table.{Table, constructors}
-use Rattle.fip_language.specs.Store.{Cell, Placed, PlacedInt, Bare, At, Parts, NoParts, MoreParts, int_word, word_of, words_of, places}
-use Rattle.cell_code.specs.declared.code.Instr.{Instr}
-use Rattle.cell_code.specs.declared.code.Instr.TheVariants as I
-use Rattle.cell_code.specs.declared.kind.Kind.{Kind}
-use Rattle.cell_code.specs.declared.kind.Kind.TheVariants.{Credit}
-use Rattle.machine_semantics.specs.Words.{place_of, place_word}
-use Rattle.machine_semantics.specs.Cells.{Store, Change, Write, Release, cell_in, cell_at, size_of, released_at}
-use Rattle.machine_semantics.specs.Trees.{Stands, StandAll}
-use Rattle.machine_semantics.specs.States.{State}
-use Rattle.machine_semantics.specs.Rows as W
-use Rattle.machine_semantics.specs.Steps.{Kinds, changes_in, changes_at, changes_of, instr_of, kinds_of}
-use Rattle.machine_semantics.specs.Apart.{holding_uses, owned_uses}
-use Rattle.code_rules.specs.Codes.{PlainCode}
-use Rattle.code_rules.specs.Types.{fields}
-use Rattle.code_rules.specs.Kinds.{at}
-use Rattle.code_rules.specs.Ranges.{are_below, is_constructor}
-use Rattle.code_rules.specs.Handing.{give_all}
-use Rattle.code_rules.specs.Breaks.{IsSound}
-use Rattle.separation_kinds.specs.Meanings.{IsSpare, Means, word_at}
-use Rattle.separation_kinds.proofs.Basics.{both, below, at_past, length_map}
-use Rattle.separation_kinds.proofs.Agree.{one_here, owned_part}
-use Rattle.separation_kinds.proofs.Words.{word_get, read_words}
-use Rattle.separation_kinds.proofs.Giving.{credit_of, given}
-use Rattle.separation.specs.Rows.{IsReady}
-use Rattle.separation.proofs.Reading.{place_is}
-use Rattle.separation.proofs.Stores.{there_few}
-use Rattle.separation.specs.Codes.{run_code, HasLiterals, AreKinds}
-use Rattle.separation.specs.Alive.{lower_trees, IsAlive}
-use Rattle.separation.proofs.Local.{ready}
-use Rattle.separation.proofs.Returning.{run_instr_at}
+use Rattle.tree_refinement.specs.fip_language.Every.{Every}
+use Rattle.tree_refinement.specs.fip_language.Arithmetic.{Operated, Is, Fails}
+use Rattle.tree_refinement.specs.fip_language.Table.{Table, constructors}
+use Rattle.tree_refinement.specs.fip_language.Store.{Cell, Placed, PlacedInt, Bare, At, Parts, NoParts, MoreParts, int_word, word_of, words_of, places}
+use Rattle.tree_refinement.specs.cell_code.declared.code.Instr.{Instr}
+use Rattle.tree_refinement.specs.cell_code.declared.code.Instr.TheVariants as I
+use Rattle.tree_refinement.specs.cell_code.declared.kind.Kind.{Kind}
+use Rattle.tree_refinement.specs.cell_code.declared.kind.Kind.TheVariants.{Credit}
+use Rattle.tree_refinement.specs.machine_semantics.Words.{place_of, place_word}
+use Rattle.tree_refinement.specs.machine_semantics.Cells.{Store, Change, Write, Release, cell_in, cell_at, size_of, released_at}
+use Rattle.tree_refinement.specs.machine_semantics.Trees.{Stands, StandAll}
+use Rattle.tree_refinement.specs.machine_semantics.States.{State}
+use Rattle.tree_refinement.specs.machine_semantics.Rows as W
+use Rattle.tree_refinement.specs.machine_semantics.Steps.{Kinds, changes_in, changes_at, changes_of, instr_of, kinds_of}
+use Rattle.tree_refinement.specs.machine_semantics.Apart.{holding_uses, owned_uses}
+use Rattle.tree_refinement.specs.code_rules.Codes.{PlainCode}
+use Rattle.tree_refinement.specs.code_rules.Types.{fields}
+use Rattle.tree_refinement.specs.code_rules.Kinds.{at}
+use Rattle.tree_refinement.specs.code_rules.Ranges.{are_below, is_constructor}
+use Rattle.tree_refinement.specs.code_rules.Handing.{give_all}
+use Rattle.tree_refinement.specs.code_rules.Breaks.{IsSound}
+use Rattle.tree_refinement.specs.separation_kinds.Meanings.{IsSpare, Means, word_at}
+use Rattle.tree_refinement.proofs.separation_kinds.Basics.{both, below, at_past, length_map}
+use Rattle.tree_refinement.proofs.separation_kinds.Agree.{one_here, owned_part}
+use Rattle.tree_refinement.proofs.separation_kinds.Words.{word_get, read_words}
+use Rattle.tree_refinement.proofs.separation_kinds.Giving.{credit_of, given}
+use Rattle.tree_refinement.specs.separation.Rows.{IsReady}
+use Rattle.tree_refinement.proofs.separation.Reading.{place_is}
+use Rattle.tree_refinement.proofs.separation.Stores.{there_few}
+use Rattle.tree_refinement.specs.separation.Codes.{run_code, HasLiterals, AreKinds}
+use Rattle.tree_refinement.specs.separation.Alive.{lower_trees, IsAlive}
+use Rattle.tree_refinement.proofs.separation.Local.{ready}
+use Rattle.tree_refinement.proofs.separation.Returning.{run_instr_at}
 use Rattle.run_loading.specs.TraceText.{IsWord}
 use Rattle.run_loading.specs.Writable.{HaveFewConstructors}
 

@@ -2,9 +2,9 @@
 -- fbip fun inc(xs: ints): ints { match! xs { Nil -> Nil; Cons(x, t) -> Cons(x + 1, inc(t)) } }
 -- has its one event at a later step. Behind it a trace whose cell is released.
 use Rattle.std.specs.Prelude.{ℕ, List, [], ◌∷◌, ◌++◌, codes, pos}
-use Rattle.fip_language.specs.Values.{Value, Int, Node, Values, End, More}
-use Rattle.fip_language.specs.Store.{Cell}
-use Rattle.machine_semantics.specs.Cells.{Write, Release}
+use Rattle.tree_refinement.specs.fip_language.Values.{Value, Int, Node, Values, End, More}
+use Rattle.tree_refinement.specs.fip_language.Store.{Cell}
+use Rattle.tree_refinement.specs.machine_semantics.Cells.{Write, Release}
 use Rattle.run_loading.specs.TraceText.{Loaded, Trace}
 
 -- Cons(1, Nil) at place 0

@@ -9,10 +9,10 @@
 -- Cons(1, Cons(2, Nil)) has Cons(2, Nil) at 0 and Cons(1, ..) at 3, and its word is 7; a credit of size 2 behind it has
 -- its cell at 6, and its word is 13.
 use Rattle.std.specs.Prelude.{ℕ, suc, ◌+◌, false, List, [], ◌∷◌, ◌++◌, Option, Some, None, length, replicate}
-use Rattle.fip_language.specs.Values.{Value, Int, Node, Values, End, More}
-use Rattle.fip_language.specs.Store.{Cell, int_word}
-use Rattle.machine_semantics.specs.Cells.{Store, size_of, credit_cell}
-use Rattle.machine_semantics.specs.Words.{atom_word, place_word}
+use Rattle.tree_refinement.specs.fip_language.Values.{Value, Int, Node, Values, End, More}
+use Rattle.tree_refinement.specs.fip_language.Store.{Cell, int_word}
+use Rattle.tree_refinement.specs.machine_semantics.Cells.{Store, size_of, credit_cell}
+use Rattle.tree_refinement.specs.machine_semantics.Words.{atom_word, place_word}
 
 -- the places of a cell: its own, and those of its fields
 abbrev pub places_of : Cell → List (Option Cell)

@@ -6,13 +6,13 @@
 use Rattle.std.specs.Prelude.{ℕ, suc, ◌-◌, Bool, true, false, List, [], ◌∷◌, ◌++◌, replicate, codes}
 use Rattle.std.specs.Prelude.{Option, Some, None}
 use Rattle.std.specs.Fmt.{decimal}
-use Rattle.fip_language.specs.Store.{Cell}
-use Rattle.machine_semantics.specs.Cells.{Store}
-use Rattle.machine_semantics.specs.Codes.{PlainCode}
-use Rattle.machine_semantics.specs.States.{State}
-use Rattle.machine_semantics.specs.Steps.{Kinds}
-use Rattle.machine_semantics.specs.Runs.{begun}
-use Rattle.machine_semantics.specs.Traces.{events, replay}
+use Rattle.tree_refinement.specs.fip_language.Store.{Cell}
+use Rattle.tree_refinement.specs.machine_semantics.Cells.{Store}
+use Rattle.tree_refinement.specs.machine_semantics.Codes.{PlainCode}
+use Rattle.tree_refinement.specs.machine_semantics.States.{State}
+use Rattle.tree_refinement.specs.machine_semantics.Steps.{Kinds}
+use Rattle.tree_refinement.specs.machine_semantics.Runs.{begun}
+use Rattle.tree_refinement.specs.machine_semantics.Traces.{events, replay}
 use Rattle.run_loading.specs.Loading.{unreleased}
 use Rattle.run_loading.specs.TraceText.{Loaded, Trace}
 

@@ -9,10 +9,10 @@
 -- A file of no bytes is bad at 0; that of the example with a 2 for the event's 0 is bad at 47.
 use Rattle.std.specs.Prelude.{◌≡◌, ◌⊎◌, ℕ, zero, suc, ◌+◌, ◌*◌, ◌<◌, ◌≤◌, Bool, true, false, ◌&&◌, nat_lt, nat_le, ◌==◌}
 use Rattle.std.specs.Prelude.{List, [], ◌∷◌, ◌++◌, length, codes, Option, Some, None}
-use Rattle.fip_language.specs.declared.limits.TheConstants.{MOST_FIELDS, MOST_FILE_BYTES}
-use Rattle.fip_language.specs.Every.{Every}
-use Rattle.machine_semantics.specs.Cells.{Write, Release}
-use Rattle.machine_semantics.specs.Traces.{Event}
+use Rattle.tree_refinement.specs.fip_language.declared.limits.TheConstants.{MOST_FIELDS, MOST_FILE_BYTES}
+use Rattle.tree_refinement.specs.fip_language.Every.{Every}
+use Rattle.tree_refinement.specs.machine_semantics.Cells.{Write, Release}
+use Rattle.tree_refinement.specs.machine_semantics.Traces.{Event}
 use Rattle.run_loading.specs.TraceText.{Loaded, Trace, size_at, left_by}
 
 -- what reading gives: something that ends at an offset, with the bytes behind it; or the offset that is bad

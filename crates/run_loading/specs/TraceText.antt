@@ -11,10 +11,10 @@
 -- 80 bytes.
 use Rattle.std.specs.Prelude.{◌≡◌, ◌≢◌, ℕ, zero, suc, ◌/◌, ◌%◌, ◌^◌, ◌<◌, ◌≤◌, List, [], ◌∷◌, ◌++◌, length, codes}
 use Rattle.std.specs.Prelude.{Option, Some, None, ◌==◌, if◌then◌else◌}
-use Rattle.fip_language.specs.declared.limits.TheConstants.{MOST_FIELDS}
-use Rattle.fip_language.specs.Every.{Every}
-use Rattle.machine_semantics.specs.Cells.{Change, Write, Release}
-use Rattle.machine_semantics.specs.Traces.{Event}
+use Rattle.tree_refinement.specs.fip_language.declared.limits.TheConstants.{MOST_FIELDS}
+use Rattle.tree_refinement.specs.fip_language.Every.{Every}
+use Rattle.tree_refinement.specs.machine_semantics.Cells.{Change, Write, Release}
+use Rattle.tree_refinement.specs.machine_semantics.Traces.{Event}
 
 -- a cell that is there before the first step
 pub record Loaded : Type 0 where

@@ -6,10 +6,10 @@
 --
 -- Of Cons(1, Nil) in the store of the examples this holds: three places, the constructor 1 and the words 1 and 0.
 use Rattle.std.specs.Prelude.{◌≡◌, ℕ, ◌<◌, ◌≤◌, ◌^◌, Some, length}
-use Rattle.fip_language.specs.Every.{Every}
-use Rattle.fip_language.specs.Table.{Table, constructors}
-use Rattle.fip_language.specs.Store.{Cell}
-use Rattle.machine_semantics.specs.Cells.{Store, cell_at, released_at}
+use Rattle.tree_refinement.specs.fip_language.Every.{Every}
+use Rattle.tree_refinement.specs.fip_language.Table.{Table, constructors}
+use Rattle.tree_refinement.specs.fip_language.Store.{Cell}
+use Rattle.tree_refinement.specs.machine_semantics.Cells.{Store, cell_at, released_at}
 use Rattle.run_loading.specs.TraceText.{IsWord}
 
 abbrev pub HaveFewConstructors : Table → Type 0

@@ -3,13 +3,13 @@
 use Rattle.std.proofs.Common.{◌≡◌, ◌∙◌, ℕ, false, List, Option, Some, None, refl, sym, ap, subst, arith}
 use Rattle.std.specs.Prelude.{Err}
 use Rattle.std.proofs.lemmas.Option.{none-some, same_Some}
-use Rattle.fip_outside.specs.Files.{File, file_of}
-use Rattle.command_words.specs.Words.{Request, Command, Check, Exec, Eval, Tasks, Derive, Audit, Replay, Library, Gen}
-use Rattle.command_outcome.specs.declared.failure.Failure.TheVariants as F
-use Rattle.command_outcome.specs.declared.failure.Object.TheVariants as O
-use Rattle.command_source.specs.Wanted.{Wanted, Compiled}
-use Rattle.command_source.proofs.Once.{refused_once, refused_not_ready}
-use Rattle.command_run.specs.ExecAnswer as R
+use Rattle.command_answers.specs.fip_outside.Files.{File, file_of}
+use Rattle.fip_driver.specs.command_words.Words.{Request, Command, Check, Exec, Eval, Tasks, Derive, Audit, Replay, Library, Gen}
+use Rattle.fip_driver.specs.command_outcome.declared.failure.Failure.TheVariants as F
+use Rattle.fip_driver.specs.command_outcome.declared.failure.Object.TheVariants as O
+use Rattle.command_answers.specs.command_source.Wanted.{Wanted, Compiled}
+use Rattle.command_answers.proofs.command_source.Once.{refused_once, refused_not_ready}
+use Rattle.command_answers.specs.command_run.ExecAnswer as R
 use Rattle.command_answers.specs.Answer as A
 use Rattle.command_answers.specs.Answer.{ComesTo, OnSource}
 use Rattle.command_answers.specs.Exec as X

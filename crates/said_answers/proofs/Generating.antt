@@ -2,21 +2,21 @@
 -- means.
 use Rattle.std.proofs.Common.{◌≡◌, ◌∙◌, ◌≤◌, ℕ, false, List, sym, ap, subst, refl, arith}
 use Rattle.std.specs.Prelude.{Ok, Err}
-use Rattle.fip_language.specs.Meaning.{Gives}
-use Rattle.fip_language.specs.Values.{Values}
-use Rattle.fip_outside.specs.Files.{File}
-use Rattle.command_words.specs.Words.{Command, Library, Gen}
-use Rattle.command_outcome.specs.declared.failure.Failure.{Failure}
-use Rattle.command_outcome.specs.declared.failure.Failure.TheVariants as F
-use Rattle.command_source.specs.Wanted.{Compiled, IsCompiled, IsReady}
-use Rattle.command_source.proofs.Once.{refused_once, refused_not_ready}
-use Rattle.command_eval.specs.EvalAnswer.{Spells}
-use Rattle.command_run.specs.ExecAnswer as R
-use Rattle.command_library.specs.GenAnswer as M
-use Rattle.command_library.specs.GenAnswer.{tree_source, build, gen_room}
-use Rattle.command_library.specs.MadeTree.{gen_input, lines_of_results}
-use Rattle.command_library.proofs.Once.{values_once}
-use Rattle.command_library.proofs.Short.{input_short}
+use Rattle.fip_driver.specs.fip_language.Meaning.{Gives}
+use Rattle.fip_driver.specs.fip_language.Values.{Values}
+use Rattle.command_answers.specs.fip_outside.Files.{File}
+use Rattle.fip_driver.specs.command_words.Words.{Command, Library, Gen}
+use Rattle.fip_driver.specs.command_outcome.declared.failure.Failure.{Failure}
+use Rattle.fip_driver.specs.command_outcome.declared.failure.Failure.TheVariants as F
+use Rattle.command_answers.specs.command_source.Wanted.{Compiled, IsCompiled, IsReady}
+use Rattle.command_answers.proofs.command_source.Once.{refused_once, refused_not_ready}
+use Rattle.command_answers.specs.command_eval.EvalAnswer.{Spells}
+use Rattle.command_answers.specs.command_run.ExecAnswer as R
+use Rattle.command_answers.specs.command_library.GenAnswer as M
+use Rattle.command_answers.specs.command_library.GenAnswer.{tree_source, build, gen_room}
+use Rattle.command_answers.specs.command_library.MadeTree.{gen_input, lines_of_results}
+use Rattle.command_answers.proofs.command_library.Once.{values_once}
+use Rattle.command_answers.proofs.command_library.Short.{input_short}
 use Rattle.command_answers.specs.Answer.{ComesTo}
 use Rattle.command_answers.specs.Exec as X
 use Rattle.command_answers.specs.Generating as G

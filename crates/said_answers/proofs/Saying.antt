@@ -1,17 +1,17 @@
 -- From what the one relation on commands comes to, to what the program's clauses say: cause by cause.
 use Rattle.std.proofs.Common.{◌≡◌, inl, inr, ℕ, List, Option, Some, None, refl, sym, subst}
-use Rattle.fip_outside.specs.Files.{File, file_of}
-use Rattle.fip_library.specs.Texts as L
-use Rattle.fip_trees.specs.Tree.{Program}
-use Rattle.command_words.specs.Words.{Room, Request, Command, Check, Verify, Upgrade, Exec, Run, Eval, Trace, Session, Tasks, Audit, Replay, Library}
-use Rattle.command_outcome.specs.declared.failure.Failure.TheVariants as F
-use Rattle.command_outcome.specs.declared.failure.Object.TheVariants as O
-use Rattle.derivation_trees.specs.Trees.{Entry}
-use Rattle.derivation_check.specs.Accepted.{IsDerivation}
-use Rattle.derivation_text.specs.ProofText.{IsProofText}
-use Rattle.derivation_text.proofs.Whole.{one_derivation}
-use Rattle.command_source.specs.Judged.{IsProofOf}
-use Rattle.command_source.specs.Wanted.{Wanted, Lawful, Root, IsReady}
+use Rattle.command_answers.specs.fip_outside.Files.{File, file_of}
+use Rattle.command_answers.specs.fip_library.Texts as L
+use Rattle.fip_driver.specs.fip_trees.Tree.{Program}
+use Rattle.fip_driver.specs.command_words.Words.{Room, Request, Command, Check, Verify, Upgrade, Exec, Run, Eval, Trace, Session, Tasks, Audit, Replay, Library}
+use Rattle.fip_driver.specs.command_outcome.declared.failure.Failure.TheVariants as F
+use Rattle.fip_driver.specs.command_outcome.declared.failure.Object.TheVariants as O
+use Rattle.command_answers.specs.derivation_trees.Trees.{Entry}
+use Rattle.command_answers.specs.derivation_check.Accepted.{IsDerivation}
+use Rattle.command_answers.specs.derivation_text.ProofText.{IsProofText}
+use Rattle.command_answers.proofs.derivation_text.Whole.{one_derivation}
+use Rattle.command_answers.specs.command_source.Judged.{IsProofOf}
+use Rattle.command_answers.specs.command_source.Wanted.{Wanted, Lawful, Root, IsReady}
 use Rattle.command_answers.specs.Answer as A
 use Rattle.command_answers.specs.Answer.{ComesTo, Does, OnSource, OnCode, DoesCode, ListsRoots, Evals, Verifies, RunsFile}
 use Rattle.command_answers.specs.Asks as Asks

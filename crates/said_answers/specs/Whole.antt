@@ -1,7 +1,7 @@
 -- The commands of which the program's clauses say just what the one relation on all commands says.
 --
 -- `eval` and `tasks` are such; `compile` is none, since they say what it may come to.
-use Rattle.command_words.specs.Words.{Command, Check, Verify, Upgrade, Run, Eval, Tasks, Audit, Replay, Library}
+use Rattle.fip_driver.specs.command_words.Words.{Command, Check, Verify, Upgrade, Run, Eval, Tasks, Audit, Replay, Library}
 
 abbrev pub IsWhole : Command → Type 0
 IsWhole (Check file) = Unit {0}

@@ -1,7 +1,7 @@
 // The laws on what the program's clauses say. Each is the contract of a function that does nothing.
 ghost use Rattle.std.specs.Prelude.{◌≡◌, ◌≤◌, ℕ, List};
-ghost use Rattle.fip_outside.specs.Files.{File};
-ghost use Rattle.command_words.specs.Words.{Request, Command, Exec, Gen, most_count};
+ghost use Rattle.command_answers.specs.fip_outside.Files.{File};
+ghost use Rattle.fip_driver.specs.command_words.Words.{Request, Command, Exec, Gen, most_count};
 ghost use Rattle.command_answers.specs.Answer.{ComesTo};
 ghost use Rattle.command_answers.specs.Outcomes.{Outcome};
 ghost use Rattle.fip_driver.specs.Ends.{End, Says};

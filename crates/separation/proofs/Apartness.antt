@@ -1,22 +1,22 @@
 -- A state that is alive has its cells apart; so have the words that the entry gives.
 use Rattle.std.proofs.Common.{◌≡◌, inl, ℕ, zero, suc, ◌+◌, ◌<◌, true, List, [], ◌∷◌, length, map, Option, Some, None, slice_get, refl, sym, ap, ◌∙◌, subst, true≢false, arith}
 use Rattle.std.proofs.lemmas.Option.{none-some}
-use Rattle.fip_language.specs.Every.{Every}
-use Rattle.fip_language.specs.Table.{Table}
-use Rattle.fip_language.specs.Store.{Cell, Placed, PlacedInt, Bare, At, Parts, NoParts, MoreParts, word_of, words_of, uses, uses_of_all}
-use Rattle.cell_code.specs.declared.kind.From.{From}
-use Rattle.cell_code.specs.declared.kind.Kind.{Kind}
-use Rattle.cell_code.specs.declared.kind.Kind.TheVariants.{Gone, Scalar, Owned, Lent, Credit}
-use Rattle.machine_semantics.specs.Codes as R
-use Rattle.machine_semantics.specs.Cells.{Store}
-use Rattle.machine_semantics.specs.Trees.{IsTree, StandAll}
-use Rattle.machine_semantics.specs.Rows.{named}
-use Rattle.machine_semantics.specs.States.{Frame, State}
-use Rattle.machine_semantics.specs.Steps.{Kinds}
-use Rattle.machine_semantics.specs.Apart.{Holding, Tree, Slot, RootIn, HoldsTree, HoldsSpare, Fits, LiesWithin, LiesIn, slot_trees, IsRooted, IsFrom, IsLentTree, IsLentRight, IsFrame, AreFrames, AreWaiting, AreTrees, trees_uses, held_tree, owned_tree, Apart, typed, GivesApart}
-use Rattle.code_rules.specs.Codes.{PlainCode, PlainFunction, results, results_of}
-use Rattle.code_rules.specs.Types.{numbers}
-use Rattle.code_rules.specs.Kinds.{at, is_owned}
+use Rattle.separation_kinds.specs.fip_language.Every.{Every}
+use Rattle.separation_kinds.specs.fip_language.Table.{Table}
+use Rattle.separation_kinds.specs.fip_language.Store.{Cell, Placed, PlacedInt, Bare, At, Parts, NoParts, MoreParts, word_of, words_of, uses, uses_of_all}
+use Rattle.separation_kinds.specs.cell_code.declared.kind.From.{From}
+use Rattle.separation_kinds.specs.cell_code.declared.kind.Kind.{Kind}
+use Rattle.separation_kinds.specs.cell_code.declared.kind.Kind.TheVariants.{Gone, Scalar, Owned, Lent, Credit}
+use Rattle.separation_kinds.specs.machine_semantics.Codes as R
+use Rattle.separation_kinds.specs.machine_semantics.Cells.{Store}
+use Rattle.separation_kinds.specs.machine_semantics.Trees.{IsTree, StandAll}
+use Rattle.separation_kinds.specs.machine_semantics.Rows.{named}
+use Rattle.separation_kinds.specs.machine_semantics.States.{Frame, State}
+use Rattle.separation_kinds.specs.machine_semantics.Steps.{Kinds}
+use Rattle.separation_kinds.specs.machine_semantics.Apart.{Holding, Tree, Slot, RootIn, HoldsTree, HoldsSpare, Fits, LiesWithin, LiesIn, slot_trees, IsRooted, IsFrom, IsLentTree, IsLentRight, IsFrame, AreFrames, AreWaiting, AreTrees, trees_uses, held_tree, owned_tree, Apart, typed, GivesApart}
+use Rattle.separation_kinds.specs.code_rules.Codes.{PlainCode, PlainFunction, results, results_of}
+use Rattle.separation_kinds.specs.code_rules.Types.{numbers}
+use Rattle.separation_kinds.specs.code_rules.Kinds.{at, is_owned}
 use Rattle.separation_kinds.specs.Meanings.{part_of, Roots, Rooted, Framed, Means, AreMeant, word_at, slot_of, slots_of}
 use Rattle.separation_kinds.proofs.Basics.{get_map, get_number}
 use Rattle.separation_kinds.proofs.KindLemmas.{owned_within, not_gone_within, roots_gone}

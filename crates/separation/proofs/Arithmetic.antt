@@ -3,18 +3,18 @@ use Rattle.std.proofs.Common.{◌≡◌, ◌<◌, ◌≤◌, ◌^◌, ℕ, zero,
 use Rattle.std.specs.Int.{w64}
 use Rattle.std.proofs.lemmas.Bool.{ltb-true}
 use Rattle.std.proofs.lemmas.Int.{rem_below, fits_signed_from_abs}
-use Rattle.fip_language.specs.declared.Operator.{Operator}
-use Rattle.fip_language.specs.declared.Operator.TheVariants as O
-use Rattle.fip_language.specs.declared.TrapKind.TheVariants.{Overflow, DivideByZero}
-use Rattle.fip_language.specs.Values.{Int}
-use Rattle.fip_language.specs.Table.{Table}
-use Rattle.fip_language.specs.Store.{Placed, PlacedInt, Bare, uses}
-use Rattle.fip_language.specs.Matching.{same_int}
-use Rattle.fip_language.specs.Arithmetic.{Operated, Is, Fails, fits, truth, operate}
-use Rattle.machine_semantics.specs.Words.{scalar_word}
-use Rattle.machine_semantics.specs.Cells.{Store}
-use Rattle.machine_semantics.specs.Trees.{IsTree}
-use Rattle.code_rules.specs.Leaves.{result_type}
+use Rattle.separation_kinds.specs.fip_language.declared.Operator.{Operator}
+use Rattle.separation_kinds.specs.fip_language.declared.Operator.TheVariants as O
+use Rattle.separation_kinds.specs.fip_language.declared.TrapKind.TheVariants.{Overflow, DivideByZero}
+use Rattle.separation_kinds.specs.fip_language.Values.{Int}
+use Rattle.separation_kinds.specs.fip_language.Table.{Table}
+use Rattle.separation_kinds.specs.fip_language.Store.{Placed, PlacedInt, Bare, uses}
+use Rattle.separation_kinds.specs.fip_language.Matching.{same_int}
+use Rattle.separation_kinds.specs.fip_language.Arithmetic.{Operated, Is, Fails, fits, truth, operate}
+use Rattle.separation_kinds.specs.machine_semantics.Words.{scalar_word}
+use Rattle.separation_kinds.specs.machine_semantics.Cells.{Store}
+use Rattle.separation_kinds.specs.machine_semantics.Trees.{IsTree}
+use Rattle.separation_kinds.specs.code_rules.Leaves.{result_type}
 use Rattle.separation.specs.Rows.{IsTruth}
 
 fits_signed : (i : ℤ) → fits i ≡ true → FitsSigned w64 i

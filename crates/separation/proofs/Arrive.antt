@@ -1,19 +1,19 @@
 -- Where an instruction goes on to, there is an instruction, and what is known there holds.
 use Rattle.std.proofs.Common.{◌≡◌, inl, inr, ℕ, suc, ◌<◌, true, false, List, length, Option, Some, None, refl, sym, ap, ◌∙◌, subst, true≢false, arith, nat_lt}
 use Rattle.std.specs.Prelude.{is_some}
-use Rattle.fip_language.specs.Store.{Placed}
-use Rattle.cell_code.specs.declared.code.Instr.{Instr}
-use Rattle.cell_code.specs.declared.code.Instr.TheVariants as I
-use Rattle.cell_code.specs.declared.kind.Kind.{Kind}
-use Rattle.machine_semantics.specs.Cells.{Store}
-use Rattle.machine_semantics.specs.Apart.{Holding}
-use Rattle.code_rules.specs.Codes.{PlainCode, PlainFunction, function_at, label_at}
-use Rattle.code_rules.specs.Kinds.{at}
-use Rattle.code_rules.specs.Ranges.{in_range, is_target}
-use Rattle.code_rules.specs.Leaves.{Leaves, Jumps}
-use Rattle.code_rules.specs.Flow.{IsInstr, Comes, KnownAt, GoesTo}
-use Rattle.code_rules.specs.Endings.{is_end}
-use Rattle.code_rules.specs.Breaks.{IsSound}
+use Rattle.separation_kinds.specs.fip_language.Store.{Placed}
+use Rattle.separation_kinds.specs.cell_code.declared.code.Instr.{Instr}
+use Rattle.separation_kinds.specs.cell_code.declared.code.Instr.TheVariants as I
+use Rattle.separation_kinds.specs.cell_code.declared.kind.Kind.{Kind}
+use Rattle.separation_kinds.specs.machine_semantics.Cells.{Store}
+use Rattle.separation_kinds.specs.machine_semantics.Apart.{Holding}
+use Rattle.separation_kinds.specs.code_rules.Codes.{PlainCode, PlainFunction, function_at, label_at}
+use Rattle.separation_kinds.specs.code_rules.Kinds.{at}
+use Rattle.separation_kinds.specs.code_rules.Ranges.{in_range, is_target}
+use Rattle.separation_kinds.specs.code_rules.Leaves.{Leaves, Jumps}
+use Rattle.separation_kinds.specs.code_rules.Flow.{IsInstr, Comes, KnownAt, GoesTo}
+use Rattle.separation_kinds.specs.code_rules.Endings.{is_end}
+use Rattle.separation_kinds.specs.code_rules.Breaks.{IsSound}
 use Rattle.separation_kinds.specs.Meanings.{AreMeant, owned_by}
 use Rattle.separation_kinds.proofs.Basics.{both, below, get_within}
 use Rattle.separation_kinds.proofs.Fits.{fit_length, fitted_meant, count_fitted}

@@ -2,27 +2,27 @@
 use Rattle.std.proofs.Common.{◌≡◌, ℕ, zero, suc, ◌+◌, ◌-◌, ◌≤◌, Bool, true, false, ◌&&◌, List, [], ◌∷◌, ◌++◌, length, map, drop, Option, Some, None, refl, sym, ap, ap₂, ◌∙◌, subst, true≢false, arith, nat_lt, ◌==◌, if◌then◌else◌}
 use Rattle.std.specs.Prelude.{is_some, option_and_then, replicate}
 use Rattle.std.proofs.lemmas.Option.{none-some, same_Some, option_and_then_some}
-use Rattle.fip_language.specs.Store.{Placed}
-use Rattle.fip_base.specs.declared.plain.Param.{Param}
-use Rattle.cell_code.specs.declared.code.Instr.{Instr}
-use Rattle.cell_code.specs.declared.code.Instr.TheVariants as I
-use Rattle.cell_code.specs.declared.kind.Kind.{Kind}
-use Rattle.cell_code.specs.declared.kind.Kind.TheVariants.{Credit}
-use Rattle.machine_semantics.specs.Cells.{Store}
-use Rattle.machine_semantics.specs.Codes as R
-use Rattle.machine_semantics.specs.Rows.{read_all}
-use Rattle.machine_semantics.specs.States.{State}
-use Rattle.machine_semantics.specs.Steps.{first_words, first_frame, called, called_with, replaced}
-use Rattle.machine_semantics.specs.Apart.{Holding, owned_uses, owned_trees}
-use Rattle.code_rules.specs.Codes.{PlainCode, PlainFunction, function_at, label_at, params, credits, results, params_of, credits_of, results_of}
-use Rattle.code_rules.specs.Kinds.{at, is_free, are_free}
-use Rattle.code_rules.specs.Entry.{param_kind, gones, entry}
-use Rattle.code_rules.specs.Ranges.{are_below}
-use Rattle.code_rules.specs.Asked.{destinations, same_types, tail_left}
-use Rattle.code_rules.specs.Handing.{pass_all, hand_all, lend_all, kept_if, arguments}
-use Rattle.code_rules.specs.Endings.{nothing_owned}
-use Rattle.code_rules.specs.Flow.{IsInstr, KnownAt, is_as_asked}
-use Rattle.code_rules.specs.Breaks.{IsSound}
+use Rattle.separation_kinds.specs.fip_language.Store.{Placed}
+use Rattle.separation_kinds.specs.fip_base.declared.plain.Param.{Param}
+use Rattle.separation_kinds.specs.cell_code.declared.code.Instr.{Instr}
+use Rattle.separation_kinds.specs.cell_code.declared.code.Instr.TheVariants as I
+use Rattle.separation_kinds.specs.cell_code.declared.kind.Kind.{Kind}
+use Rattle.separation_kinds.specs.cell_code.declared.kind.Kind.TheVariants.{Credit}
+use Rattle.separation_kinds.specs.machine_semantics.Cells.{Store}
+use Rattle.separation_kinds.specs.machine_semantics.Codes as R
+use Rattle.separation_kinds.specs.machine_semantics.Rows.{read_all}
+use Rattle.separation_kinds.specs.machine_semantics.States.{State}
+use Rattle.separation_kinds.specs.machine_semantics.Steps.{first_words, first_frame, called, called_with, replaced}
+use Rattle.separation_kinds.specs.machine_semantics.Apart.{Holding, owned_uses, owned_trees}
+use Rattle.separation_kinds.specs.code_rules.Codes.{PlainCode, PlainFunction, function_at, label_at, params, credits, results, params_of, credits_of, results_of}
+use Rattle.separation_kinds.specs.code_rules.Kinds.{at, is_free, are_free}
+use Rattle.separation_kinds.specs.code_rules.Entry.{param_kind, gones, entry}
+use Rattle.separation_kinds.specs.code_rules.Ranges.{are_below}
+use Rattle.separation_kinds.specs.code_rules.Asked.{destinations, same_types, tail_left}
+use Rattle.separation_kinds.specs.code_rules.Handing.{pass_all, hand_all, lend_all, kept_if, arguments}
+use Rattle.separation_kinds.specs.code_rules.Endings.{nothing_owned}
+use Rattle.separation_kinds.specs.code_rules.Flow.{IsInstr, KnownAt, is_as_asked}
+use Rattle.separation_kinds.specs.code_rules.Breaks.{IsSound}
 use Rattle.separation_kinds.specs.Meanings.{AreMeant, owned_by, sum_from, word_at}
 use Rattle.separation_kinds.proofs.Basics.{pick, both, equal, below, get_map, length_map}
 use Rattle.separation_kinds.proofs.KindLemmas.{free_uses, owned_within}

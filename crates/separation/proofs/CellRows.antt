@@ -1,25 +1,25 @@
 -- Rows that change cells: Put, Free, Drop.
 use Rattle.std.proofs.Common.{◌≡◌, ℕ, zero, suc, ◌+◌, ◌<◌, true, ◌&&◌, List, [], ◌∷◌, length, map, Option, Some, None, slice_get, refl, sym, ap, ◌∙◌, subst, true≢false, arith, nat_lt, ◌==◌}
 use Rattle.std.specs.Prelude.{option_and_then, option_map, is_some}
-use Rattle.fip_language.specs.Table.{Table, Shape, shapes}
-use Rattle.fip_language.specs.Store.{Cell, Placed, At, Parts, NoParts, MoreParts, places, words_of, uses, uses_of_all, one_at, count}
-use Rattle.cell_code.specs.declared.code.Instr.{Instr}
-use Rattle.cell_code.specs.declared.code.Instr.TheVariants as I
-use Rattle.cell_code.specs.declared.kind.Kind.{Kind}
-use Rattle.cell_code.specs.declared.kind.Kind.TheVariants.{Gone, Scalar, Owned, Lent, Credit}
-use Rattle.machine_semantics.specs.Words.{place_word, place_of}
-use Rattle.machine_semantics.specs.Cells.{Store, Release, Write, there, one_if_some}
-use Rattle.machine_semantics.specs.Trees.{HasPart, Stands, StandAll}
-use Rattle.machine_semantics.specs.States.{State}
-use Rattle.machine_semantics.specs.Rows as R
-use Rattle.machine_semantics.specs.Apart.{Holding, Tree, holding_uses, owned_uses, trees_uses}
-use Rattle.code_rules.specs.Codes.{PlainCode, PlainFunction}
-use Rattle.code_rules.specs.Types.{fields, fields_of}
-use Rattle.code_rules.specs.Kinds.{at, kind_or_gone, is_owned, is_credit}
-use Rattle.code_rules.specs.Ranges.{are_below, is_constructor}
-use Rattle.code_rules.specs.Changes.{written, used_up, forget}
-use Rattle.code_rules.specs.Handing.{give_all}
-use Rattle.code_rules.specs.Leaves.{Leaves}
+use Rattle.separation_kinds.specs.fip_language.Table.{Table, Shape, shapes}
+use Rattle.separation_kinds.specs.fip_language.Store.{Cell, Placed, At, Parts, NoParts, MoreParts, places, words_of, uses, uses_of_all, one_at, count}
+use Rattle.separation_kinds.specs.cell_code.declared.code.Instr.{Instr}
+use Rattle.separation_kinds.specs.cell_code.declared.code.Instr.TheVariants as I
+use Rattle.separation_kinds.specs.cell_code.declared.kind.Kind.{Kind}
+use Rattle.separation_kinds.specs.cell_code.declared.kind.Kind.TheVariants.{Gone, Scalar, Owned, Lent, Credit}
+use Rattle.separation_kinds.specs.machine_semantics.Words.{place_word, place_of}
+use Rattle.separation_kinds.specs.machine_semantics.Cells.{Store, Release, Write, there, one_if_some}
+use Rattle.separation_kinds.specs.machine_semantics.Trees.{HasPart, Stands, StandAll}
+use Rattle.separation_kinds.specs.machine_semantics.States.{State}
+use Rattle.separation_kinds.specs.machine_semantics.Rows as R
+use Rattle.separation_kinds.specs.machine_semantics.Apart.{Holding, Tree, holding_uses, owned_uses, trees_uses}
+use Rattle.separation_kinds.specs.code_rules.Codes.{PlainCode, PlainFunction}
+use Rattle.separation_kinds.specs.code_rules.Types.{fields, fields_of}
+use Rattle.separation_kinds.specs.code_rules.Kinds.{at, kind_or_gone, is_owned, is_credit}
+use Rattle.separation_kinds.specs.code_rules.Ranges.{are_below, is_constructor}
+use Rattle.separation_kinds.specs.code_rules.Changes.{written, used_up, forget}
+use Rattle.separation_kinds.specs.code_rules.Handing.{give_all}
+use Rattle.separation_kinds.specs.code_rules.Leaves.{Leaves}
 use Rattle.separation_kinds.specs.Meanings.{Means, AreMeant, IsSpare, word_at, owned_by}
 use Rattle.separation_kinds.proofs.Basics.{pick, chosen, both, equal, itself, below, at_past, length_become, length_map, sum_same}
 use Rattle.separation_kinds.proofs.KindLemmas.{put, dropped, is_one, at_written}

@@ -1,9 +1,9 @@
 -- A code in memory is run as it is verified.
 use Rattle.std.proofs.Common.{◌≡◌, List, [], ◌∷◌, map, refl, ap}
-use Rattle.cell_code.specs.declared.code.Code.{Code}
-use Rattle.cell_code.specs.declared.code.Function.{Function}
-use Rattle.machine_semantics.specs.Codes as R
-use Rattle.code_rules.specs.Codes.{plain, plain_function}
+use Rattle.separation_kinds.specs.cell_code.declared.code.Code.{Code}
+use Rattle.separation_kinds.specs.cell_code.declared.code.Function.{Function}
+use Rattle.separation_kinds.specs.machine_semantics.Codes as R
+use Rattle.separation_kinds.specs.code_rules.Codes.{plain, plain_function}
 use Rattle.separation.specs.Codes.{run_function, run_code}
 
 functions_same : (fs : List Function) → map run_function (map plain_function fs) ≡ map R.plain_function fs

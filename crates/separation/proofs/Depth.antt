@@ -3,10 +3,10 @@ use Rattle.std.proofs.Common.{◌≡◌, inl, inr, ℕ, zero, suc, ◌+◌, ◌*
 use Rattle.std.specs.Prelude.{option_and_then, option_map}
 use Rattle.std.specs.Int.{w64}
 use Rattle.std.proofs.lemmas.Bool.Decides.{nat_tests}
-use Rattle.fip_language.specs.Table.{Table, Shape, shapes}
-use Rattle.fip_language.specs.Store.{Cell, Placed, PlacedInt, Bare, At, Parts, NoParts, MoreParts, int_word, word_of, words_of, uses, uses_of_all, one_at}
-use Rattle.machine_semantics.specs.Cells.{Store, cell_in, cell_at, one_if_some, there}
-use Rattle.machine_semantics.specs.Trees.{HasPart, StandAll, IsTree, read_int, read_all_parts, read_bare, read_fields, field_types, read_cell, read_data, read_word, tree_within, tree_of}
+use Rattle.separation_kinds.specs.fip_language.Table.{Table, Shape, shapes}
+use Rattle.separation_kinds.specs.fip_language.Store.{Cell, Placed, PlacedInt, Bare, At, Parts, NoParts, MoreParts, int_word, word_of, words_of, uses, uses_of_all, one_at}
+use Rattle.separation_kinds.specs.machine_semantics.Cells.{Store, cell_in, cell_at, one_if_some, there}
+use Rattle.separation_kinds.specs.machine_semantics.Trees.{HasPart, StandAll, IsTree, read_int, read_all_parts, read_bare, read_fields, field_types, read_cell, read_data, read_word, tree_within, tree_of}
 use Rattle.separation_kinds.specs.Meanings.{sum_from}
 use Rattle.separation_kinds.proofs.Basics.{less_or_not}
 use Rattle.separation_kinds.proofs.Agree.{one_here, one_apart}

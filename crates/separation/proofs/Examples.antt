@@ -2,17 +2,17 @@
 use Rattle.std.proofs.Common.{◌≡◌, ℕ, zero, suc, ◌+◌, [], ◌∷◌, Some, slice_get, ◌≤◌, refl, sym, subst, arith, pos}
 use Rattle.std.proofs.lemmas.Option.{none-some, same_Some}
 use Rattle.std.specs.Prelude.{FitsSigned, codes, ◌<◌, ◌^◌}
-use Rattle.fip_language.specs.Table.{Shape}
+use Rattle.separation_kinds.specs.fip_language.Table.{Shape}
 use Rattle.std.specs.Int.{w64}
-use Rattle.fip_language.specs.Store.{PlacedInt, Bare, At, Parts, NoParts, MoreParts, uses_of_all, count}
-use Rattle.cell_code.specs.declared.code.Instr.{Instr}
-use Rattle.machine_semantics.specs.Cells.{there, released_at}
-use Rattle.machine_semantics.specs.Steps.{Kinds}
-use Rattle.machine_semantics.specs.Apart.{IsGiven}
-use Rattle.machine_semantics.specs.Example.{listed, first}
-use Rattle.code_rules.specs.Codes.{PlainFunction}
-use Rattle.code_rules.specs.Example.{reversal, function_of, rev_with, nil_taken, acc_given, cons_taken, cons_put, again, cons_known}
-use Rattle.code_rules.proofs.Examples.{reversal_sound}
+use Rattle.separation_kinds.specs.fip_language.Store.{PlacedInt, Bare, At, Parts, NoParts, MoreParts, uses_of_all, count}
+use Rattle.separation_kinds.specs.cell_code.declared.code.Instr.{Instr}
+use Rattle.separation_kinds.specs.machine_semantics.Cells.{there, released_at}
+use Rattle.separation_kinds.specs.machine_semantics.Steps.{Kinds}
+use Rattle.separation_kinds.specs.machine_semantics.Apart.{IsGiven}
+use Rattle.separation_kinds.specs.machine_semantics.Example.{listed, first}
+use Rattle.separation_kinds.specs.code_rules.Codes.{PlainFunction}
+use Rattle.separation_kinds.specs.code_rules.Example.{reversal, function_of, rev_with, nil_taken, acc_given, cons_taken, cons_put, again, cons_known}
+use Rattle.separation_kinds.proofs.code_rules.Examples.{reversal_sound}
 use Rattle.separation_kinds.proofs.Agree.{one_apart}
 use Rattle.separation.specs.Rows.{FitsLiteral}
 use Rattle.separation.specs.Codes.{run_function, HasLiterals, AreKinds}

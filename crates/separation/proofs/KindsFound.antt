@@ -3,23 +3,23 @@
 -- registers.
 use Rattle.std.proofs.Common.{◌≡◌, inl, inr, ℕ, zero, suc, ◌+◌, ◌<◌, ◌≤◌, Bool, true, false, List, [], ◌∷◌, length, Option, Some, None, slice_get, refl, sym, ap, ap₂, ◌∙◌, subst, arith, if◌then◌else◌}
 use Rattle.std.proofs.lemmas.Option.{same_Some}
-use Rattle.fip_language.specs.Store.{one_at, count}
-use Rattle.cell_code.specs.declared.code.Instr.{Instr}
-use Rattle.cell_code.specs.declared.code.Instr.TheVariants as I
-use Rattle.cell_code.specs.declared.kind.From.{From}
-use Rattle.cell_code.specs.declared.kind.Kind.{Kind}
-use Rattle.machine_semantics.specs.Steps.{Kinds}
-use Rattle.code_rules.specs.Codes.{PlainCode, PlainFunction, function_at, label_at}
-use Rattle.code_rules.specs.Kinds.{at, from_of}
-use Rattle.code_rules.specs.Entry.{entry}
-use Rattle.code_rules.specs.Taking.{part, is_heir, Chain, IsReached}
-use Rattle.code_rules.specs.Asked.{known_fields}
-use Rattle.code_rules.specs.Handing.{arguments}
-use Rattle.code_rules.specs.Leaves.{Leaves}
-use Rattle.code_rules.specs.Flow.{is_as_asked, Holds, Comes, KnownAt}
-use Rattle.code_rules.proofs.Walks.{Walked, Found, Ended, Unsure, walk, outcome, walk_of, reached_by}
-use Rattle.code_rules.proofs.Known.{after, after_leaves}
-use Rattle.code_rules.proofs.Once.{leaves_once}
+use Rattle.separation_kinds.specs.fip_language.Store.{one_at, count}
+use Rattle.separation_kinds.specs.cell_code.declared.code.Instr.{Instr}
+use Rattle.separation_kinds.specs.cell_code.declared.code.Instr.TheVariants as I
+use Rattle.separation_kinds.specs.cell_code.declared.kind.From.{From}
+use Rattle.separation_kinds.specs.cell_code.declared.kind.Kind.{Kind}
+use Rattle.separation_kinds.specs.machine_semantics.Steps.{Kinds}
+use Rattle.separation_kinds.specs.code_rules.Codes.{PlainCode, PlainFunction, function_at, label_at}
+use Rattle.separation_kinds.specs.code_rules.Kinds.{at, from_of}
+use Rattle.separation_kinds.specs.code_rules.Entry.{entry}
+use Rattle.separation_kinds.specs.code_rules.Taking.{part, is_heir, Chain, IsReached}
+use Rattle.separation_kinds.specs.code_rules.Asked.{known_fields}
+use Rattle.separation_kinds.specs.code_rules.Handing.{arguments}
+use Rattle.separation_kinds.specs.code_rules.Leaves.{Leaves}
+use Rattle.separation_kinds.specs.code_rules.Flow.{is_as_asked, Holds, Comes, KnownAt}
+use Rattle.separation_kinds.proofs.code_rules.Walks.{Walked, Found, Ended, Unsure, walk, outcome, walk_of, reached_by}
+use Rattle.separation_kinds.proofs.code_rules.Known.{after, after_leaves}
+use Rattle.separation_kinds.proofs.code_rules.Once.{leaves_once}
 use Rattle.separation_kinds.specs.Meanings.{sum_from}
 use Rattle.separation_kinds.proofs.Basics.{apart}
 use Rattle.separation_kinds.proofs.KindLemmas.{not_gone_within}

@@ -20,3 +20,6 @@ pub mod Running
 pub mod CodesRun
 pub mod KindsFound
 pub mod Examples
+pub use Rattle.separation_kinds.proofs.code_rules as code_rules
+pub use Rattle.separation_kinds.proofs.machine_semantics as machine_semantics
+pub use Rattle.separation_kinds.proofs as separation_kinds

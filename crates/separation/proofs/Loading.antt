@@ -2,25 +2,25 @@
 use Rattle.std.proofs.Common.{◌≡◌, inl, inr, ℕ, zero, suc, ◌+◌, ◌-◌, Bool, true, false, ◌&&◌, not, List, [], ◌∷◌, ◌++◌, length, map, Some, None, refl, sym, ap, ◌∙◌, subst, arith, if◌then◌else◌}
 use Rattle.std.specs.Prelude.{replicate}
 use Rattle.std.proofs.lemmas.Option.{same_Some}
-use Rattle.fip_language.specs.Table.{Table, is_scalar}
-use Rattle.fip_language.specs.Store.{Placed, Parts, NoParts, MoreParts, word_of, words_of, uses, uses_of_all, one_at, count}
-use Rattle.fip_base.specs.declared.plain.Param.{Param}
-use Rattle.cell_code.specs.declared.kind.Kind.{Kind}
-use Rattle.cell_code.specs.declared.kind.Kind.TheVariants.{Scalar, Owned, Lent, Credit}
-use Rattle.machine_semantics.specs.Words.{place_word}
-use Rattle.machine_semantics.specs.Cells.{Store}
-use Rattle.machine_semantics.specs.Trees.{Stands, StandAll}
-use Rattle.machine_semantics.specs.States.{Typed, State}
-use Rattle.machine_semantics.specs.Steps.{Kinds, first_frame}
-use Rattle.machine_semantics.specs.Runs.{lent_words, loaded, loaded_in}
-use Rattle.machine_semantics.specs.Apart.{Holding, Nothing, Tree, Spare, LiesWithin, LiesIn, owned_uses, trees_uses, AreTrees, AreSpare}
-use Rattle.machine_semantics.specs.Apart as A
-use Rattle.code_rules.specs.Codes.{PlainCode, PlainFunction, function_at, results}
-use Rattle.code_rules.specs.Types.{is_type, is_scalar_type, all}
-use Rattle.code_rules.specs.Kinds.{at}
-use Rattle.code_rules.specs.Entry.{param_kind, gones, entry}
-use Rattle.code_rules.specs.Headers.{are_params}
-use Rattle.code_rules.specs.Breaks.{IsSound}
+use Rattle.separation_kinds.specs.fip_language.Table.{Table, is_scalar}
+use Rattle.separation_kinds.specs.fip_language.Store.{Placed, Parts, NoParts, MoreParts, word_of, words_of, uses, uses_of_all, one_at, count}
+use Rattle.separation_kinds.specs.fip_base.declared.plain.Param.{Param}
+use Rattle.separation_kinds.specs.cell_code.declared.kind.Kind.{Kind}
+use Rattle.separation_kinds.specs.cell_code.declared.kind.Kind.TheVariants.{Scalar, Owned, Lent, Credit}
+use Rattle.separation_kinds.specs.machine_semantics.Words.{place_word}
+use Rattle.separation_kinds.specs.machine_semantics.Cells.{Store}
+use Rattle.separation_kinds.specs.machine_semantics.Trees.{Stands, StandAll}
+use Rattle.separation_kinds.specs.machine_semantics.States.{Typed, State}
+use Rattle.separation_kinds.specs.machine_semantics.Steps.{Kinds, first_frame}
+use Rattle.separation_kinds.specs.machine_semantics.Runs.{lent_words, loaded, loaded_in}
+use Rattle.separation_kinds.specs.machine_semantics.Apart.{Holding, Nothing, Tree, Spare, LiesWithin, LiesIn, owned_uses, trees_uses, AreTrees, AreSpare}
+use Rattle.separation_kinds.specs.machine_semantics.Apart as A
+use Rattle.separation_kinds.specs.code_rules.Codes.{PlainCode, PlainFunction, function_at, results}
+use Rattle.separation_kinds.specs.code_rules.Types.{is_type, is_scalar_type, all}
+use Rattle.separation_kinds.specs.code_rules.Kinds.{at}
+use Rattle.separation_kinds.specs.code_rules.Entry.{param_kind, gones, entry}
+use Rattle.separation_kinds.specs.code_rules.Headers.{are_params}
+use Rattle.separation_kinds.specs.code_rules.Breaks.{IsSound}
 use Rattle.separation_kinds.specs.Meanings.{Means, AreMeant, owned_by, sum_from, word_at}
 use Rattle.separation_kinds.proofs.Basics.{pick, chosen, refused, apart, both, or_not, length_map}
 use Rattle.separation_kinds.proofs.Shapes.{scalar_bare, root_all}

@@ -1,15 +1,15 @@
 -- A step inside a frame: the instruction is done, and the state behind it is alive.
 use Rattle.std.proofs.Common.{◌≡◌, inl, inr, ℕ, ◌<◌, List, length, map, refl, sym, ap, ◌∙◌, subst, arith}
-use Rattle.fip_language.specs.declared.Operator.{Operator}
-use Rattle.cell_code.specs.declared.code.Instr.{Instr}
-use Rattle.machine_semantics.specs.Cells.{Store}
-use Rattle.machine_semantics.specs.States.{State}
-use Rattle.machine_semantics.specs.Rows as R
-use Rattle.machine_semantics.specs.Steps.{went, went_with, trapped}
-use Rattle.code_rules.specs.Codes.{PlainCode}
-use Rattle.code_rules.specs.Kinds.{at}
-use Rattle.code_rules.specs.Flow.{IsReachedAt}
-use Rattle.code_rules.specs.Breaks.{IsSound}
+use Rattle.separation_kinds.specs.fip_language.declared.Operator.{Operator}
+use Rattle.separation_kinds.specs.cell_code.declared.code.Instr.{Instr}
+use Rattle.separation_kinds.specs.machine_semantics.Cells.{Store}
+use Rattle.separation_kinds.specs.machine_semantics.States.{State}
+use Rattle.separation_kinds.specs.machine_semantics.Rows as R
+use Rattle.separation_kinds.specs.machine_semantics.Steps.{went, went_with, trapped}
+use Rattle.separation_kinds.specs.code_rules.Codes.{PlainCode}
+use Rattle.separation_kinds.specs.code_rules.Kinds.{at}
+use Rattle.separation_kinds.specs.code_rules.Flow.{IsReachedAt}
+use Rattle.separation_kinds.specs.code_rules.Breaks.{IsSound}
 use Rattle.separation_kinds.specs.Meanings.{owned_by, word_at}
 use Rattle.separation.specs.Rows.{IsReady, IsDone}
 use Rattle.separation.proofs.Stores.{there_few}

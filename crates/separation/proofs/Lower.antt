@@ -1,15 +1,15 @@
 -- The frames that wait: how often they own a cell, and that they stay where none of their cells changes.
 use Rattle.std.proofs.Common.{◌≡◌, ◌⊎◌, inl, inr, ℕ, zero, suc, ◌+◌, ◌<◌, ◌≤◌, true, List, [], ◌∷◌, ◌++◌, length, map, refl, sym, ap, ◌∙◌, subst, true≢false, arith}
-use Rattle.fip_language.specs.Table.{Table}
-use Rattle.fip_language.specs.Store.{Placed}
-use Rattle.cell_code.specs.declared.kind.Kind.{Kind}
-use Rattle.cell_code.specs.declared.kind.Kind.TheVariants.{Gone, Scalar, Owned, Lent, Credit}
-use Rattle.machine_semantics.specs.Cells.{Store}
-use Rattle.machine_semantics.specs.States.{Frame, Typed}
-use Rattle.machine_semantics.specs.Apart.{Holding, Nothing, Tree, Spare, Slot, LiesWithin, LiesIn, owned_uses, slots_uses, frames_uses, trees_uses, held_tree, owned_tree, owned_trees, trees_below, AreTrees}
-use Rattle.code_rules.specs.Codes.{PlainCode, results}
-use Rattle.code_rules.specs.Types.{numbers}
-use Rattle.code_rules.specs.Kinds.{at, is_owned}
+use Rattle.separation_kinds.specs.fip_language.Table.{Table}
+use Rattle.separation_kinds.specs.fip_language.Store.{Placed}
+use Rattle.separation_kinds.specs.cell_code.declared.kind.Kind.{Kind}
+use Rattle.separation_kinds.specs.cell_code.declared.kind.Kind.TheVariants.{Gone, Scalar, Owned, Lent, Credit}
+use Rattle.separation_kinds.specs.machine_semantics.Cells.{Store}
+use Rattle.separation_kinds.specs.machine_semantics.States.{Frame, Typed}
+use Rattle.separation_kinds.specs.machine_semantics.Apart.{Holding, Nothing, Tree, Spare, Slot, LiesWithin, LiesIn, owned_uses, slots_uses, frames_uses, trees_uses, held_tree, owned_tree, owned_trees, trees_below, AreTrees}
+use Rattle.separation_kinds.specs.code_rules.Codes.{PlainCode, results}
+use Rattle.separation_kinds.specs.code_rules.Types.{numbers}
+use Rattle.separation_kinds.specs.code_rules.Kinds.{at, is_owned}
 use Rattle.separation_kinds.specs.Meanings.{owned_by, sum_from, word_at, slot_of, slots_of}
 use Rattle.separation_kinds.proofs.Basics.{at_past}
 use Rattle.separation_kinds.proofs.Agree.{SameAt, agree, tree_agree}

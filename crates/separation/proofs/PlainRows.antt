@@ -2,26 +2,26 @@
 use Rattle.std.proofs.Common.{◌≡◌, inl, inr, ℕ, zero, suc, ◌+◌, ◌<◌, Bool, true, false, not, List, [], ◌∷◌, length, Option, Some, None, slice_get, slice_set, refl, sym, ap, ◌∙◌, subst, arith, nat_lt, ◌==◌}
 use Rattle.std.specs.Prelude.{ℤ, option_and_then, option_map}
 use Rattle.std.proofs.lemmas.Option.{none-some}
-use Rattle.fip_language.specs.Table.{Table, Shape, shapes}
-use Rattle.fip_language.specs.Store.{Placed, PlacedInt, Bare, int_word}
-use Rattle.cell_code.specs.declared.code.Instr.{Instr}
-use Rattle.cell_code.specs.declared.code.Instr.TheVariants as I
-use Rattle.cell_code.specs.declared.kind.Kind.{Kind}
-use Rattle.cell_code.specs.declared.kind.Kind.TheVariants.{Gone, Scalar, Owned, Lent, Credit}
-use Rattle.fip_language.specs.Matching.{same_int}
-use Rattle.machine_semantics.specs.Words.{atom_word, int_of}
-use Rattle.machine_semantics.specs.Cells.{Store}
-use Rattle.machine_semantics.specs.Trees.{Stands}
-use Rattle.machine_semantics.specs.States.{State}
-use Rattle.machine_semantics.specs.Rows as R
-use Rattle.machine_semantics.specs.Apart.{Holding, Tree, owned_uses}
-use Rattle.code_rules.specs.Codes.{PlainCode, PlainFunction}
-use Rattle.code_rules.specs.Types.{is_scalar_type, fields, fields_of, count}
-use Rattle.code_rules.specs.Kinds.{at, is_free, is_owned, is_credit}
-use Rattle.code_rules.specs.Ranges.{is_constructor}
-use Rattle.code_rules.specs.Changes.{written, forget, goes, moved, moved_by}
-use Rattle.code_rules.specs.Leaves.{Leaves, Jumps, atom_kind}
-use Rattle.code_rules.specs.Flow.{is_as_asked, GoesTo}
+use Rattle.separation_kinds.specs.fip_language.Table.{Table, Shape, shapes}
+use Rattle.separation_kinds.specs.fip_language.Store.{Placed, PlacedInt, Bare, int_word}
+use Rattle.separation_kinds.specs.cell_code.declared.code.Instr.{Instr}
+use Rattle.separation_kinds.specs.cell_code.declared.code.Instr.TheVariants as I
+use Rattle.separation_kinds.specs.cell_code.declared.kind.Kind.{Kind}
+use Rattle.separation_kinds.specs.cell_code.declared.kind.Kind.TheVariants.{Gone, Scalar, Owned, Lent, Credit}
+use Rattle.separation_kinds.specs.fip_language.Matching.{same_int}
+use Rattle.separation_kinds.specs.machine_semantics.Words.{atom_word, int_of}
+use Rattle.separation_kinds.specs.machine_semantics.Cells.{Store}
+use Rattle.separation_kinds.specs.machine_semantics.Trees.{Stands}
+use Rattle.separation_kinds.specs.machine_semantics.States.{State}
+use Rattle.separation_kinds.specs.machine_semantics.Rows as R
+use Rattle.separation_kinds.specs.machine_semantics.Apart.{Holding, Tree, owned_uses}
+use Rattle.separation_kinds.specs.code_rules.Codes.{PlainCode, PlainFunction}
+use Rattle.separation_kinds.specs.code_rules.Types.{is_scalar_type, fields, fields_of, count}
+use Rattle.separation_kinds.specs.code_rules.Kinds.{at, is_free, is_owned, is_credit}
+use Rattle.separation_kinds.specs.code_rules.Ranges.{is_constructor}
+use Rattle.separation_kinds.specs.code_rules.Changes.{written, forget, goes, moved, moved_by}
+use Rattle.separation_kinds.specs.code_rules.Leaves.{Leaves, Jumps, atom_kind}
+use Rattle.separation_kinds.specs.code_rules.Flow.{is_as_asked, GoesTo}
 use Rattle.separation_kinds.specs.Meanings.{Means, AreMeant, owned_by, word_at}
 use Rattle.separation_kinds.proofs.Basics.{pick, both, equal, unequal, below, refuted, length_become}
 use Rattle.separation_kinds.proofs.KindLemmas.{put, dropped, at_used_up, free_uses, free_forget}

@@ -1,15 +1,15 @@
 -- Each register that is lent reaches one heir or none: along its froms the trees grow, so that the walk ends.
 use Rattle.std.proofs.Common.{◌≡◌, inl, inr, ℕ, zero, suc, ◌+◌, ◌<◌, ◌≤◌, Bool, false, List, length, Option, Some, None, refl, ap, arith}
 use Rattle.std.proofs.lemmas.Option.{none-some, same_Some}
-use Rattle.fip_language.specs.Table.{Table}
-use Rattle.fip_language.specs.Store.{Placed, PlacedInt, Bare, At, Parts, NoParts, MoreParts}
-use Rattle.cell_code.specs.declared.kind.From.{From}
-use Rattle.cell_code.specs.declared.kind.Kind.{Kind}
-use Rattle.cell_code.specs.declared.kind.Kind.TheVariants.{Gone, Scalar, Owned, Lent, Credit}
-use Rattle.machine_semantics.specs.Cells.{Store}
-use Rattle.machine_semantics.specs.Apart.{Holding, Nothing, Tree, Spare}
-use Rattle.code_rules.specs.Kinds.{at, from_of}
-use Rattle.code_rules.specs.Taking.{Chain, IsReached}
+use Rattle.separation_kinds.specs.fip_language.Table.{Table}
+use Rattle.separation_kinds.specs.fip_language.Store.{Placed, PlacedInt, Bare, At, Parts, NoParts, MoreParts}
+use Rattle.separation_kinds.specs.cell_code.declared.kind.From.{From}
+use Rattle.separation_kinds.specs.cell_code.declared.kind.Kind.{Kind}
+use Rattle.separation_kinds.specs.cell_code.declared.kind.Kind.TheVariants.{Gone, Scalar, Owned, Lent, Credit}
+use Rattle.separation_kinds.specs.machine_semantics.Cells.{Store}
+use Rattle.separation_kinds.specs.machine_semantics.Apart.{Holding, Nothing, Tree, Spare}
+use Rattle.separation_kinds.specs.code_rules.Kinds.{at, from_of}
+use Rattle.separation_kinds.specs.code_rules.Taking.{Chain, IsReached}
 use Rattle.separation_kinds.specs.Meanings.{part_in, part_of, Framed, Means, AreMeant, sum_from}
 use Rattle.separation_kinds.proofs.Basics.{apart, or_not, sum_part}
 use Rattle.separation_kinds.proofs.KindLemmas.{not_gone_within, roots_gone}

@@ -4,14 +4,14 @@ use Rattle.std.specs.Prelude.{option_map, Contains}
 use Rattle.std.specs.Int.{w64}
 use Rattle.std.proofs.lemmas.Option.{none-some, same_Some}
 use Rattle.std.proofs.lemmas.Bool.Decides.{nat_tests}
-use Rattle.fip_language.specs.Table.{Table}
-use Rattle.fip_language.specs.Store.{Cell, Placed, PlacedInt, Bare, At, Parts, NoParts, MoreParts, int_word, word_of, words_of}
-use Rattle.machine_semantics.specs.Words.{place_word, is_place, place_of, half_if, int_of}
-use Rattle.machine_semantics.specs.Cells.{Store, cell_at}
-use Rattle.machine_semantics.specs.Trees.{Stands, StandAll, IsTree}
-use Rattle.machine_semantics.specs.Rows.{cell_if, named, constructor_if, constructor_of}
-use Rattle.machine_semantics.specs.Apart.{Tree, RootIn}
-use Rattle.code_rules.specs.Types.{fields, fields_of}
+use Rattle.separation_kinds.specs.fip_language.Table.{Table}
+use Rattle.separation_kinds.specs.fip_language.Store.{Cell, Placed, PlacedInt, Bare, At, Parts, NoParts, MoreParts, int_word, word_of, words_of}
+use Rattle.separation_kinds.specs.machine_semantics.Words.{place_word, is_place, place_of, half_if, int_of}
+use Rattle.separation_kinds.specs.machine_semantics.Cells.{Store, cell_at}
+use Rattle.separation_kinds.specs.machine_semantics.Trees.{Stands, StandAll, IsTree}
+use Rattle.separation_kinds.specs.machine_semantics.Rows.{cell_if, named, constructor_if, constructor_of}
+use Rattle.separation_kinds.specs.machine_semantics.Apart.{Tree, RootIn}
+use Rattle.separation_kinds.specs.code_rules.Types.{fields, fields_of}
 use Rattle.separation_kinds.specs.Meanings.{part_in, part_of}
 
 pub odd_place : (p : ℕ) → is_place (2 * p + 1) ≡ true

@@ -2,29 +2,29 @@
 use Rattle.std.proofs.Common.{◌≡◌, ◌⊎◌, inl, inr, ℕ, zero, suc, ◌+◌, ◌<◌, Bool, true, false, ◌&&◌, not, List, [], ◌∷◌, length, Option, Some, None, slice_get, refl, sym, ap, ◌∙◌, subst, true≢false, arith, nat_lt, ◌==◌}
 use Rattle.std.specs.Prelude.{option_and_then, option_map, Contains}
 use Rattle.std.proofs.lemmas.Option.{none-some}
-use Rattle.fip_language.specs.declared.Operator.{Operator}
-use Rattle.fip_language.specs.declared.TrapKind.{TrapKind}
-use Rattle.fip_language.specs.Arithmetic.{Operated, Is, Fails, operate}
-use Rattle.fip_language.specs.Table.{Table, constructors, is_scalar}
-use Rattle.fip_language.specs.Store.{Cell, Placed, PlacedInt, Bare, At, word_of, words_of}
-use Rattle.cell_code.specs.declared.kind.From.{From}
-use Rattle.cell_code.specs.declared.code.Instr.{Instr}
-use Rattle.cell_code.specs.declared.code.Instr.TheVariants as I
-use Rattle.cell_code.specs.declared.kind.Kind.{Kind}
-use Rattle.cell_code.specs.declared.kind.Kind.TheVariants.{Gone, Scalar, Owned, Lent, Credit}
-use Rattle.machine_semantics.specs.Words.{int_of, scalar_word}
-use Rattle.machine_semantics.specs.Cells.{Store}
-use Rattle.machine_semantics.specs.Trees.{IsTree, Stands}
-use Rattle.machine_semantics.specs.States.{State}
-use Rattle.machine_semantics.specs.Rows as R
-use Rattle.machine_semantics.specs.Apart.{Holding, Tree, RootIn, LiesWithin, owned_uses}
-use Rattle.code_rules.specs.Codes.{PlainCode, PlainFunction}
-use Rattle.code_rules.specs.Types.{is_type, is_scalar_type, fields, all, lent_kind}
-use Rattle.code_rules.specs.Kinds.{at, is_free, is_owned, is_scalar_of, set_of, root_of}
-use Rattle.code_rules.specs.Ranges.{is_target}
-use Rattle.code_rules.specs.Asked.{may_have, known_fields, only_fields}
-use Rattle.code_rules.specs.Changes.{tested, without}
-use Rattle.code_rules.specs.Leaves.{result_type}
+use Rattle.separation_kinds.specs.fip_language.declared.Operator.{Operator}
+use Rattle.separation_kinds.specs.fip_language.declared.TrapKind.{TrapKind}
+use Rattle.separation_kinds.specs.fip_language.Arithmetic.{Operated, Is, Fails, operate}
+use Rattle.separation_kinds.specs.fip_language.Table.{Table, constructors, is_scalar}
+use Rattle.separation_kinds.specs.fip_language.Store.{Cell, Placed, PlacedInt, Bare, At, word_of, words_of}
+use Rattle.separation_kinds.specs.cell_code.declared.kind.From.{From}
+use Rattle.separation_kinds.specs.cell_code.declared.code.Instr.{Instr}
+use Rattle.separation_kinds.specs.cell_code.declared.code.Instr.TheVariants as I
+use Rattle.separation_kinds.specs.cell_code.declared.kind.Kind.{Kind}
+use Rattle.separation_kinds.specs.cell_code.declared.kind.Kind.TheVariants.{Gone, Scalar, Owned, Lent, Credit}
+use Rattle.separation_kinds.specs.machine_semantics.Words.{int_of, scalar_word}
+use Rattle.separation_kinds.specs.machine_semantics.Cells.{Store}
+use Rattle.separation_kinds.specs.machine_semantics.Trees.{IsTree, Stands}
+use Rattle.separation_kinds.specs.machine_semantics.States.{State}
+use Rattle.separation_kinds.specs.machine_semantics.Rows as R
+use Rattle.separation_kinds.specs.machine_semantics.Apart.{Holding, Tree, RootIn, LiesWithin, owned_uses}
+use Rattle.separation_kinds.specs.code_rules.Codes.{PlainCode, PlainFunction}
+use Rattle.separation_kinds.specs.code_rules.Types.{is_type, is_scalar_type, fields, all, lent_kind}
+use Rattle.separation_kinds.specs.code_rules.Kinds.{at, is_free, is_owned, is_scalar_of, set_of, root_of}
+use Rattle.separation_kinds.specs.code_rules.Ranges.{is_target}
+use Rattle.separation_kinds.specs.code_rules.Asked.{may_have, known_fields, only_fields}
+use Rattle.separation_kinds.specs.code_rules.Changes.{tested, without}
+use Rattle.separation_kinds.specs.code_rules.Leaves.{result_type}
 use Rattle.separation_kinds.specs.Meanings.{part_in, part_of, Roots, Rooted, Means, word_at}
 use Rattle.separation_kinds.proofs.Basics.{pick, both, equal, unequal, below, length_become}
 use Rattle.separation_kinds.proofs.Shapes.{scalar_bare, root_all, contains_one, contains_here, contains_without}

@@ -1,27 +1,27 @@
 -- Ret: the frame that waits gets the results, or the run is over.
 use Rattle.std.proofs.Common.{◌≡◌, inl, ℕ, ◌+◌, true, List, [], ◌∷◌, length, map, Some, slice_get, refl, sym, ap, ◌∙◌, subst, arith, nat_lt, ◌==◌}
 use Rattle.std.specs.Prelude.{is_some, option_and_then}
-use Rattle.fip_language.specs.Store.{Placed, Parts, words_of, uses_of_all, count}
-use Rattle.cell_code.specs.declared.code.Instr.{Instr}
-use Rattle.cell_code.specs.declared.code.Instr.TheVariants as I
-use Rattle.cell_code.specs.declared.kind.Kind.{Kind}
-use Rattle.machine_semantics.specs.Cells.{IsStore, there, released_at}
-use Rattle.machine_semantics.specs.Trees.{StandAll}
-use Rattle.machine_semantics.specs.Codes as R
-use Rattle.machine_semantics.specs.Rows.{read_all, write_all}
-use Rattle.machine_semantics.specs.States.{Frame, State}
-use Rattle.machine_semantics.specs.Steps.{destinations_in, returned, resumed}
-use Rattle.machine_semantics.specs.Steps as T
-use Rattle.machine_semantics.specs.Apart.{frames_uses, trees_uses, AreTrees}
-use Rattle.code_rules.specs.Codes.{PlainCode, PlainFunction, function_at, results, results_of}
-use Rattle.code_rules.specs.Kinds.{at, are_free}
-use Rattle.code_rules.specs.Ranges.{in_range, are_below}
-use Rattle.code_rules.specs.Asked.{sources, destinations, are_places, can_receive}
-use Rattle.code_rules.specs.Handing.{give_all, arguments}
-use Rattle.code_rules.specs.Endings.{nothing_owned}
-use Rattle.code_rules.specs.Leaves.{received}
-use Rattle.code_rules.specs.Flow.{IsInstr, is_as_asked, GoesTo}
-use Rattle.code_rules.specs.Breaks.{IsSound}
+use Rattle.separation_kinds.specs.fip_language.Store.{Placed, Parts, words_of, uses_of_all, count}
+use Rattle.separation_kinds.specs.cell_code.declared.code.Instr.{Instr}
+use Rattle.separation_kinds.specs.cell_code.declared.code.Instr.TheVariants as I
+use Rattle.separation_kinds.specs.cell_code.declared.kind.Kind.{Kind}
+use Rattle.separation_kinds.specs.machine_semantics.Cells.{IsStore, there, released_at}
+use Rattle.separation_kinds.specs.machine_semantics.Trees.{StandAll}
+use Rattle.separation_kinds.specs.machine_semantics.Codes as R
+use Rattle.separation_kinds.specs.machine_semantics.Rows.{read_all, write_all}
+use Rattle.separation_kinds.specs.machine_semantics.States.{Frame, State}
+use Rattle.separation_kinds.specs.machine_semantics.Steps.{destinations_in, returned, resumed}
+use Rattle.separation_kinds.specs.machine_semantics.Steps as T
+use Rattle.separation_kinds.specs.machine_semantics.Apart.{frames_uses, trees_uses, AreTrees}
+use Rattle.separation_kinds.specs.code_rules.Codes.{PlainCode, PlainFunction, function_at, results, results_of}
+use Rattle.separation_kinds.specs.code_rules.Kinds.{at, are_free}
+use Rattle.separation_kinds.specs.code_rules.Ranges.{in_range, are_below}
+use Rattle.separation_kinds.specs.code_rules.Asked.{sources, destinations, are_places, can_receive}
+use Rattle.separation_kinds.specs.code_rules.Handing.{give_all, arguments}
+use Rattle.separation_kinds.specs.code_rules.Endings.{nothing_owned}
+use Rattle.separation_kinds.specs.code_rules.Leaves.{received}
+use Rattle.separation_kinds.specs.code_rules.Flow.{IsInstr, is_as_asked, GoesTo}
+use Rattle.separation_kinds.specs.code_rules.Breaks.{IsSound}
 use Rattle.separation_kinds.specs.Meanings.{owned_by, word_at}
 use Rattle.separation_kinds.proofs.Basics.{both, equal}
 use Rattle.separation_kinds.proofs.Words.{read_words}

@@ -1,11 +1,11 @@
 -- Runs of sound code: by induction over the steps.
 use Rattle.std.proofs.Common.{◌≡◌, ℕ, zero, suc, List, subst}
-use Rattle.machine_semantics.specs.States.{State, Next, Went, Entered, Gave, Trapped, TooDeep, Stuck}
-use Rattle.machine_semantics.specs.Steps.{Kinds, next}
-use Rattle.machine_semantics.specs.Runs.{End, Value, Trap, Out, Deep, Unsound, Run, Going, Over, state_of, begun, comes, later, after}
-use Rattle.machine_semantics.specs.Apart.{Apart, GivesApart}
-use Rattle.code_rules.specs.Codes.{PlainCode, results}
-use Rattle.code_rules.specs.Breaks.{IsSound}
+use Rattle.separation_kinds.specs.machine_semantics.States.{State, Next, Went, Entered, Gave, Trapped, TooDeep, Stuck}
+use Rattle.separation_kinds.specs.machine_semantics.Steps.{Kinds, next}
+use Rattle.separation_kinds.specs.machine_semantics.Runs.{End, Value, Trap, Out, Deep, Unsound, Run, Going, Over, state_of, begun, comes, later, after}
+use Rattle.separation_kinds.specs.machine_semantics.Apart.{Apart, GivesApart}
+use Rattle.separation_kinds.specs.code_rules.Codes.{PlainCode, results}
+use Rattle.separation_kinds.specs.code_rules.Breaks.{IsSound}
 use Rattle.separation.specs.Codes.{run_code, HasLiterals, AreKinds}
 use Rattle.separation.specs.Alive.{IsAlive, IsGiven, IsGood}
 use Rattle.separation.specs.Starts.{IsStart}

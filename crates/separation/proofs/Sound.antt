@@ -1,22 +1,22 @@
 -- What sound code keeps, rule by rule.
 use Rattle.std.proofs.Common.{◌≡◌, ◌⊎◌, inl, inr, ℕ, suc, ◌+◌, ◌<◌, ◌≤◌, true, false, not, List, [], ◌∷◌, length, Option, Some, None, slice_get, refl, sym, ap, ◌∙◌, subst, arith, nat_lt, ◌==◌}
 use Rattle.std.proofs.lemmas.Option.{none-some, same_Some}
-use Rattle.fip_language.specs.Table.{Shape, Table, constructors}
-use Rattle.cell_code.specs.declared.code.Instr.{Instr}
-use Rattle.cell_code.specs.declared.kind.Kind.{Kind}
-use Rattle.code_rules.specs.declared.rule.SoundRule.{SoundRule}
-use Rattle.code_rules.specs.declared.rule.SoundRule.TheVariants.{S0, S1, S2, S3, S4, S5, S6, S7, S8, S9}
-use Rattle.code_rules.specs.Codes.{PlainCode, PlainFunction, LabelMap, function_at, label_at, is_fip}
-use Rattle.code_rules.specs.Tables.{AreSoundTables, bool_shapes}
-use Rattle.code_rules.specs.Headers.{is_formed, are_good_maps, are_good_kinds, are_params, are_sizes, are_types}
-use Rattle.code_rules.specs.Limits.{most_registers, most_results, most_credits}
-use Rattle.code_rules.specs.Fitting.{fit_all}
-use Rattle.code_rules.specs.Ranges.{in_range}
-use Rattle.code_rules.specs.Asked.{sources, destinations}
-use Rattle.code_rules.specs.Flow.{IsReachedAt, GoesTo}
-use Rattle.code_rules.specs.Endings.{is_end, spends_all, releases}
-use Rattle.code_rules.specs.Calls.{CallsAt, SameGroup}
-use Rattle.code_rules.specs.Breaks.{BreaksWithin, Breaks, IsSound}
+use Rattle.separation_kinds.specs.fip_language.Table.{Shape, Table, constructors}
+use Rattle.separation_kinds.specs.cell_code.declared.code.Instr.{Instr}
+use Rattle.separation_kinds.specs.cell_code.declared.kind.Kind.{Kind}
+use Rattle.separation_kinds.specs.code_rules.declared.rule.SoundRule.{SoundRule}
+use Rattle.separation_kinds.specs.code_rules.declared.rule.SoundRule.TheVariants.{S0, S1, S2, S3, S4, S5, S6, S7, S8, S9}
+use Rattle.separation_kinds.specs.code_rules.Codes.{PlainCode, PlainFunction, LabelMap, function_at, label_at, is_fip}
+use Rattle.separation_kinds.specs.code_rules.Tables.{AreSoundTables, bool_shapes}
+use Rattle.separation_kinds.specs.code_rules.Headers.{is_formed, are_good_maps, are_good_kinds, are_params, are_sizes, are_types}
+use Rattle.separation_kinds.specs.code_rules.Limits.{most_registers, most_results, most_credits}
+use Rattle.separation_kinds.specs.code_rules.Fitting.{fit_all}
+use Rattle.separation_kinds.specs.code_rules.Ranges.{in_range}
+use Rattle.separation_kinds.specs.code_rules.Asked.{sources, destinations}
+use Rattle.separation_kinds.specs.code_rules.Flow.{IsReachedAt, GoesTo}
+use Rattle.separation_kinds.specs.code_rules.Endings.{is_end, spends_all, releases}
+use Rattle.separation_kinds.specs.code_rules.Calls.{CallsAt, SameGroup}
+use Rattle.separation_kinds.specs.code_rules.Breaks.{BreaksWithin, Breaks, IsSound}
 use Rattle.separation_kinds.proofs.Basics.{pick, both, refuted, or_not, equal, below}
 use Rattle.separation.specs.Rows.{IsTruth}
 use Rattle.std.proofs.lemmas.Bool.Decides.{nat_tests}

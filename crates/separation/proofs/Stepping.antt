@@ -1,11 +1,11 @@
 -- Every step of a state that is alive can be done, and what comes after it is alive.
 use Rattle.std.proofs.Common.{◌≡◌, ℕ, List, Some, sym, ap₂, subst}
-use Rattle.cell_code.specs.declared.code.Instr.{Instr}
-use Rattle.cell_code.specs.declared.code.Instr.TheVariants as I
-use Rattle.machine_semantics.specs.States.{State}
-use Rattle.machine_semantics.specs.Steps.{Kinds, act, act_at, next, instr_of, kinds_of}
-use Rattle.code_rules.specs.Codes.{PlainCode}
-use Rattle.code_rules.specs.Breaks.{IsSound}
+use Rattle.separation_kinds.specs.cell_code.declared.code.Instr.{Instr}
+use Rattle.separation_kinds.specs.cell_code.declared.code.Instr.TheVariants as I
+use Rattle.separation_kinds.specs.machine_semantics.States.{State}
+use Rattle.separation_kinds.specs.machine_semantics.Steps.{Kinds, act, act_at, next, instr_of, kinds_of}
+use Rattle.separation_kinds.specs.code_rules.Codes.{PlainCode}
+use Rattle.separation_kinds.specs.code_rules.Breaks.{IsSound}
 use Rattle.separation.specs.Rows.{IsReady}
 use Rattle.separation.proofs.PlainRows.{asked, const_row, atom_row, move_row, jump_row, test_int_row}
 use Rattle.separation.proofs.ReadingRows.{arith_row, test_row, peek_row}

@@ -3,9 +3,9 @@ use Rattle.std.proofs.Common.{◌≡◌, ◌⊎◌, inl, inr, ℕ, zero, suc, �
 use Rattle.std.specs.Prelude.{option_and_then}
 use Rattle.std.proofs.lemmas.Option.{none-some}
 use Rattle.std.proofs.lemmas.Bool.Decides.{nat_tests}
-use Rattle.fip_language.specs.Every.{Every}
-use Rattle.fip_language.specs.Store.{Cell, Placed, PlacedInt, Bare, At, Parts, NoParts, MoreParts, places, places_of_all, uses, uses_of_all, one_at, count}
-use Rattle.machine_semantics.specs.Cells.{Store, IsStore, IsSized, Write, Release, cell_in, cell_at, size_of, one_if_some, there, one_if_true, released_at, written, given_up, changed_by}
+use Rattle.separation_kinds.specs.fip_language.Every.{Every}
+use Rattle.separation_kinds.specs.fip_language.Store.{Cell, Placed, PlacedInt, Bare, At, Parts, NoParts, MoreParts, places, places_of_all, uses, uses_of_all, one_at, count}
+use Rattle.separation_kinds.specs.machine_semantics.Cells.{Store, IsStore, IsSized, Write, Release, cell_in, cell_at, size_of, one_if_some, there, one_if_true, released_at, written, given_up, changed_by}
 use Rattle.separation_kinds.proofs.Basics.{chosen, equal_is}
 use Rattle.separation_kinds.proofs.Agree.{one_here, one_apart}
 

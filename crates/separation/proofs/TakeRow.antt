@@ -2,23 +2,23 @@
 use Rattle.std.proofs.Common.{◌≡◌, ℕ, zero, suc, ◌+◌, ◌<◌, true, not, List, [], ◌∷◌, length, Option, Some, slice_get, refl, sym, ap, ◌∙◌, subst, true≢false, arith, nat_lt, ◌==◌}
 use Rattle.std.specs.Prelude.{option_and_then}
 use Rattle.std.proofs.lemmas.Option.{none-some, same_Some}
-use Rattle.fip_language.specs.Table.{Table}
-use Rattle.fip_language.specs.Store.{Cell, Placed, PlacedInt, Bare, At, Parts, NoParts, MoreParts, words_of, uses, uses_of_all}
-use Rattle.cell_code.specs.declared.code.Instr.TheVariants as I
-use Rattle.cell_code.specs.declared.kind.Kind.{Kind}
-use Rattle.cell_code.specs.declared.kind.Kind.TheVariants.{Gone, Scalar, Owned, Lent, Credit}
-use Rattle.machine_semantics.specs.Words.{place_word}
-use Rattle.machine_semantics.specs.Cells.{Store, cell_at}
-use Rattle.machine_semantics.specs.Trees.{HasPart, IsTree, StandAll}
-use Rattle.machine_semantics.specs.States.{State}
-use Rattle.machine_semantics.specs.Rows as R
-use Rattle.machine_semantics.specs.Apart.{Holding, Nothing, Tree, Spare, RootIn, holding_uses, owned_uses}
-use Rattle.code_rules.specs.Codes.{PlainCode, PlainFunction}
-use Rattle.code_rules.specs.Types.{fields, fields_of}
-use Rattle.code_rules.specs.Kinds.{has, at, is_owned}
-use Rattle.code_rules.specs.Ranges.{are_below}
-use Rattle.code_rules.specs.Asked.{can_take, is_one, known_fields, only_fields, are_places}
-use Rattle.code_rules.specs.Taking.{part, is_heir, credit, taken, IsTaken}
+use Rattle.separation_kinds.specs.fip_language.Table.{Table}
+use Rattle.separation_kinds.specs.fip_language.Store.{Cell, Placed, PlacedInt, Bare, At, Parts, NoParts, MoreParts, words_of, uses, uses_of_all}
+use Rattle.separation_kinds.specs.cell_code.declared.code.Instr.TheVariants as I
+use Rattle.separation_kinds.specs.cell_code.declared.kind.Kind.{Kind}
+use Rattle.separation_kinds.specs.cell_code.declared.kind.Kind.TheVariants.{Gone, Scalar, Owned, Lent, Credit}
+use Rattle.separation_kinds.specs.machine_semantics.Words.{place_word}
+use Rattle.separation_kinds.specs.machine_semantics.Cells.{Store, cell_at}
+use Rattle.separation_kinds.specs.machine_semantics.Trees.{HasPart, IsTree, StandAll}
+use Rattle.separation_kinds.specs.machine_semantics.States.{State}
+use Rattle.separation_kinds.specs.machine_semantics.Rows as R
+use Rattle.separation_kinds.specs.machine_semantics.Apart.{Holding, Nothing, Tree, Spare, RootIn, holding_uses, owned_uses}
+use Rattle.separation_kinds.specs.code_rules.Codes.{PlainCode, PlainFunction}
+use Rattle.separation_kinds.specs.code_rules.Types.{fields, fields_of}
+use Rattle.separation_kinds.specs.code_rules.Kinds.{has, at, is_owned}
+use Rattle.separation_kinds.specs.code_rules.Ranges.{are_below}
+use Rattle.separation_kinds.specs.code_rules.Asked.{can_take, is_one, known_fields, only_fields, are_places}
+use Rattle.separation_kinds.specs.code_rules.Taking.{part, is_heir, credit, taken, IsTaken}
 use Rattle.separation_kinds.specs.Meanings.{part_in, part_of, Means, word_at}
 use Rattle.separation_kinds.proofs.Basics.{both, equal, below, refuted, length_become}
 use Rattle.separation_kinds.proofs.Shapes.{contains_one}

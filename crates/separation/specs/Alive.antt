@@ -2,18 +2,18 @@
 -- step keeps. The running frame is at an instruction that is reached, each frame that waits at a Call that is reached
 -- and as asked, and each frame's registers have what their kinds say.
 use Rattle.std.specs.Prelude.{◌≡◌, ℕ, ◌+◌, false, true, List, [], ◌∷◌, Some, length, map}
-use Rattle.fip_language.specs.Store.{Placed, Parts, uses_of_all, words_of, count}
-use Rattle.cell_code.specs.declared.code.Instr.{Instr}
-use Rattle.cell_code.specs.declared.code.Instr.TheVariants as I
-use Rattle.cell_code.specs.declared.kind.Kind.{Kind}
-use Rattle.machine_semantics.specs.Cells.{Store, IsStore, there, released_at}
-use Rattle.machine_semantics.specs.Trees.{StandAll}
-use Rattle.machine_semantics.specs.States.{Frame, State, Next, Went, Entered, Gave, Trapped, TooDeep, Stuck}
-use Rattle.machine_semantics.specs.Apart.{Holding, Slot, frames_uses, trees_uses, trees_below, AreTrees}
-use Rattle.code_rules.specs.Codes.{PlainCode, PlainFunction, function_at, results}
-use Rattle.code_rules.specs.Kinds.{at}
-use Rattle.code_rules.specs.Handing.{arguments}
-use Rattle.code_rules.specs.Flow.{is_as_asked, IsInstr, KnownAt}
+use Rattle.separation_kinds.specs.fip_language.Store.{Placed, Parts, uses_of_all, words_of, count}
+use Rattle.separation_kinds.specs.cell_code.declared.code.Instr.{Instr}
+use Rattle.separation_kinds.specs.cell_code.declared.code.Instr.TheVariants as I
+use Rattle.separation_kinds.specs.cell_code.declared.kind.Kind.{Kind}
+use Rattle.separation_kinds.specs.machine_semantics.Cells.{Store, IsStore, there, released_at}
+use Rattle.separation_kinds.specs.machine_semantics.Trees.{StandAll}
+use Rattle.separation_kinds.specs.machine_semantics.States.{Frame, State, Next, Went, Entered, Gave, Trapped, TooDeep, Stuck}
+use Rattle.separation_kinds.specs.machine_semantics.Apart.{Holding, Slot, frames_uses, trees_uses, trees_below, AreTrees}
+use Rattle.separation_kinds.specs.code_rules.Codes.{PlainCode, PlainFunction, function_at, results}
+use Rattle.separation_kinds.specs.code_rules.Kinds.{at}
+use Rattle.separation_kinds.specs.code_rules.Handing.{arguments}
+use Rattle.separation_kinds.specs.code_rules.Flow.{is_as_asked, IsInstr, KnownAt}
 use Rattle.separation_kinds.specs.Meanings.{AreMeant, owned_by, word_at, slots_of}
 
 -- a frame that waits: the kinds, words and holdings of its registers

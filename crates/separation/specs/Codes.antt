@@ -3,14 +3,14 @@
 -- Of the reversal of a list, register 0 owns a list with constructor 0 or 1 before instruction 0, and register 0 is a
 -- credit of size 2 before instruction 4. At a Call the kinds that wait are those behind its arguments.
 use Rattle.std.specs.Prelude.{◌≡◌, ℕ, false, List, Some, map}
-use Rattle.cell_code.specs.declared.code.Instr.{Instr}
-use Rattle.cell_code.specs.declared.code.Instr.TheVariants as I
-use Rattle.cell_code.specs.declared.kind.Kind.{Kind}
-use Rattle.machine_semantics.specs.Codes as R
-use Rattle.machine_semantics.specs.Steps.{Kinds}
-use Rattle.code_rules.specs.Codes.{PlainCode, PlainFunction, function_at}
-use Rattle.code_rules.specs.Handing.{arguments}
-use Rattle.code_rules.specs.Flow.{IsInstr, KnownAt}
+use Rattle.separation_kinds.specs.cell_code.declared.code.Instr.{Instr}
+use Rattle.separation_kinds.specs.cell_code.declared.code.Instr.TheVariants as I
+use Rattle.separation_kinds.specs.cell_code.declared.kind.Kind.{Kind}
+use Rattle.separation_kinds.specs.machine_semantics.Codes as R
+use Rattle.separation_kinds.specs.machine_semantics.Steps.{Kinds}
+use Rattle.separation_kinds.specs.code_rules.Codes.{PlainCode, PlainFunction, function_at}
+use Rattle.separation_kinds.specs.code_rules.Handing.{arguments}
+use Rattle.separation_kinds.specs.code_rules.Flow.{IsInstr, KnownAt}
 use Rattle.separation.specs.Rows.{FitsLiteral}
 
 -- what a run reads of a function

@@ -5,20 +5,20 @@
 -- registers 2 and 3 hold the parts. Each cell is owned as often as before.
 use Rattle.std.specs.Prelude.{◌≡◌, ℕ, ◌+◌, ◌≤◌, true, List, [], Some, length, slice_get, FitsSigned}
 use Rattle.std.specs.Int.{w64}
-use Rattle.fip_language.specs.Table.{Shape, Table, constructors}
-use Rattle.fip_language.specs.Store.{Placed}
-use Rattle.cell_code.specs.declared.code.Instr.{Instr}
-use Rattle.cell_code.specs.declared.code.Instr.TheVariants as I
-use Rattle.cell_code.specs.declared.kind.Kind.{Kind}
-use Rattle.machine_semantics.specs.Cells.{Store, IsStore, cell_at, there, released_at, changed_by}
-use Rattle.machine_semantics.specs.States.{State}
-use Rattle.machine_semantics.specs.Rows as R
-use Rattle.machine_semantics.specs.Apart.{Holding, trees_uses}
-use Rattle.code_rules.specs.Codes.{PlainCode, PlainFunction}
-use Rattle.code_rules.specs.Kinds.{at}
-use Rattle.code_rules.specs.Ranges.{in_range}
-use Rattle.code_rules.specs.Asked.{sources, destinations}
-use Rattle.code_rules.specs.Flow.{IsReachedAt, GoesTo}
+use Rattle.separation_kinds.specs.fip_language.Table.{Shape, Table, constructors}
+use Rattle.separation_kinds.specs.fip_language.Store.{Placed}
+use Rattle.separation_kinds.specs.cell_code.declared.code.Instr.{Instr}
+use Rattle.separation_kinds.specs.cell_code.declared.code.Instr.TheVariants as I
+use Rattle.separation_kinds.specs.cell_code.declared.kind.Kind.{Kind}
+use Rattle.separation_kinds.specs.machine_semantics.Cells.{Store, IsStore, cell_at, there, released_at, changed_by}
+use Rattle.separation_kinds.specs.machine_semantics.States.{State}
+use Rattle.separation_kinds.specs.machine_semantics.Rows as R
+use Rattle.separation_kinds.specs.machine_semantics.Apart.{Holding, trees_uses}
+use Rattle.separation_kinds.specs.code_rules.Codes.{PlainCode, PlainFunction}
+use Rattle.separation_kinds.specs.code_rules.Kinds.{at}
+use Rattle.separation_kinds.specs.code_rules.Ranges.{in_range}
+use Rattle.separation_kinds.specs.code_rules.Asked.{sources, destinations}
+use Rattle.separation_kinds.specs.code_rules.Flow.{IsReachedAt, GoesTo}
 use Rattle.separation_kinds.specs.Meanings.{AreMeant, owned_by, word_at}
 
 -- An int that an instruction writes has 64 bits.

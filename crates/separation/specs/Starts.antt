@@ -3,12 +3,12 @@
 --
 -- The reversal of a list begins with the words of two lists whose cells are all cells, where none is kept or released.
 use Rattle.std.specs.Prelude.{◌≡◌, ℕ, List, Some}
-use Rattle.machine_semantics.specs.Steps.{Kinds}
-use Rattle.machine_semantics.specs.States.{State}
-use Rattle.machine_semantics.specs.Runs.{loaded}
-use Rattle.machine_semantics.specs.Apart.{IsGiven}
-use Rattle.code_rules.specs.Codes.{PlainCode, PlainFunction, function_at}
-use Rattle.code_rules.specs.Breaks.{IsSound}
+use Rattle.separation_kinds.specs.machine_semantics.Steps.{Kinds}
+use Rattle.separation_kinds.specs.machine_semantics.States.{State}
+use Rattle.separation_kinds.specs.machine_semantics.Runs.{loaded}
+use Rattle.separation_kinds.specs.machine_semantics.Apart.{IsGiven}
+use Rattle.separation_kinds.specs.code_rules.Codes.{PlainCode, PlainFunction, function_at}
+use Rattle.separation_kinds.specs.code_rules.Breaks.{IsSound}
 use Rattle.separation.specs.Codes.{run_function, run_code, HasLiterals, AreKinds}
 
 -- Function n of a sound code begins in state s, beside these kept cells.

@@ -1,15 +1,15 @@
 // The laws of runs of sound code. Each is the contract of a function that does nothing.
 ghost use Rattle.std.specs.Prelude.{◌≡◌, ℕ, List, []};
-ghost use Rattle.cell_code.specs.declared.code.Code.{Code};
-ghost use Rattle.machine_semantics.specs.Codes as R;
-ghost use Rattle.machine_semantics.specs.States.{State};
-ghost use Rattle.machine_semantics.specs.Steps.{Kinds, next};
-ghost use Rattle.machine_semantics.specs.Runs.{Value, Unsound, Over, state_of, begun, after};
-ghost use Rattle.machine_semantics.specs.Apart.{Apart, GivesApart};
-ghost use Rattle.machine_semantics.specs.Example.{listed, first};
-ghost use Rattle.code_rules.specs.Codes.{PlainCode, plain, results};
-ghost use Rattle.code_rules.specs.Breaks.{IsSound};
-ghost use Rattle.code_rules.specs.Example.{reversal};
+ghost use Rattle.separation_kinds.specs.cell_code.declared.code.Code.{Code};
+ghost use Rattle.separation_kinds.specs.machine_semantics.Codes as R;
+ghost use Rattle.separation_kinds.specs.machine_semantics.States.{State};
+ghost use Rattle.separation_kinds.specs.machine_semantics.Steps.{Kinds, next};
+ghost use Rattle.separation_kinds.specs.machine_semantics.Runs.{Value, Unsound, Over, state_of, begun, after};
+ghost use Rattle.separation_kinds.specs.machine_semantics.Apart.{Apart, GivesApart};
+ghost use Rattle.separation_kinds.specs.machine_semantics.Example.{listed, first};
+ghost use Rattle.separation_kinds.specs.code_rules.Codes.{PlainCode, plain, results};
+ghost use Rattle.separation_kinds.specs.code_rules.Breaks.{IsSound};
+ghost use Rattle.separation_kinds.specs.code_rules.Example.{reversal};
 ghost use Rattle.separation.specs.Codes.{run_code, HasLiterals, AreKinds};
 ghost use Rattle.separation.specs.Alive.{IsAlive, IsGood};
 ghost use Rattle.separation.specs.Starts.{IsStart};

@@ -1,7 +1,7 @@
 -- In a graph in which nothing comes back to one that waits, what runs of one hold is bounded: on a way of calls each one
 -- waits once at the most.
 use Rattle.std.proofs.Common.{◌≡◌, ℕ, zero, suc, ◌+◌, ◌<◌, ◌≤◌, Bool, true, false, inl, inr, refl, ◌∙◌, subst, arith}
-use Rattle.call_groups.specs.Stacks.{charge}
+use Rattle.separation.specs.call_groups.Stacks.{charge}
 use Rattle.separation_bounds.proofs.Sums.{sum_of, but, stays_in, without, everything, in_sum, less_or_not}
 
 -- n calls lead from a to b

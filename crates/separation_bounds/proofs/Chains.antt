@@ -3,13 +3,13 @@
 use Rattle.std.proofs.Common.{◌≡◌, ℕ, ◌+◌, ◌≤◌, List, [], ◌∷◌, length, map, Some, sym, ap, ◌∙◌, arith}
 use Rattle.std.specs.Prelude.{sum, fold}
 use Rattle.std.proofs.lemmas.Option.{same_Some}
-use Rattle.machine_semantics.specs.Cells.{Store}
-use Rattle.machine_semantics.specs.States.{Frame, words_of_frame}
-use Rattle.fip_language.specs.Store.{Placed}
-use Rattle.code_rules.specs.Codes.{PlainCode, PlainFunction, function_at, is_fip}
-use Rattle.code_rules.specs.Limits.{frame_words}
-use Rattle.code_rules.specs.StackNumbers.{IsFip, words_of, words_at}
-use Rattle.separation_kinds.proofs.Basics.{chosen}
+use Rattle.separation.specs.machine_semantics.Cells.{Store}
+use Rattle.separation.specs.machine_semantics.States.{Frame, words_of_frame}
+use Rattle.separation.specs.fip_language.Store.{Placed}
+use Rattle.separation.specs.code_rules.Codes.{PlainCode, PlainFunction, function_at, is_fip}
+use Rattle.separation.specs.code_rules.Limits.{frame_words}
+use Rattle.separation.specs.code_rules.StackNumbers.{IsFip, words_of, words_at}
+use Rattle.separation.proofs.separation_kinds.Basics.{chosen}
 use Rattle.separation.specs.Alive.{Frozen, AreAllWaiting}
 
 abbrev pub AreCovered : PlainCode → (ℕ → ℕ) → (ℕ → ℕ) → ℕ → ℕ → List Frame → Type 0

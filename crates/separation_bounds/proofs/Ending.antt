@@ -3,13 +3,13 @@
 -- kinds are given: before each instruction that a run comes to they are the same.
 use Rattle.std.proofs.Common.{◌≡◌, ℕ, zero, suc, ◌+◌, ◌*◌, ◌≤◌, List, [], ◌∷◌, length, map, Some, slice_get, refl, sym, ap, ◌∙◌, subst, arith}
 use Rattle.std.proofs.lemmas.Option.{none-some, same_Some}
-use Rattle.machine_semantics.specs.Codes as R
-use Rattle.machine_semantics.specs.Gauges.{seen_of, states, seen}
-use Rattle.machine_semantics.specs.States.{State, Next, Went, Entered, Gave, Trapped, TooDeep, Stuck}
-use Rattle.machine_semantics.specs.Steps.{Kinds, act_at, instr_of, next}
-use Rattle.machine_semantics.specs.Runs.{Run, End, Going, Over, Ends, begun, comes, later, after}
-use Rattle.code_rules.specs.Breaks.{IsSound}
-use Rattle.code_rules.specs.Codes.{PlainCode, PlainFunction, function_at, results}
+use Rattle.separation.specs.machine_semantics.Codes as R
+use Rattle.separation.specs.machine_semantics.Gauges.{seen_of, states, seen}
+use Rattle.separation.specs.machine_semantics.States.{State, Next, Went, Entered, Gave, Trapped, TooDeep, Stuck}
+use Rattle.separation.specs.machine_semantics.Steps.{Kinds, act_at, instr_of, next}
+use Rattle.separation.specs.machine_semantics.Runs.{Run, End, Going, Over, Ends, begun, comes, later, after}
+use Rattle.separation.specs.code_rules.Breaks.{IsSound}
+use Rattle.separation.specs.code_rules.Codes.{PlainCode, PlainFunction, function_at, results}
 use Rattle.separation.specs.Alive.{IsAlive}
 use Rattle.separation.specs.Codes.{run_code, HasLiterals, AreKinds}
 use Rattle.separation.specs.Starts.{IsStart}

@@ -1,17 +1,17 @@
 -- Held cells only fall, and in a fip run they stay.
 use Rattle.std.proofs.Common.{◌≡◌, ℕ, zero, suc, ◌≤◌, Bool, true, false, List, [], ◌∷◌, length, map, Option, Some, None, slice_get, refl, sym, ap, ◌∙◌, subst, true≢false, arith, nat_eq, if◌then◌else◌}
 use Rattle.std.proofs.lemmas.Option.{same_Some}
-use Rattle.fip_language.specs.Every.{Every}
-use Rattle.fip_language.specs.Store.{Cell}
-use Rattle.machine_semantics.specs.Cells.{Store, IsStore, IsSized, cell_in, size_in, one_if_some, one_if_true, one_held, held_in, count_held}
-use Rattle.machine_semantics.specs.Kept.{Keeps}
-use Rattle.machine_semantics.specs.States.{State, Next, Went, Entered, Gave, Trapped, TooDeep, Stuck}
-use Rattle.machine_semantics.specs.Steps.{Kinds, next}
-use Rattle.machine_semantics.specs.Runs.{Run, Going, Over, state_of, begun, comes, later, after}
-use Rattle.machine_semantics.specs.Codes as R
-use Rattle.machine_semantics.proofs.Sizes.{went_keeps, entered_keeps}
-use Rattle.code_rules.specs.Codes.{PlainCode}
-use Rattle.code_rules.specs.StackNumbers.{IsFip}
+use Rattle.separation.specs.fip_language.Every.{Every}
+use Rattle.separation.specs.fip_language.Store.{Cell}
+use Rattle.separation.specs.machine_semantics.Cells.{Store, IsStore, IsSized, cell_in, size_in, one_if_some, one_if_true, one_held, held_in, count_held}
+use Rattle.separation.specs.machine_semantics.Kept.{Keeps}
+use Rattle.separation.specs.machine_semantics.States.{State, Next, Went, Entered, Gave, Trapped, TooDeep, Stuck}
+use Rattle.separation.specs.machine_semantics.Steps.{Kinds, next}
+use Rattle.separation.specs.machine_semantics.Runs.{Run, Going, Over, state_of, begun, comes, later, after}
+use Rattle.separation.specs.machine_semantics.Codes as R
+use Rattle.separation.proofs.machine_semantics.Sizes.{went_keeps, entered_keeps}
+use Rattle.separation.specs.code_rules.Codes.{PlainCode}
+use Rattle.separation.specs.code_rules.StackNumbers.{IsFip}
 use Rattle.separation.specs.Codes.{run_code}
 use Rattle.separation.specs.Starts.{IsStart}
 use Rattle.separation.proofs.Running.{run_alive}

@@ -2,21 +2,21 @@
 -- The idea: what is left of all frames, each of which goes forward, with the calls that are left.
 use Rattle.std.proofs.Common.{◌≡◌, ℕ, zero, suc, ◌+◌, ◌-◌, ◌*◌, ◌<◌, ◌≤◌, true, List, [], ◌∷◌, Option, Some, None, refl, sym, ap, ap₂, subst, arith}
 use Rattle.std.specs.Prelude.{option_and_then}
-use Rattle.fip_language.specs.declared.TrapKind.{TrapKind}
-use Rattle.cell_code.specs.declared.code.Instr.{Instr}
-use Rattle.cell_code.specs.declared.code.Instr.TheVariants as I
-use Rattle.cell_code.specs.declared.kind.Kind.{Kind}
-use Rattle.machine_semantics.specs.Codes as R
-use Rattle.machine_semantics.specs.Cells.{Store, changed_by}
-use Rattle.machine_semantics.specs.Rows as D
-use Rattle.machine_semantics.specs.States.{Frame, State, Next, Went, Entered, Gave, Trapped, TooDeep, Stuck}
-use Rattle.machine_semantics.specs.Steps.{Kinds, went, went_with, called, called_with, replaced, returned, resumed, trapped, act, act_at, next, instr_of, kinds_of}
-use Rattle.machine_semantics.specs.Steps as T
-use Rattle.machine_semantics.specs.Runs.{Run, Going, Over, begun, comes, later, after}
-use Rattle.code_rules.specs.Codes.{PlainCode, PlainFunction, results}
-use Rattle.code_rules.specs.Ranges.{in_range}
-use Rattle.code_rules.specs.Breaks.{IsSound}
-use Rattle.separation_kinds.proofs.Basics.{get_within}
+use Rattle.separation.specs.fip_language.declared.TrapKind.{TrapKind}
+use Rattle.separation.specs.cell_code.declared.code.Instr.{Instr}
+use Rattle.separation.specs.cell_code.declared.code.Instr.TheVariants as I
+use Rattle.separation.specs.cell_code.declared.kind.Kind.{Kind}
+use Rattle.separation.specs.machine_semantics.Codes as R
+use Rattle.separation.specs.machine_semantics.Cells.{Store, changed_by}
+use Rattle.separation.specs.machine_semantics.Rows as D
+use Rattle.separation.specs.machine_semantics.States.{Frame, State, Next, Went, Entered, Gave, Trapped, TooDeep, Stuck}
+use Rattle.separation.specs.machine_semantics.Steps.{Kinds, went, went_with, called, called_with, replaced, returned, resumed, trapped, act, act_at, next, instr_of, kinds_of}
+use Rattle.separation.specs.machine_semantics.Steps as T
+use Rattle.separation.specs.machine_semantics.Runs.{Run, Going, Over, begun, comes, later, after}
+use Rattle.separation.specs.code_rules.Codes.{PlainCode, PlainFunction, results}
+use Rattle.separation.specs.code_rules.Ranges.{in_range}
+use Rattle.separation.specs.code_rules.Breaks.{IsSound}
+use Rattle.separation.proofs.separation_kinds.Basics.{get_within}
 use Rattle.separation.specs.Codes.{run_code, HasLiterals, AreKinds}
 use Rattle.separation.specs.Alive.{IsAlive}
 use Rattle.separation.specs.Starts.{IsStart}

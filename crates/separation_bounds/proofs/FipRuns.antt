@@ -1,14 +1,14 @@
 -- Fip runs: nothing is released, the stack stays within its number, and with so many free frames it suffices.
 use Rattle.std.proofs.Common.{◌≡◌, ℕ, zero, suc, ◌+◌, ◌≤◌, List, [], length, map, Bool, true, false, refl, sym, ap, ◌∙◌, subst, arith}
-use Rattle.fip_base.specs.declared.plain.Stack.{Stack}
-use Rattle.call_groups.specs.Stacks.{charge, own_frames}
-use Rattle.machine_semantics.specs.Cells.{Store}
-use Rattle.machine_semantics.specs.States.{State, Next, Went, Entered, Gave, Trapped, TooDeep, Stuck, frames_held, words_of_frame, words_held}
-use Rattle.machine_semantics.specs.Steps.{Kinds, next}
-use Rattle.machine_semantics.specs.Runs.{Deep, Run, Going, Over, state_of, begun, comes, later, after}
-use Rattle.code_rules.specs.Codes.{PlainCode, results}
-use Rattle.code_rules.specs.StackNumbers.{IsFip, IsStack, words_at}
-use Rattle.code_rules.specs.Breaks.{IsSound}
+use Rattle.separation.specs.fip_base.declared.plain.Stack.{Stack}
+use Rattle.separation.specs.call_groups.Stacks.{charge, own_frames}
+use Rattle.separation.specs.machine_semantics.Cells.{Store}
+use Rattle.separation.specs.machine_semantics.States.{State, Next, Went, Entered, Gave, Trapped, TooDeep, Stuck, frames_held, words_of_frame, words_held}
+use Rattle.separation.specs.machine_semantics.Steps.{Kinds, next}
+use Rattle.separation.specs.machine_semantics.Runs.{Deep, Run, Going, Over, state_of, begun, comes, later, after}
+use Rattle.separation.specs.code_rules.Codes.{PlainCode, results}
+use Rattle.separation.specs.code_rules.StackNumbers.{IsFip, IsStack, words_at}
+use Rattle.separation.specs.code_rules.Breaks.{IsSound}
 use Rattle.separation.specs.Codes.{run_code, HasLiterals, AreKinds}
 use Rattle.separation.specs.Starts.{IsStart}
 use Rattle.separation.proofs.Loading.{start_alive, loaded_is}

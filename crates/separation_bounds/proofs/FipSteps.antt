@@ -2,23 +2,23 @@
 use Rattle.std.proofs.Common.{◌≡◌, ℕ, zero, suc, ◌+◌, ◌<◌, ◌≤◌, Bool, true, false, not, List, [], ◌∷◌, length, Option, Some, None, refl, sym, ap, ap₂, ◌∙◌, subst, true≢false, arith, nat_lt}
 use Rattle.std.specs.Prelude.{option_and_then}
 use Rattle.std.proofs.lemmas.Option.{none-some, same_Some}
-use Rattle.fip_language.specs.declared.TrapKind.{TrapKind}
-use Rattle.cell_code.specs.declared.code.Instr.{Instr}
-use Rattle.cell_code.specs.declared.code.Instr.TheVariants as I
-use Rattle.call_groups.specs.Stacks.{charge}
-use Rattle.machine_semantics.specs.Codes as R
-use Rattle.machine_semantics.specs.Cells.{Store, changed_by}
-use Rattle.machine_semantics.specs.Rows as D
-use Rattle.machine_semantics.specs.States.{Frame, State, Next, Went, Entered, Gave, Trapped, TooDeep, Stuck}
-use Rattle.machine_semantics.specs.Steps.{Kinds, went, went_with, called, called_with, replaced, returned, resumed, trapped, act, act_at, next, instr_of, kinds_of}
-use Rattle.machine_semantics.specs.Steps as T
-use Rattle.code_rules.specs.Codes.{PlainCode, PlainFunction, function_at, is_fip, is_weak, is_weaker}
-use Rattle.code_rules.specs.Ranges.{in_range}
-use Rattle.code_rules.specs.Endings.{releases}
-use Rattle.code_rules.specs.Calls.{IsCall, CallsAt}
-use Rattle.code_rules.specs.StackNumbers.{IsFip, FipCalls}
-use Rattle.code_rules.specs.Breaks.{IsSound}
-use Rattle.separation_kinds.proofs.Basics.{both, below}
+use Rattle.separation.specs.fip_language.declared.TrapKind.{TrapKind}
+use Rattle.separation.specs.cell_code.declared.code.Instr.{Instr}
+use Rattle.separation.specs.cell_code.declared.code.Instr.TheVariants as I
+use Rattle.separation.specs.call_groups.Stacks.{charge}
+use Rattle.separation.specs.machine_semantics.Codes as R
+use Rattle.separation.specs.machine_semantics.Cells.{Store, changed_by}
+use Rattle.separation.specs.machine_semantics.Rows as D
+use Rattle.separation.specs.machine_semantics.States.{Frame, State, Next, Went, Entered, Gave, Trapped, TooDeep, Stuck}
+use Rattle.separation.specs.machine_semantics.Steps.{Kinds, went, went_with, called, called_with, replaced, returned, resumed, trapped, act, act_at, next, instr_of, kinds_of}
+use Rattle.separation.specs.machine_semantics.Steps as T
+use Rattle.separation.specs.code_rules.Codes.{PlainCode, PlainFunction, function_at, is_fip, is_weak, is_weaker}
+use Rattle.separation.specs.code_rules.Ranges.{in_range}
+use Rattle.separation.specs.code_rules.Endings.{releases}
+use Rattle.separation.specs.code_rules.Calls.{IsCall, CallsAt}
+use Rattle.separation.specs.code_rules.StackNumbers.{IsFip, FipCalls}
+use Rattle.separation.specs.code_rules.Breaks.{IsSound}
+use Rattle.separation.proofs.separation_kinds.Basics.{both, below}
 use Rattle.separation.specs.Codes.{run_code, AreKinds}
 use Rattle.separation.specs.Alive.{IsAlive}
 use Rattle.separation.proofs.Sound.{formed, ranged, keeps_fip}

@@ -1,17 +1,17 @@
 -- What a run gives has as many cells of each size as the definition of its trees says; a fip run gives back what it was
 -- given.
 use Rattle.std.proofs.Common.{◌≡◌, ℕ, zero, suc, ◌+◌, List, [], ◌∷◌, map, Option, Some, None, refl, ap, subst, arith, nat_eq, if◌then◌else◌}
-use Rattle.fip_language.specs.Every.{Every}
-use Rattle.fip_language.specs.Values.{cells_of_all}
-use Rattle.fip_language.specs.Store.{Cell, values_of, count}
-use Rattle.machine_semantics.specs.Cells.{Store, IsStore, IsSized, cell_in, size_in, count_held}
-use Rattle.machine_semantics.specs.Kept.{Keeps}
-use Rattle.machine_semantics.specs.States.{State}
-use Rattle.machine_semantics.specs.Steps.{Kinds}
-use Rattle.machine_semantics.specs.Runs.{Over, Value, state_of, begun, after}
-use Rattle.machine_semantics.specs.Apart.{GivesApart}
-use Rattle.code_rules.specs.Codes.{PlainCode}
-use Rattle.code_rules.specs.StackNumbers.{IsFip}
+use Rattle.separation.specs.fip_language.Every.{Every}
+use Rattle.separation.specs.fip_language.Values.{cells_of_all}
+use Rattle.separation.specs.fip_language.Store.{Cell, values_of, count}
+use Rattle.separation.specs.machine_semantics.Cells.{Store, IsStore, IsSized, cell_in, size_in, count_held}
+use Rattle.separation.specs.machine_semantics.Kept.{Keeps}
+use Rattle.separation.specs.machine_semantics.States.{State}
+use Rattle.separation.specs.machine_semantics.Steps.{Kinds}
+use Rattle.separation.specs.machine_semantics.Runs.{Over, Value, state_of, begun, after}
+use Rattle.separation.specs.machine_semantics.Apart.{GivesApart}
+use Rattle.separation.specs.code_rules.Codes.{PlainCode}
+use Rattle.separation.specs.code_rules.StackNumbers.{IsFip}
 use Rattle.separation.specs.Codes.{run_code, run_function}
 use Rattle.separation.specs.Starts.{IsStart}
 use Rattle.separation.proofs.Running.{run_alive}

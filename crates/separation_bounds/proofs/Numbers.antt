@@ -2,13 +2,13 @@
 -- the caller's own group.
 use Rattle.std.proofs.Common.{◌≡◌, ℕ, zero, suc, ◌<◌, ◌≤◌, Bool, true, List, [], ◌∷◌, Option, Some, None, length, slice_get, refl, sym, ap, ◌∙◌, subst, arith, inl, inr}
 use Rattle.std.proofs.lemmas.Option.{none-some, same_Some}
-use Rattle.fip_base.specs.declared.plain.Stack.{Stack}
-use Rattle.call_groups.specs.Stacks.{base_frames, own_frames}
-use Rattle.code_rules.specs.Breaks.{IsSound}
-use Rattle.code_rules.specs.Calls.{Path, SameGroup, CallsAt}
-use Rattle.code_rules.specs.Codes.{PlainCode, PlainFunction, is_fip}
-use Rattle.code_rules.specs.StackNumbers.{FipCalls, words_of, words_at, HasStack}
-use Rattle.code_rules.specs.declared.rule.SoundRule.TheVariants.{S0, S8}
+use Rattle.separation.specs.fip_base.declared.plain.Stack.{Stack}
+use Rattle.separation.specs.call_groups.Stacks.{base_frames, own_frames}
+use Rattle.separation.specs.code_rules.Breaks.{IsSound}
+use Rattle.separation.specs.code_rules.Calls.{Path, SameGroup, CallsAt}
+use Rattle.separation.specs.code_rules.Codes.{PlainCode, PlainFunction, is_fip}
+use Rattle.separation.specs.code_rules.StackNumbers.{FipCalls, words_of, words_at, HasStack}
+use Rattle.separation.specs.code_rules.declared.rule.SoundRule.TheVariants.{S0, S8}
 use Rattle.separation_bounds.proofs.Bounds.{Way}
 use Rattle.separation_bounds.proofs.Solving.{solved}
 

@@ -3,18 +3,18 @@
 use Rattle.std.proofs.Common.{◌≡◌, ℕ, ◌<◌, Bool, true, false, List, [], ◌∷◌, Option, Some, None, sym, ap, ◌∙◌, true≢false, arith, nat_lt, nat_eq}
 use Rattle.std.specs.Prelude.{option_and_then, option_map}
 use Rattle.std.proofs.lemmas.Option.{none-some, same_Some, option_and_then_some}
-use Rattle.fip_language.specs.Arithmetic.{Operated, Is, Fails}
-use Rattle.fip_language.specs.Store.{Cell}
-use Rattle.cell_code.specs.declared.code.Instr.{Instr}
-use Rattle.cell_code.specs.declared.code.Instr.TheVariants as I
-use Rattle.cell_code.specs.declared.kind.Kind.{Kind}
-use Rattle.machine_semantics.specs.Cells.{Store, Change, Write, Release, cell_at, size_of, written, changed, changed_by}
-use Rattle.machine_semantics.specs.States.{State}
-use Rattle.machine_semantics.specs.Rows as R
-use Rattle.code_rules.specs.Codes.{PlainCode, PlainFunction}
-use Rattle.code_rules.specs.Ranges.{in_range, is_target}
-use Rattle.code_rules.specs.Endings.{releases}
-use Rattle.separation_kinds.proofs.Basics.{pick, both, below}
+use Rattle.separation.specs.fip_language.Arithmetic.{Operated, Is, Fails}
+use Rattle.separation.specs.fip_language.Store.{Cell}
+use Rattle.separation.specs.cell_code.declared.code.Instr.{Instr}
+use Rattle.separation.specs.cell_code.declared.code.Instr.TheVariants as I
+use Rattle.separation.specs.cell_code.declared.kind.Kind.{Kind}
+use Rattle.separation.specs.machine_semantics.Cells.{Store, Change, Write, Release, cell_at, size_of, written, changed, changed_by}
+use Rattle.separation.specs.machine_semantics.States.{State}
+use Rattle.separation.specs.machine_semantics.Rows as R
+use Rattle.separation.specs.code_rules.Codes.{PlainCode, PlainFunction}
+use Rattle.separation.specs.code_rules.Ranges.{in_range, is_target}
+use Rattle.separation.specs.code_rules.Endings.{releases}
+use Rattle.separation.proofs.separation_kinds.Basics.{pick, both, below}
 
 -- no cell is released
 abbrev pub AllWrites : List Change → Type 0

@@ -1,7 +1,7 @@
 -- Where all ways are bounded there are least numbers: of each one the least that no way exceeds.
 -- A way isn't a test, so this is said with two nots.
 use Rattle.std.proofs.Common.{◌≡◌, ℕ, zero, suc, ◌+◌, ◌-◌, ◌<◌, ◌≤◌, Bool, refl, sym, ap, ◌∙◌, subst, arith, inl, inr, ◌==◌, if◌then◌else◌}
-use Rattle.call_groups.specs.Stacks.{charge, Solves, LeastSolution}
+use Rattle.separation.specs.call_groups.Stacks.{charge, Solves, LeastSolution}
 use Rattle.separation_bounds.proofs.Sums.{sum_of, everything, less_or_not, same_or_not, same_number, other_number}
 use Rattle.separation_bounds.proofs.Bounds.{Holds, AreTame, bounded}
 

@@ -3,15 +3,15 @@
 -- that size.
 use Rattle.std.proofs.Common.{◌≡◌, ℕ, zero, suc, ◌+◌, Bool, true, false, List, [], ◌∷◌, length, Option, Some, None, slice_get, refl, sym, ap, ◌∙◌, arith, nat_eq, if◌then◌else◌}
 use Rattle.std.proofs.lemmas.Bool.Decides.{nat_tests}
-use Rattle.fip_language.specs.Table.{Table}
-use Rattle.fip_language.specs.Values.{count_of, cells, cells_of_all, one_of_size}
-use Rattle.fip_language.specs.Store.{Cell, Placed, PlacedInt, Bare, At, Parts, NoParts, MoreParts, value_of, values_of, words_of, uses, uses_of_all, one_at, count}
-use Rattle.machine_semantics.specs.Cells.{Store, IsStore, cell_in, cell_at, size_of, one_if_some, one_if_true, one_held, held_in, count_held}
-use Rattle.machine_semantics.specs.Trees.{HasPart, Stands, StandAll}
-use Rattle.machine_semantics.specs.States.{Typed, State}
-use Rattle.machine_semantics.specs.Codes as R
-use Rattle.machine_semantics.specs.Apart.{AreTrees, AreSpare, trees_uses, IsGiven, GivesApart}
-use Rattle.separation_kinds.proofs.Agree.{one_here, one_apart}
+use Rattle.separation.specs.fip_language.Table.{Table}
+use Rattle.separation.specs.fip_language.Values.{count_of, cells, cells_of_all, one_of_size}
+use Rattle.separation.specs.fip_language.Store.{Cell, Placed, PlacedInt, Bare, At, Parts, NoParts, MoreParts, value_of, values_of, words_of, uses, uses_of_all, one_at, count}
+use Rattle.separation.specs.machine_semantics.Cells.{Store, IsStore, cell_in, cell_at, size_of, one_if_some, one_if_true, one_held, held_in, count_held}
+use Rattle.separation.specs.machine_semantics.Trees.{HasPart, Stands, StandAll}
+use Rattle.separation.specs.machine_semantics.States.{Typed, State}
+use Rattle.separation.specs.machine_semantics.Codes as R
+use Rattle.separation.specs.machine_semantics.Apart.{AreTrees, AreSpare, trees_uses, IsGiven, GivesApart}
+use Rattle.separation.proofs.separation_kinds.Agree.{one_here, one_apart}
 use Rattle.separation_bounds.specs.ByTrees.{cells_of_trees, one_if_sized, cells_at}
 
 abbrev weight : ℕ → Option Cell → ℕ → ℕ

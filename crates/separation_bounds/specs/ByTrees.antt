@@ -2,9 +2,9 @@
 --
 -- Cons(1, Cons(2, Nil)) has two cells of size 2.
 use Rattle.std.specs.Prelude.{ℕ, ◌+◌, List, [], ◌∷◌, Option, Some, None, nat_eq, if◌then◌else◌}
-use Rattle.fip_language.specs.Values.{cells}
-use Rattle.fip_language.specs.Store.{Cell, Placed, value_of}
-use Rattle.machine_semantics.specs.Cells.{Store, cell_at, size_of}
+use Rattle.separation.specs.fip_language.Values.{cells}
+use Rattle.separation.specs.fip_language.Store.{Cell, Placed, value_of}
+use Rattle.separation.specs.machine_semantics.Cells.{Store, cell_at, size_of}
 
 abbrev pub cells_of_trees : ℕ → List Placed → ℕ
 cells_of_trees k [] = 0

@@ -1,16 +1,16 @@
 // The laws on cells, stack and steps of runs of sound code. Each is the contract of a function that does nothing.
 ghost use Rattle.std.specs.Prelude.{◌≡◌, ◌≤◌, ◌*◌, ◌+◌, ℕ, suc, List};
-ghost use Rattle.fip_language.specs.Values.{cells_of_all};
-ghost use Rattle.fip_language.specs.Store.{values_of, count};
-ghost use Rattle.fip_base.specs.declared.plain.Stack.{Stack};
-ghost use Rattle.machine_semantics.specs.Cells.{count_held};
-ghost use Rattle.machine_semantics.specs.Gauges.{seen};
-ghost use Rattle.machine_semantics.specs.States.{State, frames_held, words_held};
-ghost use Rattle.machine_semantics.specs.Steps.{Kinds};
-ghost use Rattle.machine_semantics.specs.Runs.{End, Ends, Value, Deep, Over, state_of, begun, after};
-ghost use Rattle.machine_semantics.specs.Apart.{GivesApart};
-ghost use Rattle.code_rules.specs.Codes.{PlainCode};
-ghost use Rattle.code_rules.specs.StackNumbers.{IsFip, IsStack};
+ghost use Rattle.separation.specs.fip_language.Values.{cells_of_all};
+ghost use Rattle.separation.specs.fip_language.Store.{values_of, count};
+ghost use Rattle.separation.specs.fip_base.declared.plain.Stack.{Stack};
+ghost use Rattle.separation.specs.machine_semantics.Cells.{count_held};
+ghost use Rattle.separation.specs.machine_semantics.Gauges.{seen};
+ghost use Rattle.separation.specs.machine_semantics.States.{State, frames_held, words_held};
+ghost use Rattle.separation.specs.machine_semantics.Steps.{Kinds};
+ghost use Rattle.separation.specs.machine_semantics.Runs.{End, Ends, Value, Deep, Over, state_of, begun, after};
+ghost use Rattle.separation.specs.machine_semantics.Apart.{GivesApart};
+ghost use Rattle.separation.specs.code_rules.Codes.{PlainCode};
+ghost use Rattle.separation.specs.code_rules.StackNumbers.{IsFip, IsStack};
 ghost use Rattle.separation.specs.Codes.{run_code, AreKinds};
 ghost use Rattle.separation.specs.Starts.{IsStart};
 ghost use Rattle.separation_bounds.specs.ByTrees.{cells_of_trees, cells_at};

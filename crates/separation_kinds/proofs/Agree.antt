@@ -1,10 +1,10 @@
 -- What registers mean stays where only cells change that none of their trees has.
 use Rattle.std.proofs.Common.{◌≡◌, inl, inr, ℕ, zero, suc, ◌+◌, ◌<◌, ◌≤◌, true, List, [], ◌∷◌, Option, Some, None, refl, sym, ap, ◌∙◌, true≢false, arith}
 use Rattle.std.proofs.lemmas.Bool.Decides.{nat_tests}
-use Rattle.fip_language.specs.Table.{Table}
-use Rattle.fip_language.specs.Store.{Placed, PlacedInt, Bare, At, Parts, NoParts, MoreParts, uses, uses_of_all, one_at}
-use Rattle.cell_code.specs.declared.kind.Kind.{Kind}
-use Rattle.cell_code.specs.declared.kind.Kind.TheVariants.{Gone, Scalar, Owned, Lent, Credit}
+use Rattle.machine_semantics.specs.fip_language.Table.{Table}
+use Rattle.machine_semantics.specs.fip_language.Store.{Placed, PlacedInt, Bare, At, Parts, NoParts, MoreParts, uses, uses_of_all, one_at}
+use Rattle.machine_semantics.specs.cell_code.declared.kind.Kind.{Kind}
+use Rattle.machine_semantics.specs.cell_code.declared.kind.Kind.TheVariants.{Gone, Scalar, Owned, Lent, Credit}
 use Rattle.machine_semantics.specs.Cells.{Store, cell_at}
 use Rattle.machine_semantics.specs.Trees.{Stands, StandAll, IsTree}
 use Rattle.machine_semantics.specs.Apart.{Holding, LiesIn, holding_uses, owned_uses, trees_uses}

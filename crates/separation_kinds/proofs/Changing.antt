@@ -1,11 +1,11 @@
 -- What registers mean stays where others go, or a free one is written.
 -- The idea: a lent register depends on its root and on the register that it came from alone.
 use Rattle.std.proofs.Common.{◌≡◌, inl, inr, ℕ, ◌+◌, ◌<◌, Bool, true, false, List, length, Option, Some, None, refl, sym, ap, ◌∙◌, subst, true≢false, arith, if◌then◌else◌, ◌==◌}
-use Rattle.fip_language.specs.Table.{Table}
-use Rattle.fip_language.specs.Store.{Placed}
-use Rattle.cell_code.specs.declared.kind.From.{From}
-use Rattle.cell_code.specs.declared.kind.Kind.{Kind}
-use Rattle.cell_code.specs.declared.kind.Kind.TheVariants.{Gone, Scalar, Owned, Lent, Credit}
+use Rattle.machine_semantics.specs.fip_language.Table.{Table}
+use Rattle.machine_semantics.specs.fip_language.Store.{Placed}
+use Rattle.machine_semantics.specs.cell_code.declared.kind.From.{From}
+use Rattle.machine_semantics.specs.cell_code.declared.kind.Kind.{Kind}
+use Rattle.machine_semantics.specs.cell_code.declared.kind.Kind.TheVariants.{Gone, Scalar, Owned, Lent, Credit}
 use Rattle.machine_semantics.specs.Cells.{Store}
 use Rattle.machine_semantics.specs.Apart.{Holding, owned_uses}
 use Rattle.code_rules.specs.Kinds.{at, is_free, is_owned, is_credit, is_lent_of, from_of}

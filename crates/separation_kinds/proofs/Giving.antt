@@ -1,10 +1,10 @@
 -- Registers that are given as the fields of a cell or as results: their words stand for trees, which leave the frame.
 use Rattle.std.proofs.Common.{◌≡◌, ℕ, ◌+◌, Bool, true, false, List, [], ◌∷◌, length, map, Some, None, refl, sym, ap, ap₂, ◌∙◌, subst, true≢false, arith, if◌then◌else◌, ◌==◌}
 use Rattle.std.proofs.lemmas.Option.{none-some, same_Some, option_and_then_some}
-use Rattle.fip_language.specs.Table.{Table}
-use Rattle.fip_language.specs.Store.{Placed, Parts, NoParts, MoreParts, uses, uses_of_all, word_of, words_of}
-use Rattle.cell_code.specs.declared.kind.Kind.{Kind}
-use Rattle.cell_code.specs.declared.kind.Kind.TheVariants.{Gone, Scalar, Owned, Lent, Credit}
+use Rattle.machine_semantics.specs.fip_language.Table.{Table}
+use Rattle.machine_semantics.specs.fip_language.Store.{Placed, Parts, NoParts, MoreParts, uses, uses_of_all, word_of, words_of}
+use Rattle.machine_semantics.specs.cell_code.declared.kind.Kind.{Kind}
+use Rattle.machine_semantics.specs.cell_code.declared.kind.Kind.TheVariants.{Gone, Scalar, Owned, Lent, Credit}
 use Rattle.machine_semantics.specs.Cells.{Store}
 use Rattle.machine_semantics.specs.Trees.{Stands, StandAll}
 use Rattle.machine_semantics.specs.Apart.{Holding, holding_uses, owned_uses}

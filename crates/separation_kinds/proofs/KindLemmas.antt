@@ -1,9 +1,9 @@
 -- What becomes of a kind where froms are forgotten, and of a list of kinds where registers go or are written.
 use Rattle.std.proofs.Common.{◌≡◌, ℕ, zero, suc, ◌<◌, Bool, true, false, List, [], ◌∷◌, length, Option, Some, None, refl, sym, ap, ◌∙◌, subst, true≢false, arith, if◌then◌else◌, ◌==◌}
 use Rattle.std.proofs.lemmas.Option.{none-some, same_Some}
-use Rattle.cell_code.specs.declared.kind.From.{From}
-use Rattle.cell_code.specs.declared.kind.Kind.{Kind}
-use Rattle.cell_code.specs.declared.kind.Kind.TheVariants.{Gone, Scalar, Owned, Lent, Credit}
+use Rattle.machine_semantics.specs.cell_code.declared.kind.From.{From}
+use Rattle.machine_semantics.specs.cell_code.declared.kind.Kind.{Kind}
+use Rattle.machine_semantics.specs.cell_code.declared.kind.Kind.TheVariants.{Gone, Scalar, Owned, Lent, Credit}
 use Rattle.machine_semantics.specs.Apart.{Holding, owned_uses}
 use Rattle.code_rules.specs.Kinds.{at, is_free, is_owned, is_lent_of, from_of}
 use Rattle.code_rules.specs.Changes.{become, forget_from, forget, written, goes, used_up}

@@ -11,3 +11,5 @@ pub mod Takes
 pub mod Taken
 pub mod Passing
 pub mod Receiving
+pub use Rattle.code_rules.proofs as code_rules
+pub use Rattle.machine_semantics.proofs as machine_semantics

@@ -3,11 +3,11 @@
 use Rattle.std.proofs.Common.{◌≡◌, ◌⊎◌, inl, inr, ℕ, zero, suc, ◌+◌, ◌<◌, ◌≤◌, Bool, true, false, ◌&&◌, ◌||◌, not, List, [], ◌∷◌, ◌++◌, length, map, drop, Option, Some, None, refl, sym, ap, ◌∙◌, subst, true≢false, arith, if◌then◌else◌, ◌==◌}
 use Rattle.std.specs.Prelude.{is_some}
 use Rattle.std.proofs.lemmas.Option.{none-some, same_Some, option_and_then_some}
-use Rattle.fip_language.specs.Table.{Table}
-use Rattle.fip_language.specs.Store.{Placed}
-use Rattle.fip_base.specs.declared.plain.Param.{Param}
-use Rattle.cell_code.specs.declared.kind.Kind.{Kind}
-use Rattle.cell_code.specs.declared.kind.Kind.TheVariants.{Gone, Scalar, Owned, Lent, Credit}
+use Rattle.machine_semantics.specs.fip_language.Table.{Table}
+use Rattle.machine_semantics.specs.fip_language.Store.{Placed}
+use Rattle.machine_semantics.specs.fip_base.declared.plain.Param.{Param}
+use Rattle.machine_semantics.specs.cell_code.declared.kind.Kind.{Kind}
+use Rattle.machine_semantics.specs.cell_code.declared.kind.Kind.TheVariants.{Gone, Scalar, Owned, Lent, Credit}
 use Rattle.machine_semantics.specs.Cells.{Store}
 use Rattle.machine_semantics.specs.Trees.{IsTree}
 use Rattle.machine_semantics.specs.Apart.{Holding, Nothing, Tree, LiesWithin, LiesIn, owned_uses}

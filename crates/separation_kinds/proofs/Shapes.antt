@@ -2,8 +2,8 @@
 use Rattle.std.proofs.Common.{◌≡◌, ◌⊎◌, inl, inr, ℕ, zero, suc, ◌+◌, ◌<◌, true, false, ◌&&◌, List, [], ◌∷◌, length, Some, slice_get, refl, sym, ap, ◌∙◌, true≢false, arith, nat_lt, ◌==◌}
 use Rattle.std.specs.Prelude.{slice_index_or, Contains}
 use Rattle.std.proofs.lemmas.Option.{none-some, same_Some}
-use Rattle.fip_language.specs.Table.{Table, Shape, shapes, no_fields, all_bare, is_scalar}
-use Rattle.fip_language.specs.Store.{Placed, PlacedInt, Bare, At, Parts, NoParts, MoreParts, uses}
+use Rattle.machine_semantics.specs.fip_language.Table.{Table, Shape, shapes, no_fields, all_bare, is_scalar}
+use Rattle.machine_semantics.specs.fip_language.Store.{Placed, PlacedInt, Bare, At, Parts, NoParts, MoreParts, uses}
 use Rattle.machine_semantics.specs.Cells.{Store}
 use Rattle.machine_semantics.specs.Trees.{HasPart, Stands, StandAll}
 use Rattle.machine_semantics.specs.Apart.{Tree, RootIn}

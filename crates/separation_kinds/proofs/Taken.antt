@@ -1,10 +1,10 @@
 -- Take: behind it each register has what its kind says, and each cell is owned as often as before.
 use Rattle.std.proofs.Common.{◌≡◌, inl, inr, ℕ, ◌+◌, Bool, true, false, ◌&&◌, not, List, [], ◌∷◌, length, Option, Some, None, refl, sym, ap, ap₂, ◌∙◌, true≢false, arith, nat_lt, if◌then◌else◌, ◌==◌}
 use Rattle.std.specs.Prelude.{is_some}
-use Rattle.fip_language.specs.Table.{Table, is_scalar}
-use Rattle.fip_language.specs.Store.{Placed, Parts, uses, uses_of_all, word_of}
-use Rattle.cell_code.specs.declared.kind.Kind.{Kind}
-use Rattle.cell_code.specs.declared.kind.Kind.TheVariants.{Gone, Scalar, Owned, Lent, Credit}
+use Rattle.machine_semantics.specs.fip_language.Table.{Table, is_scalar}
+use Rattle.machine_semantics.specs.fip_language.Store.{Placed, Parts, uses, uses_of_all, word_of}
+use Rattle.machine_semantics.specs.cell_code.declared.kind.Kind.{Kind}
+use Rattle.machine_semantics.specs.cell_code.declared.kind.Kind.TheVariants.{Gone, Scalar, Owned, Lent, Credit}
 use Rattle.machine_semantics.specs.Cells.{Store}
 use Rattle.machine_semantics.specs.Trees.{Stands, StandAll}
 use Rattle.machine_semantics.specs.Apart.{Holding, Nothing, Tree, holding_uses, owned_uses}

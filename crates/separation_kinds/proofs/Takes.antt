@@ -2,10 +2,10 @@
 use Rattle.std.proofs.Common.{◌≡◌, inl, inr, ℕ, zero, suc, ◌+◌, ◌<◌, true, false, ◌&&◌, not, List, [], ◌∷◌, length, Option, Some, None, refl, sym, ap, ◌∙◌, subst, true≢false, arith, nat_lt, ◌==◌}
 use Rattle.std.specs.Prelude.{option_and_then, slice_set}
 use Rattle.std.proofs.lemmas.Option.{none-some, same_Some}
-use Rattle.fip_language.specs.Table.{Table, is_scalar}
-use Rattle.fip_language.specs.Store.{Placed, Parts, NoParts, MoreParts, uses, uses_of_all, word_of, words_of}
-use Rattle.cell_code.specs.declared.kind.Kind.{Kind}
-use Rattle.cell_code.specs.declared.kind.Kind.TheVariants.{Scalar, Owned}
+use Rattle.machine_semantics.specs.fip_language.Table.{Table, is_scalar}
+use Rattle.machine_semantics.specs.fip_language.Store.{Placed, Parts, NoParts, MoreParts, uses, uses_of_all, word_of, words_of}
+use Rattle.machine_semantics.specs.cell_code.declared.kind.Kind.{Kind}
+use Rattle.machine_semantics.specs.cell_code.declared.kind.Kind.TheVariants.{Scalar, Owned}
 use Rattle.machine_semantics.specs.Cells.{Store}
 use Rattle.machine_semantics.specs.Trees.{Stands, StandAll, IsTree}
 use Rattle.machine_semantics.specs.Rows.{write_all}

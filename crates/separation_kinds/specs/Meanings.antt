@@ -6,11 +6,11 @@
 -- With Cons(1, Nil) in cell 0 owned by register 0, and register 1 read as its field 1: register 1 holds Nil, which is
 -- part 1 of the tree of register 0, its root.
 use Rattle.std.specs.Prelude.{◌≡◌, ℕ, zero, suc, ◌+◌, true, List, Option, Some, None, slice_index_or, length, map}
-use Rattle.fip_language.specs.Table.{Table}
-use Rattle.fip_language.specs.Store.{Cell, Placed, PlacedInt, Bare, At, Parts, NoParts, MoreParts, uses}
-use Rattle.cell_code.specs.declared.kind.From.{From}
-use Rattle.cell_code.specs.declared.kind.Kind.{Kind}
-use Rattle.cell_code.specs.declared.kind.Kind.TheVariants.{Gone, Scalar, Owned, Lent, Credit}
+use Rattle.machine_semantics.specs.fip_language.Table.{Table}
+use Rattle.machine_semantics.specs.fip_language.Store.{Cell, Placed, PlacedInt, Bare, At, Parts, NoParts, MoreParts, uses}
+use Rattle.machine_semantics.specs.cell_code.declared.kind.From.{From}
+use Rattle.machine_semantics.specs.cell_code.declared.kind.Kind.{Kind}
+use Rattle.machine_semantics.specs.cell_code.declared.kind.Kind.TheVariants.{Gone, Scalar, Owned, Lent, Credit}
 use Rattle.machine_semantics.specs.Words.{place_word}
 use Rattle.machine_semantics.specs.Cells.{Store, cell_at, size_of}
 use Rattle.machine_semantics.specs.Trees.{IsTree}

@@ -3,7 +3,7 @@ use Rattle.std.proofs.Common.{◌≡◌, ◌∙◌, ◌<◌, ◌≤◌, ◌+◌,
 use Rattle.std.specs.Prelude.{◌⊎◌, ◌||◌, if◌then◌else◌}
 use Rattle.std.proofs.lemmas.Option.{none-some, same_Some}
 use Rattle.std.proofs.lemmas.Slice.Eq.{bytes_eq-Decides}
-use Rattle.cell_code.specs.declared.code.Function.{Function}
+use Rattle.code_verify.specs.cell_code.declared.code.Function.{Function}
 use Rattle.fip_language.specs.Core.{Name}
 use Rattle.fip_language.specs.Declarations.{same_name}
 use Rattle.fip_trees.specs.Names.{meaning, names, is_among, with_meaning}

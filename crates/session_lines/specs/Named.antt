@@ -3,13 +3,13 @@
 -- Of a code with the functions rev, one without a name, and len, rev is called by its name with number 0 and len with
 -- number 2. A fip function gets as many frames as it needs, however many are given.
 use Rattle.std.specs.Prelude.{◌≡◌, ◌<◌, ℕ, List, length, min, Option, Some, None, slice_get}
-use Rattle.cell_code.specs.declared.code.Function.{Function}
+use Rattle.code_verify.specs.cell_code.declared.code.Function.{Function}
 use Rattle.fip_base.specs.declared.plain.Stack.{Stack}
 use Rattle.fip_language.specs.Core.{Name}
 use Rattle.fip_language.specs.declared.limits.TheConstants.{MOST_FRAMES}
 use Rattle.fip_trees.specs.Names.{meaning}
-use Rattle.code_rules.specs.Codes.{PlainCode}
-use Rattle.code_rules.specs.StackNumbers.{HasStack}
+use Rattle.code_verify.specs.code_rules.Codes.{PlainCode}
+use Rattle.code_verify.specs.code_rules.StackNumbers.{HasStack}
 use Rattle.session_semantics.specs.Talk.{frames_of}
 
 -- function n has this name, which isn't empty

@@ -3,8 +3,8 @@ use Rattle.std.proofs.Common.{◌≡◌, ℕ, pos, List, [], ◌∷◌, inl, ref
 use Rattle.std.specs.Prelude.{◌<◌, codes, FitsSigned}
 use Rattle.std.specs.Int.{w64}
 use Rattle.std.proofs.lemmas.Int.{fits_signed_from_abs}
-use Rattle.fip_language.specs.Values.{Value, Int, Node, Values, End, More}
-use Rattle.fip_language.specs.Meaning.{Gives}
+use Rattle.command_outcome.specs.fip_language.Values.{Value, Int, Node, Values, End, More}
+use Rattle.command_outcome.specs.fip_language.Meaning.{Gives}
 use Rattle.instance_semantics.specs.Meaning.{flat_meaning}
 use Rattle.instance_semantics.specs.Example.{lists, rev, ints}
 use Rattle.session_semantics.specs.Lines.{Given, Held, Fresh, Calls, Number, Named, NoParts, MoreParts, SpellsLine, lines_of}

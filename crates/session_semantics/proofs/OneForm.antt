@@ -1,6 +1,6 @@
 -- What is written in a line is one thing.
 use Rattle.std.proofs.Common.{◌≡◌, ℕ, ℤ, List, [], ◌∷◌, Bool, true, false, refl, sym, ap, ◌∙◌, subst}
-use Rattle.fip_language.specs.Core.{Name}
+use Rattle.command_outcome.specs.fip_language.Core.{Name}
 use Rattle.session_semantics.specs.Lines.{Symbol, Blank, Open, Close, Comma, Equals, Question, Minus, Underscore, Digit, Small, Capital, Other}
 use Rattle.session_semantics.specs.Lines.{symbols, skip, behind, BeginsSmall, BeginsCapital, NameText, SignText}
 use Rattle.session_semantics.specs.Lines.{Written, Number, Named, Parts, NoParts, MoreParts, DigitsText, NumberText, IsOpened}

@@ -8,8 +8,8 @@
 -- and its replies `ok`, `Cons(1, Nil)`, `no name b`, `wrong number`, `ok`, `no name a`.
 use Rattle.std.specs.Prelude.{ℕ, pos, List, [], ◌∷◌, ◌++◌, Some, None, codes}
 use Rattle.std.specs.Fmt.{signed_decimal}
-use Rattle.fip_base.specs.declared.plain.Stack.{Stack}
-use Rattle.fip_trees.specs.declared.groups.Member.{Member}
+use Rattle.command_outcome.specs.fip_base.declared.plain.Stack.{Stack}
+use Rattle.instance_semantics.specs.fip_trees.declared.groups.Member.{Member}
 use Rattle.instance_semantics.specs.Example.{lists}
 use Rattle.session_semantics.specs.Talk.{Setting}
 

@@ -5,9 +5,9 @@
 -- A keyword is no name. A relation `XText cs x rest` says: the symbols cs are the text of x, and then rest.
 use Rattle.std.specs.Prelude.{◌≡◌, ℕ, ◌+◌, ◌-◌, ◌*◌, Bool, true, false, ◌&&◌, ◌||◌, nat_le, ◌==◌, if◌then◌else◌}
 use Rattle.std.specs.Prelude.{ℤ, pos, neg_ℤ, List, [], ◌∷◌, map, codes}
-use Rattle.fip_language.specs.Core.{Name}
-use Rattle.fip_language.specs.Declarations.{same_name}
-use Rattle.fip_language.specs.Character.{is_blank, is_digit, is_upper}
+use Rattle.command_outcome.specs.fip_language.Core.{Name}
+use Rattle.command_outcome.specs.fip_language.Declarations.{same_name}
+use Rattle.command_outcome.specs.fip_language.Character.{is_blank, is_digit, is_upper}
 
 -- the lines of a text: an LF ends each, and may miss behind the last
 abbrev pub put_before : ℕ → List (List ℕ) → List (List ℕ)

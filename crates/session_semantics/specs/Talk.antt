@@ -9,18 +9,18 @@
 use Rattle.std.specs.Prelude.{◌≡◌, ◌≢◌, ℕ, zero, suc, ◌+◌, ◌-◌, ◌*◌, ◌<◌, ◌≤◌, max, false, ◌⊎◌}
 use Rattle.std.specs.Prelude.{List, [], ◌∷◌, ◌++◌, Option, Some, None, length, slice_get, codes, if◌then◌else◌, ◌==◌}
 use Rattle.std.specs.Fmt.{decimal}
-use Rattle.fip_language.specs.declared.limits.TheConstants.{MOST_FIELDS}
-use Rattle.fip_language.specs.Core.{Name}
-use Rattle.fip_language.specs.Declarations.{same_name}
-use Rattle.fip_language.specs.Every.{times}
-use Rattle.fip_language.specs.Values.{Value, Values, End, More, cells}
-use Rattle.fip_language.specs.Table.{Table, is_scalar}
-use Rattle.fip_language.specs.PrintedText.{printed}
-use Rattle.fip_language.specs.Meaning.{Answer, Gives, Trap, Out, Deep}
-use Rattle.fip_base.specs.declared.plain.Param.{Param}
-use Rattle.fip_base.specs.declared.plain.Stack.{Stack}
-use Rattle.fip_trees.specs.declared.groups.Member.{Member}
-use Rattle.fip_trees.specs.Tree.{Instance, Program}
+use Rattle.command_outcome.specs.fip_language.declared.limits.TheConstants.{MOST_FIELDS}
+use Rattle.command_outcome.specs.fip_language.Core.{Name}
+use Rattle.command_outcome.specs.fip_language.Declarations.{same_name}
+use Rattle.command_outcome.specs.fip_language.Every.{times}
+use Rattle.command_outcome.specs.fip_language.Values.{Value, Values, End, More, cells}
+use Rattle.command_outcome.specs.fip_language.Table.{Table, is_scalar}
+use Rattle.command_outcome.specs.fip_language.PrintedText.{printed}
+use Rattle.command_outcome.specs.fip_language.Meaning.{Answer, Gives, Trap, Out, Deep}
+use Rattle.command_outcome.specs.fip_base.declared.plain.Param.{Param}
+use Rattle.command_outcome.specs.fip_base.declared.plain.Stack.{Stack}
+use Rattle.instance_semantics.specs.fip_trees.declared.groups.Member.{Member}
+use Rattle.instance_semantics.specs.fip_trees.Tree.{Instance, Program}
 use Rattle.instance_semantics.specs.Meaning.{flat_meaning}
 use Rattle.command_outcome.specs.Texts.{line_end, trap_text, out_of_calls_text, out_of_frames_text}
 use Rattle.session_semantics.specs.Lines.{Given, Held, Fresh, Line, Calls, Shows, GivesUp, SpellsLine}

@@ -4,13 +4,13 @@
 -- `rev(Cons(1, Nil), Nil)` and `rev(Nil, Nil)` answer `0: Cons(1, Nil)` and `1: Nil`, whosever turn it is when.
 use Rattle.std.specs.Prelude.{◌≡◌, ℕ, suc, ◌+◌, ◌<◌, ◌≤◌, ◌⊎◌, List, [], ◌∷◌, ◌++◌, length, map, codes, Result, Ok, Err}
 use Rattle.std.specs.Fmt.{decimal}
-use Rattle.fip_language.specs.Core.{Name}
-use Rattle.fip_language.specs.Values.{Values, End, More, words_needed_by_all}
-use Rattle.fip_language.specs.Table.{Table}
-use Rattle.fip_language.specs.PrintedText.{printed}
-use Rattle.fip_language.specs.Meaning.{Answer, Gives}
-use Rattle.fip_base.specs.declared.plain.Param.{Param}
-use Rattle.fip_trees.specs.Tree.{Instance, Program}
+use Rattle.command_outcome.specs.fip_language.Core.{Name}
+use Rattle.command_outcome.specs.fip_language.Values.{Values, End, More, words_needed_by_all}
+use Rattle.command_outcome.specs.fip_language.Table.{Table}
+use Rattle.command_outcome.specs.fip_language.PrintedText.{printed}
+use Rattle.command_outcome.specs.fip_language.Meaning.{Answer, Gives}
+use Rattle.command_outcome.specs.fip_base.declared.plain.Param.{Param}
+use Rattle.instance_semantics.specs.fip_trees.Tree.{Instance, Program}
 use Rattle.command_outcome.specs.Texts.{line_end}
 use Rattle.command_outcome.specs.declared.failure.Failure.{Failure}
 use Rattle.command_outcome.specs.declared.failure.Failure.TheVariants as F

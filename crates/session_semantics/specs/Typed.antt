@@ -1,11 +1,11 @@
 -- What a written value is as a value of a type, and which function of a program a name calls.
 use Rattle.std.specs.Prelude.{◌≡◌, ◌≢◌, ℕ, zero, suc, true, List, [], ◌∷◌, Some, slice_get, FitsSigned}
 use Rattle.std.specs.Int.{w64}
-use Rattle.fip_language.specs.declared.FunKind.TheVariants.{Fun}
-use Rattle.fip_language.specs.Core.{Name}
-use Rattle.fip_language.specs.Values.{Value, Int, Node, Values, End, More}
-use Rattle.fip_language.specs.Table.{Shape, Table, shapes}
-use Rattle.fip_trees.specs.Tree.{Instance, Program}
+use Rattle.command_outcome.specs.fip_language.declared.FunKind.TheVariants.{Fun}
+use Rattle.command_outcome.specs.fip_language.Core.{Name}
+use Rattle.command_outcome.specs.fip_language.Values.{Value, Int, Node, Values, End, More}
+use Rattle.command_outcome.specs.fip_language.Table.{Shape, Table, shapes}
+use Rattle.instance_semantics.specs.fip_trees.Tree.{Instance, Program}
 use Rattle.session_semantics.specs.Lines.{Written, Number, Named, Parts, NoParts, MoreParts}
 
 -- Cons(1, Nil) is a value of the lists of ints, and Cons(Nil, 1) of no type.

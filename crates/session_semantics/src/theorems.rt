@@ -1,6 +1,6 @@
 // The laws of sessions and of lists of tasks. Each is the contract of a function that does nothing.
 ghost use Rattle.std.specs.Prelude.{◌≡◌, ℕ, List};
-ghost use Rattle.fip_language.specs.Core.{Name};
+ghost use Rattle.command_outcome.specs.fip_language.Core.{Name};
 ghost use Rattle.session_semantics.specs.Lines.{Line, Parts, SpellsLine, SpellsTask, lines_of};
 ghost use Rattle.session_semantics.specs.Talk.{Talks, at_first};
 ghost use Rattle.session_semantics.specs.Example.{setting, spoken, replied};

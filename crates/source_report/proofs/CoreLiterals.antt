@@ -1,16 +1,16 @@
 -- The core form has the patterns of its source, and so has each instance: their literals have 64 bits.
 use Rattle.std.proofs.Common.{◌≡◌, inl, inr, ℕ, ◌+◌, List, [], ◌∷◌, ◌++◌, length, map, Option, Some, None, slice_get, FitsSigned, refl, sym, subst}
 use Rattle.std.specs.Int.{w64}
-use Rattle.fip_language.specs.Core as C
-use Rattle.fip_language.specs.CoreForm as G
-use Rattle.fip_language.specs.CoreForm.{Scope, Binding, Whole, Part, Parts, Blocked, Cases, block_of, bindings_in, last_in, made_let, bound, part_from, as_part, variable_from, as_scrutinee, last_from, as_last, as_block, in_brackets, patterns_of, if_match, core_form, with_binders, binders, parameters}
-use Rattle.fip_language.specs.Every.{Every, Among}
-use Rattle.fip_language.specs.Surface as S
-use Rattle.fip_trees.specs.Tree as T
-use Rattle.reached_instances.specs.declared.closed.Head.TheVariants as H
-use Rattle.reached_instances.specs.Closed as Z
-use Rattle.reached_instances.specs.Closed.{Closed, Applied}
-use Rattle.reached_instances.specs.Source.{Source, Instance}
+use Rattle.cell_lower.specs.fip_language.Core as C
+use Rattle.cell_lower.specs.fip_language.CoreForm as G
+use Rattle.cell_lower.specs.fip_language.CoreForm.{Scope, Binding, Whole, Part, Parts, Blocked, Cases, block_of, bindings_in, last_in, made_let, bound, part_from, as_part, variable_from, as_scrutinee, last_from, as_last, as_block, in_brackets, patterns_of, if_match, core_form, with_binders, binders, parameters}
+use Rattle.cell_lower.specs.fip_language.Every.{Every, Among}
+use Rattle.cell_lower.specs.fip_language.Surface as S
+use Rattle.cell_lower.specs.fip_trees.Tree as T
+use Rattle.static_params.specs.reached_instances.declared.closed.Head.TheVariants as H
+use Rattle.static_params.specs.reached_instances.Closed as Z
+use Rattle.static_params.specs.reached_instances.Closed.{Closed, Applied}
+use Rattle.static_params.specs.reached_instances.Source.{Source, Instance}
 use Rattle.static_params.specs.FlatProgram.{Numbers, flat_pattern, flat_patterns, flat_expression, flat_block, flat_clauses, instance_if, instances_of, flat_program}
 use Rattle.static_params.specs.FlatSource.{flat_source}
 use Rattle.source_report.specs.Literals as L

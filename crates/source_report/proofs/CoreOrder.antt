@@ -1,11 +1,11 @@
 -- The core form numbers the binders of a function in order: what a part of the source comes to has the numbers from the
 -- one that it was given up to the next.
 use Rattle.std.proofs.Common.{◌≡◌, ℕ, suc, ◌+◌, ◌<◌, List, [], ◌∷◌, ◌++◌, length, map, refl, sym, ◌∙◌, subst, arith}
-use Rattle.fip_language.specs.Core as C
-use Rattle.fip_language.specs.CoreForm as G
-use Rattle.fip_language.specs.CoreForm.{Scope, Binding, Whole, block_of, bindings_in, last_in, made_let, part_from, as_part, variable_from, as_scrutinee, last_from, as_last, as_block, in_brackets, core_form, with_binders, binders, parameters, patterns_of}
-use Rattle.fip_language.specs.Every.{Every}
-use Rattle.fip_language.specs.Surface as S
+use Rattle.cell_lower.specs.fip_language.Core as C
+use Rattle.cell_lower.specs.fip_language.CoreForm as G
+use Rattle.cell_lower.specs.fip_language.CoreForm.{Scope, Binding, Whole, block_of, bindings_in, last_in, made_let, part_from, as_part, variable_from, as_scrutinee, last_from, as_last, as_block, in_brackets, core_form, with_binders, binders, parameters, patterns_of}
+use Rattle.cell_lower.specs.fip_language.Every.{Every}
+use Rattle.cell_lower.specs.fip_language.Surface as S
 use Rattle.source_report.proofs.SpeltBinders as Q
 
 -- ---- binders have the numbers from n on, and the next number is m

@@ -1,9 +1,9 @@
 -- Binders that are numbered in order are distinct: what stands in the scope of some has higher numbers.
 use Rattle.std.proofs.Common.{◌≡◌, ◌≤◌, ◌<◌, ◌+◌, ◌⊎◌, inl, inr, ℕ, List, [], ◌∷◌, ◌++◌, length, refl, sym, arith}
-use Rattle.fip_language.specs.Every.{Among}
-use Rattle.fip_language.proofs.Search.{every_from}
-use Rattle.fip_trees.specs.declared.program.Binder.{Binder}
-use Rattle.fip_trees.specs.Tree.{Pattern, BinderPattern, LiteralPattern, ConstructorPattern, Patterns, NoPatterns, MorePatterns, Expression, Give, Tuple, Operation, Call, Match, Nested, Block, Last, Let, Clauses, NoClauses, MoreClauses, Instance, Program}
+use Rattle.cell_lower.specs.fip_language.Every.{Among}
+use Rattle.cell_lower.proofs.fip_language.Search.{every_from}
+use Rattle.cell_lower.specs.fip_trees.declared.program.Binder.{Binder}
+use Rattle.cell_lower.specs.fip_trees.Tree.{Pattern, BinderPattern, LiteralPattern, ConstructorPattern, Patterns, NoPatterns, MorePatterns, Expression, Give, Tuple, Operation, Call, Match, Nested, Block, Last, Let, Clauses, NoClauses, MoreClauses, Instance, Program}
 use Rattle.static_params.proofs.GoodTypes.{among_either}
 use Rattle.lowering_simulation.specs.Distinct.{numbers, in_pattern, in_patterns, in_expression, in_block, in_clauses, Apart, Differ, DistinctExpression, DistinctBlock, DistinctClauses, IsDistinct, AreDistinct}
 use Rattle.source_report.specs.Report.{IsTyped}

@@ -1,14 +1,14 @@
 -- Patterns without names, by the trees that they stand for: an induction over the tree in memory.
 use Rattle.std.proofs.Common.{◌≡◌, List, [], ◌∷◌, refl, sym, ap, ◌∙◌, map, subst}
-use Rattle.fip_trees.specs.Tree as T
-use Rattle.fip_trees.specs.TreeView as V
-use Rattle.fip_trees.specs.declared.program.Pattern.{Pattern, roll-Pattern}
-use Rattle.fip_trees.specs.declared.program.Pattern.TheOpen as N
-use Rattle.fip_trees.specs.declared.program.Pattern.TheFolds.{fold-roll-Pattern, map-Pattern, ind-Pattern}
-use Rattle.match_knowledge.specs.declared.heads.Head.TheVariants.{Number, Tag}
-use Rattle.match_knowledge.specs.Patterns as K
-use Rattle.match_knowledge.specs.View.{patterns_of}
-use Rattle.match_cover.specs.PatternView.{erased, erase_step}
+use Rattle.cell_lower.specs.fip_trees.Tree as T
+use Rattle.cell_lower.specs.fip_trees.TreeView as V
+use Rattle.cell_lower.specs.fip_trees.declared.program.Pattern.{Pattern, roll-Pattern}
+use Rattle.cell_lower.specs.fip_trees.declared.program.Pattern.TheOpen as N
+use Rattle.cell_lower.specs.fip_trees.declared.program.Pattern.TheFolds.{fold-roll-Pattern, map-Pattern, ind-Pattern}
+use Rattle.cell_lower.specs.match_knowledge.declared.heads.Head.TheVariants.{Number, Tag}
+use Rattle.cell_lower.specs.match_knowledge.Patterns as K
+use Rattle.cell_lower.specs.match_knowledge.View.{patterns_of}
+use Rattle.cell_lower.specs.match_cover.PatternView.{erased, erase_step}
 
 abbrev mutual
   pub plain : T.Pattern → K.Pattern

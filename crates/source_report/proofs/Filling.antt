@@ -1,14 +1,14 @@
 -- Typing fills slots, and changes nothing else: a well-formed program stays well formed, and its literals are the same.
 use Rattle.std.proofs.Common.{◌≡◌, ◌<◌, inl, inr, ℕ, List, [], ◌∷◌, ◌++◌, Bool, length, map, Option, Some, None, refl, sym, ap, subst}
-use Rattle.fip_language.specs.Every.{Among}
-use Rattle.fip_trees.specs.Tree as T
-use Rattle.fip_trees.specs.Tree.{Program}
-use Rattle.type_check.specs.Found.{first_type, others, wanted_next}
-use Rattle.type_check.specs.Scope.{Scope}
-use Rattle.type_check.specs.Binders.{all_annotated, annotations, entries}
-use Rattle.type_check.specs.Typing.{bound_by, parameter_scope}
-use Rattle.type_check.specs.World.{world, chosen, field_types}
-use Rattle.type_check.specs.Faults.{fill_pattern, fill_patterns, fill, fill_block, fill_clauses, fill_instance, filled, found, found_block, found_argument}
+use Rattle.cell_lower.specs.fip_language.Every.{Among}
+use Rattle.cell_lower.specs.fip_trees.Tree as T
+use Rattle.cell_lower.specs.fip_trees.Tree.{Program}
+use Rattle.lowering_simulation.specs.type_check.Found.{first_type, others, wanted_next}
+use Rattle.lowering_simulation.specs.type_check.Scope.{Scope}
+use Rattle.lowering_simulation.specs.type_check.Binders.{all_annotated, annotations, entries}
+use Rattle.lowering_simulation.specs.type_check.Typing.{bound_by, parameter_scope}
+use Rattle.lowering_simulation.specs.type_check.World.{world, chosen, field_types}
+use Rattle.lowering_simulation.specs.type_check.Faults.{fill_pattern, fill_patterns, fill, fill_block, fill_clauses, fill_instance, filled, found, found_block, found_argument}
 use Rattle.source_report.specs.WellFormed.{IsKnownPattern, AreKnownPatterns, IsKnown, IsKnownBlock, AreKnownClauses, IsKnownInstance, IsWellFormed}
 use Rattle.source_report.specs.Literals.{FitsPattern, FitPatterns, Fits, FitsBlock, FitClauses, LiteralsFit}
 

@@ -1,24 +1,24 @@
 -- A fip instance calls fip ones alone, where no rule on ownership is broken: a call of another kind is a fault in the
 -- shape of the body, wherever it stands.
 use Rattle.std.proofs.Common.{◌≡◌, ◌<◌, ◌+◌, ◌⊎◌, inl, inr, ℕ, zero, suc, Bool, true, false, List, [], ◌∷◌, length, Some, slice_get, if◌then◌else◌, refl, sym, ap, ◌∙◌, subst, arith}
-use Rattle.fip_language.proofs.Search.{slice_get_there}
-use Rattle.fip_language.specs.declared.FunKind.{FunKind}
-use Rattle.fip_language.specs.declared.FunKind.TheVariants.{Fip, Fbip, Fun}
-use Rattle.fip_language.specs.declared.Place.{Place}
-use Rattle.fip_language.specs.declared.rule.Rule.TheVariants.{E55}
-use Rattle.fip_language.specs.Every.{Among}
-use Rattle.fip_trees.specs.Tree as T
-use Rattle.fip_trees.specs.Tree.{Name, Program, Instance}
-use Rattle.fip_rules.specs.Checks as O
-use Rattle.fip_rules.specs.Marks.{Breach, told}
-use Rattle.fip_rules.specs.Rules as R
-use Rattle.fip_rules.specs.Shape as S
-use Rattle.fip_rules.specs.Shapes.{Names, Bind, token, called, binds, within, behind, taking, binders, takes, clause_shape, shape, shape_block, shape_clauses, parameters, no_names}
-use Rattle.fip_rules.specs.World.{World, world, weaker, weaker_than, is_weaker}
-use Rattle.fip_rules.specs.World as W
-use Rattle.tail_groups.specs.Members.{FipCallsFip}
-use Rattle.tail_groups.specs.Rules as Tail
-use Rattle.tail_groups.specs.Sites.{Site, sites, block_sites, clauses_sites, instance_sites}
+use Rattle.cell_lower.proofs.fip_language.Search.{slice_get_there}
+use Rattle.cell_lower.specs.fip_language.declared.FunKind.{FunKind}
+use Rattle.cell_lower.specs.fip_language.declared.FunKind.TheVariants.{Fip, Fbip, Fun}
+use Rattle.cell_lower.specs.fip_language.declared.Place.{Place}
+use Rattle.cell_lower.specs.fip_language.declared.rule.Rule.TheVariants.{E55}
+use Rattle.cell_lower.specs.fip_language.Every.{Among}
+use Rattle.cell_lower.specs.fip_trees.Tree as T
+use Rattle.cell_lower.specs.fip_trees.Tree.{Name, Program, Instance}
+use Rattle.ownership_agreement.specs.fip_rules.Checks as O
+use Rattle.ownership_agreement.specs.fip_rules.Marks.{Breach, told}
+use Rattle.ownership_agreement.specs.fip_rules.Rules as R
+use Rattle.ownership_agreement.specs.fip_rules.Shape as S
+use Rattle.ownership_agreement.specs.fip_rules.Shapes.{Names, Bind, token, called, binds, within, behind, taking, binders, takes, clause_shape, shape, shape_block, shape_clauses, parameters, no_names}
+use Rattle.ownership_agreement.specs.fip_rules.World.{World, world, weaker, weaker_than, is_weaker}
+use Rattle.ownership_agreement.specs.fip_rules.World as W
+use Rattle.cell_lower.specs.tail_groups.Members.{FipCallsFip}
+use Rattle.cell_lower.specs.tail_groups.Rules as Tail
+use Rattle.cell_lower.specs.tail_groups.Sites.{Site, sites, block_sites, clauses_sites, instance_sites}
 use Rattle.source_report.specs.Report.{IsOwned}
 use Rattle.source_report.specs.WellFormed.{IsKnown, IsKnownBlock, AreKnownClauses}
 use Rattle.static_params.proofs.GoodTypes.{among_either}

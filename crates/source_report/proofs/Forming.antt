@@ -1,23 +1,23 @@
 -- The flat program of an accepted source is well formed.
 use Rattle.std.proofs.Common.{◌≡◌, ◌<◌, inl, inr, ℕ, suc, List, [], ◌∷◌, length, map, Option, Some, None, slice_get, refl, sym, ap, ◌∙◌, subst, arith}
-use Rattle.fip_language.specs.Core as C
-use Rattle.fip_language.specs.Core.{Name, Core, Data, Function, Written, WrittenName}
-use Rattle.fip_language.specs.Declarations.{data_types}
-use Rattle.fip_language.specs.Every.{Among}
-use Rattle.fip_language.specs.SoundTable.{AreTypes}
-use Rattle.fip_language.specs.Table.{shapes}
-use Rattle.fip_trees.specs.Names.{meaning}
-use Rattle.fip_trees.specs.Tree as T
-use Rattle.fip_trees.specs.declared.decls.ConstructorId.{ConstructorId}
-use Rattle.data_types.specs.Types as D
-use Rattle.data_types.specs.Declarations.{declarations, data_scope, declared_names, written_names}
-use Rattle.reached_instances.specs.declared.closed.Head.TheVariants as H
-use Rattle.reached_instances.specs.Closed as Z
-use Rattle.reached_instances.specs.Closed.{Closed, Applied}
-use Rattle.reached_instances.specs.Source.{Instance}
-use Rattle.reached_instances.specs.Uses.{closed_function, declared_type, result_types}
-use Rattle.reached_instances.specs.Instances.{AreInstances, ArePassed}
-use Rattle.reached_instances.specs.TypeInstances.{AreTypes as AreNumberedTypes}
+use Rattle.cell_lower.specs.fip_language.Core as C
+use Rattle.cell_lower.specs.fip_language.Core.{Name, Core, Data, Function, Written, WrittenName}
+use Rattle.cell_lower.specs.fip_language.Declarations.{data_types}
+use Rattle.cell_lower.specs.fip_language.Every.{Among}
+use Rattle.cell_lower.specs.fip_language.SoundTable.{AreTypes}
+use Rattle.cell_lower.specs.fip_language.Table.{shapes}
+use Rattle.cell_lower.specs.fip_trees.Names.{meaning}
+use Rattle.cell_lower.specs.fip_trees.Tree as T
+use Rattle.cell_lower.specs.fip_trees.declared.decls.ConstructorId.{ConstructorId}
+use Rattle.static_params.specs.data_types.Types as D
+use Rattle.static_params.specs.data_types.Declarations.{declarations, data_scope, declared_names, written_names}
+use Rattle.static_params.specs.reached_instances.declared.closed.Head.TheVariants as H
+use Rattle.static_params.specs.reached_instances.Closed as Z
+use Rattle.static_params.specs.reached_instances.Closed.{Closed, Applied}
+use Rattle.static_params.specs.reached_instances.Source.{Instance}
+use Rattle.static_params.specs.reached_instances.Uses.{closed_function, declared_type, result_types}
+use Rattle.static_params.specs.reached_instances.Instances.{AreInstances, ArePassed}
+use Rattle.static_params.specs.reached_instances.TypeInstances.{AreTypes as AreNumberedTypes}
 use Rattle.static_params.specs.FlatProgram.{Numbers, number_in, or_zero, callee_number, flat_type, declared_or_bool, constructor_of, flat_pattern, flat_patterns, flat_expression, flat_block, flat_clauses, flat_parameter, flat_instance, instance_if, instances_of, flat_constructor, declaring_of, flat_program}
 use Rattle.static_params.specs.Answers.{AreFew}
 use Rattle.static_params.specs.FlatSource.{flat_source, constructor, declared}
@@ -34,7 +34,7 @@ module _ (core : Core) (ns : Numbers) (passed : List Closed) (instances : AreIns
   -- ---- constructors
 
   constructor_is : (o : Option ConstructorId) → ((k : ConstructorId) → o ≡ Some k → IsConstructor (data_types core) k) → IsConstructor (data_types core) (declared_or_bool o)
-  constructor_is None h = (0, Rattle.fip_language.specs.Declarations.bool_type, refl, refl, omega arith)
+  constructor_is None h = (0, Rattle.cell_lower.specs.fip_language.Declarations.bool_type, refl, refl, omega arith)
   constructor_is (Some k) h = h k refl
 
   named_constructor : (x : Name) → IsConstructor (data_types core) (constructor_of (flat_source core) x)

@@ -1,16 +1,16 @@
 -- The matches of a body, by the trees that they stand for: an induction over the tree in memory.
 use Rattle.std.proofs.Common.{◌≡◌, ℕ, List, [], ◌∷◌, ◌++◌, refl, sym, ap, ap₂, ◌∙◌, map, subst, append_assoc}
-use Rattle.fip_language.specs.declared.Place.{Place}
-use Rattle.fip_trees.specs.Tree as T
-use Rattle.fip_trees.specs.TreeView as V
-use Rattle.fip_trees.specs.declared.program.Expression.{Expression, roll-Expression}
-use Rattle.fip_trees.specs.declared.program.Expression.TheOpen as E
-use Rattle.fip_trees.specs.declared.program.Expression.TheFolds.{fold-roll-Expression, fold-roll-Block, fold-roll-Binding, fold-roll-Clause, map-Expression, map-Block, map-Binding, map-Clause, ind-Block}
-use Rattle.fip_trees.specs.declared.program.Block.{Block, roll-Block}
-use Rattle.fip_trees.specs.declared.program.Binding.{Binding, roll-Binding}
-use Rattle.fip_trees.specs.declared.program.Clause.{Clause, roll-Clause}
-use Rattle.match_cover.specs.PatternView.{joined}
-use Rattle.match_cover.specs.Matches.{Match, Arm, arm_pattern, below_arms, expression_step, binding_step, block_step, clause_step, expression_matches, binding_matches, block_matches, arm}
+use Rattle.cell_lower.specs.fip_language.declared.Place.{Place}
+use Rattle.cell_lower.specs.fip_trees.Tree as T
+use Rattle.cell_lower.specs.fip_trees.TreeView as V
+use Rattle.cell_lower.specs.fip_trees.declared.program.Expression.{Expression, roll-Expression}
+use Rattle.cell_lower.specs.fip_trees.declared.program.Expression.TheOpen as E
+use Rattle.cell_lower.specs.fip_trees.declared.program.Expression.TheFolds.{fold-roll-Expression, fold-roll-Block, fold-roll-Binding, fold-roll-Clause, map-Expression, map-Block, map-Binding, map-Clause, ind-Block}
+use Rattle.cell_lower.specs.fip_trees.declared.program.Block.{Block, roll-Block}
+use Rattle.cell_lower.specs.fip_trees.declared.program.Binding.{Binding, roll-Binding}
+use Rattle.cell_lower.specs.fip_trees.declared.program.Clause.{Clause, roll-Clause}
+use Rattle.cell_lower.specs.match_cover.PatternView.{joined}
+use Rattle.cell_lower.specs.match_cover.Matches.{Match, Arm, arm_pattern, below_arms, expression_step, binding_step, block_step, clause_step, expression_matches, binding_matches, block_matches, arm}
 
 -- a match, and the patterns of its clauses
 pub record PlainMatch : Type 0 where

@@ -1,30 +1,30 @@
 -- The rules on matches don't see where trees lie in memory: instances with the same trees break the same.
 use Rattle.std.proofs.Common.{◌≡◌, ◌⊎◌, inl, inr, ℕ, suc, List, [], ◌∷◌, ◌++◌, if◌then◌else◌, refl, sym, ap, ap₂, ◌∙◌, map, subst, append_assoc}
-use Rattle.fip_language.specs.declared.Place.{Place}
-use Rattle.fip_language.specs.declared.rule.Rule.TheVariants.{E43}
-use Rattle.fip_language.specs.Table.{Table}
-use Rattle.fip_trees.specs.Tree as T
-use Rattle.fip_trees.specs.TreeView as V
-use Rattle.fip_trees.specs.Least.{violation, IsLeastOf}
-use Rattle.fip_trees.specs.declared.least.Violation.{Violation}
-use Rattle.fip_trees.specs.declared.program.Binder.{Binder}
-use Rattle.fip_trees.specs.declared.program.Instance.{Instance}
-use Rattle.fip_trees.specs.declared.program.Expression.{Expression, roll-Expression}
-use Rattle.fip_trees.specs.declared.program.Expression.TheOpen as E
-use Rattle.fip_trees.specs.declared.program.Expression.TheFolds.{fold-roll-Expression, fold-roll-Block, fold-roll-Binding, fold-roll-Clause, map-Expression, map-Block, map-Binding, map-Clause, ind-Block}
-use Rattle.fip_trees.specs.declared.program.Block.{Block, roll-Block}
-use Rattle.fip_trees.specs.declared.program.Binding.{Binding, roll-Binding}
-use Rattle.fip_trees.specs.declared.program.Clause.{Clause, roll-Clause}
-use Rattle.fip_trees.specs.declared.program.Pattern.{Pattern, roll-Pattern}
-use Rattle.fip_trees.specs.declared.program.Pattern.TheOpen as N
-use Rattle.fip_trees.specs.declared.program.Pattern.TheFolds.{fold-roll-Pattern, map-Pattern, ind-Pattern}
-use Rattle.match_knowledge.specs.Patterns as K
-use Rattle.match_cover.specs.PatternView.{erased, pattern_place, place_step, pattern_binders, binders_step, joined}
-use Rattle.match_cover.specs.Matches.{Match, block_matches}
-use Rattle.match_cover.specs.Lets.{Lets, expression_step, binding_step, block_step, clause_step, expression_lets, binding_lets, block_lets, clause_lets}
-use Rattle.match_cover.specs.Shapes.{is_large, twice_faults, patterns_faults, matches_faults, lets_faults, shape_faults}
-use Rattle.match_cover.specs.Coverage.{Uncovered, Unreached, SomeUnreached, SomeBreaks, CoverFault}
-use Rattle.match_cover.specs.Answers.{IsLeastCoverFault}
+use Rattle.cell_lower.specs.fip_language.declared.Place.{Place}
+use Rattle.cell_lower.specs.fip_language.declared.rule.Rule.TheVariants.{E43}
+use Rattle.cell_lower.specs.fip_language.Table.{Table}
+use Rattle.cell_lower.specs.fip_trees.Tree as T
+use Rattle.cell_lower.specs.fip_trees.TreeView as V
+use Rattle.cell_lower.specs.fip_trees.Least.{violation, IsLeastOf}
+use Rattle.cell_lower.specs.fip_trees.declared.least.Violation.{Violation}
+use Rattle.cell_lower.specs.fip_trees.declared.program.Binder.{Binder}
+use Rattle.cell_lower.specs.fip_trees.declared.program.Instance.{Instance}
+use Rattle.cell_lower.specs.fip_trees.declared.program.Expression.{Expression, roll-Expression}
+use Rattle.cell_lower.specs.fip_trees.declared.program.Expression.TheOpen as E
+use Rattle.cell_lower.specs.fip_trees.declared.program.Expression.TheFolds.{fold-roll-Expression, fold-roll-Block, fold-roll-Binding, fold-roll-Clause, map-Expression, map-Block, map-Binding, map-Clause, ind-Block}
+use Rattle.cell_lower.specs.fip_trees.declared.program.Block.{Block, roll-Block}
+use Rattle.cell_lower.specs.fip_trees.declared.program.Binding.{Binding, roll-Binding}
+use Rattle.cell_lower.specs.fip_trees.declared.program.Clause.{Clause, roll-Clause}
+use Rattle.cell_lower.specs.fip_trees.declared.program.Pattern.{Pattern, roll-Pattern}
+use Rattle.cell_lower.specs.fip_trees.declared.program.Pattern.TheOpen as N
+use Rattle.cell_lower.specs.fip_trees.declared.program.Pattern.TheFolds.{fold-roll-Pattern, map-Pattern, ind-Pattern}
+use Rattle.cell_lower.specs.match_knowledge.Patterns as K
+use Rattle.cell_lower.specs.match_cover.PatternView.{erased, pattern_place, place_step, pattern_binders, binders_step, joined}
+use Rattle.cell_lower.specs.match_cover.Matches.{Match, block_matches}
+use Rattle.cell_lower.specs.match_cover.Lets.{Lets, expression_step, binding_step, block_step, clause_step, expression_lets, binding_lets, block_lets, clause_lets}
+use Rattle.cell_lower.specs.match_cover.Shapes.{is_large, twice_faults, patterns_faults, matches_faults, lets_faults, shape_faults}
+use Rattle.cell_lower.specs.match_cover.Coverage.{Uncovered, Unreached, SomeUnreached, SomeBreaks, CoverFault}
+use Rattle.cell_lower.specs.match_cover.Answers.{IsLeastCoverFault}
 use Rattle.source_report.proofs.Erasing.{plain, erased_is}
 use Rattle.source_report.proofs.Matching.{PlainMatch, match_view, matches_block, matches_are}
 

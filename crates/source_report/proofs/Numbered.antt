@@ -2,10 +2,10 @@
 -- And where more than so many are reached, none is so short.
 use Rattle.std.proofs.Common.{◌≡◌, ◌≤◌, ◌<◌, ◌+◌, ◌⊎◌, inl, inr, ℕ, zero, suc, Bool, true, false, ◌||◌, List, [], ◌∷◌, ◌++◌, length, if◌then◌else◌, refl, sym, ap, ◌∙◌, subst, arith, append_assoc, append-nil}
 use Rattle.std.specs.List.{list_any}
-use Rattle.fip_language.specs.Every.{Among}
-use Rattle.fip_language.specs.Mentions.{all_of}
-use Rattle.reached_instances.specs.Closed.{Closed, same_closed}
-use Rattle.reached_instances.specs.Numbering.{with_new, with_all, firsts, Reached, AreNumbered, AreMore, Differ}
+use Rattle.cell_lower.specs.fip_language.Every.{Among}
+use Rattle.cell_lower.specs.fip_language.Mentions.{all_of}
+use Rattle.static_params.specs.reached_instances.Closed.{Closed, same_closed}
+use Rattle.static_params.specs.reached_instances.Numbering.{with_new, with_all, firsts, Reached, AreNumbered, AreMore, Differ}
 use Rattle.static_params.proofs.GoodTypes.{among_either, reached_have}
 use Rattle.static_params.proofs.TypeRows.{among_left, among_right, among_of, all_among, same_self}
 

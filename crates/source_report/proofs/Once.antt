@@ -3,39 +3,39 @@
 -- rank goes.
 use Rattle.std.proofs.Common.{◌≡◌, ◌≤◌, ◌<◌, ◌+◌, ◌-◌, ◌==◌, inl, inr, ℕ, zero, suc, Bool, true, false, nat_lt, List, [], ◌∷◌, length, Some, slice_get, if◌then◌else◌, refl, sym, ap, ap₂, ◌∙◌, subst, arith}
 use Rattle.std.proofs.lemmas.Bool.Decides.{nat_tests}
-use Rattle.fip_language.specs.declared.Place.{Place}
-use Rattle.fip_language.specs.declared.limits.TheConstants.{MOST_SOURCE_BYTES, MOST_INSTANCES}
-use Rattle.fip_language.specs.declared.rule.Rule.{Rule}
-use Rattle.fip_language.specs.declared.rule.Rule.TheVariants.{E05}
-use Rattle.fip_language.specs.RuleOrder.{number}
-use Rattle.fip_language.specs.Core.{Core}
-use Rattle.fip_language.specs.CoreForm.{core_form}
-use Rattle.fip_base.specs.declared.refusal.Refusal.{Refusal}
+use Rattle.cell_lower.specs.fip_language.declared.Place.{Place}
+use Rattle.cell_lower.specs.fip_language.declared.limits.TheConstants.{MOST_SOURCE_BYTES, MOST_INSTANCES}
+use Rattle.cell_lower.specs.fip_language.declared.rule.Rule.{Rule}
+use Rattle.cell_lower.specs.fip_language.declared.rule.Rule.TheVariants.{E05}
+use Rattle.cell_lower.specs.fip_language.RuleOrder.{number}
+use Rattle.cell_lower.specs.fip_language.Core.{Core}
+use Rattle.cell_lower.specs.fip_language.CoreForm.{core_form}
+use Rattle.cell_lower.specs.fip_base.declared.refusal.Refusal.{Refusal}
 use Rattle.fip_grammar.specs.Limits.{IsMisspelt}
 use Rattle.fip_grammar.proofs.Least.{misspelt_once, spelt_once, spelt_or_misspelt}
-use Rattle.fip_trees.specs.declared.groups.Member.{Member}
-use Rattle.fip_trees.specs.declared.least.Violation.{Violation}
-use Rattle.fip_trees.specs.declared.program.Instance.{Instance}
-use Rattle.fip_trees.specs.Least.{In, smaller, rank, comes_before, IsLeast, IsLeastOf, refusal}
-use Rattle.fip_trees.specs.Tree as T
-use Rattle.fip_trees.specs.Tree.{Program}
-use Rattle.data_types.specs.Answers as Declaring
+use Rattle.cell_lower.specs.fip_trees.declared.groups.Member.{Member}
+use Rattle.cell_lower.specs.fip_trees.declared.least.Violation.{Violation}
+use Rattle.cell_lower.specs.fip_trees.declared.program.Instance.{Instance}
+use Rattle.cell_lower.specs.fip_trees.Least.{In, smaller, rank, comes_before, IsLeast, IsLeastOf, refusal}
+use Rattle.cell_lower.specs.fip_trees.Tree as T
+use Rattle.cell_lower.specs.fip_trees.Tree.{Program}
+use Rattle.static_params.specs.data_types.Answers as Declaring
 use Rattle.static_params.specs.Answers as Statics
-use Rattle.reached_instances.specs.Closed.{Closed}
+use Rattle.static_params.specs.reached_instances.Closed.{Closed}
 use Rattle.static_params.specs.FlatProgram.{Numbers, flat_program}
-use Rattle.reached_instances.specs.Instances.{roots, calls_from, all_faults, passed_to}
-use Rattle.reached_instances.specs.TypeInstances.{type_roots, parts_of}
-use Rattle.reached_instances.specs.Source.{Source}
-use Rattle.reached_instances.specs.Numbering.{AreMore}
-use Rattle.type_check.proofs.Exact.{typed_exactly}
-use Rattle.type_check.specs.Faults.{type_faults, filled}
-use Rattle.match_cover.specs.Answers.{IsLeastCoverFault}
-use Rattle.match_cover.specs.Coverage.{CoverFault}
-use Rattle.match_cover.specs.Shapes.{shape_faults}
-use Rattle.fip_rules.specs.Checks as Owning
-use Rattle.credit_check.specs.Credits as Credits
-use Rattle.tail_groups.specs.Members.{AreMembers}
-use Rattle.tail_groups.specs.Rules as Calls
+use Rattle.static_params.specs.reached_instances.Instances.{roots, calls_from, all_faults, passed_to}
+use Rattle.static_params.specs.reached_instances.TypeInstances.{type_roots, parts_of}
+use Rattle.static_params.specs.reached_instances.Source.{Source}
+use Rattle.static_params.specs.reached_instances.Numbering.{AreMore}
+use Rattle.lowering_simulation.proofs.type_check.Exact.{typed_exactly}
+use Rattle.lowering_simulation.specs.type_check.Faults.{type_faults, filled}
+use Rattle.cell_lower.specs.match_cover.Answers.{IsLeastCoverFault}
+use Rattle.cell_lower.specs.match_cover.Coverage.{CoverFault}
+use Rattle.cell_lower.specs.match_cover.Shapes.{shape_faults}
+use Rattle.ownership_agreement.specs.fip_rules.Checks as Owning
+use Rattle.ownership_agreement.specs.credit_check.Credits as Credits
+use Rattle.cell_lower.specs.tail_groups.Members.{AreMembers}
+use Rattle.cell_lower.specs.tail_groups.Rules as Calls
 use Rattle.cell_lower.specs.Limits as Limits
 use Rattle.static_params.specs.FlatSource.{flat_source}
 use Rattle.source_report.specs.Report
@@ -130,9 +130,9 @@ instances_once s is js h k = numbered_once (roots s) (calls_from s) is js h.inst
 pub numbers_once : (s : Source) (m n : Numbers) → Statics.AreFew s m → Statics.AreFew s n → m ≡ n
 numbers_once s m n h k =
     let instances = instances_once s m.instances n.instances h.instances k.instances in
-    let passed = numbered_once m.instances passed_to h.passed k.passed h.given (subst (λ is. Rattle.reached_instances.specs.Instances.ArePassed is k.passed) (sym instances) k.given) in
+    let passed = numbered_once m.instances passed_to h.passed k.passed h.given (subst (λ is. Rattle.static_params.specs.reached_instances.Instances.ArePassed is k.passed) (sym instances) k.given) in
     let types = numbered_once (type_roots s m.instances h.passed) (parts_of s) m.types n.types h.types
-    (subst (λ ps. Rattle.reached_instances.specs.TypeInstances.AreTypes s m.instances ps n.types) (sym passed) (subst (λ is. Rattle.reached_instances.specs.TypeInstances.AreTypes s is k.passed n.types) (sym instances) k.types)) in
+    (subst (λ ps. Rattle.static_params.specs.reached_instances.TypeInstances.AreTypes s m.instances ps n.types) (sym passed) (subst (λ is. Rattle.static_params.specs.reached_instances.TypeInstances.AreTypes s is k.passed n.types) (sym instances) k.types)) in
     λ i. record { instances = instances i; types = types i }
 
 pub flat_once : (source : List ℕ) (p q : Program) → IsFlat source p → IsFlat source q → p ≡ q
@@ -234,7 +234,7 @@ pub statics_broken : (s : Source) (v : Violation) (n : Numbers) → Statics.Name
 statics_broken s v n (inl h) few none = not_more (roots s) (calls_from s) MOST_INSTANCES n.instances few.instances.instances few.instances.few h.0
 statics_broken s v n (inr (inl h)) few none =
     let instances = instances_once s h.instances n.instances h.few few.instances in
-    let given = subst (λ is. Rattle.reached_instances.specs.Instances.ArePassed is h.many.passed) instances h.many.given in
+    let given = subst (λ is. Rattle.static_params.specs.reached_instances.Instances.ArePassed is h.many.passed) instances h.many.given in
     let passed = numbered_once n.instances passed_to h.many.passed few.passed given few.given in
     let many = subst (λ ps. AreMore MOST_INSTANCES (type_roots s n.instances ps) (parts_of s)) passed (subst (λ is. AreMore MOST_INSTANCES (type_roots s is h.many.passed) (parts_of s)) instances h.many.many) in
     not_more (type_roots s n.instances few.passed) (parts_of s) MOST_INSTANCES n.types few.types few.few_types many
@@ -293,7 +293,7 @@ statics_least s v w (inr (inl h)) (inr (inr k)) = absurd (types_many s v k.numbe
     types_many : (s : Source) (v : Violation) (n : Numbers) → Statics.IsManyTypes s v → Statics.AreFew s n → ⊥
     types_many s v n h few =
         let instances = instances_once s h.instances n.instances h.few few.instances in
-        let passed = numbered_once n.instances passed_to h.many.passed few.passed (subst (λ is. Rattle.reached_instances.specs.Instances.ArePassed is h.many.passed) instances h.many.given) few.given in
+        let passed = numbered_once n.instances passed_to h.many.passed few.passed (subst (λ is. Rattle.static_params.specs.reached_instances.Instances.ArePassed is h.many.passed) instances h.many.given) few.given in
         not_more (type_roots s n.instances few.passed) (parts_of s) MOST_INSTANCES n.types few.types few.few_types
         (subst (λ ps. AreMore MOST_INSTANCES (type_roots s n.instances ps) (parts_of s)) passed (subst (λ is. AreMore MOST_INSTANCES (type_roots s is h.many.passed) (parts_of s)) instances h.many.many))
 statics_least s v w (inr (inr h)) (inl k) = absurd (not_more (roots s) (calls_from s) MOST_INSTANCES h.numbers.instances h.few.instances.instances h.few.instances.few k.0)
@@ -302,7 +302,7 @@ statics_least s v w (inr (inr h)) (inr (inl k)) = absurd (types_many s w h.numbe
     types_many : (s : Source) (v : Violation) (n : Numbers) → Statics.IsManyTypes s v → Statics.AreFew s n → ⊥
     types_many s v n h few =
         let instances = instances_once s h.instances n.instances h.few few.instances in
-        let passed = numbered_once n.instances passed_to h.many.passed few.passed (subst (λ is. Rattle.reached_instances.specs.Instances.ArePassed is h.many.passed) instances h.many.given) few.given in
+        let passed = numbered_once n.instances passed_to h.many.passed few.passed (subst (λ is. Rattle.static_params.specs.reached_instances.Instances.ArePassed is h.many.passed) instances h.many.given) few.given in
         not_more (type_roots s n.instances few.passed) (parts_of s) MOST_INSTANCES n.types few.types few.few_types
         (subst (λ ps. AreMore MOST_INSTANCES (type_roots s n.instances ps) (parts_of s)) passed (subst (λ is. AreMore MOST_INSTANCES (type_roots s is h.many.passed) (parts_of s)) instances h.many.many))
 statics_least s v w (inr (inr h)) (inr (inr k)) =

@@ -1,26 +1,26 @@
 -- What each phase answers, as the report of the source.
 use Rattle.std.proofs.Common.{◌≡◌, ◌≤◌, ◌<◌, inl, inr, ℕ, List, length, sym, subst}
-use Rattle.fip_language.specs.declared.Place.{Place}
-use Rattle.fip_language.specs.declared.limits.TheConstants.{MOST_SOURCE_BYTES}
-use Rattle.fip_language.specs.declared.rule.Rule.{Rule}
-use Rattle.fip_language.specs.declared.rule.Rule.TheVariants.{E05}
-use Rattle.fip_language.specs.Core.{Core}
-use Rattle.fip_base.specs.declared.refusal.Refusal.{Refusal}
-use Rattle.fip_base.specs.declared.refusal.PhaseError.{PhaseError}
-use Rattle.fip_base.specs.declared.refusal.PhaseError.TheVariants.{Refused, NoMemory}
+use Rattle.cell_lower.specs.fip_language.declared.Place.{Place}
+use Rattle.cell_lower.specs.fip_language.declared.limits.TheConstants.{MOST_SOURCE_BYTES}
+use Rattle.cell_lower.specs.fip_language.declared.rule.Rule.{Rule}
+use Rattle.cell_lower.specs.fip_language.declared.rule.Rule.TheVariants.{E05}
+use Rattle.cell_lower.specs.fip_language.Core.{Core}
+use Rattle.cell_lower.specs.fip_base.declared.refusal.Refusal.{Refusal}
+use Rattle.cell_lower.specs.fip_base.declared.refusal.PhaseError.{PhaseError}
+use Rattle.cell_lower.specs.fip_base.declared.refusal.PhaseError.TheVariants.{Refused, NoMemory}
 use Rattle.fip_grammar.specs.Limits.{IsMisspelt}
-use Rattle.fip_trees.specs.declared.groups.Member.{Member}
-use Rattle.fip_trees.specs.declared.program.Instance.{Instance}
-use Rattle.fip_trees.specs.Tree.{Program}
-use Rattle.data_types.specs.Answers as Declaring
+use Rattle.cell_lower.specs.fip_trees.declared.groups.Member.{Member}
+use Rattle.cell_lower.specs.fip_trees.declared.program.Instance.{Instance}
+use Rattle.cell_lower.specs.fip_trees.Tree.{Program}
+use Rattle.static_params.specs.data_types.Answers as Declaring
 use Rattle.static_params.specs.Answers as Statics
-use Rattle.type_check.specs.Answers as Types
-use Rattle.match_cover.specs.Answers as Covering
-use Rattle.match_cover.specs.Coverage.{IsReady}
-use Rattle.fip_rules.specs.Checks as Owning
-use Rattle.credit_check.specs.Credits as Credits
-use Rattle.tail_groups.specs.Members.{AreMembers}
-use Rattle.tail_groups.specs.Rules as Calls
+use Rattle.lowering_simulation.specs.type_check.Answers as Types
+use Rattle.cell_lower.specs.match_cover.Answers as Covering
+use Rattle.cell_lower.specs.match_cover.Coverage.{IsReady}
+use Rattle.ownership_agreement.specs.fip_rules.Checks as Owning
+use Rattle.ownership_agreement.specs.credit_check.Credits as Credits
+use Rattle.cell_lower.specs.tail_groups.Members.{AreMembers}
+use Rattle.cell_lower.specs.tail_groups.Rules as Calls
 use Rattle.cell_lower.specs.Limits as Limits
 use Rattle.static_params.specs.FlatSource.{flat_source}
 use Rattle.source_report.specs.Report.{bare, at, Reports, TooLong, Misspelt, Declaration, StaticParameter, Typing, Shape, Coverage, Ownership, Credit, TailCall, Limit, IsParsed, IsDeclared, IsFlat, IsTyped, AreOf, IsMatched, IsOwned, IsCredited, IsTailed, Says}

@@ -1,10 +1,10 @@
 -- A typed program of a source is well formed, its literals have 64 bits, and it is ready for coverage.
 use Rattle.std.proofs.Common.{ℕ, List, sym, subst}
-use Rattle.fip_language.specs.Core.{Core}
-use Rattle.fip_trees.specs.declared.program.Instance.{Instance}
-use Rattle.fip_trees.specs.Tree.{Program}
-use Rattle.type_check.specs.Typing.{IsFilled}
-use Rattle.match_cover.specs.Coverage.{IsReady}
+use Rattle.cell_lower.specs.fip_language.Core.{Core}
+use Rattle.cell_lower.specs.fip_trees.declared.program.Instance.{Instance}
+use Rattle.cell_lower.specs.fip_trees.Tree.{Program}
+use Rattle.lowering_simulation.specs.type_check.Typing.{IsFilled}
+use Rattle.cell_lower.specs.match_cover.Coverage.{IsReady}
 use Rattle.source_report.specs.Literals.{LiteralsFit}
 use Rattle.source_report.specs.Report.{IsParsed, IsFlat, IsTyped, AreOf}
 use Rattle.source_report.specs.WellFormed.{IsWellFormed}

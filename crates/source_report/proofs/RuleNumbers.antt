@@ -1,8 +1,8 @@
 -- A rule is known by its number.
 use Rattle.std.proofs.Common.{◌≡◌, ◌==◌, ℕ, if◌then◌else◌, refl, sym, ap, ◌∙◌}
-use Rattle.fip_language.specs.declared.rule.Rule.{Rule}
-use Rattle.fip_language.specs.declared.rule.Rule.TheVariants as R
-use Rattle.fip_language.specs.RuleOrder.{number}
+use Rattle.cell_lower.specs.fip_language.declared.rule.Rule.{Rule}
+use Rattle.cell_lower.specs.fip_language.declared.rule.Rule.TheVariants as R
+use Rattle.cell_lower.specs.fip_language.RuleOrder.{number}
 
 abbrev rule_of : ℕ → Rule
 rule_of n =

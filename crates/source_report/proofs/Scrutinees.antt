@@ -1,10 +1,10 @@
 -- The scrutinees of a core form are variables, and so are those of its instances, typed or not.
 use Rattle.std.proofs.Common.{ℕ, ◌+◌, List, [], ◌∷◌, ◌++◌, length, map}
-use Rattle.fip_language.specs.Core as C
-use Rattle.fip_language.specs.CoreForm as G
-use Rattle.fip_language.specs.CoreForm.{Scope, Binding, Whole, Part, block_of, bindings_in, last_in, made_let, bound, part_from, as_part, variable_from, as_scrutinee, last_from, as_last, as_block, in_brackets, core_form, with_binders, binders, parameters}
-use Rattle.fip_language.specs.Every.{Every}
-use Rattle.fip_language.specs.Surface as S
+use Rattle.cell_lower.specs.fip_language.Core as C
+use Rattle.cell_lower.specs.fip_language.CoreForm as G
+use Rattle.cell_lower.specs.fip_language.CoreForm.{Scope, Binding, Whole, Part, block_of, bindings_in, last_in, made_let, bound, part_from, as_part, variable_from, as_scrutinee, last_from, as_last, as_block, in_brackets, core_form, with_binders, binders, parameters}
+use Rattle.cell_lower.specs.fip_language.Every.{Every}
+use Rattle.cell_lower.specs.fip_language.Surface as S
 
 -- an argument that is a variable
 abbrev pub IsVariable : C.Argument → Type 0

@@ -2,40 +2,40 @@
 -- than 16 fields, one of a scalar type has none, and credits have sizes from 1 to 16.
 use Rattle.std.proofs.Common.{◌≡◌, ◌<◌, ◌^◌, ◌==◌, ◌||◌, ◌&&◌, inl, inr, ℕ, zero, suc, Bool, true, false, nat_lt, List, [], ◌∷◌, ◌++◌, length, map, Option, Some, None, slice_get, if◌then◌else◌, refl, sym, ap, ap₂, subst, arith}
 use Rattle.std.proofs.lemmas.Bool.Decides.{nat_tests}
-use Rattle.fip_language.proofs.Words.{map_at}
-use Rattle.fip_language.specs.declared.CreditMark.{CreditMark}
-use Rattle.fip_language.specs.declared.limits.TheConstants.{MOST_FIELDS}
-use Rattle.fip_language.specs.declared.rule.Rule.TheVariants.{E14, E63}
-use Rattle.fip_language.specs.Core as C
-use Rattle.fip_language.specs.Core.{Core, Data, DataConstructor, Function, Written}
-use Rattle.fip_language.specs.Declarations.{data_types, bool_type}
-use Rattle.fip_language.specs.Every.{Every, Among}
-use Rattle.fip_language.specs.Mentions.{all_of}
-use Rattle.fip_language.specs.Table.{Shape, shapes, is_scalar, all_bare, no_fields}
-use Rattle.fip_base.specs.CoreView.{writtens_of}
-use Rattle.fip_base.specs.TableView.{fields_at}
-use Rattle.fip_trees.specs.declared.least.Violation.{Violation}
-use Rattle.fip_trees.specs.Least.{In}
-use Rattle.fip_trees.proofs.Leasts.{in_left, in_right}
-use Rattle.fip_trees.specs.Tree as T
-use Rattle.fip_trees.specs.Tree.{Program, count, count_patterns}
-use Rattle.data_types.specs.Answers as Declaring
-use Rattle.data_types.specs.Declarations.{declarations, declared_names, data_scope, constructor_fields}
-use Rattle.data_types.specs.Faults.{broken, when, size_faults, data_faults, all_data_faults, mark_faults, credit_faults, function_faults, all_function_faults, name_faults, repeats, type_name_mentions, field_faults}
-use Rattle.reached_instances.specs.declared.closed.Head.TheVariants as H
-use Rattle.reached_instances.specs.Closed as Z
-use Rattle.reached_instances.specs.Closed.{Closed, Closeds, Applied, NoClosed, MoreClosed}
-use Rattle.reached_instances.specs.Source.{Instance}
-use Rattle.reached_instances.specs.TypeInstances.{field_types}
+use Rattle.cell_lower.proofs.fip_language.Words.{map_at}
+use Rattle.cell_lower.specs.fip_language.declared.CreditMark.{CreditMark}
+use Rattle.cell_lower.specs.fip_language.declared.limits.TheConstants.{MOST_FIELDS}
+use Rattle.cell_lower.specs.fip_language.declared.rule.Rule.TheVariants.{E14, E63}
+use Rattle.cell_lower.specs.fip_language.Core as C
+use Rattle.cell_lower.specs.fip_language.Core.{Core, Data, DataConstructor, Function, Written}
+use Rattle.cell_lower.specs.fip_language.Declarations.{data_types, bool_type}
+use Rattle.cell_lower.specs.fip_language.Every.{Every, Among}
+use Rattle.cell_lower.specs.fip_language.Mentions.{all_of}
+use Rattle.cell_lower.specs.fip_language.Table.{Shape, shapes, is_scalar, all_bare, no_fields}
+use Rattle.cell_lower.specs.fip_base.CoreView.{writtens_of}
+use Rattle.cell_lower.specs.fip_base.TableView.{fields_at}
+use Rattle.cell_lower.specs.fip_trees.declared.least.Violation.{Violation}
+use Rattle.cell_lower.specs.fip_trees.Least.{In}
+use Rattle.cell_lower.proofs.fip_trees.Leasts.{in_left, in_right}
+use Rattle.cell_lower.specs.fip_trees.Tree as T
+use Rattle.cell_lower.specs.fip_trees.Tree.{Program, count, count_patterns}
+use Rattle.static_params.specs.data_types.Answers as Declaring
+use Rattle.static_params.specs.data_types.Declarations.{declarations, declared_names, data_scope, constructor_fields}
+use Rattle.static_params.specs.data_types.Faults.{broken, when, size_faults, data_faults, all_data_faults, mark_faults, credit_faults, function_faults, all_function_faults, name_faults, repeats, type_name_mentions, field_faults}
+use Rattle.static_params.specs.reached_instances.declared.closed.Head.TheVariants as H
+use Rattle.static_params.specs.reached_instances.Closed as Z
+use Rattle.static_params.specs.reached_instances.Closed.{Closed, Closeds, Applied, NoClosed, MoreClosed}
+use Rattle.static_params.specs.reached_instances.Source.{Instance}
+use Rattle.static_params.specs.reached_instances.TypeInstances.{field_types}
 use Rattle.static_params.specs.FlatProgram.{Numbers, numbers_of, flat_constructor, credit_size, flat_argument, flat_block, flat_expression, flat_clauses, instance_if, instances_of, flat_program}
-use Rattle.type_check.proofs.Exact.{typed_exactly, filled_right}
-use Rattle.type_check.specs.Scope.{Scope}
-use Rattle.type_check.specs.Found.{wanted_next}
-use Rattle.type_check.specs.Binders.{all_annotated, annotations, entries}
-use Rattle.type_check.specs.Faults.{fill, fill_block, fill_clauses, fill_argument, fill_instance, filled, found, found_block, found_argument}
-use Rattle.type_check.specs.Typing as Y
-use Rattle.type_check.specs.Typing.{bound_by, parameter_scope}
-use Rattle.type_check.specs.World.{World, world, fields_of}
+use Rattle.lowering_simulation.proofs.type_check.Exact.{typed_exactly, filled_right}
+use Rattle.lowering_simulation.specs.type_check.Scope.{Scope}
+use Rattle.lowering_simulation.specs.type_check.Found.{wanted_next}
+use Rattle.lowering_simulation.specs.type_check.Binders.{all_annotated, annotations, entries}
+use Rattle.lowering_simulation.specs.type_check.Faults.{fill, fill_block, fill_clauses, fill_argument, fill_instance, filled, found, found_block, found_argument}
+use Rattle.lowering_simulation.specs.type_check.Typing as Y
+use Rattle.lowering_simulation.specs.type_check.Typing.{bound_by, parameter_scope}
+use Rattle.lowering_simulation.specs.type_check.World.{World, world, fields_of}
 use Rattle.ownership_agreement.specs.Sized.{AreSizes, SizedHeader, IsVariable, SizedArgument, SizedArguments, SizedPattern, SizedPatterns, SizedExpression, SizedBlock, SizedClauses}
 use Rattle.ownership_agreement.specs.Agreement.{AreSized}
 use Rattle.static_params.specs.FlatSource.{flat_source, fields, constructor, declared}
@@ -309,7 +309,7 @@ map_length : {A B : Type 0} (f : A → B) (xs : List A) → length (map f xs) �
 map_length f [] = refl
 map_length f (x ∷ xs) = ap suc (map_length f xs)
 
-numbers_length : (ns : Numbers) (cs : Closeds) (s : _) (ws : List Written) → length (numbers_of ns (field_types cs (fields (Rattle.data_types.specs.Declarations.all_looked_up s (writtens_of ws))))) ≡ length ws
+numbers_length : (ns : Numbers) (cs : Closeds) (s : _) (ws : List Written) → length (numbers_of ns (field_types cs (fields (Rattle.static_params.specs.data_types.Declarations.all_looked_up s (writtens_of ws))))) ≡ length ws
 numbers_length ns cs s [] = refl
 numbers_length ns cs s (w ∷ ws) = ap suc (numbers_length ns cs s ws)
 

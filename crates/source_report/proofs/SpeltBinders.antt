@@ -1,8 +1,8 @@
 -- Each let of a source binds something: the grammar has no let without a binder.
 use Rattle.std.proofs.Common.{ℕ, suc, ◌<◌, List, [], ◌∷◌, length, arith}
-use Rattle.fip_language.specs.Every.{Every}
-use Rattle.fip_language.specs.Core.{Static, Result}
-use Rattle.fip_language.specs.Surface as T
+use Rattle.cell_lower.specs.fip_language.Every.{Every}
+use Rattle.cell_lower.specs.fip_language.Core.{Static, Result}
+use Rattle.cell_lower.specs.fip_language.Surface as T
 use Rattle.fip_grammar.specs.Token.{Token}
 use Rattle.fip_grammar.specs.Grammar.{left_tightness, tightness, Spelled, Arguments, Fields, Further, Binder', Block', Clauses', FurtherClauses, FunctionParts, Declaration', Spells}
 use Rattle.fip_grammar.specs.Limits.{IsSpelt}

@@ -2,17 +2,17 @@
 -- isn't the pattern's own: behind a sign of the grammar no minus waits. So its limit is that of its pattern.
 use Rattle.std.proofs.Common.{◌≡◌, ◌≤◌, ◌<◌, ◌-◌, ◌^◌, inl, inr, ℕ, zero, suc, Bool, true, false, List, [], ◌∷◌, ◌++◌, length, take, Option, Some, None, slice_get, ℤ, pos, neg_ℤ, FitsSigned, refl, sym, ap, ◌∙◌, subst, arith, append_assoc}
 use Rattle.std.specs.Int.{w64}
-use Rattle.fip_language.specs.declared.Place.{Place}
-use Rattle.fip_language.specs.declared.FunKind.{FunKind}
-use Rattle.fip_language.specs.declared.FunKind.TheVariants as K
-use Rattle.fip_language.specs.declared.CreditMark.{CreditMark}
-use Rattle.fip_language.specs.declared.Operator.TheVariants as O
-use Rattle.fip_language.specs.declared.rule.Rule.{Rule}
-use Rattle.fip_language.specs.declared.rule.Rule.TheVariants as R
-use Rattle.fip_language.specs.Every.{Every}
-use Rattle.fip_language.specs.Core as C
-use Rattle.fip_language.specs.Core.{Name, Written, WrittenInt, WrittenName, Writtens, NoWritten, MoreWritten, Static, TypeParameter, FunctionParameter, SignatureParameter, Result, OneResult, TupleResult, TypeName, DataConstructor}
-use Rattle.fip_language.specs.Surface as T
+use Rattle.cell_lower.specs.fip_language.declared.Place.{Place}
+use Rattle.cell_lower.specs.fip_language.declared.FunKind.{FunKind}
+use Rattle.cell_lower.specs.fip_language.declared.FunKind.TheVariants as K
+use Rattle.cell_lower.specs.fip_language.declared.CreditMark.{CreditMark}
+use Rattle.cell_lower.specs.fip_language.declared.Operator.TheVariants as O
+use Rattle.cell_lower.specs.fip_language.declared.rule.Rule.{Rule}
+use Rattle.cell_lower.specs.fip_language.declared.rule.Rule.TheVariants as R
+use Rattle.cell_lower.specs.fip_language.Every.{Every}
+use Rattle.cell_lower.specs.fip_language.Core as C
+use Rattle.cell_lower.specs.fip_language.Core.{Name, Written, WrittenInt, WrittenName, Writtens, NoWritten, MoreWritten, Static, TypeParameter, FunctionParameter, SignatureParameter, Result, OneResult, TupleResult, TypeName, DataConstructor}
+use Rattle.cell_lower.specs.fip_language.Surface as T
 use Rattle.fip_grammar.specs.declared.Sign.{Sign}
 use Rattle.fip_grammar.specs.declared.Sign.TheVariants as S
 use Rattle.fip_grammar.specs.Token.{Word, Lower, Upper, Number, Operate, Mark, Token, token, value_of}

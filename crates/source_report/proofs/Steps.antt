@@ -1,18 +1,18 @@
 -- What each phase gives where it accepts, as a step of the source towards its typed program.
 use Rattle.std.proofs.Common.{◌≡◌, ℕ, List, Result, Ok, Err, IfOk, IfErr, refl, subst}
-use Rattle.fip_base.specs.CoreView as V
-use Rattle.fip_base.specs.declared.core_form.Core.{Core}
-use Rattle.fip_base.specs.declared.refusal.PhaseError.{PhaseError}
-use Rattle.fip_trees.specs.TreeView.{program}
-use Rattle.fip_trees.specs.declared.decls.Decls.{Decls}
-use Rattle.fip_trees.specs.declared.program.Program.{Program}
-use Rattle.data_types.specs.DeclaredProgram.{AreDeclared}
+use Rattle.cell_lower.specs.fip_base.CoreView as V
+use Rattle.cell_lower.specs.fip_base.declared.core_form.Core.{Core}
+use Rattle.cell_lower.specs.fip_base.declared.refusal.PhaseError.{PhaseError}
+use Rattle.cell_lower.specs.fip_trees.TreeView.{program}
+use Rattle.cell_lower.specs.fip_trees.declared.decls.Decls.{Decls}
+use Rattle.cell_lower.specs.fip_trees.declared.program.Program.{Program}
+use Rattle.static_params.specs.data_types.DeclaredProgram.{AreDeclared}
 use Rattle.static_params.specs.Answers as Statics
-use Rattle.reached_instances.specs.SourceView as s
-use Rattle.type_check.specs.Faults.{filled}
-use Rattle.type_check.specs.Typing as Types
-use Rattle.match_cover.specs.Answers.{Accepts}
-use Rattle.match_cover.specs.Answers as Covering
+use Rattle.static_params.specs.reached_instances.SourceView as s
+use Rattle.lowering_simulation.specs.type_check.Faults.{filled}
+use Rattle.lowering_simulation.specs.type_check.Typing as Types
+use Rattle.cell_lower.specs.match_cover.Answers.{Accepts}
+use Rattle.cell_lower.specs.match_cover.Answers as Covering
 use Rattle.static_params.specs.FlatSource.{flat_source}
 use Rattle.source_report.specs.Report.{IsParsed, IsDeclared, IsFlat, IsTyped, IsMatched, Says}
 use Rattle.source_report.proofs.Phases.{by_statics, by_matches}

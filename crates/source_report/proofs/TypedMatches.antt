@@ -4,32 +4,32 @@
 use Rattle.std.proofs.Common.{◌≡◌, ◌≤◌, ◌<◌, ◌+◌, ◌^◌, ◌==◌, ℕ, zero, suc, Bool, true, false, nat_lt, List, [], ◌∷◌, ◌++◌, length, map, Option, Some, None, slice_get, pos, if◌then◌else◌, refl, sym, ap, ◌∙◌, subst, arith, inl, inr, FitsSigned}
 use Rattle.std.specs.Int.{w64}
 use Rattle.std.proofs.lemmas.Bool.Decides.{nat_tests}
-use Rattle.fip_language.proofs.Search.{slice_get_there}
-use Rattle.fip_language.specs.Every.{Every, Among}
-use Rattle.fip_language.specs.SoundTable.{AreTypes}
-use Rattle.fip_language.specs.Table.{Shape, shapes, Table, HasType}
-use Rattle.fip_language.specs.Values as Value
-use Rattle.fip_base.specs.TableView.{fields_at}
-use Rattle.fip_base.specs.declared.plain.Param.{Param}
-use Rattle.fip_language.specs.declared.Operator.{Operator}
-use Rattle.fip_language.specs.declared.Operator.TheVariants as O
-use Rattle.fip_trees.specs.declared.program.Binder.{Binder}
-use Rattle.fip_trees.specs.declared.program.Instance as I
-use Rattle.fip_trees.specs.Tree as T
-use Rattle.fip_trees.specs.Tree.{Program}
-use Rattle.fip_trees.specs.TreeView as V
-use Rattle.match_knowledge.specs.declared.heads.Head.TheVariants.{Number, Tag}
-use Rattle.match_knowledge.specs.ValueHeads.{AllHaveValues, IsTidy, IsHead}
-use Rattle.match_knowledge.specs.Patterns as K
-use Rattle.match_cover.specs.PatternView.{erased}
-use Rattle.match_cover.specs.Matches.{Match, block_matches}
-use Rattle.match_cover.specs.Coverage.{AreTypedMatches, AreTypedBodies, IsReady}
-use Rattle.type_check.specs.Found.{or_found}
-use Rattle.type_check.specs.Scope.{Scope, or_else, look, of_binder}
-use Rattle.type_check.specs.Binders.{entries, entry}
-use Rattle.type_check.specs.Typing as Y
-use Rattle.type_check.specs.Typing.{bound_by, bound_by_all, parameter_entries, parameter_scope}
-use Rattle.type_check.specs.World.{world, is_of, is_number, numbered, first_declared, plain_type, chosen, fields_of, field_types, head_of, head_or_none, result_of}
+use Rattle.cell_lower.proofs.fip_language.Search.{slice_get_there}
+use Rattle.cell_lower.specs.fip_language.Every.{Every, Among}
+use Rattle.cell_lower.specs.fip_language.SoundTable.{AreTypes}
+use Rattle.cell_lower.specs.fip_language.Table.{Shape, shapes, Table, HasType}
+use Rattle.cell_lower.specs.fip_language.Values as Value
+use Rattle.cell_lower.specs.fip_base.TableView.{fields_at}
+use Rattle.cell_lower.specs.fip_base.declared.plain.Param.{Param}
+use Rattle.cell_lower.specs.fip_language.declared.Operator.{Operator}
+use Rattle.cell_lower.specs.fip_language.declared.Operator.TheVariants as O
+use Rattle.cell_lower.specs.fip_trees.declared.program.Binder.{Binder}
+use Rattle.cell_lower.specs.fip_trees.declared.program.Instance as I
+use Rattle.cell_lower.specs.fip_trees.Tree as T
+use Rattle.cell_lower.specs.fip_trees.Tree.{Program}
+use Rattle.cell_lower.specs.fip_trees.TreeView as V
+use Rattle.cell_lower.specs.match_knowledge.declared.heads.Head.TheVariants.{Number, Tag}
+use Rattle.cell_lower.specs.match_knowledge.ValueHeads.{AllHaveValues, IsTidy, IsHead}
+use Rattle.cell_lower.specs.match_knowledge.Patterns as K
+use Rattle.cell_lower.specs.match_cover.PatternView.{erased}
+use Rattle.cell_lower.specs.match_cover.Matches.{Match, block_matches}
+use Rattle.cell_lower.specs.match_cover.Coverage.{AreTypedMatches, AreTypedBodies, IsReady}
+use Rattle.lowering_simulation.specs.type_check.Found.{or_found}
+use Rattle.lowering_simulation.specs.type_check.Scope.{Scope, or_else, look, of_binder}
+use Rattle.lowering_simulation.specs.type_check.Binders.{entries, entry}
+use Rattle.lowering_simulation.specs.type_check.Typing as Y
+use Rattle.lowering_simulation.specs.type_check.Typing.{bound_by, bound_by_all, parameter_entries, parameter_scope}
+use Rattle.lowering_simulation.specs.type_check.World.{world, is_of, is_number, numbered, first_declared, plain_type, chosen, fields_of, field_types, head_of, head_or_none, result_of}
 use Rattle.source_report.specs.WellFormed as F
 use Rattle.source_report.specs.Literals as L
 use Rattle.source_report.proofs.Erasing.{plain, plain_all, erased_is}

@@ -1,30 +1,30 @@
 -- The binders of a typed program are numbered in order: so they are in the core form, and neither specialising nor
 -- typing changes a number.
 use Rattle.std.proofs.Common.{◌≡◌, ◌<◌, ◌+◌, inl, inr, ℕ, suc, true, List, [], ◌∷◌, ◌++◌, Bool, length, map, Option, Some, None, slice_get, refl, sym, ap, ◌∙◌, subst, arith}
-use Rattle.fip_language.specs.Core as C
-use Rattle.fip_language.specs.Core.{Core, Function}
-use Rattle.fip_language.specs.Every.{Every, Among}
-use Rattle.fip_language.proofs.Search.{every_from}
-use Rattle.fip_language.proofs.Words.{every_among}
-use Rattle.fip_base.specs.declared.plain.Param.{Param}
-use Rattle.fip_trees.specs.declared.program.Binder.{Binder}
-use Rattle.fip_trees.specs.Tree as T
-use Rattle.fip_trees.specs.Tree.{Program}
-use Rattle.reached_instances.specs.declared.closed.Head.TheVariants as H
-use Rattle.reached_instances.specs.Closed as Z
-use Rattle.reached_instances.specs.Closed.{Closed, Applied}
-use Rattle.reached_instances.specs.Source.{Source, Instance}
+use Rattle.cell_lower.specs.fip_language.Core as C
+use Rattle.cell_lower.specs.fip_language.Core.{Core, Function}
+use Rattle.cell_lower.specs.fip_language.Every.{Every, Among}
+use Rattle.cell_lower.proofs.fip_language.Search.{every_from}
+use Rattle.cell_lower.proofs.fip_language.Words.{every_among}
+use Rattle.cell_lower.specs.fip_base.declared.plain.Param.{Param}
+use Rattle.cell_lower.specs.fip_trees.declared.program.Binder.{Binder}
+use Rattle.cell_lower.specs.fip_trees.Tree as T
+use Rattle.cell_lower.specs.fip_trees.Tree.{Program}
+use Rattle.static_params.specs.reached_instances.declared.closed.Head.TheVariants as H
+use Rattle.static_params.specs.reached_instances.Closed as Z
+use Rattle.static_params.specs.reached_instances.Closed.{Closed, Applied}
+use Rattle.static_params.specs.reached_instances.Source.{Source, Instance}
 use Rattle.static_params.specs.FlatProgram.{Numbers, flat_binder, flat_pattern, flat_patterns, flat_expression, flat_block, flat_clauses, flat_parameter, flat_instance, instance_if, instances_of, flat_program}
 use Rattle.static_params.specs.FlatSource.{flat_source}
 use Rattle.static_params.proofs.GoodTypes.{all_of_have}
 use Rattle.static_params.proofs.TableRows.{map_length}
 use Rattle.static_params.proofs.TypeRows.{there_among}
-use Rattle.type_check.specs.Found.{first_type, others, wanted_next}
-use Rattle.type_check.specs.Scope.{Scope}
-use Rattle.type_check.specs.Binders.{all_annotated, annotations, entries}
-use Rattle.type_check.specs.Typing.{bound_by, parameter_scope}
-use Rattle.type_check.specs.World.{World, world, chosen, field_types}
-use Rattle.type_check.specs.Faults.{fill_binders, fill_pattern, fill_patterns, fill, fill_block, fill_clauses, fill_parameters, fill_instance, filled, found, found_block, found_argument}
+use Rattle.lowering_simulation.specs.type_check.Found.{first_type, others, wanted_next}
+use Rattle.lowering_simulation.specs.type_check.Scope.{Scope}
+use Rattle.lowering_simulation.specs.type_check.Binders.{all_annotated, annotations, entries}
+use Rattle.lowering_simulation.specs.type_check.Typing.{bound_by, parameter_scope}
+use Rattle.lowering_simulation.specs.type_check.World.{World, world, chosen, field_types}
+use Rattle.lowering_simulation.specs.type_check.Faults.{fill_binders, fill_pattern, fill_patterns, fill, fill_block, fill_clauses, fill_parameters, fill_instance, filled, found, found_block, found_argument}
 use Rattle.source_report.specs.Report.{IsParsed, IsFlat, IsTyped}
 use Rattle.source_report.specs.Order.{From, SpansPattern, SpansPatterns, Spans, SpansBlock, SpansClauses, IsOrdered}
 use Rattle.source_report.proofs.CoreOrder as O

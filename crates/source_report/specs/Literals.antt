@@ -2,10 +2,10 @@
 -- Those of `match n { 0 -> a; -9223372036854775808 -> b; _ -> c }` have; 9223372036854775808 hasn't.
 use Rattle.std.specs.Prelude.{FitsSigned}
 use Rattle.std.specs.Int.{w64}
-use Rattle.fip_language.specs.Every.{Among}
-use Rattle.fip_trees.specs.Tree.{Pattern, BinderPattern, LiteralPattern, ConstructorPattern, Patterns, NoPatterns}
-use Rattle.fip_trees.specs.Tree.{MorePatterns, Expression, Give, Tuple, Operation, Call, Match, Nested}
-use Rattle.fip_trees.specs.Tree.{Block, Last, Let, Clauses, NoClauses, MoreClauses, Instance, Program}
+use Rattle.cell_lower.specs.fip_language.Every.{Among}
+use Rattle.cell_lower.specs.fip_trees.Tree.{Pattern, BinderPattern, LiteralPattern, ConstructorPattern, Patterns, NoPatterns}
+use Rattle.cell_lower.specs.fip_trees.Tree.{MorePatterns, Expression, Give, Tuple, Operation, Call, Match, Nested}
+use Rattle.cell_lower.specs.fip_trees.Tree.{Block, Last, Let, Clauses, NoClauses, MoreClauses, Instance, Program}
 
 abbrev mutual
   pub FitsPattern : Pattern → Type 0

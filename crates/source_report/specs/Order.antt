@@ -4,10 +4,10 @@
 --
 -- In f(a) { let b = match! a { C(c) -> c }; b } the binders a, c and b have the numbers 0, 1 and 2.
 use Rattle.std.specs.Prelude.{◌≡◌, ◌<◌, ◌+◌, ℕ, List, [], ◌∷◌, length}
-use Rattle.fip_trees.specs.declared.program.Binder.{Binder}
-use Rattle.fip_trees.specs.Tree.{Pattern, BinderPattern, LiteralPattern, ConstructorPattern, Patterns, NoPatterns}
-use Rattle.fip_trees.specs.Tree.{MorePatterns, Expression, Give, Tuple, Operation, Call, Match, Nested, Block, Last}
-use Rattle.fip_trees.specs.Tree.{Let, Clauses, NoClauses, MoreClauses, Instance}
+use Rattle.cell_lower.specs.fip_trees.declared.program.Binder.{Binder}
+use Rattle.cell_lower.specs.fip_trees.Tree.{Pattern, BinderPattern, LiteralPattern, ConstructorPattern, Patterns, NoPatterns}
+use Rattle.cell_lower.specs.fip_trees.Tree.{MorePatterns, Expression, Give, Tuple, Operation, Call, Match, Nested, Block, Last}
+use Rattle.cell_lower.specs.fip_trees.Tree.{Let, Clauses, NoClauses, MoreClauses, Instance}
 
 -- Some binders have the numbers from n on, and the next number is m.
 abbrev pub From : ℕ → ℕ → List Binder → Type 0

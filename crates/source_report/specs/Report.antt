@@ -16,38 +16,38 @@
 -- reported, since no program is made whose types could be asked. Where g is a function with another type of parameter,
 -- E31 at y is reported.
 use Rattle.std.specs.Prelude.{◌≡◌, ℕ, ◌<◌, ◌≤◌, List, [], length, None, Some}
-use Rattle.fip_language.specs.declared.Place.{Place}
-use Rattle.fip_language.specs.declared.limits.TheConstants.{MOST_SOURCE_BYTES}
-use Rattle.fip_language.specs.declared.rule.Rule.{Rule}
-use Rattle.fip_language.specs.declared.rule.Rule.TheVariants.{E05}
-use Rattle.fip_language.specs.Core.{Core}
-use Rattle.fip_language.specs.CoreForm.{core_form}
-use Rattle.fip_language.specs.Declarations.{data_types}
-use Rattle.fip_language.specs.Surface as Surface
-use Rattle.fip_base.specs.declared.refusal.PhaseError.{PhaseError}
-use Rattle.fip_base.specs.declared.refusal.PhaseError.TheVariants.{Refused, NoMemory}
-use Rattle.fip_base.specs.declared.refusal.Refusal.{Refusal}
+use Rattle.cell_lower.specs.fip_language.declared.Place.{Place}
+use Rattle.cell_lower.specs.fip_language.declared.limits.TheConstants.{MOST_SOURCE_BYTES}
+use Rattle.cell_lower.specs.fip_language.declared.rule.Rule.{Rule}
+use Rattle.cell_lower.specs.fip_language.declared.rule.Rule.TheVariants.{E05}
+use Rattle.cell_lower.specs.fip_language.Core.{Core}
+use Rattle.cell_lower.specs.fip_language.CoreForm.{core_form}
+use Rattle.cell_lower.specs.fip_language.Declarations.{data_types}
+use Rattle.cell_lower.specs.fip_language.Surface as Surface
+use Rattle.cell_lower.specs.fip_base.declared.refusal.PhaseError.{PhaseError}
+use Rattle.cell_lower.specs.fip_base.declared.refusal.PhaseError.TheVariants.{Refused, NoMemory}
+use Rattle.cell_lower.specs.fip_base.declared.refusal.Refusal.{Refusal}
 use Rattle.fip_grammar.specs.Limits.{IsSpelt, IsMisspelt}
-use Rattle.fip_trees.specs.declared.groups.Member.{Member}
-use Rattle.fip_trees.specs.declared.least.Violation.{Violation}
-use Rattle.fip_trees.specs.declared.program.Instance.{Instance}
-use Rattle.fip_trees.specs.Least.{IsLeast, IsLeastOf, refusal}
-use Rattle.fip_trees.specs.Tree.{Program}
-use Rattle.fip_trees.specs.TreeView.{instances}
-use Rattle.data_types.specs.Answers as Declaring
-use Rattle.data_types.specs.Declarations.{declarations}
-use Rattle.data_types.specs.Types.{IsValued}
+use Rattle.cell_lower.specs.fip_trees.declared.groups.Member.{Member}
+use Rattle.cell_lower.specs.fip_trees.declared.least.Violation.{Violation}
+use Rattle.cell_lower.specs.fip_trees.declared.program.Instance.{Instance}
+use Rattle.cell_lower.specs.fip_trees.Least.{IsLeast, IsLeastOf, refusal}
+use Rattle.cell_lower.specs.fip_trees.Tree.{Program}
+use Rattle.cell_lower.specs.fip_trees.TreeView.{instances}
+use Rattle.static_params.specs.data_types.Answers as Declaring
+use Rattle.static_params.specs.data_types.Declarations.{declarations}
+use Rattle.static_params.specs.data_types.Types.{IsValued}
 use Rattle.static_params.specs.Answers as Statics
 use Rattle.static_params.specs.FlatProgram.{Numbers, flat_program}
-use Rattle.reached_instances.specs.Instances.{all_faults}
-use Rattle.type_check.specs.Typing as Types
-use Rattle.type_check.specs.Faults.{type_faults, filled}
-use Rattle.match_cover.specs.Answers.{IsLeastCoverFault, IsRight}
-use Rattle.match_cover.specs.Shapes.{shape_faults}
-use Rattle.fip_rules.specs.Checks as Owning
-use Rattle.credit_check.specs.Credits as Credits
-use Rattle.tail_groups.specs.Members.{AreMembers}
-use Rattle.tail_groups.specs.Rules as Calls
+use Rattle.static_params.specs.reached_instances.Instances.{all_faults}
+use Rattle.lowering_simulation.specs.type_check.Typing as Types
+use Rattle.lowering_simulation.specs.type_check.Faults.{type_faults, filled}
+use Rattle.cell_lower.specs.match_cover.Answers.{IsLeastCoverFault, IsRight}
+use Rattle.cell_lower.specs.match_cover.Shapes.{shape_faults}
+use Rattle.ownership_agreement.specs.fip_rules.Checks as Owning
+use Rattle.ownership_agreement.specs.credit_check.Credits as Credits
+use Rattle.cell_lower.specs.tail_groups.Members.{AreMembers}
+use Rattle.cell_lower.specs.tail_groups.Rules as Calls
 use Rattle.cell_lower.specs.Limits as Limits
 use Rattle.static_params.specs.FlatSource.{flat_source}
 

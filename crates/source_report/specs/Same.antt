@@ -1,7 +1,7 @@
 -- When two refusals say the same: by rule, offset, size and detail. Line and column are those of the offset.
 use Rattle.std.specs.Prelude.{◌≡◌, ℕ, Option, option_map}
-use Rattle.fip_language.specs.declared.Place.{Place}
-use Rattle.fip_base.specs.declared.refusal.Refusal.{Refusal}
+use Rattle.cell_lower.specs.fip_language.declared.Place.{Place}
+use Rattle.cell_lower.specs.fip_base.declared.refusal.Refusal.{Refusal}
 
 abbrev pub offset : Option Place → Option ℕ
 offset o = option_map (λ (p : Place). p.at) o

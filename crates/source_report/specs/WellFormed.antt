@@ -6,14 +6,14 @@
 -- In the program of `data t { A(t); B }` and `fun f(x: t): t { match x { A(y) -> f(y); B -> x } }` the table is bool,
 -- t; A and B are constructors 0 and 1 of type 2, and the call is of instance 0.
 use Rattle.std.specs.Prelude.{◌≡◌, ◌<◌, ℕ, suc, map, length, Some, slice_get}
-use Rattle.fip_language.specs.Every.{Among}
-use Rattle.fip_language.specs.SoundTable.{AreTypes}
-use Rattle.fip_language.specs.Table.{Shape, shapes, HasType}
-use Rattle.fip_language.specs.Values.{Value}
-use Rattle.fip_base.specs.declared.plain.Param.{Param}
-use Rattle.fip_trees.specs.Tree.{Pattern, BinderPattern, LiteralPattern, ConstructorPattern, Patterns, NoPatterns}
-use Rattle.fip_trees.specs.Tree.{MorePatterns, Expression, Give, Tuple, Operation, Call, Match, Nested}
-use Rattle.fip_trees.specs.Tree.{Block, Last, Let, Clauses, NoClauses, MoreClauses, Instance, Program}
+use Rattle.cell_lower.specs.fip_language.Every.{Among}
+use Rattle.cell_lower.specs.fip_language.SoundTable.{AreTypes}
+use Rattle.cell_lower.specs.fip_language.Table.{Shape, shapes, HasType}
+use Rattle.cell_lower.specs.fip_language.Values.{Value}
+use Rattle.cell_lower.specs.fip_base.declared.plain.Param.{Param}
+use Rattle.cell_lower.specs.fip_trees.Tree.{Pattern, BinderPattern, LiteralPattern, ConstructorPattern, Patterns, NoPatterns}
+use Rattle.cell_lower.specs.fip_trees.Tree.{MorePatterns, Expression, Give, Tuple, Operation, Call, Match, Nested}
+use Rattle.cell_lower.specs.fip_trees.Tree.{Block, Last, Let, Clauses, NoClauses, MoreClauses, Instance, Program}
 
 abbrev mutual
   pub IsKnownPattern : Program → Pattern → Type 0

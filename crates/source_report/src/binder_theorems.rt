@@ -1,7 +1,7 @@
 // The laws on the binders of typed programs. Each is the contract of a function that does nothing.
 ghost use Rattle.std.specs.Prelude.{ℕ, List};
-ghost use Rattle.fip_language.specs.Every.{Every};
-ghost use Rattle.fip_trees.specs.Tree.{Program};
+ghost use Rattle.cell_lower.specs.fip_language.Every.{Every};
+ghost use Rattle.cell_lower.specs.fip_trees.Tree.{Program};
 ghost use Rattle.lowering_simulation.specs.Distinct.{AreDistinct};
 ghost use Rattle.source_report.specs.Report.{IsTyped};
 ghost use Rattle.source_report.specs.Order.{IsOrdered};

@@ -4,4 +4,6 @@
 mod binder_theorems;
 pub mod report_theorems;
 
-pub use binder_theorems::{typed_programs_have_distinct_binders, typed_programs_number_their_binders};
+pub use binder_theorems::{
+    typed_programs_have_distinct_binders, typed_programs_number_their_binders,
+};

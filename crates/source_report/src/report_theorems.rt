@@ -1,16 +1,16 @@
 // Laws of the report.
 ghost use Rattle.std.specs.Prelude.{◌≡◌, ℕ, List};
-ghost use Rattle.fip_base.specs.declared.refusal.Refusal.{Refusal};
-ghost use Rattle.fip_trees.specs.Tree.{Program};
-ghost use Rattle.fip_trees.specs.declared.program.Instance.{Instance};
-ghost use Rattle.match_cover.specs.Coverage.{IsReady};
+ghost use Rattle.cell_lower.specs.fip_base.declared.refusal.Refusal.{Refusal};
+ghost use Rattle.cell_lower.specs.fip_trees.Tree.{Program};
+ghost use Rattle.cell_lower.specs.fip_trees.declared.program.Instance.{Instance};
+ghost use Rattle.cell_lower.specs.match_cover.Coverage.{IsReady};
 ghost use Rattle.ownership_agreement.specs.Agreement.{AreSized, AreDerived};
 ghost use Rattle.source_report.specs.Literals.{LiteralsFit};
 ghost use Rattle.source_report.specs.Report.{AreOf, IsTyped, IsOwned, IsCredited, IsAccepted, Reports};
 ghost use Rattle.source_report.specs.Same.{AreSame};
 ghost use Rattle.source_report.specs.WellFormed.{IsWellFormed};
-ghost use Rattle.tail_groups.specs.Members.{FipCallsFip};
-ghost use Rattle.type_check.specs.Typing.{IsFilled};
+ghost use Rattle.cell_lower.specs.tail_groups.Members.{FipCallsFip};
+ghost use Rattle.lowering_simulation.specs.type_check.Typing.{IsFilled};
 
 /// A source that is accepted has no report.
 pub fn accepted_is_not_reported()

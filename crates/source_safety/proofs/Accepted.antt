@@ -1,21 +1,21 @@
 -- The program of an accepted source passes all checks, so its fip instances run in place.
 use Rattle.std.proofs.Common.{◌≡◌, ◌≤◌, ℕ, List, Some, slice_get, subst}
-use Rattle.fip_base.specs.declared.plain.Stack.{Stack}
-use Rattle.fip_language.specs.declared.FunKind.TheVariants.{Fip}
-use Rattle.fip_language.specs.Table.{HaveTypes}
-use Rattle.fip_language.specs.Values.{Values}
-use Rattle.fip_trees.specs.declared.groups.Member.{Member}
-use Rattle.fip_trees.specs.Tree.{Instance, Program}
-use Rattle.instance_semantics.specs.Meaning.{flat_meaning}
-use Rattle.tail_groups.specs.Members.{AreMembers}
-use Rattle.type_safety.proofs.Covering.{covered_exhaustive}
-use Rattle.type_safety.proofs.WellTyped.{meaning_sound}
-use Rattle.type_safety.specs.Exhaustive.{AreExhaustive}
-use Rattle.type_safety.specs.Soundness.{IsSoundAnswer, parameter_types, IsWellTyped}
+use Rattle.in_place_safety.specs.fip_base.declared.plain.Stack.{Stack}
+use Rattle.in_place_safety.specs.fip_language.declared.FunKind.TheVariants.{Fip}
+use Rattle.in_place_safety.specs.fip_language.Table.{HaveTypes}
+use Rattle.in_place_safety.specs.fip_language.Values.{Values}
+use Rattle.in_place_safety.specs.fip_trees.declared.groups.Member.{Member}
+use Rattle.in_place_safety.specs.fip_trees.Tree.{Instance, Program}
+use Rattle.in_place_safety.specs.instance_semantics.Meaning.{flat_meaning}
+use Rattle.in_place_safety.specs.tail_groups.Members.{AreMembers}
+use Rattle.in_place_safety.proofs.type_safety.Covering.{covered_exhaustive}
+use Rattle.in_place_safety.proofs.type_safety.WellTyped.{meaning_sound}
+use Rattle.in_place_safety.specs.type_safety.Exhaustive.{AreExhaustive}
+use Rattle.in_place_safety.specs.type_safety.Soundness.{IsSoundAnswer, parameter_types, IsWellTyped}
 use Rattle.in_place_safety.proofs.Checked.{runs_in_place, has_stack}
 use Rattle.in_place_safety.specs.InPlace.{RunsInPlace, IsChecked}
-use Rattle.source_report.proofs.Sizing.{typed_filled, typed_sized}
-use Rattle.source_report.specs.Report.{IsMatched, IsCredited, IsAccepted}
+use Rattle.specialisation_correctness.proofs.source_report.Sizing.{typed_filled, typed_sized}
+use Rattle.specialisation_correctness.specs.source_report.Report.{IsMatched, IsCredited, IsAccepted}
 use Rattle.source_safety.proofs.Formed.{typed_is_formed}
 
 matched_exhaustive : (source : List ℕ) (p : Program) → IsMatched source p → AreExhaustive p.types p.instances

@@ -4,21 +4,21 @@
 use Rattle.std.proofs.Common.{◌≡◌, ◌<◌, ◌==◌, ◌^◌, inl, inr, ℕ, zero, suc, ◌+◌, Bool, true, false, nat_lt, List, [], ◌∷◌, ◌++◌, length, map, Option, Some, None, slice_get, if◌then◌else◌, FitsSigned, refl, sym, ap, ◌∙◌, subst, arith}
 use Rattle.std.specs.Int.{w64}
 use Rattle.std.proofs.lemmas.Bool.Decides.{nat_tests}
-use Rattle.fip_base.specs.declared.plain.Param.{Param}
-use Rattle.fip_language.specs.Every.{Among}
-use Rattle.fip_language.specs.Table.{shapes, constructors}
-use Rattle.fip_trees.specs.declared.program.Binder.{Binder}
-use Rattle.fip_trees.specs.Tree as T
-use Rattle.fip_trees.specs.Tree.{Program, count}
-use Rattle.type_check.specs.Found.{or_found, first_wanted, usable, others, wanted_next}
-use Rattle.type_check.specs.Scope.{Scope}
-use Rattle.type_check.specs.Binders.{all_annotated, annotations, entries}
-use Rattle.type_check.specs.Typing as Y
-use Rattle.type_check.specs.Typing.{bound_by, parameter_scope}
-use Rattle.type_check.specs.World.{World, world, is_number, numbered, first_declared, chosen, field_types, fields_of, head}
-use Rattle.type_check.specs.Faults.{fill_argument, fill_arguments, fill, fill_block, fill_clauses, fill_parameters, fill_instance, filled, found, found_block, found_argument}
-use Rattle.type_safety.specs.Formed.{FormedArgument, FormedArguments, FormedExpression, FormedBlock, FormedClauses, AreFormed}
-use Rattle.source_report.specs.WellFormed.{IsKnown, IsKnownBlock, AreKnownClauses, IsKnownInstance}
+use Rattle.in_place_safety.specs.fip_base.declared.plain.Param.{Param}
+use Rattle.in_place_safety.specs.fip_language.Every.{Among}
+use Rattle.in_place_safety.specs.fip_language.Table.{shapes, constructors}
+use Rattle.in_place_safety.specs.fip_trees.declared.program.Binder.{Binder}
+use Rattle.in_place_safety.specs.fip_trees.Tree as T
+use Rattle.in_place_safety.specs.fip_trees.Tree.{Program, count}
+use Rattle.in_place_safety.specs.type_check.Found.{or_found, first_wanted, usable, others, wanted_next}
+use Rattle.in_place_safety.specs.type_check.Scope.{Scope}
+use Rattle.in_place_safety.specs.type_check.Binders.{all_annotated, annotations, entries}
+use Rattle.in_place_safety.specs.type_check.Typing as Y
+use Rattle.in_place_safety.specs.type_check.Typing.{bound_by, parameter_scope}
+use Rattle.in_place_safety.specs.type_check.World.{World, world, is_number, numbered, first_declared, chosen, field_types, fields_of, head}
+use Rattle.in_place_safety.specs.type_check.Faults.{fill_argument, fill_arguments, fill, fill_block, fill_clauses, fill_parameters, fill_instance, filled, found, found_block, found_argument}
+use Rattle.in_place_safety.specs.type_safety.Formed.{FormedArgument, FormedArguments, FormedExpression, FormedBlock, FormedClauses, AreFormed}
+use Rattle.specialisation_correctness.specs.source_report.WellFormed.{IsKnown, IsKnownBlock, AreKnownClauses, IsKnownInstance}
 
 -- a constructor of each type that the data type declares
 abbrev pub IsRowOf : Program → ℕ → ℕ → Type 0

@@ -2,11 +2,11 @@
 -- clauses.
 use Rattle.std.proofs.Common.{ℕ, ◌+◌, List, [], ◌∷◌, ◌++◌, length, map, FitsSigned}
 use Rattle.std.specs.Int.{w64}
-use Rattle.fip_language.specs.Core as C
-use Rattle.fip_language.specs.CoreForm as G
-use Rattle.fip_language.specs.CoreForm.{Scope, Binding, Whole, Part, block_of, bindings_in, last_in, arguments_of, made_let, bound, part_from, as_part, variable_from, as_scrutinee, last_from, as_last, as_block, in_brackets, core_form, with_binders, binders, parameters}
-use Rattle.fip_language.specs.Every.{Every}
-use Rattle.fip_language.specs.Surface as S
+use Rattle.in_place_safety.specs.fip_language.Core as C
+use Rattle.in_place_safety.specs.fip_language.CoreForm as G
+use Rattle.in_place_safety.specs.fip_language.CoreForm.{Scope, Binding, Whole, Part, block_of, bindings_in, last_in, arguments_of, made_let, bound, part_from, as_part, variable_from, as_scrutinee, last_from, as_last, as_block, in_brackets, core_form, with_binders, binders, parameters}
+use Rattle.in_place_safety.specs.fip_language.Every.{Every}
+use Rattle.in_place_safety.specs.fip_language.Surface as S
 use Rattle.source_safety.proofs.SpeltArguments as Q
 
 abbrev mutual

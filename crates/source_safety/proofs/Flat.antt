@@ -2,32 +2,32 @@
 -- data types, its instances have as many binders as parameters, and its first type is bool.
 use Rattle.std.proofs.Common.{◌≡◌, ◌<◌, inl, inr, ℕ, zero, suc, Bool, true, false, List, [], ◌∷◌, ◌++◌, length, map, Option, Some, None, slice_get, if◌then◌else◌, refl, sym, ap, ◌∙◌, subst, arith}
 use Rattle.std.specs.List.{list_any}
-use Rattle.fip_language.specs.Core as C
-use Rattle.fip_language.specs.Core.{Name, Core, Data, Function}
-use Rattle.fip_language.specs.Declarations.{bool_type, data_types}
-use Rattle.fip_language.specs.Every.{Every, Among}
-use Rattle.fip_language.specs.Mentions.{all_of}
-use Rattle.fip_language.specs.Table.{Shape, shapes}
-use Rattle.fip_trees.specs.Names.{meaning}
-use Rattle.fip_trees.specs.Tree as T
-use Rattle.fip_trees.specs.declared.decls.ConstructorId.{ConstructorId}
-use Rattle.data_types.specs.Declarations.{data_scope, declared_names, written_names}
-use Rattle.reached_instances.specs.declared.closed.Head.TheVariants as H
-use Rattle.reached_instances.specs.Closed as Z
-use Rattle.reached_instances.specs.Closed.{Closed, Closeds, Applied, NoClosed, same_closed}
-use Rattle.reached_instances.specs.Source.{Instance}
-use Rattle.reached_instances.specs.Numbering.{with_new, with_all}
-use Rattle.reached_instances.specs.TypeInstances.{AreTypes, type_roots, parts_of}
-use Rattle.static_params.specs.FlatProgram.{Numbers, declared_or_bool, constructor_of, flat_binder, flat_parameter, flat_argument, flat_arguments, flat_expression, flat_block, flat_clauses, flat_instance, instance_if, instances_of, flat_constructor, declaring_of, number_if, flat_program}
-use Rattle.static_params.specs.Answers.{AreFew}
-use Rattle.static_params.specs.FlatSource.{flat_source, constructor, declared}
-use Rattle.source_report.specs.WellFormed.{IsWellFormed}
-use Rattle.static_params.proofs.GoodTypes.{all_of_have, below}
-use Rattle.static_params.proofs.TableRows.{row_there}
-use Rattle.static_params.proofs.Meanings.{IsConstructor, constructor_there}
-use Rattle.static_params.proofs.TypeRows.{one_at, row_of, has_declaring}
-use Rattle.static_params.proofs.TypeValues.{good, applied}
-use Rattle.type_safety.specs.Formed.{IsBare}
+use Rattle.in_place_safety.specs.fip_language.Core as C
+use Rattle.in_place_safety.specs.fip_language.Core.{Name, Core, Data, Function}
+use Rattle.in_place_safety.specs.fip_language.Declarations.{bool_type, data_types}
+use Rattle.in_place_safety.specs.fip_language.Every.{Every, Among}
+use Rattle.in_place_safety.specs.fip_language.Mentions.{all_of}
+use Rattle.in_place_safety.specs.fip_language.Table.{Shape, shapes}
+use Rattle.in_place_safety.specs.fip_trees.Names.{meaning}
+use Rattle.in_place_safety.specs.fip_trees.Tree as T
+use Rattle.in_place_safety.specs.fip_trees.declared.decls.ConstructorId.{ConstructorId}
+use Rattle.specialisation_correctness.specs.data_types.Declarations.{data_scope, declared_names, written_names}
+use Rattle.specialisation_correctness.specs.reached_instances.declared.closed.Head.TheVariants as H
+use Rattle.specialisation_correctness.specs.reached_instances.Closed as Z
+use Rattle.specialisation_correctness.specs.reached_instances.Closed.{Closed, Closeds, Applied, NoClosed, same_closed}
+use Rattle.specialisation_correctness.specs.reached_instances.Source.{Instance}
+use Rattle.specialisation_correctness.specs.reached_instances.Numbering.{with_new, with_all}
+use Rattle.specialisation_correctness.specs.reached_instances.TypeInstances.{AreTypes, type_roots, parts_of}
+use Rattle.specialisation_correctness.specs.static_params.FlatProgram.{Numbers, declared_or_bool, constructor_of, flat_binder, flat_parameter, flat_argument, flat_arguments, flat_expression, flat_block, flat_clauses, flat_instance, instance_if, instances_of, flat_constructor, declaring_of, number_if, flat_program}
+use Rattle.specialisation_correctness.specs.static_params.Answers.{AreFew}
+use Rattle.specialisation_correctness.specs.static_params.FlatSource.{flat_source, constructor, declared}
+use Rattle.specialisation_correctness.specs.source_report.WellFormed.{IsWellFormed}
+use Rattle.specialisation_correctness.proofs.static_params.GoodTypes.{all_of_have, below}
+use Rattle.specialisation_correctness.proofs.static_params.TableRows.{row_there}
+use Rattle.specialisation_correctness.proofs.static_params.Meanings.{IsConstructor, constructor_there}
+use Rattle.specialisation_correctness.proofs.static_params.TypeRows.{one_at, row_of, has_declaring}
+use Rattle.specialisation_correctness.proofs.static_params.TypeValues.{good, applied}
+use Rattle.in_place_safety.specs.type_safety.Formed.{IsBare}
 use Rattle.source_safety.proofs.Arguments.{IsRowOf, Sound, AllSound, SoundExpression, SoundBlock, SoundClauses, SoundInstance}
 use Rattle.source_safety.proofs.CoreArguments.{FitsArgument, FitArguments, Fits, FitsBlock, FitClauses, CoreFits}
 
@@ -146,7 +146,7 @@ module _ (core : Core) (ns : Numbers) (few : AreFew (flat_source core) ns) (form
   first_type : slice_get ns.types 0 ≡ Some (Applied (H.«Type» 1) NoClosed)
   first_type =
       ap (λ l. slice_get l 0) few.types.ordered ∙
-      all_keep (Applied (H.«Type» 1) NoClosed ∷ []) ((all_of (Rattle.reached_instances.specs.TypeInstances.types_of_instance (flat_source core)) ns.instances ++ all_of Rattle.reached_instances.specs.TypeInstances.types_given few.passed) ++ all_of (parts_of (flat_source core)) ns.types) (Applied (H.«Type» 1) NoClosed) refl
+      all_keep (Applied (H.«Type» 1) NoClosed ∷ []) ((all_of (Rattle.specialisation_correctness.specs.reached_instances.TypeInstances.types_of_instance (flat_source core)) ns.instances ++ all_of Rattle.specialisation_correctness.specs.reached_instances.TypeInstances.types_given few.passed) ++ all_of (parts_of (flat_source core)) ns.types) (Applied (H.«Type» 1) NoClosed) refl
 
   abbrev Bare : List Shape → ℕ → Type 0
   Bare ss c = (s : Shape) × (slice_get ss c ≡ Some s) × (s.fields ≡ [])

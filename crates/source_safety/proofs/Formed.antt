@@ -1,17 +1,17 @@
 -- The typed program of a source is formed.
 use Rattle.std.proofs.Common.{ℕ, List, sym, subst}
-use Rattle.fip_language.specs.Core.{Core}
-use Rattle.fip_language.specs.Every.{Among}
-use Rattle.fip_trees.specs.Tree.{Instance, Program}
-use Rattle.static_params.specs.FlatProgram.{flat_program}
-use Rattle.type_check.specs.Faults.{filled}
-use Rattle.type_check.specs.Typing.{IsFilled}
-use Rattle.type_safety.specs.Formed.{IsBare, IsFormed}
-use Rattle.static_params.specs.FlatSource.{flat_source}
-use Rattle.source_report.specs.Report.{IsParsed, IsFlat, IsTyped}
-use Rattle.source_report.specs.WellFormed.{IsWellFormed}
-use Rattle.source_report.proofs.Ready.{flat_formed, typed_formed}
-use Rattle.source_report.proofs.Sizing.{typed_filled}
+use Rattle.in_place_safety.specs.fip_language.Core.{Core}
+use Rattle.in_place_safety.specs.fip_language.Every.{Among}
+use Rattle.in_place_safety.specs.fip_trees.Tree.{Instance, Program}
+use Rattle.specialisation_correctness.specs.static_params.FlatProgram.{flat_program}
+use Rattle.in_place_safety.specs.type_check.Faults.{filled}
+use Rattle.in_place_safety.specs.type_check.Typing.{IsFilled}
+use Rattle.in_place_safety.specs.type_safety.Formed.{IsBare, IsFormed}
+use Rattle.specialisation_correctness.specs.static_params.FlatSource.{flat_source}
+use Rattle.specialisation_correctness.specs.source_report.Report.{IsParsed, IsFlat, IsTyped}
+use Rattle.specialisation_correctness.specs.source_report.WellFormed.{IsWellFormed}
+use Rattle.specialisation_correctness.proofs.source_report.Ready.{flat_formed, typed_formed}
+use Rattle.specialisation_correctness.proofs.source_report.Sizing.{typed_filled}
 use Rattle.source_safety.proofs.Arguments.{SoundInstance, stays_sound, instances_formed}
 use Rattle.source_safety.proofs.CoreArguments.{CoreFits, core_fits}
 use Rattle.source_safety.proofs.Flat.{all_sound, false_bare, true_bare}

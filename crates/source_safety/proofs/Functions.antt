@@ -1,36 +1,36 @@
 -- A function of an accepted source is an instance of its typed program, which means what the function means; and that
 -- program's fip instances run in place.
 use Rattle.std.proofs.Common.{◌≡◌, inl, inr, ℕ, zero, suc, ◌+◌, List, [], ◌∷◌, ◌++◌, Some, slice_get, refl, sym, ap, ◌∙◌, subst, arith}
-use Rattle.fip_language.specs.declared.FunKind.TheVariants.{Fip}
-use Rattle.fip_language.specs.Core as C
-use Rattle.fip_language.specs.Core.{Static, Function, Core}
-use Rattle.fip_language.specs.Every.{Every, Among}
-use Rattle.fip_language.specs.Mentions.{all_of}
-use Rattle.fip_language.proofs.Words.{map_at}
-use Rattle.fip_language.specs.Meaning.{meaning}
-use Rattle.fip_language.specs.Statics.{Closeds, NoClosed}
-use Rattle.fip_language.specs.Values.{Values}
-use Rattle.fip_language.proofs.Search.{slice_get_there}
-use Rattle.fip_trees.specs.declared.groups.Member.{Member}
-use Rattle.fip_trees.specs.Tree.{Instance, Program}
-use Rattle.reached_instances.specs.declared.closed.Head.TheVariants as H
-use Rattle.reached_instances.specs.Closed as Z
-use Rattle.reached_instances.specs.Closed.{Closed, Applied}
-use Rattle.reached_instances.specs.Source.{Instance as Instance'}
-use Rattle.reached_instances.specs.Instances.{root_if, roots_from, roots, calls_from}
-use Rattle.static_params.specs.FlatProgram.{Numbers, flat_instance, instance_if, instances_of, flat_program}
-use Rattle.type_check.specs.Faults.{filled, fill_instance}
-use Rattle.type_check.specs.World.{world}
-use Rattle.instance_semantics.specs.Meaning.{flat_meaning}
-use Rattle.tail_groups.specs.Members.{AreMembers}
-use Rattle.type_safety.proofs.FilledSlots.{filled_means}
+use Rattle.in_place_safety.specs.fip_language.declared.FunKind.TheVariants.{Fip}
+use Rattle.in_place_safety.specs.fip_language.Core as C
+use Rattle.in_place_safety.specs.fip_language.Core.{Static, Function, Core}
+use Rattle.in_place_safety.specs.fip_language.Every.{Every, Among}
+use Rattle.in_place_safety.specs.fip_language.Mentions.{all_of}
+use Rattle.in_place_safety.proofs.fip_language.Words.{map_at}
+use Rattle.in_place_safety.specs.fip_language.Meaning.{meaning}
+use Rattle.in_place_safety.specs.fip_language.Statics.{Closeds, NoClosed}
+use Rattle.in_place_safety.specs.fip_language.Values.{Values}
+use Rattle.in_place_safety.proofs.fip_language.Search.{slice_get_there}
+use Rattle.in_place_safety.specs.fip_trees.declared.groups.Member.{Member}
+use Rattle.in_place_safety.specs.fip_trees.Tree.{Instance, Program}
+use Rattle.specialisation_correctness.specs.reached_instances.declared.closed.Head.TheVariants as H
+use Rattle.specialisation_correctness.specs.reached_instances.Closed as Z
+use Rattle.specialisation_correctness.specs.reached_instances.Closed.{Closed, Applied}
+use Rattle.specialisation_correctness.specs.reached_instances.Source.{Instance as Instance'}
+use Rattle.specialisation_correctness.specs.reached_instances.Instances.{root_if, roots_from, roots, calls_from}
+use Rattle.specialisation_correctness.specs.static_params.FlatProgram.{Numbers, flat_instance, instance_if, instances_of, flat_program}
+use Rattle.in_place_safety.specs.type_check.Faults.{filled, fill_instance}
+use Rattle.in_place_safety.specs.type_check.World.{world}
+use Rattle.in_place_safety.specs.instance_semantics.Meaning.{flat_meaning}
+use Rattle.in_place_safety.specs.tail_groups.Members.{AreMembers}
+use Rattle.in_place_safety.proofs.type_safety.FilledSlots.{filled_means}
 use Rattle.in_place_safety.specs.InPlace.{RunsInPlace}
-use Rattle.static_params.specs.FlatSource.{flat_source}
-use Rattle.source_report.specs.Report.{IsParsed, IsFlat, IsAccepted}
-use Rattle.source_report.proofs.Once.{parsed_once}
-use Rattle.static_params.proofs.GoodTypes.{get_map, IsGoodFunction}
-use Rattle.static_params.proofs.GoodInstances.{instances_good}
-use Rattle.static_params.proofs.TypeRows.{among_left, among_right, root_numbered, number_there, one_at}
+use Rattle.specialisation_correctness.specs.static_params.FlatSource.{flat_source}
+use Rattle.specialisation_correctness.specs.source_report.Report.{IsParsed, IsFlat, IsAccepted}
+use Rattle.specialisation_correctness.proofs.source_report.Once.{parsed_once}
+use Rattle.specialisation_correctness.proofs.static_params.GoodTypes.{get_map, IsGoodFunction}
+use Rattle.specialisation_correctness.proofs.static_params.GoodInstances.{instances_good}
+use Rattle.specialisation_correctness.proofs.static_params.TypeRows.{among_left, among_right, root_numbered, number_there, one_at}
 use Rattle.source_safety.proofs.Accepted.{accepted_in_place, accepted_stack}
 use Rattle.source_safety.proofs.CoreArguments as Q
 use Rattle.source_safety.proofs.Formed.{parsed_fits}

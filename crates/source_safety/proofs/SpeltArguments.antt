@@ -4,22 +4,22 @@
 -- In `f(-9223372036854775808) - 1` the first minus is the literal's own, and the second is the operator's.
 use Rattle.std.proofs.Common.{◌≡◌, ◌≤◌, ◌<◌, ◌-◌, ◌^◌, inl, inr, ℕ, zero, suc, Bool, true, false, not, ◌&&◌, List, [], ◌∷◌, ◌++◌, length, take, Option, Some, None, slice_get, ℤ, pos, neg_ℤ, FitsSigned, refl, sym, ap, ◌∙◌, subst, arith, append_assoc}
 use Rattle.std.specs.Int.{w64}
-use Rattle.fip_language.specs.declared.Place.{Place}
-use Rattle.fip_language.specs.declared.FunKind.{FunKind}
-use Rattle.fip_language.specs.declared.FunKind.TheVariants as K
-use Rattle.fip_language.specs.declared.CreditMark.{CreditMark}
-use Rattle.fip_language.specs.declared.Operator.TheVariants as O
-use Rattle.fip_language.specs.declared.rule.Rule.{Rule}
-use Rattle.fip_language.specs.declared.rule.Rule.TheVariants as R
-use Rattle.fip_language.specs.Every.{Every}
-use Rattle.fip_language.specs.Core as C
-use Rattle.fip_language.specs.Core.{Name, Written, WrittenInt, WrittenName, Writtens, NoWritten, MoreWritten, Static, TypeParameter, FunctionParameter, SignatureParameter, Result, OneResult, TupleResult, TypeName, DataConstructor}
-use Rattle.fip_language.specs.Surface as T
-use Rattle.fip_grammar.specs.declared.Sign.{Sign}
-use Rattle.fip_grammar.specs.declared.Sign.TheVariants as S
-use Rattle.fip_grammar.specs.Token.{Word, Lower, Upper, Number, Operate, Mark, Token, token, value_of}
-use Rattle.fip_grammar.specs.Grammar.{Sees, MaySee, Type', TypeArguments, FurtherTypes, FurtherTypeList, IsLiteral, Pattern', PatternFields, FurtherPatterns, BindName, Annotation, Bind', FurtherBinds, Binder', match_sign, left_tightness, tightness, Spelled, Arguments, Fields, Further, Block', Clauses', FurtherClauses, Result', Lent, SignatureParameter', FurtherSignatureParameters, SignatureParameters, Signature', Static', FurtherStatics, Statics, Parameter', FurtherParameters, Parameters, Credits, Kind', FunctionParts, Function', FurtherTypeNames, TypeNames, FieldTypes, DataConstructor', FurtherConstructors, DataConstructors, Data', Declaration', Spells}
-use Rattle.fip_grammar.specs.Limits.{ends_operand, is_minus, Seen, nothing_seen, behind, seen_from, seen, limit, Breaks, IsSpelt}
+use Rattle.in_place_safety.specs.fip_language.declared.Place.{Place}
+use Rattle.in_place_safety.specs.fip_language.declared.FunKind.{FunKind}
+use Rattle.in_place_safety.specs.fip_language.declared.FunKind.TheVariants as K
+use Rattle.in_place_safety.specs.fip_language.declared.CreditMark.{CreditMark}
+use Rattle.in_place_safety.specs.fip_language.declared.Operator.TheVariants as O
+use Rattle.in_place_safety.specs.fip_language.declared.rule.Rule.{Rule}
+use Rattle.in_place_safety.specs.fip_language.declared.rule.Rule.TheVariants as R
+use Rattle.in_place_safety.specs.fip_language.Every.{Every}
+use Rattle.in_place_safety.specs.fip_language.Core as C
+use Rattle.in_place_safety.specs.fip_language.Core.{Name, Written, WrittenInt, WrittenName, Writtens, NoWritten, MoreWritten, Static, TypeParameter, FunctionParameter, SignatureParameter, Result, OneResult, TupleResult, TypeName, DataConstructor}
+use Rattle.in_place_safety.specs.fip_language.Surface as T
+use Rattle.specialisation_correctness.specs.fip_grammar.declared.Sign.{Sign}
+use Rattle.specialisation_correctness.specs.fip_grammar.declared.Sign.TheVariants as S
+use Rattle.specialisation_correctness.specs.fip_grammar.Token.{Word, Lower, Upper, Number, Operate, Mark, Token, token, value_of}
+use Rattle.specialisation_correctness.specs.fip_grammar.Grammar.{Sees, MaySee, Type', TypeArguments, FurtherTypes, FurtherTypeList, IsLiteral, Pattern', PatternFields, FurtherPatterns, BindName, Annotation, Bind', FurtherBinds, Binder', match_sign, left_tightness, tightness, Spelled, Arguments, Fields, Further, Block', Clauses', FurtherClauses, Result', Lent, SignatureParameter', FurtherSignatureParameters, SignatureParameters, Signature', Static', FurtherStatics, Statics, Parameter', FurtherParameters, Parameters, Credits, Kind', FunctionParts, Function', FurtherTypeNames, TypeNames, FieldTypes, DataConstructor', FurtherConstructors, DataConstructors, Data', Declaration', Spells}
+use Rattle.specialisation_correctness.specs.fip_grammar.Limits.{ends_operand, is_minus, Seen, nothing_seen, behind, seen_from, seen, limit, Breaks, IsSpelt}
 
 -- ---- what fits
 

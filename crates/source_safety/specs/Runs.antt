@@ -4,15 +4,15 @@
 -- For example `fip fun rev(xs: list): list { .. }`, which calls only itself in tail position: with one free frame it
 -- turns the cells of its list into those of its result.
 use Rattle.std.specs.Prelude.{◌≡◌, ◌≤◌, ℕ, List, Some, slice_get}
-use Rattle.fip_base.specs.declared.plain.Stack.{Stack}
-use Rattle.fip_language.specs.Core.{Function, Core}
-use Rattle.fip_language.specs.Meaning.{meaning}
-use Rattle.fip_language.specs.Statics.{Closeds, NoClosed}
-use Rattle.fip_language.specs.Table.{HaveTypes}
-use Rattle.fip_language.specs.Values.{Values}
-use Rattle.fip_trees.specs.declared.groups.Member.{Member}
-use Rattle.fip_trees.specs.Tree.{Instance, Program}
-use Rattle.type_safety.specs.Soundness.{parameter_types}
+use Rattle.in_place_safety.specs.fip_base.declared.plain.Stack.{Stack}
+use Rattle.in_place_safety.specs.fip_language.Core.{Function, Core}
+use Rattle.in_place_safety.specs.fip_language.Meaning.{meaning}
+use Rattle.in_place_safety.specs.fip_language.Statics.{Closeds, NoClosed}
+use Rattle.in_place_safety.specs.fip_language.Table.{HaveTypes}
+use Rattle.in_place_safety.specs.fip_language.Values.{Values}
+use Rattle.in_place_safety.specs.fip_trees.declared.groups.Member.{Member}
+use Rattle.in_place_safety.specs.fip_trees.Tree.{Instance, Program}
+use Rattle.in_place_safety.specs.type_safety.Soundness.{parameter_types}
 use Rattle.in_place_safety.specs.InPlace.{RunsInPlace}
 
 pub record RunsAsMeant (core : Core) (p : Program) (ms : List Member) (f : Function) : Type 0 where

@@ -1,17 +1,17 @@
 // The laws of sources that are accepted. Each is the contract of a function that does nothing.
 ghost use Rattle.std.specs.Prelude.{◌≡◌, ◌≤◌, ℕ, List, Some, slice_get};
-ghost use Rattle.fip_base.specs.declared.plain.Stack.{Stack};
-ghost use Rattle.fip_language.specs.declared.FunKind.TheVariants.{Fip};
-ghost use Rattle.fip_language.specs.Table.{HaveTypes};
-ghost use Rattle.fip_language.specs.Values.{Values};
-ghost use Rattle.fip_trees.specs.declared.groups.Member.{Member};
-ghost use Rattle.fip_trees.specs.Tree.{Instance, Program};
-ghost use Rattle.instance_semantics.specs.Meaning.{flat_meaning};
-ghost use Rattle.tail_groups.specs.Members.{AreMembers};
-ghost use Rattle.type_safety.specs.Formed.{IsFormed};
-ghost use Rattle.type_safety.specs.Soundness.{IsSoundAnswer, parameter_types, IsWellTyped};
+ghost use Rattle.in_place_safety.specs.fip_base.declared.plain.Stack.{Stack};
+ghost use Rattle.in_place_safety.specs.fip_language.declared.FunKind.TheVariants.{Fip};
+ghost use Rattle.in_place_safety.specs.fip_language.Table.{HaveTypes};
+ghost use Rattle.in_place_safety.specs.fip_language.Values.{Values};
+ghost use Rattle.in_place_safety.specs.fip_trees.declared.groups.Member.{Member};
+ghost use Rattle.in_place_safety.specs.fip_trees.Tree.{Instance, Program};
+ghost use Rattle.in_place_safety.specs.instance_semantics.Meaning.{flat_meaning};
+ghost use Rattle.in_place_safety.specs.tail_groups.Members.{AreMembers};
+ghost use Rattle.in_place_safety.specs.type_safety.Formed.{IsFormed};
+ghost use Rattle.in_place_safety.specs.type_safety.Soundness.{IsSoundAnswer, parameter_types, IsWellTyped};
 ghost use Rattle.in_place_safety.specs.InPlace.{RunsInPlace, IsChecked};
-ghost use Rattle.source_report.specs.Report.{IsTyped, IsMatched, IsCredited, IsAccepted};
+ghost use Rattle.specialisation_correctness.specs.source_report.Report.{IsTyped, IsMatched, IsCredited, IsAccepted};
 
 /// The numbers of a typed program mean something: its literals have 64 bits, each constructor is one of its type's, and
 /// each call is of an instance. For who evaluates it.

@@ -1,11 +1,11 @@
 // The laws on the functions of an accepted source. Each is the contract of a function that does nothing.
 ghost use Rattle.std.specs.Prelude.{◌≡◌, ℕ, List, [], Some, slice_get};
-ghost use Rattle.fip_language.specs.declared.FunKind.TheVariants.{Fip};
-ghost use Rattle.fip_language.specs.Core.{Function, Core};
-ghost use Rattle.fip_trees.specs.declared.groups.Member.{Member};
-ghost use Rattle.fip_trees.specs.Tree.{Instance, Program};
-ghost use Rattle.tail_groups.specs.Members.{AreMembers};
-ghost use Rattle.source_report.specs.Report.{IsParsed, IsAccepted};
+ghost use Rattle.in_place_safety.specs.fip_language.declared.FunKind.TheVariants.{Fip};
+ghost use Rattle.in_place_safety.specs.fip_language.Core.{Function, Core};
+ghost use Rattle.in_place_safety.specs.fip_trees.declared.groups.Member.{Member};
+ghost use Rattle.in_place_safety.specs.fip_trees.Tree.{Instance, Program};
+ghost use Rattle.in_place_safety.specs.tail_groups.Members.{AreMembers};
+ghost use Rattle.specialisation_correctness.specs.source_report.Report.{IsParsed, IsAccepted};
 ghost use Rattle.source_safety.specs.Runs.{InstanceRunsAsMeant, RunsAsMeant};
 
 /// Each fip function without static parameters of an accepted source runs in place, by what the source means: called

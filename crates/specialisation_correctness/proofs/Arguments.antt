@@ -1,26 +1,26 @@
 -- Arguments, patterns and bodies: what specialising makes of them is of the instance by name, where each name of a
 -- constructor is declared and each call is of an instance.
 use Rattle.std.proofs.Common.{◌≡◌, inl, inr, Bool, false, List, [], ◌∷◌, ◌++◌, map, Option, Some, None, is_none, slice_get, refl, sym, ap, ◌∙◌}
-use Rattle.fip_language.specs.declared.Place.{Place}
-use Rattle.fip_language.specs.declared.rule.Rule.TheVariants.{E15}
-use Rattle.fip_language.specs.Core as C
-use Rattle.fip_language.specs.Core.{Name, Core}
-use Rattle.fip_language.specs.Declarations as ByName
-use Rattle.fip_language.specs.Declarations.{data_types}
-use Rattle.fip_language.specs.Every.{Among}
-use Rattle.fip_language.specs.Stack.{CallSite, sites_in_expression, sites_in_block, sites_in_clauses}
-use Rattle.fip_language.specs.Statics as ByClosed
-use Rattle.fip_language.specs.Statics.{callee}
-use Rattle.fip_trees.specs.Names.{meaning}
-use Rattle.fip_trees.specs.Tree as T
-use Rattle.fip_trees.specs.declared.decls.ConstructorId.{ConstructorId}
-use Rattle.fip_trees.specs.declared.least.Violation.{Violation}
-use Rattle.data_types.specs.Declarations.{Scope, written_names}
-use Rattle.data_types.specs.Faults.{broken, when, constructor_faults, argument_faults, arguments_faults, pattern_faults, patterns_faults, binders_faults, expression_faults, block_faults, clauses_faults}
-use Rattle.data_types.proofs.Exact.{none_left, none_right}
-use Rattle.reached_instances.specs.Source.{Declared, Source, Instance}
-use Rattle.static_params.specs.FlatProgram.{Numbers, flat_call, declared_or_bool, constructor_of, flat_binder, flat_argument, flat_arguments, flat_pattern, flat_patterns, match_of, flat_expression, flat_block, flat_clauses}
-use Rattle.instance_semantics.specs.Specialised.{IsNumber, IsArgument, AreArguments, SameNumbers, SameParameters, IsPattern, ArePatterns, IsExpression, IsBlock, AreClauses}
+use Rattle.source_report.specs.fip_language.declared.Place.{Place}
+use Rattle.source_report.specs.fip_language.declared.rule.Rule.TheVariants.{E15}
+use Rattle.source_report.specs.fip_language.Core as C
+use Rattle.source_report.specs.fip_language.Core.{Name, Core}
+use Rattle.source_report.specs.fip_language.Declarations as ByName
+use Rattle.source_report.specs.fip_language.Declarations.{data_types}
+use Rattle.source_report.specs.fip_language.Every.{Among}
+use Rattle.source_report.specs.fip_language.Stack.{CallSite, sites_in_expression, sites_in_block, sites_in_clauses}
+use Rattle.source_report.specs.fip_language.Statics as ByClosed
+use Rattle.source_report.specs.fip_language.Statics.{callee}
+use Rattle.source_report.specs.fip_trees.Names.{meaning}
+use Rattle.source_report.specs.fip_trees.Tree as T
+use Rattle.source_report.specs.fip_trees.declared.decls.ConstructorId.{ConstructorId}
+use Rattle.source_report.specs.fip_trees.declared.least.Violation.{Violation}
+use Rattle.source_report.specs.data_types.Declarations.{Scope, written_names}
+use Rattle.source_report.specs.data_types.Faults.{broken, when, constructor_faults, argument_faults, arguments_faults, pattern_faults, patterns_faults, binders_faults, expression_faults, block_faults, clauses_faults}
+use Rattle.source_report.proofs.data_types.Exact.{none_left, none_right}
+use Rattle.source_report.specs.reached_instances.Source.{Declared, Source, Instance}
+use Rattle.source_report.specs.static_params.FlatProgram.{Numbers, flat_call, declared_or_bool, constructor_of, flat_binder, flat_argument, flat_arguments, flat_pattern, flat_patterns, match_of, flat_expression, flat_block, flat_clauses}
+use Rattle.source_report.specs.instance_semantics.Specialised.{IsNumber, IsArgument, AreArguments, SameNumbers, SameParameters, IsPattern, ArePatterns, IsExpression, IsBlock, AreClauses}
 use Rattle.specialisation_correctness.specs.Declared.{HasClauses, BlockHasClauses, ClausesHaveClauses}
 use Rattle.specialisation_correctness.proofs.Lookups.{SameConstructor, constructor_meant}
 use Rattle.specialisation_correctness.proofs.Places.{source_with}

@@ -1,10 +1,10 @@
 -- Each match of a core form has a clause, as each match of its source has; an `if` has two.
 use Rattle.std.proofs.Common.{ℕ, ◌+◌, List, [], ◌∷◌, ◌++◌, length, map}
-use Rattle.fip_language.specs.Core as C
-use Rattle.fip_language.specs.CoreForm as G
-use Rattle.fip_language.specs.CoreForm.{Scope, Binding, Whole, Part, Parts, Blocked, Cases, block_of, bindings_in, last_in, made_let, bound, part_from, as_part, variable_from, as_scrutinee, last_from, as_last, as_block, in_brackets, patterns_of, if_match, core_form, with_binders, binders, parameters}
-use Rattle.fip_language.specs.Every.{Every}
-use Rattle.fip_language.specs.Surface as S
+use Rattle.source_report.specs.fip_language.Core as C
+use Rattle.source_report.specs.fip_language.CoreForm as G
+use Rattle.source_report.specs.fip_language.CoreForm.{Scope, Binding, Whole, Part, Parts, Blocked, Cases, block_of, bindings_in, last_in, made_let, bound, part_from, as_part, variable_from, as_scrutinee, last_from, as_last, as_block, in_brackets, patterns_of, if_match, core_form, with_binders, binders, parameters}
+use Rattle.source_report.specs.fip_language.Every.{Every}
+use Rattle.source_report.specs.fip_language.Surface as S
 use Rattle.specialisation_correctness.specs.Declared.{AreSome, HasClauses, BlockHasClauses, ClausesHaveClauses, BodyHasClauses}
 use Rattle.specialisation_correctness.proofs.SpeltClauses as Q
 

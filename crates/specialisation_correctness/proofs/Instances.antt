@@ -4,22 +4,22 @@ use Rattle.std.proofs.Common.{◌≡◌, ◌⊎◌, inl, inr, ℕ, zero, suc, �
 use Rattle.std.specs.List.{position_or_len}
 use Rattle.std.proofs.lemmas.Bool.Decides.{nat_tests}
 use Rattle.std.proofs.lemmas.List.{reverse-append}
-use Rattle.fip_language.specs.Core.{Name, Written, WrittenInt, WrittenName, Writtens, NoWritten, MoreWritten, Static, TypeParameter, FunctionParameter, Function, Core}
-use Rattle.fip_language.specs.Every.{Among}
-use Rattle.fip_language.specs.Mentions.{all_of}
-use Rattle.fip_language.specs.Stack.{CallSite, sites_in_block}
-use Rattle.fip_language.specs.Statics.{callee}
-use Rattle.fip_trees.specs.Names.{meaning}
-use Rattle.data_types.specs.Declarations.{written_names}
-use Rattle.reached_instances.specs.declared.closed.Head.TheVariants as H
-use Rattle.reached_instances.specs.Closed.{Closed, Closeds, Int, Applied, NoClosed, MoreClosed, same_closed, closed_at}
-use Rattle.reached_instances.specs.Source.{Declared, Source, Instance, statics_at, static_places, if_function, function_at, given_function}
-use Rattle.reached_instances.specs.Uses.{types_given, fit_if_known, all_given, applied_function, declared_use, named_use, statics_meant, closed_function, closed_arguments, count, use_faults}
-use Rattle.reached_instances.specs.Instances.{roots, roots_from, root_if, use_at, place_of, put_in_order, order_on, calls, if_there, calls_in, calls_from, faults_in, faults_of, all_faults, AreInstances}
-use Rattle.reached_instances.specs.Numbering.{numbered_of}
-use Rattle.static_params.specs.FlatProgram.{Numbers, number_in, or_zero, flat_call}
-use Rattle.reached_instances.proofs.ClosedTrees.{closed_exact}
-use Rattle.reached_instances.proofs.Numbered.{numbered_next, reached_in}
+use Rattle.source_report.specs.fip_language.Core.{Name, Written, WrittenInt, WrittenName, Writtens, NoWritten, MoreWritten, Static, TypeParameter, FunctionParameter, Function, Core}
+use Rattle.source_report.specs.fip_language.Every.{Among}
+use Rattle.source_report.specs.fip_language.Mentions.{all_of}
+use Rattle.source_report.specs.fip_language.Stack.{CallSite, sites_in_block}
+use Rattle.source_report.specs.fip_language.Statics.{callee}
+use Rattle.source_report.specs.fip_trees.Names.{meaning}
+use Rattle.source_report.specs.data_types.Declarations.{written_names}
+use Rattle.source_report.specs.reached_instances.declared.closed.Head.TheVariants as H
+use Rattle.source_report.specs.reached_instances.Closed.{Closed, Closeds, Int, Applied, NoClosed, MoreClosed, same_closed, closed_at}
+use Rattle.source_report.specs.reached_instances.Source.{Declared, Source, Instance, statics_at, static_places, if_function, function_at, given_function}
+use Rattle.source_report.specs.reached_instances.Uses.{types_given, fit_if_known, all_given, applied_function, declared_use, named_use, statics_meant, closed_function, closed_arguments, count, use_faults}
+use Rattle.source_report.specs.reached_instances.Instances.{roots, roots_from, root_if, use_at, place_of, put_in_order, order_on, calls, if_there, calls_in, calls_from, faults_in, faults_of, all_faults, AreInstances}
+use Rattle.source_report.specs.reached_instances.Numbering.{numbered_of}
+use Rattle.source_report.specs.static_params.FlatProgram.{Numbers, number_in, or_zero, flat_call}
+use Rattle.source_report.proofs.reached_instances.ClosedTrees.{closed_exact}
+use Rattle.source_report.proofs.reached_instances.Numbered.{numbered_next, reached_in}
 use Rattle.specialisation_correctness.specs.Named.{named}
 use Rattle.specialisation_correctness.proofs.Lookups.{function_meant}
 use Rattle.specialisation_correctness.proofs.Places.{source_with, There, both_some, IsHere, by_name, closed_function_named, closed_function_there}

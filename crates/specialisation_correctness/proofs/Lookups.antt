@@ -3,23 +3,23 @@
 use Rattle.std.proofs.Common.{◌≡◌, inl, inr, ℕ, zero, suc, ◌+◌, ◌||◌, Bool, true, false, List, [], ◌∷◌, ◌++◌, length, Option, Some, None, option_map, slice_get, if◌then◌else◌, refl, sym, ap, ◌∙◌, subst, arith}
 use Rattle.std.proofs.lemmas.List.Folds.{list_any-append}
 use Rattle.std.proofs.lemmas.Slice.Eq.{bytes_eq-Decides}
-use Rattle.fip_language.specs.declared.rule.Rule.TheVariants.{E10}
-use Rattle.fip_language.specs.Core.{Name, Data, DataConstructor, Function, Core, Static, TypeParameter, FunctionParameter}
-use Rattle.fip_language.specs.Declarations.{same_name, function_in, constructor_among, constructor_in, or_else}
-use Rattle.fip_language.specs.Declarations as ByName
-use Rattle.fip_language.specs.Every.{Among}
-use Rattle.fip_language.specs.Mentions.{Mention, mention}
-use Rattle.fip_language.specs.Statics as ByClosed
-use Rattle.fip_language.specs.Statics.{type_among, function_among}
-use Rattle.fip_trees.specs.Names.{meaning, is_among, names}
-use Rattle.fip_trees.specs.declared.decls.TypeHead.{TypeHead}
-use Rattle.fip_trees.specs.declared.decls.ConstructorId.{ConstructorId}
-use Rattle.fip_trees.specs.declared.least.Violation.{Violation}
-use Rattle.data_types.specs.Declarations.{type_meanings, row_meanings, constructor_meanings, function_meanings}
-use Rattle.data_types.specs.Faults.{repeats, broken, function_mentions, static_mentions}
-use Rattle.data_types.proofs.Repeats.{all_new, mention_names}
-use Rattle.reached_instances.specs.Closed.{Closed, Closeds, NoClosed, MoreClosed}
-use Rattle.reached_instances.specs.Source.{static_name, static_meanings, static_places, if_type, if_function, type_at, function_at}
+use Rattle.source_report.specs.fip_language.declared.rule.Rule.TheVariants.{E10}
+use Rattle.source_report.specs.fip_language.Core.{Name, Data, DataConstructor, Function, Core, Static, TypeParameter, FunctionParameter}
+use Rattle.source_report.specs.fip_language.Declarations.{same_name, function_in, constructor_among, constructor_in, or_else}
+use Rattle.source_report.specs.fip_language.Declarations as ByName
+use Rattle.source_report.specs.fip_language.Every.{Among}
+use Rattle.source_report.specs.fip_language.Mentions.{Mention, mention}
+use Rattle.source_report.specs.fip_language.Statics as ByClosed
+use Rattle.source_report.specs.fip_language.Statics.{type_among, function_among}
+use Rattle.source_report.specs.fip_trees.Names.{meaning, is_among, names}
+use Rattle.source_report.specs.fip_trees.declared.decls.TypeHead.{TypeHead}
+use Rattle.source_report.specs.fip_trees.declared.decls.ConstructorId.{ConstructorId}
+use Rattle.source_report.specs.fip_trees.declared.least.Violation.{Violation}
+use Rattle.source_report.specs.data_types.Declarations.{type_meanings, row_meanings, constructor_meanings, function_meanings}
+use Rattle.source_report.specs.data_types.Faults.{repeats, broken, function_mentions, static_mentions}
+use Rattle.source_report.proofs.data_types.Repeats.{all_new, mention_names}
+use Rattle.source_report.specs.reached_instances.Closed.{Closed, Closeds, NoClosed, MoreClosed}
+use Rattle.source_report.specs.reached_instances.Source.{static_name, static_meanings, static_places, if_type, if_function, type_at, function_at}
 use Rattle.specialisation_correctness.specs.Named.{named, all_named}
 
 -- ---- names

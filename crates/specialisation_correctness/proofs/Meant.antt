@@ -1,18 +1,18 @@
 -- The program of a source is specialised, so it means what the source means; typing changes no meaning.
 use Rattle.std.proofs.Common.{◌≡◌, ℕ, List, [], true, Some, slice_get, sym, ap, ◌∙◌, subst}
-use Rattle.fip_language.specs.Core.{Function, Core}
-use Rattle.fip_language.specs.Every.{Every}
-use Rattle.fip_language.specs.Meaning.{meaning}
-use Rattle.fip_language.specs.Statics as ByClosed
-use Rattle.fip_language.specs.Values.{Values}
-use Rattle.fip_language.proofs.Words.{slice_get-map}
-use Rattle.fip_trees.specs.Tree as T
-use Rattle.type_check.specs.Faults.{fill_instance, filled}
-use Rattle.type_check.specs.World.{world}
-use Rattle.static_params.specs.FlatProgram.{flat_program}
-use Rattle.instance_semantics.specs.Meaning.{flat_meaning}
-use Rattle.type_safety.proofs.FilledSlots.{filled_means}
-use Rattle.static_params.specs.FlatSource.{flat_source}
+use Rattle.source_report.specs.fip_language.Core.{Function, Core}
+use Rattle.source_report.specs.fip_language.Every.{Every}
+use Rattle.source_report.specs.fip_language.Meaning.{meaning}
+use Rattle.source_report.specs.fip_language.Statics as ByClosed
+use Rattle.source_report.specs.fip_language.Values.{Values}
+use Rattle.source_report.proofs.fip_language.Words.{slice_get-map}
+use Rattle.source_report.specs.fip_trees.Tree as T
+use Rattle.source_report.specs.type_check.Faults.{fill_instance, filled}
+use Rattle.source_report.specs.type_check.World.{world}
+use Rattle.source_report.specs.static_params.FlatProgram.{flat_program}
+use Rattle.source_report.specs.instance_semantics.Meaning.{flat_meaning}
+use Rattle.source_report.proofs.type_safety.FilledSlots.{filled_means}
+use Rattle.source_report.specs.static_params.FlatSource.{flat_source}
 use Rattle.source_report.specs.Report.{IsParsed, IsFlat, IsTyped}
 use Rattle.source_report.proofs.Once.{parsed_once}
 use Rattle.specialisation_correctness.specs.Declared.{BodyHasClauses, IsDeclared}

@@ -2,22 +2,22 @@
 -- functions with their static arguments, and the functions that are called.
 use Rattle.std.proofs.Common.{◌≡◌, ℕ, ◌-◌, ◌==◌, ◌&&◌, not, Bool, true, false, List, [], ◌∷◌, ◌++◌, length, Option, Some, None, slice_get, if◌then◌else◌, refl, sym, ap, ◌∙◌, arith}
 use Rattle.std.proofs.lemmas.Bool.Decides.{nat_tests}
-use Rattle.fip_language.specs.declared.Place.{Place}
-use Rattle.fip_language.specs.declared.rule.Rule.TheVariants.{E12, E23}
-use Rattle.fip_language.specs.Core.{Name, Written, WrittenInt, WrittenName, Writtens, NoWritten, MoreWritten, Static, TypeParameter, FunctionParameter, Function, Core}
-use Rattle.fip_language.specs.Declarations.{data_types}
-use Rattle.fip_language.specs.Statics as ByClosed
-use Rattle.fip_language.specs.Statics.{given_or, statics_of}
-use Rattle.fip_trees.specs.Names.{meaning}
-use Rattle.fip_trees.specs.declared.decls.TypeHead.{TypeHead}
-use Rattle.fip_trees.specs.declared.least.Violation.{Violation}
-use Rattle.data_types.specs.Declarations.{written_names}
-use Rattle.data_types.specs.Faults.{repeats, static_mentions}
-use Rattle.data_types.proofs.Exact.{none_left, none_right}
-use Rattle.reached_instances.specs.declared.closed.Head.TheVariants as H
-use Rattle.reached_instances.specs.Closed.{Closed, Closeds, Int, Applied, NoClosed, MoreClosed}
-use Rattle.reached_instances.specs.Source.{Declared, Source, Instance, statics_at, statics_or_none, static_places, type_at, function_at, given_type, given_function}
-use Rattle.reached_instances.specs.Uses.{broken, when, count, type_faults, types_faults, type_name_faults, applied_to, named_type, both, closed_type, closed_types, types_given, all_fit, static_fits, fit_if_known, all_given, applied_function, declared_use, named_use, statics_meant, closed_function, closed_arguments, misfit, misfits, misfits_if_known, name_faults, use_faults, arguments_faults}
+use Rattle.source_report.specs.fip_language.declared.Place.{Place}
+use Rattle.source_report.specs.fip_language.declared.rule.Rule.TheVariants.{E12, E23}
+use Rattle.source_report.specs.fip_language.Core.{Name, Written, WrittenInt, WrittenName, Writtens, NoWritten, MoreWritten, Static, TypeParameter, FunctionParameter, Function, Core}
+use Rattle.source_report.specs.fip_language.Declarations.{data_types}
+use Rattle.source_report.specs.fip_language.Statics as ByClosed
+use Rattle.source_report.specs.fip_language.Statics.{given_or, statics_of}
+use Rattle.source_report.specs.fip_trees.Names.{meaning}
+use Rattle.source_report.specs.fip_trees.declared.decls.TypeHead.{TypeHead}
+use Rattle.source_report.specs.fip_trees.declared.least.Violation.{Violation}
+use Rattle.source_report.specs.data_types.Declarations.{written_names}
+use Rattle.source_report.specs.data_types.Faults.{repeats, static_mentions}
+use Rattle.source_report.proofs.data_types.Exact.{none_left, none_right}
+use Rattle.source_report.specs.reached_instances.declared.closed.Head.TheVariants as H
+use Rattle.source_report.specs.reached_instances.Closed.{Closed, Closeds, Int, Applied, NoClosed, MoreClosed}
+use Rattle.source_report.specs.reached_instances.Source.{Declared, Source, Instance, statics_at, statics_or_none, static_places, type_at, function_at, given_type, given_function}
+use Rattle.source_report.specs.reached_instances.Uses.{broken, when, count, type_faults, types_faults, type_name_faults, applied_to, named_type, both, closed_type, closed_types, types_given, all_fit, static_fits, fit_if_known, all_given, applied_function, declared_use, named_use, statics_meant, closed_function, closed_arguments, misfit, misfits, misfits_if_known, name_faults, use_faults, arguments_faults}
 use Rattle.specialisation_correctness.specs.Named.{data_name, function_name, head_name, named, all_named}
 use Rattle.specialisation_correctness.proofs.Lookups.{function_meant, type_meant, places_all, named_if, type_named, function_named}
 

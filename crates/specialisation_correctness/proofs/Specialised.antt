@@ -1,34 +1,34 @@
 -- What specialising gives is specialised, by name; so each instance means what its function means.
 use Rattle.std.proofs.Common.{◌≡◌, inl, inr, ℕ, zero, suc, true, List, [], ◌∷◌, ◌++◌, ◌+◌, arith, length, map, Some, slice_get, refl, sym, ap, ◌∙◌, subst}
 use Rattle.std.specs.Prelude.{codes}
-use Rattle.fip_language.specs.Core.{Name, Static, Function, Core}
-use Rattle.fip_language.specs.Declarations.{function_of}
-use Rattle.fip_language.specs.Every.{Among}
-use Rattle.fip_language.specs.Mentions.{all_of}
-use Rattle.fip_language.specs.Meaning.{meaning}
-use Rattle.fip_language.specs.Statics as ByClosed
-use Rattle.fip_language.specs.Values.{Values}
-use Rattle.fip_language.proofs.Plain.{every_at}
-use Rattle.fip_trees.specs.Least.{In}
-use Rattle.fip_trees.specs.Names.{Names}
-use Rattle.fip_trees.specs.Tree as T
-use Rattle.fip_trees.specs.TreeView.{program}
-use Rattle.fip_trees.specs.declared.program.Program.{Program}
-use Rattle.fip_trees.specs.declared.least.Violation.{Violation}
-use Rattle.data_types.specs.Declarations.{function_scope, declared_names, written_names}
-use Rattle.data_types.specs.Faults.{repeats, type_mentions, constructor_mentions, function_mentions, static_mentions, parameter_mentions, credit_faults, header_faults, block_faults, function_faults, all_data_faults, all_function_faults, name_faults, written_violations}
-use Rattle.data_types.proofs.Exact.{none_left, none_right, all_declared}
-use Rattle.reached_instances.specs.declared.closed.Head.TheVariants as H
-use Rattle.static_params.specs.Answers.{IsAccepted}
-use Rattle.reached_instances.specs.Closed.{Closed, Closeds, Int, Applied, NoClosed, MoreClosed, same_closed}
-use Rattle.reached_instances.specs.Source.{Declared, Source, statics_or_none}
-use Rattle.reached_instances.specs.Instances.{roots, roots_from, root_if, calls_from, all_faults, AreInstances}
-use Rattle.static_params.specs.FlatProgram.{Numbers, is_root, credit_size, flat_parameter, flat_instance, instance_if, instances_of, flat_program}
-use Rattle.reached_instances.proofs.ClosedTrees.{closed_exact}
-use Rattle.reached_instances.proofs.Numbered.{numbered_roots}
-use Rattle.instance_semantics.specs.Meaning.{flat_meaning}
-use Rattle.instance_semantics.specs.Specialised.{IsInstance, Stands, IsSpecialised}
-use Rattle.instance_semantics.proofs.Means.{means}
+use Rattle.source_report.specs.fip_language.Core.{Name, Static, Function, Core}
+use Rattle.source_report.specs.fip_language.Declarations.{function_of}
+use Rattle.source_report.specs.fip_language.Every.{Among}
+use Rattle.source_report.specs.fip_language.Mentions.{all_of}
+use Rattle.source_report.specs.fip_language.Meaning.{meaning}
+use Rattle.source_report.specs.fip_language.Statics as ByClosed
+use Rattle.source_report.specs.fip_language.Values.{Values}
+use Rattle.source_report.proofs.fip_language.Plain.{every_at}
+use Rattle.source_report.specs.fip_trees.Least.{In}
+use Rattle.source_report.specs.fip_trees.Names.{Names}
+use Rattle.source_report.specs.fip_trees.Tree as T
+use Rattle.source_report.specs.fip_trees.TreeView.{program}
+use Rattle.source_report.specs.fip_trees.declared.program.Program.{Program}
+use Rattle.source_report.specs.fip_trees.declared.least.Violation.{Violation}
+use Rattle.source_report.specs.data_types.Declarations.{function_scope, declared_names, written_names}
+use Rattle.source_report.specs.data_types.Faults.{repeats, type_mentions, constructor_mentions, function_mentions, static_mentions, parameter_mentions, credit_faults, header_faults, block_faults, function_faults, all_data_faults, all_function_faults, name_faults, written_violations}
+use Rattle.source_report.proofs.data_types.Exact.{none_left, none_right, all_declared}
+use Rattle.source_report.specs.reached_instances.declared.closed.Head.TheVariants as H
+use Rattle.source_report.specs.static_params.Answers.{IsAccepted}
+use Rattle.source_report.specs.reached_instances.Closed.{Closed, Closeds, Int, Applied, NoClosed, MoreClosed, same_closed}
+use Rattle.source_report.specs.reached_instances.Source.{Declared, Source, statics_or_none}
+use Rattle.source_report.specs.reached_instances.Instances.{roots, roots_from, root_if, calls_from, all_faults, AreInstances}
+use Rattle.source_report.specs.static_params.FlatProgram.{Numbers, is_root, credit_size, flat_parameter, flat_instance, instance_if, instances_of, flat_program}
+use Rattle.source_report.proofs.reached_instances.ClosedTrees.{closed_exact}
+use Rattle.source_report.proofs.reached_instances.Numbered.{numbered_roots}
+use Rattle.source_report.specs.instance_semantics.Meaning.{flat_meaning}
+use Rattle.source_report.specs.instance_semantics.Specialised.{IsInstance, Stands, IsSpecialised}
+use Rattle.source_report.proofs.instance_semantics.Means.{means}
 use Rattle.specialisation_correctness.specs.Declared.{BodyHasClauses, IsDeclared, IsSourceOf}
 use Rattle.specialisation_correctness.specs.Means.{IsRun}
 use Rattle.specialisation_correctness.specs.Named.{function_name, head_name, named, all_named}

@@ -1,11 +1,11 @@
 -- Each match of a source has a clause: the grammar has no match without one.
 use Rattle.std.proofs.Common.{ℕ, suc, List, [], ◌∷◌}
-use Rattle.fip_language.specs.Every.{Every}
-use Rattle.fip_language.specs.Core.{Static, Result}
-use Rattle.fip_language.specs.Surface as T
-use Rattle.fip_grammar.specs.Token.{Token}
-use Rattle.fip_grammar.specs.Grammar.{left_tightness, tightness, Spelled, Arguments, Fields, Further, Block', Clauses', FurtherClauses, FunctionParts, Declaration', Spells}
-use Rattle.fip_grammar.specs.Limits.{IsSpelt}
+use Rattle.source_report.specs.fip_language.Every.{Every}
+use Rattle.source_report.specs.fip_language.Core.{Static, Result}
+use Rattle.source_report.specs.fip_language.Surface as T
+use Rattle.source_report.specs.fip_grammar.Token.{Token}
+use Rattle.source_report.specs.fip_grammar.Grammar.{left_tightness, tightness, Spelled, Arguments, Fields, Further, Block', Clauses', FurtherClauses, FunctionParts, Declaration', Spells}
+use Rattle.source_report.specs.fip_grammar.Limits.{IsSpelt}
 
 abbrev pub AreSome : T.Clauses → Type 0
 AreSome T.NoClauses = ⊥

@@ -1,13 +1,13 @@
 -- What the law asks of a program. Its core form breaks no rule on declarations, and each match in it has a clause, as
 -- every match of a source has. What is specialised has the names and the functions of the core form.
 use Rattle.std.specs.Prelude.{◌≡◌}
-use Rattle.fip_language.specs.Core.{Expression, Give, Tuple, Operation, Call, Match, Nested, Block, Last, Let, Clauses}
-use Rattle.fip_language.specs.Core.{NoClauses, MoreClauses, Function, Core}
-use Rattle.fip_language.specs.Every.{Every}
-use Rattle.fip_trees.specs.declared.least.Violation.{Violation}
-use Rattle.data_types.specs.Answers.{Violates}
-use Rattle.data_types.specs.Declarations.{written_names}
-use Rattle.reached_instances.specs.Source.{Source}
+use Rattle.source_report.specs.fip_language.Core.{Expression, Give, Tuple, Operation, Call, Match, Nested, Block, Last, Let, Clauses}
+use Rattle.source_report.specs.fip_language.Core.{NoClauses, MoreClauses, Function, Core}
+use Rattle.source_report.specs.fip_language.Every.{Every}
+use Rattle.source_report.specs.fip_trees.declared.least.Violation.{Violation}
+use Rattle.source_report.specs.data_types.Answers.{Violates}
+use Rattle.source_report.specs.data_types.Declarations.{written_names}
+use Rattle.source_report.specs.reached_instances.Source.{Source}
 
 abbrev pub AreSome : Clauses → Type 0
 AreSome NoClauses = ⊥

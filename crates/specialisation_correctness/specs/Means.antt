@@ -2,12 +2,12 @@
 -- for all arguments, calls left and frames: the same answer, with the same calls left, and the same peak of the stack.
 -- In the program of `fun g(): int { f[int](0) }` and f, g is the instance 0, which gives what g gives in the source.
 use Rattle.std.specs.Prelude.{◌≡◌, ℕ, true, Some, slice_get}
-use Rattle.fip_language.specs.Core.{Function, Core}
-use Rattle.fip_language.specs.Meaning.{meaning}
-use Rattle.fip_language.specs.Statics.{NoClosed}
-use Rattle.fip_language.specs.Values.{Values}
-use Rattle.fip_trees.specs.Tree.{Instance, Program}
-use Rattle.instance_semantics.specs.Meaning.{flat_meaning}
+use Rattle.source_report.specs.fip_language.Core.{Function, Core}
+use Rattle.source_report.specs.fip_language.Meaning.{meaning}
+use Rattle.source_report.specs.fip_language.Statics.{NoClosed}
+use Rattle.source_report.specs.fip_language.Values.{Values}
+use Rattle.source_report.specs.fip_trees.Tree.{Instance, Program}
+use Rattle.source_report.specs.instance_semantics.Meaning.{flat_meaning}
 
 pub record IsRun (core : Core) (program : Program) (f : Function) : Type 0 where
   pub number : ℕ

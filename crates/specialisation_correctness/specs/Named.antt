@@ -3,12 +3,12 @@
 -- Where `map` stands at place 4 and `next` at place 7, function 4 at int, int and function 7 stands for
 -- map[int, int, next].
 use Rattle.std.specs.Prelude.{◌-◌, [], Option, Some, None, slice_get}
-use Rattle.fip_language.specs.Core.{Name, Data, Function, Core}
-use Rattle.fip_language.specs.Declarations.{data_types}
-use Rattle.fip_language.specs.Statics as ByName
-use Rattle.reached_instances.specs.declared.closed.Head.{Head}
-use Rattle.reached_instances.specs.declared.closed.Head.TheVariants as H
-use Rattle.reached_instances.specs.Closed.{Closed, Closeds, Int, Applied, NoClosed, MoreClosed}
+use Rattle.source_report.specs.fip_language.Core.{Name, Data, Function, Core}
+use Rattle.source_report.specs.fip_language.Declarations.{data_types}
+use Rattle.source_report.specs.fip_language.Statics as ByName
+use Rattle.source_report.specs.reached_instances.declared.closed.Head.{Head}
+use Rattle.source_report.specs.reached_instances.declared.closed.Head.TheVariants as H
+use Rattle.source_report.specs.reached_instances.Closed.{Closed, Closeds, Int, Applied, NoClosed, MoreClosed}
 
 abbrev pub data_name : Option Data → Name
 data_name None = []

@@ -1,11 +1,11 @@
 // The laws on what a typed program means. Each is the contract of a function that does nothing.
 ghost use Rattle.std.specs.Prelude.{◌≡◌, ℕ, List, [], Some, slice_get, true};
-ghost use Rattle.fip_language.specs.Core.{Function, Core};
-ghost use Rattle.fip_language.specs.Meaning.{meaning};
-ghost use Rattle.fip_language.specs.Statics.{NoClosed};
-ghost use Rattle.fip_language.specs.Values.{Values};
-ghost use Rattle.fip_trees.specs.Tree.{Instance, Program};
-ghost use Rattle.instance_semantics.specs.Meaning.{flat_meaning};
+ghost use Rattle.source_report.specs.fip_language.Core.{Function, Core};
+ghost use Rattle.source_report.specs.fip_language.Meaning.{meaning};
+ghost use Rattle.source_report.specs.fip_language.Statics.{NoClosed};
+ghost use Rattle.source_report.specs.fip_language.Values.{Values};
+ghost use Rattle.source_report.specs.fip_trees.Tree.{Instance, Program};
+ghost use Rattle.source_report.specs.instance_semantics.Meaning.{flat_meaning};
 ghost use Rattle.source_report.specs.Report.{IsParsed, IsTyped};
 ghost use Rattle.specialisation_correctness.specs.Means.{IsRun};
 

@@ -14,3 +14,5 @@ pub mod CoreSources
 pub mod TableRows
 pub mod ConstructorRows
 pub mod Sounding
+pub use Rattle.data_types.proofs as data_types
+pub use Rattle.reached_instances.proofs as reached_instances

@@ -3,8 +3,8 @@
 #![tactic(auto)]
 
 mod flatten;
-pub mod theorems;
 mod specialised;
 mod table;
+pub mod theorems;
 
 pub use specialised::specialise;

@@ -1,7 +1,7 @@
 -- What is released may be given up again.
 use Rattle.std.proofs.Common.{◌≡◌, ℕ, zero, suc, Bool, true, List, [], ◌∷◌, Some, None, Option, slice_get, slice_set, refl, sym, ap}
 use Rattle.std.proofs.lemmas.Option.{none-some, same_Some}
-use Rattle.fip_language.specs.Store.{Cell}
+use Rattle.fip_base.specs.fip_language.Store.{Cell}
 use Rattle.store_trees.specs.GivenUp.{given_up}
 
 set_again : (rs : List Bool) (p : ℕ) → slice_get rs p ≡ Some true → slice_set rs p true ≡ rs

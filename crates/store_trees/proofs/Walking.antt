@@ -4,8 +4,8 @@
 use Rattle.std.proofs.Common.{◌≡◌, ◌≢◌, ◌∙◌, ◌≤◌, ◌<◌, ◌+◌, ◌/◌, ◌%◌, ℕ, zero, suc, List, [], ◌∷◌, ◌++◌, length, take, get_or, Option, Some, None, append_assoc, append-nil, length-append, refl, sym, ap, ap₂, subst, arith}
 use Rattle.std.specs.Prelude.{slice_get, ◌*◌}
 use Rattle.std.proofs.lemmas.Option.{none-some}
-use Rattle.fip_language.specs.Store.{Cell, Placed, PlacedInt, Bare, At, Parts, NoParts, MoreParts, word_of, words_of, places, places_of_all, one_at, uses, uses_of_all, count}
-use Rattle.fip_language.specs.Table.{Shape, Table, constructors}
+use Rattle.fip_base.specs.fip_language.Store.{Cell, Placed, PlacedInt, Bare, At, Parts, NoParts, MoreParts, word_of, words_of, places, places_of_all, one_at, uses, uses_of_all, count}
+use Rattle.fip_base.specs.fip_language.Table.{Shape, Table, constructors}
 use Rattle.cell_store.specs.Cells.{Cells, cell_at}
 use Rattle.value_text.specs.Standing.{Stands, StandAll}
 use Rattle.value_text.proofs.Printing.{odd_cell, past_types, past_is, index_is}

@@ -3,7 +3,7 @@
 -- For the word of Cons(1, Cons(2, Nil)), whose cells begin at 0 and 3, two trees of the type of lists are added, with
 -- their roots at 0 and at 3; for that of Nil none is.
 use Rattle.std.specs.Prelude.{◌≡◌, ℕ, List, ◌++◌, Option, Some, None, map}
-use Rattle.fip_language.specs.Store.{Placed, PlacedInt, Bare, At, count, uses}
+use Rattle.fip_base.specs.fip_language.Store.{Placed, PlacedInt, Bare, At, count, uses}
 use Rattle.store_trees.specs.declared.trees.Tree.{Tree}
 
 -- the root of a tree of a type, where it has a cell

@@ -2,7 +2,7 @@
 --
 -- With a cell at 0 and none at 1, giving up 0 and 1 releases the cell at 0.
 use Rattle.std.specs.Prelude.{ℕ, Bool, true, List, [], ◌∷◌, Option, Some, None, slice_set}
-use Rattle.fip_language.specs.Store.{Cell}
+use Rattle.fip_base.specs.fip_language.Store.{Cell}
 use Rattle.cell_store.specs.Cells.{Cells, cell_at}
 
 -- the cell that begins at place p, where one does

@@ -1,8 +1,8 @@
 -- For private contracts alone: the trees that are still to be gone into, and those below them.
 use Rattle.std.specs.Prelude.{◌≡◌, ℕ, suc, ◌+◌, List, [], ◌∷◌, ◌++◌, Option, Some, None, length, map, slice_get}
-use Rattle.fip_language.specs.Store.{Parts, MoreParts, words_of, places_of_all, one_at}
-use Rattle.fip_language.specs.Store.{uses_of_all, count}
-use Rattle.fip_language.specs.Table.{Shape, Table, constructors}
+use Rattle.fip_base.specs.fip_language.Store.{Parts, MoreParts, words_of, places_of_all, one_at}
+use Rattle.fip_base.specs.fip_language.Store.{uses_of_all, count}
+use Rattle.fip_base.specs.fip_language.Table.{Shape, Table, constructors}
 use Rattle.cell_store.specs.Cells.{Cells, cell_at}
 use Rattle.value_text.specs.Standing.{StandAll}
 use Rattle.store_trees.specs.declared.trees.Tree.{Tree}

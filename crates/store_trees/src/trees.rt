@@ -1,8 +1,8 @@
 // The cells of the trees that words stand for.
 ghost use Rattle.std.specs.Prelude.{◌≡◌, ◌<◌, ◌≤◌, ◌+◌, ◌++◌, ◌^◌, ℕ, List, [], true, false, Some, IfOk, OnOk};
 ghost use Rattle.std.specs.Prelude.{length, map, slice_get};
-ghost use Rattle.fip_language.specs.Store.{Cell, Placed, places, word_of};
-ghost use Rattle.fip_language.specs.Table.{Shape, Table, constructors};
+ghost use Rattle.fip_base.specs.fip_language.Store.{Cell, Placed, places, word_of};
+ghost use Rattle.fip_base.specs.fip_language.Table.{Shape, Table, constructors};
 ghost use Rattle.cell_store.specs.Cells.{cell_at};
 ghost use Rattle.value_text.specs.Standing.{Stands};
 ghost use Rattle.store_trees.specs.GivenUp.{given_up, all_given_up};

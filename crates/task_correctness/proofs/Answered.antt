@@ -1,27 +1,27 @@
 -- A task that has an end stands where a run does that is over, and this ended as the source means.
 use Rattle.std.proofs.Common.{◌≡◌, ◌<◌, ℕ, List, [], Some, length, slice_get, sym, ap, ◌∙◌, subst, refl}
-use Rattle.fip_language.specs.Core.{Core}
-use Rattle.fip_language.specs.Meaning.{Answer, Gives, Trap, Out, Deep, Stuck, meaning}
-use Rattle.fip_language.specs.Statics.{NoClosed}
-use Rattle.fip_language.specs.Table.{Table}
-use Rattle.machine_semantics.specs.Cells.{Store}
-use Rattle.machine_semantics.specs.Codes as R
-use Rattle.machine_semantics.specs.Runs as C
-use Rattle.machine_semantics.specs.Runs.{Over}
-use Rattle.machine_semantics.specs.States.{State}
-use Rattle.machine_semantics.specs.Steps.{Kinds}
-use Rattle.code_verify.specs.Checked.{Checked}
-use Rattle.code_rules.specs.Codes.{plain}
-use Rattle.separation.specs.Codes.{run_code, AreKinds}
-use Rattle.separation.proofs.CodesRun.{code_runs}
-use Rattle.fip_machine.specs.declared.machine.Ended.{Ended}
-use Rattle.fip_machine.specs.declared.machine.Ended.TheVariants as M
-use Rattle.fip_machine.specs.Tasks.{state_with}
-use Rattle.tree_refinement.specs.Agreement.{AreWordsOf}
-use Rattle.tree_refinement.specs.Runs.{IsSameEnd}
-use Rattle.task_semantics.specs.Projected.{Begun}
-use Rattle.task_semantics.specs.Schedules.{Shared, scheduled}
-use Rattle.task_semantics.specs.Laid.{Task, AreLaid}
+use Rattle.fip_tasks.specs.fip_language.Core.{Core}
+use Rattle.fip_tasks.specs.fip_language.Meaning.{Answer, Gives, Trap, Out, Deep, Stuck, meaning}
+use Rattle.fip_tasks.specs.fip_language.Statics.{NoClosed}
+use Rattle.fip_tasks.specs.fip_language.Table.{Table}
+use Rattle.machine_correctness.specs.machine_semantics.Cells.{Store}
+use Rattle.machine_correctness.specs.machine_semantics.Codes as R
+use Rattle.machine_correctness.specs.machine_semantics.Runs as C
+use Rattle.machine_correctness.specs.machine_semantics.Runs.{Over}
+use Rattle.machine_correctness.specs.machine_semantics.States.{State}
+use Rattle.machine_correctness.specs.machine_semantics.Steps.{Kinds}
+use Rattle.fip_tasks.specs.code_verify.Checked.{Checked}
+use Rattle.machine_correctness.specs.code_rules.Codes.{plain}
+use Rattle.machine_correctness.specs.separation.Codes.{run_code, AreKinds}
+use Rattle.machine_correctness.proofs.separation.CodesRun.{code_runs}
+use Rattle.fip_tasks.specs.fip_machine.declared.machine.Ended.{Ended}
+use Rattle.fip_tasks.specs.fip_machine.declared.machine.Ended.TheVariants as M
+use Rattle.fip_tasks.specs.fip_machine.Tasks.{state_with}
+use Rattle.machine_correctness.specs.tree_refinement.Agreement.{AreWordsOf}
+use Rattle.machine_correctness.specs.tree_refinement.Runs.{IsSameEnd}
+use Rattle.fip_tasks.specs.task_semantics.Projected.{Begun}
+use Rattle.fip_tasks.specs.task_semantics.Schedules.{Shared, scheduled}
+use Rattle.fip_tasks.specs.task_semantics.Laid.{Task, AreLaid}
 use Rattle.fip_tasks.specs.Shown.{HasEnded, Shows}
 use Rattle.fip_tasks.specs.Turns.{Standing, Turns}
 use Rattle.fip_tasks.proofs.Lists.{there}

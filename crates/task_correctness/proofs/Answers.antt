@@ -1,22 +1,22 @@
 -- A task that has an end stands where a run does that is over, and so ended as on trees.
 use Rattle.std.proofs.Common.{◌≡◌, ℕ, List, Some, refl, sym, ap, subst, ◌∙◌}
 use Rattle.std.specs.Prelude.{slice_get}
-use Rattle.machine_semantics.specs.Codes as R
-use Rattle.machine_semantics.specs.Cells.{Store}
-use Rattle.machine_semantics.specs.States.{State}
-use Rattle.machine_semantics.specs.Steps.{Kinds}
-use Rattle.machine_semantics.specs.Runs.{End, Run, Going, Over}
-use Rattle.code_rules.specs.Breaks.{IsSound}
-use Rattle.code_rules.specs.Codes.{plain}
-use Rattle.code_verify.specs.Checked.{Checked}
-use Rattle.separation.specs.Codes.{run_code, HasLiterals, AreKinds}
-use Rattle.separation.proofs.CodesRun.{code_runs}
-use Rattle.fip_machine.specs.declared.machine.Ended.{Ended}
-use Rattle.task_semantics.specs.Projected.{Begun}
-use Rattle.task_semantics.specs.Schedules.{Shared, scheduled}
-use Rattle.task_semantics.specs.Ended.{EndsOnTrees}
-use Rattle.task_semantics.specs.Laid.{Task, AreLaid}
-use Rattle.task_semantics.proofs.Ends.{ends_on_trees}
+use Rattle.machine_correctness.specs.machine_semantics.Codes as R
+use Rattle.machine_correctness.specs.machine_semantics.Cells.{Store}
+use Rattle.machine_correctness.specs.machine_semantics.States.{State}
+use Rattle.machine_correctness.specs.machine_semantics.Steps.{Kinds}
+use Rattle.machine_correctness.specs.machine_semantics.Runs.{End, Run, Going, Over}
+use Rattle.machine_correctness.specs.code_rules.Breaks.{IsSound}
+use Rattle.machine_correctness.specs.code_rules.Codes.{plain}
+use Rattle.fip_tasks.specs.code_verify.Checked.{Checked}
+use Rattle.machine_correctness.specs.separation.Codes.{run_code, HasLiterals, AreKinds}
+use Rattle.machine_correctness.proofs.separation.CodesRun.{code_runs}
+use Rattle.fip_tasks.specs.fip_machine.declared.machine.Ended.{Ended}
+use Rattle.fip_tasks.specs.task_semantics.Projected.{Begun}
+use Rattle.fip_tasks.specs.task_semantics.Schedules.{Shared, scheduled}
+use Rattle.fip_tasks.specs.task_semantics.Ended.{EndsOnTrees}
+use Rattle.fip_tasks.specs.task_semantics.Laid.{Task, AreLaid}
+use Rattle.fip_tasks.proofs.task_semantics.Ends.{ends_on_trees}
 use Rattle.fip_tasks.specs.Shown.{HasEnded, StandsAt, Shows}
 use Rattle.fip_tasks.specs.Turns.{Standing, Turns}
 use Rattle.fip_tasks.proofs.Lists.{there}

@@ -1,28 +1,28 @@
 -- A task whose cells lie apart from those of the others ends as alone, and alone as the source means.
 use Rattle.std.proofs.Common.{◌≡◌, ◌<◌, ℕ, List, [], Some, length, slice_get, sym, ap, ◌∙◌, subst}
-use Rattle.fip_language.specs.Core.{Core}
-use Rattle.fip_language.specs.Meaning.{Answer, meaning}
-use Rattle.fip_language.specs.Statics.{NoClosed}
-use Rattle.machine_semantics.specs.Cells.{Store}
-use Rattle.machine_semantics.specs.Codes as R
-use Rattle.machine_semantics.specs.Runs.{End, Run, Over, loaded}
-use Rattle.machine_semantics.specs.States.{State}
-use Rattle.machine_semantics.specs.Steps.{Kinds}
-use Rattle.code_verify.specs.Checked.{Checked}
-use Rattle.code_rules.specs.Codes.{PlainCode, plain, results, results_of}
-use Rattle.separation.specs.Codes.{run_code, AreKinds}
-use Rattle.separation.proofs.CodesRun.{code_runs}
-use Rattle.separation_bounds.proofs.Ending.{ends_once}
-use Rattle.fip_machine.specs.declared.machine.Ended.{Ended}
-use Rattle.fip_machine.specs.Tasks.{state_with}
-use Rattle.tree_refinement.specs.Runs.{IsSameEnd}
-use Rattle.task_semantics.specs.Projected.{Begun}
-use Rattle.task_semantics.specs.Schedules.{Shared, scheduled}
-use Rattle.task_semantics.proofs.Ends.{same_answer}
-use Rattle.task_semantics.specs.Lying.{Lying, AreApart, call_words, own_store}
-use Rattle.task_semantics.proofs.Owning.{own_given}
-use Rattle.task_semantics.proofs.Beginning.{lies_at, once_by, state_over, loads}
-use Rattle.task_semantics.proofs.Ending.{own_end}
+use Rattle.fip_tasks.specs.fip_language.Core.{Core}
+use Rattle.fip_tasks.specs.fip_language.Meaning.{Answer, meaning}
+use Rattle.fip_tasks.specs.fip_language.Statics.{NoClosed}
+use Rattle.machine_correctness.specs.machine_semantics.Cells.{Store}
+use Rattle.machine_correctness.specs.machine_semantics.Codes as R
+use Rattle.machine_correctness.specs.machine_semantics.Runs.{End, Run, Over, loaded}
+use Rattle.machine_correctness.specs.machine_semantics.States.{State}
+use Rattle.machine_correctness.specs.machine_semantics.Steps.{Kinds}
+use Rattle.fip_tasks.specs.code_verify.Checked.{Checked}
+use Rattle.machine_correctness.specs.code_rules.Codes.{PlainCode, plain, results, results_of}
+use Rattle.machine_correctness.specs.separation.Codes.{run_code, AreKinds}
+use Rattle.machine_correctness.proofs.separation.CodesRun.{code_runs}
+use Rattle.machine_correctness.proofs.separation_bounds.Ending.{ends_once}
+use Rattle.fip_tasks.specs.fip_machine.declared.machine.Ended.{Ended}
+use Rattle.fip_tasks.specs.fip_machine.Tasks.{state_with}
+use Rattle.machine_correctness.specs.tree_refinement.Runs.{IsSameEnd}
+use Rattle.fip_tasks.specs.task_semantics.Projected.{Begun}
+use Rattle.fip_tasks.specs.task_semantics.Schedules.{Shared, scheduled}
+use Rattle.fip_tasks.proofs.task_semantics.Ends.{same_answer}
+use Rattle.fip_tasks.specs.task_semantics.Lying.{Lying, AreApart, call_words, own_store}
+use Rattle.fip_tasks.proofs.task_semantics.Owning.{own_given}
+use Rattle.fip_tasks.proofs.task_semantics.Beginning.{lies_at, once_by, state_over, loads}
+use Rattle.fip_tasks.proofs.task_semantics.Ending.{own_end}
 use Rattle.fip_tasks.specs.Shown.{Shows}
 use Rattle.fip_tasks.specs.Turns.{Standing, Turns}
 use Rattle.fip_tasks.proofs.Lists.{there}

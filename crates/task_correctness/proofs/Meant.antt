@@ -1,25 +1,25 @@
 -- A task ends as alone, and alone as the source means.
 use Rattle.std.proofs.Common.{◌≡◌, ◌<◌, ℕ, List, [], Some, length, slice_get, sym, ap, ◌∙◌, subst}
-use Rattle.fip_language.specs.Core.{Core}
-use Rattle.fip_language.specs.Meaning.{Answer, meaning}
-use Rattle.fip_language.specs.Statics.{NoClosed}
-use Rattle.fip_language.specs.Table.{Table}
-use Rattle.cell_code.specs.declared.code.Code.{Code}
-use Rattle.machine_semantics.specs.Cells.{Store}
-use Rattle.machine_semantics.specs.Codes as R
-use Rattle.machine_semantics.specs.Runs.{End, Run, Over, loaded}
-use Rattle.machine_semantics.specs.States.{State}
-use Rattle.machine_semantics.specs.Steps.{Kinds}
-use Rattle.code_rules.specs.Codes.{PlainCode, plain, results, results_of}
-use Rattle.separation.specs.Codes.{run_code, AreKinds}
-use Rattle.separation_bounds.proofs.Ending.{ends_once}
-use Rattle.tree_refinement.specs.Runs.{IsSameEnd}
-use Rattle.run_loading.specs.Loading.{first_store, first_words}
-use Rattle.task_semantics.specs.Projected.{Begun}
-use Rattle.task_semantics.specs.Schedules.{Shared, scheduled}
-use Rattle.task_semantics.specs.Ended.{EndsAlone}
-use Rattle.task_semantics.specs.Laid.{Task, shared_store, IsBegun, AreLaid}
-use Rattle.task_semantics.proofs.Ends.{ends_alone, task_of, own_ends, same_answer}
+use Rattle.fip_tasks.specs.fip_language.Core.{Core}
+use Rattle.fip_tasks.specs.fip_language.Meaning.{Answer, meaning}
+use Rattle.fip_tasks.specs.fip_language.Statics.{NoClosed}
+use Rattle.fip_tasks.specs.fip_language.Table.{Table}
+use Rattle.fip_tasks.specs.cell_code.declared.code.Code.{Code}
+use Rattle.machine_correctness.specs.machine_semantics.Cells.{Store}
+use Rattle.machine_correctness.specs.machine_semantics.Codes as R
+use Rattle.machine_correctness.specs.machine_semantics.Runs.{End, Run, Over, loaded}
+use Rattle.machine_correctness.specs.machine_semantics.States.{State}
+use Rattle.machine_correctness.specs.machine_semantics.Steps.{Kinds}
+use Rattle.machine_correctness.specs.code_rules.Codes.{PlainCode, plain, results, results_of}
+use Rattle.machine_correctness.specs.separation.Codes.{run_code, AreKinds}
+use Rattle.machine_correctness.proofs.separation_bounds.Ending.{ends_once}
+use Rattle.machine_correctness.specs.tree_refinement.Runs.{IsSameEnd}
+use Rattle.machine_correctness.specs.run_loading.Loading.{first_store, first_words}
+use Rattle.fip_tasks.specs.task_semantics.Projected.{Begun}
+use Rattle.fip_tasks.specs.task_semantics.Schedules.{Shared, scheduled}
+use Rattle.fip_tasks.specs.task_semantics.Ended.{EndsAlone}
+use Rattle.fip_tasks.specs.task_semantics.Laid.{Task, shared_store, IsBegun, AreLaid}
+use Rattle.fip_tasks.proofs.task_semantics.Ends.{ends_alone, task_of, own_ends, same_answer}
 use Rattle.machine_correctness.specs.Starts.{IsCodeOf}
 use Rattle.machine_correctness.proofs.EvaluatedEnds.{ends_as_meant}
 use Rattle.machine_correctness.proofs.Starting.{read, loaded_begins, starts}

@@ -3,23 +3,23 @@ use Rattle.std.proofs.Common.{◌≡◌, ◌≤◌, ℕ, zero, suc, ◌+◌, Lis
 use Rattle.std.proofs.lemmas.List.{length-map}
 use Rattle.std.proofs.lemmas.Option.{none-some, same_Some, slice_get-map}
 use Rattle.std.specs.Prelude.{slice_get, option_map}
-use Rattle.fip_base.specs.declared.plain.Param.{Param}
-use Rattle.fip_language.specs.Table.{Table, HaveTypes}
-use Rattle.fip_language.specs.Values.{Values, End, More}
-use Rattle.cell_code.specs.declared.code.Code.{Code}
-use Rattle.cell_code.specs.declared.code.Function.{Function}
-use Rattle.machine_semantics.specs.Codes as R
-use Rattle.machine_semantics.specs.Cells.{Store}
-use Rattle.machine_semantics.specs.Runs.{Run, loaded, begun}
-use Rattle.code_rules.specs.Breaks.{IsSound}
-use Rattle.code_rules.specs.Codes.{PlainFunction, PlainCode, plain, plain_function, function_at}
-use Rattle.code_verify.specs.Checked.{Checked}
-use Rattle.separation.proofs.CodesRun.{code_runs}
-use Rattle.separation.proofs.Sound.{formed, has_form}
-use Rattle.run_loading.specs.Loading.{value_places, all_places, all_words, credit_words}
-use Rattle.task_semantics.specs.Laid.{Task, IsBegun, AreBegun, AreLaid, shared_store, task_places, task_words}
-use Rattle.task_semantics.specs.Projected.{Begun}
-use Rattle.task_semantics.specs.Schedules.{Shared}
+use Rattle.fip_tasks.specs.fip_base.declared.plain.Param.{Param}
+use Rattle.fip_tasks.specs.fip_language.Table.{Table, HaveTypes}
+use Rattle.fip_tasks.specs.fip_language.Values.{Values, End, More}
+use Rattle.fip_tasks.specs.cell_code.declared.code.Code.{Code}
+use Rattle.fip_tasks.specs.cell_code.declared.code.Function.{Function}
+use Rattle.machine_correctness.specs.machine_semantics.Codes as R
+use Rattle.machine_correctness.specs.machine_semantics.Cells.{Store}
+use Rattle.machine_correctness.specs.machine_semantics.Runs.{Run, loaded, begun}
+use Rattle.machine_correctness.specs.code_rules.Breaks.{IsSound}
+use Rattle.machine_correctness.specs.code_rules.Codes.{PlainFunction, PlainCode, plain, plain_function, function_at}
+use Rattle.fip_tasks.specs.code_verify.Checked.{Checked}
+use Rattle.machine_correctness.proofs.separation.CodesRun.{code_runs}
+use Rattle.machine_correctness.proofs.separation.Sound.{formed, has_form}
+use Rattle.machine_correctness.specs.run_loading.Loading.{value_places, all_places, all_words, credit_words}
+use Rattle.fip_tasks.specs.task_semantics.Laid.{Task, IsBegun, AreBegun, AreLaid, shared_store, task_places, task_words}
+use Rattle.fip_tasks.specs.task_semantics.Projected.{Begun}
+use Rattle.fip_tasks.specs.task_semantics.Schedules.{Shared}
 use Rattle.fip_tasks.specs.Shown.{IsStarted, AreStarted}
 use Rattle.fip_tasks.specs.declared.task.Start.{Start}
 use Rattle.task_correctness.specs.Answered.{IsStartOf, AreStartsOf}

@@ -2,21 +2,21 @@
 -- the verifier knows. That no instruction is one that can't be done is told by one turn more.
 use Rattle.std.proofs.Common.{◌≡◌, ℕ, suc, List, [], ◌∷◌, ◌++◌, Option, Some, None, refl, sym, ap, subst, ◌∙◌, length, replicate, length-set}
 use Rattle.std.specs.Prelude.{slice_get}
-use Rattle.fip_language.specs.Store.{count}
-use Rattle.machine_semantics.specs.Codes as R
-use Rattle.machine_semantics.specs.Cells.{Store}
-use Rattle.machine_semantics.specs.States.{State, Stuck}
-use Rattle.machine_semantics.specs.Steps.{Kinds, next}
-use Rattle.machine_semantics.specs.Runs.{End, Value, Trap, Out, Deep, Unsound, Run, Going, Over, begun, comes, later, after}
-use Rattle.code_rules.specs.Codes.{plain}
-use Rattle.code_verify.specs.Checked.{Checked}
-use Rattle.separation.specs.Codes.{run_code}
-use Rattle.separation.proofs.CodesRun.{code_runs}
-use Rattle.machine_step.specs.Coming.{KnowsAt}
-use Rattle.task_semantics.specs.Schedules.{Shared, turn, turned, settled, scheduled, alone, in_store}
-use Rattle.task_semantics.specs.Projected.{Renaming, Begun, BeginTogether, AreLoaded, IsSameEnd, IsSameRun}
-use Rattle.task_semantics.proofs.Scheduling.{each_is_alone}
-use Rattle.task_semantics.proofs.Turns.{goes_on}
+use Rattle.fip_tasks.specs.fip_language.Store.{count}
+use Rattle.machine_correctness.specs.machine_semantics.Codes as R
+use Rattle.machine_correctness.specs.machine_semantics.Cells.{Store}
+use Rattle.machine_correctness.specs.machine_semantics.States.{State, Stuck}
+use Rattle.machine_correctness.specs.machine_semantics.Steps.{Kinds, next}
+use Rattle.machine_correctness.specs.machine_semantics.Runs.{End, Value, Trap, Out, Deep, Unsound, Run, Going, Over, begun, comes, later, after}
+use Rattle.machine_correctness.specs.code_rules.Codes.{plain}
+use Rattle.fip_tasks.specs.code_verify.Checked.{Checked}
+use Rattle.machine_correctness.specs.separation.Codes.{run_code}
+use Rattle.machine_correctness.proofs.separation.CodesRun.{code_runs}
+use Rattle.fip_tasks.specs.machine_step.Coming.{KnowsAt}
+use Rattle.fip_tasks.specs.task_semantics.Schedules.{Shared, turn, turned, settled, scheduled, alone, in_store}
+use Rattle.fip_tasks.specs.task_semantics.Projected.{Renaming, Begun, BeginTogether, AreLoaded, IsSameEnd, IsSameRun}
+use Rattle.fip_tasks.proofs.task_semantics.Scheduling.{each_is_alone}
+use Rattle.fip_tasks.proofs.task_semantics.Turns.{goes_on}
 use Rattle.machine_correctness.proofs.Drops.{known}
 use Rattle.fip_tasks.specs.Shown.{CanGo, CanTurn, CanFinish}
 use Rattle.fip_tasks.proofs.Lists.{at_same, there}

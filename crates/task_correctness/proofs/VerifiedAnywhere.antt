@@ -2,28 +2,28 @@
 use Rattle.std.proofs.Common.{◌≡◌, ◌≤◌, ℕ, suc, List, [], ◌∷◌, Some, refl, sym, ap, subst, ◌∙◌, length, map, length-append, arith}
 use Rattle.std.proofs.lemmas.List.{length-map}
 use Rattle.std.specs.Prelude.{slice_get}
-use Rattle.fip_base.specs.declared.plain.Param.{Param}
-use Rattle.fip_language.specs.Store.{Parts, NoParts, MoreParts, words_of}
-use Rattle.fip_language.specs.Table.{Table}
-use Rattle.machine_semantics.specs.Codes as R
-use Rattle.machine_semantics.specs.Cells.{Store}
-use Rattle.machine_semantics.specs.Runs.{Run, Over, loaded, begun}
-use Rattle.machine_semantics.specs.Steps.{Kinds}
-use Rattle.machine_semantics.specs.Trees.{StandAll}
-use Rattle.machine_semantics.specs.Words.{place_word}
-use Rattle.code_rules.specs.Breaks.{IsSound}
-use Rattle.code_rules.specs.Codes.{PlainFunction, PlainCode, plain}
-use Rattle.code_verify.specs.Checked.{Checked}
-use Rattle.separation.specs.Codes.{run_code, HasLiterals, AreKinds}
-use Rattle.separation.proofs.CodesRun.{code_runs}
-use Rattle.separation.proofs.Sound.{formed, has_form}
-use Rattle.fip_machine.specs.declared.machine.Ended.{Ended}
-use Rattle.task_semantics.specs.Projected.{Begun}
-use Rattle.task_semantics.specs.Schedules.{Shared, scheduled}
-use Rattle.task_semantics.specs.Ended.{EndsOnTrees}
-use Rattle.task_semantics.specs.Lying.{Lying, LiesIn, IsBegun, AreApart, call_words}
-use Rattle.task_semantics.proofs.Beginning.{lies_at, spare_long}
-use Rattle.task_semantics.proofs.Ending.{ends_on_trees}
+use Rattle.fip_tasks.specs.fip_base.declared.plain.Param.{Param}
+use Rattle.fip_tasks.specs.fip_language.Store.{Parts, NoParts, MoreParts, words_of}
+use Rattle.fip_tasks.specs.fip_language.Table.{Table}
+use Rattle.machine_correctness.specs.machine_semantics.Codes as R
+use Rattle.machine_correctness.specs.machine_semantics.Cells.{Store}
+use Rattle.machine_correctness.specs.machine_semantics.Runs.{Run, Over, loaded, begun}
+use Rattle.machine_correctness.specs.machine_semantics.Steps.{Kinds}
+use Rattle.machine_correctness.specs.machine_semantics.Trees.{StandAll}
+use Rattle.machine_correctness.specs.machine_semantics.Words.{place_word}
+use Rattle.machine_correctness.specs.code_rules.Breaks.{IsSound}
+use Rattle.machine_correctness.specs.code_rules.Codes.{PlainFunction, PlainCode, plain}
+use Rattle.fip_tasks.specs.code_verify.Checked.{Checked}
+use Rattle.machine_correctness.specs.separation.Codes.{run_code, HasLiterals, AreKinds}
+use Rattle.machine_correctness.proofs.separation.CodesRun.{code_runs}
+use Rattle.machine_correctness.proofs.separation.Sound.{formed, has_form}
+use Rattle.fip_tasks.specs.fip_machine.declared.machine.Ended.{Ended}
+use Rattle.fip_tasks.specs.task_semantics.Projected.{Begun}
+use Rattle.fip_tasks.specs.task_semantics.Schedules.{Shared, scheduled}
+use Rattle.fip_tasks.specs.task_semantics.Ended.{EndsOnTrees}
+use Rattle.fip_tasks.specs.task_semantics.Lying.{Lying, LiesIn, IsBegun, AreApart, call_words}
+use Rattle.fip_tasks.proofs.task_semantics.Beginning.{lies_at, spare_long}
+use Rattle.fip_tasks.proofs.task_semantics.Ending.{ends_on_trees}
 use Rattle.fip_tasks.specs.Shown.{IsStarted, AreStarted, Shows}
 use Rattle.fip_tasks.specs.Turns.{Standing, Turns}
 use Rattle.fip_tasks.specs.declared.task.Start.{Start}

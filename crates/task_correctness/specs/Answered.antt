@@ -4,13 +4,13 @@
 -- the words 1 and 7, the second with 13 and 19. The second has answered Value once it has the word 13 as its result,
 -- which stands for Cons(2, Cons(4, Nil)): so its function ends on trees.
 use Rattle.std.specs.Prelude.{◌≡◌, ℕ, ◌+◌, List, [], ◌∷◌, Some, length, slice_get}
-use Rattle.task_semantics.specs.Lying.{Lying, call_words}
-use Rattle.machine_semantics.specs.Cells.{Store}
-use Rattle.machine_semantics.specs.Runs.{End}
-use Rattle.machine_semantics.specs.States.{State}
-use Rattle.code_rules.specs.Codes.{PlainCode}
-use Rattle.task_semantics.specs.Ended.{EndsOnTrees}
-use Rattle.task_semantics.specs.Laid.{Task, task_places, task_words}
+use Rattle.fip_tasks.specs.task_semantics.Lying.{Lying, call_words}
+use Rattle.machine_correctness.specs.machine_semantics.Cells.{Store}
+use Rattle.machine_correctness.specs.machine_semantics.Runs.{End}
+use Rattle.machine_correctness.specs.machine_semantics.States.{State}
+use Rattle.machine_correctness.specs.code_rules.Codes.{PlainCode}
+use Rattle.fip_tasks.specs.task_semantics.Ended.{EndsOnTrees}
+use Rattle.fip_tasks.specs.task_semantics.Laid.{Task, task_places, task_words}
 use Rattle.fip_tasks.specs.Shown.{HasEnded}
 use Rattle.fip_tasks.specs.Turns.{Standing}
 use Rattle.fip_tasks.specs.declared.task.Start.{Start}

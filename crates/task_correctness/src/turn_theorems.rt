@@ -1,17 +1,17 @@
 // The laws that join tasks on the machine with what is known of schedules. Each is the contract of a function that does
 // nothing.
 ghost use Rattle.std.specs.Prelude.{◌≡◌, ℕ, List, Some, slice_get};
-ghost use Rattle.machine_semantics.specs.Codes as R;
-ghost use Rattle.machine_semantics.specs.Steps.{Kinds};
-ghost use Rattle.code_rules.specs.Breaks.{IsSound};
-ghost use Rattle.code_rules.specs.Codes.{plain};
-ghost use Rattle.separation.specs.Codes.{run_code, HasLiterals, AreKinds};
-ghost use Rattle.code_verify.specs.Checked.{Checked};
-ghost use Rattle.fip_machine.specs.declared.machine.Ended.{Ended};
-ghost use Rattle.task_semantics.specs.Schedules.{Shared, scheduled};
-ghost use Rattle.task_semantics.specs.Projected.{Begun, BeginTogether, AreLoaded};
-ghost use Rattle.task_semantics.specs.Lying.{Lying, AreApart};
-ghost use Rattle.task_semantics.specs.Laid.{Task, AreLaid, shared_store};
+ghost use Rattle.machine_correctness.specs.machine_semantics.Codes as R;
+ghost use Rattle.machine_correctness.specs.machine_semantics.Steps.{Kinds};
+ghost use Rattle.machine_correctness.specs.code_rules.Breaks.{IsSound};
+ghost use Rattle.machine_correctness.specs.code_rules.Codes.{plain};
+ghost use Rattle.machine_correctness.specs.separation.Codes.{run_code, HasLiterals, AreKinds};
+ghost use Rattle.fip_tasks.specs.code_verify.Checked.{Checked};
+ghost use Rattle.fip_tasks.specs.fip_machine.declared.machine.Ended.{Ended};
+ghost use Rattle.fip_tasks.specs.task_semantics.Schedules.{Shared, scheduled};
+ghost use Rattle.fip_tasks.specs.task_semantics.Projected.{Begun, BeginTogether, AreLoaded};
+ghost use Rattle.fip_tasks.specs.task_semantics.Lying.{Lying, AreApart};
+ghost use Rattle.fip_tasks.specs.task_semantics.Laid.{Task, AreLaid, shared_store};
 ghost use Rattle.fip_tasks.specs.Shown.{Shows, CanTurn, CanFinish, AreStarted};
 ghost use Rattle.fip_tasks.specs.Turns.{Standing, Turns};
 ghost use Rattle.fip_tasks.specs.declared.task.Start.{Start};

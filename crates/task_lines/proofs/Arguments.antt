@@ -9,7 +9,7 @@ use Rattle.fip_language.specs.SoundTable.{IsSoundTable}
 use Rattle.fip_language.specs.Table.{Table}
 use Rattle.fip_language.specs.Values.{Value, Values, End, More, cells, cells_of_all}
 use Rattle.fip_language.specs.ValueText.{ValueText}
-use Rattle.session_semantics.specs.Lines.{Symbol, Close, Comma, WrittenText, SignText, symbol, symbols}
+use Rattle.session_lines.specs.session_semantics.Lines.{Symbol, Close, Comma, WrittenText, SignText, symbol, symbols}
 use Rattle.value_text.specs.Machine.{join, snoc}
 use Rattle.value_text.specs.Single.{BeginsWith, IsValueAt}
 use Rattle.value_text.specs.declared.counts.Counts.{Counts}

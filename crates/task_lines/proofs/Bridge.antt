@@ -9,10 +9,10 @@ use Rattle.fip_language.specs.Table.{Table}
 use Rattle.fip_language.specs.Values.{Value, Int, Node, Values, End, More}
 use Rattle.fip_language.specs.ValueText as V
 use Rattle.fip_language.specs.ValueText.{bound, int_of, Digits, IntText, ValueText, FieldsText, MoreText}
-use Rattle.session_semantics.specs.Lines.{Symbol, Blank, Open, Close, Comma, Equals, Question, Minus, Underscore, Digit, Small, Capital, Other}
-use Rattle.session_semantics.specs.Lines.{skip, word, behind, number, after_number, signed, DigitsText, NumberText, IsOpened, SignText}
-use Rattle.session_semantics.specs.Lines.{Written, Number, Named, Parts, NoParts, MoreParts, WrittenText, PartsText, FurtherText}
-use Rattle.session_semantics.specs.Typed.{IsValue, AreValues}
+use Rattle.session_lines.specs.session_semantics.Lines.{Symbol, Blank, Open, Close, Comma, Equals, Question, Minus, Underscore, Digit, Small, Capital, Other}
+use Rattle.session_lines.specs.session_semantics.Lines.{skip, word, behind, number, after_number, signed, DigitsText, NumberText, IsOpened, SignText}
+use Rattle.session_lines.specs.session_semantics.Lines.{Written, Number, Named, Parts, NoParts, MoreParts, WrittenText, PartsText, FurtherText}
+use Rattle.session_lines.specs.session_semantics.Typed.{IsValue, AreValues}
 use Rattle.value_text.proofs.Runs.{int_fits}
 use Rattle.value_text.proofs.Tables.{same_bytes, upper_bytes}
 use Rattle.task_lines.proofs.Symbols.{chr, AreRead, Suffix, all_left, one_less, less, read_left, skip_left, behind_left, number_left}

@@ -8,9 +8,9 @@ use Rattle.cell_code.specs.declared.code.Function.{Function}
 use Rattle.fip_language.specs.Core.{Name}
 use Rattle.fip_language.specs.Table.{Table}
 use Rattle.fip_language.specs.Values.{Values, End, More}
-use Rattle.session_semantics.specs.Lines.{Symbol, Open, SignText, NameText, symbols, skip, Parts, NoParts, MoreParts, fresh_of}
-use Rattle.session_semantics.specs.Lines.{AllGivenText, MoreGivenText, CallText}
-use Rattle.session_semantics.specs.Typed.{AreValues}
+use Rattle.session_lines.specs.session_semantics.Lines.{Symbol, Open, SignText, NameText, symbols, skip, Parts, NoParts, MoreParts, fresh_of}
+use Rattle.session_lines.specs.session_semantics.Lines.{AllGivenText, MoreGivenText, CallText}
+use Rattle.session_lines.specs.session_semantics.Typed.{AreValues}
 use Rattle.value_text.specs.Loaded.{types_of, wanted}
 use Rattle.value_text.specs.declared.counts.Counts.{Counts}
 use Rattle.session_lines.specs.Named.{HasName}

@@ -9,3 +9,4 @@ mod CellsMade
 mod CallMade
 mod Listing
 mod Starting
+pub use Rattle.session_lines.proofs.instance_semantics as instance_semantics

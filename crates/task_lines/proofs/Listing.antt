@@ -3,8 +3,8 @@ use Rattle.std.proofs.Common.{◌≡◌, ◌∙◌, ◌⊎◌, inl, inr, ◌≤�
 use Rattle.std.specs.Prelude.{slice_index_or, if◌then◌else◌, ◌==◌, Bool, true, false}
 use Rattle.std.proofs.lemmas.List.{length-drop}
 use Rattle.cell_code.specs.declared.code.Code.{Code}
-use Rattle.session_semantics.specs.Lines.{lines_of, put_before}
-use Rattle.session_semantics.specs.Turns.{most_tasks}
+use Rattle.session_lines.specs.session_semantics.Lines.{lines_of, put_before}
+use Rattle.session_lines.specs.session_semantics.Turns.{most_tasks}
 use Rattle.value_text.specs.Loaded.{wanted}
 use Rattle.value_text.specs.declared.counts.Counts.{Counts}
 use Rattle.task_lines.specs.Called.{Called, IsCall, AreCalls, IsFirstBad, needed_by_all}

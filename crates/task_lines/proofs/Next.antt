@@ -2,7 +2,7 @@
 use Rattle.std.proofs.Common.{◌≡◌, ◌∙◌, ◌≤◌, ◌<◌, ℕ, zero, suc, List, [], ◌∷◌, length, drop, refl, sym, ap, subst, arith}
 use Rattle.fip_language.specs.Table.{Table}
 use Rattle.fip_language.specs.Values.{Value, Values, End, More}
-use Rattle.session_semantics.specs.Lines.{Symbol, Comma, SignText, symbols}
+use Rattle.session_lines.specs.session_semantics.Lines.{Symbol, Comma, SignText, symbols}
 use Rattle.value_text.specs.Single.{BeginsWith, IsPlaced, IsValueAt}
 use Rattle.session_lines.specs.declared.scan.Scanner.{Scanner}
 use Rattle.session_lines.specs.Scanned.{left}

@@ -7,19 +7,19 @@ use Rattle.std.proofs.lemmas.Option.{none-some, same_Some, slice_get-map}
 use Rattle.cell_code.specs.declared.code.Code.{Code}
 use Rattle.cell_store.specs.Cells as L
 use Rattle.cell_store.specs.Made.{Loading}
-use Rattle.machine_semantics.specs.Apart.{AreSpare}
-use Rattle.machine_semantics.specs.Cells.{Store, IsSized, cell_in, one_if_some, one_if_true}
-use Rattle.machine_semantics.specs.Trees as C
-use Rattle.machine_semantics.specs.Words.{place_word}
+use Rattle.fip_tasks.specs.machine_semantics.Apart.{AreSpare}
+use Rattle.fip_tasks.specs.machine_semantics.Cells.{Store, IsSized, cell_in, one_if_some, one_if_true}
+use Rattle.fip_tasks.specs.machine_semantics.Trees as C
+use Rattle.fip_tasks.specs.machine_semantics.Words.{place_word}
 use Rattle.fip_language.specs.Every.{Every}
 use Rattle.fip_language.specs.Store.{Cell, Placed, PlacedInt, Bare, At, Parts, NoParts, MoreParts, values_of, words_of}
 use Rattle.fip_language.specs.Table.{Table}
 use Rattle.fip_tasks.specs.declared.task.Start.{Start}
-use Rattle.machine_cells.specs.Small.{store_of}
-use Rattle.code_rules.specs.Codes.{plain, plain_function, function_at}
+use Rattle.fip_tasks.specs.machine_cells.Small.{store_of}
+use Rattle.code_verify.specs.code_rules.Codes.{plain, plain_function, function_at}
 use Rattle.value_text.specs.Loaded.{live_in, live, types_of, AreZero, cell_words}
 use Rattle.value_text.specs.Standing as V
-use Rattle.task_semantics.specs.Lying.{Lying, LiesIn, uses_by, uses_by_all, call_words}
+use Rattle.fip_tasks.specs.task_semantics.Lying.{Lying, LiesIn, uses_by, uses_by_all, call_words}
 use Rattle.task_lines.specs.Called.{Called}
 use Rattle.task_lines.specs.Making.{AreMade, IsStartMade}
 use Rattle.task_lines.specs.Reading.{IsLineOf, AreLinesOf}

@@ -9,8 +9,8 @@ use Rattle.fip_language.specs.Every.{Every}
 use Rattle.fip_language.specs.Character as C
 use Rattle.fip_language.specs.Character.{Character, character, characters, is_blank, is_digit, is_upper, is_letter, are_name_bytes, is_upper_name}
 use Rattle.fip_language.specs.ValueText as V
-use Rattle.session_semantics.specs.Lines.{Symbol, Blank, Open, Close, Comma, Equals, Question, Minus, Underscore, Digit, Small, Capital, Other}
-use Rattle.session_semantics.specs.Lines.{symbol, symbols, skip, word, behind, number, after_number, BeginsCapital}
+use Rattle.session_lines.specs.session_semantics.Lines.{Symbol, Blank, Open, Close, Comma, Equals, Question, Minus, Underscore, Digit, Small, Capital, Other}
+use Rattle.session_lines.specs.session_semantics.Lines.{symbol, symbols, skip, word, behind, number, after_number, BeginsCapital}
 use Rattle.value_text.proofs.Tables.{character_is_digit, character_letter}
 use Rattle.session_lines.proofs.Tokens.{IsOf, of_symbol}
 

@@ -5,7 +5,7 @@ use Rattle.fip_language.specs.SoundTable.{AreTypes}
 use Rattle.fip_language.specs.Store.{count}
 use Rattle.fip_language.specs.Table.{Table}
 use Rattle.fip_language.specs.Values.{Value, Values, cells, cells_of_all}
-use Rattle.session_semantics.specs.Lines.{Symbol, Close, SignText, symbols, skip}
+use Rattle.session_lines.specs.session_semantics.Lines.{Symbol, Close, SignText, symbols, skip}
 use Rattle.value_text.specs.Loaded.{types_of, wanted}
 use Rattle.value_text.specs.declared.counts.Counts.{Counts}
 use Rattle.session_lines.specs.declared.scan.Scanner.{Scanner}

@@ -10,9 +10,9 @@ use Rattle.fip_language.specs.SoundTable.{IsSoundTable, AreTypes}
 use Rattle.fip_language.specs.Values.{Values}
 use Rattle.value_text.specs.Loaded.{types_of, AreCredits, wanted}
 use Rattle.session_lines.specs.Named.{HasName}
-use Rattle.session_semantics.specs.Lines.{Parts, SpellsTask}
-use Rattle.session_semantics.specs.Typed.{AreValues}
-use Rattle.session_semantics.specs.Turns.{most_tasks}
+use Rattle.session_lines.specs.session_semantics.Lines.{Parts, SpellsTask}
+use Rattle.session_lines.specs.session_semantics.Typed.{AreValues}
+use Rattle.session_lines.specs.session_semantics.Turns.{most_tasks}
 
 -- a call of a function of a code, by its number
 pub record Called : Type 0 where

@@ -3,3 +3,5 @@ pub mod Reading
 pub mod Making
 pub mod Listed
 pub mod Started
+pub use Rattle.session_lines.specs.instance_semantics as instance_semantics
+pub use Rattle.session_lines.specs as session_lines

@@ -5,8 +5,8 @@
 use Rattle.std.specs.Prelude.{◌≡◌, ◌-◌, ◌<◌, ◌≤◌, ◌^◌, ℕ, List, length, slice_index_or}
 use Rattle.cell_code.specs.declared.code.Code.{Code}
 use Rattle.fip_language.specs.declared.limits.TheConstants.{MOST_FIELDS}
-use Rattle.session_semantics.specs.Lines.{lines_of}
-use Rattle.session_semantics.specs.Turns.{most_tasks}
+use Rattle.session_lines.specs.session_semantics.Lines.{lines_of}
+use Rattle.session_lines.specs.session_semantics.Turns.{most_tasks}
 use Rattle.task_lines.specs.Called.{Called, AreCalls, needed_by_all}
 use Rattle.task_lines.specs.Reading.{AreLinesOf}
 use Rattle.task_lines.specs.declared.list.TaskList.{TaskList}

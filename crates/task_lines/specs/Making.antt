@@ -8,7 +8,7 @@ use Rattle.cell_store.specs.Cells.{cell_at}
 use Rattle.cell_store.specs.Made.{Loading}
 use Rattle.value_text.specs.Loaded.{live, types_of, AreZero, cell_words}
 use Rattle.value_text.specs.Standing.{StandAll}
-use Rattle.code_rules.specs.Codes.{plain}
+use Rattle.code_verify.specs.code_rules.Codes.{plain}
 use Rattle.fip_tasks.specs.declared.task.Start.{Start}
 use Rattle.session_lines.specs.Named.{HasFrames}
 use Rattle.task_lines.specs.Called.{Called}

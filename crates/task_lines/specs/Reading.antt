@@ -11,8 +11,8 @@ use Rattle.fip_language.specs.Values.{Value, Values, End, More}
 use Rattle.value_text.specs.Loaded.{types_of}
 use Rattle.value_text.specs.Single.{BeginsWith, IsValueAt}
 use Rattle.value_text.specs.declared.counts.Counts.{Counts}
-use Rattle.session_semantics.specs.Lines.{Symbol, Open, Close, Comma, Written, WrittenText, SignText, skip, symbols}
-use Rattle.session_semantics.specs.Typed.{IsValue}
+use Rattle.session_lines.specs.session_semantics.Lines.{Symbol, Open, Close, Comma, Written, WrittenText, SignText, skip, symbols}
+use Rattle.session_lines.specs.session_semantics.Typed.{IsValue}
 use Rattle.session_lines.specs.declared.scan.Scanner.{Scanner}
 use Rattle.task_lines.specs.Called.{Called}
 use Rattle.task_lines.specs.declared.task_line.TaskLine.{TaskLine}

@@ -5,9 +5,9 @@
 use Rattle.std.specs.Prelude.{◌≡◌, List, [], ◌∷◌}
 use Rattle.cell_code.specs.declared.code.Code.{Code}
 use Rattle.cell_store.specs.Made.{Loading}
-use Rattle.code_rules.specs.Codes.{plain, plain_function}
-use Rattle.machine_cells.specs.Small.{store_of}
-use Rattle.task_semantics.specs.Lying.{Lying, LieApart, call_words}
+use Rattle.code_verify.specs.code_rules.Codes.{plain, plain_function}
+use Rattle.fip_tasks.specs.machine_cells.Small.{store_of}
+use Rattle.fip_tasks.specs.task_semantics.Lying.{Lying, LieApart, call_words}
 use Rattle.fip_tasks.specs.declared.task.Start.{Start}
 use Rattle.session_lines.specs.Named.{HasFrames}
 use Rattle.task_lines.specs.Called.{Called}

@@ -2,7 +2,7 @@
 ghost use Rattle.std.specs.Prelude.{◌≡◌, ◌<◌, ◌≤◌, ◌^◌, ℕ, List, [], length, IfOk, All, Err};
 ghost use Rattle.fip_language.specs.declared.limits.TheConstants.{MOST_FIELDS};
 ghost use Rattle.fip_language.specs.Store.{Parts};
-ghost use Rattle.session_semantics.specs.Lines.{lines_of};
+ghost use Rattle.session_lines.specs.session_semantics.Lines.{lines_of};
 ghost use Rattle.value_text.specs.Counting.{count_at};
 ghost use Rattle.value_text.specs.Loaded.{words_up_to};
 ghost use Rattle.session_lines.specs.Named.{AreEntries};
@@ -14,13 +14,13 @@ ghost use Rattle.task_lines.specs.Reading.{AreLinesOf, IsLineOf};
 ghost use Rattle.task_lines.specs.Started.{AreReady};
 
 use crate::task_line::{TaskLine, task_of};
-use session_lines::{Entries, frames_of, line_at};
 use cell_code::Code;
 use cell_store::Loader;
 use code_verify::Verified;
 use fip_base::plain::NoMemory;
 use fip_language::limits::MOST_FIELDS;
 use fip_tasks::Start;
+use session_lines::{Entries, frames_of, line_at};
 use std::alloc::{AllocFailed, Global};
 use thiserror::Error;
 use value_text::Counts;

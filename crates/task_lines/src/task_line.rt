@@ -3,7 +3,7 @@ ghost use Rattle.std.specs.Prelude.{◌≡◌, ◌<◌, ◌≤◌, ℕ, List, []
 ghost use Rattle.std.specs.Prelude.{IfOk, IfSome, Ok, None, Some};
 ghost use Rattle.fip_language.specs.Values.{Value, Values, cells, cells_of_all};
 ghost use Rattle.fip_language.specs.Store.{count};
-ghost use Rattle.session_semantics.specs.Lines.{Symbol, Comma, SignText};
+ghost use Rattle.session_lines.specs.session_semantics.Lines.{Symbol, Comma, SignText};
 ghost use Rattle.value_text.specs.Loaded.{AreCredits, types_of, wanted};
 ghost use Rattle.value_text.specs.Single.{BeginsWith, IsPlaced, IsValueAt};
 ghost use Rattle.session_lines.specs.Named.{AreEntries};
@@ -12,10 +12,10 @@ ghost use Rattle.task_lines.specs.Called.{Called, IsCall, IsReadable};
 ghost use Rattle.task_lines.specs.Reading.{Adds, AreAt, AreParams, Behind, Given, IsAt, IsCalled, IsLine, IsLineOf};
 ghost use Rattle.task_lines.specs.Reading.{IsNext};
 
-use session_lines::{Entries, Scanner};
 use cell_code::{Code, Function};
 use fip_base::plain::{NoMemory, Param};
 use fip_base::table::TypeTable;
+use session_lines::{Entries, Scanner};
 use std::alloc::Global;
 use value_text::{Counts, ReadError, read_value};
 

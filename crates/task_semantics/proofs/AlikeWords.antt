@@ -2,27 +2,27 @@
 -- register is written, or other cells change.
 use Rattle.std.proofs.Common.{◌≡◌, ℕ, ◌+◌, ◌<◌, ◌≤◌, Bool, true, List, [], ◌∷◌, length, map, Some, None, inl, inr, refl, sym, ap, ap₂, ◌∙◌, subst, arith, ◌==◌, if◌then◌else◌}
 use Rattle.std.proofs.lemmas.Option.{none-some, same_Some, option_and_then_some}
-use Rattle.fip_language.specs.Table.{Table, is_scalar}
-use Rattle.fip_language.specs.Store.{Placed, Parts, NoParts, MoreParts, words_of, uses}
-use Rattle.cell_code.specs.declared.kind.Kind.{Kind}
-use Rattle.cell_code.specs.declared.kind.Kind.TheVariants.{Gone, Scalar, Owned, Lent, Credit}
-use Rattle.machine_semantics.specs.Cells.{Store, cell_at}
-use Rattle.machine_semantics.specs.Trees.{StandAll, IsTree}
-use Rattle.machine_semantics.specs.Apart.{Holding, holding_uses, owned_uses, trees_uses}
-use Rattle.code_rules.specs.Types.{is_type, is_scalar_type, all, field_kind}
-use Rattle.code_rules.specs.Kinds.{at, is_scalar_of, is_owned_of}
-use Rattle.code_rules.specs.Handing.{give, give_all}
-use Rattle.code_rules.specs.Changes.{forget, narrow, written, used_up, goes, tested}
-use Rattle.code_rules.specs.Fitting.{fits, fit_all}
-use Rattle.separation_kinds.specs.Meanings.{Means, AreMeant, owned_by}
-use Rattle.separation_kinds.proofs.Basics.{pick, both, equal, chosen, refused, or_not}
-use Rattle.separation_kinds.proofs.KindLemmas.{put, dropped, is_one, at_used_up, at_written}
-use Rattle.separation_kinds.proofs.Shapes.{scalar_bare}
-use Rattle.separation_kinds.proofs.Fits.{at_tested, fit_at}
-use Rattle.separation_kinds.proofs.Giving.{scalar_of, owned_of, credit_of, given_one}
-use Rattle.separation_kinds.proofs.Agree.{Past, owned_part, rooted_uses}
-use Rattle.tree_refinement.specs.Agreement.{type_in}
-use Rattle.tree_refinement.proofs.Values.{same_placed}
+use Rattle.run_loading.specs.fip_language.Table.{Table, is_scalar}
+use Rattle.run_loading.specs.fip_language.Store.{Placed, Parts, NoParts, MoreParts, words_of, uses}
+use Rattle.run_loading.specs.cell_code.declared.kind.Kind.{Kind}
+use Rattle.run_loading.specs.cell_code.declared.kind.Kind.TheVariants.{Gone, Scalar, Owned, Lent, Credit}
+use Rattle.run_loading.specs.machine_semantics.Cells.{Store, cell_at}
+use Rattle.run_loading.specs.machine_semantics.Trees.{StandAll, IsTree}
+use Rattle.run_loading.specs.machine_semantics.Apart.{Holding, holding_uses, owned_uses, trees_uses}
+use Rattle.run_loading.specs.code_rules.Types.{is_type, is_scalar_type, all, field_kind}
+use Rattle.run_loading.specs.code_rules.Kinds.{at, is_scalar_of, is_owned_of}
+use Rattle.run_loading.specs.code_rules.Handing.{give, give_all}
+use Rattle.run_loading.specs.code_rules.Changes.{forget, narrow, written, used_up, goes, tested}
+use Rattle.run_loading.specs.code_rules.Fitting.{fits, fit_all}
+use Rattle.run_loading.specs.separation_kinds.Meanings.{Means, AreMeant, owned_by}
+use Rattle.run_loading.proofs.separation_kinds.Basics.{pick, both, equal, chosen, refused, or_not}
+use Rattle.run_loading.proofs.separation_kinds.KindLemmas.{put, dropped, is_one, at_used_up, at_written}
+use Rattle.run_loading.proofs.separation_kinds.Shapes.{scalar_bare}
+use Rattle.run_loading.proofs.separation_kinds.Fits.{at_tested, fit_at}
+use Rattle.run_loading.proofs.separation_kinds.Giving.{scalar_of, owned_of, credit_of, given_one}
+use Rattle.run_loading.proofs.separation_kinds.Agree.{Past, owned_part, rooted_uses}
+use Rattle.run_loading.specs.tree_refinement.Agreement.{type_in}
+use Rattle.run_loading.proofs.tree_refinement.Values.{same_placed}
 use Rattle.task_semantics.specs.Projected.{Renaming, renamed_parts, IsLikeWord, IsRenamedTree, IsRenamedWord}
 use Rattle.task_semantics.proofs.Renamings.{like_of_tree, bare_word, plain_renamed, tree_moves}
 

@@ -1,21 +1,21 @@
 -- Behind an instruction the registers are alike by the kinds that are known there.
 use Rattle.std.proofs.Common.{◌≡◌, inl, inr, ℕ, suc, true, List, length, Option, Some, None, refl, sym, ap, ◌∙◌, subst, true≢false, nat_lt}
 use Rattle.std.specs.Prelude.{is_some}
-use Rattle.cell_code.specs.declared.code.Instr.{Instr}
-use Rattle.cell_code.specs.declared.code.Instr.TheVariants as I
-use Rattle.cell_code.specs.declared.kind.Kind.{Kind}
-use Rattle.machine_semantics.specs.Cells.{Store}
-use Rattle.machine_semantics.specs.Steps.{Kinds}
-use Rattle.code_rules.specs.Codes.{PlainCode, PlainFunction, function_at, label_at}
-use Rattle.code_rules.specs.Kinds.{at}
-use Rattle.code_rules.specs.Ranges.{in_range, is_target}
-use Rattle.code_rules.specs.Leaves.{Jumps}
-use Rattle.code_rules.specs.Flow.{Comes, KnownAt, GoesTo}
-use Rattle.code_rules.specs.Breaks.{IsSound}
-use Rattle.separation_kinds.proofs.Basics.{both}
-use Rattle.separation_kinds.proofs.Fits.{fit_length}
-use Rattle.separation.specs.Codes.{AreKinds}
-use Rattle.separation.proofs.Sound.{fits_label}
+use Rattle.run_loading.specs.cell_code.declared.code.Instr.{Instr}
+use Rattle.run_loading.specs.cell_code.declared.code.Instr.TheVariants as I
+use Rattle.run_loading.specs.cell_code.declared.kind.Kind.{Kind}
+use Rattle.run_loading.specs.machine_semantics.Cells.{Store}
+use Rattle.run_loading.specs.machine_semantics.Steps.{Kinds}
+use Rattle.run_loading.specs.code_rules.Codes.{PlainCode, PlainFunction, function_at, label_at}
+use Rattle.run_loading.specs.code_rules.Kinds.{at}
+use Rattle.run_loading.specs.code_rules.Ranges.{in_range, is_target}
+use Rattle.run_loading.specs.code_rules.Leaves.{Jumps}
+use Rattle.run_loading.specs.code_rules.Flow.{Comes, KnownAt, GoesTo}
+use Rattle.run_loading.specs.code_rules.Breaks.{IsSound}
+use Rattle.run_loading.proofs.separation_kinds.Basics.{both}
+use Rattle.run_loading.proofs.separation_kinds.Fits.{fit_length}
+use Rattle.run_loading.specs.separation.Codes.{AreKinds}
+use Rattle.run_loading.proofs.separation.Sound.{fits_label}
 use Rattle.task_semantics.specs.Projected.{Renaming}
 use Rattle.task_semantics.proofs.AlikeWords.{AreAlike, fitted_alike}
 

@@ -3,21 +3,21 @@ use Rattle.std.proofs.Common.{◌≡◌, ◌≢◌, ℕ, zero, suc, ◌+◌, ◌
 use Rattle.std.proofs.lemmas.List.{length-map}
 use Rattle.std.proofs.lemmas.Option.{none-some, same_Some, slice_get-map}
 use Rattle.std.specs.Prelude.{slice_get, option_map}
-use Rattle.fip_base.specs.declared.plain.Param.{Param}
-use Rattle.fip_language.specs.Every.{Every}
-use Rattle.fip_language.specs.Store.{Cell}
-use Rattle.machine_semantics.specs.Apart.{AreSpare}
-use Rattle.machine_semantics.specs.Cells.{Store, IsStore, cell_at, there, one_if_some, released_at}
-use Rattle.machine_semantics.specs.Runs.{Run, loaded, loaded_in, begun}
-use Rattle.machine_semantics.specs.States.{State}
-use Rattle.machine_semantics.specs.Steps.{Kinds}
-use Rattle.machine_semantics.specs.Trees.{StandAll}
-use Rattle.code_rules.specs.Breaks.{IsSound}
-use Rattle.code_rules.specs.Codes.{PlainCode, function_at}
-use Rattle.separation.specs.Codes.{run_code, HasLiterals, AreKinds}
-use Rattle.separation.specs.Starts.{IsStart}
-use Rattle.separation.proofs.Calling.{run_function_at}
-use Rattle.separation.proofs.Loading.{loaded_is}
+use Rattle.run_loading.specs.fip_base.declared.plain.Param.{Param}
+use Rattle.run_loading.specs.fip_language.Every.{Every}
+use Rattle.run_loading.specs.fip_language.Store.{Cell}
+use Rattle.run_loading.specs.machine_semantics.Apart.{AreSpare}
+use Rattle.run_loading.specs.machine_semantics.Cells.{Store, IsStore, cell_at, there, one_if_some, released_at}
+use Rattle.run_loading.specs.machine_semantics.Runs.{Run, loaded, loaded_in, begun}
+use Rattle.run_loading.specs.machine_semantics.States.{State}
+use Rattle.run_loading.specs.machine_semantics.Steps.{Kinds}
+use Rattle.run_loading.specs.machine_semantics.Trees.{StandAll}
+use Rattle.run_loading.specs.code_rules.Breaks.{IsSound}
+use Rattle.run_loading.specs.code_rules.Codes.{PlainCode, function_at}
+use Rattle.run_loading.specs.separation.Codes.{run_code, HasLiterals, AreKinds}
+use Rattle.run_loading.specs.separation.Starts.{IsStart}
+use Rattle.run_loading.proofs.separation.Calling.{run_function_at}
+use Rattle.run_loading.proofs.separation.Loading.{loaded_is}
 use Rattle.task_semantics.specs.Projected.{Begun, IsThere, renamed_parts, IsProjected, IsSameRun, BeginTogether, AreLoaded}
 use Rattle.task_semantics.specs.Schedules.{Shared, in_store}
 use Rattle.task_semantics.proofs.Entries.{first_state, given_words, first_projected}

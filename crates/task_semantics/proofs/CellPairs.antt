@@ -1,40 +1,40 @@
 -- Instructions that change cells, alone and among others: Free, Drop, Put.
 use Rattle.std.proofs.Common.{◌≡◌, ℕ, suc, ◌+◌, ◌<◌, ◌≤◌, true, ◌&&◌, List, [], ◌∷◌, length, map, Option, Some, None, slice_get, refl, sym, ap, ◌∙◌, subst, true≢false, arith, nat_lt, ◌==◌}
 use Rattle.std.specs.Prelude.{option_and_then, option_map, is_some}
-use Rattle.fip_language.specs.Table.{Table}
-use Rattle.fip_language.specs.Store.{Cell, Placed, At, Parts, NoParts, MoreParts, places, words_of, uses, uses_of_all, one_at, count}
-use Rattle.cell_code.specs.declared.code.Instr.{Instr}
-use Rattle.cell_code.specs.declared.code.Instr.TheVariants as I
-use Rattle.cell_code.specs.declared.kind.Kind.{Kind}
-use Rattle.cell_code.specs.declared.kind.Kind.TheVariants.{Gone, Scalar, Owned, Lent, Credit}
-use Rattle.machine_semantics.specs.Words.{place_word, place_of}
-use Rattle.machine_semantics.specs.Cells.{Store, Release, Write, cell_at, there, released_at}
-use Rattle.machine_semantics.specs.Trees.{HasPart, Stands, StandAll, IsTree}
-use Rattle.machine_semantics.specs.States.{State}
-use Rattle.machine_semantics.specs.Rows as R
-use Rattle.machine_semantics.specs.Apart.{Holding, holding_uses, owned_uses, trees_uses}
-use Rattle.code_rules.specs.Codes.{PlainCode, PlainFunction}
-use Rattle.code_rules.specs.Types.{fields, fields_of}
-use Rattle.code_rules.specs.Kinds.{at, kind_or_gone, is_owned, is_credit}
-use Rattle.code_rules.specs.Ranges.{are_below, is_constructor}
-use Rattle.code_rules.specs.Changes.{written, used_up, forget}
-use Rattle.code_rules.specs.Handing.{give_all}
-use Rattle.code_rules.specs.Leaves.{Leaves}
-use Rattle.separation_kinds.specs.Meanings.{Means, AreMeant, IsSpare, word_at, owned_by}
-use Rattle.separation_kinds.proofs.Basics.{pick, chosen, both, equal, below, at_past, length_map, sum_same}
-use Rattle.separation_kinds.proofs.KindLemmas.{put, dropped, is_one, at_written}
-use Rattle.separation_kinds.proofs.Changing.{weaken_at, count_used_up, count_gone, credit_not_owned}
-use Rattle.separation_kinds.proofs.Agree.{one_here, Past, stand_all_agree}
-use Rattle.separation_kinds.proofs.Words.{word_get, read_words}
-use Rattle.separation_kinds.proofs.Giving.{credit_of, AreGiven, given}
-use Rattle.separation_kinds.proofs.Passing.{credit_within}
-use Rattle.separation.specs.Rows.{IsReady}
-use Rattle.separation.proofs.Reading.{place_is}
-use Rattle.separation.proofs.Stores.{there_few, sized_at, IsWritten, is_written, AreReleased, are_released, count_places}
-use Rattle.separation.proofs.Depth.{tree_found}
-use Rattle.separation.proofs.PlainRows.{goes_on}
-use Rattle.separation.proofs.CellRows.{shape_at}
-use Rattle.tree_refinement.proofs.Values.{same_parts}
+use Rattle.run_loading.specs.fip_language.Table.{Table}
+use Rattle.run_loading.specs.fip_language.Store.{Cell, Placed, At, Parts, NoParts, MoreParts, places, words_of, uses, uses_of_all, one_at, count}
+use Rattle.run_loading.specs.cell_code.declared.code.Instr.{Instr}
+use Rattle.run_loading.specs.cell_code.declared.code.Instr.TheVariants as I
+use Rattle.run_loading.specs.cell_code.declared.kind.Kind.{Kind}
+use Rattle.run_loading.specs.cell_code.declared.kind.Kind.TheVariants.{Gone, Scalar, Owned, Lent, Credit}
+use Rattle.run_loading.specs.machine_semantics.Words.{place_word, place_of}
+use Rattle.run_loading.specs.machine_semantics.Cells.{Store, Release, Write, cell_at, there, released_at}
+use Rattle.run_loading.specs.machine_semantics.Trees.{HasPart, Stands, StandAll, IsTree}
+use Rattle.run_loading.specs.machine_semantics.States.{State}
+use Rattle.run_loading.specs.machine_semantics.Rows as R
+use Rattle.run_loading.specs.machine_semantics.Apart.{Holding, holding_uses, owned_uses, trees_uses}
+use Rattle.run_loading.specs.code_rules.Codes.{PlainCode, PlainFunction}
+use Rattle.run_loading.specs.code_rules.Types.{fields, fields_of}
+use Rattle.run_loading.specs.code_rules.Kinds.{at, kind_or_gone, is_owned, is_credit}
+use Rattle.run_loading.specs.code_rules.Ranges.{are_below, is_constructor}
+use Rattle.run_loading.specs.code_rules.Changes.{written, used_up, forget}
+use Rattle.run_loading.specs.code_rules.Handing.{give_all}
+use Rattle.run_loading.specs.code_rules.Leaves.{Leaves}
+use Rattle.run_loading.specs.separation_kinds.Meanings.{Means, AreMeant, IsSpare, word_at, owned_by}
+use Rattle.run_loading.proofs.separation_kinds.Basics.{pick, chosen, both, equal, below, at_past, length_map, sum_same}
+use Rattle.run_loading.proofs.separation_kinds.KindLemmas.{put, dropped, is_one, at_written}
+use Rattle.run_loading.proofs.separation_kinds.Changing.{weaken_at, count_used_up, count_gone, credit_not_owned}
+use Rattle.run_loading.proofs.separation_kinds.Agree.{one_here, Past, stand_all_agree}
+use Rattle.run_loading.proofs.separation_kinds.Words.{word_get, read_words}
+use Rattle.run_loading.proofs.separation_kinds.Giving.{credit_of, AreGiven, given}
+use Rattle.run_loading.proofs.separation_kinds.Passing.{credit_within}
+use Rattle.run_loading.specs.separation.Rows.{IsReady}
+use Rattle.run_loading.proofs.separation.Reading.{place_is}
+use Rattle.run_loading.proofs.separation.Stores.{there_few, sized_at, IsWritten, is_written, AreReleased, are_released, count_places}
+use Rattle.run_loading.proofs.separation.Depth.{tree_found}
+use Rattle.run_loading.proofs.separation.PlainRows.{goes_on}
+use Rattle.run_loading.proofs.separation.CellRows.{shape_at}
+use Rattle.run_loading.proofs.tree_refinement.Values.{same_parts}
 use Rattle.task_semantics.specs.Projected.{Renaming, renamed_word, renamed, renamed_parts, IsThere, IsRenamedTree, IsRenamedWord}
 use Rattle.task_semantics.proofs.Renamings.{place_renamed, like_of_parts, some_there, renamed_all_uses, places_renamed}
 use Rattle.task_semantics.proofs.SameCells.{one_place, there_some, mate_of, few_renamed, written_renamed, written_beyond, released_renamed, released_beyond}

@@ -1,23 +1,23 @@
 -- A task that lies apart from others ends as alone, and alone as its function ends on trees.
 use Rattle.std.proofs.Common.{◌≡◌, ℕ, ◌+◌, ◌≤◌, List, [], Some, refl, sym, ap, ap₂, ◌∙◌, subst}
 use Rattle.std.specs.Prelude.{slice_get}
-use Rattle.fip_language.specs.Store.{count, values_of}
-use Rattle.machine_semantics.specs.Cells.{Store, IsStore, there, released_at}
-use Rattle.machine_semantics.specs.Runs.{End, Run, Going, Over, begun, after}
-use Rattle.machine_semantics.specs.States.{State}
-use Rattle.machine_semantics.specs.Steps.{Kinds}
-use Rattle.code_rules.specs.Breaks.{IsSound}
-use Rattle.code_rules.specs.Codes.{PlainCode}
-use Rattle.separation.specs.Codes.{run_code, HasLiterals, AreKinds}
-use Rattle.separation.specs.Starts.{IsStart}
-use Rattle.separation.proofs.Loading.{loaded_is}
+use Rattle.run_loading.specs.fip_language.Store.{count, values_of}
+use Rattle.run_loading.specs.machine_semantics.Cells.{Store, IsStore, there, released_at}
+use Rattle.run_loading.specs.machine_semantics.Runs.{End, Run, Going, Over, begun, after}
+use Rattle.run_loading.specs.machine_semantics.States.{State}
+use Rattle.run_loading.specs.machine_semantics.Steps.{Kinds}
+use Rattle.run_loading.specs.code_rules.Breaks.{IsSound}
+use Rattle.run_loading.specs.code_rules.Codes.{PlainCode}
+use Rattle.run_loading.specs.separation.Codes.{run_code, HasLiterals, AreKinds}
+use Rattle.run_loading.specs.separation.Starts.{IsStart}
+use Rattle.run_loading.proofs.separation.Loading.{loaded_is}
 use Rattle.task_semantics.specs.Projected.{Begun, IsSameRun}
 use Rattle.task_semantics.specs.Schedules.{Shared, scheduled, in_store}
 use Rattle.task_semantics.proofs.Scheduling.{each_is_alone}
-use Rattle.tree_refinement.specs.Runs.{BeginsWith}
-use Rattle.tree_refinement.proofs.Loading.{begins_with, begins_values}
-use Rattle.tree_refinement.proofs.Running.{trees_end}
-use Rattle.tree_semantics.specs.Runs as T
+use Rattle.run_loading.specs.tree_refinement.Runs.{BeginsWith}
+use Rattle.run_loading.proofs.tree_refinement.Loading.{begins_with, begins_values}
+use Rattle.run_loading.proofs.tree_refinement.Running.{trees_end}
+use Rattle.run_loading.specs.tree_semantics.Runs as T
 use Rattle.task_semantics.specs.Ended.{EndsOnTrees}
 use Rattle.task_semantics.specs.Laid.{Task}
 use Rattle.task_semantics.proofs.Ends.{OwnEnds, same_answer}

@@ -1,27 +1,27 @@
 -- What a task gave among others stands for the values of what it gives alone; so its end is that of the run on trees.
 use Rattle.std.proofs.Common.{◌≡◌, ℕ, zero, suc, ◌+◌, List, [], ◌∷◌, length, Some, slice_get, refl, sym, ap, ap₂, ◌∙◌, subst}
 use Rattle.std.proofs.lemmas.Option.{none-some, same_Some}
-use Rattle.fip_language.specs.declared.TrapKind.{TrapKind}
-use Rattle.fip_language.specs.Meaning as M
-use Rattle.fip_language.specs.Store.{count, Placed, PlacedInt, Bare, At, Parts, NoParts, MoreParts, word_of, words_of, value_of, values_of}
-use Rattle.fip_language.specs.Table.{Table}
-use Rattle.fip_language.specs.Values.{Values, Node, More}
-use Rattle.machine_semantics.specs.Cells.{Store}
-use Rattle.machine_semantics.specs.Codes as R
-use Rattle.machine_semantics.specs.Runs.{End, Value, Trap, Out, Deep, Unsound, Run, Going, Over, Ends, begun, after}
-use Rattle.machine_semantics.specs.States.{State}
-use Rattle.machine_semantics.specs.Steps.{Kinds}
-use Rattle.machine_semantics.specs.Trees.{StandAll}
-use Rattle.code_rules.specs.Breaks.{IsSound}
-use Rattle.code_rules.specs.Codes.{PlainCode, results}
-use Rattle.separation.specs.Codes.{run_code, HasLiterals, AreKinds}
-use Rattle.separation.proofs.Apartness.{run_results}
-use Rattle.separation.proofs.Loading.{loaded_is}
-use Rattle.tree_semantics.specs.Runs as T
-use Rattle.tree_refinement.specs.Agreement.{AreWordsOf}
-use Rattle.tree_refinement.specs.Runs as A
-use Rattle.tree_refinement.proofs.Running.{trees_end}
-use Rattle.tree_refinement.proofs.Values.{same_placed}
+use Rattle.run_loading.specs.fip_language.declared.TrapKind.{TrapKind}
+use Rattle.run_loading.specs.fip_language.Meaning as M
+use Rattle.run_loading.specs.fip_language.Store.{count, Placed, PlacedInt, Bare, At, Parts, NoParts, MoreParts, word_of, words_of, value_of, values_of}
+use Rattle.run_loading.specs.fip_language.Table.{Table}
+use Rattle.run_loading.specs.fip_language.Values.{Values, Node, More}
+use Rattle.run_loading.specs.machine_semantics.Cells.{Store}
+use Rattle.run_loading.specs.machine_semantics.Codes as R
+use Rattle.run_loading.specs.machine_semantics.Runs.{End, Value, Trap, Out, Deep, Unsound, Run, Going, Over, Ends, begun, after}
+use Rattle.run_loading.specs.machine_semantics.States.{State}
+use Rattle.run_loading.specs.machine_semantics.Steps.{Kinds}
+use Rattle.run_loading.specs.machine_semantics.Trees.{StandAll}
+use Rattle.run_loading.specs.code_rules.Breaks.{IsSound}
+use Rattle.run_loading.specs.code_rules.Codes.{PlainCode, results}
+use Rattle.run_loading.specs.separation.Codes.{run_code, HasLiterals, AreKinds}
+use Rattle.run_loading.proofs.separation.Apartness.{run_results}
+use Rattle.run_loading.proofs.separation.Loading.{loaded_is}
+use Rattle.run_loading.specs.tree_semantics.Runs as T
+use Rattle.run_loading.specs.tree_refinement.Agreement.{AreWordsOf}
+use Rattle.run_loading.specs.tree_refinement.Runs as A
+use Rattle.run_loading.proofs.tree_refinement.Running.{trees_end}
+use Rattle.run_loading.proofs.tree_refinement.Values.{same_placed}
 use Rattle.run_loading.specs.Loading.{first_store, first_words}
 use Rattle.run_loading.proofs.Begins.{begins}
 use Rattle.task_semantics.specs.Projected.{Renaming, renamed, renamed_parts, AreRenamedTrees, IsSameEnd, IsSameRun, Begun}

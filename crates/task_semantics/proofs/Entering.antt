@@ -2,31 +2,31 @@
 use Rattle.std.proofs.Common.{◌≡◌, ℕ, zero, suc, ◌+◌, ◌-◌, Bool, true, false, ◌&&◌, List, ◌∷◌, ◌++◌, length, map, Option, Some, None, refl, sym, ◌∙◌, subst, arith, nat_lt, if◌then◌else◌}
 use Rattle.std.specs.Prelude.{is_some, replicate}
 use Rattle.std.proofs.lemmas.Option.{none-some}
-use Rattle.cell_code.specs.declared.code.Instr.TheVariants as I
-use Rattle.cell_code.specs.declared.kind.Kind.{Kind}
-use Rattle.cell_code.specs.declared.kind.Kind.TheVariants.{Credit}
-use Rattle.fip_language.specs.Store.{Placed}
-use Rattle.machine_semantics.specs.Codes as C
-use Rattle.machine_semantics.specs.Cells.{Store}
-use Rattle.machine_semantics.specs.Rows.{read_all}
-use Rattle.machine_semantics.specs.States.{State}
-use Rattle.machine_semantics.specs.Steps.{Kinds, first_words, first_frame, called, called_with, replaced}
-use Rattle.code_rules.specs.Codes.{PlainCode, PlainFunction, function_at, results}
-use Rattle.code_rules.specs.Kinds.{at}
-use Rattle.code_rules.specs.Entry.{param_kind, entry}
-use Rattle.code_rules.specs.Ranges.{are_below}
-use Rattle.code_rules.specs.Asked.{destinations, same_types, tail_left}
-use Rattle.code_rules.specs.Handing.{arguments}
-use Rattle.code_rules.specs.Flow.{IsInstr, is_as_asked}
-use Rattle.code_rules.specs.Breaks.{IsSound}
-use Rattle.separation_kinds.specs.Meanings.{word_at}
-use Rattle.separation_kinds.proofs.Basics.{both, length_map}
-use Rattle.separation_kinds.proofs.Words.{read_words}
-use Rattle.separation.specs.Codes.{run_function, run_code, AreKinds}
-use Rattle.separation.specs.Alive.{lower_trees, IsAlive}
-use Rattle.separation.proofs.Sound.{formed, has_form}
-use Rattle.separation.proofs.Calling.{run_function_at, known_entry, entry_wide, first_long, some_left, callee_at}
-use Rattle.separation.proofs.Calling as Calling
+use Rattle.run_loading.specs.cell_code.declared.code.Instr.TheVariants as I
+use Rattle.run_loading.specs.cell_code.declared.kind.Kind.{Kind}
+use Rattle.run_loading.specs.cell_code.declared.kind.Kind.TheVariants.{Credit}
+use Rattle.run_loading.specs.fip_language.Store.{Placed}
+use Rattle.run_loading.specs.machine_semantics.Codes as C
+use Rattle.run_loading.specs.machine_semantics.Cells.{Store}
+use Rattle.run_loading.specs.machine_semantics.Rows.{read_all}
+use Rattle.run_loading.specs.machine_semantics.States.{State}
+use Rattle.run_loading.specs.machine_semantics.Steps.{Kinds, first_words, first_frame, called, called_with, replaced}
+use Rattle.run_loading.specs.code_rules.Codes.{PlainCode, PlainFunction, function_at, results}
+use Rattle.run_loading.specs.code_rules.Kinds.{at}
+use Rattle.run_loading.specs.code_rules.Entry.{param_kind, entry}
+use Rattle.run_loading.specs.code_rules.Ranges.{are_below}
+use Rattle.run_loading.specs.code_rules.Asked.{destinations, same_types, tail_left}
+use Rattle.run_loading.specs.code_rules.Handing.{arguments}
+use Rattle.run_loading.specs.code_rules.Flow.{IsInstr, is_as_asked}
+use Rattle.run_loading.specs.code_rules.Breaks.{IsSound}
+use Rattle.run_loading.specs.separation_kinds.Meanings.{word_at}
+use Rattle.run_loading.proofs.separation_kinds.Basics.{both, length_map}
+use Rattle.run_loading.proofs.separation_kinds.Words.{read_words}
+use Rattle.run_loading.specs.separation.Codes.{run_function, run_code, AreKinds}
+use Rattle.run_loading.specs.separation.Alive.{lower_trees, IsAlive}
+use Rattle.run_loading.proofs.separation.Sound.{formed, has_form}
+use Rattle.run_loading.proofs.separation.Calling.{run_function_at, known_entry, entry_wide, first_long, some_left, callee_at}
+use Rattle.run_loading.proofs.separation.Calling as Calling
 use Rattle.task_semantics.specs.Projected.{Renaming, IsRenamedFrame, AreRenamedWords, IsProjected}
 use Rattle.task_semantics.proofs.AlikeWords.{AreAlike}
 use Rattle.task_semantics.proofs.PlainPairs.{IsPair}

@@ -2,25 +2,25 @@
 -- of which the one is that of the task alone.
 use Rattle.std.proofs.Common.{◌≡◌, ℕ, zero, suc, ◌+◌, ◌-◌, Bool, true, false, ◌&&◌, not, List, [], ◌∷◌, ◌++◌, length, map, Some, None, inl, refl, sym, ap, subst, arith, if◌then◌else◌}
 use Rattle.std.specs.Prelude.{replicate}
-use Rattle.fip_base.specs.declared.plain.Param.{Param}
-use Rattle.fip_language.specs.Store.{Parts, NoParts, MoreParts, word_of, words_of}
-use Rattle.fip_language.specs.Table.{Table, is_scalar}
-use Rattle.cell_code.specs.declared.kind.Kind.{Kind}
-use Rattle.cell_code.specs.declared.kind.Kind.TheVariants.{Scalar, Owned, Lent, Credit}
-use Rattle.machine_semantics.specs.Cells.{Store}
-use Rattle.machine_semantics.specs.Runs.{lent_words}
-use Rattle.machine_semantics.specs.States.{State, Typed}
-use Rattle.machine_semantics.specs.Steps.{Kinds, first_words, first_frame}
-use Rattle.machine_semantics.specs.Trees.{StandAll}
-use Rattle.machine_semantics.specs.Words.{place_word}
-use Rattle.code_rules.specs.Breaks.{IsSound}
-use Rattle.code_rules.specs.Codes.{PlainCode, PlainFunction, function_at}
-use Rattle.code_rules.specs.Entry.{param_kind, gones, entry}
-use Rattle.code_rules.specs.Types.{is_scalar_type, all}
-use Rattle.separation_kinds.proofs.Basics.{pick, chosen, length_map}
-use Rattle.separation.specs.Codes.{run_function, run_code, AreKinds}
-use Rattle.separation.proofs.Calling.{known_entry, length_append}
-use Rattle.separation.proofs.Sound.{formed, has_form}
+use Rattle.run_loading.specs.fip_base.declared.plain.Param.{Param}
+use Rattle.run_loading.specs.fip_language.Store.{Parts, NoParts, MoreParts, word_of, words_of}
+use Rattle.run_loading.specs.fip_language.Table.{Table, is_scalar}
+use Rattle.run_loading.specs.cell_code.declared.kind.Kind.{Kind}
+use Rattle.run_loading.specs.cell_code.declared.kind.Kind.TheVariants.{Scalar, Owned, Lent, Credit}
+use Rattle.run_loading.specs.machine_semantics.Cells.{Store}
+use Rattle.run_loading.specs.machine_semantics.Runs.{lent_words}
+use Rattle.run_loading.specs.machine_semantics.States.{State, Typed}
+use Rattle.run_loading.specs.machine_semantics.Steps.{Kinds, first_words, first_frame}
+use Rattle.run_loading.specs.machine_semantics.Trees.{StandAll}
+use Rattle.run_loading.specs.machine_semantics.Words.{place_word}
+use Rattle.run_loading.specs.code_rules.Breaks.{IsSound}
+use Rattle.run_loading.specs.code_rules.Codes.{PlainCode, PlainFunction, function_at}
+use Rattle.run_loading.specs.code_rules.Entry.{param_kind, gones, entry}
+use Rattle.run_loading.specs.code_rules.Types.{is_scalar_type, all}
+use Rattle.run_loading.proofs.separation_kinds.Basics.{pick, chosen, length_map}
+use Rattle.run_loading.specs.separation.Codes.{run_function, run_code, AreKinds}
+use Rattle.run_loading.proofs.separation.Calling.{known_entry, length_append}
+use Rattle.run_loading.proofs.separation.Sound.{formed, has_form}
 use Rattle.task_semantics.specs.Projected.{Renaming, renamed, renamed_parts, AreRenamed, IsRenamedTree, IsRenamedWord, AreRenamedWords, AreRenamedArguments, IsProjected}
 use Rattle.task_semantics.proofs.AlikeWords.{field_alike}
 use Rattle.task_semantics.proofs.Renamings.{place_renamed}

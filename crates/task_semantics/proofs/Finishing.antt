@@ -3,20 +3,20 @@
 use Rattle.std.proofs.Common.{◌≡◌, ℕ, zero, suc, ◌+◌, ◌-◌, ◌<◌, ◌≤◌, List, [], ◌∷◌, ◌++◌, length, Option, Some, None, slice_get, refl, sym, ap, ◌∙◌, subst, arith}
 use Rattle.std.specs.Prelude.{replicate, slice_set}
 use Rattle.std.proofs.lemmas.Option.{none-some, same_Some}
-use Rattle.fip_language.specs.Every.{Every}
-use Rattle.fip_language.specs.Store.{count}
-use Rattle.fip_language.proofs.Search.{slice_get_there}
-use Rattle.machine_semantics.specs.Codes as R
-use Rattle.machine_semantics.specs.Runs.{Run, Going, Over, begun, later, after}
-use Rattle.machine_semantics.specs.Cells.{Store}
-use Rattle.machine_semantics.specs.Steps.{Kinds}
-use Rattle.separation_kinds.proofs.Agree.{one_here}
-use Rattle.separation.proofs.Stores.{count_append}
-use Rattle.code_rules.specs.Breaks.{IsSound}
-use Rattle.code_rules.specs.Codes.{PlainCode}
-use Rattle.separation.specs.Codes.{run_code, HasLiterals, AreKinds}
-use Rattle.separation.specs.Starts.{IsStart}
-use Rattle.separation_bounds.proofs.Ending.{run_ends}
+use Rattle.run_loading.specs.fip_language.Every.{Every}
+use Rattle.run_loading.specs.fip_language.Store.{count}
+use Rattle.run_loading.proofs.fip_language.Search.{slice_get_there}
+use Rattle.run_loading.specs.machine_semantics.Codes as R
+use Rattle.run_loading.specs.machine_semantics.Runs.{Run, Going, Over, begun, later, after}
+use Rattle.run_loading.specs.machine_semantics.Cells.{Store}
+use Rattle.run_loading.specs.machine_semantics.Steps.{Kinds}
+use Rattle.run_loading.proofs.separation_kinds.Agree.{one_here}
+use Rattle.run_loading.proofs.separation.Stores.{count_append}
+use Rattle.run_loading.specs.code_rules.Breaks.{IsSound}
+use Rattle.run_loading.specs.code_rules.Codes.{PlainCode}
+use Rattle.run_loading.specs.separation.Codes.{run_code, HasLiterals, AreKinds}
+use Rattle.run_loading.specs.separation.Starts.{IsStart}
+use Rattle.run_loading.proofs.separation_bounds.Ending.{run_ends}
 use Rattle.task_semantics.specs.Projected.{Begun, IsSameRun}
 use Rattle.task_semantics.specs.Schedules.{Shared, in_store, turn, turned, scheduled, in_order, IsOver, EndsAll}
 use Rattle.task_semantics.proofs.Scheduling.{each_is_alone}

@@ -1,22 +1,22 @@
 -- Frames alone and among others: their registers as lists and by number, and that they stay alike where none of their
 -- cells changes.
 use Rattle.std.proofs.Common.{◌≡◌, ℕ, zero, suc, ◌+◌, ◌<◌, List, [], ◌∷◌, length, map, inl, refl, sym, ap, subst, arith}
-use Rattle.fip_language.specs.Table.{Table}
-use Rattle.fip_language.specs.Store.{Placed, Parts, NoParts, MoreParts, words_of}
-use Rattle.cell_code.specs.declared.kind.Kind.{Kind}
-use Rattle.machine_semantics.specs.Cells.{Store, IsStore, there}
-use Rattle.machine_semantics.specs.Trees.{StandAll}
-use Rattle.machine_semantics.specs.States.{Frame, Typed, State, Next, Went, Entered, Gave, Trapped, TooDeep}
-use Rattle.machine_semantics.specs.Steps.{Kinds}
-use Rattle.machine_semantics.specs.Apart.{trees_uses, AreTrees}
-use Rattle.code_rules.specs.Codes.{PlainCode}
-use Rattle.code_rules.specs.Kinds.{at}
-use Rattle.separation_kinds.specs.Meanings.{owned_by, word_at}
-use Rattle.separation_kinds.proofs.Basics.{at_past}
-use Rattle.separation.specs.Codes.{run_code, AreKinds}
-use Rattle.separation.specs.Alive.{Frozen, frozen_slots, lower_trees, IsWaiting, AreAllWaiting}
-use Rattle.separation.proofs.Lower.{lower_uses, below_uses, slots_owned}
-use Rattle.tree_refinement.proofs.Inside.{waits_at}
+use Rattle.run_loading.specs.fip_language.Table.{Table}
+use Rattle.run_loading.specs.fip_language.Store.{Placed, Parts, NoParts, MoreParts, words_of}
+use Rattle.run_loading.specs.cell_code.declared.kind.Kind.{Kind}
+use Rattle.run_loading.specs.machine_semantics.Cells.{Store, IsStore, there}
+use Rattle.run_loading.specs.machine_semantics.Trees.{StandAll}
+use Rattle.run_loading.specs.machine_semantics.States.{Frame, Typed, State, Next, Went, Entered, Gave, Trapped, TooDeep}
+use Rattle.run_loading.specs.machine_semantics.Steps.{Kinds}
+use Rattle.run_loading.specs.machine_semantics.Apart.{trees_uses, AreTrees}
+use Rattle.run_loading.specs.code_rules.Codes.{PlainCode}
+use Rattle.run_loading.specs.code_rules.Kinds.{at}
+use Rattle.run_loading.specs.separation_kinds.Meanings.{owned_by, word_at}
+use Rattle.run_loading.proofs.separation_kinds.Basics.{at_past}
+use Rattle.run_loading.specs.separation.Codes.{run_code, AreKinds}
+use Rattle.run_loading.specs.separation.Alive.{Frozen, frozen_slots, lower_trees, IsWaiting, AreAllWaiting}
+use Rattle.run_loading.proofs.separation.Lower.{lower_uses, below_uses, slots_owned}
+use Rattle.run_loading.proofs.tree_refinement.Inside.{waits_at}
 use Rattle.task_semantics.specs.Projected.{Renaming, renamed_parts, AreRenamedWords, IsRenamedWord, IsRenamedFrame, AreRenamedFrames, AreRenamedArguments, IsProjected, AreRenamedTrees}
 use Rattle.task_semantics.proofs.SameCells.{Beyond}
 use Rattle.task_semantics.proofs.AlikeWords.{AreAlike, AreKept, kept_tree, same_uses, kept_alike}

@@ -2,22 +2,22 @@
 use Rattle.std.proofs.Common.{◌≡◌, inl, inr, ℕ, zero, suc, ◌+◌, Bool, true, false, ◌&&◌, ◌||◌, not, List, [], ◌∷◌, ◌++◌, length, map, drop, Some, None, refl, sym, ◌∙◌, subst, true≢false, arith, ◌==◌, if◌then◌else◌}
 use Rattle.std.specs.Prelude.{is_some}
 use Rattle.std.proofs.lemmas.Option.{none-some, same_Some, option_and_then_some}
-use Rattle.fip_language.specs.Table.{Table}
-use Rattle.fip_base.specs.declared.plain.Param.{Param}
-use Rattle.cell_code.specs.declared.kind.Kind.{Kind}
-use Rattle.cell_code.specs.declared.kind.Kind.TheVariants.{Gone, Scalar, Owned, Lent, Credit}
-use Rattle.machine_semantics.specs.Cells.{Store}
-use Rattle.code_rules.specs.Codes.{PlainCode, PlainFunction, function_at}
-use Rattle.code_rules.specs.Types.{is_scalar_type, all}
-use Rattle.code_rules.specs.Kinds.{at, is_scalar_of, is_owned_of, is_credit_of}
-use Rattle.code_rules.specs.Entry.{param_kind, gones}
-use Rattle.code_rules.specs.Changes.{written, used_up}
-use Rattle.code_rules.specs.Handing.{pass, pass_all, hand, hand_all, is_lendable, lends, lend_all, arguments}
-use Rattle.separation_kinds.specs.Meanings.{word_at}
-use Rattle.separation_kinds.proofs.Basics.{pick, both, or_not, equal, chosen, refused}
-use Rattle.separation_kinds.proofs.Giving.{scalar_of, owned_of, credit_of}
-use Rattle.separation_kinds.proofs.Passing.{credit_within, at_gones, kind_lent}
-use Rattle.separation.proofs.Calling.{arguments_are}
+use Rattle.run_loading.specs.fip_language.Table.{Table}
+use Rattle.run_loading.specs.fip_base.declared.plain.Param.{Param}
+use Rattle.run_loading.specs.cell_code.declared.kind.Kind.{Kind}
+use Rattle.run_loading.specs.cell_code.declared.kind.Kind.TheVariants.{Gone, Scalar, Owned, Lent, Credit}
+use Rattle.run_loading.specs.machine_semantics.Cells.{Store}
+use Rattle.run_loading.specs.code_rules.Codes.{PlainCode, PlainFunction, function_at}
+use Rattle.run_loading.specs.code_rules.Types.{is_scalar_type, all}
+use Rattle.run_loading.specs.code_rules.Kinds.{at, is_scalar_of, is_owned_of, is_credit_of}
+use Rattle.run_loading.specs.code_rules.Entry.{param_kind, gones}
+use Rattle.run_loading.specs.code_rules.Changes.{written, used_up}
+use Rattle.run_loading.specs.code_rules.Handing.{pass, pass_all, hand, hand_all, is_lendable, lends, lend_all, arguments}
+use Rattle.run_loading.specs.separation_kinds.Meanings.{word_at}
+use Rattle.run_loading.proofs.separation_kinds.Basics.{pick, both, or_not, equal, chosen, refused}
+use Rattle.run_loading.proofs.separation_kinds.Giving.{scalar_of, owned_of, credit_of}
+use Rattle.run_loading.proofs.separation_kinds.Passing.{credit_within, at_gones, kind_lent}
+use Rattle.run_loading.proofs.separation.Calling.{arguments_are}
 use Rattle.task_semantics.specs.Projected.{Renaming, IsRenamedTree, IsRenamedWord}
 use Rattle.task_semantics.proofs.AlikeWords.{AreAlike, used_up_alike, gone_alike}
 

@@ -1,24 +1,24 @@
 -- A step inside a frame comes to the same alone and among others.
 use Rattle.std.proofs.Common.{◌≡◌, inl, inr, ℕ, ◌<◌, List, length, Some, refl, sym, ap, ◌∙◌, subst, arith}
 use Rattle.std.proofs.lemmas.Option.{same_Some, none-some}
-use Rattle.fip_language.specs.declared.Operator.{Operator}
-use Rattle.cell_code.specs.declared.code.Instr.{Instr}
-use Rattle.machine_semantics.specs.Cells.{Store, cell_at, there, changed_by}
-use Rattle.machine_semantics.specs.States.{State}
-use Rattle.machine_semantics.specs.Rows as R
-use Rattle.machine_semantics.specs.Steps.{Kinds, went, went_with, trapped}
-use Rattle.machine_semantics.specs.Apart.{trees_uses}
-use Rattle.code_rules.specs.Codes.{PlainCode}
-use Rattle.code_rules.specs.Kinds.{at}
-use Rattle.code_rules.specs.Breaks.{IsSound}
-use Rattle.separation_kinds.specs.Meanings.{owned_by, word_at}
-use Rattle.separation.specs.Rows.{IsDone}
-use Rattle.separation.proofs.Stores.{there_few}
-use Rattle.separation.proofs.ReadingRows.{IsCalculated}
-use Rattle.separation.specs.Codes.{run_code, AreKinds}
-use Rattle.separation.specs.Alive.{lower_trees, IsAlive}
-use Rattle.separation.proofs.Lower.{lower_uses}
-use Rattle.separation.proofs.Local.{done_alive}
+use Rattle.run_loading.specs.fip_language.declared.Operator.{Operator}
+use Rattle.run_loading.specs.cell_code.declared.code.Instr.{Instr}
+use Rattle.run_loading.specs.machine_semantics.Cells.{Store, cell_at, there, changed_by}
+use Rattle.run_loading.specs.machine_semantics.States.{State}
+use Rattle.run_loading.specs.machine_semantics.Rows as R
+use Rattle.run_loading.specs.machine_semantics.Steps.{Kinds, went, went_with, trapped}
+use Rattle.run_loading.specs.machine_semantics.Apart.{trees_uses}
+use Rattle.run_loading.specs.code_rules.Codes.{PlainCode}
+use Rattle.run_loading.specs.code_rules.Kinds.{at}
+use Rattle.run_loading.specs.code_rules.Breaks.{IsSound}
+use Rattle.run_loading.specs.separation_kinds.Meanings.{owned_by, word_at}
+use Rattle.run_loading.specs.separation.Rows.{IsDone}
+use Rattle.run_loading.proofs.separation.Stores.{there_few}
+use Rattle.run_loading.proofs.separation.ReadingRows.{IsCalculated}
+use Rattle.run_loading.specs.separation.Codes.{run_code, AreKinds}
+use Rattle.run_loading.specs.separation.Alive.{lower_trees, IsAlive}
+use Rattle.run_loading.proofs.separation.Lower.{lower_uses}
+use Rattle.run_loading.proofs.separation.Local.{done_alive}
 use Rattle.task_semantics.specs.Projected.{Renaming, IsThere, IsProjected}
 use Rattle.task_semantics.proofs.SameCells.{there_some}
 use Rattle.task_semantics.proofs.AlikeWords.{AreAlike, AreKept}

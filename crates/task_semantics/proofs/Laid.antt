@@ -4,22 +4,22 @@
 use Rattle.std.proofs.Common.{◌≡◌, ◌≢◌, inl, inr, ℕ, zero, suc, ◌+◌, ◌<◌, ◌≤◌, false, List, [], ◌∷◌, ◌++◌, length, map, Option, Some, None, slice_get, refl, sym, ap, ap₂, ◌∙◌, subst, arith}
 use Rattle.std.proofs.lemmas.List.{length-replicate}
 use Rattle.std.proofs.lemmas.Option.{none-some, same_Some}
-use Rattle.fip_language.specs.Every.{Every}
-use Rattle.fip_language.specs.Store.{Cell, Parts}
-use Rattle.fip_language.specs.Values.{Values}
-use Rattle.machine_semantics.specs.Cells.{Store, IsSized, IsStore, cell_in}
-use Rattle.machine_semantics.specs.Runs.{Run, loaded_in, begun}
-use Rattle.machine_semantics.specs.States.{State}
-use Rattle.machine_semantics.specs.Steps.{Kinds}
-use Rattle.machine_semantics.specs.Trees.{StandAll}
-use Rattle.code_rules.specs.Breaks.{IsSound}
-use Rattle.code_rules.specs.Codes.{PlainCode}
-use Rattle.separation_kinds.proofs.Basics.{less_or_not}
-use Rattle.separation.specs.Codes.{run_code, HasLiterals, AreKinds}
-use Rattle.separation.specs.Starts.{IsStart}
-use Rattle.separation.proofs.Calling.{length_append, run_function_at}
-use Rattle.separation.proofs.Loading.{loaded_is}
-use Rattle.separation.proofs.Sound.{formed}
+use Rattle.run_loading.specs.fip_language.Every.{Every}
+use Rattle.run_loading.specs.fip_language.Store.{Cell, Parts}
+use Rattle.run_loading.specs.fip_language.Values.{Values}
+use Rattle.run_loading.specs.machine_semantics.Cells.{Store, IsSized, IsStore, cell_in}
+use Rattle.run_loading.specs.machine_semantics.Runs.{Run, loaded_in, begun}
+use Rattle.run_loading.specs.machine_semantics.States.{State}
+use Rattle.run_loading.specs.machine_semantics.Steps.{Kinds}
+use Rattle.run_loading.specs.machine_semantics.Trees.{StandAll}
+use Rattle.run_loading.specs.code_rules.Breaks.{IsSound}
+use Rattle.run_loading.specs.code_rules.Codes.{PlainCode}
+use Rattle.run_loading.proofs.separation_kinds.Basics.{less_or_not}
+use Rattle.run_loading.specs.separation.Codes.{run_code, HasLiterals, AreKinds}
+use Rattle.run_loading.specs.separation.Starts.{IsStart}
+use Rattle.run_loading.proofs.separation.Calling.{length_append, run_function_at}
+use Rattle.run_loading.proofs.separation.Loading.{loaded_is}
+use Rattle.run_loading.proofs.separation.Sound.{formed}
 use Rattle.run_loading.specs.Loading.{all_places, credit_places, unreleased, first_store, first_words}
 use Rattle.run_loading.proofs.Begins.{placed_all, placed_words, placed_stand, Has, has_left, has_right, has_all, spots, spot_words, sized_append, few_fields, all_sized, credits_sized, sizes_formed, none_released, begins, is_loaded}
 use Rattle.task_semantics.specs.Projected.{Begun, IsThere, AreRenamed, renamed_parts, IsProjected, IsSameRun, BeginTogether, AreLoaded}

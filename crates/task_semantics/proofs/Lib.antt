@@ -27,3 +27,5 @@ pub mod LoadedExamples
 pub mod Owning
 pub mod Beginning
 pub mod Ending
+pub use Rattle.run_loading.proofs.code_rules as code_rules
+pub use Rattle.run_loading.proofs as run_loading

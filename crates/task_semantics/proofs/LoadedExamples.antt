@@ -2,8 +2,8 @@
 use Rattle.std.proofs.Common.{◌≡◌, ℕ, ◌+◌, ◌<◌, pos, ap, refl, arith}
 use Rattle.std.specs.Prelude.{FitsSigned, ◌^◌, ◌<◌, ℕ}
 use Rattle.std.specs.Int.{w64}
-use Rattle.machine_semantics.specs.Example.{nil_shape, cons_shape}
-use Rattle.code_rules.specs.Example.{reversal}
+use Rattle.run_loading.specs.machine_semantics.Example.{nil_shape, cons_shape}
+use Rattle.run_loading.specs.code_rules.Example.{reversal}
 use Rattle.task_semantics.specs.ScheduleExample.{both, rev_at, store_of, cells_of, first_task, tasks_alone, two_tasks}
 use Rattle.task_semantics.specs.Laid.{IsTask, AreLaid}
 use Rattle.task_semantics.specs.LoadedExample.{rev_of, two_calls}

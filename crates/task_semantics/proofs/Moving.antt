@@ -3,9 +3,9 @@
 use Rattle.std.proofs.Common.{◌≡◌, ◌≢◌, ℕ, zero, suc, ◌+◌, List, [], ◌∷◌, ◌++◌, length, map, Option, Some, None, inl, refl, sym, ap, ap₂, ◌∙◌, subst, arith}
 use Rattle.std.specs.Prelude.{replicate}
 use Rattle.std.proofs.lemmas.Option.{none-some, same_Some}
-use Rattle.fip_language.specs.Store.{Cell, At, MoreParts, words_of}
-use Rattle.fip_language.specs.Values.{Value, Int, Node, Values, End, More}
-use Rattle.machine_semantics.specs.Cells.{Store, cell_in, cell_at, size_of, credit_cell}
+use Rattle.run_loading.specs.fip_language.Store.{Cell, At, MoreParts, words_of}
+use Rattle.run_loading.specs.fip_language.Values.{Value, Int, Node, Values, End, More}
+use Rattle.run_loading.specs.machine_semantics.Cells.{Store, cell_in, cell_at, size_of, credit_cell}
 use Rattle.run_loading.specs.Loading.{places_of, value_places, all_places, value_word, all_words, credit_places}
 use Rattle.run_loading.proofs.Lengths.{value_length, all_length}
 use Rattle.run_loading.proofs.Begins.{placed, placed_all, placed_words, Has, spots}

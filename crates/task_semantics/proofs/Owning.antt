@@ -1,14 +1,14 @@
 -- The store of a task's own cells: what is there, what stands there, and that the shared store has it too.
 use Rattle.std.proofs.Common.{◌≡◌, ◌≢◌, ℕ, zero, suc, ◌+◌, ◌<◌, ◌≤◌, false, List, [], ◌∷◌, Option, Some, None, refl, sym, ap, ap₂, ◌∙◌, subst, length, map, inl, arith}
 use Rattle.std.proofs.lemmas.List.{length-replicate}
-use Rattle.fip_base.specs.declared.plain.Param.{Param}
-use Rattle.fip_language.specs.Every.{Every}
-use Rattle.fip_language.specs.Store.{Cell, Placed, PlacedInt, Bare, At, Parts, NoParts, MoreParts, count, one_at}
-use Rattle.machine_semantics.specs.Apart.{AreSpare, IsGiven}
-use Rattle.machine_semantics.specs.Cells.{Store, IsSized, IsStore, cell_in, cell_at, there, one_if_some, released_at}
-use Rattle.code_rules.specs.Codes.{PlainCode}
-use Rattle.separation_kinds.proofs.Agree.{SameAt, stand_all_agree, one_here}
-use Rattle.separation.specs.Codes.{run_function}
+use Rattle.run_loading.specs.fip_base.declared.plain.Param.{Param}
+use Rattle.run_loading.specs.fip_language.Every.{Every}
+use Rattle.run_loading.specs.fip_language.Store.{Cell, Placed, PlacedInt, Bare, At, Parts, NoParts, MoreParts, count, one_at}
+use Rattle.run_loading.specs.machine_semantics.Apart.{AreSpare, IsGiven}
+use Rattle.run_loading.specs.machine_semantics.Cells.{Store, IsSized, IsStore, cell_in, cell_at, there, one_if_some, released_at}
+use Rattle.run_loading.specs.code_rules.Codes.{PlainCode}
+use Rattle.run_loading.proofs.separation_kinds.Agree.{SameAt, stand_all_agree, one_here}
+use Rattle.run_loading.specs.separation.Codes.{run_function}
 use Rattle.run_loading.proofs.Begins.{none_released}
 use Rattle.task_semantics.specs.Projected.{Renaming, renamed, renamed_parts, IsThere, IsLikeCell, AreLikeWords, AreRenamed}
 use Rattle.task_semantics.specs.Lying.{Lying, LiesIn, uses_by, cell_if, cells_used, own_store, call_words}

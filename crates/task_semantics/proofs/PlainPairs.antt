@@ -1,36 +1,36 @@
 -- Instructions that change no cell and read no tree, alone and among others: Const, Atom, Move, Jump, TestInt, Arith.
 use Rattle.std.proofs.Common.{◌≡◌, ◌⊎◌, inl, inr, ℕ, ◌+◌, ◌<◌, ℤ, Bool, true, false, ◌&&◌, List, [], ◌∷◌, length, Some, None, slice_get, slice_set, refl, sym, ap, ap₂, ◌∙◌, subst, arith, nat_lt}
 use Rattle.std.specs.Prelude.{option_and_then, option_map}
-use Rattle.fip_language.specs.declared.Operator.{Operator}
-use Rattle.fip_language.specs.declared.TrapKind.{TrapKind}
-use Rattle.fip_language.specs.Table.{Table}
-use Rattle.fip_language.specs.Store.{Placed, Bare, int_word}
-use Rattle.fip_language.specs.Matching.{same_int}
-use Rattle.fip_language.specs.Arithmetic.{Operated, Is, Fails, operate}
-use Rattle.cell_code.specs.declared.code.Instr.{Instr}
-use Rattle.cell_code.specs.declared.code.Instr.TheVariants as I
-use Rattle.cell_code.specs.declared.kind.Kind.{Kind}
-use Rattle.cell_code.specs.declared.kind.Kind.TheVariants.{Gone, Scalar, Owned, Lent, Credit}
-use Rattle.machine_semantics.specs.Words.{atom_word, int_of, scalar_word}
-use Rattle.machine_semantics.specs.Cells.{Store, IsStore, cell_at, changed_by}
-use Rattle.machine_semantics.specs.States.{State}
-use Rattle.machine_semantics.specs.Rows as R
-use Rattle.machine_semantics.specs.Apart.{Holding}
-use Rattle.code_rules.specs.Codes.{PlainCode, PlainFunction}
-use Rattle.code_rules.specs.Types.{is_scalar_type}
-use Rattle.code_rules.specs.Kinds.{at, is_scalar_of}
-use Rattle.code_rules.specs.Ranges.{is_constructor}
-use Rattle.code_rules.specs.Changes.{written, moved, moved_by}
-use Rattle.code_rules.specs.Leaves.{Leaves, atom_kind, result_type}
-use Rattle.code_rules.specs.Flow.{GoesTo}
-use Rattle.separation_kinds.specs.Meanings.{owned_by, word_at}
-use Rattle.separation_kinds.proofs.Basics.{pick, both, below, length_become}
-use Rattle.separation_kinds.proofs.KindLemmas.{put}
-use Rattle.separation_kinds.proofs.Words.{word_get, set_length, set_word, writes}
-use Rattle.separation_kinds.proofs.Giving.{scalar_of}
-use Rattle.separation_kinds.proofs.Passing.{credit_within}
-use Rattle.separation.specs.Rows.{IsReady}
-use Rattle.separation.proofs.PlainRows.{goes_on, jumps, bare_shape}
+use Rattle.run_loading.specs.fip_language.declared.Operator.{Operator}
+use Rattle.run_loading.specs.fip_language.declared.TrapKind.{TrapKind}
+use Rattle.run_loading.specs.fip_language.Table.{Table}
+use Rattle.run_loading.specs.fip_language.Store.{Placed, Bare, int_word}
+use Rattle.run_loading.specs.fip_language.Matching.{same_int}
+use Rattle.run_loading.specs.fip_language.Arithmetic.{Operated, Is, Fails, operate}
+use Rattle.run_loading.specs.cell_code.declared.code.Instr.{Instr}
+use Rattle.run_loading.specs.cell_code.declared.code.Instr.TheVariants as I
+use Rattle.run_loading.specs.cell_code.declared.kind.Kind.{Kind}
+use Rattle.run_loading.specs.cell_code.declared.kind.Kind.TheVariants.{Gone, Scalar, Owned, Lent, Credit}
+use Rattle.run_loading.specs.machine_semantics.Words.{atom_word, int_of, scalar_word}
+use Rattle.run_loading.specs.machine_semantics.Cells.{Store, IsStore, cell_at, changed_by}
+use Rattle.run_loading.specs.machine_semantics.States.{State}
+use Rattle.run_loading.specs.machine_semantics.Rows as R
+use Rattle.run_loading.specs.machine_semantics.Apart.{Holding}
+use Rattle.run_loading.specs.code_rules.Codes.{PlainCode, PlainFunction}
+use Rattle.run_loading.specs.code_rules.Types.{is_scalar_type}
+use Rattle.run_loading.specs.code_rules.Kinds.{at, is_scalar_of}
+use Rattle.run_loading.specs.code_rules.Ranges.{is_constructor}
+use Rattle.run_loading.specs.code_rules.Changes.{written, moved, moved_by}
+use Rattle.run_loading.specs.code_rules.Leaves.{Leaves, atom_kind, result_type}
+use Rattle.run_loading.specs.code_rules.Flow.{GoesTo}
+use Rattle.run_loading.specs.separation_kinds.Meanings.{owned_by, word_at}
+use Rattle.run_loading.proofs.separation_kinds.Basics.{pick, both, below, length_become}
+use Rattle.run_loading.proofs.separation_kinds.KindLemmas.{put}
+use Rattle.run_loading.proofs.separation_kinds.Words.{word_get, set_length, set_word, writes}
+use Rattle.run_loading.proofs.separation_kinds.Giving.{scalar_of}
+use Rattle.run_loading.proofs.separation_kinds.Passing.{credit_within}
+use Rattle.run_loading.specs.separation.Rows.{IsReady}
+use Rattle.run_loading.proofs.separation.PlainRows.{goes_on, jumps, bare_shape}
 use Rattle.task_semantics.specs.Projected.{Renaming, IsThere, AreRenamed, IsRenamedWord}
 use Rattle.task_semantics.proofs.SameCells.{Beyond}
 use Rattle.task_semantics.proofs.AlikeWords.{AreAlike, used_up_alike, gone_alike, written_alike, reworded_alike}

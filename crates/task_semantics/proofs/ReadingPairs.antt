@@ -2,33 +2,33 @@
 use Rattle.std.proofs.Common.{◌≡◌, ℕ, zero, suc, ◌+◌, ◌<◌, Bool, true, false, List, [], ◌∷◌, length, Option, Some, slice_get, refl, sym, ap, ◌∙◌, subst, true≢false, arith, nat_lt, ◌==◌}
 use Rattle.std.specs.Prelude.{option_and_then, option_map}
 use Rattle.std.proofs.lemmas.Option.{none-some, same_Some}
-use Rattle.fip_language.specs.Table.{Table, constructors, is_scalar}
-use Rattle.fip_language.specs.Store.{Cell, Placed, PlacedInt, Bare, At, Parts, NoParts, MoreParts, word_of, words_of}
-use Rattle.cell_code.specs.declared.code.Instr.TheVariants as I
-use Rattle.cell_code.specs.declared.kind.Kind.{Kind}
-use Rattle.cell_code.specs.declared.kind.Kind.TheVariants.{Gone, Scalar, Owned, Lent, Credit}
-use Rattle.machine_semantics.specs.Cells.{Store}
-use Rattle.machine_semantics.specs.Trees.{Stands, StandAll, IsTree}
-use Rattle.machine_semantics.specs.States.{State}
-use Rattle.machine_semantics.specs.Rows as R
-use Rattle.machine_semantics.specs.Apart.{Holding, Tree, RootIn}
-use Rattle.code_rules.specs.Codes.{PlainCode, PlainFunction}
-use Rattle.code_rules.specs.Types.{is_type, is_scalar_type, all, lent_kind}
-use Rattle.code_rules.specs.Kinds.{at, set_of, root_of}
-use Rattle.code_rules.specs.Ranges.{is_target}
-use Rattle.code_rules.specs.Asked.{may_have, known_fields}
-use Rattle.code_rules.specs.Changes.{tested, without}
-use Rattle.separation_kinds.specs.Meanings.{part_in, part_of, Means, word_at}
-use Rattle.separation_kinds.proofs.Basics.{pick, both, below}
-use Rattle.separation_kinds.proofs.Shapes.{scalar_bare}
-use Rattle.separation_kinds.proofs.Reaching.{same_tree}
-use Rattle.separation_kinds.proofs.Words.{word_get}
-use Rattle.separation.specs.Rows.{IsReady}
-use Rattle.separation.proofs.Reading.{named_is, constructor_in, constructor_is, get_words}
-use Rattle.separation.proofs.PlainRows.{goes_on, jumps}
-use Rattle.separation.proofs.ReadingRows.{has_known, get_some}
-use Rattle.tree_refinement.specs.Agreement.{type_in}
-use Rattle.tree_refinement.proofs.Values.{same_placed}
+use Rattle.run_loading.specs.fip_language.Table.{Table, constructors, is_scalar}
+use Rattle.run_loading.specs.fip_language.Store.{Cell, Placed, PlacedInt, Bare, At, Parts, NoParts, MoreParts, word_of, words_of}
+use Rattle.run_loading.specs.cell_code.declared.code.Instr.TheVariants as I
+use Rattle.run_loading.specs.cell_code.declared.kind.Kind.{Kind}
+use Rattle.run_loading.specs.cell_code.declared.kind.Kind.TheVariants.{Gone, Scalar, Owned, Lent, Credit}
+use Rattle.run_loading.specs.machine_semantics.Cells.{Store}
+use Rattle.run_loading.specs.machine_semantics.Trees.{Stands, StandAll, IsTree}
+use Rattle.run_loading.specs.machine_semantics.States.{State}
+use Rattle.run_loading.specs.machine_semantics.Rows as R
+use Rattle.run_loading.specs.machine_semantics.Apart.{Holding, Tree, RootIn}
+use Rattle.run_loading.specs.code_rules.Codes.{PlainCode, PlainFunction}
+use Rattle.run_loading.specs.code_rules.Types.{is_type, is_scalar_type, all, lent_kind}
+use Rattle.run_loading.specs.code_rules.Kinds.{at, set_of, root_of}
+use Rattle.run_loading.specs.code_rules.Ranges.{is_target}
+use Rattle.run_loading.specs.code_rules.Asked.{may_have, known_fields}
+use Rattle.run_loading.specs.code_rules.Changes.{tested, without}
+use Rattle.run_loading.specs.separation_kinds.Meanings.{part_in, part_of, Means, word_at}
+use Rattle.run_loading.proofs.separation_kinds.Basics.{pick, both, below}
+use Rattle.run_loading.proofs.separation_kinds.Shapes.{scalar_bare}
+use Rattle.run_loading.proofs.separation_kinds.Reaching.{same_tree}
+use Rattle.run_loading.proofs.separation_kinds.Words.{word_get}
+use Rattle.run_loading.specs.separation.Rows.{IsReady}
+use Rattle.run_loading.proofs.separation.Reading.{named_is, constructor_in, constructor_is, get_words}
+use Rattle.run_loading.proofs.separation.PlainRows.{goes_on, jumps}
+use Rattle.run_loading.proofs.separation.ReadingRows.{has_known, get_some}
+use Rattle.run_loading.specs.tree_refinement.Agreement.{type_in}
+use Rattle.run_loading.proofs.tree_refinement.Values.{same_placed}
 use Rattle.task_semantics.specs.Projected.{Renaming, renamed, renamed_parts, IsRenamedTree, IsRenamedWord}
 use Rattle.task_semantics.proofs.Renamings.{restands, bare_word, bare_stands, part_renamed, constructor_renamed}
 use Rattle.task_semantics.proofs.AlikeWords.{typed_renamed, tested_alike}

@@ -2,17 +2,17 @@
 -- its words.
 use Rattle.std.proofs.Common.{◌≡◌, ◌≢◌, ◌⊎◌, inl, inr, ℕ, zero, suc, ◌+◌, ◌*◌, ◌/◌, ◌<◌, List, [], ◌∷◌, ◌++◌, map, Option, Some, None, refl, sym, ap, ap₂, ◌∙◌, subst, arith}
 use Rattle.std.proofs.lemmas.Option.{none-some, same_Some}
-use Rattle.fip_language.specs.Table.{Table}
-use Rattle.fip_language.specs.Store.{Cell, Placed, PlacedInt, Bare, At, Parts, NoParts, MoreParts, word_of, words_of, places, places_of_all, uses, uses_of_all, one_at}
-use Rattle.machine_semantics.specs.Words.{is_place, place_word}
-use Rattle.machine_semantics.specs.Cells.{Store, cell_at}
-use Rattle.machine_semantics.specs.Trees.{Stands, StandAll}
-use Rattle.machine_semantics.specs.Apart.{Holding}
-use Rattle.separation_kinds.specs.Meanings.{part_in, IsPlain}
-use Rattle.separation_kinds.proofs.Basics.{chosen}
-use Rattle.separation_kinds.proofs.Agree.{one_here, one_apart, tree_agree}
-use Rattle.separation.proofs.Stores.{same_place}
-use Rattle.separation.proofs.Reading.{odd_place, odd_half, constructor_in}
+use Rattle.run_loading.specs.fip_language.Table.{Table}
+use Rattle.run_loading.specs.fip_language.Store.{Cell, Placed, PlacedInt, Bare, At, Parts, NoParts, MoreParts, word_of, words_of, places, places_of_all, uses, uses_of_all, one_at}
+use Rattle.run_loading.specs.machine_semantics.Words.{is_place, place_word}
+use Rattle.run_loading.specs.machine_semantics.Cells.{Store, cell_at}
+use Rattle.run_loading.specs.machine_semantics.Trees.{Stands, StandAll}
+use Rattle.run_loading.specs.machine_semantics.Apart.{Holding}
+use Rattle.run_loading.specs.separation_kinds.Meanings.{part_in, IsPlain}
+use Rattle.run_loading.proofs.separation_kinds.Basics.{chosen}
+use Rattle.run_loading.proofs.separation_kinds.Agree.{one_here, one_apart, tree_agree}
+use Rattle.run_loading.proofs.separation.Stores.{same_place}
+use Rattle.run_loading.proofs.separation.Reading.{odd_place, odd_half, constructor_in}
 use Rattle.task_semantics.specs.Projected.{Renaming, renamed_word, renamed, renamed_parts, IsThere, IsLikeWord, AreLikeWords, IsRenamedTree}
 
 -- ---- words

@@ -1,37 +1,37 @@
 -- A Ret comes to the same alone and among others.
 use Rattle.std.proofs.Common.{◌≡◌, inl, ℕ, ◌+◌, ◌<◌, true, List, [], ◌∷◌, length, Some, slice_set, refl, sym, ap, ap₂, ◌∙◌, subst, arith, nat_lt, ◌==◌}
 use Rattle.std.specs.Prelude.{is_some, option_and_then}
-use Rattle.fip_language.specs.Table.{Table}
-use Rattle.fip_language.specs.Store.{Placed, Parts, NoParts, MoreParts, word_of, words_of}
-use Rattle.cell_code.specs.declared.code.Instr.{Instr}
-use Rattle.cell_code.specs.declared.code.Instr.TheVariants as I
-use Rattle.cell_code.specs.declared.kind.Kind.{Kind}
-use Rattle.machine_semantics.specs.Cells.{Store, IsStore}
-use Rattle.machine_semantics.specs.Trees.{StandAll}
-use Rattle.machine_semantics.specs.Codes as C
-use Rattle.machine_semantics.specs.Rows.{read_all, write_all}
-use Rattle.machine_semantics.specs.States.{Frame, State}
-use Rattle.machine_semantics.specs.Steps.{Kinds, destinations_in, returned, resumed}
-use Rattle.machine_semantics.specs.Steps as D
-use Rattle.code_rules.specs.Codes.{PlainCode, PlainFunction, results, results_of}
-use Rattle.code_rules.specs.Types.{field_kind}
-use Rattle.code_rules.specs.Kinds.{at}
-use Rattle.code_rules.specs.Changes.{written}
-use Rattle.code_rules.specs.Ranges.{in_range, are_below}
-use Rattle.code_rules.specs.Asked.{sources, destinations, are_places, can_receive}
-use Rattle.code_rules.specs.Handing.{give_all}
-use Rattle.code_rules.specs.Leaves.{received}
-use Rattle.code_rules.specs.Flow.{is_as_asked, GoesTo}
-use Rattle.code_rules.specs.Breaks.{IsSound}
-use Rattle.separation_kinds.specs.Meanings.{word_at}
-use Rattle.separation_kinds.proofs.Basics.{both, equal, below, length_become}
-use Rattle.separation_kinds.proofs.KindLemmas.{put}
-use Rattle.separation_kinds.proofs.Words.{read_words, set_length, set_word, writes}
-use Rattle.separation.specs.Codes.{run_code, AreKinds}
-use Rattle.separation.specs.Alive.{Frozen, lower_trees, IsWaiting, AreAllWaiting, IsAlive}
-use Rattle.separation.proofs.Calling.{some_left}
-use Rattle.separation.proofs.Returning.{run_instr_at}
-use Rattle.tree_refinement.proofs.Inside.{waits_at}
+use Rattle.run_loading.specs.fip_language.Table.{Table}
+use Rattle.run_loading.specs.fip_language.Store.{Placed, Parts, NoParts, MoreParts, word_of, words_of}
+use Rattle.run_loading.specs.cell_code.declared.code.Instr.{Instr}
+use Rattle.run_loading.specs.cell_code.declared.code.Instr.TheVariants as I
+use Rattle.run_loading.specs.cell_code.declared.kind.Kind.{Kind}
+use Rattle.run_loading.specs.machine_semantics.Cells.{Store, IsStore}
+use Rattle.run_loading.specs.machine_semantics.Trees.{StandAll}
+use Rattle.run_loading.specs.machine_semantics.Codes as C
+use Rattle.run_loading.specs.machine_semantics.Rows.{read_all, write_all}
+use Rattle.run_loading.specs.machine_semantics.States.{Frame, State}
+use Rattle.run_loading.specs.machine_semantics.Steps.{Kinds, destinations_in, returned, resumed}
+use Rattle.run_loading.specs.machine_semantics.Steps as D
+use Rattle.run_loading.specs.code_rules.Codes.{PlainCode, PlainFunction, results, results_of}
+use Rattle.run_loading.specs.code_rules.Types.{field_kind}
+use Rattle.run_loading.specs.code_rules.Kinds.{at}
+use Rattle.run_loading.specs.code_rules.Changes.{written}
+use Rattle.run_loading.specs.code_rules.Ranges.{in_range, are_below}
+use Rattle.run_loading.specs.code_rules.Asked.{sources, destinations, are_places, can_receive}
+use Rattle.run_loading.specs.code_rules.Handing.{give_all}
+use Rattle.run_loading.specs.code_rules.Leaves.{received}
+use Rattle.run_loading.specs.code_rules.Flow.{is_as_asked, GoesTo}
+use Rattle.run_loading.specs.code_rules.Breaks.{IsSound}
+use Rattle.run_loading.specs.separation_kinds.Meanings.{word_at}
+use Rattle.run_loading.proofs.separation_kinds.Basics.{both, equal, below, length_become}
+use Rattle.run_loading.proofs.separation_kinds.KindLemmas.{put}
+use Rattle.run_loading.proofs.separation_kinds.Words.{read_words, set_length, set_word, writes}
+use Rattle.run_loading.specs.separation.Codes.{run_code, AreKinds}
+use Rattle.run_loading.specs.separation.Alive.{Frozen, lower_trees, IsWaiting, AreAllWaiting, IsAlive}
+use Rattle.run_loading.proofs.separation.Calling.{some_left}
+use Rattle.run_loading.proofs.separation.Returning.{run_instr_at}
+use Rattle.run_loading.proofs.tree_refinement.Inside.{waits_at}
 use Rattle.task_semantics.specs.Projected.{Renaming, renamed, renamed_parts, IsRenamedWord, AreRenamedWords, IsRenamedFrame, AreRenamedFrames, IsProjected}
 use Rattle.task_semantics.proofs.AlikeWords.{AreAlike, field_alike, written_alike, reworded_alike, given_alike}
 use Rattle.task_semantics.proofs.PlainPairs.{IsPair}

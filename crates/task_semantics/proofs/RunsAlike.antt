@@ -1,19 +1,19 @@
 -- A run of a task alone and among others: a step later both are the same again, and none where only other tasks' cells
 -- change is different.
 use Rattle.std.proofs.Common.{◌≡◌, ℕ, zero, suc, List, [], ◌∷◌, refl, sym, ◌∙◌, subst}
-use Rattle.fip_language.specs.Table.{Table}
-use Rattle.cell_code.specs.declared.kind.Kind.{Kind}
-use Rattle.cell_code.specs.declared.kind.Kind.TheVariants.{Gone, Scalar, Owned, Lent, Credit}
-use Rattle.machine_semantics.specs.Codes as R
-use Rattle.machine_semantics.specs.Cells.{Store, IsStore, cell_at, there}
-use Rattle.machine_semantics.specs.States.{Frame, Typed, State, Next, Went, Entered, Gave, Trapped, TooDeep}
-use Rattle.machine_semantics.specs.Steps.{Kinds, next}
-use Rattle.machine_semantics.specs.Runs.{End, Value, Trap, Out, Deep, Run, Going, Over, state_of, comes, later}
-use Rattle.code_rules.specs.Codes.{PlainCode, results}
-use Rattle.code_rules.specs.Breaks.{IsSound}
-use Rattle.separation.specs.Codes.{run_code, HasLiterals, AreKinds}
-use Rattle.separation.proofs.Running.{GoodRun}
-use Rattle.separation.proofs.Apartness.{run_results}
+use Rattle.run_loading.specs.fip_language.Table.{Table}
+use Rattle.run_loading.specs.cell_code.declared.kind.Kind.{Kind}
+use Rattle.run_loading.specs.cell_code.declared.kind.Kind.TheVariants.{Gone, Scalar, Owned, Lent, Credit}
+use Rattle.run_loading.specs.machine_semantics.Codes as R
+use Rattle.run_loading.specs.machine_semantics.Cells.{Store, IsStore, cell_at, there}
+use Rattle.run_loading.specs.machine_semantics.States.{Frame, Typed, State, Next, Went, Entered, Gave, Trapped, TooDeep}
+use Rattle.run_loading.specs.machine_semantics.Steps.{Kinds, next}
+use Rattle.run_loading.specs.machine_semantics.Runs.{End, Value, Trap, Out, Deep, Run, Going, Over, state_of, comes, later}
+use Rattle.run_loading.specs.code_rules.Codes.{PlainCode, results}
+use Rattle.run_loading.specs.code_rules.Breaks.{IsSound}
+use Rattle.run_loading.specs.separation.Codes.{run_code, HasLiterals, AreKinds}
+use Rattle.run_loading.proofs.separation.Running.{GoodRun}
+use Rattle.run_loading.proofs.separation.Apartness.{run_results}
 use Rattle.task_semantics.specs.Schedules.{in_store}
 use Rattle.task_semantics.specs.Projected.{Renaming, IsThere, IsLikeCell, AreRenamed, IsRenamedTree, IsRenamedWord, AreRenamedWords, IsRenamedFrame, AreRenamedFrames, AreRenamedArguments, IsProjected, AreRenamedTrees, IsSameEnd, IsSameRun, IsSameAt}
 use Rattle.task_semantics.proofs.Renamings.{stands_there, tree_moves}

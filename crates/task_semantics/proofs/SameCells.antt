@@ -1,11 +1,11 @@
 -- A task's own cells are renamed in the shared store after the same change of both: a write, or releases. No other cell
 -- of the shared store changes.
 use Rattle.std.proofs.Common.{◌≡◌, ◌≢◌, ◌⊎◌, inl, inr, ℕ, suc, ◌+◌, ◌<◌, ◌≤◌, List, [], ◌∷◌, length, map, Option, Some, None, refl, sym, ap, ◌∙◌, subst, arith}
-use Rattle.fip_language.specs.Store.{Cell, one_at, count}
-use Rattle.machine_semantics.specs.Cells.{Store, IsStore, cell_at, size_of, one_if_some, there, released_at}
-use Rattle.separation_kinds.proofs.Basics.{less_or_not}
-use Rattle.separation_kinds.proofs.Agree.{one_here, one_apart}
-use Rattle.separation.proofs.Stores.{same_place, there_cell, IsWritten, AreReleased}
+use Rattle.run_loading.specs.fip_language.Store.{Cell, one_at, count}
+use Rattle.run_loading.specs.machine_semantics.Cells.{Store, IsStore, cell_at, size_of, one_if_some, there, released_at}
+use Rattle.run_loading.proofs.separation_kinds.Basics.{less_or_not}
+use Rattle.run_loading.proofs.separation_kinds.Agree.{one_here, one_apart}
+use Rattle.run_loading.proofs.separation.Stores.{same_place, there_cell, IsWritten, AreReleased}
 use Rattle.task_semantics.specs.Projected.{Renaming, IsThere, AreLikeWords, IsLikeCell, AreRenamed, IsSameAt}
 use Rattle.task_semantics.proofs.Renamings.{some_there}
 

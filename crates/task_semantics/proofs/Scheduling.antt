@@ -2,19 +2,19 @@
 -- task's run is that of the task alone, at its places.
 use Rattle.std.proofs.Common.{◌≡◌, inl, inr, ℕ, zero, suc, ◌+◌, List, [], ◌∷◌, length, Option, Some, None, slice_get, slice_set, refl, sym, ap, ◌∙◌, subst, arith}
 use Rattle.std.proofs.lemmas.Option.{none-some, same_Some}
-use Rattle.fip_language.specs.Store.{one_at, count}
-use Rattle.machine_semantics.specs.Codes as R
-use Rattle.machine_semantics.specs.Cells.{Store, IsStore, there}
-use Rattle.machine_semantics.specs.Steps.{Kinds}
-use Rattle.machine_semantics.specs.Runs.{Run, Going, Over, state_of, begun, later, after}
-use Rattle.code_rules.specs.Codes as S
-use Rattle.separation_kinds.proofs.Basics.{get_within}
-use Rattle.separation_kinds.proofs.Agree.{one_here, one_apart}
-use Rattle.separation.proofs.Stores.{same_place}
-use Rattle.separation.proofs.ReadingRows.{get_some}
-use Rattle.separation.specs.Codes.{run_code}
-use Rattle.separation.specs.Starts.{IsStart}
-use Rattle.separation.proofs.Running.{run_good, run_alive}
+use Rattle.run_loading.specs.fip_language.Store.{one_at, count}
+use Rattle.run_loading.specs.machine_semantics.Codes as R
+use Rattle.run_loading.specs.machine_semantics.Cells.{Store, IsStore, there}
+use Rattle.run_loading.specs.machine_semantics.Steps.{Kinds}
+use Rattle.run_loading.specs.machine_semantics.Runs.{Run, Going, Over, state_of, begun, later, after}
+use Rattle.run_loading.specs.code_rules.Codes as S
+use Rattle.run_loading.proofs.separation_kinds.Basics.{get_within}
+use Rattle.run_loading.proofs.separation_kinds.Agree.{one_here, one_apart}
+use Rattle.run_loading.proofs.separation.Stores.{same_place}
+use Rattle.run_loading.proofs.separation.ReadingRows.{get_some}
+use Rattle.run_loading.specs.separation.Codes.{run_code}
+use Rattle.run_loading.specs.separation.Starts.{IsStart}
+use Rattle.run_loading.proofs.separation.Running.{run_good, run_alive}
 use Rattle.task_semantics.specs.Schedules.{Shared, in_store, settled, turned, turn, scheduled, alone}
 use Rattle.task_semantics.specs.Projected.{Renaming, IsThere, IsSameRun, IsSameAt, Begun, AreApart, BeginTogether, AreLoaded, EachIsAlone, EachKeepsItsCells, IsSeenAs, EachIsSeenAsAlone}
 use Rattle.task_semantics.proofs.SameCells.{there_like}

@@ -3,13 +3,13 @@
 use Rattle.std.proofs.Common.{◌≡◌, ◌≢◌, ℕ, suc, ◌+◌, Bool, true, false, List, [], ◌∷◌, length, Option, Some, None, refl, sym, ap, subst, ◌∙◌, arith, slice_get}
 use Rattle.std.specs.Prelude.{map, nat_eq, if◌then◌else◌}
 use Rattle.std.specs.List.{fold}
-use Rattle.fip_language.specs.Table.{Table}
-use Rattle.fip_language.specs.Store.{Cell}
-use Rattle.cell_code.specs.declared.kind.Kind.{Kind}
-use Rattle.machine_semantics.specs.Codes.{PlainCode}
-use Rattle.machine_semantics.specs.Cells.{Store, IsStore, cell_in, cell_at, released_at, one_if_true, one_held, held_in, count_held}
-use Rattle.machine_semantics.specs.States.{Frame, State, frames_held, words_of_frame, words_held}
-use Rattle.machine_semantics.specs.Steps.{Kinds}
+use Rattle.run_loading.specs.fip_language.Table.{Table}
+use Rattle.run_loading.specs.fip_language.Store.{Cell}
+use Rattle.run_loading.specs.cell_code.declared.kind.Kind.{Kind}
+use Rattle.run_loading.specs.machine_semantics.Codes.{PlainCode}
+use Rattle.run_loading.specs.machine_semantics.Cells.{Store, IsStore, cell_in, cell_at, released_at, one_if_true, one_held, held_in, count_held}
+use Rattle.run_loading.specs.machine_semantics.States.{Frame, State, frames_held, words_of_frame, words_held}
+use Rattle.run_loading.specs.machine_semantics.Steps.{Kinds}
 use Rattle.task_semantics.specs.Projected.{Renaming, AreLikeWords, IsLikeCell, AreRenamed, AreRenamedWords, IsRenamedFrame}
 use Rattle.task_semantics.specs.Projected.{AreRenamedFrames, IsProjected, one_among, held_among_from, held_among}
 

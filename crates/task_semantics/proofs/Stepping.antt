@@ -1,22 +1,22 @@
 -- Every step of a task comes to the same alone and among others.
 use Rattle.std.proofs.Common.{◌≡◌, ℕ, List, Some, sym, ap₂, ◌∙◌, subst}
-use Rattle.cell_code.specs.declared.code.Instr.{Instr}
-use Rattle.cell_code.specs.declared.code.Instr.TheVariants as I
-use Rattle.machine_semantics.specs.Codes as C
-use Rattle.machine_semantics.specs.Cells.{IsStore}
-use Rattle.machine_semantics.specs.States.{State}
-use Rattle.machine_semantics.specs.Steps.{Kinds, act, act_at, next, instr_of, kinds_of}
-use Rattle.code_rules.specs.Codes.{PlainCode}
-use Rattle.code_rules.specs.Breaks.{IsSound}
-use Rattle.separation.specs.Rows.{IsReady}
-use Rattle.separation.proofs.PlainRows.{asked, const_row, atom_row, move_row, jump_row, test_int_row}
-use Rattle.separation.proofs.ReadingRows.{arith_row, test_row, peek_row}
-use Rattle.separation.proofs.TakeRow.{take_row}
-use Rattle.separation.proofs.CellRows.{put_row, free_row, drop_row}
-use Rattle.separation.specs.Codes.{run_code, HasLiterals, AreKinds}
-use Rattle.separation.specs.Alive.{lower_trees, IsAlive}
-use Rattle.separation.proofs.Local.{ready}
-use Rattle.separation.proofs.Returning.{run_instr_at}
+use Rattle.run_loading.specs.cell_code.declared.code.Instr.{Instr}
+use Rattle.run_loading.specs.cell_code.declared.code.Instr.TheVariants as I
+use Rattle.run_loading.specs.machine_semantics.Codes as C
+use Rattle.run_loading.specs.machine_semantics.Cells.{IsStore}
+use Rattle.run_loading.specs.machine_semantics.States.{State}
+use Rattle.run_loading.specs.machine_semantics.Steps.{Kinds, act, act_at, next, instr_of, kinds_of}
+use Rattle.run_loading.specs.code_rules.Codes.{PlainCode}
+use Rattle.run_loading.specs.code_rules.Breaks.{IsSound}
+use Rattle.run_loading.specs.separation.Rows.{IsReady}
+use Rattle.run_loading.proofs.separation.PlainRows.{asked, const_row, atom_row, move_row, jump_row, test_int_row}
+use Rattle.run_loading.proofs.separation.ReadingRows.{arith_row, test_row, peek_row}
+use Rattle.run_loading.proofs.separation.TakeRow.{take_row}
+use Rattle.run_loading.proofs.separation.CellRows.{put_row, free_row, drop_row}
+use Rattle.run_loading.specs.separation.Codes.{run_code, HasLiterals, AreKinds}
+use Rattle.run_loading.specs.separation.Alive.{lower_trees, IsAlive}
+use Rattle.run_loading.proofs.separation.Local.{ready}
+use Rattle.run_loading.proofs.separation.Returning.{run_instr_at}
 use Rattle.task_semantics.specs.Projected.{Renaming, AreRenamedWords, IsProjected}
 use Rattle.task_semantics.proofs.PlainPairs.{IsPair, const_pair, atom_pair, move_pair, jump_pair, test_int_pair, arith_pair}
 use Rattle.task_semantics.proofs.ReadingPairs.{test_pair, peek_pair}

@@ -2,35 +2,35 @@
 use Rattle.std.proofs.Common.{◌≡◌, inl, inr, ℕ, zero, suc, ◌+◌, ◌<◌, ◌≤◌, true, not, ◌&&◌, List, [], ◌∷◌, length, Option, Some, None, slice_get, refl, sym, ap, ◌∙◌, subst, true≢false, arith, nat_lt, ◌==◌, if◌then◌else◌}
 use Rattle.std.specs.Prelude.{option_and_then}
 use Rattle.std.proofs.lemmas.Option.{none-some, same_Some}
-use Rattle.fip_language.specs.Table.{Shape, Table}
-use Rattle.fip_language.specs.Store.{Cell, Placed, PlacedInt, Bare, At, Parts, NoParts, words_of, word_of, uses}
-use Rattle.cell_code.specs.declared.code.Instr.TheVariants as I
-use Rattle.cell_code.specs.declared.kind.Kind.{Kind}
-use Rattle.cell_code.specs.declared.kind.Kind.TheVariants.{Gone, Scalar, Owned, Lent, Credit}
-use Rattle.machine_semantics.specs.Cells.{Store}
-use Rattle.machine_semantics.specs.Trees.{Stands, IsTree, StandAll}
-use Rattle.machine_semantics.specs.States.{State}
-use Rattle.machine_semantics.specs.Rows as R
-use Rattle.machine_semantics.specs.Apart.{Holding, Tree, RootIn, held_tree}
-use Rattle.code_rules.specs.Codes.{PlainCode, PlainFunction}
-use Rattle.code_rules.specs.Types.{fields, fields_of}
-use Rattle.code_rules.specs.Kinds.{has, at, is_free, is_owned, is_lent_of}
-use Rattle.code_rules.specs.Changes.{forget}
-use Rattle.code_rules.specs.Ranges.{are_below}
-use Rattle.code_rules.specs.Asked.{can_take, is_one, known_fields, only_fields, are_places}
-use Rattle.code_rules.specs.Taking.{Part, part, is_heir, credit, taken, IsTaken, fate, with_root, ends, part_or, part_kind}
-use Rattle.separation_kinds.specs.Meanings.{part_in, part_of, Means, AreMeant, word_at}
-use Rattle.separation_kinds.proofs.Basics.{pick, both, equal, below, refuted, length_become, at_become, at_past, less_or_not}
-use Rattle.separation_kinds.proofs.Shapes.{contains_one}
-use Rattle.separation_kinds.proofs.Reaching.{same_tree}
-use Rattle.separation_kinds.proofs.Words.{word_get}
-use Rattle.separation_kinds.proofs.Takes.{word_or, by_part, Plain, AreWritten, parts_written}
-use Rattle.separation_kinds.proofs.Taken.{Takes, gets_part}
-use Rattle.separation.specs.Rows.{IsReady}
-use Rattle.separation.proofs.Reading.{named_is, constructor_in, root_of_set, stand_length}
-use Rattle.separation.proofs.Reached.{reached}
-use Rattle.separation.proofs.PlainRows.{goes_on}
-use Rattle.tree_refinement.proofs.Values.{same_placed}
+use Rattle.run_loading.specs.fip_language.Table.{Shape, Table}
+use Rattle.run_loading.specs.fip_language.Store.{Cell, Placed, PlacedInt, Bare, At, Parts, NoParts, words_of, word_of, uses}
+use Rattle.run_loading.specs.cell_code.declared.code.Instr.TheVariants as I
+use Rattle.run_loading.specs.cell_code.declared.kind.Kind.{Kind}
+use Rattle.run_loading.specs.cell_code.declared.kind.Kind.TheVariants.{Gone, Scalar, Owned, Lent, Credit}
+use Rattle.run_loading.specs.machine_semantics.Cells.{Store}
+use Rattle.run_loading.specs.machine_semantics.Trees.{Stands, IsTree, StandAll}
+use Rattle.run_loading.specs.machine_semantics.States.{State}
+use Rattle.run_loading.specs.machine_semantics.Rows as R
+use Rattle.run_loading.specs.machine_semantics.Apart.{Holding, Tree, RootIn, held_tree}
+use Rattle.run_loading.specs.code_rules.Codes.{PlainCode, PlainFunction}
+use Rattle.run_loading.specs.code_rules.Types.{fields, fields_of}
+use Rattle.run_loading.specs.code_rules.Kinds.{has, at, is_free, is_owned, is_lent_of}
+use Rattle.run_loading.specs.code_rules.Changes.{forget}
+use Rattle.run_loading.specs.code_rules.Ranges.{are_below}
+use Rattle.run_loading.specs.code_rules.Asked.{can_take, is_one, known_fields, only_fields, are_places}
+use Rattle.run_loading.specs.code_rules.Taking.{Part, part, is_heir, credit, taken, IsTaken, fate, with_root, ends, part_or, part_kind}
+use Rattle.run_loading.specs.separation_kinds.Meanings.{part_in, part_of, Means, AreMeant, word_at}
+use Rattle.run_loading.proofs.separation_kinds.Basics.{pick, both, equal, below, refuted, length_become, at_become, at_past, less_or_not}
+use Rattle.run_loading.proofs.separation_kinds.Shapes.{contains_one}
+use Rattle.run_loading.proofs.separation_kinds.Reaching.{same_tree}
+use Rattle.run_loading.proofs.separation_kinds.Words.{word_get}
+use Rattle.run_loading.proofs.separation_kinds.Takes.{word_or, by_part, Plain, AreWritten, parts_written}
+use Rattle.run_loading.proofs.separation_kinds.Taken.{Takes, gets_part}
+use Rattle.run_loading.specs.separation.Rows.{IsReady}
+use Rattle.run_loading.proofs.separation.Reading.{named_is, constructor_in, root_of_set, stand_length}
+use Rattle.run_loading.proofs.separation.Reached.{reached}
+use Rattle.run_loading.proofs.separation.PlainRows.{goes_on}
+use Rattle.run_loading.proofs.tree_refinement.Values.{same_placed}
 use Rattle.task_semantics.specs.Projected.{Renaming, renamed_word, renamed, renamed_parts, IsRenamedWord}
 use Rattle.task_semantics.proofs.Renamings.{place_renamed, like_of_tree, restands, bare_word, part_renamed}
 use Rattle.task_semantics.proofs.AlikeWords.{AreAlike, like_any, forget_alike}

@@ -3,22 +3,22 @@ use Rattle.std.proofs.Common.{◌≡◌, ◌≢◌, ◌<◌, ℕ, zero, suc, ◌
 use Rattle.std.specs.Prelude.{slice_get, FitsSigned, ◌^◌}
 use Rattle.std.specs.Int.{w64}
 use Rattle.std.proofs.lemmas.Option.{same_Some, none-some}
-use Rattle.fip_language.specs.Store.{PlacedInt, Bare, At, Parts, NoParts, MoreParts, word_of, uses_of_all, count}
-use Rattle.machine_semantics.specs.Cells.{Store, IsStore, cell_at, there, one_if_true, released_at}
-use Rattle.machine_semantics.specs.Steps.{Kinds}
-use Rattle.machine_semantics.specs.Apart.{IsGiven}
-use Rattle.machine_semantics.specs.Example.{reversing, at_start, types, cons, nil_shape, cons_shape}
-use Rattle.machine_semantics.specs.Runs.{Run, begun}
+use Rattle.run_loading.specs.fip_language.Store.{PlacedInt, Bare, At, Parts, NoParts, MoreParts, word_of, uses_of_all, count}
+use Rattle.run_loading.specs.machine_semantics.Cells.{Store, IsStore, cell_at, there, one_if_true, released_at}
+use Rattle.run_loading.specs.machine_semantics.Steps.{Kinds}
+use Rattle.run_loading.specs.machine_semantics.Apart.{IsGiven}
+use Rattle.run_loading.specs.machine_semantics.Example.{reversing, at_start, types, cons, nil_shape, cons_shape}
+use Rattle.run_loading.specs.machine_semantics.Runs.{Run, begun}
 use Rattle.task_semantics.specs.Schedules.{in_store}
-use Rattle.code_rules.specs.Codes.{PlainFunction}
-use Rattle.code_rules.specs.Entry.{entry}
-use Rattle.code_rules.specs.Example.{reversal, function_of, rev_with, nil_taken, acc_given, cons_taken, cons_put, again, cons_known}
-use Rattle.separation_kinds.proofs.Agree.{one_apart}
-use Rattle.separation.specs.Codes.{run_function, run_code, AreKinds}
-use Rattle.separation.specs.Starts.{IsStart}
-use Rattle.separation.proofs.Sound.{formed, has_form}
-use Rattle.separation.proofs.Calling.{known_entry}
-use Rattle.separation.proofs.Examples.{reversal_starts}
+use Rattle.run_loading.specs.code_rules.Codes.{PlainFunction}
+use Rattle.run_loading.specs.code_rules.Entry.{entry}
+use Rattle.run_loading.specs.code_rules.Example.{reversal, function_of, rev_with, nil_taken, acc_given, cons_taken, cons_put, again, cons_known}
+use Rattle.run_loading.proofs.separation_kinds.Agree.{one_apart}
+use Rattle.run_loading.specs.separation.Codes.{run_function, run_code, AreKinds}
+use Rattle.run_loading.specs.separation.Starts.{IsStart}
+use Rattle.run_loading.proofs.separation.Sound.{formed, has_form}
+use Rattle.run_loading.proofs.separation.Calling.{known_entry}
+use Rattle.run_loading.proofs.separation.Examples.{reversal_starts}
 use Rattle.task_semantics.specs.Projected.{Renaming, IsThere, IsLikeCell, AreRenamed, IsRenamedTree, IsRenamedFrame, IsProjected, IsSameRun, Begun, AreApart, BeginTogether, AreLoaded}
 use Rattle.task_semantics.specs.ScheduleExample.{cells_of, store_of, both, rev_at, two_tasks, first_task, second_task, tasks_alone}
 

@@ -1,11 +1,11 @@
 -- What turns change: by cases on the task whose turn it is, and by induction on schedules.
 use Rattle.std.proofs.Common.{◌≡◌, ◌≢◌, ℕ, zero, suc, List, [], ◌∷◌, ◌++◌, Some, None, refl, sym, ap, ◌∙◌, replicate, ◌+◌, arith}
 use Rattle.std.specs.Prelude.{slice_get, slice_set, Option}
-use Rattle.fip_language.specs.Store.{count}
-use Rattle.machine_semantics.specs.Codes.{PlainCode}
-use Rattle.machine_semantics.specs.States.{State}
-use Rattle.machine_semantics.specs.Steps.{Kinds}
-use Rattle.machine_semantics.specs.Runs.{End, Run, Going, Over, after, later, state_of}
+use Rattle.run_loading.specs.fip_language.Store.{count}
+use Rattle.run_loading.specs.machine_semantics.Codes.{PlainCode}
+use Rattle.run_loading.specs.machine_semantics.States.{State}
+use Rattle.run_loading.specs.machine_semantics.Steps.{Kinds}
+use Rattle.run_loading.specs.machine_semantics.Runs.{End, Run, Going, Over, after, later, state_of}
 use Rattle.task_semantics.specs.Schedules.{Shared, turn, turned, scheduled, alone, in_store}
 
 set_other : {A : Type 0} (xs : List A) (j k : ℕ) (x : A) → j ≢ k → slice_get (slice_set xs k x) j ≡ slice_get xs j

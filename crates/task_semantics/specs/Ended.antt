@@ -3,16 +3,16 @@
 -- rev(Cons(2, Nil), Cons(4, Nil)), the second of two tasks, ends with the word 13, and alone with the word 1, after
 -- seven steps. Each of these stands for Cons(2, Cons(4, Nil)) in its store, and on trees the end is this value.
 use Rattle.std.specs.Prelude.{◌≡◌, ℕ}
-use Rattle.fip_language.specs.Meaning.{Answer}
-use Rattle.machine_semantics.specs.Cells.{Store}
-use Rattle.machine_semantics.specs.Runs.{End, Ends}
-use Rattle.machine_semantics.specs.States.{State}
-use Rattle.machine_semantics.specs.Steps.{Kinds}
-use Rattle.code_rules.specs.Codes.{PlainCode, results}
-use Rattle.separation.specs.Codes.{run_code}
-use Rattle.tree_refinement.specs.Runs as A
-use Rattle.tree_semantics.specs.Runs.{Over, after, entry, begun}
-use Rattle.tree_semantics.specs.States as U
+use Rattle.run_loading.specs.fip_language.Meaning.{Answer}
+use Rattle.run_loading.specs.machine_semantics.Cells.{Store}
+use Rattle.run_loading.specs.machine_semantics.Runs.{End, Ends}
+use Rattle.run_loading.specs.machine_semantics.States.{State}
+use Rattle.run_loading.specs.machine_semantics.Steps.{Kinds}
+use Rattle.run_loading.specs.code_rules.Codes.{PlainCode, results}
+use Rattle.run_loading.specs.separation.Codes.{run_code}
+use Rattle.run_loading.specs.tree_refinement.Runs as A
+use Rattle.run_loading.specs.tree_semantics.Runs.{Over, after, entry, begun}
+use Rattle.run_loading.specs.tree_semantics.States as U
 use Rattle.task_semantics.specs.Projected.{Begun, IsSameEnd}
 use Rattle.task_semantics.specs.Laid.{Task}
 

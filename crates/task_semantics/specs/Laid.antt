@@ -8,14 +8,14 @@
 -- first task's are at 0 and 3, the second's at 6 and 9. The first is given the words 1 and 7, the second 13 and 19, and
 -- alone 1 and 7 too.
 use Rattle.std.specs.Prelude.{◌≡◌, ℕ, ◌+◌, List, [], ◌∷◌, ◌++◌, Option, Some, length, map}
-use Rattle.fip_language.specs.Store.{Cell}
-use Rattle.fip_language.specs.Table.{HaveTypes}
-use Rattle.fip_language.specs.Values.{Values}
-use Rattle.machine_semantics.specs.Cells.{Store}
-use Rattle.machine_semantics.specs.Runs.{Run, loaded, begun}
-use Rattle.machine_semantics.specs.States.{State}
-use Rattle.code_rules.specs.Codes as S
-use Rattle.separation.specs.Codes.{run_code}
+use Rattle.run_loading.specs.fip_language.Store.{Cell}
+use Rattle.run_loading.specs.fip_language.Table.{HaveTypes}
+use Rattle.run_loading.specs.fip_language.Values.{Values}
+use Rattle.run_loading.specs.machine_semantics.Cells.{Store}
+use Rattle.run_loading.specs.machine_semantics.Runs.{Run, loaded, begun}
+use Rattle.run_loading.specs.machine_semantics.States.{State}
+use Rattle.run_loading.specs.code_rules.Codes as S
+use Rattle.run_loading.specs.separation.Codes.{run_code}
 use Rattle.run_loading.specs.Loading.{all_places, all_words, credit_places, credit_words, unreleased}
 use Rattle.run_loading.specs.Loading.{first_store, first_words}
 use Rattle.task_semantics.specs.Projected.{Begun}

@@ -1,10 +1,10 @@
 -- The two tasks of the examples of schedules, as they are loaded: rev(Cons(1, Nil), Cons(3, Nil)) and rev(Cons(2, Nil),
 -- Cons(4, Nil)), each with two calls and no further frame.
 use Rattle.std.specs.Prelude.{ℤ, pos, List, [], ◌∷◌}
-use Rattle.fip_language.specs.Example.{empty, item, pair}
-use Rattle.code_rules.specs.Codes.{PlainFunction}
-use Rattle.code_rules.specs.Example.{function_of, rev_with, nil_taken, acc_given, cons_taken, cons_put, again}
-use Rattle.code_rules.specs.Example.{cons_known}
+use Rattle.run_loading.specs.fip_language.Example.{empty, item, pair}
+use Rattle.run_loading.specs.code_rules.Codes.{PlainFunction}
+use Rattle.run_loading.specs.code_rules.Example.{function_of, rev_with, nil_taken, acc_given, cons_taken, cons_put, again}
+use Rattle.run_loading.specs.code_rules.Example.{cons_known}
 use Rattle.task_semantics.specs.Laid.{Task}
 
 -- the function of the reversal

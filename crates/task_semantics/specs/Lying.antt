@@ -7,16 +7,16 @@
 -- 9; the first is then given the words 1 and 13, the second 7 and 19.
 use Rattle.std.specs.Prelude.{◌≡◌, ℕ, zero, suc, ◌+◌, ◌≤◌, false, List, [], ◌∷◌, ◌++◌, Option, Some, None, length, map}
 use Rattle.std.specs.Prelude.{replicate, slice_get}
-use Rattle.fip_language.specs.Every.{Every}
-use Rattle.fip_language.specs.Store.{Cell, Parts, values_of, words_of, count, uses_of_all}
-use Rattle.machine_semantics.specs.Apart.{AreSpare}
-use Rattle.machine_semantics.specs.Cells.{Store, IsStore, there, released_at}
-use Rattle.machine_semantics.specs.Runs.{Run, loaded, begun}
-use Rattle.machine_semantics.specs.States.{State}
-use Rattle.machine_semantics.specs.Trees.{StandAll}
-use Rattle.machine_semantics.specs.Words.{place_word}
-use Rattle.code_rules.specs.Codes as S
-use Rattle.separation.specs.Codes.{run_code}
+use Rattle.run_loading.specs.fip_language.Every.{Every}
+use Rattle.run_loading.specs.fip_language.Store.{Cell, Parts, values_of, words_of, count, uses_of_all}
+use Rattle.run_loading.specs.machine_semantics.Apart.{AreSpare}
+use Rattle.run_loading.specs.machine_semantics.Cells.{Store, IsStore, there, released_at}
+use Rattle.run_loading.specs.machine_semantics.Runs.{Run, loaded, begun}
+use Rattle.run_loading.specs.machine_semantics.States.{State}
+use Rattle.run_loading.specs.machine_semantics.Trees.{StandAll}
+use Rattle.run_loading.specs.machine_semantics.Words.{place_word}
+use Rattle.run_loading.specs.code_rules.Codes as S
+use Rattle.run_loading.specs.separation.Codes.{run_code}
 use Rattle.task_semantics.specs.Laid.{Task}
 use Rattle.task_semantics.specs.Projected.{Begun}
 use Rattle.task_semantics.specs.Schedules.{Shared}

@@ -9,20 +9,20 @@
 -- Where task 1 has its one cell at 0 alone and at 3 in the shared store, behind that of task 0, its word 1 is 7 there.
 use Rattle.std.specs.Prelude.{◌≡◌, ◌≢◌, ◌⊎◌, ℕ, zero, suc, ◌+◌, ◌/◌, ◌<◌, nat_eq, List, [], ◌∷◌, Option, Some, None}
 use Rattle.std.specs.Prelude.{length, slice_get, if◌then◌else◌}
-use Rattle.fip_language.specs.Table.{Table}
-use Rattle.fip_language.specs.Store.{Cell, Placed, PlacedInt, Bare, At, Parts, NoParts, MoreParts}
-use Rattle.cell_code.specs.declared.kind.Kind.{Kind}
-use Rattle.cell_code.specs.declared.kind.Kind.TheVariants as K
-use Rattle.machine_semantics.specs.Codes.{PlainCode, results_of}
-use Rattle.machine_semantics.specs.Words.{is_place, place_word}
-use Rattle.machine_semantics.specs.Cells.{Store, IsStore, size_of, cell_at, released_at, count_held}
-use Rattle.machine_semantics.specs.Trees.{IsTree}
-use Rattle.machine_semantics.specs.States.{Frame, Typed, State, frames_held, words_held}
-use Rattle.machine_semantics.specs.Steps.{Kinds}
-use Rattle.machine_semantics.specs.Runs.{End, Value, Trap, Out, Deep, Run, Going, Over, begun, state_of}
-use Rattle.code_rules.specs.Codes as S
-use Rattle.separation.specs.Codes.{run_code}
-use Rattle.separation.specs.Starts.{IsStart}
+use Rattle.run_loading.specs.fip_language.Table.{Table}
+use Rattle.run_loading.specs.fip_language.Store.{Cell, Placed, PlacedInt, Bare, At, Parts, NoParts, MoreParts}
+use Rattle.run_loading.specs.cell_code.declared.kind.Kind.{Kind}
+use Rattle.run_loading.specs.cell_code.declared.kind.Kind.TheVariants as K
+use Rattle.run_loading.specs.machine_semantics.Codes.{PlainCode, results_of}
+use Rattle.run_loading.specs.machine_semantics.Words.{is_place, place_word}
+use Rattle.run_loading.specs.machine_semantics.Cells.{Store, IsStore, size_of, cell_at, released_at, count_held}
+use Rattle.run_loading.specs.machine_semantics.Trees.{IsTree}
+use Rattle.run_loading.specs.machine_semantics.States.{Frame, Typed, State, frames_held, words_held}
+use Rattle.run_loading.specs.machine_semantics.Steps.{Kinds}
+use Rattle.run_loading.specs.machine_semantics.Runs.{End, Value, Trap, Out, Deep, Run, Going, Over, begun, state_of}
+use Rattle.run_loading.specs.code_rules.Codes as S
+use Rattle.run_loading.specs.separation.Codes.{run_code}
+use Rattle.run_loading.specs.separation.Starts.{IsStart}
 use Rattle.task_semantics.specs.Schedules.{Shared, turn, scheduled, alone, in_store}
 
 abbrev pub Renaming : Type 0

@@ -2,11 +2,11 @@
 -- examples of runs. Each has two cells of size 2, needs two calls and 7 steps, and writes its second cell's word into
 -- its first cell.
 use Rattle.std.specs.Prelude.{ℕ, ◌+◌, false, List, [], ◌∷◌, ◌++◌, Option, None, length, replicate}
-use Rattle.fip_language.specs.Store.{Cell}
-use Rattle.machine_semantics.specs.Cells.{Store}
-use Rattle.machine_semantics.specs.Example.{cons, at}
-use Rattle.machine_semantics.specs.Runs.{begun}
-use Rattle.machine_semantics.specs.States.{State}
+use Rattle.run_loading.specs.fip_language.Store.{Cell}
+use Rattle.run_loading.specs.machine_semantics.Cells.{Store}
+use Rattle.run_loading.specs.machine_semantics.Example.{cons, at}
+use Rattle.run_loading.specs.machine_semantics.Runs.{begun}
+use Rattle.run_loading.specs.machine_semantics.States.{State}
 use Rattle.task_semantics.specs.Schedules.{Shared}
 use Rattle.task_semantics.specs.Projected.{Begun}
 

@@ -10,12 +10,12 @@
 -- cells.
 use Rattle.std.specs.Prelude.{◌≡◌, ℕ, suc, List, [], ◌∷◌, ◌++◌, Option, Some, None, replicate, slice_get}
 use Rattle.std.specs.Prelude.{slice_set}
-use Rattle.fip_language.specs.Every.{Every}
-use Rattle.fip_language.specs.Store.{count}
-use Rattle.machine_semantics.specs.Codes.{PlainCode}
-use Rattle.machine_semantics.specs.Cells.{Store}
-use Rattle.machine_semantics.specs.Steps.{Kinds}
-use Rattle.machine_semantics.specs.Runs.{Run, Going, Over, state_of, later, after}
+use Rattle.run_loading.specs.fip_language.Every.{Every}
+use Rattle.run_loading.specs.fip_language.Store.{count}
+use Rattle.run_loading.specs.machine_semantics.Codes.{PlainCode}
+use Rattle.run_loading.specs.machine_semantics.Cells.{Store}
+use Rattle.run_loading.specs.machine_semantics.Steps.{Kinds}
+use Rattle.run_loading.specs.machine_semantics.Runs.{Run, Going, Over, state_of, later, after}
 
 -- one store, and the run of each task; a run's own store is not looked at
 pub record Shared : Type 0 where

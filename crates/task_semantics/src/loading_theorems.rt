@@ -1,13 +1,13 @@
 // The laws of tasks that are loaded one behind another. Each is the contract of a function that does nothing.
 ghost use Rattle.std.specs.Prelude.{◌≡◌, ℕ, pos, List, [], ◌∷◌, Some, slice_get};
-ghost use Rattle.fip_language.specs.Every.{Every};
-ghost use Rattle.machine_semantics.specs.Runs.{End, Over};
-ghost use Rattle.machine_semantics.specs.States.{State};
-ghost use Rattle.machine_semantics.specs.Steps.{Kinds};
-ghost use Rattle.code_rules.specs.Breaks.{IsSound};
-ghost use Rattle.code_rules.specs.Codes.{PlainCode};
-ghost use Rattle.code_rules.specs.Example.{reversal};
-ghost use Rattle.separation.specs.Codes.{run_code, HasLiterals, AreKinds};
+ghost use Rattle.run_loading.specs.fip_language.Every.{Every};
+ghost use Rattle.run_loading.specs.machine_semantics.Runs.{End, Over};
+ghost use Rattle.run_loading.specs.machine_semantics.States.{State};
+ghost use Rattle.run_loading.specs.machine_semantics.Steps.{Kinds};
+ghost use Rattle.run_loading.specs.code_rules.Breaks.{IsSound};
+ghost use Rattle.run_loading.specs.code_rules.Codes.{PlainCode};
+ghost use Rattle.run_loading.specs.code_rules.Example.{reversal};
+ghost use Rattle.run_loading.specs.separation.Codes.{run_code, HasLiterals, AreKinds};
 ghost use Rattle.task_semantics.specs.ScheduleExample.{both, tasks_alone, two_tasks};
 ghost use Rattle.task_semantics.specs.Projected.{Begun, BeginTogether, AreLoaded};
 ghost use Rattle.task_semantics.specs.Schedules.{Shared, scheduled, EndsAll};

@@ -1,14 +1,14 @@
 // The laws of schedules. Each is the contract of a function that does nothing.
 ghost use Rattle.std.specs.Prelude.{◌≡◌, ◌≢◌, ℕ, List, [], ◌∷◌, ◌++◌, Some, slice_get, map, replicate};
-ghost use Rattle.machine_semantics.specs.Codes.{PlainCode};
-ghost use Rattle.machine_semantics.specs.Cells.{Store, IsStore, count_held};
-ghost use Rattle.machine_semantics.specs.States.{State, frames_held, words_held};
-ghost use Rattle.machine_semantics.specs.Steps.{Kinds};
-ghost use Rattle.machine_semantics.specs.Runs.{End, Value, Out, Run, Over, begun, state_of};
-ghost use Rattle.machine_semantics.specs.Example.{reversing, unknown, at_start};
-ghost use Rattle.code_rules.specs.Codes as S;
-ghost use Rattle.code_rules.specs.Example.{reversal};
-ghost use Rattle.separation.specs.Codes.{run_code, AreKinds};
+ghost use Rattle.run_loading.specs.machine_semantics.Codes.{PlainCode};
+ghost use Rattle.run_loading.specs.machine_semantics.Cells.{Store, IsStore, count_held};
+ghost use Rattle.run_loading.specs.machine_semantics.States.{State, frames_held, words_held};
+ghost use Rattle.run_loading.specs.machine_semantics.Steps.{Kinds};
+ghost use Rattle.run_loading.specs.machine_semantics.Runs.{End, Value, Out, Run, Over, begun, state_of};
+ghost use Rattle.run_loading.specs.machine_semantics.Example.{reversing, unknown, at_start};
+ghost use Rattle.run_loading.specs.code_rules.Codes as S;
+ghost use Rattle.run_loading.specs.code_rules.Example.{reversal};
+ghost use Rattle.run_loading.specs.separation.Codes.{run_code, AreKinds};
 ghost use Rattle.task_semantics.specs.Draws.{drawn, numbers};
 ghost use Rattle.task_semantics.specs.Projected.{BeginTogether, Renaming, AreRenamed, IsProjected, held_among};
 ghost use Rattle.task_semantics.specs.Projected.{AreLoaded, EachIsAlone, EachKeepsItsCells, EachIsSeenAsAlone};

@@ -1,12 +1,12 @@
 // The laws of tasks that lie apart. Each is the contract of a function that does nothing.
 ghost use Rattle.std.specs.Prelude.{◌≡◌, ℕ, List, Some, slice_get};
-ghost use Rattle.machine_semantics.specs.Cells.{Store};
-ghost use Rattle.machine_semantics.specs.Runs.{End, Over};
-ghost use Rattle.machine_semantics.specs.States.{State};
-ghost use Rattle.machine_semantics.specs.Steps.{Kinds};
-ghost use Rattle.code_rules.specs.Breaks.{IsSound};
-ghost use Rattle.code_rules.specs.Codes.{PlainCode};
-ghost use Rattle.separation.specs.Codes.{run_code, HasLiterals, AreKinds};
+ghost use Rattle.run_loading.specs.machine_semantics.Cells.{Store};
+ghost use Rattle.run_loading.specs.machine_semantics.Runs.{End, Over};
+ghost use Rattle.run_loading.specs.machine_semantics.States.{State};
+ghost use Rattle.run_loading.specs.machine_semantics.Steps.{Kinds};
+ghost use Rattle.run_loading.specs.code_rules.Breaks.{IsSound};
+ghost use Rattle.run_loading.specs.code_rules.Codes.{PlainCode};
+ghost use Rattle.run_loading.specs.separation.Codes.{run_code, HasLiterals, AreKinds};
 ghost use Rattle.task_semantics.specs.Projected.{Begun, BeginTogether, AreLoaded};
 ghost use Rattle.task_semantics.specs.Schedules.{Shared, scheduled};
 ghost use Rattle.task_semantics.specs.Ended.{EndsOnTrees};

@@ -1,7 +1,7 @@
 -- An event that is read: its step, its operation and its place, and then what the operation asks for.
 use Rattle.std.proofs.Common.{◌≡◌, ◌≢◌, ◌∙◌, ℕ, ◌≤◌, Bool, List, length, Some, sym, ap, ap₂, arith, nat_le, nat_lt}
 use Rattle.std.proofs.lemmas.Bool.{le-leb, lt-ltb}
-use Rattle.machine_semantics.specs.Cells.{Release}
+use Rattle.run_loading.specs.machine_semantics.Cells.{Release}
 use Rattle.run_loading.specs.TraceReading.{Got, read_number, read_write, read_change, read_event}
 use Rattle.run_loading.specs.TraceText.{Loaded, size_at}
 use Rattle.trace_files.specs.Reading.{Spot, AreRising, left, IsLive}

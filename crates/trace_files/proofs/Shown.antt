@@ -7,8 +7,8 @@ use Rattle.std.specs.Prelude.{◌==◌, nat_eq, nat_le, slice_set, replicate, if
 use Rattle.std.proofs.lemmas.Bool.{eqb-true, eq-eqb}
 use Rattle.std.proofs.lemmas.Option.{none-some, same_Some}
 use Rattle.fip_language.specs.Store.{Cell}
-use Rattle.machine_semantics.specs.Cells.{Store, Change, Write, Release, cell_in, size_of, written, given_up, changed}
-use Rattle.machine_semantics.specs.Traces.{Event, changed_or, applied_if, replay}
+use Rattle.run_loading.specs.machine_semantics.Cells.{Store, Change, Write, Release, cell_in, size_of, written, given_up, changed}
+use Rattle.run_loading.specs.machine_semantics.Traces.{Event, changed_or, applied_if, replay}
 use Rattle.run_loading.specs.Loading.{unreleased}
 use Rattle.run_loading.specs.TraceText.{Loaded, Trace, size_at, without, left_by, IsChange, AreCells, AreEvents, IsTrace}
 use Rattle.run_loading.specs.Replaying.{place_line, lines_from, store_text, places_from, replayed}

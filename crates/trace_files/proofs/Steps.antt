@@ -4,7 +4,7 @@ use Rattle.std.specs.Prelude.{nat_le, codes, Err}
 use Rattle.std.proofs.lemmas.Bool.{le-leb}
 use Rattle.std.proofs.lemmas.List.{append-nil}
 use native.Mathlib.Nat.{pow-suc}
-use Rattle.machine_semantics.specs.Traces.{Event}
+use Rattle.run_loading.specs.machine_semantics.Traces.{Event}
 use Rattle.cell_trace.specs.declared.error.ReadTraceError.{ReadTraceError}
 use Rattle.cell_trace.specs.declared.error.ReadTraceError.TheVariants as E
 use Rattle.run_loading.specs.TraceReading.{Read, Got, Bad, then_read, asked, read_number, read_exactly, read_words, read_cell, read_cells, read_event, read_events, last_step, read_end, read_steps, read_all_events, read_all_cells, read_trace}

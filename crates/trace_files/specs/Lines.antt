@@ -4,8 +4,8 @@ use Rattle.std.specs.Prelude.{◌≡◌, ℕ, List, [], ◌∷◌, ◌++◌, Opt
 use Rattle.std.specs.Prelude.{option_and_then, if◌then◌else◌}
 use Rattle.std.specs.Fmt.{decimal}
 use Rattle.fip_language.specs.Store.{Cell}
-use Rattle.machine_semantics.specs.Cells.{Change, Write, Release}
-use Rattle.machine_semantics.specs.Traces.{Event}
+use Rattle.run_loading.specs.machine_semantics.Cells.{Change, Write, Release}
+use Rattle.run_loading.specs.machine_semantics.Traces.{Event}
 use Rattle.run_loading.specs.TraceText.{Loaded}
 use Rattle.run_loading.specs.Replaying.{live_line, free_line}
 

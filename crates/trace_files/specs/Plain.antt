@@ -1,8 +1,8 @@
 -- What a trace in memory says, without where its lists lie: as the definitions of traces speak of it. The cell at place
 -- 0 with the constructor 1 and the words 1 and 0, as Cons(1, Nil) has it, is the same cell there.
 use Rattle.std.specs.Prelude.{map}
-use Rattle.machine_semantics.specs.Cells.{Write, Release}
-use Rattle.machine_semantics.specs.Traces as D
+use Rattle.run_loading.specs.machine_semantics.Cells.{Write, Release}
+use Rattle.run_loading.specs.machine_semantics.Traces as D
 use Rattle.cell_trace.specs.declared.trace.LoadedCell.{LoadedCell}
 use Rattle.cell_trace.specs.declared.trace.Event.{Event}
 use Rattle.cell_trace.specs.declared.trace.Event.TheVariants as E

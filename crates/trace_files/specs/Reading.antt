@@ -3,7 +3,7 @@
 use Rattle.std.specs.Prelude.{◌≡◌, ◌≤◌, ℕ, suc, Bool, true, false, List, [], ◌∷◌, map, Some, slice_get, Result, Ok, Err}
 use Rattle.std.specs.declared.vec.Vec.{Vec}
 use Rattle.std.specs.declared.alloc.Global.{Global}
-use Rattle.machine_semantics.specs.Traces as D
+use Rattle.run_loading.specs.machine_semantics.Traces as D
 use Rattle.cell_trace.specs.declared.error.ReadTraceError.{ReadTraceError}
 use Rattle.cell_trace.specs.declared.error.ReadTraceError.TheVariants as E
 use Rattle.cell_trace.specs.declared.trace.LoadedCell.{LoadedCell}

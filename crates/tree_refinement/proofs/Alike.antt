@@ -1,16 +1,16 @@
 -- Two gauges tell the same of cells, since each is said by trees.
 use Rattle.std.proofs.Common.{◌≡◌, ◌∙◌, ℕ, ◌+◌, ◌≤◌, List, [], sym, ap}
 use Rattle.std.proofs.lemmas.Option.{same_Some}
-use Rattle.fip_language.specs.Gauge.{lowest, highest}
-use Rattle.fip_language.specs.Store.{count}
-use Rattle.fip_language.specs.Values.{Values, cells_of_all}
-use Rattle.machine_semantics.specs.Gauges.{seen}
-use Rattle.machine_semantics.specs.Runs.{Value, Ends, begun}
-use Rattle.machine_semantics.specs.States.{State}
-use Rattle.machine_semantics.specs.Steps.{Kinds}
-use Rattle.code_rules.specs.Codes.{PlainCode, PlainFunction}
-use Rattle.separation.specs.Codes.{run_code}
-use Rattle.separation.specs.Starts.{IsStart}
+use Rattle.tree_semantics.specs.fip_language.Gauge.{lowest, highest}
+use Rattle.tree_semantics.specs.fip_language.Store.{count}
+use Rattle.tree_semantics.specs.fip_language.Values.{Values, cells_of_all}
+use Rattle.tree_semantics.specs.machine_semantics.Gauges.{seen}
+use Rattle.tree_semantics.specs.machine_semantics.Runs.{Value, Ends, begun}
+use Rattle.tree_semantics.specs.machine_semantics.States.{State}
+use Rattle.tree_semantics.specs.machine_semantics.Steps.{Kinds}
+use Rattle.separation_bounds.specs.code_rules.Codes.{PlainCode, PlainFunction}
+use Rattle.separation_bounds.specs.separation.Codes.{run_code}
+use Rattle.separation_bounds.specs.separation.Starts.{IsStart}
 use Rattle.tree_refinement.specs.Runs.{BeginsWith}
 use Rattle.tree_refinement.specs.LentValues.{lent_values}
 use Rattle.tree_refinement.proofs.Cells.{highest_by_trees, lowest_by_trees}

@@ -1,45 +1,45 @@
 -- Rows that change cells: Put, Free, Drop. On trees the same comes of them.
 use Rattle.std.proofs.Common.{◌≡◌, ℕ, suc, ◌+◌, ◌<◌, ◌≤◌, true, ◌&&◌, List, [], ◌∷◌, length, map, Option, Some, None, slice_get, refl, sym, ap, ◌∙◌, subst, true≢false, arith, nat_lt, ◌==◌}
 use Rattle.std.specs.Prelude.{option_and_then, option_map, is_some}
-use Rattle.fip_language.specs.Values.{Node}
-use Rattle.fip_language.specs.Table.{Table}
-use Rattle.fip_language.specs.Store.{Cell, Placed, At, Parts, NoParts, MoreParts, places, words_of, uses, uses_of_all, one_at, count}
-use Rattle.cell_code.specs.declared.code.Instr.{Instr}
-use Rattle.cell_code.specs.declared.code.Instr.TheVariants as I
-use Rattle.cell_code.specs.declared.kind.Kind.{Kind}
-use Rattle.cell_code.specs.declared.kind.Kind.TheVariants.{Gone, Scalar, Owned, Lent, Credit}
-use Rattle.machine_semantics.specs.Words.{place_word, place_of}
-use Rattle.machine_semantics.specs.Cells.{Release, Write, there}
-use Rattle.machine_semantics.specs.Trees.{HasPart, Stands, StandAll}
-use Rattle.machine_semantics.specs.States.{State}
-use Rattle.machine_semantics.specs.Codes as C
-use Rattle.machine_semantics.specs.Rows as R
-use Rattle.machine_semantics.specs.Apart.{Holding, holding_uses, owned_uses, trees_uses}
+use Rattle.tree_semantics.specs.fip_language.Values.{Node}
+use Rattle.tree_semantics.specs.fip_language.Table.{Table}
+use Rattle.tree_semantics.specs.fip_language.Store.{Cell, Placed, At, Parts, NoParts, MoreParts, places, words_of, uses, uses_of_all, one_at, count}
+use Rattle.separation_bounds.specs.cell_code.declared.code.Instr.{Instr}
+use Rattle.separation_bounds.specs.cell_code.declared.code.Instr.TheVariants as I
+use Rattle.separation_bounds.specs.cell_code.declared.kind.Kind.{Kind}
+use Rattle.separation_bounds.specs.cell_code.declared.kind.Kind.TheVariants.{Gone, Scalar, Owned, Lent, Credit}
+use Rattle.tree_semantics.specs.machine_semantics.Words.{place_word, place_of}
+use Rattle.tree_semantics.specs.machine_semantics.Cells.{Release, Write, there}
+use Rattle.tree_semantics.specs.machine_semantics.Trees.{HasPart, Stands, StandAll}
+use Rattle.tree_semantics.specs.machine_semantics.States.{State}
+use Rattle.tree_semantics.specs.machine_semantics.Codes as C
+use Rattle.tree_semantics.specs.machine_semantics.Rows as R
+use Rattle.tree_semantics.specs.machine_semantics.Apart.{Holding, holding_uses, owned_uses, trees_uses}
 use Rattle.tree_semantics.specs.Contents.{Contents}
 use Rattle.tree_semantics.specs.Contents as T
 use Rattle.tree_semantics.specs.States as U
 use Rattle.tree_semantics.specs.Steps as N
-use Rattle.code_rules.specs.Codes.{PlainCode, PlainFunction}
-use Rattle.code_rules.specs.Types.{fields, fields_of}
-use Rattle.code_rules.specs.Kinds.{at, kind_or_gone, is_owned, is_credit}
-use Rattle.code_rules.specs.Ranges.{are_below, is_constructor}
-use Rattle.code_rules.specs.Changes.{written, used_up, forget}
-use Rattle.code_rules.specs.Handing.{give_all}
-use Rattle.code_rules.specs.Leaves.{Leaves}
-use Rattle.separation_kinds.specs.Meanings.{Means, AreMeant, IsSpare, word_at, owned_by}
-use Rattle.separation_kinds.proofs.Basics.{pick, chosen, both, equal, below, at_past, length_map, sum_same}
-use Rattle.separation_kinds.proofs.KindLemmas.{put, dropped, is_one, at_written}
-use Rattle.separation_kinds.proofs.Changing.{weaken_at, count_used_up, count_gone, credit_not_owned}
-use Rattle.separation_kinds.proofs.Agree.{one_here, Past, agree, stand_all_agree}
-use Rattle.separation_kinds.proofs.Words.{word_get, read_words}
-use Rattle.separation_kinds.proofs.Giving.{credit_of, AreGiven, given}
-use Rattle.separation_kinds.proofs.Passing.{credit_within}
-use Rattle.separation.specs.Rows.{IsReady}
-use Rattle.separation.proofs.Reading.{place_is}
-use Rattle.separation.proofs.Stores.{there_few, sized_at, IsWritten, is_written, AreReleased, are_released, count_places}
-use Rattle.separation.proofs.Depth.{tree_found}
-use Rattle.separation.proofs.PlainRows.{goes_on}
-use Rattle.separation.proofs.CellRows.{shape_at}
+use Rattle.separation_bounds.specs.code_rules.Codes.{PlainCode, PlainFunction}
+use Rattle.separation_bounds.specs.code_rules.Types.{fields, fields_of}
+use Rattle.separation_bounds.specs.code_rules.Kinds.{at, kind_or_gone, is_owned, is_credit}
+use Rattle.separation_bounds.specs.code_rules.Ranges.{are_below, is_constructor}
+use Rattle.separation_bounds.specs.code_rules.Changes.{written, used_up, forget}
+use Rattle.separation_bounds.specs.code_rules.Handing.{give_all}
+use Rattle.separation_bounds.specs.code_rules.Leaves.{Leaves}
+use Rattle.separation_bounds.specs.separation_kinds.Meanings.{Means, AreMeant, IsSpare, word_at, owned_by}
+use Rattle.separation_bounds.proofs.separation_kinds.Basics.{pick, chosen, both, equal, below, at_past, length_map, sum_same}
+use Rattle.separation_bounds.proofs.separation_kinds.KindLemmas.{put, dropped, is_one, at_written}
+use Rattle.separation_bounds.proofs.separation_kinds.Changing.{weaken_at, count_used_up, count_gone, credit_not_owned}
+use Rattle.separation_bounds.proofs.separation_kinds.Agree.{one_here, Past, agree, stand_all_agree}
+use Rattle.separation_bounds.proofs.separation_kinds.Words.{word_get, read_words}
+use Rattle.separation_bounds.proofs.separation_kinds.Giving.{credit_of, AreGiven, given}
+use Rattle.separation_bounds.proofs.separation_kinds.Passing.{credit_within}
+use Rattle.separation_bounds.specs.separation.Rows.{IsReady}
+use Rattle.separation_bounds.proofs.separation.Reading.{place_is}
+use Rattle.separation_bounds.proofs.separation.Stores.{there_few, sized_at, IsWritten, is_written, AreReleased, are_released, count_places}
+use Rattle.separation_bounds.proofs.separation.Depth.{tree_found}
+use Rattle.separation_bounds.proofs.separation.PlainRows.{goes_on}
+use Rattle.separation_bounds.proofs.separation.CellRows.{shape_at}
 use Rattle.tree_refinement.specs.Agreement.{IsWordOf, AreShown}
 use Rattle.tree_refinement.proofs.Values.{used_up_shown, gone_shown, dropped_shown, filled_shown, reworded_shown, stored_shown, agreed_shown, given_shown}
 use Rattle.tree_refinement.proofs.PlainFollows.{Follows, on_is}

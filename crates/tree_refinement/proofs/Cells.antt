@@ -1,27 +1,27 @@
 -- What a gauge tells of cells, by trees.
 -- The idea: held cells only fall, so the first state has the most and the last one the least; both are counted by trees.
 use Rattle.std.proofs.Common.{◌≡◌, ◌∙◌, ℕ, zero, suc, ◌+◌, ◌≤◌, Bool, true, false, not, ◌&&◌, List, [], ◌∷◌, ◌++◌, map, refl, ap, subst, arith, if◌then◌else◌}
-use Rattle.fip_language.specs.Gauge.{lowest, highest}
-use Rattle.fip_language.specs.Store.{Placed, PlacedInt, Bare, At, Parts, NoParts, MoreParts, value_of, values_of, words_of, word_of, count}
-use Rattle.fip_language.specs.Table.{Table, is_scalar}
-use Rattle.fip_language.specs.Values.{Values, More, cells, cells_of_all}
-use Rattle.fip_base.specs.declared.plain.Param.{Param}
-use Rattle.machine_semantics.specs.Apart.{AreTrees, GivesApart, typed}
-use Rattle.machine_semantics.specs.Cells.{Store, count_held}
-use Rattle.machine_semantics.specs.Gauges.{seen}
-use Rattle.machine_semantics.specs.Runs.{Run, Value, Ends, state_of, begun, after, lent_words}
-use Rattle.machine_semantics.specs.States.{State}
-use Rattle.machine_semantics.specs.Steps.{Kinds}
-use Rattle.machine_semantics.specs.Trees.{Stands, StandAll}
-use Rattle.machine_semantics.proofs.Gauged.{held, lowest_is_last, highest_is_first}
-use Rattle.code_rules.specs.Codes.{PlainCode, results}
-use Rattle.separation_kinds.proofs.Agree.{one_here}
-use Rattle.separation_kinds.proofs.Shapes.{scalar_bare}
-use Rattle.separation.specs.Codes.{run_code}
-use Rattle.separation.specs.Starts.{IsStart}
-use Rattle.separation.proofs.Apartness.{run_results}
-use Rattle.separation.proofs.Loading.{loaded_is, start_alive}
-use Rattle.separation.proofs.Running.{run_gives}
+use Rattle.tree_semantics.specs.fip_language.Gauge.{lowest, highest}
+use Rattle.tree_semantics.specs.fip_language.Store.{Placed, PlacedInt, Bare, At, Parts, NoParts, MoreParts, value_of, values_of, words_of, word_of, count}
+use Rattle.tree_semantics.specs.fip_language.Table.{Table, is_scalar}
+use Rattle.tree_semantics.specs.fip_language.Values.{Values, More, cells, cells_of_all}
+use Rattle.separation_bounds.specs.fip_base.declared.plain.Param.{Param}
+use Rattle.tree_semantics.specs.machine_semantics.Apart.{AreTrees, GivesApart, typed}
+use Rattle.tree_semantics.specs.machine_semantics.Cells.{Store, count_held}
+use Rattle.tree_semantics.specs.machine_semantics.Gauges.{seen}
+use Rattle.tree_semantics.specs.machine_semantics.Runs.{Run, Value, Ends, state_of, begun, after, lent_words}
+use Rattle.tree_semantics.specs.machine_semantics.States.{State}
+use Rattle.tree_semantics.specs.machine_semantics.Steps.{Kinds}
+use Rattle.tree_semantics.specs.machine_semantics.Trees.{Stands, StandAll}
+use Rattle.tree_semantics.proofs.machine_semantics.Gauged.{held, lowest_is_last, highest_is_first}
+use Rattle.separation_bounds.specs.code_rules.Codes.{PlainCode, results}
+use Rattle.separation_bounds.proofs.separation_kinds.Agree.{one_here}
+use Rattle.separation_bounds.proofs.separation_kinds.Shapes.{scalar_bare}
+use Rattle.separation_bounds.specs.separation.Codes.{run_code}
+use Rattle.separation_bounds.specs.separation.Starts.{IsStart}
+use Rattle.separation_bounds.proofs.separation.Apartness.{run_results}
+use Rattle.separation_bounds.proofs.separation.Loading.{loaded_is, start_alive}
+use Rattle.separation_bounds.proofs.separation.Running.{run_gives}
 use Rattle.separation_bounds.specs.ByTrees.{cells_of_trees}
 use Rattle.separation_bounds.proofs.GivenBack.{start_held, end_held}
 use Rattle.tree_refinement.specs.Agreement.{AreWordsOf}

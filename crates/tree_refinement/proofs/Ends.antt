@@ -1,15 +1,15 @@
 -- Two runs on the same values end alike.
 -- The idea: both end as the one run on trees does.
 use Rattle.std.proofs.Common.{◌≡◌, ◌∙◌, ℕ, List, sym, ap, subst}
-use Rattle.fip_language.specs.Meaning as M
-use Rattle.fip_language.specs.Table.{Table}
-use Rattle.fip_language.specs.Values.{Values}
-use Rattle.machine_semantics.specs.Runs.{Run, End, Value, Trap, Out, Deep, Unsound, Going, Over, Ends}
-use Rattle.machine_semantics.specs.States.{State}
-use Rattle.machine_semantics.specs.Steps.{Kinds}
-use Rattle.code_rules.specs.Codes.{PlainCode, results}
-use Rattle.separation.specs.Codes.{run_code}
-use Rattle.separation.specs.Starts.{IsStart}
+use Rattle.tree_semantics.specs.fip_language.Meaning as M
+use Rattle.tree_semantics.specs.fip_language.Table.{Table}
+use Rattle.tree_semantics.specs.fip_language.Values.{Values}
+use Rattle.tree_semantics.specs.machine_semantics.Runs.{Run, End, Value, Trap, Out, Deep, Unsound, Going, Over, Ends}
+use Rattle.tree_semantics.specs.machine_semantics.States.{State}
+use Rattle.tree_semantics.specs.machine_semantics.Steps.{Kinds}
+use Rattle.separation_bounds.specs.code_rules.Codes.{PlainCode, results}
+use Rattle.separation_bounds.specs.separation.Codes.{run_code}
+use Rattle.separation_bounds.specs.separation.Starts.{IsStart}
 use Rattle.separation_bounds.proofs.Ending.{ends_once}
 use Rattle.tree_semantics.specs.Runs as T
 use Rattle.tree_refinement.specs.Runs.{BeginsWith, IsSameEnd}

@@ -2,34 +2,34 @@
 use Rattle.std.proofs.Common.{◌≡◌, ℕ, zero, suc, ◌+◌, ◌-◌, Bool, true, false, ◌&&◌, List, ◌∷◌, ◌++◌, length, map, Option, Some, None, refl, sym, ◌∙◌, subst, nat_lt, if◌then◌else◌}
 use Rattle.std.specs.Prelude.{is_some, replicate}
 use Rattle.std.proofs.lemmas.Option.{none-some}
-use Rattle.cell_code.specs.declared.code.Instr.TheVariants as I
-use Rattle.cell_code.specs.declared.kind.Kind.{Kind}
-use Rattle.cell_code.specs.declared.kind.Kind.TheVariants.{Credit}
-use Rattle.machine_semantics.specs.Codes as C
-use Rattle.machine_semantics.specs.Cells.{Store}
-use Rattle.machine_semantics.specs.Rows.{read_all}
-use Rattle.machine_semantics.specs.States.{State}
-use Rattle.machine_semantics.specs.Steps.{Kinds, first_words, first_frame, called, called_with, replaced}
+use Rattle.separation_bounds.specs.cell_code.declared.code.Instr.TheVariants as I
+use Rattle.separation_bounds.specs.cell_code.declared.kind.Kind.{Kind}
+use Rattle.separation_bounds.specs.cell_code.declared.kind.Kind.TheVariants.{Credit}
+use Rattle.tree_semantics.specs.machine_semantics.Codes as C
+use Rattle.tree_semantics.specs.machine_semantics.Cells.{Store}
+use Rattle.tree_semantics.specs.machine_semantics.Rows.{read_all}
+use Rattle.tree_semantics.specs.machine_semantics.States.{State}
+use Rattle.tree_semantics.specs.machine_semantics.Steps.{Kinds, first_words, first_frame, called, called_with, replaced}
 use Rattle.tree_semantics.specs.Contents.{Contents}
-use Rattle.fip_language.specs.Values.{Values}
+use Rattle.tree_semantics.specs.fip_language.Values.{Values}
 use Rattle.tree_semantics.specs.Contents as T
 use Rattle.tree_semantics.specs.States as U
 use Rattle.tree_semantics.specs.Steps as N
-use Rattle.code_rules.specs.Codes.{PlainCode, PlainFunction, function_at, results}
-use Rattle.code_rules.specs.Kinds.{at}
-use Rattle.code_rules.specs.Entry.{param_kind, entry}
-use Rattle.code_rules.specs.Ranges.{are_below}
-use Rattle.code_rules.specs.Asked.{destinations, same_types, tail_left}
-use Rattle.code_rules.specs.Handing.{arguments}
-use Rattle.code_rules.specs.Flow.{IsInstr, is_as_asked}
-use Rattle.code_rules.specs.Breaks.{IsSound}
-use Rattle.separation_kinds.specs.Meanings.{word_at}
-use Rattle.separation_kinds.proofs.Basics.{both}
-use Rattle.separation_kinds.proofs.Words.{read_words}
-use Rattle.separation.specs.Codes.{run_function, run_code, AreKinds}
-use Rattle.separation.specs.Alive.{IsAlive}
-use Rattle.separation.proofs.Sound.{formed, has_form}
-use Rattle.separation.proofs.Calling.{run_function_at, known_entry, some_left, callee_at}
+use Rattle.separation_bounds.specs.code_rules.Codes.{PlainCode, PlainFunction, function_at, results}
+use Rattle.separation_bounds.specs.code_rules.Kinds.{at}
+use Rattle.separation_bounds.specs.code_rules.Entry.{param_kind, entry}
+use Rattle.separation_bounds.specs.code_rules.Ranges.{are_below}
+use Rattle.separation_bounds.specs.code_rules.Asked.{destinations, same_types, tail_left}
+use Rattle.separation_bounds.specs.code_rules.Handing.{arguments}
+use Rattle.separation_bounds.specs.code_rules.Flow.{IsInstr, is_as_asked}
+use Rattle.separation_bounds.specs.code_rules.Breaks.{IsSound}
+use Rattle.separation_bounds.specs.separation_kinds.Meanings.{word_at}
+use Rattle.separation_bounds.proofs.separation_kinds.Basics.{both}
+use Rattle.separation_bounds.proofs.separation_kinds.Words.{read_words}
+use Rattle.separation_bounds.specs.separation.Codes.{run_function, run_code, AreKinds}
+use Rattle.separation_bounds.specs.separation.Alive.{IsAlive}
+use Rattle.separation_bounds.proofs.separation.Sound.{formed, has_form}
+use Rattle.separation_bounds.proofs.separation.Calling.{run_function_at, known_entry, some_left, callee_at}
 use Rattle.tree_refinement.specs.Agreement.{AreShown, IsSameFrame, IsSame, IsSameNext}
 use Rattle.tree_refinement.proofs.Handing.{EachShows, entered_shown, AreHandedOn, handed_on}
 

@@ -3,23 +3,23 @@ use Rattle.std.proofs.Common.{◌≡◌, ℕ, ◌<◌, ◌^◌, List, [], ◌∷
 use Rattle.std.specs.Prelude.{FitsSigned, codes}
 use Rattle.std.specs.Int.{w64}
 use Rattle.std.proofs.lemmas.Option.{none-some, same_Some}
-use Rattle.fip_language.specs.Values.{Value, End, More}
-use Rattle.fip_language.specs.Meaning as M
-use Rattle.fip_language.specs.Table.{Table, Shape}
-use Rattle.fip_language.specs.Example.{empty, item, pair}
-use Rattle.fip_language.specs.Store.{PlacedInt, Bare, At, Parts, NoParts, MoreParts, word_of}
-use Rattle.machine_semantics.specs.Example.{listed, first}
-use Rattle.machine_semantics.specs.States.{State}
-use Rattle.machine_semantics.specs.Steps.{Kinds}
-use Rattle.machine_semantics.specs.Runs as R
+use Rattle.tree_semantics.specs.fip_language.Values.{Value, End, More}
+use Rattle.tree_semantics.specs.fip_language.Meaning as M
+use Rattle.tree_semantics.specs.fip_language.Table.{Table, Shape}
+use Rattle.tree_semantics.specs.fip_language.Example.{empty, item, pair}
+use Rattle.tree_semantics.specs.fip_language.Store.{PlacedInt, Bare, At, Parts, NoParts, MoreParts, word_of}
+use Rattle.tree_semantics.specs.machine_semantics.Example.{listed, first}
+use Rattle.tree_semantics.specs.machine_semantics.States.{State}
+use Rattle.tree_semantics.specs.machine_semantics.Steps.{Kinds}
+use Rattle.tree_semantics.specs.machine_semantics.Runs as R
 use Rattle.tree_semantics.specs.Contents.{put}
 use Rattle.tree_semantics.specs.States as U
 use Rattle.tree_semantics.specs.Runs as T
-use Rattle.code_rules.specs.Codes.{PlainCode}
-use Rattle.code_rules.specs.Example.{reversal}
-use Rattle.separation.specs.Codes.{run_code, AreKinds}
-use Rattle.separation.specs.Starts.{IsStart}
-use Rattle.separation.proofs.Examples.{reversal_starts}
+use Rattle.separation_bounds.specs.code_rules.Codes.{PlainCode}
+use Rattle.separation_bounds.specs.code_rules.Example.{reversal}
+use Rattle.separation_bounds.specs.separation.Codes.{run_code, AreKinds}
+use Rattle.separation_bounds.specs.separation.Starts.{IsStart}
+use Rattle.separation_bounds.proofs.separation.Examples.{reversal_starts}
 use Rattle.tree_refinement.specs.Agreement.{IsWordOf, AreWordsOf}
 use Rattle.tree_refinement.specs.Runs.{BeginsWith, IsSameEnd}
 use Rattle.tree_refinement.proofs.Running.{cells_end}

@@ -2,24 +2,24 @@
 use Rattle.std.proofs.Common.{◌≡◌, inl, inr, ℕ, zero, suc, ◌+◌, Bool, true, false, ◌&&◌, ◌||◌, not, List, [], ◌∷◌, ◌++◌, length, map, drop, Some, None, refl, sym, ap, subst, true≢false, arith, ◌==◌, if◌then◌else◌}
 use Rattle.std.specs.Prelude.{is_some}
 use Rattle.std.proofs.lemmas.Option.{none-some, same_Some, option_and_then_some}
-use Rattle.fip_language.specs.Table.{Table}
-use Rattle.fip_base.specs.declared.plain.Param.{Param}
-use Rattle.cell_code.specs.declared.kind.Kind.{Kind}
-use Rattle.cell_code.specs.declared.kind.Kind.TheVariants.{Gone, Scalar, Owned, Lent, Credit}
-use Rattle.machine_semantics.specs.Cells.{Store}
+use Rattle.tree_semantics.specs.fip_language.Table.{Table}
+use Rattle.separation_bounds.specs.fip_base.declared.plain.Param.{Param}
+use Rattle.separation_bounds.specs.cell_code.declared.kind.Kind.{Kind}
+use Rattle.separation_bounds.specs.cell_code.declared.kind.Kind.TheVariants.{Gone, Scalar, Owned, Lent, Credit}
+use Rattle.tree_semantics.specs.machine_semantics.Cells.{Store}
 use Rattle.tree_semantics.specs.Contents.{Contents}
 use Rattle.tree_semantics.specs.Contents as T
-use Rattle.code_rules.specs.Codes.{PlainCode, PlainFunction, function_at}
-use Rattle.code_rules.specs.Types.{is_scalar_type, all}
-use Rattle.code_rules.specs.Kinds.{at, is_scalar_of, is_owned_of, is_credit_of}
-use Rattle.code_rules.specs.Entry.{param_kind, gones}
-use Rattle.code_rules.specs.Changes.{written, used_up}
-use Rattle.code_rules.specs.Handing.{pass, pass_all, hand, hand_all, is_lendable, lends, lend_all, arguments}
-use Rattle.separation_kinds.specs.Meanings.{word_at}
-use Rattle.separation_kinds.proofs.Basics.{pick, both, or_not, equal}
-use Rattle.separation_kinds.proofs.Giving.{scalar_of, owned_of, credit_of}
-use Rattle.separation_kinds.proofs.Passing.{credit_within, at_gones}
-use Rattle.separation.proofs.Calling.{arguments_are}
+use Rattle.separation_bounds.specs.code_rules.Codes.{PlainCode, PlainFunction, function_at}
+use Rattle.separation_bounds.specs.code_rules.Types.{is_scalar_type, all}
+use Rattle.separation_bounds.specs.code_rules.Kinds.{at, is_scalar_of, is_owned_of, is_credit_of}
+use Rattle.separation_bounds.specs.code_rules.Entry.{param_kind, gones}
+use Rattle.separation_bounds.specs.code_rules.Changes.{written, used_up}
+use Rattle.separation_bounds.specs.code_rules.Handing.{pass, pass_all, hand, hand_all, is_lendable, lends, lend_all, arguments}
+use Rattle.separation_bounds.specs.separation_kinds.Meanings.{word_at}
+use Rattle.separation_bounds.proofs.separation_kinds.Basics.{pick, both, or_not, equal}
+use Rattle.separation_bounds.proofs.separation_kinds.Giving.{scalar_of, owned_of, credit_of}
+use Rattle.separation_bounds.proofs.separation_kinds.Passing.{credit_within, at_gones}
+use Rattle.separation_bounds.proofs.separation.Calling.{arguments_are}
 use Rattle.tree_refinement.specs.Agreement.{IsWordOf, type_in, Shows, AreShown}
 use Rattle.tree_refinement.proofs.Values.{used_up_shown, gone_shown}
 

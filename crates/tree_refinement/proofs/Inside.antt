@@ -1,24 +1,24 @@
 -- A step inside a frame comes to the same on cells and on trees.
 use Rattle.std.proofs.Common.{◌≡◌, inl, inr, ℕ, ◌<◌, List, [], ◌∷◌, length, Some, refl, sym, ap, ◌∙◌, subst, arith}
 use Rattle.std.proofs.lemmas.Option.{same_Some, none-some}
-use Rattle.fip_language.specs.declared.Operator.{Operator}
-use Rattle.fip_language.specs.Store.{Placed}
-use Rattle.cell_code.specs.declared.code.Instr.{Instr}
-use Rattle.machine_semantics.specs.Cells.{Store, changed_by}
-use Rattle.machine_semantics.specs.States.{Frame, State}
-use Rattle.machine_semantics.specs.Rows as R
-use Rattle.machine_semantics.specs.Steps.{Kinds, went, went_with, trapped}
+use Rattle.tree_semantics.specs.fip_language.declared.Operator.{Operator}
+use Rattle.tree_semantics.specs.fip_language.Store.{Placed}
+use Rattle.separation_bounds.specs.cell_code.declared.code.Instr.{Instr}
+use Rattle.tree_semantics.specs.machine_semantics.Cells.{Store, changed_by}
+use Rattle.tree_semantics.specs.machine_semantics.States.{Frame, State}
+use Rattle.tree_semantics.specs.machine_semantics.Rows as R
+use Rattle.tree_semantics.specs.machine_semantics.Steps.{Kinds, went, went_with, trapped}
 use Rattle.tree_semantics.specs.States as U
-use Rattle.code_rules.specs.Codes.{PlainCode}
-use Rattle.code_rules.specs.Kinds.{at}
-use Rattle.code_rules.specs.Breaks.{IsSound}
-use Rattle.separation_kinds.specs.Meanings.{owned_by, word_at}
-use Rattle.separation.specs.Rows.{IsDone}
-use Rattle.separation.proofs.Stores.{there_few}
-use Rattle.separation.proofs.ReadingRows.{IsCalculated}
-use Rattle.separation.specs.Codes.{AreKinds}
-use Rattle.separation.specs.Alive.{Frozen, lower_trees, IsWaiting, AreAllWaiting, IsAlive}
-use Rattle.separation.proofs.Lower.{lower_uses, all_agree}
+use Rattle.separation_bounds.specs.code_rules.Codes.{PlainCode}
+use Rattle.separation_bounds.specs.code_rules.Kinds.{at}
+use Rattle.separation_bounds.specs.code_rules.Breaks.{IsSound}
+use Rattle.separation_bounds.specs.separation_kinds.Meanings.{owned_by, word_at}
+use Rattle.separation_bounds.specs.separation.Rows.{IsDone}
+use Rattle.separation_bounds.proofs.separation.Stores.{there_few}
+use Rattle.separation_bounds.proofs.separation.ReadingRows.{IsCalculated}
+use Rattle.separation_bounds.specs.separation.Codes.{AreKinds}
+use Rattle.separation_bounds.specs.separation.Alive.{Frozen, lower_trees, IsWaiting, AreAllWaiting, IsAlive}
+use Rattle.separation_bounds.proofs.separation.Lower.{lower_uses, all_agree}
 use Rattle.tree_refinement.specs.Agreement.{AreShown, IsSameFrame, AreSameFrames, IsSame, IsSameNext}
 use Rattle.tree_refinement.proofs.Values.{agreed_shown}
 use Rattle.tree_refinement.proofs.PlainFollows.{Follows, FollowsOrTraps}

@@ -1,36 +1,36 @@
 -- The trees of the entry's lent arguments stay through a run.
 -- The idea: a step changes only cells that the running frame owns, and the lent arguments' cells are none of these.
 use Rattle.std.proofs.Common.{◌≡◌, inl, inr, ℕ, zero, suc, ◌<◌, List, [], ◌∷◌, length, Option, Some, None, refl, sym, ap, ap₂, ◌∙◌, subst, arith}
-use Rattle.fip_language.specs.declared.Operator.{Operator}
-use Rattle.fip_language.specs.Store.{Placed}
-use Rattle.fip_language.specs.Table.{Table}
-use Rattle.cell_code.specs.declared.code.Instr.{Instr}
-use Rattle.cell_code.specs.declared.code.Instr.TheVariants as I
-use Rattle.machine_semantics.specs.Apart.{AreTrees, trees_uses}
-use Rattle.machine_semantics.specs.Cells.{Store}
-use Rattle.machine_semantics.specs.Codes as R
-use Rattle.machine_semantics.specs.Rows as D
-use Rattle.machine_semantics.specs.Runs.{Run, Going, Over, state_of, begun, comes, later, after}
-use Rattle.machine_semantics.specs.States.{Frame, State, Typed, Next, Went, Entered, Gave, Trapped, TooDeep, Stuck}
-use Rattle.machine_semantics.specs.Steps.{Kinds, went, went_with, trapped, called, called_with, replaced, returned, resumed, act, act_at, next, instr_of, kinds_of}
-use Rattle.code_rules.specs.Breaks.{IsSound}
-use Rattle.code_rules.specs.Codes.{PlainCode, results}
-use Rattle.code_rules.specs.Kinds.{at}
-use Rattle.separation_kinds.specs.Meanings.{owned_by}
-use Rattle.separation.specs.Rows.{IsReady, IsDone}
-use Rattle.separation.proofs.Stores.{there_few}
-use Rattle.separation.proofs.PlainRows.{const_row, atom_row, move_row, jump_row, test_int_row}
-use Rattle.separation.proofs.ReadingRows.{IsCalculated, arith_row, test_row, peek_row}
-use Rattle.separation.proofs.TakeRow.{take_row}
-use Rattle.separation.proofs.CellRows.{put_row, free_row, drop_row}
-use Rattle.separation.specs.Alive.{lower_trees, IsAlive}
-use Rattle.separation.specs.Codes.{run_code, HasLiterals, AreKinds}
-use Rattle.separation.specs.Starts.{IsStart}
-use Rattle.separation.proofs.Loading.{start_alive}
-use Rattle.separation.proofs.Local.{ready}
-use Rattle.separation.proofs.Lower.{trees_agree}
-use Rattle.separation.proofs.Returning.{run_instr_at}
-use Rattle.separation.proofs.Running.{GoodRun, later_good, begun_good}
+use Rattle.tree_semantics.specs.fip_language.declared.Operator.{Operator}
+use Rattle.tree_semantics.specs.fip_language.Store.{Placed}
+use Rattle.tree_semantics.specs.fip_language.Table.{Table}
+use Rattle.separation_bounds.specs.cell_code.declared.code.Instr.{Instr}
+use Rattle.separation_bounds.specs.cell_code.declared.code.Instr.TheVariants as I
+use Rattle.tree_semantics.specs.machine_semantics.Apart.{AreTrees, trees_uses}
+use Rattle.tree_semantics.specs.machine_semantics.Cells.{Store}
+use Rattle.tree_semantics.specs.machine_semantics.Codes as R
+use Rattle.tree_semantics.specs.machine_semantics.Rows as D
+use Rattle.tree_semantics.specs.machine_semantics.Runs.{Run, Going, Over, state_of, begun, comes, later, after}
+use Rattle.tree_semantics.specs.machine_semantics.States.{Frame, State, Typed, Next, Went, Entered, Gave, Trapped, TooDeep, Stuck}
+use Rattle.tree_semantics.specs.machine_semantics.Steps.{Kinds, went, went_with, trapped, called, called_with, replaced, returned, resumed, act, act_at, next, instr_of, kinds_of}
+use Rattle.separation_bounds.specs.code_rules.Breaks.{IsSound}
+use Rattle.separation_bounds.specs.code_rules.Codes.{PlainCode, results}
+use Rattle.separation_bounds.specs.code_rules.Kinds.{at}
+use Rattle.separation_bounds.specs.separation_kinds.Meanings.{owned_by}
+use Rattle.separation_bounds.specs.separation.Rows.{IsReady, IsDone}
+use Rattle.separation_bounds.proofs.separation.Stores.{there_few}
+use Rattle.separation_bounds.proofs.separation.PlainRows.{const_row, atom_row, move_row, jump_row, test_int_row}
+use Rattle.separation_bounds.proofs.separation.ReadingRows.{IsCalculated, arith_row, test_row, peek_row}
+use Rattle.separation_bounds.proofs.separation.TakeRow.{take_row}
+use Rattle.separation_bounds.proofs.separation.CellRows.{put_row, free_row, drop_row}
+use Rattle.separation_bounds.specs.separation.Alive.{lower_trees, IsAlive}
+use Rattle.separation_bounds.specs.separation.Codes.{run_code, HasLiterals, AreKinds}
+use Rattle.separation_bounds.specs.separation.Starts.{IsStart}
+use Rattle.separation_bounds.proofs.separation.Loading.{start_alive}
+use Rattle.separation_bounds.proofs.separation.Local.{ready}
+use Rattle.separation_bounds.proofs.separation.Lower.{trees_agree}
+use Rattle.separation_bounds.proofs.separation.Returning.{run_instr_at}
+use Rattle.separation_bounds.proofs.separation.Running.{GoodRun, later_good, begun_good}
 use Rattle.tree_refinement.proofs.Values.{same_placed}
 
 -- ---- words stand for one list of trees

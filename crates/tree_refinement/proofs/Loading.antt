@@ -1,31 +1,31 @@
 -- The state in which an entry begins is the same on cells and on trees.
 use Rattle.std.proofs.Common.{Some, ◌≡◌, ℕ, zero, suc, ◌+◌, ◌-◌, List, [], ◌∷◌, ◌++◌, length, map, None, refl, sym, ap, ◌∙◌, subst}
 use Rattle.std.specs.Prelude.{replicate, take}
-use Rattle.fip_language.specs.Values.{Values}
-use Rattle.fip_language.specs.Table.{Table}
-use Rattle.fip_language.specs.Store.{Parts, NoParts, MoreParts, words_of, word_of, value_of, values_of}
-use Rattle.fip_base.specs.declared.plain.Param.{Param}
-use Rattle.cell_code.specs.declared.kind.Kind.TheVariants.{Credit}
-use Rattle.machine_semantics.specs.Words.{place_word}
-use Rattle.machine_semantics.specs.Cells.{Store}
-use Rattle.machine_semantics.specs.Trees.{StandAll}
-use Rattle.machine_semantics.specs.States.{State}
-use Rattle.machine_semantics.specs.Steps.{Kinds, first_words, first_frame}
-use Rattle.machine_semantics.specs.Runs.{lent_words}
+use Rattle.tree_semantics.specs.fip_language.Values.{Values}
+use Rattle.tree_semantics.specs.fip_language.Table.{Table}
+use Rattle.tree_semantics.specs.fip_language.Store.{Parts, NoParts, MoreParts, words_of, word_of, value_of, values_of}
+use Rattle.separation_bounds.specs.fip_base.declared.plain.Param.{Param}
+use Rattle.separation_bounds.specs.cell_code.declared.kind.Kind.TheVariants.{Credit}
+use Rattle.tree_semantics.specs.machine_semantics.Words.{place_word}
+use Rattle.tree_semantics.specs.machine_semantics.Cells.{Store}
+use Rattle.tree_semantics.specs.machine_semantics.Trees.{StandAll}
+use Rattle.tree_semantics.specs.machine_semantics.States.{State}
+use Rattle.tree_semantics.specs.machine_semantics.Steps.{Kinds, first_words, first_frame}
+use Rattle.tree_semantics.specs.machine_semantics.Runs.{lent_words}
 use Rattle.tree_semantics.specs.Contents.{first_contents}
 use Rattle.tree_semantics.specs.Runs as T
-use Rattle.code_rules.specs.Codes.{PlainCode, PlainFunction, function_at, params, params_of}
-use Rattle.code_rules.specs.Kinds.{at}
-use Rattle.code_rules.specs.Entry.{param_kind, gones, entry}
-use Rattle.separation_kinds.specs.Meanings.{word_at}
-use Rattle.separation_kinds.proofs.Basics.{length_map}
-use Rattle.separation_kinds.proofs.Passing.{at_gones}
-use Rattle.separation.proofs.Reading.{stand_length}
-use Rattle.separation.specs.Codes.{run_function}
-use Rattle.separation.specs.Starts.{IsStart}
-use Rattle.separation.proofs.Sound.{formed, has_form}
-use Rattle.separation.proofs.Calling.{known_entry}
-use Rattle.separation.proofs.Loading.{loaded_is}
+use Rattle.separation_bounds.specs.code_rules.Codes.{PlainCode, PlainFunction, function_at, params, params_of}
+use Rattle.separation_bounds.specs.code_rules.Kinds.{at}
+use Rattle.separation_bounds.specs.code_rules.Entry.{param_kind, gones, entry}
+use Rattle.separation_bounds.specs.separation_kinds.Meanings.{word_at}
+use Rattle.separation_bounds.proofs.separation_kinds.Basics.{length_map}
+use Rattle.separation_bounds.proofs.separation_kinds.Passing.{at_gones}
+use Rattle.separation_bounds.proofs.separation.Reading.{stand_length}
+use Rattle.separation_bounds.specs.separation.Codes.{run_function}
+use Rattle.separation_bounds.specs.separation.Starts.{IsStart}
+use Rattle.separation_bounds.proofs.separation.Sound.{formed, has_form}
+use Rattle.separation_bounds.proofs.separation.Calling.{known_entry}
+use Rattle.separation_bounds.proofs.separation.Loading.{loaded_is}
 use Rattle.tree_refinement.specs.Agreement.{AreWordsOf, type_in, Shows, AreShown, IsSame}
 use Rattle.tree_refinement.specs.Runs.{BeginsWith}
 use Rattle.tree_refinement.proofs.Values.{same_parts}

@@ -3,19 +3,19 @@ use Rattle.std.proofs.Common.{◌≡◌, ◌<◌, ◌≤◌, ◌^◌, ℕ, zero,
 use Rattle.std.specs.Int.{w64}
 use Rattle.std.proofs.lemmas.Bool.{ltb-true}
 use Rattle.std.proofs.lemmas.Int.{rem_below, fits_signed_from_abs}
-use Rattle.fip_language.specs.declared.Operator.{Operator}
-use Rattle.fip_language.specs.declared.Operator.TheVariants as O
-use Rattle.fip_language.specs.declared.TrapKind.TheVariants.{Overflow, DivideByZero}
-use Rattle.fip_language.specs.Values.{Value, Int}
-use Rattle.fip_language.specs.Table.{Table}
-use Rattle.fip_language.specs.Store.{PlacedInt, Bare, At}
-use Rattle.fip_language.specs.Matching.{same_int}
-use Rattle.fip_language.specs.Arithmetic.{Operated, Is, Fails, fits, truth, operate}
-use Rattle.machine_semantics.specs.Words.{int_of, scalar_word}
-use Rattle.machine_semantics.specs.Cells.{Store}
-use Rattle.code_rules.specs.Leaves.{result_type}
-use Rattle.separation.specs.Rows.{IsTruth}
-use Rattle.separation.proofs.Reading.{int_is}
+use Rattle.tree_semantics.specs.fip_language.declared.Operator.{Operator}
+use Rattle.tree_semantics.specs.fip_language.declared.Operator.TheVariants as O
+use Rattle.tree_semantics.specs.fip_language.declared.TrapKind.TheVariants.{Overflow, DivideByZero}
+use Rattle.tree_semantics.specs.fip_language.Values.{Value, Int}
+use Rattle.tree_semantics.specs.fip_language.Table.{Table}
+use Rattle.tree_semantics.specs.fip_language.Store.{PlacedInt, Bare, At}
+use Rattle.tree_semantics.specs.fip_language.Matching.{same_int}
+use Rattle.tree_semantics.specs.fip_language.Arithmetic.{Operated, Is, Fails, fits, truth, operate}
+use Rattle.tree_semantics.specs.machine_semantics.Words.{int_of, scalar_word}
+use Rattle.tree_semantics.specs.machine_semantics.Cells.{Store}
+use Rattle.separation_bounds.specs.code_rules.Leaves.{result_type}
+use Rattle.separation_bounds.specs.separation.Rows.{IsTruth}
+use Rattle.separation_bounds.proofs.separation.Reading.{int_is}
 use Rattle.tree_refinement.specs.Agreement.{IsWordOf}
 
 fits_signed : (i : ℤ) → fits i ≡ true → FitsSigned w64 i

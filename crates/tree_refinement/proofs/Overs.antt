@@ -1,11 +1,11 @@
 -- Behind its end a run shows no more states; and it is at its end after as many steps as it says.
 use Rattle.std.proofs.Common.{◌≡◌, ◌∙◌, ℕ, zero, suc, ◌+◌, ◌∷◌, map, refl, sym, ap, subst, arith}
-use Rattle.machine_semantics.specs.Codes.{PlainCode}
-use Rattle.machine_semantics.specs.Gauges.{seen_of, states, seen}
-use Rattle.machine_semantics.specs.Runs.{Run, End, Going, Over, Ends, begun, comes, later, after}
-use Rattle.machine_semantics.specs.States.{State, Next, Went, Entered, Gave, Trapped, TooDeep, Stuck}
-use Rattle.machine_semantics.specs.Steps.{Kinds, next}
-use Rattle.machine_semantics.proofs.Stays.{over_stays}
+use Rattle.tree_semantics.specs.machine_semantics.Codes.{PlainCode}
+use Rattle.tree_semantics.specs.machine_semantics.Gauges.{seen_of, states, seen}
+use Rattle.tree_semantics.specs.machine_semantics.Runs.{Run, End, Going, Over, Ends, begun, comes, later, after}
+use Rattle.tree_semantics.specs.machine_semantics.States.{State, Next, Went, Entered, Gave, Trapped, TooDeep, Stuck}
+use Rattle.tree_semantics.specs.machine_semantics.Steps.{Kinds, next}
+use Rattle.tree_semantics.proofs.machine_semantics.Stays.{over_stays}
 
 -- ---- no more states
 

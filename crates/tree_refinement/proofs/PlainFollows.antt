@@ -2,42 +2,42 @@
 use Rattle.std.proofs.Common.{◌≡◌, ◌⊎◌, inl, inr, ℕ, suc, ◌+◌, ◌<◌, ℤ, Bool, true, false, ◌&&◌, List, [], ◌∷◌, length, Some, None, slice_get, slice_set, refl, sym, ap, ap₂, ◌∙◌, subst, arith, nat_lt, FitsSigned}
 use Rattle.std.specs.Prelude.{option_and_then, option_map}
 use Rattle.std.specs.Int.{w64}
-use Rattle.fip_language.specs.declared.Operator.{Operator}
-use Rattle.fip_language.specs.declared.TrapKind.{TrapKind}
-use Rattle.fip_language.specs.Values.{Value, Int, Node, End}
-use Rattle.fip_language.specs.Table.{Table}
-use Rattle.fip_language.specs.Store.{Placed, PlacedInt, Bare, int_word}
-use Rattle.fip_language.specs.Matching.{same_int}
-use Rattle.fip_language.specs.Arithmetic.{Operated, Is, Fails, operate}
-use Rattle.cell_code.specs.declared.code.Instr.{Instr}
-use Rattle.cell_code.specs.declared.code.Instr.TheVariants as I
-use Rattle.cell_code.specs.declared.kind.Kind.{Kind}
-use Rattle.cell_code.specs.declared.kind.Kind.TheVariants.{Gone, Scalar, Owned, Lent, Credit}
-use Rattle.machine_semantics.specs.Words.{atom_word, int_of, scalar_word}
-use Rattle.machine_semantics.specs.Cells.{Store, changed_by}
-use Rattle.machine_semantics.specs.States.{State}
-use Rattle.machine_semantics.specs.Codes as C
-use Rattle.machine_semantics.specs.Rows as R
-use Rattle.machine_semantics.specs.Apart.{Holding}
+use Rattle.tree_semantics.specs.fip_language.declared.Operator.{Operator}
+use Rattle.tree_semantics.specs.fip_language.declared.TrapKind.{TrapKind}
+use Rattle.tree_semantics.specs.fip_language.Values.{Value, Int, Node, End}
+use Rattle.tree_semantics.specs.fip_language.Table.{Table}
+use Rattle.tree_semantics.specs.fip_language.Store.{Placed, PlacedInt, Bare, int_word}
+use Rattle.tree_semantics.specs.fip_language.Matching.{same_int}
+use Rattle.tree_semantics.specs.fip_language.Arithmetic.{Operated, Is, Fails, operate}
+use Rattle.separation_bounds.specs.cell_code.declared.code.Instr.{Instr}
+use Rattle.separation_bounds.specs.cell_code.declared.code.Instr.TheVariants as I
+use Rattle.separation_bounds.specs.cell_code.declared.kind.Kind.{Kind}
+use Rattle.separation_bounds.specs.cell_code.declared.kind.Kind.TheVariants.{Gone, Scalar, Owned, Lent, Credit}
+use Rattle.tree_semantics.specs.machine_semantics.Words.{atom_word, int_of, scalar_word}
+use Rattle.tree_semantics.specs.machine_semantics.Cells.{Store, changed_by}
+use Rattle.tree_semantics.specs.machine_semantics.States.{State}
+use Rattle.tree_semantics.specs.machine_semantics.Codes as C
+use Rattle.tree_semantics.specs.machine_semantics.Rows as R
+use Rattle.tree_semantics.specs.machine_semantics.Apart.{Holding}
 use Rattle.tree_semantics.specs.Contents.{Contents}
 use Rattle.tree_semantics.specs.Contents as T
 use Rattle.tree_semantics.specs.States as U
 use Rattle.tree_semantics.specs.Steps as N
-use Rattle.code_rules.specs.Codes.{PlainCode, PlainFunction}
-use Rattle.code_rules.specs.Types.{is_scalar_type}
-use Rattle.code_rules.specs.Kinds.{at, is_scalar_of}
-use Rattle.code_rules.specs.Ranges.{is_constructor}
-use Rattle.code_rules.specs.Changes.{written, moved, moved_by}
-use Rattle.code_rules.specs.Leaves.{Leaves, atom_kind, result_type}
-use Rattle.code_rules.specs.Flow.{GoesTo}
-use Rattle.separation_kinds.specs.Meanings.{word_at}
-use Rattle.separation_kinds.proofs.Basics.{pick, both, below, length_become}
-use Rattle.separation_kinds.proofs.KindLemmas.{put}
-use Rattle.separation_kinds.proofs.Words.{word_get, set_word, writes}
-use Rattle.separation_kinds.proofs.Giving.{scalar_of}
-use Rattle.separation_kinds.proofs.Passing.{credit_within}
-use Rattle.separation.specs.Rows.{IsReady}
-use Rattle.separation.proofs.PlainRows.{goes_on, jumps, bare_shape}
+use Rattle.separation_bounds.specs.code_rules.Codes.{PlainCode, PlainFunction}
+use Rattle.separation_bounds.specs.code_rules.Types.{is_scalar_type}
+use Rattle.separation_bounds.specs.code_rules.Kinds.{at, is_scalar_of}
+use Rattle.separation_bounds.specs.code_rules.Ranges.{is_constructor}
+use Rattle.separation_bounds.specs.code_rules.Changes.{written, moved, moved_by}
+use Rattle.separation_bounds.specs.code_rules.Leaves.{Leaves, atom_kind, result_type}
+use Rattle.separation_bounds.specs.code_rules.Flow.{GoesTo}
+use Rattle.separation_bounds.specs.separation_kinds.Meanings.{word_at}
+use Rattle.separation_bounds.proofs.separation_kinds.Basics.{pick, both, below, length_become}
+use Rattle.separation_bounds.proofs.separation_kinds.KindLemmas.{put}
+use Rattle.separation_bounds.proofs.separation_kinds.Words.{word_get, set_word, writes}
+use Rattle.separation_bounds.proofs.separation_kinds.Giving.{scalar_of}
+use Rattle.separation_bounds.proofs.separation_kinds.Passing.{credit_within}
+use Rattle.separation_bounds.specs.separation.Rows.{IsReady}
+use Rattle.separation_bounds.proofs.separation.PlainRows.{goes_on, jumps, bare_shape}
 use Rattle.tree_refinement.specs.Agreement.{type_in, Shows, AreShown}
 use Rattle.tree_refinement.proofs.Values.{used_up_shown, written_shown, gone_shown, reworded_shown}
 use Rattle.tree_refinement.proofs.Operating.{GivesValue, operate_value, int_value}

@@ -2,35 +2,35 @@
 use Rattle.std.proofs.Common.{◌≡◌, ℕ, zero, suc, ◌+◌, ◌<◌, Bool, true, false, List, [], ◌∷◌, length, Option, Some, slice_get, refl, sym, ap, ◌∙◌, subst, true≢false, arith, nat_lt, ◌==◌}
 use Rattle.std.specs.Prelude.{option_and_then, option_map}
 use Rattle.std.proofs.lemmas.Option.{none-some, same_Some}
-use Rattle.fip_language.specs.Values.{Value}
-use Rattle.fip_language.specs.Table.{Table, constructors}
-use Rattle.fip_language.specs.Store.{Cell, Placed, PlacedInt, Bare, At, Parts, NoParts, MoreParts, word_of, value_of, values_of}
-use Rattle.cell_code.specs.declared.kind.From.{From}
-use Rattle.cell_code.specs.declared.code.Instr.TheVariants as I
-use Rattle.cell_code.specs.declared.kind.Kind.{Kind}
-use Rattle.cell_code.specs.declared.kind.Kind.TheVariants.{Gone, Scalar, Owned, Lent, Credit}
-use Rattle.machine_semantics.specs.Cells.{Store}
-use Rattle.machine_semantics.specs.Trees.{IsTree}
-use Rattle.machine_semantics.specs.States.{State}
-use Rattle.machine_semantics.specs.Codes as C
-use Rattle.machine_semantics.specs.Rows as R
-use Rattle.machine_semantics.specs.Apart.{Holding, Tree, RootIn}
+use Rattle.tree_semantics.specs.fip_language.Values.{Value}
+use Rattle.tree_semantics.specs.fip_language.Table.{Table, constructors}
+use Rattle.tree_semantics.specs.fip_language.Store.{Cell, Placed, PlacedInt, Bare, At, Parts, NoParts, MoreParts, word_of, value_of, values_of}
+use Rattle.separation_bounds.specs.cell_code.declared.kind.From.{From}
+use Rattle.separation_bounds.specs.cell_code.declared.code.Instr.TheVariants as I
+use Rattle.separation_bounds.specs.cell_code.declared.kind.Kind.{Kind}
+use Rattle.separation_bounds.specs.cell_code.declared.kind.Kind.TheVariants.{Gone, Scalar, Owned, Lent, Credit}
+use Rattle.tree_semantics.specs.machine_semantics.Cells.{Store}
+use Rattle.tree_semantics.specs.machine_semantics.Trees.{IsTree}
+use Rattle.tree_semantics.specs.machine_semantics.States.{State}
+use Rattle.tree_semantics.specs.machine_semantics.Codes as C
+use Rattle.tree_semantics.specs.machine_semantics.Rows as R
+use Rattle.tree_semantics.specs.machine_semantics.Apart.{Holding, Tree, RootIn}
 use Rattle.tree_semantics.specs.Contents.{children, value_at}
 use Rattle.tree_semantics.specs.States as U
 use Rattle.tree_semantics.specs.Steps as N
-use Rattle.code_rules.specs.Codes.{PlainCode, PlainFunction}
-use Rattle.code_rules.specs.Types.{is_scalar_type, all, lent_kind}
-use Rattle.code_rules.specs.Kinds.{at, set_of, root_of}
-use Rattle.code_rules.specs.Ranges.{is_target}
-use Rattle.code_rules.specs.Asked.{may_have, known_fields}
-use Rattle.code_rules.specs.Changes.{tested, without}
-use Rattle.separation_kinds.specs.Meanings.{part_in, part_of, Means, word_at}
-use Rattle.separation_kinds.proofs.Basics.{pick, both, below}
-use Rattle.separation_kinds.proofs.Words.{word_get}
-use Rattle.separation.specs.Rows.{IsReady}
-use Rattle.separation.proofs.Reading.{constructor_is}
-use Rattle.separation.proofs.PlainRows.{goes_on, jumps}
-use Rattle.separation.proofs.ReadingRows.{has_known, get_some}
+use Rattle.separation_bounds.specs.code_rules.Codes.{PlainCode, PlainFunction}
+use Rattle.separation_bounds.specs.code_rules.Types.{is_scalar_type, all, lent_kind}
+use Rattle.separation_bounds.specs.code_rules.Kinds.{at, set_of, root_of}
+use Rattle.separation_bounds.specs.code_rules.Ranges.{is_target}
+use Rattle.separation_bounds.specs.code_rules.Asked.{may_have, known_fields}
+use Rattle.separation_bounds.specs.code_rules.Changes.{tested, without}
+use Rattle.separation_bounds.specs.separation_kinds.Meanings.{part_in, part_of, Means, word_at}
+use Rattle.separation_bounds.proofs.separation_kinds.Basics.{pick, both, below}
+use Rattle.separation_bounds.proofs.separation_kinds.Words.{word_get}
+use Rattle.separation_bounds.specs.separation.Rows.{IsReady}
+use Rattle.separation_bounds.proofs.separation.Reading.{constructor_is}
+use Rattle.separation_bounds.proofs.separation.PlainRows.{goes_on, jumps}
+use Rattle.separation_bounds.proofs.separation.ReadingRows.{has_known, get_some}
 use Rattle.tree_refinement.specs.Agreement.{IsWordOf, type_in, Shows, AreShown}
 use Rattle.tree_refinement.proofs.Values.{held_value, tested_shown}
 use Rattle.tree_refinement.proofs.PlainFollows.{Follows, follows, on_is, writes_follow}

@@ -1,42 +1,42 @@
 -- A Ret comes to the same on cells and on trees.
 use Rattle.std.proofs.Common.{◌≡◌, inl, ℕ, suc, ◌+◌, ◌<◌, true, List, [], ◌∷◌, length, Some, slice_set, refl, sym, ap, ◌∙◌, subst, arith, nat_lt, ◌==◌}
 use Rattle.std.specs.Prelude.{is_some, option_and_then}
-use Rattle.fip_language.specs.Table.{Table}
-use Rattle.fip_language.specs.Store.{Placed, Parts, NoParts, MoreParts, word_of, words_of, value_of, values_of}
-use Rattle.cell_code.specs.declared.code.Instr.{Instr}
-use Rattle.cell_code.specs.declared.code.Instr.TheVariants as I
-use Rattle.cell_code.specs.declared.kind.Kind.{Kind}
-use Rattle.cell_code.specs.declared.kind.Kind.TheVariants.{Scalar, Owned}
-use Rattle.machine_semantics.specs.Cells.{Store}
-use Rattle.machine_semantics.specs.Trees.{StandAll, IsTree}
-use Rattle.machine_semantics.specs.Codes as C
-use Rattle.machine_semantics.specs.Rows.{read_all, write_all}
-use Rattle.machine_semantics.specs.States.{Frame, State}
-use Rattle.machine_semantics.specs.Steps.{Kinds, destinations_in, returned, resumed}
-use Rattle.machine_semantics.specs.Steps as D
+use Rattle.tree_semantics.specs.fip_language.Table.{Table}
+use Rattle.tree_semantics.specs.fip_language.Store.{Placed, Parts, NoParts, MoreParts, word_of, words_of, value_of, values_of}
+use Rattle.separation_bounds.specs.cell_code.declared.code.Instr.{Instr}
+use Rattle.separation_bounds.specs.cell_code.declared.code.Instr.TheVariants as I
+use Rattle.separation_bounds.specs.cell_code.declared.kind.Kind.{Kind}
+use Rattle.separation_bounds.specs.cell_code.declared.kind.Kind.TheVariants.{Scalar, Owned}
+use Rattle.tree_semantics.specs.machine_semantics.Cells.{Store}
+use Rattle.tree_semantics.specs.machine_semantics.Trees.{StandAll, IsTree}
+use Rattle.tree_semantics.specs.machine_semantics.Codes as C
+use Rattle.tree_semantics.specs.machine_semantics.Rows.{read_all, write_all}
+use Rattle.tree_semantics.specs.machine_semantics.States.{Frame, State}
+use Rattle.tree_semantics.specs.machine_semantics.Steps.{Kinds, destinations_in, returned, resumed}
+use Rattle.tree_semantics.specs.machine_semantics.Steps as D
 use Rattle.tree_semantics.specs.Contents.{Contents}
 use Rattle.tree_semantics.specs.Contents as T
 use Rattle.tree_semantics.specs.States as U
 use Rattle.tree_semantics.specs.Steps as N
-use Rattle.code_rules.specs.Codes.{PlainCode, PlainFunction, results, results_of}
-use Rattle.code_rules.specs.Types.{is_scalar_type, all, field_kind}
-use Rattle.code_rules.specs.Kinds.{at}
-use Rattle.code_rules.specs.Changes.{written}
-use Rattle.code_rules.specs.Ranges.{in_range, are_below}
-use Rattle.code_rules.specs.Asked.{sources, destinations, are_places, can_receive}
-use Rattle.code_rules.specs.Handing.{give_all}
-use Rattle.code_rules.specs.Leaves.{received}
-use Rattle.code_rules.specs.Flow.{is_as_asked, GoesTo}
-use Rattle.code_rules.specs.Breaks.{IsSound}
-use Rattle.separation_kinds.specs.Meanings.{word_at}
-use Rattle.separation_kinds.proofs.Basics.{pick, both, equal, below, length_become}
-use Rattle.separation_kinds.proofs.KindLemmas.{put}
-use Rattle.separation_kinds.proofs.Words.{read_words, set_length, set_word, writes}
-use Rattle.separation_kinds.proofs.Giving.{AreGiven, given}
-use Rattle.separation.specs.Codes.{run_code, AreKinds}
-use Rattle.separation.specs.Alive.{Frozen, lower_trees, IsWaiting, AreAllWaiting, IsAlive}
-use Rattle.separation.proofs.Calling.{some_left}
-use Rattle.separation.proofs.Returning.{run_instr_at}
+use Rattle.separation_bounds.specs.code_rules.Codes.{PlainCode, PlainFunction, results, results_of}
+use Rattle.separation_bounds.specs.code_rules.Types.{is_scalar_type, all, field_kind}
+use Rattle.separation_bounds.specs.code_rules.Kinds.{at}
+use Rattle.separation_bounds.specs.code_rules.Changes.{written}
+use Rattle.separation_bounds.specs.code_rules.Ranges.{in_range, are_below}
+use Rattle.separation_bounds.specs.code_rules.Asked.{sources, destinations, are_places, can_receive}
+use Rattle.separation_bounds.specs.code_rules.Handing.{give_all}
+use Rattle.separation_bounds.specs.code_rules.Leaves.{received}
+use Rattle.separation_bounds.specs.code_rules.Flow.{is_as_asked, GoesTo}
+use Rattle.separation_bounds.specs.code_rules.Breaks.{IsSound}
+use Rattle.separation_bounds.specs.separation_kinds.Meanings.{word_at}
+use Rattle.separation_bounds.proofs.separation_kinds.Basics.{pick, both, equal, below, length_become}
+use Rattle.separation_bounds.proofs.separation_kinds.KindLemmas.{put}
+use Rattle.separation_bounds.proofs.separation_kinds.Words.{read_words, set_length, set_word, writes}
+use Rattle.separation_bounds.proofs.separation_kinds.Giving.{AreGiven, given}
+use Rattle.separation_bounds.specs.separation.Codes.{run_code, AreKinds}
+use Rattle.separation_bounds.specs.separation.Alive.{Frozen, lower_trees, IsWaiting, AreAllWaiting, IsAlive}
+use Rattle.separation_bounds.proofs.separation.Calling.{some_left}
+use Rattle.separation_bounds.proofs.separation.Returning.{run_instr_at}
 use Rattle.tree_refinement.specs.Agreement.{type_in, Shows, AreShown, IsSameFrame, AreSameFrames, IsSame, IsSameNext}
 use Rattle.tree_refinement.proofs.Values.{written_shown, reworded_shown, given_shown}
 use Rattle.tree_refinement.proofs.Arriving.{arrive_shown}

@@ -1,19 +1,19 @@
 -- The run of sound code on cells is the run on trees.
 use Rattle.std.proofs.Common.{◌≡◌, ℕ, zero, suc, List, refl, sym, ap, ◌∙◌, subst}
-use Rattle.fip_language.specs.Values.{Values}
-use Rattle.fip_language.specs.Meaning as M
-use Rattle.machine_semantics.specs.States.{State, Next, Went, Entered, Gave, Trapped, TooDeep}
-use Rattle.machine_semantics.specs.Steps.{Kinds, next}
-use Rattle.machine_semantics.specs.Runs.{End, Run, Going, Over, begun, comes, later, after, Ends}
+use Rattle.tree_semantics.specs.fip_language.Values.{Values}
+use Rattle.tree_semantics.specs.fip_language.Meaning as M
+use Rattle.tree_semantics.specs.machine_semantics.States.{State, Next, Went, Entered, Gave, Trapped, TooDeep}
+use Rattle.tree_semantics.specs.machine_semantics.Steps.{Kinds, next}
+use Rattle.tree_semantics.specs.machine_semantics.Runs.{End, Run, Going, Over, begun, comes, later, after, Ends}
 use Rattle.tree_semantics.specs.States as U
 use Rattle.tree_semantics.specs.Steps as N
 use Rattle.tree_semantics.specs.Runs as T
-use Rattle.code_rules.specs.Codes.{PlainCode, results}
-use Rattle.code_rules.specs.Breaks.{IsSound}
-use Rattle.separation.specs.Codes.{run_code, HasLiterals, AreKinds}
-use Rattle.separation.specs.Starts.{IsStart}
-use Rattle.separation.proofs.Loading.{start_alive}
-use Rattle.separation.proofs.Running.{GoodRun, later_good, begun_good}
+use Rattle.separation_bounds.specs.code_rules.Codes.{PlainCode, results}
+use Rattle.separation_bounds.specs.code_rules.Breaks.{IsSound}
+use Rattle.separation_bounds.specs.separation.Codes.{run_code, HasLiterals, AreKinds}
+use Rattle.separation_bounds.specs.separation.Starts.{IsStart}
+use Rattle.separation_bounds.proofs.separation.Loading.{start_alive}
+use Rattle.separation_bounds.proofs.separation.Running.{GoodRun, later_good, begun_good}
 use Rattle.tree_refinement.specs.Agreement.{IsSame, IsSameNext}
 use Rattle.tree_refinement.specs.Runs.{BeginsWith, IsSameEnd, IsSameRun}
 use Rattle.tree_refinement.proofs.Stepping.{next_same}

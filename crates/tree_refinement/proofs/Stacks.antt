@@ -1,21 +1,21 @@
 -- The stack of a run is that of the run on trees: each frame has a word for each register of its function, and two more.
 use Rattle.std.proofs.Common.{◌≡◌, ◌∙◌, ℕ, zero, suc, ◌+◌, max, List, [], ◌∷◌, length, map, Option, Some, None, refl, sym, ap, ap₂, subst, arith}
 use Rattle.std.specs.Prelude.{sum}
-use Rattle.fip_language.specs.Gauge.{highest_frames, highest_words}
-use Rattle.fip_language.specs.Store.{Placed}
-use Rattle.fip_language.specs.Values.{Values}
-use Rattle.machine_semantics.specs.Cells.{Store}
-use Rattle.machine_semantics.specs.Codes as R
-use Rattle.machine_semantics.specs.Gauges.{seen}
-use Rattle.machine_semantics.specs.Limits.{frame_words}
-use Rattle.machine_semantics.specs.Runs.{Run, End, Going, Over, Ends, state_of, begun, later, after}
-use Rattle.machine_semantics.specs.States.{Frame, State, frames_held, words_of_frame, words_held}
-use Rattle.machine_semantics.specs.Steps.{Kinds}
-use Rattle.code_rules.specs.Codes.{PlainCode, PlainFunction, function_at, results}
-use Rattle.separation.specs.Alive.{Frozen, IsAlive, AreAllWaiting}
-use Rattle.separation.specs.Codes.{run_code}
-use Rattle.separation.specs.Starts.{IsStart}
-use Rattle.separation.proofs.Running.{run_alive}
+use Rattle.tree_semantics.specs.fip_language.Gauge.{highest_frames, highest_words}
+use Rattle.tree_semantics.specs.fip_language.Store.{Placed}
+use Rattle.tree_semantics.specs.fip_language.Values.{Values}
+use Rattle.tree_semantics.specs.machine_semantics.Cells.{Store}
+use Rattle.tree_semantics.specs.machine_semantics.Codes as R
+use Rattle.tree_semantics.specs.machine_semantics.Gauges.{seen}
+use Rattle.tree_semantics.specs.machine_semantics.Limits.{frame_words}
+use Rattle.tree_semantics.specs.machine_semantics.Runs.{Run, End, Going, Over, Ends, state_of, begun, later, after}
+use Rattle.tree_semantics.specs.machine_semantics.States.{Frame, State, frames_held, words_of_frame, words_held}
+use Rattle.tree_semantics.specs.machine_semantics.Steps.{Kinds}
+use Rattle.separation_bounds.specs.code_rules.Codes.{PlainCode, PlainFunction, function_at, results}
+use Rattle.separation_bounds.specs.separation.Alive.{Frozen, IsAlive, AreAllWaiting}
+use Rattle.separation_bounds.specs.separation.Codes.{run_code}
+use Rattle.separation_bounds.specs.separation.Starts.{IsStart}
+use Rattle.separation_bounds.proofs.separation.Running.{run_alive}
 use Rattle.separation_bounds.proofs.Chains.{sum_first}
 use Rattle.separation_bounds.proofs.Falling.{after_later}
 use Rattle.tree_semantics.specs.Runs as T

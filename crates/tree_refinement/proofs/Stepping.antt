@@ -1,25 +1,25 @@
 -- Every step of a state that is alive comes to the same on cells and on trees.
 use Rattle.std.proofs.Common.{◌≡◌, ℕ, List, Some, sym, ap₂, subst}
-use Rattle.cell_code.specs.declared.code.Instr.{Instr}
-use Rattle.cell_code.specs.declared.code.Instr.TheVariants as I
-use Rattle.machine_semantics.specs.Codes as C
-use Rattle.machine_semantics.specs.States.{State}
-use Rattle.machine_semantics.specs.Steps.{Kinds, act, act_at, next, instr_of, kinds_of}
+use Rattle.separation_bounds.specs.cell_code.declared.code.Instr.{Instr}
+use Rattle.separation_bounds.specs.cell_code.declared.code.Instr.TheVariants as I
+use Rattle.tree_semantics.specs.machine_semantics.Codes as C
+use Rattle.tree_semantics.specs.machine_semantics.States.{State}
+use Rattle.tree_semantics.specs.machine_semantics.Steps.{Kinds, act, act_at, next, instr_of, kinds_of}
 use Rattle.tree_semantics.specs.States as U
 use Rattle.tree_semantics.specs.Steps as N
-use Rattle.code_rules.specs.Codes.{PlainCode}
-use Rattle.code_rules.specs.Kinds.{at}
-use Rattle.code_rules.specs.Breaks.{IsSound}
-use Rattle.separation_kinds.specs.Meanings.{word_at}
-use Rattle.separation.specs.Rows.{IsReady}
-use Rattle.separation.proofs.PlainRows.{asked, const_row, atom_row, move_row, jump_row, test_int_row}
-use Rattle.separation.proofs.ReadingRows.{arith_row, test_row, peek_row}
-use Rattle.separation.proofs.TakeRow.{take_row}
-use Rattle.separation.proofs.CellRows.{put_row, free_row, drop_row}
-use Rattle.separation.specs.Codes.{run_code, HasLiterals, AreKinds}
-use Rattle.separation.specs.Alive.{lower_trees, IsAlive}
-use Rattle.separation.proofs.Local.{ready}
-use Rattle.separation.proofs.Returning.{run_instr_at}
+use Rattle.separation_bounds.specs.code_rules.Codes.{PlainCode}
+use Rattle.separation_bounds.specs.code_rules.Kinds.{at}
+use Rattle.separation_bounds.specs.code_rules.Breaks.{IsSound}
+use Rattle.separation_bounds.specs.separation_kinds.Meanings.{word_at}
+use Rattle.separation_bounds.specs.separation.Rows.{IsReady}
+use Rattle.separation_bounds.proofs.separation.PlainRows.{asked, const_row, atom_row, move_row, jump_row, test_int_row}
+use Rattle.separation_bounds.proofs.separation.ReadingRows.{arith_row, test_row, peek_row}
+use Rattle.separation_bounds.proofs.separation.TakeRow.{take_row}
+use Rattle.separation_bounds.proofs.separation.CellRows.{put_row, free_row, drop_row}
+use Rattle.separation_bounds.specs.separation.Codes.{run_code, HasLiterals, AreKinds}
+use Rattle.separation_bounds.specs.separation.Alive.{lower_trees, IsAlive}
+use Rattle.separation_bounds.proofs.separation.Local.{ready}
+use Rattle.separation_bounds.proofs.separation.Returning.{run_instr_at}
 use Rattle.tree_refinement.specs.Agreement.{AreShown, IsSame, IsSameNext}
 use Rattle.tree_refinement.proofs.PlainFollows.{const_follows, atom_follows, move_follows, jump_follows, test_int_follows, arith_follows}
 use Rattle.tree_refinement.proofs.ReadingFollows.{test_follows, peek_follows}

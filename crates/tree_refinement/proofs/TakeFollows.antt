@@ -2,40 +2,40 @@
 use Rattle.std.proofs.Common.{◌≡◌, inl, inr, ℕ, zero, suc, ◌+◌, ◌<◌, ◌≤◌, true, false, not, ◌&&◌, List, [], ◌∷◌, length, Option, Some, None, slice_get, refl, sym, ap, ◌∙◌, subst, true≢false, arith, nat_lt, ◌==◌, if◌then◌else◌}
 use Rattle.std.specs.Prelude.{option_and_then, pos}
 use Rattle.std.proofs.lemmas.Option.{none-some, same_Some}
-use Rattle.fip_language.specs.Values.{Value, Int}
-use Rattle.fip_language.specs.Table.{Table}
-use Rattle.fip_language.specs.Store.{Cell, Placed, PlacedInt, Bare, At, Parts, NoParts, MoreParts, words_of, word_of, value_of, values_of}
-use Rattle.cell_code.specs.declared.code.Instr.TheVariants as I
-use Rattle.cell_code.specs.declared.kind.Kind.{Kind}
-use Rattle.cell_code.specs.declared.kind.Kind.TheVariants.{Gone, Scalar, Owned, Lent, Credit}
-use Rattle.machine_semantics.specs.Cells.{Store}
-use Rattle.machine_semantics.specs.Trees.{IsTree, StandAll}
-use Rattle.machine_semantics.specs.States.{State}
-use Rattle.machine_semantics.specs.Codes as C
-use Rattle.machine_semantics.specs.Rows as R
-use Rattle.machine_semantics.specs.Apart.{Holding, Tree, RootIn}
+use Rattle.tree_semantics.specs.fip_language.Values.{Value, Int}
+use Rattle.tree_semantics.specs.fip_language.Table.{Table}
+use Rattle.tree_semantics.specs.fip_language.Store.{Cell, Placed, PlacedInt, Bare, At, Parts, NoParts, MoreParts, words_of, word_of, value_of, values_of}
+use Rattle.separation_bounds.specs.cell_code.declared.code.Instr.TheVariants as I
+use Rattle.separation_bounds.specs.cell_code.declared.kind.Kind.{Kind}
+use Rattle.separation_bounds.specs.cell_code.declared.kind.Kind.TheVariants.{Gone, Scalar, Owned, Lent, Credit}
+use Rattle.tree_semantics.specs.machine_semantics.Cells.{Store}
+use Rattle.tree_semantics.specs.machine_semantics.Trees.{IsTree, StandAll}
+use Rattle.tree_semantics.specs.machine_semantics.States.{State}
+use Rattle.tree_semantics.specs.machine_semantics.Codes as C
+use Rattle.tree_semantics.specs.machine_semantics.Rows as R
+use Rattle.tree_semantics.specs.machine_semantics.Apart.{Holding, Tree, RootIn}
 use Rattle.tree_semantics.specs.Contents.{Contents, children}
 use Rattle.tree_semantics.specs.Contents as T
 use Rattle.tree_semantics.specs.States as U
 use Rattle.tree_semantics.specs.Steps as N
 use Rattle.tree_semantics.proofs.Puts.{put_same, put_other}
-use Rattle.code_rules.specs.Codes.{PlainCode, PlainFunction}
-use Rattle.code_rules.specs.Types.{fields, fields_of}
-use Rattle.code_rules.specs.Kinds.{has, at, is_free, is_owned, is_lent_of}
-use Rattle.code_rules.specs.Changes.{forget}
-use Rattle.code_rules.specs.Ranges.{are_below}
-use Rattle.code_rules.specs.Asked.{can_take, is_one, known_fields, only_fields, are_places}
-use Rattle.code_rules.specs.Taking.{Part, part_from, part, is_heir, credit, taken, IsTaken, fate, with_root, ends, part_or, part_kind}
-use Rattle.separation_kinds.specs.Meanings.{part_in, part_of, Means, AreMeant, word_at}
-use Rattle.separation_kinds.proofs.Basics.{pick, both, equal, equal_is, below, refuted, length_become, at_become, at_past, less_or_not}
-use Rattle.separation_kinds.proofs.Shapes.{contains_one}
-use Rattle.separation_kinds.proofs.Words.{word_get}
-use Rattle.separation_kinds.proofs.Takes.{word_or, by_part, Plain, AreWritten, parts_written, no_part}
-use Rattle.separation_kinds.proofs.Taken.{Takes, gets_part}
-use Rattle.separation.specs.Rows.{IsReady}
-use Rattle.separation.proofs.Reading.{named_is, constructor_in, root_of_set, stand_length}
-use Rattle.separation.proofs.Reached.{reached}
-use Rattle.separation.proofs.PlainRows.{goes_on}
+use Rattle.separation_bounds.specs.code_rules.Codes.{PlainCode, PlainFunction}
+use Rattle.separation_bounds.specs.code_rules.Types.{fields, fields_of}
+use Rattle.separation_bounds.specs.code_rules.Kinds.{has, at, is_free, is_owned, is_lent_of}
+use Rattle.separation_bounds.specs.code_rules.Changes.{forget}
+use Rattle.separation_bounds.specs.code_rules.Ranges.{are_below}
+use Rattle.separation_bounds.specs.code_rules.Asked.{can_take, is_one, known_fields, only_fields, are_places}
+use Rattle.separation_bounds.specs.code_rules.Taking.{Part, part_from, part, is_heir, credit, taken, IsTaken, fate, with_root, ends, part_or, part_kind}
+use Rattle.separation_bounds.specs.separation_kinds.Meanings.{part_in, part_of, Means, AreMeant, word_at}
+use Rattle.separation_bounds.proofs.separation_kinds.Basics.{pick, both, equal, equal_is, below, refuted, length_become, at_become, at_past, less_or_not}
+use Rattle.separation_bounds.proofs.separation_kinds.Shapes.{contains_one}
+use Rattle.separation_bounds.proofs.separation_kinds.Words.{word_get}
+use Rattle.separation_bounds.proofs.separation_kinds.Takes.{word_or, by_part, Plain, AreWritten, parts_written, no_part}
+use Rattle.separation_bounds.proofs.separation_kinds.Taken.{Takes, gets_part}
+use Rattle.separation_bounds.specs.separation.Rows.{IsReady}
+use Rattle.separation_bounds.proofs.separation.Reading.{named_is, constructor_in, root_of_set, stand_length}
+use Rattle.separation_bounds.proofs.separation.Reached.{reached}
+use Rattle.separation_bounds.proofs.separation.PlainRows.{goes_on}
 use Rattle.tree_refinement.specs.Agreement.{type_in, Shows, AreShown}
 use Rattle.tree_refinement.proofs.Values.{value_is, means_shows, shows_forget}
 use Rattle.tree_refinement.proofs.PlainFollows.{Follows, follows, on_is}

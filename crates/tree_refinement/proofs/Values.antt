@@ -1,30 +1,30 @@
 -- A word stands for one tree, and what registers stand for where kinds are weakened or a register is written.
 use Rattle.std.proofs.Common.{◌≡◌, ℕ, zero, suc, ◌<◌, Bool, true, List, [], ◌∷◌, length, map, Option, Some, None, slice_get, refl, sym, ap, ap₂, ◌∙◌, subst, arith, ◌==◌, if◌then◌else◌}
 use Rattle.std.proofs.lemmas.Option.{none-some, same_Some, option_and_then_some}
-use Rattle.fip_language.specs.Values.{Value, Values, End, More}
-use Rattle.fip_language.specs.Table.{Table, Shape, shapes, HasType, HaveTypes}
-use Rattle.fip_language.specs.Store.{Cell, Placed, PlacedInt, Bare, At, Parts, NoParts, MoreParts, word_of, words_of, value_of, values_of}
-use Rattle.cell_code.specs.declared.kind.Kind.{Kind}
-use Rattle.cell_code.specs.declared.kind.Kind.TheVariants.{Gone, Scalar, Owned, Lent, Credit}
-use Rattle.machine_semantics.specs.Words.{int_of}
-use Rattle.machine_semantics.specs.Cells.{Store, cell_at}
-use Rattle.machine_semantics.specs.Trees.{Stands, StandAll, IsTree}
-use Rattle.machine_semantics.specs.Apart.{Holding, Tree}
+use Rattle.tree_semantics.specs.fip_language.Values.{Value, Values, End, More}
+use Rattle.tree_semantics.specs.fip_language.Table.{Table, Shape, shapes, HasType, HaveTypes}
+use Rattle.tree_semantics.specs.fip_language.Store.{Cell, Placed, PlacedInt, Bare, At, Parts, NoParts, MoreParts, word_of, words_of, value_of, values_of}
+use Rattle.separation_bounds.specs.cell_code.declared.kind.Kind.{Kind}
+use Rattle.separation_bounds.specs.cell_code.declared.kind.Kind.TheVariants.{Gone, Scalar, Owned, Lent, Credit}
+use Rattle.tree_semantics.specs.machine_semantics.Words.{int_of}
+use Rattle.tree_semantics.specs.machine_semantics.Cells.{Store, cell_at}
+use Rattle.tree_semantics.specs.machine_semantics.Trees.{Stands, StandAll, IsTree}
+use Rattle.tree_semantics.specs.machine_semantics.Apart.{Holding, Tree}
 use Rattle.tree_semantics.specs.Contents.{Contents}
 use Rattle.tree_semantics.specs.Contents as T
 use Rattle.tree_semantics.proofs.Puts.{put_elim}
-use Rattle.code_rules.specs.Kinds.{at, is_scalar_of, is_owned_of}
-use Rattle.code_rules.specs.Handing.{give, give_all}
-use Rattle.code_rules.specs.Changes.{forget, narrow, written, used_up, goes, tested}
-use Rattle.code_rules.specs.Fitting.{fits, fit_all}
-use Rattle.separation_kinds.specs.Meanings.{Means, AreMeant}
-use Rattle.separation_kinds.proofs.Basics.{pick, both, equal, equal_is, unequal_is, chosen, refused}
-use Rattle.separation_kinds.proofs.KindLemmas.{put, dropped, is_one, at_used_up, at_written}
-use Rattle.separation_kinds.proofs.Fits.{at_tested, fit_at}
-use Rattle.separation_kinds.proofs.Giving.{scalar_of, owned_of}
-use Rattle.separation_kinds.proofs.Agree.{tree_agree}
-use Rattle.separation_kinds.proofs.Reaching.{same_tree}
-use Rattle.separation.proofs.Reading.{int_is}
+use Rattle.separation_bounds.specs.code_rules.Kinds.{at, is_scalar_of, is_owned_of}
+use Rattle.separation_bounds.specs.code_rules.Handing.{give, give_all}
+use Rattle.separation_bounds.specs.code_rules.Changes.{forget, narrow, written, used_up, goes, tested}
+use Rattle.separation_bounds.specs.code_rules.Fitting.{fits, fit_all}
+use Rattle.separation_bounds.specs.separation_kinds.Meanings.{Means, AreMeant}
+use Rattle.separation_bounds.proofs.separation_kinds.Basics.{pick, both, equal, equal_is, unequal_is, chosen, refused}
+use Rattle.separation_bounds.proofs.separation_kinds.KindLemmas.{put, dropped, is_one, at_used_up, at_written}
+use Rattle.separation_bounds.proofs.separation_kinds.Fits.{at_tested, fit_at}
+use Rattle.separation_bounds.proofs.separation_kinds.Giving.{scalar_of, owned_of}
+use Rattle.separation_bounds.proofs.separation_kinds.Agree.{tree_agree}
+use Rattle.separation_bounds.proofs.separation_kinds.Reaching.{same_tree}
+use Rattle.separation_bounds.proofs.separation.Reading.{int_is}
 use Rattle.tree_refinement.specs.Agreement.{IsWordOf, AreWordsOf, type_in, Shows, AreShown}
 
 -- ---- one tree for a word

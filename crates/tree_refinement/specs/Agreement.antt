@@ -5,19 +5,19 @@
 -- With Cons(1, Nil) in cell 0 and register 0 owned: its word is 1, and on trees it holds Cons(1, Nil). After a Take the
 -- register is a credit, and on trees it holds Cons(1, Nil) still.
 use Rattle.std.specs.Prelude.{◌≡◌, ℕ, List, [], ◌∷◌, Option, Some, None}
-use Rattle.fip_language.specs.Values.{Value, Values}
-use Rattle.fip_language.specs.Table.{Table}
-use Rattle.fip_language.specs.Store.{Placed, Parts, value_of, values_of, words_of}
-use Rattle.cell_code.specs.declared.kind.Kind.{Kind}
-use Rattle.cell_code.specs.declared.kind.Kind.TheVariants.{Gone, Scalar, Owned, Lent, Credit}
-use Rattle.machine_semantics.specs.Cells.{Store}
-use Rattle.machine_semantics.specs.Trees.{StandAll, IsTree}
-use Rattle.machine_semantics.specs.Steps.{Kinds}
-use Rattle.machine_semantics.specs.States.{Frame, State, Next, Went, Entered, Gave, Trapped, TooDeep}
+use Rattle.tree_semantics.specs.fip_language.Values.{Value, Values}
+use Rattle.tree_semantics.specs.fip_language.Table.{Table}
+use Rattle.tree_semantics.specs.fip_language.Store.{Placed, Parts, value_of, values_of, words_of}
+use Rattle.separation_bounds.specs.cell_code.declared.kind.Kind.{Kind}
+use Rattle.separation_bounds.specs.cell_code.declared.kind.Kind.TheVariants.{Gone, Scalar, Owned, Lent, Credit}
+use Rattle.tree_semantics.specs.machine_semantics.Cells.{Store}
+use Rattle.tree_semantics.specs.machine_semantics.Trees.{StandAll, IsTree}
+use Rattle.tree_semantics.specs.machine_semantics.Steps.{Kinds}
+use Rattle.tree_semantics.specs.machine_semantics.States.{Frame, State, Next, Went, Entered, Gave, Trapped, TooDeep}
 use Rattle.tree_semantics.specs.Contents.{Contents}
 use Rattle.tree_semantics.specs.States as T
-use Rattle.code_rules.specs.Kinds.{at}
-use Rattle.separation_kinds.specs.Meanings.{word_at}
+use Rattle.separation_bounds.specs.code_rules.Kinds.{at}
+use Rattle.separation_bounds.specs.separation_kinds.Meanings.{word_at}
 
 -- The word of this type stands for the value.
 abbrev pub IsWordOf : Table → Store → ℕ → ℕ → Value → Type 0

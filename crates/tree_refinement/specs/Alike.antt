@@ -4,10 +4,10 @@
 -- Where Cons(1, Nil) lies in cell 0 of one store and in cell 5 of another, a run that ends with the word 1 in the first
 -- and one that ends with the word 11 in the other end alike.
 use Rattle.std.specs.Prelude.{◌≡◌, ℕ, List}
-use Rattle.fip_language.specs.Table.{Table}
-use Rattle.fip_language.specs.Values.{Values}
-use Rattle.machine_semantics.specs.Cells.{Store}
-use Rattle.machine_semantics.specs.Runs.{End, Value, Trap, Out, Deep}
+use Rattle.tree_semantics.specs.fip_language.Table.{Table}
+use Rattle.tree_semantics.specs.fip_language.Values.{Values}
+use Rattle.tree_semantics.specs.machine_semantics.Cells.{Store}
+use Rattle.tree_semantics.specs.machine_semantics.Runs.{End, Value, Trap, Out, Deep}
 use Rattle.tree_refinement.specs.Agreement.{AreWordsOf}
 
 -- the ends in these stores, where results have these types

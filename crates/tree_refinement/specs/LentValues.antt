@@ -2,8 +2,8 @@
 --
 -- Where the parameters are ^xs and n, those of Cons(1, Nil) and 2 are Cons(1, Nil) alone.
 use Rattle.std.specs.Prelude.{List, [], ◌∷◌, if◌then◌else◌}
-use Rattle.fip_language.specs.Values.{Values, End, More}
-use Rattle.fip_base.specs.declared.plain.Param.{Param}
+use Rattle.tree_semantics.specs.fip_language.Values.{Values, End, More}
+use Rattle.separation_bounds.specs.fip_base.declared.plain.Param.{Param}
 
 abbrev pub lent_values : List Param → Values → Values
 lent_values [] vs = End

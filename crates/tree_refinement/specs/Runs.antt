@@ -4,14 +4,14 @@
 -- The reversal of Cons(1, Nil) in cell 0 and of Nil is over after 7 steps with the word 1. On trees it is over after 7
 -- steps with Cons(1, Nil), for which the word stands.
 use Rattle.std.specs.Prelude.{◌≡◌, ℕ, List, length, map, take}
-use Rattle.fip_language.specs.Table.{Table}
-use Rattle.fip_language.specs.Values.{Values}
-use Rattle.fip_language.specs.Meaning as M
-use Rattle.machine_semantics.specs.Steps.{Kinds}
-use Rattle.machine_semantics.specs.States.{State}
-use Rattle.machine_semantics.specs.Runs.{End, Value, Trap, Out, Deep, Run, Going, Over}
+use Rattle.tree_semantics.specs.fip_language.Table.{Table}
+use Rattle.tree_semantics.specs.fip_language.Values.{Values}
+use Rattle.tree_semantics.specs.fip_language.Meaning as M
+use Rattle.tree_semantics.specs.machine_semantics.Steps.{Kinds}
+use Rattle.tree_semantics.specs.machine_semantics.States.{State}
+use Rattle.tree_semantics.specs.machine_semantics.Runs.{End, Value, Trap, Out, Deep, Run, Going, Over}
 use Rattle.tree_semantics.specs.Runs as T
-use Rattle.code_rules.specs.Codes.{PlainCode, params}
+use Rattle.separation_bounds.specs.code_rules.Codes.{PlainCode, params}
 use Rattle.tree_refinement.specs.Agreement.{AreWordsOf, IsSame}
 
 -- The registers with which function n begins in state s stand for these arguments.

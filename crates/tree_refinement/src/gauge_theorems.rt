@@ -1,15 +1,15 @@
 // The laws on what is told of runs of sound code. Each is the contract of a function that does nothing.
 ghost use Rattle.std.specs.Prelude.{◌≡◌, ◌≤◌, ◌+◌, ℕ, List, []};
-ghost use Rattle.fip_language.specs.Gauge.{lowest, highest, highest_frames, highest_words};
-ghost use Rattle.fip_language.specs.Store.{count};
-ghost use Rattle.fip_language.specs.Values.{Values, cells_of_all};
-ghost use Rattle.machine_semantics.specs.Gauges.{seen};
-ghost use Rattle.machine_semantics.specs.Runs.{End, Ends, Value, begun};
-ghost use Rattle.machine_semantics.specs.States.{State};
-ghost use Rattle.machine_semantics.specs.Steps.{Kinds};
-ghost use Rattle.code_rules.specs.Codes.{PlainCode, results};
-ghost use Rattle.separation.specs.Codes.{run_code};
-ghost use Rattle.separation.specs.Starts.{IsStart};
+ghost use Rattle.tree_semantics.specs.fip_language.Gauge.{lowest, highest, highest_frames, highest_words};
+ghost use Rattle.tree_semantics.specs.fip_language.Store.{count};
+ghost use Rattle.tree_semantics.specs.fip_language.Values.{Values, cells_of_all};
+ghost use Rattle.tree_semantics.specs.machine_semantics.Gauges.{seen};
+ghost use Rattle.tree_semantics.specs.machine_semantics.Runs.{End, Ends, Value, begun};
+ghost use Rattle.tree_semantics.specs.machine_semantics.States.{State};
+ghost use Rattle.tree_semantics.specs.machine_semantics.Steps.{Kinds};
+ghost use Rattle.separation_bounds.specs.code_rules.Codes.{PlainCode, results};
+ghost use Rattle.separation_bounds.specs.separation.Codes.{run_code};
+ghost use Rattle.separation_bounds.specs.separation.Starts.{IsStart};
 ghost use Rattle.tree_refinement.specs.Agreement.{AreWordsOf};
 ghost use Rattle.tree_refinement.specs.Runs.{BeginsWith};
 ghost use Rattle.tree_refinement.specs.Alike.{IsAlike};

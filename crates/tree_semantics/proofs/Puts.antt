@@ -2,7 +2,7 @@
 use Rattle.std.proofs.Common.{◌≡◌, ℕ, refl}
 use Rattle.std.specs.Prelude.{eqb}
 use Rattle.std.proofs.lemmas.Bool.{eq-eqb, eqb-true, eqb-false, cond_both, cond-true}
-use Rattle.fip_language.specs.Values.{Value}
+use Rattle.machine_semantics.specs.fip_language.Values.{Value}
 use Rattle.tree_semantics.specs.Contents.{Contents, put}
 
 pub put_elim : (P : Value → Type 0) (cs : Contents) (d : ℕ) (v : Value) (r : ℕ) → (r ≡ d → P v) → ((r ≡ d → ⊥) → P (cs r)) → P (put cs d v r)

@@ -2,7 +2,7 @@
 -- Each register holds a value; one that was never written holds the int 0. So after Take 0 [2, 3] where register 0
 -- holds Cons(1, Nil), register 2 holds 1 and register 3 holds Nil.
 use Rattle.std.specs.Prelude.{ℕ, zero, suc, pos, List, [], ◌∷◌, Option, Some, None, cond, eqb}
-use Rattle.fip_language.specs.Values.{Value, Int, Node, Values, End, More}
+use Rattle.machine_semantics.specs.fip_language.Values.{Value, Int, Node, Values, End, More}
 
 abbrev pub Contents : Type 0
 Contents = ℕ → Value

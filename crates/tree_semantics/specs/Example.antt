@@ -4,11 +4,11 @@
 -- fbip fun inc(xs: ints): ints { match! xs { Nil -> Nil; Cons(x, t) -> Cons(x + 1, inc(t)) } }
 -- where the `+` stands at 3:77. Function 0 is rev and function 1 is inc.
 use Rattle.std.specs.Prelude.{pos, List, [], ◌∷◌}
-use Rattle.fip_language.specs.declared.Operator.TheVariants.{Add}
-use Rattle.fip_language.specs.Values.{Values, End, More}
-use Rattle.fip_language.specs.Example.{empty, item}
-use Rattle.cell_code.specs.declared.code.Instr.{Instr}
-use Rattle.cell_code.specs.declared.code.Instr.TheVariants as I
+use Rattle.machine_semantics.specs.fip_language.declared.Operator.TheVariants.{Add}
+use Rattle.machine_semantics.specs.fip_language.Values.{Values, End, More}
+use Rattle.machine_semantics.specs.fip_language.Example.{empty, item}
+use Rattle.machine_semantics.specs.cell_code.declared.code.Instr.{Instr}
+use Rattle.machine_semantics.specs.cell_code.declared.code.Instr.TheVariants as I
 use Rattle.machine_semantics.specs.Codes.{PlainFunction, PlainCode}
 use Rattle.machine_semantics.specs.Example.{types, owned_ints, rev}
 

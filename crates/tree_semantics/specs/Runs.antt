@@ -3,8 +3,8 @@
 -- It serves the proof that lowered code means what its program means.
 -- rev of three items and none, with 10 calls, takes 4 steps for each item and 3 at the end; then 6 calls are left.
 use Rattle.std.specs.Prelude.{◌≡◌, ℕ, zero, suc, [], Option, Some, None}
-use Rattle.fip_language.specs.Values.{Values}
-use Rattle.fip_language.specs.Meaning.{Answer, Gives, Trap, Out, Deep, Stuck}
+use Rattle.machine_semantics.specs.fip_language.Values.{Values}
+use Rattle.machine_semantics.specs.fip_language.Meaning.{Answer, Gives, Trap, Out, Deep, Stuck}
 use Rattle.machine_semantics.specs.Codes.{PlainCode}
 use Rattle.tree_semantics.specs.States.{State, Next, Went, Entered, Gave, Trapped, TooDeep, Halted}
 use Rattle.tree_semantics.specs.Steps.{first_frame, next}

@@ -2,8 +2,8 @@
 -- store: a value is the tree itself.
 -- It serves the proof that lowered code means what its program means.
 use Rattle.std.specs.Prelude.{ℕ, List}
-use Rattle.fip_language.specs.declared.TrapKind.{TrapKind}
-use Rattle.fip_language.specs.Values.{Values}
+use Rattle.machine_semantics.specs.fip_language.declared.TrapKind.{TrapKind}
+use Rattle.machine_semantics.specs.fip_language.Values.{Values}
 use Rattle.tree_semantics.specs.Contents.{Contents}
 
 -- a frame: a function, the number of the instruction that is to be done, and what the registers hold. A frame that

@@ -5,12 +5,12 @@
 -- Where rev's frame holds Cons(1, Nil) and Nil and is at Take 0 [2, 3], then at Put 0 2 1 [2, 1], its register 0 holds
 -- Cons(1, Nil) still, and then Cons(1, Nil) anew, of 1 and of the second parameter's Nil.
 use Rattle.std.specs.Prelude.{ℕ, zero, suc, ℤ, Bool, true, false, List, [], ◌∷◌, Option, Some, None, ◌==◌}
-use Rattle.fip_language.specs.declared.Operator.{Operator}
-use Rattle.fip_language.specs.Values.{Value, Int, Node, Values, End}
-use Rattle.fip_language.specs.Matching.{same_int}
-use Rattle.fip_language.specs.Arithmetic.{Operated, Is, Fails, operate}
-use Rattle.cell_code.specs.declared.code.Instr.{Instr}
-use Rattle.cell_code.specs.declared.code.Instr.TheVariants as I
+use Rattle.machine_semantics.specs.fip_language.declared.Operator.{Operator}
+use Rattle.machine_semantics.specs.fip_language.Values.{Value, Int, Node, Values, End}
+use Rattle.machine_semantics.specs.fip_language.Matching.{same_int}
+use Rattle.machine_semantics.specs.fip_language.Arithmetic.{Operated, Is, Fails, operate}
+use Rattle.machine_semantics.specs.cell_code.declared.code.Instr.{Instr}
+use Rattle.machine_semantics.specs.cell_code.declared.code.Instr.TheVariants as I
 use Rattle.machine_semantics.specs.Codes.{PlainFunction, PlainCode, function_at, instr_at}
 use Rattle.machine_semantics.specs.Steps.{destinations_in}
 use Rattle.tree_semantics.specs.Contents.{Contents, put, put_all, read_all, first_contents, children, value_at}

@@ -1,9 +1,9 @@
 // The laws of the definitions. Each is the contract of a function that does nothing.
 ghost use Rattle.std.specs.Prelude.{◌≡◌, ℕ, Some};
-ghost use Rattle.fip_language.specs.Meaning.{Answer, Gives, Trap, Out, Deep};
-ghost use Rattle.fip_language.specs.Values.{End, More};
-ghost use Rattle.fip_language.specs.declared.TrapKind.TheVariants.{Overflow};
-ghost use Rattle.fip_language.specs.Example.{empty, pair, three, three_reversed};
+ghost use Rattle.machine_semantics.specs.fip_language.Meaning.{Answer, Gives, Trap, Out, Deep};
+ghost use Rattle.machine_semantics.specs.fip_language.Values.{End, More};
+ghost use Rattle.machine_semantics.specs.fip_language.declared.TrapKind.TheVariants.{Overflow};
+ghost use Rattle.machine_semantics.specs.fip_language.Example.{empty, pair, three, three_reversed};
 ghost use Rattle.machine_semantics.specs.Codes.{PlainCode};
 ghost use Rattle.tree_semantics.specs.States.{State};
 ghost use Rattle.tree_semantics.specs.Runs.{Run, Going, Over, Steps, later, after, begun, entry, Ending, ending};

@@ -10,3 +10,4 @@ pub mod Faults
 pub mod Bound
 pub mod Parameters
 pub mod Answers
+pub use Rattle.fip_language.specs as fip_language

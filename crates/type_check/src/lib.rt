@@ -8,12 +8,12 @@ mod arguments;
 mod check;
 mod expected;
 mod expressions;
-pub mod theorems;
 mod lets;
 mod patterns;
 mod results;
 mod scope;
 mod tables;
+pub mod theorems;
 mod walk;
 
 pub use check::check_types;

@@ -3,13 +3,13 @@ use Rattle.std.proofs.Common.{◌≡◌, ◌<◌, ◌≤◌, ◌^◌, ℕ, zero,
 use Rattle.std.specs.Int.{w64}
 use Rattle.std.proofs.lemmas.Bool.{ltb-true}
 use Rattle.std.proofs.lemmas.Int.{rem_below, fits_signed_from_abs}
-use Rattle.fip_language.specs.declared.Operator.{Operator}
-use Rattle.fip_language.specs.declared.Operator.TheVariants as O
-use Rattle.fip_language.specs.declared.TrapKind.TheVariants.{Overflow, DivideByZero}
-use Rattle.fip_language.specs.Values.{Int, Node, End}
-use Rattle.fip_language.specs.Table.{Table, HasType, HaveTypes}
-use Rattle.fip_language.specs.Matching.{same_int}
-use Rattle.fip_language.specs.Arithmetic.{Operated, Is, Fails, fits, int_or_overflow, truth, operate}
+use Rattle.match_cover.specs.fip_language.declared.Operator.{Operator}
+use Rattle.match_cover.specs.fip_language.declared.Operator.TheVariants as O
+use Rattle.match_cover.specs.fip_language.declared.TrapKind.TheVariants.{Overflow, DivideByZero}
+use Rattle.match_cover.specs.fip_language.Values.{Int, Node, End}
+use Rattle.match_cover.specs.fip_language.Table.{Table, HasType, HaveTypes}
+use Rattle.match_cover.specs.fip_language.Matching.{same_int}
+use Rattle.match_cover.specs.fip_language.Arithmetic.{Operated, Is, Fails, fits, int_or_overflow, truth, operate}
 use Rattle.type_check.specs.World.{result_of}
 use Rattle.type_safety.specs.Formed.{IsBare}
 

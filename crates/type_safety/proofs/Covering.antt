@@ -2,33 +2,33 @@
 -- the matches of a body.
 use Rattle.std.proofs.lemmas.List.{append_assoc}
 use Rattle.std.proofs.Common.{◌≡◌, Bool, true, false, ◌&&◌, List, [], ◌∷◌, ◌++◌, map, is_some, Option, Some, None, if◌then◌else◌, ◌==◌, refl, sym, ap, ◌∙◌, subst}
-use Rattle.fip_language.specs.Values.{Value, Int, Node, Values, End, More}
-use Rattle.fip_language.specs.Matching.{Binding as Bound, same_int, both}
-use Rattle.fip_trees.specs.Tree as T
-use Rattle.fip_trees.specs.TreeView.{patterns_of, pattern, pattern_step}
-use Rattle.fip_trees.specs.declared.program.Pattern.{Pattern, roll-Pattern}
-use Rattle.fip_trees.specs.declared.program.Pattern.TheOpen as P
-use Rattle.fip_trees.specs.declared.program.Pattern.TheFolds.{ind-Pattern, fold-roll-Pattern, map-Pattern}
-use Rattle.match_knowledge.specs.declared.heads.Head.TheVariants.{Number, Tag}
-use Rattle.match_knowledge.specs.Patterns as K
-use Rattle.match_knowledge.specs.View as W
+use Rattle.match_cover.specs.fip_language.Values.{Value, Int, Node, Values, End, More}
+use Rattle.match_cover.specs.fip_language.Matching.{Binding as Bound, same_int, both}
+use Rattle.match_cover.specs.fip_trees.Tree as T
+use Rattle.match_cover.specs.fip_trees.TreeView.{patterns_of, pattern, pattern_step}
+use Rattle.match_cover.specs.fip_trees.declared.program.Pattern.{Pattern, roll-Pattern}
+use Rattle.match_cover.specs.fip_trees.declared.program.Pattern.TheOpen as P
+use Rattle.match_cover.specs.fip_trees.declared.program.Pattern.TheFolds.{ind-Pattern, fold-roll-Pattern, map-Pattern}
+use Rattle.match_cover.specs.match_knowledge.declared.heads.Head.TheVariants.{Number, Tag}
+use Rattle.match_cover.specs.match_knowledge.Patterns as K
+use Rattle.match_cover.specs.match_knowledge.View as W
 use Rattle.match_cover.specs.PatternView.{erased, erase_step}
-use Rattle.match_knowledge.specs.Patterns.{some_fits}
+use Rattle.match_cover.specs.match_knowledge.Patterns.{some_fits}
 use Rattle.match_cover.specs.PatternView.{joined}
 use Rattle.match_cover.specs.Matches.{Match, Arm, arm_pattern, below_arms, expression_step, binding_step, block_step, clause_step, expression_matches, binding_matches, block_matches, arm}
 use Rattle.match_cover.specs.Coverage.{AreCovered, AllCovered}
-use Rattle.fip_language.specs.Table.{Table}
-use Rattle.fip_trees.specs.TreeView.{BoundPart, Case, block_of, clauses_of, expression, binding, block, clause, instance_of, instances}
-use Rattle.fip_trees.specs.TreeView as V
-use Rattle.fip_trees.specs.declared.program.Expression.{Expression, roll-Expression}
-use Rattle.fip_trees.specs.declared.program.Expression.TheOpen as E
-use Rattle.fip_trees.specs.declared.program.Expression.TheFolds.{ind-Block, fold-roll-Expression, fold-roll-Block, fold-roll-Binding, fold-roll-Clause, map-Expression, map-Block, map-Binding, map-Clause}
-use Rattle.fip_trees.specs.declared.program.Block.{Block, roll-Block}
-use Rattle.fip_trees.specs.declared.program.Binding.{Binding, roll-Binding}
-use Rattle.fip_trees.specs.declared.program.Clause.{Clause, roll-Clause}
-use Rattle.fip_trees.specs.declared.program.Instance.{Instance}
+use Rattle.match_cover.specs.fip_language.Table.{Table}
+use Rattle.match_cover.specs.fip_trees.TreeView.{BoundPart, Case, block_of, clauses_of, expression, binding, block, clause, instance_of, instances}
+use Rattle.match_cover.specs.fip_trees.TreeView as V
+use Rattle.match_cover.specs.fip_trees.declared.program.Expression.{Expression, roll-Expression}
+use Rattle.match_cover.specs.fip_trees.declared.program.Expression.TheOpen as E
+use Rattle.match_cover.specs.fip_trees.declared.program.Expression.TheFolds.{ind-Block, fold-roll-Expression, fold-roll-Block, fold-roll-Binding, fold-roll-Clause, map-Expression, map-Block, map-Binding, map-Clause}
+use Rattle.match_cover.specs.fip_trees.declared.program.Block.{Block, roll-Block}
+use Rattle.match_cover.specs.fip_trees.declared.program.Binding.{Binding, roll-Binding}
+use Rattle.match_cover.specs.fip_trees.declared.program.Clause.{Clause, roll-Clause}
+use Rattle.match_cover.specs.fip_trees.declared.program.Instance.{Instance}
 use Rattle.instance_semantics.specs.Matching.{matching, matching_all}
-use Rattle.fip_trees.specs.declared.program.Program.{Program as CodeProgram}
+use Rattle.match_cover.specs.fip_trees.declared.program.Program.{Program as CodeProgram}
 use Rattle.type_check.specs.Typing.{IsFilled}
 use Rattle.match_cover.specs.Coverage.{IsReady}
 use Rattle.match_cover.specs.Answers.{Accepts}

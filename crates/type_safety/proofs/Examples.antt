@@ -3,9 +3,9 @@ use Rattle.std.proofs.Common.{◌≡◌, ◌<◌, ℕ, zero, suc, pos, true, [],
 use Rattle.std.specs.Prelude.{codes}
 use Rattle.std.specs.Int.{w64}
 use Rattle.std.proofs.lemmas.Int.{fits_signed_from_abs}
-use Rattle.fip_language.specs.Values.{Int, Node, Values, End, More}
-use Rattle.fip_language.specs.Table.{Shape, HaveTypes}
-use Rattle.fip_trees.specs.Tree.{Block, NoClauses, MoreClauses}
+use Rattle.match_cover.specs.fip_language.Values.{Int, Node, Values, End, More}
+use Rattle.match_cover.specs.fip_language.Table.{Shape, HaveTypes}
+use Rattle.match_cover.specs.fip_trees.Tree.{Block, NoClauses, MoreClauses}
 use Rattle.type_check.specs.World.{world}
 use Rattle.type_check.specs.Typing.{Typed}
 use Rattle.instance_semantics.specs.Example.{rev, inc, number, lists, nil_pattern, cons_pattern, truth_pattern}

@@ -1,12 +1,12 @@
 -- A program with its types filled in means what it meant before: the meaning reads no slot.
 use Rattle.std.proofs.Common.{◌≡◌, ℕ, zero, suc, ◌+◌, Bool, true, false, List, [], ◌∷◌, ◌++◌, map, length, Option, Some, None, slice_get, refl, ap, ◌∙◌, ◌==◌, if◌then◌else◌}
-use Rattle.fip_language.specs.Values.{Value, Int, Node, Values, End, More}
-use Rattle.fip_language.specs.Matching.{Binding}
-use Rattle.fip_language.specs.Meaning.{Run, Environment, nothing_bound, bind, bind_matched, entered, counted, in_frame, with_value, with_values, operation, if_matches, Gives, ends}
-use Rattle.fip_language.proofs.Bound.{with_value-same, if_matches-same}
-use Rattle.fip_base.specs.declared.plain.Param.{Param}
-use Rattle.fip_trees.specs.declared.program.Binder.{Binder}
-use Rattle.fip_trees.specs.Tree.{Argument, Variable, Literal, Constructor, Arguments, NoArguments, MoreArguments, count, Pattern, BinderPattern, LiteralPattern, ConstructorPattern, Patterns, NoPatterns, MorePatterns, Expression, Give, Tuple, Operation, Call, Match, Nested, Block, Last, Let, Clauses, NoClauses, MoreClauses, Instance, Program}
+use Rattle.match_cover.specs.fip_language.Values.{Value, Int, Node, Values, End, More}
+use Rattle.match_cover.specs.fip_language.Matching.{Binding}
+use Rattle.match_cover.specs.fip_language.Meaning.{Run, Environment, nothing_bound, bind, bind_matched, entered, counted, in_frame, with_value, with_values, operation, if_matches, Gives, ends}
+use Rattle.match_cover.proofs.fip_language.Bound.{with_value-same, if_matches-same}
+use Rattle.match_cover.specs.fip_base.declared.plain.Param.{Param}
+use Rattle.match_cover.specs.fip_trees.declared.program.Binder.{Binder}
+use Rattle.match_cover.specs.fip_trees.Tree.{Argument, Variable, Literal, Constructor, Arguments, NoArguments, MoreArguments, count, Pattern, BinderPattern, LiteralPattern, ConstructorPattern, Patterns, NoPatterns, MorePatterns, Expression, Give, Tuple, Operation, Call, Match, Nested, Block, Last, Let, Clauses, NoClauses, MoreClauses, Instance, Program}
 use Rattle.type_check.specs.Found.{first_type, others, first_wanted, usable, wanted_next}
 use Rattle.type_check.specs.Binders.{all_annotated, annotations, entries}
 use Rattle.type_check.specs.Scope.{Scope}

@@ -1,15 +1,15 @@
 -- What a typed program gives is of its types, whether or not its matches have a clause for each value: by induction on
 -- the calls that stand above one another, and then on the trees.
 use Rattle.std.proofs.Common.{◌≡◌, ◌<◌, ℕ, zero, suc, Bool, true, false, List, [], ◌∷◌, ◌++◌, map, length, Option, Some, None, slice_get, refl, sym, ap, ◌∙◌, subst}
-use Rattle.fip_language.specs.declared.Place.{Place}
-use Rattle.fip_language.specs.declared.Operator.{Operator}
-use Rattle.fip_language.specs.Values.{Value, Int, Node, Values, End, More}
-use Rattle.fip_language.specs.Table.{Table, HasType, HaveTypes}
-use Rattle.fip_language.specs.Matching.{Binding}
-use Rattle.fip_language.specs.Arithmetic.{Operated, Is, Fails, operate}
-use Rattle.fip_language.specs.Meaning.{Answer, Gives, Trap, Out, Deep, Stuck, Run, go_on, counted, in_frame, Environment, nothing_bound, bind_matched, with_value, with_values, operated, operation, if_matches}
-use Rattle.fip_language.proofs.Search.{slice_get_there}
-use Rattle.fip_trees.specs.Tree.{Expression, Give, Tuple, Operation, Call, Match, Nested, Block, Last, Let, Clauses, NoClauses, MoreClauses, Instance, Program}
+use Rattle.match_cover.specs.fip_language.declared.Place.{Place}
+use Rattle.match_cover.specs.fip_language.declared.Operator.{Operator}
+use Rattle.match_cover.specs.fip_language.Values.{Value, Int, Node, Values, End, More}
+use Rattle.match_cover.specs.fip_language.Table.{Table, HasType, HaveTypes}
+use Rattle.match_cover.specs.fip_language.Matching.{Binding}
+use Rattle.match_cover.specs.fip_language.Arithmetic.{Operated, Is, Fails, operate}
+use Rattle.match_cover.specs.fip_language.Meaning.{Answer, Gives, Trap, Out, Deep, Stuck, Run, go_on, counted, in_frame, Environment, nothing_bound, bind_matched, with_value, with_values, operated, operation, if_matches}
+use Rattle.match_cover.proofs.fip_language.Search.{slice_get_there}
+use Rattle.match_cover.specs.fip_trees.Tree.{Expression, Give, Tuple, Operation, Call, Match, Nested, Block, Last, Let, Clauses, NoClauses, MoreClauses, Instance, Program}
 use Rattle.type_check.specs.Binders.{all_annotated, entries}
 use Rattle.type_check.specs.Scope.{Scope}
 use Rattle.type_check.specs.World.{Head, world, head, head_of, result_of}

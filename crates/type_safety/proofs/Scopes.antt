@@ -3,14 +3,14 @@
 use Rattle.std.proofs.Common.{◌≡◌, ℕ, zero, suc, Bool, true, false, List, [], ◌∷◌, ◌++◌, map, Option, Some, None, slice_get, if◌then◌else◌, ◌==◌, refl, sym, ap, ◌∙◌, subst}
 use Rattle.std.proofs.lemmas.List.{append-nil, append_assoc}
 use Rattle.std.proofs.lemmas.Bool.{eqb-true}
-use Rattle.fip_language.specs.Values.{Value, Int, Node, Values, End, More}
-use Rattle.fip_language.specs.Table.{Table, Shape, shapes, HasType, HaveTypes}
-use Rattle.fip_language.specs.Matching.{Binding, same_int, both}
-use Rattle.fip_language.specs.Meaning.{Environment, bind, bind_matched}
-use Rattle.fip_base.specs.TableView.{fields_at}
-use Rattle.fip_base.specs.declared.plain.Param.{Param}
-use Rattle.fip_trees.specs.declared.program.Binder.{Binder}
-use Rattle.fip_trees.specs.Tree.{Pattern, BinderPattern, LiteralPattern, ConstructorPattern, Patterns, NoPatterns, MorePatterns}
+use Rattle.match_cover.specs.fip_language.Values.{Value, Int, Node, Values, End, More}
+use Rattle.match_cover.specs.fip_language.Table.{Table, Shape, shapes, HasType, HaveTypes}
+use Rattle.match_cover.specs.fip_language.Matching.{Binding, same_int, both}
+use Rattle.match_cover.specs.fip_language.Meaning.{Environment, bind, bind_matched}
+use Rattle.match_cover.specs.fip_base.TableView.{fields_at}
+use Rattle.match_cover.specs.fip_base.declared.plain.Param.{Param}
+use Rattle.match_cover.specs.fip_trees.declared.program.Binder.{Binder}
+use Rattle.match_cover.specs.fip_trees.Tree.{Pattern, BinderPattern, LiteralPattern, ConstructorPattern, Patterns, NoPatterns, MorePatterns}
 use Rattle.type_check.specs.Found.{or_found}
 use Rattle.type_check.specs.Scope.{Scope, look, or_else}
 use Rattle.type_check.specs.Binders.{entries, entry}

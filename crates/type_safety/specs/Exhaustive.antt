@@ -2,10 +2,10 @@
 -- slot of the match holds that type.
 -- For example match! xs { Nil -> acc; Cons(x, t) -> .. } where xs is of data ints { Nil; Cons(int, ints) }.
 use Rattle.std.specs.Prelude.{◌≡◌, ℕ, Bool, true, false, is_some, List, [], ◌∷◌, if◌then◌else◌}
-use Rattle.fip_language.specs.Values.{Value}
-use Rattle.fip_language.specs.Table.{Table, HasType}
-use Rattle.fip_trees.specs.Tree.{Expression, Give, Tuple, Operation, Call, Match, Nested, Block, Last, Let}
-use Rattle.fip_trees.specs.Tree.{Clauses, NoClauses, MoreClauses, Instance}
+use Rattle.match_cover.specs.fip_language.Values.{Value}
+use Rattle.match_cover.specs.fip_language.Table.{Table, HasType}
+use Rattle.match_cover.specs.fip_trees.Tree.{Expression, Give, Tuple, Operation, Call, Match, Nested, Block, Last, Let}
+use Rattle.match_cover.specs.fip_trees.Tree.{Clauses, NoClauses, MoreClauses, Instance}
 use Rattle.instance_semantics.specs.Matching.{matching}
 
 -- a pattern of these clauses matches the value

@@ -4,10 +4,10 @@
 -- For example Cons(1, Nil), where Nil and Cons are the constructors 0 and 1 of its type, is formed so.
 use Rattle.std.specs.Prelude.{◌≡◌, ◌<◌, ℕ, List, [], ◌∷◌, length, Some, slice_get, FitsSigned}
 use Rattle.std.specs.Int.{w64}
-use Rattle.fip_language.specs.Table.{Shape, Table, constructors}
-use Rattle.fip_trees.specs.Tree.{Argument, Variable, Literal, Constructor, Arguments, NoArguments, MoreArguments}
-use Rattle.fip_trees.specs.Tree.{Expression, Give, Tuple, Operation, Call, Match, Nested, Block, Last, Let}
-use Rattle.fip_trees.specs.Tree.{Clauses, NoClauses, MoreClauses, Instance, Program}
+use Rattle.match_cover.specs.fip_language.Table.{Shape, Table, constructors}
+use Rattle.match_cover.specs.fip_trees.Tree.{Argument, Variable, Literal, Constructor, Arguments, NoArguments, MoreArguments}
+use Rattle.match_cover.specs.fip_trees.Tree.{Expression, Give, Tuple, Operation, Call, Match, Nested, Block, Last, Let}
+use Rattle.match_cover.specs.fip_trees.Tree.{Clauses, NoClauses, MoreClauses, Instance, Program}
 
 abbrev mutual
   pub FormedArgument : Program → Argument → Type 0

@@ -1,3 +1,5 @@
 pub mod Formed
 pub mod Exhaustive
 pub mod Soundness
+pub use Rattle.instance_semantics.specs as instance_semantics
+pub use Rattle.type_check.specs as type_check

@@ -1,9 +1,9 @@
 -- What the law on typed programs says: what an evaluation gives is of the types of the results, and it is never stuck.
 -- It may end in a trap, run out of calls, or be too deep.
 use Rattle.std.specs.Prelude.{ℕ, List, map}
-use Rattle.fip_language.specs.Table.{Table, HaveTypes}
-use Rattle.fip_language.specs.Meaning.{Answer, Gives, Trap, Out, Deep, Stuck}
-use Rattle.fip_trees.specs.Tree.{Instance, Program}
+use Rattle.match_cover.specs.fip_language.Table.{Table, HaveTypes}
+use Rattle.match_cover.specs.fip_language.Meaning.{Answer, Gives, Trap, Out, Deep, Stuck}
+use Rattle.match_cover.specs.fip_trees.Tree.{Instance, Program}
 use Rattle.type_check.specs.World.{type_of}
 use Rattle.type_check.specs.Typing.{IsFilled}
 use Rattle.type_safety.specs.Formed.{IsFormed}

@@ -1,10 +1,10 @@
 // The laws of typed programs without static parameters. Each is the contract of a function that does nothing.
 ghost use Rattle.std.specs.Prelude.{◌≡◌, ℕ, Some, slice_get};
-ghost use Rattle.fip_language.specs.Values.{Values};
-ghost use Rattle.fip_language.specs.Table.{HaveTypes};
-ghost use Rattle.fip_trees.specs.Tree.{Instance, Program};
-ghost use Rattle.fip_trees.specs.TreeView as V;
-ghost use Rattle.fip_trees.specs.declared.program.Program.{Program as CodeProgram};
+ghost use Rattle.match_cover.specs.fip_language.Values.{Values};
+ghost use Rattle.match_cover.specs.fip_language.Table.{HaveTypes};
+ghost use Rattle.match_cover.specs.fip_trees.Tree.{Instance, Program};
+ghost use Rattle.match_cover.specs.fip_trees.TreeView as V;
+ghost use Rattle.match_cover.specs.fip_trees.declared.program.Program.{Program as CodeProgram};
 ghost use Rattle.type_check.specs.Faults.{filled};
 ghost use Rattle.type_check.specs.Typing.{IsFilled};
 ghost use Rattle.match_cover.specs.Coverage.{AllCovered, IsReady};

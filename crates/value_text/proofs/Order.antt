@@ -63,10 +63,10 @@ row_free k (Some c ∷ os) = let h = row_free k os in omega (arith, h)
 none_free : (first now : Loading) (row : Cells) → HasNoFree first → length now.released ≡ length now.cells → IsBehind first now row → HasNoFree now
 none_free first now row h flags b k =
     let long : length first.released ≡ length first.cells =
-        let a = ap length b.cells ∙ length-append first.cells row in
-        let d = ap length b.released ∙ length-append first.released (replicate (length row) false) in
-        let e = length-replicate {A = Bool} (length row) false in
-        omega (arith, a, d, e, flags) in
+    let a = ap length b.cells ∙ length-append first.cells row in
+    let d = ap length b.released ∙ length-append first.released (replicate (length row) false) in
+    let e = length-replicate {A = Bool} (length row) false in
+    omega (arith, a, d, e, flags) in
     let z = h k in
     let y = row_free k row in
     ap₂ (λ cs rs. count_free k cs rs) b.cells b.released ∙ free_append k first.cells row first.released (replicate (length row) false) long ∙ (let w : count_free k first.cells first.released + count_free k row (replicate (length row) false) ≡ 0 = omega (arith, z, y) in w)
@@ -94,8 +94,7 @@ pub lies_leaf : (first now : Loading) (vs vs' : Values) (ws ws' : List ℕ) (v :
 lies_leaf first now vs vs' ws ws' v w none word e f h =
     let n : ℕ = length first.cells in
     let m : ℕ = n + length (all_places n vs) in
-    let same : all_places n vs ≡ all_places n vs' = sym (ap (all_places n) e ∙ places_join n vs (More v End) ∙ ap (λ os. all_places n vs ++ (os ++ [])) (none m) ∙ append-nil (all_places n vs)) in
-    (
+    let same : all_places n vs ≡ all_places n vs' = sym (ap (all_places n) e ∙ places_join n vs (More v End) ∙ ap (λ os. all_places n vs ++ (os ++ [])) (none m) ∙ append-nil (all_places n vs)) in (
       subst (IsBehind first now) same h.0,
       f ∙ ap₂ (λ ws w. ws ++ w ∷ []) h.1 (sym (word m)) ∙ sym (ap (all_words n) e ∙ words_join_at n vs (More v End)),
     )
@@ -191,11 +190,10 @@ lies_credit ks s first now new vs ws ws' p h flags w m free =
     let a = appended_of now new p (credit_cell s) (none_free first now (loaded_places n vs ks) free flags l.0) m in
     let places : loaded_places n vs (ks ++ s ∷ []) ≡ loaded_places n vs ks ++ places_of (credit_cell s) = ap (λ os. all_places n vs ++ os) (credit_places_on ks s) ∙ sym (append_assoc (all_places n vs) (credit_places ks) (places_of (credit_cell s))) in
     let place : p ≡ (n + length (all_places n vs)) + length (credit_places ks) =
-        let x = a.place in
-        let y = ap length (l.0).cells ∙ length-append first.cells (loaded_places n vs ks) in
-        let z = length-append (all_places n vs) (credit_places ks) in
-        omega (arith, x, y, z) in
-    (
+    let x = a.place in
+    let y = ap length (l.0).cells ∙ length-append first.cells (loaded_places n vs ks) in
+    let z = length-append (all_places n vs) (credit_places ks) in
+    omega (arith, x, y, z) in (
       subst (IsBehind first new) (sym places) (behind_on first now new (loaded_places n vs ks) p (credit_cell s) l.0 a),
       w ∙ ap₂ (λ ws k. ws ++ place_word k ∷ []) l.1 place ∙ append_assoc (all_words n vs) (credit_words (n + length (all_places n vs)) ks) (place_word ((n + length (all_places n vs)) + length (credit_places ks)) ∷ []) ∙ ap (λ ws. all_words n vs ++ ws) (sym (credit_words_on (n + length (all_places n vs)) ks s)),
     )

@@ -10,3 +10,4 @@ pub mod Answered
 pub mod Printing
 pub mod Single
 pub mod Alone
+pub use Rattle.fip_base.specs as fip_base

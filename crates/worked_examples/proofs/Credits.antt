@@ -1,10 +1,10 @@
 -- What the functions of the examples need, and what their headers break.
 use Rattle.std.proofs.Common.{◌≡◌, [], ◌∷◌, refl, inl, inr, arith}
-use Rattle.fip_language.specs.declared.rule.Rule.TheVariants.{E56, E62}
-use Rattle.fip_language.specs.Example.{here}
-use Rattle.fip_trees.specs.Least.{violation}
-use Rattle.credit_check.specs.Credits.{Violates}
-use Rattle.credit_check.specs.Needs.{need_block}
+use Rattle.source_report.specs.fip_language.declared.rule.Rule.TheVariants.{E56, E62}
+use Rattle.source_report.specs.fip_language.Example.{here}
+use Rattle.source_report.specs.fip_trees.Least.{violation}
+use Rattle.source_report.specs.credit_check.Credits.{Violates}
+use Rattle.source_report.specs.credit_check.Needs.{need_block}
 use Rattle.worked_examples.specs.Programs.{push, top, pushing}
 
 pub push_needs_one : need_block (pushing []) 2 (push []).body ≡ 1

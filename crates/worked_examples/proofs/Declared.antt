@@ -1,7 +1,7 @@
 -- Which types of the examples have a value: a tree is shown, or by induction on trees there is none.
 use Rattle.std.proofs.Common.{◌≡◌, zero, suc, Some, refl, sym, subst}
-use Rattle.data_types.specs.Types.{Ty, Parameter, Applied, Tys, NoTys, Tree, Leaf, Node, Trees, End, More}
-use Rattle.data_types.specs.Types.{HasType, HaveTypes, fill_all, IsValued}
+use Rattle.source_report.specs.data_types.Types.{Ty, Parameter, Applied, Tys, NoTys, Tree, Leaf, Node, Trees, End, More}
+use Rattle.source_report.specs.data_types.Types.{HasType, HaveTypes, fill_all, IsValued}
 use Rattle.worked_examples.specs.Declared.{only, list_type, endless_type, growing_type}
 
 pub list_has_one : IsValued list_type 0

@@ -2,15 +2,15 @@
 use Rattle.std.proofs.Common.{◌≡◌, ℕ, zero, suc, [], ◌∷◌, Some, inl, inr, refl, sym, ap, ◌∙◌, subst}
 use Rattle.std.specs.Prelude.{codes, slice_get}
 use Rattle.std.proofs.lemmas.Option.{none-some, same_Some}
-use Rattle.fip_language.specs.declared.rule.Rule.TheVariants.{E10, E11, E12, E13}
-use Rattle.fip_language.specs.Core.{Data}
-use Rattle.fip_language.specs.Example.{at}
-use Rattle.fip_trees.specs.declared.least.Violation.{Violation}
-use Rattle.fip_trees.specs.Least.{In, comes_before}
-use Rattle.data_types.specs.Types.{Applied, Tys, NoTys, MoreTys, Tree, Leaf, Node, Trees, End, More, HasType, HaveTypes, fill_all, IsValued}
-use Rattle.data_types.specs.Declarations.{declarations}
-use Rattle.data_types.specs.Answers.{HasNoValue, Violates, IsFirst}
-use Rattle.data_types.specs.Faults.{broken, written_violations}
+use Rattle.source_report.specs.fip_language.declared.rule.Rule.TheVariants.{E10, E11, E12, E13}
+use Rattle.source_report.specs.fip_language.Core.{Data}
+use Rattle.source_report.specs.fip_language.Example.{at}
+use Rattle.source_report.specs.fip_trees.declared.least.Violation.{Violation}
+use Rattle.source_report.specs.fip_trees.Least.{In, comes_before}
+use Rattle.source_report.specs.data_types.Types.{Applied, Tys, NoTys, MoreTys, Tree, Leaf, Node, Trees, End, More, HasType, HaveTypes, fill_all, IsValued}
+use Rattle.source_report.specs.data_types.Declarations.{declarations}
+use Rattle.source_report.specs.data_types.Answers.{HasNoValue, Violates, IsFirst}
+use Rattle.source_report.specs.data_types.Faults.{broken, written_violations}
 use Rattle.worked_examples.specs.Declaring.{list_with, with_brackets, without_brackets, endless, unknown, with_two}
 
 -- ---- lists

@@ -1,26 +1,26 @@
 -- The source without any text is accepted: each rule asks something of items that there aren't.
 use Rattle.std.proofs.Common.{◌≡◌, ℕ, zero, suc, ◌<◌, ◌≤◌, ◌⊎◌, [], ◌∷◌, Some, refl, inl, inr, arith}
 use Rattle.std.proofs.lemmas.Option.{none-some}
-use Rattle.fip_language.specs.declared.rule.Rule.{Rule}
-use Rattle.fip_language.specs.Core.{Core}
-use Rattle.fip_grammar.specs.Cut.{first_place}
-use Rattle.fip_grammar.specs.Limits.{Breaks, IsSpelt}
-use Rattle.fip_trees.specs.declared.least.Violation.{Violation}
-use Rattle.data_types.specs.Types as D
-use Rattle.data_types.specs.Types.{IsValued}
-use Rattle.data_types.specs.Declarations.{declarations}
-use Rattle.data_types.specs.Answers as Declaring
-use Rattle.reached_instances.specs.declared.closed.Head.TheVariants as H
-use Rattle.reached_instances.specs.Closed.{Closed, Applied, NoClosed}
-use Rattle.static_params.specs.FlatProgram.{Numbers}
-use Rattle.static_params.specs.FlatSource.{flat_source}
-use Rattle.reached_instances.specs.Numbering.{Reached}
-use Rattle.reached_instances.specs.TypeInstances.{type_roots, parts_of}
-use Rattle.static_params.specs.Answers as Statics
-use Rattle.type_check.proofs.Exact.{typed_exactly}
-use Rattle.call_groups.specs.Stacks.{HasFrame, frames_in, words_in, frame_words, AreStacks}
-use Rattle.tail_groups.specs.Members.{AreMembers}
-use Rattle.tail_groups.specs.Rules as Tails
+use Rattle.source_report.specs.fip_language.declared.rule.Rule.{Rule}
+use Rattle.source_report.specs.fip_language.Core.{Core}
+use Rattle.source_report.specs.fip_grammar.Cut.{first_place}
+use Rattle.source_report.specs.fip_grammar.Limits.{Breaks, IsSpelt}
+use Rattle.source_report.specs.fip_trees.declared.least.Violation.{Violation}
+use Rattle.source_report.specs.data_types.Types as D
+use Rattle.source_report.specs.data_types.Types.{IsValued}
+use Rattle.source_report.specs.data_types.Declarations.{declarations}
+use Rattle.source_report.specs.data_types.Answers as Declaring
+use Rattle.source_report.specs.reached_instances.declared.closed.Head.TheVariants as H
+use Rattle.source_report.specs.reached_instances.Closed.{Closed, Applied, NoClosed}
+use Rattle.source_report.specs.static_params.FlatProgram.{Numbers}
+use Rattle.source_report.specs.static_params.FlatSource.{flat_source}
+use Rattle.source_report.specs.reached_instances.Numbering.{Reached}
+use Rattle.source_report.specs.reached_instances.TypeInstances.{type_roots, parts_of}
+use Rattle.source_report.specs.static_params.Answers as Statics
+use Rattle.source_report.proofs.type_check.Exact.{typed_exactly}
+use Rattle.source_report.specs.call_groups.Stacks.{HasFrame, frames_in, words_in, frame_words, AreStacks}
+use Rattle.source_report.specs.tail_groups.Members.{AreMembers}
+use Rattle.source_report.specs.tail_groups.Rules as Tails
 use Rattle.source_report.specs.Report.{IsParsed, IsDeclared, IsFlat, IsTyped, IsMatched, IsOwned, IsCredited, IsTailed, IsAccepted}
 use Rattle.worked_examples.specs.Empty.{empty_program}
 

@@ -7,3 +7,6 @@ pub mod Registers
 pub mod Owning
 pub mod Empty
 pub mod Declaring
+pub use Rattle.source_report.proofs.code_file as code_file
+pub use Rattle.source_report.proofs.separation_bounds as separation_bounds
+pub use Rattle.source_report.proofs.tree_refinement as tree_refinement

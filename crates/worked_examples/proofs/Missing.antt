@@ -4,15 +4,15 @@ use Rattle.std.proofs.Common.{◌≡◌, ℕ, zero, suc, ◌<◌, pos, negsuc, B
 use Rattle.std.specs.Int.{w64}
 use Rattle.std.proofs.lemmas.Int.{fits_signed_from_abs}
 use Rattle.std.proofs.lemmas.Bool.Decides.{nat_tests}
-use Rattle.fip_language.specs.Values.{Value, Int, Node, End, More}
+use Rattle.source_report.specs.fip_language.Values.{Value, Int, Node, End, More}
 use Rattle.std.specs.Prelude.{codes, ◌==◌, ◌&&◌}
-use Rattle.fip_language.specs.Table.{Shape, HasType, HaveTypes}
-use Rattle.match_knowledge.specs.declared.heads.Head.{Head}
-use Rattle.match_knowledge.specs.declared.heads.Head.TheVariants.{Number, Tag}
-use Rattle.match_knowledge.specs.Patterns.{some_fits}
-use Rattle.match_knowledge.specs.Known.{Known, Open, Is, Knowns, NoKnowns, MoreKnowns, agrees, agree_all}
-use Rattle.match_cover.specs.Missing.{open_fields, Before, MayBe, IsMissingOf}
-use Rattle.instance_semantics.specs.Example.{lists, a_shape}
+use Rattle.source_report.specs.fip_language.Table.{Shape, HasType, HaveTypes}
+use Rattle.source_report.specs.match_knowledge.declared.heads.Head.{Head}
+use Rattle.source_report.specs.match_knowledge.declared.heads.Head.TheVariants.{Number, Tag}
+use Rattle.source_report.specs.match_knowledge.Patterns.{some_fits}
+use Rattle.source_report.specs.match_knowledge.Known.{Known, Open, Is, Knowns, NoKnowns, MoreKnowns, agrees, agree_all}
+use Rattle.source_report.specs.match_cover.Missing.{open_fields, Before, MayBe, IsMissingOf}
+use Rattle.source_report.specs.instance_semantics.Example.{lists, a_shape}
 use Rattle.worked_examples.specs.Matches.{two_or_none, just_one, one_or_two, literal}
 
 small_fits : (n : ℕ) → n < 9 → FitsSigned w64 (pos n)

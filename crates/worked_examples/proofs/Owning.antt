@@ -1,8 +1,8 @@
 -- What the calculus derives of the examples, by the rules without environments.
 use Rattle.std.proofs.Common.{◌≡◌, ◌+◌, ◌≤◌, Bool, true, false, ◌||◌, if◌then◌else◌, [], ◌∷◌, refl, arith}
 use Rattle.std.specs.Prelude.{◌==◌}
-use Rattle.ownership_calculus.specs.Functions.{Derived}
-use Rattle.ownership_calculus.proofs.Whole.{is_derived, is_accepted}
+use Rattle.source_report.specs.ownership_calculus.Functions.{Derived}
+use Rattle.source_report.proofs.ownership_calculus.Whole.{is_derived, is_accepted}
 use Rattle.worked_examples.specs.Terms.{given_back, dropped, twice}
 
 used : (b : Bool) → (b || false) ≡ true → 1 ≤ (if b then 1 else 0) + 0

@@ -1,9 +1,9 @@
 -- The kinds of the reversal before each instruction, as they are found from the entry on.
 use Rattle.std.proofs.Common.{zero, suc, [], ◌∷◌, refl}
-use Rattle.cell_code.specs.declared.kind.Kind.TheVariants.{Gone, Scalar, Credit}
-use Rattle.code_rules.specs.Flow.{KnownAt}
-use Rattle.code_rules.specs.Example.{reversal}
-use Rattle.code_rules.proofs.Known.{is_known, Sure}
+use Rattle.source_report.specs.cell_code.declared.kind.Kind.TheVariants.{Gone, Scalar, Credit}
+use Rattle.source_report.specs.code_rules.Flow.{KnownAt}
+use Rattle.source_report.specs.code_rules.Example.{reversal}
+use Rattle.source_report.proofs.code_rules.Known.{is_known, Sure}
 use Rattle.worked_examples.specs.Codes.{rev, four_known, a_list, any_list}
 
 rev_sure : Sure reversal rev

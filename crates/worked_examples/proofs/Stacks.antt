@@ -1,13 +1,13 @@
 -- The stack numbers of push and top: they solve what the one call asks, and each is a frame's words, so they are the
 -- least.
 use Rattle.std.proofs.Common.{◌≡◌, ℕ, zero, suc, ◌+◌, ◌≤◌, Bool, false, List, [], ◌∷◌, Option, Some, refl, sym, ap, subst, arith, slice_get}
-use Rattle.tail_groups.specs.Registers.{registers}
-use Rattle.tail_groups.specs.Members.{frame}
-use Rattle.tail_groups.specs.Sites.{call_rows}
-use Rattle.fip_base.specs.declared.plain.Stack.{Stack}
-use Rattle.call_groups.specs.declared.search.Call.{Call}
-use Rattle.call_groups.specs.CallGraph.{Calls, call}
-use Rattle.call_groups.specs.Stacks.{charge, HasFrame, frame_words, frames_in, words_in, own_frames, AreStacks}
+use Rattle.source_report.specs.tail_groups.Registers.{registers}
+use Rattle.source_report.specs.tail_groups.Members.{frame}
+use Rattle.source_report.specs.tail_groups.Sites.{call_rows}
+use Rattle.source_report.specs.fip_base.declared.plain.Stack.{Stack}
+use Rattle.source_report.specs.call_groups.declared.search.Call.{Call}
+use Rattle.source_report.specs.call_groups.CallGraph.{Calls, call}
+use Rattle.source_report.specs.call_groups.Stacks.{charge, HasFrame, frame_words, frames_in, words_in, own_frames, AreStacks}
 use Rattle.worked_examples.specs.Programs.{push, top, a_stack}
 
 pub push_has_four : registers (push (2 ∷ [])) ≡ 4

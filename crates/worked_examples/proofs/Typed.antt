@@ -1,12 +1,12 @@
 -- What small programs break of the rules on types, by computation alone.
 use Rattle.std.proofs.Common.{◌≡◌, pos, [], ◌∷◌, refl}
 use Rattle.std.specs.Prelude.{codes}
-use Rattle.fip_language.specs.declared.rule.Rule.TheVariants.{E30, E31}
-use Rattle.fip_language.specs.Example.{at, here}
-use Rattle.fip_trees.specs.Least.{violation}
-use Rattle.fip_trees.specs.Tree.{Literal}
-use Rattle.instance_semantics.specs.Example.{lists, nil}
-use Rattle.type_check.specs.Faults.{type_faults, filled}
+use Rattle.source_report.specs.fip_language.declared.rule.Rule.TheVariants.{E30, E31}
+use Rattle.source_report.specs.fip_language.Example.{at, here}
+use Rattle.source_report.specs.fip_trees.Least.{violation}
+use Rattle.source_report.specs.fip_trees.Tree.{Literal}
+use Rattle.source_report.specs.instance_semantics.Example.{lists, nil}
+use Rattle.source_report.specs.type_check.Faults.{type_faults, filled}
 use Rattle.worked_examples.specs.Programs.{number_with, unknown_variable}
 
 pub lists_break_none : type_faults lists ≡ []

@@ -1,10 +1,10 @@
 -- What is known of the registers of the reversal of a list before each of its six instructions.
 use Rattle.std.specs.Prelude.{ℕ, List, [], ◌∷◌}
-use Rattle.cell_code.specs.declared.kind.Kind.{Kind}
-use Rattle.cell_code.specs.declared.kind.Kind.TheVariants.{Gone, Owned}
-use Rattle.code_rules.specs.Codes.{PlainFunction}
-use Rattle.code_rules.specs.Example.{function_of, rev_with, nil_taken, acc_given, cons_taken, cons_put, again}
-use Rattle.code_rules.specs.Example.{cons_known}
+use Rattle.source_report.specs.cell_code.declared.kind.Kind.{Kind}
+use Rattle.source_report.specs.cell_code.declared.kind.Kind.TheVariants.{Gone, Owned}
+use Rattle.source_report.specs.code_rules.Codes.{PlainFunction}
+use Rattle.source_report.specs.code_rules.Example.{function_of, rev_with, nil_taken, acc_given, cons_taken, cons_put, again}
+use Rattle.source_report.specs.code_rules.Example.{cons_known}
 
 -- the function of the reversal
 abbrev pub rev : PlainFunction

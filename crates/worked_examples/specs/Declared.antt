@@ -1,6 +1,6 @@
 -- Data types of the examples, each alone: one whose values are finite, and two that have none.
 use Rattle.std.specs.Prelude.{[], ◌∷◌}
-use Rattle.data_types.specs.Types.{Ty, Parameter, Applied, Tys, NoTys, MoreTys, Declarations}
+use Rattle.source_report.specs.data_types.Types.{Ty, Parameter, Applied, Tys, NoTys, MoreTys, Declarations}
 
 abbrev pub only : Ty → Tys
 only t = MoreTys t NoTys

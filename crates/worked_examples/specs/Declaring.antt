@@ -1,9 +1,9 @@
 -- Declarations of the examples, each in a program without functions, with the places where they stand in its text.
 use Rattle.std.specs.Prelude.{[], ◌∷◌, List, codes}
-use Rattle.fip_language.specs.declared.Place.{Place}
-use Rattle.fip_language.specs.Core.{Name, Written, WrittenName, NoWritten, MoreWritten, DataConstructor, Data}
-use Rattle.fip_language.specs.Core.{Core}
-use Rattle.fip_language.specs.Example.{at}
+use Rattle.source_report.specs.fip_language.declared.Place.{Place}
+use Rattle.source_report.specs.fip_language.Core.{Name, Written, WrittenName, NoWritten, MoreWritten, DataConstructor, Data}
+use Rattle.source_report.specs.fip_language.Core.{Core}
+use Rattle.source_report.specs.fip_language.Example.{at}
 
 abbrev pub declaring : List Data → Core
 declaring ds = record { types = ds; functions = [] }

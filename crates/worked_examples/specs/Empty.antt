@@ -1,8 +1,8 @@
 -- The program of a source without any text: it has no instances, and of types bool alone.
 use Rattle.std.specs.Prelude.{[], ◌∷◌}
-use Rattle.fip_language.specs.Table.{Table}
-use Rattle.fip_trees.specs.Tree.{Program}
-use Rattle.code_rules.specs.Tables.{bool_shapes}
+use Rattle.source_report.specs.fip_language.Table.{Table}
+use Rattle.source_report.specs.fip_trees.Tree.{Program}
+use Rattle.source_report.specs.code_rules.Tables.{bool_shapes}
 
 -- False and True, which have no fields
 abbrev pub bool_alone : Table

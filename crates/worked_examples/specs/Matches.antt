@@ -1,8 +1,8 @@
 -- Matches of the examples, by their patterns, and what each misses. Type 2 is ints, with the constructors Nil, 0, and
 -- Cons, 1; type 0 is int.
 use Rattle.std.specs.Prelude.{ℕ, pos, List, [], ◌∷◌}
-use Rattle.match_knowledge.specs.declared.heads.Head.TheVariants.{Number, Tag}
-use Rattle.match_knowledge.specs.Patterns.{Pattern, Any, Test, NoPatterns, MorePatterns}
+use Rattle.source_report.specs.match_knowledge.declared.heads.Head.TheVariants.{Number, Tag}
+use Rattle.source_report.specs.match_knowledge.Patterns.{Pattern, Any, Test, NoPatterns, MorePatterns}
 
 abbrev pub nil_pattern : Pattern
 nil_pattern = Test 2 (Tag 0) NoPatterns

@@ -1,12 +1,12 @@
 -- Small programs of the examples, over the types bool and ints of the program of lists.
 use Rattle.std.specs.Prelude.{ℕ, pos, true, false, List, [], ◌∷◌, None, codes}
-use Rattle.fip_language.specs.declared.FunKind.TheVariants.{Fip}
-use Rattle.fip_language.specs.declared.Operator.TheVariants.{Add}
-use Rattle.fip_language.specs.Example.{at, here}
-use Rattle.fip_base.specs.declared.plain.Stack.{Stack}
-use Rattle.fip_trees.specs.Tree.{Argument, Variable, Literal, NoArguments, MoreArguments, Give, Operation, Call}
-use Rattle.fip_trees.specs.Tree.{Last, Let, Instance, Program}
-use Rattle.instance_semantics.specs.Example.{lists, number, ints, bound, var, nil, cons, by_list, an_owned}
+use Rattle.source_report.specs.fip_language.declared.FunKind.TheVariants.{Fip}
+use Rattle.source_report.specs.fip_language.declared.Operator.TheVariants.{Add}
+use Rattle.source_report.specs.fip_language.Example.{at, here}
+use Rattle.source_report.specs.fip_base.declared.plain.Stack.{Stack}
+use Rattle.source_report.specs.fip_trees.Tree.{Argument, Variable, Literal, NoArguments, MoreArguments, Give, Operation, Call}
+use Rattle.source_report.specs.fip_trees.Tree.{Last, Let, Instance, Program}
+use Rattle.source_report.specs.instance_semantics.Example.{lists, number, ints, bound, var, nil, cons, by_list, an_owned}
 
 abbrev pub with_instances : List Instance → Program
 with_instances ds = record lists { instances = ds }

@@ -1,5 +1,5 @@
 -- Bodies of the examples, as far as ownership goes, of a function with the owned parameter 0.
-use Rattle.ownership_calculus.specs.Terms.{Named, Scalar, NoValues, MoreValues, Term, Results}
+use Rattle.source_report.specs.ownership_calculus.Terms.{Named, Scalar, NoValues, MoreValues, Term, Results}
 
 -- fip fun id(xs: ints): ints { xs }
 abbrev pub given_back : Term

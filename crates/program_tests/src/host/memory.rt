@@ -1,7 +1,7 @@
 // What a host hands in, and what it finds afterwards.
 
-use fip_outside::memory::{MemFolder, MemSink, MemSource};
 use fip_driver::fp2;
+use fip_outside::memory::{MemFolder, MemSink, MemSource};
 use std::alloc::{AllocError, Global};
 
 /// Pieces of one byte each.

@@ -1,6 +1,6 @@
 use Rattle.std.proofs.Common.{◌≡◌, drop}
 use Rattle.fip_trees.specs.TreeView.{patterns}
-use Rattle.lowering_relation.specs.Opening.{any_named}
+use Rattle.lower_frame.specs.lowering_relation.Opening.{any_named}
 use Rattle.cell_lower.proofs.choices.+names.Given as goal
 
 abbrev pub invariant-any_named-loop-part : goal.invariant-any_named-loop-part

@@ -1,5 +1,5 @@
 use Rattle.std.proofs.Common.{◌≡◌, drop}
-use Rattle.lowering_relation.specs.Reading.{contains}
+use Rattle.lower_frame.specs.lowering_relation.Reading.{contains}
 use Rattle.cell_lower.proofs.choices.contains.Given as goal
 
 abbrev pub invariant-loop-one : goal.invariant-loop-one

@@ -1,7 +1,7 @@
 use Rattle.std.proofs.Common.{◌≡◌}
-use Rattle.code_rules.specs.Types.{numbers}
+use Rattle.lower_frame.specs.code_rules.Types.{numbers}
 use Rattle.match_knowledge.specs.View.{known}
-use Rattle.lowering_relation.specs.Sights.{kept}
+use Rattle.lower_frame.specs.lowering_relation.Sights.{kept}
 use Rattle.cell_lower.specs.Overlays.{may_be}
 use Rattle.cell_lower.proofs.choices.left_of.Given as goal
 

@@ -1,6 +1,6 @@
 use Rattle.std.proofs.Common.{arith, ◌+◌}
 use Rattle.fip_trees.specs.TreeView.{patterns}
-use Rattle.lowering_relation.specs.Opening.{as_many}
+use Rattle.lower_frame.specs.lowering_relation.Opening.{as_many}
 use Rattle.lower_frame.specs.Positions.{spot_of, spots_of}
 use Rattle.cell_lower.proofs.Folding.{many_next, item, spot_there, register_is}
 use Rattle.cell_lower.proofs.choices.registers_of.Goals as goal

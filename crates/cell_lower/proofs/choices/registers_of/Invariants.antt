@@ -1,6 +1,6 @@
 use Rattle.std.proofs.Common.{◌≡◌, drop, ◌++◌}
 use Rattle.fip_trees.specs.TreeView.{patterns}
-use Rattle.lowering_relation.specs.Opening.{as_many}
+use Rattle.lower_frame.specs.lowering_relation.Opening.{as_many}
 use Rattle.lower_frame.specs.Positions.{spots_of, past}
 use Rattle.cell_lower.proofs.choices.registers_of.Given as goal
 

@@ -1,6 +1,6 @@
 use Rattle.std.proofs.Common.{refl, subst, map, ap, ◌∙◌}
 use Rattle.fip_trees.specs.TreeView.{program, instances}
-use Rattle.lowering_relation.specs.Values.{Setting}
+use Rattle.lower_frame.specs.lowering_relation.Values.{Setting}
 use Rattle.cell_lower.specs.Lowered.{function_instrs, HaveCodes}
 use Rattle.cell_lower.specs.Shape.{headers}
 use Rattle.cell_lower.specs.Writing.{setting}

@@ -1,6 +1,6 @@
 use Rattle.std.proofs.Common.{◌+◌, arith}
 use Rattle.fip_trees.specs.TreeView.{patterns}
-use Rattle.lowering_relation.specs.Rows as R
+use Rattle.lower_frame.specs.lowering_relation.Rows as R
 use Rattle.cell_lower.proofs.Folding.{rows_next, rows_end, item}
 use Rattle.cell_lower.proofs.matches.+rows.Goals as goal
 

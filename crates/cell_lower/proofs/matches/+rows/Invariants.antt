@@ -1,6 +1,6 @@
 use Rattle.std.proofs.Common.{◌≡◌, drop}
 use Rattle.fip_trees.specs.TreeView.{patterns}
-use Rattle.lowering_relation.specs.Rows as R
+use Rattle.lower_frame.specs.lowering_relation.Rows as R
 use Rattle.cell_lower.proofs.Folding.{before_rows}
 use Rattle.cell_lower.proofs.matches.+rows.Given as goal
 

@@ -2,7 +2,7 @@ use Rattle.std.proofs.Common.{◌≡◌, ◌∙◌, [], ◌∷◌, ◌++◌, Som
 use Rattle.std.specs.Prelude.{slice_get, option_map, option_and_then}
 use Rattle.std.proofs.lemmas.List.{take_all, take_more}
 use Rattle.std.proofs.lemmas.Option.{same_Some, slice_get_within, get_or_from_slice_get}
-use Rattle.fip_language.specs.Store.{Cell}
+use Rattle.fip_base.specs.fip_language.Store.{Cell}
 use Rattle.cell_store.specs.Cells.{size_of}
 use Rattle.cell_trace.proofs.recorder.fields_of.Goals as goal
 

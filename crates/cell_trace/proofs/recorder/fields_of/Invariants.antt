@@ -1,6 +1,6 @@
 -- The words so far are the first ones of the cell's fields.
 use Rattle.std.proofs.Common.{◌≡◌, Some, take}
-use Rattle.fip_language.specs.Store.{Cell}
+use Rattle.fip_base.specs.fip_language.Store.{Cell}
 use Rattle.cell_store.specs.Cells.{cell_at}
 use Rattle.cell_trace.proofs.recorder.fields_of.Given as goal
 

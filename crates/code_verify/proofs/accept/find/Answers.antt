@@ -2,7 +2,7 @@ use Rattle.std.proofs.Common.{◌≡◌, ◌∙◌, true, false, Some, Result, O
 use Rattle.std.proofs.lemmas.Result.{IfOk-weaker}
 use Rattle.code_rules.specs.Codes.{plain, plain_function, function_at}
 use Rattle.code_rules.specs.Headers.{is_formed}
-use Rattle.register_kinds.specs.State.{of_types}
+use Rattle.code_rows.specs.register_kinds.State.{of_types}
 use Rattle.code_verify.specs.Finding.{IsFound, HasMachineIntsBelow}
 use Rattle.code_verify.specs.Surveying.{IsFoundOf}
 use Rattle.code_verify.proofs.Surveyed.{found_formed, found_unformed}

@@ -1,5 +1,5 @@
 use Rattle.std.proofs.Common.{Some, refl}
-use Rattle.command_words.specs.Words.{Verify, Upgrade, Run}
+use Rattle.command_library.specs.command_words.Words.{Verify, Upgrade, Run}
 use Rattle.command_answers.specs.Answer as A
 use Rattle.command_answers.specs.Stored as S
 use Rattle.command_answers.specs.Empty.{empty_code, empty_file}

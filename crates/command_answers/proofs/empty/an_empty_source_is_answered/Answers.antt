@@ -1,6 +1,6 @@
 use Rattle.std.proofs.Common.{[], ◌∷◌, Some, refl}
-use Rattle.command_words.specs.Words.{Check, Compile, Exec, Eval, Trace, Session, Tasks, Derive}
-use Rattle.command_source.specs.Wanted.{Lawful, Root, Compiled}
+use Rattle.command_library.specs.command_words.Words.{Check, Compile, Exec, Eval, Trace, Session, Tasks, Derive}
+use Rattle.command_library.specs.command_source.Wanted.{Lawful, Root, Compiled}
 use Rattle.command_answers.specs.Answer as A
 use Rattle.command_answers.proofs.Coming.{of_source, of_audit}
 use Rattle.command_answers.proofs.EmptySource as E

@@ -1,6 +1,6 @@
 use Rattle.std.proofs.Common.{refl, Some}
-use Rattle.command_words.specs.Words.{Verify, Upgrade, Run}
-use Rattle.command_source.specs.Codes as C
+use Rattle.command_library.specs.command_words.Words.{Verify, Upgrade, Run}
+use Rattle.command_library.specs.command_source.Codes as C
 use Rattle.command_answers.specs.Answer as A
 use Rattle.command_answers.specs.CodeRun as R
 use Rattle.command_answers.specs.Stored as S

@@ -1,7 +1,7 @@
 use Rattle.std.proofs.Common.{[], Some, refl, inr, arith}
-use Rattle.command_words.specs.Words.{Replay}
-use Rattle.run_loading.specs.Example.{rewriting, file_with}
-use Rattle.run_loading.proofs.Examples.{file_is_read, other_file_is_bad, no_bytes_are_bad}
+use Rattle.command_library.specs.command_words.Words.{Replay}
+use Rattle.command_library.specs.run_loading.Example.{rewriting, file_with}
+use Rattle.command_library.proofs.run_loading.Examples.{file_is_read, other_file_is_bad, no_bytes_are_bad}
 use Rattle.command_answers.specs.Replays as P
 use Rattle.command_answers.proofs.Coming.{fetched}
 use Rattle.command_answers.proofs.members.an_example_of_replay.Goals as goal

@@ -1,5 +1,5 @@
 use Rattle.std.proofs.Common.{refl}
-use Rattle.fip_language.specs.Values.{End, More}
+use Rattle.command_library.specs.fip_language.Values.{End, More}
 use Rattle.command_answers.specs.Exec as X
 use Rattle.command_answers.specs.Generating as G
 use Rattle.command_answers.proofs.members.texts_and_trees_are_printed.Goals as goal

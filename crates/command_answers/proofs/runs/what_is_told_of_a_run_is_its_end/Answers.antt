@@ -1,4 +1,4 @@
-use Rattle.command_run.proofs.CodeOnce.{code_run_once}
+use Rattle.command_library.proofs.command_run.CodeOnce.{code_run_once}
 use Rattle.command_answers.proofs.Joined.{run_is_told, told_is_run, some_told}
 use Rattle.command_answers.proofs.runs.what_is_told_of_a_run_is_its_end.Goals as goal
 

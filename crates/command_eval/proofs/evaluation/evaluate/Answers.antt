@@ -2,7 +2,7 @@ use Rattle.std.proofs.Common.{subst}
 use Rattle.fip_language.specs.SoundTable.{AreTypes, IsSoundTable}
 use Rattle.fip_language.specs.Values.{Values}
 use Rattle.fip_language.specs.ValueText.{SpellsValues}
-use Rattle.fip_trees.specs.declared.program.Typed.{Typed}
+use Rattle.command_source.specs.fip_trees.declared.program.Typed.{Typed}
 use Rattle.value_text.specs.Loaded.{types_of}
 use Rattle.plain_rows.specs.Rows.{AreRows}
 use Rattle.command_eval.specs.Arguments.{IsNoText}

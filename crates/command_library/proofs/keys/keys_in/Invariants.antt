@@ -1,6 +1,6 @@
 use Rattle.std.proofs.Common.{◌+◌, ◌-◌, ◌*◌, ◌^◌, vec_len}
 use Rattle.fip_language.specs.Values.{Value}
-use Rattle.machine_cells.specs.Small.{IsSmall}
+use Rattle.fip_machine.specs.machine_cells.Small.{IsSmall}
 use Rattle.command_library.specs.MadeTree.{keys_of}
 use Rattle.command_library.specs.Reading.{IsAt, AreKeys}
 use Rattle.command_library.proofs.keys.keys_in.Given as goal

@@ -1,14 +1,14 @@
 use Rattle.std.proofs.Common.{◌≤◌, ◌∙◌, false, length, Err, ap, sym, subst, arith}
 use Rattle.fip_language.specs.declared.limits.TheConstants.{MOST_FILE_BYTES}
 use Rattle.std.proofs.lemmas.Result.{err_from_is_err_and}
-use Rattle.code_verify.specs.Checked.{Checked, HasMachineInts}
+use Rattle.fip_machine.specs.code_verify.Checked.{Checked, HasMachineInts}
 use Rattle.fip_machine.specs.GaugeView.{IsUnseen}
-use Rattle.machine_correctness.specs.Starts.{IsSoundCode}
+use Rattle.command_run.specs.machine_correctness.Starts.{IsSoundCode}
 use Rattle.command_run.specs.Rooms.{IsAllowed}
 use Rattle.command_run.specs.Starting.{TellsEnded}
-use Rattle.code_rules.specs.Breaks.{IsSound}
-use Rattle.code_rules.specs.Codes.{plain}
-use Rattle.machine_correctness.proofs.Literals.{has_literals}
+use Rattle.command_run.specs.code_rules.Breaks.{IsSound}
+use Rattle.command_run.specs.code_rules.Codes.{plain}
+use Rattle.command_run.proofs.machine_correctness.Literals.{has_literals}
 use Rattle.command_run.proofs.Entry as N
 use Rattle.command_run.proofs.Execs as X
 use Rattle.command_run.proofs.Ran.{ran}

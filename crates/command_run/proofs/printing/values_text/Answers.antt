@@ -1,6 +1,6 @@
 use Rattle.std.proofs.Common.{◌∷◌, subst}
 use Rattle.fip_language.specs.PrintedText.{printed_lines}
-use Rattle.plain_rows.proofs.Standing.{sides}
+use Rattle.command_eval.proofs.plain_rows.Standing.{sides}
 use Rattle.command_run.proofs.Lines.{IsPrinting, line_printed, lines_printed}
 use Rattle.command_run.proofs.printing.values_text.Goals as goal
 

@@ -1,11 +1,11 @@
 use Rattle.std.proofs.Common.{subst}
-use Rattle.code_verify.specs.Checked.{Checked, HasMachineInts}
+use Rattle.fip_machine.specs.code_verify.Checked.{Checked, HasMachineInts}
 use Rattle.command_words.specs.View.{room_of}
 use Rattle.fip_machine.specs.GaugeView.{IsUnseen}
-use Rattle.machine_cells.specs.Small.{store_of}
-use Rattle.code_rules.specs.Breaks.{IsSound}
-use Rattle.code_rules.specs.Codes.{plain}
-use Rattle.code_rules.specs.Tables.{AreSoundTables}
+use Rattle.fip_machine.specs.machine_cells.Small.{store_of}
+use Rattle.machine_correctness.specs.code_rules.Breaks.{IsSound}
+use Rattle.machine_correctness.specs.code_rules.Codes.{plain}
+use Rattle.machine_correctness.specs.code_rules.Tables.{AreSoundTables}
 use Rattle.machine_correctness.proofs.Literals.{has_literals}
 use Rattle.command_run.proofs.Entry as N
 use Rattle.command_run.proofs.Execs as X

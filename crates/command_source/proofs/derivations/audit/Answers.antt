@@ -1,5 +1,5 @@
 use Rattle.std.proofs.Common.{ap, inl, inr, refl, Err}
-use Rattle.derivation_trees.specs.Trees.{entries}
+use Rattle.fip_proof.specs.derivation_trees.Trees.{entries}
 use Rattle.fip_trees.specs.TreeView.{program}
 use Rattle.command_source.proofs.Judging.{bad_rejected, right_accepted, wrong_rejected}
 use Rattle.command_source.proofs.derivations.audit.Goals as goal

@@ -1,5 +1,5 @@
 use Rattle.std.proofs.Common.{subst}
-use Rattle.source_report.specs.Report.{Says}
+use Rattle.program_front.specs.source_report.Report.{Says}
 use Rattle.program_front.specs.Unmatched.{IsUnmatched}
 use Rattle.command_source.proofs.phases.failure_of.Goals as goal
 

@@ -1,7 +1,7 @@
 use Rattle.std.proofs.Common.{subst}
 use Rattle.fip_trees.specs.TreeView.{program}
-use Rattle.cell_lower.specs.LaidProgram.{IsAsked, IsLaidOut}
-use Rattle.code_rules.specs.Codes.{plain}
+use Rattle.program_front.specs.cell_lower.LaidProgram.{IsAsked, IsLaidOut}
+use Rattle.code_verify.specs.code_rules.Codes.{plain}
 use Rattle.compiler_correctness.proofs.SoundnessFunctions.{headed_in_memory}
 use Rattle.compiler_correctness.proofs.SoundnessWhole.{laid_out_is_sound}
 use Rattle.compiler_correctness.proofs.StackNumbers.{laid_out_has_stacks}

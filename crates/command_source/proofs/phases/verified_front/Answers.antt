@@ -1,6 +1,6 @@
 use Rattle.std.proofs.Common.{subst, sym}
-use Rattle.code_rules.specs.Breaks.{IsSound}
-use Rattle.code_rules.specs.Codes.{plain}
+use Rattle.code_verify.specs.code_rules.Breaks.{IsSound}
+use Rattle.code_verify.specs.code_rules.Codes.{plain}
 use Rattle.command_source.proofs.Told.{sound_wants}
 use Rattle.command_source.proofs.phases.verified_front.Goals as goal
 

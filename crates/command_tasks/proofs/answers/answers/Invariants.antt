@@ -1,8 +1,8 @@
 use Rattle.std.proofs.Common.{◌≡◌, List, length, take}
-use Rattle.machine_semantics.specs.Steps.{Kinds}
+use Rattle.fip_tasks.specs.machine_semantics.Steps.{Kinds}
 use Rattle.code_verify.specs.Checked.{Checked}
 use Rattle.fip_language.specs.Meaning.{Answer}
-use Rattle.task_semantics.specs.Schedules.{Shared}
+use Rattle.fip_tasks.specs.task_semantics.Schedules.{Shared}
 use Rattle.command_tasks.specs.Telling.{AreTaskLines, CanRun, EndAs, ShowsSome}
 use Rattle.command_tasks.proofs.answers.answers.Given as goal
 

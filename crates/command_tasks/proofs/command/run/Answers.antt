@@ -1,12 +1,12 @@
 use Rattle.std.proofs.Common.{◌∙◌, [], List, ℕ, Vec, Global, length, ap, subst, sym}
 use Rattle.std.specs.Prelude.{IfOk}
 use Rattle.cell_code.specs.declared.code.Code.{Code}
-use Rattle.machine_semantics.specs.Cells.{Store}
+use Rattle.fip_tasks.specs.machine_semantics.Cells.{Store}
 use Rattle.fip_tasks.specs.Shown.{AreStarted, Shows}
 use Rattle.fip_tasks.specs.declared.task.Start.{Start}
-use Rattle.machine_cells.specs.Small.{store_of}
-use Rattle.code_rules.specs.Codes.{plain}
-use Rattle.machine_correctness.proofs.Literals.{has_literals}
+use Rattle.fip_tasks.specs.machine_cells.Small.{store_of}
+use Rattle.command_run.specs.code_rules.Codes.{plain}
+use Rattle.command_run.proofs.machine_correctness.Literals.{has_literals}
 use Rattle.command_tasks.specs.Called.{AreCallLines}
 use Rattle.command_tasks.specs.Telling.{AreTaskLines, EndAs, ShowsSome}
 use Rattle.command_tasks.proofs.Answering.{of_ok}

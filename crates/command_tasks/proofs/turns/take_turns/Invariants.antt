@@ -1,7 +1,7 @@
 use Rattle.std.proofs.Common.{◌≡◌, ◌<◌, length}
-use Rattle.machine_semantics.specs.Steps.{Kinds}
+use Rattle.fip_tasks.specs.machine_semantics.Steps.{Kinds}
 use Rattle.code_verify.specs.Checked.{Checked}
-use Rattle.task_semantics.specs.Schedules.{Shared}
+use Rattle.fip_tasks.specs.task_semantics.Schedules.{Shared}
 use Rattle.command_tasks.specs.Telling.{CanRun, ShowsSome}
 use Rattle.command_tasks.proofs.turns.take_turns.Given as goal
 

@@ -1,5 +1,5 @@
 use Rattle.std.proofs.Common.{ap, sym, subst, Err}
-use Rattle.run_loading.specs.TraceReading.{IsBadTrace}
+use Rattle.trace_files.specs.run_loading.TraceReading.{IsBadTrace}
 use Rattle.trace_files.specs.Plain.{plain_trace}
 use Rattle.command_trace.proofs.Played.{played, long_bad, bad_at}
 use Rattle.command_trace.proofs.replaying.replay.Goals as goal

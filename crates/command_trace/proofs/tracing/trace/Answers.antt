@@ -2,16 +2,16 @@ use Rattle.std.proofs.Common.{◌∙◌, false, Option, Ok, Err, ap, sym, subst}
 use Rattle.std.specs.Prelude.{IfSome}
 use Rattle.std.proofs.lemmas.Result.{err_from_is_err_and}
 use Rattle.cell_trace.specs.declared.trace.Trace.{Trace as Memory}
-use Rattle.code_verify.specs.Checked.{Checked, HasMachineInts}
+use Rattle.fip_machine.specs.code_verify.Checked.{Checked, HasMachineInts}
 use Rattle.command_words.specs.View.{room_of}
 use Rattle.command_outcome.specs.declared.failure.Failure.{Failure}
 use Rattle.fip_machine.specs.GaugeView.{IsUnseen}
 use Rattle.fip_machine.specs.Traces.{HasTrace}
-use Rattle.machine_correctness.specs.Starts.{IsSoundCode}
+use Rattle.command_run.specs.machine_correctness.Starts.{IsSoundCode}
 use Rattle.command_run.specs.Starting.{TellsEnded}
-use Rattle.code_rules.specs.Breaks.{IsSound}
-use Rattle.code_rules.specs.Codes.{plain}
-use Rattle.machine_correctness.proofs.Literals.{has_literals}
+use Rattle.command_run.specs.code_rules.Breaks.{IsSound}
+use Rattle.command_run.specs.code_rules.Codes.{plain}
+use Rattle.command_run.proofs.machine_correctness.Literals.{has_literals}
 use Rattle.command_run.proofs.Entry as N
 use Rattle.command_run.proofs.Execs as X
 use Rattle.command_run.proofs.Ran.{ran}

@@ -1,4 +1,4 @@
-use Rattle.source_report.proofs.Ready.{typed_formed}
+use Rattle.derivation_correctness.proofs.source_report.Ready.{typed_formed}
 use Rattle.compiler_correctness.proofs.SoundTypes.{typed_bool}
 use Rattle.compiler_correctness.proofs.Sharing.{shared, called}
 use Rattle.compiler_correctness.proofs.soundness_theorems.accepted_code_shares_with_its_program.Goals as goal

@@ -1,4 +1,4 @@
-use Rattle.ownership_agreement.proofs.Instances.{programs_agree}
+use Rattle.derivation_making.proofs.ownership_agreement.Instances.{programs_agree}
 use Rattle.derivation_agreement.proofs.Instances.{all_derived}
 use Rattle.derivation_agreement.proofs.calculus_theorems.derivations_follow_the_calculus.Goals as goal
 

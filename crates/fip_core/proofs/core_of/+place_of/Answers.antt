@@ -1,5 +1,5 @@
 use Rattle.std.proofs.Common.{◌∙◌, sym, ap}
-use Rattle.fip_language.specs.CoreForm as form
+use Rattle.fip_base.specs.fip_language.CoreForm as form
 use Rattle.fip_base.specs.CoreView as core
 use Rattle.fip_core.proofs.CoreFacts.{nested_view, place_of_nested}
 use Rattle.fip_core.proofs.core_of.+place_of.Goals as goal

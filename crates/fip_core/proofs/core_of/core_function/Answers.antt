@@ -1,9 +1,9 @@
 use Rattle.std.proofs.Common.{◌∙◌, List, map, ap}
-use Rattle.fip_language.specs.declared.Place.{Place}
-use Rattle.fip_language.specs.declared.FunKind.{FunKind}
-use Rattle.fip_language.specs.declared.CreditMark.{CreditMark}
-use Rattle.fip_language.specs.Core as C
-use Rattle.fip_language.specs.CoreForm as form
+use Rattle.fip_base.specs.fip_language.declared.Place.{Place}
+use Rattle.fip_base.specs.fip_language.declared.FunKind.{FunKind}
+use Rattle.fip_base.specs.fip_language.declared.CreditMark.{CreditMark}
+use Rattle.fip_base.specs.fip_language.Core as C
+use Rattle.fip_base.specs.fip_language.CoreForm as form
 use Rattle.fip_base.specs.CoreView as core
 use Rattle.fip_base.specs.SurfaceView as surface
 use Rattle.fip_core.proofs.WalkFacts.{body_stands}

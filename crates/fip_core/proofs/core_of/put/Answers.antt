@@ -1,5 +1,5 @@
 use Rattle.std.proofs.Common.{◌∙◌, ◌∷◌, [], ◌++◌, ap}
-use Rattle.fip_language.specs.Core as C
+use Rattle.fip_base.specs.fip_language.Core as C
 use Rattle.fip_base.specs.CoreView as core
 use Rattle.fip_base.specs.declared.core_form.Expression.TheFolds.{fold-roll-Binding}
 use Rattle.fip_core.specs.Walk.{bindings, binding_of}

@@ -1,6 +1,6 @@
 use Rattle.std.proofs.Common.{refl}
 use Rattle.command_words.specs.Words as W
-use Rattle.command_source.specs.Wanted.{Root}
+use Rattle.command_library.specs.command_source.Wanted.{Root}
 use Rattle.fip_driver.specs.Outcome.{end_of}
 use Rattle.fip_driver.proofs.SourceEnds.{evaluated_ends, kept_ends, source_ends, fetch_ends}
 use Rattle.fip_driver.proofs.Counted.{late_counted, source_counted, fetch_counted}

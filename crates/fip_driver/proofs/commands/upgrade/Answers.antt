@@ -1,5 +1,5 @@
 use Rattle.std.proofs.Common.{◌≡◌, refl, subst}
-use Rattle.command_source.specs.Codes.{IsUpgraded}
+use Rattle.command_library.specs.command_source.Codes.{IsUpgraded}
 use Rattle.command_words.specs.Words as W
 use Rattle.command_outcome.specs.declared.failure.Failure.TheVariants.{BadCode}
 use Rattle.fip_driver.specs.Outcome.{end_of}

@@ -1,7 +1,7 @@
 use Rattle.std.proofs.Common.{refl, subst}
 use Rattle.command_words.specs.Words as W
-use Rattle.command_source.specs.Derived.{IsDerivedFile}
-use Rattle.command_source.specs.Wanted.{Lawful}
+use Rattle.command_library.specs.command_source.Derived.{IsDerivedFile}
+use Rattle.command_library.specs.command_source.Wanted.{Lawful}
 use Rattle.fip_driver.specs.Outcome.{end_of}
 use Rattle.fip_driver.proofs.SourceEnds.{derive_ends, derive_refused, source_ends, fetch_ends}
 use Rattle.fip_driver.proofs.Storing.{stored_kept, unstored}

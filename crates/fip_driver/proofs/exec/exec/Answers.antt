@@ -1,7 +1,7 @@
 use Rattle.std.proofs.Common.{refl}
 use Rattle.command_words.specs.View.{request_of}
 use Rattle.command_words.specs.Words as W
-use Rattle.command_source.specs.Wanted.{Compiled}
+use Rattle.command_library.specs.command_source.Wanted.{Compiled}
 use Rattle.fip_driver.specs.Outcome.{end_of}
 use Rattle.fip_driver.proofs.SourceEnds.{executed_ends, kept_ends, source_ends, fetch_ends}
 use Rattle.fip_driver.proofs.Counted.{late_counted, source_counted, fetch_counted}

@@ -1,10 +1,10 @@
 use Rattle.std.proofs.Common.{◌≤◌, ℕ, List, length, sym, subst}
 use Rattle.fip_language.specs.declared.limits.TheConstants.{MOST_FILE_BYTES}
 use Rattle.command_words.specs.View.{room_of}
-use Rattle.command_eval.specs.EvalAnswer.{OrNoMemory}
-use Rattle.command_run.specs.CodeRun.{RunsCode}
-use Rattle.command_run.specs.ExecAnswer.{Execs}
-use Rattle.command_run.specs.Rooms.{IsAllowed}
+use Rattle.command_library.specs.command_eval.EvalAnswer.{OrNoMemory}
+use Rattle.command_library.specs.command_run.CodeRun.{RunsCode}
+use Rattle.command_library.specs.command_run.ExecAnswer.{Execs}
+use Rattle.command_library.specs.command_run.Rooms.{IsAllowed}
 use Rattle.fip_driver.proofs.SourceEnds.{unread_says, read_says}
 use Rattle.fip_driver.proofs.exec.run_ready.Goals as goal
 

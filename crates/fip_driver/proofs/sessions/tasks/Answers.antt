@@ -2,7 +2,7 @@ use Rattle.std.proofs.Common.{refl}
 use Rattle.command_words.specs.Words as W
 use Rattle.command_words.specs.View.{room_of}
 use Rattle.fip_trees.specs.TreeView.{program}
-use Rattle.command_source.specs.Wanted.{Lawful}
+use Rattle.command_library.specs.command_source.Wanted.{Lawful}
 use Rattle.fip_driver.specs.Outcome.{end_of}
 use Rattle.fip_driver.proofs.SourceEnds.{turns_ends, kept_ends, source_ends, fetch_ends}
 use Rattle.fip_driver.proofs.Counted.{late_counted, source_counted, fetch_counted}

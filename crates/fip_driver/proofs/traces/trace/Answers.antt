@@ -1,7 +1,7 @@
 use Rattle.std.proofs.Common.{refl, subst, inl, inr}
 use Rattle.command_words.specs.Words as W
 use Rattle.command_words.specs.View.{room_of}
-use Rattle.command_source.specs.Wanted.{Compiled, IsReady}
+use Rattle.command_library.specs.command_source.Wanted.{Compiled, IsReady}
 use Rattle.fip_driver.specs.Ends.{TracesTo}
 use Rattle.fip_driver.specs.Unread.{IsTraceFile}
 use Rattle.fip_driver.specs.Outcome.{end_of}

@@ -1,7 +1,7 @@
 use Rattle.std.proofs.Common.{◌≤◌, ℕ, List, length, sym, subst}
 use Rattle.fip_language.specs.declared.limits.TheConstants.{MOST_FILE_BYTES}
 use Rattle.command_words.specs.View.{room_of}
-use Rattle.command_run.specs.Rooms.{IsAllowed}
+use Rattle.command_library.specs.command_run.Rooms.{IsAllowed}
 use Rattle.command_trace.specs.TraceAnswer.{Traces, KeptOrNoMemory}
 use Rattle.fip_driver.specs.Ends.{TracesTo}
 use Rattle.fip_driver.proofs.SourceEnds.{unread_says, read_traces, trace_made}

@@ -3,9 +3,9 @@ use Rattle.std.proofs.Common.{◌≡◌, ◌∙◌, ℕ, suc, [], None, sym, ap,
 use Rattle.std.proofs.lemmas.List.{append-nil}
 use Rattle.cell_store.specs.Made.{Stored}
 use Rattle.cell_trace.specs.Taped.{IsTape, WasTold}
-use Rattle.machine_semantics.specs.Codes.{plain}
-use Rattle.machine_semantics.specs.Steps.{next}
-use Rattle.code_verify.specs.Checked.{Checked}
+use Rattle.machine_cells.specs.machine_semantics.Codes.{plain}
+use Rattle.machine_cells.specs.machine_semantics.Steps.{next}
+use Rattle.machine_step.specs.code_verify.Checked.{Checked}
 use Rattle.machine_cells.specs.Small.{IsSmall}
 use Rattle.machine_step.specs.Coming.{Comes, KnowsAt}
 use Rattle.machine_step.specs.Telling.{IsKnown, next_tells}

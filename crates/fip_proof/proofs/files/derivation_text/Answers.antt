@@ -2,8 +2,8 @@ use Rattle.std.proofs.Common.{rules, ◌≡◌, ◌≤◌, ◌+◌, ◌∙◌, L
 use Rattle.std.proofs.lemmas.Result.{err_from_is_err_and}
 use Rattle.fip_trees.specs.TreeView as V
 use Rattle.fip_trees.specs.declared.program.Instance as A
-use Rattle.fip_rules.specs.World.{is_ruled}
-use Rattle.credit_check.proofs.Steps.{drop_item}
+use Rattle.derivation_walk.specs.fip_rules.World.{is_ruled}
+use Rattle.derivation_walk.proofs.credit_check.Steps.{drop_item}
 use Rattle.derivation_text.specs.Limited.{Limited}
 use Rattle.fip_proof.specs.Ready.{IsReady}
 use Rattle.fip_proof.proofs.Texts.{Written, nothing_written, line_more, plain_more, all_written, none_left, long_text, text_read, text_derived, one_error}

@@ -3,8 +3,8 @@ use Rattle.fip_trees.specs.TreeView as V
 use Rattle.derivation_check.specs.Accepted.{IsDerivation}
 use Rattle.derivation_trees.specs.Trees.{entries}
 use Rattle.derivation_trees.specs.declared.derivation.Derivation.{Derivation}
-use Rattle.derivation_making.specs.Made.{made_entries}
-use Rattle.derivation_making.specs.Weakening.{AllLean}
+use Rattle.derivation_agreement.specs.derivation_making.Made.{made_entries}
+use Rattle.derivation_agreement.specs.derivation_making.Weakening.{AllLean}
 use Rattle.derivation_walk.specs.Walks.{AreWalked}
 use Rattle.std.proofs.Common.{◌≡◌}
 use Rattle.fip_proof.specs.Ready.{IsReady}

@@ -2,7 +2,7 @@ use Rattle.std.proofs.Common.{◌≡◌, ◌++◌, refl, rules}
 use Rattle.std.specs.Prelude.{IfOk, codes, string_bytes}
 use Rattle.std.specs.Fmt.{decimal}
 use Rattle.std.proofs.lemmas.Result.{IfOk-weaker}
-use Rattle.command_outcome.specs.Texts.{trap_name}
+use Rattle.session_lines.specs.command_outcome.Texts.{trap_name}
 use Rattle.fip_session.proofs.Writing.{trap_ended}
 use Rattle.fip_session.proofs.reply.trap_text.Goals as goal
 

@@ -1,5 +1,5 @@
 use Rattle.std.proofs.Common.{◌≡◌, ◌-◌, refl, subst, length, map, slice_get}
-use Rattle.code_rules.specs.Codes.{plain_label}
+use Rattle.lowering_relation.specs.code_rules.Codes.{plain_label}
 use Rattle.lower_frame.specs.Labels.{stands_at}
 use Rattle.lower_frame.proofs.Labels.{told_again}
 use Rattle.lower_frame.proofs.buffer.tell.Goals as goal

@@ -1,5 +1,5 @@
 use Rattle.std.proofs.Common.{◌≡◌}
-use Rattle.code_rules.specs.Types.{numbers}
+use Rattle.lowering_relation.specs.code_rules.Types.{numbers}
 use Rattle.lower_frame.proofs.frame.all_of.Given as goal
 
 abbrev pub invariant-loop-number : goal.invariant-loop-number

@@ -5,9 +5,9 @@ use Rattle.std.specs.Int.{w64}
 use Rattle.std.proofs.lemmas.Int.{to_z-of_z}
 use mir.Val.{SFits, of_z}
 use Rattle.fip_language.specs.Matching.{same_int}
-use Rattle.machine_semantics.specs.Words.{int_of}
-use Rattle.machine_semantics.specs.Codes.{plain}
-use Rattle.machine_semantics.specs.Steps.{act}
+use Rattle.machine_frames.specs.machine_semantics.Words.{int_of}
+use Rattle.machine_frames.specs.machine_semantics.Codes.{plain}
+use Rattle.machine_frames.specs.machine_semantics.Steps.{act}
 use Rattle.machine_cells.specs.Small.{store_of}
 use Rattle.machine_step.specs.declared.rows.Stepped.TheVariants as S
 use Rattle.machine_step.specs.Placed.{body_at}

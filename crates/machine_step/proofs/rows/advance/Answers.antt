@@ -1,9 +1,9 @@
 use Rattle.std.proofs.Common.{◌≡◌, ◌∙◌, ◌++◌, map, Option, Some, refl, sym, ap, subst, length, take}
-use Rattle.machine_semantics.specs.Codes.{plain}
-use Rattle.machine_semantics.specs.States.{State}
+use Rattle.machine_frames.specs.machine_semantics.Codes.{plain}
+use Rattle.machine_frames.specs.machine_semantics.States.{State}
 use Rattle.cell_code.specs.declared.code.Instr.{Instr}
-use Rattle.machine_semantics.specs.Steps.{act, act_at, changes_at, instr_of, next}
-use Rattle.machine_semantics.specs.Traces.{done_changes}
+use Rattle.machine_frames.specs.machine_semantics.Steps.{act, act_at, changes_at, instr_of, next}
+use Rattle.machine_frames.specs.machine_semantics.Traces.{done_changes}
 use Rattle.machine_cells.specs.Telling.{as_told}
 use Rattle.machine_step.specs.Telling.{IsKnown, act_tells, next_tells}
 use Rattle.machine_cells.specs.Small.{store_of}

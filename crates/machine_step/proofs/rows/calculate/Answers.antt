@@ -4,16 +4,16 @@ use Rattle.std.specs.Int.{w64}
 use Rattle.std.proofs.lemmas.Int.{to_z-of_z}
 use mir.Val.{to_z, of_z}
 use Rattle.fip_language.specs.Arithmetic.{operate}
-use Rattle.machine_semantics.specs.Words.{int_of}
+use Rattle.machine_frames.specs.machine_semantics.Words.{int_of}
 use Rattle.machine_cells.specs.Outcomes.{Tells, truth_word}
 use Rattle.machine_step.specs.declared.rows.Stepped.TheVariants as S
 use Rattle.machine_frames.proofs.Viewed.{frame_long}
-use Rattle.machine_semantics.specs.Cells.{Store}
-use Rattle.machine_semantics.specs.States.{State}
+use Rattle.machine_frames.specs.machine_semantics.Cells.{Store}
+use Rattle.machine_frames.specs.machine_semantics.States.{State}
 use Rattle.machine_cells.specs.Small.{store_of}
 use Rattle.machine_step.specs.View.{words_of, state_of}
 use Rattle.machine_step.proofs.RowNexts.{value_next, trap_next}
-use Rattle.machine_semantics.specs.Codes.{plain}
+use Rattle.machine_frames.specs.machine_semantics.Codes.{plain}
 use Rattle.machine_step.proofs.Goings.{alone, with_more, written_there}
 use Rattle.machine_step.proofs.Helps.{signed_is, no_loop, tells_int, tells_int_not, tells_flag, tells_flag_not, tells_trap, tells_trap_not}
 use Rattle.machine_step.proofs.rows.calculate.Goals as goal

@@ -1,7 +1,7 @@
 use Rattle.std.proofs.Common.{◌∙◌, sym}
 use Rattle.std.proofs.lemmas.Option.{none-some}
 use Rattle.machine_step.proofs.Helps.{same_place}
-use Rattle.machine_semantics.specs.Trees.{tree_of}
+use Rattle.machine_frames.specs.machine_semantics.Trees.{tree_of}
 use Rattle.machine_cells.specs.Small.{store_of}
 use Rattle.machine_step.proofs.rows.drop_tree.Goals as goal
 

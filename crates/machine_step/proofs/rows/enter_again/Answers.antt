@@ -1,9 +1,9 @@
 use Rattle.std.proofs.Common.{◌≡◌, ◌+◌, ◌≤◌, ◌∙◌, refl, sym, subst, arith, length}
 use Rattle.machine_step.proofs.Stacked.{keeps_both, keeps_less, waiting_keeps}
 use Rattle.machine_step.proofs.Starting.{starts_again}
-use Rattle.machine_semantics.specs.Codes.{plain_function, plain, function_at}
-use Rattle.machine_semantics.specs.Rows.{read_all}
-use Rattle.machine_semantics.specs.Steps.{first_words}
+use Rattle.machine_frames.specs.machine_semantics.Codes.{plain_function, plain, function_at}
+use Rattle.machine_frames.specs.machine_semantics.Rows.{read_all}
+use Rattle.machine_frames.specs.machine_semantics.Steps.{first_words}
 use Rattle.machine_frames.specs.Words.{words_from}
 use Rattle.machine_frames.proofs.Viewed.{kept, frame_read}
 use Rattle.machine_step.specs.declared.rows.Stepped.TheVariants as S

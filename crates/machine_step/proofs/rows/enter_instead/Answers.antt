@@ -2,9 +2,9 @@ use Rattle.std.proofs.Common.{◌≡◌, ◌+◌, ◌≤◌, ◌∙◌, refl, sy
 use Rattle.std.specs.Prelude.{slice_get}
 use Rattle.machine_step.specs.Placed.{Waiting}
 use Rattle.machine_step.proofs.Stacked.{keeps_both, keeps_less, waiting_keeps}
-use Rattle.machine_semantics.specs.Codes.{plain_function, plain, function_at}
-use Rattle.machine_semantics.specs.Rows.{read_all}
-use Rattle.machine_semantics.specs.Steps.{first_words}
+use Rattle.machine_frames.specs.machine_semantics.Codes.{plain_function, plain, function_at}
+use Rattle.machine_frames.specs.machine_semantics.Rows.{read_all}
+use Rattle.machine_frames.specs.machine_semantics.Steps.{first_words}
 use Rattle.std.proofs.lemmas.Option.{same_Some}
 use Rattle.cell_code.specs.declared.code.Function.{Function}
 use Rattle.machine_frames.specs.View.{frame_at}

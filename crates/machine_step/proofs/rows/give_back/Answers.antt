@@ -5,8 +5,8 @@ use Rattle.cell_code.specs.Runnable.{Body, IsSafe}
 use Rattle.cell_code.proofs.Following.{safe_here}
 use Rattle.machine_step.proofs.Stacked.{waiting_keeps}
 use Rattle.std.specs.Prelude.{slice_get}
-use Rattle.machine_semantics.specs.Codes.{plain, instr_in}
-use Rattle.machine_semantics.specs.Rows.{read_all}
+use Rattle.machine_frames.specs.machine_semantics.Codes.{plain, instr_in}
+use Rattle.machine_frames.specs.machine_semantics.Rows.{read_all}
 use Rattle.machine_frames.specs.View.{registers_of, frame_at, waiting_in}
 use Rattle.machine_frames.specs.Words.{words_from, put_words}
 use Rattle.machine_frames.proofs.Laid.{words_long}
@@ -14,7 +14,7 @@ use Rattle.machine_frames.proofs.Viewed.{kept, frame_read, frame_write}
 use Rattle.std.proofs.lemmas.Option.{same_Some}
 use Rattle.machine_step.specs.declared.rows.Stepped.TheVariants as S
 use Rattle.machine_step.specs.View.{words_of, state_of}
-use Rattle.machine_semantics.specs.States.{Frame}
+use Rattle.machine_frames.specs.machine_semantics.States.{Frame}
 use Rattle.cell_code.specs.declared.code.Instr.TheVariants as I
 use Rattle.machine_step.proofs.Calls.{plain_at, registers_is, gave_is, resumed_is, waiting_is, resumed_to, written_long}
 use Rattle.machine_step.proofs.rows.give_back.Goals as goal

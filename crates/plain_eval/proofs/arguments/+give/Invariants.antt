@@ -1,5 +1,5 @@
 use Rattle.std.proofs.Common.{List, drop}
-use Rattle.fip_language.specs.Meaning.{Environment}
+use Rattle.fip_trees.specs.fip_language.Meaning.{Environment}
 use Rattle.fip_trees.specs.TreeView.{arguments}
 use Rattle.instance_semantics.specs.Meaning.{argument_values}
 use Rattle.plain_rows.specs.declared.store.Value.{Value}

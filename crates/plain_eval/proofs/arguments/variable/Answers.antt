@@ -1,5 +1,5 @@
 use Rattle.std.proofs.Common.{sym, ap, ◌∙◌}
-use Rattle.fip_language.specs.Meaning.{binder_value}
+use Rattle.fip_trees.specs.fip_language.Meaning.{binder_value}
 use Rattle.plain_eval.proofs.arguments.variable.Goals as goal
 
 pub returns-in-Some : goal.returns-in-Some

@@ -1,6 +1,6 @@
 use Rattle.std.proofs.Common.{◌≤◌}
-use Rattle.fip_language.specs.Values.{Values}
-use Rattle.fip_language.specs.Meaning.{Environment}
+use Rattle.fip_trees.specs.fip_language.Values.{Values}
+use Rattle.fip_trees.specs.fip_language.Meaning.{Environment}
 use Rattle.plain_rows.specs.declared.store.Store.{Store}
 use Rattle.plain_rows.specs.Rows.{StandAll}
 use Rattle.plain_eval.specs.Slots.{CoversNow, KeepsAll}

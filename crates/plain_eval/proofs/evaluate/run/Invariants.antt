@@ -1,5 +1,5 @@
 use Rattle.std.proofs.Common.{◌≡◌, ◌≢◌}
-use Rattle.fip_language.specs.Meaning.{Answer, Stuck}
+use Rattle.fip_trees.specs.fip_language.Meaning.{Answer, Stuck}
 use Rattle.fip_trees.specs.Tree as T
 use Rattle.fip_trees.specs.TreeView.{instances}
 use Rattle.plain_eval.specs.Machine.{LeadsIn, Reaches, work, step_size}

@@ -1,7 +1,7 @@
 use Rattle.std.proofs.Common.{◌≤◌, ◌∷◌, Option, drop}
 use Rattle.std.specs.Borrow.{Bor}
-use Rattle.fip_language.specs.Values.{Value as Tree}
-use Rattle.fip_language.specs.Meaning.{Environment}
+use Rattle.fip_trees.specs.fip_language.Values.{Value as Tree}
+use Rattle.fip_trees.specs.fip_language.Meaning.{Environment}
 use Rattle.fip_trees.specs.declared.program.Block.{Block}
 use Rattle.fip_trees.specs.TreeView.{clauses}
 use Rattle.plain_rows.specs.Rows.{Stands}

@@ -1,5 +1,5 @@
 use Rattle.std.proofs.Common.{◌≡◌, ◌==◌, ap, subst}
-use Rattle.fip_language.specs.Values.{Node}
+use Rattle.fip_trees.specs.fip_language.Values.{Node}
 use Rattle.plain_rows.specs.Rows.{Stands}
 use Rattle.plain_eval.proofs.Choosing.{row_fields}
 use Rattle.plain_eval.proofs.patterns.is_tagged.Goals as goal

@@ -1,5 +1,5 @@
 use Rattle.std.proofs.Common.{arith, ap, ◌∙◌, subst, [], ◌∷◌, ◌++◌, List}
-use Rattle.fip_language.specs.Store.{value_of}
+use Rattle.fip_base.specs.fip_language.Store.{value_of}
 use Rattle.plain_rows.specs.declared.load.Task.{Task}
 use Rattle.plain_rows.specs.declared.load.Task.TheVariants as T
 use Rattle.plain_rows.specs.Loading.{last_first, Loads}

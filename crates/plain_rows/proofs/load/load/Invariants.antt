@@ -1,6 +1,6 @@
 use Rattle.std.proofs.Common.{◌≡◌, ◌+◌, ◌-◌, ◌^◌, ◌≤◌, ◌∷◌, ◌++◌, List, [], length, vec_len}
-use Rattle.fip_language.specs.Values.{Value as Tree}
-use Rattle.fip_language.specs.Store.{Placed, value_of, word_of}
+use Rattle.fip_base.specs.fip_language.Values.{Value as Tree}
+use Rattle.fip_base.specs.fip_language.Store.{Placed, value_of, word_of}
 use Rattle.value_text.specs.Standing.{Stands as CellStands}
 use Rattle.plain_rows.specs.Loading.{Loads, last_first, made_so_far}
 use Rattle.plain_rows.proofs.load.load.Given as goal

@@ -3,7 +3,7 @@ use Rattle.std.specs.Prelude.{OnOk, ℤ}
 use Rattle.std.specs.Int.{w64}
 use Rattle.std.proofs.lemmas.Int.{to_z-of_z}
 use Rattle.plain_rows.specs.declared.store.Value.TheVariants as V
-use Rattle.fip_language.specs.Values.{Value as Tree}
+use Rattle.fip_base.specs.fip_language.Values.{Value as Tree}
 use Rattle.plain_rows.specs.declared.load.Task.{Task}
 use Rattle.plain_rows.specs.Loading.{last_first, Loads}
 use Rattle.plain_rows.proofs.Loaded.{IsOf, leaf_result, int_is}

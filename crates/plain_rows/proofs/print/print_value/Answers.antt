@@ -1,5 +1,5 @@
 use Rattle.std.proofs.Common.{arith, refl, sym, ap, ◌∙◌, subst, ◌∷◌, ◌++◌, List}
-use Rattle.fip_language.specs.PrintedText.{printed}
+use Rattle.fip_base.specs.fip_language.PrintedText.{printed}
 use Rattle.plain_rows.specs.declared.print.Task.{Task}
 use Rattle.plain_rows.specs.declared.print.Task.TheVariants as T
 use Rattle.plain_rows.specs.Printing.{last_first, Prints, Printing}

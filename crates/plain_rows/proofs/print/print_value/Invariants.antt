@@ -1,7 +1,7 @@
 use Rattle.std.proofs.Common.{◌+◌, ◌-◌, ◌*◌, ◌^◌, ◌++◌, ℕ, List, vec_len}
-use Rattle.fip_language.specs.Values.{Value as Tree}
-use Rattle.fip_language.specs.Table.{HasType}
-use Rattle.fip_language.specs.PrintedText.{printed}
+use Rattle.fip_base.specs.fip_language.Values.{Value as Tree}
+use Rattle.fip_base.specs.fip_language.Table.{HasType}
+use Rattle.fip_base.specs.fip_language.PrintedText.{printed}
 use Rattle.plain_rows.specs.Rows.{Stands}
 use Rattle.plain_rows.specs.Printing.{last_first, Printing}
 use Rattle.plain_rows.proofs.print.print_value.Given as goal

@@ -1,6 +1,6 @@
 use Rattle.std.proofs.Common.{◌++◌, ap, sym, ◌∙◌, subst}
-use Rattle.fip_language.specs.Table.{HaveTypes}
-use Rattle.fip_language.specs.PrintedText.{printed_lines}
+use Rattle.fip_base.specs.fip_language.Table.{HaveTypes}
+use Rattle.fip_base.specs.fip_language.PrintedText.{printed_lines}
 use Rattle.plain_rows.specs.Rows.{StandAll}
 use Rattle.plain_rows.proofs.Standing.{sides}
 use Rattle.plain_rows.proofs.Printed.{lines_first, lines_end}

@@ -1,7 +1,7 @@
 use Rattle.std.proofs.Common.{◌≡◌, ◌++◌}
-use Rattle.fip_language.specs.Values.{Values}
-use Rattle.fip_language.specs.Table.{HaveTypes}
-use Rattle.fip_language.specs.PrintedText.{printed_lines}
+use Rattle.fip_base.specs.fip_language.Values.{Values}
+use Rattle.fip_base.specs.fip_language.Table.{HaveTypes}
+use Rattle.fip_base.specs.fip_language.PrintedText.{printed_lines}
 use Rattle.plain_rows.specs.Rows.{AreRows, StandAll}
 use Rattle.plain_rows.proofs.print.print_values.Given as goal
 

@@ -1,5 +1,5 @@
 use Rattle.std.proofs.Common.{◌+◌, ◌<◌, drop}
-use Rattle.fip_language.specs.Every.{Every}
+use Rattle.fip_base.specs.fip_language.Every.{Every}
 use Rattle.reached_instances.proofs.closed.are_below.Given as goal
 
 abbrev pub invariant-loop-place : goal.invariant-loop-place

@@ -1,5 +1,5 @@
 use Rattle.std.proofs.Common.{◌≡◌, ◌≤◌, ◌++◌, length, drop, take}
-use Rattle.fip_language.specs.Core as C
+use Rattle.fip_base.specs.fip_language.Core as C
 use Rattle.reached_instances.specs.Instances.{place_of, put_in_order}
 use Rattle.reached_instances.proofs.Ordering.{backwards}
 use Rattle.reached_instances.proofs.mentions.site_place.Given as goal

@@ -1,5 +1,5 @@
 use Rattle.std.proofs.Common.{◌≡◌, ◌++◌, drop, map}
-use Rattle.fip_language.specs.Core as F
+use Rattle.fip_base.specs.fip_language.Core as F
 use Rattle.fip_base.specs.CoreView as V
 use Rattle.reached_instances.proofs.source.add_signature_parameters.Given as goal
 

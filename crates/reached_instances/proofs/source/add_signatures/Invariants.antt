@@ -1,5 +1,5 @@
 use Rattle.std.proofs.Common.{◌≡◌, ◌++◌, drop, map}
-use Rattle.fip_language.specs.Mentions.{all_of}
+use Rattle.fip_base.specs.fip_language.Mentions.{all_of}
 use Rattle.fip_base.specs.CoreView as V
 use Rattle.reached_instances.specs.TypeInstances.{written_in_static}
 use Rattle.reached_instances.proofs.source.add_signatures.Given as goal

@@ -1,5 +1,5 @@
 use Rattle.std.proofs.Common.{◌≡◌, ◌++◌, drop, map}
-use Rattle.fip_language.specs.Every.{Every}
+use Rattle.fip_base.specs.fip_language.Every.{Every}
 use Rattle.fip_base.specs.CoreView.{function}
 use Rattle.reached_instances.specs.SourceView.{IsFunctionRight, function_source}
 use Rattle.reached_instances.proofs.source.functions_of.Given as goal

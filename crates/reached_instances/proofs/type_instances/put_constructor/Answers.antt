@@ -1,5 +1,5 @@
 use Rattle.std.proofs.Common.{◌∙◌, ℕ, List, [], map, ap, sym, subst}
-use Rattle.fip_language.specs.Mentions.{all_of}
+use Rattle.fip_base.specs.fip_language.Mentions.{all_of}
 use Rattle.fip_trees.specs.declared.decls.FieldType.{FieldType}
 use Rattle.reached_instances.specs.SharedTrees.{AreWithin, all_at, trees, trees_at}
 use Rattle.reached_instances.specs.SourceView.{ty}

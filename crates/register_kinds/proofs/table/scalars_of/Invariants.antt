@@ -1,6 +1,6 @@
 use Rattle.std.proofs.Common.{◌≡◌, ℕ, ◌+◌, ◌<◌, length, slice_get}
 use Rattle.std.specs.Prelude.{Some}
-use Rattle.fip_language.specs.Table.{is_scalar}
+use Rattle.cell_code.specs.fip_language.Table.{is_scalar}
 use Rattle.register_kinds.proofs.table.scalars_of.Given as goal
 
 abbrev pub invariant-loop-place : goal.invariant-loop-place

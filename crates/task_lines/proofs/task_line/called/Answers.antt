@@ -5,7 +5,7 @@ use Rattle.std.specs.declared.vec.Vec.{Vec}
 use Rattle.std.proofs.Common.{ℕ}
 use Rattle.fip_base.specs.declared.plain.Param.{Param}
 use Rattle.fip_language.specs.Store.{count}
-use Rattle.session_semantics.specs.Lines.{Open}
+use Rattle.session_lines.specs.session_semantics.Lines.{Open}
 use Rattle.value_text.specs.Loaded.{types_of, AreCredits}
 use Rattle.session_lines.specs.Scanned.{left}
 use Rattle.session_lines.proofs.Tokens.{sign_open}

@@ -1,7 +1,7 @@
 use Rattle.std.proofs.Common.{◌≡◌, ◌∙◌, ◌<◌, ◌≤◌, ◌∷◌, ℕ, length, get_or, sym, ap, subst, arith}
 use Rattle.std.specs.Prelude.{Ok, IfSome, false}
 use Rattle.fip_base.specs.declared.plain.Param.{Param}
-use Rattle.session_semantics.specs.Lines.{Close}
+use Rattle.session_lines.specs.session_semantics.Lines.{Close}
 use Rattle.value_text.specs.Loaded.{types_of}
 use Rattle.session_lines.proofs.Tokens.{sign_close}
 use Rattle.task_lines.proofs.Arguments.{IsReadTo, reading_starts, reading_on, reading_ends, never_closed, never_next}

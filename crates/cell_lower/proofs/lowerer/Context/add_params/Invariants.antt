@@ -1,5 +1,5 @@
 use Rattle.std.proofs.Common.{◌≡◌, drop}
-use Rattle.lowering_relation.specs.LoweredFunctions.{with_params}
+use Rattle.lower_frame.specs.lowering_relation.LoweredFunctions.{with_params}
 use Rattle.cell_lower.specs.LaidProgram.{IsInRoom}
 use Rattle.cell_lower.specs.Writing.{setting}
 use Rattle.cell_lower.proofs.lowerer.Context.add_params.Given as goal

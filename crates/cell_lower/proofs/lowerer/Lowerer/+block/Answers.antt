@@ -5,8 +5,8 @@ use Rattle.fip_trees.specs.declared.program.Binding.{out-Binding}
 use Rattle.fip_trees.specs.declared.program.Clause.{out-Clause}
 use Rattle.fip_trees.specs.declared.program.Expression.{the_lemmas}
 use Rattle.fip_trees.specs.TreeView.{arguments, binding, block, clause, clauses, expression}
-use Rattle.lowering_relation.specs.LoweredBodies.{with_names}
-use Rattle.lowering_relation.specs.WellMatched.{WellMatched}
+use Rattle.lower_frame.specs.lowering_relation.LoweredBodies.{with_names}
+use Rattle.lower_frame.specs.lowering_relation.WellMatched.{WellMatched}
 use Rattle.cell_lower.specs.declared.lowerer.Context.{Context}
 use Rattle.cell_lower.specs.declared.lowerer.Walk.{Walk}
 use Rattle.cell_lower.specs.Bodies.{span, span_block, span_clauses, Asked, AskedBlock, Lays, LaysBlock, LaysLet}

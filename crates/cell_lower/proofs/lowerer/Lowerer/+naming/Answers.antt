@@ -1,8 +1,8 @@
 use Rattle.std.proofs.Common.{rules, subst, sym, ap, ◌∙◌, ◌+◌, arith}
 use Rattle.fip_trees.specs.TreeView.{pattern}
-use Rattle.lowering_relation.specs.Spots as S
-use Rattle.lowering_relation.specs.Opening.{names_any, naming}
-use Rattle.lowering_relation.specs.Reading.{read_one}
+use Rattle.lower_frame.specs.lowering_relation.Spots as S
+use Rattle.lower_frame.specs.lowering_relation.Opening.{names_any, naming}
+use Rattle.lower_frame.specs.lowering_relation.Reading.{read_one}
 use Rattle.lower_frame.specs.Positions.{spot_of}
 use Rattle.cell_lower.specs.Scenes.{AtSpot, naming_part, reading_of}
 use Rattle.cell_lower.proofs.Folding.{read_next, item, if_true, if_false, field_there, read_is}

@@ -1,7 +1,7 @@
 use Rattle.std.proofs.Common.{◌≡◌, drop}
 use Rattle.fip_trees.specs.TreeView.{patterns}
-use Rattle.lowering_relation.specs.Spots as S
-use Rattle.lowering_relation.specs.Opening.{naming_all}
+use Rattle.lower_frame.specs.lowering_relation.Spots as S
+use Rattle.lower_frame.specs.lowering_relation.Opening.{naming_all}
 use Rattle.lower_frame.specs.Positions.{spot_of, past}
 use Rattle.cell_lower.specs.Scenes.{reading_of}
 use Rattle.cell_lower.proofs.lowerer.Lowerer.+naming.Given as goal

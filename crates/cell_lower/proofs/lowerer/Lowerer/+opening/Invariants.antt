@@ -1,6 +1,6 @@
 use Rattle.std.proofs.Common.{◌≡◌, drop}
 use Rattle.fip_trees.specs.TreeView.{patterns}
-use Rattle.lowering_relation.specs.Entering.{entering_all}
+use Rattle.lower_frame.specs.lowering_relation.Entering.{entering_all}
 use Rattle.lower_frame.specs.Positions.{spots_of, past}
 use Rattle.cell_lower.specs.Writing.{setting}
 use Rattle.cell_lower.proofs.lowerer.Lowerer.+opening.Given as goal

@@ -3,8 +3,8 @@ use Rattle.std.specs.declared.vec.Vec.{Vec}
 use Rattle.std.specs.declared.alloc.Global.{Global}
 use Rattle.cell_code.specs.declared.kind.Kind.{Kind}
 use Rattle.match_knowledge.specs.View.{known, knowns}
-use Rattle.lowering_relation.specs.Spots as S
-use Rattle.lowering_relation.specs.Reading.{contains}
+use Rattle.lower_frame.specs.lowering_relation.Spots as S
+use Rattle.lower_frame.specs.lowering_relation.Reading.{contains}
 use Rattle.lower_frame.specs.Positions.{spot_of, spot_at, past}
 use Rattle.cell_lower.specs.Overlays.{overlaid_all, field_overlaid, part_told}
 use Rattle.cell_lower.specs.Writing.{setting}

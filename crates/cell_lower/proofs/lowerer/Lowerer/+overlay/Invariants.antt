@@ -1,6 +1,6 @@
 use Rattle.std.proofs.Common.{◌≡◌, drop}
 use Rattle.match_knowledge.specs.View.{knowns}
-use Rattle.lowering_relation.specs.Spots as S
+use Rattle.lower_frame.specs.lowering_relation.Spots as S
 use Rattle.lower_frame.specs.Positions.{spot_of, past}
 use Rattle.cell_lower.specs.Overlays.{overlaid_all}
 use Rattle.cell_lower.specs.Writing.{setting}

@@ -1,7 +1,7 @@
 use Rattle.std.proofs.Common.{◌≡◌, subst, sym, ap, ◌∙◌, Some, slice_get}
 use Rattle.match_knowledge.specs.View.{row, known, parts, knowns}
 use Rattle.match_knowledge.specs.Patterns as M
-use Rattle.lowering_relation.specs.Reading.{asked, reading}
+use Rattle.lower_frame.specs.lowering_relation.Reading.{asked, reading}
 use Rattle.lower_frame.specs.Positions.{spot_of}
 use Rattle.cell_lower.specs.Scenes.{asked_of, asking, reading_of}
 use Rattle.cell_lower.proofs.Folding.{asked_in, reading_in, field_there, read_is, row_test, known_is}

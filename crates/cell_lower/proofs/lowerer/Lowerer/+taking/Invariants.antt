@@ -1,6 +1,6 @@
 use Rattle.std.proofs.Common.{◌≡◌, drop}
 use Rattle.fip_trees.specs.TreeView.{patterns}
-use Rattle.lowering_relation.specs.Opening.{taking_all}
+use Rattle.lower_frame.specs.lowering_relation.Opening.{taking_all}
 use Rattle.lower_frame.specs.Positions.{spots_of, past}
 use Rattle.cell_lower.proofs.lowerer.Lowerer.+taking.Given as goal
 

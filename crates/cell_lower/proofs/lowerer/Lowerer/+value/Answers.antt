@@ -1,6 +1,6 @@
 use Rattle.std.proofs.Common.{rules, ◌≡◌, subst, sym, ap, ◌∙◌, ◌+◌, arith, to_z, of_z, w64}
 use Rattle.cell_code.specs.declared.code.Instr.TheVariants as I
-use Rattle.lowering_relation.specs.Written.{added}
+use Rattle.lower_frame.specs.lowering_relation.Written.{added}
 use Rattle.fip_trees.proofs.TreeViews.{argument_constructor}
 use Rattle.std.specs.Borrow.{Bor}
 use Rattle.cell_lower.specs.declared.lowerer.Context.{Context}

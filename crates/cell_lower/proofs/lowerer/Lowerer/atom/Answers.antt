@@ -1,8 +1,8 @@
 use Rattle.std.proofs.Common.{refl, ◌≡◌, sym, ap, ◌∙◌, subst}
 use Rattle.cell_code.specs.declared.code.Instr.TheVariants as I
-use Rattle.lowering_relation.specs.Known.{Known, holding, with_next, with_used}
-use Rattle.lowering_relation.specs.Values.{built}
-use Rattle.lowering_relation.specs.Written.{added}
+use Rattle.lower_frame.specs.lowering_relation.Known.{Known, holding, with_next, with_used}
+use Rattle.lower_frame.specs.lowering_relation.Values.{built}
+use Rattle.lower_frame.specs.lowering_relation.Written.{added}
 use Rattle.lower_frame.specs.Registers.{HasRoom}
 use Rattle.cell_lower.specs.Writing.{setting}
 use Rattle.cell_lower.proofs.Writing.{builds_atom, builds_reused}

@@ -1,8 +1,8 @@
 use Rattle.std.proofs.Common.{subst, ap, ◌∙◌}
 use Rattle.std.specs.Borrow.{Bor}
 use Rattle.fip_trees.specs.TreeView.{instance_of}
-use Rattle.lowering_relation.specs.Known.{using}
-use Rattle.lowering_relation.specs.LoweredBodies.{handed}
+use Rattle.lower_frame.specs.lowering_relation.Known.{using}
+use Rattle.lower_frame.specs.lowering_relation.LoweredBodies.{handed}
 use Rattle.cell_lower.specs.declared.lowerer.Context.{Context}
 use Rattle.cell_lower.specs.Writing.{setting, target_of, TakesAll, EndsCall}
 use Rattle.cell_lower.proofs.Calling.{calls_at}

@@ -1,8 +1,8 @@
 use Rattle.std.proofs.Common.{refl, sym, ap, subst, ◌∙◌, ◌+◌, ◌++◌, [], ◌∷◌, arith}
 use Rattle.fip_trees.specs.TreeView.{Case, clause, clauses}
 use Rattle.fip_trees.proofs.TreeViews.{clause_is}
-use Rattle.lowering_relation.proofs.Placing.{extends_on}
-use Rattle.lowering_relation.proofs.Choices.{patterns_in}
+use Rattle.lower_frame.proofs.lowering_relation.Placing.{extends_on}
+use Rattle.lower_frame.proofs.lowering_relation.Choices.{patterns_in}
 use Rattle.cell_lower.specs.Clauses.{AddsPattern}
 use Rattle.cell_lower.proofs.Folding.{item}
 use Rattle.lower_frame.proofs.Growing.{reached_on, room_on}

@@ -1,13 +1,13 @@
 use Rattle.std.proofs.Common.{◌≡◌, drop, ◌+◌, ◌++◌, ◌∷◌, ◌&&◌, not, length}
 use Rattle.fip_trees.specs.TreeView as V
-use Rattle.lowering_relation.specs.Written.{Extends, size}
-use Rattle.lowering_relation.proofs.Choices.{patterns_in}
+use Rattle.lower_frame.specs.lowering_relation.Written.{Extends, size}
+use Rattle.lower_frame.proofs.lowering_relation.Choices.{patterns_in}
 use Rattle.lower_frame.specs.Registers.{HasRoom}
 use Rattle.lower_frame.specs.Labels.{labels}
 use Rattle.lower_frame.specs.Positions.{reaching}
 use Rattle.cell_lower.specs.Scenes.{patterns_of}
 use Rattle.cell_lower.specs.Clauses.{HasPositions}
-use Rattle.lowering_relation.specs.Values.{is_scalar}
+use Rattle.lower_frame.specs.lowering_relation.Values.{is_scalar}
 use Rattle.cell_lower.specs.Writing.{setting}
 use Rattle.cell_lower.proofs.lowerer.Lowerer.choice_of.Given as goal
 

@@ -2,7 +2,7 @@ use Rattle.std.proofs.Common.{refl, subst, ◌∙◌}
 use Rattle.std.specs.Borrow.{Bor}
 use Rattle.cell_lower.specs.declared.lowerer.Context.{Context}
 use Rattle.cell_lower.specs.Scenes.{sides_of, ChoosesIf}
-use Rattle.lowering_relation.specs.Known.{Known}
+use Rattle.lower_frame.specs.lowering_relation.Known.{Known}
 use Rattle.cell_lower.specs.Chosen.{ChoosesLaid}
 use Rattle.cell_lower.specs.Writing.{setting}
 use Rattle.cell_lower.proofs.Sided.{laid_start, laid_next, laid_end}

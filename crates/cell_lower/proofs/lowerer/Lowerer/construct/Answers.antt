@@ -1,8 +1,8 @@
 use Rattle.std.proofs.Common.{rules, ◌≡◌, ap, ◌∙◌, arith, length, Some}
 use Rattle.cell_code.specs.declared.code.Instr.TheVariants as I
-use Rattle.lowering_relation.specs.declared.held.Held.TheVariants as H
-use Rattle.lowering_relation.specs.Known.{holding}
-use Rattle.lowering_relation.specs.Written.{added}
+use Rattle.lower_frame.specs.lowering_relation.declared.held.Held.TheVariants as H
+use Rattle.lower_frame.specs.lowering_relation.Known.{holding}
+use Rattle.lower_frame.specs.lowering_relation.Written.{added}
 use Rattle.lower_frame.specs.Frames.{Takes}
 use Rattle.cell_lower.specs.Writing.{setting}
 use Rattle.cell_lower.proofs.Folding.{nonempty}

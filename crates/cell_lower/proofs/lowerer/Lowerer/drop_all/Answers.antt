@@ -1,5 +1,5 @@
 use Rattle.std.proofs.Common.{◌∙◌}
-use Rattle.lowering_relation.proofs.Placing.{gives_up_on}
+use Rattle.lower_frame.proofs.lowering_relation.Placing.{gives_up_on}
 use Rattle.lower_frame.proofs.Losing.{loses_on}
 use Rattle.cell_lower.proofs.Shedding.{sheds_on}
 use Rattle.cell_lower.proofs.Laying.{laid_on}

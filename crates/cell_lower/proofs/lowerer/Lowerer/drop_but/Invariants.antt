@@ -1,6 +1,6 @@
 use Rattle.std.proofs.Common.{◌≡◌}
-use Rattle.lowering_relation.specs.Losing.{Loses}
-use Rattle.lowering_relation.specs.Written.{GivesUp}
+use Rattle.lower_frame.specs.lowering_relation.Losing.{Loses}
+use Rattle.lower_frame.specs.lowering_relation.Written.{GivesUp}
 use Rattle.std.proofs.Common.{false}
 use Rattle.cell_lower.specs.Growth.{Sheds}
 use Rattle.cell_lower.specs.Laying.{GivesUpLaid}

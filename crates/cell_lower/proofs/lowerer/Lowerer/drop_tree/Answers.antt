@@ -1,5 +1,5 @@
 use Rattle.std.proofs.Common.{sym, ap, ◌∙◌}
-use Rattle.lowering_relation.specs.Known.{Known}
+use Rattle.lower_frame.specs.lowering_relation.Known.{Known}
 use Rattle.lower_frame.proofs.Accounts.{tree_gone}
 use Rattle.lower_frame.proofs.Losing.{loses_used}
 use Rattle.cell_lower.proofs.Laying.{laid_drop}

@@ -1,8 +1,8 @@
 use Rattle.std.proofs.Common.{rules, ◌≡◌, subst, sym, ap, ◌∙◌}
 use Rattle.cell_code.specs.declared.code.Instr.TheVariants as I
-use Rattle.lowering_relation.specs.Known.{using}
-use Rattle.lowering_relation.specs.LoweredBodies.{received}
-use Rattle.lowering_relation.specs.Written.{added}
+use Rattle.lower_frame.specs.lowering_relation.Known.{using}
+use Rattle.lower_frame.specs.lowering_relation.LoweredBodies.{received}
+use Rattle.lower_frame.specs.lowering_relation.Written.{added}
 use Rattle.cell_lower.specs.Writing.{setting, target_of, EndsCall}
 use Rattle.cell_lower.proofs.Calling.{ends_tail, ends_call}
 use Rattle.std.proofs.Common.{not}

@@ -1,8 +1,8 @@
 use Rattle.std.proofs.Common.{sym, ap, ◌∙◌}
 use Rattle.cell_code.specs.declared.code.Instr.TheVariants as I
-use Rattle.lowering_relation.specs.Written.{added}
+use Rattle.lower_frame.specs.lowering_relation.Written.{added}
 use Rattle.cell_lower.proofs.Shedding.{sheds_take}
-use Rattle.lowering_relation.specs.Known.{Known}
+use Rattle.lower_frame.specs.lowering_relation.Known.{Known}
 use Rattle.lower_frame.proofs.Accounts.{bare_gone}
 use Rattle.cell_lower.proofs.Laying.{laid_take}
 use Rattle.cell_lower.proofs.lowerer.Lowerer.end_one.Goals as goal

@@ -1,6 +1,6 @@
 use Rattle.std.proofs.Common.{subst, sym, ap, ◌∙◌}
 use Rattle.cell_code.specs.declared.code.Instr.TheVariants as I
-use Rattle.lowering_relation.specs.Written.{added, GivesUp}
+use Rattle.lower_frame.specs.lowering_relation.Written.{added, GivesUp}
 use Rattle.cell_lower.specs.Growth.{Sheds}
 use Rattle.cell_lower.specs.Writing.{target_of, Gives}
 use Rattle.cell_lower.proofs.Writing.{gives_into, gives_return}

@@ -1,9 +1,9 @@
 use Rattle.std.proofs.Common.{subst, sym, ap, ◌∙◌}
 use Rattle.cell_code.specs.declared.code.Instr.TheVariants as I
-use Rattle.lowering_relation.specs.declared.held.Held.TheVariants as H
-use Rattle.lowering_relation.specs.Known.{holding}
-use Rattle.lowering_relation.specs.LoweredBodies.{GoesTo, result_type}
-use Rattle.lowering_relation.specs.Written.{added}
+use Rattle.lower_frame.specs.lowering_relation.declared.held.Held.TheVariants as H
+use Rattle.lower_frame.specs.lowering_relation.Known.{holding}
+use Rattle.lower_frame.specs.lowering_relation.LoweredBodies.{GoesTo, result_type}
+use Rattle.lower_frame.specs.lowering_relation.Written.{added}
 use Rattle.cell_lower.specs.Writing.{target_of}
 use Rattle.cell_lower.proofs.Calling.{operates}
 use Rattle.std.proofs.Common.{not, [], ◌∷◌}

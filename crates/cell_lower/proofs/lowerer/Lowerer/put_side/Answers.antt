@@ -2,7 +2,7 @@ use Rattle.std.proofs.Common.{subst, sym, ap, ◌∙◌, length}
 use Rattle.match_knowledge.specs.View.{known}
 use Rattle.lower_frame.specs.Labels.{telling}
 use Rattle.lower_frame.specs.Positions.{spot_of}
-use Rattle.lowering_relation.specs.Written.{size}
+use Rattle.lower_frame.specs.lowering_relation.Written.{size}
 use Rattle.cell_lower.specs.Overlays.{failed_told}
 use Rattle.cell_lower.specs.Scenes.{PlacesSide}
 use Rattle.cell_lower.specs.Writing.{setting}

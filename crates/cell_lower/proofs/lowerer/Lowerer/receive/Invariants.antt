@@ -1,6 +1,6 @@
 use Rattle.std.proofs.Common.{◌≡◌, drop}
-use Rattle.lowering_relation.specs.Known.{using}
-use Rattle.lowering_relation.specs.LoweredBodies.{received}
+use Rattle.lower_frame.specs.lowering_relation.Known.{using}
+use Rattle.lower_frame.specs.lowering_relation.LoweredBodies.{received}
 use Rattle.cell_lower.specs.Writing.{setting}
 use Rattle.cell_lower.proofs.lowerer.Lowerer.receive.Given as goal
 

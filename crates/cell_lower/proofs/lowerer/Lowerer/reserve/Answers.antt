@@ -1,6 +1,6 @@
 use Rattle.std.proofs.Common.{ap, ◌∙◌, ◌+◌, arith}
-use Rattle.lowering_relation.specs.Known.{Known}
-use Rattle.lowering_relation.specs.LoweredBodies.{registers_for}
+use Rattle.lower_frame.specs.lowering_relation.Known.{Known}
+use Rattle.lower_frame.specs.lowering_relation.LoweredBodies.{registers_for}
 use Rattle.cell_lower.proofs.Blocks.{reserved_next, reserved_to}
 use Rattle.lower_frame.proofs.Growing.{reached_on, reached_used, room_on}
 use Rattle.cell_lower.proofs.lowerer.Lowerer.reserve.Goals as goal

@@ -1,5 +1,5 @@
 use Rattle.std.proofs.Common.{◌≡◌, drop, ◌++◌}
-use Rattle.lowering_relation.specs.LoweredBodies.{registers_for, reserved}
+use Rattle.lower_frame.specs.lowering_relation.LoweredBodies.{registers_for, reserved}
 use Rattle.lower_frame.specs.Positions.{reaching}
 use Rattle.lower_frame.specs.Registers.{HasRoom}
 use Rattle.cell_lower.proofs.lowerer.Lowerer.reserve.Given as goal

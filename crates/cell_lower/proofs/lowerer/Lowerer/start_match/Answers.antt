@@ -1,13 +1,13 @@
 use Rattle.std.proofs.Common.{◌≡◌, sym, ap, subst, ◌∙◌, length, arith, not, ◌&&◌}
 use Rattle.std.specs.Borrow.{Bor}
 use Rattle.fip_trees.specs.TreeView.{argument, clause, clauses}
-use Rattle.lowering_relation.specs.Known.{Known}
-use Rattle.lowering_relation.specs.Losing.{Loses}
-use Rattle.lowering_relation.specs.Written.{size}
-use Rattle.lowering_relation.proofs.Placing.{extends_on}
+use Rattle.lower_frame.specs.lowering_relation.Known.{Known}
+use Rattle.lower_frame.specs.lowering_relation.Losing.{Loses}
+use Rattle.lower_frame.specs.lowering_relation.Written.{size}
+use Rattle.lower_frame.proofs.lowering_relation.Placing.{extends_on}
 use Rattle.cell_lower.specs.Clauses.{HasPositions}
 use Rattle.lower_frame.specs.Registers.{registers, HasRoom}
-use Rattle.lowering_relation.specs.Values.{is_scalar}
+use Rattle.lower_frame.specs.lowering_relation.Values.{is_scalar}
 use Rattle.cell_lower.specs.declared.lowerer.Context.{Context}
 use Rattle.cell_lower.specs.Laying.{ForgetsLaid}
 use Rattle.cell_lower.specs.Leaving.{sizes_of}

@@ -1,5 +1,5 @@
 use Rattle.std.proofs.Common.{◌≡◌, ◌<◌, ℕ, get_or, length, true}
-use Rattle.fip_language.specs.Table.{is_scalar}
+use Rattle.fip_trees.specs.fip_language.Table.{is_scalar}
 use Rattle.derivation_check.proofs.scalar_types.ScalarTypes.of.Given as goal
 
 abbrev pub invariant-loop-ty : goal.invariant-loop-ty

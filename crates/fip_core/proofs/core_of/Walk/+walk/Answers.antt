@@ -3,9 +3,9 @@ use Rattle.std.specs.Prelude.{reverse}
 use Rattle.std.proofs.lemmas.List.{append_assoc, append-nil, map-append, length-map, length-reverse, reverse-reverse}
 use Rattle.std.specs.Vec.Iter.{into_iter_items}
 use Rattle.std.proofs.lemmas.Result.{IfOk-weaker, on_ok_weaker}
-use Rattle.fip_language.specs.Core as C
-use Rattle.fip_language.specs.Surface as S
-use Rattle.fip_language.specs.CoreForm as form
+use Rattle.fip_base.specs.fip_language.Core as C
+use Rattle.fip_base.specs.fip_language.Surface as S
+use Rattle.fip_base.specs.fip_language.CoreForm as form
 use Rattle.fip_base.specs.CoreView as core
 use Rattle.fip_base.specs.declared.surface.Block.{out-Block}
 use Rattle.fip_base.specs.declared.surface.Clause.{out-Clause}

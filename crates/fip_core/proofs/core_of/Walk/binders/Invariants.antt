@@ -1,6 +1,6 @@
 use Rattle.std.proofs.Common.{◌≡◌, ◌+◌, ◌++◌, length, map}
 use Rattle.std.specs.Vec.Iter.{into_iter_items}
-use Rattle.fip_language.specs.CoreForm as form
+use Rattle.fip_base.specs.fip_language.CoreForm as form
 use Rattle.fip_base.specs.CoreView as core
 use Rattle.fip_base.specs.SurfaceView as surface
 use Rattle.fip_core.proofs.core_of.Walk.binders.Given as goal

@@ -1,6 +1,6 @@
 use Rattle.std.proofs.Common.{◌≡◌, [], None, subst}
-use Rattle.machine_semantics.specs.Codes.{plain}
-use Rattle.machine_semantics.specs.Steps.{next}
+use Rattle.machine_cells.specs.machine_semantics.Codes.{plain}
+use Rattle.machine_cells.specs.machine_semantics.Steps.{next}
 use Rattle.machine_cells.specs.Small.{IsSmall, store_of}
 use Rattle.machine_step.specs.Coming.{Comes, KnowsAt}
 use Rattle.fip_machine.specs.Tasks.{state_with}

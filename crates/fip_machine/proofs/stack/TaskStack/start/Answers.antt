@@ -2,11 +2,11 @@
 use Rattle.std.proofs.Common.{◌≡◌, ◌-◌, ◌<◌, ◌≤◌, ◌∙◌, List, [], length, refl, sym, ap, subst, arith}
 use Rattle.std.proofs.lemmas.Option.{slice_get_within, none-some, same_Some}
 use Rattle.cell_code.specs.declared.code.Function.{Function}
-use Rattle.machine_semantics.specs.Codes.{plain, plain_function}
-use Rattle.machine_semantics.specs.States.{State}
-use Rattle.machine_semantics.specs.Steps.{first_words, first_frame}
-use Rattle.machine_semantics.specs.Runs.{lent_words, loaded_in}
-use Rattle.machine_frames.specs.View.{frame_at}
+use Rattle.machine_cells.specs.machine_semantics.Codes.{plain, plain_function}
+use Rattle.machine_cells.specs.machine_semantics.States.{State}
+use Rattle.machine_cells.specs.machine_semantics.Steps.{first_words, first_frame}
+use Rattle.machine_cells.specs.machine_semantics.Runs.{lent_words, loaded_in}
+use Rattle.machine_step.specs.machine_frames.View.{frame_at}
 use Rattle.machine_step.proofs.Calls.{plain_at}
 use Rattle.cell_code.specs.declared.code.Instr.{Instr}
 use Rattle.cell_code.specs.Runnable.{Body, IsSafe}

@@ -1,6 +1,6 @@
 -- Each way that a step may come out leads where the written run stands one step later.
 use Rattle.std.proofs.Common.{◌≡◌, ◌-◌, ◌<◌, false, Some, None, refl, sym, ap, subst, arith}
-use Rattle.machine_step.specs.declared.rows.Stepped.{Stepped}
+use Rattle.fip_machine.specs.machine_step.declared.rows.Stepped.{Stepped}
 use Rattle.fip_machine.specs.declared.machine.Ended.{Ended}
 use Rattle.fip_machine.specs.Along.{calls_next}
 use Rattle.fip_tasks.specs.Turns.{Standing}

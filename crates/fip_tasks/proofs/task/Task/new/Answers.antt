@@ -1,8 +1,8 @@
 -- The frames are loaded, and the entry takes a call.
 use Rattle.std.proofs.Common.{◌≡◌, ◌≤◌, ◌∙◌, ℕ, suc, length, List, Some, None, sym, ap, subst, arith}
 use Rattle.fip_machine.specs.declared.machine.Ended.TheVariants as M
-use Rattle.machine_semantics.specs.Codes.{plain}
-use Rattle.machine_semantics.specs.Runs.{loaded}
+use Rattle.task_semantics.specs.machine_semantics.Codes.{plain}
+use Rattle.task_semantics.specs.machine_semantics.Runs.{loaded}
 use Rattle.fip_tasks.specs.Turns.{Standing}
 use Rattle.fip_tasks.proofs.Landings.{IsLoaded, is_new}
 use Rattle.fip_tasks.proofs.task.Task.new.Goals.{then-start-eq0, else-start-eq0}

@@ -2,8 +2,8 @@
 use Rattle.std.proofs.Common.{◌≡◌, ◌++◌, ◌∷◌, [], List, Some, length, refl, sym, ap, subst, arith, length-append}
 use Rattle.std.proofs.lemmas.Option.{slice_get_read}
 use Rattle.std.specs.Prelude.{slice_get}
-use Rattle.machine_semantics.specs.Cells.{Store}
-use Rattle.machine_cells.specs.Small.{IsSmall, store_of}
+use Rattle.task_semantics.specs.machine_semantics.Cells.{Store}
+use Rattle.fip_machine.specs.machine_cells.Small.{IsSmall, store_of}
 use Rattle.fip_tasks.specs.declared.task.Task.{Task}
 use Rattle.fip_tasks.proofs.Turning.{AreNew, new_more, new_shows}
 use Rattle.fip_tasks.proofs.tasks.Tasks.new.Goals as goal

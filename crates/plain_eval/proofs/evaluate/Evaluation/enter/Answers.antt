@@ -1,5 +1,5 @@
 use Rattle.std.proofs.Common.{sym, ap, ◌∙◌, subst}
-use Rattle.fip_language.specs.Meaning.{nothing_bound}
+use Rattle.fip_trees.specs.fip_language.Meaning.{nothing_bound}
 use Rattle.instance_semantics.specs.Meaning.{bind_binders}
 use Rattle.plain_rows.specs.Rows.{StandAll}
 use Rattle.plain_rows.proofs.Loaded.{on_ok}

@@ -1,5 +1,5 @@
 use Rattle.std.proofs.Common.{refl}
-use Rattle.fip_language.specs.Meaning.{Gives, ends}
+use Rattle.fip_trees.specs.fip_language.Meaning.{Gives, ends}
 use Rattle.fip_trees.specs.TreeView.{arguments}
 use Rattle.plain_eval.proofs.Steps.{gives_all}
 use Rattle.plain_eval.proofs.evaluate.Evaluation.give.Goals as goal

@@ -1,6 +1,6 @@
 use Rattle.std.proofs.Common.{refl, sym, ap, ◌≡◌, ◌∙◌, ◌++◌, ◌∷◌, [], subst}
 use Rattle.std.specs.Prelude.{slice_get, Ok, Err}
-use Rattle.fip_language.specs.Arithmetic.{operate}
+use Rattle.fip_trees.specs.fip_language.Arithmetic.{operate}
 use Rattle.fip_trees.specs.TreeView.{argument}
 use Rattle.plain_eval.specs.Operating.{IsOutcome}
 use Rattle.plain_eval.proofs.Steps.{operands, operation_gives, operation_traps}

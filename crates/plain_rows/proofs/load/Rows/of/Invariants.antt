@@ -1,5 +1,5 @@
 use Rattle.std.proofs.Common.{◌≡◌, ◌^◌, ◌≤◌, length}
-use Rattle.fip_language.specs.Store.{Parts, words_of}
+use Rattle.fip_base.specs.fip_language.Store.{Parts, words_of}
 use Rattle.value_text.specs.Loaded.{types_of}
 use Rattle.value_text.specs.Standing.{StandAll as CellsStand}
 use Rattle.plain_rows.proofs.Loaded.{AreLeft}

@@ -1,7 +1,7 @@
 use Rattle.std.proofs.Common.{◌≡◌, ◌+◌, ◌<◌, length, slice_get, Some, subst, sym, ap, ◌∙◌, arith}
 use Rattle.reached_instances.specs.Closed.{Applied}
 use Rattle.reached_instances.specs.SharedTrees.{Grows, Kept, trees_at, trees}
-use Rattle.fip_language.specs.Every.{Every}
+use Rattle.fip_base.specs.fip_language.Every.{Every}
 use Rattle.reached_instances.specs.BranchView.{branch, branches}
 use Rattle.reached_instances.specs.declared.closed.Closed as D
 use Rattle.reached_instances.proofs.SharedTrees.{Added, added_place}

@@ -1,7 +1,7 @@
 use Rattle.std.proofs.Common.{◌≡◌, ◌∙◌, sym, ap, subst, refl, Some, true, List, length, arith}
 use Rattle.fip_base.specs.CoreView.{written, writtens}
 use Rattle.fip_base.specs.declared.core_form.Written.{Written}
-use Rattle.fip_language.specs.Core.{WrittenName}
+use Rattle.fip_base.specs.fip_language.Core.{WrittenName}
 use Rattle.fip_trees.specs.Least.{after}
 use Rattle.reached_instances.specs.SharedTrees.{trees}
 use Rattle.reached_instances.specs.Source.{Instance}

@@ -1,5 +1,5 @@
 use Rattle.std.proofs.Common.{◌≡◌, ◌+◌, ◌∙◌, ℕ, Option, Some, None, List, length, map, slice_get, option_map, refl, if◌then◌else◌, ap, sym, subst}
-use Rattle.fip_language.specs.Core.{Static}
+use Rattle.fip_base.specs.fip_language.Core.{Static}
 use Rattle.fip_base.specs.CoreView.{static, written, writtens}
 use Rattle.fip_base.specs.declared.core_form.Static as DS
 use Rattle.fip_trees.specs.Least.{after}

@@ -1,6 +1,6 @@
 use Rattle.std.proofs.Common.{◌∙◌, ℕ, Option, List, Vec, Global, ap, subst}
 use Rattle.fip_base.specs.CoreView.{writtens}
-use Rattle.fip_language.specs.Core.{Static}
+use Rattle.fip_base.specs.fip_language.Core.{Static}
 use Rattle.fip_trees.specs.Least.{after}
 use Rattle.reached_instances.specs.declared.source.Here.{Here}
 use Rattle.reached_instances.specs.Closed.{Closed}

@@ -1,5 +1,5 @@
 use Rattle.std.proofs.Common.{◌≡◌, ◌∙◌, ◌+◌, ℕ, Some, List, map, slice_get, option_map, not, ap, sym, subst}
-use Rattle.fip_language.specs.Core.{Static}
+use Rattle.fip_base.specs.fip_language.Core.{Static}
 use Rattle.fip_base.specs.CoreView.{static, written}
 use Rattle.fip_trees.specs.Least.{after}
 use Rattle.reached_instances.specs.SharedTrees.{NoneOrWithin, tree_at, trees}

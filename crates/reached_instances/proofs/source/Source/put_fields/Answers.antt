@@ -1,5 +1,5 @@
 use Rattle.std.proofs.Common.{[], option_map, ap, sym, ◌∙◌, List, map}
-use Rattle.fip_language.specs.Mentions.{all_of}
+use Rattle.fip_base.specs.fip_language.Mentions.{all_of}
 use Rattle.fip_trees.specs.declared.decls.DeclaredConstructor.{DeclaredConstructor}
 use Rattle.reached_instances.specs.SharedTrees.{trees, trees_at}
 use Rattle.reached_instances.specs.SourceView as S

@@ -1,5 +1,5 @@
 use Rattle.std.proofs.Common.{take}
-use Rattle.fip_language.specs.Mentions.{all_of}
+use Rattle.fip_base.specs.fip_language.Mentions.{all_of}
 use Rattle.reached_instances.specs.PutView.{Put}
 use Rattle.reached_instances.specs.SharedTrees.{AreWithin, tree_at, trees}
 use Rattle.reached_instances.specs.SourceView.{source, IsLookedUp}

@@ -1,5 +1,5 @@
 use Rattle.std.proofs.Common.{sym, ap}
-use Rattle.fip_language.specs.Core as C
+use Rattle.fip_base.specs.fip_language.Core as C
 use Rattle.fip_base.specs.CoreView.{written}
 use Rattle.reached_instances.specs.SharedTrees.{trees}
 use Rattle.reached_instances.specs.Source.{Instance}

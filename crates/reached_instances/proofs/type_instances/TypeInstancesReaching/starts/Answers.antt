@@ -1,5 +1,5 @@
 use Rattle.std.proofs.Common.{◌∙◌, ◌++◌, ℕ, List, [], ◌∷◌, ap, sym, subst}
-use Rattle.fip_language.specs.Mentions.{all_of}
+use Rattle.fip_base.specs.fip_language.Mentions.{all_of}
 use Rattle.reached_instances.specs.declared.closed.Head.TheVariants as H
 use Rattle.reached_instances.specs.Closed.{Applied, Closed, NoClosed}
 use Rattle.reached_instances.specs.SharedTrees.{AreWithin, all_at, trees, trees_at}

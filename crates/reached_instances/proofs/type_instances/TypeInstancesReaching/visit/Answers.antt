@@ -1,5 +1,5 @@
 use Rattle.std.proofs.Common.{◌∙◌, ◌++◌, ℕ, List, ap, sym, subst, Some}
-use Rattle.fip_language.specs.Mentions.{all_of}
+use Rattle.fip_base.specs.fip_language.Mentions.{all_of}
 use Rattle.reached_instances.specs.Closed.{Closed, Closeds, arguments_of}
 use Rattle.reached_instances.specs.SharedTrees.{AreWithin, all_at, tree_at, trees, trees_at}
 use Rattle.reached_instances.specs.Source.{declared_at}

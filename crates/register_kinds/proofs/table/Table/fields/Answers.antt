@@ -1,5 +1,5 @@
 use Rattle.std.proofs.Common.{◌∙◌}
-use Rattle.fip_language.specs.Table.{constructors}
+use Rattle.cell_code.specs.fip_language.Table.{constructors}
 use Rattle.register_kinds.proofs.Types.{fields_found}
 use Rattle.register_kinds.proofs.table.Table.fields.Goals as goal
 

@@ -2,8 +2,8 @@
 use Rattle.std.proofs.Common.{◌≡◌, ◌∙◌, ◌≤◌, List, length, Some, refl, sym, ap, subst}
 use Rattle.std.specs.Prelude.{slice_get}
 use Rattle.std.proofs.lemmas.Option.{slice_get_read}
-use Rattle.cell_code.specs.declared.code.Code.{Code}
-use Rattle.cell_code.specs.declared.code.Function.{Function}
+use Rattle.code_verify.specs.cell_code.declared.code.Code.{Code}
+use Rattle.code_verify.specs.cell_code.declared.code.Function.{Function}
 use Rattle.session_lines.proofs.Naming.{step_on, all_first}
 use Rattle.session_lines.proofs.entries.Entries.of.Goals as goal
 

@@ -1,6 +1,6 @@
 use Rattle.std.proofs.Common.{◌≡◌, ◌∙◌, ◌+◌, ◌<◌, true, false, length, sym, subst}
 use Rattle.std.proofs.lemmas.Result.{IfOk-weaker}
-use Rattle.fip_language.specs.Store.{places}
+use Rattle.fip_base.specs.fip_language.Store.{places}
 use Rattle.store_trees.specs.Added.{Adds}
 use Rattle.store_trees.specs.Walked.{AddsAll, cells_ahead}
 use Rattle.store_trees.proofs.Walking.{one, one_ahead, all_added}

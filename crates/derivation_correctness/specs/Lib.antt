@@ -1,0 +1,9 @@
+pub use Rattle.source_report.specs.cell_lower as cell_lower
+pub use Rattle.source_report.specs.code_file as code_file
+pub use Rattle.source_report.specs.code_size as code_size
+pub use Rattle.derivation_text.specs as derivation_text
+pub use Rattle.source_report.specs.lower_frame as lower_frame
+pub use Rattle.source_report.specs.lowering_simulation as lowering_simulation
+pub use Rattle.source_report.specs as source_report
+pub use Rattle.source_report.specs.static_params as static_params
+pub use Rattle.source_report.specs.tree_refinement as tree_refinement

@@ -5,18 +5,18 @@
 
 Without shapes: all of them, each of at most N bytes (16 MiB, the most that is read). For each it prints its size, how
 the program ended, and its seconds of processor time. The status is 0 exactly where each was accepted in SECONDS at most
-(60). The program is the one that `rt ci`, `rt run` and ./fp2 build, unless another is given.
+(60). The program is the proved one that `rt ci` or tools/prove made, unless another is given here or as FP2.
 """
 import argparse
-import pathlib
 import resource
 import struct
 import subprocess
 import sys
 import tempfile
 
-TOP = pathlib.Path(__file__).resolve().parent.parent
-PROGRAM = TOP / "crates" / "fip_cli" / "out" / "fip_cli"
+sys.dont_write_bytecode = True
+import building
+
 LIMIT = 16 * 1024 * 1024
 REGISTERS = 4096
 NONE = 0xFFFF
@@ -416,13 +416,16 @@ def seconds_of(program, path):
 
 def main():
     words = argparse.ArgumentParser(description=__doc__, formatter_class=argparse.RawDescriptionHelpFormatter)
-    words.add_argument("--program", default=str(PROGRAM))
+    words.add_argument("--program")
     words.add_argument("--bytes", type=int, default=LIMIT)
     words.add_argument("--most", type=float, default=60.0)
     words.add_argument("shapes", nargs="*", metavar="SHAPE", help=" ".join(SHAPES))
     given = words.parse_args()
     if unknown := [name for name in given.shapes if name not in SHAPES]:
         sys.exit(f"no such shape: {' '.join(unknown)}")
+    program = given.program or building.program_to_test()
+    if program is None:
+        sys.exit("there is no proved program of these sources: rt ci or tools/prove makes it")
     failed = 0
     for name in given.shapes or SHAPES:
         # some bytes are left for heads and ends
@@ -430,7 +433,7 @@ def main():
         with tempfile.NamedTemporaryFile(suffix=".fpc") as stored:
             stored.write(code)
             stored.flush()
-            status, told, seconds = seconds_of(given.program, stored.name)
+            status, told, seconds = seconds_of(program, stored.name)
         print(f"{name}: {len(code)} bytes, {told or 'accepted' if status == 0 else told}, {seconds:.1f} s", flush=True)
         failed += status != 0 or seconds > given.most
     return min(failed, 1)

@@ -1,7 +1,7 @@
 // A bounded buffer, as between a sampler and a sender: it holds as many items as it was given slots.
 //
 // In place: a slot that is free lies in the list `free`. `put` moves a slot to the items, `get` moves it back. A full
-// buffer is told by the flag, and is handed back as it was.
+// buffer is reported by the flag, and is handed back as it was.
 data slots { End; Slot(int, slots) }
 data buffer { Buffer(slots, slots, slots) }
 

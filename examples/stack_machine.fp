@@ -1,7 +1,7 @@
 // A stack machine: it runs a program of pushes, additions and multiplications.
 //
 // In place: the program is only read (`^`), so it may be run again. Cells of the stack come from `free` and go back there.
-// A fault is a value: what was missing is told beside the stack.
+// A fault is a value: what was missing is reported beside the stack.
 data ops { Stop; Push(int, ops); Add(ops); Mul(ops) }
 data cells { End; Cell(int, cells) }
 data fault { Fine; NoCell; NoOperand }

@@ -3,9 +3,10 @@
 
     tools/examples.py [--program PATH] [FILE.md ..]
 
-Without files: README.md, docs/*.md and examples/README.md, and then each program and input of examples/ must have been
-used. The program is the one that `rt ci`, `rt run` and ./fp2 build, unless another is given.
-Each document is run in a folder of its own that begins with a copy of examples/. Its blocks:
+Without files: README.md, docs/*.md and examples/*.md, and then each program and input of examples/ must have been
+used. The program is the proved one that `rt ci` or tools/prove made, unless another is given here or as FP2:
+`FP2=$(tools/prove --unproved) tools/examples.py` runs them with a program without a proof.
+Each document is run in a folder of its own that begins with a copy of examples/ and a link to tools/. Its blocks:
 
     ```fp NAME            a source, stored under that name
     ```text NAME          an input or another text, stored under that name
@@ -17,20 +18,27 @@ Each document is run in a folder of its own that begins with a copy of examples/
                           lines that are left out
 
 A block without a word is no example, and has no line that begins with `$ `; another word is an error.
+Where a command is `fp2 exec SOURCE ENTRY --gauge < INPUT` and prints what it should, the program goes other ways as
+well: a code file, whose run prints the same; a derivation, which is audited; a trace, whose cells are counted at both
+ends.
 The status is 0 exactly where nothing differs.
 """
 import argparse
 import os
 import pathlib
+import re
 import shlex
 import shutil
 import subprocess
 import sys
 import tempfile
 
+sys.dont_write_bytecode = True
+import building
+
 TOP = pathlib.Path(__file__).resolve().parent.parent
-PROGRAM = TOP / "crates" / "fip_cli" / "out" / "fip_cli"
 SECONDS = 60
+GAUGED = re.compile(r"(?:\./)?fp2 exec (\S+\.fp) (\w+) --gauge < (\S+)")
 
 
 def blocks(text):
@@ -67,7 +75,8 @@ class Document:
         script.write_text(f'#!/bin/sh\nexec {shlex.quote(program)} "$@"\n')
         script.chmod(0o755)
         (self.folder / "fp2").symlink_to(script)
-        self.environment = dict(os.environ, PATH=f"{self.folder / 'bin'}:{os.environ['PATH']}")
+        (self.folder / "tools").symlink_to(TOP / "tools")
+        self.environment = dict(os.environ, PATH=f"{self.folder / 'bin'}:{os.environ['PATH']}", FP2=str(script))
 
     def fail(self, line, why):
         raise SystemExit(f"{self.path}:{line}: {why}")
@@ -82,9 +91,7 @@ class Document:
         path = self.folder / name
         return path if path.is_file() else self.folder / "examples" / name
 
-    def run(self, line, command, wanted):
-        self.run_count += 1
-        self.used.update(command.replace(";", " ").split())
+    def printed(self, command):
         try:
             done = subprocess.run(
                 ["sh", "-c", command],
@@ -95,11 +102,43 @@ class Document:
                 stderr=subprocess.STDOUT,
                 timeout=SECONDS,
             )
-            printed = done.stdout.decode("utf-8", "replace").splitlines()
+            return done.stdout.decode("utf-8", "replace").splitlines()
         except subprocess.TimeoutExpired:
-            printed = [f"(nothing within {SECONDS} seconds)"]
+            return [f"(nothing within {SECONDS} seconds)"]
+
+    def run(self, line, command, wanted):
+        self.run_count += 1
+        self.used.update(command.replace(";", " ").split())
+        printed = self.printed(command)
+        gauged = GAUGED.fullmatch(command)
         if printed != wanted:
             self.differ(line, command, wanted, printed)
+        elif gauged:
+            self.other_ways(line, *gauged.groups(), printed)
+
+    def other_ways(self, line, source, entry, given, printed):
+        """The same source, entry and input by a code file, a derivation and a trace."""
+        roots = self.printed(f"fp2 check {source}")
+        results = [text for text in printed if not text.startswith(("cells of ", "stack: ", "bound: "))]
+        first, last = self.cell_counts(source, entry, given, results)
+        for command, wanted in (
+            (f"fp2 compile {source} way.fpc", roots),
+            ("fp2 verify way.fpc", roots),
+            (f"fp2 run way.fpc {entry} --gauge < {given}", printed),
+            (f"fp2 derive {source} way.proof", ["derived"]),
+            (f"fp2 audit {source} way.proof", ["derived"]),
+            (f"fp2 trace {source} {entry} way.trace < {given}", results),
+            ("fp2 replay way.trace 0 | grep -c ^cell", [str(first)]),
+            ("fp2 replay way.trace 1000000000000000000 | grep -c ^cell", [str(last)]),
+        ):
+            self.run(line, command, wanted)
+
+    def cell_counts(self, source, entry, given, results):
+        """How many cells there are before a run and after it: one for each bracket of the texts, and each credit."""
+        head = re.search(rf"^(?:fip|fbip) (.*?)fun {entry}\((.*?)\):", self.stored(source).read_text(), re.M)
+        values = [text.count("(") for text in self.stored(given).read_text().splitlines()]
+        kept = [count for count, name in zip(values, head[2].split(", ")) if name.startswith("^")]
+        return sum(values) + head[1].count("+"), sum(text.count("(") for text in results) + sum(kept)
 
     def console(self, line, inside):
         command, first, wanted = None, line, []
@@ -185,22 +224,23 @@ def unused(documents):
 
 def main():
     parser = argparse.ArgumentParser()
-    parser.add_argument("--program", default=str(PROGRAM))
+    parser.add_argument("--program")
     parser.add_argument("files", nargs="*", type=pathlib.Path)
     words = parser.parse_args()
-    if words.program == str(PROGRAM) and PROGRAM.is_file():
-        PROGRAM.chmod(0o755)
-    if not os.access(words.program, os.X_OK):
-        sys.exit(f"examples: {words.program} isn't there: ./fp2 or rt ci builds it")
-    program = str(pathlib.Path(words.program).resolve())
-    every = [TOP / "README.md", *sorted((TOP / "docs").glob("*.md")), TOP / "examples" / "README.md"]
+    program = words.program or building.program_to_test()
+    if program is None:
+        sys.exit("examples: there is no proved program of these sources: rt ci or tools/prove makes it")
+    if not os.access(program, os.X_OK):
+        sys.exit(f"examples: {program} isn't there, or is no program")
+    program = str(pathlib.Path(program).resolve())
+    every = [TOP / "README.md", *sorted((TOP / "docs").glob("*.md")), *sorted((TOP / "examples").glob("*.md"))]
     documents = [run_document(path, program) for path in words.files or every]
     forgotten = [] if words.files else unused(documents)
     for name in forgotten:
         print(f"examples/{name}: no document uses it")
     count = sum(document.run_count for document in documents)
     differences = sum(document.differences for document in documents)
-    print(f"examples: {count} run, {differences} differ")
+    print(f"examples: {count} run, {differences} differ, by {program}")
     sys.exit(0 if count and not differences and not forgotten else 1)
 
 

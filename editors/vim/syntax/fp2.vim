@@ -1,17 +1,18 @@
-" FP2 programs (*.fp). Copy `syntax` and `ftdetect` to ~/.vim.
+" FP2 programs (*.fp). `set runtimepath+=REPOSITORY/editors/vim`, or copy the folders of editors/vim to ~/.vim.
 if exists("b:current_syntax")
   finish
 endif
 
-syntax keyword fp2Keyword data fun let match
+syntax keyword fp2Keyword data fun let
 syntax keyword fp2Conditional if else
 syntax keyword fp2Place fip fbip
 syntax keyword fp2Type int bool
-syntax match fp2Keyword /\<match!/
 syntax match fp2Constructor /\<[A-Z][A-Za-z0-9_]*/
 syntax match fp2Function /\<[a-z][A-Za-z0-9_]*\ze\s*[\[(]/
+" After fp2Function, so that `match (` and `match! (` are keywords; the `!` belongs to the word.
+syntax match fp2Keyword /\<match\>!\?/
 syntax match fp2Number /\<\d\+\>/
-syntax match fp2Operator /->\|[-+*\/%^=<>!]=\?/
+syntax match fp2Operator /->\|==\|!=\|<=\|>=\|[-+*\/%^=<>]/
 syntax match fp2Blank /\<_\>/
 syntax match fp2Comment "//.*$"
 

@@ -8,7 +8,7 @@ use crate::all::{ReadError, read_all, write_all};
 use crate::outside::{Failed, FetchError, Folder, Sink, Source, StoreError};
 use std::alloc::Global;
 use std::fs;
-use std::io::{Read, Write};
+use std::io::{ErrorKind, Read, Write};
 use std::rt::Files;
 
 /// A reader of std as a source. It tells the bytes that the reader tells.
@@ -99,6 +99,68 @@ impl<'a, F: Files> FileFolder<'a, F> {
     }
 }
 
+impl<F: Files> FileFolder<'_, F> {
+    // Whether all bytes were written to an opened file: to the one beside, which took the named one's place, or to that.
+    fn is_stored(&self, name: &str, beside: &str, bytes: &[u8]) -> bool
+        ensures written { result ≡ true → (file filled : F.File)
+            × Appends (F.File.contents file) (F.File.contents filled) bytes.now }
+    {
+        match self.opened(name, beside) {
+            Some((file, is_beside)) => {
+                let all = is_written(file, bytes);
+                if is_beside {
+                    self.takes_place(all, beside, name)
+                } else {
+                    all
+                }
+            }
+            None => false,
+        }
+    }
+
+    // A new file beside the named one, or that one, emptied; and whether it is the one beside.
+    fn opened(&self, name: &str, beside: &str) -> Option<(F::File, bool)> {
+        if self.is_replaced(name) {
+            match fs::create(self.files, beside) {
+                Ok(file) => return Some((file, true)),
+                Err(e) if is_no_place(e.kind()) => {}
+                Err(_) => return None,
+            }
+        }
+        match fs::create(self.files, name) {
+            Ok(file) => Some((file, false)),
+            Err(_) => None,
+        }
+    }
+
+    // Whether the name is of a plain file or of none.
+    fn is_replaced(&self, name: &str) -> bool {
+        match fs::symlink_metadata(self.files, name) {
+            Ok(found) => found.is_file(),
+            Err(e) => e.kind() == ErrorKind::NotFound,
+        }
+    }
+
+    // Where all was written, the file beside takes the named one's place, with its permissions; else it is removed.
+    fn takes_place(&self, all: bool, beside: &str, name: &str) -> bool
+        ensures all { result ≡ true → all ≡ true }
+    {
+        if let Ok(earlier) = fs::metadata(self.files, name) {
+            let _ = fs::set_permissions(self.files, beside, earlier.permissions());
+        }
+        if all && fs::rename(self.files, beside, name).is_ok() {
+            return true;
+        }
+        let _ = fs::remove_file(self.files, beside);
+        false
+    }
+}
+
+// Whether no file may be made in the folder, as in one that may only be read.
+fn is_no_place(kind: ErrorKind) -> bool {
+    kind == ErrorKind::PermissionDenied || kind == ErrorKind::NotFound
+}
+
 // All that a reader has, of which there may be `limit` bytes.
 fn all_of<R: Read + Drop>(alloc: Global, file: R, limit: usize) -> Result<Vec<u8>, ReadError>
     ensures read { IfOk result (λ v. (rest : R) × Consumes (R.remaining file) (R.remaining rest) v.items
@@ -148,7 +210,9 @@ impl<F: Files> Folder for FileFolder<'_, F> {
         }
     }
 
-    /// All bytes were written to an opened file.
+    /// All bytes were written to an opened file. A plain file is stored whole or not at all: the bytes go to a file beside
+    /// it, `NAME.part`, which then takes its place. Where there may be no file beside it, and for what is no plain file (a
+    /// device, a link), they go to the file itself.
     fn store(&mut self, name: &str, bytes: &[u8]) -> Result<(), StoreError>
         ensures stored { OnOk result (HoldsFile None name.now bytes.now) }
         ensures written { OnOk result ((file filled : F.File)
@@ -157,11 +221,10 @@ impl<F: Files> Folder for FileFolder<'_, F> {
         ensures memory { result ≡ Err StoreError.NoMemory → self.new.faults ≡ self.old.faults }
         ensures later { self.old.faults ≤ self.new.faults }
     {
-        let written = match fs::create(self.files, name) {
-            Ok(file) => is_written(file, bytes),
-            Err(_) => false,
+        let Ok(beside) = format!(in self.alloc; "{name}.part") else {
+            return Err(StoreError::NoMemory);
         };
-        if written {
+        if self.is_stored(name, &beside, bytes) {
             return Ok(());
         }
         self.faults = self.faults.saturating_add(1);

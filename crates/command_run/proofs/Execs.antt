@@ -47,7 +47,7 @@ use Rattle.command_eval.specs.EvalAnswer.{Entry, OrNoMemory}
 use Rattle.machine_correctness.specs.Gauges.{IsFlat, IsMeasured}
 use Rattle.machine_correctness.specs.Starts.{IsCodeOf, Begins}
 use Rattle.machine_correctness.proofs.EvaluatedEnds.{answers_as_meant, not_deep}
-use Rattle.machine_correctness.proofs.Entries.{named}
+use Rattle.machine_correctness.proofs.Entries.{headers_of, named}
 use Rattle.machine_correctness.proofs.Flat.{gauge_flat}
 use Rattle.machine_correctness.proofs.Peaks.{measured}
 use Rattle.machine_correctness.proofs.Starting.{begins_of}
@@ -171,7 +171,7 @@ module _ (source name input : List ℕ) (r : Chosen) (ready : IsReady source (Co
   bound_is : (held : Option Stack) → HasStack (sound_view (plain_code r.checked.code)) r.entry held → IsBoundOf entry held
   bound_is held stack ms found i m at there =
       let root = N.root_at name entry.program.instances entry.root entry.named in
-      let x = named entry.program h.code.lowered.members r.checked.code r.entry f types_same (N.headed source name r ready h) there_is header.some in
+      let x = named entry.program h.code.lowered.members (plain r.checked.code) r.entry f types_same (headers_of r.checked.code.functions.items ∙ N.headed source name r ready h) there_is header.some in
       let one : x.place ≡ i = (typed_sound source entry.program (N.types source name r ready h)).roots x.place i x.instance entry.root x.there at x.root root.root (sym x.name ∙ header.named ∙ sym root.named) in
       let number : function_of entry.program.instances i ≡ Some r.entry = subst (λ j. function_of entry.program.instances j ≡ Some r.entry) one x.of'.function in
       has_once (sound_view (plain_code r.checked.code)) r.entry held m.stack stack (h.code.lowered.stacks ms found i r.entry m number there)

@@ -1,6 +1,7 @@
 -- From what was lowered, verified and written to what is said of a code that is made of a source, and of its file.
 use Rattle.std.proofs.Common.{◌≡◌, ◌∙◌, ◌<◌, ◌≤◌, Option, Some, None, slice_get, ℕ, zero, suc, arith, List, [], ◌∷◌, map, length, refl, sym, ap, subst, inl, inr}
-use Rattle.std.specs.Prelude.{Result, Ok, Err, IfOk, IfSome}
+use Rattle.std.specs.Prelude.{Result, Ok, Err, IfOk, IfSome, option_map}
+use Rattle.std.proofs.lemmas.Option.{slice_get-map}
 use Rattle.cell_code.specs.declared.code.Code.{Code}
 use Rattle.cell_code.specs.declared.code.Function.{Function}
 use Rattle.program_front.specs.cell_lower.Lowered as L
@@ -8,7 +9,12 @@ use Rattle.cell_code.specs.declared.kind.Label.{Label}
 use Rattle.program_front.specs.cell_lower.Limits.{registers, registers_of}
 use Rattle.program_front.specs.cell_lower.Lowered.{all_instrs}
 use Rattle.program_front.specs.cell_lower.Sizes.{IsSmall, AreSmall}
+use Rattle.compiler_correctness.proofs.SoundnessWhole.{is_asked}
+use Rattle.program_front.specs.cell_lower.LaidProgram.{IsAsked, IsLaidOut}
+use Rattle.code_bytes.specs.Operands.{most_operands, HaveFew}
+use Rattle.code_bytes.proofs.Whole.{laid_narrow}
 use Rattle.compiler_correctness.specs.code_size.Bounds.{IsWithin, most_for, most_labels}
+use Rattle.fip_proof.specs.credit_check.Tallies.{all_needs}
 use Rattle.compiler_correctness.specs.code_size.Places.{places}
 use Rattle.program_front.specs.cell_lower.Shape.{header, headers}
 use Rattle.compiler_correctness.specs.machine_semantics.Codes as R
@@ -32,7 +38,7 @@ use Rattle.program_front.specs.source_report.Report.{bare, IsAccepted}
 use Rattle.command_outcome.specs.declared.failure.Failure.{Failure}
 use Rattle.command_outcome.specs.declared.failure.Failure.TheVariants as F
 use Rattle.command_source.specs.Codes.{IsSoundFile, IsUnspelt}
-use Rattle.command_source.specs.ProgramCode.{plain_header, instrs_of, AreWithin, IsLoweredFrom, IsCodeOfSource, IsEntryOf, IsCompiledFile, HasFile, IsUncompiled, KeepsFromCompile}
+use Rattle.command_source.specs.ProgramCode.{plain_header, instrs_of, AreNarrow, AreWithin, IsLoweredFrom, IsCodeOfSource, IsEntryOf, IsCompiledFile, HasFile, IsUncompiled, KeepsFromCompile}
 use Rattle.command_source.specs.Entries.{Chosen, IsNamed, IsFunctionOf}
 use Rattle.command_source.specs.Wanted.{Lawful, IsReady, IsRefusedBy}
 use Rattle.command_source.specs.declared.known.Front.{Front}
@@ -83,9 +89,21 @@ within p ms fs found small i n d f at is there = subst (λ (x : PlainFunction). 
     counted : registers ms i ≡ Rattle.program_front.specs.tail_groups.Registers.registers d
     counted = ap registers_of m.1 ∙ found.counted i d m.0 at m.1
 
-pub headed : (p : Program) (code : Code) (ms : List Member) → AreMembers p.instances ms → code.types ≡ p.types → map header code.functions.items ≡ headers ms p.instances → AreLowered p (all_instrs code) → AreSmall p ms code.functions.items → ((os : List Member) → AreMembers p.instances os → (i n : ℕ) (m : Member) → function_of p.instances i ≡ Some n → slice_get os i ≡ Some m → HasStack (S.plain code) n m.stack) → IsLoweredFrom p (plain_code code)
-headed p code ms found types functions lowered small stacks =
-    record { types = types; members = ms; found = found; functions = headers_same code.functions.items ∙ functions; lowered = subst (AreLowered p) (sym (instrs_same code.functions.items)) lowered; bounded = within p ms code.functions.items found small; stacks = λ os f i n m e there. subst (λ c. HasStack c n m.stack) (sym (view_same code)) (stacks os f i n m e there) }
+narrow : (p : Program) (fs : List Function) → ((i n : ℕ) (d : Instance) (g : Function) → slice_get p.instances i ≡ Some d → function_of p.instances i ≡ Some n → slice_get fs n ≡ Some g → HaveFew (most_operands p.instances d) g.instrs.items) → AreNarrow p (map plain_function fs)
+narrow p fs h i n d f at is there =
+    let g = function_there fs n f there in
+    subst (λ (x : PlainFunction). HaveFew (most_operands p.instances d) x.instrs) g.2 (h i n d g.0 at is g.1)
+
+-- what an accepted source's code is laid out as lists few registers
+pub lists_few : (source : List ℕ) (p : Program) (code : Code) → IsAccepted source p → (IsAsked p (all_needs p p.instances) → IsLaidOut p (S.plain code)) → (i n : ℕ) (d : Instance) (g : Function) → slice_get p.instances i ≡ Some d → function_of p.instances i ≡ Some n → slice_get code.functions.items n ≡ Some g → HaveFew (most_operands p.instances d) g.instrs.items
+lists_few source p code accepted laid i n d g at number there =
+    let out = laid (is_asked source p accepted) in
+    laid_narrow (S.plain code) out.setting p out.laid i n d (S.plain_function g) at number
+    (slice_get-map S.plain_function code.functions.items n ∙ ap (option_map S.plain_function) there)
+
+pub headed : (p : Program) (code : Code) (ms : List Member) → AreMembers p.instances ms → code.types ≡ p.types → map header code.functions.items ≡ headers ms p.instances → AreLowered p (all_instrs code) → AreSmall p ms code.functions.items → ((i n : ℕ) (d : Instance) (g : Function) → slice_get p.instances i ≡ Some d → function_of p.instances i ≡ Some n → slice_get code.functions.items n ≡ Some g → HaveFew (most_operands p.instances d) g.instrs.items) → ((os : List Member) → AreMembers p.instances os → (i n : ℕ) (m : Member) → function_of p.instances i ≡ Some n → slice_get os i ≡ Some m → HasStack (S.plain code) n m.stack) → IsLoweredFrom p (plain_code code)
+headed p code ms found types functions lowered small few stacks =
+    record { types = types; members = ms; found = found; functions = headers_same code.functions.items ∙ functions; lowered = subst (AreLowered p) (sym (instrs_same code.functions.items)) lowered; bounded = within p ms code.functions.items found small; narrow = narrow p code.functions.items few; stacks = λ os f i n m e there. subst (λ c. HasStack c n m.stack) (sym (view_same code)) (stacks os f i n m e there) }
 
 -- the code is verified, and it is the same
 pub headed_verified : (p : Program) (code : Code) (o : Result Front Failure) → IsLoweredFrom p (plain_code code) → IfOk o (λ f. program f.typed.program ≡ p) → IfOk o (λ f. f.verified.code ≡ code) → IfOk o (λ f. IsLoweredFrom (program f.typed.program) (plain_code f.verified.code))

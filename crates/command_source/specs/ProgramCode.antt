@@ -3,8 +3,10 @@
 -- kind, with its parameters, header credits and results, with as many registers as the groups tell, and with the
 -- instance's name where this is a root; and it holds of the stack at the most what the groups tell of the instance, as
 -- `check` prints it of a root. Its instructions are such as the instance is lowered to, so each of its runs ends as the
--- source means; and it has no more of them, and of label maps, than the instance's places allow. The one that is stored
--- has a file; E61 is told only where some code of which all this is so has a file that is too long.
+-- source means; it has no more of them, and of label maps, than the instance's places allow, and none of them, reached or
+-- not, lists more registers than the instance's width allows. So its file is no longer than the source's program allows
+-- (`code_bytes` says how long that is). The one that is stored has a file; E61 is reported only where some code of which
+-- all this is so has a file that is too long, as none of a small source has.
 --
 -- Of the source
 --     fip fun rev(xs: list, acc: list): list { .. }
@@ -20,6 +22,7 @@ use Rattle.program_front.specs.tail_groups.Members.{AreMembers}
 use Rattle.cell_code.specs.declared.code.Instr.{Instr}
 use Rattle.program_front.specs.cell_lower.Shape.{Header, headers}
 use Rattle.compiler_correctness.specs.code_size.Bounds.{IsWithin}
+use Rattle.code_bytes.specs.Operands.{most_operands, HaveFew}
 use Rattle.code_file.specs.CodeText.{CodeText}
 use Rattle.code_file.specs.Plain.{PlainFunction, PlainCode, plain_code}
 use Rattle.code_file.specs.declared.tags.Version.TheVariants.{Second}
@@ -50,13 +53,19 @@ AreWithin p fs = (i n : ℕ) (d : Instance) (f : PlainFunction) → slice_get p.
     function_of p.instances i ≡ Some n → slice_get fs n ≡ Some f →
     IsWithin p.types d (length f.instrs) (length f.labels)
 
+-- The instructions of function n list no more registers than the width of instance i allows.
+abbrev pub AreNarrow : Program → List PlainFunction → Type 0
+AreNarrow p fs = (i n : ℕ) (d : Instance) (f : PlainFunction) → slice_get p.instances i ≡ Some d →
+    function_of p.instances i ≡ Some n → slice_get fs n ≡ Some f → HaveFew (most_operands p.instances d) f.instrs
+
 -- Each function holds of the stack at the most what the groups tell of its instance, or nothing is told of either.
 abbrev pub HaveStacks : Program → PlainCode → Type 0
 HaveStacks p code = (members : List Member) → AreMembers p.instances members → (i n : ℕ) (m : Member) →
     function_of p.instances i ≡ Some n → slice_get members i ≡ Some m → HasStack (sound_view code) n m.stack
 
 -- The code's types are the program's; its functions are headed as the program's instances tell, and hold of the stack
--- what is told of these; their instructions are lowered from these, and no more than their places allow.
+-- what is told of these; their instructions are lowered from these, and no more than their places allow, nor wider than
+-- these are.
 pub record IsLoweredFrom (p : Program) (code : PlainCode) : Type 0 where
   pub types : code.types ≡ p.types
   pub members : List Member
@@ -64,6 +73,7 @@ pub record IsLoweredFrom (p : Program) (code : PlainCode) : Type 0 where
   pub functions : map plain_header code.functions ≡ headers members p.instances
   pub lowered : AreLowered p (map instrs_of code.functions)
   pub bounded : AreWithin p code.functions
+  pub narrow : AreNarrow p code.functions
   pub stacks : HaveStacks p code
 
 -- a code that is made of this source, which breaks no rule

@@ -1,4 +1,5 @@
--- A function of the code that has a name is that of an instance without static parameters of this name.
+-- A function of a code that has a name is that of an instance without static parameters of this name, and is headed as
+-- this tells.
 -- Idea: the headers of the functions are those of the instances that aren't plain, in their order, and so are numbered
 -- the functions of instances; and only a root gives its function a name.
 use Rattle.std.proofs.Common.{◌≡◌, ◌<◌, ℕ, zero, suc, Bool, true, false, List, [], ◌∷◌, length, map, Some, slice_get, option_map, if◌then◌else◌, refl, sym, ap, ap₂, ◌∙◌, subst, arith}
@@ -7,9 +8,8 @@ use Rattle.fip_machine.specs.fip_language.declared.FunKind.{FunKind}
 use Rattle.fip_machine.specs.fip_language.declared.FunKind.TheVariants.{Fip, Fbip, Fun}
 use Rattle.compiler_correctness.specs.fip_trees.declared.groups.Member.{Member}
 use Rattle.compiler_correctness.specs.fip_trees.Tree.{Instance, Program}
-use Rattle.fip_machine.specs.cell_code.declared.code.Code.{Code}
 use Rattle.fip_machine.specs.cell_code.declared.code.Function.{Function}
-use Rattle.run_loading.specs.code_rules.Codes.{PlainFunction, plain, plain_function, function_at, params_of}
+use Rattle.run_loading.specs.code_rules.Codes.{PlainCode, PlainFunction, plain_function, function_at, params_of}
 use Rattle.compiler_correctness.specs.lowering_relation.LoweredBodies.{has_function, one_more, if_function, function_of}
 use Rattle.compiler_correctness.specs.lowering_simulation.CellEnds.{IsFunctionOf}
 use Rattle.compiler_correctness.specs.cell_lower.Limits.{is_ruled, registers}
@@ -41,12 +41,6 @@ headed : (ms : List Member) (i : ℕ) (ds : List Instance) (n : ℕ) (h : Header
 headed ms i [] n h e = absurd (none-some h e)
 headed ms i (d ∷ ds) n h e = one_step d ds (registers ms i) (headers_from ms (suc i) ds) n h (λ m x. headed ms (suc i) ds m h x) d.kind refl e
 
--- the function in memory of a plain one
-memory_at : (fs : List Function) (n : ℕ) (f : PlainFunction) → slice_get (map plain_function fs) n ≡ Some f → (g : Function) × (slice_get fs n ≡ Some g) × (plain_function g ≡ f)
-memory_at [] n f e = absurd (none-some f e)
-memory_at (g ∷ fs) zero f e = (g, refl, same_Some (plain_function g) f e)
-memory_at (g ∷ fs) (suc n) f e = memory_at fs n f e
-
 root_of : (d : Instance) → 0 < length (entry_name d) → (d.root ≡ true) × (entry_name d ≡ d.name)
 root_of d h = by d.root refl h
   where
@@ -54,29 +48,45 @@ root_of d h = by d.root refl h
     by true e h = (e, ap (λ b. if b then d.name else []) e)
     by false e h = absurd (omega (arith, h))
 
+-- what a function says beside its instructions and labels
+abbrev pub plain_header : PlainFunction → Header
+plain_header f = record {
+  signature = record { kind = f.kind; params = f.params; credits = f.credits; results = f.results };
+  name = f.name;
+  registers = f.registers;
+}
+
+-- those of functions in memory
+pub headers_of : (fs : List Function) → map plain_header (map plain_function fs) ≡ map header fs
+headers_of [] = refl
+headers_of (f ∷ fs) = ap (λ hs. header f ∷ hs) (headers_of fs)
+
 -- the instance of a function that has a name
-pub record IsNamed (program : Program) (code : Code) (n : ℕ) (f : PlainFunction) : Type 0 where
+pub record IsNamed (program : Program) (c : PlainCode) (n : ℕ) (f : PlainFunction) : Type 0 where
   pub place : ℕ
   pub instance : Instance
   pub there : slice_get program.instances place ≡ Some instance
   pub root : instance.root ≡ true
   pub name : f.name ≡ instance.name
-  pub of' : IsFunctionOf program place (plain code) n
+  pub registers : ℕ
+  pub headed : plain_header f ≡ header_of registers instance
+  pub of' : IsFunctionOf program place c n
 
-pub named : (program : Program) (members : List Member) (code : Code) (n : ℕ) (f : PlainFunction) → code.types ≡ program.types → map header code.functions.items ≡ headers members program.instances → function_at (plain code) n ≡ Some f → 0 < length f.name → IsNamed program code n f
-named program members code n f types functions is some =
-    let g = memory_at code.functions.items n f is in
-    let at : slice_get (map header code.functions.items) n ≡ Some (header g.0) = slice_get-map header code.functions.items n ∙ ap (option_map header) g.1 in
-    let x = headed members 0 program.instances n (header g.0) (ap (λ hs. slice_get hs n) (sym functions) ∙ at) in
-    let called : f.name ≡ entry_name x.instance = sym (ap (λ (q : PlainFunction). q.name) g.2) ∙ ap (λ (h : Header). h.name) x.is in
+pub named : (program : Program) (members : List Member) (c : PlainCode) (n : ℕ) (f : PlainFunction) → c.types ≡ program.types → map plain_header c.functions ≡ headers members program.instances → function_at c n ≡ Some f → 0 < length f.name → IsNamed program c n f
+named program members c n f types functions is some =
+    let at : slice_get (map plain_header c.functions) n ≡ Some (plain_header f) = slice_get-map plain_header c.functions n ∙ ap (option_map plain_header) is in
+    let x = headed members 0 program.instances n (plain_header f) (ap (λ hs. slice_get hs n) (sym functions) ∙ at) in
+    let called : f.name ≡ entry_name x.instance = ap (λ (h : Header). h.name) x.is in
     let root = root_of x.instance (subst (λ s. 0 < length s) called some) in
-    let takes : f.params ≡ x.instance.params = sym (ap (λ (q : PlainFunction). q.params) g.2) ∙ ap (λ (h : Header). h.signature.params) x.is in
+    let takes : f.params ≡ x.instance.params = ap (λ (h : Header). h.signature.params) x.is in
     record {
       place = x.place;
       instance = x.instance;
       there = x.there;
       root = root.0;
       name = called ∙ root.1;
+      registers = x.registers;
+      headed = x.is;
       of' = record {
         function = x.function;
         types = types;

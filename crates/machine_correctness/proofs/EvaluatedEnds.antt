@@ -1,6 +1,6 @@
 -- What a machine answers is what the source means.
 -- Idea: a run comes to one end, so the end that the machine tells is the one that stands for the meaning.
-use Rattle.std.proofs.Common.{◌≡◌, ◌≢◌, ◌<◌, ◌≤◌, ℕ, true, List, [], length, refl, sym, ap, ◌∙◌, subst}
+use Rattle.std.proofs.Common.{◌≡◌, ◌≢◌, ◌<◌, ◌≤◌, ℕ, true, List, [], length, Some, refl, sym, ap, ◌∙◌, subst}
 use Rattle.fip_machine.specs.fip_language.Core.{Core}
 use Rattle.fip_machine.specs.fip_language.Meaning.{Answer, Gives, Trap, Out, Deep, Stuck, meaning}
 use Rattle.fip_machine.specs.fip_language.Statics.{NoClosed}
@@ -13,39 +13,43 @@ use Rattle.compiler_correctness.specs.machine_semantics.Runs as C
 use Rattle.compiler_correctness.specs.machine_semantics.Runs.{End, Run, Going, Over, Ends, begun, after}
 use Rattle.compiler_correctness.specs.machine_semantics.States.{State}
 use Rattle.compiler_correctness.specs.machine_semantics.Steps.{Kinds}
-use Rattle.run_loading.specs.code_rules.Codes.{PlainFunction, plain, is_fip, results, results_of}
+use Rattle.run_loading.specs.code_rules.Codes.{PlainCode, PlainFunction, plain, function_at, is_fip, results, results_of}
 use Rattle.run_loading.specs.code_rules.StackNumbers.{IsStack}
 use Rattle.run_loading.specs.separation.Codes.{run_code, AreKinds}
+use Rattle.run_loading.specs.separation.Starts.{IsStart}
 use Rattle.run_loading.proofs.separation.KindsFound.{kinds_found}
 use Rattle.run_loading.proofs.separation_bounds.Ending.{ends_once}
 use Rattle.run_loading.proofs.separation_bounds.FipRuns.{never_deep}
 use Rattle.fip_machine.specs.code_verify.Checked.{Checked}
 use Rattle.run_loading.specs.tree_refinement.Agreement.{AreWordsOf}
-use Rattle.run_loading.specs.tree_refinement.Runs.{IsSameEnd}
+use Rattle.run_loading.specs.tree_refinement.Runs.{BeginsWith, IsSameEnd}
 use Rattle.fip_machine.specs.declared.machine.Ended.{Ended}
 use Rattle.fip_machine.specs.Ending.{KnowsRun, RunsTo}
 use Rattle.machine_correctness.specs.Ended.{EndsJustAs, IsOverJust}
 use Rattle.machine_correctness.proofs.Drops.{known}
 use Rattle.machine_correctness.proofs.VerifiedEnds.{runs_just}
-use Rattle.compiler_correctness.specs.lowering_relation.LoweredFunctions.{AreLowered}
-use Rattle.compiler_correctness.specs.lowering_simulation.Lowered.{all_instrs}
 use Rattle.compiler_correctness.specs.lowering_simulation.CellEnds.{EndsAs}
 use Rattle.compiler_correctness.proofs.Joined.{on_cells_meant}
 use Rattle.machine_correctness.specs.Meant.{IsMeant}
 use Rattle.machine_correctness.specs.Starts.{IsSoundCode, IsCodeOf, Begins}
 use Rattle.machine_correctness.proofs.Entries.{named}
+use Rattle.machine_correctness.proofs.Made.{IsMadeOf, made_of}
 use Rattle.machine_correctness.proofs.Starting.{read, starts, free_is, fip}
 
 -- ---- the run of the definition
 
+pub ends_as : (source : List ℕ) (core : Core) (c : PlainCode) (before waits : Kinds) (n : ℕ) (f : PlainFunction) (vs : Values) (s : State) (calls : ℕ) → IsMadeOf source core c → IsStart c before waits n [] s → BeginsWith c n s vs → function_at c n ≡ Some f → 0 < length f.name → EndsAs c before n s calls (meaning core f.name NoClosed vs calls s.free).answer
+ends_as source core c before waits n f vs s calls h t b is some =
+    let x = named h.program h.members c n f h.types h.functions is some in
+    let ends = on_cells_meant source core h.program c h.parsed h.accepted h.lowered before waits x.place n x.instance vs [] s calls x.there x.root x.of' t b in
+    subst (λ name. EndsAs c before n s calls (meaning core name NoClosed vs calls s.free).answer) (sym x.name) ends
+
+-- of code in memory
 pub ends_as_meant : (source : List ℕ) (core : Core) (code : Code) (before waits : Kinds) (n : ℕ) (f : PlainFunction) (vs : Values) (frames : ℕ) (s : State) (calls : ℕ) → IsCodeOf source core code → AreKinds (plain code) before waits → Begins code n f vs frames s → 0 < length f.name → EndsAs (plain code) before n s calls (meaning core f.name NoClosed vs calls frames).answer
 ends_as_meant source core code before waits n f vs frames s calls h kinds b some =
     let t = starts code before waits n f vs frames s h.is_sound kinds b in
-    let x = named h.program h.members code n f h.types h.functions b.is some in
-    let lowered : AreLowered h.program (all_instrs (run_code (plain code))) = subst (λ (q : R.PlainCode). AreLowered h.program (all_instrs q)) (sym (read code)) h.lowered in
-    let ends = on_cells_meant source core h.program (plain code) h.parsed h.accepted lowered before waits x.place n x.instance vs [] s calls x.there x.root x.of' t.0 t.1 in
-    let with_name = subst (λ name. EndsAs (plain code) before n s calls (meaning core name NoClosed vs calls s.free).answer) (sym x.name) ends in
-    subst (λ free. EndsAs (plain code) before n s calls (meaning core f.name NoClosed vs calls free).answer) (free_is code n f vs frames s b) with_name
+    subst (λ free. EndsAs (plain code) before n s calls (meaning core f.name NoClosed vs calls free).answer) (free_is code n f vs frames s b)
+    (ends_as source core (plain code) before waits n f vs s calls (made_of source core code h) t.0 t.1 b.is some)
 
 -- ---- the machine's answer
 
@@ -127,15 +131,18 @@ deep_end tb types l left C.Out h = absurd h
 deep_end tb types l left C.Deep h = refl
 deep_end tb types l left C.Unsound h = absurd h
 
-pub not_deep : (source : List ℕ) (core : Core) (code : Code) (n : ℕ) (f : PlainFunction) (vs : Values) (frames : ℕ) (s : State) (calls : ℕ) (stack : Stack) → IsCodeOf source core code → Begins code n f vs frames s → 0 < length f.name → is_fip f.kind ≡ true → IsStack (plain code) n stack → stack.frames ≤ frames → (meaning core f.name NoClosed vs calls frames).answer ≢ Deep
-not_deep source core code n f vs frames s calls stack h b some k number enough e =
-    let c = plain code in
-    let found = kinds_found c in
-    let before = found.0 in
-    let waits = found.1 in
-    let start = (starts code before waits n f vs frames s h.is_sound found.2 b).0 in
-    let meant = ends_as_meant source core code before waits n f vs frames s calls h found.2 b some in
+pub meant_not_deep : (source : List ℕ) (core : Core) (c : PlainCode) (before waits : Kinds) (n : ℕ) (f : PlainFunction) (vs : Values) (s : State) (calls : ℕ) (stack : Stack) → IsMadeOf source core c → IsStart c before waits n [] s → BeginsWith c n s vs → function_at c n ≡ Some f → 0 < length f.name → is_fip f.kind ≡ true → IsStack c n stack → stack.frames ≤ s.free → (meaning core f.name NoClosed vs calls s.free).answer ≢ Deep
+meant_not_deep source core c before waits n f vs s calls stack h t b is some k number enough e =
+    let meant = ends_as source core c before waits n f vs s calls h t b is some in
     let deep = deep_end c.types (results c n) meant.last meant.left meant.end (subst (IsSameEnd c.types (results c n) meant.last meant.left meant.end) e meant.same) in
-    let free = subst (λ m. stack.frames ≤ m) (sym (free_is code n f vs frames s b)) enough in
-    never_deep c before waits n [] s calls meant.ends.enough stack meant.last meant.left meant.steps start (fip code n f vs frames s b k) number free
+    never_deep c before waits n [] s calls meant.ends.enough stack meant.last meant.left meant.steps t (fip c n f is k) number enough
     (meant.ends.is ∙ ap (λ end. Over end meant.last meant.left meant.steps) deep)
+
+-- of code in memory
+pub not_deep : (source : List ℕ) (core : Core) (code : Code) (n : ℕ) (f : PlainFunction) (vs : Values) (frames : ℕ) (s : State) (calls : ℕ) (stack : Stack) → IsCodeOf source core code → Begins code n f vs frames s → 0 < length f.name → is_fip f.kind ≡ true → IsStack (plain code) n stack → stack.frames ≤ frames → (meaning core f.name NoClosed vs calls frames).answer ≢ Deep
+not_deep source core code n f vs frames s calls stack h b some k number enough =
+    let found = kinds_found (plain code) in
+    let t = starts code found.0 found.1 n f vs frames s h.is_sound found.2 b in
+    let free = free_is code n f vs frames s b in
+    subst (λ m. (meaning core f.name NoClosed vs calls m).answer ≢ Deep) free
+    (meant_not_deep source core (plain code) found.0 found.1 n f vs s calls stack (made_of source core code h) t.0 t.1 b.is some k number (subst (λ m. stack.frames ≤ m) (sym free) enough))

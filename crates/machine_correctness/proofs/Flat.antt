@@ -1,6 +1,6 @@
 -- A fip entry's run in place, and what a gauge tells of it.
 -- Idea: what is so of the state after each number of steps is so of each state that the gauge sees.
-use Rattle.std.proofs.Common.{◌≡◌, ◌<◌, ◌≤◌, ◌+◌, ℕ, zero, suc, true, List, [], ◌∷◌, length, map, sym, ap, ap₂, ◌∙◌, subst, arith}
+use Rattle.std.proofs.Common.{◌≡◌, ◌<◌, ◌≤◌, ◌+◌, ℕ, zero, suc, true, List, [], ◌∷◌, length, map, Some, sym, ap, ap₂, ◌∙◌, subst, arith}
 use Rattle.std.specs.Prelude.{min, max}
 use Rattle.fip_machine.specs.fip_language.Every.{Every}
 use Rattle.fip_machine.specs.fip_language.Gauge.{Seen, lowest, highest, highest_frames, highest_words}
@@ -14,11 +14,13 @@ use Rattle.compiler_correctness.specs.machine_semantics.Gauges.{seen_of, states,
 use Rattle.compiler_correctness.specs.machine_semantics.Runs.{Value, Trap, Out, Deep, Unsound, Run, Going, Over, state_of, begun, after, later}
 use Rattle.compiler_correctness.specs.machine_semantics.States.{State, frames_held, words_held}
 use Rattle.compiler_correctness.specs.machine_semantics.Steps.{Kinds}
-use Rattle.run_loading.specs.code_rules.Codes.{PlainFunction, plain, is_fip}
+use Rattle.run_loading.specs.code_rules.Codes.{PlainCode, PlainFunction, plain, function_at, is_fip}
 use Rattle.run_loading.specs.code_rules.StackNumbers.{IsStack}
-use Rattle.run_loading.specs.separation.Codes.{AreKinds}
+use Rattle.run_loading.specs.separation.Codes.{run_code, AreKinds}
+use Rattle.run_loading.specs.separation.Starts.{IsStart}
 use Rattle.run_loading.proofs.separation_bounds.FipRuns.{frames_within, words_within}
 use Rattle.run_loading.proofs.separation_bounds.Falling.{fip_count}
+use Rattle.run_loading.specs.tree_refinement.Runs.{BeginsWith}
 use Rattle.fip_machine.specs.code_verify.Checked.{Checked}
 use Rattle.fip_machine.specs.declared.gauge.Gauge.{Gauge}
 use Rattle.fip_machine.specs.GaugeView.{Tells, TellsRun}
@@ -26,32 +28,39 @@ use Rattle.machine_correctness.specs.Ended.{TellsJustOver}
 use Rattle.machine_correctness.proofs.VerifiedEnds.{tells_just_run}
 use Rattle.machine_correctness.specs.Gauges.{IsFlat, cells_given}
 use Rattle.machine_correctness.specs.Starts.{IsSoundCode, Begins}
-use Rattle.machine_correctness.proofs.Starting.{read, starts, fip, first_cells}
+use Rattle.machine_correctness.proofs.Starting.{read, starts, fip, cells_at_start}
 
 -- ---- each state
 
-module _ (code : Code) (before waits : Kinds) (n : ℕ) (f : PlainFunction) (vs : Values) (frames : ℕ) (s : State) (calls : ℕ) (sound : IsSoundCode code) (kinds : AreKinds (plain code) before waits) (b : Begins code n f vs frames s) (k : is_fip f.kind ≡ true) where
+module _ (c : PlainCode) (before waits : Kinds) (n : ℕ) (f : PlainFunction) (vs : Values) (s : State) (calls : ℕ) (t : IsStart c before waits n [] s) (b : BeginsWith c n s vs) (is : function_at c n ≡ Some f) (k : is_fip f.kind ≡ true) where
   abbrev at : ℕ → State
-  at steps = state_of (after before (R.plain code) steps (begun s calls))
+  at steps = state_of (after before (run_code c) steps (begun s calls))
 
-  pub each_cells : (steps size : ℕ) → count_held size (at steps).store ≡ cells_of_all size vs + count size f.credits
-  each_cells steps size =
-      let t = starts code before waits n f vs frames s sound kinds b in
-      let held = fip_count (plain code) before waits n [] s calls steps size t.0 (fip code n f vs frames s b k) in
-      subst (λ (q : R.PlainCode). count_held size (state_of (after before q steps (begun s calls))).store ≡ count_held size s.store) (read code) held
-      ∙ first_cells code before waits n f vs frames s size sound kinds b
+  pub all_cells : (steps size : ℕ) → count_held size (at steps).store ≡ cells_given size vs f.credits
+  all_cells steps size = fip_count c before waits n [] s calls steps size t (fip c n f is k) ∙ cells_at_start c before waits n f vs s size t b is
 
-  pub each_frames : (steps : ℕ) (stack : Stack) → IsStack (plain code) n stack → frames_held (at steps) ≤ stack.frames
-  each_frames steps stack number =
-      let t = starts code before waits n f vs frames s sound kinds b in
-      let within = frames_within (plain code) before waits n [] s calls steps stack t.0 (fip code n f vs frames s b k) number in
-      subst (λ (q : R.PlainCode). frames_held (state_of (after before q steps (begun s calls))) ≤ stack.frames) (read code) within
+  pub all_frames : (steps : ℕ) (stack : Stack) → IsStack c n stack → frames_held (at steps) ≤ stack.frames
+  all_frames steps stack number = frames_within c before waits n [] s calls steps stack t (fip c n f is k) number
 
-  pub each_words : (steps : ℕ) (stack : Stack) → IsStack (plain code) n stack → words_held (at steps) ≤ stack.words
-  each_words steps stack number =
-      let t = starts code before waits n f vs frames s sound kinds b in
-      let within = words_within (plain code) before waits n [] s calls steps stack t.0 (fip code n f vs frames s b k) number in
-      subst (λ (q : R.PlainCode). words_held (state_of (after before q steps (begun s calls))) ≤ stack.words) (read code) within
+  pub all_words : (steps : ℕ) (stack : Stack) → IsStack c n stack → words_held (at steps) ≤ stack.words
+  all_words steps stack number = words_within c before waits n [] s calls steps stack t (fip c n f is k) number
+
+-- of code in memory
+module _ (code : Code) (before waits : Kinds) (n : ℕ) (f : PlainFunction) (vs : Values) (frames : ℕ) (s : State) (calls : ℕ) (sound : IsSoundCode code) (kinds : AreKinds (plain code) before waits) (b : Begins code n f vs frames s) (k : is_fip f.kind ≡ true) where
+  abbrev steps_to : R.PlainCode → ℕ → State
+  steps_to q steps = state_of (after before q steps (begun s calls))
+
+  abbrev t : IsStart (plain code) before waits n [] s × BeginsWith (plain code) n s vs
+  t = starts code before waits n f vs frames s sound kinds b
+
+  pub each_cells : (steps size : ℕ) → count_held size (steps_to (R.plain code) steps).store ≡ cells_of_all size vs + count size f.credits
+  each_cells steps size = subst (λ q. count_held size (steps_to q steps).store ≡ cells_of_all size vs + count size f.credits) (read code) (all_cells (plain code) before waits n f vs s calls t.0 t.1 b.is k steps size)
+
+  pub each_frames : (steps : ℕ) (stack : Stack) → IsStack (plain code) n stack → frames_held (steps_to (R.plain code) steps) ≤ stack.frames
+  each_frames steps stack number = subst (λ q. frames_held (steps_to q steps) ≤ stack.frames) (read code) (all_frames (plain code) before waits n f vs s calls t.0 t.1 b.is k steps stack number)
+
+  pub each_words : (steps : ℕ) (stack : Stack) → IsStack (plain code) n stack → words_held (steps_to (R.plain code) steps) ≤ stack.words
+  each_words steps stack number = subst (λ q. words_held (steps_to q steps) ≤ stack.words) (read code) (all_words (plain code) before waits n f vs s calls t.0 t.1 b.is k steps stack number)
 
 -- ---- all states that are seen
 
@@ -96,6 +105,31 @@ words_bounded : (c : ℕ) (ss : List State) → Every (λ (u : State). words_hel
 words_bounded c [] h = omega arith
 words_bounded c (s ∷ ss) h = most (words_held s) (highest_words (map seen_of ss)) c h.0 (words_bounded c ss h.1)
 
+-- what is seen of a run in place, as far as one goes
+pub record IsFlatRun (vs : Values) (credits : List ℕ) (stack : Stack) (ss : List Seen) : Type 0 where
+  pub lowest : (size : ℕ) → lowest size ss ≡ cells_given size vs credits
+  pub highest : (size : ℕ) → highest size ss ≡ cells_given size vs credits
+  pub frames : highest_frames ss ≤ stack.frames
+  pub words : highest_words ss ≤ stack.words
+
+flat_run : (before : Kinds) (code : R.PlainCode) (s : State) (calls : ℕ) (vs : Values) (credits : List ℕ) (stack : Stack) (m : ℕ) → ((j size : ℕ) → count_held size (state_of (after before code j (begun s calls))).store ≡ cells_given size vs credits) → ((j : ℕ) → frames_held (state_of (after before code j (begun s calls))) ≤ stack.frames) → ((j : ℕ) → words_held (state_of (after before code j (begun s calls))) ≤ stack.words) → IsFlatRun vs credits stack (seen before code m (begun s calls))
+flat_run before code s calls vs credits stack m held in_frames in_words =
+    let ss : List State = states before code m (begun s calls) in
+    let some = some_state before code m (begun s calls) in
+    let cells : (size : ℕ) → Every (λ (u : State). count_held size u.store ≡ cells_given size vs credits) ss =
+    λ size. all_states (λ (u : State). count_held size u.store ≡ cells_given size vs credits) before code m (begun s calls) (λ j. held j size) in
+    record {
+      lowest = λ size. lowest_flat size (cells_given size vs credits) ss some (cells size);
+      highest = λ size. highest_flat size (cells_given size vs credits) ss some (cells size);
+      frames = frames_bounded stack.frames ss (all_states (λ (u : State). frames_held u ≤ stack.frames) before code m (begun s calls) in_frames);
+      words = words_bounded stack.words ss (all_states (λ (u : State). words_held u ≤ stack.words) before code m (begun s calls) in_words);
+    }
+
+pub runs_flat : (c : PlainCode) (before waits : Kinds) (n : ℕ) (f : PlainFunction) (vs : Values) (s : State) (calls m : ℕ) (stack : Stack) → IsStart c before waits n [] s → BeginsWith c n s vs → function_at c n ≡ Some f → is_fip f.kind ≡ true → IsStack c n stack → IsFlatRun vs f.credits stack (seen before (run_code c) m (begun s calls))
+runs_flat c before waits n f vs s calls m stack t b is k number =
+    flat_run before (run_code c) s calls vs f.credits stack m (λ j size. all_cells c before waits n f vs s calls t b is k j size)
+    (λ j. all_frames c before waits n f vs s calls t b is k j stack number) (λ j. all_words c before waits n f vs s calls t b is k j stack number)
+
 -- ---- the gauge
 
 tells : (r : Run) (g : Gauge) (ss : List Seen) → TellsJustOver r g ss → Tells g ss
@@ -108,18 +142,17 @@ tells (Over Unsound s left n) g ss h = absurd h
 
 pub gauge_flat : (v : Checked) (before waits : Kinds) (n : ℕ) (f : PlainFunction) (vs : Values) (frames : ℕ) (s : State) (calls : ℕ) (stack : Stack) (g : Gauge) → IsSoundCode v.code → AreKinds (plain v.code) before waits → Begins v.code n f vs frames s → is_fip f.kind ≡ true → IsStack (plain v.code) n stack → TellsRun before (R.plain v.code) s calls g → IsFlat g vs f.credits stack
 gauge_flat v before waits n f vs frames s calls stack g sound kinds b k number runs =
-    let code = R.plain v.code in
     let start = (starts v.code before waits n f vs frames s sound kinds b).0 in
     let just = tells_just_run v before waits n [] s calls g start runs in
-    let t = tells (after before code just.0 (begun s calls)) g (seen before code just.0 (begun s calls)) just.1 in
-    let some = some_state before code just.0 (begun s calls) in
-    let cells : (size : ℕ) → Every (λ (u : State). count_held size u.store ≡ cells_given size vs f.credits) (states before code just.0 (begun s calls)) =
-    λ size. all_states (λ (u : State). count_held size u.store ≡ cells_given size vs f.credits) before code just.0 (begun s calls) (λ j. each_cells v.code before waits n f vs frames s calls sound kinds b k j size) in
-    let all_frames = all_states (λ (u : State). frames_held u ≤ stack.frames) before code just.0 (begun s calls) (λ j. each_frames v.code before waits n f vs frames s calls sound kinds b k j stack number) in
-    let all_words = all_states (λ (u : State). words_held u ≤ stack.words) before code just.0 (begun s calls) (λ j. each_words v.code before waits n f vs frames s calls sound kinds b k j stack number) in
+    let ss : List Seen = seen before (R.plain v.code) just.0 (begun s calls) in
+    let t = tells (after before (R.plain v.code) just.0 (begun s calls)) g ss just.1 in
+    let flat : IsFlatRun vs f.credits stack ss = flat_run before (R.plain v.code) s calls vs f.credits stack just.0
+    (λ j size. each_cells v.code before waits n f vs frames s calls sound kinds b k j size)
+    (λ j. each_frames v.code before waits n f vs frames s calls sound kinds b k j stack number)
+    (λ j. each_words v.code before waits n f vs frames s calls sound kinds b k j stack number) in
     record {
-      lowest = λ size one few. t.lowest size one few ∙ lowest_flat size (cells_given size vs f.credits) (states before code just.0 (begun s calls)) some (cells size);
-      highest = λ size one few. t.highest size one few ∙ highest_flat size (cells_given size vs f.credits) (states before code just.0 (begun s calls)) some (cells size);
-      frames = subst (λ m. m ≤ stack.frames) (sym t.frames) (frames_bounded stack.frames (states before code just.0 (begun s calls)) all_frames);
-      words = subst (λ m. m ≤ stack.words) (sym t.words) (words_bounded stack.words (states before code just.0 (begun s calls)) all_words);
+      lowest = λ size one few. t.lowest size one few ∙ flat.lowest size;
+      highest = λ size one few. t.highest size one few ∙ flat.highest size;
+      frames = subst (λ m. m ≤ stack.frames) (sym t.frames) flat.frames;
+      words = subst (λ m. m ≤ stack.words) (sym t.words) flat.words;
     }

@@ -4,6 +4,7 @@ pub mod Literals
 pub mod Entries
 pub mod Starting
 pub mod Texts
+pub mod Made
 pub mod EvaluatedEnds
 pub mod Flat
 pub mod Peaks

@@ -11,7 +11,7 @@ use Rattle.compiler_correctness.specs.machine_semantics.Codes as R
 use Rattle.compiler_correctness.specs.machine_semantics.Runs.{loaded}
 use Rattle.compiler_correctness.specs.machine_semantics.States.{State}
 use Rattle.compiler_correctness.specs.machine_semantics.Steps.{Kinds}
-use Rattle.run_loading.specs.code_rules.Codes.{PlainFunction, plain, function_at, is_fip}
+use Rattle.run_loading.specs.code_rules.Codes.{PlainCode, PlainFunction, plain, function_at, is_fip}
 use Rattle.run_loading.specs.code_rules.StackNumbers.{IsFip}
 use Rattle.run_loading.specs.separation.Codes.{run_code, AreKinds}
 use Rattle.run_loading.specs.separation.Starts.{IsStart}
@@ -55,17 +55,17 @@ starts code before waits n f vs frames s sound kinds b =
 pub free_is : (code : Code) (n : ℕ) (f : PlainFunction) (vs : Values) (frames : ℕ) (s : State) → Begins code n f vs frames s → s.free ≡ frames
 free_is code n f vs frames s b = ap (λ (u : State). u.free) (loaded_is (plain code) n f s.store b.words frames s b.is (is_loaded code n f vs frames s b))
 
-pub fip : (code : Code) (n : ℕ) (f : PlainFunction) (vs : Values) (frames : ℕ) (s : State) → Begins code n f vs frames s → is_fip f.kind ≡ true → IsFip (plain code) n
-fip code n f vs frames s b k = (f, b.is, k)
+pub fip : (c : PlainCode) (n : ℕ) (f : PlainFunction) → function_at c n ≡ Some f → is_fip f.kind ≡ true → IsFip c n
+fip c n f is k = (f, is, k)
 
-pub first_cells : (code : Code) (before waits : Kinds) (n : ℕ) (f : PlainFunction) (vs : Values) (frames : ℕ) (s : State) (size : ℕ) → IsSoundCode code → AreKinds (plain code) before waits → Begins code n f vs frames s → count_held size s.store ≡ cells_of_all size vs + count size f.credits
-first_cells code before waits n f vs frames s size sound kinds b =
-    let t = starts code before waits n f vs frames s sound kinds b in
-    let held = start_held (plain code) before waits n [] s size t.0 in
-    let same : values_of t.0.given.arguments ≡ vs = begins_values (plain code) before waits n [] s t.0 vs t.1 in
-    let own : t.0.function ≡ f = same_Some t.0.function f (sym t.0.is ∙ b.is) in
-    let values : cells_of_all size (values_of t.0.given.arguments) ≡ cells_of_all size vs = ap (cells_of_all size) same in
-    let credits : count size t.0.function.credits ≡ count size f.credits = ap (λ (g : PlainFunction). count size g.credits) own in
+-- the cells of what begins are those of its arguments and of its credits
+pub cells_at_start : (c : PlainCode) (before waits : Kinds) (n : ℕ) (f : PlainFunction) (vs : Values) (s : State) (size : ℕ) → IsStart c before waits n [] s → BeginsWith c n s vs → function_at c n ≡ Some f → count_held size s.store ≡ cells_of_all size vs + count size f.credits
+cells_at_start c before waits n f vs s size t b is =
+    let held = start_held c before waits n [] s size t in
+    let same : values_of t.given.arguments ≡ vs = begins_values c before waits n [] s t vs b in
+    let own : t.function ≡ f = same_Some t.function f (sym t.is ∙ is) in
+    let values : cells_of_all size (values_of t.given.arguments) ≡ cells_of_all size vs = ap (cells_of_all size) same in
+    let credits : count size t.function.credits ≡ count size f.credits = ap (λ (g : PlainFunction). count size g.credits) own in
     omega (arith, held, values, credits)
 
 -- ---- a new store

@@ -1,4 +1,5 @@
--- What a gauge tells of a run in place; and what is seen of the states of any run that gives values.
+-- What a gauge tells of a run in place; what is seen of the states of any run that gives values; and how high the stack
+-- of any run is.
 --
 -- Of rev of Cons(1, Cons(2, Nil)) and Nil it tells 2 as the lowest and the highest number of cells of size 2, and 0 of
 -- each other size; no frame, and 9 words.
@@ -34,5 +35,10 @@ pub record IsMeasured (vs results : Values) (params : List Param) (credits : Lis
   pub lowest : (size : ℕ) → 1 ≤ size →
       lowest size ss ≡ cells_of_all size results + cells_of_all size (lent_values params vs)
   pub highest : (size : ℕ) → 1 ≤ size → highest size ss ≡ cells_given size vs credits
+  pub frames : highest_frames ss ≡ peak.frames
+  pub words : highest_words ss ≡ peak.words
+
+-- Over these states the stack is as high as this peak.
+pub record IsAsHigh (peak : Peak) (ss : List Seen) : Type 0 where
   pub frames : highest_frames ss ≡ peak.frames
   pub words : highest_words ss ≡ peak.words

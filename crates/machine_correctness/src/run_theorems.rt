@@ -28,7 +28,7 @@ ghost use Rattle.fip_machine.specs.GaugeView.{TellsRun};
 ghost use Rattle.run_loading.specs.Loading.{first_store, first_words};
 ghost use Rattle.fip_machine.specs.machine_cells.Small.{store_of};
 ghost use Rattle.value_text.specs.Loaded.{types_of, IsLoaded};
-ghost use Rattle.machine_correctness.specs.Gauges.{IsFlat, IsMeasured};
+ghost use Rattle.machine_correctness.specs.Gauges.{IsAsHigh, IsFlat, IsMeasured};
 ghost use Rattle.machine_correctness.specs.Meant.{IsMeant, ArePrintable};
 ghost use Rattle.machine_correctness.specs.Starts.{IsSoundCode, IsCodeOf, Begins};
 
@@ -119,5 +119,18 @@ pub fn a_run_is_measured_by_its_evaluation()
         (meaning core f.name NoClosed vs calls frames).answer ≡ Gives results rest →
         (e : Ends before (run_code (plain code)) s calls end last left steps) →
         IsMeasured vs results f.params f.credits (meaning core f.name NoClosed vs calls frames).peak
+        (seen before (run_code (plain code)) e.enough (begun s calls)) }
+{}
+
+/// The most frames beside the entry's and the most words of all frames over the states of a run are the peak of the
+/// evaluation that the source means, also where that traps or lacks calls or frames: of each run that has a call. For
+/// who asks how much stack a run took that gave no value.
+pub fn a_run_is_as_high_as_its_evaluation()
+    ensures law { (source : List ℕ) (core : Core) (code : Code) (before waits : Kinds) (n : ℕ) (f : PlainFunction)
+        (vs : Values) (frames : ℕ) (s : State) (calls : ℕ) (end : End) (last : State) (left steps : ℕ) →
+        (h : IsCodeOf source core code) → AreMembers h.program.instances h.members →
+        AreKinds (plain code) before waits → Begins code n f vs frames s → 0 < length f.name → 0 < calls →
+        (e : Ends before (run_code (plain code)) s calls end last left steps) →
+        IsAsHigh (meaning core f.name NoClosed vs calls frames).peak
         (seen before (run_code (plain code)) e.enough (begun s calls)) }
 {}

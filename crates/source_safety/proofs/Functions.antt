@@ -1,6 +1,6 @@
 -- A function of an accepted source is an instance of its typed program, which means what the function means; and that
 -- program's fip instances run in place.
-use Rattle.std.proofs.Common.{◌≡◌, inl, inr, ℕ, zero, suc, ◌+◌, List, [], ◌∷◌, ◌++◌, Some, slice_get, refl, sym, ap, ◌∙◌, subst, arith}
+use Rattle.std.proofs.Common.{◌≡◌, ◌≤◌, inl, inr, ℕ, zero, suc, ◌+◌, ◌-◌, List, [], ◌∷◌, ◌++◌, Some, slice_get, refl, sym, ap, ◌∙◌, subst, arith}
 use Rattle.in_place_safety.specs.fip_language.declared.FunKind.TheVariants.{Fip}
 use Rattle.in_place_safety.specs.fip_language.Core as C
 use Rattle.in_place_safety.specs.fip_language.Core.{Static, Function, Core}
@@ -8,6 +8,9 @@ use Rattle.in_place_safety.specs.fip_language.Every.{Every, Among}
 use Rattle.in_place_safety.specs.fip_language.Mentions.{all_of}
 use Rattle.in_place_safety.proofs.fip_language.Words.{map_at}
 use Rattle.in_place_safety.specs.fip_language.Meaning.{meaning}
+use Rattle.in_place_safety.specs.fip_language.Table.{Table, HaveTypes}
+use Rattle.in_place_safety.proofs.fip_language.Frames.{more_frames}
+use Rattle.in_place_safety.specs.fip_base.declared.plain.Stack.{Stack}
 use Rattle.in_place_safety.specs.fip_language.Statics.{Closeds, NoClosed}
 use Rattle.in_place_safety.specs.fip_language.Values.{Values}
 use Rattle.in_place_safety.proofs.fip_language.Search.{slice_get_there}
@@ -24,7 +27,8 @@ use Rattle.in_place_safety.specs.type_check.World.{world}
 use Rattle.in_place_safety.specs.instance_semantics.Meaning.{flat_meaning}
 use Rattle.in_place_safety.specs.tail_groups.Members.{AreMembers}
 use Rattle.in_place_safety.proofs.type_safety.FilledSlots.{filled_means}
-use Rattle.in_place_safety.specs.InPlace.{RunsInPlace}
+use Rattle.in_place_safety.specs.type_safety.Soundness.{parameter_types}
+use Rattle.in_place_safety.specs.InPlace.{EndsInPlace, RunsInPlace}
 use Rattle.specialisation_correctness.specs.static_params.FlatSource.{flat_source}
 use Rattle.specialisation_correctness.specs.source_report.Report.{IsParsed, IsFlat, IsAccepted}
 use Rattle.specialisation_correctness.proofs.source_report.Once.{parsed_once}
@@ -65,6 +69,15 @@ mutual
 functions_have : (fs : List Function) → Every (λ (f : Function). Q.FitsBlock f.body) fs → Every BodyHasClauses fs
 functions_have [] h = tt
 functions_have (f ∷ fs) h = (block_has f.body h.0, functions_have fs h.1)
+
+-- ---- frames
+
+-- where a run lacks no frame with so many, more of them change nothing
+same_frames : (core : Core) (name : List ℕ) (given : Closeds) (tb : Table) (d : Instance) (vs : Values) (s : Stack) (calls frames : ℕ) → RunsInPlace tb d vs s s.frames (meaning core name given vs calls s.frames) → s.frames ≤ frames → meaning core name given vs calls frames ≡ meaning core name given vs calls s.frames
+same_frames core name given tb d vs s calls frames h le =
+    let all : s.frames + (frames - s.frames) ≡ frames = omega (arith, le) in
+    ap (λ m. meaning core name given vs calls m) (sym all)
+    ∙ more_frames core name given vs calls s.frames (frames - s.frames) (λ e. subst (EndsInPlace tb d vs) e h.ends)
 
 -- ---- the instance of a function
 
@@ -134,6 +147,11 @@ module _ (source : List ℕ) (q : Program) (h : IsFlat source q) where
       let d : Instance = fill_instance (world flat) (flat_instance (flat_source core) ns (here place) f) in
       let there : slice_get p.instances r.number ≡ Some d = ap (λ (p : Program). slice_get p.instances r.number) same ∙ get_map (fill_instance (world flat)) flat.instances r.number (flat_instance (flat_source core) ns (here place) f) r.there in
       let s = accepted_stack source p ms r.number d accepted members there k in
+      let runs : (vs : Values) (n free : ℕ) → HaveTypes p.types (parameter_types d) vs → (s.1).frames ≤ free → RunsInPlace p.types d vs s.1 free (meaning core f.name NoClosed vs n free) =
+      λ vs n free typed l.
+      subst (RunsInPlace p.types d vs s.1 free)
+      (ap (λ p. flat_meaning p r.number vs n free) same ∙ filled_means flat r.number vs n free ∙ r.means vs n free)
+      (accepted_in_place source p ms r.number d s.0 s.1 vs n free accepted members there k s.2 s.3 typed l) in
       record {
         number = r.number;
         instance = d;
@@ -143,10 +161,8 @@ module _ (source : List ℕ) (q : Program) (h : IsFlat source q) where
         found = s.2;
         stack = s.1;
         known = s.3;
-        runs = λ vs n free typed l.
-            subst (RunsInPlace p.types d vs s.1 free)
-            (ap (λ p. flat_meaning p r.number vs n free) same ∙ filled_means flat r.number vs n free ∙ r.means vs n free)
-            (accepted_in_place source p ms r.number d s.0 s.1 vs n free accepted members there k s.2 s.3 typed l);
+        runs = runs;
+        same = λ vs n free typed l. same_frames core f.name NoClosed p.types d vs s.1 n free (runs vs n (s.1).frames typed (omega arith)) l;
       }
 
 -- ---- instances
@@ -195,16 +211,19 @@ module _ (source : List ℕ) (q : Program) (h : IsFlat source q) where
       let m = flat_means i d.0 d.1 in
       let name : d.0.name ≡ f.name = ap (λ (d : Instance). d.name) d.2 in
       let s = accepted_stack source p ms i f accepted members there k in
+      let runs : (vs : Values) (n free : ℕ) → HaveTypes p.types (parameter_types f) vs → (s.1).frames ≤ free → RunsInPlace p.types f vs s.1 free (meaning h.core f.name m.0 vs n free) =
+      λ vs n free typed l.
+      subst (RunsInPlace p.types f vs s.1 free)
+      (ap (λ p. flat_meaning p i vs n free) same ∙ filled_means (flat source q h) i vs n free ∙ m.1 vs n free ∙ ap (λ x. meaning h.core x m.0 vs n free) name)
+      (accepted_in_place source p ms i f s.0 s.1 vs n free accepted members there k s.2 s.3 typed l) in
       record {
         given = m.0;
         member = s.0;
         found = s.2;
         stack = s.1;
         known = s.3;
-        runs = λ vs n free typed l.
-            subst (RunsInPlace p.types f vs s.1 free)
-            (ap (λ p. flat_meaning p i vs n free) same ∙ filled_means (flat source q h) i vs n free ∙ m.1 vs n free ∙ ap (λ x. meaning h.core x m.0 vs n free) name)
-            (accepted_in_place source p ms i f s.0 s.1 vs n free accepted members there k s.2 s.3 typed l);
+        runs = runs;
+        same = λ vs n free typed l. same_frames h.core f.name m.0 p.types f vs s.1 n free (runs vs n (s.1).frames typed (omega arith)) l;
       }
 
 pub instance_in_place : (source : List ℕ) (core : Core) (p : Program) (ms : List Member) (i : ℕ) (f : Instance) → IsParsed source core → IsAccepted source p → AreMembers p.instances ms → slice_get p.instances i ≡ Some f → f.kind ≡ Fip → InstanceRunsAsMeant core p ms i f

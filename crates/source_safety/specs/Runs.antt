@@ -1,6 +1,6 @@
 -- A function of a source, in the source's typed program: it is an instance of its name that has a stack number; and on
 -- arguments of its parameters' types, with as many free frames as that number says, what the source means by it is a
--- run in place.
+-- run in place, and the same with any more of them.
 -- For example `fip fun rev(xs: list): list { .. }`, which calls only itself in tail position: with one free frame it
 -- turns the cells of its list into those of its result.
 use Rattle.std.specs.Prelude.{◌≡◌, ◌≤◌, ℕ, List, Some, slice_get}
@@ -27,6 +27,9 @@ pub record RunsAsMeant (core : Core) (p : Program) (ms : List Member) (f : Funct
   pub runs : (arguments : Values) (calls frames : ℕ) → HaveTypes p.types (parameter_types instance) arguments →
       stack.frames ≤ frames →
       RunsInPlace p.types instance arguments stack frames (meaning core f.name NoClosed arguments calls frames)
+  pub same : (arguments : Values) (calls frames : ℕ) → HaveTypes p.types (parameter_types instance) arguments →
+      stack.frames ≤ frames →
+      meaning core f.name NoClosed arguments calls frames ≡ meaning core f.name NoClosed arguments calls stack.frames
 
 -- The same of an instance, which may have static parameters: it stands for its function with what is given for them.
 -- For example `map[int, int, next]`, where `next` is given for the function parameter of `map`.
@@ -40,3 +43,7 @@ pub record InstanceRunsAsMeant (core : Core) (p : Program) (ms : List Member) (n
   pub runs : (arguments : Values) (calls frames : ℕ) → HaveTypes p.types (parameter_types instance) arguments →
       stack.frames ≤ frames →
       RunsInPlace p.types instance arguments stack frames (meaning core instance.name given arguments calls frames)
+  pub same : (arguments : Values) (calls frames : ℕ) → HaveTypes p.types (parameter_types instance) arguments →
+      stack.frames ≤ frames →
+      meaning core instance.name given arguments calls frames
+      ≡ meaning core instance.name given arguments calls stack.frames

@@ -11,7 +11,7 @@ ghost use Rattle.source_safety.specs.Runs.{InstanceRunsAsMeant, RunsAsMeant};
 /// Each fip function without static parameters of an accepted source runs in place, by what the source means: called
 /// with arguments of its parameters' types and with as many free frames as its stack number says, it gives values of
 /// its results' types with just the cells that it was given, or ends in a trap or out of calls; it is never stuck, and
-/// its stack stays within its number. For who reads the source alone.
+/// its stack stays within its number. With any more frames it means the same. For who reads the source alone.
 pub fn accepted_functions_run_in_place()
     ensures law { (source : List ℕ) (core : Core) (program : Program) (members : List Member) (place : ℕ)
         (f : Function) → IsParsed source core → IsAccepted source program →
@@ -22,7 +22,7 @@ pub fn accepted_functions_run_in_place()
 {}
 
 /// Each fip instance of an accepted source runs in place, by what the source means by its function with what is given
-/// for its static parameters. For who reads a source with static parameters.
+/// for its static parameters; and with any more frames it means the same. For who reads a source with static parameters.
 pub fn accepted_instances_run_in_place()
     ensures law { (source : List ℕ) (core : Core) (program : Program) (members : List Member) (i : ℕ)
         (f : Instance) → IsParsed source core → IsAccepted source program →

@@ -5,7 +5,7 @@ use Rattle.code_verify.specs.code_rules.Codes.{plain}
 use Rattle.compiler_correctness.proofs.SoundnessFunctions.{headed_in_memory}
 use Rattle.compiler_correctness.proofs.SoundnessWhole.{laid_out_is_sound}
 use Rattle.compiler_correctness.proofs.StackNumbers.{laid_out_has_stacks}
-use Rattle.command_source.proofs.Compiling.{headed}
+use Rattle.command_source.proofs.Compiling.{headed, lists_few}
 use Rattle.command_source.proofs.Told.{report_keeps}
 use Rattle.command_source.proofs.phases.lawful.Goals as goal
 
@@ -14,6 +14,9 @@ returns-in-Err-clause-kept c = λ w. report_keeps c.args.source.now w c.failure_
 
 pub returns-in-Ok-clause-code : goal.returns-in-Ok-clause-code
 returns-in-Ok-clause-code c = headed (program c.in-Ok.lowered.typed.program) c.in-Ok.lowered.code c.in-Ok.lowered.groups c.in-Ok.ensures.groups c.in-Ok.ensures.types c.in-Ok.ensures.functions c.in-Ok.ensures.lowered c.in-Ok.ensures.bounded
+    (let p = program c.in-Ok.lowered.typed.program in
+    lists_few c.args.source.now p c.in-Ok.lowered.code c.in-Ok.ensures.accepted
+    (subst (λ ns. IsAsked p ns → IsLaidOut p (plain c.in-Ok.lowered.code)) c.in-Ok.ensures.needs c.in-Ok.ensures.laid))
     (let p = program c.in-Ok.lowered.typed.program in
     laid_out_has_stacks c.args.source.now p c.in-Ok.ensures.accepted (plain c.in-Ok.lowered.code)
     (headed_in_memory p c.in-Ok.lowered.groups c.in-Ok.lowered.code c.in-Ok.ensures.groups c.in-Ok.ensures.types c.in-Ok.ensures.functions)

@@ -1,0 +1,4 @@
+pub mod Walk
+pub mod Lengths
+pub mod Whole
+pub mod Examples

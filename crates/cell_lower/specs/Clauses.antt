@@ -20,7 +20,7 @@ use Rattle.lower_frame.specs.lowering_relation.Landing.{Side}
 use Rattle.lower_frame.specs.lowering_relation.Entering.{entering_root}
 use Rattle.lower_frame.specs.lowering_relation.Losing.{Loses, Resumes}
 use Rattle.lower_frame.specs.lowering_relation.WellMatched.{WellMatched, WellMatchedBlock, WellMatchedClauses}
-use Rattle.lower_frame.proofs.lowering_relation.Choices.{patterns_in}
+use Rattle.lowering_relation.proofs.Choices.{patterns_in}
 use Rattle.cell_lower.specs.declared.choices.Choice.{Choice}
 use Rattle.cell_lower.specs.declared.matches.Matching.{Matching}
 use Rattle.cell_lower.specs.declared.matches.Progress.{Progress}

@@ -19,7 +19,7 @@ ghost use Rattle.cell_lower.specs.Marks.{MarkedFor, MarkedIf};
 ghost use Rattle.cell_lower.specs.Matches.{BeginsLaid, EndsInLaid, EndsMatchLaid, GoesLaid, JoinsLaid, StartsLaid};
 ghost use Rattle.lower_frame.specs.Labels.{labels};
 ghost use Rattle.lower_frame.specs.lowering_relation.Values.{is_scalar};
-ghost use Rattle.lower_frame.proofs.lowering_relation.Choices.{patterns_in};
+ghost use Rattle.lowering_relation.proofs.Choices.{patterns_in};
 ghost use Rattle.cell_lower.specs.Writing.{setting, target_of};
 
 use crate::choices::{Choice, Side, is_named, start_of};

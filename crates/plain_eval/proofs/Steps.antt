@@ -16,7 +16,9 @@ use Rattle.fip_trees.specs.declared.program.Block.{Block}
 use Rattle.fip_trees.specs.declared.program.Binder.{Binder}
 use Rattle.instance_semantics.specs.Matching.{matching}
 use Rattle.instance_semantics.specs.Meaning.{argument_value, argument_values, bind_binders, evaluate, evaluate_block, evaluate_clauses, flat_meaning}
-use Rattle.instance_semantics.proofs.Equations.{evaluate_clause, evaluate_no_clause, evaluate_let, evaluate_last, body_meaning, instance_meaning, meaning_entry}
+use Rattle.instance_semantics.proofs.Equations.{evaluate_clause, evaluate_no_clause, evaluate_let, evaluate_last}
+use Rattle.plain_eval.specs.Instances.{body_meaning, instance_meaning}
+use Rattle.plain_eval.proofs.InstanceCalls.{meaning_entry}
 use Rattle.instance_semantics.specs.Registers.{frame_words}
 use Rattle.std.proofs.lemmas.List.{map-append}
 use Rattle.plain_rows.specs.declared.store.Value.{Value}

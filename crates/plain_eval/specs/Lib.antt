@@ -6,4 +6,5 @@ pub mod Choosing
 pub mod Work
 pub mod Machine
 pub mod Ended
+pub mod Instances
 pub use Rattle.instance_semantics.specs as instance_semantics

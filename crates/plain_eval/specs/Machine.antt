@@ -7,7 +7,7 @@ use Rattle.fip_trees.specs.declared.program.Block.{Block, out-Block}
 use Rattle.fip_trees.specs.Tree as T
 use Rattle.fip_trees.specs.TreeView.{expression, block_of, binding}
 use Rattle.instance_semantics.specs.Meaning.{bind_binders, evaluate, evaluate_block}
-use Rattle.instance_semantics.proofs.Equations.{instance_meaning}
+use Rattle.plain_eval.specs.Instances.{instance_meaning}
 use Rattle.plain_rows.specs.declared.store.Value.{Value}
 use Rattle.plain_rows.specs.declared.store.Store.{Store}
 use Rattle.plain_rows.specs.Rows.{StandAll}

@@ -14,7 +14,7 @@ ghost use Rattle.fip_trees.specs.Tree as T;
 ghost use Rattle.fip_trees.specs.TreeView as V;
 ghost use Rattle.instance_semantics.specs.Meaning.{argument_value, argument_values, bind_binders};
 ghost use Rattle.instance_semantics.specs.Meaning.{evaluate_clauses, flat_meaning};
-ghost use Rattle.instance_semantics.proofs.Equations.{instance_meaning};
+ghost use Rattle.plain_eval.specs.Instances.{instance_meaning};
 ghost use Rattle.plain_rows.specs.Rows.{AreRows, StandAll};
 ghost use Rattle.plain_eval.specs.Ended.{IsEnd};
 ghost use Rattle.plain_eval.specs.Slots.{CoversNow, Keeps, KeepsAll};

@@ -3,7 +3,8 @@ use Rattle.fip_trees.specs.TreeView.{argument, arguments, expression, block, cla
 use Rattle.fip_trees.proofs.TreeViews.{expression_match, expression_nested}
 use Rattle.fip_trees.specs.fip_language.Meaning.{Gives, ends, with_value, with_values}
 use Rattle.instance_semantics.specs.Meaning.{argument_value, argument_values, evaluate, evaluate_block, evaluate_clauses}
-use Rattle.instance_semantics.proofs.Equations.{evaluate_give, evaluate_tuple, evaluate_operation, evaluate_call, evaluate_match, evaluate_nested}
+use Rattle.instance_semantics.proofs.Equations.{evaluate_give, evaluate_tuple, evaluate_operation, evaluate_match, evaluate_nested}
+use Rattle.plain_eval.proofs.InstanceCalls.{evaluate_call}
 use Rattle.plain_eval.specs.Machine.{waiting_size}
 use Rattle.plain_eval.specs.Work.{expression_size, block_size, largest}
 use Rattle.plain_eval.proofs.Slots.{if_ok}

@@ -34,6 +34,10 @@ def imports(lines):
         matched = USE.match(line)
         if matched:
             crate, module, names, other = matched.groups()
+            # a definition of another crate that this one hands on
+            first, _, rest = module.partition(".")
+            if rest and (CRATES / first).is_dir():
+                crate, module = first, rest
             path = f"{crate}/{module}"
             if names is None:
                 found[other or module.split(".")[-1]] = (path, None)

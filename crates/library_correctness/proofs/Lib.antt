@@ -1,0 +1,14 @@
+pub mod Children
+pub mod Orders
+pub mod Lists
+pub mod ListTypes
+pub mod ListResults
+pub mod Trees
+pub mod TreeTypes
+pub mod RedBlack
+pub mod RedBlackTypes
+pub mod Keys
+pub mod Balance
+pub mod RedBlackResults
+pub mod Need
+pub mod SequenceTypes

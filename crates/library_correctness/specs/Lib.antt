@@ -1,0 +1,5 @@
+pub mod Bounds
+pub mod Lists
+pub mod Trees
+pub mod RedBlack
+pub mod Sequences

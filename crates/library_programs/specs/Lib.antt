@@ -1,0 +1,5 @@
+pub mod Parts
+pub mod ListProgram
+pub mod TreeProgram
+pub mod RedBlackProgram
+pub mod FingerProgram

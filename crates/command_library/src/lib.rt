@@ -7,7 +7,7 @@ mod keys;
 mod making;
 mod printing;
 
-pub use command_run as runs;
+pub use command_run as runner;
 pub use command_run::{evaluator, source};
 pub use making::generate;
 pub use printing::library;

@@ -40,7 +40,7 @@ fn run_ready<S: Source>(
     ensures late { IsBeforeInput result → ⊥ }
 {
     match read_input(alloc, input) {
-        Ok(bytes) => command_library::runs::run(alloc, ready, bytes.as_slice(), room, gauge),
+        Ok(bytes) => command_library::runner::run(alloc, ready, bytes.as_slice(), room, gauge),
         Err(failure) => Err(failure),
     }
 }

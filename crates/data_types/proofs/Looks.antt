@@ -1,5 +1,6 @@
 -- Look-ups in the lists of the code.
 use Rattle.std.proofs.Common.{◌≡◌, ℕ, zero, suc, ◌+◌, ◌-◌, ◌<◌, ◌≤◌, Bool, true, List, [], ◌∷◌, length, map, slice_get, Some, None, refl, ap, sym, ◌∙◌, arith, get_or, drop, add-one}
+use Rattle.std.proofs.lemmas.Option.{slice_get-get_or}
 use Rattle.data_types.specs.Types as t
 use Rattle.data_types.specs.Marks.{bit}
 use Rattle.data_types.specs.View as v
@@ -49,7 +50,7 @@ read [] i x h e = absurd (omega (arith, h))
 read (y ∷ xs) zero x h e = ap Some (sym e)
 read (y ∷ xs) (suc i) x h e = read xs i x (omega (arith, h)) e
 
-drop_read : {A : Type 0} (xs : List A) (i : ℕ) (x : A) → slice_get xs i ≡ Some x → drop i xs ≡ x ∷ drop (suc i) xs
+pub drop_read : {A : Type 0} (xs : List A) (i : ℕ) (x : A) → slice_get xs i ≡ Some x → drop i xs ≡ x ∷ drop (suc i) xs
 drop_read [] i x e = cc
 drop_read (y ∷ xs) zero x e = let f : y ≡ x = cc in ap (λ z. z ∷ xs) f
 drop_read (y ∷ xs) (suc i) x e = drop_read xs i x e
@@ -60,3 +61,15 @@ tys_read xs i x h e = ap v.tys (drop_read xs i x (read xs i x h e)) ∙ ap (λ j
 -- the view at a constructor
 pub ty_applied : (n : ℕ) (ts : _) → v.ty (V.Applied n ts) ≡ t.Applied (n - 1) (v.tys ts.items)
 ty_applied n ts = ap v.ty (sym (V.rolls-Applied n ts)) ∙ fold-roll-FieldType t.Ty v.ty_step (O.Applied n ts)
+
+pub ty_int : v.ty V.Int ≡ t.Given
+ty_int = ap v.ty (sym V.rolls-Int) ∙ fold-roll-FieldType t.Ty v.ty_step O.Int
+
+pub drop_all : {A : Type 0} (xs : List A) (i : ℕ) → length xs ≤ i → drop i xs ≡ []
+drop_all [] zero h = refl
+drop_all [] (suc i) h = refl
+drop_all (y ∷ xs) zero h = absurd (omega (arith, h))
+drop_all (y ∷ xs) (suc i) h = drop_all xs i (omega (arith, h))
+
+pub drop_next : {A : Type 0} (xs : List A) (i : ℕ) (d : A) → i < length xs → drop i xs ≡ get_or xs i d ∷ drop (i + 1) xs
+drop_next xs i d h = drop_read xs i (get_or xs i d) (slice_get-get_or xs i d h) ∙ ap (λ j. get_or xs i d ∷ drop j xs) (sym (add-one i))

@@ -1,15 +1,12 @@
--- The data types' own pairs, and the answer.
-use Rattle.std.proofs.Common.{◌≡◌, ℕ, zero, suc, ◌+◌, ◌<◌, ◌⊎◌, inl, inr, Bool, true, false, List, [], ◌∷◌, ◌++◌, length, slice_get, Some, refl, ap, sym, subst, ◌∙◌, arith, true≢false, add-one}
+-- The data types' own claims, and the answer.
+use Rattle.std.proofs.Common.{◌≡◌, ℕ, zero, suc, ◌+◌, ◌<◌, ◌⊎◌, inl, inr, Bool, true, false, List, [], ◌∷◌, ◌++◌, length, slice_get, Some, refl, ap, sym, subst, ◌∙◌, arith, true≢false, add-one, length-append}
 use Rattle.data_types.specs.Types as t
 use Rattle.data_types.specs.Types.{Declarations, IsValued}
-use Rattle.data_types.specs.Marks.{Pair, State, is_marked, IsListed, IsSound, AllDone, trues, root}
-use Rattle.data_types.specs.Steps.{Extends, IsFound, Goes, RootsTo, Tells, TellsValued}
+use Rattle.data_types.specs.Marks.{Claim, State, asked, known, marked_of, is_marked, IsSound, AllDone, IsAt, trues, root, with_claim}
+use Rattle.data_types.specs.Steps.{Goes, HasRoots, Tells, TellsValued}
 use Rattle.data_types.specs.View as v
 use Rattle.fip_trees.specs.declared.decls.DeclaredType.{DeclaredType}
-use Rattle.data_types.proofs.Keys.{extends_self}
-use Rattle.data_types.proofs.Extending.{extends_then}
-use Rattle.data_types.proofs.Stepping.{goes_extends}
-use Rattle.data_types.proofs.Values.{root_has, root_lacks}
+use Rattle.data_types.proofs.Values.{past, root_has, root_lacks}
 
 pub arity_at : (ds : List DeclaredType) (n : ℕ) (d : DeclaredType) → slice_get ds n ≡ Some d → t.arity (v.declarations ds) n ≡ d.arity
 arity_at [] n d e = cc
@@ -29,26 +26,50 @@ less_or_last zero (suc n) h = inl (omega arith)
 less_or_last (suc c) zero h = absurd (omega (arith, h))
 less_or_last (suc c) (suc n) h = elim (less_or_last c n (omega (arith, h))) as (λ _. (suc c < suc n) ⊎ (suc c ≡ suc n)) [ inl l ↦ inl (omega (arith, l)) | inr e ↦ inr (ap suc e) ]
 
--- some of the pairs are listed
-abbrev pub Rooting : Declarations → State → State → ℕ → Type 0
-Rooting ds a b n = Extends a b × RootsTo ds b n
+-- ---- the claims
 
-pub rooting_first : (ds : Declarations) (a : State) → Rooting ds a a 0
-rooting_first ds a = (extends_self a, λ n lt. absurd (omega (arith, lt)))
+pub roots_first : (ds : Declarations) (a : State) → a ≡ record { claims = []; todo = [] } → HasRoots ds a 0
+roots_first ds a e = subst (λ s. HasRoots ds s 0) (sym e) (record { count = refl; asked = λ n lt. absurd (omega (arith, lt)); only = λ i n bs f. cc })
 
-pub rooting_next : (ds : Declarations) (a b c : State) (n : ℕ) (p : Pair) (m : Bool) → Rooting ds a b n → p ≡ root ds n → IsFound b c p m → Rooting ds a c (n + 1)
-rooting_next ds a b c n p m r e f = (extends_then a b c r.0 f.extends, λ k lt. by k (less_or_last k n lt))
+left_or_last : (cs : List Claim) (c d : Claim) (i : ℕ) → slice_get (cs ++ d ∷ []) i ≡ Some c → (slice_get cs i ≡ Some c) ⊎ (d ≡ c)
+left_or_last [] c d zero e = inr cc
+left_or_last [] c d (suc i) e = cc
+left_or_last (x ∷ cs) c d zero e = inl e
+left_or_last (x ∷ cs) c d (suc i) e = left_or_last cs c d i e
+
+stays_left : (cs : List Claim) (c d : Claim) (i : ℕ) → slice_get cs i ≡ Some c → slice_get (cs ++ d ∷ []) i ≡ Some c
+stays_left [] c d i e = cc
+stays_left (x ∷ cs) c d zero e = e
+stays_left (x ∷ cs) c d (suc i) e = stays_left cs c d i e
+
+last_at : (cs : List Claim) (c : Claim) (n : ℕ) → length cs ≡ n → slice_get (cs ++ c ∷ []) n ≡ Some c
+last_at [] c n e = ap (slice_get (c ∷ [])) (sym e)
+last_at (x ∷ cs) c zero e = absurd (omega (arith, e))
+last_at (x ∷ cs) c (suc n) e = last_at cs c n (omega (arith, e))
+
+pub roots_next : (ds : Declarations) (a b : State) (n : ℕ) (bs : List Bool) → HasRoots ds a n → bs ≡ root ds n → b ≡ with_claim a n bs → HasRoots ds b (n + 1)
+roots_next ds a b n bs r e f = subst (λ s. HasRoots ds s (n + 1)) (ap (with_claim a n) (sym e) ∙ sym f) (record {
+  count = length-append a.claims (asked n (root ds n) ∷ []) ∙ ap (λ k. k + 1) r.count;
+  asked = λ k lt. by k (less_or_last k n lt);
+  only = λ i k cs g. only i k cs (left_or_last a.claims (known k cs) (asked n (root ds n)) i g);
+})
   where
-    by : (k : ℕ) → (k < n) ⊎ (k ≡ n) → IsListed c.pairs (root ds k)
-    by k (inl l) = f.extends.listed (root ds k) (r.1 k l)
-    by k (inr g) = subst (λ q. IsListed c.pairs q) (e ∙ sym (ap (root ds) g)) f.listed
+    by : (k : ℕ) → (k < n) ⊎ (k ≡ n) → slice_get (a.claims ++ asked n (root ds n) ∷ []) k ≡ Some (asked k (root ds k))
+    by k (inl l) = stays_left a.claims (asked k (root ds k)) (asked n (root ds n)) k (r.asked k l)
+    by k (inr g) = subst (λ j. slice_get (a.claims ++ asked n (root ds n) ∷ []) j ≡ Some (asked j (root ds j))) (sym g) (last_at a.claims (asked n (root ds n)) n r.count)
+
+    only : (i k : ℕ) (cs : List Bool) → (slice_get a.claims i ≡ Some (known k cs)) ⊎ (asked n (root ds n) ≡ known k cs) → ⊥
+    only i k cs (inl g) = r.only i k cs g
+    only i k cs (inr g) = true≢false (sym (ap (λ (c : Claim). c.marked) g))
+
+-- ---- the marks
 
 -- some of the marks are told
-abbrev pub Telling : Declarations → State → State → List Bool → ℕ → Type 0
-Telling ds a b xs n = Extends a b × ((length xs ≡ n) × Tells ds a xs)
+abbrev pub Telling : State → List Bool → ℕ → Type 0
+Telling s xs n = (length xs ≡ n) × Tells s xs
 
-pub telling_first : (ds : Declarations) (a : State) → Telling ds a a [] 0
-telling_first ds a = (extends_self a, (refl, λ k b e. cc))
+pub telling_first : (s : State) → Telling s [] 0
+telling_first s = (refl, λ k b e. cc)
 
 last_or : (xs : List Bool) (m : Bool) (k : ℕ) (b : Bool) → slice_get (xs ++ m ∷ []) k ≡ Some b → (slice_get xs k ≡ Some b) ⊎ ((k ≡ length xs) × (m ≡ b))
 last_or [] m zero b e = inr (refl, cc)
@@ -60,27 +81,27 @@ one_longer : (xs : List Bool) (m : Bool) → length (xs ++ m ∷ []) ≡ length 
 one_longer [] m = refl
 one_longer (x ∷ xs) m = let r = one_longer xs m in omega (arith, r)
 
-pub telling_next : (ds : Declarations) (a b c : State) (xs : List Bool) (n : ℕ) (p : Pair) (m : Bool) → Telling ds a b xs n → p ≡ root ds n → IsFound b c p m → Telling ds a c (xs ++ m ∷ []) (n + 1)
-telling_next ds a b c xs n p m r e f = (extends_then a b c r.0 f.extends, (one_longer xs m ∙ ap (λ k. k + 1) r.1.0, λ k x g. by k x (last_or xs m k x g)))
+pub telling_next : (s : State) (xs : List Bool) (n : ℕ) (m : Bool) → Telling s xs n → m ≡ is_marked s n → Telling s (xs ++ m ∷ []) (n + 1)
+telling_next s xs n m r e = (one_longer xs m ∙ ap (λ k. k + 1) r.0, λ k x g. by k x (last_or xs m k x g))
   where
-    by : (k : ℕ) (x : Bool) → (slice_get xs k ≡ Some x) ⊎ ((k ≡ length xs) × (m ≡ x)) → is_marked a (root ds k) ≡ x
-    by k x (inl g) = r.1.1 k x g
-    by k x (inr g) = ap (λ j. is_marked a (root ds j)) (g.0 ∙ r.1.0) ∙ ap (is_marked a) (sym e) ∙ sym (r.0.marks p) ∙ sym (f.extends.marks p) ∙ f.marked ∙ g.1
+    by : (k : ℕ) (x : Bool) → (slice_get xs k ≡ Some x) ⊎ ((k ≡ length xs) × (m ≡ x)) → is_marked s k ≡ x
+    by k x (inl g) = r.1 k x g
+    by k x (inr g) = ap (is_marked s) (g.0 ∙ r.0) ∙ sym e ∙ g.1
 
-sound_first : (ds : Declarations) → IsSound ds (record { pairs = []; marks = []; todo = [] })
-sound_first ds n bs h = absurd (true≢false (sym h))
+marked_has : (ds : Declarations) (s : State) (k : ℕ) → IsSound ds s → IsAt s k k (root ds k) → is_marked s k ≡ true → IsValued ds k
+marked_has ds s k sound (inl e) m = absurd (true≢false (sym m ∙ ap marked_of e))
+marked_has ds s k sound (inr e) m = root_has ds k e.0 (sound k k e.0 e.1)
 
-within : {A : Type 0} (xs : List A) (i : ℕ) (x : A) → slice_get xs i ≡ Some x → i < length xs
-within [] i x e = cc
-within (y ∷ xs) zero x e = omega arith
-within (y ∷ xs) (suc i) x e = let r = within xs i x e in omega (arith, r)
+unmarked_lacks : (ds : Declarations) (s : State) (k : ℕ) → AllDone ds s → IsAt s k k (root ds k) → is_marked s k ≡ false → IsValued ds k → ⊥
+unmarked_lacks ds s k done (inl e) m = root_lacks ds s done k k e
+unmarked_lacks ds s k done (inr e) m = absurd (true≢false (sym (ap marked_of e.1) ∙ m))
 
-pub answers : (ds : Declarations) (z a b : State) (xs : List Bool) (n : ℕ) → z ≡ record { pairs = []; marks = []; todo = [] } → n ≡ length ds → Extends z a → RootsTo ds a n → Goes ds a b → AllDone ds b → length xs ≡ n → Tells ds b xs → TellsValued ds xs
-answers ds z a b xs n start size e roots g done all tells = record {
+pub answers : (ds : Declarations) (a b : State) (xs : List Bool) (n : ℕ) → n ≡ length ds → HasRoots ds a n → Goes ds a b → AllDone ds b → length xs ≡ n → Tells b xs → TellsValued ds xs
+answers ds a b xs n size roots g done all tells = record {
   all = all ∙ size;
-  valued = λ k f. root_has ds b sound k (tells k true f);
-  unvalued = λ k f. root_lacks ds b done k (g.listed (root ds k) (roots k (let l = within xs k false f in omega (arith, l, all)))) (tells k false f);
+  valued = λ k f. marked_has ds b k (g.sound (λ i j bs h. absurd (roots.only i j bs h))) (root_at k (past xs k true f)) (tells k true f);
+  unvalued = λ k f. unmarked_lacks ds b k done (root_at k (past xs k false f)) (tells k false f);
 }
   where
-    sound : IsSound ds b
-    sound = g.sound ((goes_extends ds z a e).sound (subst (IsSound ds) (sym start) (sound_first ds)))
+    root_at : (k : ℕ) → k < length xs → IsAt b k k (root ds k)
+    root_at k lt = g.kept k k (root ds k) (inl (roots.asked k (omega (arith, lt, all))))

@@ -1,44 +1,27 @@
--- Marks on pairs of a data type and which of its arguments have a value. Just the pairs that were asked for are listed.
-use Rattle.std.specs.Prelude.{◌≡◌, ◌⊎◌, ℕ, zero, suc, ◌+◌, ◌-◌, ◌*◌, ◌<◌, Bool, true, false, ◌&&◌, nat_eq, List, []}
-use Rattle.std.specs.Prelude.{◌∷◌, ◌++◌, length, Option, Some, None, slice_get, slice_set, if◌then◌else◌}
-use Rattle.data_types.specs.Types.{Ty, Tys, Given, Parameter, Applied, NoTys, MoreTys, Declarations, arity}
-use Rattle.data_types.specs.Types.{constructors, pick, HasValue}
+-- Claims that a data type has a value wherever some of its arguments have one. A claim is asked first, and marked once
+-- it is known to be true, then of as few arguments as were found to suffice. Just those that were asked for are listed.
+-- In `data either[a, b] { Left(a); Right(b) }` the claim of either with both arguments is marked with the first alone.
+use Rattle.std.specs.Prelude.{◌≡◌, ◌⊎◌, ℕ, zero, suc, ◌+◌, ◌-◌, ◌*◌, ◌<◌, Bool, true, false, List, [], ◌∷◌, ◌++◌}
+use Rattle.std.specs.Prelude.{length, Option, Some, None, slice_get, slice_set, if◌then◌else◌}
+use Rattle.data_types.specs.Types.{Ty, Tys, Given, Parameter, Applied, NoTys, MoreTys, Trees, Declarations, arity}
+use Rattle.data_types.specs.Types.{constructors, fill, fill_all, pick, HasValue, HaveTypes}
 
-pub record Pair : Type 0 where
+pub record Claim : Type 0 where
   pub type : ℕ
-  pub bits : List Bool
+  -- at the place of an argument whether the claim takes it to have a value
+  pub arguments : List Bool
+  pub marked : Bool
 
 pub record State : Type 0 where
-  pub pairs : List Pair
-  pub marks : List Bool
-  -- the places of marked pairs whose waiting constructors are to be looked at again
+  pub claims : List Claim
+  -- the places of marked claims whose waiting constructors are to be looked at again
   pub todo : List ℕ
 
-abbrev pub same_bool : Bool → Bool → Bool
-same_bool true b = b
-same_bool false true = false
-same_bool false false = true
+abbrev pub asked : ℕ → List Bool → Claim
+asked t bs = record { type = t; arguments = bs; marked = false }
 
-abbrev pub same_bits : List Bool → List Bool → Bool
-same_bits [] [] = true
-same_bits [] (c ∷ cs) = false
-same_bits (b ∷ bs) [] = false
-same_bits (b ∷ bs) (c ∷ cs) = same_bool b c && same_bits bs cs
-
-abbrev pub same_pair : Pair → Pair → Bool
-same_pair p q = nat_eq p.type q.type && same_bits p.bits q.bits
-
-abbrev pub marked_in : List Pair → List Bool → Pair → Bool
-marked_in [] ms q = false
-marked_in (p ∷ ps) [] q = false
-marked_in (p ∷ ps) (m ∷ ms) q = if same_pair q p then m else marked_in ps ms q
-
-abbrev pub is_marked : State → Pair → Bool
-is_marked s q = marked_in s.pairs s.marks q
-
-abbrev pub IsListed : List Pair → Pair → Type 0
-IsListed [] q = ⊥
-IsListed (p ∷ ps) q = (q ≡ p) ⊎ IsListed ps q
+abbrev pub known : ℕ → List Bool → Claim
+known t bs = record { type = t; arguments = bs; marked = true }
 
 -- whether a parameter has a value; where there is no such argument it counts as having one
 abbrev pub bit : List Bool → ℕ → Bool
@@ -46,91 +29,125 @@ bit [] k = true
 bit (b ∷ bs) zero = b
 bit (b ∷ bs) (suc k) = bit bs k
 
-abbrev pub pair : ℕ → List Bool → Pair
-pair t bs = record { type = t; bits = bs }
+-- the arguments that the first takes to have a value are among those of the second
+abbrev pub Below : List Bool → List Bool → Type 0
+Below bs cs = (k : ℕ) → bit bs k ≡ true → bit cs k ≡ true
 
--- whether a type is known to have a value, where bs says it of the parameters
+abbrev pub IsAskedAt : State → ℕ → ℕ → Type 0
+IsAskedAt s i t = (bs : List Bool) × (slice_get s.claims i ≡ Some (asked t bs))
+
+-- a claim of at least these arguments is asked
+abbrev pub IsAsked : State → ℕ → List Bool → Type 0
+IsAsked s t cs = (i : ℕ) × (bs : List Bool) × (slice_get s.claims i ≡ Some (asked t bs)) × Below cs bs
+
+-- a type isn't known to have a value, where bs says it of the parameters
 abbrev mutual
-  pub is_valued : State → List Bool → Ty → Bool
-  is_valued s bs Given = true
-  is_valued s bs (Parameter k) = bit bs k
-  is_valued s bs (Applied t ts) = is_marked s (pair t (valued_bits s bs ts))
+  pub Lacks : State → List Bool → Ty → Type 0
+  Lacks s bs Given = ⊥
+  Lacks s bs (Parameter k) = bit bs k ≡ false
+  Lacks s bs (Applied t ts) = (cs : List Bool) × AllLack s bs ts cs × IsAsked s t cs
 
-  pub valued_bits : State → List Bool → Tys → List Bool
-  valued_bits s bs NoTys = []
-  valued_bits s bs (MoreTys t ts) = is_valued s bs t ∷ valued_bits s bs ts
+  -- so it is of each type at whose place the last list has false
+  pub AllLack : State → List Bool → Tys → List Bool → Type 0
+  AllLack s bs NoTys [] = Unit {0}
+  AllLack s bs NoTys (c ∷ cs) = ⊥
+  AllLack s bs (MoreTys t ts) [] = ⊥
+  AllLack s bs (MoreTys t ts) (c ∷ cs) = (c ≡ false → Lacks s bs t) × AllLack s bs ts cs
 
-abbrev pub are_valued : State → List Bool → Tys → Bool
-are_valued s bs NoTys = true
-are_valued s bs (MoreTys t ts) = is_valued s bs t && are_valued s bs ts
-
--- each pair that a type leads to is listed
-abbrev mutual
-  pub IsAsked : State → List Bool → Ty → Type 0
-  IsAsked s bs Given = Unit {0}
-  IsAsked s bs (Parameter k) = Unit {0}
-  IsAsked s bs (Applied t ts) = IsListed s.pairs (pair t (valued_bits s bs ts)) × AreAsked s bs ts
-
-  pub AreAsked : State → List Bool → Tys → Type 0
-  AreAsked s bs NoTys = Unit {0}
-  AreAsked s bs (MoreTys t ts) = IsAsked s bs t × AreAsked s bs ts
-
--- a field isn't known to have a value, and all that it leads to is listed
+-- a field isn't known to have a value
 abbrev pub IsBlocked : State → List Bool → Tys → Type 0
 IsBlocked s bs NoTys = ⊥
-IsBlocked s bs (MoreTys t ts) = ((is_valued s bs t ≡ false) × IsAsked s bs t) ⊎ IsBlocked s bs ts
+IsBlocked s bs (MoreTys t ts) = Lacks s bs t ⊎ IsBlocked s bs ts
 
--- a constructor of the pair's type is blocked
-abbrev pub BlockedAt : Declarations → State → Pair → ℕ → Type 0
-BlockedAt ds s p c = (fs : Tys) → slice_get (constructors ds p.type) c ≡ Some fs → IsBlocked s p.bits fs
+-- a constructor of the type is blocked
+abbrev pub BlockedAt : Declarations → State → ℕ → List Bool → ℕ → Type 0
+BlockedAt ds s t bs c = (fs : Tys) → slice_get (constructors ds t) c ≡ Some fs → IsBlocked s bs fs
 
--- the pair at a place is marked, or this constructor is blocked
+-- where the claim at a place is asked, this constructor is blocked
 abbrev pub IsDone : Declarations → State → ℕ → ℕ → Type 0
-IsDone ds s i c = (p : Pair) → slice_get s.pairs i ≡ Some p → (slice_get s.marks i ≡ Some true) ⊎ BlockedAt ds s p c
+IsDone ds s i c = (t : ℕ) (bs : List Bool) → slice_get s.claims i ≡ Some (asked t bs) → BlockedAt ds s t bs c
 
 -- nothing more can be marked
 abbrev pub AllDone : Declarations → State → Type 0
-AllDone ds s = (i : ℕ) → i < length s.pairs → (c : ℕ) → IsDone ds s i c
+AllDone ds s = (i : ℕ) → i < length s.claims → (c : ℕ) → IsDone ds s i c
 
 abbrev pub true_of : Option Bool → Bool
 true_of None = false
 true_of (Some b) = b
 
-abbrev pub with_mark : State → ℕ → State
-with_mark s i = record { pairs = s.pairs; marks = slice_set s.marks i true; todo = s.todo ++ i ∷ [] }
+abbrev pub marked_of : Option Claim → Bool
+marked_of None = false
+marked_of (Some c) = c.marked
+
+abbrev pub is_marked : State → ℕ → Bool
+is_marked s i = marked_of (slice_get s.claims i)
+
+abbrev pub with_claim : State → ℕ → List Bool → State
+with_claim s t bs = record { claims = s.claims ++ asked t bs ∷ []; todo = s.todo }
+
+abbrev pub with_mark : State → ℕ → ℕ → List Bool → State
+with_mark s i t bs = record { claims = slice_set s.claims i (known t bs); todo = s.todo ++ i ∷ [] }
+
+-- ---- what has a value
 
 -- the arguments that are said to have a value have one
 abbrev pub Agrees : Declarations → List Bool → Tys → Type 0
 Agrees ds bs as' = (k : ℕ) → bit bs k ≡ true → HasValue ds (pick as' k)
 
--- a marked pair's type has a value at all arguments that have values where the pair says so
+-- a data type has a value wherever these of its arguments have one
+abbrev pub Holds : Declarations → ℕ → List Bool → Type 0
+Holds ds t bs = (as' : Tys) → Agrees ds bs as' → HasValue ds (Applied t as')
+
+-- marked claims are true
 abbrev pub IsSound : Declarations → State → Type 0
-IsSound ds s = (t : ℕ) (bs : List Bool) → is_marked s (pair t bs) ≡ true → (as' : Tys) → Agrees ds bs as' →
-    HasValue ds (Applied t as')
+IsSound ds s = (i t : ℕ) (bs : List Bool) → slice_get s.claims i ≡ Some (known t bs) → Holds ds t bs
+
+-- the arguments at these places have a value
+abbrev pub AllHave : Declarations → List ℕ → Tys → Type 0
+AllHave ds [] as' = Unit {0}
+AllHave ds (k ∷ ks) as' = HasValue ds (pick as' k) × AllHave ds ks as'
+
+-- a type has a value wherever the arguments at these places have one
+abbrev pub Suffice : Declarations → List ℕ → Ty → Type 0
+Suffice ds ks t = (as' : Tys) → AllHave ds ks as' → HasValue ds (fill as' t)
+
+-- so have all of these types
+abbrev pub AllSuffice : Declarations → List ℕ → Tys → Type 0
+AllSuffice ds ks fs = (as' : Tys) → AllHave ds ks as' → (vs : Trees) × HaveTypes ds (fill_all as' fs) vs
+
+-- the set has each of these places
+abbrev pub HasAll : List Bool → List ℕ → Type 0
+HasAll bs [] = Unit {0}
+HasAll bs (k ∷ ks) = (bit bs k ≡ true) × HasAll bs ks
+
+-- ---- the data types' own claims
 
 abbrev pub trues : ℕ → List Bool
 trues zero = []
 trues (suc n) = true ∷ trues n
 
--- the pair that asks whether a data type has a value, its parameters taken to have one
-abbrev pub root : Declarations → ℕ → Pair
-root ds t = pair t (trues (arity ds t))
+-- a claim of these arguments is asked at a place, or one of the type is marked there
+abbrev pub IsAt : State → ℕ → ℕ → List Bool → Type 0
+IsAt s i t bs =
+    (slice_get s.claims i ≡ Some (asked t bs)) ⊎ ((cs : List Bool) × (slice_get s.claims i ≡ Some (known t cs)))
 
-abbrev pub HasRoots : Declarations → State → Type 0
-HasRoots ds s = (t : ℕ) → t < length ds → IsListed s.pairs (root ds t)
+-- all arguments of a data type
+abbrev pub root : Declarations → ℕ → List Bool
+root ds t = trues (arity ds t)
 
 -- ---- what is left to do
 
-abbrev pub most_pairs : ℕ
-most_pairs = 4294967295
+-- a list has fewer
+abbrev pub most_claims : ℕ
+most_claims = 9223372036854775808
 
-abbrev pub unmarked : List Bool → ℕ
+abbrev pub unmarked : List Claim → ℕ
 unmarked [] = 0
-unmarked (b ∷ bs) = (if b then 0 else 1) + unmarked bs
+unmarked (c ∷ cs) = (if c.marked then 0 else 1) + unmarked cs
 
--- it falls with each new pair and with each new mark
+-- it falls with each new claim and with each new mark
 abbrev pub room : State → ℕ
-room s = 2 * (most_pairs - length s.pairs) + unmarked s.marks
+room s = 2 * (most_claims - length s.claims) + unmarked s.claims
 
 abbrev pub left : State → ℕ
 left s = room s + length s.todo

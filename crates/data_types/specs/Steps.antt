@@ -1,44 +1,94 @@
 -- What the steps of the search do to its state.
-use Rattle.std.specs.Prelude.{◌≡◌, ℕ, ◌+◌, ◌<◌, ◌≤◌, Bool, true, false, List, length, Some, slice_get}
-use Rattle.data_types.specs.Types.{Ty, Tys, Declarations, IsValued}
-use Rattle.data_types.specs.Marks.{Pair, State, is_marked, IsListed, is_valued, valued_bits, are_valued, IsAsked}
-use Rattle.data_types.specs.Marks.{AreAsked, IsBlocked, IsSound, room, left, with_mark, root}
+use Rattle.std.specs.Prelude.{◌≡◌, ℕ, suc, ◌+◌, ◌<◌, ◌≤◌, Bool, true, false, List, [], ◌∷◌, ◌++◌, length, Some}
+use Rattle.std.specs.Prelude.{slice_get, map, if◌then◌else◌}
+use Rattle.data_types.specs.Types.{Ty, Tys, NoTys, MoreTys, Declarations, IsValued}
+use Rattle.data_types.specs.Marks.{Claim, State, Below, IsAsked, Lacks, IsBlocked, IsSound, Suffice, AllSuffice, asked}
+use Rattle.data_types.specs.Marks.{known, bit, room, left, is_marked, root, IsAt}
+use Rattle.data_types.specs.declared.found.Found.{Found}
 
--- pairs were listed, and nothing else happened
+-- claims were asked, and nothing else happened
 pub record Extends (old new : State) : Type 0 where
-  pub marks : (q : Pair) → is_marked new q ≡ is_marked old q
-  pub listed : (q : Pair) → IsListed old.pairs q → IsListed new.pairs q
-  pub places : (i : ℕ) (q : Pair) → slice_get old.pairs i ≡ Some q → slice_get new.pairs i ≡ Some q
+  pub kept : (i : ℕ) (c : Claim) → slice_get old.claims i ≡ Some c → slice_get new.claims i ≡ Some c
+  pub marks : (i t : ℕ) (bs : List Bool) → slice_get new.claims i ≡ Some (known t bs) →
+      slice_get old.claims i ≡ Some (known t bs)
   pub todo : new.todo ≡ old.todo
-  pub more : length old.pairs ≤ length new.pairs
-  pub room : room new + length new.pairs ≤ room old + length old.pairs
-  pub same : length new.pairs ≡ length old.pairs → new ≡ old
+  pub more : length old.claims ≤ length new.claims
+  pub room : room new + length new.claims ≤ room old + length old.claims
+  pub same : length new.claims ≡ length old.claims → new ≡ old
 
-pub record IsFound (old new : State) (p : Pair) (b : Bool) : Type 0 where
+-- a claim of these arguments or more is asked
+pub record IsAsking (old new : State) (t : ℕ) (bs : List Bool) : Type 0 where
   pub extends : Extends old new
-  pub marked : is_marked new p ≡ b
-  pub listed : IsListed new.pairs p
+  pub asked : IsAsked new t bs
 
-pub record IsLooked (old new : State) (bs : List Bool) (t : Ty) (b : Bool) : Type 0 where
+-- the claim at a place is marked, and takes no other arguments to have a value
+pub record IsMarkedBelow (s : State) (i t : ℕ) (cs : List Bool) : Type 0 where
+  pub arguments : List Bool
+  pub claim : slice_get s.claims i ≡ Some (known t arguments)
+  pub below : Below arguments cs
+
+-- the claim at a place is asked, and takes at least these arguments to have a value
+pub record IsAskedAbove (s : State) (i t : ℕ) (cs : List Bool) : Type 0 where
+  pub arguments : List Bool
+  pub claim : slice_get s.claims i ≡ Some (asked t arguments)
+  pub below : Below cs arguments
+
+-- a type is known to have a value wherever the parameters at these places have one, or it isn't known
+pub record IsLooked (old new : State) (bs : List Bool) (t : Ty) (f : Found) : Type 0 where
   pub extends : Extends old new
-  pub valued : is_valued new bs t ≡ b
-  pub asked : IsAsked new bs t
+  pub suffice : f.has_value ≡ true → (ds : Declarations) → IsSound ds old → Suffice ds f.needs.items t
+  pub lacks : f.has_value ≡ false → Lacks new bs t
 
-pub record AreLooked (old new : State) (bs : List Bool) (ts : Tys) (cs : List Bool) : Type 0 where
+-- so it is of each of these types
+abbrev pub AreFound : State → State → List Bool → Tys → List Found → Type 0
+AreFound old new bs NoTys [] = Unit {0}
+AreFound old new bs NoTys (f ∷ fs) = ⊥
+AreFound old new bs (MoreTys t ts) [] = ⊥
+AreFound old new bs (MoreTys t ts) (f ∷ fs) =
+    (f.has_value ≡ true → (ds : Declarations) → IsSound ds old → Suffice ds f.needs.items t) ×
+    (f.has_value ≡ false → Lacks new bs t) × AreFound old new bs ts fs
+
+pub record AreLooked (old new : State) (bs : List Bool) (ts : Tys) (fs : List Found) : Type 0 where
   pub extends : Extends old new
-  pub valued : valued_bits new bs ts ≡ cs
-  pub asked : AreAsked new bs ts
+  pub found : AreFound old new bs ts fs
 
--- whether all fields are known to have a value; else one is blocked
-pub record AreTried (old new : State) (bs : List Bool) (fs : Tys) (b : Bool) : Type 0 where
+-- all fields are known to have a value wherever the parameters at these places have one, or one is blocked
+pub record AreTried (old new : State) (bs : List Bool) (ts : Tys) (f : Found) : Type 0 where
   pub extends : Extends old new
-  pub valued : b ≡ true → are_valued new bs fs ≡ true
-  pub blocked : b ≡ false → IsBlocked new bs fs
+  pub suffice : f.has_value ≡ true → (ds : Declarations) → IsSound ds old → AllSuffice ds f.needs.items ts
+  pub blocked : f.has_value ≡ false → IsBlocked new bs ts
 
--- pairs were listed or marked
+-- a parameter has a value where bs says so, and needs itself alone
+pub record IsParameter (bs : List Bool) (k : ℕ) (f : Found) : Type 0 where
+  pub has_value : f.has_value ≡ bit bs k
+  pub needs : f.has_value ≡ true → f.needs.items ≡ k ∷ []
+
+abbrev pub has_values : List Found → List Bool
+has_values = map (λ (f : Found). f.has_value)
+
+-- what the arguments from place j on need, of those that a set has
+abbrev pub gathered : ℕ → List Bool → List Found → List ℕ
+gathered j bs [] = []
+gathered j bs (f ∷ fs) = (if bit bs j then f.needs.items else []) ++ gathered (suc j) bs fs
+
+-- a data type at arguments of which this was found: a marked claim needs no others, or one of all is asked
+pub record IsApplied (old new : State) (t : ℕ) (fs : List Found) (f : Found) : Type 0 where
+  pub extends : Extends old new
+  pub marked : f.has_value ≡ true → (i : ℕ) × (bs : List Bool) × (slice_get old.claims i ≡ Some (known t bs)) ×
+      Below bs (has_values fs) × (f.needs.items ≡ gathered 0 bs fs)
+  pub asked : f.has_value ≡ false → IsAsked new t (has_values fs)
+
+-- claims were asked or marked
 pub record Goes (ds : Declarations) (old new : State) : Type 0 where
   pub sound : IsSound ds old → IsSound ds new
-  pub listed : (q : Pair) → IsListed old.pairs q → IsListed new.pairs q
+  pub kept : (i t : ℕ) (bs : List Bool) → IsAt old i t bs → IsAt new i t bs
+  pub room : room new ≤ room old
+  pub left : left new ≤ left old
+
+-- the same, where what was marked is true if this is
+pub record GoesIf (ds : Declarations) (given : Type 0) (old new : State) : Type 0 where
+  pub sound : given → IsSound ds old → IsSound ds new
+  pub kept : (i t : ℕ) (bs : List Bool) → IsAt old i t bs → IsAt new i t bs
   pub room : room new ≤ room old
   pub left : left new ≤ left old
 
@@ -48,20 +98,15 @@ pub record IsStep (ds : Declarations) (old new : State) (changed : Bool) : Type 
   pub quiet : changed ≡ false → new ≡ old
   pub busy : changed ≡ true → room new < room old
 
--- the pair at a place was marked, if it wasn't before
-pub record IsMarking (old new : State) (i : ℕ) (marked : Bool) : Type 0 where
-  pub was : marked ≡ true → slice_get old.marks i ≡ Some false
-  pub set : marked ≡ true → new ≡ with_mark old i
-  pub same : marked ≡ false → new ≡ old
-  pub there : marked ≡ false → slice_get old.marks i ≡ Some true
+-- just the first n data types' own claims are asked
+pub record HasRoots (ds : Declarations) (s : State) (n : ℕ) : Type 0 where
+  pub count : length s.claims ≡ n
+  pub asked : (t : ℕ) → t < n → slice_get s.claims t ≡ Some (asked t (root ds t))
+  pub only : (i t : ℕ) (bs : List Bool) → slice_get s.claims i ≡ Some (known t bs) → ⊥
 
--- the first n data types' own pairs are listed
-abbrev pub RootsTo : Declarations → State → ℕ → Type 0
-RootsTo ds s n = (t : ℕ) → t < n → IsListed s.pairs (root ds t)
-
--- the marks of the data types' own pairs
-abbrev pub Tells : Declarations → State → List Bool → Type 0
-Tells ds s xs = (t : ℕ) (b : Bool) → slice_get xs t ≡ Some b → is_marked s (root ds t) ≡ b
+-- the marks at the first places
+abbrev pub Tells : State → List Bool → Type 0
+Tells s xs = (t : ℕ) (b : Bool) → slice_get xs t ≡ Some b → is_marked s t ≡ b
 
 -- ---- the answer
 

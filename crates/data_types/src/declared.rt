@@ -44,8 +44,7 @@ use std::alloc::Global;
 /// - E15: an expression or a pattern names an unknown constructor;
 /// - E63: a header has a credit of a size that no cell has, or more than 16 credits.
 ///
-/// An error also where no memory is left, and where the search for types without a value (E13) would keep more than
-/// `MOST_KEPT`, which a program needs only where it is made to fill memory.
+/// An error also where no memory is left.
 pub fn declare<'a>(alloc: Global, core: &'a Core) -> Result<DeclaredProgram<'a>, PhaseError>
     ensures core { IfOk result (λ d. d.core ≡ core.now) }
     ensures declared { IfOk result (λ d. AreDeclared d.core d.decls) }

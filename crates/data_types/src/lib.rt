@@ -3,7 +3,9 @@
 
 mod bits;
 mod bodies;
+mod claims;
 mod declared;
+mod found;
 mod headers;
 mod marking;
 mod names;

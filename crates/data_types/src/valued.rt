@@ -3,9 +3,9 @@ ghost use Rattle.std.specs.Prelude.{◌≡◌, ◌<◌, [], length, IfOk, OnOk};
 ghost use Rattle.data_types.specs.Marks as m;
 ghost use Rattle.data_types.specs.Steps as s;
 ghost use Rattle.data_types.specs.View as v;
-ghost use Rattle.data_types.specs.PairView as p;
 
-use crate::marking::{Marking, Pair};
+use crate::claims::Claims;
+use crate::marking::{run, settle};
 use crate::order::order_of;
 use fip_base::plain::NoMemory;
 use fip_trees::decls::DeclaredType;
@@ -15,23 +15,23 @@ use std::alloc::Global;
 pub fn are_valued(alloc: Global, declared: &[DeclaredType<'_>]) -> Result<Vec<bool>, NoMemory>
     ensures { IfOk result (λ f. s.TellsValued (v.declarations declared.now) f.items) }
 {
-    let mut marking = Marking::new(alloc);
-    marks_of(alloc, declared, &mut marking)
+    let mut claims = Claims::new(alloc);
+    marks_of(alloc, declared, &mut claims)
 }
 
-// What a search that begins with no pairs finds.
+// What a search that begins with no claims finds.
 fn marks_of(
     alloc: Global,
     declared: &[DeclaredType<'_>],
-    marking: &mut Marking,
+    claims: &mut Claims,
 ) -> Result<Vec<bool>, NoMemory>
-    requires empty { marking.now ≡ record { pairs = []; marks = []; todo = [] } }
+    requires empty { claims.now ≡ record { claims = []; todo = [] } }
     ensures { IfOk result (λ f. s.TellsValued (v.declarations declared.now) f.items) }
 {
-    list_roots(alloc, declared, marking)?;
-    settle_in_order(alloc, declared, marking)?;
-    marking.run(alloc, declared)?;
-    let found = root_marks(alloc, declared, marking)?;
+    list_roots(alloc, declared, claims)?;
+    settle_in_order(alloc, declared, claims)?;
+    run(claims, alloc, declared)?;
+    let found = root_marks(alloc, declared, claims)?;
     Ok(found)
 }
 
@@ -45,61 +45,41 @@ fn trues(alloc: Global, n: u32) -> Result<Vec<bool>, NoMemory>
     Ok(bits)
 }
 
-// The pair that asks whether a data type has a value.
-fn root(alloc: Global, declared: &[DeclaredType<'_>], t: usize) -> Result<Pair, NoMemory>
+// All arguments of a data type.
+fn root(alloc: Global, declared: &[DeclaredType<'_>], t: usize) -> Result<Vec<bool>, NoMemory>
     requires within { t < length declared.now }
-    ensures { IfOk result (λ q. p.pair q ≡ m.root (v.declarations declared.now) t) }
+    ensures { IfOk result (λ f. f.items ≡ m.root (v.declarations declared.now) t) }
 {
-    if t > u32::MAX as usize {
-        return Err(NoMemory);
-    }
     let bits = trues(alloc, declared[t].arity)?;
-    Ok(Pair { ty: t as u32, bits })
+    Ok(bits)
 }
 
+// At the place of each data type the claim that it has a value, its parameters taken to have one.
 fn list_roots(
     alloc: Global,
     declared: &[DeclaredType<'_>],
-    marking: &mut Marking,
+    claims: &mut Claims,
 ) -> Result<(), NoMemory>
-    ensures listed { OnOk result (s.Extends marking.old marking.new) }
-    ensures roots { OnOk result (s.RootsTo (v.declarations declared.now) marking.new (length declared.now)) }
+    requires empty { claims.now ≡ record { claims = []; todo = [] } }
+    ensures { OnOk result (s.HasRoots (v.declarations declared.now) claims.new (length declared.now)) }
 {
     for t in 0..declared.len() {
-        let pair = root(alloc, declared, t)?;
-        let (_, _) = marking.list(alloc, declared, pair)?;
+        let arguments = root(alloc, declared, t)?;
+        claims.list(alloc, t, arguments)?;
     }
     Ok(())
-}
-
-// The data types' own pairs stand at the places of the types.
-fn settle_at(
-    alloc: Global,
-    declared: &[DeclaredType<'_>],
-    marking: &mut Marking,
-    place: usize,
-) -> Result<(), NoMemory>
-    ensures { OnOk result (s.Goes (v.declarations declared.now) marking.old marking.new) }
-{
-    match u32::try_from(place) {
-        Ok(place) => {
-            marking.settle(alloc, declared, place)?;
-            Ok(())
-        }
-        Err(_) => Err(NoMemory),
-    }
 }
 
 fn settle_in_order(
     alloc: Global,
     declared: &[DeclaredType<'_>],
-    marking: &mut Marking,
+    claims: &mut Claims,
 ) -> Result<(), NoMemory>
-    ensures { OnOk result (s.Goes (v.declarations declared.now) marking.old marking.new) }
+    ensures { OnOk result (s.Goes (v.declarations declared.now) claims.old claims.new) }
 {
     let order = order_of(alloc, declared)?;
     for place in &order {
-        settle_at(alloc, declared, marking, *place)?;
+        settle(claims, alloc, declared, *place)?;
     }
     Ok(())
 }
@@ -107,16 +87,14 @@ fn settle_in_order(
 fn root_marks(
     alloc: Global,
     declared: &[DeclaredType<'_>],
-    marking: &mut Marking,
+    claims: &Claims,
 ) -> Result<Vec<bool>, NoMemory>
     ensures all { IfOk result (λ f. length f.items ≡ length declared.now) }
-    ensures marks { IfOk result (λ f. s.Tells (v.declarations declared.now) marking.old f.items) }
+    ensures marks { IfOk result (λ f. s.Tells claims.now f.items) }
 {
     let mut found = Vec::new(alloc);
     for t in 0..declared.len() {
-        let pair = root(alloc, declared, t)?;
-        let (_, mark) = marking.list(alloc, declared, pair)?;
-        found.push(mark)?;
+        found.push(claims.is_marked_at(t))?;
     }
     Ok(found)
 }

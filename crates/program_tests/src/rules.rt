@@ -4,3 +4,4 @@ mod limits;
 mod owning;
 mod reading;
 mod typing;
+mod valued;

@@ -3,4 +3,4 @@ use Rattle.data_types.specs.Steps.{Goes}
 use Rattle.data_types.proofs.valued.settle_in_order.Given as goal
 
 abbrev pub invariant-loop-place : goal.invariant-loop-place
-invariant-loop-place l = Goes (v.declarations l.declared) l.initial.marking l.marking
+invariant-loop-place l = Goes (v.declarations l.declared) l.initial.claims l.claims

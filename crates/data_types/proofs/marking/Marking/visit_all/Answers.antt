@@ -1,6 +1,0 @@
-use Rattle.data_types.specs.View as v
-use Rattle.data_types.proofs.Stepping.{goes_then}
-use Rattle.data_types.proofs.marking.Marking.visit_all.Goals as goal
-
-pub loop-i-preserved : goal.loop-i-preserved
-loop-i-preserved c = goes_then (v.declarations c.args.declared.now) c.args.self.now c.loop-i.self c.visit.new.self c.loop-i.invariant c.in_ok-visit-in-Some.ensures.step.goes

@@ -1,6 +1,0 @@
-use Rattle.data_types.specs.View as v
-use Rattle.data_types.proofs.Stepping.{Visiting}
-use Rattle.data_types.proofs.marking.Marking.visit_pair.Given as goal
-
-abbrev pub invariant-loop-number : goal.invariant-loop-number
-invariant-loop-number l = Visiting (v.declarations l.declared) l.initial.self l.self l.changed l.place l.number

@@ -91,6 +91,7 @@ taken_same want done done' uses uses' first now d u h = record {
   kept = h.kept;
   flags = h.flags;
   left = h.left ∙ ap (λ n. first.left + n) (words_same 16 (λ k. want k - done' k) (λ k. want k - done k) (free_in now) (free_in now) (λ k le. ap (λ d. want k - d - free_in now k) (sym (d k))));
+  free = λ k le. (let a = h.free k le in let b = d k in omega (arith, a, b));
 }
 
 pub taken_starts : (want done uses : ℕ → ℕ) (first now : Loading) → now ≡ first → length first.released ≡ length first.cells → ((k : ℕ) → done k ≡ 0) → ((q : ℕ) → uses q ≡ 0) → IsTaken want done uses first now
@@ -99,6 +100,7 @@ taken_starts want done uses first now e f d u = subst (IsTaken want done uses fi
   kept = λ p l. refl;
   flags = f;
   left = ap (λ n. first.left + n) (words_same 16 (λ k. want k - done k) want (free_in first) (free_in first) (λ k le. ap (λ w. w - free_in first k) (let z : want k ≡ want k - done k = let a = d k in omega (arith, a) in z)));
+  free = λ k le. (let a = d k in omega (arith, a));
 })
 
 -- a further tree without a cell

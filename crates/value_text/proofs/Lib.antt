@@ -20,3 +20,4 @@ pub mod Printing
 pub mod Printed
 pub mod Results
 pub mod OneValue
+pub mod CreditsMade

@@ -374,6 +374,7 @@ module _ (tb : Table) (k : ℕ) (bytes : List ℕ) (at : ℕ) (given : IsPlaced 
         once = λ p. let o = (b.taken).once p in let u = ap (uses_of_all p) t.1 in omega (arith, o, u);
         kept = (b.taken).kept;
         left = ap (λ v. now.left + needed_by first v) t.2 ∙ (let a : now.left + needed_by first v ≡ first.left + words_up_to 16 (λ k. wanted [] (More v End) k - cells_of_all k (More v End)) (free_in now) = l in omega (arith, a, none, zero));
+        free = λ j le. (let f : free_in now j ≡ free_in first j - (cells j v + 0) = (b.taken).free j le in let c : cells j (value_of x) ≡ cells j v = ap (cells j) t.2 in omega (arith, f, c));
       }
 
   -- a value leaves a word

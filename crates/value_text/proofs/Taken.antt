@@ -228,6 +228,23 @@ module _ (want done done' uses uses' : ℕ → ℕ) (first now new : Loading) (p
       let w = words_one 16 s (λ k. want k - done k) (λ k. want k - done' k) (free_in now) (free_in new) some few (omega (arith, z, y, a, size_here, in_want)) (λ k le n. let b = more k le in let d = size_other k n in let f = t.2 k in omega (arith, b, d, f)) in
       omega (arith, w, t.0, h.left)
 
+  free_other : ((k : ℕ) → free_in new k ≡ free_in now k) → (k : ℕ) → k ≤ 16 → k ≢ size_of c → free_in new k ≡ free_in first k - done' k
+  free_other t k le off = let f = h.free k le in let a = more k le in let b = t k in let z = size_other k off in omega (arith, f, a, b, z)
+
+  free_on : Served now new c ⊎ Took now new c → (k : ℕ) → k ≤ 16 → free_in new k ≡ free_in first k - done' k
+  free_on (inl s) k le = let f = h.free k le in let a = more k le in let b = s.1 k in omega (arith, f, a, b)
+  free_on (inr t) k le = by (nat_eq k (size_of c)) refl
+    where
+      by : (b : Bool) → nat_eq k (size_of c) ≡ b → free_in new k ≡ free_in first k - done' k
+      by true e =
+          let same : k ≡ size_of c = eqb-true k (size_of c) e in
+          let f = h.free k le in
+          let a = more k le in
+          let b = t.2 k in
+          let z : free_in now k ≡ 0 = subst (λ n. free_in now n ≡ 0) (sym same) t.1 in
+          omega (arith, f, a, b, z)
+      by false e = free_other t.2 k le (λ q. (let x : nat_eq k (size_of c) ≡ true = eq-eqb k (size_of c) q in cc))
+
   pub taken_on : IsTaken want done' uses' first new
   taken_on = record {
     once = λ q. let a = h.once q in let b = used q in let d = m.living q in omega (arith, a, b, d);
@@ -237,6 +254,7 @@ module _ (want done done' uses uses' : ℕ → ℕ) (first now new : Loading) (p
         m.others q n ∙ h.kept q l;
     flags = m.flags;
     left = left_on m.room;
+    free = free_on m.room;
   }
 
 -- there is a released cell or room for a further cell

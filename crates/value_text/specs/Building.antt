@@ -87,6 +87,8 @@ pub record IsTaken (want done uses : ℕ → ℕ) (first now : Loading) : Type 0
   pub flags : length now.released ≡ length now.cells
   pub left : now.left + words_up_to MOST_FIELDS want (free_in first)
       ≡ first.left + words_up_to MOST_FIELDS (λ k. want k - done k) (free_in now)
+  -- Released cells serve first.
+  pub free : (k : ℕ) → k ≤ MOST_FIELDS → free_in now k ≡ free_in first k - done k
 
 -- The cells of the values lie in order behind those of the first store, and these are the words.
 abbrev pub Lie : Loading → Loading → Values → List ℕ → Type 0

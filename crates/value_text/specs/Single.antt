@@ -1,18 +1,18 @@
 -- What it means that a value of a type stands at a place of a text, whatever stands behind it, and that its cells were
--- made.
+-- made; and that the cells of credits were.
 -- In the text `f(Cons(1, Nil), 7)` a list of ints stands at place 2 and ends at 14, where the comma is; at place 15 the
 -- int 7 stands behind a blank, and ends at 17.
-use Rattle.std.specs.Prelude.{◌≡◌, ℕ, ◌+◌, ◌^◌, ◌≤◌, List, [], length, drop, slice_index_or}
+use Rattle.std.specs.Prelude.{◌≡◌, ℕ, ◌+◌, ◌-◌, ◌^◌, ◌≤◌, List, [], length, drop, slice_index_or}
 use Rattle.fip_language.specs.Character.{Character, characters}
 use Rattle.fip_language.specs.Values.{Value, End, More, cells}
 use Rattle.fip_language.specs.Table.{Table}
 use Rattle.fip_language.specs.declared.limits.TheConstants.{MOST_FIELDS}
 use Rattle.fip_language.specs.SoundTable.{IsSoundTable}
-use Rattle.fip_language.specs.Store.{Placed, value_of, word_of, uses}
+use Rattle.fip_language.specs.Store.{Placed, value_of, word_of, uses, count}
 use Rattle.fip_language.specs.ValueText.{ValueText}
 use Rattle.cell_store.specs.Cells.{cell_at}
 use Rattle.cell_store.specs.Made.{Loading}
-use Rattle.value_text.specs.Loaded.{live, needed}
+use Rattle.value_text.specs.Loaded.{live, needed, free_in, AreZero, cell_words}
 use Rattle.value_text.specs.Standing.{Stands}
 use Rattle.value_text.specs.declared.counts.Counts.{Counts}
 
@@ -54,3 +54,20 @@ pub record IsValueMade (tb : Table) (k : ℕ) (bytes : List ℕ) (old new : Load
   pub kept : (p : ℕ) → live old p ≡ 1 → cell_at new.cells p ≡ cell_at old.cells p
   -- The call takes just the words that it needs.
   pub left : new.left + needed_by old (value_of tree) ≡ old.left
+  -- Released cells serve first.
+  pub free : (k : ℕ) → k ≤ MOST_FIELDS → free_in new k ≡ free_in old k - cells k (value_of tree)
+
+-- The words name cells of these sizes, whose constructor and fields are 0.
+-- Two credits of size 2, of a store in which one cell of 2 fields is released, take this one and a new one.
+pub record AreCreditsMade (credits : List ℕ) (old new : Loading) (words : List ℕ) : Type 0 where
+  pub places : List ℕ
+  pub zero : AreZero new.cells places credits
+  pub named : words ≡ cell_words places
+  -- The cells at these places are just those that the call made or took, each stands there once,
+  pub once : (p : ℕ) → live old p + count p places ≡ live new p
+  -- and the cells that were live before stay as they were.
+  pub kept : (p : ℕ) → live old p ≡ 1 → cell_at new.cells p ≡ cell_at old.cells p
+  -- The call takes just the words that it needs.
+  pub left : new.left + needed old credits End ≡ old.left
+  -- Released cells serve first.
+  pub free : (k : ℕ) → k ≤ MOST_FIELDS → free_in new k ≡ free_in old k - count k credits

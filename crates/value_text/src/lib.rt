@@ -18,4 +18,4 @@ mod single;
 pub use counts::Counts;
 pub use load::{LoadError, load_values};
 pub use print::{print_behind, print_value};
-pub use single::{MakeError, ReadError, make_value, read_value};
+pub use single::{MakeError, ReadError, make_credits, make_value, read_value};

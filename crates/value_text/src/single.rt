@@ -1,11 +1,13 @@
-// One value is read at a place of a text.
+// One value is read or made at a place of a text, and the cells of credits are made.
 ghost use Rattle.std.specs.Prelude.{◌≡◌, ◌⊎◌, ℕ, ◌+◌, ◌<◌, ◌≤◌, length, drop, Err, IfOk, MatchResult};
 ghost use Rattle.fip_language.specs.Prefix.{IsPlace};
-ghost use Rattle.fip_language.specs.Values.{Value};
+ghost use Rattle.fip_language.specs.Values.{Value, End};
 ghost use Rattle.value_text.specs.Alone.{AloneRead, AloneBuilt, error_by};
+ghost use Rattle.value_text.specs.Loaded.{AreCredits, needed};
 ghost use Rattle.value_text.specs.Single.{BeginsWith, IsValueAt, IsPlaced, AreCellsOf, needed_by, IsValueMade};
+ghost use Rattle.value_text.specs.Single.{AreCreditsMade};
 
-use crate::build::{Stopped, advance};
+use crate::build::{Stopped, add_credits, advance};
 use crate::counts::Counts;
 use crate::read::{self, Refused};
 use cell_store::Loader;
@@ -163,6 +165,31 @@ pub fn make_value(
             Some(word) => Ok((loader, *word)),
             None => Err(MakeError::BadValue { at }),
         },
+        Err(e) => Err(error_of(e)),
+    }
+}
+
+/// Makes a cell for each of these credits, of that many fields, its constructor and its fields 0, and gives the loader
+/// and the words that name the cells, in the order of the credits. `Full` where the loader has no room for one of them,
+/// `NoMemory` where memory is wanting.
+///
+/// The clauses speak of at most 16 credits of sizes 1 to 16.
+pub fn make_credits(
+    alloc: Global,
+    credits: &[u8],
+    loader: Loader,
+) -> Result<(Loader, Vec<u64>), MakeError>
+    // The words name the cells, which are apart from those that were live, and these stay.
+    ensures makes { AreCredits credits.now → IfOk result (λ r. AreCreditsMade credits.now loader r.0 r.1.items) }
+    // They are made where the words suffice and memory does.
+    ensures complete { AreCredits credits.now → needed loader credits.now End ≤ loader.left →
+        MatchResult result (λ r. ℕ) (λ e. e ≡ MakeError.NoMemory) }
+{
+    let _left = loader.left();
+    let mut loader = loader;
+    let mut words = Vec::new(alloc);
+    match add_credits(credits, &mut loader, &mut words) {
+        Ok(()) => Ok((loader, words)),
         Err(e) => Err(error_of(e)),
     }
 }

@@ -1,4 +1,5 @@
 pub mod Tasks
+pub mod Pausing
 pub mod Machines
 pub mod GaugeView
 pub mod Ending

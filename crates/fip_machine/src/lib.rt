@@ -10,4 +10,4 @@ mod traced;
 pub use gauge::Gauge;
 pub use machine::{Ended, Machine};
 pub use machine_step::Stepped;
-pub use stack::TaskStack;
+pub use stack::{Paused, TaskStack};

@@ -147,8 +147,8 @@ impl<'a> Machine<'a> {
         ended_of(over)
     }
 
-    // The machine of these frames and cells.
-    pub(crate) fn of(stack: TaskStack<'a>, cells: Sealed) -> Machine<'a>
+    /// The machine of these frames and cells.
+    pub fn of(stack: TaskStack<'a>, cells: Sealed) -> Machine<'a>
         ensures stack { result.stack ≡ stack.entry }
         ensures store { result.store ≡ store_of cells.cells cells.released }
         ensures pushed { result.pushed ≡ cells.pushed }
@@ -156,8 +156,8 @@ impl<'a> Machine<'a> {
         Machine { stack, cells }
     }
 
-    // Its frames and its cells.
-    pub(crate) fn into_parts(self) -> (TaskStack<'a>, Sealed)
+    /// Its frames and its cells.
+    pub fn into_parts(self) -> (TaskStack<'a>, Sealed)
         ensures stack { result.0 ≡ self.entry.stack }
         ensures store { store_of result.1.cells result.1.released ≡ self.entry.store }
         ensures pushed { result.1.pushed ≡ self.entry.pushed }

@@ -21,6 +21,8 @@ ghost use Rattle.machine_step.specs.machine_frames.Keeping.{Keeps};
 ghost use Rattle.machine_step.specs.Placed.{IsPlaced, IsRoomy, Waiting};
 ghost use Rattle.machine_step.specs.Highest.{IsHigh};
 
+mod paused;
+
 use cell_code::Instr;
 use cell_store::Cells;
 use fip_base::plain::NoMemory;
@@ -28,6 +30,7 @@ use fip_language::limits::MOST_RESULTS;
 use machine_cells::SIZES;
 use machine_step::verifier::Verified;
 use machine_step::{Beside, Bounds, Cursor, Highest, Stepped, advance, function_at};
+pub use paused::Paused;
 use std::alloc::Global;
 use std::marker::Model;
 
@@ -249,6 +252,29 @@ impl<'a> TaskStack<'a> {
             length words.items ≤ g.registers → (store : Store) (s : State) → loaded (plain verified.now.code) entry
             store words.items frames ≡ Some s → state_with t s.lent store ≡ s) }
     {
+        TaskStack::start_in(verified, entry, words, Vec::new(alloc), frames)
+    }
+
+    /// The frames at the start of a function, as `start` has them, in memory that is there: that of the words of the
+    /// arguments and credits, and that of `spare`, whatever words it has. Memory is asked for only where these don't
+    /// suffice; what an earlier run of the same function had suffices.
+    pub fn start_in(
+        verified: &'a Verified,
+        entry: usize,
+        words: Vec<u64>,
+        spare: Vec<u64>,
+        frames: usize,
+    ) -> Result<TaskStack<'a>, NoMemory>
+        requires entry { entry < length verified.now.code.functions.items }
+        requires frames { frames ≤ MOST_FRAMES }
+        ensures frames { IfOk result (λ t. t.frames ≡ 0) }
+        ensures code { IfOk result (λ t. t.code ≡ verified.now) }
+        ensures going { IfOk result (λ t. t.ended ≡ None) }
+        ensures fresh { IfOk result IsFresh }
+        ensures loaded { IfOk result (λ t. (g : _) → slice_get verified.now.code.functions.items entry ≡ Some g →
+            length words.items ≤ g.registers → (store : Store) (s : State) → loaded (plain verified.now.code) entry
+            store words.items frames ≡ Some s → state_with t s.lent store ≡ s) }
+    {
         let bounds = bounds_of(verified, entry, frames);
         let function = function_at(verified, entry);
         let cursor = Cursor {
@@ -264,8 +290,10 @@ impl<'a> TaskStack<'a> {
             },
         };
         let stack = taken(words, bounds, cursor.registers)?;
+        let mut spare = spare;
+        spare.resize(bounds.largest, 0)?;
         let beside = Beside {
-            spare: Vec::from_elem(alloc, 0, bounds.largest)?,
+            spare,
             results: [0; MOST_RESULTS],
             given: 0,
             freed: [0; SIZES],

@@ -13,7 +13,7 @@ use Rattle.cell_code.specs.Runnable.{Body, IsSafe}
 use Rattle.cell_code.proofs.Following.{safe_here}
 use Rattle.machine_step.specs.declared.rows.Stepped.TheVariants.{Went}
 use Rattle.machine_step.proofs.Fitting.{fits_own}
-use Rattle.fip_machine.proofs.stack.TaskStack.start.Goals as goal
+use Rattle.fip_machine.proofs.stack.TaskStack.start_in.Goals as goal
 
 pub taken-requires-clause-own : goal.taken-requires-clause-own
 taken-requires-clause-own c =
@@ -51,7 +51,7 @@ invariant_of-result c =
       waiting = refl;
       most = c.bounds_of-bounds.ensures.most;
       small = c.bounds_of-bounds.ensures.few;
-      beside = (let l = c.in_ok-from_elem.ensures.len in omega (arith, l));
+      beside = (let l = c.resize.ensures.len in omega (arith, l));
       taken = c.in_ok-stack.ensures.taken;
       high = record { frames = omega arith; words = omega arith };
       over = none-some Went;

@@ -402,6 +402,45 @@ fn put_next<'a, C: Cells>(
     }
 }
 
+// The same as `put_next`, in a copy of its own for each of the usual sizes: there the number of fields is known.
+#[inline(always)]
+fn put_sized<'a, C: Cells>(
+    verified: &'a Verified,
+    bounds: Bounds,
+    cells: &mut C,
+    words: &[u64],
+    cursor: &mut Cursor<'a>,
+    register: u16,
+    place: u32,
+    size: usize,
+)
+    requires placed { IsPlaced verified.now bounds (length words.now) cursor.old }
+    requires roomy { IsRoomy bounds (length words.now) cursor.old }
+    requires waiting { Waiting verified.now bounds words.now cursor.old.frames cursor.old.base }
+    requires there { cell_at (C.cells cells.old) place ≢ None }
+    requires size { size_in (cell_at (C.cells cells.old) place) ≡ size }
+    requires names { Names (C.cells cells.old) (words_of words.now cursor.old) register place }
+    ensures placed { IsPlaced verified.now bounds (length words.now) cursor.new }
+    ensures roomy { IsRoomy bounds (length words.now) cursor.new }
+    ensures waiting { Waiting verified.now bounds words.now cursor.new.frames cursor.new.base }
+    ensures least { weight cursor.new ≤ weight cursor.old }
+    ensures small { IsSmall (C.cells cells.old) → IsSmall (C.cells cells.new) }
+    ensures pushed { C.pushed cells.new ≡ C.pushed cells.old }
+    ensures gone { (kinds : Kinds) → IsSmall (C.cells cells.old) → IsGone verified.now bounds kinds (store_of
+        (C.cells cells.old) (C.released cells.old)) words.now cursor.old (store_of (C.cells cells.new) (C.released
+        cells.new)) words.now cursor.new }
+    ensures same { IsSame cursor.old cursor.new }
+{
+    match size {
+        2 => put_next(verified, bounds, cells, words, cursor, register, place, 2),
+        3 => put_next(verified, bounds, cells, words, cursor, register, place, 3),
+        4 => put_next(verified, bounds, cells, words, cursor, register, place, 4),
+        _ => put_next(
+            verified, bounds, cells, words, cursor, register, place, size,
+        ),
+    }
+}
+
 // Where the instruction that is next takes the fields of the register's cell, which is at this place, does it, and goes
 // on with that cell.
 #[inline(always)]
@@ -441,7 +480,7 @@ fn take_next<'a, C: Cells>(
         if has_size(cells, place, size) {
             take_at(cells, words, cursor.base, cursor.registers, place, fields);
             go_on(verified, bounds, words, cursor);
-            put_next(
+            put_sized(
                 verified, bounds, cells, words, cursor, register, place, size,
             );
         }

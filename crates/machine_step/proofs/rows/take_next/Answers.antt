@@ -15,8 +15,8 @@ use Rattle.machine_step.proofs.rows.take_next.Goals as goal
 pub go_on-requires-clause-waiting : goal.go_on-requires-clause-waiting
 go_on-requires-clause-waiting g c = waiting_keeps c.args.verified.now c.args.bounds c.args.words.now c.take_at.new.words c.args.cursor.now.frames c.args.cursor.now.base c.take_at.ensures.keeps c.requires.waiting
 
-pub put_next-requires-clause-names : goal.put_next-requires-clause-names
-put_next-requires-clause-names g c =
+pub put_sized-requires-clause-names : goal.put_sized-requires-clause-names
+put_sized-requires-clause-names g c =
     let v = c.args.verified.now in
     let ws = c.args.words.now in
     let cursor = c.args.cursor.now in
@@ -45,4 +45,4 @@ returns-then-has_size-clause-gone g c kinds small lent =
     let below : AreBelow cursor.registers ds = subst (λ (rs : List ℕ). AreBelow cursor.registers rs) (sym c.as_slice-fields.ensures.same) row.1 in
     let mid = state_of v b lent s us c.go_on.new.cursor in
     let first = take_gone v b kinds lent ws cursor c.requires.placed c.next_of.result.now c.next_of.ensures.is cs rs us mid taken c.args.register c.args.place ds small (c.in-Take.is ∙ ap (λ (fs : List ℕ). I.Take taken fs) (sym c.as_slice-fields.ensures.same)) c.if-taken-register.true row.0 below c.requires.names c.requires.there c.take_at.auto.words c.take_at.ensures.keeps c.take_at.ensures.fields (c.go_on.ensures.state lent s) in
-    both_gone kinds (plain v.code) (state_of v b lent s ws cursor) mid (state_of v b lent (store_of (g.C.Cells.cells c.put_next.new.cells) (g.C.Cells.released c.put_next.new.cells)) us c.put_next.new.cursor) first (c.put_next.ensures.gone kinds small lent)
+    both_gone kinds (plain v.code) (state_of v b lent s ws cursor) mid (state_of v b lent (store_of (g.C.Cells.cells c.put_sized.new.cells) (g.C.Cells.released c.put_sized.new.cells)) us c.put_sized.new.cursor) first (c.put_sized.ensures.gone kinds small lent)

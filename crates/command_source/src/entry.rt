@@ -70,6 +70,13 @@ impl Ready {
     {
         &self.verified.code().functions[self.entry]
     }
+
+    /// The code, for who keeps it.
+    pub fn into_verified(self) -> Verified
+        ensures same { result ≡ self.checked }
+    {
+        self.verified
+    }
 }
 
 /// A program without violations, and which of its instances is evaluated.

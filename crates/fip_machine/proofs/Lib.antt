@@ -5,4 +5,5 @@ pub mod Measured
 pub mod Bursts
 pub mod Tapings
 pub mod Wholes
+pub mod Resuming
 pub use Rattle.fip_language.proofs as fip_language

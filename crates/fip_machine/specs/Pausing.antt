@@ -1,6 +1,6 @@
 -- A task that was laid aside, over the code that it was started at: what callers see of it, and that it can be taken up
 -- again. Nothing is said of one over another code.
-use Rattle.std.specs.Prelude.{ℕ, ◌+◌, ◌-◌, List, [], Option, Some, None, Unit, slice_get, take}
+use Rattle.std.specs.Prelude.{ℕ, ◌+◌, ◌-◌, List, [], Option, Some, None, slice_get, take}
 use Rattle.std.specs.Vec.{vec_capacity, vec_len}
 use Rattle.cell_code.specs.declared.code.Function.{Function}
 use Rattle.cell_code.specs.declared.code.Instr.{Instr}

@@ -51,7 +51,7 @@ invariant_of-result c =
       waiting = refl;
       most = c.bounds_of-bounds.ensures.most;
       small = c.bounds_of-bounds.ensures.few;
-      beside = (let l = c.resize.ensures.len in omega (arith, l));
+      beside = (let l = c.in_ok-resize.ensures.len in omega (arith, l));
       taken = c.in_ok-stack.ensures.taken;
       high = record { frames = omega arith; words = omega arith };
       over = none-some Went;

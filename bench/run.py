@@ -1,16 +1,18 @@
 #!/usr/bin/env python3
 """Measures fp2 and programs of other languages side by side. See README.md.
 
-    bench/run.py                                 all that is installed; writes FIGURES.md and figures.svg
-    bench/run.py --program PATH --reps 9         another program than the built one, more repetitions
+    bench/run.py                                 all that is installed; writes RESULTS.md and results.svg
+    bench/run.py --program PATH --minutes 20     another program than the built one, more repetitions
+    bench/run.py --instructions                  only counts instructions, which needs no idle machine, and keeps them
     bench/run.py --only c,fp2 --workloads life   a part, into the build folder alone
     bench/run.py --check                         every peer answers every workload once, and nothing is measured
     bench/run.py --show PATH                     tables and picture again, from the numbers of an earlier run
 
 What is built is put into the folder BENCH_BUILD, else fp2-bench among the temporary files, and so are the numbers of
-all runs, as last.json. The status is 1 where an output was wrong.
+all runs, as last.json, and the counts of instructions, as counts.json. The status is 1 where an output was wrong.
 """
 import argparse
+import concurrent.futures
 import hashlib
 import json
 import math
@@ -22,6 +24,8 @@ import statistics
 import subprocess
 import sys
 import tempfile
+import textwrap
+import threading
 import time
 from pathlib import Path
 
@@ -34,6 +38,15 @@ import building  # noqa: E402
 import expected  # noqa: E402  the gallery's results by other means
 
 SEED = 7
+# What README.md shows of the results, and before which line.
+BEFORE = "## How it is built\n"
+SHOWN = """## Measured beside other languages
+
+![fp2 and other languages, as ratios to C in place](bench/results.svg)
+
+[The results](bench/RESULTS.md) name machine, versions and date; `bench/run.py` makes them anew.
+
+"""
 RATIOS = (("kernel_s", "time_to_c"), ("rss_kb", "peak_to_c"), ("instructions", "instructions_to_c"))
 
 
@@ -157,6 +170,10 @@ class Workload:
         self.what, self.step, self.words, self.gallery = what, step, words, gallery
         self.name = case.__name__
 
+    def entry(self):
+        """The words behind the code file that `machine` is given."""
+        return ["build", "gen"] if self is REDBLACK else [self.words.split()[-1]]
+
     def variants(self):
         return ("full", "base")
 
@@ -191,7 +208,6 @@ WORKLOADS = {w.name: w for w in (
     Workload(8, huffman, 50_000, 20, 1, "50,000 drawn bits are decoded by a code of 26 symbols, 20 times", "bit",
              "exec huffman.fp rounds"),
 )}
-FIRST = ("reverse", "redblack", "treemap")
 
 
 # ---- peers ----
@@ -207,22 +223,32 @@ def sh(*cmd, **kw):
 
 class Peer:
     """name, needed tools, Debian package, what it is, how it is built and started; how often the kernel is run where
-    one run is too short; whether its instructions are counted; its workloads"""
+    one run is too short; whether its instructions are counted"""
 
-    def __init__(self, name, tools, package, what, build, cmd, env=None, scale=None, count=False, only=None):
+    def __init__(self, name, tools, package, what, build, cmd, env=None, scale=None, count=False):
         self.name, self.tools, self.package, self.what = name, tools, package, what
         self.build, self.cmd, self.env = build, cmd, env or {}
-        self.scale, self.count, self.only = scale or {}, count, only or tuple(WORKLOADS)
+        self.scale, self.count = scale or {}, count
 
     def there(self):
         return have(*self.tools)
 
 
-def build_c(kind, flags=(), names=tuple(WORKLOADS)):
-    def go():
-        for name in names:
-            sh("gcc", "-O2", *flags, f"-DW={WORKLOADS[name].number}", f"c/{kind}.c", "-o", BUILD / f"{kind}-{name}")
-    return go
+def build_c(_):
+    for w in WORKLOADS.values():
+        sh("gcc", "-O2", f"-DW={w.number}", "c/peer.c", "-o", BUILD / f"peer-{w.name}")
+
+
+def build_machine(program):
+    """The interpreter, and the code files that it runs: those that the program stores."""
+    build_fp2(program)
+    if not os.access(program, os.X_OK):
+        raise RuntimeError("its code files are stored by fp2, which isn't there")
+    sh("gcc", "-O2", "-fno-gcse", "c/machine.c", "-o", BUILD / "machine")
+    (BUILD / "fp2/redblack.fp").write_text(subprocess.run([program, "library", "rbtree"], capture_output=True,
+                                                          text=True).stdout)
+    for name in WORKLOADS:
+        sh(program, "compile", BUILD / f"fp2/{name}.fp", BUILD / f"fp2/{name}.fpc")
 
 
 def build_wasm(w, key, input_file):
@@ -231,7 +257,7 @@ def build_wasm(w, key, input_file):
        "c/peer.c", "-o", BUILD / f"{w.name}.{key}.wasm")
 
 
-def build_ocaml():
+def build_ocaml(_):
     (BUILD / "ocaml").mkdir(exist_ok=True)
     shutil.copy(HERE / "ocaml/peer.ml", BUILD / "ocaml/peer.ml")
     if have("ocamlopt"):
@@ -239,17 +265,17 @@ def build_ocaml():
     sh("ocamlc", "-o", BUILD / "peer.byte", BUILD / "ocaml/peer.ml")
 
 
-def build_guile():
+def build_guile(_):
     sh("guile", "--no-auto-compile", "-c",
        '(use-modules (system base compile)) (compile-file "guile/peer.scm"'
        f' #:output-file "{BUILD}/guile.go" #:optimization-level 3)')
 
 
-def build_chez():
+def build_chez(_):
     sh("chezscheme", "-q", input=f'(optimize-level 2) (compile-program "chez/peer.ss" "{BUILD}/chez.so")')
 
 
-def build_fp2():
+def build_fp2(_):
     """The gallery's programs, each followed by its rounds; and two programs of this folder."""
     (BUILD / "fp2").mkdir(exist_ok=True)
     for w in WORKLOADS.values():
@@ -261,14 +287,14 @@ def build_fp2():
 
 GUILE = ["guile", "--no-auto-compile", "-c", f'(load-compiled "{BUILD}/guile.go")']
 PYTHON = sys.executable or "python3"
-NONE = lambda: None
+NONE = lambda _: None
 PEERS = [
     Peer("fp2", [], "", "this program", build_fp2, None, count=True),
-    Peer("c", ["gcc"], "gcc", "native, in place, fixed store", build_c("peer"), lambda w: [f"{BUILD}/peer-{w}"],
+    Peer("c", ["gcc"], "gcc", "native, in place, fixed store", build_c, lambda w: [f"{BUILD}/peer-{w}"],
          scale={"reverse": 30, "redblack": 20, "treemap": 20}, count=True),
-    Peer("machine", ["gcc"], "gcc", "least interpreter of fp2's instructions, in C, by hand",
-         build_c("machine", ["-fno-gcse"], FIRST), lambda w: [f"{BUILD}/machine-{w}"],
-         scale={"reverse": 2, "redblack": 4}, count=True, only=FIRST),
+    Peer("machine", ["gcc"], "gcc", "least interpreter of fp2's code files, in C", build_machine,
+         lambda w: [f"{BUILD}/machine", f"{BUILD}/fp2/{w}.fpc", *WORKLOADS[w].entry()],
+         scale={"reverse": 2, "redblack": 4}, count=True),
     Peer("ocamlopt", ["ocamlopt"], "ocaml-nox", "native, functional, collector", build_ocaml,
          lambda w: [f"{BUILD}/peer.opt", w], scale={"redblack": 4}, count=True),
     Peer("ocamlrun", ["ocamlc", "ocamlrun"], "ocaml-nox", "bytecode, functional, collector", build_ocaml,
@@ -287,8 +313,8 @@ PEERS = [
     Peer("mruby", ["mruby"], "mruby", "bytecode; in place, redblack functional", NONE,
          lambda w: ["mruby", "mruby/peer.rb", w], count=True),
     Peer("gforth", ["gforth-fast"], "gforth", "threaded code, in place, fixed store", NONE,
-         lambda w: ["gforth-fast", "-m", "64M", "gforth/peer.fs"],
-         scale={"reverse": 3, "redblack": 4, "treemap": 2}, only=FIRST),
+         lambda w: ["gforth-fast", "-m", "96M", "gforth/peer.fs"],
+         scale={"reverse": 3, "redblack": 4, "treemap": 2}),
     Peer("wasm-interp", ["wasm-interp", "clang", "wasm-ld"], "wabt clang lld",
          "wabt's interpreter on the C peer", NONE, None),
     Peer("python3", [PYTHON], "python3", "bytecode; in place, redblack functional", NONE,
@@ -303,29 +329,37 @@ def fnv(b):
     return h
 
 
+def input_file(w, variant, scale):
+    return BUILD / f"{w.name}.{variant}{scale}.in"
+
+
+def made_case(job):
+    """Writes the input of a workload's variant, and gives the output by other means."""
+    name, variant, scale = job
+    w = WORKLOADS[name]
+    given, output = w.case(*w.size(variant, scale))
+    input_file(w, variant, scale).write_text(given)
+    return output.encode()
+
+
 # ---- one run ----
 class Bench:
     def __init__(self, program):
         self.program = program
         self.wanted = {}
 
-    def files(self, w, variant, scale):
-        key = f"{variant}{scale}"
-        f = BUILD / f"{w.name}.{key}.in"
-        if (w.name, key) not in self.wanted:
-            given, output = w.case(*w.size(variant, scale))
-            f.write_text(given)
-            self.wanted[w.name, key] = output.encode()
-        return f, key
-
-    def prepare(self, peer, w, variant, scale):
-        f, key = self.files(w, variant, scale)
-        if peer.name == "wasm-interp":
-            build_wasm(w, key, f)
+    def prepare(self, jobs):
+        """Makes the inputs and outputs of these peers, workloads, variants and scales, by all processors."""
+        keys = sorted({(w.name, variant, scale) for _, w, variant, scale in jobs} - self.wanted.keys())
+        with concurrent.futures.ProcessPoolExecutor(building.processors()) as pool:
+            self.wanted.update(zip(keys, pool.map(made_case, keys)))
+        for peer, w, variant, scale in jobs:
+            if peer.name == "wasm-interp":
+                build_wasm(w, f"{variant}{scale}", input_file(w, variant, scale))
 
     def command(self, peer, w, variant, scale):
         """(words, folder, environment, input)"""
-        f, key = self.files(w, variant, scale)
+        f, key = input_file(w, variant, scale), f"{variant}{scale}"
         if peer.name == "fp2":
             words = w.words.format(seed=SEED, n=w.size(variant, scale)[0]).split()
             return [self.program, *words], BUILD / "fp2", {}, os.devnull if w is REDBLACK else f
@@ -334,14 +368,14 @@ class Bench:
         return peer.cmd(w.name), HERE, {**peer.env, "PEER": w.name}, f
 
     def right(self, peer, w, variant, scale, out):
-        want = self.wanted[w.name, f"{variant}{scale}"]
+        want = self.wanted[w.name, variant, scale]
         if peer.name == "wasm-interp":
             want = b"start() => i64:%d\n" % fnv(want)
         return out == want
 
     def run(self, peer, w, variant, scale=1, prefix=()):
         cmd, folder, env, given = self.command(peer, w, variant, scale)
-        out = BUILD / "out"
+        out = BUILD / f"out-{threading.get_ident()}"
         p = subprocess.run([str(BUILD / "meter"), str(given), str(out), *prefix, *cmd], cwd=folder,
                            env={**os.environ, **env}, capture_output=True, text=True)
         status, user, sys_, rss, wall = map(int, p.stdout.split())
@@ -351,7 +385,6 @@ class Bench:
         return {"user": user / 1e6, "cpu": (user + sys_) / 1e6, "wall": wall / 1e6, "rss_kb": rss, "err": p.stderr}
 
     def instructions(self, peer, w, variant):
-        self.prepare(peer, w, variant, 1)
         r = self.run(peer, w, variant, prefix=["valgrind", "--tool=cachegrind", "--cache-sim=no",
                                                "--cachegrind-out-file=/dev/null"])
         line = next(l for l in r["err"].splitlines() if "refs:" in l)
@@ -394,7 +427,8 @@ def ordered(res):
 
 
 def markdown(out):
-    lines = ["# Figures", "", "Written by `bench/run.py`; README.md says what is measured, and how.", ""]
+    lines = ["# Results", "", "Written by `bench/run.py`; README.md says what is measured, and how.", "",
+             "![fp2 and other languages, as ratios to C in place](results.svg)", ""]
     lines += [x for line in heading(out) for x in (line, "")]
     for name, res in out["workloads"].items():
         w = WORKLOADS[name]
@@ -474,7 +508,8 @@ class Picture:
         return bottom + 12 + self.GAP
 
     def draw(self):
-        tops = [112, 112]
+        lines = [part for line in heading(self.out) for part in textwrap.wrap(line, 180)]
+        tops = 2 * [67 + 15 * len(lines)]
         for name in self.out["workloads"]:
             side = tops.index(min(tops))
             tops[side] = self.panel(name, 16 + side * self.WIDE, tops[side])
@@ -482,8 +517,8 @@ class Picture:
         body, self.parts = self.parts, []
         title = "fp2 and other languages, as ratios to C in place (logarithmic, less is better)"
         self.text(16, 26, title, 16, weight="bold")
-        for i, line in enumerate(heading(self.out)):
-            self.text(16, 46 + 15 * i, line if len(line) < 190 else line[:187] + "..", 10, fill="#555")
+        for i, line in enumerate(lines):
+            self.text(16, 46 + 15 * i, line, 10, fill="#555")
         self.bar(width - 330, 17, 14, 10, "#a9c4e0")
         self.text(width - 310, 26, "time")
         self.mark("peak_to_c", width - 250, 22)
@@ -498,22 +533,37 @@ class Picture:
 
 def write(out, folder):
     text = markdown(out)
-    (folder / "FIGURES.md").write_text(text)
-    (folder / "figures.svg").write_text(Picture(out).draw())
+    folder.mkdir(parents=True, exist_ok=True)
+    (folder / "RESULTS.md").write_text(text)
+    (folder / "results.svg").write_text(Picture(out).draw())
     print(text)
-    print(f"written: {folder / 'FIGURES.md'}, {folder / 'figures.svg'}")
+    print(f"written: {folder / 'RESULTS.md'}, {folder / 'results.svg'}")
+    if folder == HERE:
+        link()
+
+
+def link():
+    """Lets README.md show the picture, where it doesn't yet."""
+    readme = TOP / "README.md"
+    text = readme.read_text()
+    if "bench/results.svg" not in text:
+        readme.write_text(text.replace(BEFORE, SHOWN + BEFORE, 1))
+        print(f"written: {readme}")
 
 
 # ---- the whole ----
 def words():
     a = argparse.ArgumentParser()
     a.add_argument("--program", help="the program that is measured: the proved one, unless given")
-    a.add_argument("--reps", type=int, default=5)
+    a.add_argument("--reps", type=int, default=9, help="the most repetitions")
+    a.add_argument("--minutes", type=float, default=6, help="no repetition begins that would end later than this")
     a.add_argument("--only", help="peers, by commas (c is always there)")
     a.add_argument("--workloads", default=",".join(WORKLOADS))
     a.add_argument("--metric", choices=["wall", "user", "cpu"], default="wall", help="cpu is user and system time")
-    a.add_argument("--no-instructions", action="store_true", help="don't count instructions (some minutes)")
+    a.add_argument("--instructions", action="store_true", help="only count instructions, and keep the counts")
+    a.add_argument("--no-instructions", action="store_true", help="count no instructions")
     a.add_argument("--check", action="store_true", help="only compare outputs")
+    a.add_argument("--to", type=Path, help="the folder that is written to: that of this script, unless a part is run")
     a.add_argument("--show", help="tables and picture again, from such a file")
     o = a.parse_args()
     o.names = o.workloads.split(",")
@@ -538,57 +588,88 @@ def built(o):
             absent.append(f"{p.name} (apt-get install {p.package})")
         else:
             try:
-                p.build()
+                p.build(o.program)
                 peers.append(p)
             except RuntimeError as e:
                 absent.append(f"{p.name}: {e}")
     return peers, absent
 
 
+def answered(b, peer, w):
+    """The peak of the plain full run of a peer, which answers before it is measured; or why it has none."""
+    try:
+        return [b.run(peer, w, v)["rss_kb"] for v in ("small", "base", "full")][-1]
+    except (RuntimeError, ValueError) as e:
+        return str(e)
+
+
 def answers(b, peers, names, check):
-    """Every peer answers before it is measured. The plain full run gives the peak."""
+    """Every peer answers every workload, by all processors: the peaks, and who was wrong."""
+    pairs = [(p, WORKLOADS[name]) for name in names for p in peers]
+    jobs = [(p, w, v, 1) for p, w in pairs for v in ("small", "base", "full")]
+    b.prepare(jobs if check else jobs + [(p, w, "full", p.scale.get(w.name, 1)) for p, w in pairs])
     rss, bad = {}, []
-    for name in names:
-        w = WORKLOADS[name]
-        for p in peers:
-            if name not in p.only:
-                continue
-            try:
-                for v in ("small", "base", "full"):
-                    b.prepare(p, w, v, 1)
-                    rss[p.name, name] = b.run(p, w, v)["rss_kb"]
-                if not check:
-                    b.prepare(p, w, "full", p.scale.get(name, 1))
-            except (RuntimeError, ValueError) as e:
-                rss.pop((p.name, name), None)
-                bad.append(f"{p.name} {name}")
-                print(f"left out: {e}", file=sys.stderr)
-        print(f"compared: {name}", file=sys.stderr)
+    with concurrent.futures.ThreadPoolExecutor(building.processors()) as pool:
+        for (p, w), found in zip(pairs, pool.map(lambda pair: answered(b, *pair), pairs)):
+            if isinstance(found, str):
+                bad.append(f"{p.name} {w.name}")
+                print(f"left out: {found}", file=sys.stderr)
+            else:
+                rss[p.name, w.name] = found
+    print(f"compared: {len(rss)} of {len(pairs)}", file=sys.stderr)
     return rss, bad
 
 
-def measured(b, peers, rss, reps):
-    raw, start = {}, time.time()
+def measured(b, peers, rss, o):
+    """The numbers of each run, and how often all were repeated: while a further repetition fits into the minutes."""
+    raw, start, reps = {}, time.time(), 0
     jobs = [(p, w, v) for p in peers for w in WORKLOADS.values() for v in w.variants() if (p.name, w.name) in rss]
-    for rep in range(reps):
-        random.Random(rep).shuffle(jobs)
+    while reps < o.reps and (time.time() - start) * (reps + 1) <= o.minutes * 60 * max(reps, 1):
+        random.Random(reps).shuffle(jobs)
         for p, w, v in jobs:
             r = b.run(p, w, v, p.scale.get(w.name, 1) if v == "full" else 1)
             r.pop("err")
             raw.setdefault((p.name, w.name, v), []).append(r)
-        print(f"repetition {rep + 1} of {reps}, {time.time() - start:.0f} s", file=sys.stderr)
-    return raw
+        reps += 1
+        print(f"repetition {reps}, {time.time() - start:.0f} s", file=sys.stderr)
+    return raw, reps
 
 
-def counted(b, peers, rss):
-    found = {}
-    for p in peers:
-        for w in WORKLOADS.values():
-            if p.count and (p.name, w.name) in rss:
-                many, few = (b.instructions(p, w, v) for v in ("few", "base"))
-                found[p.name, w.name] = (many - few) / w.steps(w.few)
-        print(f"counted: {p.name}", file=sys.stderr)
-    return found
+def state(b, peer):
+    """A hash of what counts of a peer's instructions depend on: versions, the bench, the examples, for some the program."""
+    found = hashlib.sha256(json.dumps([machine(), versions(peer.package.split()), sys.version]).encode())
+    own = [Path(b.program)] if peer.name in ("fp2", "machine") else []
+    for path in [*own, *sorted(HERE.rglob("*")), *sorted((TOP / "examples").glob("*.fp"))]:
+        if path.is_file() and path.suffix not in (".md", ".svg", ".pyc"):
+            found.update(path.read_bytes())
+    return found.hexdigest()
+
+
+def counted(b, peers, names):
+    """Instructions a step by valgrind, by all processors; counts.json keeps those that were counted before."""
+    kept = BUILD / "counts.json"
+    states = {p.name: state(b, p) for p in peers if p.count}
+    found = json.loads(kept.read_text()) if kept.is_file() else {}
+    found = {key: it for key, it in found.items() if states.get(key.split()[0]) in (None, it["state"])}
+    pairs = [(p, WORKLOADS[name]) for p in peers for name in names if p.count and f"{p.name} {name}" not in found]
+    b.prepare([(p, w, v, 1) for p, w in pairs for v in ("few", "base")])
+
+    def count(pair):
+        p, w = pair
+        try:
+            many, few = (b.instructions(p, w, v) for v in ("few", "base"))
+            return (many - few) / w.steps(w.few)
+        except (RuntimeError, StopIteration) as e:
+            print(f"not counted: {p.name} {w.name}: {e}", file=sys.stderr)
+            return None
+
+    with concurrent.futures.ThreadPoolExecutor(building.processors()) as pool:
+        for (p, w), number in zip(pairs, pool.map(count, pairs)):
+            if number is not None:
+                found[f"{p.name} {w.name}"] = {"state": states[p.name], "count": number}
+    kept.write_text(json.dumps(found, indent=1) + "\n")
+    print(f"counted: {len(pairs)} now, {len(found)} kept", file=sys.stderr)
+    return {key: it["count"] for key, it in found.items()}
 
 
 def results(peers, names, rss, raw, counts, metric):
@@ -603,8 +684,8 @@ def results(peers, names, rss, raw, counts, metric):
             k = statistics.median(kernel)
             res[p.name] = {"kernel_s": k, "least_s": min(kernel), "most_s": max(kernel), "rss_kb": rss[p.name, name],
                            "step_ns": k / w.steps(w.m) * 1e9, "raw": {v: raw[p.name, name, v] for v in w.variants()}}
-            if (p.name, name) in counts:
-                res[p.name]["instructions"] = counts[p.name, name]
+            if f"{p.name} {name}" in counts:
+                res[p.name]["instructions"] = counts[f"{p.name} {name}"]
         c = res.get("c", {})
         for r in res.values():
             for key, ratio in RATIOS:
@@ -617,27 +698,33 @@ def results(peers, names, rss, raw, counts, metric):
 def main():
     o = words()
     if o.show:
-        write(json.loads(Path(o.show).read_text()), HERE)
+        write(json.loads(Path(o.show).read_text()), o.to or HERE)
         return
     BUILD.mkdir(parents=True, exist_ok=True)
     sh("gcc", "-O2", "-static", "c/meter.c", "-o", BUILD / "meter")
     o.program = o.program or building.program_to_test()
     if o.program is None:
         sys.exit("bench: there is no proved program of these sources: rt ci or tools/prove makes it")
+    o.program = os.path.abspath(o.program)
     peers, absent = built(o)
-    b = Bench(os.path.abspath(o.program))
+    b = Bench(o.program)
+    if o.instructions:
+        counted(b, peers, o.names)
+        return
     rss, bad = answers(b, peers, o.names, o.check)
     if not o.check:
-        raw = measured(b, peers, rss, o.reps)
-        counts = {} if o.no_instructions or not have("valgrind") else counted(b, peers, rss)
+        raw, reps = measured(b, peers, rss, o)
+        counts = {} if o.no_instructions or not have("valgrind") else counted(b, peers, o.names)
         packages = versions(sorted({q for p in peers for q in p.package.split()}))
+        if any(p.name == "python3" for p in peers):
+            packages["python3"] = platform.python_version()  # the one that runs this
         own = any(p.name == "fp2" for p in peers)
         sha = hashlib.sha256(Path(b.program).read_bytes()).hexdigest() if own else "none"
         out = {"date": time.strftime("%Y-%m-%d", time.gmtime()), "machine": machine(), "metric": o.metric,
-               "reps": o.reps, "sha256": sha, "absent": absent, "packages": packages,
+               "reps": reps, "sha256": sha, "absent": absent, "packages": packages,
                "workloads": results(peers, o.names, rss, raw, counts, o.metric)}
         (BUILD / "last.json").write_text(json.dumps(out, indent=1) + "\n")
-        write(out, BUILD if o.only or set(o.names) != set(WORKLOADS) else HERE)
+        write(out, o.to or (BUILD if o.only or set(o.names) != set(WORKLOADS) else HERE))
     for line in absent:
         print(f"absent: {line}")
     print(f"bench: {len(rss)} compared, {len(bad)} wrong" + "".join(f"; {x}" for x in bad))

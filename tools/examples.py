@@ -19,8 +19,8 @@ Each document is run in a folder of its own that begins with a copy of examples/
 
 A block without a word is no example, and has no line that begins with `$ `; another word is an error.
 Where a command is `fp2 exec SOURCE ENTRY --gauge < INPUT` and prints what it should, the program goes other ways as
-well: a code file, whose run prints the same; a derivation, which is audited; a trace, whose cells are counted at both
-ends.
+well: its evaluation gives the same results; a code file, whose run prints the same; a derivation, which is audited; a
+trace, whose cells are counted at both ends. Without files each program of examples/ must have gone these ways.
 The status is 0 exactly where nothing differs.
 """
 import argparse
@@ -69,6 +69,7 @@ class Document:
         self.run_count = 0
         self.differences = 0
         self.used = set()
+        self.gone_other_ways = set()
         shutil.copytree(TOP / "examples", self.folder / "examples")
         (self.folder / "bin").mkdir()
         script = self.folder / "bin" / "fp2"
@@ -117,11 +118,13 @@ class Document:
             self.other_ways(line, *gauged.groups(), printed)
 
     def other_ways(self, line, source, entry, given, printed):
-        """The same source, entry and input by a code file, a derivation and a trace."""
+        """The same source, entry and input by an evaluation, a code file, a derivation and a trace."""
+        self.gone_other_ways.add(source)
         roots = self.printed(f"fp2 check {source}")
         results = [text for text in printed if not text.startswith(("cells of ", "stack: ", "bound: "))]
         first, last = self.cell_counts(source, entry, given, results)
         for command, wanted in (
+            (f"fp2 eval {source} {entry} < {given}", results),
             (f"fp2 compile {source} way.fpc", roots),
             ("fp2 verify way.fpc", roots),
             (f"fp2 run way.fpc {entry} --gauge < {given}", printed),
@@ -215,11 +218,14 @@ def run_document(path, program):
         return document
 
 
-def unused(documents):
-    """The programs and inputs of examples/ that no command names."""
+def forgotten_in(documents):
+    """What is wrong of the programs and inputs of examples/: those that no command names, or that went one way alone."""
     used = {word for document in documents for word in document.used}
+    ways = {source for document in documents for source in document.gone_other_ways}
     names = [path.name for path in sorted((TOP / "examples").iterdir()) if path.suffix in (".fp", ".txt")]
-    return [name for name in names if f"examples/{name}" not in used]
+    return [f"examples/{name}: no document uses it" for name in names if f"examples/{name}" not in used] + [
+        f"examples/{name}: no derivation, trace or code file of it" for name in names
+        if name.endswith(".fp") and f"examples/{name}" not in ways]
 
 
 def main():
@@ -235,9 +241,9 @@ def main():
     program = str(pathlib.Path(program).resolve())
     every = [TOP / "README.md", *sorted((TOP / "docs").glob("*.md")), *sorted((TOP / "examples").glob("*.md"))]
     documents = [run_document(path, program) for path in words.files or every]
-    forgotten = [] if words.files else unused(documents)
-    for name in forgotten:
-        print(f"examples/{name}: no document uses it")
+    forgotten = [] if words.files else forgotten_in(documents)
+    for text in forgotten:
+        print(text)
     count = sum(document.run_count for document in documents)
     differences = sum(document.differences for document in documents)
     print(f"examples: {count} run, {differences} differ, by {program}")

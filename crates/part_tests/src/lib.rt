@@ -1,5 +1,5 @@
 // Tests at run time of parts of the program by their public calls: what no clause says, or examples from outside of what
-// one says. Those of the whole program are in `fip_tests`.
+// one says. Those of the whole program are in `program_tests`.
 #![tactic(auto)]
 
 #[cfg(test)]

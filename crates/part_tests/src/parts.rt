@@ -2,3 +2,4 @@
 
 mod real_files;
 mod streams;
+mod turns;

@@ -28,6 +28,7 @@ const UNSOUND: &[&str] = &[
     "unsound function 0 instruction 0 rule S1 | 00000001 0d 00000001 0001 0000 00000000",
     "unsound function 0 instruction 0 rule S2 | 00000001 0e 01 0001 00000000",
     "unsound function 0 instruction 0 rule S2 | 00000002 08 0000 02 0001 0002 0e 01 0000 00000000",
+    "unsound function 0 instruction 1 rule S2 | 00000002 03 0001 0000 0e 01 0000 00000000",
     "unsound function 0 instruction 0 rule S2 | 00000001 0d 00000000 0000 00000000",
     "unsound function 0 instruction 0 rule S3 | 00000002 02 0000 0002 00000000 0e 01 0000 00000000",
     "unsound function 0 instruction 0 rule S4 | 00000001 01 0001 0000000000000005 00000000",
@@ -38,6 +39,19 @@ const UNSOUND: &[&str] = &[
     "unsound function 0 instruction 0 rule S8 | 00000002 0c 00000000 0001 0000 01 0001 0e 01 0001 00000000",
     "unsound function 0 instruction 0 rule S9 | 00000000 00000000",
     "unsound function 0 instruction 0 rule S9 | 00000001 0e 01 0000 00000001 00000000 00 00 00 00 00 00",
+];
+
+// Behind `HEAD`: the code of the row on S5 with a label that says what the test leaves, `Nil`.
+const LABELLED: &str = "00000003 05 0000 00000001 00000002 0e 01 0000 0e 01 0000
+00000001 00000002 01 0002 0001 00000000 00 00 00 00 00";
+
+// The types of `HEAD`, the function `f` as there, which ends in a Tail, and the function `g` that it goes to, which gives
+// an int besides.
+const UNSOUND_TAILS: &[&str] = &[
+    "unsound function 0 instruction 0 rule S2 | 46503243 0002 0002 00000002 00000005 46616c7365 00 00000004 54727565 00
+00000002 00000003 4e696c 00 00000004 436f6e73 02 0000 0002
+0002 00 00000001 66 0001 00 0002 00 01 0002 0006 00000001 0d 00000001 0001 0000 00000000
+00 00000001 67 0001 00 0002 00 02 0002 0000 0002 00000002 01 0001 0000000000000005 0e 02 0000 0001 00000000",
 ];
 
 // No code files: each ends at the offset, or has a byte there that can't stand there.
@@ -80,6 +94,21 @@ const BROKEN_FUNCTIONS: &[&str] = &[
 fn unsound_codes_are_refused(rt: HostRuntime) -> Result<(), Fail> {
     assert_eq!(rt; first_wrong_code(rt.alloc(), "", UNSOUND_TABLES)?, None);
     assert_eq!(rt; first_wrong_code(rt.alloc(), HEAD, UNSOUND)?, None);
+    assert_eq!(rt; first_wrong_code(rt.alloc(), "", UNSOUND_TAILS)?, None);
+    Ok(())
+}
+
+#[test]
+fn a_label_may_say_what_the_test_leaves(rt: HostRuntime) -> Result<(), Fail> {
+    let alloc = rt.alloc();
+    let digits = format!(in alloc; "{}{}", HEAD, LABELLED)?;
+    let code = bytes_of(alloc, digits.as_str())?;
+    let rows: [Row<'_>; 3] = [
+        ("verify a.fp", "", 0, "f fip stack 0 frames 8 words\n"),
+        ("run a.fp f", "Nil\n", 0, "Nil\n"),
+        ("run a.fp f", "Cons(1, Nil)\n", 0, "Cons(1, Nil)\n"),
+    ];
+    assert_eq!(rt; first_wrong_run(alloc, "", code.as_slice(), &rows)?, None);
     Ok(())
 }
 

@@ -71,6 +71,18 @@ const TASKS: &[Row<'static>] = &[
         "store too small: 9 needed, 8 given\n",
     ),
     (
+        "tasks a.fp 1 20 --words 11",
+        "rev(Cons(1, Cons(2, Nil)), Nil)\nrev(Cons(3, Nil), Cons(4, Nil))\n",
+        6,
+        "store too small: 12 needed, 11 given\n",
+    ),
+    (
+        "tasks a.fp 1 20 --words 12",
+        "rev(Cons(1, Cons(2, Nil)), Nil)\nrev(Cons(3, Nil), Cons(4, Nil))\n",
+        0,
+        "0: Cons(2, Cons(1, Nil))\n1: Cons(3, Cons(4, Nil))\n",
+    ),
+    (
         "tasks a.fp 1 20 --calls 2",
         "rev(Cons(1, Cons(2, Nil)), Nil)\nseven()\n",
         0,

@@ -1,5 +1,5 @@
 -- From what was loaded to a machine at the start of its function.
-use Rattle.std.proofs.Common.{◌≡◌, ◌∙◌, ◌≤◌, ℕ, List, [], length, Some, slice_get, option_map, sym, ap, subst, arith}
+use Rattle.std.proofs.Common.{◌≡◌, ◌∙◌, ◌≤◌, ℕ, List, [], length, Some, slice_get, option_map, sym, ap, ap₂, subst, arith}
 use Rattle.std.proofs.lemmas.Option.{same_Some, slice_get-map}
 use Rattle.std.specs.Prelude.{min}
 use Rattle.fip_language.specs.SoundTable.{IsSoundTable}
@@ -25,10 +25,13 @@ use Rattle.machine_correctness.specs.code_rules.Breaks.{IsSound}
 use Rattle.machine_correctness.specs.code_rules.Codes.{PlainFunction, plain, plain_function, function_at}
 use Rattle.machine_correctness.specs.code_rules.StackNumbers.{HasStack}
 use Rattle.value_text.specs.Loaded.{types_of}
+use Rattle.machine_correctness.specs.run_loading.Loading.{first_store, first_words}
+use Rattle.machine_correctness.proofs.Starting.{read}
 use Rattle.machine_correctness.proofs.Texts.{text_begins}
 use Rattle.command_eval.specs.command_source.Entries.{Chosen}
 use Rattle.command_run.specs.Starting.{IsInNewStore, HasFrames, KeepsFromLoading, IsStarted, KeepsFromStart}
 use Rattle.command_run.proofs.Bounded.{few_frames}
+use Rattle.command_run.proofs.FirstLoad.{first_load}
 use Rattle.command_run.proofs.Loaded.{IsLoadable, loadable, words_fit, fits}
 
 -- ---- the function
@@ -75,6 +78,7 @@ started r g input room frames new ws m v n same number at sound table is has cod
     let old_store : Store = store_of new.cells new.released in
     let can = is_loadable r.checked r.entry g sound at in
     let l = is.loaded in
+    let place = first_load r.checked.code.types (types_of g.params) g.credits.items input room.words new ws table can.known is in
     let e = loads r g frames old_store ws at in
     let s : State = first r g frames old_store ws in
     let stood : state_with m.stack s.lent m.store ≡ s = subst (λ n. Stands r.checked n m ws frames) number (subst (λ v. Stands v n m ws frames) same stands) g at (words_fit r.checked.code.types f input ws is.old new can l) s (subst (λ (q : Store). loaded (R.plain r.checked.code) r.entry q ws frames ≡ Some s) (sym store) e) in
@@ -87,6 +91,8 @@ started r g input room frames new ws m v n same number at sound table is has cod
       frames = frames;
       has_frames = has;
       state = s;
+      loads = ap (λ (q : R.PlainCode). loaded q r.entry (first_store (values_of l.trees) g.credits.items) (first_words (values_of l.trees) g.credits.items) frames) (read r.checked.code)
+          ∙ ap₂ (λ (q : Store) us. loaded (R.plain r.checked.code) r.entry q us frames) (sym place.0) (sym place.1) ∙ e;
       begins = text_begins r.checked.code r.entry f input is.old new ws frames s (there r.checked r.entry g at) is.empty is.store l e;
       stands = stood;
       code = code ∙ same;

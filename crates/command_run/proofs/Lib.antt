@@ -3,6 +3,8 @@ pub mod Gauging
 pub mod Lines
 pub mod Bounded
 pub mod Loaded
+pub mod SameStore
+pub mod FirstLoad
 pub mod Beginning
 pub mod Small
 pub mod Came

@@ -1,5 +1,5 @@
 -- A sound code's function can be loaded: what is asked of its header. And what a loader gives.
-use Rattle.std.proofs.Common.{◌≡◌, ◌≢◌, ◌∙◌, ◌<◌, ◌≤◌, ◌+◌, ℕ, suc, Bool, true, false, not, List, [], ◌∷◌, length, Option, Some, None, slice_get, refl, ap, subst, nat_lt, ◌==◌, arith}
+use Rattle.std.proofs.Common.{◌≡◌, ◌≢◌, ◌∙◌, ◌<◌, ◌≤◌, ◌+◌, ℕ, suc, Bool, true, false, not, List, [], ◌∷◌, length, Option, Some, None, slice_get, refl, ap, ap₂, subst, nat_lt, ◌==◌, arith}
 use Rattle.std.proofs.lemmas.Bool.Decides.{nat_tests}
 use Rattle.std.proofs.lemmas.List.{length-append, length-map}
 use Rattle.fip_language.specs.Every.{Every}
@@ -12,6 +12,7 @@ use Rattle.fip_language.specs.ValueText.{SpellsValues}
 use Rattle.fip_base.specs.declared.plain.Param.{Param}
 use Rattle.command_outcome.specs.declared.failure.Failure.TheVariants as F
 use Rattle.cell_store.specs.Cells as L
+use Rattle.cell_store.specs.Cells.{count_free}
 use Rattle.cell_store.specs.Made.{Loading}
 use Rattle.machine_correctness.specs.machine_semantics.Cells.{IsSized, IsStore, one_if_some, one_if_true}
 use Rattle.machine_correctness.proofs.separation_kinds.Basics.{both, refuted, below}
@@ -20,7 +21,8 @@ use Rattle.machine_correctness.specs.code_rules.Codes.{PlainCode, PlainFunction}
 use Rattle.machine_correctness.specs.code_rules.Headers.{are_params, are_sizes, is_formed, is_size}
 use Rattle.machine_correctness.specs.code_rules.Limits.{most_credits, most_fields, most_registers, most_results}
 use Rattle.machine_correctness.specs.code_rules.Types.{is_type}
-use Rattle.value_text.specs.Loaded.{types_of, AreSizes, AreCredits, AreZero, IsGiven, IsLoaded, cell_words, needed}
+use Rattle.value_text.specs.FirstStore.{IsInOrder}
+use Rattle.value_text.specs.Loaded.{types_of, AreSizes, AreCredits, AreZero, HasNoFree, IsGiven, IsLoaded, cell_words, needed}
 use Rattle.value_text.specs.Standing.{StandAll}
 use Rattle.value_text.proofs.Typed.{input_typed}
 use Rattle.machine_correctness.proofs.Texts.{same_cell}
@@ -118,9 +120,16 @@ store_is l flags sized cells = record {
   of_cells = λ p. subst (λ o. one_if_true (slice_get l.released p) ≤ one_if_some o) (same_cell l.cells p) (one_at_most (L.cell_at l.cells p) (slice_get l.released p) (cells p));
 }
 
-pub in_new_store : (tb : Table) (types credits bytes : List ℕ) (words : ℕ) (old new : Loading) (ws : List ℕ) → old.cells ≡ [] → old.released ≡ [] → old.left ≡ words → IsLoaded tb types credits bytes old new ws → length new.released ≡ length new.cells → ((p : ℕ) (c : Cell) → L.cell_at new.cells p ≡ Some c → (0 < L.size_of c) × (L.size_of c ≤ 16)) → ((p : ℕ) → slice_get new.released p ≡ Some true → L.cell_at new.cells p ≢ None) → IsInNewStore tb types credits bytes words new ws
-in_new_store tb types credits bytes words old new ws empty unreleased left loaded flags sized cells =
-    record { old = old; empty = empty; unreleased = unreleased; left = left; loaded = loaded; store = store_is new flags sized cells }
+pub in_new_store : (tb : Table) (types credits bytes : List ℕ) (words : ℕ) (old new : Loading) (ws : List ℕ) → old.cells ≡ [] → old.released ≡ [] → old.left ≡ words → IsLoaded tb types credits bytes old new ws → (HasNoFree old → IsInOrder tb types credits bytes old new ws) → length new.released ≡ length new.cells → ((p : ℕ) (c : Cell) → L.cell_at new.cells p ≡ Some c → (0 < L.size_of c) × (L.size_of c ≤ 16)) → ((p : ℕ) → slice_get new.released p ≡ Some true → L.cell_at new.cells p ≢ None) → IsInNewStore tb types credits bytes words new ws
+in_new_store tb types credits bytes words old new ws empty unreleased left loaded order flags sized cells = record {
+  old = old;
+  empty = empty;
+  unreleased = unreleased;
+  left = left;
+  loaded = loaded;
+  order = order (λ k. ap₂ (λ cs rs. count_free k cs rs) empty unreleased);
+  store = store_is new flags sized cells;
+}
 
 pub typed : (tb : Table) (types bytes : List ℕ) (vs : Values) → SpellsValues tb types bytes vs → HaveTypes tb types vs
 typed tb types bytes vs spelt = input_typed tb types (characters bytes) vs spelt

@@ -23,7 +23,6 @@ use Rattle.command_words.specs.Words.{Room}
 use Rattle.command_outcome.specs.declared.failure.Failure.{Failure}
 use Rattle.command_outcome.specs.declared.failure.Failure.TheVariants as F
 use Rattle.machine_correctness.specs.code_file.Plain.{PlainCode}
-use Rattle.machine_correctness.specs.machine_semantics.Cells.{Store}
 use Rattle.machine_correctness.specs.machine_semantics.Gauges.{seen}
 use Rattle.machine_correctness.specs.machine_semantics.Runs.{End, Ends, Value, Trap, Out, Deep, Unsound, begun}
 use Rattle.machine_correctness.specs.machine_semantics.States.{State}
@@ -114,7 +113,7 @@ pub data RunsCode (bytes name input : List ℕ) (room : Room) (gauge : Bool) : R
       SpellsFor c input vs → words_of c vs ≤ room.words → TellsOf c vs room r gauge e →
       RunsCode bytes name input room gauge e
 
--- ---- what is left
+-- ---- after which something is left
 
 -- a run ends with this: a trap, or that calls or frames ran out
 abbrev pub is_run_failure : Failure → Bool
@@ -127,14 +126,3 @@ is_run_failure failure = false
 abbrev pub is_run_end : {T : Type 0} → Result T Failure → Bool
 is_run_end (Ok text) = true
 is_run_end (Err failure) = is_run_failure failure
-
--- The store is left by a run of function n on the values that the input spells: it is that of the run's last state.
-pub record IsLeft (c : S.PlainCode) (n : ℕ) (input : List ℕ) (room : Room) (store : Store) : Type 0 where
-  pub function : PlainFunction
-  pub there : function_at c n ≡ Some function
-  pub values : Values
-  pub spelt : SpellsValues c.types (types_of function.params) input values
-  pub held : Option Stack
-  pub stack : HasStack c n held
-  pub run : Run c n values room.calls (frames_of room.frames held)
-  pub is : store ≡ (run.last).store

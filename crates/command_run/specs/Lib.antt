@@ -1,5 +1,7 @@
 pub mod GaugeText
 pub mod CodeRun
+pub mod LoadedRun
+pub mod Leaving
 pub mod ExecAnswer
 pub mod Rooms
 pub mod Starting

@@ -13,7 +13,9 @@ use Rattle.command_outcome.specs.declared.failure.Failure.{Failure}
 use Rattle.command_outcome.specs.declared.failure.Failure.TheVariants as F
 use Rattle.cell_store.specs.Made.{Loading}
 use Rattle.machine_correctness.specs.machine_semantics.Cells.{Store, IsStore}
+use Rattle.machine_correctness.specs.machine_semantics.Runs.{loaded}
 use Rattle.machine_correctness.specs.machine_semantics.States.{State}
+use Rattle.machine_correctness.specs.separation.Codes.{run_code}
 use Rattle.machine_correctness.specs.code_rules.Codes.{PlainFunction, plain, function_at}
 use Rattle.machine_correctness.specs.code_rules.StackNumbers.{HasStack}
 use Rattle.fip_machine.specs.machine_cells.Small.{IsSmall, store_of}
@@ -22,7 +24,9 @@ use Rattle.fip_machine.specs.declared.machine.Ended.{Ended}
 use Rattle.fip_machine.specs.declared.machine.Ended.TheVariants as M
 use Rattle.fip_machine.specs.Machines.{Seen}
 use Rattle.fip_machine.specs.Tasks.{state_with, IsFresh}
+use Rattle.value_text.specs.FirstStore.{IsInOrder}
 use Rattle.value_text.specs.Loaded.{types_of, IsLoaded}
+use Rattle.machine_correctness.specs.run_loading.Loading.{first_store, first_words}
 use Rattle.session_semantics.specs.Talk.{frames_of}
 use Rattle.machine_correctness.specs.Meant.{ArePrintable}
 use Rattle.machine_correctness.specs.Starts.{Begins}
@@ -32,7 +36,8 @@ use Rattle.command_run.specs.GaugeText.{gauge_text}
 
 -- ---- what is loaded
 
--- The words were loaded from a text, with the cells of credits, into a store of so many words that had no cell.
+-- The words were loaded from a text, with the cells of credits, into a store of so many words that had no cell: in the
+-- order of the ) in the text, and then the credits'.
 pub record IsInNewStore (tb : Table) (types credits bytes : List ℕ) (words : ℕ) (new : Loading) (ws : List ℕ) : Type 0
   where
     pub old : Loading
@@ -40,6 +45,7 @@ pub record IsInNewStore (tb : Table) (types credits bytes : List ℕ) (words : �
     pub unreleased : old.released ≡ []
     pub left : old.left ≡ words
     pub loaded : IsLoaded tb types credits bytes old new ws
+    pub order : IsInOrder tb types credits bytes old new ws
     pub store : IsStore (store_of new.cells new.released)
 
 -- What keeps from it: the text is none, or its cells and those of the credits need more words; or memory is wanting.
@@ -59,7 +65,7 @@ pub record HasFrames (r : Chosen) (given frames : ℕ) : Type 0 where
   pub stack : HasStack (plain r.checked.code) r.entry held
   pub are : frames ≡ frames_of given held
 
--- The machine stands at the start of the function, on the values that the input spells.
+-- The machine stands at the start of the function, on the values that the input spells, as they are loaded.
 pub record IsStarted (r : Chosen) (input : List ℕ) (room : Room) (m : Seen) : Type 0 where
   pub function : PlainFunction
   pub there : function_at (plain r.checked.code) r.entry ≡ Some function
@@ -70,6 +76,8 @@ pub record IsStarted (r : Chosen) (input : List ℕ) (room : Room) (m : Seen) : 
   pub has_frames : HasFrames r room.frames frames
   pub state : State
   pub begins : Begins r.checked.code r.entry function values frames state
+  pub loads : loaded (run_code (plain r.checked.code)) r.entry (first_store values function.credits)
+      (first_words values function.credits) frames ≡ Some state
   pub stands : state_with m.stack state.lent m.store ≡ state
   pub code : m.stack.code ≡ r.checked
   pub fresh : IsFresh m.stack

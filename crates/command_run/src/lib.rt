@@ -9,4 +9,4 @@ pub use command_eval as evaluator;
 pub use command_eval::source;
 pub use loading::started;
 pub use printing::values_text;
-pub use running::{failure_of, run, run_leaving, types_of};
+pub use running::{Left, failure_of, leave, run, types_of};

@@ -3,13 +3,12 @@ ghost use Rattle.std.specs.Prelude.{◌≡◌, ◌≤◌, ◌++◌, ℕ, List, O
 ghost use Rattle.std.specs.Prelude.{IfOk, IfErr, IfSome};
 ghost use Rattle.fip_language.specs.declared.limits.TheConstants.{MOST_FILE_BYTES};
 ghost use Rattle.fip_language.specs.PrintedText.{printed_lines};
-ghost use Rattle.fip_language.specs.SoundTable.{IsSoundTable};
 ghost use Rattle.fip_language.specs.Values.{Values};
 ghost use Rattle.fip_base.specs.declared.plain.Stack.{Stack as a_stack};
 ghost use Rattle.fip_machine.specs.cell_code.declared.code.Function.{Function as a_function};
 ghost use Rattle.command_words.specs.View.{room_of};
 ghost use Rattle.command_outcome.specs.Stages.{IsOfRun};
-ghost use Rattle.fip_machine.specs.machine_cells.Small.{IsSmall, store_of};
+ghost use Rattle.fip_machine.specs.machine_cells.Small.{IsSmall};
 ghost use Rattle.machine_correctness.specs.code_rules.Codes.{plain};
 ghost use Rattle.machine_correctness.specs.code_rules.StackNumbers.{HasStack};
 ghost use Rattle.machine_correctness.specs.Meant.{ArePrintable};
@@ -17,15 +16,17 @@ ghost use Rattle.command_eval.specs.command_source.Entries.{IsFunctionOf};
 ghost use Rattle.command_eval.specs.command_source.ProgramCode.{IsEntryOf};
 ghost use Rattle.command_eval.specs.command_source.Wanted.{Compiled, IsReady};
 ghost use Rattle.command_eval.specs.EvalAnswer.{OrNoMemory};
-ghost use Rattle.command_run.specs.CodeRun.{is_run_end, IsLeft, RunsCode};
+ghost use Rattle.command_run.specs.CodeRun.{is_run_end, RunsCode};
 ghost use Rattle.command_run.specs.ExecAnswer.{Execs};
 ghost use Rattle.command_run.specs.GaugeText.{if_asked};
+ghost use Rattle.command_run.specs.Leaving.{IsLeftBy, IsLastStore};
 ghost use Rattle.command_run.specs.Rooms.{IsAllowed};
 ghost use Rattle.command_run.specs.Starting.{failure_for, gauge_lines, TellsEnded};
 
 use crate::loading::{bound_of, started};
 use crate::printing::{put_gauge, values_text};
 use cell_store::Sealed;
+use code_verify::Verified;
 use command_eval::source::Ready;
 use command_outcome::Failure;
 use command_words::Room;
@@ -116,26 +117,46 @@ fn is_run_end(end: &Result<Vec<u8>, Failure>) -> bool
     }
 }
 
-/// Runs the function as `run` does, and hands out the cells as its run left them: just where a run ended, with values,
-/// in a trap, or out of calls or of frames. For a host that reads the store.
-pub fn run_leaving(
+/// What a run leaves to a host that reads the store: the code that ran, and the cells as its run left them.
+#[derive(Drop)]
+pub struct Left {
+    pub verified: Verified,
+    pub cells: Sealed,
+}
+
+/// Hands the code that ran, and the cells as its run left them, to a host; none where no run left any.
+pub fn leave(ready: Ready, cells: Option<Sealed>, left: &mut Option<Left>)
+    ensures left { IfSome left.new (λ l. (l.verified ≡ ready.checked) × (cells ≡ Some l.cells)) }
+    ensures some { is_some left.new ≡ is_some cells }
+{
+    *left = match cells {
+        Some(cells) => Some(Left {
+            verified: ready.into_verified(),
+            cells,
+        }),
+        None => None,
+    };
+}
+
+// Runs the function as `run` does, and hands out the cells as its run left them: just where a run ended, with values,
+// in a trap, or out of calls or of frames.
+fn run_leaving(
     alloc: Global,
     ready: &Ready,
     input: &[u8],
     room: Room,
     gauge: bool,
 ) -> (Result<Vec<u8>, Failure>, Option<Sealed>)
-    // The end is what the source means, where the code is that of a source,
     ensures means { (source name : List ℕ) → IsReady source (Compiled name) → IsEntryOf source name ready.now →
         IsAllowed room → length input.now ≤ MOST_FILE_BYTES →
         OrNoMemory (Execs source name input.now (room_of room) gauge) result.0 }
-    // and what the runs of the code come to, where it is that of a file.
     ensures runs { (bytes name : List ℕ) → IsFunctionOf bytes name ready.now → IsAllowed room →
         length input.now ≤ MOST_FILE_BYTES → OrNoMemory (RunsCode bytes name input.now (room_of room) gauge) result.0 }
-    // The cells are those of the last state of a run of the code.
-    ensures left { IsSoundTable ready.now.checked.code.types → IsAllowed room → length input.now ≤ MOST_FILE_BYTES →
-        IfSome result.1 (λ s. IsLeft (plain ready.now.checked.code) ready.now.entry input.now (room_of room)
-        (store_of s.cells s.released)) }
+    ensures meant { (source name : List ℕ) → IsReady source (Compiled name) → IsEntryOf source name ready.now →
+        IsAllowed room → length input.now ≤ MOST_FILE_BYTES →
+        IfSome result.1 (IsLastStore ready.now input.now (room_of room)) }
+    ensures coded { (bytes name : List ℕ) → IsFunctionOf bytes name ready.now → IsAllowed room →
+        length input.now ≤ MOST_FILE_BYTES → IfSome result.1 (IsLastStore ready.now input.now (room_of room)) }
     ensures some { is_some result.1 ≡ is_run_end result.0 }
     ensures stage { IfErr result.0 IsOfRun }
 {
@@ -157,13 +178,15 @@ pub fn run_leaving(
 /// Runs the function on the text of its arguments: the lines of its results, with the gauge's behind them where they
 /// are asked for. A bad input where the bytes are no text of the parameters' types; else too small where the cells of
 /// the input and of the header's credits need more words than the room has; else what the run ends with, where it isn't
-/// a value: a trap, out of calls, or out of frames, which a fip function never is.
+/// a value: a trap, out of calls, or out of frames, which a fip function never is. The code and the cells are left just
+/// where a run ended, with values or so.
 pub fn run(
     alloc: Global,
     ready: Ready,
     input: &[u8],
     room: Room,
     gauge: bool,
+    left: &mut Option<Left>,
 ) -> Result<Vec<u8>, Failure>
     // It is what the source means, where the code is that of a source,
     ensures means { (source name : List ℕ) → IsReady source (Compiled name) → IsEntryOf source name ready →
@@ -172,8 +195,17 @@ pub fn run(
     // and what the runs of the code come to, where it is that of a file.
     ensures runs { (bytes name : List ℕ) → IsFunctionOf bytes name ready → IsAllowed room →
         length input.now ≤ MOST_FILE_BYTES → OrNoMemory (RunsCode bytes name input.now (room_of room) gauge) result }
+    // What is left is this code, and the cells of the last state of its run from where the input is loaded.
+    ensures meant { (source name : List ℕ) → IsReady source (Compiled name) → IsEntryOf source name ready →
+        IsAllowed room → length input.now ≤ MOST_FILE_BYTES →
+        IfSome left.new (IsLeftBy ready input.now (room_of room)) }
+    ensures coded { (bytes name : List ℕ) → IsFunctionOf bytes name ready → IsAllowed room →
+        length input.now ≤ MOST_FILE_BYTES → IfSome left.new (IsLeftBy ready input.now (room_of room)) }
+    // Something is left just where a run ended.
+    ensures some { is_some left.new ≡ is_run_end result }
     ensures stage { IfErr result IsOfRun }
 {
-    let (end, _left) = run_leaving(alloc, &ready, input, room, gauge);
+    let (end, cells) = run_leaving(alloc, &ready, input, room, gauge);
+    leave(ready, cells, left);
     end
 }

@@ -1,5 +1,5 @@
 -- From what a machine says of its traced run to what `trace` comes to on a source.
-use Rattle.std.proofs.Common.{◌≡◌, ◌≢◌, ◌∙◌, ℕ, false, List, [], length, Option, Some, None, option_map, refl, sym, ap, subst, arith}
+use Rattle.std.proofs.Common.{◌≡◌, ◌≢◌, ◌∙◌, ℕ, true, false, List, [], length, Option, Some, None, option_map, refl, sym, ap, subst, arith}
 use Rattle.std.specs.Prelude.{Result, Ok, Err}
 use Rattle.std.proofs.lemmas.Option.{none-some, same_Some, slice_get-map}
 use Rattle.std.proofs.lemmas.List.{append-nil}
@@ -11,6 +11,7 @@ use Rattle.fip_base.specs.declared.plain.Stack.{Stack}
 use Rattle.cell_trace.specs.declared.trace.Trace.{Trace as Memory}
 use Rattle.cell_trace.specs.Traced.{Tells, IsTooLong, standing_from}
 use Rattle.command_words.specs.Words.{Room}
+use Rattle.command_outcome.specs.Stages.{IsOfRun}
 use Rattle.command_outcome.specs.declared.failure.Failure.{Failure}
 use Rattle.command_outcome.specs.declared.failure.Failure.TheVariants as F
 use Rattle.command_run.specs.code_file.Plain.{plain_code}
@@ -45,11 +46,12 @@ use Rattle.command_run.specs.machine_correctness.Starts.{IsSoundCode}
 use Rattle.command_run.proofs.machine_correctness.EvaluatedEnds.{knows}
 use Rattle.command_run.proofs.machine_correctness.Starting.{read}
 use Rattle.command_run.specs.command_eval.EvalAnswer.{OrNoMemory}
-use Rattle.command_run.specs.CodeRun as D
+use Rattle.command_run.specs.CodeRun.{is_run_failure}
+use Rattle.command_run.proofs.Leaving.{input_run}
 use Rattle.command_run.specs.ExecAnswer.{Coded, Execs}
 use Rattle.command_run.specs.Starting.{IsStarted, TellsEnded, failure_for}
 use Rattle.trace_files.specs.Plain.{plain_trace}
-use Rattle.command_trace.specs.TraceAnswer.{IsTraceOf, Traces, Ended as Ends, Stored, TooLong, KeptOrNoMemory}
+use Rattle.command_trace.specs.TraceAnswer.{IsRunTrace, IsTraceOf, IsLong, Traces, TracesRun, Ended as Ends, Stored, TooLong, KeptOrNoMemory}
 use Rattle.command_trace.proofs.Valued.{Valued, valued}
 
 -- what a machine says of the trace of its run
@@ -90,40 +92,58 @@ module _ (source name input : List ℕ) (r : Chosen) (ready : IsReady source (Co
     stack = subst (λ (c : PlainCode). HasStack c r.entry held) (sym (view_same r.checked.code)) st.has_frames.stack;
   }
 
-  -- a run of it that gives words, and its trace
-  traced : (t : Trace) → (Q : ℕ → Type 0) (x : Valued r.checked r.entry st.values room.calls st.frames found.0 st.state Q) → t ≡ trace_of found.0 (R.plain r.checked.code) st.state room.calls x.run.steps → IsTraceOf source name input room t
-  traced t Q x is = subst (λ k. (y : Valued r.checked r.entry st.values room.calls k found.0 st.state Q) → t ≡ trace_of found.0 (R.plain r.checked.code) st.state room.calls y.run.steps → IsTraceOf source name input room t) (sym st.has_frames.are) (λ y e. over y e) x is
+  -- the trace of a run of it that gives words
+  traced : (t : Trace) → (Q : ℕ → Type 0) (x : Valued r.checked r.entry st.values room.calls st.frames found.0 st.state Q) → t ≡ trace_of found.0 (R.plain r.checked.code) st.state room.calls x.run.steps → IsRunTrace (plain r.checked.code) r.entry input room t
+  traced t Q x is = subst (λ k. (y : Valued r.checked r.entry st.values room.calls k found.0 st.state Q) → t ≡ trace_of found.0 (R.plain r.checked.code) st.state room.calls y.run.steps → IsRunTrace (plain r.checked.code) r.entry input room t) (sym st.has_frames.are) (λ y e. over y e) x is
     where
-      over : (y : Valued r.checked r.entry st.values room.calls (frames_of room.frames held) found.0 st.state Q) → t ≡ trace_of found.0 (R.plain r.checked.code) st.state room.calls y.run.steps → IsTraceOf source name input room t
-      over y e =
-          let own : t ≡ trace_of y.run.before (run_code (plain r.checked.code)) y.run.first room.calls y.run.steps = e ∙ (λ i. trace_of (sym y.kinds i) (sym (read r.checked.code) i) (sym y.begins i) room.calls y.run.steps) in
-          let z = subst (λ (c : PlainCode). (run : D.Run c r.entry st.values room.calls (frames_of room.frames held)) × (words : List ℕ) × (run.end ≡ Value words) × (t ≡ trace_of run.before (run_code c) run.first room.calls run.steps)) (sym (view_same r.checked.code)) (y.run, y.words, y.gives, own) in
-          record { code = coded; values = st.values; spelt = st.spelt; run = z.0; words = z.1; gives = z.2; is = z.3 }
+      over : (y : Valued r.checked r.entry st.values room.calls (frames_of room.frames held) found.0 st.state Q) → t ≡ trace_of found.0 (R.plain r.checked.code) st.state room.calls y.run.steps → IsRunTrace (plain r.checked.code) r.entry input room t
+      over y e = record {
+        by = input_run r input room m st y.run y.begins;
+        words = y.words;
+        gives = y.gives;
+        is = e ∙ (λ i. trace_of (sym y.kinds i) (sym (read r.checked.code) i) (sym y.begins i) room.calls y.run.steps);
+      }
 
   -- a trace that is too long
-  pub long : Says m room.calls (λ kinds code s. HasLongTrace kinds code s room.calls 16777216) → Traces source name input room (Err (F.Refused (bare E75)))
-  long says =
+  pub long_trace : Says m room.calls (λ kinds code s. HasLongTrace kinds code s room.calls 16777216) → (t : Trace) × IsRunTrace (plain r.checked.code) r.entry input room t × IsLong t
+  long_trace says =
       let k = said (λ kinds code s. HasLongTrace kinds code s room.calls 16777216) says in
       let Q : ℕ → Type 0 = λ steps. IsTooLong (standing_from 0 (st.state).store.cells) (notes found.0 (R.plain r.checked.code) st.state room.calls steps) steps 16777216 in
       let x = valued r.checked found.0 found.1 r.entry st.function st.values st.frames st.state room.calls Q sound found.2 st.begins k.0 k.1 in
-      TooLong (trace_of found.0 (R.plain r.checked.code) st.state room.calls x.run.steps) (traced (trace_of found.0 (R.plain r.checked.code) st.state room.calls x.run.steps) Q x refl) (is_long found.0 (R.plain r.checked.code) st.state room.calls x.run.steps x.holds)
+      let t = trace_of found.0 (R.plain r.checked.code) st.state room.calls x.run.steps in
+      (t, traced t Q x refl, is_long found.0 (R.plain r.checked.code) st.state room.calls x.run.steps x.holds)
 
-  -- one that is stored
-  pub stored : (u : Memory) (file text : List ℕ) → Says m room.calls (λ kinds code s. HasTrace kinds code s room.calls 16777216 u) → file ≡ trace_text (plain_trace u) → Execs source name input room false (Ok text) → Traces source name input room (Ok (record { file = file; text = text }))
-  stored u file text says is execs =
+  -- one that is kept
+  pub kept_trace : (u : Memory) (file : List ℕ) → Says m room.calls (λ kinds code s. HasTrace kinds code s room.calls 16777216 u) → file ≡ trace_text (plain_trace u) → (t : Trace) × IsRunTrace (plain r.checked.code) r.entry input room t × (IsLong t → ⊥) × (file ≡ trace_text t)
+  kept_trace u file says is =
       let k = said (λ kinds code s. HasTrace kinds code s room.calls 16777216 u) says in
       let Q : ℕ → Type 0 = λ steps. Tells (standing_from 0 (st.state).store.cells) (notes found.0 (R.plain r.checked.code) st.state room.calls steps) steps 16777216 u in
       let x = valued r.checked found.0 found.1 r.entry st.function st.values st.frames st.state room.calls Q sound found.2 st.begins k.0 k.1 in
       let t = trace_of found.0 (R.plain r.checked.code) st.state room.calls x.run.steps in
       let same : plain_trace u ≡ t = trace_is found.0 (R.plain r.checked.code) st.state room.calls x.run.steps 16777216 u x.holds in
-      let bytes : file ≡ trace_text t = is ∙ ap trace_text same in
-      subst (λ bs. Traces source name input room (Ok (record { file = bs; text = text }))) (sym bytes) (Stored text t execs (traced t Q x refl) (not_long found.0 (R.plain r.checked.code) st.state room.calls x.run.steps u x.holds))
+      (t, traced t Q x refl, not_long found.0 (R.plain r.checked.code) st.state room.calls x.run.steps u x.holds, is ∙ ap trace_text same)
+
+  -- ---- of the source
+
+  of_source : (t : Trace) → IsRunTrace (plain r.checked.code) r.entry input room t → IsTraceOf source name input room t
+  of_source t x = record { code = coded; traced = subst (λ (c : PlainCode). IsRunTrace c r.entry input room t) (sym (view_same r.checked.code)) x }
+
+  pub long : (t : Trace) × IsRunTrace (plain r.checked.code) r.entry input room t × IsLong t → Traces source name input room (Err (F.Refused (bare E75)))
+  long x = TooLong x.0 (of_source x.0 x.1) x.2
+
+  pub stored : (file text : List ℕ) → (t : Trace) × IsRunTrace (plain r.checked.code) r.entry input room t × (IsLong t → ⊥) × (file ≡ trace_text t) → Execs source name input room false (Ok text) → Traces source name input room (Ok (record { file = file; text = text }))
+  stored file text x execs = subst (λ bs. Traces source name input room (Ok (record { file = bs; text = text }))) (sym x.3) (Stored text x.0 execs (of_source x.0 x.1) x.2)
 
 -- ---- what keeps from a value
 
 pub failed : (source name input : List ℕ) (room : Room) (failure : Failure) → OrNoMemory (Execs source name input room false) (Err failure) → KeptOrNoMemory (Traces source name input room) (Err failure)
 failed source name input room F.NoMemory h = tt
 failed source name input room failure h = Ends failure h
+
+-- where a run is told no value, nothing is said of its trace
+pub kept_own : (c : PlainCode) (n : ℕ) (input : List ℕ) (room : Room) (failure : Failure) → IsOfRun failure → TracesRun c n input room (Err failure)
+kept_own c n input room (F.Refused r) h = absurd h
+kept_own c n input room failure h = tt
 
 -- a run with a trace ended with a value
 pub with_trace : (o : Ended) (t : Option Memory) (u : Memory) → (o ≢ M.Value → t ≡ None) → t ≡ Some u → o ≡ M.Value
@@ -136,7 +156,14 @@ with_trace M.Deep t u none is = absurd (none-some u (sym (none (λ e. cc)) ∙ i
 pub without_trace : (o : Ended) (t : Option Memory) → (o ≡ M.Value → t ≢ None) → t ≡ None → o ≢ M.Value
 without_trace o t some is e = some e is
 
--- how it ended is told
+-- how it ended is the end of a run
+pub run_failed : (o : Ended) (calls frames : ℕ) (failure : Failure) → failure_for o calls frames ≡ Some failure → is_run_failure failure ≡ true
+run_failed M.Value calls frames failure e = absurd (none-some failure e)
+run_failed (M.Trap kind line col) calls frames failure e = ap is_run_failure (sym (same_Some (F.Trap kind line col) failure e))
+run_failed M.Out calls frames failure e = ap is_run_failure (sym (same_Some (F.OutOfCalls calls) failure e))
+run_failed M.Deep calls frames failure e = ap is_run_failure (sym (same_Some (F.OutOfFrames frames) failure e))
+
+-- and is told
 pub tells_failure : (tb : Table) (types : List ℕ) (room : Room) (behind : List ℕ) (s : Store) (given : List ℕ) (o : Ended) (failure : Failure) → o ≢ M.Value → failure_for o room.calls room.frames ≡ Some failure → TellsEnded tb types room behind s given o (Err failure)
 tells_failure tb types room behind s given M.Value failure n e = absurd (n refl)
 tells_failure tb types room behind s given (M.Trap kind line col) failure n e = ap Err (sym (same_Some (F.Trap kind line col) failure e))

@@ -1,4 +1,5 @@
 pub mod Plain
 pub mod Valued
 pub mod Kept
+pub mod OneTrace
 pub mod Played

@@ -1,40 +1,39 @@
 -- What `trace` comes to on a source that has the entry, once the input is read.
 --
 -- It ends as `exec` without the gauge does: with the lines of the values that the source means, or with what keeps it
--- from them. With values it stores the file of a trace: that of a run of the source's code on the arguments, which
--- gives them. Where the file of this trace would have more than 16,777,216 bytes, or there are more events or steps
--- than it can tell, E75 is told instead, and nothing is stored.
+-- from them. With values it stores the file of a trace: that of the run of a code of the source on the input, from the
+-- state in which its values are loaded, which gives words. Where the file of just this trace would have more than
+-- 16,777,216 bytes, or there are more events or steps than it can tell, E75 is told instead, and nothing is stored. A
+-- store that is too small is told before.
 --
 -- The trace of `rev` on Cons(1, Nil) and Nil tells the one cell, the step in which it gets Cons(1, Nil) once more, and
 -- the seven steps of the run; and the line `Cons(1, Nil)` is printed.
 use Rattle.std.specs.Prelude.{◌≡◌, ◌⊎◌, ◌<◌, ◌≤◌, ◌^◌, ℕ, false, List, length, Result, Ok, Err}
 use Rattle.fip_language.specs.declared.limits.TheConstants.{MOST_FILE_BYTES}
 use Rattle.fip_language.specs.declared.rule.Rule.TheVariants.{E75}
-use Rattle.fip_language.specs.Values.{Values}
-use Rattle.fip_language.specs.ValueText.{SpellsValues}
 use Rattle.command_words.specs.Words.{Room}
 use Rattle.command_outcome.specs.declared.failure.Failure.{Failure}
 use Rattle.command_outcome.specs.declared.failure.Failure.TheVariants as F
 use Rattle.trace_files.specs.machine_semantics.Runs.{Value}
-use Rattle.command_run.specs.separation.Codes.{run_code}
-use Rattle.trace_files.specs.run_loading.Replaying.{trace_of}
+use Rattle.command_run.specs.code_rules.Codes.{PlainCode}
 use Rattle.trace_files.specs.run_loading.TraceText.{Trace, trace_text}
 use Rattle.command_run.specs.command_source.Codes.{sound_view}
 use Rattle.command_run.specs.command_source.declared.files.Compiled.{Compiled}
 use Rattle.command_run.specs.source_report.Report.{bare}
-use Rattle.command_run.specs.value_text.Loaded.{types_of}
-use Rattle.command_run.specs.CodeRun.{Run}
-use Rattle.command_run.specs.ExecAnswer.{Coded, Execs, frames_for}
+use Rattle.command_run.specs.ExecAnswer.{Coded, Execs}
+use Rattle.command_run.specs.LoadedRun.{InputRun, trace_of_run}
 
--- A run of a code of the source, on the arguments that the input spells, gives words, and this is its trace.
+-- The run of function n on the input, from where its values are loaded, gives words, and this is its trace.
+pub record IsRunTrace (c : PlainCode) (n : ℕ) (input : List ℕ) (room : Room) (t : Trace) : Type 0 where
+  pub by : InputRun c n input room
+  pub words : List ℕ
+  pub gives : by.run.end ≡ Value words
+  pub is : t ≡ trace_of_run by.run
+
+-- the same of a code of the source, whose function has the entry's name
 pub record IsTraceOf (source name input : List ℕ) (room : Room) (t : Trace) : Type 0 where
   pub code : Coded source name
-  pub values : Values
-  pub spelt : SpellsValues (code.code).types (types_of (code.function).params) input values
-  pub run : Run (sound_view code.code) code.number values room.calls (frames_for code room)
-  pub words : List ℕ
-  pub gives : run.end ≡ Value words
-  pub is : t ≡ trace_of run.before (run_code (sound_view code.code)) run.first room.calls run.steps
+  pub traced : IsRunTrace (sound_view code.code) code.number input room t
 
 -- its file can't tell it, or is too long
 abbrev pub IsLong : Trace → Type 0
@@ -53,6 +52,14 @@ pub data Traces (source name input : List ℕ) (room : Room) : Result Kept Failu
       Traces source name input room (Ok (record { file = trace_text t; text = text }))
   TooLong : (t : Trace) → IsTraceOf source name input room t → IsLong t →
       Traces source name input room (Err (F.Refused (bare E75)))
+
+-- What just this code's run comes to: the file is that of its trace, which isn't too long, or E75 is told of a trace that
+-- is.
+abbrev pub TracesRun : PlainCode → ℕ → List ℕ → Room → Result Compiled Failure → Type 0
+TracesRun c n input room (Ok kept) =
+    (t : Trace) × IsRunTrace c n input room t × (IsLong t → ⊥) × (kept.file.items ≡ trace_text t)
+TracesRun c n input room (Err (F.Refused r)) = (t : Trace) × IsRunTrace c n input room t × IsLong t
+TracesRun c n input room (Err failure) = Unit {0}
 
 -- This is said of a result, whatever memory its bytes lie in; or memory is wanting.
 abbrev pub KeptOrNoMemory : (Result Kept Failure → Type 0) → Result Compiled Failure → Type 0

@@ -3,7 +3,9 @@
 #![tactic(auto)]
 
 mod replaying;
+mod theorems;
 mod tracing;
 
 pub use replaying::replay;
+pub use theorems::an_input_has_one_run;
 pub use tracing::trace;

@@ -1,5 +1,5 @@
 // Runs whose writes to the cells are kept.
-ghost use Rattle.std.specs.Prelude.{◌≡◌, ◌≢◌, ◌≤◌, ℕ, List, length, slice_get, Err, Some, IfOk, IfErr};
+ghost use Rattle.std.specs.Prelude.{◌≡◌, ◌≢◌, ◌≤◌, ℕ, List, length, slice_get, is_some, Err, Some, IfOk, IfErr, IfSome};
 ghost use Rattle.fip_language.specs.declared.limits.TheConstants.{MOST_FILE_BYTES};
 ghost use Rattle.fip_language.specs.declared.rule.Rule.TheVariants.{E75};
 ghost use Rattle.fip_language.specs.PrintedText.{printed_lines};
@@ -13,18 +13,22 @@ ghost use Rattle.fip_machine.specs.declared.machine.Ended.TheVariants.{Value as 
 ghost use Rattle.trace_files.specs.run_loading.TraceText.{trace_text};
 ghost use Rattle.fip_machine.specs.machine_cells.Small.{IsSmall};
 ghost use Rattle.command_run.specs.machine_correctness.Meant.{ArePrintable};
+ghost use Rattle.command_run.specs.CodeRun.{is_run_end};
+ghost use Rattle.command_run.specs.Leaving.{IsLeftBy, IsLastStore};
 ghost use Rattle.command_run.specs.Rooms.{IsAllowed};
 ghost use Rattle.command_run.specs.Starting.{failure_for};
+ghost use Rattle.command_run.specs.code_rules.Codes.{plain};
 ghost use Rattle.command_run.specs.command_source.ProgramCode.{IsEntryOf};
 ghost use Rattle.command_run.specs.command_source.Wanted.{Compiled as compiled_entry, IsReady};
 ghost use Rattle.command_run.specs.source_report.Report.{bare};
 ghost use Rattle.trace_files.specs.Plain.{plain_trace};
-ghost use Rattle.command_trace.specs.TraceAnswer.{Traces, KeptOrNoMemory};
+ghost use Rattle.command_trace.specs.TraceAnswer.{Traces, TracesRun, KeptOrNoMemory};
 
+use cell_store::Sealed;
 use cell_trace::{Trace, TraceError};
 use command_outcome::Failure;
 use command_run::source::{Compiled, Ready};
-use command_run::{failure_of, started, types_of, values_text};
+use command_run::{Left, failure_of, leave, started, types_of, values_text};
 use command_words::Room;
 use fip_base::plain::{Detail, NoMemory};
 use fip_base::refusal::{Refusal, Rule};
@@ -78,26 +82,73 @@ fn traced_text(
     Ok(Compiled { file, text })
 }
 
-/// Runs the entry on the text of its arguments, and keeps what it writes: the file of the trace, and the lines of the
-/// results. The failures are those of `run`, and after them E75 where the run gives a value and its trace is too long:
-/// its file would have more than 16,777,216 bytes, or there are more than 4,294,967,295 events or more steps than 64
-/// bits count.
-pub fn trace(alloc: Global, ready: Ready, input: &[u8], room: Room) -> Result<Compiled, Failure>
-    ensures traces { (source name : List ℕ) → IsReady source (compiled_entry name) → IsEntryOf source name ready →
+// The trace of a run, as `trace` gives it, with the cells as the run left them: just where a run ended that isn't refused
+// for its trace.
+fn trace_leaving(
+    alloc: Global,
+    ready: &Ready,
+    input: &[u8],
+    room: Room,
+) -> (Result<Compiled, Failure>, Option<Sealed>)
+    ensures traces { (source name : List ℕ) → IsReady source (compiled_entry name) → IsEntryOf source name ready.now →
         IsAllowed room → length input.now ≤ MOST_FILE_BYTES →
-        KeptOrNoMemory (Traces source name input.now (room_of room)) result }
-    ensures long { (r : a_refusal) → result ≡ Err (Refused r) → r ≡ bare E75 }
-    ensures stage { IfErr result IsOfTrace }
+        KeptOrNoMemory (Traces source name input.now (room_of room)) result.0 }
+    ensures own { (source name : List ℕ) → IsReady source (compiled_entry name) → IsEntryOf source name ready.now →
+        IsAllowed room → length input.now ≤ MOST_FILE_BYTES →
+        TracesRun (plain ready.now.checked.code) ready.now.entry input.now (room_of room) result.0 }
+    ensures meant { (source name : List ℕ) → IsReady source (compiled_entry name) → IsEntryOf source name ready.now →
+        IsAllowed room → length input.now ≤ MOST_FILE_BYTES →
+        IfSome result.1 (IsLastStore ready.now input.now (room_of room)) }
+    ensures some { is_some result.1 ≡ is_run_end result.0 }
+    ensures long { (r : a_refusal) → result.0 ≡ Err (Refused r) → r ≡ bare E75 }
+    ensures stage { IfErr result.0 IsOfTrace }
 {
     prove!(ready.entry() < ready.verified().code().functions.len());
-    let machine = started(alloc, &ready, input, room)?;
+    let machine = match started(alloc, ready, input, room) {
+        Ok(machine) => machine,
+        Err(failure) => return (Err(failure), None),
+    };
     let mut seen = Gauge::new();
     match machine.run_traced(alloc, room.calls, &mut seen, MOST_FILE_BYTES) {
         Ok((machine, ended, trace)) => match trace {
-            Some(trace) => Ok(traced_text(alloc, &ready, &machine, &trace)?),
-            None => Err(untraced(ended, room)),
+            Some(trace) => match traced_text(alloc, ready, &machine, &trace) {
+                Ok(compiled) => (Ok(compiled), Some(machine.into_sealed())),
+                Err(NoMemory) => (Err(Failure::NoMemory), None),
+            },
+            None => (Err(untraced(ended, room)), Some(machine.into_sealed())),
         },
-        Err(TraceError::TooLong) => Err(too_long(alloc)),
-        Err(TraceError::NoMemory) => Err(Failure::NoMemory),
+        Err(TraceError::TooLong) => (Err(too_long(alloc)), None),
+        Err(TraceError::NoMemory) => (Err(Failure::NoMemory), None),
     }
+}
+
+/// Runs the entry on the text of its arguments, and keeps what it writes: the file of the trace, and the lines of the
+/// results. The failures are those of `run`, and after them E75 where the run gives a value and its trace is too long:
+/// its file would have more than 16,777,216 bytes, or there are more than 4,294,967,295 events or more steps than 64
+/// bits count. The code and the cells are left as `run` leaves them; none with E75.
+pub fn trace(
+    alloc: Global,
+    ready: Ready,
+    input: &[u8],
+    room: Room,
+    left: &mut Option<Left>,
+) -> Result<Compiled, Failure>
+    ensures traces { (source name : List ℕ) → IsReady source (compiled_entry name) → IsEntryOf source name ready →
+        IsAllowed room → length input.now ≤ MOST_FILE_BYTES →
+        KeptOrNoMemory (Traces source name input.now (room_of room)) result }
+    // The trace is that of the run of just this code on the input, from where its values are loaded.
+    ensures own { (source name : List ℕ) → IsReady source (compiled_entry name) → IsEntryOf source name ready →
+        IsAllowed room → length input.now ≤ MOST_FILE_BYTES →
+        TracesRun (plain ready.checked.code) ready.entry input.now (room_of room) result }
+    // What is left is this code, and the cells of the last state of this run.
+    ensures meant { (source name : List ℕ) → IsReady source (compiled_entry name) → IsEntryOf source name ready →
+        IsAllowed room → length input.now ≤ MOST_FILE_BYTES →
+        IfSome left.new (IsLeftBy ready input.now (room_of room)) }
+    ensures some { is_some left.new ≡ is_run_end result }
+    ensures long { (r : a_refusal) → result ≡ Err (Refused r) → r ≡ bare E75 }
+    ensures stage { IfErr result IsOfTrace }
+{
+    let (end, cells) = trace_leaving(alloc, &ready, input, room);
+    leave(ready, cells, left);
+    end
 }

@@ -7,7 +7,7 @@ use Rattle.command_run.proofs.loading.loaded.Goals as goal
 pub returns-in-Ok-clause-loads : goal.returns-in-Ok-clause-loads
 returns-in-Ok-clause-loads c = λ given le.
     let left : c.new-loader.result.left ≡ c.args.words = grind (arith, c.new-loader.ensures.left, c.min.ensures, le) in
-    in_new_store c.args.types.now (types_of c.args.params.now) c.args.credits.now c.args.input.now c.args.words c.new-loader.result c.in-Ok.loader c.in-Ok.words.items c.new-loader.ensures.cells c.new-loader.ensures.released left (c.in-Ok.ensures.loads given) c.left.ensures.flags c.left.ensures.sized c.left.ensures.of_cells
+    in_new_store c.args.types.now (types_of c.args.params.now) c.args.credits.now c.args.input.now c.args.words c.new-loader.result c.in-Ok.loader c.in-Ok.words.items c.new-loader.ensures.cells c.new-loader.ensures.released left (c.in-Ok.ensures.loads given) (c.in-Ok.ensures.order given) c.left.ensures.flags c.left.ensures.sized c.left.ensures.of_cells
 
 pub returns-in-Err-Full-clause-keeps : goal.returns-in-Err-Full-clause-keeps
 returns-in-Err-Full-clause-keeps c = λ given le.

@@ -2,7 +2,6 @@ use Rattle.std.proofs.Common.{subst}
 use Rattle.fip_machine.specs.code_verify.Checked.{Checked, HasMachineInts}
 use Rattle.command_words.specs.View.{room_of}
 use Rattle.fip_machine.specs.GaugeView.{IsUnseen}
-use Rattle.fip_machine.specs.machine_cells.Small.{store_of}
 use Rattle.machine_correctness.specs.code_rules.Breaks.{IsSound}
 use Rattle.machine_correctness.specs.code_rules.Codes.{plain}
 use Rattle.machine_correctness.specs.code_rules.Tables.{AreSoundTables}
@@ -10,7 +9,7 @@ use Rattle.machine_correctness.proofs.Literals.{has_literals}
 use Rattle.command_run.proofs.Entry as N
 use Rattle.command_run.proofs.Execs as X
 use Rattle.command_run.proofs.FileTypes.{file_table}
-use Rattle.command_run.proofs.Leaving.{left_cells}
+use Rattle.command_run.proofs.Leaving.{last_store}
 use Rattle.command_run.proofs.Ran.{ran}
 use Rattle.command_run.proofs.RunsCode as D
 use Rattle.command_run.proofs.running.run_leaving.Goals as goal
@@ -69,12 +68,23 @@ returns-else-is_run_end-clause-runs c = λ bytes name is room le.
     let q = ran r c.args.input.now (room_of c.args.room) c.in-Ok.machine st c.run-ended.result c.run-ended.new.self c.run-ended.new.gauge (record { sound = sound; literals = literals }) c.run-ended.ensures.run (c.run-ended.ensures.gauge unseen) in
     D.finished bytes name c.args.input.now r is (room_of c.args.room) c.args.gauge c.in-Ok.machine st c.run-ended.result c.run-ended.new.self c.run-ended.new.gauge q c.told-end.result (c.told-end.ensures.tells is.named.function st.has_frames.held is.named.there st.has_frames.stack q.small)
 
-pub returns-then-is_run_end-clause-left : goal.returns-then-is_run_end-clause-left
-returns-then-is_run_end-clause-left c = λ table room le.
+pub returns-then-is_run_end-clause-meant : goal.returns-then-is_run_end-clause-meant
+returns-then-is_run_end-clause-meant c = λ source name ready is room le.
     let r = c.args.ready.now in
     let sound = subst (λ (v : Checked). IsSound (plain v.code)) c.verified.ensures.same c.code.ensures.sound in
     let literals = has_literals (plain r.checked.code) (subst (λ (v : Checked). HasMachineInts (plain v.code)) c.verified.ensures.same c.code.ensures.literals) in
     let unseen : IsUnseen c.new-seen.result = record { seen = c.new-seen.ensures.unseen; highest = c.new-seen.ensures.highest; frames = c.new-seen.ensures.frames; words = c.new-seen.ensures.words } in
-    let st = c.in-Ok.ensures.begins table room le in
+    let st = c.in-Ok.ensures.begins (N.table_sound source name r ready is) room le in
     let q = ran r c.args.input.now (room_of c.args.room) c.in-Ok.machine st c.run-ended.result c.run-ended.new.self c.run-ended.new.gauge (record { sound = sound; literals = literals }) c.run-ended.ensures.run (c.run-ended.ensures.gauge unseen) in
-    left_cells r c.args.input.now (room_of c.args.room) c.in-Ok.machine st c.run-ended.result c.run-ended.new.self c.run-ended.new.gauge (store_of c.into_sealed.result.cells c.into_sealed.result.released) q c.into_sealed.ensures.cells
+    last_store r c.args.input.now (room_of c.args.room) c.in-Ok.machine st c.run-ended.result c.run-ended.new.self c.run-ended.new.gauge c.into_sealed.result q c.into_sealed.ensures.cells
+
+pub returns-then-is_run_end-clause-coded : goal.returns-then-is_run_end-clause-coded
+returns-then-is_run_end-clause-coded c = λ bytes name is room le.
+    let r = c.args.ready.now in
+    let sound = subst (λ (v : Checked). IsSound (plain v.code)) c.verified.ensures.same c.code.ensures.sound in
+    let literals = has_literals (plain r.checked.code) (subst (λ (v : Checked). HasMachineInts (plain v.code)) c.verified.ensures.same c.code.ensures.literals) in
+    let tables = subst (λ (v : Checked). AreSoundTables (plain v.code)) c.verified.ensures.same c.code.ensures.tables in
+    let unseen : IsUnseen c.new-seen.result = record { seen = c.new-seen.ensures.unseen; highest = c.new-seen.ensures.highest; frames = c.new-seen.ensures.frames; words = c.new-seen.ensures.words } in
+    let st = c.in-Ok.ensures.begins (file_table bytes r.checked.code is.file tables) room le in
+    let q = ran r c.args.input.now (room_of c.args.room) c.in-Ok.machine st c.run-ended.result c.run-ended.new.self c.run-ended.new.gauge (record { sound = sound; literals = literals }) c.run-ended.ensures.run (c.run-ended.ensures.gauge unseen) in
+    last_store r c.args.input.now (room_of c.args.room) c.in-Ok.machine st c.run-ended.result c.run-ended.new.self c.run-ended.new.gauge c.into_sealed.result q c.into_sealed.ensures.cells

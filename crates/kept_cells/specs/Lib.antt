@@ -1,0 +1,1 @@
+pub use Rattle.separation.specs as separation

@@ -1,0 +1,13 @@
+pub mod Keeping
+pub mod Leaving
+pub mod Releasing
+pub mod Sharing
+pub mod Calls
+pub mod Making
+pub mod Counting
+pub mod Speaking
+pub mod Naming
+pub mod Beginning
+pub mod Few
+pub mod Opening
+pub mod Laws

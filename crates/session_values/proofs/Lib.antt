@@ -1,0 +1,4 @@
+pub mod Symbols
+pub mod Bridge
+pub mod OneValue
+pub mod CellsKept
